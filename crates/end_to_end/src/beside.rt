@@ -1,12 +1,7 @@
 //! Collections that go on beside the domains, in scripts of one domain with the replies that they have by hand.
-use crate::program::runs_to;
-use std::test::Fail;
-
-const WORDS: &str = "run --domains 1";
-
-// The commands of domain 0, and what they print. `major` begins a collection. A `poll` that finds that all is scanned asks for
-// its end, and the pause comes before the next command.
-const REPLIES: [(&str, &str); 8] = [
+/// The commands of domain 0, and what they print. `major` begins a collection. A `poll` that finds that all is scanned asks for
+/// its end, and the pause comes before the next command.
+pub(crate) const REPLIES: [(&str, &str); 8] = [
     // What is loaded from a field stays where the field is overwritten.
     (
         "alloc 1 0 1\nalloc 2 0 1\nstore 1 0 2\ndrop 2\nmajor\nload 3 1 0\nint 4 0\nstore 1 0 4\npoll\nfull_major\nload 5 3 0\n",
@@ -48,14 +43,3 @@ const REPLIES: [(&str, &str); 8] = [
         "blk 0:1\nblk 0:2\nblk 0:3\nblk 0:4\nblk 0:5\nblk 0:6\nblk 0:7\nblk 0:8\nblk 0:9\nblk 0:10\nok\nok\nok\nok\nok\nok\nok\nok\nok\nok\nok\nok\nok\nok\nok\nok\nok\nok\nok\nok\nok\nok\nlive 1 18\n",
     ),
 ];
-
-#[test]
-fn collections_that_go_on_beside_a_domain(rt: HostRuntime) -> Result<(), Fail> {
-    for (commands, prints) in &REPLIES {
-        let alloc = rt.alloc();
-        let script = format!(in alloc; "heap 1\ndomain 0\n{commands}")?;
-        let output = format!(in alloc; "domain 0\n{prints}")?;
-        runs_to(&rt, alloc, WORDS, &script, &output)?;
-    }
-    Ok(())
-}

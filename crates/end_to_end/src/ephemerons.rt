@@ -1,11 +1,6 @@
 //! Ephemerons in scripts of one domain, with the replies that they have by hand.
-use crate::program::runs_to;
-use std::test::Fail;
-
-const WORDS: &str = "run --domains 1";
-
-// The commands of domain 0, and what they print.
-const REPLIES: [(&str, &str); 14] = [
+/// The commands of domain 0, and what they print.
+pub(crate) const REPLIES: [(&str, &str); 14] = [
     // The data goes with its key, and with the data what it leads to.
     (
         "alloc 1 0 1\nalloc 2 0 1\nstore 2 0 1\nephe 3 1\nset_key 3 0 1\nset_data 3 2\ndrop 1\ndrop 2\nfull_major\ncheck_key 3 0\ncheck_data 3\n",
@@ -76,30 +71,3 @@ const REPLIES: [(&str, &str); 14] = [
         "blk 0:1\nblk 0:2\nblk 0:3\nok\nok\nok\nok\nok\nlive 3 25\nblk 0:2\nblk 0:2\n",
     ),
 ];
-
-#[test]
-fn scripts_of_ephemerons(rt: HostRuntime) -> Result<(), Fail> {
-    for (commands, prints) in &REPLIES {
-        let alloc = rt.alloc();
-        let script = format!(in alloc; "heap 1\ndomain 0\n{commands}")?;
-        let output = format!(in alloc; "domain 0\n{prints}")?;
-        runs_to(&rt, alloc, WORDS, &script, &output)?;
-    }
-    Ok(())
-}
-
-// Each of 500 ephemerons is dropped with its key, in a heap that has room for fewer.
-#[test]
-fn dropped_ephemerons_make_room(rt: HostRuntime) -> Result<(), Fail> {
-    let alloc = rt.alloc();
-    let mut script = String::from_str(alloc, "heap 1\ndomain 0\n")?;
-    let mut prints = String::from_str(alloc, "domain 0\n")?;
-    for i in 0..500u32 {
-        script.push_str("allocmaj 1 0 126\nephe 2 8\nset_key 2 3 1\nset_data 2 1\n")?;
-        prints.push_str(&format!(in alloc; "blk 0:{}\nblk 0:{}\nok\nok\n", 2 * i + 1, 2 * i + 2)?)?;
-    }
-    script.push_str("full_major\n")?;
-    prints.push_str("live 3 157\n")?;
-    let words = "run --domains 1 --minor 4096 --pools 20";
-    Ok(runs_to(&rt, alloc, words, &script, &prints)?)
-}

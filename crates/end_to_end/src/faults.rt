@@ -2,62 +2,51 @@
 use crate::program::{PLAIN, PLAIN_PRINTS, is_given, run_program, sink, source};
 use std::test::Fail;
 
-#[test]
-fn each_read_fails_in_turn(rt: HostRuntime) -> Result<(), Fail> {
-    for failing in 1..=5u32 {
-        let alloc = rt.alloc();
-        let given = run_program(
-            &rt,
-            alloc,
-            "run --domains 1",
-            source(alloc, PLAIN, 16, &[failing])?,
-            sink(alloc, 4096, &[])?,
-        )?;
-        is_given(&rt, &given, 3, "read fault\n", "");
-    }
-    Ok(())
-}
+// Of the script of the plain path: the size of the pieces that are read, the read that fails, the size of those that are
+// written, the write that fails, and the number, the line and the output of the run.
+type Row = (usize, u32, usize, u32, u8, &'static str, &'static str);
 
-// In pieces of 4, and each line by itself.
-#[test]
-fn each_write_fails_in_turn(rt: HostRuntime) -> Result<(), Fail> {
-    for (piece, failing, written) in [
-        (4usize, 1u32, ""),
-        (4, 2, "doma"),
-        (4, 3, "domain 0"),
-        (4, 4, "domain 0\n"),
-        (4, 5, "domain 0\nblk "),
-        (4096, 1, ""),
-        (4096, 2, "domain 0\n"),
-        (4096, 3, "domain 0\nblk 0:1\n"),
-        (4096, 5, "domain 0\nblk 0:1\nok\nok\n"),
-    ] {
-        let alloc = rt.alloc();
-        let given = run_program(
-            &rt,
-            alloc,
-            "run --domains 1",
-            source(alloc, PLAIN, 4096, &[])?,
-            sink(alloc, piece.max(1), &[failing])?,
-        )?;
-        is_given(&rt, &given, 4, "write fault\n", written);
-    }
-    Ok(())
-}
+const READ: &str = "read fault\n";
+
+const WRITE: &str = "write fault\n";
+
+// No read or write has the number 0. Each line is written by itself.
+const ROWS: [Row; 20] = [
+    (16, 1, 4096, 0, 3, READ, ""),
+    (16, 2, 4096, 0, 3, READ, ""),
+    (16, 3, 4096, 0, 3, READ, ""),
+    (16, 4, 4096, 0, 3, READ, ""),
+    (16, 5, 4096, 0, 3, READ, ""),
+    (4096, 0, 4, 1, 4, WRITE, ""),
+    (4096, 0, 4, 2, 4, WRITE, "doma"),
+    (4096, 0, 4, 3, 4, WRITE, "domain 0"),
+    (4096, 0, 4, 4, 4, WRITE, "domain 0\n"),
+    (4096, 0, 4, 5, 4, WRITE, "domain 0\nblk "),
+    (4096, 0, 4096, 1, 4, WRITE, ""),
+    (4096, 0, 4096, 2, 4, WRITE, "domain 0\n"),
+    (4096, 0, 4096, 3, 4, WRITE, "domain 0\nblk 0:1\n"),
+    (4096, 0, 4096, 5, 4, WRITE, "domain 0\nblk 0:1\nok\nok\n"),
+    // The size of pieces changes nothing.
+    (1, 0, 1, 0, 0, "", PLAIN_PRINTS),
+    (2, 0, 2, 0, 0, "", PLAIN_PRINTS),
+    (3, 0, 3, 0, 0, "", PLAIN_PRINTS),
+    (7, 0, 7, 0, 0, "", PLAIN_PRINTS),
+    (59, 0, 59, 0, 0, "", PLAIN_PRINTS),
+    (4096, 0, 4096, 0, 0, "", PLAIN_PRINTS),
+];
 
 #[test]
-fn the_size_of_pieces_changes_nothing(rt: HostRuntime) -> Result<(), Fail> {
-    for piece in [1usize, 2, 3, 7, 59, 4096] {
-        let piece = piece.max(1);
+fn each_read_and_each_write_fails_in_turn(rt: HostRuntime) -> Result<(), Fail> {
+    for (read, no_read, written, no_write, number, line, output) in &ROWS {
         let alloc = rt.alloc();
         let given = run_program(
             &rt,
             alloc,
             "run --domains 1",
-            source(alloc, PLAIN, piece, &[])?,
-            sink(alloc, piece, &[])?,
+            source(alloc, PLAIN, (*read).max(1), &[*no_read])?,
+            sink(alloc, (*written).max(1), &[*no_write])?,
         )?;
-        is_given(&rt, &given, 0, "", PLAIN_PRINTS);
+        is_given(&rt, &given, *number, line, output);
     }
     Ok(())
 }

@@ -1,5 +1,5 @@
 //! Finalisers in scripts, with the replies that they have by hand.
-use crate::program::{run_with_gate, runs_to, sink, source};
+use crate::program::{run_with_gate, sink, source};
 use outer_io::Gate;
 use std::alloc::{AllocError, Global};
 use std::process::Abort;
@@ -8,10 +8,8 @@ use std::sync::atomic::{AtomicUsize, Ordering};
 use std::test::Fail;
 use std::thread::Threads;
 
-const WORDS: &str = "run --domains 1";
-
-// The commands of domain 0, and what they print.
-const REPLIES: [(&str, &str); 16] = [
+/// The commands of domain 0, and what they print.
+pub(crate) const REPLIES: [(&str, &str); 16] = [
     // The finaliser of `finalise` is given its value, which lives again; that of `finalise_last` runs once the value
     // is let go for good.
     (
@@ -92,17 +90,6 @@ const REPLIES: [(&str, &str); 16] = [
         "blk 0:1\nok\nok\nok\nok\nok\nok\nok\nlive 2 21\nfin 3 0:1\nint 7\n",
     ),
 ];
-
-#[test]
-fn scripts_of_finalisers(rt: HostRuntime) -> Result<(), Fail> {
-    for (commands, prints) in &REPLIES {
-        let alloc = rt.alloc();
-        let script = format!(in alloc; "heap 1\ndomain 0\n{commands}")?;
-        let output = format!(in alloc; "domain 0\n{prints}")?;
-        runs_to(&rt, alloc, WORDS, &script, &output)?;
-    }
-    Ok(())
-}
 
 // How often a domain looks whether it may go on.
 const LOOKS: u32 = 1_000_000_000;

@@ -21,50 +21,61 @@ fn run_unread<R: Threads + Wait + Sync>(
     run_program(rt, alloc, words, source(alloc, "", 4096, &[1])?, sink)
 }
 
-// Words, and what is written.
-const WRITTEN: [(&str, &str); 4] = [
+// Words, the size of pieces, the write that fails, the number and the line of the run's end, and what is written. No write has
+// the number 0.
+const WRITTEN: [(&str, usize, u32, u8, &str, &str); 8] = [
     (
         "gen 7 1 5",
+        4096,
+        0,
+        0,
+        "",
         "heap 1\ndomain 0\nalloc 1 0 9\nint 2 7\nstore 1 0 2\nint 3 0\nmove 3 1\n",
     ),
-    ("gen 0 1 0", "heap 1\ndomain 0\n"),
+    ("gen 0 1 0", 4096, 0, 0, "", "heap 1\ndomain 0\n"),
     (
         "load 7 2 2000",
+        4096,
+        0,
+        0,
+        "",
         "domain 0 commands 2000 ints 200 sum 61100\ndomain 1 commands 2000 ints 200 sum 61300\n",
     ),
-    ("load 5 1 0", "domain 0 commands 0 ints 0 sum 0\n"),
-];
-
-#[test]
-fn scripts_are_generated_and_run_without_a_read(rt: HostRuntime) -> Result<(), Fail> {
-    for (words, written) in &WRITTEN {
-        let alloc = rt.alloc();
-        let given = run_unread(&rt, alloc, words, sink(alloc, 4096, &[])?)?;
-        is_given(&rt, &given, 0, "", written);
-    }
-    Ok(())
-}
-
-// Words, the size of pieces, the write that fails, and what is written before it.
-const CUT: [(&str, usize, u32, &str); 4] = [
-    ("gen 7 1 5", 4, 2, "heap"),
-    ("gen 7 1 5", 4096, 3, "heap 1\ndomain 0\n"),
-    ("load 7 2 20", 4096, 1, ""),
+    (
+        "load 5 1 0",
+        4096,
+        0,
+        0,
+        "",
+        "domain 0 commands 0 ints 0 sum 0\n",
+    ),
+    ("gen 7 1 5", 4, 2, 4, "write fault\n", "heap"),
+    (
+        "gen 7 1 5",
+        4096,
+        3,
+        4,
+        "write fault\n",
+        "heap 1\ndomain 0\n",
+    ),
+    ("load 7 2 20", 4096, 1, 4, "write fault\n", ""),
     (
         "load 7 2 20",
         4096,
         2,
+        4,
+        "write fault\n",
         "domain 0 commands 20 ints 2 sum 17\n",
     ),
 ];
 
 #[test]
-fn writes_fail(rt: HostRuntime) -> Result<(), Fail> {
-    for (words, piece, failing, written) in &CUT {
+fn scripts_are_generated_and_run_without_a_read(rt: HostRuntime) -> Result<(), Fail> {
+    for (words, piece, failing, number, line, written) in &WRITTEN {
         let alloc = rt.alloc();
         let sink = sink(alloc, (*piece).max(1), &[*failing])?;
         let given = run_unread(&rt, alloc, words, sink)?;
-        is_given(&rt, &given, 4, "write fault\n", written);
+        is_given(&rt, &given, *number, line, written);
     }
     Ok(())
 }

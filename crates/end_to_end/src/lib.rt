@@ -6,8 +6,6 @@ mod beside;
 #[cfg(test)]
 mod chains;
 #[cfg(test)]
-mod collections;
-#[cfg(test)]
 mod endless;
 #[cfg(test)]
 mod ephemerons;
@@ -18,9 +16,9 @@ mod finalisers;
 #[cfg(test)]
 mod generated;
 #[cfg(test)]
-mod pauses;
+mod long;
 #[cfg(test)]
-mod pools;
+mod pauses;
 #[cfg(test)]
 mod program;
 #[cfg(test)]

@@ -102,29 +102,27 @@ fn prints_in_order<R: Threads + Wait + Sync>(
     Ok(given.written)
 }
 
-#[test]
-fn each_output_of_the_race_comes_about(rt: HostRuntime) -> Result<(), Fail> {
-    let (store, load) = (1, 2);
-    for (order, prints) in [
-        ([(0, store), (0, load), (1, store), (1, load)], EACH_ITS_OWN),
-        ([(1, store), (1, load), (0, store), (0, load)], EACH_ITS_OWN),
-        ([(0, store), (1, store), (1, load), (0, load)], BOTH_20),
-        ([(1, store), (0, store), (1, load), (0, load)], BOTH_10),
-    ] {
-        let written = prints_in_order(&rt, rt.alloc(), RACE, order)?;
-        assert_eq!(rt; written.as_slice(), prints.as_bytes());
-    }
-    Ok(())
-}
-
 // Domain 0 stores a young block into the shared block and forgets it, domain 1 loads it there and stores it into another
 // field, and domain 0 finds it again.
+const TO_AND_FRO: &str =
+    "heap 1\ndomain 0\nalloc 1 0 1\nstore 0 0 1\ndrop 1\nload 2 0 1\ndomain 1\npoll\nload 1 0 0\nstore 0 1 1\nmove 2 1\n";
+
+const FOUND_AGAIN: &str = "domain 0\nblk 0:1\nok\nok\nblk 0:1\ndomain 1\nok\nblk 0:1\nok\nok\n";
+
+// Scripts, an order of four commands, and what is printed then. Each output of the race comes about.
+const IN_ORDER: [(&str, [(u32, u32); 4], &str); 5] = [
+    (RACE, [(0, 1), (0, 2), (1, 1), (1, 2)], EACH_ITS_OWN),
+    (RACE, [(1, 1), (1, 2), (0, 1), (0, 2)], EACH_ITS_OWN),
+    (RACE, [(0, 1), (1, 1), (1, 2), (0, 2)], BOTH_20),
+    (RACE, [(1, 1), (0, 1), (1, 2), (0, 2)], BOTH_10),
+    (TO_AND_FRO, [(0, 1), (1, 1), (1, 2), (0, 3)], FOUND_AGAIN),
+];
+
 #[test]
-fn a_block_goes_to_the_other_domain_and_back(rt: HostRuntime) -> Result<(), Fail> {
-    let script =
-        "heap 1\ndomain 0\nalloc 1 0 1\nstore 0 0 1\ndrop 1\nload 2 0 1\ndomain 1\npoll\nload 1 0 0\nstore 0 1 1\nmove 2 1\n";
-    let prints = "domain 0\nblk 0:1\nok\nok\nblk 0:1\ndomain 1\nok\nblk 0:1\nok\nok\n";
-    let written = prints_in_order(&rt, rt.alloc(), script, [(0, 1), (1, 1), (1, 2), (0, 3)])?;
-    assert_eq!(rt; written.as_slice(), prints.as_bytes());
+fn commands_that_pass_in_order(rt: HostRuntime) -> Result<(), Fail> {
+    for (script, order, prints) in &IN_ORDER {
+        let written = prints_in_order(&rt, rt.alloc(), script, *order)?;
+        assert!(rt; written.as_slice() == prints.as_bytes(), "{prints}");
+    }
     Ok(())
 }

@@ -1,9 +1,10 @@
 //! Scripts with the replies that they have by hand.
 use crate::program::{PLAIN, PLAIN_PRINTS, is_given, run_plain, runs_to};
+use crate::{beside, ephemerons, finalisers};
 use std::test::Fail;
 
 // Words, a script, and what its run prints.
-const REPLIES: [(&str, &str, &str); 22] = [
+const REPLIES: [(&str, &str, &str); 23] = [
     ("run --domains 1", PLAIN, PLAIN_PRINTS),
     ("run --domains 1", "heap 1\ndomain 0\n", "domain 0\n"),
     ("run", "heap 1\ndomain 0\n", "domain 0\ndomain 1\n"),
@@ -102,12 +103,39 @@ const REPLIES: [(&str, &str, &str); 22] = [
         "heap 1\ndomain 0\nallocmaj 1 0 126\nallocmaj 1 0 126\nallocmaj 1 0 126\ndrop 1\nmajor\nfull_major\n",
         "domain 0\nblk 0:1\nblk 0:2\nblk 0:3\nok\nok\nlive 1 18\n",
     ),
+    // The second poll ends in the midst of the pool of three dead blocks. Before the next one a pause comes, and a pool for
+    // blocks of another class. The sweep goes on and ends.
+    (
+        "run --domains 1 --minor 4096 --pools 20",
+        "heap 1\ndomain 0\nallocmaj 1 0 1\nallocmaj 1 0 1\nallocmaj 1 0 1\ndrop 1\nmajor\npoll\npoll\nminor\nallocmaj 1 0 126\npoll\n",
+        "domain 0\nblk 0:1\nblk 0:2\nblk 0:3\nok\nok\nok\nok\nok\nblk 0:4\nok\n",
+    ),
+];
+
+// Tables of the commands of a single domain, and what they print.
+const OF_ONE_DOMAIN: [&[(&str, &str)]; 3] = [
+    &beside::REPLIES,
+    &ephemerons::REPLIES,
+    &finalisers::REPLIES,
 ];
 
 #[test]
 fn scripts_of_few_replies(rt: HostRuntime) -> Result<(), Fail> {
     for (words, script, prints) in &REPLIES {
         runs_to(&rt, rt.alloc(), words, script, prints)?;
+    }
+    Ok(())
+}
+
+#[test]
+fn scripts_of_one_domain(rt: HostRuntime) -> Result<(), Fail> {
+    for table in &OF_ONE_DOMAIN {
+        for (commands, prints) in *table {
+            let alloc = rt.alloc();
+            let script = format!(in alloc; "heap 1\ndomain 0\n{commands}")?;
+            let output = format!(in alloc; "domain 0\n{prints}")?;
+            runs_to(&rt, alloc, "run --domains 1", &script, &output)?;
+        }
     }
     Ok(())
 }
@@ -193,34 +221,6 @@ const REFUSED: [(&str, &str, &str); 16] = [
     ),
 ];
 
-#[test]
-fn refused_scripts(rt: HostRuntime) -> Result<(), Fail> {
-    for (words, script, line) in &REFUSED {
-        let given = run_plain(&rt, rt.alloc(), words, script)?;
-        is_given(&rt, &given, 2, line, "");
-    }
-    Ok(())
-}
-
-// All domains together have at most 200,000 commands.
-#[test]
-fn too_many_commands(rt: HostRuntime) -> Result<(), Fail> {
-    let alloc = rt.alloc();
-    let mut script = String::from_str(alloc, "heap 1\ndomain 0\n")?;
-    for _ in 0..200_001u32 {
-        script.push_str("poll\n")?;
-    }
-    let given = run_plain(&rt, alloc, "run --domains 1", &script)?;
-    is_given(
-        &rt,
-        &given,
-        2,
-        "script line 200003: too many commands\n",
-        "",
-    );
-    Ok(())
-}
-
 const OTHER_WORDS: [&str; 21] = [
     "",
     "run x",
@@ -249,10 +249,14 @@ const USAGE: &str =
     "usage: camlheap run [--domains N] [--minor W] [--pools P] | gen BASE N C | load BASE N C\n";
 
 #[test]
-fn other_words(rt: HostRuntime) -> Result<(), Fail> {
+fn refused_words_and_scripts(rt: HostRuntime) -> Result<(), Fail> {
     for words in &OTHER_WORDS {
         let given = run_plain(&rt, rt.alloc(), words, PLAIN)?;
         is_given(&rt, &given, 1, USAGE, "");
+    }
+    for (words, script, line) in &REFUSED {
+        let given = run_plain(&rt, rt.alloc(), words, script)?;
+        is_given(&rt, &given, 2, line, "");
     }
     Ok(())
 }
