@@ -121,7 +121,7 @@ pub(crate) fn begin(alloc: Global, config: Config, script: &Script) -> Result<Be
         Err(StartFault::Config(_)) => unreachable!(),
     };
     let room = Vec::with_capacity(alloc, domains.len())?;
-    let decks = Hints::make(alloc, config.domains)?;
+    let decks = Hints::make(alloc, config.domains, config.ephes)?;
     let runs = runs_of(alloc, domains, decks, script)?;
     Ok(Begun { heap, runs, room })
 }

@@ -14,7 +14,7 @@ fn stolen(hints: &mut Hints) -> Option<u32> {
 
 // The decks of two domains.
 fn two_decks(alloc: Global) -> Result<(Hints, Hints), Fail> {
-    let mut decks = Hints::make(alloc, 2)?;
+    let mut decks = Hints::make(alloc, 2, 0)?;
     let (Some(second), Some(first)) = (decks.pop(), decks.pop()) else {
         return Err(Fail::from("no two decks"));
     };
