@@ -108,6 +108,7 @@ fn runs_of(
 }
 
 // Starts the heap of a script.
+#[inline(never)]
 pub(crate) fn begin(alloc: Global, config: Config, script: &Script) -> Result<Begun, AllocError>
     requires limits { first_outside config ≡ None }
     requires script { IsSpelled config.domains script.now }
