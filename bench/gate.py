@@ -1,5 +1,5 @@
 #!/usr/bin/env python3
-"""Runs the gate, samples each process of the prover every second, and prints the gate's CPU seconds crate by crate as a
+"""Runs the gate from nothing, samples each process of the prover every second, and prints the gate's CPU seconds crate by crate as a
 table in Markdown. `bench/gate.py FILE` writes what the gate says into FILE and ends with the gate's status."""
 import os
 import re
@@ -75,7 +75,7 @@ def main():
     top = subprocess.check_output(["git", "rev-parse", "--show-toplevel"], text=True).strip()
     begun, found, edits_seen = time.time(), {}, set()
     with open(sys.argv[1], "w", encoding="utf-8") as said:
-        gate = subprocess.Popen(["rt", "ci"], cwd=top, stdout=said, stderr=subprocess.STDOUT)
+        gate = subprocess.Popen(["rt", "ci", "--anew"], cwd=top, stdout=said, stderr=subprocess.STDOUT)
         while gate.poll() is None:
             sample(found, edits_seen)
             time.sleep(1)

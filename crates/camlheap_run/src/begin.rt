@@ -108,6 +108,7 @@ fn runs_of(
 }
 
 // Starts the heap of a script.
+#[inline(never)]
 pub(crate) fn begin(alloc: Global, config: Config, script: &Script) -> Result<Begun, AllocError>
     requires limits { first_outside config ≡ None }
     requires script { IsSpelled config.domains script.now }
@@ -121,7 +122,7 @@ pub(crate) fn begin(alloc: Global, config: Config, script: &Script) -> Result<Be
         Err(StartFault::Config(_)) => unreachable!(),
     };
     let room = Vec::with_capacity(alloc, domains.len())?;
-    let decks = Hints::make(alloc, config.domains)?;
+    let decks = Hints::make(alloc, config.domains, config.ephes)?;
     let runs = runs_of(alloc, domains, decks, script)?;
     Ok(Begun { heap, runs, room })
 }

@@ -60,7 +60,7 @@ fn work(heap: &Heap, dom: &mut Domain, kind: Kind, hints: &mut Hints)
     match kind {
         Kind::Roots => start_roots(heap, dom, hints),
         Kind::Mark => mark_round(heap, dom, hints),
-        Kind::Rounds => round(heap, dom),
+        Kind::Rounds => round(heap, dom, hints),
         Kind::Decide => decide(heap, dom),
         Kind::Queued => darken_queued(heap, dom),
         Kind::Clean => clean(heap, dom),

@@ -73,6 +73,7 @@ fn take_first(heap: &Heap, dom: &mut Domain) -> Waiting
 /// `Gc`). `None` is answered exactly where none waits, and then nothing changes.
 ///
 /// The domain runs, and its trace hasn't ended.
+#[inline(always)]
 pub fn run_next(heap: &Heap, dom: &mut Domain) -> Option<Ran>
     requires continues { Continues heap.now dom.old }
     ensures continues { Continues heap.now dom.new }

@@ -19,6 +19,7 @@ use std::alloc::Global;
 const MAX_BYTES: usize = 16_777_216;
 
 // The sections that stand behind the first line.
+#[inline(never)]
 fn read_sections(
     alloc: Global,
     version: Version,

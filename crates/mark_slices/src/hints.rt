@@ -5,6 +5,7 @@ ghost use Rattle.mark_slices.specs.Decks.{uncounted, Missed, NotesOn, Took};
 
 use crate::deck::Deck;
 use crate::trail::Trail;
+use crate::waiting::Waiting;
 use crate::workers::{
     HINTS_ROOM, Other, Own, holds_none, make_workers, others_of, pop_hint, push_hint, steal_hint,
 };
@@ -19,6 +20,9 @@ const MOST_DOMAINS: usize = 8;
 ///
 /// While it has noted 4096 since one that it took itself left its deque empty, or where there is no
 /// memory for one more, what it notes is let go: the block stays grey, and a later walk finds it.
+///
+/// Beside its deque it has room for as many ephemerons as it may list, each of which may wait until a
+/// block is marked. An ephemeron that isn't woken is found by a later look at all of them.
 #[derive(Drop)]
 pub struct Hints {
     number: u32,
@@ -31,6 +35,7 @@ pub struct Hints {
     pushes: u64,
     is_dry: bool,
     pub(crate) trail: Trail,
+    waiting: Waiting,
 }
 
 impl Model for Hints {
@@ -58,7 +63,14 @@ fn all_others(alloc: Global, workers: &[Own]) -> Result<Vec<Vec<Other>>, AllocEr
 
 impl Hints {
     // The hints of a domain that has noted none.
-    fn assemble(number: u32, domains: u32, own: Own, others: Vec<Other>, trail: Trail) -> Hints
+    fn assemble(
+        number: u32,
+        domains: u32,
+        own: Own,
+        others: Vec<Other>,
+        trail: Trail,
+        waiting: Waiting,
+    ) -> Hints
         requires fifo { worker_flavor own ≡ 0 }
         requires others { vec_len others + 1 ≡ domains }
         requires inside { number < domains }
@@ -76,11 +88,13 @@ impl Hints {
             pushes: 0,
             is_dry: false,
             trail,
+            waiting,
         }
     }
 
-    /// The hints of each of so many domains, 1 to 8, in order. Fails for want of memory alone.
-    pub fn make(alloc: Global, domains: u32) -> Result<Vec<Hints>, AllocError>
+    /// The hints of each of so many domains, 1 to 8, in order, with room for so many ephemerons that
+    /// wait. Fails for want of memory alone.
+    pub fn make(alloc: Global, domains: u32, ephemerons: u32) -> Result<Vec<Hints>, AllocError>
         requires some { 1 ≤ domains }
         requires few { domains ≤ 8 }
         ensures { IfOk result (λ v. (vec_len v ≡ domains) × ((k : ℕ) (d : _) → k < domains → slice_index_or v.items k d ≡ uncounted k domains)) }
@@ -90,9 +104,10 @@ impl Hints {
         let mut all = Vec::new(alloc);
         for number in 0..domains {
             let trail = Trail::make(alloc, HINTS_ROOM)?;
+            let waiting = Waiting::make(alloc, ephemerons)?;
             let own = workers.remove(0);
             let others = lists.remove(0);
-            all.push(Hints::assemble(number, domains, own, others, trail))?;
+            all.push(Hints::assemble(number, domains, own, others, trail, waiting))?;
         }
         Ok(all)
     }
@@ -123,6 +138,41 @@ impl Hints {
             let at = from as usize;
             self.misses[at] = self.misses[at].saturating_add(1);
         }
+    }
+
+    /// None of so many ephemerons waits for a block or is woken.
+    pub fn start_waiting(&mut self, count: usize)
+        ensures { self.new ≡ self.old }
+    {
+        self.waiting.start(count);
+    }
+
+    /// The ephemeron at this place of the domain's list is looked at.
+    pub fn look_at(&mut self, place: usize)
+        ensures { self.new ≡ self.old }
+    {
+        self.waiting.look_at(place);
+    }
+
+    /// The ephemeron that is looked at waits until this block is marked.
+    pub fn wait_for(&mut self, address: u32)
+        ensures { self.new ≡ self.old }
+    {
+        self.waiting.wait_for(address);
+    }
+
+    /// Wakes the ephemerons that wait until this block is marked, and maybe others.
+    pub fn wake(&mut self, address: u32)
+        ensures { self.new ≡ self.old }
+    {
+        self.waiting.wake(address);
+    }
+
+    /// Takes the place of an ephemeron that was woken, which is looked at next.
+    pub fn next_woken(&mut self) -> Option<usize>
+        ensures { self.new ≡ self.old }
+    {
+        self.waiting.next_woken()
     }
 
     // Lets all hints in the domain's own deque go.

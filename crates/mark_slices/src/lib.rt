@@ -20,6 +20,7 @@ mod rounds;
 mod scanning;
 mod slices;
 mod trail;
+mod waiting;
 mod workers;
 
 pub use darkening::darken;

@@ -14,7 +14,7 @@ fn stolen(hints: &mut Hints) -> Option<u32> {
 
 // The decks of two domains.
 fn two_decks(alloc: Global) -> Result<(Hints, Hints), Fail> {
-    let mut decks = Hints::make(alloc, 2)?;
+    let mut decks = Hints::make(alloc, 2, 0)?;
     let (Some(second), Some(first)) = (decks.pop(), decks.pop()) else {
         return Err(Fail::from("no two decks"));
     };
@@ -49,5 +49,26 @@ fn hints_are_taken_in_order(rt: HostRuntime) -> Result<(), Fail> {
         }
         same(&rt, own_hints(&mut first, 10_000), wanted);
     }
+    Ok(())
+}
+
+// What waits for a block is woken where it is marked, once, and not before. The row of a block may be another's too.
+#[test]
+fn what_waits_is_woken(rt: HostRuntime) -> Result<(), Fail> {
+    let mut hints = Hints::make(rt.alloc(), 1, 3)?.pop().ok_or("no deck")?;
+    hints.start_waiting(3);
+    hints.look_at(2);
+    hints.wait_for(4097);
+    same(&rt, hints.next_woken(), None);
+    hints.wake(4097);
+    same(
+        &rt,
+        (hints.next_woken(), hints.next_woken()),
+        (Some(2), None),
+    );
+    hints.wait_for(4097);
+    hints.start_waiting(3);
+    hints.wake(4097);
+    same(&rt, hints.next_woken(), None);
     Ok(())
 }

@@ -186,7 +186,8 @@ fn runs_of(
     ensures { IfOk result (λ runs. All (λ r. IsIn r.token heap.now) runs.items) }
 {
     let mut runs = Vec::new(alloc);
-    let mut decks = Hints::make(alloc, heap.config().domains)?;
+    let limits = heap.config();
+    let mut decks = Hints::make(alloc, limits.domains, limits.ephes)?;
     decks.reverse();
     'domains: for domain in domains {
         let section = sections.get(runs.len()).ok_or("no commands")?;

@@ -18,7 +18,7 @@ use sweeper::sweep_slice;
 
 // The decks of two domains.
 fn two_decks(alloc: Global) -> Result<(Hints, Hints), Fail> {
-    let mut decks = Hints::make(alloc, 2)?;
+    let mut decks = Hints::make(alloc, 2, 0)?;
     let (Some(second), Some(first)) = (decks.pop(), decks.pop()) else {
         return Err(Fail::from("no two decks"));
     };

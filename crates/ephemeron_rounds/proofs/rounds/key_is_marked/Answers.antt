@@ -13,7 +13,12 @@ key_look-head-requires-clause-may c = look_may c.args.heap.now.config c.args.dom
 pub returns-in_default-clause-looked : goal.returns-in_default-clause-looked
 returns-in_default-clause-looked c = key_passed c.args.heap.now.config c.args.dom.now.view c.key_load-word.new.dom.view c.args.at c.key_load-word.result c.read_as.result c.requires.may c.key_load-word.ensures.told c.read_as.ensures c.in_default.not-Ref
 
-pub returns-clause-looked : goal.returns-clause-looked
-returns-clause-looked c =
+pub returns-then-not-marked-clause-looked : goal.returns-then-not-marked-clause-looked
+returns-then-not-marked-clause-looked c =
     key_looked c.args.heap.now.config c.args.dom.now.view c.key_load-word.new.dom.view c.args.at c.key_load-word.result c.read_as.result c.requires.may c.key_load-word.ensures.told c.read_as.ensures c.in-Ref.address c.in-Ref.is
-    c.key_look-head.new.dom.view c.key_look-head.result c.args.colours c.is_marked.result c.requires.meanings c.requires.darkening c.key_look-head.ensures.told c.is_marked.ensures
+    c.key_look-head.new.dom.view c.key_look-head.result c.args.colours c.is_marked-marked.result c.requires.meanings c.requires.darkening c.key_look-head.ensures.told c.is_marked-marked.ensures
+
+pub returns-else-not-marked-clause-looked : goal.returns-else-not-marked-clause-looked
+returns-else-not-marked-clause-looked c =
+    key_looked c.args.heap.now.config c.args.dom.now.view c.key_load-word.new.dom.view c.args.at c.key_load-word.result c.read_as.result c.requires.may c.key_load-word.ensures.told c.read_as.ensures c.in-Ref.address c.in-Ref.is
+    c.key_look-head.new.dom.view c.key_look-head.result c.args.colours c.is_marked-marked.result c.requires.meanings c.requires.darkening c.key_look-head.ensures.told c.is_marked-marked.ensures

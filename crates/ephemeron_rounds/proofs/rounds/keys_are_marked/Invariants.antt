@@ -8,4 +8,5 @@ abbrev pub invariant-loop-i : goal.invariant-loop-i
 invariant-loop-i l = record {
   here : IsIn l.dom l.heap;
   view : l.dom.view ≡ with_scan l.fn.dom.view (Keys l.at l.i l.keys);
+  hints : l.hints ≡ l.fn.hints;
 }

@@ -8,4 +8,5 @@ invariant-loop l = record {
   here : IsIn l.dom l.heap;
   looked : Looked l.fn.dom.view l.dom.view;
   owes : l.fn.dom.view.seen.share.owes ≡ true → l.dom.view.seen.share.owes ≡ true;
+  hints : l.hints ≡ l.fn.hints;
 }

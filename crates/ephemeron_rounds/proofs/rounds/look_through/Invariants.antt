@@ -10,4 +10,5 @@ invariant-loop-i l = record {
   looked : Looked l.fn.dom.view l.dom.view;
   owes : l.dom.view.seen.share.owes ≡ cond l.darkened true l.fn.dom.view.seen.share.owes;
   all : SeesBelow l.i l.fn.dom.view l.dom.view;
+  hints : l.hints ≡ l.fn.hints;
 }
