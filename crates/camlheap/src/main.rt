@@ -2,7 +2,7 @@
 #![tactic(auto)]
 
 ghost use Rattle.std.specs.Prelude.{◌≡◌, ◌<◌, Option};
-ghost use Rattle.heap_rule.specs.Ending.{Past};
+ghost use Rattle.heap_rule.specs.Ending.{EndedHeap};
 ghost use Rattle.outer_io.specs.Adapters.{write_faults};
 ghost use Rattle.outer_io.specs.Faults.{Rose};
 
@@ -31,7 +31,7 @@ fn words_given<R: Env + AllocGlobal>(rt: &R, alloc: Global) -> io::Result<Vec<St
 // The status once what was gathered is written too.
 fn flushed<W: Write>(status: Status, out: &mut StdSink<W>) -> Status
     ensures kept { ¬ (Rose (write_faults out.old) (write_faults out.new)) → result ≡ status }
-    ensures fault { (ended : Option Past) → status ≡ Status.Done ended → write_faults out.old < write_faults out.new → result ≡ Status.WriteFault ended }
+    ensures fault { (ended : Option EndedHeap) → status ≡ Status.Done ended → write_faults out.old < write_faults out.new → result ≡ Status.WriteFault ended }
 {
     match (status, out.flush()) {
         (Status::Done { ended }, Err(_)) => Status::WriteFault { ended },

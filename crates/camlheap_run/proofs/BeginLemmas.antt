@@ -10,7 +10,7 @@ use Rattle.heap_rule.specs.declared.config.Config.{Config}
 use Rattle.heap_rule.specs.Limits.{sizes_in, first_outside, first_of}
 use Rattle.heap_rule.specs.Opening.{opening_token, opening_tokens}
 use Rattle.heap_rule.specs.Token.{SharedHeap}
-use Rattle.mark_slices.specs.Decks.{Counts, uncounted}
+use Rattle.mark_slices.specs.Decks.{DeckCounts, uncounted}
 use Rattle.camlheap_run.specs.Running.{HasSection, deck_of, most_of, opened}
 use Rattle.domain_turns.specs.Runs.{ephemerons_in, registrations_in}
 use Rattle.domain_turns.proofs.Beginning.{opening_begins}
@@ -40,7 +40,7 @@ have_sections h k script from (suc n) few long fine ephemerons registrations = (
 )
 
 -- the decks that are made are theirs
-pub decks_are : (h : SharedHeap) (k : Config) (from n : ℕ) (decks : List Counts) → length decks ≡ n → ((i : ℕ) (d : Counts) → i < n → slice_index_or decks i d ≡ uncounted (from + i) k.domains) → decks ≡ map deck_of (opening_tokens h.table k from n)
+pub decks_are : (h : SharedHeap) (k : Config) (from n : ℕ) (decks : List DeckCounts) → length decks ≡ n → ((i : ℕ) (d : DeckCounts) → i < n → slice_index_or decks i d ≡ uncounted (from + i) k.domains) → decks ≡ map deck_of (opening_tokens h.table k from n)
 decks_are h k from zero [] many each = refl
 decks_are h k from zero (x ∷ xs) many each = cc
 decks_are h k from (suc n) [] many each = cc

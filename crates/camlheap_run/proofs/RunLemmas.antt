@@ -18,7 +18,7 @@ use Rattle.heap_rule.specs.declared.config.Config.{Config}
 use Rattle.heap_rule.specs.Limits.{sizes_in}
 use Rattle.heap_rule.specs.Opening.{opening_token, opening_tokens}
 use Rattle.heap_rule.specs.Token.{Token, SharedHeap, IsIn}
-use Rattle.heap_rule.specs.Ending.{Past, AllIn, AllBegin, Begins}
+use Rattle.heap_rule.specs.Ending.{EndedHeap, AllIn, AllBegin, Begins}
 use Rattle.domain_turns.specs.Runs.{RunView, IsRun, is_end_of}
 use Rattle.thread_drive.specs.Driven.{Driven}
 use Rattle.camlheap_run.specs.declared.begin.Begun.{Begun}
@@ -83,7 +83,7 @@ pub length-begun : (k : Config) (script : List (List Command)) (b : Begun) → I
 length-begun k script b begun = ap length begun.runs ∙ length-opened b.heap k script 0 k.domains
 
 -- what is known once a heap has ended: how it began, that its runs were driven, and that the history begins with their fronts
-pub record Ran (z : Sizes) (k : Config) (script : List (List Command)) (b : Begun) (new : List RunView) (past : Past) : Type 0 where
+pub record Ran (z : Sizes) (k : Config) (script : List (List Command)) (b : Begun) (new : List RunView) (past : EndedHeap) : Type 0 where
   pub sizes : sizes_in k ≡ z
   pub begun : IsBegun k script b
   pub long : length new ≡ length b.runs.items
@@ -142,7 +142,7 @@ told h k script d old q history is driven run begins =
     }
 
 -- each domain has its run, which tells its part of the history
-each_told : (z : Sizes) (k : Config) (script : List (List Command)) (b : Begun) (new : List RunView) (past : Past) → Ran z k script b new past → (d : ℕ) → d < k.domains
+each_told : (z : Sizes) (k : Config) (script : List (List Command)) (b : Begun) (new : List RunView) (past : EndedHeap) → Ran z k script b new past → (d : ℕ) → d < k.domains
     → (q : RunView) × (slice_get new d ≡ Some q) × Told (sizes_in k) script past.history d q
 each_told z k script b new past ran d below =
     let first : RunView = opened script (opening_token b.heap.table k (0 + d)) in
@@ -151,10 +151,10 @@ each_told z k script b new past ran d below =
     let same : first ≡ opened script (opening_token b.heap.table k d) = let at : 0 + d ≡ d = omega arith in ap (λ (m : ℕ). opened script (opening_token b.heap.table k m)) at in
     (found.0, found.1, told b.heap k script d first found.0 past.history same found.2 (each_from_all IsRun new d found.0 ran.ended.faithful found.1) (begins_at past.history new d found.0 ran.ended.fronts found.1))
 
-sizes_are : (z : Sizes) (k : Config) (script : List (List Command)) (b : Begun) (new : List RunView) (past : Past) → Ran z k script b new past → past.sizes ≡ sizes_in k
+sizes_are : (z : Sizes) (k : Config) (script : List (List Command)) (b : Begun) (new : List RunView) (past : EndedHeap) → Ran z k script b new past → past.sizes ≡ sizes_in k
 sizes_are z k script b new past ran = ran.ended.sizes ∙ ap sizes_in ran.begun.config
 
-is_run : (z : Sizes) (k : Config) (script : List (List Command)) (b : Begun) (new : List RunView) (past : Past) → Ran z k script b new past → IsRunOf (sizes_in k) script past.history
+is_run : (z : Sizes) (k : Config) (script : List (List Command)) (b : Begun) (new : List RunView) (past : EndedHeap) → Ran z k script b new past → IsRunOf (sizes_in k) script past.history
 is_run z k script b new past ran = record {
   legal = subst (λ (y : Sizes). Legal y past.history) (sizes_are z k script b new past ran) ran.ended.legal;
   each_command = λ d below. (each_told z k script b new past ran d below).2.made;
@@ -196,7 +196,7 @@ text_told Summary z script history d q t =
     ∙ ap (λ (m : ℕ). summary_line m q.next q.replies) (sym t.number)
 
 -- the report of the history are the texts of the runs
-prints : (report : Report) (z : Sizes) (k : Config) (script : List (List Command)) (b : Begun) (new : List RunView) (past : Past) → Ran z k script b new past → text_of report (sizes_in k) past.history ≡ flat_map (run_text report) new
+prints : (report : Report) (z : Sizes) (k : Config) (script : List (List Command)) (b : Begun) (new : List RunView) (past : EndedHeap) → Ran z k script b new past → text_of report (sizes_in k) past.history ≡ flat_map (run_text report) new
 prints report z k script b new past ran =
     let many : length new ≡ k.domains = ran.long ∙ length-begun k script b ran.begun in
     by_domains report (sizes_in k) past.history ∙ texts (domain_text report (sizes_in k) past.history) (run_text report) new 0 k.domains many (λ i q at.
@@ -206,7 +206,7 @@ prints report z k script b new past ran =
     let same : 0 + i ≡ i = omega arith in
     ap (domain_text report (sizes_in k) past.history) same ∙ text_told report (sizes_in k) script past.history i t.0 t.2 ∙ ap (run_text report) is)
 
-has_run : (z : Sizes) (k : Config) (script : List (List Command)) (b : Begun) (new : List RunView) (past : Past) (ended : Option Past) → Ran z k script b new past → Some past ≡ ended → HasRun z script ended
+has_run : (z : Sizes) (k : Config) (script : List (List Command)) (b : Begun) (new : List RunView) (past : EndedHeap) (ended : Option EndedHeap) → Ran z k script b new past → Some past ≡ ended → HasRun z script ended
 has_run z k script b new past ended ran is = record {
   past = past;
   is_past = sym is;
@@ -214,10 +214,10 @@ has_run z k script b new past ended ran is = record {
   run = subst (λ (y : Sizes). IsRunOf y script past.history) ran.sizes (is_run z k script b new past ran);
 }
 
-printed_is : (report : Report) (z : Sizes) (k : Config) (script : List (List Command)) (b : Begun) (new shown : List RunView) (past : Past) → Ran z k script b new past → shown ≡ new → flat_map (run_text report) shown ≡ text_of report z past.history
+printed_is : (report : Report) (z : Sizes) (k : Config) (script : List (List Command)) (b : Begun) (new shown : List RunView) (past : EndedHeap) → Ran z k script b new past → shown ≡ new → flat_map (run_text report) shown ≡ text_of report z past.history
 printed_is report z k script b new shown past ran is = ap (flat_map (run_text report)) is ∙ sym (prints report z k script b new past ran) ∙ ap (λ (y : Sizes). text_of report y past.history) ran.sizes
 
-pub writes_run : (report : Report) (z : Sizes) (k : Config) (script : List (List Command)) (b : Begun) (new shown : List RunView) (past : Past) (ended : Option Past) (before after : Option (List ℕ))
+pub writes_run : (report : Report) (z : Sizes) (k : Config) (script : List (List Command)) (b : Begun) (new shown : List RunView) (past : EndedHeap) (ended : Option EndedHeap) (before after : Option (List ℕ))
     → Ran z k script b new past → shown ≡ new → Some past ≡ ended → Appends before after (flat_map (run_text report) shown) → WritesRun (text_of report) z script ended before after
 unfolding has_run
 writes_run report z k script b new shown past ended before after ran is last bytes = record {
@@ -225,7 +225,7 @@ writes_run report z k script b new shown past ended before after ran is last byt
   written = subst (λ (t : List ℕ). Appends before after t) (printed_is report z k script b new shown past ran is) bytes;
 }
 
-pub writes_front : (report : Report) (z : Sizes) (k : Config) (script : List (List Command)) (b : Begun) (new shown : List RunView) (past : Past) (ended : Option Past) (before after : Option (List ℕ))
+pub writes_front : (report : Report) (z : Sizes) (k : Config) (script : List (List Command)) (b : Begun) (new shown : List RunView) (past : EndedHeap) (ended : Option EndedHeap) (before after : Option (List ℕ))
     → Ran z k script b new past → shown ≡ new → Some past ≡ ended → AppendsFront before after (flat_map (run_text report) shown) → WritesFrontOfRun (text_of report) z script ended before after
 unfolding has_run
 writes_front report z k script b new shown past ended before after ran is last bytes = record {

@@ -4,7 +4,7 @@ use Rattle.std.specs.List.{range_with_len}
 use Rattle.std.specs.Io.KnownBytes.{Appends}
 use Rattle.heap_model.specs.declared.command.Command.{Command}
 use Rattle.heap_model.specs.Output.{line}
-use Rattle.heap_rule.specs.Ending.{Past}
+use Rattle.heap_rule.specs.Ending.{EndedHeap}
 use Rattle.heap_text.specs.declared.version.Version.TheVariants.{One}
 use Rattle.heap_text.specs.Generated.{generated}
 use Rattle.heap_text.specs.Spelling.{command_text, heading_text, spelling}
@@ -28,11 +28,11 @@ abbrev pub script_of : Generated → List (List Command)
 script_of g = generated g.base g.domains g.commands
 
 -- no heap was started, and the script was written
-pub record WritesScript (g : Generated) (ended : Option Past) (before after : Option (List ℕ)) : Type 0 where
+pub record WritesScript (g : Generated) (ended : Option EndedHeap) (before after : Option (List ℕ)) : Type 0 where
   pub no_heap : ended ≡ None
   pub written : Appends before after (spelling One (script_of g))
 
 -- no heap was started, and a front part of the script was written
-pub record WritesFrontOfScript (g : Generated) (ended : Option Past) (before after : Option (List ℕ)) : Type 0 where
+pub record WritesFrontOfScript (g : Generated) (ended : Option EndedHeap) (before after : Option (List ℕ)) : Type 0 where
   pub no_heap : ended ≡ None
   pub written : AppendsFront before after (spelling One (script_of g))

@@ -5,7 +5,7 @@ use Rattle.heap_model.specs.declared.command.Command.{Command}
 use Rattle.heap_model.specs.declared.entry.Entry.{Entry}
 use Rattle.heap_model.specs.declared.state.Sizes.{Sizes}
 use Rattle.heap_model.specs.Output.{output, summary}
-use Rattle.heap_rule.specs.Ending.{Past}
+use Rattle.heap_rule.specs.Ending.{EndedHeap}
 use Rattle.camlheap_run.specs.declared.status.Status.{Status}
 use Rattle.camlheap_run.specs.declared.status.Status.TheVariants.{Done, Usage, WriteFault, Memory}
 use Rattle.command_line.specs.declared.job.Generated.{Generated}
@@ -17,40 +17,40 @@ use Rattle.camlheap_run.specs.Writing.{AppendsFront}
 use Rattle.camlheap_run.specs.Run.{IsRunOf}
 
 -- the heap that has ended is one of these sizes, and its history is a run of this script
-pub record HasRun (z : Sizes) (script : List (List Command)) (ended : Option Past) : Type 0 where
-  pub past : Past
+pub record HasRun (z : Sizes) (script : List (List Command)) (ended : Option EndedHeap) : Type 0 where
+  pub past : EndedHeap
   pub is_past : ended ≡ Some past
   pub sizes : past.sizes ≡ z
   pub run : IsRunOf z script past.history
 
 -- such a run, and the text of its history was written
-pub record WritesRun (text : Sizes → List Entry → List ℕ) (z : Sizes) (script : List (List Command)) (ended : Option Past) (before after : Option (List ℕ)) : Type 0 where
+pub record WritesRun (text : Sizes → List Entry → List ℕ) (z : Sizes) (script : List (List Command)) (ended : Option EndedHeap) (before after : Option (List ℕ)) : Type 0 where
   pub ran : HasRun z script ended
   pub written : Appends before after (text z ran.past.history)
 
 -- such a run, and a front part of the text of its history was written
-pub record WritesFrontOfRun (text : Sizes → List Entry → List ℕ) (z : Sizes) (script : List (List Command)) (ended : Option Past) (before after : Option (List ℕ)) : Type 0 where
+pub record WritesFrontOfRun (text : Sizes → List Entry → List ℕ) (z : Sizes) (script : List (List Command)) (ended : Option EndedHeap) (before after : Option (List ℕ)) : Type 0 where
   pub ran : HasRun z script ended
   pub written : AppendsFront before after (text z ran.past.history)
 
 -- Done: the source was read to its end, its bytes spell a script, a heap made a run of it, and what its history prints was written
-pub record RunsToEnd (z : Sizes) (ended : Option Past) (left_before left_after written_before written_after : Option (List ℕ)) : Type 0 where
+pub record RunsToEnd (z : Sizes) (ended : Option EndedHeap) (left_before left_after written_before written_after : Option (List ℕ)) : Type 0 where
   pub script : Scripted
   pub reads : ReadsScript z.domains left_before left_after script
   pub writes : WritesRun output z script.sections ended written_before written_after
 
 -- WriteFault: the same, and a front part was written
-pub record StopsWriting (z : Sizes) (ended : Option Past) (left_before left_after written_before written_after : Option (List ℕ)) : Type 0 where
+pub record StopsWriting (z : Sizes) (ended : Option EndedHeap) (left_before left_after written_before written_after : Option (List ℕ)) : Type 0 where
   pub script : Scripted
   pub reads : ReadsScript z.domains left_before left_after script
   pub writes : WritesFrontOfRun output z script.sections ended written_before written_after
 
 -- Done of a generated script: a heap made a run of it, and the summary of its history was written
-abbrev pub LoadsToEnd : Generated → Option Past → Option (List ℕ) → Option (List ℕ) → Type 0
+abbrev pub LoadsToEnd : Generated → Option EndedHeap → Option (List ℕ) → Option (List ℕ) → Type 0
 LoadsToEnd g ended before after = WritesRun summary (load_sizes g) (script_of g) ended before after
 
 -- WriteFault of a generated script: the same, and a front part was written
-abbrev pub StopsLoading : Generated → Option Past → Option (List ℕ) → Option (List ℕ) → Type 0
+abbrev pub StopsLoading : Generated → Option EndedHeap → Option (List ℕ) → Option (List ℕ) → Type 0
 StopsLoading g ended before after = WritesFrontOfRun summary (load_sizes g) (script_of g) ended before after
 
 -- one of two answers
@@ -58,10 +58,10 @@ abbrev pub IsEither : {A : Type 0} → A → A → A → Type 0
 IsEither answer a b = (answer ≡ a) ⊎ (answer ≡ b)
 
 -- a status after which nothing was written
-abbrev pub IsQuiet : Status → Type 0
-IsQuiet (Done ended) = ⊥
-IsQuiet (WriteFault ended) = ⊥
-IsQuiet _ = Unit {0}
+abbrev pub IsSilent : Status → Type 0
+IsSilent (Done ended) = ⊥
+IsSilent (WriteFault ended) = ⊥
+IsSilent _ = Unit {0}
 
 -- a write failed
 abbrev pub IsWriteFault : Status → Type 0

@@ -9,10 +9,10 @@ use Rattle.heap_rule.specs.declared.config.Config.{Config}
 use Rattle.heap_rule.specs.Limits.{sizes_in}
 use Rattle.heap_rule.specs.Opening.{opening_tokens}
 use Rattle.heap_rule.specs.Token.{Token, SharedHeap, IsIn}
-use Rattle.heap_rule.specs.Ending.{Past, AllBegin}
+use Rattle.heap_rule.specs.Ending.{EndedHeap, AllBegin}
 use Rattle.heap_rule.specs.Views.{no_collection}
 use Rattle.domain_turns.specs.Runs.{RunView, IsRun, CanBegin}
-use Rattle.mark_slices.specs.Decks.{Counts, uncounted}
+use Rattle.mark_slices.specs.Decks.{DeckCounts, uncounted}
 use Rattle.camlheap_run.specs.declared.begin.Begun.{Begun}
 
 -- sizes that the words of a run may ask for
@@ -30,7 +30,7 @@ abbrev pub section_of : List (List Command) → Token → List Command
 section_of script t = slice_index_or script t.view.own.number []
 
 -- a domain's deck of hints, before its first command
-abbrev pub deck_of : Token → Counts
+abbrev pub deck_of : Token → DeckCounts
 deck_of t = uncounted t.view.own.number t.config.domains
 
 -- the run of its section
@@ -62,7 +62,7 @@ abbrev pub IsOver : RunView → Type 0
 IsOver r = r.ended ≡ true
 
 -- the heap has ended with these runs: its legal history begins with the front of each, and each has kept its replies
-pub record IsPastOf (h : SharedHeap) (runs : List RunView) (past : Past) : Type 0 where
+pub record IsPastOf (h : SharedHeap) (runs : List RunView) (past : EndedHeap) : Type 0 where
   pub sizes : past.sizes ≡ sizes_in h.config
   pub legal : Legal past.sizes past.history
   pub fronts : AllBegin past.history (map token_of runs)

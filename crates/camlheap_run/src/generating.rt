@@ -1,7 +1,7 @@
 //! Writes a generated script.
 ghost use Rattle.std.specs.Prelude.{◌≡◌, ◌<◌, ◌≤◌, length, Option};
 ghost use Rattle.heap_model.specs.Output.{line};
-ghost use Rattle.heap_rule.specs.Ending.{Past};
+ghost use Rattle.heap_rule.specs.Ending.{EndedHeap};
 ghost use Rattle.heap_text.specs.Spelling.{command_text, spelling};
 ghost use Rattle.heap_text.specs.declared.version.Version.TheVariants.{One};
 ghost use Rattle.outer_io.specs.Faults.{HasCause, Rose};
@@ -75,9 +75,9 @@ fn write_script<K: Sink>(out: &mut K, script: &Script) -> Result<(), Failed>
 pub(crate) fn generate_script<K: Sink>(alloc: Global, generated: &Generated, out: &mut K) -> Status
     requires { IsGenerable generated.now }
     ensures later { K.faults out.old ≤ K.faults out.new }
-    ensures done { (ended : Option Past) → result ≡ Status.Done ended → WritesScript generated.now ended (K.written out.old) (K.written out.new) }
-    ensures cut { (ended : Option Past) → result ≡ Status.WriteFault ended → WritesFrontOfScript generated.now ended (K.written out.old) (K.written out.new) }
-    ensures fault { (ended : Option Past) → result ≡ Status.WriteFault ended → Rose (K.faults out.old) (K.faults out.new) }
+    ensures done { (ended : Option EndedHeap) → result ≡ Status.Done ended → WritesScript generated.now ended (K.written out.old) (K.written out.new) }
+    ensures cut { (ended : Option EndedHeap) → result ≡ Status.WriteFault ended → WritesFrontOfScript generated.now ended (K.written out.old) (K.written out.new) }
+    ensures fault { (ended : Option EndedHeap) → result ≡ Status.WriteFault ended → Rose (K.faults out.old) (K.faults out.new) }
     ensures failed { K.faults out.old < K.faults out.new → IsWriteFault result }
     ensures quiet { result ≡ Status.Memory → out.new ≡ out.old }
     ensures answers { IsRunAnswer result }

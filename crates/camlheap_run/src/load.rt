@@ -1,6 +1,6 @@
 //! Runs a generated script.
 ghost use Rattle.std.specs.Prelude.{◌≡◌, ◌<◌, ◌≤◌, Option};
-ghost use Rattle.heap_rule.specs.Ending.{Past};
+ghost use Rattle.heap_rule.specs.Ending.{EndedHeap};
 ghost use Rattle.outer_io.specs.Faults.{Rose};
 ghost use Rattle.command_line.specs.Jobs.{IsGenerable};
 ghost use Rattle.camlheap_run.specs.Outcome.{LoadsToEnd, StopsLoading, IsWriteFault, IsRunAnswer};
@@ -25,9 +25,9 @@ pub(crate) fn load<R: Threads + Wait + Sync, K: Sink, G: Gate + Sync>(
 ) -> Status
     requires { IsGenerable generated.now }
     ensures later { K.faults out.old ≤ K.faults out.new }
-    ensures done { (ended : Option Past) → result ≡ Status.Done ended → LoadsToEnd generated.now ended (K.written out.old) (K.written out.new) }
-    ensures cut { (ended : Option Past) → result ≡ Status.WriteFault ended → StopsLoading generated.now ended (K.written out.old) (K.written out.new) }
-    ensures fault { (ended : Option Past) → result ≡ Status.WriteFault ended → Rose (K.faults out.old) (K.faults out.new) }
+    ensures done { (ended : Option EndedHeap) → result ≡ Status.Done ended → LoadsToEnd generated.now ended (K.written out.old) (K.written out.new) }
+    ensures cut { (ended : Option EndedHeap) → result ≡ Status.WriteFault ended → StopsLoading generated.now ended (K.written out.old) (K.written out.new) }
+    ensures fault { (ended : Option EndedHeap) → result ≡ Status.WriteFault ended → Rose (K.faults out.old) (K.faults out.new) }
     ensures failed { K.faults out.old < K.faults out.new → IsWriteFault result }
     ensures quiet { result ≡ Status.Memory → out.new ≡ out.old }
     ensures answers { IsRunAnswer result }

@@ -1,6 +1,6 @@
 //! Runs a script, and writes a report of it.
 ghost use Rattle.std.specs.Prelude.{◌≡◌, ◌<◌, ◌≤◌, Option};
-ghost use Rattle.heap_rule.specs.Ending.{Past};
+ghost use Rattle.heap_rule.specs.Ending.{EndedHeap};
 ghost use Rattle.outer_io.specs.Faults.{Rose};
 ghost use Rattle.camlheap_run.specs.Reading.{IsSpelled};
 ghost use Rattle.camlheap_run.specs.Running.{AreRunSizes};
@@ -33,9 +33,9 @@ pub(crate) fn run<R: Threads + Wait + Sync, K: Sink, G: Gate + Sync>(
     requires limits { AreRunSizes sizes.now }
     requires script { IsSpelled sizes.now.domains script.now }
     ensures later { K.faults out.old ≤ K.faults out.new }
-    ensures done { (ended : Option Past) → result ≡ Status.Done ended → WritesRun (text_of report) sizes.now script.now.sections ended (K.written out.old) (K.written out.new) }
-    ensures cut { (ended : Option Past) → result ≡ Status.WriteFault ended → WritesFrontOfRun (text_of report) sizes.now script.now.sections ended (K.written out.old) (K.written out.new) }
-    ensures fault { (ended : Option Past) → result ≡ Status.WriteFault ended → Rose (K.faults out.old) (K.faults out.new) }
+    ensures done { (ended : Option EndedHeap) → result ≡ Status.Done ended → WritesRun (text_of report) sizes.now script.now.sections ended (K.written out.old) (K.written out.new) }
+    ensures cut { (ended : Option EndedHeap) → result ≡ Status.WriteFault ended → WritesFrontOfRun (text_of report) sizes.now script.now.sections ended (K.written out.old) (K.written out.new) }
+    ensures fault { (ended : Option EndedHeap) → result ≡ Status.WriteFault ended → Rose (K.faults out.old) (K.faults out.new) }
     ensures failed { K.faults out.old < K.faults out.new → IsWriteFault result }
     ensures quiet { result ≡ Status.Memory → out.new ≡ out.old }
     ensures answers { IsRunAnswer result }

@@ -1,12 +1,12 @@
 //! Runs the script that a source gives.
 ghost use Rattle.std.specs.Prelude.{◌≡◌, ◌<◌, ◌≤◌, List, Option};
 ghost use Rattle.heap_text.specs.Script.{Scripted};
-ghost use Rattle.heap_rule.specs.Ending.{Past};
+ghost use Rattle.heap_rule.specs.Ending.{EndedHeap};
 ghost use Rattle.heap_text.specs.declared.fault.ScriptFault.{ScriptFault};
 ghost use Rattle.outer_io.specs.Faults.{Rose};
 ghost use Rattle.camlheap_run.specs.Reading.{ReadsFault, TellsScript, TellsFault};
 ghost use Rattle.camlheap_run.specs.Running.{AreRunSizes};
-ghost use Rattle.camlheap_run.specs.Outcome.{RunsToEnd, StopsWriting, IsSourceAnswer, IsQuiet, IsWriteFault, IsEither, IsDoneOrMemory};
+ghost use Rattle.camlheap_run.specs.Outcome.{RunsToEnd, StopsWriting, IsSourceAnswer, IsSilent, IsWriteFault, IsEither, IsDoneOrMemory};
 
 use crate::Status;
 use crate::reading::{NoScript, script_of};
@@ -28,15 +28,15 @@ pub(crate) fn run_source<R: Threads + Wait + Sync, S: Source, K: Sink, G: Gate +
     gate: &G,
 ) -> Status
     requires { AreRunSizes sizes.now }
-    ensures done { (ended : Option Past) → result ≡ Status.Done ended → RunsToEnd sizes.now ended (S.left src.old) (S.left src.new) (K.written out.old) (K.written out.new) }
-    ensures cut { (ended : Option Past) → result ≡ Status.WriteFault ended → StopsWriting sizes.now ended (S.left src.old) (S.left src.new) (K.written out.old) (K.written out.new) }
-    ensures quiet { IsQuiet result → out.new ≡ out.old }
+    ensures done { (ended : Option EndedHeap) → result ≡ Status.Done ended → RunsToEnd sizes.now ended (S.left src.old) (S.left src.new) (K.written out.old) (K.written out.new) }
+    ensures cut { (ended : Option EndedHeap) → result ≡ Status.WriteFault ended → StopsWriting sizes.now ended (S.left src.old) (S.left src.new) (K.written out.old) (K.written out.new) }
+    ensures quiet { IsSilent result → out.new ≡ out.old }
     ensures answers { IsSourceAnswer result }
     ensures script { (f : ScriptFault) → result ≡ Status.Script f → ReadsFault sizes.now.domains (S.left src.old) (S.left src.new) f }
     ensures reads { S.faults src.old ≤ S.faults src.new }
     ensures writes { K.faults out.old ≤ K.faults out.new }
     ensures read_fault { result ≡ Status.ReadFault → Rose (S.faults src.old) (S.faults src.new) }
-    ensures write_fault { (ended : Option Past) → result ≡ Status.WriteFault ended → Rose (K.faults out.old) (K.faults out.new) }
+    ensures write_fault { (ended : Option EndedHeap) → result ≡ Status.WriteFault ended → Rose (K.faults out.old) (K.faults out.new) }
     ensures read_failed { S.faults src.old < S.faults src.new → result ≡ Status.ReadFault }
     ensures write_failed { K.faults out.old < K.faults out.new → IsWriteFault result }
     ensures complete { (s : Scripted) → TellsScript sizes.now.domains (S.left src.old) s

@@ -4,13 +4,13 @@ ghost use Rattle.command_line.specs.Jobs.{asked_job};
 ghost use Rattle.command_line.specs.declared.job.Generated.{Generated};
 ghost use Rattle.heap_text.specs.Script.{Scripted};
 ghost use Rattle.heap_model.specs.declared.state.Sizes.{Sizes};
-ghost use Rattle.heap_rule.specs.Ending.{Past};
+ghost use Rattle.heap_rule.specs.Ending.{EndedHeap};
 ghost use Rattle.heap_text.specs.declared.fault.ScriptFault.{ScriptFault};
 ghost use Rattle.outer_io.specs.Faults.{Rose};
 ghost use Rattle.camlheap_run.specs.Generating.{WritesScript, WritesFrontOfScript};
 ghost use Rattle.camlheap_run.specs.Words.{AsksToRun, ReadsSource};
 ghost use Rattle.camlheap_run.specs.Reading.{ReadsFault, TellsScript, TellsFault};
-ghost use Rattle.camlheap_run.specs.Outcome.{RunsToEnd, StopsWriting, LoadsToEnd, StopsLoading, IsQuiet, IsWriteFault, IsEither, IsDoneOrMemory};
+ghost use Rattle.camlheap_run.specs.Outcome.{RunsToEnd, StopsWriting, LoadsToEnd, StopsLoading, IsSilent, IsWriteFault, IsEither, IsDoneOrMemory};
 
 use crate::Status;
 use crate::generating::generate_script;
@@ -47,25 +47,25 @@ pub fn camlheap<R: Threads + Wait + Sync, S: Source, K: Sink, G: Gate + Sync>(
     gate: &G,
 ) -> Status
     // What was read and written by `run`, where it ended well, and where a write failed.
-    ensures done { (z : Sizes) (ended : Option Past) → asked_job (map string_bytes words.now) ≡ Some (Job.Run z) → result ≡ Status.Done ended
+    ensures done { (z : Sizes) (ended : Option EndedHeap) → asked_job (map string_bytes words.now) ≡ Some (Job.Run z) → result ≡ Status.Done ended
         → RunsToEnd z ended (S.left src.old) (S.left src.new) (K.written out.old) (K.written out.new) }
-    ensures cut { (z : Sizes) (ended : Option Past) → asked_job (map string_bytes words.now) ≡ Some (Job.Run z) → result ≡ Status.WriteFault ended
+    ensures cut { (z : Sizes) (ended : Option EndedHeap) → asked_job (map string_bytes words.now) ≡ Some (Job.Run z) → result ≡ Status.WriteFault ended
         → StopsWriting z ended (S.left src.old) (S.left src.new) (K.written out.old) (K.written out.new) }
 
     // What was written by `gen`.
-    ensures generated { (g : Generated) (ended : Option Past) → asked_job (map string_bytes words.now) ≡ Some (Job.Gen g) → result ≡ Status.Done ended
+    ensures generated { (g : Generated) (ended : Option EndedHeap) → asked_job (map string_bytes words.now) ≡ Some (Job.Gen g) → result ≡ Status.Done ended
         → WritesScript g ended (K.written out.old) (K.written out.new) }
-    ensures generated_cut { (g : Generated) (ended : Option Past) → asked_job (map string_bytes words.now) ≡ Some (Job.Gen g) → result ≡ Status.WriteFault ended
+    ensures generated_cut { (g : Generated) (ended : Option EndedHeap) → asked_job (map string_bytes words.now) ≡ Some (Job.Gen g) → result ≡ Status.WriteFault ended
         → WritesFrontOfScript g ended (K.written out.old) (K.written out.new) }
 
     // What was run and written by `load`.
-    ensures loaded { (g : Generated) (ended : Option Past) → asked_job (map string_bytes words.now) ≡ Some (Job.Load g) → result ≡ Status.Done ended
+    ensures loaded { (g : Generated) (ended : Option EndedHeap) → asked_job (map string_bytes words.now) ≡ Some (Job.Load g) → result ≡ Status.Done ended
         → LoadsToEnd g ended (K.written out.old) (K.written out.new) }
-    ensures loaded_cut { (g : Generated) (ended : Option Past) → asked_job (map string_bytes words.now) ≡ Some (Job.Load g) → result ≡ Status.WriteFault ended
+    ensures loaded_cut { (g : Generated) (ended : Option EndedHeap) → asked_job (map string_bytes words.now) ≡ Some (Job.Load g) → result ≡ Status.WriteFault ended
         → StopsLoading g ended (K.written out.old) (K.written out.new) }
 
     // What stays: the sink where nothing was to be written, and the source where `run` isn't asked for.
-    ensures quiet { IsQuiet result → out.new ≡ out.old }
+    ensures quiet { IsSilent result → out.new ≡ out.old }
     ensures unread { ¬ (ReadsSource (asked_job (map string_bytes words.now))) → src.new ≡ src.old }
 
     // When each other answer comes.
@@ -76,7 +76,7 @@ pub fn camlheap<R: Threads + Wait + Sync, S: Source, K: Sink, G: Gate + Sync>(
     ensures reads { S.faults src.old ≤ S.faults src.new }
     ensures writes { K.faults out.old ≤ K.faults out.new }
     ensures read_fault { result ≡ Status.ReadFault → AsksToRun (asked_job (map string_bytes words.now)) (λ _. Rose (S.faults src.old) (S.faults src.new)) }
-    ensures write_fault { (ended : Option Past) → result ≡ Status.WriteFault ended → Rose (K.faults out.old) (K.faults out.new) }
+    ensures write_fault { (ended : Option EndedHeap) → result ≡ Status.WriteFault ended → Rose (K.faults out.old) (K.faults out.new) }
 
     // A read or a write that failed decides the answer: none is tried again.
     ensures read_failed { S.faults src.old < S.faults src.new → result ≡ Status.ReadFault }

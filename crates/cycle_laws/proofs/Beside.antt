@@ -29,7 +29,7 @@ use Rattle.cycle_laws.specs.Marks.{Marks, darkened, with_scanned, IsTraced}
 use Rattle.cycle_laws.specs.Shares.{Layout}
 use Rattle.cycle_laws.specs.Cover.{field_in, field_at, is_new, InCover}
 use Rattle.cycle_laws.specs.Cycle.{IsUnderWay}
-use Rattle.cycle_laws.specs.Beside.{Past, with_new, AllFull, IsBeside, past_at, Later, owing_register, owed_after, WriteBarrier, restricted, BesideLaw}
+use Rattle.cycle_laws.specs.Beside.{Snapshot, with_new, AllFull, IsBeside, past_at, Later, owing_register, owed_after, WriteBarrier, restricted, BesideLaw}
 use Rattle.cycle_laws.proofs.Tracing.{More, darkened_more, darkened_cases, darkened_scanned, unlike}
 use Rattle.cycle_laws.proofs.DomainParts.{is_block, listed_at, listed_cases, part_has, roots_all}
 use Rattle.cycle_laws.proofs.Covering.{cover_more, field_listed}
@@ -366,7 +366,7 @@ module _ (old : Graph) (marked : Label → Bool) where
     abbrev Owing : ℕ → State → Type 0
     Owing dst t = Follows t (owing_register owed d dst)
 
-    module _ (past : Past) (m : Marks) (is_old : past.old ≡ old) (is_marked : m.marked ≡ marked) (numbered : IsNumbered s) where
+    module _ (past : Snapshot) (m : Marks) (is_old : past.old ≡ old) (is_marked : m.marked ≡ marked) (numbered : IsNumbered s) where
       barrier_of : (l x : Label) (index : ℕ) → (field_at past.old l index ≡ Some (Block x) → IsTrue (m.marked x)) → field_at old l index ≡ Some (Block x) → IsTrue (marked x)
       barrier_of l x index b at = subst (λ z. IsTrue (z x)) is_marked (b (subst (λ g. field_at g l index ≡ Some (Block x)) (sym is_old) at))
 
@@ -405,7 +405,7 @@ module _ (old : Graph) (marked : Label → Bool) where
       follows_command c barrier = follows_domain (outcome s d c).state (owed_after owed d c) (command c barrier) d _ refl refl
 
 -- the parts of what is known
-module _ (past : Past) (m : Marks) (s : State) (b : IsBeside past m s) where
+module _ (past : Snapshot) (m : Marks) (s : State) (b : IsBeside past m s) where
   follows_of : Follows past.old m.marked s past.owed
   follows_of = record {
     held = past.held;

@@ -20,7 +20,7 @@ use Rattle.cycle_laws.specs.Cover.{field_at, is_new, InCover}
 use Rattle.cycle_laws.specs.Cycle.{IsUnderWay}
 
 -- what is remembered of the time since the roots had been darkened
-pub record Past : Type 0 where
+pub record Snapshot : Type 0 where
   -- the graph when the roots had been darkened
   pub old : Graph
   -- the labels in registers and queues, but for a register whose value a weak read has still to darken
@@ -39,7 +39,7 @@ abbrev pub AllFull : Graph → Type 0
 AllFull g = (l : Label) (n : Node) → node_at g l ≡ Some n → IsTrue (has_full_fields n)
 
 -- what domains hold is covered, what they overwrote was marked first, and what was scanned led to marked blocks in the old graph
-pub record IsBeside (past : Past) (m : Marks) (s : State) : Type 0 where
+pub record IsBeside (past : Snapshot) (m : Marks) (s : State) : Type 0 where
   pub grown : HoldsRoots (labels past.old) (has_label (labels s.graph))
   pub closed_old : (l x : Label) (i : ℕ) → field_at past.old l i ≡ Some (Block x) → IsTrue (has_label (labels past.old) x)
   pub full : AllFull s.graph
@@ -55,11 +55,11 @@ pub record IsBeside (past : Past) (m : Marks) (s : State) : Type 0 where
   pub queues : (k : ℕ) (l : Label) → IsTrue (has_label (filter_map pending_label (domain_at s k).queue) l) → IsTrue (past.held l)
 
 -- the past when the roots have been darkened
-abbrev pub past_at : State → Past
+abbrev pub past_at : State → Snapshot
 past_at s = record { old = s.graph; held = has_label (roots s (queues s)); overwritten = λ l i. false; owed = λ k r. false }
 
 -- in a later state other labels may be held and other fields overwritten; the old graph and the marks are the same
-abbrev pub Later : Past → Marks → State → (ℕ → ℕ → Bool) → Type 0
+abbrev pub Later : Snapshot → Marks → State → (ℕ → ℕ → Bool) → Type 0
 Later past m s owed = (held : Label → Bool) × (overwritten : Label → ℕ → Bool) × IsBeside (record past { held = held; overwritten = overwritten; owed = owed }) m s
 
 -- one register more is owed
@@ -73,7 +73,7 @@ owed_after owed d (GetData dst ephe) = owing_register owed d dst
 owed_after owed d _ = owed
 
 -- the write barrier: the label that a command overwrites is marked, if it stood there in the old graph; a `cas` overwrites only where it finds what it expects
-abbrev pub WriteBarrier : Past → Marks → State → ℕ → declared_command.Command → Type 0
+abbrev pub WriteBarrier : Snapshot → Marks → State → ℕ → declared_command.Command → Type 0
 WriteBarrier past m s d (Store block index item) = (l x : Label) → register s d block ≡ Block l → field_at past.old l index ≡ Some (Block x) → IsTrue (m.marked x)
 WriteBarrier past m s d (Cas block index expected item) = (l x : Label) (found : Value) → register s d block ≡ Block l → field_at s.graph l index ≡ Some found
     → IsTrue (same_value found (register s d expected)) → field_at past.old l index ≡ Some (Block x) → IsTrue (m.marked x)
@@ -89,26 +89,26 @@ pub record BesideLaw : Type 0 where
   pub starts : (s : State) (m : Marks) → IsWellFormed s → AllFull s.graph → IsTraced s.graph m → HoldsRoots (roots s (queues s)) m.marked
       → IsBeside (past_at s) (with_new s.graph m) s
   -- a block is darkened; a block is scanned; and the field that a scan reads has its old label, which may have to be darkened, or had a marked one
-  pub darkens : (past : Past) (m : Marks) (s : State) → IsBeside past m s → (l : Label) → m.marked l ≡ false → IsBeside past (darkened m l) s
-  pub scans : (past : Past) (m : Marks) (s : State) → IsBeside past m s → (l : Label)
+  pub darkens : (past : Snapshot) (m : Marks) (s : State) → IsBeside past m s → (l : Label) → m.marked l ≡ false → IsBeside past (darkened m l) s
+  pub scans : (past : Snapshot) (m : Marks) (s : State) → IsBeside past m s → (l : Label)
       → ((i : ℕ) (x : Label) → field_at past.old l i ≡ Some (Block x) → IsTrue (m.marked x)) → IsBeside past (with_scanned m l) s
-  pub reads : (past : Past) (m : Marks) (s : State) → IsBeside past m s → (l x : Label) (i : ℕ) → field_at past.old l i ≡ Some (Block x)
+  pub reads : (past : Snapshot) (m : Marks) (s : State) → IsBeside past m s → (l x : Label) (i : ℕ) → field_at past.old l i ≡ Some (Block x)
       → IsTrue (m.marked x) ⊎ (field_at s.graph l i ≡ Some (Block x))
   -- a command of a domain that owes nothing
-  pub commands : (past : Past) (m : Marks) (s : State) → IsBeside past m s → IsNumbered s → (d : ℕ) (c : declared_command.Command) → ((r : ℕ) → past.owed d r ≡ false)
+  pub commands : (past : Snapshot) (m : Marks) (s : State) → IsBeside past m s → IsNumbered s → (d : ℕ) (c : declared_command.Command) → ((r : ℕ) → past.owed d r ≡ false)
       → WriteBarrier past m s d c → Later past m (next s (Command d c false)) (owed_after past.owed d c)
   -- an allocation that is refused, the end of a domain, and a finaliser that runs
-  pub refuses : (past : Past) (m : Marks) (s : State) → IsBeside past m s → (d : ℕ) (c : declared_command.Command) → Later past m (next s (Command d c true)) past.owed
-  pub ends : (past : Past) (m : Marks) (s : State) → IsBeside past m s → (d : ℕ) → Later past m (next s (End d)) past.owed
-  pub runs : (past : Past) (m : Marks) (s : State) → IsBeside past m s → (d : ℕ) → Later past m (next s (Ran d)) past.owed
+  pub refuses : (past : Snapshot) (m : Marks) (s : State) → IsBeside past m s → (d : ℕ) (c : declared_command.Command) → Later past m (next s (Command d c true)) past.owed
+  pub ends : (past : Snapshot) (m : Marks) (s : State) → IsBeside past m s → (d : ℕ) → Later past m (next s (End d)) past.owed
+  pub runs : (past : Snapshot) (m : Marks) (s : State) → IsBeside past m s → (d : ℕ) → Later past m (next s (Ran d)) past.owed
   -- a state with the same graph, registers and queues
-  pub stays : (past : Past) (m : Marks) (s t : State) → IsBeside past m s → t.graph ≡ s.graph → ((k : ℕ) → (domain_at t k).registers ≡ (domain_at s k).registers)
+  pub stays : (past : Snapshot) (m : Marks) (s t : State) → IsBeside past m s → t.graph ≡ s.graph → ((k : ℕ) → (domain_at t k).registers ≡ (domain_at s k).registers)
       → ((k : ℕ) → (domain_at t k).queue ≡ (domain_at s k).queue) → IsBeside past m t
   -- registers are owed no longer: they hold marked labels, or none
-  pub pays : (past : Past) (m : Marks) (s : State) → IsBeside past m s → (owed : ℕ → ℕ → Bool)
+  pub pays : (past : Snapshot) (m : Marks) (s : State) → IsBeside past m s → (owed : ℕ → ℕ → Bool)
       → ((k r : ℕ) → owed k r ≡ false → (past.owed k r ≡ false) ⊎ ((l : Label) → register s k r ≡ Block l → IsTrue (m.marked l))) → Later past m s owed
   -- where nobody owes, with the labels of the blocks in pools
-  pub rests : (past : Past) (m : Marks) (s : State) → IsBeside past m s → ((k r : ℕ) → past.owed k r ≡ false) → (y : Layout) (places : Label → Bool)
+  pub rests : (past : Snapshot) (m : Marks) (s : State) → IsBeside past m s → ((k r : ℕ) → past.owed k r ≡ false) → (y : Layout) (places : Label → Bool)
       → ((l : Label) → is_new past.old l ≡ false → IsTrue (m.marked l) → IsTrue (places l)) → HoldsRoots (roots s (queues s)) places
       → ((l : Label) (n : Node) → IsTrue (places l) → node_at s.graph l ≡ Some n → HoldsRoots (names_of n) places)
       → ((a : ℕ) (l : Label) → y.live a ≡ Some l → IsTrue (places l)) → IsUnderWay s y (restricted m places)

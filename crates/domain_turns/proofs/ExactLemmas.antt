@@ -123,8 +123,8 @@ one_note old new P Q p q =
     let same : m ≡ n = sym (last_snoc q.1.1 m Cleared) ∙ (ap (λ (l : List Note). last_of l Cleared) (sym q.1.2 ∙ p.1.2) ∙ last_snoc p.1.1 n Cleared) in
     (n, p.1.3, subst Q same q.1.3)
 
-barriers : (b c : ℕ) → Barrier b ≡ Barrier c → b ≡ c
-barriers b c e = cc
+same_barrier : (b c : ℕ) → Barrier b ≡ Barrier c → b ≡ c
+same_barrier b c e = cc
 
 ends : (b c : ℕ) → Ended b ≡ Ended c → b ≡ c
 ends b c e = cc
@@ -147,7 +147,7 @@ one_sign h old new Did (Waiting c) p q = absurd (no_did h old new (IsBarrier c) 
 one_sign h old new Did (Idle c) p q = absurd (no_did h old new (IsEnded c) (not_ended c) q.0 p)
 one_sign h old new Did Over p q = absurd (no_did h old new (IsEnded h.config.domains) (not_ended h.config.domains) q p)
 one_sign h old new (Waiting b) Did p q = absurd (no_did h old new (IsBarrier b) (not_barrier b) p q)
-one_sign h old new (Waiting b) (Waiting c) p q = let t = one_note old new (IsBarrier b) (IsBarrier c) p q in ap Waiting (barriers b c (sym t.1 ∙ t.2))
+one_sign h old new (Waiting b) (Waiting c) p q = let t = one_note old new (IsBarrier b) (IsBarrier c) p q in ap Waiting (same_barrier b c (sym t.1 ∙ t.2))
 one_sign h old new (Waiting b) (Idle c) p q = let t = one_note old new (IsBarrier b) (IsEnded c) p q.0 in absurd (apart b c (sym t.1 ∙ t.2))
 one_sign h old new (Waiting b) Over p q = let t = one_note old new (IsBarrier b) (IsEnded h.config.domains) p q in absurd (apart b h.config.domains (sym t.1 ∙ t.2))
 one_sign h old new (Idle b) Did p q = absurd (no_did h old new (IsEnded b) (not_ended b) p.0 q)

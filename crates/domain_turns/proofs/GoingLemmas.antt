@@ -12,9 +12,9 @@ use Rattle.heap_rule.specs.Token.{SharedHeap}
 use Rattle.domain_turns.specs.declared.turned.Turned.{Turned}
 use Rattle.domain_turns.specs.declared.turned.Turned.TheVariants.{Did, Waiting, Idle}
 use Rattle.domain_turns.specs.declared.turned.Turned.TheVariants.{Ended as Over}
-use Rattle.domain_turns.specs.declared.passing.Past.{Past}
-use Rattle.domain_turns.specs.declared.passing.Past.TheVariants.{Waits, Arrived, Answered, Runs}
-use Rattle.domain_turns.specs.Past.{PastAnswers}
+use Rattle.domain_turns.specs.declared.passing.LookOutcome.{LookOutcome}
+use Rattle.domain_turns.specs.declared.passing.LookOutcome.TheVariants.{Waits, Arrived, Answered, Runs}
+use Rattle.domain_turns.specs.LookOutcomes.{PastAnswers}
 use Rattle.domain_turns.specs.Pausing.{ComesToAnswer}
 use Rattle.heap_rule.specs.declared.view.Hunt.TheVariants.{Rests as AtRest}
 use Rattle.size_pools.proofs.Seeking.{sought_view}
@@ -148,7 +148,7 @@ answered_goes h old new s =
     }
 
 -- whatever a look at the barrier came to
-pub past_goes : (h : SharedHeap) (old new : RunView) (past : Past) → PastAnswers h old new past → GoesOn old new
+pub past_goes : (h : SharedHeap) (old new : RunView) (past : LookOutcome) → PastAnswers h old new past → GoesOn old new
 past_goes h old new (Waits b) w = record { commands = ap (λ (r : RunView). r.commands) w.run; number = ap (λ (r : RunView). r.token.view.own.number) w.run; front = same_prefix _ _ (ap (λ (r : RunView). r.token.view.seen.front) w.run) }
 past_goes h old new (Arrived kind) g = gone_goes h old new g
 past_goes h old new (Answered blocks None) g = seen_goes h old new g

@@ -24,14 +24,14 @@ use Rattle.heap_rule.specs.Token.{Token, SharedHeap, IsIn}
 use Rattle.heap_rule.specs.Views.{fresh_share}
 use Rattle.steps_pauses.specs.Pauses.{kind_in, arrived_view, entry_of, progress_after, EndsWith, IsModeOf}
 use Rattle.steps_promote.specs.Promotion.{reset_view}
-use Rattle.safepoint.specs.Looks.{Passed}
+use Rattle.safepoint.specs.Looks.{PassedBarrier}
 use Rattle.heap_rule.specs.declared.phase.Progress.{Progress}
-use Rattle.cycle_phases.specs.Sharing.{SharesIn, with_shared}
-use Rattle.cycle_phases.specs.Leading.{LeadsOn}
+use Rattle.pause_phases.specs.Sharing.{SharesIn, with_shared}
+use Rattle.pause_phases.specs.Leading.{LeadsOn}
 use Rattle.heap_rule.specs.declared.view.Finalisers.{Finalisers}
 use Rattle.steps_finalisers.specs.Registering.{count_of}
 use Rattle.domain_turns.specs.Tries.{IsFresh}
-use Rattle.domain_turns.specs.Pausing.{IsQuiet, IsPast, IsReady, HasLeft, KnowsAnswer, KnowsProgress, LeavesEven, LeavesOdd, ComesToAnswer, GivesBack, AnswersFrom, CountsAndAnswers}
+use Rattle.domain_turns.specs.Pausing.{HasNothingPending, IsPast, IsReady, HasLeft, KnowsAnswer, KnowsProgress, LeavesEven, LeavesOdd, ComesToAnswer, GivesBack, AnswersFrom, CountsAndAnswers}
 use Rattle.domain_turns.specs.Runs.{IsBetween, Passes}
 use Rattle.domain_turns.proofs.Moving.{Moves, view_moves}
 use Rattle.domain_turns.proofs.Owing.{bare_count}
@@ -81,7 +81,7 @@ record Same (b z : DomainView) : Type 0 where
   hunt : b.seen.hunt ≡ Rests → z.seen.hunt ≡ Rests
   front : IsFrontOf b.own.number z.seen.front b.seen.front
 
-begun_leaves : (k : Config) (x b y z : DomainView) (kind : Kind) → Passed k x b → Same b z → y ≡ arrived_view z → kind_in z.seen.stage ≡ kind → Leaves x y kind
+begun_leaves : (k : Config) (x b y z : DomainView) (kind : Kind) → PassedBarrier k x b → Same b z → y ≡ arrived_view z → kind_in z.seen.stage ≡ kind → Leaves x y kind
 begun_leaves k x b y z kind p s is stage =
     let number : b.own.number ≡ x.own.number = ap (λ (v : DomainView). v.own.number) p.view in arrived_leaves x y z kind is
     (s.number ∙ number)
@@ -97,11 +97,11 @@ begun_leaves k x b y z kind p s is stage =
 same_self : (b : DomainView) → Same b b
 same_self b = record { number = refl; serial = refl; room = no_less b.own.ephemerons.room; listed = refl; arrivals = refl; made = refl; hunt = λ at_rest. at_rest; front = front_whole b.own.number b.seen.front }
 
-shares_leaves : (k : Config) (x b y : DomainView) (kind : Kind) → Passed k x b → b.seen.stage ≡ In kind → SharesIn k kind b y → Leaves x y kind
+shares_leaves : (k : Config) (x b y : DomainView) (kind : Kind) → PassedBarrier k x b → b.seen.stage ≡ In kind → SharesIn k kind b y → Leaves x y kind
 shares_leaves k x b y kind p stage l =
     begun_leaves k x b y (with_shared b y) kind p (record { number = refl; serial = refl; room = l.room; listed = l.registered; arrivals = refl; made = refl; hunt = λ at_rest. at_rest; front = l.front }) l.view (ap kind_in stage)
 
-even_leaves : (k : Config) (x b y : DomainView) (kind : Kind) → Passed k x b → b.seen.stage ≡ In kind → LeavesEven k kind b y → Leaves x y kind
+even_leaves : (k : Config) (x b y : DomainView) (kind : Kind) → PassedBarrier k x b → b.seen.stage ≡ In kind → LeavesEven k kind b y → Leaves x y kind
 even_leaves k x b y Run p stage l = absurd l
 even_leaves k x b y Promote p stage l =
     let v = l.shared.view in
@@ -132,7 +132,7 @@ even_leaves k x b y Sweep p stage l = shares_leaves k x b y Sweep p stage l
 abbrev leading_view : DomainView → DomainView → Kind → Kind → DomainView
 leading_view b y last kind = record b { seen = record b.seen { front = y.seen.front; notes = y.seen.notes; stage = Led kind; share = record fresh_share { progress = progress_after last kind b.seen.share.progress } } }
 
-odd_leaves : (k : Config) (x b y : DomainView) (last kind : Kind) → Passed k x b → b.seen.stage ≡ Leads last → LeavesOdd k b y last kind → Leaves x y kind
+odd_leaves : (k : Config) (x b y : DomainView) (last kind : Kind) → PassedBarrier k x b → b.seen.stage ≡ Leads last → LeavesOdd k b y last kind → Leaves x y kind
 odd_leaves k x b y last kind p stage l = ⊎_elim
     (λ (leads : (b.own.number ≡ 0) × LeadsOn k b y last kind). begun_leaves k x b y (leading_view b y last kind) kind p
     (record { number = refl; serial = refl; room = no_less b.own.ephemerons.room; listed = refl; arrivals = refl; made = refl; hunt = λ at_rest. at_rest; front = leads.1.seen }) leads.1.view refl)
@@ -186,7 +186,7 @@ passes_past k x y last kind inside p left =
     odd.2)
     p.share
 
-passes_quiet : (k : Config) (x y : DomainView) (last kind : Kind) → Passes k x y last kind → IsQuiet x → IsQuiet y
+passes_quiet : (k : Config) (x y : DomainView) (last kind : Kind) → Passes k x y last kind → HasNothingPending x → HasNothingPending y
 passes_quiet k x y last kind p quiet =
     let q = looked_quiet k x p.begun p.passed quiet in ⊎_elim
     (λ (even : IsEven x.own.arrivals × (p.begun.seen.stage ≡ In kind) × Comes x.own.number last kind × IsModeOf kind (state_of k p.begun.seen.front).mode × LeavesEven k kind p.begun y). even_quiet k kind p.begun y even.4 q)
@@ -200,7 +200,7 @@ passes_quiet k x y last kind p quiet =
 pub knows_on : (x y : DomainView) (p : Progress) → y.own.number ≡ x.own.number → y.seen.share.progress ≡ x.seen.share.progress → KnowsProgress p x → KnowsProgress p y
 knows_on x y p number same knows first = knows (sym number ∙ first) ∙ sym same
 
-pub looked_knows : (k : Config) (x y : DomainView) (p : Progress) → Passed k x y → KnowsProgress p x → KnowsProgress p y
+pub looked_knows : (k : Config) (x y : DomainView) (p : Progress) → PassedBarrier k x y → KnowsProgress p x → KnowsProgress p y
 looked_knows k x y p passed = knows_on x y p (ap (λ (v : DomainView). v.own.number) passed.view) (ap (λ (v : DomainView). v.seen.share.progress) passed.view)
 
 -- in an even phase it hasn't
@@ -218,7 +218,7 @@ even_progress k Clean b y l = ap (λ (v : DomainView). v.seen.share.progress) l.
 even_progress k Lasts b y l = ap (λ (v : DomainView). v.seen.share.progress) l.view
 even_progress k Sweep b y l = ap (λ (v : DomainView). v.seen.share.progress) l.view
 
-pub even_knows : (k : Config) (kind : Kind) (x b y : DomainView) (p : Progress) → Passed k x b → b.seen.stage ≡ In kind → LeavesEven k kind b y → KnowsProgress p x → KnowsProgress p y
+pub even_knows : (k : Config) (kind : Kind) (x b y : DomainView) (p : Progress) → PassedBarrier k x b → b.seen.stage ≡ In kind → LeavesEven k kind b y → KnowsProgress p x → KnowsProgress p y
 even_knows k kind x b y p passed stage l knows = knows_on b y p (sym (ap (λ (v : DomainView). v.own.number) passed.view ∙ sym (even_leaves k x b y kind passed stage l).number)) (even_progress k kind b y l) (looked_knows k x b p passed knows)
 
 -- nor where a collection is answered
@@ -238,7 +238,7 @@ answer_past k x begun y front c is =
     }
 
 -- its run stands between two turns then
-pub answer_between : (h : SharedHeap) (x begun : DomainView) (new : Token) (front : List Entry) (asked : Option ℕ) (collected : Bool) (progress : Progress) → IsIn new h → IsQuiet x → ComesToAnswer h.config x begun
+pub answer_between : (h : SharedHeap) (x begun : DomainView) (new : Token) (front : List Entry) (asked : Option ℕ) (collected : Bool) (progress : Progress) → IsIn new h → HasNothingPending x → ComesToAnswer h.config x begun
     → new.view ≡ arrived_view (with_front begun front) → (collected ≡ true → IsFresh h.config new.view) → KnowsProgress progress new.view → IsBetween (Some Answer) asked collected progress new
 answer_between h x begun new front asked collected progress i quiet c is fresh knows = record {
   stands = ap (λ (v : DomainView). v.seen.stage) is ∙ ap Gone (ap kind_in c.stage);
@@ -259,7 +259,7 @@ gives_moves h old new a i g =
     view_moves h old new (arrived_view (with_front g.begun front)) a i g.view number (ap (λ (z : DomainView). z.own.serial) passed.view) (ap (λ (z : DomainView). z.own.ephemerons) passed.view) (ap (λ (z : DomainView). z.own.finalisers) passed.view) (ap (λ (z : DomainView). z.seen.made) passed.view) (ap (λ (z : DomainView). z.seen.hunt) passed.view)
     (front_trans old.view.own.number front g.begun.seen.front old.view.seen.front (subst (λ (d : ℕ). IsFrontOf d front g.begun.seen.front) number g.seen) passed.seen)
 
-pub gives_between : (h : SharedHeap) (old new : Token) (asked : Option ℕ) (collected : Bool) (progress : Progress) → IsIn new h → IsQuiet old.view → GivesBack h.config old.view new.view → KnowsProgress progress new.view → IsBetween (Some Answer) asked collected progress new
+pub gives_between : (h : SharedHeap) (old new : Token) (asked : Option ℕ) (collected : Bool) (progress : Progress) → IsIn new h → HasNothingPending old.view → GivesBack h.config old.view new.view → KnowsProgress progress new.view → IsBetween (Some Answer) asked collected progress new
 gives_between h old new asked collected progress i quiet g knows = answer_between h old.view g.begun new new.view.seen.front asked collected progress i quiet g.comes g.view
     (λ _. fresh_on h.config g.begun new.view (ap (λ (z : DomainView). z.own.number) g.view) g.seen (g.comes.ready.fresh refl)) knows
 

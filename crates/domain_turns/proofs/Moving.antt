@@ -18,7 +18,7 @@ use Rattle.heap_rule.specs.declared.view.Finalisers.{Finalisers}
 use Rattle.steps_finalisers.specs.Registering.{count_of}
 use Rattle.heap_rule.specs.declared.phase.Progress.{Progress}
 use Rattle.domain_turns.specs.Pausing.{due_of}
-use Rattle.mark_slices.specs.Decks.{Counts, StaysDeck}
+use Rattle.mark_slices.specs.Decks.{DeckCounts, StaysDeck}
 use Rattle.mark_slices.specs.Slices.{IsDeckOf}
 use Rattle.domain_turns.specs.Runs.{RunView, IsRun, IsBetween, ephemerons_in, registrations_in, is_end_of}
 use Rattle.domain_turns.proofs.Owing.{due_on}
@@ -50,10 +50,10 @@ same_room : (a b : Bounded ℕ) → b ≡ a → a.room ≤ b.room
 same_room a b is = let rooms : b.room ≡ a.room = ap (λ (l : Bounded ℕ). l.room) is in omega arith
 
 -- the deck is still the domain's
-pub deck_on : (r : RunView) (new : Token) (hints : Counts) → new.view.own.number ≡ r.token.view.own.number → new.config ≡ r.token.config → StaysDeck r.hints hints → IsDeckOf r.token.config r.token.view r.hints → IsDeckOf new.config new.view hints
+pub deck_on : (r : RunView) (new : Token) (hints : DeckCounts) → new.view.own.number ≡ r.token.view.own.number → new.config ≡ r.token.config → StaysDeck r.hints hints → IsDeckOf r.token.config r.token.view r.hints → IsDeckOf new.config new.view hints
 deck_on r new hints number config stays is = record { number = stays.number ∙ (is.number ∙ sym number); domains = stays.domains ∙ (is.domains ∙ ap (λ (c : Config). c.domains) (sym config)) }
 
-pub moved_is_run : (r : RunView) (new : Token) (left : Option Kind) (asked : Option ℕ) (collected : Bool) (progress : Progress) (hints : Counts) → IsRun r → StaysDeck r.hints hints → Moves r.token new → IsBetween left asked collected progress new → IsRun (record r { token = new; left = left; asked = asked; collected = collected; progress = progress; hints = hints })
+pub moved_is_run : (r : RunView) (new : Token) (left : Option Kind) (asked : Option ℕ) (collected : Bool) (progress : Progress) (hints : DeckCounts) → IsRun r → StaysDeck r.hints hints → Moves r.token new → IsBetween left asked collected progress new → IsRun (record r { token = new; left = left; asked = asked; collected = collected; progress = progress; hints = hints })
 moved_is_run r new left asked collected progress hints is stays m between =
     let d : ℕ = r.token.view.own.number in
     let k : Config = r.token.config in

@@ -22,13 +22,13 @@ use Rattle.heap_rule.specs.Rule.{state_of}
 use Rattle.heap_rule.specs.Token.{Token, SharedHeap, IsIn}
 use Rattle.heap_rule.specs.Standing.{noted, with_front}
 use Rattle.steps_pauses.specs.Pauses.{arrived_view, IsModeOf}
-use Rattle.mark_slices.specs.Decks.{Counts, StaysDeck}
-use Rattle.safepoint.specs.Looks.{Passed}
+use Rattle.mark_slices.specs.Decks.{DeckCounts, StaysDeck}
+use Rattle.safepoint.specs.Looks.{PassedBarrier}
 use Rattle.steps_sweep.specs.Answering.{LiveBlocksTold}
 use Rattle.heap_rule.specs.declared.phase.Progress.{Progress}
-use Rattle.domain_turns.specs.declared.passing.Past.TheVariants.{Answered}
+use Rattle.domain_turns.specs.declared.passing.LookOutcome.TheVariants.{Answered}
 use Rattle.domain_turns.specs.Pausing.{HasLeft, IsCollected, KnowsProgress, ComesToAnswer, CountsAndAnswers, GivesBack, due_of}
-use Rattle.domain_turns.specs.Past.{PassAnswers}
+use Rattle.domain_turns.specs.LookOutcomes.{PassAnswers}
 use Rattle.domain_turns.specs.Runs.{RunView, IsRun, IsBetween, Passes}
 use Rattle.domain_turns.proofs.Owing.{due_on}
 use Rattle.domain_turns.proofs.Moving.{moved_is_run, still_moves, view_moves}
@@ -36,7 +36,7 @@ use Rattle.domain_turns.proofs.PauseLemmas.{before_else, fresh_on, ready_next, l
 use Rattle.domain_turns.proofs.LeavingLemmas.{passes_moves, passes_between, gives_moves, gives_between, waits_between}
 
 -- a look found that the phase has begun in which a collection is answered
-pub comes_to : (k : Config) (known : Kind) (x y : DomainView) → x.own.number < k.domains → HasLeft k known x → Passed k x y → y.seen.stage ≡ In Answer → IsEven x.own.arrivals → Comes x.own.number known Answer → IsModeOf Answer (state_of k y.seen.front).mode → ComesToAnswer k x y
+pub comes_to : (k : Config) (known : Kind) (x y : DomainView) → x.own.number < k.domains → HasLeft k known x → PassedBarrier k x y → y.seen.stage ≡ In Answer → IsEven x.own.arrivals → Comes x.own.number known Answer → IsModeOf Answer (state_of k y.seen.front).mode → ComesToAnswer k x y
 comes_to k known x y inside left p stage even comes mode = record { passed = p; stage = stage; even = even; ready = ready_next k known Answer x y inside left p even comes mode }
 
 -- what it then did
@@ -90,28 +90,28 @@ pub counts_paid : (k : Config) (x y : DomainView) (blocks : ℕ) → LiveBlocksT
 counts_paid k x y blocks told paid = due_on k x y (ap (λ (v : DomainView). v.own.number) told.view) told.seen ∙ paid
 
 -- who goes on still does after a look
-pub look_goes_on : (k : Config) (x y : DomainView) → Passed k x y → (domain_at (state_of k x.seen.front) x.own.number).ended ≡ false → (domain_at (state_of k y.seen.front) y.own.number).ended ≡ false
+pub look_goes_on : (k : Config) (x y : DomainView) → PassedBarrier k x y → (domain_at (state_of k x.seen.front) x.own.number).ended ≡ false → (domain_at (state_of k y.seen.front) y.own.number).ended ≡ false
 look_goes_on k x y p goes = subst (λ (d : ℕ). (domain_at (state_of k y.seen.front) d).ended ≡ false) (sym (ap (λ (v : DomainView). v.own.number) p.view)) ((keeps_front (opening (sizes_in k)) x.own.number y.seen.front x.seen.front p.seen).ended ∙ goes)
 
 -- and owes what it did
-pub look_paid : (k : Config) (x y : DomainView) → Passed k x y → due_of k x ≡ 0 → due_of k y ≡ 0
+pub look_paid : (k : Config) (x y : DomainView) → PassedBarrier k x y → due_of k x ≡ 0 → due_of k y ≡ 0
 look_paid k x y p paid = due_on k x y (ap (λ (v : DomainView). v.own.number) p.view) p.seen ∙ paid
 
 -- the run stands between two turns
 between_of : (r : RunView) (known : Kind) → IsRun r → r.left ≡ Some known → IsBetween (Some known) r.asked r.collected r.progress r.token
 between_of r known is left = subst (λ (l : Option Kind). IsBetween l r.asked r.collected r.progress r.token) left is.between
 
-pub arrived_is_run : (h : SharedHeap) (r : RunView) (new : Token) (last kind : Kind) (progress : Progress) (hints : Counts) → StaysDeck r.hints hints → IsRun r → r.left ≡ Some last → IsIn r.token h → IsIn new h → Passes h.config r.token.view new.view last kind → KnowsProgress progress new.view → IsRun (record r { token = new; left = Some kind; progress = progress; hints = hints })
+pub arrived_is_run : (h : SharedHeap) (r : RunView) (new : Token) (last kind : Kind) (progress : Progress) (hints : DeckCounts) → StaysDeck r.hints hints → IsRun r → r.left ≡ Some last → IsIn r.token h → IsIn new h → Passes h.config r.token.view new.view last kind → KnowsProgress progress new.view → IsRun (record r { token = new; left = Some kind; progress = progress; hints = hints })
 arrived_is_run h r new last kind progress hints stays is left was here p knows = moved_is_run r new (Some kind) r.asked r.collected progress hints is stays (passes_moves h r.token new last kind was here p) (passes_between h r.token new last kind r.asked r.collected r.progress progress is.inside was here (between_of r last is left) p knows)
 
-pub gives_is_run : (h : SharedHeap) (r : RunView) (new : Token) (collected : Bool) (progress : Progress) (hints : Counts) → StaysDeck r.hints hints → IsRun r → IsIn r.token h → IsIn new h → GivesBack h.config r.token.view new.view → KnowsProgress progress new.view → IsRun (record r { token = new; left = Some Answer; collected = collected; progress = progress; hints = hints })
+pub gives_is_run : (h : SharedHeap) (r : RunView) (new : Token) (collected : Bool) (progress : Progress) (hints : DeckCounts) → StaysDeck r.hints hints → IsRun r → IsIn r.token h → IsIn new h → GivesBack h.config r.token.view new.view → KnowsProgress progress new.view → IsRun (record r { token = new; left = Some Answer; collected = collected; progress = progress; hints = hints })
 gives_is_run h r new collected progress hints stays is was here g knows = moved_is_run r new (Some Answer) r.asked collected progress hints is stays (gives_moves h r.token new was here g) (gives_between h r.token new r.asked collected progress here is.between.quiet g knows)
 
-pub waits_is_run : (h : SharedHeap) (r : RunView) (new : Token) (last : Kind) (b : ℕ) (progress : Progress) (hints : Counts) → StaysDeck r.hints hints → IsRun r → r.left ≡ Some last → IsIn r.token h → IsIn new h → new.view ≡ noted r.token.view (Barrier b) → KnowsProgress progress new.view → IsRun (record r { token = new; left = Some last; progress = progress; hints = hints })
+pub waits_is_run : (h : SharedHeap) (r : RunView) (new : Token) (last : Kind) (b : ℕ) (progress : Progress) (hints : DeckCounts) → StaysDeck r.hints hints → IsRun r → r.left ≡ Some last → IsIn r.token h → IsIn new h → new.view ≡ noted r.token.view (Barrier b) → KnowsProgress progress new.view → IsRun (record r { token = new; left = Some last; progress = progress; hints = hints })
 waits_is_run h r new last b progress hints stays is left was here says knows = moved_is_run r new (Some last) r.asked r.collected progress hints is stays (still_moves h r.token new _ was here says refl refl refl refl refl refl refl) (waits_between h r.token new last r.asked r.collected r.progress progress b was here (between_of r last is left) says knows)
 
 -- and the domain runs again after a pause
-pub runs_is_run : (h : SharedHeap) (r : RunView) (new : Token) (progress : Progress) (hints : Counts) → StaysDeck r.hints hints → IsRun r → IsIn r.token h → IsIn new h → Passed h.config r.token.view new.view → new.view.seen.stage ≡ In Run → IsEven r.token.view.own.arrivals → IsCollected h.config new.view → KnowsProgress progress new.view → IsRun (record r { token = new; left = None; progress = progress; hints = hints })
+pub runs_is_run : (h : SharedHeap) (r : RunView) (new : Token) (progress : Progress) (hints : DeckCounts) → StaysDeck r.hints hints → IsRun r → IsIn r.token h → IsIn new h → PassedBarrier h.config r.token.view new.view → new.view.seen.stage ≡ In Run → IsEven r.token.view.own.arrivals → IsCollected h.config new.view → KnowsProgress progress new.view → IsRun (record r { token = new; left = None; progress = progress; hints = hints })
 runs_is_run h r new progress hints stays is was here p stage even c knows = moved_is_run r new None r.asked r.collected progress hints is stays (view_moves h r.token new _ was here p.view refl refl refl refl refl refl p.seen) record {
   stands = stage;
   quiet = looked_quiet h.config r.token.view new.view p is.between.quiet;

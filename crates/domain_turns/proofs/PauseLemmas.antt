@@ -26,10 +26,10 @@ use Rattle.heap_rule.specs.Views.{voided}
 use Rattle.steps_pauses.specs.Pauses.{arrived_view, IsModeOf}
 use Rattle.steps_promote.specs.Promotion.{reset_view}
 use Rattle.promote_claim.specs.Sharing.{Unprepared}
-use Rattle.safepoint.specs.Looks.{Passed}
-use Rattle.cycle_phases.specs.Sharing.{SharesIn, with_shared}
+use Rattle.safepoint.specs.Looks.{PassedBarrier}
+use Rattle.pause_phases.specs.Sharing.{SharesIn, with_shared}
 use Rattle.domain_turns.specs.Tries.{IsFresh}
-use Rattle.domain_turns.specs.Pausing.{IsQuiet, IsPast, IsReady, HasLeft, KnowsAnswer, LeavesPromote, LeavesEven, IsCollected}
+use Rattle.domain_turns.specs.Pausing.{HasNothingPending, IsPast, IsReady, HasLeft, KnowsAnswer, LeavesPromote, LeavesEven, IsCollected}
 
 pub not_both : (n : ℕ) → IsEven n → IsOdd n → ⊥
 not_both n a b = let i : ℕ = a.0 in let j : ℕ = b.0 in let e : n ≡ i * 2 = a.1 in let f : n ≡ j * 2 + 1 = b.1 in omega arith
@@ -169,11 +169,11 @@ void_as s t is void = is ∙ (void ∙ ap voided (sym is))
 pub arrived_void : (y z : DomainView) → y ≡ arrived_view z → y.seen.share ≡ voided y.seen.share
 arrived_void y z is = void_as y.seen.share (arrived_view z).seen.share (ap (λ (v : DomainView). v.seen.share) is) refl
 
-pub looked_past : (k : Config) (kind : Kind) (x y : DomainView) → x.own.number < k.domains → Passed k x y → IsPast k kind x → IsPast k kind y
+pub looked_past : (k : Config) (kind : Kind) (x y : DomainView) → x.own.number < k.domains → PassedBarrier k x y → IsPast k kind x → IsPast k kind y
 looked_past k kind x y inside p past = past_as k kind x y (keeps_as x y _ p.view refl refl refl refl (same_held x)) (void_as y.seen.share x.seen.share (ap (λ (z : DomainView). z.seen.share) p.view) past.void)
     (λ e. answer_on k x y inside (ap (λ (z : DomainView). z.own.number) p.view) p.seen (past.answer e)) past
 
-pub quiet_as : (x y : DomainView) → y.seen.copying ≡ x.seen.copying → y.own.pending ≡ x.own.pending → y.own.prepared ≡ x.own.prepared → y.seen.share.weak ≡ x.seen.share.weak → IsQuiet x → IsQuiet y
+pub quiet_as : (x y : DomainView) → y.seen.copying ≡ x.seen.copying → y.own.pending ≡ x.own.pending → y.own.prepared ≡ x.own.prepared → y.seen.share.weak ≡ x.seen.share.weak → HasNothingPending x → HasNothingPending y
 quiet_as x y copying pending prepared weak q = record {
   quiet = copying ∙ q.quiet;
   no_copies = ap (λ (b : Bounded _). b.items) pending ∙ q.no_copies;
@@ -181,11 +181,11 @@ quiet_as x y copying pending prepared weak q = record {
   paid = weak ∙ q.paid;
 }
 
-pub looked_quiet : (k : Config) (x y : DomainView) → Passed k x y → IsQuiet x → IsQuiet y
+pub looked_quiet : (k : Config) (x y : DomainView) → PassedBarrier k x y → HasNothingPending x → HasNothingPending y
 looked_quiet k x y p q = quiet_as x y (ap (λ (z : DomainView). z.seen.copying) p.view) (ap (λ (z : DomainView). z.own.pending) p.view) (ap (λ (z : DomainView). z.own.prepared) p.view) (ap (λ (z : DomainView). z.seen.share.weak) p.view) q
 
 -- the phase before the one that has begun
-pub ready_next : (k : Config) (known kind : Kind) (x y : DomainView) → x.own.number < k.domains → HasLeft k known x → Passed k x y → IsEven x.own.arrivals → Comes x.own.number known kind → IsModeOf kind (state_of k y.seen.front).mode → IsReady k kind y
+pub ready_next : (k : Config) (known kind : Kind) (x y : DomainView) → x.own.number < k.domains → HasLeft k known x → PassedBarrier k x y → IsEven x.own.arrivals → Comes x.own.number known kind → IsModeOf kind (state_of k y.seen.front).mode → IsReady k kind y
 ready_next k known kind x y inside left p even comes mode = dite (ℕ_discrete x.own.number 0)
     (λ first.
     let r = left.ready even first in record {
@@ -275,10 +275,10 @@ even_past k Sweep x y l mode r = shares_past k Sweep x y l (λ e. cc) (λ e. cc)
 even_past k Answer x y l mode r = absurd l
 
 -- who has arrived is quiet
-pub arrived_quiet : (x y : DomainView) → y ≡ arrived_view x → Unprepared x → IsQuiet y
-arrived_quiet x y is none = subst IsQuiet (sym is) (record { quiet = refl; no_copies = refl; unprepared = none; paid = refl })
+pub arrived_quiet : (x y : DomainView) → y ≡ arrived_view x → Unprepared x → HasNothingPending y
+arrived_quiet x y is none = subst HasNothingPending (sym is) (record { quiet = refl; no_copies = refl; unprepared = none; paid = refl })
 
-pub even_quiet : (k : Config) (kind : Kind) (x y : DomainView) → LeavesEven k kind x y → IsQuiet x → IsQuiet y
+pub even_quiet : (k : Config) (kind : Kind) (x y : DomainView) → LeavesEven k kind x y → HasNothingPending x → HasNothingPending y
 even_quiet k Run x y l q = absurd l
 even_quiet k Promote x y l q = arrived_quiet l.done y l.view l.shared.unprepared
 even_quiet k Reset x y l q = arrived_quiet (reset_view x) y l.view q.unprepared

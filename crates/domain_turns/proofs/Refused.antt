@@ -6,8 +6,8 @@ use Rattle.heap_rule.specs.declared.view.Share.{Share}
 use Rattle.heap_rule.specs.declared.view.Spot.{Spot}
 use Rattle.heap_rule.specs.Standing.{with_front}
 use Rattle.heap_rule.specs.Token.{Token, SharedHeap}
-use Rattle.barriers.specs.Aware.{scanned_in}
-use Rattle.mark_slices.specs.Decks.{Counts, HasMissed, HasTaken, last_count, missed_at}
+use Rattle.darkening_beside.specs.Aware.{scanned_in}
+use Rattle.mark_slices.specs.Decks.{DeckCounts, HasMissed, HasTaken, last_count, missed_at}
 use Rattle.domain_turns.specs.Runs.{MarksBeside, Polls, RunView, SweepsBeside, asking_end}
 
 lengths : (l m : List Spot) → length (l ++ m) ≡ length l + length m
@@ -32,25 +32,25 @@ asked_hints : (spent : Bool) (r : RunView) → (asking_end spent r).hints ≡ r.
 asked_hints true r = refl
 asked_hints false r = refl
 
-missed_none : (l : Counts) (d : ℕ) → missed_at l d < last_count → HasMissed l l d → ⊥
+missed_none : (l : DeckCounts) (d : ℕ) → missed_at l d < last_count → HasMissed l l d → ⊥
 missed_none l d missed h =
     let a : ℕ = missed_at l d in
     ⊎_elim (λ (e : a < a). omega (arith, e)) (λ (e : last_count ≤ a). omega (arith, e, missed)) h
 
-taken_none : (l : Counts) → l.taken < last_count → HasTaken 8192 l l → ⊥
+taken_none : (l : DeckCounts) → l.taken < last_count → HasTaken 8192 l l → ⊥
 taken_none l taken h =
     let a : ℕ = l.taken in
     ⊎_elim (λ (e : a + 8192 ≤ a). omega (arith, e)) (λ (e : last_count ≤ a). omega (arith, e, taken)) h
 
 marks_refused : (h : SharedHeap) (old worked : RunView) (spent : Bool) (d : ℕ) → worked.token.view.seen.share ≡ old.token.view.seen.share → worked.hints ≡ old.hints → old.hints.taken < last_count → d < old.hints.domains → missed_at old.hints d < last_count → MarksBeside h old worked spent → ⊥
-marks_refused h old worked true d share hints taken inside missed m = missed_none old.hints d missed (subst (λ (l : Counts). HasMissed old.hints l d) hints (m.marks d inside))
+marks_refused h old worked true d share hints taken inside missed m = missed_none old.hints d missed (subst (λ (l : DeckCounts). HasMissed old.hints l d) hints (m.marks d inside))
 marks_refused h old worked false d share hints taken inside missed m =
     let a : ℕ = scanned_in old.token.view.seen.share.known in
     let b : ℕ = scanned_in worked.token.view.seen.share.known in
     let same : b ≡ a = ap (λ (s : Share). scanned_in s.known) share in
     ⊎_elim
     (λ (e : b ≡ a + 256). omega (arith, e, same))
-    (λ (e : HasTaken 8192 old.hints worked.hints). taken_none old.hints taken (subst (λ (l : Counts). HasTaken 8192 old.hints l) hints e))
+    (λ (e : HasTaken 8192 old.hints worked.hints). taken_none old.hints taken (subst (λ (l : DeckCounts). HasTaken 8192 old.hints l) hints e))
     m.marks
 
 sweeps_refused : (h : SharedHeap) (old worked : RunView) (count : ℕ) → worked.token.view.seen.share ≡ old.token.view.seen.share → worked.token.view.own ≡ old.token.view.own → (old.token.view.seen.share.armed ≡ Some true) ⊎ (old.token.view.own.swept.spot.pool < h.config.pools) → SweepsBeside h old worked count → ⊥

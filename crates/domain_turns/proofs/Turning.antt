@@ -19,9 +19,9 @@ use Rattle.heap_model.proofs.Histories.FrontLemmas.{answers_after}
 use Rattle.heap_rule.specs.declared.view.Hunt.TheVariants.{Rests}
 use Rattle.heap_rule.specs.declared.phase.Kind.TheVariants.{Answer}
 use Rattle.heap_rule.specs.Rule.{state_of}
-use Rattle.barriers.specs.Aware.{Learnt, aware_as}
-use Rattle.steps_cycle.specs.Arming.{knowing_armed}
-use Rattle.mark_slices.specs.Decks.{Counts, StaysDeck}
+use Rattle.darkening_beside.specs.Aware.{Learnt, aware_as}
+use Rattle.steps_marking.specs.Arming.{knowing_armed}
+use Rattle.mark_slices.specs.Decks.{DeckCounts, StaysDeck}
 use Rattle.steps_pauses.specs.Pauses.{forgotten}
 use Rattle.domain_turns.specs.Pausing.{AnswersLive, KnowsProgress, due_of}
 use Rattle.heap_rule.specs.declared.phase.Progress.{Progress}
@@ -37,7 +37,7 @@ use Rattle.steps_finalisers.specs.Registering.{count_of}
 use Rattle.steps_sweep.proofs.Dues.{due_at}
 use Rattle.finaliser_queues.specs.declared.running.Ran.{Ran}
 use Rattle.finaliser_queues.specs.Running.{RanFirst, reply_of}
-use Rattle.domain_turns.specs.Tries.{Enters, Stands, Tried, NeedsPause, Lists, ephemerons_of, labels_given, registrations_of}
+use Rattle.domain_turns.specs.Tries.{Enters, Stands, Tried, NeedsPause, ListsEphemeron, ephemerons_of, labels_given, registrations_of}
 use Rattle.heap_rule.specs.declared.phase.Kind.{Kind}
 use Rattle.heap_rule.specs.Phases.{IsEven}
 use Rattle.domain_turns.specs.Runs.{RunView, IsBetween, IsRun, HasEnded, ephemerons_in, registrations_in, is_end_of, served_since}
@@ -88,7 +88,7 @@ labels_few (Ephe dst keys) (Block l) = omega arith
 labels_few c r = omega arith
 
 -- a command leaves room for as many ephemerons as there was room for besides its own
-room_left : (k : Config) (c : model.Command) (r : Reply) (x y : DomainView) (n : ℕ) → Lists k x y c r → ephemerons_of c + n ≤ x.own.ephemerons.room → n ≤ y.own.ephemerons.room
+room_left : (k : Config) (c : model.Command) (r : Reply) (x y : DomainView) (n : ℕ) → ListsEphemeron k x y c r → ephemerons_of c + n ≤ x.own.ephemerons.room → n ≤ y.own.ephemerons.room
 room_left k (AllocMaj dst tag fields) r x y n lists fits = let more : x.own.ephemerons.room ≤ y.own.ephemerons.room = lists.shortens.no_less in omega arith
 room_left k (Ephe dst keys) (Block l) x y n lists fits =
     let before : Bounded ℕ = lists.0 in
@@ -176,7 +176,7 @@ record HasMade (old new : Token) (c : model.Command) (full : Bool) (reply : Repl
   answers : Answers (sizes_in old.config) old.view.own.number old.view.seen.front new.view.seen.front (CommandOf old.view.own.number c full) (Replied reply)
 
 -- the entry of the next command was made, and its reply kept
-made_is_run : (r : RunView) (new : Token) (c : model.Command) (full : Bool) (reply : Reply) (left : Option Kind) (progress : Progress) (due : ℕ) (hints : Counts) → StaysDeck r.hints hints → IsRun r → r.ended ≡ false → slice_get r.commands r.next ≡ Some c → HasMade r.token new c full reply due → IsBetween left None false progress new
+made_is_run : (r : RunView) (new : Token) (c : model.Command) (full : Bool) (reply : Reply) (left : Option Kind) (progress : Progress) (due : ℕ) (hints : DeckCounts) → StaysDeck r.hints hints → IsRun r → r.ended ≡ false → slice_get r.commands r.next ≡ Some c → HasMade r.token new c full reply due → IsBetween left None false progress new
     → IsRun (record r { token = new; next = r.next + 1; replies = r.replies ++ reply ∷ []; left = left; asked = None; collected = false; progress = progress; due = due; hints = hints })
 made_is_run r new c full reply left progress due hints stays is running at m between =
     let d : ℕ = r.token.view.own.number in
@@ -235,7 +235,7 @@ tried_is_run h r new c reply own served is running left at t ready =
     (subst (λ (l : Option Kind). IsBetween l None false r.progress new) (sym left) (tried_between h r.token new c reply r.asked r.collected r.progress (subst (λ (l : Option Kind). IsBetween l r.asked r.collected r.progress r.token) left is.between) t))
 
 -- the same where a collection is answered by the reply of a `full_major`
-pub answered_is_run : (h : SharedHeap) (r : RunView) (new : Token) (reply : Reply) (progress : Progress) (hints : Counts) → StaysDeck r.hints hints → IsRun r → r.ended ≡ false → slice_get r.commands r.next ≡ Some FullMajor → IsIn r.token h → IsIn new h → AnswersLive h.config r.token.view new.view reply → KnowsProgress progress new.view
+pub answered_is_run : (h : SharedHeap) (r : RunView) (new : Token) (reply : Reply) (progress : Progress) (hints : DeckCounts) → StaysDeck r.hints hints → IsRun r → r.ended ≡ false → slice_get r.commands r.next ≡ Some FullMajor → IsIn r.token h → IsIn new h → AnswersLive h.config r.token.view new.view reply → KnowsProgress progress new.view
     → IsRun (record r { token = new; next = r.next + 1; replies = r.replies ++ reply ∷ []; left = Some Answer; asked = None; collected = false; progress = progress; due = length new.view.own.finalisers.queue.items; hints = hints })
 answered_is_run h r new reply progress hints stays is running at was here a knows =
     let passed = a.comes.passed.view in
@@ -391,7 +391,7 @@ stands_between old new asked collected progress config s is = record {
 }
 
 -- a domain that has marked beside the others is where it was
-pub marked_is_run : (h : SharedHeap) (r : RunView) (new : Token) (hints : Counts) → StaysDeck r.hints hints → IsRun r → r.left ≡ None → IsIn r.token h → IsIn new h → Learnt r.token.view new.view → new.view.seen.share.weak ≡ r.token.view.seen.share.weak → IsRun (record r { token = new; hints = hints })
+pub marked_is_run : (h : SharedHeap) (r : RunView) (new : Token) (hints : DeckCounts) → StaysDeck r.hints hints → IsRun r → r.left ≡ None → IsIn r.token h → IsIn new h → Learnt r.token.view new.view → new.view.seen.share.weak ≡ r.token.view.seen.share.weak → IsRun (record r { token = new; hints = hints })
 marked_is_run h r new hints stays is left was here learnt weak =
     let v = learnt.view in
     let stands : StandsStill r.token.view new.view = record {

@@ -1,4 +1,4 @@
 pub mod Tries
 pub mod Runs
-pub mod Past
+pub mod LookOutcomes
 pub mod Pausing

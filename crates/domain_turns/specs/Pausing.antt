@@ -23,17 +23,17 @@ use Rattle.heap_rule.specs.Running.{RemembersAll}
 use Rattle.heap_rule.specs.Standing.{with_front}
 use Rattle.heap_rule.specs.Views.{voided}
 use Rattle.steps_pauses.specs.Pauses.{arrived_view}
-use Rattle.safepoint.specs.Looks.{Passed}
+use Rattle.safepoint.specs.Looks.{PassedBarrier}
 use Rattle.steps_promote.specs.Promotion.{reset_view}
 use Rattle.promote_claim.specs.Sharing.{Unprepared, Shared}
 use Rattle.steps_sweep.specs.Answering.{LiveBlocksTold}
 use Rattle.heap_rule.specs.declared.phase.Progress.{Progress}
-use Rattle.cycle_phases.specs.Sharing.{SharesIn}
-use Rattle.cycle_phases.specs.Leading.{LeadsOn}
+use Rattle.pause_phases.specs.Sharing.{SharesIn}
+use Rattle.pause_phases.specs.Leading.{LeadsOn}
 use Rattle.domain_turns.specs.Tries.{IsFresh}
 
 -- no block was met, no copy is listed, no place is prepared for one, and no darkening is owed
-pub record IsQuiet (x : DomainView) : Type 0 where
+pub record HasNothingPending (x : DomainView) : Type 0 where
   pub quiet : x.seen.copying ≡ nothing_copied
   pub no_copies : x.own.pending.items ≡ []
   pub unprepared : Unprepared x
@@ -94,7 +94,7 @@ LeavesOdd k x y last kind = ((x.own.number ≡ 0) × LeadsOn k x y last kind) �
 
 -- a look found that the phase has begun in which a collection is answered
 pub record ComesToAnswer (k : Config) (x begun : DomainView) : Type 0 where
-  pub passed : Passed k x begun
+  pub passed : PassedBarrier k x begun
   pub stage : begun.seen.stage ≡ In Answer
   pub even : IsEven x.own.arrivals
   pub ready : IsReady k Answer begun

@@ -22,19 +22,19 @@ use Rattle.heap_rule.specs.Phases.{IsEven, IsOdd, Comes}
 use Rattle.heap_rule.specs.Copies.{nothing_copied}
 use Rattle.heap_rule.specs.Running.{RemembersAll}
 use Rattle.steps_pauses.specs.Pauses.{arrived_view, ended_own, IsModeOf}
-use Rattle.barriers.specs.Aware.{Learnt, darkened_in, scanned_in, vain_in}
-use Rattle.steps_cycle.specs.Arming.{knowing_armed}
+use Rattle.darkening_beside.specs.Aware.{Learnt, darkened_in, scanned_in, vain_in}
+use Rattle.steps_marking.specs.Arming.{knowing_armed}
 use Rattle.sweeper.specs.Sweeping.{Swept}
 use Rattle.heap_rule.specs.declared.phase.Progress.{Progress}
 use Rattle.heap_rule.specs.Views.{no_collection}
-use Rattle.mark_slices.specs.Decks.{AllMissed, Counts, HasNoted, HasTaken, NotesOn}
+use Rattle.mark_slices.specs.Decks.{AllMissed, DeckCounts, HasNoted, HasTaken, NotesOn}
 use Rattle.mark_slices.specs.Slices.{IsDeckOf}
 use Rattle.steps_finalisers.specs.Registering.{count_of}
 use Rattle.finaliser_queues.specs.declared.running.Ran.{Ran}
 use Rattle.finaliser_queues.specs.Running.{RanFirst, reply_of}
 use Rattle.heap_rule.specs.Rule.{state_of}
-use Rattle.cycle_phases.specs.Sharing.{HintsIn}
-use Rattle.safepoint.specs.Looks.{Passed, bit_of}
+use Rattle.pause_phases.specs.Sharing.{HintsIn}
+use Rattle.safepoint.specs.Looks.{PassedBarrier, bit_of}
 use Rattle.safepoint.specs.declared.answer.Want as wish
 use Rattle.safepoint.specs.declared.answer.Want.TheVariants.{Finish, Full}
 use Rattle.domain_turns.specs.declared.turned.Turned.{Turned}
@@ -44,7 +44,7 @@ use Rattle.heap_rule.specs.declared.view.Hunt.TheVariants.{Rests as AtRest}
 use Rattle.heap_rule.specs.Limits.{sizes_in}
 use Rattle.heap_rule.specs.Standing.{noted, Acts, with_front}
 use Rattle.heap_rule.specs.Token.{Token, SharedHeap, IsIn}
-use Rattle.domain_turns.specs.Pausing.{IsQuiet, HasLeft, KnowsProgress, LeavesEven, LeavesOdd, GivesBack, AnswersLive, IsCollected, blocks_left, due_of}
+use Rattle.domain_turns.specs.Pausing.{HasNothingPending, HasLeft, KnowsProgress, LeavesEven, LeavesOdd, GivesBack, AnswersLive, IsCollected, blocks_left, due_of}
 use Rattle.domain_turns.specs.Tries.{FitsHeap, IsFresh, NeedsPause, Refused, Tried, ephemerons_of, registrations_of, wish_of}
 
 -- a run: the domain's token, its commands, the place of the next one, its replies, whether its trace has ended, where the domain has arrived from which kind of phase, how often it had arrived when it asked for a pause for the next command, whether the last pause since then was a complete collection that left so many blocks that they may use up the pools, how far, for domain 0, a collection has come, how many finalisers the domain owes before its next `full_major`, and what its deck of hints has counted
@@ -59,7 +59,7 @@ pub record RunView : Type 0 where
   pub collected : Bool
   pub progress : Progress
   pub due : ℕ
-  pub hints : Counts
+  pub hints : DeckCounts
 
 -- whether an entry is the end of domain d
 abbrev pub is_end_of : ℕ → Entry → Bool
@@ -115,7 +115,7 @@ StandsAt (Some kind) stage = stage ≡ Gone kind
 -- how a domain stands between two turns: it runs, and its minor area is empty where a pause has come since it asked for one, or it has arrived. Where the last pause was a complete collection for the next command it has made no entry since
 pub record IsBetween (left : Option Kind) (asked : Option ℕ) (collected : Bool) (progress : Progress) (t : Token) : Type 0 where
   pub stands : StandsAt left t.view.seen.stage
-  pub quiet : IsQuiet t.view
+  pub quiet : HasNothingPending t.view
   pub even : left ≡ None → IsEven t.view.own.arrivals
   pub remembers : left ≡ None → RemembersAll t.view
   pub emptied : left ≡ None → served_since asked t.view.own.arrivals ≡ true → t.view.own.used ≡ 0
@@ -213,12 +213,12 @@ abbrev pub noted_token : Token → Note → Token
 noted_token t note = record t { view = noted t.view note }
 
 -- how marking in a poll ended: each domain was found without a hint of a block to be scanned, or the domain has scanned 256 blocks, or has taken 8192 hints
-abbrev pub MarkingEnds : DomainView → DomainView → Counts → Counts → Bool → Type 0
+abbrev pub MarkingEnds : DomainView → DomainView → DeckCounts → DeckCounts → Bool → Type 0
 MarkingEnds x y l m true = AllMissed l m
 MarkingEnds x y l m false = (scanned_in y.seen.share.known ≡ scanned_in x.seen.share.known + 256) ⊎ HasTaken 8192 l m
 
 -- at each hint that was taken the domain has looked: it has scanned the block that begins there, or has found none to be scanned
-abbrev pub LooksAtAll : DomainView → DomainView → Counts → Counts → Type 0
+abbrev pub LooksAtAll : DomainView → DomainView → DeckCounts → DeckCounts → Type 0
 LooksAtAll x y l m = m.taken + (scanned_in x.seen.share.known + vain_in x.seen.share.known) ≤ l.taken + (scanned_in y.seen.share.known + vain_in y.seen.share.known)
 
 -- the domain found that a collection goes on beside running domains, and has marked blocks. Each block that it has darkened it has noted
@@ -300,7 +300,7 @@ RunAnswers h old new a = CalmAnswers h (wanting old 0) new a
 -- the domain had arrived, and a look found that all have and that it runs: a collection is done
 pub record Resumes (h : SharedHeap) (old start : RunView) : Type 0 where
   pub arrived : (last : Kind) × (old.left ≡ Some last)
-  pub passed : Passed h.config old.token.view start.token.view
+  pub passed : PassedBarrier h.config old.token.view start.token.view
   pub runs : start.token.view.seen.stage ≡ In Run
   pub collected : IsCollected h.config start.token.view
   pub run : start ≡ record old { token = record old.token { view = start.token.view }; left = None; progress = start.progress }
@@ -312,11 +312,11 @@ Starts h old start = ((old.left ≡ None) × (start ≡ old)) ⊎ Resumes h old 
 -- a look found that all have arrived: the domain did its share of the phase that had begun, and arrived
 pub record Passes (k : Config) (x y : DomainView) (last kind : Kind) : Type 0 where
   pub begun : DomainView
-  pub passed : Passed k x begun
+  pub passed : PassedBarrier k x begun
   pub share : (IsEven x.own.arrivals × (begun.seen.stage ≡ In kind) × Comes x.own.number last kind × IsModeOf kind (state_of k begun.seen.front).mode × LeavesEven k kind begun y) ⊎ (IsOdd x.own.arrivals × (begun.seen.stage ≡ Leads last) × LeavesOdd k begun y last kind)
 
 -- what becomes of the hints of a domain that goes through a phase: in an odd one they stay as they are
-abbrev pub PassesHints : ℕ → Kind → Counts → Counts → Type 0
+abbrev pub PassesHints : ℕ → Kind → DeckCounts → DeckCounts → Type 0
 PassesHints arrivals kind l m = (IsEven arrivals × HintsIn kind l m) ⊎ (IsOdd arrivals × (m ≡ l))
 
 -- the domain had arrived, and went through the phase that had begun since

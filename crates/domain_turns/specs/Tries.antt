@@ -272,11 +272,11 @@ listed_by (Ephe dst keys) old new = new.ephemerons
 listed_by _ old new = old.ephemerons
 
 -- what exactly: one that was made is listed behind the others, by the address that its register holds, and where own pools were swept first the others are those that were left
-abbrev pub Lists : Config → DomainView → DomainView → Command → Reply → Type 0
-Lists k x y (AllocMaj dst tag fields) r = MaySweep k x y
-Lists k x y (Ephe dst keys) (Block l) = (list : Bounded ℕ) × (y.own.ephemerons ≡ with_ephemeron (address_of (value_at y.own.registers dst)) list) × MaySweep k x (with_list y list)
-Lists k x y (Ephe dst keys) r = MaySweep k x y
-Lists k x y c r = y.own.ephemerons ≡ x.own.ephemerons
+abbrev pub ListsEphemeron : Config → DomainView → DomainView → Command → Reply → Type 0
+ListsEphemeron k x y (AllocMaj dst tag fields) r = MaySweep k x y
+ListsEphemeron k x y (Ephe dst keys) (Block l) = (list : Bounded ℕ) × (y.own.ephemerons ≡ with_ephemeron (address_of (value_at y.own.registers dst)) list) × MaySweep k x (with_list y list)
+ListsEphemeron k x y (Ephe dst keys) r = MaySweep k x y
+ListsEphemeron k x y c r = y.own.ephemerons ≡ x.own.ephemerons
 
 -- which finalisers the domain then has: one that was registered is the newest
 abbrev pub enlisted_by : Command → Own → Finalisers
@@ -305,7 +305,7 @@ pub record Tried (h : SharedHeap) (old new : Token) (c : Command) (collected : B
   pub stays : Stays old.view new.view
   pub own : new.view.own ≡ own_after old new c r
   pub remembers : Remembers h.config old.view.own new.view.own c r
-  pub lists : Lists h.config old.view new.view c r
+  pub lists : ListsEphemeron h.config old.view new.view c r
 
 -- what the try of a command came to: its reply, a wish that must be served first, or a refusal
 abbrev pub AttemptAnswers : SharedHeap → Token → Token → Command → Bool → Bool → Attempt → Type 0

@@ -9,8 +9,8 @@ ghost use Rattle.heap_rule.specs.Places.{class_words};
 ghost use Rattle.heap_rule.specs.Running.{Runs, Did, ChangesRegisters, own_entry};
 ghost use Rattle.minor_area.specs.Area.{Grows, HasRoom, Needs, IsOpened};
 ghost use Rattle.heap_rule.specs.Standing.{with_front};
-ghost use Rattle.steps_run.specs.Ticks.{is_quiet};
-ghost use Rattle.steps_run.specs.Ticks.{IsUsedUp};
+ghost use Rattle.steps_fields.specs.Ticks.{is_quiet};
+ghost use Rattle.steps_fields.specs.Ticks.{IsUsedUp};
 ghost use Rattle.steps_finalisers.specs.Registering.{count_of};
 ghost use Rattle.domain_turns.specs.Tries.{AttemptAnswers, FitsHeap, HasFew, IsFresh, IsPlainCall, IsStore, RefusesAs, RefusesFull, ephemerons_of, full_entry, registrations_of};
 
@@ -26,7 +26,7 @@ use heap_rule::{Domain, Heap};
 use minor_area::{Need, alloc_young};
 use safepoint::Want;
 use size_pools::{alloc_major, create};
-use steps_run::tick;
+use steps_fields::tick;
 
 // What the try of a command came to.
 #[derive(Drop)]

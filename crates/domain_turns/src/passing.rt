@@ -10,23 +10,23 @@ ghost use Rattle.heap_rule.specs.Running.{RemembersAll};
 ghost use Rattle.heap_rule.specs.Token.{IsIn};
 ghost use Rattle.heap_rule.specs.Views.{voided};
 ghost use Rattle.steps_pauses.specs.Pauses.{arrived_view};
-ghost use Rattle.cycle_phases.specs.Sharing.{HintsIn};
+ghost use Rattle.pause_phases.specs.Sharing.{HintsIn};
 ghost use Rattle.mark_slices.specs.Decks.{StaysDeck};
-ghost use Rattle.domain_turns.specs.Past.{PassAnswers, PassHints, left_after};
-ghost use Rattle.domain_turns.specs.Pausing.{IsQuiet, HasLeft, KnowsProgress, LeavesEven, LeavesOdd, LeavesPromote, LeavesReset, IsReady, CountsAndAnswers, LivesAs, due_of};
+ghost use Rattle.domain_turns.specs.LookOutcomes.{PassAnswers, PassHints, left_after};
+ghost use Rattle.domain_turns.specs.Pausing.{HasNothingPending, HasLeft, KnowsProgress, LeavesEven, LeavesOdd, LeavesPromote, LeavesReset, IsReady, CountsAndAnswers, LivesAs, due_of};
 
-use cycle_phases::{give_back, lead_on, share};
 use heap_model::reply::Reply;
 use heap_rule::{Domain, Heap, Kind, Progress};
 use mark_slices::Hints;
 use minor_area::reset;
+use pause_phases::{give_back, lead_on, share};
 use promote_claim::promote;
 use safepoint::{Look, arrive, look};
 use steps_sweep::{live_blocks_load, live_words_load};
 
 // What a look at the barrier came to.
 #[derive(Drop)]
-pub(crate) enum Past {
+pub(crate) enum LookOutcome {
     // Not all have arrived: the barrier word.
     Waits(u64),
     // The phase that had begun is done, and the domain has arrived.
@@ -67,7 +67,7 @@ fn leave_promote(heap: &Heap, dom: &mut Domain)
     requires at_rest { dom.old.view.seen.hunt ≡ Rests }
     requires idle { dom.old.view.seen.made ≡ [] }
     requires few { dom.old.view.own.arrivals < 2 ^ 60 }
-    requires quiet { IsQuiet dom.old.view }
+    requires quiet { HasNothingPending dom.old.view }
     requires remembers { RemembersAll dom.old.view }
     ensures here { IsIn dom.new heap.now }
     ensures leaves { LeavesPromote heap.now.config dom.old.view dom.new.view }
@@ -83,7 +83,7 @@ fn leave_reset(heap: &Heap, dom: &mut Domain)
     requires at_rest { dom.old.view.seen.hunt ≡ Rests }
     requires idle { dom.old.view.seen.made ≡ [] }
     requires few { dom.old.view.own.arrivals < 2 ^ 60 }
-    requires quiet { IsQuiet dom.old.view }
+    requires quiet { HasNothingPending dom.old.view }
     requires looked_through { dom.old.view.seen.remembered ≡ [] }
     ensures here { IsIn dom.new heap.now }
     ensures leaves { LeavesReset heap.now.config dom.old.view dom.new.view }
@@ -100,7 +100,7 @@ fn leave_even(heap: &Heap, dom: &mut Domain, kind: Kind, hints: &mut Hints)
     requires at_rest { dom.old.view.seen.hunt ≡ Rests }
     requires idle { dom.old.view.seen.made ≡ [] }
     requires few { dom.old.view.own.arrivals < 2 ^ 60 }
-    requires quiet { IsQuiet dom.old.view }
+    requires quiet { HasNothingPending dom.old.view }
     requires ready { IsReady heap.now.config kind dom.old.view }
     ensures here { IsIn dom.new heap.now }
     ensures leaves { LeavesEven heap.now.config kind dom.old.view dom.new.view }
@@ -164,14 +164,14 @@ pub(crate) fn pass(
     progress: &mut Progress,
     live: bool,
     hints: &mut Hints,
-) -> Past
+) -> LookOutcome
     requires here { IsIn dom.old heap.now }
     requires inside { dom.old.view.own.number < heap.now.config.domains }
     requires gone { dom.old.view.seen.stage ≡ Gone last }
     requires at_rest { dom.old.view.seen.hunt ≡ Rests }
     requires idle { dom.old.view.seen.made ≡ [] }
     requires few { dom.old.view.own.arrivals < 2 ^ 60 }
-    requires quiet { IsQuiet dom.old.view }
+    requires quiet { HasNothingPending dom.old.view }
     requires left { HasLeft heap.now.config last dom.old.view }
     requires knows { KnowsProgress progress.old dom.old.view }
     requires goes_on { live ≡ true → (domain_at (state_of heap.now.config dom.old.view.seen.front) dom.old.view.own.number).ended ≡ false }
@@ -183,28 +183,28 @@ pub(crate) fn pass(
     ensures hints { PassHints dom.old.view result hints.old hints.new }
 {
     match look(heap, dom) {
-        Look::NotAll(b) => Past::Waits(b),
-        Look::Lead => Past::Arrived(leave_odd(heap, dom, last, progress)),
-        Look::Next(Kind::Run) => Past::Runs,
+        Look::NotAll(b) => LookOutcome::Waits(b),
+        Look::Lead => LookOutcome::Arrived(leave_odd(heap, dom, last, progress)),
+        Look::Next(Kind::Run) => LookOutcome::Runs,
         Look::Next(Kind::Answer) => {
             let (blocks, reply) = answer(heap, dom, live);
-            Past::Answered { blocks, reply }
+            LookOutcome::Answered { blocks, reply }
         }
         Look::Next(kind) => {
             leave_even(heap, dom, kind, hints);
-            Past::Arrived(kind)
+            LookOutcome::Arrived(kind)
         }
     }
 }
 
 // The kind of the last even phase that the domain knows of, where it has arrived.
-pub(crate) fn left_after(past: &Past, last: Kind) -> Option<Kind>
+pub(crate) fn left_after(past: &LookOutcome, last: Kind) -> Option<Kind>
     ensures { result ≡ left_after past.now last }
 {
     match past {
-        Past::Waits(_) => Some(last),
-        Past::Arrived(kind) => Some(*kind),
-        Past::Answered { .. } => Some(Kind::Answer),
-        Past::Runs => None,
+        LookOutcome::Waits(_) => Some(last),
+        LookOutcome::Arrived(kind) => Some(*kind),
+        LookOutcome::Answered { .. } => Some(Kind::Answer),
+        LookOutcome::Runs => None,
     }
 }

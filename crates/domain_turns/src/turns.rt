@@ -10,11 +10,11 @@ ghost use Rattle.heap_rule.specs.Standing.{noted, with_front};
 ghost use Rattle.heap_rule.specs.Token.{IsIn};
 ghost use Rattle.safepoint.specs.Looks.{bit_of};
 ghost use Rattle.domain_turns.specs.Runs.{HasEnded, EndsTrace, RunAnswers, TurnAnswers, RestAnswers, CalmAnswers, GoesOn, CalmDid, IsUnqueued, Polls, RunsFinaliser, TrialAnswers, WaitsForAnswer, is_asked, may_use_up, served_since, noted_token, WorksBeside};
-ghost use Rattle.domain_turns.specs.Past.{PastAnswers};
+ghost use Rattle.domain_turns.specs.LookOutcomes.{PastAnswers};
 ghost use Rattle.domain_turns.specs.declared.turned.Turned as turned;
 
 use crate::command::{Attempt, try_command};
-use crate::passing::{Past, left_after, pass};
+use crate::passing::{LookOutcome, left_after, pass};
 use crate::run::DomainRun;
 use crate::turned::Turned;
 use finaliser_queues::run_next;
@@ -23,7 +23,7 @@ use heap_rule::{Domain, Heap, Kind};
 use mark_slices::{Why, slice};
 use safepoint::{Want, arrive, ask, wants};
 use size_classes::reserve;
-use steps_cycle::armed_now;
+use steps_marking::armed_now;
 use steps_pauses::{ended_add, ended_load};
 use sweeper::sweep_slice;
 
@@ -308,7 +308,7 @@ fn lets_refuse(heap: &Heap, asked: Option<u64>, blocks: u64) -> bool
 
 // What a domain that has arrived does with the phase that has begun, if one has.
 #[inline(never)]
-fn pass_by(heap: &Heap, run: &mut DomainRun, last: Kind) -> Past
+fn pass_by(heap: &Heap, run: &mut DomainRun, last: Kind) -> LookOutcome
     requires here { IsIn run.old.token heap.now }
     requires left { run.old.left ≡ Some last }
     requires few { run.old.token.view.own.arrivals < 2 ^ 60 }
@@ -326,7 +326,7 @@ fn pass_by(heap: &Heap, run: &mut DomainRun, last: Kind) -> Past
     );
     run.left = left_after(&past, last);
     match past {
-        Past::Answered { blocks, reply } => {
+        LookOutcome::Answered { blocks, reply } => {
             run.collected = lets_refuse(heap, run.asked, blocks);
             if let Some(reply) = reply {
                 run.replies.push_reserved(reply);
@@ -336,7 +336,7 @@ fn pass_by(heap: &Heap, run: &mut DomainRun, last: Kind) -> Past
                 run.due = run.domain.queued();
             }
         }
-        Past::Waits(_) | Past::Arrived(_) | Past::Runs => (),
+        LookOutcome::Waits(_) | LookOutcome::Arrived(_) | LookOutcome::Runs => (),
     }
     past
 }
@@ -355,9 +355,9 @@ fn turn_on(heap: &Heap, run: &mut DomainRun) -> Turned
         return turn_running(heap, run);
     };
     match pass_by(heap, run, last) {
-        Past::Waits(b) => Turned::Waiting(b),
-        Past::Arrived(_) | Past::Answered { .. } => Turned::Did,
-        Past::Runs => turn_running(heap, run),
+        LookOutcome::Waits(b) => Turned::Waiting(b),
+        LookOutcome::Arrived(_) | LookOutcome::Answered { .. } => Turned::Did,
+        LookOutcome::Runs => turn_running(heap, run),
     }
 }
 

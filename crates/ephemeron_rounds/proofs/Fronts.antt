@@ -5,7 +5,7 @@ use Rattle.heap_model.specs.History.{Legal}
 use Rattle.heap_rule.specs.declared.config.Config.{Config}
 use Rattle.heap_rule.specs.declared.view.DomainView.{DomainView}
 use Rattle.heap_rule.specs.Limits.{sizes_in}
-use Rattle.steps_rounds.specs.Emptying.{CleanEndTold, CleanTold}
+use Rattle.steps_ephemeron_looks.specs.Emptying.{CleanEndTold, CleanTold}
 use Rattle.ephemeron_rounds.specs.Emptied.{KeysCleaned, StaysLegal}
 
 -- a front that stays is as legal as it was

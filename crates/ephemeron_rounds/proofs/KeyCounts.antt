@@ -8,7 +8,7 @@ use Rattle.heap_words.specs.declared.value.Value.TheVariants.{Nothing}
 use Rattle.heap_rule.specs.declared.config.Config.{Config}
 use Rattle.heap_rule.specs.declared.view.DomainView.{DomainView}
 use Rattle.heap_rule.specs.Standing.{Entered}
-use Rattle.steps_ephemerons.specs.Heads.{EpheHeadCase, EpheHeadTold, KeysTold, key_of, subject}
+use Rattle.steps_ephemeron_commands.specs.Heads.{EpheHeadCase, EpheHeadTold, KeysTold, key_of, subject}
 use Rattle.ephemeron_rounds.specs.Found.{keys_of}
 
 no_keys : (k : Config) (a : ℕ) (e : Entry) (s : Shape) (x y : DomainView) → EpheHeadCase k a e s x y → keys_of s ≡ None → Entered k e (Replied BadType) Nothing [] x y

@@ -14,11 +14,11 @@ use Rattle.heap_rule.specs.declared.view.Scan.{Scan}
 use Rattle.heap_rule.specs.declared.view.Scan.TheVariants.{Idle, Keys, Key, Datum}
 use Rattle.heap_rule.specs.Layout.{heap_words}
 use Rattle.heap_rule.specs.Token.{IsAddress}
-use Rattle.steps_cycle.specs.Looks.{with_share}
-use Rattle.steps_cycle.specs.Marking.{IsMarked, IsUnmarked, OfDatum, seen_through}
-use Rattle.steps_rounds.specs.Rounding.{DatumTold, EphemeronTold, IsMarkedEphemeron, place_seen, KeyLookMay, KeyLookTold, KeyMay, KeyTold, datum_on, key_on}
+use Rattle.steps_marking.specs.Looks.{with_share}
+use Rattle.steps_marking.specs.Marking.{IsMarked, IsUnmarked, OfDatum, seen_through}
+use Rattle.steps_ephemeron_looks.specs.Rounding.{DatumTold, EphemeronTold, IsMarkedEphemeron, place_seen, KeyLookMay, KeyLookTold, KeyMay, KeyTold, datum_on, key_on}
 use Rattle.mark_slices.specs.Shares.{Darkens, darkened, owes_after}
-use Rattle.barriers.proofs.Exchanges.{not_both, one_meaning}
+use Rattle.darkening_beside.proofs.Exchanges.{not_both, one_meaning}
 use Rattle.ephemeron_rounds.specs.Looking.{Darkening, Through, after_key, after_keys, ended_at, key_past}
 
 -- the domain with another scan

@@ -11,8 +11,8 @@ use Rattle.heap_rule.specs.declared.view.DomainView.{DomainView}
 use Rattle.heap_rule.specs.Running.{Runs, own_entry}
 use Rattle.heap_rule.specs.Standing.{Entered}
 use Rattle.heap_rule.specs.Token.{Token, SharedHeap, IsIn}
-use Rattle.steps_run.specs.Ticks.{tick_answer}
-use Rattle.steps_ephemerons.specs.Heads.{ephemeron_in}
+use Rattle.steps_fields.specs.Ticks.{tick_answer}
+use Rattle.steps_ephemeron_commands.specs.Heads.{ephemeron_in}
 use Rattle.field_access.proofs.Doing.{entered_did}
 use Rattle.ephemeron_rounds.specs.Found.{IsRefusal, Refused}
 use Rattle.ephemeron_rounds.specs.Naming.{NamesRegisters}

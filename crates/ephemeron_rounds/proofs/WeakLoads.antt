@@ -25,8 +25,8 @@ use Rattle.heap_rule.specs.Token.{Token, SharedHeap, IsIn}
 use Rattle.heap_rule.proofs.Acting.{looked_acts}
 use Rattle.heap_rule.proofs.Plain.{entered_rest}
 use Rattle.heap_rule.proofs.Sizes.{heap_small}
-use Rattle.steps_ephemerons.specs.Heads.{ephemeron_in, key_in, HasKey}
-use Rattle.steps_ephemerons.specs.Loads.{word_of, IsLook, KnowsArmed, Puts, WeakMay, WeakLoadMay, WeakRead, Gets, full_reply, look_reply, owing_after, target_in, weak_on}
+use Rattle.steps_ephemeron_commands.specs.Heads.{ephemeron_in, key_in, HasKey}
+use Rattle.steps_ephemeron_commands.specs.Loads.{word_of, IsLook, KnowsArmed, Puts, WeakMay, WeakLoadMay, WeakRead, Gets, full_reply, look_reply, owing_after, target_in, weak_on}
 use Rattle.field_access.specs.Registers.{LoadsInto}
 use Rattle.field_access.proofs.Doing.{looked_did}
 use Rattle.heap_model.specs.declared.entry.Entry.{Entry}
@@ -36,8 +36,8 @@ use Rattle.heap_model.proofs.Histories.FrontLemmas.{answers_after}
 use Rattle.heap_rule.proofs.Calls.{answered_did, look_stays, stays_trans}
 use Rattle.heap_rule.specs.declared.phase.Kind.TheVariants.{Run}
 use Rattle.heap_rule.specs.declared.phase.Stage.TheVariants.{In}
-use Rattle.steps_cycle.specs.Arming.{knowing_armed}
-use Rattle.barriers.specs.Aware.{Learnt, aware_as}
+use Rattle.steps_marking.specs.Arming.{knowing_armed}
+use Rattle.darkening_beside.specs.Aware.{Learnt, aware_as}
 use Rattle.field_access.proofs.FieldLoads.{shown_into}
 use Rattle.ephemeron_rounds.specs.Found.{Found}
 

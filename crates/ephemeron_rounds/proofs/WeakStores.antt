@@ -12,10 +12,10 @@ use Rattle.heap_rule.specs.declared.view.Own.{Own}
 use Rattle.heap_rule.specs.Changes.{value_at}
 use Rattle.heap_rule.specs.Running.{Runs, Did, own_entry}
 use Rattle.heap_rule.specs.Token.{Token, SharedHeap, IsIn}
-use Rattle.steps_run.specs.Stores.{IsYoungBlock, MustRemember, StoreTold}
-use Rattle.steps_ephemerons.specs.Heads.{ephemeron_in, key_in, IsBlockValue, HasItem}
-use Rattle.steps_ephemerons.specs.Loads.{word_of}
-use Rattle.steps_ephemerons.specs.Stores.{stored_value, WeakStoreMay, KeyStoreEntry, DataStoreEntry}
+use Rattle.steps_fields.specs.Stores.{IsYoungBlock, MustRemember, StoreTold}
+use Rattle.steps_ephemeron_commands.specs.Heads.{ephemeron_in, key_in, IsBlockValue, HasItem}
+use Rattle.steps_ephemeron_commands.specs.Loads.{word_of}
+use Rattle.steps_ephemeron_commands.specs.Stores.{stored_value, WeakStoreMay, KeyStoreEntry, DataStoreEntry}
 use Rattle.field_access.proofs.FieldStores.{stored_did}
 use Rattle.ephemeron_rounds.specs.Found.{Found}
 use Rattle.ephemeron_rounds.specs.Items.{IsChange, item_in, value_of}

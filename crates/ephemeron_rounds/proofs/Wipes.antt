@@ -19,12 +19,12 @@ use Rattle.heap_rule.specs.Layout.{heap_words}
 use Rattle.heap_rule.specs.Standing.{with_front}
 use Rattle.heap_rule.specs.Token.{IsAddress}
 use Rattle.heap_rule.proofs.Closes.{front_same}
-use Rattle.steps_cycle.specs.Looks.{with_share}
-use Rattle.steps_cycle.specs.Marking.{IsMarked, IsUnmarked}
-use Rattle.steps_rounds.specs.Rounding.{IsMarkedEphemeron, place_seen}
-use Rattle.steps_rounds.specs.Emptying.{CleanEndMay, CleanKeyMay, CleanKeyTold, CleanLookMay, CleanLookTold, CleanTold, cleaning_from, cleaning_on, key_passed, key_read, CleanLabelMay, CleanLabelTold, labelled}
-use Rattle.steps_clean.specs.Wiping.{WipeDataMay, WipeDataTold, WipeKeyMay, WipeKeyTold, key_wiped, wiped_through}
-use Rattle.barriers.proofs.Exchanges.{not_both, one_meaning}
+use Rattle.steps_marking.specs.Looks.{with_share}
+use Rattle.steps_marking.specs.Marking.{IsMarked, IsUnmarked}
+use Rattle.steps_ephemeron_looks.specs.Rounding.{IsMarkedEphemeron, place_seen}
+use Rattle.steps_ephemeron_looks.specs.Emptying.{CleanEndMay, CleanKeyMay, CleanKeyTold, CleanLookMay, CleanLookTold, CleanTold, cleaning_from, cleaning_on, key_passed, key_read, CleanLabelMay, CleanLabelTold, labelled}
+use Rattle.steps_ephemeron_wipes.specs.Wiping.{WipeDataMay, WipeDataTold, WipeKeyMay, WipeKeyTold, key_wiped, wiped_through}
+use Rattle.darkening_beside.proofs.Exchanges.{not_both, one_meaning}
 use Rattle.ephemeron_rounds.specs.Emptied.{Cleaned, KeyCleaned, KeysCleaned}
 use Rattle.ephemeron_rounds.proofs.Keys.{one_value}
 

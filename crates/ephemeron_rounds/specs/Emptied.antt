@@ -8,9 +8,9 @@ use Rattle.heap_rule.specs.declared.view.DomainView.{DomainView}
 use Rattle.heap_rule.specs.declared.view.NextKey.TheVariants.{Unknown}
 use Rattle.heap_rule.specs.Limits.{sizes_in}
 use Rattle.heap_rule.specs.Standing.{with_front}
-use Rattle.steps_cycle.specs.Looks.{with_share}
-use Rattle.steps_clean.specs.Wiping.{key_wiped}
-use Rattle.steps_rounds.specs.Emptying.{cleaning_on, key_passed}
+use Rattle.steps_marking.specs.Looks.{with_share}
+use Rattle.steps_ephemeron_wipes.specs.Wiping.{key_wiped}
+use Rattle.steps_ephemeron_looks.specs.Emptying.{cleaning_on, key_passed}
 use Rattle.ephemeron_rounds.specs.Looking.{SeesListed}
 
 -- the next key of the ephemeron that the domain cleans is done: it was emptied, or it stays

@@ -7,7 +7,7 @@ use Rattle.heap_model.specs.Fronts.{Shape, PlainShape, RawShape, EpheShape}
 use Rattle.heap_rule.specs.Running.{Did}
 use Rattle.heap_rule.specs.Standing.{IsAt}
 use Rattle.heap_rule.specs.Token.{Token, SharedHeap, Holds, IsIn}
-use Rattle.steps_ephemerons.specs.Heads.{ephemeron_in, key_in, HasItem, HasKey, Counted}
+use Rattle.steps_ephemeron_commands.specs.Heads.{ephemeron_in, key_in, HasItem, HasKey, CountedKeys}
 
 -- the number of keys of an ephemeron
 abbrev pub keys_of : Shape → Option ℕ
@@ -33,6 +33,6 @@ pub record Found (h : SharedHeap) (old new : Token) (c : Command) (a : ℕ) : Ty
   pub keys : ℕ
   pub here : IsIn new h
   pub block : IsAt old.view (ephemeron_in c) a
-  pub counted : Counted h.config a (ephemeron_in c) keys old.view new.view
+  pub counted : CountedKeys h.config a (ephemeron_in c) keys old.view new.view
   pub has : HasKey (key_in c) keys
   pub item : HasItem old.view c

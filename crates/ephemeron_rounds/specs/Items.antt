@@ -6,7 +6,7 @@ use Rattle.heap_words.specs.declared.value.Value.{Value}
 use Rattle.heap_words.specs.declared.value.Value.TheVariants.{Nothing}
 use Rattle.heap_rule.specs.Changes.{value_at}
 use Rattle.heap_rule.specs.Places.{IsNoBlock}
-use Rattle.steps_ephemerons.specs.Heads.{IsBlockValue}
+use Rattle.steps_ephemeron_commands.specs.Heads.{IsBlockValue}
 
 -- a command that sets or empties a key or the datum
 abbrev pub IsChange : Command → Type 0

@@ -8,8 +8,8 @@ use Rattle.heap_rule.specs.declared.view.Scan.{Scan}
 use Rattle.heap_rule.specs.declared.view.Scan.TheVariants.{Idle, Keys}
 use Rattle.heap_rule.specs.declared.view.Share.{Share}
 use Rattle.heap_rule.specs.Cycles.{seen_by}
-use Rattle.steps_cycle.specs.Looks.{with_share}
-use Rattle.steps_rounds.specs.Rounding.{looked_through}
+use Rattle.steps_marking.specs.Looks.{with_share}
+use Rattle.steps_ephemeron_looks.specs.Rounding.{looked_through}
 
 -- a domain is in Rounds, and knows the colours
 pub record Darkening (colours : Colours) (x : DomainView) : Type 0 where
@@ -52,13 +52,13 @@ abbrev pub SeesOn : DomainView → DomainView → Type 0
 SeesOn x y = (a : ℕ) → IsTrue (seen_by x.seen.share.places_seen a) → IsTrue (seen_by y.seen.share.places_seen a)
 
 -- the domain has looked at ephemerons, and nothing else has changed
-pub record Looked (x y : DomainView) : Type 0 where
+pub record LookedAtEphemerons (x y : DomainView) : Type 0 where
   pub view : y ≡ with_looks x y
   pub before : SeesOn x y
 
 -- it has looked at each one. Where it has marked a block it owes a store of the changed word
-pub record Passed (won : Bool) (x y : DomainView) : Type 0 where
-  pub looked : Looked x y
+pub record SawEach (won : Bool) (x y : DomainView) : Type 0 where
+  pub looked : LookedAtEphemerons x y
   pub owes : y.seen.share.owes ≡ cond won true x.seen.share.owes
   pub all : SeesListed y
 

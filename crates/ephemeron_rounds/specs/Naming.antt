@@ -2,7 +2,7 @@
 use Rattle.std.specs.Prelude.{◌≡◌, ℕ, ◌<◌, Option}
 use Rattle.heap_model.specs.declared.command.Command.{Command}
 use Rattle.heap_model.specs.declared.command.Command.TheVariants.{SetKey, UnsetKey, GetKey, CheckKey, SetData, UnsetData, GetData, CheckData}
-use Rattle.steps_ephemerons.specs.Heads.{ephemeron_in, key_in}
+use Rattle.steps_ephemeron_commands.specs.Heads.{ephemeron_in, key_in}
 
 -- the registers of the ephemeron and of the item are below 16
 abbrev pub NamesRegisters : Command → Type 0

@@ -8,10 +8,10 @@ ghost use Rattle.heap_rule.specs.Running.{Runs, Did, own_entry};
 ghost use Rattle.heap_rule.specs.Standing.{IsInHeap};
 ghost use Rattle.heap_rule.specs.Token.{Holds, IsIn};
 ghost use Rattle.field_access.specs.Remembered.{ChangesRemembered, PutsYoung, one_more};
-ghost use Rattle.steps_run.specs.Stores.{StoreTold};
-ghost use Rattle.steps_ephemerons.specs.Heads.{key_in};
-ghost use Rattle.steps_ephemerons.specs.Loads.{word_of};
-ghost use Rattle.steps_ephemerons.specs.Stores.{WeakStoreMay};
+ghost use Rattle.steps_fields.specs.Stores.{StoreTold};
+ghost use Rattle.steps_ephemeron_commands.specs.Heads.{key_in};
+ghost use Rattle.steps_ephemeron_commands.specs.Loads.{word_of};
+ghost use Rattle.steps_ephemeron_commands.specs.Stores.{WeakStoreMay};
 ghost use Rattle.ephemeron_rounds.specs.Items.{FitsItem, IsChange, LacksItem, item_in, value_of};
 ghost use Rattle.ephemeron_rounds.specs.Naming.{LooksInto};
 ghost use Rattle.ephemeron_rounds.specs.Words.{word_in};
@@ -21,7 +21,7 @@ use field_access::must_remember;
 use heap_model::reply::Reply;
 use heap_rule::{Domain, Heap};
 use heap_words::{Value, pack_value};
-use steps_ephemerons::{data_store, key_store};
+use steps_ephemeron_commands::{data_store, key_store};
 
 // A store to the word that a command names, with its entry.
 fn store_word(

@@ -8,15 +8,17 @@ ghost use Rattle.heap_rule.specs.Cycles.{seen_by};
 ghost use Rattle.heap_rule.specs.Layout.{heap_words};
 ghost use Rattle.heap_rule.specs.Standing.{IsInHeap};
 ghost use Rattle.heap_rule.specs.Token.{IsIn};
-ghost use Rattle.steps_rounds.specs.Emptying.{CleanKeyMay, cleaning_from};
+ghost use Rattle.steps_ephemeron_looks.specs.Emptying.{CleanKeyMay, cleaning_from};
 ghost use Rattle.ephemeron_rounds.specs.Emptied.{AllCleaned, Cleaned, KeyCleaned, KeysCleaned, StaysLegal};
 
 use crate::heads::{is_marked, marked_keys};
 use heap_rule::{Domain, Heap, Reading, read_as};
 use heap_words::{Colours, Value};
-use steps_clean::{wipe_data, wipe_key};
-use steps_cycle::colours_now;
-use steps_rounds::{clean_end, clean_key_load, clean_key_look, clean_label_load, clean_load};
+use steps_ephemeron_looks::{
+    clean_end, clean_key_load, clean_key_look, clean_label_load, clean_load,
+};
+use steps_ephemeron_wipes::{wipe_data, wipe_key};
+use steps_marking::colours_now;
 
 // Looks at the next key, which is at `at`, and empties it if it is full and its block isn't marked.
 // Answers whether it has emptied the key.

@@ -5,17 +5,17 @@ ghost use Rattle.heap_model.specs.declared.reply.Reply.TheVariants.{BadType};
 ghost use Rattle.heap_model.specs.Fronts.{Shape};
 ghost use Rattle.heap_rule.specs.Places.{IsHeadOf};
 ghost use Rattle.heap_rule.specs.Running.{Runs};
-ghost use Rattle.steps_run.specs.Ticks.{TickCommand};
-ghost use Rattle.steps_ephemerons.specs.Heads.{HasItem, HasKey, LacksKey};
-ghost use Rattle.steps_ephemerons.specs.Loads.{word_of};
+ghost use Rattle.steps_fields.specs.Ticks.{TickCommand};
+ghost use Rattle.steps_ephemeron_commands.specs.Heads.{HasItem, HasKey, LacksKey};
+ghost use Rattle.steps_ephemeron_commands.specs.Loads.{word_of};
 ghost use Rattle.ephemeron_rounds.specs.Found.{Found, Refused, keys_of};
 ghost use Rattle.ephemeron_rounds.specs.Naming.{LooksInto, NamesRegisters};
 
 use heap_model::reply::Reply;
 use heap_rule::{Domain, Heap};
 use heap_words::{Head, Value, unpack_head};
-use steps_ephemerons::ephe_head_load;
-use steps_run::tick;
+use steps_ephemeron_commands::ephe_head_load;
+use steps_fields::tick;
 
 // The number of keys of the ephemeron whose head this is, and nothing for a plain block.
 fn key_count(head: u64) -> Option<u16>

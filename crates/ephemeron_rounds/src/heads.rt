@@ -1,7 +1,7 @@
 //! What the word of a head says to one who looks at ephemerons.
 ghost use Rattle.std.specs.Prelude.{ℕ, MatchBool, MatchOption};
-ghost use Rattle.steps_cycle.specs.Marking.{IsMarked};
-ghost use Rattle.steps_rounds.specs.Rounding.{IsMarkedEphemeron};
+ghost use Rattle.steps_marking.specs.Marking.{IsMarked};
+ghost use Rattle.steps_ephemeron_looks.specs.Rounding.{IsMarkedEphemeron};
 
 use heap_words::{Colours, Head, unpack_head};
 

@@ -11,21 +11,21 @@ ghost use Rattle.heap_rule.specs.Changes.{value_at};
 ghost use Rattle.heap_rule.specs.Token.{Holds, IsIn};
 ghost use Rattle.heap_rule.specs.declared.phase.Kind.TheVariants.{Run};
 ghost use Rattle.heap_rule.specs.declared.phase.Stage.TheVariants.{In};
-ghost use Rattle.barriers.specs.Aware.{Learnt};
-ghost use Rattle.steps_beside.specs.Marking.{Reason, Weak};
+ghost use Rattle.darkening_beside.specs.Aware.{Learnt};
+ghost use Rattle.steps_marking_beside.specs.Marking.{Reason, Weak};
 ghost use Rattle.field_access.specs.Registers.{LoadsInto};
-ghost use Rattle.steps_ephemerons.specs.Loads.{IsLook, full_reply, target_in, weak_on};
+ghost use Rattle.steps_ephemeron_commands.specs.Loads.{IsLook, full_reply, target_in, weak_on};
 ghost use Rattle.ephemeron_rounds.specs.Naming.{LooksInto};
 
 use crate::finding::{find, word_at};
-use barriers::darken_beside;
+use darkening_beside::darken_beside;
 use field_access::shown_register;
 use heap_model::reply::Reply;
 use heap_rule::{Change, Domain, Heap};
 use heap_words::{Value, unpack_value};
 use size_classes::POOL_WORDS;
-use steps_cycle::{armed_now, colours_now};
-use steps_ephemerons::weak_load;
+use steps_ephemeron_commands::weak_load;
+use steps_marking::{armed_now, colours_now};
 
 // Marks what a weak read has brought into a register, where a cycle goes on beside running domains and
 // it is a block of the pools: the marking may not have come to it, and doesn't follow it from the

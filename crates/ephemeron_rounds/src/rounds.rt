@@ -8,16 +8,16 @@ ghost use Rattle.heap_rule.specs.Cycles.{seen_by};
 ghost use Rattle.heap_rule.specs.Layout.{heap_words};
 ghost use Rattle.heap_rule.specs.Standing.{IsInHeap};
 ghost use Rattle.heap_rule.specs.Token.{IsIn};
-ghost use Rattle.steps_cycle.specs.Looks.{with_share};
-ghost use Rattle.steps_rounds.specs.Rounding.{KeyMay};
-ghost use Rattle.ephemeron_rounds.specs.Looking.{AllLooked, Darkening, Looked, Passed, Through, after_key, after_keys};
+ghost use Rattle.steps_marking.specs.Looks.{with_share};
+ghost use Rattle.steps_ephemeron_looks.specs.Rounding.{KeyMay};
+ghost use Rattle.ephemeron_rounds.specs.Looking.{AllLooked, Darkening, LookedAtEphemerons, SawEach, Through, after_key, after_keys};
 
 use crate::heads::{is_marked, marked_keys};
 use heap_rule::{Domain, Heap, Reading, read_as};
 use heap_words::{Colours, Value};
 use mark_slices::{Hints, darken};
-use steps_cycle::{changed_store, colours_now};
-use steps_rounds::{datum_load, ephemeron_load, key_load, key_look};
+use steps_ephemeron_looks::{datum_load, ephemeron_load, key_load, key_look};
+use steps_marking::{changed_store, colours_now};
 
 // How often an ephemeron is looked at again, on average and at most.
 const LOOKS: usize = 8;
@@ -135,7 +135,7 @@ fn look_through(heap: &Heap, dom: &mut Domain, colours: Colours, hints: &mut Hin
     requires idle { dom.old.view.seen.share.scan ≡ Idle }
     ensures here { IsIn dom.new heap.now }
     ensures hints { hints.new ≡ hints.old }
-    ensures passed { Passed result dom.old.view dom.new.view }
+    ensures passed { SawEach result dom.old.view dom.new.view }
 {
     let count = dom.ephemerons_len();
     hints.start_waiting(count);
@@ -157,7 +157,7 @@ fn look_again(heap: &Heap, dom: &mut Domain, colours: Colours, hints: &mut Hints
     requires idle { dom.old.view.seen.share.scan ≡ Idle }
     ensures here { IsIn dom.new heap.now }
     ensures hints { hints.new ≡ hints.old }
-    ensures looked { Looked dom.old.view dom.new.view }
+    ensures looked { LookedAtEphemerons dom.old.view dom.new.view }
     ensures owes { dom.old.view.seen.share.owes ≡ true → dom.new.view.seen.share.owes ≡ true }
 {
     let count = dom.ephemerons_len();

@@ -20,7 +20,7 @@ use Rattle.heap_rule.specs.declared.view.DomainView.{DomainView}
 use Rattle.heap_rule.specs.Changes.{value_at}
 use Rattle.heap_rule.specs.Limits.{sizes_in}
 use Rattle.heap_rule.specs.Rule.{state_of}
-use Rattle.steps_run.specs.Loads.{FieldRead, Measured}
+use Rattle.steps_fields.specs.Loads.{FieldRead, Measured}
 use Rattle.heap_rule.specs.Places.{Shows}
 use Rattle.heap_rule.specs.Token.{Token, SharedHeap, IsIn, IsAddress}
 use Rattle.heap_rule.specs.Running.{Runs, Did, own_entry}

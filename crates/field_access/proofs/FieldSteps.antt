@@ -11,12 +11,12 @@ use Rattle.heap_rule.specs.declared.config.Config.{Config}
 use Rattle.heap_rule.specs.declared.view.DomainView.{DomainView}
 use Rattle.heap_rule.specs.Changes.{value_at}
 use Rattle.heap_rule.specs.declared.view.Own.{Own}
-use Rattle.steps_run.specs.Stores.{MustRemember, FieldStoreEntry, SuitsField}
+use Rattle.steps_fields.specs.Stores.{MustRemember, FieldStoreEntry, SuitsField}
 use Rattle.steps_exchange.specs.Exchanges.{ExchangeEntry, ExpectedMarked}
 use Rattle.heap_words.specs.Values.{value_word}
 use Rattle.heap_rule.specs.Rule.{state_of}
-use Rattle.steps_run.specs.Loads.{FieldLoadEntry, Measured}
-use Rattle.barriers.specs.Aware.{Learnt}
+use Rattle.steps_fields.specs.Loads.{FieldLoadEntry, Measured}
+use Rattle.darkening_beside.specs.Aware.{Learnt}
 use Rattle.heap_rule.specs.Beside.{Barrier}
 use Rattle.heap_rule.specs.Standing.{FieldMay}
 use Rattle.heap_rule.specs.Standing.{Acts, IsInHeap}

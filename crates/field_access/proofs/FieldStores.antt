@@ -11,11 +11,11 @@ use Rattle.heap_rule.specs.declared.change.Change.{Change}
 use Rattle.heap_rule.specs.declared.config.Config.{Config}
 use Rattle.heap_rule.specs.declared.view.DomainView.{DomainView}
 use Rattle.heap_rule.specs.declared.view.Own.{Own}
-use Rattle.barriers.specs.Aware.{Learnt}
+use Rattle.darkening_beside.specs.Aware.{Learnt}
 use Rattle.heap_rule.specs.Changes.{changed}
 use Rattle.heap_rule.specs.Limits.{sizes_in}
 use Rattle.heap_rule.specs.Standing.{Looked, with_front, with_own, with_registers, Entered}
-use Rattle.steps_run.specs.Stores.{with_field, remembering, WroteTold}
+use Rattle.steps_fields.specs.Stores.{with_field, remembering, WroteTold}
 use Rattle.heap_rule.specs.Token.{Token, SharedHeap, IsIn}
 use Rattle.heap_rule.specs.Running.{Runs, Stays, Did}
 use Rattle.heap_rule.specs.Running.{own_entry}

@@ -10,8 +10,8 @@ use Rattle.heap_rule.specs.declared.view.DomainView.{DomainView}
 use Rattle.heap_rule.specs.Rule.{state_of}
 use Rattle.heap_words.specs.declared.value.Value.{Value}
 use Rattle.heap_rule.specs.Places.{needs_no_scan}
-use Rattle.steps_run.specs.Loads.{HeadCase, RawCase, HeadTold, SizeTold, Measured, place_of, subject, puts_block, is_block}
-use Rattle.steps_run.specs.Stores.{SuitsField}
+use Rattle.steps_fields.specs.Loads.{HeadCase, RawCase, HeadTold, SizeTold, Measured, place_of, subject, puts_block, is_block}
+use Rattle.steps_fields.specs.Stores.{SuitsField}
 use Rattle.heap_rule.specs.Standing.{Entered}
 use Rattle.field_access.specs.Shapes.{size_of, fields_for, refuses}
 

@@ -8,7 +8,7 @@ use Rattle.heap_rule.specs.Changes.{value_at}
 use Rattle.heap_rule.specs.Places.{needs_no_scan}
 use Rattle.heap_rule.specs.Running.{own_entry}
 use Rattle.heap_rule.specs.Token.{Token}
-use Rattle.steps_run.specs.Loads.{puts_block, is_block}
+use Rattle.steps_fields.specs.Loads.{puts_block, is_block}
 
 -- by what the register of the item holds
 pub refusal : (old : Token) (e : Entry) (block i item : ℕ) (s : Shape) (v : Value) → e ≡ own_entry old (Store block i item) → v ≡ value_at old.view.own.registers item → (needs_no_scan s && puts_block old.view e) ≡ (needs_no_scan s && is_block v)

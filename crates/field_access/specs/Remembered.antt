@@ -7,7 +7,7 @@ use Rattle.heap_words.specs.declared.value.Value.TheVariants.{Ref}
 use Rattle.remembered_set.specs.Bounded.{Bounded}
 use Rattle.heap_rule.specs.declared.config.Config.{Config}
 use Rattle.heap_rule.specs.Token.{Token}
-use Rattle.steps_run.specs.Stores.{MustRemember}
+use Rattle.steps_fields.specs.Stores.{MustRemember}
 
 -- what the domain owns is as before, but for the fields that it remembers
 pub record ChangesRemembered (old new : Token) : Type 0 where

@@ -2,7 +2,7 @@
 use Rattle.std.specs.Prelude.{ℕ, Bool, if◌then◌else◌, ◌&&◌, Option, Some, None}
 use Rattle.heap_words.specs.declared.value.Value.{Value}
 use Rattle.heap_rule.specs.Places.{needs_no_scan}
-use Rattle.steps_run.specs.Loads.{is_block}
+use Rattle.steps_fields.specs.Loads.{is_block}
 use Rattle.heap_model.specs.Fronts.{Shape, PlainShape, RawShape, EpheShape}
 
 -- the number of fields of a plain or raw block

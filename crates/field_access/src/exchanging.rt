@@ -7,20 +7,20 @@ ghost use Rattle.heap_rule.specs.Running.{Runs, Did, own_entry};
 ghost use Rattle.heap_rule.specs.Token.{Holds, IsIn};
 ghost use Rattle.heap_rule.specs.declared.phase.Kind.TheVariants.{Run};
 ghost use Rattle.heap_rule.specs.declared.phase.Stage.TheVariants.{In};
-ghost use Rattle.steps_beside.specs.Marking.{Reason, Expected};
-ghost use Rattle.barriers.specs.Aware.{Learnt};
+ghost use Rattle.steps_marking_beside.specs.Marking.{Reason, Expected};
+ghost use Rattle.darkening_beside.specs.Aware.{Learnt};
 ghost use Rattle.steps_exchange.specs.Exchanges.{ExpectedMarked};
 ghost use Rattle.field_access.specs.Remembered.{ChangesRemembered, SetsYoung, field_of, one_more};
 
 use crate::fields::{fields_for, must_remember};
-use barriers::darken_beside;
+use darkening_beside::darken_beside;
 use heap_model::reply::Reply;
 use heap_rule::{Domain, Heap};
 use heap_words::{Value, pack_value};
 use size_classes::POOL_WORDS;
-use steps_cycle::{armed_now, colours_now};
 use steps_exchange::field_exchange;
-use steps_run::{head_load, tick};
+use steps_fields::{head_load, tick};
+use steps_marking::{armed_now, colours_now};
 
 // Marks what a compare-and-set expects in a field, where a cycle goes on beside running domains and it
 // is a block of the pools: where the exchange is made, the field no longer refers to it.

@@ -17,18 +17,18 @@ ghost use Rattle.heap_rule.specs.Running.{Runs, Did, ChangesRegisters, own_entry
 ghost use Rattle.heap_rule.specs.Token.{Holds, IsIn};
 ghost use Rattle.heap_words.specs.declared.value.Value as words;
 ghost use Rattle.heap_words.specs.declared.value.Value.TheVariants.{Ref};
-ghost use Rattle.steps_run.specs.Stores.{MustRemember};
+ghost use Rattle.steps_fields.specs.Stores.{MustRemember};
 ghost use Rattle.field_access.specs.Registers.{LoadsInto};
 ghost use Rattle.field_access.specs.Remembered.{ChangesRemembered, PutsYoung, field_of, one_more};
 ghost use Rattle.field_access.specs.Shapes.{size_of, fields_for};
 
-use barriers::overwrite_barrier;
+use darkening_beside::overwrite_barrier;
 use heap_model::label::Label;
 use heap_model::reply::Reply;
 use heap_rule::{Change, Domain, Heap};
 use heap_words::{Head, Value, pack_value, unpack_head, unpack_label};
 use size_classes::POOL_WORDS;
-use steps_run::{field_load, field_store, head_load, label_load, tick};
+use steps_fields::{field_load, field_store, head_load, label_load, tick};
 
 /// The number of fields of the block whose head this is, and nothing for an ephemeron.
 pub fn field_count(head: u64) -> Option<u16>

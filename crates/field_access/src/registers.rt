@@ -13,7 +13,7 @@ ghost use Rattle.heap_rule.specs.Token.{Holds};
 use heap_model::reply::Reply;
 use heap_rule::{Change, Domain, Heap, Item, Part};
 use heap_words::Value;
-use steps_run::tick;
+use steps_fields::tick;
 
 // The change by which a register holds a value.
 fn holds(register: u8, value: Value) -> Change

@@ -16,7 +16,7 @@ use Rattle.heap_rule.specs.declared.view.Registered.{Registered}
 use Rattle.heap_rule.specs.declared.view.RegisteredLast.{RegisteredLast}
 use Rattle.heap_rule.specs.Limits.{sizes_in}
 use Rattle.heap_rule.specs.Standing.{IsInHeap, with_front, with_own}
-use Rattle.steps_cycle.specs.Looks.{HeldInside}
+use Rattle.steps_marking.specs.Looks.{HeldInside}
 use Rattle.steps_finalisers.specs.Looking.{FinalLookMay, FinalLookTold, LastLookMay, LastLookTold, Queues, keeping, queued_final, queued_last}
 use Rattle.finaliser_queues.specs.Deciding.{AllDecided, AllLastsDecided, as_waiting, as_waiting_last, deciding}
 use Rattle.finaliser_queues.proofs.Sorting.{Sorted, next_count, next_old, sorted_all, sorted_kept, sorted_queued}

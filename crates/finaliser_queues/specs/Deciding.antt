@@ -11,7 +11,7 @@ use Rattle.heap_rule.specs.declared.view.Waiting.{Waiting}
 use Rattle.heap_rule.specs.declared.view.Waiting.TheVariants.{Fin, Last}
 use Rattle.heap_rule.specs.Limits.{sizes_in}
 use Rattle.heap_rule.specs.Standing.{with_front, with_own}
-use Rattle.steps_cycle.specs.Looks.{with_share}
+use Rattle.steps_marking.specs.Looks.{with_share}
 use Rattle.steps_finalisers.specs.Registering.{with_finalisers}
 
 -- Each item of the first list stays, or else is queued, and no item does both. Those that stay stand in the order in which they stood, and of those that are queued the last one comes first

@@ -8,8 +8,8 @@ ghost use Rattle.finaliser_queues.specs.Deciding.{AllDecided, AllLastsDecided};
 
 use heap_rule::{Domain, Heap};
 use mark_slices::mark_queue;
-use steps_cycle::colours_now;
 use steps_finalisers::{final_look, last_look};
+use steps_marking::colours_now;
 
 /// A domain's share of the phase in which the registrations of `finalise` are decided: by then all that
 /// is reachable is marked. Each of its registrations whose block isn't marked is queued, since the block

@@ -13,8 +13,8 @@ ghost use Rattle.finaliser_queues.specs.Registering.{own_finalised, own_finalise
 use heap_model::reply::Reply;
 use heap_rule::{Domain, Heap, Registered, RegisteredLast};
 use heap_words::Value;
+use steps_fields::tick;
 use steps_finalisers::{register_final, register_last};
-use steps_run::tick;
 
 // The address of the block that a register holds, if it holds one.
 fn block_in(dom: &Domain, r: u8) -> Option<u32>

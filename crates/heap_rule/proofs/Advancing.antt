@@ -15,7 +15,7 @@ use Rattle.heap_model.specs.History.{is_entry_of}
 use Rattle.heap_model.specs.WellFormed.{IsNumbered}
 use Rattle.heap_model.proofs.Commands.FrameLemmas.{keeps_next}
 use Rattle.heap_model.proofs.Histories.NumberLemmas.{numbered_after, numbered_opening}
-use Rattle.cycle_laws.specs.Beside.{Past, IsBeside, Later, WriteBarrier, owed_after}
+use Rattle.cycle_laws.specs.Beside.{Snapshot, IsBeside, Later, WriteBarrier, owed_after}
 use Rattle.cycle_laws.specs.Cover.{is_new}
 use Rattle.cycle_laws.proofs.Beside.{beside_law}
 use Rattle.heap_rule.specs.declared.config.Config.{Config}
@@ -44,13 +44,13 @@ armed_cases false = inr refl
 module _ (k : Config) (s : Words) (r : Rule k s) (id : ℕ) (hist : List Entry) (x : DomainView) (at : get_elem? s.views id ≡ some (one k hist x)) where
   -- what is kept of the cycle after an entry
   pub record Advance (e : Entry) (weak : Option ℕ) (live' : Live) : Type 0 where
-    pub past : Past
+    pub past : Snapshot
     pub advances : Advances k s r id hist x at e weak live' past
 
   abbrev state : model.State
   state = now k s r id hist x at
 
-  abbrev past0 : Past
+  abbrev past0 : Snapshot
   past0 = r.account.cycling.past
 
   -- each block of a minor area counts as marked where it has come to live

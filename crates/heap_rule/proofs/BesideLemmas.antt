@@ -3,7 +3,7 @@ use Rattle.std.proofs.Common.{◌≡◌, ◌≢◌, ℕ, ◌*◌, ◌<◌, ◌�
 use Rattle.heap_model.specs.declared.label.Label.{Label}
 use Rattle.heap_model.specs.declared.graph.Value.TheVariants.{Block}
 use Rattle.heap_model.specs.Graph.{Graph}
-use Rattle.cycle_laws.specs.Beside.{Past}
+use Rattle.cycle_laws.specs.Beside.{Snapshot}
 use Rattle.cycle_laws.specs.Cover.{field_at}
 use Rattle.heap_rule.specs.declared.config.Config.{Config}
 use Rattle.heap_rule.specs.declared.phase.Kind.TheVariants.{Run}
@@ -83,7 +83,7 @@ known_among k live holder old marked words [] f all is = absurd is
 known_among k live holder old marked words (g ∷ gs) f all is = ⊎_elim (λ (e : g ≡ f). subst (HoldsKnown k live holder old marked words) e all.0) (λ (m : IsKnown gs f). known_among k live holder old marked words gs f all.1 m) is
 
 -- a domain that runs knows on
-pub runs_on : (k : Config) (live live' : Live) (holder holder' : ℕ → Holder) (armed : Bool) (past past' : Past) (marked marked' : Label → Bool) (words words' : List ℕ) (d : ℕ) (stage : Stage) (share : Share) → (stage ≡ In Run → Endures k live live' holder holder' marked marked' words words')
+pub runs_on : (k : Config) (live live' : Live) (holder holder' : ℕ → Holder) (armed : Bool) (past past' : Snapshot) (marked marked' : Label → Bool) (words words' : List ℕ) (d : ℕ) (stage : Stage) (share : Share) → (stage ≡ In Run → Endures k live live' holder holder' marked marked' words words')
     → past'.old ≡ past.old → ((r : ℕ) → past'.owed d r ≡ past.owed d r) → RunsBeside k live holder armed past marked words d stage share → RunsBeside k live' holder' armed past' marked' words' d stage share
 runs_on k live live' holder holder' armed past past' marked marked' words words' d stage share o same owed h = record {
   knows = ⊎_elim (λ (u : IsUnaware share). inl u) (λ (u : (stage ≡ In Run) × IsTrue armed × AllKnown k live holder past.old marked words share.known). inr (
@@ -95,21 +95,21 @@ runs_on k live live' holder holder' armed past past' marked marked' words words'
 }
 
 -- and a domain that doesn't run knows nothing, as before
-pub unaware_of : (k : Config) (live : Live) (holder : ℕ → Holder) (armed : Bool) (past : Past) (marked : Label → Bool) (words : List ℕ) (d : ℕ) (stage : Stage) (share : Share) → stage ≢ In Run → RunsBeside k live holder armed past marked words d stage share → IsUnaware share
+pub unaware_of : (k : Config) (live : Live) (holder : ℕ → Holder) (armed : Bool) (past : Snapshot) (marked : Label → Bool) (words : List ℕ) (d : ℕ) (stage : Stage) (share : Share) → stage ≢ In Run → RunsBeside k live holder armed past marked words d stage share → IsUnaware share
 unaware_of k live holder armed past marked words d stage share paused h = ⊎_elim (λ (u : IsUnaware share). u) (λ (u : (stage ≡ In Run) × IsTrue armed × AllKnown k live holder past.old marked words share.known). absurd (paused u.0)) h.knows
 
-pub runs_unaware : (k : Config) (live : Live) (holder : ℕ → Holder) (armed : Bool) (past : Past) (marked : Label → Bool) (words : List ℕ) (d : ℕ) (stage : Stage) (share : Share) → IsUnaware share → (IsTrue armed → (r : ℕ) → past.owed d r ≡ false) → RunsBeside k live holder armed past marked words d stage share
+pub runs_unaware : (k : Config) (live : Live) (holder : ℕ → Holder) (armed : Bool) (past : Snapshot) (marked : Label → Bool) (words : List ℕ) (d : ℕ) (stage : Stage) (share : Share) → IsUnaware share → (IsTrue armed → (r : ℕ) → past.owed d r ≡ false) → RunsBeside k live holder armed past marked words d stage share
 runs_unaware k live holder armed past marked words d stage share u none = record {
   knows = inl u;
   owes = λ is r. none is r ∙ sym (ap (λ (w : Option ℕ). is_weak w r) u.1);
 }
 
-pub runs_as : (k : Config) (live : Live) (holder : ℕ → Holder) (armed : Bool) (past : Past) (marked : Label → Bool) (words : List ℕ) (d d' : ℕ) (stage stage' : Stage) (share share' : Share) → d' ≡ d → stage' ≡ stage → share' ≡ share
+pub runs_as : (k : Config) (live : Live) (holder : ℕ → Holder) (armed : Bool) (past : Snapshot) (marked : Label → Bool) (words : List ℕ) (d d' : ℕ) (stage stage' : Stage) (share share' : Share) → d' ≡ d → stage' ≡ stage → share' ≡ share
     → RunsBeside k live holder armed past marked words d stage share → RunsBeside k live holder armed past marked words d' stage' share'
 runs_as k live holder armed past marked words d d' stage stage' share share' number stands same h = subst (λ (z : ℕ × Stage × Share). RunsBeside k live holder armed past marked words z.0 z.1 z.2) (λ i. (sym number i, sym stands i, sym same i)) h
 
 -- a domain that runs knows what it knew, where only what it owes the darkening of changes
-pub knows_weak : (k : Config) (live : Live) (holder : ℕ → Holder) (armed : Bool) (past : Past) (marked : Label → Bool) (words : List ℕ) (stage : Stage) (share : Share) (weak : Option ℕ) → stage ≡ In Run → (weak ≡ None) ⊎ IsTrue armed
+pub knows_weak : (k : Config) (live : Live) (holder : ℕ → Holder) (armed : Bool) (past : Snapshot) (marked : Label → Bool) (words : List ℕ) (stage : Stage) (share : Share) (weak : Option ℕ) → stage ≡ In Run → (weak ≡ None) ⊎ IsTrue armed
     → (share.known ≡ []) ⊎ (IsTrue armed × AllKnown k live holder past.old marked words share.known)
     → IsUnaware (with_weak share weak) ⊎ ((stage ≡ In Run) × IsTrue armed × AllKnown k live holder past.old marked words share.known)
 knows_weak k live holder armed past marked words stage share weak runs unweak h = ⊎_elim

@@ -53,7 +53,7 @@ use Rattle.heap_rule.proofs.BesideLemmas.{Endures, all_known_on, runs_on, runs_a
 use Rattle.heap_rule.specs.declared.view.Share.{Share}
 use Rattle.heap_model.specs.Graph.{Graph}
 use Rattle.heap_rule.specs.Beside.{AllKnown, IsUnaware, RunsBeside, is_weak}
-use Rattle.cycle_laws.specs.Beside.{Past}
+use Rattle.cycle_laws.specs.Beside.{Snapshot}
 use Rattle.heap_rule.specs.Room.{spent_stock, count, drawn_in_all, copied_words, Room, IsUnused, Opened, Drawable}
 use Rattle.heap_model.specs.Domains.{class_count, reserve}
 use Rattle.heap_rule.specs.Layout.{heap_words, at_address}
@@ -582,7 +582,7 @@ module _ (k : Config) (s : Words) (r : Rule k s) (id : ℕ) (hist : List Entry) 
   pub between_here : (kind : Kind) → HasNoCycle kind → x.seen.stage ≡ In kind → IsBetween k now r.account.live r.account.cycling
   between_here kind none is = facts_between r.account.cycling.kind k now r.account.live r.account.tenancy r.account.cycling s.words (no_cycle_here kind none is) r.whole.cycle.facts
 
-  pub cycle_here : (kind : Kind) → HasNoCycle kind → x.seen.stage ≡ In kind → (after : model.State) (live' : Live) (t' : Tenancy) (past' : Past) (words' : List ℕ) → after.mode ≡ now.mode → KeepsGarbage k live' r.account.tenancy t' s.words words' → SameCycle s.words words'
+  pub cycle_here : (kind : Kind) → HasNoCycle kind → x.seen.stage ≡ In kind → (after : model.State) (live' : Live) (t' : Tenancy) (past' : Snapshot) (words' : List ℕ) → after.mode ≡ now.mode → KeepsGarbage k live' r.account.tenancy t' s.words words' → SameCycle s.words words'
       → KeepsUnderway k now after r.account.live live' r.account.cycling past' → Cycled k after live' r.account.pause t' (with_past r.account.cycling past') words'
   cycle_here kind none is after live' t' past' words' mode garbage same keeps = cycle_between k now after r.account.live live' r.account.pause r.account.tenancy t' r.account.cycling past' s.words words' (no_cycle_here kind none is) mode garbage same keeps r.whole.cycle
 
@@ -605,7 +605,7 @@ module _ (k : Config) (s : Words) (r : Rule k s) (id : ℕ) (hist : List Entry) 
   runs_here all' words' cycling z o g = subst (λ (c : Cycling). RunsBeside k all'.live all'.tenancy.holder c.armed c.past c.paint.marks.marked words' z.own.number z.seen.stage z.seen.share) (sym cycling)
       (runs_on k r.account.live all'.live r.account.tenancy.holder all'.tenancy.holder r.account.cycling.armed r.account.cycling.past r.account.cycling.past r.account.cycling.paint.marks.marked r.account.cycling.paint.marks.marked s.words words' z.own.number z.seen.stage z.seen.share o refl (λ q. refl) g.sharing.running)
 
-  pub sharing_here : (kind : Kind) → HasNoCycle kind → x.seen.stage ≡ In kind → (all' : Account) (words' : List ℕ) (past' : Past) (weak' : Option ℕ) (y : DomainView) → all'.cycling ≡ with_past r.account.cycling past' → SameCycle s.words words'
+  pub sharing_here : (kind : Kind) → HasNoCycle kind → x.seen.stage ≡ In kind → (all' : Account) (words' : List ℕ) (past' : Snapshot) (weak' : Option ℕ) (y : DomainView) → all'.cycling ≡ with_past r.account.cycling past' → SameCycle s.words words'
       → y.own.number ≡ x.own.number → y.seen.stage ≡ x.seen.stage → y.seen.share ≡ with_weak x.seen.share weak' → RunsIn all' words' y → Sharing k all' words' y.own.number y.own.registers y.own.finalisers y.own.ephemerons.items y.seen.stage y.seen.share
   sharing_here kind none is all' words' past' weak' y cycling same number stage share runs =
       let c1 : Cycling = with_past r.account.cycling past' in
@@ -624,7 +624,7 @@ module _ (k : Config) (s : Words) (r : Rule k s) (id : ℕ) (hist : List Entry) 
         deciding = deciding_none all'.live all'.cycling.kind all'.cycling.left all'.cycling.shares.arrived all'.cycling.paint.marks.marked y.own.number y.own.finalisers y.seen.share.kept y.seen.share.waiting no1;
       }
 
-  pub sharings_here : (kind : Kind) → HasNoCycle kind → x.seen.stage ≡ In kind → (all' : Account) (words' : List ℕ) (past' : Past) → all'.cycling ≡ with_past r.account.cycling past' → SameCycle s.words words'
+  pub sharings_here : (kind : Kind) → HasNoCycle kind → x.seen.stage ≡ In kind → (all' : Account) (words' : List ℕ) (past' : Snapshot) → all'.cycling ≡ with_past r.account.cycling past' → SameCycle s.words words'
       → (z : DomainView) → Good k r.account s.words z → RunsIn all' words' z → Sharing k all' words' z.own.number z.own.registers z.own.finalisers z.own.ephemerons.items z.seen.stage z.seen.share
   sharings_here kind none is all' words' past' cycling same z g runs =
       let no1 : HasNoCycle all'.cycling.kind = subst (λ (c : Cycling). HasNoCycle c.kind) (sym cycling) (no_cycle_here kind none is) in
@@ -649,7 +649,7 @@ module _ (k : Config) (s : Words) (r : Rule k s) (id : ℕ) (hist : List Entry) 
   run_open runs = (between_here Run tt runs).mode
 
   -- How an own entry goes on with a cycle beside running domains: what is known of it holds of the next state, with what is then overwritten, and with the one register that the domain may owe
-  pub record Advances (e : Entry) (weak : Option ℕ) (live' : Live) (past' : Past) : Type 0 where
+  pub record Advances (e : Entry) (weak : Option ℕ) (live' : Live) (past' : Snapshot) : Type 0 where
     pub same_old : past'.old ≡ r.account.cycling.past.old
     pub owed_others : (d q : ℕ) → d ≢ x.own.number → past'.owed d q ≡ r.account.cycling.past.owed d q
     pub owed_own : IsTrue r.account.cycling.armed → (q : ℕ) → past'.owed x.own.number q ≡ is_weak weak q
@@ -657,7 +657,7 @@ module _ (k : Config) (s : Words) (r : Rule k s) (id : ℕ) (hist : List Entry) 
     pub underway : KeepsUnderway k now (next now e) r.account.live live' r.account.cycling past'
 
   -- What a step owes at which an own entry stands, whatever it does to the words
-  pub record Appends (e : Entry) (y : DomainView) (words' : List ℕ) (live' : Live) (homes' : Homes) (past' : Past) : Type 0 where
+  pub record Appends (e : Entry) (y : DomainView) (words' : List ℕ) (live' : Live) (homes' : Homes) (past' : Snapshot) : Type 0 where
     pub alone : (d : ℕ) → d ≢ x.own.number → is_entry_of d e ≡ false
     pub of_trace : IsOfTrace e
     pub full : Fullness k (r.account.log ++ e ∷ []) live' r.account.tenancy.holder r.account.tenancy.fresh r.account.tenancy.garbage homes' r.account.cycling.kind
@@ -697,7 +697,7 @@ module _ (k : Config) (s : Words) (r : Rule k s) (id : ℕ) (hist : List Entry) 
     pub garbage : KeepsGarbage k live' r.account.tenancy r.account.tenancy s.words words'
     pub sweeps : SweepsIn r.account.tenancy r.account.cycling y
 
-  pub appends : (e : Entry) (y : DomainView) (words' : List ℕ) (live' : Live) (homes' : Homes) (past' : Past) → Appends e y words' live' homes' past' → Rule k record { words = words'; homes = s.homes; views = set s.views id (one k hist y) }
+  pub appends : (e : Entry) (y : DomainView) (words' : List ℕ) (live' : Live) (homes' : Homes) (past' : Snapshot) → Appends e y words' live' homes' past' → Rule k record { words = words'; homes = s.homes; views = set s.views id (one k hist y) }
   appends e y words' live' homes' past' o =
       let log' : List Entry = r.account.log ++ e ∷ [] in
       let after : state_of k log' ≡ next now e = after_entry e in
@@ -888,7 +888,7 @@ module _ (k : Config) (s : Words) (r : Rule k s) (id : ℕ) (hist : List Entry) 
       let own_making = o.makings x my_good.making in
       let in_kind = takes_kind x.seen.stage o.takes in
       let all' : Account = record r.account { tenancy = t' } in
-      let past : Past = r.account.cycling.past in
+      let past : Snapshot = r.account.cycling.past in
       let endures : Endures k r.account.live r.account.live r.account.tenancy.holder t'.holder r.account.cycling.paint.marks.marked r.account.cycling.paint.marks.marked s.words words' = record { more = λ a p e. record { place = p; lives = e; label = refl; shape = refl }; held = o.garbage.held; stays = λ l is. is; heads = λ a p e. inl (o.heads a p e) } in
       let sweeps_then : (z : DomainView) → SweepsIn r.account.tenancy r.account.cycling z → SweepsIn t' r.account.cycling z =
       (λ z. sweeps_on k r.account.live r.account.tenancy r.account.cycling s.words r.whole.cycle.leaves r.account.live t' words' o.garbage r.whole.pools (λ q d c e. (o.pools.owned_by q d c e).2) r.account.cycling.kind r.account.cycling.shares.arrived z.own.number z.own.ephemerons.items z.own.swept z.seen.share.reaping) in

@@ -2,7 +2,7 @@
 use Rattle.std.proofs.Common.{◌≡◌, ℕ, true, false, IsTrue, List, sym, refl, ◌∙◌, subst, inl, inr, ⊎_elim, ap, Option}
 use Rattle.heap_model.specs.declared.state.State as model
 use Rattle.heap_model.specs.Graph.{Graph}
-use Rattle.cycle_laws.specs.Beside.{Past}
+use Rattle.cycle_laws.specs.Beside.{Snapshot}
 use Rattle.cycle_laws.specs.Marks.{Marks}
 use Rattle.cycle_laws.specs.Shares.{Shares}
 use Rattle.heap_words.specs.declared.colours.Colours.{Colours}
@@ -69,15 +69,15 @@ pub kind_now : (k : Config) (p : Pause) (c : Cycling) (x : DomainView) (kind : K
 kind_now k p c x kind is staged told = let a = (subst (AtStage p x.own.number x.own.arrivals) is staged.stage).1 in sym (told.even a.0 a.1).0 ∙ a.2
 
 -- the collection with something else kept of a cycle that goes on beside running domains
-abbrev pub with_past : Cycling → Past → Cycling
+abbrev pub with_past : Cycling → Snapshot → Cycling
 with_past c past = record c { past = past }
 
 -- What a step outside a collection owes of a cycle that goes on beside running domains
-abbrev pub KeepsUnderway : Config → model.State → model.State → Live → Live → Cycling → Past → Type 0
+abbrev pub KeepsUnderway : Config → model.State → model.State → Live → Live → Cycling → Snapshot → Type 0
 KeepsUnderway k s s' live live' c past' = IsTrue c.armed → Underway k s live c.kind c.past c.paint.marks c.shares → Underway k s' live' c.kind past' c.paint.marks c.shares
 
 -- outside a collection garbage stays, and nothing else is known of one
-pub cycle_between : (k : Config) (s s' : model.State) (live live' : Live) (p : Pause) (t t' : Tenancy) (c : Cycling) (past' : Past) (words words' : List ℕ) → HasNoCycle c.kind → s'.mode ≡ s.mode → KeepsGarbage k live' t t' words words'
+pub cycle_between : (k : Config) (s s' : model.State) (live live' : Live) (p : Pause) (t t' : Tenancy) (c : Cycling) (past' : Snapshot) (words words' : List ℕ) → HasNoCycle c.kind → s'.mode ≡ s.mode → KeepsGarbage k live' t t' words words'
     → SameCycle words words' → KeepsUnderway k s s' live live' c past' → Cycled k s live p t c words → Cycled k s' live' p t' (with_past c past') words'
 cycle_between k s s' live live' p t t' c past' words words' none mode garbage same keeps y =
     let b = facts_between c.kind k s live t c words none y.facts in
@@ -191,7 +191,7 @@ pub leading_as : (c : Cycling) (words : List ℕ) (d d' : ℕ) (stage stage' : S
 leading_as c words d d' stage stage' share share' number stands same l = subst (λ (z : ℕ × Stage × Share). Leading c words z.0 z.1 z.2) (λ i. (sym number i, sym stands i, sym same i)) l
 
 -- and so it does of the collection, whatever is kept of a cycle that goes on beside running domains
-pub leading_past : (c : Cycling) (past' : Past) (words : List ℕ) (d : ℕ) (stage : Stage) (share : Share) → Leading c words d stage share → Leading (with_past c past') words d stage share
+pub leading_past : (c : Cycling) (past' : Snapshot) (words : List ℕ) (d : ℕ) (stage : Stage) (share : Share) → Leading c words d stage share → Leading (with_past c past') words d stage share
 leading_past c past' words d stage share l = record {
   changed = l.changed;
   found_blocks = l.found_blocks;

@@ -5,7 +5,7 @@ use Rattle.heap_model.specs.declared.graph.Value.TheVariants.{Block}
 use Rattle.heap_model.specs.declared.state.State as model
 use Rattle.heap_model.specs.Domains.{domain_at, pending_label, register}
 use Rattle.heap_model.specs.Graph.{Graph, has_label}
-use Rattle.cycle_laws.specs.Beside.{Past, IsBeside}
+use Rattle.cycle_laws.specs.Beside.{Snapshot, IsBeside}
 use Rattle.cycle_laws.specs.Cover.{field_at, is_new}
 use Rattle.cycle_laws.specs.Marks.{Marks}
 use Rattle.cycle_laws.specs.Shares.{Shares}
@@ -35,7 +35,7 @@ pub record HoldsPooled (k : Config) (live : Live) (s : model.State) (d : ℕ) : 
   pub queue : (l : Label) → IsTrue (has_label (filter_map pending_label (domain_at s d).queue) l) → IsPooled k live l
 
 -- What holds of a cycle that goes on beside running domains ("Retrofitting Parallelism onto OCaml", section 4.3): its marks cover what the domains hold; each block of a minor area counts as marked; each marked block that is older than the cycle lies in a pool; nobody owes a darkening once it has stopped; and who has arrived from Reset holds blocks of pools alone
-pub record Underway (k : Config) (s : model.State) (live : Live) (kind : Kind) (past : Past) (marks : Marks) (w : Shares) : Type 0 where
+pub record Underway (k : Config) (s : model.State) (live : Live) (kind : Kind) (past : Snapshot) (marks : Marks) (w : Shares) : Type 0 where
   pub covered : IsBeside past marks s
   pub young : (a : ℕ) (p : Place) → live a ≡ Some p → k.pools * 4096 < a → IsTrue (marks.marked p.label)
   pub pooled : (l : Label) → is_new past.old l ≡ false → IsTrue (marks.marked l) → IsPooled k live l
@@ -106,7 +106,7 @@ abbrev pub IsUnaware : Share → Type 0
 IsUnaware share = (share.known ≡ []) × (share.weak ≡ None)
 
 -- Only a domain that runs beside a cycle knows of blocks, and what it knows is so. It owes the darkening of what a weak read brought
-pub record RunsBeside (k : Config) (live : Live) (holder : ℕ → Holder) (armed : Bool) (past : Past) (marked : Label → Bool) (words : List ℕ) (d : ℕ) (stage : Stage) (share : Share) : Type 0 where
+pub record RunsBeside (k : Config) (live : Live) (holder : ℕ → Holder) (armed : Bool) (past : Snapshot) (marked : Label → Bool) (words : List ℕ) (d : ℕ) (stage : Stage) (share : Share) : Type 0 where
   pub knows : IsUnaware share ⊎ ((stage ≡ In Run) × IsTrue armed × AllKnown k live holder past.old marked words share.known)
   pub owes : IsTrue armed → (r : ℕ) → past.owed d r ≡ is_weak share.weak r
 

@@ -9,7 +9,7 @@ use Rattle.heap_model.specs.declared.state.State as model
 use Rattle.heap_model.specs.declared.state.Mode.TheVariants.{Open, Sealed, Answer as Answered}
 use Rattle.heap_model.specs.Graph.{Graph, node_at, has_label, has_no_repeats, words_at}
 use Rattle.heap_model.specs.Fronts.{Shape}
-use Rattle.cycle_laws.specs.Beside.{Past}
+use Rattle.cycle_laws.specs.Beside.{Snapshot}
 use Rattle.cycle_laws.specs.Counting.{added_up}
 use Rattle.cycle_laws.specs.Cycle as laws
 use Rattle.cycle_laws.specs.Marks.{Marks, fields_of}
@@ -61,7 +61,7 @@ pub record Cycling : Type 0 where
   pub whole : Bool
   -- whether the armed word is set, which outside a collection says that one goes on beside running domains, and what is kept of that one
   pub armed : Bool
-  pub past : Past
+  pub past : Snapshot
   -- whether the last collection ended before its garbage was freed, and no phase has been since in which all is freed
   pub unswept : Bool
 

@@ -13,7 +13,7 @@ use Rattle.heap_rule.specs.Views.{AllDomains}
 use Rattle.heap_rule.specs.Token.{Token, SharedHeap, IsIn}
 
 -- the numbers and the one history of a heap that has ended
-pub record Past : Type 0 where
+pub record EndedHeap : Type 0 where
   pub sizes : Sizes
   pub history : List Entry
 

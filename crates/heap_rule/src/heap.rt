@@ -108,10 +108,10 @@ pub struct Ended {
 
 impl Model for Ended {
     ghost use Rattle.heap_model.specs.History.{Legal};
-    ghost use Rattle.heap_rule.specs.Ending.{Past};
+    ghost use Rattle.heap_rule.specs.Ending.{EndedHeap};
     ghost use Rattle.heap_rule.specs.Limits.{sizes_in};
 
-    ghost Value = { Past };
+    ghost Value = { EndedHeap };
 
     ghost view = { λ e. record { sizes = sizes_in e.seat.me.0.config; history = e.seat.me.0.history } };
 

@@ -10,10 +10,10 @@ use Rattle.heap_rule.specs.declared.view.Known.TheVariants.{Pool, Shape as Shape
 use Rattle.heap_rule.specs.Pools.{blocks_of, owned, owner_word, size_of}
 use Rattle.heap_rule.specs.Standing.{IsInHeap}
 use Rattle.heap_rule.proofs.Classes.{size_least, slot_inside}
-use Rattle.steps_cycle.specs.Marking.{IsGrey, IsScanned, IsUnmarked}
-use Rattle.steps_beside.specs.Marking.{Begins, PlaceMay, PlaceTold, PoolTold, learning}
-use Rattle.barriers.proofs.Exchanges.{one_meaning}
-use Rattle.mark_slices.specs.Slices.{BeginsHere, BeginsNowhere, Looked, Slices}
+use Rattle.steps_marking.specs.Marking.{IsGrey, IsScanned, IsUnmarked}
+use Rattle.steps_marking_beside.specs.Marking.{Begins, PlaceMay, PlaceTold, PoolTold, learning}
+use Rattle.darkening_beside.proofs.Exchanges.{one_meaning}
+use Rattle.mark_slices.specs.Slices.{BeginsHere, BeginsNowhere, LookedAtHint, Slices}
 use Rattle.mark_slices.proofs.Visits.{not_passed}
 
 -- no block begins at an address that is at no place
@@ -83,8 +83,8 @@ place_may colours x y word at pool class slot s e h = subst (λ (v : DomainView)
 }
 
 -- a look in vain
-pub vain_looked : (colours : Colours) (x y : DomainView) (at : ℕ) → IsPermutation colours → y ≡ learning x (Vain at) → Looked colours at x 0 y
-vain_looked colours x y at p e = subst (Looked colours at x 0) (sym e) record {
+pub vain_looked : (colours : Colours) (x y : DomainView) (at : ℕ) → IsPermutation colours → y ≡ learning x (Vain at) → LookedAtHint colours at x 0 y
+vain_looked colours x y at p e = subst (LookedAtHint colours at x 0) (sym e) record {
   learnt = record { view = refl; grows = λ f k. inr k };
   colours_stay = refl;
   armed = refl;
@@ -95,13 +95,13 @@ vain_looked colours x y at p e = subst (Looked colours at x 0) (sym e) record {
 }
 
 -- a look at the head
-pub place_looked : (colours : Colours) (x y z : DomainView) (at pool class word : ℕ) → IsPermutation colours → Slices colours x → y ≡ learning x (Pool pool class) → PlaceTold at y word z → Looked colours at x word z
+pub place_looked : (colours : Colours) (x y z : DomainView) (at pool class word : ℕ) → IsPermutation colours → Slices colours x → y ≡ learning x (Pool pool class) → PlaceTold at y word z → LookedAtHint colours at x word z
 place_looked colours x y z at pool class word p s e told =
     let v = learning x (Pool pool class) in
     let t : PlaceTold at v word z = subst (λ (u : DomainView). PlaceTold at u word z) e told in
     let same : t.colours ≡ colours = one_meaning x.seen.share.colours colours t.colours s.known t.known in ⊎_elim
     (λ (q : ((word ≡ 0) ⊎ (IsUnmarked t.colours word ⊎ IsScanned t.colours word)) × (z ≡ learning v (Vain at))).
-    subst (Looked colours at x word) (sym q.1) record {
+    subst (LookedAtHint colours at x word) (sym q.1) record {
       learnt = record { view = refl; grows = λ f k. inr (inr k) };
       colours_stay = refl;
       armed = refl;
@@ -111,7 +111,7 @@ place_looked colours x y z at pool class word p s e told =
       told = inl ((λ g. not_passed colours word p g (subst (λ (c : Colours). (word ≡ 0) ⊎ (IsUnmarked c word ⊎ IsScanned c word)) same q.0)), refl);
     })
     (λ (q : IsGrey t.colours word × (z ≡ learning v (Shaped at word))).
-    subst (Looked colours at x word) (sym q.1) record {
+    subst (LookedAtHint colours at x word) (sym q.1) record {
       learnt = record { view = refl; grows = λ f k. inr (inr k) };
       colours_stay = refl;
       armed = refl;

@@ -4,10 +4,10 @@ use Rattle.heap_words.specs.declared.colours.Colours.{Colours}
 use Rattle.heap_words.specs.ColourWords.{IsPermutation}
 use Rattle.heap_rule.specs.declared.view.DomainView.{DomainView}
 use Rattle.heap_rule.specs.declared.view.FoundHead.{FoundHead}
-use Rattle.steps_cycle.specs.Looks.{with_share}
-use Rattle.steps_cycle.specs.Marking.{DarkenMay, Field, TargetTold, IsMarked, IsUnmarked, Reason, Register, OfDatum, OfQueue, Warrants, moved_on}
-use Rattle.barriers.specs.Heads.{IsDarkened}
-use Rattle.barriers.proofs.Exchanges.{not_both, one_meaning}
+use Rattle.steps_marking.specs.Looks.{with_share}
+use Rattle.steps_marking.specs.Marking.{DarkenMay, Field, TargetTold, IsMarked, IsUnmarked, Reason, Register, OfDatum, OfQueue, Warrants, moved_on}
+use Rattle.darkening_beside.specs.Heads.{IsDarkened}
+use Rattle.darkening_beside.proofs.Exchanges.{not_both, one_meaning}
 use Rattle.mark_slices.specs.Shares.{Darkens}
 
 -- there is still a reason when a head was found

@@ -12,8 +12,8 @@ use Rattle.heap_rule.specs.declared.view.DomainView.{DomainView}
 use Rattle.heap_rule.specs.declared.view.Scan.{Scan}
 use Rattle.heap_rule.specs.declared.view.Scan.TheVariants.{Holds, Reads}
 use Rattle.heap_rule.specs.Token.{IsAddress}
-use Rattle.steps_cycle.specs.Looks.{with_share}
-use Rattle.steps_cycle.specs.Marking.{Field, ScanMay, ScanTold, scanned_on}
+use Rattle.steps_marking.specs.Looks.{with_share}
+use Rattle.steps_marking.specs.Marking.{Field, ScanMay, ScanTold, scanned_on}
 use Rattle.mark_slices.specs.Shares.{Darkens, field_on, fields_to, scanning}
 
 -- the value that was read is the one that was told

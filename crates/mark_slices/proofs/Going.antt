@@ -11,12 +11,12 @@ use Rattle.heap_words.specs.declared.value.Value.TheVariants.{Int, Nothing, Ref}
 use Rattle.heap_rule.specs.declared.view.Known.{Known}
 use Rattle.heap_rule.specs.declared.view.Known.TheVariants.{Done, Marked, Refers, Scanned, Shape as Shaped}
 use Rattle.heap_rule.specs.Beside.{IsKnown, IsPaid}
-use Rattle.steps_cycle.specs.Marking.{IsGrey}
-use Rattle.steps_beside.specs.Marking.{FoundSince, IsNoScan, ReadTold, ScannedMay, StillFound, learning, read_as}
-use Rattle.barriers.specs.Aware.{Learnt, aware_as, darkened_in, scanned_in, tells_darkening, tells_scan, tells_vain, vain_in}
-use Rattle.barriers.specs.Heads.{IsScanOf}
-use Rattle.mark_slices.specs.Decks.{AllMissed, Counts, HasMissed, Rises, StaysDeck, last_count, missed_at}
-use Rattle.mark_slices.specs.Slices.{Looked, Slices, Tries, Went}
+use Rattle.steps_marking.specs.Marking.{IsGrey}
+use Rattle.steps_marking_beside.specs.Marking.{FoundSince, IsNoScan, ReadTold, ScannedMay, StillFound, learning, read_as}
+use Rattle.darkening_beside.specs.Aware.{Learnt, aware_as, darkened_in, scanned_in, tells_darkening, tells_scan, tells_vain, vain_in}
+use Rattle.darkening_beside.specs.Heads.{IsScanOf}
+use Rattle.mark_slices.specs.Decks.{AllMissed, DeckCounts, HasMissed, Rises, StaysDeck, last_count, missed_at}
+use Rattle.mark_slices.specs.Slices.{LookedAtHint, Slices, Tries, Went}
 
 pub learnt_on : (x y z : DomainView) → Learnt x y → Learnt y z → Learnt x z
 learnt_on x y z a b = record { view = b.view ∙ ap (λ (v : DomainView). aware_as v z) a.view; grows = λ f k. b.grows f (a.grows f k) }
@@ -41,17 +41,17 @@ rises_none a = record { grows = omega arith; most = omega arith; least = inl (om
 pub rises_some : (more a b : ℕ) → Rises more a b → Rises more a b
 rises_some more a b r = record { grows = r.grows; most = r.most; least = r.least }
 
-pub stays_on : (l m n : Counts) → StaysDeck l m → StaysDeck m n → StaysDeck l n
+pub stays_on : (l m n : DeckCounts) → StaysDeck l m → StaysDeck m n → StaysDeck l n
 stays_on l m n a b = record {
   number = b.number ∙ a.number;
   domains = b.domains ∙ a.domains;
   misses = λ d. let f = a.misses d in let g = b.misses d in omega (arith, f, g);
 }
 
-pub stays_some : (l m : Counts) → StaysDeck l m → StaysDeck l m
+pub stays_some : (l m : DeckCounts) → StaysDeck l m → StaysDeck l m
 stays_some l m a = record { number = a.number; domains = a.domains; misses = a.misses }
 
-pub went_on : (a b c e f g : ℕ) (x y z : DomainView) (l m n : Counts) → Went a b c x y l m → Went e f g y z m n → Went (a + e) (b + f) (c + g) x z l n
+pub went_on : (a b c e f g : ℕ) (x y z : DomainView) (l m n : DeckCounts) → Went a b c x y l m → Went e f g y z m n → Went (a + e) (b + f) (c + g) x z l n
 went_on a b c e f g x y z l m n p q =
     let s = p.scanned in let s' = q.scanned in let v = p.vain in let v' = q.vain in let k = p.darkened in let k' = q.darkened in record {
       learnt = learnt_on x y z p.learnt q.learnt;
@@ -68,7 +68,7 @@ went_on a b c e f g x y z l m n p q =
     }
 
 -- the same numbers, written otherwise
-went_as : (a b c d e f : ℕ) (x y : DomainView) (l m : Counts) → a ≡ b → c ≡ d → e ≡ f → Went a c e x y l m → Went b d f x y l m
+went_as : (a b c d e f : ℕ) (x y : DomainView) (l m : DeckCounts) → a ≡ b → c ≡ d → e ≡ f → Went a c e x y l m → Went b d f x y l m
 went_as a b c d e f x y l m p q r w =
     subst (λ (n : ℕ). Went b d n x y l m) r (subst (λ (n : ℕ). Went b n e x y l m) q (subst (λ (n : ℕ). Went n c e x y l m) p w))
 
@@ -85,7 +85,7 @@ paid_next x y b n l before here i below = dite (ℕ_discrete i n)
     (λ (d : i ≢ n). paid_on x y b i l (before i (omega (arith, below, d))))
 
 -- the domain still runs, and knows the colours and that a cycle goes on
-pub slices_on : (colours : Colours) (a b c : ℕ) (x y : DomainView) (l m : Counts) → Slices colours x → Went a b c x y l m → Slices colours y
+pub slices_on : (colours : Colours) (a b c : ℕ) (x y : DomainView) (l m : DeckCounts) → Slices colours x → Went a b c x y l m → Slices colours y
 slices_on colours a b c x y l m s w = record { runs = ap (λ (v : DomainView). v.seen.stage) w.learnt.view ∙ s.runs; armed = w.armed ∙ s.armed; known = w.colours ∙ s.known }
 
 -- what was found since the last scan is known
@@ -97,7 +97,7 @@ since_known (f ∷ fs) at head s = ⊎_elim
     s
 
 -- the head of a block whose fields are done may be stored
-pub store_may : (k : Config) (colours : Colours) (x y : DomainView) (at word fields new : ℕ) (l m : Counts) → Slices colours x → Went 0 0 0 x y l m → at ≤ k.pools * 4096 → StillFound x y → FoundSince x.seen.share.known at word → IsScanOf colours word fields new → ((i : ℕ) → i < fields → IsPaid y.seen.share.known at i) → ScannedMay k y at new
+pub store_may : (k : Config) (colours : Colours) (x y : DomainView) (at word fields new : ℕ) (l m : DeckCounts) → Slices colours x → Went 0 0 0 x y l m → at ≤ k.pools * 4096 → StillFound x y → FoundSince x.seen.share.known at word → IsScanOf colours word fields new → ((i : ℕ) → i < fields → IsPaid y.seen.share.known at i) → ScannedMay k y at new
 store_may k colours x y at word fields new l m s w low still shaped scan paid =
     let after = slices_on colours 0 0 0 x y l m s w in record {
       knows = record { beside = record { runs = after.runs; armed = after.armed }; colours = colours; known = after.known };
@@ -112,7 +112,7 @@ store_may k colours x y at word fields new l m s w low still shaped scan paid =
     }
 
 -- what a domain has done at a block, after a look at its address
-after_look : (colours : Colours) (at word scans vains : ℕ) (x y z : DomainView) (l m : Counts) → Looked colours at x word y → vain_in y.seen.share.known ≡ vain_in x.seen.share.known + vains → Went scans 0 0 y z l m → Went scans vains 0 x z l m
+after_look : (colours : Colours) (at word scans vains : ℕ) (x y z : DomainView) (l m : DeckCounts) → LookedAtHint colours at x word y → vain_in y.seen.share.known ≡ vain_in x.seen.share.known + vains → Went scans 0 0 y z l m → Went scans vains 0 x z l m
 after_look colours at word scans vains x y z l m k v w =
     let s = k.scanned in let s' = w.scanned in let v' = w.vain in let d = k.darkened in let d' = w.darkened in record {
       learnt = learnt_on x y z k.learnt w.learnt;
@@ -129,16 +129,16 @@ after_look colours at word scans vains x y z l m k v w =
     }
 
 -- and the head of a grey block is known
-pub head_known : (colours : Colours) (at word : ℕ) (x y : DomainView) → Looked colours at x word y → IsGrey colours word → FoundSince y.seen.share.known at word
+pub head_known : (colours : Colours) (at word : ℕ) (x y : DomainView) → LookedAtHint colours at x word y → IsGrey colours word → FoundSince y.seen.share.known at word
 head_known colours at word x y k is = ⊎_elim
     (λ (v : (IsGrey colours word → ⊥) × (vain_in y.seen.share.known ≡ vain_in x.seen.share.known + 1)). absurd (v.0 is))
     (λ (v : IsGrey colours word × FoundSince y.seen.share.known at word × (vain_in y.seen.share.known ≡ vain_in x.seen.share.known)). v.1)
     k.told
 
-pub still_slices : (colours : Colours) (at word : ℕ) (x y : DomainView) → Slices colours x → Looked colours at x word y → Slices colours y
+pub still_slices : (colours : Colours) (at word : ℕ) (x y : DomainView) → Slices colours x → LookedAtHint colours at x word y → Slices colours y
 still_slices colours at word x y s k = record { runs = ap (λ (v : DomainView). v.seen.stage) k.learnt.view ∙ s.runs; armed = k.armed ∙ s.armed; known = k.colours_stay ∙ s.known }
 
-pub looked_on : (colours : Colours) (at word : ℕ) (won : Bool) (x y z : DomainView) (l m : Counts) → Looked colours at x word y → MatchBool won (IsGrey colours word) (IsGrey colours word → ⊥) → Went (cond won 1 0) 0 0 y z l m → Went (cond won 1 0) (cond won 0 1) 0 x z l m
+pub looked_on : (colours : Colours) (at word : ℕ) (won : Bool) (x y z : DomainView) (l m : DeckCounts) → LookedAtHint colours at x word y → MatchBool won (IsGrey colours word) (IsGrey colours word → ⊥) → Went (cond won 1 0) 0 0 y z l m → Went (cond won 1 0) (cond won 0 1) 0 x z l m
 looked_on colours at word true x y z l m k is w = after_look colours at word 1 0 x y z l m k
     (⊎_elim
     (λ (v : (IsGrey colours word → ⊥) × (vain_in y.seen.share.known ≡ vain_in x.seen.share.known + 1)). absurd (v.0 is))
@@ -153,17 +153,17 @@ looked_on colours at word false x y z l m k is w = after_look colours at word 0 
     w
 
 -- a deck is the same where nothing but counts has grown
-pub stays_same : (l : Counts) → StaysDeck l l
+pub stays_same : (l : DeckCounts) → StaysDeck l l
 stays_same l = record { number = refl; domains = refl; misses = λ d. omega arith }
 
-pub missed_since : (l m n : Counts) (d : ℕ) → StaysDeck l m → HasMissed m n d → HasMissed l n d
+pub missed_since : (l m n : DeckCounts) (d : ℕ) → StaysDeck l m → HasMissed m n d → HasMissed l n d
 missed_since l m n d s h = let g = s.misses d in ⊎_elim
     (λ (e : missed_at m d < missed_at n d). inl (omega (arith, e, g)))
     (λ (e : last_count ≤ missed_at n d). inr e)
     h
 
 -- a hint is taken
-pub took_one : (gone : ℕ) (x y : DomainView) (l m n : Counts) → Went 0 gone gone x y l m → Tries 1 m n → Went 0 gone (gone + 1) x y l n
+pub took_one : (gone : ℕ) (x y : DomainView) (l m n : DeckCounts) → Went 0 gone gone x y l m → Tries 1 m n → Went 0 gone (gone + 1) x y l n
 took_one gone x y l m n w t = record {
   learnt = record { view = w.learnt.view; grows = w.learnt.grows };
   colours = w.colours;
@@ -179,7 +179,7 @@ took_one gone x y l m n w t = record {
 }
 
 -- or no domain has one
-pub took_none : (gone : ℕ) (x y : DomainView) (l m n : Counts) → Went 0 gone gone x y l m → Tries 0 m n × AllMissed m n → Went 0 gone gone x y l n × AllMissed l n
+pub took_none : (gone : ℕ) (x y : DomainView) (l m n : DeckCounts) → Went 0 gone gone x y l m → Tries 0 m n × AllMissed m n → Went 0 gone gone x y l n × AllMissed l n
 took_none gone x y l m n w t = (
   record {
     learnt = record { view = w.learnt.view; grows = w.learnt.grows };
@@ -198,16 +198,16 @@ took_none gone x y l m n w t = (
 )
 
 -- the next block is scanned, or the next hint let go
-pub next_on : (won : Bool) (gone : ℕ) (x y z : DomainView) (l m n : Counts) → Went 0 gone (gone + 1) x y l m → Went (cond won 1 0) (cond won 0 1) 0 y z m n → Went (cond won 1 0) (cond won gone (gone + 1)) (gone + 1) x z l n
+pub next_on : (won : Bool) (gone : ℕ) (x y z : DomainView) (l m n : DeckCounts) → Went 0 gone (gone + 1) x y l m → Went (cond won 1 0) (cond won 0 1) 0 y z m n → Went (cond won 1 0) (cond won gone (gone + 1)) (gone + 1) x z l n
 next_on true gone x y z l m n p q = went_as 1 1 (gone + 0) gone (gone + 1 + 0) (gone + 1) x z l n refl (omega arith) (omega arith) (went_on 0 gone (gone + 1) 1 0 0 x y z l m n p q)
 next_on false gone x y z l m n p q = went_as 0 0 (gone + 1) (gone + 1) (gone + 1 + 0) (gone + 1) x z l n refl refl (omega arith) (went_on 0 gone (gone + 1) 0 1 0 x y z l m n p q)
 
 -- and the one after that
-pub block_on : (count gone more : ℕ) (x y z : DomainView) (l m n : Counts) → Went count gone (count + gone) x y l m → Went 1 more (more + 1) y z m n → Went (count + 1) (gone + more) (count + 1 + (gone + more)) x z l n
+pub block_on : (count gone more : ℕ) (x y z : DomainView) (l m n : DeckCounts) → Went count gone (count + gone) x y l m → Went 1 more (more + 1) y z m n → Went (count + 1) (gone + more) (count + 1 + (gone + more)) x z l n
 block_on count gone more x y z l m n p q = went_as (count + 1) (count + 1) (gone + more) (gone + more) (count + gone + (more + 1)) (count + 1 + (gone + more)) x z l n refl refl (omega arith) (went_on count gone (count + gone) 1 more (more + 1) x y z l m n p q)
 
 -- a domain has come to know something of a block that it has neither darkened nor scanned, nor looked at in vain
-told_went : (x y : DomainView) (f : Known) (l : Counts) → tells_scan f ≡ false → tells_vain f ≡ false → tells_darkening f ≡ false → y ≡ learning x f → Went 0 0 0 x y l l
+told_went : (x y : DomainView) (f : Known) (l : DeckCounts) → tells_scan f ≡ false → tells_vain f ≡ false → tells_darkening f ≡ false → y ≡ learning x f → Went 0 0 0 x y l l
 told_went x y f l scan vain dark e = subst (λ (v : DomainView). Went 0 0 0 x v l l) (sym e) record {
   learnt = record { view = refl; grows = λ g k. inr k };
   colours = refl;
@@ -223,7 +223,7 @@ told_went x y f l scan vain dark e = subst (λ (v : DomainView). Went 0 0 0 x v 
 }
 
 -- it has read a field
-pub read_went : (k : Config) (b i found : ℕ) (x y : DomainView) (l : Counts) → ReadTold k b i x found y → Went 0 0 0 x y l l
+pub read_went : (k : Config) (b i found : ℕ) (x y : DomainView) (l : DeckCounts) → ReadTold k b i x found y → Went 0 0 0 x y l l
 read_went k b i found x y l t = of t.value t.view
   where
     referred : (pooled : Bool) (a : ℕ) → y ≡ learning x (if pooled then Refers b i a else Done b i) → Went 0 0 0 x y l l

@@ -2,7 +2,7 @@
 use Rattle.std.proofs.Common.{◌≡◌, ◌∙◌, ℕ, ◌+◌, ◌*◌, false, Some, ap, sym, subst, refl, ⊎_elim, arith}
 use Rattle.heap_rule.specs.declared.view.DomainView.{DomainView}
 use Rattle.heap_rule.specs.Pools.{owned, owner_word}
-use Rattle.steps_cycle.specs.Marking.{OwnTold}
+use Rattle.steps_marking.specs.Marking.{OwnTold}
 use Rattle.mark_slices.specs.Shares.{IsNotOf, IsOfClass, Walked}
 
 -- it names one class

@@ -11,7 +11,7 @@ use Rattle.heap_rule.specs.declared.view.Held.TheVariants.{Queue}
 use Rattle.heap_rule.specs.declared.view.Waiting.{Waiting}
 use Rattle.heap_rule.specs.declared.view.Waiting.TheVariants.{Fin}
 use Rattle.heap_rule.specs.Finalisers.{address_in, held_at}
-use Rattle.steps_cycle.specs.Marking.{IsDarkening, OfQueue, Reason}
+use Rattle.steps_marking.specs.Marking.{IsDarkening, OfQueue, Reason}
 use Rattle.mark_slices.specs.Shares.{Darkens, MarksRoots}
 
 rooting_kind : (stage : Stage) → MarksRoots stage → (kind : Kind) × (stage ≡ In kind) × IsDarkening kind

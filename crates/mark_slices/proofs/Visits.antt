@@ -13,12 +13,12 @@ use Rattle.heap_rule.specs.declared.view.DomainView.{DomainView}
 use Rattle.heap_rule.specs.declared.view.Scan.{Scan}
 use Rattle.heap_rule.specs.declared.view.Scan.TheVariants.{Idle, Reads}
 use Rattle.heap_rule.specs.Places.{head_of}
-use Rattle.steps_cycle.proofs.Colouring.{words_same}
-use Rattle.steps_cycle.specs.Looks.{with_share}
-use Rattle.steps_cycle.specs.Marking.{Anywhere, GreyTold, IsGrey, IsScanned, IsUnmarked, LiesAt, MarkTold, Next, ScannedMay, ScannedTold, Site, begun, behind, fields_in, places_seen_on, walk_on}
-use Rattle.barriers.specs.Heads.{IsScanOf}
+use Rattle.steps_marking.proofs.Colouring.{words_same}
+use Rattle.steps_marking.specs.Looks.{with_share}
+use Rattle.steps_marking.specs.Marking.{Anywhere, GreyTold, IsGrey, IsScanned, IsUnmarked, LiesAt, MarkTold, Next, ScannedMay, ScannedTold, Site, begun, behind, fields_in, places_seen_on, walk_on}
+use Rattle.darkening_beside.specs.Heads.{IsScanOf}
 use Rattle.mark_slices.specs.Shares.{Begun, Marks, Noted, ScannedAt, Walked, fields_to, scanning}
-use Rattle.barriers.proofs.Exchanges.{not_both, one_head, one_meaning}
+use Rattle.darkening_beside.proofs.Exchanges.{not_both, one_head, one_meaning}
 
 -- the fields of a grey block are as many, whatever its shape is said to be
 one_count : (colours : Colours) (word : ℕ) (a b : IsGrey colours word) → fields_in a.block.shape ≡ fields_in b.block.shape

@@ -2,7 +2,7 @@
 use Rattle.std.specs.Prelude.{◌≡◌, ◌≢◌, ℕ, ◌+◌, ◌<◌, ◌≤◌, ◌⊎◌, Bool, true, false, List, replicate, slice_index}
 
 -- its domain's number, how many domains there are, how often each was found without a hint, how many hints were taken, how many were noted or let go, and whether the domain has found no hint of its own since it last noted or took one
-pub record Counts : Type 0 where
+pub record DeckCounts : Type 0 where
   pub number : ℕ
   pub domains : ℕ
   pub misses : List ℕ
@@ -11,7 +11,7 @@ pub record Counts : Type 0 where
   pub is_dry : Bool
 
 -- a domain's deck that has counted nothing so far
-abbrev pub uncounted : ℕ → ℕ → Counts
+abbrev pub uncounted : ℕ → ℕ → DeckCounts
 uncounted number domains = record { number = number; domains = domains; misses = replicate 8 0; taken = 0; pushes = 0; is_dry = false }
 
 -- an address that lies in the pools of the largest heap
@@ -29,49 +29,49 @@ pub record Rises (more count after : ℕ) : Type 0 where
   pub least : (count + more ≤ after) ⊎ (last_count ≤ after)
 
 -- how often a domain was found without a hint
-abbrev pub missed_at : Counts → ℕ → ℕ
+abbrev pub missed_at : DeckCounts → ℕ → ℕ
 missed_at l d = slice_index l.misses d
 
 -- one hint of the domain's own was noted or let go
-pub record Pushed (l m : Counts) : Type 0 where
+pub record Pushed (l m : DeckCounts) : Type 0 where
   pub same : m ≡ record l { pushes = m.pushes; is_dry = false }
   pub pushes : Rises 1 l.pushes m.pushes
 
 -- one hint was taken, and then the domain was known to have none of its own, or not
-pub record Took (is_dry : Bool) (l m : Counts) : Type 0 where
+pub record Took (is_dry : Bool) (l m : DeckCounts) : Type 0 where
   pub same : m ≡ record l { taken = m.taken; is_dry = is_dry }
   pub taken : Rises 1 l.taken m.taken
 
 -- a domain was found without a hint, by one that had none of its own
-pub record Missed (from : ℕ) (l m : Counts) : Type 0 where
+pub record Missed (from : ℕ) (l m : DeckCounts) : Type 0 where
   pub same : m ≡ record l { misses = m.misses; is_dry = true }
   pub missed : Rises 1 (missed_at l from) (missed_at m from)
   pub others : (d : ℕ) → d ≢ from → missed_at m d ≡ missed_at l d
 
 -- it is the same domain's deck, and no count of misses has fallen
-pub record StaysDeck (l m : Counts) : Type 0 where
+pub record StaysDeck (l m : DeckCounts) : Type 0 where
   pub number : m.number ≡ l.number
   pub domains : m.domains ≡ l.domains
   pub misses : (d : ℕ) → missed_at l d ≤ missed_at m d
 
 -- nor has any other
-pub record NotesOn (l m : Counts) : Type 0 where
+pub record NotesOn (l m : DeckCounts) : Type 0 where
   pub deck : StaysDeck l m
   pub taken : l.taken ≤ m.taken
   pub pushes : l.pushes ≤ m.pushes
 
 -- a domain was found without a hint at least once, or its count stands still
-abbrev pub HasMissed : Counts → Counts → ℕ → Type 0
+abbrev pub HasMissed : DeckCounts → DeckCounts → ℕ → Type 0
 HasMissed l m d = (missed_at l d < missed_at m d) ⊎ (last_count ≤ missed_at m d)
 
 -- so was each domain
-abbrev pub AllMissed : Counts → Counts → Type 0
+abbrev pub AllMissed : DeckCounts → DeckCounts → Type 0
 AllMissed l m = (d : ℕ) → d < l.domains → HasMissed l m d
 
 -- of so many blocks that were darkened, counted from a number on, each was noted, unless the count of what is noted stands still
-abbrev pub HasNoted : ℕ → ℕ → Counts → Counts → Type 0
+abbrev pub HasNoted : ℕ → ℕ → DeckCounts → DeckCounts → Type 0
 HasNoted before after l m = (l.pushes + after ≤ m.pushes + before) ⊎ (last_count ≤ m.pushes)
 
 -- at least so many hints were taken, unless their count stands still
-abbrev pub HasTaken : ℕ → Counts → Counts → Type 0
+abbrev pub HasTaken : ℕ → DeckCounts → DeckCounts → Type 0
 HasTaken takes l m = (l.taken + takes ≤ m.taken) ⊎ (last_count ≤ m.taken)

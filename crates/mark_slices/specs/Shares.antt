@@ -19,9 +19,9 @@ use Rattle.heap_rule.specs.Changes.{value_at}
 use Rattle.heap_rule.specs.Cycles.{seen_by}
 use Rattle.heap_rule.specs.Finalisers.{held_at}
 use Rattle.heap_rule.specs.Pools.{blocks_of, owned, owner_word}
-use Rattle.steps_cycle.specs.Looks.{with_share}
-use Rattle.steps_cycle.specs.Marking.{IsDarkening, Reason, Site, Warrants, moved_on, owes_on, places_seen_on, walk_on}
-use Rattle.barriers.specs.Heads.{IsScanOf}
+use Rattle.steps_marking.specs.Looks.{with_share}
+use Rattle.steps_marking.specs.Marking.{IsDarkening, Reason, Site, Warrants, moved_on, owes_on, places_seen_on, walk_on}
+use Rattle.darkening_beside.specs.Heads.{IsScanOf}
 
 -- the domain is in a phase in which blocks are darkened, knows the colours, and has a reason to mark the block
 pub record Darkens (colours : Colours) (at : ℕ) (reason : Reason) (x : DomainView) : Type 0 where

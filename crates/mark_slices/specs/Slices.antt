@@ -9,10 +9,10 @@ use Rattle.heap_rule.specs.declared.phase.Stage.TheVariants.{In}
 use Rattle.heap_rule.specs.declared.view.DomainView.{DomainView}
 use Rattle.heap_rule.specs.Places.{IsHeadOf}
 use Rattle.heap_rule.specs.Pools.{blocks_of, owned, owner_word, place_in}
-use Rattle.steps_cycle.specs.Marking.{IsGrey, fields_in}
-use Rattle.steps_beside.specs.Marking.{Begins, FoundSince, Reason}
-use Rattle.barriers.specs.Aware.{Learnt, darkened_in, scanned_in, vain_in}
-use Rattle.mark_slices.specs.Decks.{Counts, Rises, StaysDeck}
+use Rattle.steps_marking.specs.Marking.{IsGrey, fields_in}
+use Rattle.steps_marking_beside.specs.Marking.{Begins, FoundSince, Reason}
+use Rattle.darkening_beside.specs.Aware.{Learnt, darkened_in, scanned_in, vain_in}
+use Rattle.mark_slices.specs.Decks.{DeckCounts, Rises, StaysDeck}
 
 -- a running domain, which knows the colours and that a cycle goes on
 pub record Slices (colours : Colours) (x : DomainView) : Type 0 where
@@ -37,7 +37,7 @@ pub record BeginsHere (word at pool class slot : ℕ) : Type 0 where
   pub begins : at ≡ place_in pool class slot
 
 -- the domain has looked at an address: in vain, or it knows the head of the grey block that begins there
-pub record Looked (colours : Colours) (at : ℕ) (x : DomainView) (word : ℕ) (y : DomainView) : Type 0 where
+pub record LookedAtHint (colours : Colours) (at : ℕ) (x : DomainView) (word : ℕ) (y : DomainView) : Type 0 where
   pub learnt : Learnt x y
   pub colours_stay : y.seen.share.colours ≡ x.seen.share.colours
   pub armed : y.seen.share.armed ≡ x.seen.share.armed
@@ -59,18 +59,18 @@ pub record Scanning : Type 0 where
   pub reason : Reason
 
 -- the deck is the domain's, among those of all domains
-pub record IsDeckOf (k : Config) (x : DomainView) (l : Counts) : Type 0 where
+pub record IsDeckOf (k : Config) (x : DomainView) (l : DeckCounts) : Type 0 where
   pub number : l.number ≡ x.own.number
   pub domains : l.domains ≡ k.domains
 
 -- so many hints were taken, and none was noted
-pub record Tries (takes : ℕ) (l m : Counts) : Type 0 where
+pub record Tries (takes : ℕ) (l m : DeckCounts) : Type 0 where
   pub deck : StaysDeck l m
   pub taken : Rises takes l.taken m.taken
   pub pushes : m.pushes ≡ l.pushes
 
 -- the domain has scanned so many blocks, and has looked at so many hints in vain; it has taken so many; and it has noted each block that it has darkened
-pub record Went (scans vains takes : ℕ) (x y : DomainView) (l m : Counts) : Type 0 where
+pub record Went (scans vains takes : ℕ) (x y : DomainView) (l m : DeckCounts) : Type 0 where
   pub learnt : Learnt x y
   pub colours : y.seen.share.colours ≡ x.seen.share.colours
   pub armed : y.seen.share.armed ≡ x.seen.share.armed

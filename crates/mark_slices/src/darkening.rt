@@ -4,13 +4,13 @@ ghost use Rattle.heap_words.specs.ColourWords.{IsPermutation};
 ghost use Rattle.heap_rule.specs.Standing.{IsInHeap};
 ghost use Rattle.heap_rule.specs.Places.{IsOldAt};
 ghost use Rattle.heap_rule.specs.Token.{IsIn};
-ghost use Rattle.steps_cycle.specs.Marking.{Reason};
+ghost use Rattle.steps_marking.specs.Marking.{Reason};
 ghost use Rattle.mark_slices.specs.Shares.{Darkens, darkened};
 
-use barriers::darkened_head;
+use darkening_beside::darkened_head;
 use heap_rule::{Domain, Heap};
 use heap_words::Colours;
-use steps_cycle::{darken_exchange, target_load};
+use steps_marking::{darken_exchange, target_load};
 
 /// Marks the block at `at`, for which there is a reason: a register refers to it, or the next field of
 /// the block that is scanned, or the datum of a marked ephemeron whose full keys are all marked, or a

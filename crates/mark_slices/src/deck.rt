@@ -1,6 +1,6 @@
 //! What a slice of the marking takes its hints from.
 ghost use Rattle.std.specs.Prelude.{◌≡◌, ◌≢◌, ◌<◌, true, false, IfNone, IfSome};
-ghost use Rattle.mark_slices.specs.Decks.{Counts, IsPooled, Missed, Pushed, Took};
+ghost use Rattle.mark_slices.specs.Decks.{DeckCounts, IsPooled, Missed, Pushed, Took};
 
 /// Addresses at which a domain may find grey blocks: those that it has noted itself, and those of the
 /// other domains, from which it may take one. An address is a hint and proves nothing: whether a block
@@ -10,7 +10,7 @@ ghost use Rattle.mark_slices.specs.Decks.{Counts, IsPooled, Missed, Pushed, Took
 /// many were noted or let go. No count falls, and one that has come to the last number stands still.
 pub trait Deck {
     /// The number of its domain, how many domains there are, and the counts.
-    ghost counts: { Self → Counts };
+    ghost counts: { Self → DeckCounts };
 
     /// Notes the address of a block of the pools, or lets it go.
     fn push(&mut self, address: u32)

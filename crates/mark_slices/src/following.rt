@@ -7,10 +7,10 @@ ghost use Rattle.mark_slices.specs.Shares.{Marks, Noted, Walked};
 
 use crate::scanning::scan_block;
 use crate::trail::Trail;
-use barriers::scan_of;
+use darkening_beside::scan_of;
 use heap_rule::{Domain, Heap};
 use heap_words::Colours;
-use steps_cycle::grey_load;
+use steps_marking::grey_load;
 
 // Scans a block of a pool that is known to be marked, if it is grey. Answers whether the domain has
 // marked a block.

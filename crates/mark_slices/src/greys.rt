@@ -5,16 +5,16 @@ ghost use Rattle.heap_rule.specs.declared.view.Known.TheVariants.{Shape};
 ghost use Rattle.heap_rule.specs.Beside.{IsKnown, IsPaid};
 ghost use Rattle.heap_rule.specs.Layout.{heap_words};
 ghost use Rattle.heap_rule.specs.Token.{IsIn};
-ghost use Rattle.steps_cycle.specs.Marking.{IsGrey};
-ghost use Rattle.steps_beside.specs.Marking.{Field, FoundSince, StillFound};
+ghost use Rattle.steps_marking.specs.Marking.{IsGrey};
+ghost use Rattle.steps_marking_beside.specs.Marking.{Field, FoundSince, StillFound};
 ghost use Rattle.mark_slices.specs.Slices.{IsSized, Scanning, Slices, Went};
 
 use crate::deck::Deck;
-use barriers::{darken_beside, scan_of};
+use darkening_beside::{darken_beside, scan_of};
 use heap_rule::{Domain, Heap, Reading, read_as};
 use heap_words::{Colours, Value};
 use size_classes::POOL_WORDS;
-use steps_beside::{beside_read, beside_scanned_store};
+use steps_marking_beside::{beside_read, beside_scanned_store};
 
 // Darkens the block of the pools that a field of a grey block refers to, if it refers to one, and notes
 // it where this domain has darkened it.

@@ -41,9 +41,9 @@ pub struct Hints {
 impl Model for Hints {
     ghost use Rattle.std.specs.Prelude.{◌≡◌, ◌+◌, ◌<◌, ◌≤◌, vec_len};
     ghost use Rattle.crossbeam_deque.specs.Handles.{worker_flavor};
-    ghost use Rattle.mark_slices.specs.Decks.{Counts};
+    ghost use Rattle.mark_slices.specs.Decks.{DeckCounts};
 
-    ghost Value = { Counts };
+    ghost Value = { DeckCounts };
 
     ghost view = { λ r. record { number = r.number; domains = r.domains; misses = r.misses; taken = r.taken; pushes = r.pushes; is_dry = r.is_dry } };
 
@@ -126,7 +126,7 @@ impl Hints {
         self.domains
     }
 
-    // Counts that a hint was taken, or that a domain was found without one.
+    // DeckCounts that a hint was taken, or that a domain was found without one.
     fn count(&mut self, from: u32, took: bool)
         requires inside { from < self.old.domains }
         ensures took { took ≡ true → Took self.old.is_dry self.old self.new }

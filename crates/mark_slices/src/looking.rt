@@ -5,13 +5,13 @@ ghost use Rattle.heap_words.specs.declared.colours.Colours.{Colours};
 ghost use Rattle.heap_words.specs.ColourWords.{IsPermutation};
 ghost use Rattle.heap_rule.specs.Pools.{blocks_of, place_in};
 ghost use Rattle.heap_rule.specs.Token.{IsIn};
-ghost use Rattle.steps_cycle.specs.Marking.{IsGrey};
-ghost use Rattle.steps_beside.specs.Marking.{Begins};
-ghost use Rattle.mark_slices.specs.Slices.{BeginsHere, BeginsNowhere, IsOwner, Looked, Slices};
+ghost use Rattle.steps_marking.specs.Marking.{IsGrey};
+ghost use Rattle.steps_marking_beside.specs.Marking.{Begins};
+ghost use Rattle.mark_slices.specs.Slices.{BeginsHere, BeginsNowhere, IsOwner, LookedAtHint, Slices};
 
 use heap_rule::{Domain, Heap};
 use size_classes::POOL_WORDS;
-use steps_beside::{beside_owner_load, beside_place_load};
+use steps_marking_beside::{beside_owner_load, beside_place_load};
 use steps_pools::{class_blocks, class_size};
 
 // The index of the owner word of the first pool, less the number of pools.
@@ -68,7 +68,7 @@ pub(crate) fn look(heap: &Heap, dom: &mut Domain, at: u32) -> u64
     requires meanings { IsPermutation colours }
     requires low { 1 ≤ at }
     ensures here { IsIn dom.new heap.now }
-    ensures looked { Looked colours at dom.old.view result dom.new.view }
+    ensures looked { LookedAtHint colours at dom.old.view result dom.new.view }
     ensures inside { IsGrey colours result → at ≤ heap.now.config.pools * 4096 }
 {
     let pools = heap.config().pools;

@@ -4,16 +4,16 @@ ghost use Rattle.heap_model.specs.Domains.{class_count};
 ghost use Rattle.heap_words.specs.ColourWords.{IsPermutation};
 ghost use Rattle.heap_rule.specs.Pools.{blocks_of};
 ghost use Rattle.heap_rule.specs.Token.{IsIn};
-ghost use Rattle.steps_cycle.specs.Marking.{Next, Site, behind};
+ghost use Rattle.steps_marking.specs.Marking.{Next, Site, behind};
 ghost use Rattle.mark_slices.specs.Shares.{Marks, Noted, Walked};
 
 use crate::following::follow_all;
 use crate::scanning::scan_block;
 use crate::trail::Trail;
-use barriers::scan_of;
+use darkening_beside::scan_of;
 use heap_rule::{Domain, Heap};
 use heap_words::Colours;
-use steps_cycle::mark_load;
+use steps_marking::mark_load;
 use steps_pools::{class_blocks, place_address};
 
 // Looks at the next place of the walk, in an own pool, and scans the block there if it is grey. Answers

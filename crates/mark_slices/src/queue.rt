@@ -3,14 +3,14 @@ ghost use Rattle.std.specs.Prelude.{◌≡◌, ◌+◌, ◌<◌, ◌≤◌, Some
 ghost use Rattle.heap_words.specs.ColourWords.{IsPermutation};
 ghost use Rattle.heap_rule.specs.Places.{IsOldAt};
 ghost use Rattle.heap_rule.specs.Token.{IsIn};
-ghost use Rattle.steps_cycle.specs.Looks.{HeldInside};
-ghost use Rattle.steps_cycle.specs.Marking.{OfQueue, Reason};
+ghost use Rattle.steps_marking.specs.Looks.{HeldInside};
+ghost use Rattle.steps_marking.specs.Marking.{OfQueue, Reason};
 ghost use Rattle.mark_slices.specs.Shares.{AllQueueRooted, MarksRoots, QueueRooted};
 
 use crate::darkening::darken;
 use heap_rule::{Domain, Heap, Waiting};
 use heap_words::Colours;
-use steps_cycle::colours_now;
+use steps_marking::colours_now;
 
 // Marks the block that a place of the queue keeps alive, if it keeps one. Answers its address where this
 // domain has marked it.

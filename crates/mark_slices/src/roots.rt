@@ -4,8 +4,8 @@ ghost use Rattle.heap_words.specs.ColourWords.{IsPermutation};
 ghost use Rattle.heap_rule.specs.declared.phase.Kind.TheVariants.{Roots};
 ghost use Rattle.heap_rule.specs.declared.phase.Stage.TheVariants.{In};
 ghost use Rattle.heap_rule.specs.Token.{IsIn};
-ghost use Rattle.steps_cycle.specs.Marking.{Reason, Register};
-ghost use Rattle.steps_cycle.specs.Looks.{HeldInside};
+ghost use Rattle.steps_marking.specs.Marking.{Reason, Register};
+ghost use Rattle.steps_marking.specs.Looks.{HeldInside};
 ghost use Rattle.mark_slices.specs.Decks.{HasNoted, NotesOn};
 ghost use Rattle.mark_slices.specs.Shares.{Rooted, AllRooted, AllQueueRooted};
 
@@ -15,7 +15,7 @@ use crate::hints::Hints;
 use crate::queue::mark_queued;
 use heap_rule::{Domain, Heap};
 use heap_words::{Colours, Value};
-use steps_cycle::colours_now;
+use steps_marking::colours_now;
 
 // Marks the block that a register refers to, if it refers to one, and notes it where this domain has
 // marked it.

@@ -16,7 +16,7 @@ use crate::trail::Trail;
 use heap_rule::{Domain, Heap};
 use heap_words::Colours;
 use size_classes::CLASS_COUNT;
-use steps_cycle::{changed_store, colours_now, own_load};
+use steps_marking::{changed_store, colours_now, own_load};
 use steps_pools::owner_word;
 
 // The index of the owner word of the first pool, less the number of pools.

@@ -7,16 +7,16 @@ ghost use Rattle.heap_rule.specs.declared.view.Scan.TheVariants.{Reads};
 ghost use Rattle.heap_rule.specs.Layout.{heap_words};
 ghost use Rattle.heap_rule.specs.Standing.{IsInHeap};
 ghost use Rattle.heap_rule.specs.Token.{IsIn};
-ghost use Rattle.steps_cycle.specs.Looks.{with_share};
-ghost use Rattle.steps_cycle.specs.Marking.{LiesAt, ScanMay, Site};
+ghost use Rattle.steps_marking.specs.Looks.{with_share};
+ghost use Rattle.steps_marking.specs.Marking.{LiesAt, ScanMay, Site};
 ghost use Rattle.mark_slices.specs.Shares.{Begun, Noted, ScannedAt, field_on, fields_to, scanning};
 
 use crate::darkening::darken;
 use crate::trail::Trail;
-use barriers::ToScan;
+use darkening_beside::ToScan;
 use heap_rule::{Domain, Heap, Reading, read_as};
 use heap_words::{Colours, Value};
-use steps_cycle::{scan_load, scanned_store};
+use steps_marking::{scan_load, scanned_store};
 
 // Marks the block that the next field refers to, which is at `at`, if it refers to one. Answers whether
 // this domain has marked it.

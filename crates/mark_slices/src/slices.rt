@@ -5,7 +5,7 @@ ghost use Rattle.heap_words.specs.ColourWords.{IsPermutation};
 ghost use Rattle.heap_rule.specs.declared.phase.Kind.TheVariants.{Run};
 ghost use Rattle.heap_rule.specs.declared.phase.Stage.TheVariants.{In};
 ghost use Rattle.heap_rule.specs.Token.{IsIn};
-ghost use Rattle.barriers.specs.Aware.{Learnt, darkened_in, scanned_in, vain_in};
+ghost use Rattle.darkening_beside.specs.Aware.{Learnt, darkened_in, scanned_in, vain_in};
 ghost use Rattle.mark_slices.specs.declared.slices.Why.TheVariants.{Enough, NoneFound, Stale};
 ghost use Rattle.mark_slices.specs.Decks.{AllMissed, HasMissed, HasNoted, HasTaken, IsPooled, NotesOn};
 ghost use Rattle.mark_slices.specs.Slices.{IsDeckOf, Slices, Tries, Went};
@@ -16,7 +16,7 @@ use crate::greys::scan_word;
 use crate::looking::look;
 use heap_rule::{Domain, Heap};
 use heap_words::Colours;
-use steps_cycle::colours_now;
+use steps_marking::colours_now;
 
 /// Why a slice has ended.
 #[derive(Clone, Copy, Debug, PartialEq, Eq)]

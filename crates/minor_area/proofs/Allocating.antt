@@ -12,7 +12,7 @@ use Rattle.heap_model.specs.Fronts.{Answers, Shape, PlainShape, RawShape}
 use Rattle.heap_rule.specs.declared.change.Change.{Change}
 use Rattle.heap_rule.specs.declared.view.DomainView.{DomainView}
 use Rattle.heap_rule.specs.declared.view.Own.{Own}
-use Rattle.steps_making.specs.Inits.{IsOpen, InitMay, AllocMay, AllocEntry, AllocTold, fields_of}
+use Rattle.steps_young.specs.Inits.{IsOpen, InitMay, AllocMay, AllocEntry, AllocTold, fields_of}
 use Rattle.heap_rule.specs.declared.config.Config.{Config}
 use Rattle.heap_rule.specs.Limits.{sizes_in}
 use Rattle.heap_rule.specs.Standing.{Acts, IsInHeap}
@@ -28,9 +28,9 @@ use Rattle.heap_words.specs.Heads.{head_word}
 use Rattle.heap_words.specs.declared.value.Value.TheVariants.{Ref}
 use Rattle.heap_words.specs.Labels.{label_word}
 use Rattle.heap_rule.proofs.Sizes.{area_inside}
-use Rattle.steps_making.proofs.MakeSteps.{class_fits}
+use Rattle.steps_young.proofs.MakeSteps.{class_fits}
 use Rattle.heap_rule.proofs.Calls.{answered_did}
-use Rattle.steps_making.proofs.Plain.{alloc_rest}
+use Rattle.steps_young.proofs.Plain.{alloc_rest}
 use Rattle.minor_area.specs.Area.{IsBlockTag, young_command, IsNewColour, Grows}
 
 -- the address of the head lies in the heap

@@ -5,15 +5,15 @@ ghost use Rattle.heap_model.specs.declared.reply.Reply.TheVariants.{Block};
 ghost use Rattle.heap_words.specs.declared.colours.Colours.{Colours};
 ghost use Rattle.heap_words.specs.declared.value.Value.TheVariants.{Ref};
 ghost use Rattle.heap_rule.specs.Places.{class_words};
-ghost use Rattle.steps_making.specs.Inits.{IsOpen};
+ghost use Rattle.steps_young.specs.Inits.{IsOpen};
 ghost use Rattle.heap_rule.specs.declared.phase.Kind.TheVariants.{Run};
 ghost use Rattle.heap_rule.specs.declared.phase.Stage.TheVariants.{In};
 ghost use Rattle.heap_rule.specs.declared.view.Hunt.TheVariants.{Rests};
 ghost use Rattle.heap_rule.specs.Token.{next_address};
 ghost use Rattle.heap_rule.specs.Running.{Runs, Did, own_entry};
 ghost use Rattle.heap_rule.specs.Token.{Holds, IsIn};
-ghost use Rattle.steps_cycle.specs.Arming.{knowing_armed};
-ghost use Rattle.steps_cycle.specs.Looks.{knowing_colours};
+ghost use Rattle.steps_marking.specs.Arming.{knowing_armed};
+ghost use Rattle.steps_marking.specs.Looks.{knowing_colours};
 ghost use Rattle.minor_area.specs.Area.{IsBlockTag, young_command, IsNewColour, Grows, HasRoom, IsOpened, FoundFree, Needs};
 
 use crate::Need;
@@ -21,9 +21,9 @@ use heap_model::label::Label;
 use heap_rule::{Change, Domain, Heap, Item, Part};
 use heap_words::{Head, Value, pack_head, pack_label, pack_value};
 use size_classes::reserve;
-use steps_cycle::{armed_now, colours_now};
-use steps_making::{init_store, word_store, words_of_class};
+use steps_marking::{armed_now, colours_now};
 use steps_pools::{draw_limit, free_load, listed_load};
+use steps_young::{init_store, word_store, words_of_class};
 
 // The colour of a new block of a minor area. While a cycle goes on beside running domains it is
 // marked, as all blocks of minor areas then are, and otherwise unmarked.

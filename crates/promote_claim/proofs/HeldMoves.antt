@@ -14,7 +14,7 @@ use Rattle.heap_rule.specs.declared.view.Waiting.TheVariants.{Fin as FinWaiting,
 use Rattle.heap_rule.specs.Copies.{HasCopy}
 use Rattle.heap_rule.specs.Finalisers.{address_in, held_at}
 use Rattle.heap_rule.specs.Places.{IsOldAt}
-use Rattle.steps_cycle.specs.Looks.{knowing_colours}
+use Rattle.steps_marking.specs.Looks.{knowing_colours}
 use Rattle.steps_promote.specs.Promotion.{Knows, changed_at, waiting_at, with_held, with_finalisers, HeadMay, HeldMoveMay, HeldMoveTold}
 use Rattle.steps_promote.proofs.HeldPlaces.{mapped_from, chained_from, held_here, held_else}
 use Rattle.promote_claim.specs.Held.{bare_final, bare_last, bare_waiting, with_held_moves, without_addresses, HeldBecomes, HeldMoved, AllHeldMoved, IsPlaceOf, IsBeforeIn}

@@ -21,8 +21,8 @@ use Rattle.heap_rule.proofs.Values.{address_of}
 use Rattle.steps_promote.specs.Promotion.{form_of, met_of, with_met, with_copied, AllFit, Knows, StaysThere, Forwards, HeadMet, HeadMay}
 use Rattle.promote_claim.specs.Heads.{IsForward, forward_word, IsHeadFor}
 use Rattle.promote_claim.specs.Working.{SameBlock, IsPair, Works, owed_from, with_claims, Learns, Grown, IsMetWith, Claimed}
-use Rattle.steps_cycle.specs.Looks.{with_share, knowing_colours}
-use Rattle.steps_cycle.specs.Arming.{knowing_armed}
+use Rattle.steps_marking.specs.Looks.{with_share, knowing_colours}
+use Rattle.steps_marking.specs.Arming.{knowing_armed}
 use Rattle.heap_words.specs.declared.colours.Colours.{Colours}
 use Rattle.heap_rule.proofs.HeadLemmas.{packable_head}
 

@@ -16,7 +16,7 @@ use heap_rule::{Domain, Heap};
 use heap_words::{Head, Value, pack_head};
 use size_classes::POOL_WORDS;
 use size_pools::take_for_copy;
-use steps_cycle::{armed_now, colours_now};
+use steps_marking::{armed_now, colours_now};
 use steps_promote::{
     claim_exchange, prepare_head, prepare_label, prepare_store, young_head_load, young_label_load,
 };

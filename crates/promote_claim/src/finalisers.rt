@@ -9,7 +9,7 @@ ghost use Rattle.promote_claim.specs.Working.{Works, Tied};
 use crate::claiming::claim_met;
 use heap_rule::{Domain, Heap, Held, Waiting};
 use size_classes::POOL_WORDS;
-use steps_cycle::colours_now;
+use steps_marking::colours_now;
 use steps_promote::held_move;
 
 // A place of the lists that has the address of a young block gets that of its copy.

@@ -6,9 +6,9 @@ use Rattle.heap_rule.specs.declared.view.DomainView.{DomainView}
 use Rattle.heap_rule.specs.declared.view.Share.{Share}
 use Rattle.heap_rule.specs.Phases.{IsEven, IsOdd}
 use Rattle.heap_rule.specs.Token.{SharedHeap}
-use Rattle.barriers.specs.Aware.{scanned_in, vain_in}
-use Rattle.cycle_phases.specs.Sharing.{HintsIn}
-use Rattle.mark_slices.specs.Decks.{Counts}
+use Rattle.darkening_beside.specs.Aware.{scanned_in, vain_in}
+use Rattle.pause_phases.specs.Sharing.{HintsIn}
+use Rattle.mark_slices.specs.Decks.{DeckCounts}
 use Rattle.domain_turns.specs.Runs.{GoesBy, IsAnswered, MarksBeside, Polls, Resumes, RunView, SeesAnswer, SweepsBeside, Waits, asking_end}
 
 -- a domain that waits lets no hint go, and takes and notes none
@@ -26,7 +26,7 @@ pub an_answer_lets_no_hint_go : (h : SharedHeap) (old new : RunView) → IsAnswe
 an_answer_lets_no_hint_go h old new a = ap (λ (r : RunView). r.hints) a.run
 
 -- nor one that goes through a phase of any kind but Roots and Mark
-unmarked : (kind : Kind) (l m : Counts) → kind ≢ Roots → kind ≢ Mark → HintsIn kind l m → m ≡ l
+unmarked : (kind : Kind) (l m : DeckCounts) → kind ≢ Roots → kind ≢ Mark → HintsIn kind l m → m ≡ l
 unmarked Roots l m roots mark hints = absurd (roots refl)
 unmarked Mark l m roots mark hints = absurd (mark refl)
 unmarked Run l m roots mark hints = hints
@@ -75,4 +75,4 @@ each_hint_taken_is_looked_at h old new p still =
     let all : b + c ≤ a + d = m.looked in omega (arith, same, all))
     (λ (s : ((count : ℕ) × SweepsBeside h old p.worked count) × (p.spent ≡ false)). let same : b ≡ a = ap (λ (r : RunView). r.hints.taken) s.0.1.run in omega (arith, same))
     p.works in
-    subst (λ (l : Counts). l.taken ≤ a) (sym hints) few
+    subst (λ (l : DeckCounts). l.taken ≤ a) (sym hints) few

@@ -7,11 +7,11 @@ use Rattle.heap_rule.specs.declared.view.Held.TheVariants.{Queue}
 use Rattle.heap_rule.specs.Changes.{value_at}
 use Rattle.heap_rule.specs.Cycles.{seen_by}
 use Rattle.heap_rule.specs.Finalisers.{held_at}
-use Rattle.mark_slices.specs.Decks.{AllMissed, Counts, HasTaken, HasNoted, last_count, missed_at}
+use Rattle.mark_slices.specs.Decks.{AllMissed, DeckCounts, HasTaken, HasNoted, last_count, missed_at}
 use Rattle.mark_slices.specs.Shares.{AllQueueRooted, AllRooted, AllWalked, IsQueueRoot, IsRoot}
 use Rattle.ephemeron_rounds.specs.Emptied.{AllCleaned}
 use Rattle.ephemeron_rounds.specs.Looking.{AllLooked}
-use Rattle.sweeper.specs.Counting.{Counted}
+use Rattle.sweeper.specs.Counting.{CountedLive}
 use Rattle.sweeper.specs.Sweeping.{Swept, SweptAll}
 
 -- no register that holds a block is left out where the roots are marked
@@ -30,14 +30,14 @@ pub a_round_pays_the_changed_word : (k : Config) (x y : DomainView) → AllWalke
 a_round_pays_the_changed_word k x y w owes = let e : true ≡ false = sym owes ∙ w.told in cc
 
 -- of the blocks that were darkened none is kept from the hints, while their count goes on
-pub each_darkened_block_is_noted : (before after : ℕ) (l m : Counts) → before < after → m.pushes < last_count → m.pushes ≤ l.pushes → HasNoted before after l m → ⊥
+pub each_darkened_block_is_noted : (before after : ℕ) (l m : DeckCounts) → before < after → m.pushes < last_count → m.pushes ≤ l.pushes → HasNoted before after l m → ⊥
 each_darkened_block_is_noted before after l m darkened goes_on none n =
     let a : ℕ = l.pushes in
     let b : ℕ = m.pushes in
     ⊎_elim (λ (e : a + after ≤ b + before). omega (arith, e, darkened, none)) (λ (e : last_count ≤ b). omega (arith, e, goes_on)) n
 
 -- a slice says that no domain has a hint only where it has found each of them so
-pub each_domain_is_asked_for_hints : (l m : Counts) (d : ℕ) → d < l.domains → missed_at m d ≡ missed_at l d → missed_at m d < last_count → AllMissed l m → ⊥
+pub each_domain_is_asked_for_hints : (l m : DeckCounts) (d : ℕ) → d < l.domains → missed_at m d ≡ missed_at l d → missed_at m d < last_count → AllMissed l m → ⊥
 each_domain_is_asked_for_hints l m d inside same goes_on all =
     let a : ℕ = missed_at l d in
     let b : ℕ = missed_at m d in
@@ -63,5 +63,5 @@ pub an_own_sweep_leaves_no_pool : (k : Config) (x y : DomainView) → SweptAll k
 an_own_sweep_leaves_no_pool k x y s left = let done = s.done in omega (arith, done, left)
 
 -- what lives in the last pool is counted too
-pub counting_ends_behind_the_last_pool : (k : Config) (x y : DomainView) → Counted k x y → y.seen.share.counted_to.pool < k.pools → ⊥
+pub counting_ends_behind_the_last_pool : (k : Config) (x y : DomainView) → CountedLive k x y → y.seen.share.counted_to.pool < k.pools → ⊥
 counting_ends_behind_the_last_pool k x y c left = let whole = c.whole in omega (arith, whole, left)

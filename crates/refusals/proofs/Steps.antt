@@ -14,14 +14,14 @@ use Rattle.heap_rule.specs.Changes.{value_at}
 use Rattle.heap_rule.specs.Places.{IsOldAt}
 use Rattle.heap_rule.specs.Pools.{blocks_of, spot_at}
 use Rattle.heap_rule.specs.Standing.{Acts}
-use Rattle.steps_run.specs.Stores.{FieldStoreMay}
+use Rattle.steps_fields.specs.Stores.{FieldStoreMay}
 use Rattle.steps_exchange.specs.Exchanges.{ExchangeMay}
-use Rattle.steps_beside.specs.Marking.{ScannedMay}
-use Rattle.steps_cycle.specs.Marking.{fields_in}
+use Rattle.steps_marking_beside.specs.Marking.{ScannedMay}
+use Rattle.steps_marking.specs.Marking.{fields_in}
 use Rattle.steps_sweep.specs.Freeing.{FreeMay}
 use Rattle.steps_sweep.specs.Returning.{ReturnMay}
-use Rattle.steps_rounds.specs.Emptying.{CleanEndMay}
-use Rattle.steps_clean.specs.Wiping.{WipeDataMay}
+use Rattle.steps_ephemeron_looks.specs.Emptying.{CleanEndMay}
+use Rattle.steps_ephemeron_wipes.specs.Wiping.{WipeDataMay}
 use Rattle.steps_finalisers.specs.Looking.{LastLookMay}
 use Rattle.steps_pools.specs.Takes.{CopyDrawMay}
 

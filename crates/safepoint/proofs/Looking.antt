@@ -9,7 +9,7 @@ use Rattle.heap_rule.specs.declared.phase.Stage.TheVariants.{In, Leads}
 use Rattle.heap_rule.specs.Phases.{IsEven, IsOdd, code}
 use Rattle.steps_pauses.specs.Pauses.{kind_in, LookTold, Begun, PlanTold}
 use Rattle.safepoint.specs.declared.answer.Look.TheVariants.{NotAll, Next, Lead}
-use Rattle.safepoint.specs.Looks.{Passed, LookAnswers}
+use Rattle.safepoint.specs.Looks.{PassedBarrier, LookAnswers}
 
 pub same_arrivals : (k : Config) (x y : DomainView) (b : ℕ) → LookTold k x b y → y.own.arrivals ≡ x.own.arrivals
 same_arrivals k x y b told = dite (dec_le (x.own.arrivals * k.domains) b) (λ past. ap (λ (z : DomainView). z.own.arrivals) (told.begun past).view) (λ not_past. ap (λ (z : DomainView). z.own.arrivals) (told.waits (lt_of_not-le not_past)))
@@ -20,7 +20,7 @@ waits k x y b told below = let e : b < x.own.arrivals * k.domains = subst (λ (n
 begun : (k : Config) (x y : DomainView) (b : ℕ) → LookTold k x b y → y.own.arrivals * k.domains ≤ b → Begun k x b y
 begun k x y b told not_below = told.begun (subst (λ (n : ℕ). n * k.domains ≤ b) (same_arrivals k x y b told) not_below)
 
-passed : (k : Config) (x y : DomainView) (b : ℕ) → LookTold k x b y → y.own.arrivals * k.domains ≤ b → Passed k x y
+passed : (k : Config) (x y : DomainView) (b : ℕ) → LookTold k x b y → y.own.arrivals * k.domains ≤ b → PassedBarrier k x y
 passed k x y b told not_below = let g = begun k x y b told not_below in record {
   found = b;
   all = subst (λ (n : ℕ). n * k.domains ≤ b) (same_arrivals k x y b told) not_below;

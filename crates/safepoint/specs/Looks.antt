@@ -33,7 +33,7 @@ abbrev pub is_wanted : wish.Want → ℕ → Bool
 is_wanted want bits = bits / bit_of want % 2 == 1
 
 -- all have arrived: the barrier word found isn't below the end of the domain's turn, and the front is the whole history so far
-pub record Passed (k : Config) (x y : DomainView) : Type 0 where
+pub record PassedBarrier (k : Config) (x y : DomainView) : Type 0 where
   pub found : ℕ
   pub all : x.own.arrivals * k.domains ≤ found
   pub seen : IsFrontOf x.own.number y.seen.front x.seen.front
@@ -44,8 +44,8 @@ pub record Passed (k : Config) (x y : DomainView) : Type 0 where
 -- NotAll exactly where the barrier word found is below the end of the domain's turn. Next tells the kind that domain 0 named, which follows the last, and the history tells how far a collection is then
 abbrev pub LookAnswers : Config → DomainView → DomainView → Look → Type 0
 LookAnswers k x y (NotAll b) = (b < x.own.arrivals * k.domains) × (y ≡ noted x (Barrier b))
-LookAnswers k x y (Next kind) = Passed k x y × (y.seen.stage ≡ In kind) × IsEven x.own.arrivals × Comes x.own.number (kind_in x.seen.stage) kind × IsModeOf kind (state_of k y.seen.front).mode
-LookAnswers k x y Lead = Passed k x y × (y.seen.stage ≡ Leads (kind_in x.seen.stage)) × IsOdd x.own.arrivals
+LookAnswers k x y (Next kind) = PassedBarrier k x y × (y.seen.stage ≡ In kind) × IsEven x.own.arrivals × Comes x.own.number (kind_in x.seen.stage) kind × IsModeOf kind (state_of k y.seen.front).mode
+LookAnswers k x y Lead = PassedBarrier k x y × (y.seen.stage ≡ Leads (kind_in x.seen.stage)) × IsOdd x.own.arrivals
 
 -- what domain 0 notes when it leads to a phase of this kind
 abbrev pub cleared : Kind → List Note

@@ -13,26 +13,26 @@ use Rattle.steps_pools.specs.Takes.{LeavesSpare, NoneFree}
 use Rattle.sweeper.specs.Pruning.{Shortens}
 use Rattle.sweeper.specs.Sweeping.{SweptAll, with_sweep}
 use Rattle.sweeper.specs.Walks.{IsWalk}
-use Rattle.size_pools.specs.Taken.{Counted, FoundOwn, HasPlace, Hunted, KnowsNone, Reserved, Searched, Sought, SweptFirst, Taken, Took, Unreserved}
+use Rattle.size_pools.specs.Taken.{CountedFree, FoundOwn, HasPlace, Hunted, KnowsNone, Reserved, Searched, Sought, SweptFirst, Taken, Took, Unreserved}
 
 -- nothing was looked at before
-pub counted_later : (free : ℕ) (x v y : DomainView) → v.seen.free ≡ x.seen.free → Counted free v y → Counted free x y
+pub counted_later : (free : ℕ) (x v y : DomainView) → v.seen.free ≡ x.seen.free → CountedFree free v y → CountedFree free x y
 counted_later free x v y same c = (c.0, c.1 ∙ ap (λ (l : List ℕ). free ∷ c.0 ++ l) same)
 
 -- or it was
-pub counted_again : (free before : ℕ) (x v y : DomainView) → Counted before x v → Counted free v y → Counted free x y
+pub counted_again : (free before : ℕ) (x v y : DomainView) → CountedFree before x v → CountedFree free v y → CountedFree free x y
 counted_again free before x v y b c = (c.0 ++ before ∷ b.0, c.1 ∙ (ap (λ (l : List ℕ). free ∷ c.0 ++ l) b.1 ∙ ap (λ (l : List ℕ). free ∷ l) (sym (append_assoc c.0 (before ∷ b.0) x.seen.free))))
 
 pub reserved_later : (k : Config) (free : ℕ) (x v y : DomainView) → v.seen.free ≡ x.seen.free → Reserved k free v y → Reserved k free x y
 reserved_later k free x v y same r = record { found = counted_later free x v y same r.found; few = r.few }
 
-pub reserved_again : (k : Config) (free before : ℕ) (x v y : DomainView) → Counted before x v → Reserved k free v y → Reserved k free x y
+pub reserved_again : (k : Config) (free before : ℕ) (x v y : DomainView) → CountedFree before x v → Reserved k free v y → Reserved k free x y
 reserved_again k free before x v y b r = record { found = counted_again free before x v y b r.found; few = r.few }
 
 pub unreserved_later : (k : Config) (x v y : DomainView) → v.seen.free ≡ x.seen.free → Unreserved k v y → Unreserved k x y
 unreserved_later k x v y same u = record { free = u.free; found = counted_later u.free x v y same u.found; more = u.more }
 
-pub unreserved_again : (k : Config) (before : ℕ) (x v y : DomainView) → Counted before x v → Unreserved k v y → Unreserved k x y
+pub unreserved_again : (k : Config) (before : ℕ) (x v y : DomainView) → CountedFree before x v → Unreserved k v y → Unreserved k x y
 unreserved_again k before x v y b u = record { free = u.free; found = counted_again u.free before x v y b u.found; more = u.more }
 
 -- where no own pool of the class has a free place, none of the class is known to be free
@@ -55,11 +55,11 @@ module _ (k : Config) (class : ℕ) (x v w y : DomainView) (before : ℕ) (h : H
   left_first : x.own.swept.spot.pool < k.pools
   left_first = subst (λ (q : Swept). q.spot.pool < k.pools) (ap (λ (z : DomainView). z.own.swept) h) left
 
-  counted_swept : Counted before x w
+  counted_swept : CountedFree before x w
   counted_swept = (none.found.0, ap (λ (z : DomainView). z.seen.free) s.view ∙ none.found.1)
 
   -- whatever the next one found
-  swept_first : (hunt : Hunt) → Hunted w y hunt → (free : ℕ) × Counted free x y → SweptFirst k x y hunt
+  swept_first : (hunt : Hunt) → Hunted w y hunt → (free : ℕ) × CountedFree free x y → SweptFirst k x y hunt
   swept_first hunt next counted = record {
     left = left_first;
     counted = counted;
@@ -74,7 +74,7 @@ module _ (k : Config) (class : ℕ) (x v w y : DomainView) (before : ℕ) (h : H
     all_done : Hunted w y hunt → k.pools ≤ y.own.swept.spot.pool
     all_done is = subst (λ (q : Swept). k.pools ≤ q.spot.pool) (sym (ap (λ (z : DomainView). z.own.swept) is)) s.done
 
-  counted_own : FoundOwn k class w y → Counted before x y
+  counted_own : FoundOwn k class w y → CountedFree before x y
   counted_own o = (counted_swept.0, o.unseen ∙ counted_swept.1)
 
   -- a place was found

@@ -23,7 +23,7 @@ use Rattle.heap_rule.specs.Token.{Token, SharedHeap, Holds, IsIn, next_label}
 use Rattle.steps_pools.specs.Takes.{with_hunt}
 use Rattle.steps_pools.specs.Ephemerons.{empty_word, with_ephemeron, EpheMay, EpheTold}
 use Rattle.steps_pools.proofs.Plain.{ephe_rest}
-use Rattle.size_pools.specs.Created.{Lists, ListsHeld, with_list}
+use Rattle.size_pools.specs.Created.{ListsCreated, ListsHeld, with_list}
 use Rattle.size_pools.specs.Taken.{IsBusy, IsRoom, MaySweep, Searched, Sought}
 use Rattle.size_pools.proofs.Seeking.{may_still, sought_sweep, sought_view}
 use Rattle.size_pools.proofs.Writing.{busy_acts, made_did}
@@ -60,7 +60,7 @@ ephe_did h old new mid e at dst keys l hunt changes is runs here view told label
     made_did h old new mid e (Ephe dst keys) l hunt _ _ _ is runs here view (ephe_rest _ _ _ _ _ _ told) told.answers label
 
 -- the ephemeron is listed, and the register holds its address
-pub taken_lists : (h : SharedHeap) (a dst : ℕ) (old mid new : Token) (hunt : Hunt) → dst < 16 → IsIn old h → Sought h.config old.view mid.view hunt → Lists a mid new → new.view.own.registers ≡ slice_set mid.view.own.registers dst (Ref a) → Holds h.config new.view.own.registers → ListsHeld dst old new
+pub taken_lists : (h : SharedHeap) (a dst : ℕ) (old mid new : Token) (hunt : Hunt) → dst < 16 → IsIn old h → Sought h.config old.view mid.view hunt → ListsCreated a mid new → new.view.own.registers ≡ slice_set mid.view.own.registers dst (Ref a) → Holds h.config new.view.own.registers → ListsHeld dst old new
 taken_lists h a dst old mid new hunt few here sought l registers holds =
     let before : List Value = mid.view.own.registers in
     let wide : length before ≡ 16 = sym (length-set before dst (Ref a)) ∙ (sym (ap (λ (r : List Value). length r) registers) ∙ holds.wide) in record {

@@ -12,7 +12,7 @@ use Rattle.heap_rule.specs.Limits.{sizes_in}
 use Rattle.heap_rule.specs.Pools.{Takes, owned, owner_word, blocks_of, place_in, drawn_in, limit_of, spot_at, hunting, hunting_free}
 use Rattle.steps_pools.specs.Takes.{with_hunt, NoneFree, ListedTold, CursorTold, Drew, OwnerMay, OwnedTold, ListTold, OwnerTold, PlaceTold}
 use Rattle.heap_rule.proofs.Classes.{some_block}
-use Rattle.size_pools.specs.Taken.{Hunted, HasDrawn, DrewPool, Unreserved, Took, Missed, Passed}
+use Rattle.size_pools.specs.Taken.{Hunted, HasDrawn, DrewPool, Unreserved, Took, Missed, WentOn}
 
 pub hunted_twice : (x y z : DomainView) (g h : Hunt) → Hunted x y g → Hunted y z h → Hunted x z h
 hunted_twice x y z g h a b = b ∙ ap (λ (v : DomainView). hunting_free v z.own.looked h z.seen.free) a
@@ -53,7 +53,7 @@ module _ (x v y : DomainView) (pool class i found : ℕ) (few : class < class_co
   walked_took k a inside below is next free = record { pool = pool; slot = i; inside = inside; below = below; address = is; next = ap (λ (z : DomainView). spot_at z.own.looked class) (told.free free) ∙ next; view = hunted_twice x v y (Walks pool class) (Fills pool class i _) hunted (hunted_of v y _ (Fills pool class i _) (told.free free)) }
 
 -- a pool that isn't the domain's
-pub passes : (x y : DomainView) (pool class found : ℕ) → class < class_count → OwnerTold pool class x found y → found ≢ owner_word (owned x.own.number class) → Passed class pool x y
+pub passes : (x y : DomainView) (pool class found : ℕ) → class < class_count → OwnerTold pool class x found y → found ≢ owner_word (owned x.own.number class) → WentOn class pool x y
 passes x y pool class found few told other =
     let e = told.other other in record {
       missed = missed_of x y Rests (hunted_of x y _ Rests e) refl;

@@ -10,7 +10,7 @@ use Rattle.steps_pools.specs.Ephemerons.{with_ephemeron}
 use Rattle.size_pools.specs.Taken.{MaySweep}
 
 -- besides its registers, the token has given out one label more, lists one ephemeron more, at this address, and takes no block
-pub record Lists (at : ℕ) (old new : Token) : Type 0 where
+pub record ListsCreated (at : ℕ) (old new : Token) : Type 0 where
   pub own : new.view.own ≡ record old.view.own { registers = new.view.own.registers; serial = old.view.own.serial + 1; ephemerons = with_ephemeron at old.view.own.ephemerons }
   pub at_rest : new.view.seen.hunt ≡ Rests
 

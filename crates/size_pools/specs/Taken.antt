@@ -26,8 +26,8 @@ abbrev pub Hunted : DomainView → DomainView → Hunt → Type 0
 Hunted x y hunt = y ≡ hunting_free x y.own.looked hunt y.seen.free
 
 -- it was looked how many pools are free, and the last time so many were found
-abbrev pub Counted : ℕ → DomainView → DomainView → Type 0
-Counted free x y = (earlier : List ℕ) × (y.seen.free ≡ free ∷ earlier ++ x.seen.free)
+abbrev pub CountedFree : ℕ → DomainView → DomainView → Type 0
+CountedFree free x y = (earlier : List ℕ) × (y.seen.free ≡ free ∷ earlier ++ x.seen.free)
 
 -- no place of an own pool of the class is known to be free
 abbrev pub KnowsNone : ℕ → DomainView → Type 0
@@ -35,13 +35,13 @@ KnowsNone class x = (z : Spare) → x.seen.spare ≡ Some z → z.class ≢ clas
 
 -- so many pools were found free, which are no more than the reserve
 pub record Reserved (k : Config) (free : ℕ) (x y : DomainView) : Type 0 where
-  pub found : Counted free x y
+  pub found : CountedFree free x y
   pub few : free ≤ reserve (sizes_in k)
 
 -- more pools were found free than the reserve
 pub record Unreserved (k : Config) (x y : DomainView) : Type 0 where
   pub free : ℕ
-  pub found : Counted free x y
+  pub found : CountedFree free x y
   pub more : reserve (sizes_in k) < free
 
 -- the own pools of the class hadn't all been looked through, and it was not looked at how many pools are free
@@ -67,7 +67,7 @@ Searched x y hunt = y ≡ hunting_free (with_sweep x y) y.own.looked hunt y.seen
 -- It was looked at how many pools are free. Own pools were left to be swept, and all of these were swept, each place once, before the search ended. What is listed was listed before, and there is room for as many more as are no longer
 pub record SweptFirst (k : Config) (x y : DomainView) (hunt : Hunt) : Type 0 where
   pub left : x.own.swept.spot.pool < k.pools
-  pub counted : (free : ℕ) × Counted free x y
+  pub counted : (free : ℕ) × CountedFree free x y
   pub view : Searched x y hunt
   pub shortens : Shortens x y
   pub places : List Spot
@@ -136,7 +136,7 @@ pub record Missed (x y : DomainView) : Type 0 where
   pub at_rest : HasNoDraw y
 
 -- the search went on to a later pool
-pub record Passed (class pool : ℕ) (x y : DomainView) : Type 0 where
+pub record WentOn (class pool : ℕ) (x y : DomainView) : Type 0 where
   pub missed : Missed x y
   pub later : pool < (spot_at y.own.looked class).pool
 

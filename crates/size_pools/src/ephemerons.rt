@@ -10,7 +10,7 @@ ghost use Rattle.steps_pools.specs.Takes.{NoneFree};
 ghost use Rattle.heap_rule.specs.Token.{Holds, IsIn};
 ghost use Rattle.size_classes.specs.Table.{IsLeastFor};
 ghost use Rattle.size_classes.specs.declared.TheConstants.{SIZES};
-ghost use Rattle.size_pools.specs.Created.{Lists, ListsHeld};
+ghost use Rattle.size_pools.specs.Created.{ListsCreated, ListsHeld};
 ghost use Rattle.size_pools.specs.NewMarks.{AreNewMarks};
 ghost use Rattle.size_pools.specs.Taken.{KnowsNone, Reserved, HasPlace, Sought, IsBusy, IsRoom, PutsPlace};
 
@@ -44,7 +44,7 @@ fn write_coloured(
     requires serial { dom.old.view.own.serial + 1 < 2 ^ 32 }
     requires marks { AreNewMarks dom.old.view marks.colour marks.scanned }
     ensures did { Did heap.now dom.old dom.new (Ephe dst keys) (Block result) }
-    ensures lists { Lists at dom.old dom.new }
+    ensures lists { ListsCreated at dom.old dom.new }
     ensures free { dom.new.view.seen.free ≡ dom.old.view.seen.free }
     ensures registers { dom.new.view.own.registers ≡ slice_set dom.old.view.own.registers dst (Ref at) }
     ensures holds { Holds heap.now.config dom.new.view.own.registers }
@@ -81,7 +81,7 @@ fn write_ephemeron(heap: &Heap, dom: &mut Domain, at: u32, dst: u8, keys: u16) -
     requires list { 1 ≤ dom.old.view.own.ephemerons.room }
     requires serial { dom.old.view.own.serial + 1 < 2 ^ 32 }
     ensures did { Did heap.now dom.old dom.new (Ephe dst keys) (Block result) }
-    ensures lists { Lists at dom.old dom.new }
+    ensures lists { ListsCreated at dom.old dom.new }
     ensures free { dom.new.view.seen.free ≡ dom.old.view.seen.free }
     ensures registers { dom.new.view.own.registers ≡ slice_set dom.old.view.own.registers dst (Ref at) }
     ensures holds { Holds heap.now.config dom.new.view.own.registers }

@@ -4,12 +4,12 @@ ghost use Rattle.heap_words.specs.declared.colours.Colours.{Colours};
 ghost use Rattle.heap_rule.specs.declared.phase.Kind.TheVariants.{Run};
 ghost use Rattle.heap_rule.specs.declared.phase.Stage.TheVariants.{In};
 ghost use Rattle.heap_rule.specs.Token.{IsIn};
-ghost use Rattle.steps_cycle.specs.Arming.{knowing_armed};
-ghost use Rattle.steps_cycle.specs.Looks.{knowing_colours};
+ghost use Rattle.steps_marking.specs.Arming.{knowing_armed};
+ghost use Rattle.steps_marking.specs.Looks.{knowing_colours};
 ghost use Rattle.size_pools.specs.NewMarks.{AreNewMarks};
 
 use heap_rule::{Domain, Heap};
-use steps_cycle::{armed_now, colours_now};
+use steps_marking::{armed_now, colours_now};
 
 // What the head of a new block says besides its shape.
 #[derive(Clone, Copy)]

@@ -5,7 +5,7 @@ ghost use Rattle.heap_rule.specs.declared.view.Hunt.TheVariants.{Walks};
 ghost use Rattle.heap_rule.specs.Pools.{Takes, blocks_of, spot_at};
 ghost use Rattle.steps_pools.specs.Takes.{HasNoDraw};
 ghost use Rattle.heap_rule.specs.Token.{IsIn};
-ghost use Rattle.size_pools.specs.Taken.{FoundOwn, Took, Passed, Lacks};
+ghost use Rattle.size_pools.specs.Taken.{FoundOwn, Took, WentOn, Lacks};
 
 use heap_rule::{Domain, Heap, Spot};
 use steps_pools::{class_blocks, owner_load, owner_word, place_address, place_load};
@@ -22,7 +22,7 @@ fn walk(heap: &Heap, dom: &mut Domain, class: u32, pool: u32, slot: u32) -> Opti
     requires next { spot_at dom.old.view.own.looked class ≡ record { pool = pool; slot = slot } }
     requires takes { Takes dom.old.view.seen.stage }
     ensures here { IsIn dom.new heap.now }
-    ensures found { MatchOption result (Passed class pool dom.old.view dom.new.view) (λ a. Took heap.now.config class a dom.old.view dom.new.view) }
+    ensures found { MatchOption result (WentOn class pool dom.old.view dom.new.view) (λ a. Took heap.now.config class a dom.old.view dom.new.view) }
     ensures free { dom.new.view.seen.free ≡ dom.old.view.seen.free }
 {
     let _limits = heap.config();
@@ -44,7 +44,7 @@ fn look_in(heap: &Heap, dom: &mut Domain, class: u32, pool: u32, slot: u32) -> O
     requires next { spot_at dom.old.view.own.looked class ≡ record { pool = pool; slot = slot } }
     requires takes { Takes dom.old.view.seen.stage }
     ensures here { IsIn dom.new heap.now }
-    ensures found { MatchOption result (Passed class pool dom.old.view dom.new.view) (λ a. Took heap.now.config class a dom.old.view dom.new.view) }
+    ensures found { MatchOption result (WentOn class pool dom.old.view dom.new.view) (λ a. Took heap.now.config class a dom.old.view dom.new.view) }
     ensures free { dom.new.view.seen.free ≡ dom.old.view.seen.free }
 {
     let at = OWNERS + heap.config().pools + pool;

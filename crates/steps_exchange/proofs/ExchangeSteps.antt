@@ -51,10 +51,10 @@ use Rattle.heap_rule.proofs.Entering.{entered_view, enters, may_begin, registers
 use Rattle.heap_rule.proofs.Keeps.{Words, my_good, run_settled, unmoved, whole_here}
 use Rattle.heap_rule.proofs.Lists.{got_below}
 use Rattle.heap_rule.proofs.Values.{AllStand, not_nothing, packable, stands_block}
-use Rattle.steps_run.specs.Stores.{WroteTold}
-use Rattle.steps_run.proofs.Advances.{EntersPaid, paid_refused, paid_rule}
-use Rattle.steps_run.proofs.StoreSteps.{Written, written_field}
-use Rattle.steps_run.proofs.ValueSteps.{ValueStore, value_stored}
+use Rattle.steps_fields.specs.Stores.{WroteTold}
+use Rattle.steps_fields.proofs.Advances.{EntersPaid, paid_refused, paid_rule}
+use Rattle.steps_fields.proofs.StoreSteps.{Written, written_field}
+use Rattle.steps_fields.proofs.ValueSteps.{ValueStore, value_stored}
 use Rattle.steps_exchange.specs.Exchanges.{ExchangeEntry, ExchangeMay, ExchangeTold, ExpectedMarked}
 use Rattle.steps_exchange.proofs.SameValues.{one_value, one_word, same_values}
 

@@ -16,8 +16,8 @@ use Rattle.heap_rule.specs.Changes.{changed}
 use Rattle.heap_rule.specs.Raw.{Closes}
 use Rattle.heap_rule.specs.Standing.{IsInHeap}
 use Rattle.heap_rule.proofs.Plain.{entered_closes}
-use Rattle.steps_run.specs.Stores.{CanStore, remembering_own}
-use Rattle.steps_run.proofs.Plain.{wrote_closes}
+use Rattle.steps_fields.specs.Stores.{CanStore, remembering_own}
+use Rattle.steps_fields.proofs.Plain.{wrote_closes}
 use Rattle.steps_exchange.specs.Exchanges.{CanExchange, ExchangeEntry, ExchangeTold, Exchanges}
 
 pub exchange_fits : (k : Config) (x : DomainView) (a old new : ℕ) (remembers : Bool) (changes : List Change) (e : Entry) → ExchangeEntry k x a old new remembers changes e → CanStore remembers changes x.own

@@ -18,7 +18,7 @@ use Rattle.heap_rule.specs.Beside.{IsKnown}
 use Rattle.heap_rule.specs.Changes.{value_at, changed, FitChanges}
 use Rattle.heap_rule.specs.Places.{IsOldAt}
 use Rattle.heap_rule.specs.Standing.{Acts, Entered, FieldMay, LeavesOwn}
-use Rattle.steps_run.specs.Stores.{CanStore, MustRemember, SuitsField, WroteTold, remembering_own}
+use Rattle.steps_fields.specs.Stores.{CanStore, MustRemember, SuitsField, WroteTold, remembering_own}
 
 -- no cycle goes on beside, or the block of the pools that is expected is known to be marked
 abbrev pub ExpectedMarked : Config → Share → Value → Type 0

@@ -25,8 +25,8 @@ use Rattle.heap_rule.specs.Rule.{Good, Rule, state_of}
 use Rattle.heap_rule.specs.Views.{one}
 use Rattle.heap_rule.proofs.FinaliserLemmas.{paired_append}
 use Rattle.heap_rule.proofs.Keeps.{Words, my_good}
-use Rattle.steps_cycle.proofs.Colouring.{BareHead, bare_head, marked_colour, unmarked_colour}
-use Rattle.steps_cycle.proofs.Learning.{bare}
+use Rattle.steps_marking.proofs.Colouring.{BareHead, bare_head, marked_colour, unmarked_colour}
+use Rattle.steps_marking.proofs.Learning.{bare}
 use Rattle.steps_sweep.specs.Freeing.{IsColoured}
 use Rattle.steps_sweep.proofs.HeadColours.{one_colour}
 

@@ -18,7 +18,7 @@ use Rattle.heap_model.specs.declared.state.State as model
 use Rattle.heap_model.specs.Domains.{domain_at, no_domain, register, with_domain, with_register, IsShaped}
 use Rattle.heap_model.specs.Entries.{after_run, next, run_reply, without_first}
 use Rattle.heap_model.proofs.Histories.ShapeAfterLemmas.{shaped-history}
-use Rattle.cycle_laws.specs.Beside.{Past}
+use Rattle.cycle_laws.specs.Beside.{Snapshot}
 use Rattle.cycle_laws.proofs.Beside.{beside_law}
 use Rattle.heap_words.specs.declared.value.Value.{Value}
 use Rattle.heap_words.specs.declared.value.Value.TheVariants.{Ref}
@@ -85,7 +85,7 @@ module _ (k : Config) (s : Words) (r : Rule k s) (id : ℕ) (hist : List Entry) 
   advance : Advance k s r id hist x at e None live
   advance =
       let goes = may.goes_on in
-      let past : Past = r.account.cycling.past in
+      let past : Snapshot = r.account.cycling.past in
       advances_by k s r id hist x at goes.runs e None live past.owed (more_same live) (λ is. (underway_here k s r id hist x at goes.runs is).young) (inl refl) (λ _ _ _. refl) (λ is q. owes_nothing k s r id hist x at goes.runs goes.paid is q)
       (λ is. beside_law.runs past r.account.cycling.paint.marks t (underway_here k s r id hist x at goes.runs is).covered d)
 

@@ -35,7 +35,7 @@ use Rattle.heap_rule.proofs.FinaliserLemmas.{KeepsWork}
 use Rattle.heap_rule.proofs.Keeps.{Words, hunter_as, more_same, my_good, owes_as, remakes, resting_as, stood_other, sum_same}
 use Rattle.heap_rule.proofs.PauseFacts.{nobody_else_still, staged_as}
 use Rattle.heap_rule.proofs.Stages.{waits_in}
-use Rattle.steps_cycle.proofs.Learning.{kind_here, known, not_promoting}
+use Rattle.steps_marking.proofs.Learning.{kind_here, known, not_promoting}
 
 -- a step by which the domain has looked at the registration before the p-th: the place in its phase, what is left, and what it has kept
 module _ (k : Config) (s : Words) (r : Rule k s) (id : ℕ) (hist : List Entry) (x : DomainView) (at : get_elem? s.views id ≡ some (one k hist x)) (kind : Kind) (stage : x.seen.stage ≡ In kind) (no_pause : IsInPause (In kind) → ⊥) (under_way : IsCollecting (In kind)) (not_clean : kind ≡ Clean → ⊥) where

@@ -15,7 +15,7 @@ use Rattle.heap_rule.specs.declared.view.RegisteredLast.{RegisteredLast}
 use Rattle.heap_rule.specs.declared.view.Waiting.TheVariants.{Fin, Last as LastWaiting}
 use Rattle.heap_rule.specs.Limits.{sizes_in}
 use Rattle.heap_rule.specs.Standing.{with_front, with_own}
-use Rattle.steps_cycle.specs.Looks.{with_share}
+use Rattle.steps_marking.specs.Looks.{with_share}
 use Rattle.steps_sweep.specs.Freeing.{IsColoured}
 use Rattle.steps_finalisers.specs.Registering.{with_finalisers}
 

@@ -5,7 +5,7 @@ use native.Mathlib.Decide.{ℕ_discrete}
 use Rattle.heap_model.specs.declared.state.State as model
 use Rattle.heap_words.specs.declared.colours.Colours.{Colours}
 use Rattle.cycle_laws.specs.Shares.{Shares, at_domain, arrives}
-use Rattle.cycle_laws.specs.Beside.{Past}
+use Rattle.cycle_laws.specs.Beside.{Snapshot}
 use Rattle.cycle_laws.specs.Marks.{Marks}
 use Rattle.cycle_laws.proofs.Sharing.{at_same, at_cases}
 use Rattle.heap_rule.specs.Beside.{Underway, is_weak}
@@ -370,7 +370,7 @@ dropped_none k live a none = ⊎_elim
     (place_cases (dropped k live a))
 
 -- a cycle goes on beside the pause in which the blocks of minor areas cease to live
-drop_underway : (k : Config) (s : model.State) (live : Live) (kind : Kind) (past : Past) (marks : Marks) (w : Shares) → kind ≡ Promote → Underway k s live kind past marks w → Underway k s (dropped k live) kind past marks w
+drop_underway : (k : Config) (s : model.State) (live : Live) (kind : Kind) (past : Snapshot) (marks : Marks) (w : Shares) → kind ≡ Promote → Underway k s live kind past marks w → Underway k s (dropped k live) kind past marks w
 drop_underway k s live kind past marks w copies u = record {
   covered = u.covered;
   young = λ a p lives high. absurd (let low : a ≤ k.pools * 4096 = (was_low k live a p lives).0 in omega arith);
@@ -380,7 +380,7 @@ drop_underway k s live kind past marks w copies u = record {
 }
 
 -- whoever has arrived from it
-shares_underway : (k : Config) (s : model.State) (live : Live) (kind : Kind) (past : Past) (marks : Marks) (w w' : Shares) → kind ≡ Promote → Underway k s live kind past marks w → Underway k s live kind past marks w'
+shares_underway : (k : Config) (s : model.State) (live : Live) (kind : Kind) (past : Snapshot) (marks : Marks) (w w' : Shares) → kind ≡ Promote → Underway k s live kind past marks w → Underway k s live kind past marks w'
 shares_underway k s live kind past marks w w' copies u = record {
   covered = u.covered;
   young = u.young;

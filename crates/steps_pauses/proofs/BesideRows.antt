@@ -19,7 +19,7 @@ use Rattle.heap_model.specs.Reach.{HoldsRoots}
 use Rattle.heap_model.specs.WellFormed.{IsWellFormed, names_of}
 use Rattle.heap_model.proofs.Graphs.GraphLemmas.{same_label-true}
 use Rattle.heap_model.proofs.Reach.ReachLemmas.{or_cases, or_left, or_right, and_left, has-append_cases, true_or_false}
-use Rattle.cycle_laws.specs.Beside.{Past, AllFull, past_at, restricted, with_new}
+use Rattle.cycle_laws.specs.Beside.{Snapshot, AllFull, past_at, restricted, with_new}
 use Rattle.cycle_laws.specs.Cover.{is_new}
 use Rattle.cycle_laws.specs.Cycle as laws
 use Rattle.cycle_laws.specs.Marks.{Marks}
@@ -46,13 +46,13 @@ marks_in k live Reset Mark s m = restricted m (lies_in_pool k live)
 marks_in k live _ _ s m = m
 
 -- what is kept of a cycle that goes on beside running domains: it begins with the present graph, and nobody owes a darkening once all have stopped
-abbrev pub past_in : Kind → Kind → model.State → Past → Past
+abbrev pub past_in : Kind → Kind → model.State → Snapshot → Snapshot
 past_in Run next s past = record past { owed = λ _ _. false }
 past_in Roots Run s past = past_at s
 past_in _ _ s past = past
 
 -- nobody comes to owe one
-pub past_owes : (last next : Kind) (s : model.State) (past : Past) (d r : ℕ) → past.owed d r ≡ false → (past_in last next s past).owed d r ≡ false
+pub past_owes : (last next : Kind) (s : model.State) (past : Snapshot) (d r : ℕ) → past.owed d r ≡ false → (past_in last next s past).owed d r ≡ false
 past_owes Run next s past d r none = refl
 past_owes Roots Run s past d r none = refl
 past_owes _ _ s past d r none = none

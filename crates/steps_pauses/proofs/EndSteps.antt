@@ -41,7 +41,7 @@ use Rattle.heap_rule.proofs.BesideLemmas.{Endures, endures_words, runs_on}
 use Rattle.heap_rule.specs.Beside.{is_weak}
 use Rattle.heap_rule.specs.Pools.{Holder}
 use Rattle.heap_model.specs.declared.label.Label.{Label}
-use Rattle.cycle_laws.specs.Beside.{Past}
+use Rattle.cycle_laws.specs.Beside.{Snapshot}
 use Rattle.cycle_laws.proofs.Beside.{beside_law}
 use Rattle.steps_pauses.proofs.PauseSteps.{over_few}
 
@@ -102,7 +102,7 @@ ends k slots id hist x acts s r _ at _ =
     let advance : Advance k s r id hist x at e None r.account.live =
     advances_by k s r id hist x at acts.runs e None r.account.live r.account.cycling.past.owed (more_same r.account.live) (λ goes. (underway_here k s r id hist x at acts.runs goes).young) (inl refl) (λ _ _ _. refl) (owes_nothing k s r id hist x at acts.runs acts.paid)
     (λ goes. beside_law.ends r.account.cycling.past r.account.cycling.paint.marks now (underway_here k s r id hist x at acts.runs goes).covered d) in
-    let past' : Past = advance.past in
+    let past' : Snapshot = advance.past in
     let all' : Account = record r.account { log = log'; cycling = with_past r.account.cycling past' } in
     let marked : Label → Bool = r.account.cycling.paint.marks.marked in
     let holder : ℕ → Holder = r.account.tenancy.holder in

@@ -23,7 +23,7 @@ use Rattle.heap_model.specs.Fronts.{Shape, EpheShape, shape_of, Answers}
 use Rattle.heap_model.proofs.Graphs.GraphLemmas.{node_at-append_old, node_at-append_new}
 use Rattle.heap_model.proofs.Histories.NumberLemmas.{next_label_after, next_label-new}
 use Rattle.heap_model.proofs.Reach.ReachLemmas.{never_not, true_or_false, never_true}
-use Rattle.cycle_laws.specs.Beside.{Past, WriteBarrier, owed_after}
+use Rattle.cycle_laws.specs.Beside.{Snapshot, WriteBarrier, owed_after}
 use Rattle.cycle_laws.specs.Cover.{is_new as is_newer}
 use Rattle.cycle_laws.specs.Marks.{Marks}
 use Rattle.cycle_laws.proofs.Tracing.{never}
@@ -94,7 +94,7 @@ pub record MakesNode (c : Command) (dst : ℕ) (node : Node) : Type 0 where
   pub allocates : is_allocation c ≡ true
   pub unregistering : registers_one c ≡ false
   pub quiet : (owed : ℕ → ℕ → Bool) (d : ℕ) → owed_after owed d c ≡ owed
-  pub overwrites : (past : Past) (m : Marks) (s : model.State) (d : ℕ) → WriteBarrier past m s d c
+  pub overwrites : (past : Snapshot) (m : Marks) (s : model.State) (d : ℕ) → WriteBarrier past m s d c
   pub fits : (s : model.State) (d : ℕ) → s.mode ≡ Open → (domain_at s d).queue ≡ [] → FitsMode s d c
 
 -- of a block with this shape at an address, the list gets the address exactly where it is an ephemeron

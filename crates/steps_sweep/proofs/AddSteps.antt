@@ -31,11 +31,11 @@ use Rattle.heap_rule.proofs.Keeps.{Words, mine, my_good}
 use Rattle.heap_rule.proofs.OwnPlaces.{own_place}
 use Rattle.heap_rule.proofs.PauseFacts.{kind_differs}
 use Rattle.heap_rule.proofs.Sharings.{knowing_words}
-use Rattle.steps_cycle.specs.Looks.{with_share}
-use Rattle.steps_cycle.proofs.Layouts.{labelled, owner_of_place, label_there}
-use Rattle.steps_cycle.proofs.Learning.{at_other, at_same, bare, even, known, kind_here, leads_odd, lies_old, none_runs, not_promoting, whole_in}
-use Rattle.steps_cycle.proofs.Pausing.{paused_on}
-use Rattle.steps_cycle.proofs.Plain.{share_closes}
+use Rattle.steps_marking.specs.Looks.{with_share}
+use Rattle.steps_marking.proofs.Layouts.{labelled, owner_of_place, label_there}
+use Rattle.steps_marking.proofs.Learning.{at_other, at_same, bare, even, known, kind_here, leads_odd, lies_old, none_runs, not_promoting, whole_in}
+use Rattle.steps_marking.proofs.Pausing.{paused_on}
+use Rattle.steps_marking.proofs.Plain.{share_closes}
 use Rattle.steps_sweep.specs.Counting.{BlocksAddMay, BlocksAdded, WordsAddMay, WordsAdded}
 use Rattle.steps_sweep.proofs.Recounting.{IsCount, heap, here, low, other, recounted, recounts}
 use Rattle.steps_sweep.proofs.Swept.{sweep_facts, sweeping}

@@ -47,8 +47,8 @@ use Rattle.heap_rule.proofs.Plain.{enters_once}
 use Rattle.heap_rule.proofs.FinaliserLemmas.{KeepsWork, paired_length, work_with}
 use Rattle.heap_rule.specs.Finalisers.{StandsWaiting}
 use Rattle.heap_rule.proofs.Values.{holds}
-use Rattle.steps_cycle.specs.Looks.{with_share}
-use Rattle.steps_cycle.proofs.Learning.{known, learns, waits}
+use Rattle.steps_marking.specs.Looks.{with_share}
+use Rattle.steps_marking.proofs.Learning.{known, learns, waits}
 use Rattle.steps_sweep.specs.Answering.{LiveBlocksTold, LiveWordsMay, LiveWordsTold}
 use Rattle.steps_sweep.proofs.Dues.{due_front}
 use Rattle.steps_sweep.proofs.LiveCounts.{answer_facts, answer_kind, answers, blocks_reach, words_reach}

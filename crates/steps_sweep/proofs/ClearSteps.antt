@@ -21,9 +21,9 @@ use Rattle.heap_rule.specs.Rule.{Good, Rule, state_of, Sharing}
 use Rattle.heap_rule.specs.Views.{one}
 use Rattle.heap_rule.proofs.Keeps.{Words, my_good}
 use Rattle.heap_rule.proofs.PauseFacts.{not_both}
-use Rattle.steps_cycle.specs.Looks.{with_share}
-use Rattle.steps_cycle.proofs.Pausing.{paused_on}
-use Rattle.steps_cycle.proofs.Plain.{share_closes}
+use Rattle.steps_marking.specs.Looks.{with_share}
+use Rattle.steps_marking.proofs.Pausing.{paused_on}
+use Rattle.steps_marking.proofs.Plain.{share_closes}
 use Rattle.steps_sweep.specs.Turning.{BlocksCleared, ClearMay, WordsCleared}
 use Rattle.steps_sweep.proofs.Recounting.{IsCount, heap, here, low, other, recounted, recounts}
 use Rattle.heap_rule.proofs.Sharings.{knows_words}

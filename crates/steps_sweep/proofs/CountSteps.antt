@@ -27,13 +27,13 @@ use Rattle.heap_rule.proofs.Classes.{size_least, slot_below, slot_inside}
 use Rattle.heap_rule.proofs.Keeps.{Words, my_good, unmoved}
 use Rattle.heap_rule.proofs.OwnPlaces.{owned_same}
 use Rattle.heap_rule.proofs.Lots.{place_cases}
-use Rattle.steps_cycle.specs.Looks.{with_share}
-use Rattle.steps_cycle.specs.Marking.{behind}
-use Rattle.steps_cycle.proofs.Colouring.{bare_head}
-use Rattle.steps_cycle.proofs.Layouts.{whose}
-use Rattle.steps_cycle.proofs.Learning.{bare, known, learns}
-use Rattle.steps_cycle.proofs.Plain.{share_closes}
-use Rattle.steps_cycle.proofs.WalkSteps.{before_behind, last_behind, next_behind}
+use Rattle.steps_marking.specs.Looks.{with_share}
+use Rattle.steps_marking.specs.Marking.{behind}
+use Rattle.steps_marking.proofs.Colouring.{bare_head}
+use Rattle.steps_marking.proofs.Layouts.{whose}
+use Rattle.steps_marking.proofs.Learning.{bare, known, learns}
+use Rattle.steps_marking.proofs.Plain.{share_closes}
+use Rattle.steps_marking.proofs.WalkSteps.{before_behind, last_behind, next_behind}
 use Rattle.steps_sweep.specs.Counting.{CountMay, CountOwnMay, CountOwnTold, CountTold}
 use Rattle.steps_sweep.proofs.Removals.{among}
 use Rattle.steps_sweep.proofs.Swept.{empty_free, sweeping}

@@ -20,8 +20,8 @@ use Rattle.heap_rule.proofs.HeadLemmas.{packable_head}
 use Rattle.heap_rule.proofs.Keeps.{Words, my_good}
 use Rattle.heap_rule.proofs.PauseFacts.{run_promoting}
 use Rattle.heap_rule.proofs.Stages.{waits_in}
-use Rattle.steps_cycle.proofs.Colouring.{BareHead, bare_head}
-use Rattle.steps_cycle.proofs.Learning.{not_promoting}
+use Rattle.steps_marking.proofs.Colouring.{BareHead, bare_head}
+use Rattle.steps_marking.proofs.Learning.{not_promoting}
 use Rattle.steps_sweep.specs.Freeing.{Frees, IsColoured}
 use Rattle.steps_sweep.proofs.HeadColours.{no_colour, one_colour}
 

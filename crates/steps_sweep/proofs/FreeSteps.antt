@@ -36,8 +36,8 @@ use Rattle.heap_rule.proofs.Keeps.{Words, control_set, more_same, my_good}
 use Rattle.heap_rule.proofs.Lots.{head_full, hunter_beside, live_beside, place_low, pool_beside}
 use Rattle.heap_rule.proofs.OwnPlaces.{owned_same}
 use Rattle.heap_rule.proofs.Sharings.{SameCycle, facts_words, leading_words}
-use Rattle.steps_cycle.proofs.Learning.{at_other, at_same, kind_here}
-use Rattle.steps_cycle.proofs.WalkSteps.{before_behind}
+use Rattle.steps_marking.proofs.Learning.{at_other, at_same, kind_here}
+use Rattle.steps_marking.proofs.WalkSteps.{before_behind}
 use Rattle.steps_sweep.specs.Freeing.{FreeMay, FreeTold, earlier, freed}
 use Rattle.steps_sweep.proofs.CountSteps.{one_place}
 use Rattle.steps_sweep.proofs.Earlier.{before_both}

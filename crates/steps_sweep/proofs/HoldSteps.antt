@@ -20,12 +20,12 @@ use Rattle.heap_rule.specs.Rule.{Rule, state_of}
 use Rattle.heap_rule.specs.Views.{one}
 use Rattle.heap_rule.proofs.Keeps.{Words, my_good, unmoved}
 use Rattle.heap_rule.proofs.OwnPlaces.{owned_same}
-use Rattle.steps_cycle.specs.Looks.{with_share}
-use Rattle.steps_cycle.proofs.Learning.{known, learns, not_promoting, waits}
-use Rattle.steps_cycle.proofs.Plain.{share_closes}
+use Rattle.steps_marking.specs.Looks.{with_share}
+use Rattle.steps_marking.proofs.Learning.{known, learns, not_promoting, waits}
+use Rattle.steps_marking.proofs.Plain.{share_closes}
 use Rattle.steps_sweep.specs.Holding.{HeldMay, HeldOwnMay, HeldOwnTold, HeldTold, Returns}
 use Rattle.steps_sweep.proofs.Swept.{returning, returns_clean}
-use Rattle.steps_cycle.proofs.Layouts.{whose}
+use Rattle.steps_marking.proofs.Layouts.{whose}
 use Rattle.std.proofs.lemmas.Option.{same_Some}
 
 module _ (k : Config) (s : Words) (r : Rule k s) (id : ℕ) (hist : List Entry) (x : DomainView) (at : get_elem? s.views id ≡ some (one k hist x)) (returns : Returns k x) where

@@ -24,8 +24,8 @@ use Rattle.heap_rule.specs.Rule.{Rule, state_of}
 use Rattle.heap_rule.specs.Views.{one}
 use Rattle.heap_rule.proofs.Keeps.{Words}
 use Rattle.heap_rule.proofs.OwnPlaces.{own_place}
-use Rattle.steps_cycle.proofs.Layouts.{labelled}
-use Rattle.steps_cycle.proofs.Learning.{bare, kind_here}
+use Rattle.steps_marking.proofs.Layouts.{labelled}
+use Rattle.steps_marking.proofs.Learning.{bare, kind_here}
 use Rattle.steps_sweep.proofs.CountedPlaces.{added_same}
 
 module _ (k : Config) (s : Words) (r : Rule k s) (id : ℕ) (hist : List Entry) (x : DomainView) (at : get_elem? s.views id ≡ some (one k hist x)) (stage : x.seen.stage ≡ In Answer) where

@@ -10,7 +10,7 @@ use Rattle.heap_rule.specs.Cycles.{Scans, owner_at}
 use Rattle.heap_rule.specs.Ephemerons.{ephemeron_of}
 use Rattle.heap_rule.specs.Places.{Live, Place}
 use Rattle.heap_rule.specs.Pools.{OwnPlace, Pools, Tenancy}
-use Rattle.steps_cycle.proofs.Layouts.{owner_of_place}
+use Rattle.steps_marking.proofs.Layouts.{owner_of_place}
 
 -- a place is one domain's
 module _ (k : Config) (t : Tenancy) (words : List ℕ) (pools : Pools k t words) (a : ℕ) where

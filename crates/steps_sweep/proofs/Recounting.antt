@@ -16,7 +16,7 @@ use Rattle.heap_rule.specs.Rule.{AllFound, Good, Rule, Sharing, state_of}
 use Rattle.heap_rule.specs.Views.{one}
 use Rattle.heap_rule.proofs.Holders.{Agrees, agrees_set, found_heap, grid_heap, hunter_agree, making_heap, same_self}
 use Rattle.heap_rule.proofs.Keeps.{Words, hunter_as, my_good}
-use Rattle.steps_cycle.specs.Looks.{with_share}
+use Rattle.steps_marking.specs.Looks.{with_share}
 use Rattle.steps_sweep.proofs.Reaping.{reaps}
 use Rattle.heap_rule.proofs.Sizes.{some_pool}
 

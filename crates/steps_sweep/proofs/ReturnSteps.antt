@@ -23,10 +23,10 @@ use Rattle.heap_rule.proofs.Holders.{NotOf, found_agrees, free_later, hunter_agr
 use Rattle.heap_rule.proofs.Keeps.{Words, knows_front, my_good, opened_words, owes_as, phases_words, remakes, room_words}
 use Rattle.heap_rule.proofs.PauseFacts.{kind_differs, not_both}
 use Rattle.heap_rule.proofs.Sharings.{leading_words}
-use Rattle.steps_cycle.specs.Looks.{with_share}
-use Rattle.steps_cycle.proofs.Learning.{even, leads_odd, none_runs, rests_here, waits}
-use Rattle.steps_cycle.proofs.Pausing.{paused_on}
-use Rattle.steps_cycle.proofs.Plain.{share_closes}
+use Rattle.steps_marking.specs.Looks.{with_share}
+use Rattle.steps_marking.proofs.Learning.{even, leads_odd, none_runs, rests_here, waits}
+use Rattle.steps_marking.proofs.Pausing.{paused_on}
+use Rattle.steps_marking.proofs.Plain.{share_closes}
 use Rattle.steps_sweep.specs.Returning.{ReturnMay, ReturnTold}
 use Rattle.steps_sweep.proofs.Returned.{agrees, calm, collecting, cycle', drawers', drawn_was, full', grid', is_own, knowing_other, knowing_own, listed', no_prepared, other_word, own_was, owned_was, pools', reserved', same_cursor, same_cycle, share', t', words', sweeps', reaps_else}
 

@@ -32,9 +32,9 @@ use Rattle.heap_rule.proofs.OwnPlaces.{owned_same}
 use Rattle.heap_rule.proofs.Lots.{head_full}
 use Rattle.heap_rule.proofs.Update.{over, over_else, over_here}
 use Rattle.heap_rule.proofs.Sharings.{SameCycle}
-use Rattle.steps_cycle.proofs.Layouts.{labelled}
+use Rattle.steps_marking.proofs.Layouts.{labelled}
 use Rattle.heap_rule.specs.Ephemerons.{IsEpheAt, Listed}
-use Rattle.steps_cycle.proofs.Learning.{kind_here, known, lies_old, not_promoting, whole_in}
+use Rattle.steps_marking.proofs.Learning.{kind_here, known, lies_old, not_promoting, whole_in}
 use Rattle.steps_sweep.specs.Returning.{ReturnMay}
 use Rattle.steps_sweep.proofs.Swept.{returning, returns_clean}
 use Rattle.std.proofs.lemmas.Option.{none-some}

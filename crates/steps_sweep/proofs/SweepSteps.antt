@@ -25,10 +25,10 @@ use Rattle.heap_rule.specs.Views.{one}
 use Rattle.heap_rule.proofs.Keeps.{Words, control_same, controls_kept, hunter_as, my_good, unmoved, writes}
 use Rattle.heap_rule.proofs.Lots.{none_before}
 use Rattle.heap_rule.proofs.OwnPlaces.{owned_same}
-use Rattle.steps_cycle.specs.Looks.{with_share}
-use Rattle.steps_cycle.specs.Marking.{behind}
-use Rattle.steps_cycle.proofs.Layouts.{whose}
-use Rattle.steps_cycle.proofs.WalkSteps.{before_behind}
+use Rattle.steps_marking.specs.Looks.{with_share}
+use Rattle.steps_marking.specs.Marking.{behind}
+use Rattle.steps_marking.proofs.Layouts.{whose}
+use Rattle.steps_marking.proofs.WalkSteps.{before_behind}
 use Rattle.steps_sweep.specs.Freeing.{AnewMay, AnewTold, Frees, IsColoured, SweepMay, SweepOwnMay, SweepOwnTold, SweepTold, passed, sweeping_from, unswept}
 use Rattle.steps_sweep.proofs.Finding.{clean_place, colour_of_dead, waits}
 

@@ -16,9 +16,9 @@ use Rattle.heap_rule.specs.Sweeping.{nothing_swept}
 use Rattle.heap_rule.specs.Token.{LooksWithin, OwnFits, SweptWithin}
 use Rattle.heap_rule.proofs.Classes.{some_block}
 use Rattle.heap_rule.proofs.Closes.{front_same}
-use Rattle.steps_cycle.specs.Looks.{with_share}
-use Rattle.steps_cycle.specs.Marking.{behind}
-use Rattle.steps_cycle.proofs.WalkSteps.{last_behind, next_behind}
+use Rattle.steps_marking.specs.Looks.{with_share}
+use Rattle.steps_marking.specs.Marking.{behind}
+use Rattle.steps_marking.proofs.WalkSteps.{last_behind, next_behind}
 use Rattle.steps_sweep.proofs.Earlier.{order_of}
 use Rattle.steps_sweep.specs.Freeing.{AnewTold, CanFree, CanSweep, CanSweepOwn, FreeTold, FreesPlace, IsAmong, IsColoured, SweepOwnTold, SweepTold, SweepsOwn, SweepsPlace, earlier, freed_own, passed, sweeping_from, unswept}
 

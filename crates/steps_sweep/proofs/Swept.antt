@@ -14,7 +14,7 @@ use Rattle.heap_rule.specs.Pools.{blocks_of, owned, place_in}
 use Rattle.heap_rule.specs.Rule.{Rule, state_of}
 use Rattle.heap_rule.specs.Views.{one}
 use Rattle.heap_rule.proofs.Keeps.{Words, my_good}
-use Rattle.steps_cycle.proofs.Learning.{kind_here, not_promoting}
+use Rattle.steps_marking.proofs.Learning.{kind_here, not_promoting}
 use Rattle.heap_rule.specs.declared.phase.Stage.TheVariants.{In}
 use Rattle.steps_sweep.specs.Holding.{Returns}
 

@@ -30,7 +30,7 @@ use Rattle.cycle_laws.specs.Taking.{LeadsToMarked}
 use Rattle.cycle_laws.proofs.Cycling.{phase_steps}
 use Rattle.cycle_laws.proofs.DomainParts.{listed_at}
 use Rattle.cycle_laws.specs.Fullness.{HoldsKept, kept_labels}
-use Rattle.steps_cycle.proofs.Unswept.{none_unswept, swept_tracing}
+use Rattle.steps_marking.proofs.Unswept.{none_unswept, swept_tracing}
 use Rattle.heap_rule.proofs.Lots.{lived_unprepared, none_before}
 use Rattle.heap_rule.specs.declared.view.Reaping.TheVariants.{Outside, Inside, AtGarbage}
 use Rattle.heap_rule.specs.declared.view.Reaping.{Reaping}
@@ -61,11 +61,11 @@ use Rattle.heap_rule.proofs.Again.{Back, ephe_back, lots_back}
 use Rattle.heap_rule.proofs.Holders.{Agrees, SameFor, SameHeap, agrees_set, found_heap, hunter_agree, making_heap, stock_self}
 use Rattle.heap_rule.proofs.Keeps.{Words, hunter_as, my_good, mine}
 use Rattle.heap_rule.proofs.PauseFacts.{not_both}
-use Rattle.steps_cycle.specs.Looks.{with_share}
-use Rattle.steps_cycle.proofs.Learning.{whole_in}
-use Rattle.steps_cycle.proofs.Pausing.{paused_on}
-use Rattle.steps_cycle.proofs.Plain.{share_closes}
-use Rattle.steps_cycle.proofs.Layouts.{label_there, labelled}
+use Rattle.steps_marking.specs.Looks.{with_share}
+use Rattle.steps_marking.proofs.Learning.{whole_in}
+use Rattle.steps_marking.proofs.Pausing.{paused_on}
+use Rattle.steps_marking.proofs.Plain.{share_closes}
+use Rattle.steps_marking.proofs.Layouts.{label_there, labelled}
 use Rattle.steps_sweep.specs.Turning.{TurnMay, TurnTold}
 use Rattle.steps_sweep.proofs.Enrolling.{enrolled_left}
 use Rattle.heap_rule.proofs.HistorySizes.{sizes_after}

@@ -16,7 +16,7 @@ use Rattle.heap_rule.specs.declared.view.DomainView.{DomainView}
 use Rattle.heap_rule.specs.Limits.{sizes_in}
 use Rattle.heap_rule.specs.Rule.{state_of}
 use Rattle.heap_rule.specs.Standing.{Entered, with_front}
-use Rattle.steps_cycle.specs.Looks.{with_share}
+use Rattle.steps_marking.specs.Looks.{with_share}
 
 -- the domain's front is the history so far, in which a collection is answered. The word that is found is the number of blocks that are reachable then, and the domain knows it
 pub record LiveBlocksTold (k : Config) (x : DomainView) (found : ℕ) (y : DomainView) : Type 0 where

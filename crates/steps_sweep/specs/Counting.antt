@@ -8,8 +8,8 @@ use Rattle.heap_rule.specs.declared.phase.Stage.TheVariants.{In}
 use Rattle.heap_rule.specs.declared.view.DomainView.{DomainView}
 use Rattle.heap_rule.specs.Places.{IsHeadOf, extent}
 use Rattle.heap_rule.specs.Pools.{IsBefore, blocks_of, owned, owner_word, place_in}
-use Rattle.steps_cycle.specs.Looks.{with_share}
-use Rattle.steps_cycle.specs.Marking.{behind}
+use Rattle.steps_marking.specs.Looks.{with_share}
+use Rattle.steps_marking.specs.Marking.{behind}
 
 -- in Sweep, while the domain counts, a load of the owner of the next pool
 pub record CountOwnMay (k : Config) (x : DomainView) (at pool : ℕ) : Type 0 where

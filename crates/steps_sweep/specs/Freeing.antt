@@ -15,8 +15,8 @@ use Rattle.heap_rule.specs.declared.view.Spot.{Spot}
 use Rattle.heap_rule.specs.Places.{IsHeadOf}
 use Rattle.heap_rule.specs.Pools.{blocks_of, owned, owner_word, place_in, spot_at}
 use Rattle.heap_rule.specs.Sweeping.{nothing_swept}
-use Rattle.steps_cycle.specs.Looks.{with_share}
-use Rattle.steps_cycle.specs.Marking.{behind}
+use Rattle.steps_marking.specs.Looks.{with_share}
+use Rattle.steps_marking.specs.Marking.{behind}
 
 -- the word is a head of this colour
 pub record IsColoured (colour word : ℕ) : Type 0 where

@@ -6,7 +6,7 @@ use Rattle.heap_rule.specs.declared.phase.Kind.TheVariants.{Sweep, Answer}
 use Rattle.heap_rule.specs.declared.phase.Stage.TheVariants.{In}
 use Rattle.heap_rule.specs.declared.view.DomainView.{DomainView}
 use Rattle.heap_rule.specs.Pools.{blocks_of, owned, owner_word, place_in}
-use Rattle.steps_cycle.specs.Looks.{with_share}
+use Rattle.steps_marking.specs.Looks.{with_share}
 
 -- a domain may give pools back where it has swept all its own, and where a collection is answered
 abbrev pub Returns : Config → DomainView → Type 0

@@ -4,7 +4,7 @@ use Rattle.heap_rule.specs.declared.config.Config.{Config}
 use Rattle.heap_rule.specs.declared.view.DomainView.{DomainView}
 use Rattle.heap_rule.specs.declared.view.Reaping.TheVariants.{Outside}
 use Rattle.heap_rule.specs.Pools.{blocks_of}
-use Rattle.steps_cycle.specs.Looks.{with_share}
+use Rattle.steps_marking.specs.Looks.{with_share}
 use Rattle.steps_sweep.specs.Holding.{Returns}
 
 -- a store to the owner's word of the next pool, which is the domain's own, and each of whose places was found free

@@ -5,7 +5,7 @@ use Rattle.heap_words.specs.ColourWords.{colours_word, rotated}
 use Rattle.heap_rule.specs.declared.phase.Kind.TheVariants.{Lasts, Reset}
 use Rattle.heap_rule.specs.declared.phase.Stage.TheVariants.{Leads}
 use Rattle.heap_rule.specs.declared.view.DomainView.{DomainView}
-use Rattle.steps_cycle.specs.Looks.{with_share}
+use Rattle.steps_marking.specs.Looks.{with_share}
 
 -- domain 0 leads after Lasts, knows the colours, and hasn't rotated them yet
 pub record TurnMay (x : DomainView) (new : ℕ) : Type 0 where

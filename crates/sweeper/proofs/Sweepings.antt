@@ -11,13 +11,13 @@ use Rattle.heap_rule.specs.declared.view.Spot.{Spot}
 use Rattle.heap_rule.specs.Pools.{blocks_of, place_in, spot_at}
 use Rattle.heap_rule.specs.Cycles.{seen_by}
 use Rattle.heap_rule.proofs.Classes.{some_block}
-use Rattle.steps_cycle.specs.Looks.{knowing_colours, with_share}
-use Rattle.steps_cycle.specs.Marking.{behind}
+use Rattle.steps_marking.specs.Looks.{knowing_colours, with_share}
+use Rattle.steps_marking.specs.Marking.{behind}
 use Rattle.steps_sweep.specs.Freeing.{FreeMay, Frees, IsColoured, IsNoLater, SweepTold, earlier, freed, passed}
 use Rattle.heap_model.specs.Domains.{IsWithinLimits, class_count}
 use Rattle.heap_rule.specs.declared.config.Config.{Config}
 use Rattle.heap_rule.specs.Limits.{sizes_in}
-use Rattle.steps_cycle.proofs.WalkSteps.{next_behind}
+use Rattle.steps_marking.proofs.WalkSteps.{next_behind}
 use Rattle.steps_sweep.proofs.CountSteps.{here_behind}
 use Rattle.steps_sweep.proofs.Earlier.{before_other, order_of}
 use Rattle.sweeper.specs.Pruning.{Shortens, with_pruned}

@@ -5,7 +5,7 @@ use Rattle.heap_rule.specs.declared.phase.Kind.TheVariants.{Sweep}
 use Rattle.heap_rule.specs.declared.phase.Stage.TheVariants.{In}
 use Rattle.heap_rule.specs.declared.view.DomainView.{DomainView}
 use Rattle.heap_rule.specs.Pools.{blocks_of}
-use Rattle.steps_cycle.specs.Marking.{behind}
+use Rattle.steps_marking.specs.Marking.{behind}
 use Rattle.sweeper.specs.declared.counting.LiveCount.{LiveCount}
 
 -- in Sweep, the domain has swept its pools, and adds nothing yet
@@ -65,7 +65,7 @@ abbrev pub adding : DomainView → DomainView
 adding x = record x { seen = record x.seen { share = record x.seen.share { added_blocks = true; added_words = true } } }
 
 -- and has added how many blocks that is and how many words these have, each once
-pub record Counted (k : Config) (x y : DomainView) : Type 0 where
+pub record CountedLive (k : Config) (x y : DomainView) : Type 0 where
   pub view : y ≡ adding (with_count x y)
   pub whole : k.pools ≤ y.seen.share.counted_to.pool
   pub added : (y.seen.share.added_blocks ≡ true) × (y.seen.share.added_words ≡ true)

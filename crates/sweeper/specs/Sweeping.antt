@@ -8,7 +8,7 @@ use Rattle.heap_rule.specs.declared.view.Hunt.TheVariants.{Rests}
 use Rattle.heap_rule.specs.declared.view.Reaping.TheVariants.{Inside}
 use Rattle.heap_rule.specs.declared.view.Spot.{Spot}
 use Rattle.heap_rule.specs.Pools.{blocks_of, spot_at}
-use Rattle.steps_cycle.specs.Marking.{behind}
+use Rattle.steps_marking.specs.Marking.{behind}
 use Rattle.steps_sweep.specs.Freeing.{Frees, IsNoLater}
 use Rattle.sweeper.specs.Pruning.{IsPruned, Shortens}
 use Rattle.sweeper.specs.Walks.{IsWalk}

@@ -4,7 +4,7 @@ ghost use Rattle.heap_model.specs.Domains.{class_count};
 ghost use Rattle.heap_rule.specs.declared.phase.Kind.TheVariants.{Sweep};
 ghost use Rattle.heap_rule.specs.declared.phase.Stage.TheVariants.{In};
 ghost use Rattle.heap_rule.specs.Token.{IsIn};
-ghost use Rattle.sweeper.specs.Counting.{CountedPlace, CountedPool, CountedAll, Counted, CountsIn, CountsAt, HasCountedNothing, IsCounting, IsLiveCount};
+ghost use Rattle.sweeper.specs.Counting.{CountedPlace, CountedPool, CountedAll, CountedLive, CountsIn, CountsAt, HasCountedNothing, IsCounting, IsLiveCount};
 
 use crate::words::words_of;
 use heap_rule::{Domain, Heap};
@@ -118,7 +118,7 @@ pub fn count_own(heap: &Heap, dom: &mut Domain)
     requires swept { heap.now.config.pools ≤ dom.old.view.own.swept.spot.pool }
     requires nothing { HasCountedNothing dom.old.view }
     ensures here { IsIn dom.new heap.now }
-    ensures counted { Counted heap.now.config dom.old.view dom.new.view }
+    ensures counted { CountedLive heap.now.config dom.old.view dom.new.view }
 {
     let _limits = heap.config();
     let sum = count_pools(heap, dom);

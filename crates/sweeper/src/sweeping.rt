@@ -10,7 +10,7 @@ ghost use Rattle.sweeper.specs.Sweeping.{IsSweeping, Onward, Sweeps, SweepsAt, S
 
 use crate::pruning::prune_list;
 use heap_rule::{Domain, Heap};
-use steps_cycle::colours_now;
+use steps_marking::colours_now;
 use steps_pools::{class_blocks, place_address};
 use steps_sweep::{OWNERS, free_store, has_colour, own_class, sweep_load, sweep_own_load};
 

@@ -1,7 +1,7 @@
 -- Which answers the clauses of the top call refuse. Each premise `says` is a clause of `camlheap` at one call of it.
 use Rattle.std.proofs.Common.{◌≡◌, ◌∙◌, ℕ, ◌-◌, ◌^◌, ◌<◌, Option, Some, None, sym, subst, arith}
 use Rattle.heap_model.specs.declared.state.Sizes.{Sizes}
-use Rattle.heap_rule.specs.Ending.{Past}
+use Rattle.heap_rule.specs.Ending.{EndedHeap}
 use Rattle.heap_text.specs.declared.fault.ScriptFault.{ScriptFault}
 use Rattle.outer_io.specs.Faults.{Rose}
 use Rattle.command_line.specs.declared.job.Job.{Job}
@@ -32,5 +32,5 @@ pub no_read_fault_without_a_script : (before now : ℕ) (result : Status) → (r
 no_read_fault_without_a_script before now result says fault = says fault
 
 -- no write fault is answered where the sink's count of faults stays
-pub no_write_fault_without_a_rise : (before now : ℕ) (ended : Option Past) (result : Status) → (result ≡ WriteFault ended → Rose before now) → now ≡ before → before < 2 ^ 64 - 1 → result ≡ WriteFault ended → ⊥
+pub no_write_fault_without_a_rise : (before now : ℕ) (ended : Option EndedHeap) (result : Status) → (result ≡ WriteFault ended → Rose before now) → now ≡ before → before < 2 ^ 64 - 1 → result ≡ WriteFault ended → ⊥
 no_write_fault_without_a_rise before now ended result says same low fault = stays before low (subst (λ (n : ℕ). Rose before n) same (says fault))

@@ -1,6 +1,6 @@
 use Rattle.std.proofs.Common.{◌≡◌, arith, Some}
 use Rattle.std.specs.Prelude.{Option}
-use Rattle.heap_rule.specs.Ending.{Past}
+use Rattle.heap_rule.specs.Ending.{EndedHeap}
 use Rattle.camlheap_run.proofs.RunLemmas.{Ran, begun_here, length-begun, all_here, all_over, writes_run, writes_front}
 use Rattle.camlheap_run.proofs.run.run.Goals as goal
 
@@ -29,14 +29,14 @@ end-requires-clause-room g c =
 
 pub returns-in-Ok-written-clause-done : goal.returns-in-Ok-written-clause-done
 returns-in-Ok-written-clause-done g c = λ ended is.
-    let last : ◌≡◌ {A = Option Past} (Some c.end.result) ended = cc in
+    let last : ◌≡◌ {A = Option EndedHeap} (Some c.end.result) ended = cc in
     let ran : Ran c.args.sizes.now c.config_of.result c.args.script.now.sections c.in-Ok.begun c.drive-runs.result.items c.end.result =
     record { sizes = c.config_of.ensures.sizes; begun = c.in-Ok.ensures; long = c.drive-runs.ensures.length; each = c.drive-runs.ensures.each; ended = c.end.ensures } in
     writes_run c.args.report _ _ _ _ _ c.deref.result.now _ ended _ _ ran c.deref.ensures.value last c.in-Ok-written.ensures.bytes
 
 pub returns-in-Err-written-clause-cut : goal.returns-in-Err-written-clause-cut
 returns-in-Err-written-clause-cut g c = λ ended is.
-    let last : ◌≡◌ {A = Option Past} (Some c.end.result) ended = cc in
+    let last : ◌≡◌ {A = Option EndedHeap} (Some c.end.result) ended = cc in
     let ran : Ran c.args.sizes.now c.config_of.result c.args.script.now.sections c.in-Ok.begun c.drive-runs.result.items c.end.result =
     record { sizes = c.config_of.ensures.sizes; begun = c.in-Ok.ensures; long = c.drive-runs.ensures.length; each = c.drive-runs.ensures.each; ended = c.end.ensures } in
     writes_front c.args.report _ _ _ _ _ c.deref.result.now _ ended _ _ ran c.deref.ensures.value last c.in-Err-written.ensures.bytes

@@ -1,5 +1,5 @@
 use Rattle.std.proofs.Common.{ap}
-use Rattle.steps_run.specs.Ticks.{tick_answer}
+use Rattle.steps_fields.specs.Ticks.{tick_answer}
 use Rattle.domain_turns.proofs.Trying.{refuses}
 use Rattle.domain_turns.proofs.command.full_as.Goals as goal
 

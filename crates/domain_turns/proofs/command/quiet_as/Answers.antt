@@ -1,8 +1,8 @@
 use Rattle.std.proofs.Common.{◌∙◌, ap}
 use Rattle.heap_model.specs.declared.reply.Reply.{Reply}
 use Rattle.heap_model.specs.declared.reply.Applied.TheVariants.{Replied}
-use Rattle.steps_run.specs.Ticks.{tick_answer}
-use Rattle.steps_run.proofs.TickSteps.{quiet_answer}
+use Rattle.steps_fields.specs.Ticks.{tick_answer}
+use Rattle.steps_fields.proofs.TickSteps.{quiet_answer}
 use Rattle.field_access.proofs.Doing.{entered_did}
 use Rattle.domain_turns.proofs.command.quiet_as.Goals as goal
 

@@ -2,9 +2,9 @@ use Rattle.std.proofs.Common.{◌≡◌, ◌∙◌, ℕ, [], Option, sym, ap, su
 use Rattle.heap_rule.specs.Running.{own_entry}
 use Rattle.heap_rule.specs.Standing.{IsInHeap}
 use Rattle.heap_words.specs.declared.value.Value.TheVariants.{Ref}
-use Rattle.steps_run.specs.Stores.{StoreTold}
-use Rattle.steps_ephemerons.specs.Loads.{word_of}
-use Rattle.steps_ephemerons.specs.Stores.{WeakStoreMay}
+use Rattle.steps_fields.specs.Stores.{StoreTold}
+use Rattle.steps_ephemeron_commands.specs.Loads.{word_of}
+use Rattle.steps_ephemeron_commands.specs.Stores.{WeakStoreMay}
 use Rattle.ephemeron_rounds.specs.Items.{value_of, item_in}
 use Rattle.ephemeron_rounds.proofs.WeakLoads.{found_inside, found_small}
 use Rattle.ephemeron_rounds.proofs.WeakStores.{room_there, store_may, store_did}

@@ -1,7 +1,7 @@
 use Rattle.std.proofs.Common.{◌∙◌, ℕ, Option, sym, ap, subst}
 use Rattle.heap_rule.specs.Changes.{value_at}
 use Rattle.heap_rule.specs.Running.{own_entry}
-use Rattle.steps_ephemerons.specs.Heads.{key_in, HasKey, LacksKey}
+use Rattle.steps_ephemeron_commands.specs.Heads.{key_in, HasKey, LacksKey}
 use Rattle.ephemeron_rounds.proofs.Refusals.{refused, ephemeron_few}
 use Rattle.ephemeron_rounds.proofs.KeyCounts.{no_ephemeron, keys_told}
 use Rattle.ephemeron_rounds.proofs.finding.find.Goals as goal

@@ -1,6 +1,6 @@
 use Rattle.heap_model.specs.Fronts.{EpheShape}
 use Rattle.heap_rule.specs.Places.{tagged}
-use Rattle.barriers.proofs.Exchanges.{read_ephemeron, read_tagged}
+use Rattle.darkening_beside.proofs.Exchanges.{read_ephemeron, read_tagged}
 use Rattle.ephemeron_rounds.proofs.heads.is_marked.Goals as goal
 
 pub returns-in-Some-Plain : goal.returns-in-Some-Plain

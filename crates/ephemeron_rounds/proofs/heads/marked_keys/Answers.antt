@@ -1,6 +1,6 @@
 use Rattle.std.proofs.Common.{ap, sym}
 use Rattle.heap_model.specs.Fronts.{EpheShape}
-use Rattle.barriers.proofs.Exchanges.{read_ephemeron}
+use Rattle.darkening_beside.proofs.Exchanges.{read_ephemeron}
 use Rattle.ephemeron_rounds.proofs.heads.marked_keys.Goals as goal
 
 pub returns-in-Some-Ephe : goal.returns-in-Some-Ephe

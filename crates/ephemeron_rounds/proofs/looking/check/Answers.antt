@@ -1,5 +1,5 @@
 use Rattle.std.proofs.Common.{◌∙◌, ℕ, [], Option, refl, sym, ap, subst}
-use Rattle.steps_ephemerons.specs.Loads.{Puts, word_of}
+use Rattle.steps_ephemeron_commands.specs.Loads.{Puts, word_of}
 use Rattle.ephemeron_rounds.proofs.WeakLoads.{weak_may, check_did}
 use Rattle.ephemeron_rounds.proofs.looking.check.Goals as goal
 

@@ -1,6 +1,6 @@
 use Rattle.std.proofs.Common.{◌∙◌, ℕ, [], ◌∷◌, Option, refl, sym, ap, subst}
 use Rattle.heap_rule.specs.declared.change.Change.TheVariants.{Read}
-use Rattle.steps_ephemerons.specs.Loads.{Puts, word_of}
+use Rattle.steps_ephemeron_commands.specs.Loads.{Puts, word_of}
 use Rattle.ephemeron_rounds.proofs.WeakLoads.{armed_may, get_did, get_into}
 use Rattle.ephemeron_rounds.proofs.looking.get.Goals as goal
 

@@ -1,4 +1,4 @@
-use Rattle.steps_beside.specs.Marking.{Weak}
+use Rattle.steps_marking_beside.specs.Marking.{Weak}
 use Rattle.heap_rule.specs.Running.{own_entry}
 use Rattle.ephemeron_rounds.proofs.looking.get.Given as goal
 

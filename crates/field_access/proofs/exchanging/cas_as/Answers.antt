@@ -8,9 +8,9 @@ use Rattle.heap_rule.specs.declared.view.DomainView.{DomainView}
 use Rattle.heap_words.specs.declared.value.Value.{Value}
 use Rattle.heap_words.specs.declared.value.Value.TheVariants.{Ref}
 use Rattle.heap_words.specs.Values.{value_word}
-use Rattle.steps_run.specs.Loads.{Measured, place_of, puts_block, is_block}
-use Rattle.steps_run.specs.Stores.{MustRemember}
-use Rattle.steps_run.specs.Ticks.{tick_answer}
+use Rattle.steps_fields.specs.Loads.{Measured, place_of, puts_block, is_block}
+use Rattle.steps_fields.specs.Stores.{MustRemember}
+use Rattle.steps_fields.specs.Ticks.{tick_answer}
 use Rattle.field_access.proofs.Doing.{entered_did}
 use Rattle.field_access.proofs.FieldSteps.{field_after, field_known, suits_after, exchange_may}
 use Rattle.steps_exchange.specs.Exchanges.{ExpectedMarked}

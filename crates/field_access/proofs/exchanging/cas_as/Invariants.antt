@@ -1,4 +1,4 @@
-use Rattle.steps_beside.specs.Marking.{Expected}
+use Rattle.steps_marking_beside.specs.Marking.{Expected}
 use Rattle.field_access.proofs.exchanging.cas_as.Given as goal
 
 abbrev pub ghost-tick : goal.ghost-tick

@@ -2,11 +2,11 @@ use Rattle.std.proofs.Common.{◌≡◌, ℕ, ◌≤◌, ◌&&◌, false, sym, a
 use Rattle.heap_rule.specs.Places.{needs_no_scan}
 use Rattle.heap_model.specs.declared.command.Command.TheVariants.{Load}
 use Rattle.heap_rule.specs.Running.{own_entry}
-use Rattle.steps_run.specs.Loads.{place_of, puts_block}
-use Rattle.steps_run.specs.Ticks.{tick_answer}
+use Rattle.steps_fields.specs.Loads.{place_of, puts_block}
+use Rattle.steps_fields.specs.Ticks.{tick_answer}
 use Rattle.field_access.proofs.Doing.{entered_did}
 use Rattle.heap_rule.specs.declared.view.DomainView.{DomainView}
-use Rattle.steps_run.specs.Loads.{Measured}
+use Rattle.steps_fields.specs.Loads.{Measured}
 use Rattle.field_access.proofs.FieldSteps.{field_known, load_may}
 use Rattle.field_access.proofs.FieldLoads.{load_did, loads_into, register_loaded}
 use Rattle.field_access.proofs.Looking.{ephemeron_found, past_found, measured_at, takes_none}

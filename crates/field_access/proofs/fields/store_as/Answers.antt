@@ -6,15 +6,15 @@ use Rattle.heap_rule.specs.Standing.{FieldMay}
 use Rattle.heap_model.specs.declared.reply.Reply.TheVariants.{Done}
 use Rattle.heap_rule.specs.Changes.{value_at}
 use Rattle.heap_rule.specs.Places.{needs_no_scan}
-use Rattle.steps_run.specs.Loads.{place_of, subject, puts_block, is_block}
+use Rattle.steps_fields.specs.Loads.{place_of, subject, puts_block, is_block}
 use Rattle.heap_words.specs.declared.value.Value.{Value}
 use Rattle.heap_words.specs.declared.value.Value.TheVariants.{Ref}
 use Rattle.heap_words.specs.Values.{value_word}
-use Rattle.steps_run.specs.Stores.{MustRemember}
-use Rattle.steps_run.specs.Ticks.{tick_answer}
+use Rattle.steps_fields.specs.Stores.{MustRemember}
+use Rattle.steps_fields.specs.Ticks.{tick_answer}
 use Rattle.field_access.proofs.Doing.{entered_did}
 use Rattle.heap_rule.specs.declared.view.DomainView.{DomainView}
-use Rattle.steps_run.specs.Loads.{Measured}
+use Rattle.steps_fields.specs.Loads.{Measured}
 use Rattle.field_access.proofs.FieldSteps.{at_address, field_after, field_known, suits_after, store_may}
 use Rattle.field_access.proofs.FieldStores.{stored_did}
 use Rattle.field_access.proofs.Looking.{fields_taken, none_found, past_found, measured_at, suits_at}

@@ -1,4 +1,4 @@
-use Rattle.steps_run.specs.Loads.{subject}
+use Rattle.steps_fields.specs.Loads.{subject}
 use Rattle.field_access.proofs.fields.store_as.Given as goal
 
 abbrev pub ghost-tick : goal.ghost-tick

@@ -1,5 +1,5 @@
 use Rattle.std.proofs.Common.{ap}
-use Rattle.steps_run.specs.Ticks.{tick_answer}
+use Rattle.steps_fields.specs.Ticks.{tick_answer}
 use Rattle.field_access.proofs.Doing.{entered_did}
 use Rattle.field_access.proofs.registers.forget_as.Goals as goal
 

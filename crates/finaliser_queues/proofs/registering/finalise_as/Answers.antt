@@ -1,6 +1,6 @@
 use Rattle.std.proofs.Common.{ap, sym, ◌∙◌}
 use Rattle.heap_rule.specs.declared.view.DomainView.{DomainView}
-use Rattle.steps_run.specs.Ticks.{tick_answer}
+use Rattle.steps_fields.specs.Ticks.{tick_answer}
 use Rattle.field_access.proofs.Doing.{entered_did}
 use Rattle.finaliser_queues.proofs.Registrations.{own_unfinalised, final_did, reply_bad}
 use Rattle.finaliser_queues.proofs.registering.finalise_as.Goals as goal

@@ -1,5 +1,5 @@
 use Rattle.std.proofs.Common.{ℕ, List, sym, subst}
-use Rattle.steps_cycle.specs.Marking.{Anywhere}
+use Rattle.steps_marking.specs.Marking.{Anywhere}
 use Rattle.mark_slices.specs.Shares.{Noted}
 use Rattle.mark_slices.proofs.Visits.{grey_begins, grey_stays, ready}
 use Rattle.mark_slices.proofs.following.follow.Goals as goal

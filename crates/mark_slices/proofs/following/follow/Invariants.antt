@@ -1,4 +1,4 @@
-use Rattle.steps_cycle.specs.Marking.{Anywhere}
+use Rattle.steps_marking.specs.Marking.{Anywhere}
 use Rattle.mark_slices.proofs.following.follow.Given as goal
 
 abbrev pub ghost-scan_block : goal.ghost-scan_block

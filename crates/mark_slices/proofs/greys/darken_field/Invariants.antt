@@ -1,4 +1,4 @@
-use Rattle.steps_beside.specs.Marking.{OfScan}
+use Rattle.steps_marking_beside.specs.Marking.{OfScan}
 use Rattle.mark_slices.proofs.greys.darken_field.Given as goal
 
 abbrev pub ghost-beside_read : goal.ghost-beside_read

@@ -1,7 +1,7 @@
 use Rattle.std.proofs.Common.{ℕ, ◌<◌}
 use Rattle.heap_rule.specs.Beside.{IsPaid}
 use Rattle.heap_rule.specs.Token.{IsIn}
-use Rattle.steps_beside.specs.Marking.{Field, StillFound}
+use Rattle.steps_marking_beside.specs.Marking.{Field, StillFound}
 use Rattle.mark_slices.specs.Slices.{Went}
 use Rattle.mark_slices.proofs.greys.darken_fields.Given as goal
 

@@ -1,5 +1,5 @@
 use Rattle.std.proofs.Common.{ℕ, List, ◌+◌, ◌*◌, ◌<◌, ◌≤◌, arith, sym, subst}
-use Rattle.steps_cycle.specs.Marking.{LiesAt, Site}
+use Rattle.steps_marking.specs.Marking.{LiesAt, Site}
 use Rattle.mark_slices.specs.Shares.{Noted}
 use Rattle.mark_slices.proofs.Visits.{mark_begins, mark_stays, ready}
 use Rattle.mark_slices.proofs.places.mark_place.Goals as goal

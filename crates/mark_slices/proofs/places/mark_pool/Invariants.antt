@@ -1,6 +1,6 @@
 use Rattle.std.proofs.Common.{◌≡◌, []}
 use Rattle.heap_rule.specs.Token.{IsIn}
-use Rattle.steps_cycle.specs.Marking.{Next}
+use Rattle.steps_marking.specs.Marking.{Next}
 use Rattle.mark_slices.specs.Shares.{Marks, Walked, spot_from}
 use Rattle.mark_slices.proofs.places.mark_pool.Given as goal
 

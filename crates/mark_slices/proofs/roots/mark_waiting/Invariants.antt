@@ -2,7 +2,7 @@ use Rattle.std.proofs.Common.{◌≡◌, ℕ, ◌<◌, Some}
 use Rattle.heap_rule.specs.declared.view.Held.TheVariants.{Queue}
 use Rattle.heap_rule.specs.Finalisers.{held_at}
 use Rattle.heap_rule.specs.Token.{IsIn}
-use Rattle.steps_cycle.specs.Marking.{OfQueue}
+use Rattle.steps_marking.specs.Marking.{OfQueue}
 use Rattle.mark_slices.specs.Decks.{HasNoted, NotesOn}
 use Rattle.mark_slices.specs.Shares.{IsQueueRoot, with_queue}
 use Rattle.mark_slices.proofs.roots.mark_waiting.Given as goal

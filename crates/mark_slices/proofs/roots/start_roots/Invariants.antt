@@ -2,7 +2,7 @@ use Rattle.std.proofs.Common.{◌≡◌, ℕ, ◌<◌, Some}
 use Rattle.heap_words.specs.declared.value.Value.TheVariants.{Ref}
 use Rattle.heap_rule.specs.Changes.{value_at}
 use Rattle.heap_rule.specs.Token.{IsIn}
-use Rattle.steps_cycle.specs.Marking.{Register}
+use Rattle.steps_marking.specs.Marking.{Register}
 use Rattle.mark_slices.specs.Decks.{HasNoted, NotesOn}
 use Rattle.mark_slices.specs.Shares.{IsRoot, with_roots}
 use Rattle.mark_slices.proofs.roots.start_roots.Given as goal

@@ -1,6 +1,6 @@
 use Rattle.std.proofs.Common.{◌≡◌, []}
 use Rattle.heap_rule.specs.Token.{IsIn}
-use Rattle.steps_cycle.specs.Looks.{knowing_colours}
+use Rattle.steps_marking.specs.Looks.{knowing_colours}
 use Rattle.mark_slices.specs.Shares.{Marks, Walked}
 use Rattle.mark_slices.proofs.rounds.walk_pools.Given as goal
 

@@ -1,7 +1,7 @@
 use Rattle.std.proofs.Common.{◌≡◌, ℕ, ◌≤◌, ◌∷◌, false, List, arith, sym, refl, ap, subst, ◌∙◌}
 use Rattle.heap_rule.specs.declared.config.Config.{Config}
 use Rattle.heap_rule.specs.declared.view.DomainView.{DomainView}
-use Rattle.steps_cycle.specs.Looks.{with_share}
+use Rattle.steps_marking.specs.Looks.{with_share}
 use Rattle.mark_slices.specs.Shares.{Noted, field_on, scanning}
 use Rattle.mark_slices.proofs.Fields.{field_darkens, field_passed}
 use Rattle.mark_slices.proofs.Notes.{noted_more, noted_pushed}

@@ -1,4 +1,4 @@
-use Rattle.steps_cycle.specs.Marking.{Field}
+use Rattle.steps_marking.specs.Marking.{Field}
 use Rattle.mark_slices.proofs.scanning.scan_field.Given as goal
 
 abbrev pub ghost-darken : goal.ghost-darken

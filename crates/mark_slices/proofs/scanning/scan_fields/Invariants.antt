@@ -1,6 +1,6 @@
 use Rattle.std.proofs.Common.{◌≡◌}
 use Rattle.heap_rule.specs.Token.{IsIn}
-use Rattle.steps_cycle.specs.Looks.{with_share}
+use Rattle.steps_marking.specs.Looks.{with_share}
 use Rattle.mark_slices.specs.Shares.{Noted, fields_to, scanning}
 use Rattle.mark_slices.proofs.scanning.scan_fields.Given as goal
 

@@ -1,8 +1,8 @@
 use Rattle.std.proofs.Common.{refl, subst, sym}
 use Rattle.heap_words.specs.declared.colours.Colours.{Colours}
 use Rattle.heap_rule.specs.declared.view.DomainView.{DomainView}
-use Rattle.mark_slices.specs.Slices.{Looked}
-use Rattle.steps_cycle.specs.Marking.{IsGrey}
+use Rattle.mark_slices.specs.Slices.{LookedAtHint}
+use Rattle.steps_marking.specs.Marking.{IsGrey}
 use Rattle.mark_slices.proofs.Going.{head_known, looked_on, still_slices}
 use Rattle.mark_slices.proofs.slices.scan_hint.Goals as goal
 
@@ -10,7 +10,7 @@ pub scan_word-requires : goal.scan_word-requires
 scan_word-requires g c = λ lives outlives.
     let x : DomainView = c.args.dom.now.view in
     let y : DomainView = c.look-word.new.dom.view in
-    let looked : Looked c.args.colours c.args.at x c.look-word.result y = subst (λ (k : Colours). Looked k c.args.at x c.look-word.result y) c.requires.1.0 c.look-word.ensures.looked in
+    let looked : LookedAtHint c.args.colours c.args.at x c.look-word.result y = subst (λ (k : Colours). LookedAtHint k c.args.at x c.look-word.result y) c.requires.1.0 c.look-word.ensures.looked in
     let q = c.requires.1.1 in (
       outlives,
       (
@@ -32,5 +32,5 @@ pub returns-clause-went : goal.returns-clause-went
 returns-clause-went g c =
     let x : DomainView = c.args.dom.now.view in
     let y : DomainView = c.look-word.new.dom.view in
-    let looked : Looked c.args.colours c.args.at x c.look-word.result y = subst (λ (k : Colours). Looked k c.args.at x c.look-word.result y) c.requires.1.0 c.look-word.ensures.looked in
+    let looked : LookedAtHint c.args.colours c.args.at x c.look-word.result y = subst (λ (k : Colours). LookedAtHint k c.args.at x c.look-word.result y) c.requires.1.0 c.look-word.ensures.looked in
     looked_on c.args.colours c.args.at c.look-word.result c.scan_word.result x y c.scan_word.new.dom.view (g.K.Deck.counts c.args.deck.now) (g.K.Deck.counts c.scan_word.new.deck) looked c.scan_word.ensures.grey c.scan_word.ensures.went

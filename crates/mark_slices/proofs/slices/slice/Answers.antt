@@ -1,17 +1,17 @@
 use Rattle.std.proofs.Common.{◌+◌, ◌<◌, ℕ, IfNone, Option, arith, subst}
 use Rattle.heap_rule.specs.declared.view.DomainView.{DomainView}
-use Rattle.steps_cycle.specs.Looks.{knowing_colours}
+use Rattle.steps_marking.specs.Looks.{knowing_colours}
 use Rattle.mark_slices.specs.declared.slices.Why.{Why}
-use Rattle.mark_slices.specs.Decks.{Counts}
+use Rattle.mark_slices.specs.Decks.{DeckCounts}
 use Rattle.mark_slices.specs.Slices.{Went}
 use Rattle.mark_slices.proofs.Going.{block_on}
 use Rattle.mark_slices.proofs.slices.slice.Goals as goal
 
 pub loop-count-preserved : goal.loop-count-preserved
 loop-count-preserved g c =
-    let l : Counts = g.K.Deck.counts c.args.deck.now in
-    let m : Counts = g.K.Deck.counts c.loop-count.deck in
-    let n : Counts = g.K.Deck.counts c.scan_next-next.new.deck in
+    let l : DeckCounts = g.K.Deck.counts c.args.deck.now in
+    let m : DeckCounts = g.K.Deck.counts c.loop-count.deck in
+    let n : DeckCounts = g.K.Deck.counts c.scan_next-next.new.deck in
     let x : DomainView = knowing_colours c.args.dom.now.view c.colours_now-colours.result in
     let y : DomainView = c.loop-count.dom.view in
     let z : DomainView = c.scan_next-next.new.dom.view in

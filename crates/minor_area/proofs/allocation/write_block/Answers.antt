@@ -3,7 +3,7 @@ use Rattle.heap_rule.specs.declared.config.Config.{Config}
 use Rattle.heap_rule.specs.declared.view.DomainView.{DomainView}
 use Rattle.heap_words.specs.Labels.{label_word}
 use Rattle.heap_rule.specs.Token.{next_address}
-use Rattle.steps_making.specs.Inits.{fields_of}
+use Rattle.steps_young.specs.Inits.{fields_of}
 use Rattle.minor_area.proofs.Allocating.{head_inside, coloured_head, head_may, alloc_did, alloc_grows, young_fields}
 use Rattle.minor_area.proofs.allocation.write_block.Goals as goal
 

@@ -1,6 +1,0 @@
-use Rattle.std.proofs.Common.{rules}
-use Rattle.cycle_phases.proofs.Works.{decide_works}
-use Rattle.cycle_phases.proofs.sharing.work.Goals as goal
-
-pub returns-in-Decide-clause-works : goal.returns-in-Decide-clause-works
-returns-in-Decide-clause-works c = search (rules, decide_works)

@@ -1,0 +1,42 @@
+//! The darkening of a block beside running domains.
+ghost use Rattle.std.specs.Prelude.{◌≡◌, true};
+ghost use Rattle.heap_words.specs.ColourWords.{IsPermutation};
+ghost use Rattle.heap_rule.specs.declared.view.Known.TheVariants.{Darkened, Marked};
+ghost use Rattle.heap_rule.specs.Beside.{IsKnown};
+ghost use Rattle.heap_rule.specs.Standing.{IsInHeap};
+ghost use Rattle.heap_rule.specs.Token.{IsIn};
+ghost use Rattle.steps_marking_beside.specs.Marking.{Reason, StillFound, weak_on};
+ghost use Rattle.darkening_beside.specs.Aware.{CountsDarkening, DarkensBeside, Learnt};
+
+use crate::heads::darkened_head;
+use heap_rule::{Domain, Heap};
+use heap_words::Colours;
+use steps_marking_beside::{beside_darken, beside_target_load};
+
+/// Marks the block of the pools at `at`, while a cycle goes on beside running domains: a field may have
+/// referred to it when the roots had been darkened, or a weak read has brought it into a register. The
+/// domain runs, and knows the colours and the armed word. Afterwards the block is marked, and where a
+/// weak read brought it the domain owes its darkening no more. Answers whether this domain has marked
+/// it, and not another before.
+pub fn darken_beside(heap: &Heap, dom: &mut Domain, at: u32, colours: Colours) -> bool
+    ghost reason: { Reason }
+    requires here { IsIn dom.old heap.now }
+    requires inside { IsInHeap heap.now.config at }
+    requires meanings { IsPermutation colours }
+    requires darkens { DarkensBeside heap.now.config colours at reason dom.old.view }
+    ensures here { IsIn dom.new heap.now }
+    ensures learnt { Learnt dom.old.view dom.new.view }
+    ensures colours { dom.new.view.seen.share.colours ≡ dom.old.view.seen.share.colours }
+    ensures armed { dom.new.view.seen.share.armed ≡ dom.old.view.seen.share.armed }
+    ensures marked { IsKnown dom.new.view.seen.share.known (Marked at) }
+    ensures owes { dom.new.view.seen.share.weak ≡ weak_on reason dom.old.view.seen.share.weak }
+    ensures won { result ≡ true → IsKnown dom.new.view.seen.share.known (Darkened at) }
+    ensures counts { CountsDarkening result dom.old.view.seen.share.known dom.new.view.seen.share.known }
+    ensures found { StillFound dom.old.view dom.new.view }
+{
+    let word = beside_target_load(heap, dom, at);
+    let Some(new) = darkened_head(word, colours) else {
+        return false;
+    };
+    beside_darken(heap, dom, at, word, new) == word
+}

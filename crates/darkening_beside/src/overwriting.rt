@@ -1,0 +1,61 @@
+//! The deletion barrier.
+ghost use Rattle.std.specs.Prelude.{◌≡◌, ◌+◌, ◌≤◌, ℕ, None};
+ghost use Rattle.heap_rule.specs.Beside.{Barrier};
+ghost use Rattle.heap_rule.specs.Layout.{heap_words};
+ghost use Rattle.heap_rule.specs.Standing.{FieldMay};
+ghost use Rattle.heap_rule.specs.Token.{IsIn};
+ghost use Rattle.heap_rule.specs.declared.phase.Kind.TheVariants.{Run};
+ghost use Rattle.heap_rule.specs.declared.phase.Stage.TheVariants.{In};
+ghost use Rattle.steps_marking_beside.specs.Marking.{Field};
+ghost use Rattle.darkening_beside.specs.Aware.{Learnt, Overwriting};
+
+use crate::darkening::darken_beside;
+use heap_rule::{Domain, Heap, Reading, read_as};
+use heap_words::Value;
+use size_classes::POOL_WORDS;
+use steps_marking::{armed_now, colours_now};
+use steps_marking_beside::beside_read;
+
+// The same, with the reason why the block is darkened to which the field refers.
+fn darken_overwritten(heap: &Heap, dom: &mut Domain, block: u32, field: u32)
+    ghost why: { Overwriting }
+    requires reason { why.reason ≡ Field block field }
+    requires here { IsIn dom.old heap.now }
+    requires runs { dom.old.view.seen.stage ≡ In Run }
+    requires field { (may : FieldMay heap.now.config dom.old.view (block + 2 + field) why.register field) × (may.address ≡ block) }
+    requires inside { block + field + 2 ≤ heap_words heap.now.config }
+    ensures here { IsIn dom.new heap.now }
+    ensures learnt { Learnt dom.old.view dom.new.view }
+    ensures owes { dom.new.view.seen.share.weak ≡ dom.old.view.seen.share.weak }
+    ensures barrier { Barrier dom.new.view.seen.share block field }
+{
+    let limits = heap.config();
+    if !armed_now(heap, dom) {
+        return;
+    }
+    let word = beside_read(heap, dom, block + 2 + field, block, field);
+    match read_as(Reading::AsValue, word) {
+        Value::Ref(address) if address <= limits.pools * POOL_WORDS => {
+            let colours = colours_now(heap, dom);
+            darken_beside(heap, dom, address, colours);
+        }
+        _ => {}
+    }
+}
+
+/// Does what a store asks before it overwrites a field of the block at `block` that a register holds:
+/// where a cycle goes on beside running domains, the block of the pools to which the field refers is
+/// darkened. So nothing that was reachable when the roots had been darkened is lost to the marking.
+pub fn overwrite_barrier(heap: &Heap, dom: &mut Domain, block: u32, field: u32)
+    ghost register: { ℕ }
+    requires here { IsIn dom.old heap.now }
+    requires runs { dom.old.view.seen.stage ≡ In Run }
+    requires field { (may : FieldMay heap.now.config dom.old.view (block + 2 + field) register field) × (may.address ≡ block) }
+    requires inside { block + field + 2 ≤ heap_words heap.now.config }
+    ensures here { IsIn dom.new heap.now }
+    ensures learnt { Learnt dom.old.view dom.new.view }
+    ensures owes { dom.new.view.seen.share.weak ≡ dom.old.view.seen.share.weak }
+    ensures barrier { Barrier dom.new.view.seen.share block field }
+{
+    darken_overwritten(heap, dom, block, field);
+}

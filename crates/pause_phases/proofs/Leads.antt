@@ -1,0 +1,80 @@
+-- What domain 0 has done that has named the next kind, and arrived.
+use Rattle.std.proofs.Common.{◌≡◌, ◌∙◌, ◌++◌, ℕ, Bool, List, Some, sym, ap, subst, append_assoc}
+use Rattle.heap_model.specs.declared.entry.Entry.{Entry}
+use Rattle.heap_model.specs.Fronts.{AreNotControls, IsFrontOf, unseen}
+use Rattle.heap_model.specs.History.{Legal}
+use Rattle.heap_rule.specs.declared.config.Config.{Config}
+use Rattle.heap_rule.specs.declared.phase.Kind.{Kind}
+use Rattle.heap_rule.specs.declared.phase.Note.{Note}
+use Rattle.heap_rule.specs.declared.phase.Progress.{Progress}
+use Rattle.heap_rule.specs.declared.phase.Stage.TheVariants.{Leads, Led}
+use Rattle.heap_rule.specs.declared.view.DomainView.{DomainView}
+use Rattle.heap_rule.specs.Limits.{sizes_in}
+use Rattle.heap_rule.specs.Views.{fresh_share}
+use Rattle.steps_pauses.specs.Pauses.{EndsWith, arrived_view, entry_of, kind_in, progress_after}
+use Rattle.safepoint.specs.Looks.{LedTo, cleared}
+use Rattle.pause_phases.specs.Leading.{LeadsOn, Opens, noted_before}
+
+-- the domain with another front, other notes, and the next kind named
+abbrev led_with : DomainView → Kind → List Entry → List Note → Progress → DomainView
+led_with x kind front notes p = record x { seen = record x.seen { front = front; notes = notes; stage = Led kind; share = record fresh_share { progress = p } } }
+
+module _ (k : Config) (x y z v : DomainView) (last kind : Kind) (stage : x.seen.stage ≡ Leads last) (o : Opens k x y last kind) (l : LedTo k kind y z) (is : v ≡ arrived_view z) where
+  last_is : kind_in y.seen.stage ≡ last
+  last_is = ap (λ (w : DomainView). kind_in w.seen.stage) o.view ∙ ap kind_in stage
+
+  same_front : y.seen.front ≡ x.seen.front
+  same_front = ap (λ (w : DomainView). w.seen.front) o.view
+
+  same_number : y.own.number ≡ x.own.number
+  same_number = ap (λ (w : DomainView). w.own.number) o.view
+
+  -- the front is not changed by the arrival
+  front_is : v.seen.front ≡ z.seen.front
+  front_is = ap (λ (w : DomainView). w.seen.front) is
+
+  before : y.seen.notes ≡ x.seen.notes ++ noted_before last kind x.seen.share.progress o.findings
+  before = ap (λ (w : DomainView). w.seen.notes) o.view
+
+  named : v.seen.notes ≡ y.seen.notes ++ cleared kind
+  named = ap (λ (w : DomainView). w.seen.notes) is ∙ ap (λ (w : DomainView). w.seen.notes) l.view
+
+  progress_now : progress_after (kind_in y.seen.stage) kind y.seen.share.progress ≡ progress_after last kind x.seen.share.progress
+  progress_now = ap (λ (n : Kind). progress_after n kind y.seen.share.progress) last_is ∙ ap (progress_after last kind) o.progress_is
+
+  owed_now : y.seen.share.progress.unswept ≡ x.seen.share.progress.unswept
+  owed_now = ap (λ (p : Progress). p.unswept) o.progress_is
+
+  entry_now : entry_of y.seen.share.progress.unswept (kind_in y.seen.stage) kind ≡ entry_of x.seen.share.progress.unswept last kind
+  entry_now = ap (λ (n : Kind). entry_of y.seen.share.progress.unswept n kind) last_is ∙ ap (λ (u : Bool). entry_of u last kind) owed_now
+
+  ends : (e : Entry) → entry_of x.seen.share.progress.unswept last kind ≡ Some e → EndsWith k x v e
+  ends e stands =
+      let m = l.made e (entry_now ∙ stands) in record {
+        before = m.before;
+        front = front_is ∙ m.front;
+        seen = subst (λ (p : ℕ × List Entry). IsFrontOf p.0 m.before p.1) (λ i. (same_number i, same_front i)) m.seen;
+        led = subst (λ (f : List Entry). AreNotControls (unseen m.before f)) same_front m.led;
+        legal = subst (λ (f : List Entry). Legal (sizes_in k) f) (sym front_is) m.legal;
+      }
+
+  view_is : v ≡ arrived_view (led_with x kind v.seen.front v.seen.notes (progress_after last kind x.seen.share.progress))
+  view_is =
+      let p : Progress = progress_after (kind_in y.seen.stage) kind y.seen.share.progress in
+      is ∙ (ap arrived_view l.view
+      ∙ (ap (λ (w : DomainView). arrived_view (led_with w kind z.seen.front (y.seen.notes ++ cleared kind) p)) o.view
+      ∙ (ap (λ (f : List Entry). arrived_view (led_with x kind f (y.seen.notes ++ cleared kind) p)) (sym front_is)
+      ∙ (ap (λ (n : List Note). arrived_view (led_with x kind v.seen.front n p)) (sym named)
+      ∙ ap (λ (q : Progress). arrived_view (led_with x kind v.seen.front v.seen.notes q)) progress_now))))
+
+  pub leads_on : LeadsOn k x v last kind
+  leads_on = record {
+    follows = o.follows;
+    findings = o.findings;
+    chosen = o.chosen;
+    notes = named ∙ (ap (λ (n : List Note). n ++ cleared kind) before ∙ append_assoc x.seen.notes (noted_before last kind x.seen.share.progress o.findings) (cleared kind));
+    seen = subst (λ (p : ℕ × List Entry × List Entry). IsFrontOf p.0 p.1 p.2) (λ i. (same_number i, sym front_is i, same_front i)) l.seen;
+    stays = λ none. front_is ∙ (l.stays (entry_now ∙ none) ∙ same_front);
+    made = ends;
+    view = view_is;
+  }

@@ -1,0 +1,22 @@
+use Rattle.std.proofs.Common.{◌∙◌, ap, sym}
+use Rattle.heap_rule.specs.declared.phase.Kind.TheVariants.{Lasts}
+use Rattle.heap_rule.specs.declared.view.DomainView.{DomainView}
+use Rattle.pause_phases.proofs.Opens.{leads_list, lasts_frees, lasts_run, wished_view}
+use Rattle.pause_phases.proofs.opening.after_lasts.Goals as goal
+
+pub before_run-requires-clause-leader : goal.before_run-requires-clause-leader
+before_run-requires-clause-leader c =
+    let k = c.args.heap.now.config in
+    let x = c.args.dom.now.view in
+    let y = c.wants-found.new.dom.view in
+    let view = wished_view k x _ _ y _ _ _ c.colours_now-colours.ensures.knows c.colours_store.ensures.told c.wants-found.ensures.view in
+    leads_list k x y Lasts (ap (λ (v : DomainView). v.own.number) view ∙ c.requires.first) (ap (λ (v : DomainView). v.seen.stage) view ∙ c.requires.odd) ((λ e. cc), λ e. cc)
+
+pub returns-then-is_wanted-clause-opens : goal.returns-then-is_wanted-clause-opens
+returns-then-is_wanted-clause-opens c = lasts_frees c.args.heap.now.config c.args.dom.now.view _ _ _ _ _ _ c.colours_now-colours.ensures.knows c.colours_store.ensures.told c.wants-found.ensures.view c.clear_counts.new.dom.view (sym c.is_wanted.ensures ∙ c.if-is_wanted.true) c.clear_counts.ensures.cleared
+
+pub returns-else-is_wanted-clause-opens : goal.returns-else-is_wanted-clause-opens
+returns-else-is_wanted-clause-opens c =
+    let k = c.args.heap.now.config in
+    let x = c.args.dom.now.view in
+    lasts_run k x _ _ _ _ _ _ c.colours_now-colours.ensures.knows c.colours_store.ensures.told c.wants-found.ensures.view c.before_run.new.dom.view c.before_run.result (sym c.is_wanted.ensures ∙ c.if-is_wanted.false) c.before_run.ensures.lists c.before_run.ensures.list

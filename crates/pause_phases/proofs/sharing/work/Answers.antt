@@ -1,0 +1,6 @@
+use Rattle.std.proofs.Common.{rules}
+use Rattle.pause_phases.proofs.Works.{decide_works}
+use Rattle.pause_phases.proofs.sharing.work.Goals as goal
+
+pub returns-in-Decide-clause-works : goal.returns-in-Decide-clause-works
+returns-in-Decide-clause-works c = search (rules, decide_works)

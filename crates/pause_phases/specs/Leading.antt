@@ -1,0 +1,103 @@
+-- How domain 0 leads through a collection of the major heap.
+use Rattle.std.specs.Prelude.{◌≡◌, ℕ, ◌*◌, ◌==◌, ◌||◌, nat_lt, if◌then◌else◌, Bool, true, false, List, [], ◌∷◌, ◌++◌, Some, None}
+use Rattle.heap_model.specs.declared.entry.Entry.{Entry}
+use Rattle.heap_model.specs.Fronts.{IsFrontOf}
+use Rattle.heap_rule.specs.declared.config.Config.{Config}
+use Rattle.heap_rule.specs.declared.view.DomainView.{DomainView}
+use Rattle.heap_rule.specs.declared.phase.Kind.{Kind}
+use Rattle.heap_rule.specs.declared.phase.Kind.TheVariants.{Run, Promote, Reset, Roots, Mark, Rounds, Decide, Queued, Clean, Lasts, Sweep, Answer}
+use Rattle.heap_rule.specs.declared.phase.Note.{Note}
+use Rattle.heap_rule.specs.declared.phase.Note.TheVariants.{Want, Changed, Listed, SetBack}
+use Rattle.heap_rule.specs.declared.phase.Progress.{Progress}
+use Rattle.heap_rule.specs.declared.phase.Stage.TheVariants.{Led}
+use Rattle.heap_rule.specs.Phases.{Follows, last_note}
+use Rattle.heap_rule.specs.Views.{fresh_share}
+use Rattle.steps_pauses.specs.Pauses.{EndsWith, MayFollow, arrived_view, entry_of, progress_after}
+use Rattle.steps_pools.specs.Listings.{HasList}
+use Rattle.safepoint.specs.declared.answer.Want.TheVariants.{Cycle, Finish, Full}
+use Rattle.safepoint.specs.Looks.{cleared, is_wanted}
+use Rattle.steps_marking.specs.Looks.{with_share}
+
+-- what domain 0 finds before it names the next kind: the wishes, the changed word, and how many pools the list of free pools names
+pub record Findings : Type 0 where
+  pub wants : ℕ
+  pub changed : ℕ
+  pub free : ℕ
+
+-- a collection of the major heap is asked for, or fewer than half of the pools are free
+abbrev pub begins : Config → ℕ → ℕ → Bool
+begins k wants free = is_wanted Cycle wants || (is_wanted Full wants || nat_lt (2 * free) k.pools)
+
+-- the end of the one that goes on beside running domains is asked for
+abbrev pub finishes : ℕ → Bool
+finishes wants = is_wanted Finish wants || is_wanted Full wants
+
+-- what comes after the minor collection: a cycle that goes on is finished where that is asked for, and goes on else; where none goes on one begins or none does. Before one begins the garbage is freed that is left of the last one
+abbrev pub kind_after_reset : Config → ℕ → ℕ → Progress → Kind
+kind_after_reset k wants free p = if p.armed then (if finishes wants then Mark else Run) else (if begins k wants free then (if p.unswept then Sweep else Roots) else Run)
+
+-- which kind comes next, also by how far the collection has come. It ends in this pause where a complete one is asked for, and goes on beside running domains else. Where it ends its garbage is freed in this pause if a complete one is asked for, and by running domains else. A collection whose garbage was freed in the pause in which it ended is answered if it began there, and followed by another else; where the garbage was left of an earlier pause another begins if one is still asked for
+abbrev pub next_kind : Config → Kind → Progress → Findings → Kind
+next_kind k Run p f = Promote
+next_kind k Promote p f = Reset
+next_kind k Reset p f = kind_after_reset k f.wants f.free p
+next_kind k Roots p f = if is_wanted Full f.wants then Mark else Run
+next_kind k Mark p f = if f.changed == 0 then Rounds else Mark
+next_kind k Rounds p f = if f.changed == 0 then (if p.cut then Clean else Decide) else Mark
+next_kind k Decide p f = Queued
+next_kind k Queued p f = Mark
+next_kind k Clean p f = Lasts
+next_kind k Lasts p f = if is_wanted Full f.wants then Sweep else Run
+next_kind k Sweep p f = if p.unswept then (if begins k f.wants f.free then Roots else Run) else (if p.whole then Answer else Roots)
+next_kind k Answer p f = Run
+
+-- where the domains run next it writes the list of free pools
+abbrev pub noted_list : Kind → Findings → List Note
+noted_list Run f = Listed f.free ∷ []
+noted_list _ f = []
+
+-- what domain 0 notes before it names a kind after another: all by which it chooses the kind
+abbrev pub noted_before : Kind → Kind → Progress → Findings → List Note
+noted_before Run next p f = SetBack ∷ []
+noted_before Reset next p f = Listed f.free ∷ Want f.wants ∷ []
+noted_before Roots next p f = Want f.wants ∷ noted_list next f
+noted_before Mark next p f = Changed f.changed ∷ []
+noted_before Rounds next p f = Changed f.changed ∷ []
+noted_before Lasts next p f = Want f.wants ∷ noted_list next f
+noted_before Sweep next p f = if p.unswept then Listed f.free ∷ Want f.wants ∷ [] else []
+noted_before Answer next p f = Listed f.free ∷ []
+noted_before _ next p f = []
+
+-- and all that it notes before it arrives
+abbrev pub noted_on : Kind → Kind → Progress → Findings → List Note
+noted_on last kind p f = noted_before last kind p f ++ cleared kind
+
+-- the domain knows that no blocks and no words are counted as alive
+abbrev pub CountsCleared : DomainView → DomainView → Type 0
+CountsCleared x y = y ≡ with_share x (record x.seen.share { blocks = Some 0; words = Some 0 })
+
+-- the domain with other notes, and with what it knows of the list of free pools and of the phase as another has it
+abbrev pub opened_view : DomainView → DomainView → List Note → DomainView
+opened_view x y notes = record x { seen = record x.seen { notes = notes; listing = y.seen.listing; share = y.seen.share } }
+
+-- domain 0 has found which kind comes next, and done what is asked of it before it names that kind
+pub record Opens (k : Config) (x y : DomainView) (last kind : Kind) : Type 0 where
+  pub follows : Follows last kind
+  pub findings : Findings
+  pub chosen : kind ≡ next_kind k last x.seen.share.progress findings
+  pub may : MayFollow y.seen.share last kind
+  pub list : kind ≡ Run → HasList k y
+  pub set_back : kind ≡ Promote → last_note y.seen.notes ≡ Some SetBack
+  pub progress_is : y.seen.share.progress ≡ x.seen.share.progress
+  pub view : y ≡ opened_view x y (x.seen.notes ++ noted_before last kind x.seen.share.progress findings)
+
+-- domain 0 has named the kind that comes next by what it found, and arrived. The collector's entry stands, if there is one, and what the domain knew of the phase is void
+pub record LeadsOn (k : Config) (x y : DomainView) (last kind : Kind) : Type 0 where
+  pub follows : Follows last kind
+  pub findings : Findings
+  pub chosen : kind ≡ next_kind k last x.seen.share.progress findings
+  pub notes : y.seen.notes ≡ x.seen.notes ++ noted_on last kind x.seen.share.progress findings
+  pub seen : IsFrontOf x.own.number y.seen.front x.seen.front
+  pub stays : entry_of x.seen.share.progress.unswept last kind ≡ None → y.seen.front ≡ x.seen.front
+  pub made : (e : Entry) → entry_of x.seen.share.progress.unswept last kind ≡ Some e → EndsWith k x y e
+  pub view : y ≡ arrived_view (record x { seen = record x.seen { front = y.seen.front; notes = y.seen.notes; stage = Led kind; share = record fresh_share { progress = progress_after last kind x.seen.share.progress } } })

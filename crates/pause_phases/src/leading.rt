@@ -1,0 +1,74 @@
+//! How domain 0 goes from one kind of phase to the next.
+ghost use Rattle.std.specs.Prelude.{◌≡◌, ◌<◌, ◌^◌, [], Some};
+ghost use Rattle.heap_rule.specs.declared.phase.Kind.TheVariants.{Run, Promote};
+ghost use Rattle.heap_rule.specs.declared.phase.Note.TheVariants.{SetBack};
+ghost use Rattle.heap_rule.specs.declared.phase.Stage.TheVariants.{Leads};
+ghost use Rattle.heap_rule.specs.declared.view.Hunt.TheVariants.{Rests};
+ghost use Rattle.heap_rule.specs.Phases.{Follows, last_note};
+ghost use Rattle.heap_rule.specs.Token.{IsIn};
+ghost use Rattle.heap_rule.specs.Views.{voided};
+ghost use Rattle.steps_pauses.specs.Pauses.{MayFollow, kind_in};
+ghost use Rattle.steps_pools.specs.Listings.{HasList};
+ghost use Rattle.safepoint.specs.Looks.{LedTo};
+ghost use Rattle.pause_phases.specs.Leading.{LeadsOn};
+
+use crate::opening::open;
+use crate::progress::progress_after;
+use heap_rule::{Domain, Heap, Kind, Progress};
+use safepoint::{arrive, lead};
+use steps_marking::changed_clear;
+
+// Names the next kind. Where blocks are marked next, nothing is changed so far.
+fn name(heap: &Heap, dom: &mut Domain, next: Kind)
+    requires here { IsIn dom.old heap.now }
+    requires first { dom.old.view.own.number ≡ 0 }
+    requires odd { dom.old.view.seen.stage ≡ Leads (kind_in dom.old.view.seen.stage) }
+    requires follows { Follows (kind_in dom.old.view.seen.stage) next }
+    requires may { MayFollow dom.old.view.seen.share (kind_in dom.old.view.seen.stage) next }
+    requires list { next ≡ Run → HasList heap.now.config dom.old.view }
+    requires set_back { next ≡ Promote → last_note dom.old.view.seen.notes ≡ Some SetBack }
+    ensures here { IsIn dom.new heap.now }
+    ensures led { LedTo heap.now.config next dom.old.view dom.new.view }
+{
+    lead(heap, dom, next);
+    match next {
+        Kind::Mark => changed_clear(heap, dom),
+        _ => (),
+    }
+}
+
+/// Domain 0, in an odd phase, finds which kind of phase comes next, does what belongs before it, names
+/// it, and arrives. Answers the kind.
+///
+/// After Reset a collection of the major heap begins where none goes on, and one is asked for or fewer
+/// than half of the pools are free; garbage that is left of the last one is freed first, in Sweep. Once
+/// the roots are marked it goes on beside running domains, unless a complete one is asked for. One that
+/// goes on so is finished in a later pause, where its end or a complete one is asked for. Blocks are
+/// marked until nothing is changed in a whole phase. Where no complete collection is asked for it ends
+/// with Lasts, and running domains free its garbage. Else its garbage is freed in Sweep. Then a
+/// collection that began in this pause is answered, and another one is followed by one that begins in
+/// this pause. `progress` says whether the cut of the collection is made, which matters in Rounds;
+/// whether it began in this pause, which matters in Sweep; whether garbage of the last one is left,
+/// which matters in Reset and Sweep; and whether one goes on beside running domains, which matters in
+/// Reset. Afterwards it says so of the kind that is named.
+///
+/// The rule of sweeping beside running domains is of "Retrofitting Parallelism onto OCaml", section 3.2.
+pub fn lead_on(heap: &Heap, dom: &mut Domain, last: Kind, progress: &mut Progress) -> Kind
+    requires here { IsIn dom.old heap.now }
+    requires first { dom.old.view.own.number ≡ 0 }
+    requires odd { dom.old.view.seen.stage ≡ Leads last }
+    requires at_rest { dom.old.view.seen.hunt ≡ Rests }
+    requires idle { dom.old.view.seen.made ≡ [] }
+    requires few { dom.old.view.own.arrivals < 2 ^ 60 }
+    requires forgot { dom.old.view.seen.share ≡ voided dom.old.view.seen.share }
+    requires knows { progress.old ≡ dom.old.view.seen.share.progress }
+    ensures here { IsIn dom.new heap.now }
+    ensures leads { LeadsOn heap.now.config dom.old.view dom.new.view last result }
+    ensures knows { progress.new ≡ dom.new.view.seen.share.progress }
+{
+    let next = open(heap, dom, last, *progress);
+    name(heap, dom, next);
+    arrive(heap, dom);
+    *progress = progress_after(*progress, last, next);
+    next
+}
