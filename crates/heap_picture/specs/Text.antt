@@ -26,7 +26,7 @@ placed f place (x ∷ xs) = f place x ++ placed f (place + 1) xs
 
 -- the part of an arrow's attributes that marks what a collection may take
 abbrev pub red : Bool → List ℕ
-red true = codes ", color=red"
+red true = codes ", color=red, penwidth=2.5"
 red false = []
 
 -- the part of a block's attributes that shows its fate

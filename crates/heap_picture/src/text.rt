@@ -16,7 +16,7 @@ pub(crate) fn push_red(out: &mut String, is_red: bool) -> Result<(), AllocError>
     ensures { OnOk result (string_bytes out.new ≡ string_bytes out.old ++ red is_red) }
 {
     if is_red {
-        push_text(out, ", color=red")
+        push_text(out, ", color=red, penwidth=2.5")
     } else {
         Ok(())
     }
