@@ -1,4 +1,4 @@
-//! Runs random scripts of version 2 and looks for a legal history of each output. `bench/judge.sh` builds and runs it.
+//! Runs random scripts and looks for a legal history of each output. `bench/judge.sh` and `bench/ocaml5.sh` build and run it.
 //! What it says rests on this program alone, which isn't proved.
 
 mod collector;
@@ -79,13 +79,17 @@ fn main() -> ExitCode {
     let words: Vec<String> = std::env::args().collect();
     let number = |at: usize| words.get(at).and_then(|word| word.parse::<u64>().ok());
     let (Some(program), Some(first), Some(end)) = (words.get(1), number(2), number(3)) else {
-        eprintln!("usage: judge PROGRAM FIRST END");
+        eprintln!("usage: judge PROGRAM FIRST END [ocaml]");
         return ExitCode::from(1);
+    };
+    let kind = match words.get(4).map(String::as_str) {
+        Some("ocaml") => &random::OF_OCAML,
+        _ => &random::WHOLE,
     };
     let mut found = [0; 3];
     let mut spoilt_found = [0; 3];
     for seed in first..end {
-        let (text, domains) = random::script(&mut Dice::new(seed));
+        let (text, domains) = random::script(&mut Dice::new(seed), kind);
         let output = output(program, &text, domains).expect("the program runs");
         let verdict = judged(&text, &output, domains);
         if verdict == Verdict::NoneFound {

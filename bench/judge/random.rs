@@ -1,4 +1,4 @@
-//! Random scripts of version 2. They use few registers, numbers and fields, so that domains meet.
+//! Random scripts. They use few registers, numbers and fields, so that domains meet.
 
 /// Numbers that look random, the same for each seed.
 pub struct Dice(u64);
@@ -21,54 +21,106 @@ impl Dice {
     }
 }
 
-/// How many commands each of so many domains has.
-const LENGTHS: [usize; 8] = [60, 24, 12, 8, 6, 5, 4, 4];
-const COUNTS: [usize; 8] = [1, 1, 2, 2, 3, 126, 127, 1022];
-const WORDS: [&str; 40] = [
-    "int",
-    "int",
-    "int",
-    "move",
-    "drop",
-    "drop",
-    "alloc",
-    "alloc",
-    "alloc",
-    "allocmaj",
-    "raw",
-    "raw",
-    "raw",
-    "load",
-    "load",
-    "load",
-    "load",
-    "store",
-    "store",
-    "store",
-    "store",
-    "store",
-    "cas",
-    "cas",
-    "cas",
-    "cas",
-    "cas",
-    "cas",
-    "ephe",
-    "set_key",
-    "get_key",
-    "check_key",
-    "set_data",
-    "get_data",
-    "finalise",
-    "finalise_last",
-    "poll",
-    "minor",
-    "major",
-    "full_major",
-];
+/// What scripts are made of.
+pub struct Kind {
+    version: u32,
+    words: &'static [&'static str],
+    counts: &'static [usize],
+    /// How many commands each of so many domains has.
+    lengths: &'static [usize],
+}
 
-fn command(dice: &mut Dice) -> String {
-    let word = dice.one_of(&WORDS);
+/// All commands of version 2.
+pub const WHOLE: Kind = Kind {
+    version: 2,
+    words: &[
+        "int",
+        "int",
+        "int",
+        "move",
+        "drop",
+        "drop",
+        "alloc",
+        "alloc",
+        "alloc",
+        "allocmaj",
+        "raw",
+        "raw",
+        "raw",
+        "load",
+        "load",
+        "load",
+        "load",
+        "store",
+        "store",
+        "store",
+        "store",
+        "store",
+        "cas",
+        "cas",
+        "cas",
+        "cas",
+        "cas",
+        "cas",
+        "ephe",
+        "set_key",
+        "get_key",
+        "check_key",
+        "set_data",
+        "get_data",
+        "finalise",
+        "finalise_last",
+        "poll",
+        "minor",
+        "major",
+        "full_major",
+    ],
+    counts: &[1, 1, 2, 2, 3, 126, 127, 1022],
+    lengths: &[60, 24, 12, 8, 6, 5, 4, 4],
+};
+
+/// What OCaml 5 can play with a reply that the definition allows: its `Gc.full_major` is more than one collection.
+pub const OF_OCAML: Kind = Kind {
+    version: 1,
+    words: &[
+        "int",
+        "move",
+        "drop",
+        "drop",
+        "drop",
+        "alloc",
+        "alloc",
+        "alloc",
+        "load",
+        "load",
+        "load",
+        "store",
+        "store",
+        "store",
+        "ephe",
+        "ephe",
+        "set_key",
+        "set_key",
+        "get_key",
+        "check_key",
+        "set_data",
+        "get_data",
+        "finalise",
+        "finalise",
+        "finalise_last",
+        "finalise_last",
+        "poll",
+        "minor",
+        "minor",
+        "major",
+        "major",
+    ],
+    counts: &[1, 1, 2, 2, 3, 126],
+    lengths: &[60, 25, 14],
+};
+
+fn command(dice: &mut Dice, kind: &Kind) -> String {
+    let word = dice.one_of(kind.words);
     let register = |dice: &mut Dice| dice.below(5);
     let index = |dice: &mut Dice| dice.one_of(&[0, 0, 0, 1, 1, 2, 1021]);
     let (a, b, c) = (register(dice), register(dice), register(dice));
@@ -80,13 +132,13 @@ fn command(dice: &mut Dice) -> String {
             "{word} {} {} {}",
             1 + dice.below(4),
             dice.below(3),
-            dice.one_of(&COUNTS)
+            dice.one_of(kind.counts)
         ),
         "raw" => format!(
             "raw {} {} {}",
             1 + dice.below(4),
             251 + dice.below(5),
-            dice.one_of(&COUNTS)
+            dice.one_of(kind.counts)
         ),
         "load" => format!("load {a} {b} {}", index(dice)),
         "store" => format!("store {a} {} {b}", index(dice)),
@@ -104,12 +156,12 @@ fn command(dice: &mut Dice) -> String {
 }
 
 /// A script, and for how many domains it is.
-pub fn script(dice: &mut Dice) -> (String, usize) {
-    let domains = 1 + dice.below(LENGTHS.len());
-    let mut lines = vec!["heap 2".to_owned()];
+pub fn script(dice: &mut Dice, kind: &Kind) -> (String, usize) {
+    let domains = 1 + dice.below(kind.lengths.len());
+    let mut lines = vec![format!("heap {}", kind.version)];
     for domain in 0..domains {
         lines.push(format!("domain {domain}"));
-        lines.extend((0..LENGTHS[domains - 1]).map(|_| command(dice)));
+        lines.extend((0..kind.lengths[domains - 1]).map(|_| command(dice, kind)));
     }
     (lines.join("\n") + "\n", domains)
 }
