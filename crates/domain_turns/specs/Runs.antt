@@ -1,5 +1,5 @@
 -- A domain's trace on the shared heap, and what a turn does to it.
-use Rattle.std.specs.Prelude.{◌≡◌, ◌≢◌, ◌==◌, ◌&&◌, ℕ, ◌+◌, ◌*◌, ◌%◌, ◌<◌, ◌≤◌, ◌⊎◌, nat_lt, nat_le, Option, None, Bool, true, false, List, [], ◌∷◌, ◌++◌, length, take, drop, replicate, slice_get, Some, IsTrue}
+use Rattle.std.specs.Prelude.{◌≡◌, ◌≢◌, ◌==◌, ◌&&◌, ℕ, ◌+◌, ◌*◌, ◌%◌, ◌<◌, ◌≤◌, ◌⊎◌, ◌↔◌, nat_lt, nat_le, Option, None, Bool, true, false, List, [], ◌∷◌, ◌++◌, length, take, drop, replicate, slice_get, Some, IsTrue}
 use Rattle.std.specs.List.{list_any}
 use Rattle.heap_model.specs.declared.command.Command as model
 use Rattle.heap_model.specs.declared.entry.Entry.{Entry}
@@ -27,7 +27,7 @@ use Rattle.steps_marking.specs.Arming.{knowing_armed}
 use Rattle.sweeper.specs.Sweeping.{Swept}
 use Rattle.heap_rule.specs.declared.phase.Progress.{Progress}
 use Rattle.heap_rule.specs.Views.{no_collection}
-use Rattle.mark_slices.specs.Decks.{AllMissed, DeckCounts, HasNoted, HasTaken, NotesOn}
+use Rattle.mark_slices.specs.Decks.{AllMissed, DeckCounts, HasNoted, HasTaken, NotesNoMore, NotesOn, last_count}
 use Rattle.mark_slices.specs.Slices.{IsDeckOf}
 use Rattle.steps_finalisers.specs.Registering.{count_of}
 use Rattle.finaliser_queues.specs.declared.running.Ran.{Ran}
@@ -221,6 +221,14 @@ MarkingEnds x y l m false = (scanned_in y.seen.share.known ≡ scanned_in x.seen
 abbrev pub LooksAtAll : DomainView → DomainView → DeckCounts → DeckCounts → Type 0
 LooksAtAll x y l m = m.taken + (scanned_in x.seen.share.known + vain_in x.seen.share.known) ≤ l.taken + (scanned_in y.seen.share.known + vain_in y.seen.share.known)
 
+-- for each such look a hint was taken, unless their count stands still
+abbrev pub TakesForEach : DomainView → DomainView → DeckCounts → DeckCounts → Type 0
+TakesForEach x y l m = (l.taken + (scanned_in y.seen.share.known + vain_in y.seen.share.known) ≤ m.taken + (scanned_in x.seen.share.known + vain_in x.seen.share.known)) ⊎ (last_count ≤ m.taken)
+
+-- the domain has scanned fewer than 256 blocks, and has looked in vain at fewer than 8192 hints
+abbrev pub MayGoOn : DomainView → DomainView → Type 0
+MayGoOn x y = (scanned_in y.seen.share.known < scanned_in x.seen.share.known + 256) × (vain_in y.seen.share.known < vain_in x.seen.share.known + 8192)
+
 -- the domain found that a collection goes on beside running domains, and has marked blocks. Each block that it has darkened it has noted
 pub record MarksBeside (h : SharedHeap) (old new : RunView) (spent : Bool) : Type 0 where
   pub here : IsIn new.token h
@@ -228,8 +236,13 @@ pub record MarksBeside (h : SharedHeap) (old new : RunView) (spent : Bool) : Typ
   pub owes : new.token.view.seen.share.weak ≡ old.token.view.seen.share.weak
   pub knows : new.token.view.seen.share.armed ≡ Some true
   pub marks : MarkingEnds old.token.view new.token.view old.hints new.hints spent
+  pub few : scanned_in new.token.view.seen.share.known ≤ scanned_in old.token.view.seen.share.known + 256
+  pub let_go : vain_in new.token.view.seen.share.known ≤ vain_in old.token.view.seen.share.known + 8192
+  pub ends : (spent ≡ true) ↔ MayGoOn old.token.view new.token.view
   pub looked : LooksAtAll old.token.view new.token.view old.hints new.hints
+  pub took : TakesForEach old.token.view new.token.view old.hints new.hints
   pub noted : HasNoted (darkened_in old.token.view.seen.share.known) (darkened_in new.token.view.seen.share.known) old.hints new.hints
+  pub no_more : NotesNoMore (darkened_in old.token.view.seen.share.known) (darkened_in new.token.view.seen.share.known) old.hints new.hints
   pub notes : NotesOn old.hints new.hints
   pub run : new ≡ record old { token = new.token; hints = new.hints }
 

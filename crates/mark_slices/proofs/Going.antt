@@ -46,10 +46,11 @@ stays_on l m n a b = record {
   number = b.number ∙ a.number;
   domains = b.domains ∙ a.domains;
   misses = λ d. let f = a.misses d in let g = b.misses d in omega (arith, f, g);
+  own_first = b.own_first ∙ a.own_first;
 }
 
 pub stays_some : (l m : DeckCounts) → StaysDeck l m → StaysDeck l m
-stays_some l m a = record { number = a.number; domains = a.domains; misses = a.misses }
+stays_some l m a = record { number = a.number; domains = a.domains; misses = a.misses; own_first = a.own_first }
 
 pub went_on : (a b c e f g : ℕ) (x y z : DomainView) (l m n : DeckCounts) → Went a b c x y l m → Went e f g y z m n → Went (a + e) (b + f) (c + g) x z l n
 went_on a b c e f g x y z l m n p q =
@@ -154,7 +155,7 @@ looked_on colours at word false x y z l m k is w = after_look colours at word 0 
 
 -- a deck is the same where nothing but counts has grown
 pub stays_same : (l : DeckCounts) → StaysDeck l l
-stays_same l = record { number = refl; domains = refl; misses = λ d. omega arith }
+stays_same l = record { number = refl; domains = refl; misses = λ d. omega arith; own_first = refl }
 
 pub missed_since : (l m n : DeckCounts) (d : ℕ) → StaysDeck l m → HasMissed m n d → HasMissed l n d
 missed_since l m n d s h = let g = s.misses d in ⊎_elim

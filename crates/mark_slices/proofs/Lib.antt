@@ -7,3 +7,4 @@ pub mod Addresses
 pub mod Going
 pub mod Parts
 pub mod OwnPools
+pub mod Taking

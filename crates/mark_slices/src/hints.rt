@@ -1,7 +1,7 @@
 //! The hints of a domain: the addresses of blocks that it is to scan next.
 ghost use Rattle.std.specs.Prelude.{◌≡◌, ◌<◌, ◌≤◌, ◌+◌, ℕ, true, false, length, IfOk, vec_len, slice_index_or};
 ghost use Rattle.crossbeam_deque.specs.Handles.{worker_flavor};
-ghost use Rattle.mark_slices.specs.Decks.{uncounted, Missed, NotesOn, Took};
+ghost use Rattle.mark_slices.specs.Decks.{uncounted, Missed, NotesOn, TakesOwn, Took};
 
 use crate::deck::Deck;
 use crate::trail::Trail;
@@ -34,6 +34,7 @@ pub struct Hints {
     taken: u64,
     pushes: u64,
     is_dry: bool,
+    early: u64,
     pub(crate) trail: Trail,
     waiting: Waiting,
 }
@@ -45,7 +46,7 @@ impl Model for Hints {
 
     ghost Value = { DeckCounts };
 
-    ghost view = { λ r. record { number = r.number; domains = r.domains; misses = r.misses; taken = r.taken; pushes = r.pushes; is_dry = r.is_dry } };
+    ghost view = { λ r. record { number = r.number; domains = r.domains; misses = r.misses; taken = r.taken; pushes = r.pushes; is_dry = r.is_dry; early = r.early } };
 
     ghost invariant = { λ r. (worker_flavor r.own ≡ 0) × (vec_len r.others + 1 ≡ r.domains) × (r.number < r.domains) × (r.domains ≤ 8) };
 }
@@ -87,6 +88,7 @@ impl Hints {
             taken: 0,
             pushes: 0,
             is_dry: false,
+            early: 0,
             trail,
             waiting,
         }
@@ -126,11 +128,12 @@ impl Hints {
         self.domains
     }
 
-    // DeckCounts that a hint was taken, or that a domain was found without one.
+    // Counts that a hint was taken, or that a domain was found without one.
     fn count(&mut self, from: u32, took: bool)
         requires inside { from < self.old.domains }
         ensures took { took ≡ true → Took self.old.is_dry self.old self.new }
-        ensures missed { took ≡ false → self.old.is_dry ≡ true → Missed from self.old self.new }
+        ensures missed { took ≡ false → Missed from self.old.is_dry self.old self.new }
+        ensures own_first { self.new.early ≡ self.old.early }
     {
         if took {
             self.taken = self.taken.saturating_add(1);
@@ -176,8 +179,10 @@ impl Hints {
     }
 
     // Lets all hints in the domain's own deque go.
+    #[tactic(auto, using(crate::proofs::Taking::takes_none, crate::proofs::Taking::takes_took, crate::proofs::Taking::takes_missed))]
     pub(crate) fn clear(&mut self)
         ensures notes { NotesOn self.old self.new }
+        ensures takes { TakesOwn self.old self.new }
     {
         for _ in 0..HINTS_ROOM {
             if self.own().is_none() {
@@ -212,6 +217,9 @@ impl Deck for Hints {
     fn steal(&mut self, from: u32) -> Option<u32> {
         let place = if from < self.number { from } else { from - 1 };
         let hint = steal_hint(&mut self.others[place as usize]);
+        if !self.is_dry {
+            self.early = self.early.saturating_add(1);
+        }
         self.count(from, hint.is_some());
         hint
     }

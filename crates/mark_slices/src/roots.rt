@@ -6,7 +6,7 @@ ghost use Rattle.heap_rule.specs.declared.phase.Stage.TheVariants.{In};
 ghost use Rattle.heap_rule.specs.Token.{IsIn};
 ghost use Rattle.steps_marking.specs.Marking.{Reason, Register};
 ghost use Rattle.steps_marking.specs.Looks.{HeldInside};
-ghost use Rattle.mark_slices.specs.Decks.{HasNoted, NotesOn};
+ghost use Rattle.mark_slices.specs.Decks.{HasNoted, NotesAlone, NotesNoMore, NotesOn};
 ghost use Rattle.mark_slices.specs.Shares.{Rooted, AllRooted, AllQueueRooted};
 
 use crate::darkening::darken;
@@ -31,6 +31,8 @@ fn mark_root(heap: &Heap, dom: &mut Domain, register: u8, colours: Colours, hint
     ensures rooted { Rooted register dom.old.view dom.new.view }
     ensures notes { NotesOn hints.old hints.new }
     ensures noted { HasNoted dom.old.view.seen.share.darkenings dom.new.view.seen.share.darkenings hints.old hints.new }
+    ensures no_more { NotesNoMore dom.old.view.seen.share.darkenings dom.new.view.seen.share.darkenings hints.old hints.new }
+    ensures alone { NotesAlone hints.old hints.new }
 {
     let _limits = heap.config();
     if let Value::Ref(at) = dom.register(register) {
@@ -51,6 +53,8 @@ fn mark_waiting(heap: &Heap, dom: &mut Domain, colours: Colours, hints: &mut Hin
     ensures queued { AllQueueRooted dom.old.view dom.new.view }
     ensures notes { NotesOn hints.old hints.new }
     ensures noted { HasNoted dom.old.view.seen.share.darkenings dom.new.view.seen.share.darkenings hints.old hints.new }
+    ensures no_more { NotesNoMore dom.old.view.seen.share.darkenings dom.new.view.seen.share.darkenings hints.old hints.new }
+    ensures alone { NotesAlone hints.old hints.new }
 {
     let _limits = heap.config();
     for place in 0..dom.queued() {
@@ -65,7 +69,7 @@ fn mark_waiting(heap: &Heap, dom: &mut Domain, colours: Colours, hints: &mut Hin
 /// the domain is done with all these registers and places of the queue, as is asked of it where it
 /// arrives. What it knows of the colours, of the queue and of blocks is all that has changed.
 ///
-/// Each block that it has marked itself is noted in `hints`.
+/// Each block that it has marked itself is noted in `hints`, and nothing else.
 ///
 /// There are no other roots: a program of commands has no stack ("Retrofitting Parallelism
 /// onto OCaml", section 3.2).
@@ -76,6 +80,8 @@ pub fn start_roots(heap: &Heap, dom: &mut Domain, hints: &mut Hints)
     ensures rooted { AllRooted dom.old.view dom.new.view }
     ensures notes { NotesOn hints.old hints.new }
     ensures noted { HasNoted dom.old.view.seen.share.darkenings dom.new.view.seen.share.darkenings hints.old hints.new }
+    ensures no_more { NotesNoMore dom.old.view.seen.share.darkenings dom.new.view.seen.share.darkenings hints.old hints.new }
+    ensures alone { NotesAlone hints.old hints.new }
 {
     let colours = colours_now(heap, dom);
     for register in 0..16 {

@@ -7,7 +7,7 @@ ghost use Rattle.heap_rule.specs.declared.phase.Stage.TheVariants.{In};
 ghost use Rattle.heap_rule.specs.declared.view.Scan.TheVariants.{Idle};
 ghost use Rattle.heap_rule.specs.Pools.{owned, owner_word};
 ghost use Rattle.heap_rule.specs.Token.{IsIn};
-ghost use Rattle.mark_slices.specs.Decks.{NotesOn};
+ghost use Rattle.mark_slices.specs.Decks.{NotesOn, TakesOwn};
 ghost use Rattle.mark_slices.specs.Shares.{IsNotOf, IsOfClass, Marks, Walked, AllWalked};
 
 use crate::hints::Hints;
@@ -98,6 +98,7 @@ pub fn mark_round(heap: &Heap, dom: &mut Domain, hints: &mut Hints)
     ensures here { IsIn dom.new heap.now }
     ensures walked { AllWalked heap.now.config dom.old.view dom.new.view }
     ensures notes { NotesOn hints.old hints.new }
+    ensures takes { TakesOwn hints.old hints.new }
 {
     hints.clear();
     walk_pools(heap, dom, &mut hints.trail);

@@ -7,7 +7,7 @@ ghost use Rattle.heap_rule.specs.declared.phase.Stage.TheVariants.{In};
 ghost use Rattle.heap_rule.specs.Token.{IsIn};
 ghost use Rattle.darkening_beside.specs.Aware.{Learnt, darkened_in, scanned_in, vain_in};
 ghost use Rattle.mark_slices.specs.declared.slices.Why.TheVariants.{Enough, NoneFound, Stale};
-ghost use Rattle.mark_slices.specs.Decks.{AllMissed, HasMissed, HasNoted, HasTaken, IsPooled, NotesOn};
+ghost use Rattle.mark_slices.specs.Decks.{AllMissed, HasMissed, HasNoted, HasTaken, IsPooled, NotesNoMore, NotesOn};
 ghost use Rattle.mark_slices.specs.Slices.{IsDeckOf, Slices, Tries, Went};
 ghost use Rattle.mark_slices.specs.Ends.{EndsSlice, HasLooked};
 
@@ -166,7 +166,9 @@ pub fn slice<K: Deck>(heap: &Heap, dom: &mut Domain, deck: &mut K, most: u32) ->
     ensures taken { (K.counts deck.new).taken + vain_in dom.old.view.seen.share.known ≤ (K.counts deck.old).taken + result.count + vain_in dom.new.view.seen.share.known }
     ensures looked { HasLooked result.count dom.old.view dom.new.view (K.counts deck.old) (K.counts deck.new) }
     ensures pushes { HasNoted (darkened_in dom.old.view.seen.share.known) (darkened_in dom.new.view.seen.share.known) (K.counts deck.old) (K.counts deck.new) }
+    ensures no_more { NotesNoMore (darkened_in dom.old.view.seen.share.known) (darkened_in dom.new.view.seen.share.known) (K.counts deck.old) (K.counts deck.new) }
     ensures notes { NotesOn (K.counts deck.old) (K.counts deck.new) }
+    ensures own_first { (K.counts deck.new).early ≡ (K.counts deck.old).early }
 {
     let colours = colours_now(heap, dom);
     let mut left = MOST_STALE;

@@ -13,7 +13,7 @@ use Rattle.heap_rule.specs.Limits.{sizes_in}
 use Rattle.heap_rule.specs.Sweeping.{nothing_swept}
 use Rattle.steps_finalisers.specs.Registering.{count_of}
 use Rattle.steps_pauses.specs.Pauses.{HasDone, arrived_view}
-use Rattle.mark_slices.specs.Decks.{DeckCounts, NotesOn}
+use Rattle.mark_slices.specs.Decks.{DeckCounts, NotesAlone, NotesOn, TakesOwn}
 use Rattle.sweeper.specs.Sweeping.{LooksAgain}
 use Rattle.finaliser_queues.specs.Deciding.{Splits, as_waiting, as_waiting_last}
 
@@ -25,10 +25,10 @@ IsShared Reset = ⊥
 IsShared Answer = ⊥
 IsShared _ = Unit {0}
 
--- what a share makes of the counts of the domain's hints: in Roots and in Mark none falls, and in each other phase they stay as they are
+-- what a share makes of the counts of the domain's hints: in Roots hints are noted and none is taken, in Mark its own hints are taken and none is noted, and in each other phase they stay as they are
 abbrev pub HintsIn : Kind → DeckCounts → DeckCounts → Type 0
-HintsIn Roots l m = NotesOn l m
-HintsIn Mark l m = NotesOn l m
+HintsIn Roots l m = NotesOn l m × NotesAlone l m
+HintsIn Mark l m = NotesOn l m × TakesOwn l m
 HintsIn _ l m = m ≡ l
 
 -- the domain with what a share changes of what it owns, and with a front, as another has it

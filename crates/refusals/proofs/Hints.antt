@@ -1,5 +1,5 @@
 -- What the clauses of turns refuse of hints.
-use Rattle.std.proofs.Common.{◌≡◌, ◌≢◌, ◌∙◌, ℕ, ◌+◌, ◌≤◌, Bool, true, false, refl, sym, ap, ⊎_elim, subst, arith}
+use Rattle.std.proofs.Common.{◌≡◌, ◌≢◌, ◌∙◌, ℕ, ◌+◌, ◌<◌, ◌≤◌, Bool, true, false, refl, sym, ap, ⊎_elim, subst, arith}
 use Rattle.heap_rule.specs.declared.phase.Kind.{Kind}
 use Rattle.heap_rule.specs.declared.phase.Kind.TheVariants.{Run, Promote, Reset, Roots, Mark, Rounds, Decide, Queued, Clean, Lasts, Sweep, Answer}
 use Rattle.heap_rule.specs.declared.view.DomainView.{DomainView}
@@ -8,8 +8,8 @@ use Rattle.heap_rule.specs.Phases.{IsEven, IsOdd}
 use Rattle.heap_rule.specs.Token.{SharedHeap}
 use Rattle.darkening_beside.specs.Aware.{scanned_in, vain_in}
 use Rattle.pause_phases.specs.Sharing.{HintsIn}
-use Rattle.mark_slices.specs.Decks.{DeckCounts}
-use Rattle.domain_turns.specs.Runs.{GoesBy, IsAnswered, MarksBeside, Polls, Resumes, RunView, SeesAnswer, SweepsBeside, Waits, asking_end}
+use Rattle.mark_slices.specs.Decks.{DeckCounts, NotesAlone, NotesNoMore, NotesOn, Rises, TakesOwn, last_count}
+use Rattle.domain_turns.specs.Runs.{GoesBy, IsAnswered, MarksBeside, MayGoOn, Polls, Resumes, RunView, SeesAnswer, SweepsBeside, Waits, asking_end}
 
 -- a domain that waits lets no hint go, and takes and notes none
 pub a_wait_lets_no_hint_go : (h : SharedHeap) (old new : RunView) (b : ℕ) → Waits h old new b → new.hints ≡ old.hints
@@ -46,6 +46,40 @@ no_hint_goes_but_in_roots_and_mark h old new g roots mark = ⊎_elim
     (λ (o : IsOdd old.token.view.own.arrivals × (new.hints ≡ old.hints)). o.1)
     g.hints
 
+-- in Roots none is taken, and in Mark none is noted
+pub no_hint_is_taken_in_roots : (h : SharedHeap) (old new : RunView) (g : GoesBy h old new) → g.kind ≡ Roots → new.hints.taken ≡ old.hints.taken
+no_hint_is_taken_in_roots h old new g roots = ⊎_elim
+    (λ (e : IsEven old.token.view.own.arrivals × HintsIn g.kind old.hints new.hints).
+    let hints : NotesOn old.hints new.hints × NotesAlone old.hints new.hints = subst (λ (k : Kind). HintsIn k old.hints new.hints) roots e.1 in ap (λ (l : DeckCounts). l.taken) hints.1)
+    (λ (o : IsOdd old.token.view.own.arrivals × (new.hints ≡ old.hints)). ap (λ (l : DeckCounts). l.taken) o.1)
+    g.hints
+
+pub no_hint_is_noted_in_mark : (h : SharedHeap) (old new : RunView) (g : GoesBy h old new) → g.kind ≡ Mark → new.hints.pushes ≡ old.hints.pushes
+no_hint_is_noted_in_mark h old new g mark = ⊎_elim
+    (λ (e : IsEven old.token.view.own.arrivals × HintsIn g.kind old.hints new.hints).
+    let hints : NotesOn old.hints new.hints × TakesOwn old.hints new.hints = subst (λ (k : Kind). HintsIn k old.hints new.hints) mark e.1 in ap (λ (l : DeckCounts). l.pushes) hints.1.same)
+    (λ (o : IsOdd old.token.view.own.arrivals × (new.hints ≡ old.hints)). ap (λ (l : DeckCounts). l.pushes) o.1)
+    g.hints
+
+-- a domain doesn't ask another for a hint while it may have one of its own: no count falls, and this would count as early
+pub no_hint_of_others_comes_first : (old before after new : ℕ) → old ≤ before → before < last_count → Rises 1 before after → after ≤ new → new ≡ old → ⊥
+no_hint_of_others_comes_first old before after new first few asked last same =
+    let grows = asked.grows in ⊎_elim (λ (e : before + 1 ≤ after). omega (arith, e, first, last, same)) (λ (e : last_count ≤ after). omega (arith, e, few, first, last, same)) asked.least
+
+-- nothing is noted but blocks that were darkened
+pub no_hint_is_noted_without_a_block : (before after : ℕ) (l m : DeckCounts) → NotesNoMore before after l m → after ≡ before → l.pushes < m.pushes → ⊥
+no_hint_is_noted_without_a_block before after l m none same more =
+    let a : ℕ = l.pushes in
+    let b : ℕ = m.pushes in
+    let few : b + before ≤ a + after = none in omega (arith, few, same, more)
+
+-- a poll asks for the end of the collection only where it may go on marking and has found no hint, and then it does
+pub no_end_is_asked_for_early : (h : SharedHeap) (old new : RunView) → MarksBeside h old new true → (MayGoOn old.token.view new.token.view → ⊥) → ⊥
+no_end_is_asked_for_early h old new m enough = enough (m.ends.0 refl)
+
+pub no_poll_stops_early : (h : SharedHeap) (old new : RunView) → MarksBeside h old new false → MayGoOn old.token.view new.token.view → ⊥
+no_poll_stops_early h old new m may = let e : false ≡ true = m.ends.1 may in cc
+
 -- what follows the marking in a poll leaves what the domain knows of blocks, and its hints
 asked_share : (spent : Bool) (r : RunView) → (asking_end spent r).token.view.seen.share ≡ r.token.view.seen.share
 asked_share true r = refl
@@ -76,3 +110,13 @@ each_hint_taken_is_looked_at h old new p still =
     (λ (s : ((count : ℕ) × SweepsBeside h old p.worked count) × (p.spent ≡ false)). let same : b ≡ a = ap (λ (r : RunView). r.hints.taken) s.0.1.run in omega (arith, same))
     p.works in
     subst (λ (l : DeckCounts). l.taken ≤ a) (sym hints) few
+
+-- and it looks at no more than it has taken, unless their count stands still
+pub no_look_without_a_hint : (h : SharedHeap) (old new : RunView) (spent : Bool) → MarksBeside h old new spent → new.hints.taken ≡ old.hints.taken → new.hints.taken < last_count → looks_of new.token.view.seen.share ≤ looks_of old.token.view.seen.share
+no_look_without_a_hint h old new spent m still goes_on =
+    let a : ℕ = old.hints.taken in
+    let b : ℕ = new.hints.taken in
+    let c : ℕ = looks_of old.token.view.seen.share in
+    let d : ℕ = looks_of new.token.view.seen.share in
+    let same : b ≡ a = still in
+    ⊎_elim (λ (e : a + d ≤ b + c). omega (arith, e, same)) (λ (e : last_count ≤ b). omega (arith, e, goes_on)) m.took

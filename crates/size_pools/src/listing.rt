@@ -15,10 +15,11 @@ use steps_pools::{
 // The index of the first word of the list, and of the first owner word less the number of pools.
 const LIST: u32 = 11;
 
-// Looks at the owner word of the next pool, and where it says nobody writes the pool into the list,
-// which names so many. Answers how many it then names.
-fn list_pool(heap: &Heap, dom: &mut Domain, pool: u32, count: u32) -> u32
+// Looks at the owner word of the next pool, which is at `at`, and where it says nobody writes the pool
+// into the list, which names so many. Answers how many it then names.
+fn list_pool(heap: &Heap, dom: &mut Domain, at: u32, pool: u32, count: u32) -> u32
     requires here { IsIn dom.old heap.now }
+    requires word { at ≡ 11 + heap.now.config.pools + pool }
     requires inside { pool < heap.now.config.pools }
     requires few { count ≤ pool }
     requires listed { HasListed dom.old.view pool count }
@@ -27,15 +28,17 @@ fn list_pool(heap: &Heap, dom: &mut Domain, pool: u32, count: u32) -> u32
     ensures listed { HasListed dom.new.view (pool + 1) result }
     ensures same { Relisted dom.old.view dom.new.view }
 {
-    let pools = heap.config().pools;
-    if owner_look(heap, dom, LIST + pools + pool) != 0 {
+    let _limits = heap.config();
+    if owner_look(heap, dom, at) != 0 {
         return count;
     }
     list_store(heap, dom, LIST + count, u64::from(pool));
     count + 1
 }
 
-// Writes the pools that are nobody's into the empty list. Answers how many they are.
+// Writes the pools that are nobody's into the empty list. Answers how many they are. A minor collection
+// spends most of its instructions here, so the loop has a function, and registers, of its own.
+#[inline(never)]
 fn list_pools(heap: &Heap, dom: &mut Domain) -> u32
     requires here { IsIn dom.old heap.now }
     requires empty { HasListed dom.old.view 0 0 }
@@ -44,9 +47,10 @@ fn list_pools(heap: &Heap, dom: &mut Domain) -> u32
     ensures same { Relisted dom.old.view dom.new.view }
 {
     let pools = heap.config().pools;
+    let owners = LIST + pools;
     let mut count = 0;
     for pool in 0..pools {
-        count = list_pool(heap, dom, pool, count);
+        count = list_pool(heap, dom, owners + pool, pool, count);
     }
     count
 }

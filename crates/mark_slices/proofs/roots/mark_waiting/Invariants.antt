@@ -3,7 +3,7 @@ use Rattle.heap_rule.specs.declared.view.Held.TheVariants.{Queue}
 use Rattle.heap_rule.specs.Finalisers.{held_at}
 use Rattle.heap_rule.specs.Token.{IsIn}
 use Rattle.steps_marking.specs.Marking.{OfQueue}
-use Rattle.mark_slices.specs.Decks.{HasNoted, NotesOn}
+use Rattle.mark_slices.specs.Decks.{HasNoted, NotesAlone, NotesNoMore, NotesOn}
 use Rattle.mark_slices.specs.Shares.{IsQueueRoot, with_queue}
 use Rattle.mark_slices.proofs.roots.mark_waiting.Given as goal
 
@@ -18,4 +18,6 @@ invariant-loop-place l = record {
   done : (i a : ℕ) → i < l.place → held_at l.fn.dom.view.own.finalisers (Queue i) ≡ Some a → IsQueueRoot l.dom.view i;
   notes : NotesOn l.fn.hints l.hints;
   noted : HasNoted l.fn.dom.view.seen.share.darkenings l.dom.view.seen.share.darkenings l.fn.hints l.hints;
+  no_more : NotesNoMore l.fn.dom.view.seen.share.darkenings l.dom.view.seen.share.darkenings l.fn.hints l.hints;
+  alone : NotesAlone l.fn.hints l.hints;
 }
