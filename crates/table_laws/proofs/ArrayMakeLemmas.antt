@@ -1,5 +1,5 @@
 -- A weak array in the making, command by command.
-use Rattle.std.proofs.Common.{◌≡◌, ◌⊎◌, inl, inr, ⊎_elim, ℕ, zero, suc, ◌+◌, ◌<◌, Bool, true, false, not, ◌&&◌, ◌||◌, IsTrue, List, [], ◌∷◌, ◌++◌, map, length, get_or, set, slice_get, replicate, Option, Some, None, refl, ap, sym, ◌∙◌, subst, arith, pos, append-nil}
+use Rattle.std.proofs.Common.{◌≡◌, ⊎_elim, ℕ, suc, true, false, not, IsTrue, List, [], ◌∷◌, ◌++◌, map, length, set, slice_get, replicate, Option, Some, None, refl, ap, sym, ◌∙◌, subst, pos, append-nil}
 use Rattle.std.specs.List.{list_all}
 use Rattle.heap_model.specs.declared.label.Label.{Label}
 use Rattle.heap_model.specs.declared.command.Command.TheVariants.{Store}
@@ -11,9 +11,9 @@ use Rattle.heap_model.specs.declared.graph.Value.TheVariants.{Int, Block, Nothin
 use Rattle.heap_model.specs.declared.graph.Node.{Node}
 use Rattle.heap_model.specs.declared.graph.Node.TheVariants.{Plain, Ephe}
 use Rattle.heap_model.specs.declared.state.Sizes.{Sizes}
-use Rattle.heap_model.specs.Graph.{Graph, same_label, has_label, has_no_repeats, node_at}
+use Rattle.heap_model.specs.Graph.{same_label, has_label, has_no_repeats, node_at}
 use Rattle.heap_model.specs.Domains.{IsWithinLimits}
-use Rattle.heap_model.proofs.Graphs.GraphLemmas.{same_label-true, same_label_refl, same_label-false}
+use Rattle.heap_model.proofs.Graphs.GraphLemmas.{same_label-true, same_label_refl}
 use Rattle.heap_model.proofs.Reach.ReachLemmas.{or_cases, or_left, or_right, and_left, and_right, and_both, is_false, not_false, has-append_cases}
 use Rattle.table_laws.specs.Structures.{is_weak, key_of, IsWeakArray, slot_keys}
 use Rattle.table_laws.specs.Thinning.{Went}
@@ -39,14 +39,14 @@ once_end (x ∷ ls) e once none =
     let new : has_label ls x ≡ false = is_false _ (and_left (not (has_label ls x)) _ once) in
     let differ : same_label x e ≡ true → ⊥ = λ same. not_both (x ∷ ls) e (or_left (same_label x e) _ same) none in
     and_both _ _
-        (not_false _ (lacks (ls ++ e ∷ []) x (λ there. ⊎_elim
-        (λ old. not_both ls x old new)
-        (λ last. ⊎_elim
-        (λ same. differ (subst (λ (l : Label). same_label x l ≡ true) (sym (same_label-true e x same)) (same_label_refl x)))
-        (λ no. let clash : false ≡ true = no in cc)
-        (or_cases (same_label e x) false last))
-        (has-append_cases ls (e ∷ []) x there))))
-        (once_end ls e (and_right (not (has_label ls x)) _ once) (lacks ls e (λ there. not_both (x ∷ ls) e (or_right (same_label x e) _ there) none)))
+    (not_false _ (lacks (ls ++ e ∷ []) x (λ there. ⊎_elim
+    (λ old. not_both ls x old new)
+    (λ last. ⊎_elim
+    (λ same. differ (subst (λ (l : Label). same_label x l ≡ true) (sym (same_label-true e x same)) (same_label_refl x)))
+    (λ no. let clash : false ≡ true = no in cc)
+    (or_cases (same_label e x) false last))
+    (has-append_cases ls (e ∷ []) x there))))
+    (once_end ls e (and_right (not (has_label ls x)) _ once) (lacks ls e (λ there. not_both (x ∷ ls) e (or_right (same_label x e) _ there) none)))
 
 module _ (z : Sizes) (first : List Entry) (root : Label) where
   -- a block of fields that are 0

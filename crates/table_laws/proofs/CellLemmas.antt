@@ -1,21 +1,20 @@
 -- Where a cell's ephemeron gets another key or datum, and where a chain gets a cell more, a table stays a table.
-use Rattle.std.proofs.Common.{◌≡◌, ◌≢◌, ◌⊎◌, inl, inr, ⊎_elim, ℕ, zero, suc, ◌<◌, ◌%◌, Bool, true, false, not, cond, ◌&&◌, ◌||◌, eqb, eqb-true, eq-eqb, IsTrue, List, [], ◌∷◌, ◌++◌, length, get_or, set, flat_map, Option, Some, None, refl, ap, ap₂, sym, ◌∙◌, subst, arith, append_assoc, length-set, get_or-set_same, get_or-set_other}
+use Rattle.std.proofs.Common.{◌≡◌, ◌≢◌, inr, ⊎_elim, ℕ, ◌<◌, ◌%◌, Bool, true, false, not, eqb, eqb-true, eq-eqb, IsTrue, List, [], ◌∷◌, ◌++◌, get_or, flat_map, Option, Some, None, refl, ap, sym, ◌∙◌, subst}
 use Rattle.std.proofs.lemmas.Grind.{flat_map-append}
 use Rattle.heap_model.specs.declared.label.Label.{Label}
 use Rattle.heap_model.specs.declared.graph.Value.{Value}
-use Rattle.heap_model.specs.declared.graph.Value.TheVariants.{Int, Block, Nothing}
-use Rattle.heap_model.specs.declared.graph.Node.{Node}
-use Rattle.heap_model.specs.declared.graph.Node.TheVariants.{Plain, Raw, Ephe}
+use Rattle.heap_model.specs.declared.graph.Value.TheVariants.{Nothing}
+use Rattle.heap_model.specs.declared.graph.Node.TheVariants.{Plain, Ephe}
 use Rattle.heap_model.specs.Graph.{Graph, same_label, has_label, has_no_repeats, node_at}
 use Rattle.heap_model.specs.Commands.{is_full_value}
 use Rattle.heap_model.proofs.Graphs.GraphLemmas.{same_label-true, same_label_refl, same_label-false}
-use Rattle.heap_model.proofs.Reach.ReachLemmas.{or_cases, or_left, or_right, and_left, and_right, and_both, is_false, not_false}
-use Rattle.table_laws.specs.Structures.{Binding, Cell, bucket_count, is_weak, bound, binding_of, chain_bindings, bindings, without, datum_at, IsCell, Links, cell_labels, table_labels, is_bucket, IsTable, head_of}
-use Rattle.table_laws.specs.Thinning.{ThinnedBy, Thin, Changes}
-use Rattle.table_laws.proofs.BindingLemmas.{thinned_same, thinned_append, thinned_bucket, thinned_flat, thinned_without, thinned_more, without_append}
-use Rattle.table_laws.proofs.LookupLemmas.{datum_first, datum_second, bucket_insert, without_flat}
-use Rattle.table_laws.proofs.OnceLemmas.{lacks, not_both, one_chain, other_chain, other_cells, chain_label, cell_labels-append, once_more}
-use Rattle.table_laws.proofs.ChangeLemmas.{not_first, weak_kept, links_kept, chain_thinned}
+use Rattle.heap_model.proofs.Reach.ReachLemmas.{or_cases, or_left, or_right, and_right}
+use Rattle.table_laws.specs.Structures.{Binding, Cell, bucket_count, is_weak, bound, binding_of, chain_bindings, bindings, without, datum_at, IsCell, Links, cell_labels, is_bucket, IsTable, head_of}
+use Rattle.table_laws.specs.Thinning.{ThinnedBy, Changes}
+use Rattle.table_laws.proofs.BindingLemmas.{thinned_append, thinned_bucket, thinned_without, thinned_more, without_append}
+use Rattle.table_laws.proofs.LookupLemmas.{bucket_insert, without_flat}
+use Rattle.table_laws.proofs.OnceLemmas.{lacks, not_both, one_chain, other_chain, other_cells}
+use Rattle.table_laws.proofs.ChangeLemmas.{not_first, weak_kept, chain_thinned}
 
 -- what leads to cells
 pub links_head : (g : Graph) (v : Value) (cells : List Cell) → Links g v cells → v ≡ head_of cells
@@ -53,7 +52,7 @@ bucket_after : (P : Label → Type 0) (i : ℕ) (a a' x b b' : List Binding) (ke
     → FitsIn i key datum (a' ++ b') → IsTrue (is_bucket i (a' ++ (bound key datum ++ b')))
 bucket_after P i a a' x b b' key datum bucket left right fits =
     let fewer : IsTrue (is_bucket i (a' ++ b')) = thinned_bucket (λ k. Unit {0}) i (a ++ (x ++ b)) (a' ++ b')
-        (thinned_append (λ k. Unit {0}) a a' (x ++ b) b' (to_any P a a' left) (thinned_append (λ k. Unit {0}) x [] b b' (all_taken x) (to_any P b b' right))) bucket in
+    (thinned_append (λ k. Unit {0}) a a' (x ++ b) b' (to_any P a a' left) (thinned_append (λ k. Unit {0}) x [] b b' (all_taken x) (to_any P b b' right))) bucket in
     go key fits fewer
   where
     go : (key : Option Label) → FitsIn i key datum (a' ++ b') → IsTrue (is_bucket i (a' ++ b')) → IsTrue (is_bucket i (a' ++ (bound key datum ++ b')))
@@ -91,11 +90,14 @@ module _ (P : Label → Type 0) (g h : Graph) (root : Label) (chains : List (Lis
 
     links_after : (v : Value) (cells : List Cell) → Links g v cells → Links h v cells
     links_after v [] links = links
-    links_after v (x ∷ cells) (here, (next, cell, later)) = (here, (
+    links_after v (x ∷ cells) (here, (next, cell, later)) = (
+      here,
+      (
         next,
         record { tag = cell.tag; node = changes x.node _ cell.node (alone c.ephe x.node (node_is_plain g x.node c.ephe cell.tag _ cell.node cell_there.1.weak)); weak = weak_after x.ephe cell.weak },
         links_after next cells later,
-      ))
+      ),
+    )
 
     -- cells without the ephemeron
     thinned_apart : (v : Value) (cells : List Cell) → has_label (cell_labels cells) c.ephe ≡ false → Links g v cells → ThinnedBy P (chain_bindings g cells) (chain_bindings h cells)
@@ -167,11 +169,11 @@ module _ (P : Label → Type 0) (g h : Graph) (root : Label) (chains : List (Lis
         chain_without : ThinnedBy P (without k (chain_bindings g (get_or chains i []))) (without k (chain_bindings h (get_or chains i [])))
         chain_without =
             let t : ThinnedBy P (without k (chain_bindings g done) ++ without k (chain_bindings g rest)) (without k (chain_bindings h done) ++ without k (chain_bindings h rest)) =
-                thinned_append P _ _ _ _ (thinned_without P k _ _ done_thinned) (thinned_without P k _ _ rest_thinned) in
+            thinned_append P _ _ _ _ (thinned_without P k _ _ done_thinned) (thinned_without P k _ _ rest_thinned) in
             let before : without k (chain_bindings g (get_or chains i [])) ≡ without k (chain_bindings g done) ++ without k (chain_bindings g rest) =
-                ap (λ cs. without k (chain_bindings g cs)) split ∙ (ap (without k) here_before ∙ without_middle _ _ _ was) in
+            ap (λ cs. without k (chain_bindings g cs)) split ∙ (ap (without k) here_before ∙ without_middle _ _ _ was) in
             let after : without k (chain_bindings h (get_or chains i [])) ≡ without k (chain_bindings h done) ++ without k (chain_bindings h rest) =
-                ap (λ cs. without k (chain_bindings h cs)) split ∙ (ap (without k) here_after ∙ without_middle _ _ _ now) in
+            ap (λ cs. without k (chain_bindings h cs)) split ∙ (ap (without k) here_after ∙ without_middle _ _ _ now) in
             subst (λ (l : List Binding). ThinnedBy P l (without k (chain_bindings h (get_or chains i [])))) (sym before)
             (subst (λ (l : List Binding). ThinnedBy P (without k (chain_bindings g done) ++ without k (chain_bindings g rest)) l) (sym after) t)
 

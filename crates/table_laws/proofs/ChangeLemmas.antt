@@ -1,15 +1,15 @@
 -- Where all blocks of a table but emptied ephemerons are as they were, it is a table with the same chains, and its bindings are thinned. So with weak arrays.
-use Rattle.std.proofs.Common.{◌≡◌, ◌⊎◌, inl, inr, ⊎_elim, ℕ, zero, suc, ◌<◌, Bool, true, false, not, cond, ◌&&◌, ◌||◌, IsTrue, List, [], ◌∷◌, ◌++◌, map, length, get_or, flat_map, Option, Some, None, refl, ap, sym, ◌∙◌, subst, arith}
+use Rattle.std.proofs.Common.{◌≡◌, ◌⊎◌, inl, inr, ⊎_elim, ℕ, zero, suc, ◌<◌, Bool, true, false, ◌||◌, IsTrue, List, [], ◌∷◌, ◌++◌, get_or, flat_map, Option, Some, None, refl, sym, ◌∙◌, subst}
 use Rattle.std.specs.List.{list_all}
 use Rattle.heap_model.specs.declared.label.Label.{Label}
 use Rattle.heap_model.specs.declared.graph.Value.{Value}
-use Rattle.heap_model.specs.declared.graph.Value.TheVariants.{Int, Block, Nothing}
+use Rattle.heap_model.specs.declared.graph.Value.TheVariants.{Nothing}
 use Rattle.heap_model.specs.declared.graph.Node.{Node}
 use Rattle.heap_model.specs.declared.graph.Node.TheVariants.{Plain, Raw, Ephe}
-use Rattle.heap_model.specs.Graph.{Graph, same_label, has_label, has_no_repeats, node_at, with_node}
-use Rattle.heap_model.proofs.Graphs.GraphLemmas.{same_label-true, same_label_refl, same_label-false, node_at-with_node_same, node_at-with_node_other, node_at-append_old}
-use Rattle.heap_model.proofs.Reach.ReachLemmas.{or_cases, or_left, or_right, and_left, and_right, and_both, is_false, not_false, has-append_left, has-append_right}
-use Rattle.table_laws.specs.Structures.{Binding, Cell, bucket_count, is_weak, key_of, binding_of, chain_bindings, bindings, IsCell, Links, cell_labels, table_labels, is_bucket, IsTable, IsWeakArray, slot_keys, Apart}
+use Rattle.heap_model.specs.Graph.{Graph, same_label, has_label, node_at, with_node}
+use Rattle.heap_model.proofs.Graphs.GraphLemmas.{same_label_refl, node_at-with_node_other, node_at-append_old}
+use Rattle.heap_model.proofs.Reach.ReachLemmas.{or_left, or_right, and_left, and_right, and_both, has-append_left, has-append_right}
+use Rattle.table_laws.specs.Structures.{Cell, is_weak, binding_of, chain_bindings, bindings, Links, cell_labels, table_labels, IsTable, IsWeakArray, Apart}
 use Rattle.table_laws.specs.Thinning.{ThinnedBy, Thin, Changes}
 use Rattle.table_laws.proofs.BindingLemmas.{thinned_same, thinned_append, thinned_bucket, thinned_flat}
 
@@ -60,10 +60,10 @@ module _ (P : Label → Type 0) where
   thin_weak key datum left (inl same) =
       (subst (λ o. IsTrue (is_weak o)) (sym same) refl, subst (λ o. ThinnedBy P (binding_of (Some (Ephe (key ∷ []) datum))) (binding_of o)) (sym same) (thinned_same P _))
   thin_weak key datum left (inr (k, is, gone, empty)) = (
-      subst (λ o. IsTrue (is_weak o)) (sym empty) refl,
-      subst (λ o. ThinnedBy P (binding_of (Some (Ephe (key ∷ []) datum))) (binding_of o)) (sym empty)
-      (subst (λ x. ThinnedBy P (binding_of (Some (Ephe (x ∷ []) datum))) []) (sym is) (inr (gone, refl))),
-    )
+    subst (λ o. IsTrue (is_weak o)) (sym empty) refl,
+    subst (λ o. ThinnedBy P (binding_of (Some (Ephe (key ∷ []) datum))) (binding_of o)) (sym empty)
+        (subst (λ x. ThinnedBy P (binding_of (Some (Ephe (x ∷ []) datum))) []) (sym is) (inr (gone, refl))),
+  )
 
   module _ (own : List Label) (g h : Graph) (changes : Changes P own g h) where
     -- an ephemeron of one key
@@ -76,7 +76,9 @@ module _ (P : Label → Type 0) where
     -- a chain
     pub links_kept : (v : Value) (cells : List Cell) → Apart (cell_labels cells) own → Links g v cells → Links h v cells
     links_kept v [] apart links = links
-    links_kept v (c ∷ cs) apart (here, (rest, cell, later)) = (here, (
+    links_kept v (c ∷ cs) apart (here, (rest, cell, later)) = (
+      here,
+      (
         rest,
         record {
           tag = cell.tag;
@@ -84,7 +86,8 @@ module _ (P : Label → Type 0) where
           weak = (weak_kept c.ephe (apart c.ephe (or_right (same_label c.node c.ephe) _ (or_left (same_label c.ephe c.ephe) _ (same_label_refl c.ephe)))) cell.weak).0;
         },
         links_kept rest cs (λ l in_rest. apart l (or_right (same_label c.node l) _ (or_right (same_label c.ephe l) _ in_rest))) later,
-      ))
+      ),
+    )
 
     pub chain_thinned : (v : Value) (cells : List Cell) → Apart (cell_labels cells) own → Links g v cells → ThinnedBy P (chain_bindings g cells) (chain_bindings h cells)
     chain_thinned v [] apart links = refl

@@ -1,6 +1,5 @@
 -- What the collector's entries take: keys outside reach, which no register holds, with their data.
-use Rattle.std.proofs.Common.{◌≡◌, ◌⊎◌, inl, inr, ⊎_elim, ℕ, zero, suc, ◌<◌, Bool, true, false, not, cond, ◌&&◌, ◌||◌, IsTrue, List, [], ◌∷◌, ◌++◌, map, length, get_or, set, slice_get, flat_map, filter_map, Option, Some, None, refl, ap, sym, ◌∙◌, subst, arith, append_assoc, append-nil}
-use Rattle.std.specs.List.{list_all}
+use Rattle.std.proofs.Common.{◌≡◌, inr, ℕ, zero, suc, Bool, true, false, not, IsTrue, List, [], ◌∷◌, ◌++◌, length, get_or, set, slice_get, flat_map, filter_map, Option, Some, None, refl, ap, sym, ◌∙◌, subst, arith, append_assoc, append-nil}
 use Rattle.heap_model.specs.declared.label.Label.{Label}
 use Rattle.heap_model.specs.declared.entry.Entry.{Entry}
 use Rattle.heap_model.specs.declared.entry.Entry.TheVariants.{Command as CommandOf, End, Cut, Queue, Seal, Wipe, Last as LastOf, Collected, Done, Ran}
@@ -11,16 +10,15 @@ use Rattle.heap_model.specs.declared.graph.Node.TheVariants.{Plain, Raw, Ephe}
 use Rattle.heap_model.specs.declared.state.DomainState.{DomainState}
 use Rattle.heap_model.specs.declared.state.Sizes.{Sizes}
 use Rattle.heap_model.specs.declared.state.State.{State}
-use Rattle.heap_model.specs.Graph.{Graph, same_label, has_label, label_of, node_at, with_node}
-use Rattle.heap_model.specs.Domains.{domain_at, no_domain, register, opening, queues, pending_label, roots, reach, waiting, settled_roots, settled_reach}
-use Rattle.heap_model.specs.Entries.{Allowed, WipeAllowed, is_rising, has_keys, has_gone_keys, is_gone, is_some_and, wiped_keys, wiped, with_wiped, next}
-use Rattle.heap_model.specs.History.{IsPrefix, state_after, LegalFrom, is_entry_of}
-use Rattle.heap_model.specs.Fronts.{NoneOf}
-use Rattle.heap_model.proofs.Graphs.GraphLemmas.{same_label-true, same_label_refl, node_at-with_node_same, node_at-with_node_other}
+use Rattle.heap_model.specs.Graph.{same_label, has_label, label_of, node_at, with_node}
+use Rattle.heap_model.specs.Domains.{no_domain, register, opening, queues, pending_label, roots, reach, waiting, settled_roots, settled_reach}
+use Rattle.heap_model.specs.Entries.{Allowed, is_rising, has_gone_keys, is_gone, is_some_and, wiped_keys, wiped, with_wiped, next}
+use Rattle.heap_model.specs.History.{LegalFrom, is_entry_of}
+use Rattle.heap_model.proofs.Graphs.GraphLemmas.{same_label_refl, node_at-with_node_same, node_at-with_node_other}
 use Rattle.heap_model.proofs.Commands.FrameLemmas.{keeps_next, label_cases}
 use Rattle.heap_model.proofs.Histories.HistoryLemmas.{state_after-push}
-use Rattle.heap_model.proofs.Reach.ReachLemmas.{or_left, or_right, and_left, and_right, is_false, not_false, has-append_left, has-append_right, reachable_more, reachable_roots}
-use Rattle.table_laws.specs.Thinning.{is_collector, AllCollector, state_of, IsOutside, IsUnheld, WasOutside, Went, Thin, Changes}
+use Rattle.heap_model.proofs.Reach.ReachLemmas.{or_left, or_right, and_left, and_right, is_false, has-append_left, has-append_right, reachable_more, reachable_roots}
+use Rattle.table_laws.specs.Thinning.{is_collector, AllCollector, state_of, IsOutside, IsUnheld, Went, Thin, Changes}
 use Rattle.table_laws.proofs.ChangeLemmas.{thin_is, changes_same, changes_twice, changes_more}
 
 -- what is gone is outside reach

@@ -1,5 +1,5 @@
 -- While a table is only read, its number of bindings falls by one at most at each entry. So each number between that of one front and that of a later one is the number at some front between.
-use Rattle.std.proofs.Common.{◌≡◌, ◌≢◌, ◌⊎◌, inl, inr, ⊎_elim, ℕ, zero, suc, ◌+◌, ◌<◌, ◌≤◌, Bool, true, false, not, cond, IsTrue, List, [], ◌∷◌, ◌++◌, length, get_or, flat_map, Option, Some, None, refl, ap, ap₂, sym, ◌∙◌, subst, arith, append_assoc, append-nil, length-append}
+use Rattle.std.proofs.Common.{◌≡◌, ◌⊎◌, inl, inr, ⊎_elim, ℕ, zero, suc, ◌+◌, ◌<◌, ◌≤◌, Bool, true, false, not, IsTrue, List, [], ◌∷◌, ◌++◌, length, flat_map, Option, Some, None, refl, ap, ap₂, sym, ◌∙◌, subst, arith, append_assoc, append-nil, length-append}
 use Rattle.heap_model.specs.declared.label.Label.{Label}
 use Rattle.heap_model.specs.declared.command.Command.{Command}
 use Rattle.heap_model.specs.declared.entry.Entry.{Entry}
@@ -10,22 +10,20 @@ use Rattle.heap_model.specs.declared.graph.Node.TheVariants.{Plain, Raw, Ephe}
 use Rattle.heap_model.specs.declared.state.Sizes.{Sizes}
 use Rattle.heap_model.specs.declared.state.State.{State}
 use Rattle.heap_model.specs.Graph.{Graph, same_label, has_label, has_no_repeats, node_at}
-use Rattle.heap_model.specs.Domains.{IsWithinLimits, opening}
-use Rattle.heap_model.specs.Entries.{Allowed, wiped, with_wiped, next}
-use Rattle.heap_model.specs.History.{IsPrefix, LegalFrom, Legal}
+use Rattle.heap_model.specs.Domains.{opening}
+use Rattle.heap_model.specs.Entries.{wiped, with_wiped, next}
+use Rattle.heap_model.specs.History.{IsPrefix}
 use Rattle.heap_model.specs.Laws.{written_by}
 use Rattle.heap_model.proofs.Graphs.GraphLemmas.{same_label-true, same_label_refl, node_at-with_node_other}
 use Rattle.heap_model.proofs.Graphs.GraphStepLemmas.{nodes_stay_law}
 use Rattle.heap_model.proofs.Histories.HistoryLemmas.{state_after-push}
 use Rattle.heap_model.proofs.Reach.ReachLemmas.{and_left, and_right, is_false, has-append_left, has-append_right}
-use Rattle.table_laws.specs.Structures.{Binding, Cell, bound, binding_of, chain_bindings, bindings, cell_labels, IsTable}
+use Rattle.table_laws.specs.Structures.{Binding, Cell, binding_of, chain_bindings, bindings, cell_labels, IsTable}
 use Rattle.table_laws.specs.Thinning.{is_collector, AllCollector, state_of, ThinnedBy, Changes}
 use Rattle.table_laws.specs.Performing.{Performed}
 use Rattle.table_laws.specs.Stages.{graph_of, Declines}
 use Rattle.table_laws.proofs.OnceLemmas.{lacks, not_both, once_parts}
-use Rattle.table_laws.proofs.ChangeLemmas.{not_first, thin_is, table_kept, bindings_thinned}
-use Rattle.table_laws.proofs.LawLemmas.{tables_law}
-use Rattle.table_laws.proofs.StepLemmas.{legal_parts}
+use Rattle.table_laws.proofs.ChangeLemmas.{not_first, thin_is, bindings_thinned}
 
 -- two graphs that differ at one label at most
 abbrev SameBut : Label → Graph → Graph → Type 0
@@ -173,7 +171,7 @@ module _ (z : Sizes) (chains : List (List Cell)) where
       let whole : (old ++ e ∷ []) ++ more ≡ old ++ e ∷ more = append_assoc old (e ∷ []) more in
       let there : state_of z (old ++ e ∷ []) ≡ next (state_of z old) e = state_after-push (opening z) old e in
       let less : length (bindings (graph_of z old) chains) ≤ length (bindings (graph_of z (old ++ e ∷ [])) chains) + 1 =
-          subst (λ (t : State). length (bindings (graph_of z old) chains) ≤ length (bindings t.graph chains) + 1) (sym there) (collector_less (state_of z old) e (and_left _ _ mine) chains once) in
+      subst (λ (t : State). length (bindings (graph_of z old) chains) ≤ length (bindings t.graph chains) + 1) (sym there) (collector_less (state_of z old) e (and_left _ _ mine) chains once) in
       let first : Declines z old (old ++ e ∷ []) chains = declines_one old (old ++ e ∷ []) (record { rest = e ∷ []; appends = refl }) less in
       let later : Declines z (old ++ e ∷ []) ((old ++ e ∷ []) ++ more) chains = declines_stretch (old ++ e ∷ []) more (and_right (is_collector e) _ mine) once in
       declines_both old (old ++ e ∷ []) (old ++ e ∷ more) (record { rest = e ∷ []; appends = refl }) (record { rest = more; appends = sym whole })

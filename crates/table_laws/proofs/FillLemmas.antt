@@ -1,5 +1,5 @@
 -- A binding is put and taken at a cell that alone may bind its key.
-use Rattle.std.proofs.Common.{◌≡◌, ◌≢◌, ◌⊎◌, inl, inr, ⊎_elim, ℕ, zero, suc, ◌+◌, ◌<◌, ◌%◌, Bool, true, false, not, cond, IsTrue, List, [], ◌∷◌, ◌++◌, length, get_or, flat_map, Option, Some, None, refl, ap, sym, ◌∙◌, subst, arith}
+use Rattle.std.proofs.Common.{◌≡◌, ◌≢◌, inl, inr, ⊎_elim, ℕ, ◌+◌, ◌<◌, ◌%◌, IsTrue, List, [], ◌∷◌, ◌++◌, get_or, Option, Some, None, refl, ap, sym, ◌∙◌, subst, arith}
 use Rattle.std.proofs.lemmas.Grind.{flat_map-append}
 use Rattle.heap_model.specs.declared.label.Label.{Label}
 use Rattle.heap_model.specs.declared.command.Command.TheVariants.{SetKey, UnsetKey, SetData, UnsetData}
@@ -8,15 +8,14 @@ use Rattle.heap_model.specs.declared.reply.Reply.{Reply}
 use Rattle.heap_model.specs.declared.reply.Reply.TheVariants.{Done}
 use Rattle.heap_model.specs.declared.graph.Value.{Value}
 use Rattle.heap_model.specs.declared.graph.Value.TheVariants.{Int, Block, Nothing}
-use Rattle.heap_model.specs.declared.graph.Node.{Node}
-use Rattle.heap_model.specs.declared.graph.Node.TheVariants.{Plain, Raw, Ephe}
+use Rattle.heap_model.specs.declared.graph.Node.TheVariants.{Ephe}
 use Rattle.heap_model.specs.declared.state.Sizes.{Sizes}
-use Rattle.heap_model.specs.Graph.{Graph, same_label, has_label, node_at}
+use Rattle.heap_model.specs.Graph.{node_at}
 use Rattle.heap_model.specs.Domains.{IsWithinLimits}
 use Rattle.heap_model.specs.Commands.{is_full_value}
 use Rattle.heap_model.proofs.Graphs.GraphLemmas.{same_label_refl}
-use Rattle.table_laws.specs.Structures.{Binding, Cell, bucket_count, bound, binding_of, chain_bindings, bindings, datum_at, without, is_bucket, IsTable}
-use Rattle.table_laws.specs.Thinning.{ThinnedBy, Thin, Went, state_of}
+use Rattle.table_laws.specs.Structures.{Binding, Cell, bucket_count, bound, binding_of, chain_bindings, bindings, datum_at, without, is_bucket}
+use Rattle.table_laws.specs.Thinning.{ThinnedBy, Thin, Went}
 use Rattle.table_laws.specs.Performing.{Performed, After, Remains, registers_of}
 use Rattle.table_laws.specs.Stages.{Searching, Holding, IsFor, IsFilled, graph_of, held_in}
 use Rattle.table_laws.proofs.BindingLemmas.{thinned_datum}

@@ -1,6 +1,5 @@
 -- A binding is found as long as its key is reached.
-use Rattle.std.proofs.Common.{◌≡◌, true, false, IsTrue, List, Some, sym, ◌∙◌}
-use Rattle.heap_model.specs.declared.label.Label.{Label}
+use Rattle.std.proofs.Common.{◌≡◌, true, false, sym, ◌∙◌}
 use Rattle.heap_model.specs.Graph.{has_label}
 use Rattle.heap_model.specs.Domains.{reach}
 use Rattle.heap_model.proofs.Reach.ReachLemmas.{is_false}

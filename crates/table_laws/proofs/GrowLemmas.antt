@@ -1,5 +1,5 @@
 -- A new cell is made and linked, command by command.
-use Rattle.std.proofs.Common.{◌≡◌, ◌≢◌, ◌⊎◌, inl, inr, ⊎_elim, ℕ, zero, suc, ◌<◌, ◌%◌, Bool, true, false, not, cond, IsTrue, List, [], ◌∷◌, ◌++◌, length, get_or, set, slice_get, flat_map, Option, Some, None, refl, ap, sym, ◌∙◌, subst, arith, pos, get_or-set_same}
+use Rattle.std.proofs.Common.{◌≡◌, ◌≢◌, ◌⊎◌, inl, inr, ⊎_elim, ℕ, zero, suc, ◌<◌, true, false, IsTrue, List, [], ◌∷◌, length, get_or, set, slice_get, flat_map, Option, Some, None, refl, ap, sym, ◌∙◌, subst, arith, pos}
 use Rattle.std.proofs.lemmas.Option.{slice_get-get_or}
 use Rattle.heap_model.specs.declared.label.Label.{Label}
 use Rattle.heap_model.specs.declared.command.Command.TheVariants.{Alloc, Load, Store, Ephe as NewEphe}
@@ -9,22 +9,21 @@ use Rattle.heap_model.specs.declared.reply.Reply.TheVariants.{Done, Block as Blo
 use Rattle.heap_model.specs.declared.graph.Value.{Value}
 use Rattle.heap_model.specs.declared.graph.Value.TheVariants.{Int, Block, Nothing}
 use Rattle.heap_model.specs.declared.graph.Node.{Node}
-use Rattle.heap_model.specs.declared.graph.Node.TheVariants.{Plain, Raw, Ephe}
+use Rattle.heap_model.specs.declared.graph.Node.TheVariants.{Plain, Ephe}
 use Rattle.heap_model.specs.declared.state.Sizes.{Sizes}
 use Rattle.heap_model.specs.Graph.{Graph, same_label, has_label, node_at}
 use Rattle.heap_model.specs.Domains.{IsWithinLimits}
 use Rattle.heap_model.specs.Commands.{shown}
-use Rattle.heap_model.proofs.Graphs.GraphLemmas.{same_label-true, same_label_refl, same_label-false}
-use Rattle.heap_model.proofs.Reach.ReachLemmas.{or_cases, or_left, has-append_cases}
-use Rattle.table_laws.specs.Structures.{Binding, Cell, bucket_count, is_weak, chain_bindings, bindings, datum_at, without, head_of, IsCell, Links, cell_labels, table_labels, IsTable}
-use Rattle.table_laws.specs.Thinning.{ThinnedBy, Thin, Changes, Went, state_of}
+use Rattle.heap_model.proofs.Graphs.GraphLemmas.{same_label-true, same_label-false}
+use Rattle.heap_model.proofs.Reach.ReachLemmas.{or_cases, has-append_cases}
+use Rattle.table_laws.specs.Structures.{Cell, bucket_count, is_weak, bindings, head_of, Links, cell_labels, table_labels, IsTable}
+use Rattle.table_laws.specs.Thinning.{ThinnedBy, Went}
 use Rattle.table_laws.specs.Performing.{Performed, After, registers_of}
-use Rattle.table_laws.specs.Stages.{Searching, Holding, Linking, graph_of, held_in}
+use Rattle.table_laws.specs.Stages.{Linking, graph_of, held_in}
 use Rattle.table_laws.proofs.OnceLemmas.{lacks, not_both}
 use Rattle.table_laws.proofs.ChangeLemmas.{table_kept, bindings_thinned}
 use Rattle.table_laws.proofs.CellLemmas.{links_head}
 use Rattle.table_laws.proofs.LinkLemmas.{empty_stays, table_linked, bindings_linked}
-use Rattle.table_laws.proofs.LookupLemmas.{datum_second}
 use Rattle.table_laws.proofs.StepLemmas.{load_step, store_step, alloc_step, ephe_step}
 
 -- each label of a table has a block
@@ -158,11 +157,18 @@ module _ (z : Sizes) (limits : IsWithinLimits z) (root : Label) (chains : List (
     grow_node e table spare fresh p = ⊎_elim (λ full. inl full)
         (λ made.
         let t = table_apart old new [] _ made.1 (λ l h. refl) table in
-        inr (made.0, made.1, made.2, made.3, record {
-          table = t.0;
-          ephe = empty_stays (Went z old new) Nothing _ (made.1.changes e _ spare refl);
-          node = made.4;
-          fresh_ephe = fresh;
-          fresh_node = new_to_table (graph_of z old) root chains made.0 table made.3;
-        }, t.1))
+        inr (
+          made.0,
+          made.1,
+          made.2,
+          made.3,
+          record {
+            table = t.0;
+            ephe = empty_stays (Went z old new) Nothing _ (made.1.changes e _ spare refl);
+            node = made.4;
+            fresh_ephe = fresh;
+            fresh_node = new_to_table (graph_of z old) root chains made.0 table made.3;
+          },
+          t.1,
+        ))
         (alloc_step z limits old new r 9 0 2 p)

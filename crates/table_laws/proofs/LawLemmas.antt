@@ -1,30 +1,27 @@
 -- The laws of tables and weak arrays.
-use Rattle.std.proofs.Common.{◌≡◌, ◌≢◌, ◌⊎◌, inl, inr, ⊎_elim, ℕ, zero, suc, ◌+◌, ◌<◌, ◌%◌, Bool, true, false, not, cond, ◌&&◌, ◌||◌, IsTrue, List, [], ◌∷◌, ◌++◌, map, length, get_or, flat_map, filter_map, slice_get, Option, Some, None, refl, ap, sym, ◌∙◌, subst, arith, pos}
+use Rattle.std.proofs.Common.{◌≡◌, ◌⊎◌, inl, inr, ⊎_elim, ℕ, zero, suc, ◌+◌, ◌<◌, ◌%◌, Bool, true, false, IsTrue, List, [], ◌∷◌, ◌++◌, length, get_or, flat_map, filter_map, Option, Some, None, refl, ap, sym, ◌∙◌, subst, arith}
 use Rattle.std.specs.List.{list_all}
 use Rattle.std.specs.Option.{option_map_or}
 use Rattle.heap_model.specs.declared.label.Label.{Label}
-use Rattle.heap_model.specs.declared.entry.Entry.{Entry}
 use Rattle.heap_model.specs.declared.entry.Entry.TheVariants.{Collected}
 use Rattle.heap_model.specs.declared.graph.Value.{Value}
 use Rattle.heap_model.specs.declared.graph.Value.TheVariants.{Int, Block, Nothing}
 use Rattle.heap_model.specs.declared.graph.Node.{Node}
 use Rattle.heap_model.specs.declared.graph.Node.TheVariants.{Plain, Raw, Ephe}
-use Rattle.heap_model.specs.declared.state.Sizes.{Sizes}
 use Rattle.heap_model.specs.declared.state.State.{State}
 use Rattle.heap_model.specs.Graph.{Graph, same_label, has_label, has_no_repeats, label_of, node_at}
-use Rattle.heap_model.specs.Domains.{opening, queues, roots, reach}
-use Rattle.heap_model.specs.Entries.{Allowed, CollectedAllowed, keys_are_live, has_live_keys, next}
-use Rattle.heap_model.specs.History.{LegalFrom, Legal, state_after}
-use Rattle.heap_model.specs.Reach.{key_holds, edges_of, edges_at, IsClosedUnder, IsLeastClosed}
-use Rattle.heap_model.proofs.Graphs.GraphLemmas.{same_label-true, same_label_refl, same_label-false}
+use Rattle.heap_model.specs.Domains.{opening, reach}
+use Rattle.heap_model.specs.Entries.{CollectedAllowed, keys_are_live, has_live_keys, next}
+use Rattle.heap_model.specs.Reach.{edges_of, IsClosedUnder}
+use Rattle.heap_model.proofs.Graphs.GraphLemmas.{same_label-true, same_label_refl}
 use Rattle.heap_model.proofs.Collections.CollectedLemmas.{reach_fresh}
 use Rattle.heap_model.proofs.Collections.CollectionLemmas.{all_has}
 use Rattle.heap_model.proofs.Histories.HistoryLemmas.{state_after-push}
 use Rattle.heap_model.proofs.Histories.WellFormedLemmas.{reach_after}
 use Rattle.heap_model.proofs.Reach.LabelListLemmas.{no_repeats_append}
-use Rattle.heap_model.proofs.Reach.ReachLemmas.{or_cases, or_left, or_right, and_left, and_right, and_both, is_false, not_false, has-append_cases, has-append_left, has-append_right}
-use Rattle.table_laws.specs.Structures.{Binding, Cell, bucket_count, is_weak, key_of, bound, binding_of, keys_of, chain_bindings, bindings, IsCell, Links, cell_labels, table_labels, is_bucket, IsTable, IsWeakArray, slot_keys, head_of}
-use Rattle.table_laws.specs.Thinning.{is_collector, state_of, IsOutside, ThinnedBy, EmptiedBy, Thin, Changes}
+use Rattle.heap_model.proofs.Reach.ReachLemmas.{or_cases, or_left, or_right, and_left, and_right, and_both, not_false, has-append_cases}
+use Rattle.table_laws.specs.Structures.{Binding, Cell, bucket_count, is_weak, key_of, bound, binding_of, keys_of, chain_bindings, bindings, Links, is_bucket, IsTable, slot_keys}
+use Rattle.table_laws.specs.Thinning.{state_of, IsOutside, EmptiedBy, Thin, Changes}
 use Rattle.table_laws.specs.TableLaws.{TakesFromTables, TakesFromArrays, CollectedKeysAreReached, KeysDiffer}
 use Rattle.table_laws.proofs.LookupLemmas.{bucket_parts}
 use Rattle.table_laws.proofs.ChangeLemmas.{table_kept, bindings_thinned, array_kept}
@@ -53,12 +50,12 @@ module _ (P : Label → Type 0) (own : List Label) (g h : Graph) (changes : Chan
   pub keys_emptied : (slots : List Label) → ((l : Label) → IsTrue (has_label slots l) → has_label own l ≡ false) → IsTrue (list_all (λ e. is_weak (node_at g e)) slots) → EmptiedBy P (slot_keys g slots) (slot_keys h slots)
   keys_emptied [] apart weak = refl
   keys_emptied (e ∷ slots) apart weak = (
-      key_of (node_at h e),
-      slot_keys h slots,
-      refl,
-      key_emptied (node_at g e) (and_left (is_weak (node_at g e)) _ weak) (node_at h e) (λ n at. changes e n at (apart e (or_left (same_label e e) _ (same_label_refl e)))),
-      keys_emptied slots (λ l later. apart l (or_right (same_label e l) _ later)) (and_right (is_weak (node_at g e)) _ weak),
-    )
+    key_of (node_at h e),
+    slot_keys h slots,
+    refl,
+    key_emptied (node_at g e) (and_left (is_weak (node_at g e)) _ weak) (node_at h e) (λ n at. changes e n at (apart e (or_left (same_label e e) _ (same_label_refl e)))),
+    keys_emptied slots (λ l later. apart l (or_right (same_label e l) _ later)) (and_right (is_weak (node_at g e)) _ weak),
+  )
 
 pub arrays_law : TakesFromArrays
 arrays_law s e mine allowed root slots array =
@@ -159,7 +156,7 @@ module _ (f : List Cell → List Binding) where
   flat_once o [] each = refl
   flat_once o (cs ∷ css) each =
       let later : (t : ℕ) → t < length css → IsTrue (is_bucket (o + 1 + t) (f (get_or css t []))) =
-          λ t below. let same : o + suc t ≡ o + 1 + t = omega arith in subst (λ n. IsTrue (is_bucket n (f (get_or css t [])))) same (each (suc t) (omega arith)) in
+      λ t below. let same : o + suc t ≡ o + 1 + t = omega arith in subst (λ n. IsTrue (is_bucket n (f (get_or css t [])))) same (each (suc t) (omega arith)) in
       subst (λ ls. IsTrue (has_no_repeats ls)) (sym (pairs_append (f cs) (flat_map f css)))
       (no_repeats_append (keys_of (f cs)) (keys_of (flat_map f css)) (bucket_once (o + 0) (f cs) (each zero (omega arith))) (flat_once (o + 1) css later)
       (λ l first second.

@@ -1,14 +1,14 @@
 -- A new cell, whose ephemeron has no key, comes first in a chain: the table binds what it bound.
-use Rattle.std.proofs.Common.{◌≡◌, ◌≢◌, ◌⊎◌, inl, inr, ⊎_elim, ℕ, zero, suc, ◌<◌, Bool, true, false, not, cond, ◌&&◌, ◌||◌, eqb, eqb-true, eq-eqb, IsTrue, List, [], ◌∷◌, ◌++◌, length, get_or, set, flat_map, Option, Some, None, refl, ap, ap₂, sym, ◌∙◌, subst, arith, length-set, get_or-set_same, get_or-set_other}
+use Rattle.std.proofs.Common.{◌≡◌, ◌≢◌, inl, inr, ⊎_elim, ℕ, zero, suc, ◌<◌, Bool, true, false, not, eqb, eqb-true, eq-eqb, IsTrue, List, [], ◌∷◌, ◌++◌, length, get_or, set, flat_map, Option, Some, None, refl, ap, sym, ◌∙◌, subst, arith, length-set, get_or-set_same, get_or-set_other}
 use Rattle.heap_model.specs.declared.label.Label.{Label}
 use Rattle.heap_model.specs.declared.graph.Value.{Value}
-use Rattle.heap_model.specs.declared.graph.Value.TheVariants.{Int, Block, Nothing}
+use Rattle.heap_model.specs.declared.graph.Value.TheVariants.{Block, Nothing}
 use Rattle.heap_model.specs.declared.graph.Node.{Node}
-use Rattle.heap_model.specs.declared.graph.Node.TheVariants.{Plain, Raw, Ephe}
-use Rattle.heap_model.specs.Graph.{Graph, same_label, has_label, has_no_repeats, node_at}
+use Rattle.heap_model.specs.declared.graph.Node.TheVariants.{Plain, Ephe}
+use Rattle.heap_model.specs.Graph.{Graph, same_label, has_label, node_at}
 use Rattle.heap_model.proofs.Graphs.GraphLemmas.{same_label-true, same_label_refl, same_label-false}
-use Rattle.heap_model.proofs.Reach.ReachLemmas.{or_cases, or_left, or_right, and_left, and_right, and_both, is_false, not_false}
-use Rattle.table_laws.specs.Structures.{Binding, Cell, bucket_count, is_weak, binding_of, chain_bindings, bindings, IsCell, Links, cell_labels, table_labels, is_bucket, IsTable}
+use Rattle.heap_model.proofs.Reach.ReachLemmas.{or_cases, and_left, and_right, and_both, is_false, not_false}
+use Rattle.table_laws.specs.Structures.{Binding, Cell, bucket_count, is_weak, binding_of, chain_bindings, bindings, Links, cell_labels, table_labels, is_bucket, IsTable}
 use Rattle.table_laws.specs.Thinning.{ThinnedBy, Thin, Changes}
 use Rattle.table_laws.proofs.BindingLemmas.{thinned_append, thinned_bucket, thinned_flat}
 use Rattle.table_laws.proofs.OnceLemmas.{lacks, not_both, chain_label, more_labels, once_more}
@@ -78,11 +78,14 @@ module _ (P : Label → Type 0) (g h : Graph) (root : Label) (chains : List (Lis
   new_bindings = ap (λ o. binding_of o ++ chain_bindings h (get_or chains i [])) ephe_after
 
   new_links : Links h (Block c.node) (c ∷ get_or chains i [])
-  new_links = (refl, (
+  new_links = (
+    refl,
+    (
       get_or table.fields i Nothing,
       record { tag = tag; node = node_after; weak = subst (λ o. IsTrue (is_weak o)) (sym ephe_after) refl },
       old_links i below,
-    ))
+    ),
+  )
 
   links_each : (t : ℕ) → t < bucket_count → (b : Bool) → eqb t i ≡ b → Links h (get_or (set table.fields i (Block c.node)) t Nothing) (get_or more t [])
   links_each t few true e =

@@ -1,11 +1,11 @@
 -- Keys in lists of bindings, chain by chain.
-use Rattle.std.proofs.Common.{◌≡◌, ◌≢◌, ◌⊎◌, inl, inr, ⊎_elim, ℕ, zero, suc, ◌+◌, ◌<◌, ◌%◌, Bool, true, false, not, cond, ◌&&◌, ◌||◌, eqb, eqb-true, eq-eqb, IsTrue, List, [], ◌∷◌, ◌++◌, map, length, get_or, set, flat_map, Option, Some, None, refl, ap, ap₂, sym, ◌∙◌, subst, arith, append-nil}
+use Rattle.std.proofs.Common.{◌≡◌, ◌≢◌, ℕ, zero, suc, ◌+◌, ◌<◌, ◌%◌, Bool, true, false, not, cond, ◌&&◌, ◌||◌, eqb, eqb-true, eq-eqb, IsTrue, List, [], ◌∷◌, ◌++◌, length, get_or, flat_map, Some, None, refl, ap, sym, ◌∙◌, subst, arith}
 use Rattle.heap_model.specs.declared.label.Label.{Label}
 use Rattle.heap_model.specs.declared.graph.Value.{Value}
 use Rattle.heap_model.specs.Graph.{same_label, has_label}
 use Rattle.heap_model.specs.Commands.{is_full_value}
 use Rattle.heap_model.proofs.Graphs.GraphLemmas.{same_label-true, same_label_refl, same_label-false}
-use Rattle.heap_model.proofs.Reach.ReachLemmas.{or_cases, or_left, or_right, and_left, and_right, and_both, is_false, not_false}
+use Rattle.heap_model.proofs.Reach.ReachLemmas.{or_left, or_right, and_left, and_right, and_both, is_false, not_false}
 use Rattle.table_laws.specs.Structures.{Binding, Cell, bucket_count, keys_of, without, datum_at, is_bucket}
 use Rattle.table_laws.specs.Thinning.{ThinnedBy}
 use Rattle.table_laws.proofs.BindingLemmas.{without_append, thinned_append}

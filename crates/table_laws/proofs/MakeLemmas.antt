@@ -1,12 +1,12 @@
 -- A block of 64 fields that are 0 is a table that binds nothing.
-use Rattle.std.proofs.Common.{◌≡◌, ℕ, zero, suc, ◌<◌, IsTrue, List, [], ◌∷◌, ◌++◌, length, get_or, replicate, flat_map, Some, refl, ap, ◌∙◌, subst, sym, arith, pos}
+use Rattle.std.proofs.Common.{◌≡◌, ℕ, zero, suc, ◌<◌, IsTrue, [], ◌∷◌, length, get_or, replicate, flat_map, Some, refl, ap, subst, sym, arith, pos}
 use Rattle.std.proofs.lemmas.List.{length-replicate}
 use Rattle.heap_model.specs.declared.label.Label.{Label}
 use Rattle.heap_model.specs.declared.graph.Value.{Value}
 use Rattle.heap_model.specs.declared.graph.Value.TheVariants.{Int, Nothing}
 use Rattle.heap_model.specs.Graph.{Graph, has_no_repeats, node_at}
 use Rattle.heap_model.specs.Commands.{new_plain}
-use Rattle.table_laws.specs.Structures.{Cell, bucket_count, chain_bindings, bindings, Links, cell_labels, table_labels, is_bucket, IsTable, empty_chains}
+use Rattle.table_laws.specs.Structures.{bucket_count, chain_bindings, bindings, Links, cell_labels, is_bucket, IsTable, empty_chains}
 
 field_at : (n i : ℕ) (v : Value) → i < n → get_or (replicate n v) i Nothing ≡ v
 field_at zero i v below = absurd (omega arith)

@@ -1,8 +1,8 @@
 -- Each block of a table stands in one place of it.
-use Rattle.std.proofs.Common.{◌≡◌, ◌≢◌, ◌⊎◌, inl, inr, ⊎_elim, ℕ, zero, suc, ◌<◌, Bool, true, false, not, cond, ◌&&◌, ◌||◌, IsTrue, List, [], ◌∷◌, ◌++◌, length, get_or, set, flat_map, refl, ap, ap₂, sym, ◌∙◌, subst, arith, append_assoc}
+use Rattle.std.proofs.Common.{◌≡◌, ◌≢◌, ◌⊎◌, inl, inr, ⊎_elim, ℕ, zero, suc, ◌<◌, Bool, true, false, not, IsTrue, List, [], ◌∷◌, ◌++◌, length, get_or, set, flat_map, refl, ap, sym, ◌∙◌, subst, arith}
 use Rattle.heap_model.specs.declared.label.Label.{Label}
 use Rattle.heap_model.specs.Graph.{same_label, has_label, has_no_repeats}
-use Rattle.heap_model.proofs.Graphs.GraphLemmas.{same_label-true, same_label_refl, same_label-false}
+use Rattle.heap_model.proofs.Graphs.GraphLemmas.{same_label-true, same_label_refl}
 use Rattle.heap_model.proofs.Reach.LabelListLemmas.{no_repeats_append}
 use Rattle.heap_model.proofs.Reach.ReachLemmas.{or_cases, or_left, or_right, and_left, and_right, and_both, is_false, not_false, has-append_left, has-append_right, has-append_cases}
 use Rattle.table_laws.specs.Structures.{Cell, cell_labels}
@@ -26,9 +26,9 @@ once_parts (x ∷ a) b once =
       and_both _ _ (not_false _ (lacks a x (λ h. not_both (a ++ b) x (has-append_left a b x h) new))) rest.0,
       rest.1,
       λ l h. ⊎_elim
-      (λ here. lacks b l (λ there. not_both (a ++ b) x (subst (λ k. IsTrue (has_label (a ++ b) k)) (sym (same_label-true x l here)) (has-append_right a b l there)) new))
-      (λ later. rest.2 l later)
-      (or_cases (same_label x l) (has_label a l) h),
+          (λ here. lacks b l (λ there. not_both (a ++ b) x (subst (λ k. IsTrue (has_label (a ++ b) k)) (sym (same_label-true x l here)) (has-append_right a b l there)) new))
+          (λ later. rest.2 l later)
+          (or_cases (same_label x l) (has_label a l) h),
     )
 
 pub cell_labels-append : (a b : List Cell) → cell_labels (a ++ b) ≡ cell_labels a ++ cell_labels b
@@ -65,7 +65,7 @@ other_cells done c rest once =
     let parts = once_parts (cell_labels done) (c.node ∷ c.ephe ∷ cell_labels rest) (subst (λ ls. IsTrue (has_no_repeats ls)) (cell_labels-append done (c ∷ rest)) once) in
     let behind = and_right (not (has_label (c.ephe ∷ cell_labels rest) c.node)) (has_no_repeats (c.ephe ∷ cell_labels rest)) parts.1 in (
       lacks _ c.ephe (λ h. not_both (c.node ∷ c.ephe ∷ cell_labels rest) c.ephe
-      (or_right (same_label c.node c.ephe) _ (or_left (same_label c.ephe c.ephe) _ (same_label_refl c.ephe))) (parts.2 c.ephe h)),
+          (or_right (same_label c.node c.ephe) _ (or_left (same_label c.ephe c.ephe) _ (same_label_refl c.ephe))) (parts.2 c.ephe h)),
       is_false _ (and_left (not (has_label (cell_labels rest) c.ephe)) _ behind),
     )
 

@@ -1,5 +1,5 @@
 -- What a command on an ephemeron of one key answers and leaves.
-use Rattle.std.proofs.Common.{◌≡◌, ◌≢◌, ℕ, ◌<◌, Bool, true, false, List, [], ◌∷◌, set, slice_get, length, is_some, option_and_then, option_map, Option, Some, None, refl, ap, ◌∙◌, get_or-set_same}
+use Rattle.std.proofs.Common.{◌≡◌, ◌≢◌, ℕ, ◌<◌, false, List, [], ◌∷◌, set, slice_get, length, is_some, option_and_then, option_map, Option, Some, None, refl, ap, ◌∙◌, get_or-set_same}
 use Rattle.heap_model.specs.declared.label.Label.{Label}
 use Rattle.heap_model.specs.declared.command.Command.{Command}
 use Rattle.heap_model.specs.declared.command.Command.TheVariants.{SetKey, UnsetKey, GetKey, CheckKey, SetData, UnsetData, GetData}
@@ -14,7 +14,7 @@ use Rattle.heap_model.specs.declared.graph.Node.TheVariants.{Ephe}
 use Rattle.heap_model.specs.declared.state.DomainState.{DomainState}
 use Rattle.heap_model.specs.declared.state.State.{State}
 use Rattle.heap_model.specs.Graph.{node_at, with_node, block_at, label_of}
-use Rattle.heap_model.specs.Domains.{domain_at, no_domain, with_block, with_register, register, label_in}
+use Rattle.heap_model.specs.Domains.{domain_at, no_domain, with_block, register}
 use Rattle.heap_model.specs.Commands.{Outcome, only_replies, done_with, read_into, shown, tells, in_bounds, block_in, at_ephe, key_set, key_stored, datum_set, datum_stored, key_value, outcome}
 use Rattle.heap_model.proofs.Commands.FrameLemmas.{part_set}
 use Rattle.heap_model.proofs.Commands.LeavesLemmas.{Leaves}

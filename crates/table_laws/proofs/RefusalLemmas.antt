@@ -1,5 +1,5 @@
 -- A command that is answered `full` is an entry that says so, and no other entry is.
-use Rattle.std.proofs.Common.{◌≡◌, ℕ, ◌+◌, Bool, true, false, cond, IsTrue, is_some, List, [], ◌∷◌, ◌++◌, slice_get, Option, Some, None, refl, ap, sym, ◌∙◌, subst, arith}
+use Rattle.std.proofs.Common.{◌≡◌, ℕ, ◌+◌, Bool, true, false, cond, IsTrue, is_some, List, [], ◌∷◌, ◌++◌, slice_get, Option, Some, None, refl, ap, sym, ◌∙◌, arith}
 use Rattle.heap_model.specs.declared.label.Label.{Label}
 use Rattle.heap_model.specs.declared.command.Command as declared_command
 use Rattle.heap_model.specs.declared.command.Command.TheVariants.{PutInt, Copy, Forget, Alloc, AllocMaj, Load, Store, Raw as NewRaw, Cas, Ephe as NewEphe, SetKey, UnsetKey, GetKey, CheckKey, SetData, UnsetData, GetData, CheckData, Finalise, FinaliseLast, Poll, Minor, Major, FullMajor, Spawn, Argument, PutResult, Join}
@@ -7,7 +7,6 @@ use Rattle.heap_model.specs.declared.entry.Entry.{Entry}
 use Rattle.heap_model.specs.declared.entry.Entry.TheVariants.{Command, End, Cut, Queue, Seal, Wipe, Last as LastOf, Collected, Done as DoneOf, Ran}
 use Rattle.heap_model.specs.declared.reply.Reply.{Reply}
 use Rattle.heap_model.specs.declared.reply.Reply.TheVariants as reply
-use Rattle.heap_model.specs.declared.reply.Applied.{Applied}
 use Rattle.heap_model.specs.declared.reply.Applied.TheVariants.{Replied}
 use Rattle.heap_model.specs.declared.graph.Value.{Value}
 use Rattle.heap_model.specs.declared.graph.Value.TheVariants.{Int, Block, Nothing}
@@ -15,9 +14,8 @@ use Rattle.heap_model.specs.declared.graph.Node.{Node}
 use Rattle.heap_model.specs.declared.graph.Node.TheVariants.{Plain, Raw, Ephe}
 use Rattle.heap_model.specs.declared.state.Sizes.{Sizes}
 use Rattle.heap_model.specs.declared.state.State.{State}
-use Rattle.heap_model.specs.Graph.{Graph}
 use Rattle.heap_model.specs.Domains.{IsWithinLimits, label_in, register}
-use Rattle.heap_model.specs.Commands.{Outcome, in_bounds, read_into, shown, tells, loaded, at_field, written_over, written_where, same_value, exchanged, at_ephe, key_set, key_stored, key_value, datum_set, datum_stored, is_full_value, finalised, finalised_last, block_in, is_allocation, outcome}
+use Rattle.heap_model.specs.Commands.{Outcome, in_bounds, read_into, tells, loaded, at_field, written_where, same_value, exchanged, at_ephe, key_set, key_stored, key_value, datum_stored, is_full_value, finalised, finalised_last, block_in, is_allocation, outcome}
 use Rattle.heap_model.specs.Entries.{reply as reply_of}
 use Rattle.heap_model.proofs.Reach.ReachLemmas.{and_left, and_right}
 use Rattle.table_laws.specs.Thinning.{is_collector, AllCollector, state_of}

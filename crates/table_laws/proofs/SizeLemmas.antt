@@ -1,12 +1,10 @@
 -- With one domain there are no more blocks than labels were given out, the shared block's among them; and a table has fewer bindings than that.
-use Rattle.std.proofs.Common.{◌≡◌, ⊎_elim, ℕ, zero, suc, ◌+◌, ◌*◌, ◌<◌, ◌≤◌, Bool, true, false, cond, IsTrue, List, [], ◌∷◌, ◌++◌, map, length, get_or, set, replicate, flat_map, Option, Some, None, refl, ap, sym, ◌∙◌, subst, arith, length-set, length-append, get_or-set_same}
+use Rattle.std.proofs.Common.{◌≡◌, ⊎_elim, ℕ, ◌+◌, ◌<◌, ◌≤◌, Bool, true, false, cond, IsTrue, List, [], ◌∷◌, ◌++◌, length, flat_map, Option, Some, None, refl, ap, ◌∙◌, subst, arith, length-set, length-append, get_or-set_same}
 use Rattle.std.proofs.lemmas.List.{length-map}
 use Rattle.heap_model.specs.declared.label.Label.{Label}
 use Rattle.heap_model.specs.declared.command.Command.{Command}
 use Rattle.heap_model.specs.declared.entry.Entry.{Entry}
 use Rattle.heap_model.specs.declared.entry.Entry.TheVariants.{Command as CommandOf, End, Cut, Queue, Seal, Wipe, Last as LastOf, Collected, Done, Ran}
-use Rattle.heap_model.specs.declared.graph.Value.{Value}
-use Rattle.heap_model.specs.declared.graph.Value.TheVariants.{Block}
 use Rattle.heap_model.specs.declared.graph.Node.{Node}
 use Rattle.heap_model.specs.declared.graph.Node.TheVariants.{Plain, Raw, Ephe}
 use Rattle.heap_model.specs.declared.state.Pending.{Pending}
@@ -15,16 +13,16 @@ use Rattle.heap_model.specs.declared.state.DomainState.{DomainState}
 use Rattle.heap_model.specs.declared.state.Sizes.{Sizes}
 use Rattle.heap_model.specs.declared.state.State.{State}
 use Rattle.heap_model.specs.Graph.{Graph, same_label, labels, has_label, node_at}
-use Rattle.heap_model.specs.Domains.{domain_at, with_domain, with_register, with_block, no_domain, opening}
+use Rattle.heap_model.specs.Domains.{domain_at, with_domain, with_block, no_domain, opening}
 use Rattle.heap_model.specs.Commands.{allocated, outcome}
 use Rattle.heap_model.specs.Entries.{Allowed, wiped, with_wiped, with_last_queued, without_first, after_run, next}
 use Rattle.heap_model.specs.History.{state_after, LegalFrom, Legal}
 use Rattle.heap_model.proofs.Commands.FrameLemmas.{part_set, part_map, inside_running}
 use Rattle.heap_model.proofs.Commands.MoveLemmas.{moved}
 use Rattle.heap_model.proofs.Commands.ShapeLemmas.{length-with_node}
-use Rattle.heap_model.proofs.Reach.ReachLemmas.{or_left, or_right, true_or_false, Within}
+use Rattle.heap_model.proofs.Reach.ReachLemmas.{or_left, or_right, true_or_false}
 use Rattle.heap_model.proofs.Reach.LabelListLemmas.{length_within}
-use Rattle.table_laws.specs.Structures.{Binding, Cell, bound, binding_of, chain_bindings, bindings, cell_labels, table_labels, IsTable}
+use Rattle.table_laws.specs.Structures.{Cell, binding_of, chain_bindings, bindings, cell_labels, table_labels, IsTable}
 use Rattle.table_laws.specs.Thinning.{state_of}
 use Rattle.table_laws.proofs.GrowLemmas.{table_there}
 
@@ -164,7 +162,7 @@ pub bindings_few : (g : Graph) (root : Label) (chains : List (List Cell)) → Is
 bindings_few g root chains table =
     let most = all_few g chains in
     let within : length (table_labels root chains) ≤ length (labels g) =
-        length_within (table_labels root chains) (labels g) table.once (λ l h. let there = table_there g root chains l table h in label_there g l there.0 there.1) in
+    length_within (table_labels root chains) (labels g) table.once (λ l h. let there = table_there g root chains l table h in label_there g l there.0 there.1) in
     let count : length (labels g) ≡ length g = length-map g _ in
     omega (arith, most, within, count)
 

@@ -1,32 +1,30 @@
 -- The commands of a call, one after the other: where it stands after each.
-use Rattle.std.proofs.Common.{◌≡◌, ◌≢◌, ◌⊎◌, inl, inr, ⊎_elim, ℕ, zero, suc, ◌+◌, ◌<◌, ◌%◌, Bool, true, false, not, cond, IsTrue, List, [], ◌∷◌, ◌++◌, length, get_or, set, slice_get, flat_map, Option, Some, None, refl, ap, sym, ◌∙◌, subst, arith, append_assoc, append-nil, get_or-set_same, get_or-set_other}
+use Rattle.std.proofs.Common.{◌≡◌, ◌⊎◌, ℕ, ◌+◌, ◌<◌, ◌%◌, true, false, IsTrue, List, [], ◌∷◌, ◌++◌, get_or, set, slice_get, Some, None, refl, ap, sym, ◌∙◌, subst, arith, append_assoc, append-nil}
 use Rattle.std.proofs.lemmas.Grind.{flat_map-append}
 use Rattle.std.proofs.lemmas.Option.{slice_get-get_or}
 use Rattle.heap_model.specs.declared.label.Label.{Label}
-use Rattle.heap_model.specs.declared.command.Command.TheVariants.{Load, GetKey}
+use Rattle.heap_model.specs.declared.command.Command.TheVariants.{Load}
 use Rattle.heap_model.specs.declared.entry.Entry.{Entry}
 use Rattle.heap_model.specs.declared.reply.Reply.{Reply}
 use Rattle.heap_model.specs.declared.reply.Reply.TheVariants.{Block as BlockReply}
 use Rattle.heap_model.specs.declared.graph.Value.{Value}
-use Rattle.heap_model.specs.declared.graph.Value.TheVariants.{Int, Block, Nothing}
-use Rattle.heap_model.specs.declared.graph.Node.{Node}
-use Rattle.heap_model.specs.declared.graph.Node.TheVariants.{Plain, Raw, Ephe}
+use Rattle.heap_model.specs.declared.graph.Value.TheVariants.{Block, Nothing}
+use Rattle.heap_model.specs.declared.graph.Node.TheVariants.{Plain, Ephe}
 use Rattle.heap_model.specs.declared.state.Sizes.{Sizes}
-use Rattle.heap_model.specs.declared.state.State.{State}
-use Rattle.heap_model.specs.Graph.{Graph, same_label, has_label, node_at}
+use Rattle.heap_model.specs.Graph.{Graph, has_label, node_at}
 use Rattle.heap_model.specs.Domains.{IsWithinLimits}
-use Rattle.heap_model.specs.Commands.{shown, key_value}
+use Rattle.heap_model.specs.Commands.{shown}
 use Rattle.heap_model.specs.History.{IsPrefix, Legal}
 use Rattle.heap_model.proofs.Graphs.GraphLemmas.{same_label_refl}
-use Rattle.table_laws.specs.Structures.{Binding, Cell, bucket_count, is_weak, binding_of, chain_bindings, bindings, datum_at, without, head_of, IsCell, Links, cell_labels, table_labels, is_bucket, IsTable}
-use Rattle.table_laws.specs.Thinning.{ThinnedBy, Thin, Changes, WasOutside, Went, state_of}
-use Rattle.table_laws.specs.Performing.{Performed, After, Remains, registers_of}
+use Rattle.table_laws.specs.Structures.{Binding, Cell, bucket_count, binding_of, chain_bindings, bindings, datum_at, head_of, IsCell, Links, is_bucket, IsTable}
+use Rattle.table_laws.specs.Thinning.{ThinnedBy, WasOutside, Went}
+use Rattle.table_laws.specs.Performing.{Performed, After, registers_of}
 use Rattle.table_laws.specs.Stages.{Goes, Searching, graph_of, held_in}
 use Rattle.table_laws.proofs.BindingLemmas.{thinned_append, thinned_datum, thinned_more, thinned_twice}
 use Rattle.table_laws.proofs.LookupLemmas.{datum_first, datum_second, datum_of_bucket}
 use Rattle.table_laws.proofs.ChangeLemmas.{changes_same, changes_on, changes_more, weak_kept, table_kept, bindings_thinned}
 use Rattle.table_laws.proofs.CellLemmas.{links_head, links_behind}
-use Rattle.table_laws.proofs.StepLemmas.{load_step, get_key_step}
+use Rattle.table_laws.proofs.StepLemmas.{load_step}
 
 prefix_trans : (a b c : List Entry) → IsPrefix a b → IsPrefix b c → IsPrefix a c
 prefix_trans a b c x y = record { rest = x.rest ++ y.rest; appends = y.appends ∙ (ap (λ (h : List Entry). h ++ y.rest) x.appends ∙ append_assoc a x.rest y.rest) }
@@ -135,8 +133,8 @@ module _ (z : Sizes) (limits : IsWithinLimits z) (root : Label) (chains : List (
     search_passes rs held none a here =
         let split : get_or chains i [] ≡ (done ++ c ∷ []) ++ rest = s.split ∙ sym (append_assoc done (c ∷ []) rest) in
         let missing : datum_at (chain_bindings (graph_of z old) (done ++ c ∷ [])) k ≡ None =
-            ap (λ (bs : List Binding). datum_at bs k) (flat_map-append (λ x. binding_of (node_at (graph_of z old) x.ephe)) done (c ∷ []))
-            ∙ datum_second k (chain_bindings (graph_of z old) done) _ s.missing ∙ datum_first k (binding_of (node_at (graph_of z old) c.ephe)) [] refl ∙ none in
+        ap (λ (bs : List Binding). datum_at bs k) (flat_map-append (λ x. binding_of (node_at (graph_of z old) x.ephe)) done (c ∷ []))
+        ∙ datum_second k (chain_bindings (graph_of z old) done) _ s.missing ∙ datum_first k (binding_of (node_at (graph_of z old) c.ephe)) [] refl ∙ none in
         record {
           table = table_reading z old new rs a root chains s.table;
           below = s.below;

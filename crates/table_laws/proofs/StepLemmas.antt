@@ -1,33 +1,31 @@
 -- What each command does that tables and weak arrays are made of: what it answers, which registers it changes, and which block.
-use Rattle.std.proofs.Common.{◌≡◌, ◌≢◌, ◌⊎◌, inl, inr, ⊎_elim, ℕ, zero, suc, ◌+◌, ◌<◌, ◌≤◌, Bool, true, false, not, cond, IsTrue, List, [], ◌∷◌, ◌++◌, length, get_or, set, slice_get, replicate, is_some, Option, Some, None, refl, ap, sym, ◌∙◌, subst, arith, append_assoc, append-nil}
-use Rattle.std.specs.List.{list_all}
+use Rattle.std.proofs.Common.{◌≡◌, ◌≢◌, ◌⊎◌, inl, inr, ⊎_elim, ℕ, ◌+◌, ◌<◌, ◌≤◌, Bool, true, false, List, [], ◌∷◌, ◌++◌, length, get_or, set, slice_get, Option, Some, None, refl, ap, sym, ◌∙◌, subst, append_assoc}
 use Rattle.heap_model.specs.declared.label.Label.{Label}
 use Rattle.heap_model.specs.declared.command.Command.{Command}
 use Rattle.heap_model.specs.declared.command.Command.TheVariants.{Copy, Forget, Alloc, Load, Store, Ephe as NewEphe, SetKey, UnsetKey, GetKey, CheckKey, SetData, UnsetData, GetData}
 use Rattle.heap_model.specs.declared.entry.Entry.{Entry}
 use Rattle.heap_model.specs.declared.entry.Entry.TheVariants.{Command as CommandOf}
 use Rattle.heap_model.specs.declared.reply.Reply.{Reply}
-use Rattle.heap_model.specs.declared.reply.Reply.TheVariants.{Done, Block as BlockReply, BadType, BadIndex, Yes, No, Full}
-use Rattle.heap_model.specs.declared.reply.Applied.{Applied}
+use Rattle.heap_model.specs.declared.reply.Reply.TheVariants.{Done, Block as BlockReply, BadType, BadIndex, Full}
 use Rattle.heap_model.specs.declared.reply.Applied.TheVariants.{Replied}
 use Rattle.heap_model.specs.declared.graph.Value.{Value}
-use Rattle.heap_model.specs.declared.graph.Value.TheVariants.{Int, Block, Nothing}
+use Rattle.heap_model.specs.declared.graph.Value.TheVariants.{Block, Nothing}
 use Rattle.heap_model.specs.declared.graph.Node.{Node}
-use Rattle.heap_model.specs.declared.graph.Node.TheVariants.{Plain, Raw, Ephe}
+use Rattle.heap_model.specs.declared.graph.Node.TheVariants.{Plain, Ephe}
 use Rattle.heap_model.specs.declared.state.Sizes.{Sizes}
 use Rattle.heap_model.specs.declared.state.State.{State}
-use Rattle.heap_model.specs.Graph.{Graph, label_of, has_label, same_label, node_at, with_node}
-use Rattle.heap_model.specs.Domains.{IsWithinLimits, IsShaped, domain_at, register, opening}
+use Rattle.heap_model.specs.Graph.{Graph, label_of, same_label, node_at, with_node}
+use Rattle.heap_model.specs.Domains.{IsWithinLimits, domain_at, register, opening}
 use Rattle.heap_model.specs.Commands.{CommandAllowed, FullOnlyWhereAllowed, MayBeFull, is_allocation, shown, key_value, new_plain}
-use Rattle.heap_model.specs.Entries.{Allowed, next, reply}
-use Rattle.heap_model.specs.History.{IsPrefix, state_after, LegalFrom, Legal, is_entry_of}
+use Rattle.heap_model.specs.Entries.{next, reply}
+use Rattle.heap_model.specs.History.{state_after, LegalFrom, Legal}
 use Rattle.heap_model.specs.Fronts.{NoneOf, KeepsDomain}
 use Rattle.heap_model.proofs.Commands.FrameLemmas.{inside_running}
 use Rattle.heap_model.proofs.Commands.LeavesLemmas.{Leaves, new_label, leaves_load, leaves_load_past, leaves_copy, leaves_forget, leaves_store, leaves_store_nothing, leaves_full, leaves_allocation, leaves_alloc}
 use Rattle.heap_model.proofs.Graphs.GraphLemmas.{same_label_refl, node_at-with_node_same, node_at-append_new}
 use Rattle.heap_model.proofs.Histories.NumberLemmas.{next_label_after}
 use Rattle.heap_model.proofs.Histories.FrontLemmas.{keeps_front}
-use Rattle.heap_model.proofs.Histories.HistoryLemmas.{state_after-append, state_after-push, legal_append}
+use Rattle.heap_model.proofs.Histories.HistoryLemmas.{state_after-push}
 use Rattle.heap_model.proofs.Histories.ShapeAfterLemmas.{shaped-history}
 use Rattle.heap_model.proofs.Reach.ReachLemmas.{or_left, and_left, and_right, and_both, not_false}
 use Rattle.table_laws.specs.Thinning.{is_collector, AllCollector, state_of, Went, Thin, Changes}
@@ -41,7 +39,7 @@ pub legal_parts : (s : State) (h k : List Entry) → LegalFrom s (h ++ k) → Le
 legal_parts s [] k legal = (tt, legal)
 legal_parts s (e ∷ h) k legal = let rest = legal_parts (next s e) h k legal.1 in ((legal.0, rest.0), rest.1)
 
-collector_none : (h : List Entry) (d : ℕ) → AllCollector h → NoneOf d h
+pub collector_none : (h : List Entry) (d : ℕ) → AllCollector h → NoneOf d h
 collector_none [] d mine = refl
 collector_none (e ∷ h) d mine = and_both _ _ (not_false _ (collector_other e d (and_left _ _ mine))) (collector_none h d (and_right (is_collector e) _ mine))
 

@@ -1,12 +1,10 @@
 -- A table has one layout: what its fields lead to is determined.
-use Rattle.std.proofs.Common.{◌≡◌, ℕ, zero, suc, ◌<◌, List, [], ◌∷◌, length, get_or, Option, Some, refl, ap, sym, ◌∙◌, subst, arith, pos}
-use Rattle.heap_model.specs.declared.label.Label.{Label}
+use Rattle.std.proofs.Common.{◌≡◌, ℕ, zero, suc, ◌<◌, List, [], ◌∷◌, length, get_or, Some, refl, ap, sym, ◌∙◌, subst, arith, pos}
 use Rattle.heap_model.specs.declared.graph.Value.{Value}
 use Rattle.heap_model.specs.declared.graph.Value.TheVariants.{Int, Block, Nothing}
-use Rattle.heap_model.specs.declared.graph.Node.{Node}
 use Rattle.heap_model.specs.declared.graph.Node.TheVariants.{Plain}
 use Rattle.heap_model.specs.Graph.{Graph, node_at}
-use Rattle.table_laws.specs.Structures.{Cell, bucket_count, IsCell, Links, IsTable}
+use Rattle.table_laws.specs.Structures.{Cell, bucket_count, Links}
 use Rattle.table_laws.specs.TableLaws.{OneLayout}
 
 links_once : (g : Graph) (v : Value) (a b : List Cell) → Links g v a → Links g v b → a ≡ b

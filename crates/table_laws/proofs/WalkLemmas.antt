@@ -1,5 +1,5 @@
 -- A walk through a bucket, command by command.
-use Rattle.std.proofs.Common.{◌≡◌, ℕ, ◌<◌, ◌≤◌, ◌+◌, IsTrue, List, [], ◌∷◌, ◌++◌, length, get_or, set, inl, inr, Option, Some, None, refl, ap, sym, ◌∙◌, subst, arith, append_assoc}
+use Rattle.std.proofs.Common.{◌≡◌, ℕ, ◌≤◌, IsTrue, List, [], ◌∷◌, ◌++◌, length, get_or, set, inl, inr, Option, Some, None, refl, ap, sym, ◌∙◌, subst, arith, append_assoc}
 use Rattle.heap_model.specs.declared.label.Label.{Label}
 use Rattle.heap_model.specs.declared.command.Command.{Command}
 use Rattle.heap_model.specs.declared.command.Command.TheVariants.{Load, CheckKey}
@@ -7,17 +7,17 @@ use Rattle.heap_model.specs.declared.entry.Entry.{Entry}
 use Rattle.heap_model.specs.declared.reply.Reply.{Reply}
 use Rattle.heap_model.specs.declared.reply.Reply.TheVariants.{Block as BlockReply}
 use Rattle.heap_model.specs.declared.graph.Value.{Value}
-use Rattle.heap_model.specs.declared.graph.Value.TheVariants.{Int, Block, Nothing}
+use Rattle.heap_model.specs.declared.graph.Value.TheVariants.{Block, Nothing}
 use Rattle.heap_model.specs.declared.graph.Node.{Node}
 use Rattle.heap_model.specs.declared.graph.Node.TheVariants.{Plain, Raw, Ephe}
 use Rattle.heap_model.specs.declared.state.Sizes.{Sizes}
 use Rattle.heap_model.specs.declared.state.State.{State}
-use Rattle.heap_model.specs.Graph.{Graph, node_at}
+use Rattle.heap_model.specs.Graph.{node_at}
 use Rattle.heap_model.specs.Domains.{IsWithinLimits}
 use Rattle.heap_model.specs.Commands.{shown}
 use Rattle.heap_model.specs.Laws.{written_by}
-use Rattle.table_laws.specs.Structures.{Binding, Cell, bucket_count, is_weak, bindings, head_of, IsCell, Links, IsTable}
-use Rattle.table_laws.specs.Thinning.{ThinnedBy, Went, state_of}
+use Rattle.table_laws.specs.Structures.{Binding, Cell, is_weak, head_of, IsCell, Links, IsTable}
+use Rattle.table_laws.specs.Thinning.{ThinnedBy, Went}
 use Rattle.table_laws.specs.Performing.{Performed, After, registers_of}
 use Rattle.table_laws.specs.Stages.{Walking, Declines, graph_of, held_in}
 use Rattle.table_laws.proofs.ChangeLemmas.{table_kept}

@@ -1,5 +1,5 @@
 -- What `table_count` leaves, command by command.
-use Rattle.std.proofs.Common.{◌≡◌, ◌≢◌, ◌⊎◌, inl, inr, ⊎_elim, ℕ, zero, suc, ◌+◌, ◌^◌, ◌<◌, ◌≤◌, Bool, true, false, IsTrue, List, [], ◌∷◌, ◌++◌, length, get_or, set, take, flat_map, Option, Some, None, refl, ap, sym, ◌∙◌, subst, arith, append-nil, append_assoc, length-append, get_or-set_same, get_or-set_other}
+use Rattle.std.proofs.Common.{◌≡◌, ℕ, zero, suc, ◌+◌, ◌<◌, ◌≤◌, true, false, IsTrue, List, [], ◌∷◌, ◌++◌, length, get_or, set, take, Option, Some, None, refl, ap, sym, ◌∙◌, subst, arith, append-nil, append_assoc, length-append, get_or-set_same, get_or-set_other}
 use Rattle.std.proofs.lemmas.Grind.{flat_map-append}
 use Rattle.heap_model.specs.declared.label.Label.{Label}
 use Rattle.heap_model.specs.declared.command.Command.TheVariants.{Load, CheckKey}
@@ -8,13 +8,11 @@ use Rattle.heap_model.specs.declared.reply.Reply.{Reply}
 use Rattle.heap_model.specs.declared.reply.Reply.TheVariants as reply
 use Rattle.heap_model.specs.declared.graph.Value.{Value}
 use Rattle.heap_model.specs.declared.graph.Value.TheVariants.{Block, Nothing}
-use Rattle.heap_model.specs.declared.graph.Node.{Node}
 use Rattle.heap_model.specs.declared.graph.Node.TheVariants.{Ephe}
 use Rattle.heap_model.specs.declared.state.Sizes.{Sizes}
 use Rattle.heap_model.specs.Graph.{Graph, node_at}
 use Rattle.heap_model.specs.Domains.{IsWithinLimits}
-use Rattle.heap_model.specs.Commands.{shown}
-use Rattle.heap_model.specs.History.{IsPrefix, Legal}
+use Rattle.heap_model.specs.History.{Legal}
 use Rattle.table_laws.specs.Structures.{Binding, Cell, bucket_count, is_weak, bound, binding_of, chain_bindings, bindings, head_of, IsCell, Links, IsTable}
 use Rattle.table_laws.specs.Thinning.{ThinnedBy, WasOutside, Went}
 use Rattle.table_laws.specs.Performing.{Performed, After, registers_of}
@@ -29,10 +27,9 @@ use Rattle.weak_tables.specs.Commands.{IsBlock, one_of}
 use Rattle.weak_tables.specs.Held.{KeepsOthers, HoldsTable, Reads, Cleared}
 use Rattle.weak_tables.specs.Walks.{Counting, Counted, CountedTo}
 use Rattle.weak_tables.specs.Tables.{Counts}
-use Rattle.weak_tables.proofs.SearchLemmas.{sixteen, set_here, set_other, keeps_set, below_eight, keeps_all, reads_on, reads_from, shown_block, shown_none}
-use Rattle.weak_tables.proofs.TakeLemmas.{same_registers, cleared_clean, cleared_keeps, cleared_reads, cleared_table}
+use Rattle.weak_tables.proofs.SearchLemmas.{sixteen, set_here, keeps_set, below_eight, keeps_all, reads_on, reads_from, shown_block, shown_none}
+use Rattle.weak_tables.proofs.TakeLemmas.{same_registers, cleared_clean, cleared_keeps, cleared_reads}
 use Rattle.weak_tables.proofs.PutLemmas.{prefix_on, goes_both, thinned_both}
-use Rattle.table_laws.proofs.UniqueLemmas.{layout_law}
 
 one_bound : (key : Option Label) (datum : Value) → one_of (full_reply key) ≡ length (bound key datum)
 one_bound None datum = refl

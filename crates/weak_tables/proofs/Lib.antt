@@ -4,3 +4,4 @@ pub mod PutLemmas
 pub mod SlotLemmas
 pub mod MakingLemmas
 pub mod CountingLemmas
+pub mod RefusedBodies

@@ -1,5 +1,5 @@
 -- What `table_make` and `weak_make` leave.
-use Rattle.std.proofs.Common.{◌≡◌, ◌≢◌, ◌⊎◌, inl, inr, ⊎_elim, ℕ, suc, ◌+◌, ◌<◌, Bool, true, false, IsTrue, List, [], ◌∷◌, ◌++◌, length, get_or, set, replicate, Option, Some, None, refl, ap, sym, ◌∙◌, subst, arith, length-append}
+use Rattle.std.proofs.Common.{◌≡◌, ◌⊎◌, inl, inr, ⊎_elim, ℕ, suc, ◌+◌, ◌<◌, true, false, IsTrue, List, [], ◌∷◌, ◌++◌, get_or, set, replicate, Option, Some, None, refl, ap, sym, ◌∙◌, subst, arith, length-append}
 use Rattle.heap_model.specs.declared.label.Label.{Label}
 use Rattle.heap_model.specs.declared.command.Command.TheVariants.{Alloc, Copy, Store, Ephe}
 use Rattle.heap_model.specs.declared.entry.Entry.{Entry}
@@ -12,20 +12,20 @@ use Rattle.heap_model.specs.declared.state.Sizes.{Sizes}
 use Rattle.heap_model.specs.Domains.{IsWithinLimits}
 use Rattle.heap_model.specs.History.{Legal}
 use Rattle.heap_model.specs.declared.reply.Reply.TheVariants as reply
-use Rattle.heap_model.specs.Graph.{Graph, same_label, has_label, node_at}
+use Rattle.heap_model.specs.Graph.{same_label, has_label, node_at}
 use Rattle.heap_model.proofs.Graphs.GraphLemmas.{same_label-true}
 use Rattle.heap_model.proofs.Reach.ReachLemmas.{or_cases, or_left}
 use Rattle.table_laws.specs.Performing.{Performed, After, registers_of}
-use Rattle.table_laws.specs.Stages.{Goes, Filling, graph_of, held_in}
+use Rattle.table_laws.specs.Stages.{Goes, Filling, graph_of}
 use Rattle.table_laws.proofs.OnceLemmas.{lacks}
 use Rattle.table_laws.proofs.ArrayMakeLemmas.{filling_begun, filling_kept, filling_stored, filling_ended}
 use Rattle.table_laws.proofs.MakeLemmas.{table_empty}
 use Rattle.table_laws.proofs.StepLemmas.{alloc_step, copy_step, ephe_step}
 use Rattle.table_laws.proofs.StageLemmas.{goes_from, goes_on, goes_reading}
-use Rattle.weak_tables.specs.Tables.{Makes, MakesNone, MakeAnswers}
+use Rattle.weak_tables.specs.Tables.{MakeAnswers}
 use Rattle.weak_tables.specs.Held.{KeepsOthers, Cleared}
-use Rattle.weak_tables.specs.Walks.{Filled, Fills}
-use Rattle.weak_tables.specs.Arrays.{MakesArray, MakesNoArray, ArrayAnswers}
+use Rattle.weak_tables.specs.Walks.{Filled}
+use Rattle.weak_tables.specs.Arrays.{MakesArray, MakesNoArray}
 use Rattle.weak_tables.proofs.SearchLemmas.{set_here, set_other, keeps_set, keeps_all, below_eight}
 use Rattle.weak_tables.proofs.TakeLemmas.{cleared_goes, cleared_keeps, cleared_clean, same_registers}
 use Rattle.weak_tables.proofs.PutLemmas.{new_earlier}
@@ -92,14 +92,18 @@ module _ (z : Sizes) (limits : IsWithinLimits z) (first : List Entry) (root : La
 
 module _ (z : Sizes) (limits : IsWithinLimits z) (old f : List Entry) (r : Reply) (count : ℕ) (legal : Legal z old) (p : Performed z old f (Alloc 8 0 count) r) where
   pub array_begun : (r ≡ reply.Full → ⊥) → (root : Label) × (r ≡ reply.Block root) × Filled z old f root 0 count
-  array_begun room = ⊎_elim (λ no. absurd (room no.1)) (λ made. (made.0, made.2, record {
-    goes = goes_reading z old old f [] _ (goes_from z old [] legal) made.1;
-    keeps = keeps_set z limits old old f 8 _ made.1.registers_are (keeps_all z old) (λ r a b c. a);
-    made = [];
-    count_is = refl;
-    filling = filling_begun z old made.0 f count made.3 made.4;
-    held = set_here z limits old old f 8 _ made.1.registers_are (omega arith);
-  })) (alloc_step z limits old f r 8 0 count p)
+  array_begun room = ⊎_elim (λ no. absurd (room no.1)) (λ made. (
+    made.0,
+    made.2,
+    record {
+      goes = goes_reading z old old f [] _ (goes_from z old [] legal) made.1;
+      keeps = keeps_set z limits old old f 8 _ made.1.registers_are (keeps_all z old) (λ r a b c. a);
+      made = [];
+      count_is = refl;
+      filling = filling_begun z old made.0 f count made.3 made.4;
+      held = set_here z limits old old f 8 _ made.1.registers_are (omega arith);
+    },
+  )) (alloc_step z limits old f r 8 0 count p)
 
   -- nothing was made
   pub no_array : (g new : List Entry) → Goes z old g [] → KeepsOthers z old g → Cleared z g new → MakesNoArray z old new

@@ -1,5 +1,5 @@
 -- What `table_put` and `table_get` leave.
-use Rattle.std.proofs.Common.{◌≡◌, ◌≢◌, ◌⊎◌, inl, inr, ⊎_elim, ℕ, zero, suc, ◌+◌, ◌<◌, ◌%◌, Bool, true, false, IsTrue, List, [], ◌∷◌, ◌++◌, length, get_or, set, flat_map, Option, Some, None, refl, ap, sym, ◌∙◌, subst, arith, pos, append_assoc, get_or-set_same}
+use Rattle.std.proofs.Common.{◌≡◌, ◌≢◌, ◌⊎◌, inl, inr, ⊎_elim, ℕ, ◌+◌, ◌<◌, ◌%◌, Bool, true, false, IsTrue, List, [], ◌∷◌, ◌++◌, length, get_or, set, flat_map, Option, Some, None, refl, ap, sym, ◌∙◌, subst, arith, pos, append_assoc, get_or-set_same}
 use Rattle.heap_model.specs.declared.label.Label.{Label}
 use Rattle.heap_model.specs.declared.command.Command.TheVariants.{Forget, Alloc, Load, Store, Ephe as NewEphe, SetKey, SetData, GetData}
 use Rattle.heap_model.specs.declared.entry.Entry.{Entry}
@@ -8,7 +8,7 @@ use Rattle.heap_model.specs.declared.reply.Reply.TheVariants as reply
 use Rattle.heap_model.specs.declared.graph.Value.{Value}
 use Rattle.heap_model.specs.declared.graph.Value.TheVariants.{Int, Block, Nothing}
 use Rattle.heap_model.specs.declared.graph.Node.{Node}
-use Rattle.heap_model.specs.declared.graph.Node.TheVariants.{Plain, Ephe}
+use Rattle.heap_model.specs.declared.graph.Node.TheVariants.{Ephe}
 use Rattle.heap_model.specs.declared.state.State.{State}
 use Rattle.heap_model.specs.declared.state.Sizes.{Sizes}
 use Rattle.heap_model.specs.Graph.{Graph, same_label, has_label, label_of, node_at}
@@ -20,25 +20,24 @@ use Rattle.heap_model.specs.Commands.{shown, is_full_value}
 use Rattle.heap_model.specs.History.{IsPrefix, Legal, state_after}
 use Rattle.heap_model.proofs.Graphs.GraphLemmas.{same_label-true, same_label_refl}
 use Rattle.heap_model.proofs.Reach.ReachLemmas.{or_cases, or_left, or_right}
-use Rattle.table_laws.specs.Structures.{Binding, Cell, bucket_count, bound, binding_of, chain_bindings, bindings, datum_at, without, head_of, is_bucket_full, HasOneMore, cell_labels, table_labels, is_bucket, IsTable}
-use Rattle.table_laws.specs.Thinning.{ThinnedBy, Changes, WasOutside, Went}
+use Rattle.table_laws.specs.Structures.{Binding, Cell, bucket_count, binding_of, chain_bindings, bindings, datum_at, without, head_of, is_bucket_full, cell_labels, table_labels, is_bucket, IsTable}
+use Rattle.table_laws.specs.Thinning.{ThinnedBy, WasOutside, Went}
 use Rattle.table_laws.specs.Performing.{Performed, After, registers_of}
 use Rattle.table_laws.specs.Stages.{Goes, Holding, Linking, graph_of, held_in}
-use Rattle.table_laws.proofs.BindingLemmas.{thinned_same, thinned_datum, thinned_more, thinned_twice, thinned_without}
-use Rattle.table_laws.proofs.LookupLemmas.{datum_of_bucket, without_unbound}
+use Rattle.table_laws.proofs.BindingLemmas.{thinned_more, thinned_twice, thinned_without}
+use Rattle.table_laws.proofs.LookupLemmas.{datum_of_bucket}
 use Rattle.table_laws.proofs.OnceLemmas.{chain_label, more_labels}
 use Rattle.table_laws.proofs.ChangeLemmas.{not_first, changes_on, changes_more}
 use Rattle.table_laws.proofs.CellLemmas.{in_chain}
 use Rattle.table_laws.proofs.LinkLemmas.{empty_stays}
 use Rattle.table_laws.proofs.StepLemmas.{forget_step, get_data_step}
-use Rattle.table_laws.proofs.StageLemmas.{goes_from, goes_on, goes_reading, thinned_on, table_reading, bindings_reading}
+use Rattle.table_laws.proofs.StageLemmas.{goes_from, goes_on, goes_reading, thinned_on}
 use Rattle.table_laws.proofs.FillLemmas.{whole, fill_data, fill_key, holding_datum}
 use Rattle.table_laws.proofs.GrowLemmas.{grow_ephe, grow_node, link_ephe, link_head, link_next, link_cell}
-use Rattle.weak_tables.specs.Commands.{value_of}
 use Rattle.weak_tables.specs.Held.{KeepsOthers, IsClean, HoldsTable, Reads, Cleared}
 use Rattle.weak_tables.specs.Walks.{Found, Missed, Ready, Refused, Placed, LooksUp}
-use Rattle.weak_tables.specs.Tables.{Puts, PutAnswers, Gets, GetAnswers, Leaves}
-use Rattle.weak_tables.proofs.SearchLemmas.{sixteen, set_here, set_other, keeps_set, below_eight, keeps_all, reads_on, reads_from}
+use Rattle.weak_tables.specs.Tables.{Puts, PutAnswers, Gets, GetAnswers}
+use Rattle.weak_tables.proofs.SearchLemmas.{set_here, set_other, keeps_set, below_eight, keeps_all, reads_on, reads_from}
 use Rattle.weak_tables.proofs.TakeLemmas.{thinned_none, goes_wider, cleared_clean, cleared_keeps, cleared_goes, cleared_reads, cleared_table, cleared_without, cleared_datum, same_registers}
 
 pub prefix_on : (a b c : List Entry) → IsPrefix a b → IsPrefix b c → IsPrefix a c

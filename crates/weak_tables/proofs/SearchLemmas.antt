@@ -1,5 +1,5 @@
 -- A search, command by command: what its calls leave.
-use Rattle.std.proofs.Common.{◌≡◌, ◌≢◌, ◌⊎◌, inl, inr, ⊎_elim, ℕ, zero, suc, ◌<◌, ◌%◌, Bool, true, false, IsTrue, is_some, List, [], ◌∷◌, ◌++◌, length, get_or, set, Option, Some, None, refl, ap, sym, ◌∙◌, subst, arith, append-nil, append_assoc, get_or-set_same, get_or-set_other}
+use Rattle.std.proofs.Common.{◌≡◌, ◌≢◌, ◌⊎◌, inl, inr, ℕ, ◌<◌, ◌%◌, Bool, true, false, IsTrue, is_some, List, [], ◌∷◌, ◌++◌, length, get_or, set, Option, Some, None, refl, ap, sym, ◌∙◌, subst, arith, append-nil, append_assoc, get_or-set_same, get_or-set_other}
 use Rattle.std.specs.List.{list_all}
 use Rattle.std.proofs.lemmas.Grind.{flat_map-append}
 use Rattle.heap_model.specs.declared.label.Label.{Label}
@@ -8,20 +8,20 @@ use Rattle.heap_model.specs.declared.entry.Entry.{Entry}
 use Rattle.heap_model.specs.declared.reply.Reply.{Reply}
 use Rattle.heap_model.specs.declared.reply.Reply.TheVariants as reply
 use Rattle.heap_model.specs.declared.graph.Value.{Value}
-use Rattle.heap_model.specs.declared.graph.Value.TheVariants.{Int, Block, Nothing}
+use Rattle.heap_model.specs.declared.graph.Value.TheVariants.{Block, Nothing}
 use Rattle.heap_model.specs.declared.graph.Node.{Node}
 use Rattle.heap_model.specs.declared.graph.Node.TheVariants.{Plain, Raw, Ephe}
 use Rattle.heap_model.specs.declared.state.Sizes.{Sizes}
-use Rattle.heap_model.specs.Graph.{Graph, same_label, node_at}
-use Rattle.heap_model.specs.Domains.{IsWithinLimits, domain_at, opening}
+use Rattle.heap_model.specs.Graph.{node_at}
+use Rattle.heap_model.specs.Domains.{IsWithinLimits}
 use Rattle.heap_model.specs.Commands.{shown, key_value}
 use Rattle.heap_model.specs.History.{Legal}
 use Rattle.heap_model.proofs.Graphs.GraphLemmas.{same_label-false}
 use Rattle.heap_model.proofs.Histories.ShapeAfterLemmas.{shaped-history}
-use Rattle.table_laws.specs.Structures.{Binding, Cell, bucket_count, is_weak, key_of, bound, binding_of, chain_bindings, bindings, datum_at, head_of, has_key, IsCell, Links, IsTable}
-use Rattle.table_laws.specs.Thinning.{Thin, WasOutside, Went, state_of}
+use Rattle.table_laws.specs.Structures.{Binding, Cell, bucket_count, is_weak, key_of, bound, binding_of, chain_bindings, datum_at, head_of, has_key, IsCell, Links, IsTable}
+use Rattle.table_laws.specs.Thinning.{Thin, WasOutside, Went}
 use Rattle.table_laws.specs.Performing.{Performed, After, registers_of}
-use Rattle.table_laws.specs.Stages.{Goes, Searching, Holding, graph_of, held_in}
+use Rattle.table_laws.specs.Stages.{Searching, graph_of, held_in}
 use Rattle.heap_model.proofs.Reach.ReachLemmas.{and_left, and_right, and_both}
 use Rattle.table_laws.proofs.BindingLemmas.{thinned_same}
 use Rattle.table_laws.proofs.CellLemmas.{links_behind}
@@ -33,7 +33,7 @@ use Rattle.table_laws.proofs.FillLemmas.{found_holding, holding_datum}
 use Rattle.weak_tables.specs.declared.find.Find.{Find}
 use Rattle.weak_tables.specs.declared.find.Find.TheVariants.{Key, Spare, Nowhere}
 use Rattle.weak_tables.specs.Commands.{IsBlock}
-use Rattle.weak_tables.specs.Held.{KeepsOthers, HoldsTable, Reads}
+use Rattle.weak_tables.specs.Held.{KeepsOthers, Reads}
 use Rattle.weak_tables.specs.Walks.{HoldsSpare, SpareOf, KeepsSpare, Midst, Found, Missed, Met, passed_all}
 
 module _ (z : Sizes) (limits : IsWithinLimits z) where
@@ -157,7 +157,7 @@ module _ (z : Sizes) (limits : IsWithinLimits z) (root : Label) (chains : List (
     spared x =
         let split : get_or chains i [] ≡ x.before ++ x.cell ∷ x.behind = chain_is ∙ x.split in
         let parts : datum_at (chain_bindings (graph_of z now) x.before ++ (binding_of (node_at (graph_of z now) x.cell.ephe) ++ chain_bindings (graph_of z now) x.behind)) k ≡ None =
-            ap (λ (bs : List Binding). datum_at bs k) (sym (ap (chain_bindings (graph_of z now)) x.split ∙ flat_map-append (λ c. binding_of (node_at (graph_of z now) c.ephe)) x.before (x.cell ∷ x.behind))) ∙ searching_all.missing in
+        ap (λ (bs : List Binding). datum_at bs k) (sym (ap (chain_bindings (graph_of z now)) x.split ∙ flat_map-append (λ c. binding_of (node_at (graph_of z now) c.ephe)) x.before (x.cell ∷ x.behind))) ∙ searching_all.missing in
         let both = datum_parts k (chain_bindings (graph_of z now) x.before) _ parts in
         let behind = datum_parts k (binding_of (node_at (graph_of z now) x.cell.ephe)) (chain_bindings (graph_of z now) x.behind) both.1 in record {
           reads = m.reads;

@@ -1,5 +1,5 @@
 -- What `table_take` leaves.
-use Rattle.std.proofs.Common.{◌≡◌, ◌≢◌, ◌⊎◌, inl, inr, ⊎_elim, ℕ, zero, suc, ◌<◌, ◌%◌, Bool, true, false, IsTrue, List, [], ◌∷◌, ◌++◌, get_or, set, Option, Some, None, refl, ap, sym, ◌∙◌, subst, arith}
+use Rattle.std.proofs.Common.{◌≡◌, inl, inr, ⊎_elim, ℕ, ◌<◌, ◌%◌, Bool, true, false, IsTrue, List, [], ◌∷◌, get_or, Option, Some, None, refl, ap, sym, ◌∙◌, subst, arith}
 use Rattle.heap_model.specs.declared.label.Label.{Label}
 use Rattle.heap_model.specs.declared.command.Command.TheVariants.{Forget, UnsetKey, UnsetData}
 use Rattle.heap_model.specs.declared.entry.Entry.{Entry}
@@ -8,7 +8,7 @@ use Rattle.heap_model.specs.declared.reply.Reply.TheVariants as reply
 use Rattle.heap_model.specs.declared.graph.Value.{Value}
 use Rattle.heap_model.specs.declared.graph.Value.TheVariants.{Int, Block, Nothing}
 use Rattle.heap_model.specs.declared.state.Sizes.{Sizes}
-use Rattle.heap_model.specs.Graph.{Graph, same_label, has_label, label_of, node_at}
+use Rattle.heap_model.specs.Graph.{same_label, has_label, label_of}
 use Rattle.heap_model.specs.Commands.{shown}
 use Rattle.heap_model.specs.declared.command.Command.{Command}
 use Rattle.heap_model.specs.Domains.{IsWithinLimits}
@@ -29,7 +29,7 @@ use Rattle.table_laws.proofs.FillLemmas.{take_key, take_data, holding_datum}
 use Rattle.weak_tables.specs.Held.{KeepsOthers, IsClean, Reads, Cleared}
 use Rattle.weak_tables.specs.Walks.{KeepsSpare, Found, Missed, LooksUp}
 use Rattle.weak_tables.specs.Tables.{Takes, Leaves, TakeAnswers}
-use Rattle.weak_tables.proofs.SearchLemmas.{sixteen, set_here, set_other, keeps_set, below_eight, keeps_all, reads_on}
+use Rattle.weak_tables.proofs.SearchLemmas.{set_here, set_other, keeps_set, below_eight, reads_on}
 
 -- what isn't bound isn't bound where some is taken
 pub thinned_none : (P : Label → Type 0) (k : Label) (a b : List Binding) → ThinnedBy P a b → datum_at a k ≡ None → datum_at b k ≡ None

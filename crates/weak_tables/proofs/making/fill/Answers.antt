@@ -1,7 +1,5 @@
-use Rattle.std.proofs.Common.{◌≡◌, ◌∙◌, ◌+◌, ◌-◌, ◌<◌, ◌≤◌, suc, sym, subst, List, ℕ, true, false, refl, ap, cond, arith}
+use Rattle.std.proofs.Common.{◌≡◌, ◌∙◌, ◌+◌, ◌-◌, ◌<◌, suc, sym, subst, ℕ, true, false, refl, ap, cond, arith}
 use Rattle.table_laws.specs.Performing.{full_of}
-use Rattle.heap_model.specs.declared.label.Label.{Label}
-use Rattle.heap_model.specs.declared.entry.Entry.{Entry}
 use Rattle.heap_model.specs.declared.state.Sizes.{Sizes}
 use Rattle.weak_tables.specs.Walks.{Filled}
 use Rattle.weak_tables.proofs.TakeLemmas.{at_sizes}

@@ -1,11 +1,10 @@
-use Rattle.std.proofs.Common.{◌≡◌, ◌∙◌, sym, subst, List, Bool, IsTrue, true, false, Some, None}
+use Rattle.std.proofs.Common.{◌≡◌, ◌∙◌, sym, subst, List, Bool, IsTrue, Some, None}
 use Rattle.heap_model.specs.declared.label.Label.{Label}
 use Rattle.heap_model.specs.declared.entry.Entry.{Entry}
 use Rattle.heap_model.specs.declared.graph.Value.TheVariants.{Block}
 use Rattle.heap_model.specs.declared.state.Sizes.{Sizes}
 use Rattle.table_laws.specs.Structures.{Cell, IsTable, bindings, datum_at}
 use Rattle.table_laws.specs.Stages.{graph_of, held_in}
-use Rattle.weak_tables.specs.declared.find.Find.{Find}
 use Rattle.weak_tables.specs.declared.find.Find.TheVariants.{Key, Spare, Nowhere}
 use Rattle.weak_tables.specs.Held.{HoldsTable}
 use Rattle.weak_tables.specs.Walks.{Placed, Searched}
@@ -43,8 +42,8 @@ returns-in-Nowhere-clause-placed g c =
     let f : List Entry = g.M.Machine.front c.search.new.m in
     let s : Searched z old f c.args.table c.args.label.now Nowhere = subst (λ x. Searched z old f c.args.table c.args.label.now x) c.in-Nowhere.is c.search.ensures.searched in
     let grown : (root : Label) (chains : List (List Cell)) → held_in z f c.args.table ≡ Block root → IsTable (graph_of z f) root chains → datum_at (bindings (graph_of z f) chains) c.args.label.now ≡ None → (full : Bool) → IsTrue full → Placed z f (g.M.Machine.front c.grow.new.m) root chains c.args.label.now full c.grow.result =
-        subst (λ (y : Sizes). (root : Label) (chains : List (List Cell)) → held_in y f c.args.table ≡ Block root → IsTable (graph_of y f) root chains → datum_at (bindings (graph_of y f) chains) c.args.label.now ≡ None → (full : Bool) → IsTrue full → Placed y f (g.M.Machine.front c.grow.new.m) root chains c.args.label.now full c.grow.result)
-        c.search.ensures.sizes c.grow.ensures.placed in
+    subst (λ (y : Sizes). (root : Label) (chains : List (List Cell)) → held_in y f c.args.table ≡ Block root → IsTable (graph_of y f) root chains → datum_at (bindings (graph_of y f) chains) c.args.label.now ≡ None → (full : Bool) → IsTrue full → Placed y f (g.M.Machine.front c.grow.new.m) root chains c.args.label.now full c.grow.result)
+    c.search.ensures.sizes c.grow.ensures.placed in
     λ root chains held table.
     let m = s root chains held table in
     placed_after z old f _ root chains c.args.label.now _ c.grow.result m.0 (grown root chains (below_eight z old f c.args.table c.requires.few.0 m.0.keeps ∙ held) m.0.reads.table m.0.none _ m.1)

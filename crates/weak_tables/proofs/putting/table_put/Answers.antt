@@ -1,12 +1,9 @@
-use Rattle.std.proofs.Common.{◌≡◌, ◌≢◌, ◌∙◌, sym, ap, subst, List, true, false}
-use Rattle.heap_model.specs.declared.label.Label.{Label}
+use Rattle.std.proofs.Common.{◌≡◌, ◌≢◌, ◌∙◌, sym, List, true, false}
 use Rattle.heap_model.specs.declared.entry.Entry.{Entry}
 use Rattle.heap_model.specs.declared.graph.Value.TheVariants.{Block, Nothing}
-use Rattle.heap_model.specs.declared.reply.Reply.{Reply}
-use Rattle.heap_model.specs.declared.reply.Reply.TheVariants as reply
 use Rattle.heap_model.specs.declared.state.Sizes.{Sizes}
 use Rattle.heap_model.specs.Commands.{shown}
-use Rattle.table_laws.specs.Structures.{Cell, is_bucket_full, IsTable}
+use Rattle.table_laws.specs.Structures.{is_bucket_full}
 use Rattle.table_laws.specs.Stages.{graph_of, held_in}
 use Rattle.weak_tables.specs.Walks.{Placed}
 use Rattle.weak_tables.proofs.TakeLemmas.{at_sizes, cleared_sizes, shown_label}

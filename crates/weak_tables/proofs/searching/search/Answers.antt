@@ -1,10 +1,10 @@
-use Rattle.std.proofs.Common.{◌≡◌, ◌∙◌, ◌+◌, sym, subst, List, ℕ, true, false, arith}
+use Rattle.std.proofs.Common.{◌≡◌, ◌∙◌, sym, subst, List, ℕ, true, false, arith}
 use Rattle.heap_model.specs.declared.command.Command.TheVariants.{Load}
 use Rattle.heap_model.specs.declared.entry.Entry.{Entry}
 use Rattle.heap_model.specs.declared.state.Sizes.{Sizes}
 use Rattle.table_laws.specs.Performing.{Performed}
 use Rattle.weak_tables.specs.declared.find.Find.{Find}
-use Rattle.weak_tables.specs.Walks.{KeepsSpare, Searched, passed_all}
+use Rattle.weak_tables.specs.Walks.{Searched}
 use Rattle.weak_tables.proofs.SearchLemmas.{bucket_below, midst_begins, midst_found, midst_next, midst_passed}
 use Rattle.weak_tables.proofs.TakeLemmas.{at_sizes, kept_sizes}
 use Rattle.weak_tables.proofs.searching.search.Goals as goal
