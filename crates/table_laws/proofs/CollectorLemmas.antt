@@ -1,0 +1,167 @@
+-- What the collector's entries take: keys outside reach, which no register holds, with their data.
+use Rattle.std.proofs.Common.{◌≡◌, inr, ℕ, zero, suc, Bool, true, false, not, IsTrue, List, [], ◌∷◌, ◌++◌, length, get_or, set, slice_get, flat_map, filter_map, Option, Some, None, refl, ap, sym, ◌∙◌, subst, arith, append_assoc, append-nil}
+use Rattle.heap_model.specs.declared.label.Label.{Label}
+use Rattle.heap_model.specs.declared.entry.Entry.{Entry}
+use Rattle.heap_model.specs.declared.entry.Entry.TheVariants.{Command as CommandOf, End, Cut, Queue, Seal, Wipe, Last as LastOf, Collected, Done, Ran}
+use Rattle.heap_model.specs.declared.graph.Value.{Value}
+use Rattle.heap_model.specs.declared.graph.Value.TheVariants.{Int, Block, Nothing}
+use Rattle.heap_model.specs.declared.graph.Node.{Node}
+use Rattle.heap_model.specs.declared.graph.Node.TheVariants.{Plain, Raw, Ephe}
+use Rattle.heap_model.specs.declared.state.DomainState.{DomainState}
+use Rattle.heap_model.specs.declared.state.Sizes.{Sizes}
+use Rattle.heap_model.specs.declared.state.State.{State}
+use Rattle.heap_model.specs.Graph.{same_label, has_label, label_of, node_at, with_node}
+use Rattle.heap_model.specs.Domains.{no_domain, register, opening, queues, pending_label, roots, reach, waiting, settled_roots, settled_reach}
+use Rattle.heap_model.specs.Entries.{Allowed, is_rising, has_gone_keys, is_gone, is_some_and, wiped_keys, wiped, with_wiped, next}
+use Rattle.heap_model.specs.History.{LegalFrom, is_entry_of}
+use Rattle.heap_model.proofs.Graphs.GraphLemmas.{same_label_refl, node_at-with_node_same, node_at-with_node_other}
+use Rattle.heap_model.proofs.Commands.FrameLemmas.{keeps_next, label_cases}
+use Rattle.heap_model.proofs.Histories.HistoryLemmas.{state_after-push}
+use Rattle.heap_model.proofs.Reach.ReachLemmas.{or_left, or_right, and_left, and_right, is_false, has-append_left, has-append_right, reachable_more, reachable_roots}
+use Rattle.table_laws.specs.Thinning.{is_collector, AllCollector, state_of, IsOutside, IsUnheld, Went, Thin, Changes}
+use Rattle.table_laws.proofs.ChangeLemmas.{thin_is, changes_same, changes_twice, changes_more}
+
+-- what is gone is outside reach
+gone_outside : (s : State) (k : Label) → IsTrue (is_gone s (queues s) k) → IsOutside s k
+gone_outside s k gone = go (has_label (reach s) k) refl
+  where
+    go : (b : Bool) → has_label (reach s) k ≡ b → IsTrue (not b)
+    go true e = absurd (
+        let settled = reachable_more s.graph (roots s (queues s)) (settled_roots s (queues s)) (has-append_left (roots s (queues s)) (waiting s)) k e in
+        let none = is_false (has_label (settled_reach s (queues s)) k) gone in
+        let clash : true ≡ false = sym settled ∙ none in cc)
+    go false e = refl
+
+-- one key, emptied at one place or more
+set_one : (xs : List (Option Label)) (p : ℕ) (key k : Option Label) (x : Option Label) → slice_get (x ∷ []) p ≡ Some k → length xs ≡ 1 → set xs p None ≡ None ∷ []
+set_one [] p key k x at one = cc
+set_one (y ∷ []) zero key k x at one = refl
+set_one (y ∷ z ∷ xs) zero key k x at one = absurd (omega arith)
+set_one xs (suc p) key k x at one = cc
+
+wiped_one : (places : List ℕ) (keys : List (Option Label)) → length (wiped_keys places keys) ≡ length keys
+wiped_one [] keys = refl
+wiped_one (p ∷ ps) keys = len (wiped_keys ps keys) p ∙ wiped_one ps keys
+  where
+    len : (xs : List (Option Label)) (p : ℕ) → length (set xs p None) ≡ length xs
+    len [] p = refl
+    len (x ∷ xs) zero = refl
+    len (x ∷ xs) (suc p) = ap suc (len xs p)
+
+key_there : (test : Label → Bool) (o : Option (Option Label)) → IsTrue (is_some_and (is_some_and test) o) → (k : Label) × (o ≡ Some (Some k)) × IsTrue (test k)
+key_there test None h = cc
+key_there test (Some None) h = cc
+key_there test (Some (Some k)) h = (k, refl, h)
+
+single : (key k : Option Label) (p : ℕ) → slice_get (key ∷ []) p ≡ Some k → key ≡ k
+single key k zero at = cc
+single key k (suc p) at = cc
+
+wiped_thin : (s : State) (places : List ℕ) (n : Node) → IsTrue (is_rising places) → IsTrue (has_gone_keys s places (Some n)) → Thin (IsOutside s) n (wiped places (Some n))
+wiped_thin s places (Plain tag fields) rising gone = cc
+wiped_thin s places (Raw tag fields) rising gone = cc
+wiped_thin s places (Ephe [] datum) rising gone = tt
+wiped_thin s places (Ephe (key ∷ other ∷ keys) datum) rising gone = tt
+wiped_thin s [] (Ephe (key ∷ []) datum) rising gone = cc
+wiped_thin s (p ∷ ps) (Ephe (key ∷ []) datum) rising gone =
+    let t = key_there (is_gone s (queues s)) (slice_get (key ∷ []) p) (and_left _ _ gone) in
+    let emptied : set (wiped_keys ps (key ∷ [])) p None ≡ None ∷ [] = set_one (wiped_keys ps (key ∷ [])) p key (Some t.0) key t.1 (wiped_one ps (key ∷ [])) in
+    inr (t.0, single key (Some t.0) p t.1, gone_outside s t.0 t.2, ap (λ (ks : List (Option Label)). Some (Ephe ks Nothing)) emptied)
+
+-- after a Wipe
+wipe_thins : (s : State) (l : Label) (places : List ℕ) (o : Option Node) → node_at s.graph l ≡ o → IsTrue (is_rising places) → IsTrue (has_gone_keys s places o)
+    → Changes (IsOutside s) [] s.graph (with_wiped s l (wiped places o)).graph
+wipe_thins s l places None at rising gone = cc
+wipe_thins s l places (Some (Plain tag fields)) at rising gone = cc
+wipe_thins s l places (Some (Raw tag fields)) at rising gone = cc
+wipe_thins s l places (Some (Ephe keys datum)) at rising gone = λ k n here other.
+    let new : Node = Ephe (wiped_keys places keys) Nothing in
+    label_cases (Thin (IsOutside s) n (node_at (with_node s.graph l new) k)) k l
+    (λ same.
+    let is : Ephe keys datum ≡ n = let found : node_at s.graph l ≡ Some n = ap (node_at s.graph) (sym same) ∙ here in cc in
+    let left : Thin (IsOutside s) (Ephe keys datum) (Some new) = wiped_thin s places (Ephe keys datum) rising gone in
+    let there : node_at (with_node s.graph l new) k ≡ Some new = ap (node_at (with_node s.graph l new)) same ∙ node_at-with_node_same s.graph l new (Ephe keys datum) at in
+    subst (λ (x : Option Node). Thin (IsOutside s) n x) (sym there) (subst (λ (x : Node). Thin (IsOutside s) x (Some new)) is left))
+    (λ differ. thin_is (IsOutside s) n _ (node_at-with_node_other s.graph l k new differ ∙ here))
+
+-- after each of the collector's entries
+pub collector_thins : (s : State) (e : Entry) → IsTrue (is_collector e) → Allowed s e → Changes (IsOutside s) [] s.graph (next s e).graph
+collector_thins s (CommandOf d c full) mine allowed = cc
+collector_thins s (End d) mine allowed = cc
+collector_thins s Cut mine allowed = changes_same (IsOutside s) [] s.graph
+collector_thins s (Queue d places) mine allowed = changes_same (IsOutside s) [] s.graph
+collector_thins s Seal mine allowed = changes_same (IsOutside s) [] s.graph
+collector_thins s (Wipe l keys) mine allowed = wipe_thins s l keys (node_at s.graph l) refl allowed.rising allowed.gone
+collector_thins s (LastOf d place) mine allowed = changes_same (IsOutside s) [] s.graph
+collector_thins s Collected mine allowed = changes_same (IsOutside s) [] s.graph
+collector_thins s Done mine allowed = changes_same (IsOutside s) [] s.graph
+collector_thins s (Ran d) mine allowed = cc
+
+-- what a register holds is a root
+held_value : (rs : List Value) (r : ℕ) (k : Label) → get_or rs r Nothing ≡ Block k → IsTrue (has_label (filter_map label_of rs) k)
+held_value [] r k held = cc
+held_value (Int z ∷ rs) zero k held = cc
+held_value (Nothing ∷ rs) zero k held = cc
+held_value (Block l ∷ rs) zero k held = let is : l ≡ k = cc in or_left (same_label l k) _ (subst (λ x. IsTrue (same_label l x)) is (same_label_refl l))
+held_value (Int z ∷ rs) (suc r) k held = held_value rs r k held
+held_value (Nothing ∷ rs) (suc r) k held = held_value rs r k held
+held_value (Block l ∷ rs) (suc r) k held = or_right (same_label l k) _ (held_value rs r k held)
+
+held_in : (xs : List DomainState) (d r : ℕ) (k : Label) → get_or (get_or xs d no_domain).registers r Nothing ≡ Block k → IsTrue (has_label (flat_map (λ x. filter_map label_of x.registers) xs) k)
+held_in [] d r k held = cc
+held_in (x ∷ xs) zero r k held = has-append_left (filter_map label_of x.registers) _ k (held_value x.registers r k held)
+held_in (x ∷ xs) (suc d) r k held = has-append_right (filter_map label_of x.registers) _ k (held_in xs d r k held)
+
+-- so it is reached
+pub held_reached : (s : State) (d r : ℕ) (k : Label) → register s d r ≡ Block k → IsTrue (has_label (reach s) k)
+held_reached s d r k held = reachable_roots s.graph (roots s (queues s)) k (has-append_left _ (flat_map (filter_map pending_label) (queues s)) k (held_in s.domains d r k held))
+
+pub outside_unheld : (s : State) (k : Label) → IsOutside s k → IsUnheld s k
+outside_unheld s k outside d r held = let there = held_reached s d r k held in let clash : true ≡ false = sym there ∙ is_false _ outside in cc
+
+-- an entry of the collector is no entry of a domain
+pub collector_other : (e : Entry) (d : ℕ) → IsTrue (is_collector e) → is_entry_of d e ≡ false
+collector_other (CommandOf k c full) d mine = cc
+collector_other (End k) d mine = cc
+collector_other Cut d mine = refl
+collector_other (Queue k places) d mine = refl
+collector_other Seal d mine = refl
+collector_other (Wipe l keys) d mine = refl
+collector_other (LastOf k place) d mine = refl
+collector_other Collected d mine = refl
+collector_other Done d mine = refl
+collector_other (Ran k) d mine = cc
+
+unheld_before : (s : State) (e : Entry) (k : Label) → IsTrue (is_collector e) → IsUnheld (next s e) k → IsUnheld s k
+unheld_before s e k mine unheld d r held = unheld d r (ap (λ (rs : List Value). get_or rs r Nothing) (keeps_next s e d (collector_other e d mine)).registers ∙ held)
+
+-- over a stretch of them
+pub stretch_thins : (z : Sizes) (old more : List Entry) → LegalFrom (state_of z old) more → AllCollector more
+    → Changes (Went z old (old ++ more)) [] (state_of z old).graph (state_of z (old ++ more)).graph
+stretch_thins z old [] legal mine = subst (λ (h : List Entry). Changes (Went z old h) [] (state_of z old).graph (state_of z h).graph) (sym (append-nil old)) (changes_same (Went z old old) [] (state_of z old).graph)
+stretch_thins z old (e ∷ more) legal mine =
+    let s = state_of z old in
+    let own : IsTrue (is_collector e) = and_left _ _ mine in
+    let there : state_of z (old ++ e ∷ []) ≡ next s e = state_after-push (opening z) old e in
+    let whole : (old ++ e ∷ []) ++ more ≡ old ++ e ∷ more = append_assoc old (e ∷ []) more in
+    let first : Changes (Went z old (old ++ e ∷ more)) [] s.graph (state_of z (old ++ e ∷ [])).graph =
+    changes_more (IsOutside s) (Went z old (old ++ e ∷ more)) [] [] s.graph (state_of z (old ++ e ∷ [])).graph
+    (λ k outside. record { was = record { front = old; since = record { rest = []; appends = sym (append-nil old) }; until = record { rest = e ∷ more; appends = refl }; outside = outside }; unheld = outside_unheld s k outside })
+    (λ l h. h)
+    (subst (λ (t : State). Changes (IsOutside s) [] s.graph t.graph) (sym there) (collector_thins s e own legal.0)) in
+    let later : Changes (Went z (old ++ e ∷ []) ((old ++ e ∷ []) ++ more)) [] (state_of z (old ++ e ∷ [])).graph (state_of z ((old ++ e ∷ []) ++ more)).graph =
+    stretch_thins z (old ++ e ∷ []) more (subst (λ (t : State). LegalFrom t more) (sym there) legal.1) (and_right (is_collector e) _ mine) in
+    let second : Changes (Went z old (old ++ e ∷ more)) [] (state_of z (old ++ e ∷ [])).graph (state_of z (old ++ e ∷ more)).graph =
+    changes_more (Went z (old ++ e ∷ []) ((old ++ e ∷ []) ++ more)) (Went z old (old ++ e ∷ more)) [] [] _ _
+    (λ k went. record {
+      was = record {
+        front = went.was.front;
+        since = record { rest = e ∷ went.was.since.rest; appends = went.was.since.appends ∙ append_assoc old (e ∷ []) went.was.since.rest };
+        until = record { rest = went.was.until.rest; appends = sym whole ∙ went.was.until.appends };
+        outside = went.was.outside;
+      };
+      unheld = unheld_before s e k own (subst (λ (t : State). IsUnheld t k) there went.unheld);
+    })
+    (λ l h. h)
+    (subst (λ (h : List Entry). Changes (Went z (old ++ e ∷ []) ((old ++ e ∷ []) ++ more)) [] (state_of z (old ++ e ∷ [])).graph (state_of z h).graph) whole later) in
+    changes_twice (Went z old (old ++ e ∷ more)) [] _ _ _ first second

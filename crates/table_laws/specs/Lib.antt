@@ -1,0 +1,5 @@
+pub mod Structures
+pub mod Thinning
+pub mod Performing
+pub mod TableLaws
+pub mod Stages

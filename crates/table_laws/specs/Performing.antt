@@ -1,0 +1,62 @@
+-- One command of the one domain of a heap, with the collector's entries that come before it.
+use Rattle.std.specs.Prelude.{◌≡◌, ℕ, ◌+◌, Bool, true, cond, List, [], ◌∷◌, ◌++◌, Option, Some}
+use Rattle.heap_model.specs.declared.label.Label.{Label}
+use Rattle.heap_model.specs.declared.command.Command as declared_command
+use Rattle.heap_model.specs.declared.entry.Entry.{Entry}
+use Rattle.heap_model.specs.declared.entry.Entry.TheVariants.{Command}
+use Rattle.heap_model.specs.declared.graph.Value.{Value}
+use Rattle.heap_model.specs.declared.graph.Node.TheVariants.{Ephe}
+use Rattle.heap_model.specs.declared.reply.Reply.{Reply}
+use Rattle.heap_model.specs.declared.reply.Reply.TheVariants.{Full}
+use Rattle.heap_model.specs.declared.reply.Applied.TheVariants.{Replied}
+use Rattle.heap_model.specs.declared.state.Sizes.{Sizes}
+use Rattle.heap_model.specs.Domains.{domain_at}
+use Rattle.heap_model.specs.Commands.{is_allocation}
+use Rattle.heap_model.specs.Entries.{reply}
+use Rattle.heap_model.specs.History.{IsPrefix, Legal}
+use Rattle.table_laws.specs.Thinning.{AllCollector, Changes, Thin, Went, state_of}
+
+-- the front has grown by entries of the collector and then by this command, and the reply is that of the state before it
+pub record Performed (z : Sizes) (old new : List Entry) (c : declared_command.Command) (r : Reply) : Type 0 where
+  pub between : List Entry
+  pub collector : AllCollector between
+  pub full : Bool
+  pub appends : new ≡ old ++ between ++ Command 0 c full ∷ []
+  pub legal : Legal z new
+  pub replies : reply (state_of z (old ++ between)) (Command 0 c full) ≡ Replied r
+
+-- whether an entry is a command that was answered `full`, as a number
+abbrev pub refused : Entry → ℕ
+refused (Command d c true) = 1
+refused _ = 0
+
+-- how many commands of a history were answered `full`
+abbrev pub refusals : List Entry → ℕ
+refusals [] = 0
+refusals (e ∷ h) = refused e + refusals h
+
+-- 1 for the reply `full`
+abbrev pub full_of : Reply → ℕ
+full_of Full = 1
+full_of _ = 0
+
+-- how many refusals a command and its reply are: only an allocation may be refused
+abbrev pub refused_by : declared_command.Command → Reply → ℕ
+refused_by c r = cond (is_allocation c) (full_of r) 0
+
+-- what the registers hold after a history
+abbrev pub registers_of : Sizes → List Entry → List Value
+registers_of z h = (domain_at (state_of z h) 0).registers
+
+-- the front has grown legally. All blocks but these are as they were, or emptied by the collector, and the registers hold these values
+pub record After (z : Sizes) (old new : List Entry) (own : List Label) (registers : List Value) : Type 0 where
+  pub legal : Legal z new
+  pub grows : IsPrefix old new
+  pub changes : Changes (Went z old new) own (state_of z old).graph (state_of z new).graph
+  pub registers_are : registers_of z new ≡ registers
+
+-- what an ephemeron of one key still has, once the collector's entries have been made
+pub record Remains (z : Sizes) (old new : List Entry) (key : Option Label) (datum : Value) : Type 0 where
+  pub key_now : Option Label
+  pub datum_now : Value
+  pub left : Thin (Went z old new) (Ephe (key ∷ []) datum) (Some (Ephe (key_now ∷ []) datum_now))

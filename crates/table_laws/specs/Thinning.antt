@@ -1,0 +1,71 @@
+-- What the collector may take from the bindings, and what a call leaves of all other blocks.
+use Rattle.std.specs.Prelude.{◌≡◌, ◌⊎◌, ℕ, Bool, true, false, not, IsTrue, List, [], ◌∷◌, Option, Some, None}
+use Rattle.std.specs.List.{list_all}
+use Rattle.heap_model.specs.declared.label.Label.{Label}
+use Rattle.heap_model.specs.declared.entry.Entry.{Entry}
+use Rattle.heap_model.specs.declared.entry.Entry.TheVariants.{Command, End, Ran}
+use Rattle.heap_model.specs.declared.graph.Value.TheVariants.{Block, Nothing}
+use Rattle.heap_model.specs.declared.graph.Node.{Node}
+use Rattle.heap_model.specs.declared.graph.Node.TheVariants.{Plain, Raw, Ephe}
+use Rattle.heap_model.specs.declared.state.Sizes.{Sizes}
+use Rattle.heap_model.specs.declared.state.State.{State}
+use Rattle.heap_model.specs.Graph.{Graph, has_label, node_at}
+use Rattle.heap_model.specs.Domains.{opening, register, reach}
+use Rattle.heap_model.specs.History.{IsPrefix, state_after}
+use Rattle.table_laws.specs.Structures.{Binding}
+
+-- whether an entry is the collector's
+abbrev pub is_collector : Entry → Bool
+is_collector (Command d c full) = false
+is_collector (End d) = false
+is_collector (Ran d) = false
+is_collector _ = true
+
+-- all entries are the collector's
+abbrev pub AllCollector : List Entry → Type 0
+AllCollector h = IsTrue (list_all is_collector h)
+
+-- the state that a history leaves
+abbrev pub state_of : Sizes → List Entry → State
+state_of z h = state_after (opening z) h
+
+-- what the registers and the queues of a state don't reach
+abbrev pub IsOutside : State → Label → Type 0
+IsOutside s k = IsTrue (not (has_label (reach s) k))
+
+-- a label that was outside reach at some moment, from the first front to the second
+pub record WasOutside (z : Sizes) (old new : List Entry) (k : Label) : Type 0 where
+  pub front : List Entry
+  pub since : IsPrefix old front
+  pub until : IsPrefix front new
+  pub outside : IsOutside (state_of z front) k
+
+-- no register holds the label
+abbrev pub IsUnheld : State → Label → Type 0
+IsUnheld s k = (d r : ℕ) → register s d r ≡ Block k → ⊥
+
+-- what the collector may take from the first front to the second: a key that was outside reach at some moment, and that no register held at the start
+pub record Went (z : Sizes) (old new : List Entry) (k : Label) : Type 0 where
+  pub was : WasOutside z old new k
+  pub unheld : IsUnheld (state_of z old) k
+
+-- the second list is the first without some pairs, of the keys of which P holds
+abbrev pub ThinnedBy : (Label → Type 0) → List Binding → List Binding → Type 0
+ThinnedBy P [] left = left ≡ []
+ThinnedBy P (b ∷ bs) left = ((rest : List Binding) × (left ≡ b ∷ rest) × ThinnedBy P bs rest) ⊎ (P b.0 × ThinnedBy P bs left)
+
+-- the second list has the keys of the first, but some are emptied, of which P holds
+abbrev pub EmptiedBy : (Label → Type 0) → List (Option Label) → List (Option Label) → Type 0
+EmptiedBy P [] left = left ≡ []
+EmptiedBy P (key ∷ keys) left = (now : Option Label) × (rest : List (Option Label)) × (left ≡ now ∷ rest) × ((now ≡ key) ⊎ ((now ≡ None) × ((k : Label) × (key ≡ Some k) × P k))) × EmptiedBy P keys rest
+
+-- what is left of a block: a plain or raw block is as it was, and an ephemeron of one key may have lost it, and its datum, if P holds of the key
+abbrev pub Thin : (Label → Type 0) → Node → Option Node → Type 0
+Thin P (Plain tag fields) left = left ≡ Some (Plain tag fields)
+Thin P (Raw tag fields) left = left ≡ Some (Raw tag fields)
+Thin P (Ephe (key ∷ []) datum) left = (left ≡ Some (Ephe (key ∷ []) datum)) ⊎ ((k : Label) × (key ≡ Some k) × P k × (left ≡ Some (Ephe (None ∷ []) Nothing)))
+Thin P (Ephe _ datum) left = Unit {0}
+
+-- all blocks but those with these labels
+abbrev pub Changes : (Label → Type 0) → List Label → Graph → Graph → Type 0
+Changes P own g h = (l : Label) (n : Node) → node_at g l ≡ Some n → has_label own l ≡ false → Thin P n (node_at h l)

@@ -1,0 +1,5 @@
+use Rattle.weak_tables.proofs.MakingLemmas.{made_table}
+use Rattle.weak_tables.proofs.making.table_make.Goals as goal
+
+pub returns-clause-made : goal.returns-clause-made
+returns-clause-made g c = made_table (g.M.Machine.sizes c.args.m.now) c.stands.ensures.limits _ _ _ c.args.dst c.requires.few c.stands.ensures.legal c.perform.ensures.performed

@@ -1,0 +1,11 @@
+use Rattle.std.proofs.Common.{◌∙◌}
+use Rattle.heap_model.specs.declared.state.Sizes.{Sizes}
+use Rattle.weak_tables.proofs.TakeLemmas.{all_cleared, at_sizes}
+use Rattle.weak_tables.proofs.taking.clear.Goals as goal
+
+pub returns-clause-cleared : goal.returns-clause-cleared
+returns-clause-cleared g c =
+    let z : Sizes = g.M.Machine.sizes c.args.m.now in
+    all_cleared z c.stands.ensures.limits _ _ _ _ _ _ _ c.perform-eight.ensures.performed
+    (at_sizes z _ _ _ _ _ c.perform-eight.ensures.sizes c.perform-nine.ensures.performed)
+    (at_sizes z _ _ _ _ _ (c.perform-nine.ensures.sizes ∙ c.perform-eight.ensures.sizes) c.perform-ten.ensures.performed)

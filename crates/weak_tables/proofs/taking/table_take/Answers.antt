@@ -1,0 +1,30 @@
+use Rattle.std.proofs.Common.{◌≡◌, ◌∙◌, sym, subst, List, true, false}
+use Rattle.heap_model.specs.declared.entry.Entry.{Entry}
+use Rattle.heap_model.specs.declared.graph.Value.TheVariants.{Block}
+use Rattle.heap_model.specs.declared.state.Sizes.{Sizes}
+use Rattle.table_laws.specs.Stages.{held_in}
+use Rattle.weak_tables.specs.Walks.{LooksUp}
+use Rattle.weak_tables.proofs.TakeLemmas.{at_sizes, cleared_sizes, looks_from, shown_label, took, took_none}
+use Rattle.weak_tables.proofs.taking.table_take.Goals as goal
+
+pub returns-then-not-look_up-clause-answer : goal.returns-then-not-look_up-clause-answer
+returns-then-not-look_up-clause-answer g c =
+    let z : Sizes = g.M.Machine.sizes c.args.m.now in
+    let old : List Entry = g.M.Machine.front c.args.m.now in
+    let key : held_in z old c.args.key ≡ Block c.in-Block.label = shown_label _ _ (sym c.show.ensures.reply ∙ c.in-Block.is) in
+    let s : LooksUp z old (g.M.Machine.front c.look_up.new.m) c.args.table c.in-Block.label false =
+    subst (λ b. LooksUp z old (g.M.Machine.front c.look_up.new.m) c.args.table c.in-Block.label b) c.if-not-look_up.true (looks_from z _ old _ _ _ _ _ c.show.ensures.sizes c.show.ensures.front c.look_up.ensures.found) in
+    λ root chains held table. took_none z c.stands.ensures.limits root chains c.in-Block.label c.args.table c.args.key c.requires.few.1 old _ key held table _ s (cleared_sizes z _ _ _ (c.look_up.ensures.sizes ∙ c.show.ensures.sizes) c.clear.ensures.cleared)
+
+pub returns-clause-answer : goal.returns-clause-answer
+returns-clause-answer g c =
+    let z : Sizes = g.M.Machine.sizes c.args.m.now in
+    let old : List Entry = g.M.Machine.front c.args.m.now in
+    let key : held_in z old c.args.key ≡ Block c.in-Block.label = shown_label _ _ (sym c.show.ensures.reply ∙ c.in-Block.is) in
+    let s : LooksUp z old (g.M.Machine.front c.look_up.new.m) c.args.table c.in-Block.label true =
+    subst (λ b. LooksUp z old (g.M.Machine.front c.look_up.new.m) c.args.table c.in-Block.label b) c.if-not-look_up.false (looks_from z _ old _ _ _ _ _ c.show.ensures.sizes c.show.ensures.front c.look_up.ensures.found) in
+    let found : g.M.Machine.sizes c.look_up.new.m ≡ z = c.look_up.ensures.sizes ∙ c.show.ensures.sizes in
+    let taken : g.M.Machine.sizes c.perform-key.new.m ≡ z = c.perform-key.ensures.sizes ∙ found in
+    λ root chains held table. took z c.stands.ensures.limits root chains c.in-Block.label c.args.table c.args.key c.requires.few.1 old _ key held table _ _ _ _ _ s
+    (at_sizes z _ _ _ _ _ found c.perform-key.ensures.performed) (at_sizes z _ _ _ _ _ taken c.perform-datum.ensures.performed)
+    (cleared_sizes z _ _ _ (c.perform-datum.ensures.sizes ∙ taken) c.clear-2.ensures.cleared)

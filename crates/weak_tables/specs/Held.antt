@@ -1,0 +1,54 @@
+-- What a call leaves in registers, and the table or weak array that it was called on.
+use Rattle.std.specs.Prelude.{◌≡◌, ◌≢◌, ℕ, List, [], slice_set}
+use Rattle.heap_model.specs.declared.label.Label.{Label}
+use Rattle.heap_model.specs.declared.entry.Entry.{Entry}
+use Rattle.heap_model.specs.declared.graph.Value.TheVariants.{Block, Nothing}
+use Rattle.heap_model.specs.declared.state.Sizes.{Sizes}
+use Rattle.table_laws.specs.Structures.{Cell, bindings, IsTable, IsWeakArray, slot_keys}
+use Rattle.table_laws.specs.Thinning.{ThinnedBy, EmptiedBy, WasOutside}
+use Rattle.table_laws.specs.Performing.{After, registers_of}
+use Rattle.table_laws.specs.Stages.{Goes, graph_of, held_in}
+
+-- the registers that the calls use between are 8, 9 and 10. All others are as they were
+abbrev pub KeepsOthers : Sizes → List Entry → List Entry → Type 0
+KeepsOthers z old new = (r : ℕ) → r ≢ 8 → r ≢ 9 → r ≢ 10 → held_in z new r ≡ held_in z old r
+
+-- these hold nothing
+pub record IsClean (z : Sizes) (h : List Entry) : Type 0 where
+  pub eight : held_in z h 8 ≡ Nothing
+  pub nine : held_in z h 9 ≡ Nothing
+  pub ten : held_in z h 10 ≡ Nothing
+
+-- registers 8, 9 and 10 were emptied, one after the other
+pub record Cleared (z : Sizes) (old new : List Entry) : Type 0 where
+  pub first : List Entry
+  pub second : List Entry
+  pub eight : After z old first [] (slice_set (registers_of z old) 8 Nothing)
+  pub nine : After z first second [] (slice_set (registers_of z first) 9 Nothing)
+  pub ten : After z second new [] (slice_set (registers_of z second) 10 Nothing)
+
+-- a register holds a table
+pub record HoldsTable (z : Sizes) (h : List Entry) (r : ℕ) : Type 0 where
+  pub root : Label
+  pub chains : List (List Cell)
+  pub held : held_in z h r ≡ Block root
+  pub table : IsTable (graph_of z h) root chains
+
+-- a call that has changed no block of its own so far, and has thinned a table
+pub record Reads (z : Sizes) (first now : List Entry) (root : Label) (chains : List (List Cell)) : Type 0 where
+  pub goes : Goes z first now []
+  pub table : IsTable (graph_of z now) root chains
+  pub thinned : ThinnedBy (WasOutside z first now) (bindings (graph_of z first) chains) (bindings (graph_of z now) chains)
+
+-- a register holds a weak array
+pub record HoldsArray (z : Sizes) (h : List Entry) (r : ℕ) : Type 0 where
+  pub root : Label
+  pub slots : List Label
+  pub held : held_in z h r ≡ Block root
+  pub array : IsWeakArray (graph_of z h) root slots
+
+-- a call that has changed no block of its own so far, and has thinned a weak array
+pub record ReadsArray (z : Sizes) (first now : List Entry) (root : Label) (slots : List Label) : Type 0 where
+  pub goes : Goes z first now []
+  pub array : IsWeakArray (graph_of z now) root slots
+  pub emptied : EmptiedBy (WasOutside z first now) (slot_keys (graph_of z first) slots) (slot_keys (graph_of z now) slots)

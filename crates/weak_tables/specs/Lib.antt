@@ -1,0 +1,5 @@
+pub mod Commands
+pub mod Held
+pub mod Walks
+pub mod Tables
+pub mod Arrays

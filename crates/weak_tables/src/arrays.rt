@@ -1,0 +1,95 @@
+//! Weak arrays.
+ghost use Rattle.std.specs.Prelude.{◌≡◌, ◌+◌, ◌<◌, ◌≤◌, List, slice_get};
+ghost use Rattle.heap_model.specs.declared.graph.Value.TheVariants.{Block};
+ghost use Rattle.heap_model.specs.declared.label.Label as labels;
+ghost use Rattle.heap_model.specs.Graph.{label_of};
+ghost use Rattle.table_laws.specs.Structures.{IsWeakArray};
+ghost use Rattle.table_laws.specs.Performing.{refusals, full_of};
+ghost use Rattle.table_laws.specs.Stages.{graph_of, held_in};
+ghost use Rattle.weak_tables.specs.Held.{HoldsArray};
+ghost use Rattle.weak_tables.specs.Arrays.{SetAnswers, SlotAnswers};
+
+use crate::machine::{Machine, perform};
+use crate::replies::is_past;
+use crate::taking::clear;
+use heap_model::command::Command;
+use heap_model::reply::Reply;
+use std::sync::Wait;
+
+/// Reads a slot of the weak array in a register into another. Answers `bounds` exactly where there is no such slot, `none`
+/// exactly where it is empty when it is read, and then the other register holds nothing, and else its block. Registers are
+/// below 8. Registers 8, 9 and 10 hold nothing afterwards, but for `bounds`, which leaves them.
+pub fn weak_get<M: Machine, R: Wait>(m: &mut M, rt: &R, dst: u8, array: u8, index: u16) -> Reply
+    requires few { (dst < 8) × (array < 8) }
+    requires array { HoldsArray (M.sizes m.old) (M.front m.old) array }
+    ensures sizes { M.sizes m.new ≡ M.sizes m.old }
+    ensures labels { M.labels_left m.old ≤ M.labels_left m.new }
+    ensures room { M.ephes_room m.old ≤ M.ephes_room m.new }
+    ensures refused { refusals (M.front m.new) ≡ refusals (M.front m.old) + full_of result }
+    ensures answer { (root : labels.Label) (slots : List labels.Label) → held_in (M.sizes m.old) (M.front m.old) array ≡ Block root → IsWeakArray (graph_of (M.sizes m.old) (M.front m.old)) root slots
+        → SlotAnswers (M.sizes m.old) (M.front m.old) (M.front m.new) root slots dst index (slice_get slots index) result }
+{
+    m.stands();
+    let slot = perform(
+        m,
+        rt,
+        Command::Load {
+            dst: 8,
+            src: array,
+            index,
+        },
+    );
+    if is_past(&slot) {
+        return Reply::BadIndex;
+    }
+    let reply = perform(
+        m,
+        rt,
+        Command::GetKey {
+            dst,
+            ephe: 8,
+            index: 0,
+        },
+    );
+    clear(m, rt);
+    reply
+}
+
+/// Sets a slot of the weak array in a register to the block in another. Answers `bounds` exactly where there is no such slot,
+/// then `type` exactly where the other register holds no block, and else that it is done. Registers are below 8. Registers 8,
+/// 9 and 10 hold nothing afterwards, but for `bounds`, which leaves them.
+pub fn weak_set<M: Machine, R: Wait>(m: &mut M, rt: &R, array: u8, index: u16, item: u8) -> Reply
+    requires few { (array < 8) × (item < 8) }
+    requires array { HoldsArray (M.sizes m.old) (M.front m.old) array }
+    ensures sizes { M.sizes m.new ≡ M.sizes m.old }
+    ensures labels { M.labels_left m.old ≤ M.labels_left m.new }
+    ensures room { M.ephes_room m.old ≤ M.ephes_room m.new }
+    ensures refused { refusals (M.front m.new) ≡ refusals (M.front m.old) + full_of result }
+    ensures answer { (root : labels.Label) (slots : List labels.Label) → held_in (M.sizes m.old) (M.front m.old) array ≡ Block root → IsWeakArray (graph_of (M.sizes m.old) (M.front m.old)) root slots
+        → SetAnswers (M.sizes m.old) (M.front m.old) (M.front m.new) root slots index (slice_get slots index) (label_of (held_in (M.sizes m.old) (M.front m.old) item)) result }
+{
+    m.stands();
+    let slot = perform(
+        m,
+        rt,
+        Command::Load {
+            dst: 8,
+            src: array,
+            index,
+        },
+    );
+    if is_past(&slot) {
+        return Reply::BadIndex;
+    }
+    let reply = perform(
+        m,
+        rt,
+        Command::SetKey {
+            ephe: 8,
+            index: 0,
+            item,
+        },
+    );
+    clear(m, rt);
+    reply
+}

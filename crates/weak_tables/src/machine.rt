@@ -1,0 +1,74 @@
+//! What the calls need of a session.
+ghost use Rattle.std.specs.Prelude.{◌≡◌, ◌+◌, ◌<◌, ◌≤◌, ℕ, List};
+ghost use Rattle.heap_model.specs.declared.entry.Entry.{Entry};
+ghost use Rattle.heap_model.specs.declared.state.Sizes.{Sizes};
+ghost use Rattle.heap_model.specs.Domains.{IsWithinLimits, domain_at};
+ghost use Rattle.heap_model.specs.History.{Legal};
+ghost use Rattle.heap_model.specs.Commands.{shown};
+ghost use Rattle.table_laws.specs.Thinning.{state_of};
+ghost use Rattle.table_laws.specs.Performing.{Performed, refusals, full_of, refused_by};
+ghost use Rattle.table_laws.specs.Stages.{held_in};
+ghost use Rattle.weak_tables.specs.Commands.{IsCallCommand, labels_of, ephemerons_of};
+
+use heap_model::command::Command;
+use heap_model::reply::Reply;
+use std::sync::Wait;
+
+/// The one domain of a heap, whose commands are handed in one by one.
+pub trait Machine {
+    /// The numbers of the heap.
+    ghost sizes: { Self → Sizes };
+
+    /// The history so far.
+    ghost front: { Self → List Entry };
+
+    /// How many labels are left to give out.
+    ghost labels_left: { Self → ℕ };
+
+    /// How many ephemerons fit into the domain's list.
+    ghost ephes_room: { Self → ℕ };
+
+    /// Nothing changes. There is one domain, the numbers are within their limits, the history is legal, and each label
+    /// was given out or is left.
+    fn stands(&self)
+        ensures alone { (sizes self.now).domains ≡ 1 }
+        ensures limits { IsWithinLimits (sizes self.now) }
+        ensures legal { Legal (sizes self.now) (front self.now) }
+        ensures labels { (domain_at (state_of (sizes self.now) (front self.now)) 0).serial + labels_left self.now ≡ 4294967295 };
+
+    /// The reply that shows what a register holds. No entry is made.
+    fn show(&mut self, r: u8) -> Reply
+        requires few { r < 16 }
+        ensures sizes { sizes self.new ≡ sizes self.old }
+        ensures front { front self.new ≡ front self.old }
+        ensures labels { labels_left self.new ≡ labels_left self.old }
+        ensures room { ephes_room self.new ≡ ephes_room self.old }
+        ensures reply { result ≡ shown (held_in (sizes self.old) (front self.old) r) };
+
+    /// Makes a command. The history grows by entries of the collector and then by this one. It gives out no more labels
+    /// than it makes blocks, and takes no more room for ephemerons than it makes.
+    fn perform<R: Wait>(&mut self, rt: &R, c: Command) -> Reply
+        requires fits { IsCallCommand c }
+        requires label { labels_of c ≤ labels_left self.old }
+        requires room { ephemerons_of c ≤ ephes_room self.old }
+        ensures sizes { sizes self.new ≡ sizes self.old }
+        ensures labels { labels_left self.old ≤ labels_left self.new + labels_of c }
+        ensures room { ephes_room self.old ≤ ephes_room self.new + ephemerons_of c }
+        ensures performed { Performed (sizes self.old) (front self.old) (front self.new) c result };
+}
+
+// Makes a command: one entry more is refused exactly where it is answered `full`, and only an allocation is.
+pub(crate) fn perform<M: Machine, R: Wait>(m: &mut M, rt: &R, c: Command) -> Reply
+    requires fits { IsCallCommand c }
+    requires label { labels_of c ≤ M.labels_left m.old }
+    requires room { ephemerons_of c ≤ M.ephes_room m.old }
+    ensures sizes { M.sizes m.new ≡ M.sizes m.old }
+    ensures labels { M.labels_left m.old ≤ M.labels_left m.new + labels_of c }
+    ensures room { M.ephes_room m.old ≤ M.ephes_room m.new + ephemerons_of c }
+    ensures refused { refusals (M.front m.new) ≡ refusals (M.front m.old) + full_of result }
+    ensures given { full_of result ≡ refused_by c result }
+    ensures performed { Performed (M.sizes m.old) (M.front m.old) (M.front m.new) c result }
+{
+    m.stands();
+    m.perform(rt, c)
+}

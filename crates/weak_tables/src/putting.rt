@@ -1,0 +1,186 @@
+//! Bindings that are put and read.
+ghost use Rattle.std.specs.Prelude.{◌≡◌, ◌+◌, ◌<◌, ◌≤◌, Bool, cond, IsTrue, List, None};
+ghost use Rattle.heap_model.specs.declared.graph.Value.TheVariants.{Block};
+ghost use Rattle.heap_model.specs.declared.label.Label as labels;
+ghost use Rattle.heap_model.specs.Graph.{label_of};
+ghost use Rattle.table_laws.specs.Structures.{Cell, IsTable, bindings, datum_at, is_bucket_full};
+ghost use Rattle.table_laws.specs.Performing.{refusals, full_of};
+ghost use Rattle.table_laws.specs.Stages.{graph_of, held_in};
+ghost use Rattle.weak_tables.specs.Held.{HoldsTable};
+ghost use Rattle.weak_tables.specs.Walks.{Placed};
+ghost use Rattle.weak_tables.specs.Tables.{GetAnswers, PutAnswers};
+
+use crate::find::Find;
+use crate::machine::{Machine, perform};
+use crate::replies::{is_empty, is_full};
+use crate::searching::{bucket_of, look_up, search};
+use crate::taking::clear;
+use heap_model::command::Command;
+use heap_model::label::Label;
+use heap_model::reply::Reply;
+use std::sync::Wait;
+
+// Makes a cell without a key, and links it first into the bucket of this one. Where an allocation is refused the table
+// stays as it is.
+fn grow<M: Machine, R: Wait>(m: &mut M, rt: &R, table: u8, label: &Label) -> bool
+    requires few { table < 8 }
+    requires labels { 2 ≤ M.labels_left m.old }
+    requires room { 1 ≤ M.ephes_room m.old }
+    requires table { HoldsTable (M.sizes m.old) (M.front m.old) table }
+    ensures sizes { M.sizes m.new ≡ M.sizes m.old }
+    ensures labels { M.labels_left m.old ≤ M.labels_left m.new + 2 }
+    ensures room { M.ephes_room m.old ≤ M.ephes_room m.new + 1 }
+    ensures refused { refusals (M.front m.new) ≡ refusals (M.front m.old) + cond result 0 1 }
+    ensures placed { (root : labels.Label) (chains : List (List Cell)) → held_in (M.sizes m.old) (M.front m.old) table ≡ Block root → IsTable (graph_of (M.sizes m.old) (M.front m.old)) root chains
+        → datum_at (bindings (graph_of (M.sizes m.old) (M.front m.old)) chains) label.now ≡ None → (full : Bool) → IsTrue full → Placed (M.sizes m.old) (M.front m.old) (M.front m.new) root chains label.now full result }
+{
+    m.stands();
+    let ephe = perform(m, rt, Command::Ephe { dst: 8, keys: 1 });
+    if is_full(&ephe) {
+        return false;
+    }
+    let node = perform(
+        m,
+        rt,
+        Command::Alloc {
+            dst: 9,
+            tag: 0,
+            fields: 2,
+        },
+    );
+    if is_full(&node) {
+        return false;
+    }
+    let index = bucket_of(label);
+    let _first = perform(
+        m,
+        rt,
+        Command::Store {
+            block: 9,
+            index: 0,
+            item: 8,
+        },
+    );
+    let _head = perform(
+        m,
+        rt,
+        Command::Load {
+            dst: 10,
+            src: table,
+            index,
+        },
+    );
+    let _second = perform(
+        m,
+        rt,
+        Command::Store {
+            block: 9,
+            index: 1,
+            item: 10,
+        },
+    );
+    let _linked = perform(
+        m,
+        rt,
+        Command::Store {
+            block: table,
+            index,
+            item: 9,
+        },
+    );
+    true
+}
+
+// Finds the ephemeron of a key, which a register holds, or one of its bucket without a key, or makes one: register 8 holds
+// it.
+fn place<M: Machine, R: Wait>(m: &mut M, rt: &R, table: u8, key: u8, label: &Label) -> bool
+    requires few { (table < 8) × (key < 8) }
+    requires labels { 2 ≤ M.labels_left m.old }
+    requires room { 1 ≤ M.ephes_room m.old }
+    requires key { held_in (M.sizes m.old) (M.front m.old) key ≡ Block label.now }
+    requires table { HoldsTable (M.sizes m.old) (M.front m.old) table }
+    ensures sizes { M.sizes m.new ≡ M.sizes m.old }
+    ensures labels { M.labels_left m.old ≤ M.labels_left m.new + 2 }
+    ensures room { M.ephes_room m.old ≤ M.ephes_room m.new + 1 }
+    ensures refused { refusals (M.front m.new) ≡ refusals (M.front m.old) + cond result 0 1 }
+    ensures placed { (root : labels.Label) (chains : List (List Cell)) → held_in (M.sizes m.old) (M.front m.old) table ≡ Block root → IsTable (graph_of (M.sizes m.old) (M.front m.old)) root chains
+        → Placed (M.sizes m.old) (M.front m.old) (M.front m.new) root chains label.now (is_bucket_full (graph_of (M.sizes m.old) (M.front m.old)) label.now chains) result }
+{
+    match search(m, rt, table, key, label) {
+        Find::Key => true,
+        Find::Spare => true,
+        Find::Nowhere => grow(m, rt, table, label),
+    }
+}
+
+/// Binds the key in a register to what another holds, in the table in a third. Answers `type` exactly where the first holds
+/// no label or the second nothing, and else that it is done, or `full` where an allocation was refused; then no binding was
+/// put or taken. Once it is done the table binds what it bound, with this key to this datum. A cell whose key was emptied is
+/// used again: one is made only where each cell of the key's bucket had a key when the call began, so that a table that is
+/// used for ever doesn't grow for ever. The collector may take bindings whose key isn't reached. Registers are below 8; two
+/// labels and room for one ephemeron are left. Registers 8, 9 and 10 hold nothing afterwards, but after `type`, which leaves
+/// all as it was.
+pub fn table_put<M: Machine, R: Wait>(m: &mut M, rt: &R, table: u8, key: u8, item: u8) -> Reply
+    requires few { (table < 8) × (key < 8) × (item < 8) }
+    requires labels { 2 ≤ M.labels_left m.old }
+    requires room { 1 ≤ M.ephes_room m.old }
+    requires table { HoldsTable (M.sizes m.old) (M.front m.old) table }
+    ensures sizes { M.sizes m.new ≡ M.sizes m.old }
+    ensures labels { M.labels_left m.old ≤ M.labels_left m.new + 2 }
+    ensures room { M.ephes_room m.old ≤ M.ephes_room m.new + 1 }
+    ensures refused { refusals (M.front m.new) ≡ refusals (M.front m.old) + full_of result }
+    ensures answer { (root : labels.Label) (chains : List (List Cell)) → held_in (M.sizes m.old) (M.front m.old) table ≡ Block root → IsTable (graph_of (M.sizes m.old) (M.front m.old)) root chains
+        → PutAnswers (M.sizes m.old) (M.front m.old) (M.front m.new) root chains (label_of (held_in (M.sizes m.old) (M.front m.old) key)) (held_in (M.sizes m.old) (M.front m.old) item) result }
+{
+    m.stands();
+    let Reply::Block(label) = m.show(key) else {
+        return Reply::BadType;
+    };
+    let shown = m.show(item);
+    if is_empty(&shown) {
+        return Reply::BadType;
+    }
+    if !place(m, rt, table, key, &label) {
+        clear(m, rt);
+        return Reply::Full;
+    }
+    let _datum = perform(m, rt, Command::SetData { ephe: 8, item });
+    let _named = perform(
+        m,
+        rt,
+        Command::SetKey {
+            ephe: 8,
+            index: 0,
+            item: key,
+        },
+    );
+    clear(m, rt);
+    Reply::Done
+}
+
+/// Reads what the table in a register binds the key in another to, into a third. Answers `type` exactly where the second
+/// holds no label, `none` exactly where the key isn't bound, and then the third holds nothing, and else the datum. The
+/// collector may take bindings whose key isn't reached. Registers are below 8. Registers 8, 9 and 10 hold nothing afterwards.
+pub fn table_get<M: Machine, R: Wait>(m: &mut M, rt: &R, dst: u8, table: u8, key: u8) -> Reply
+    requires few { (dst < 8) × (table < 8) × (key < 8) }
+    requires table { HoldsTable (M.sizes m.old) (M.front m.old) table }
+    ensures sizes { M.sizes m.new ≡ M.sizes m.old }
+    ensures labels { M.labels_left m.old ≤ M.labels_left m.new }
+    ensures room { M.ephes_room m.old ≤ M.ephes_room m.new }
+    ensures refused { refusals (M.front m.new) ≡ refusals (M.front m.old) + full_of result }
+    ensures answer { (root : labels.Label) (chains : List (List Cell)) → held_in (M.sizes m.old) (M.front m.old) table ≡ Block root → IsTable (graph_of (M.sizes m.old) (M.front m.old)) root chains
+        → GetAnswers (M.sizes m.old) (M.front m.old) (M.front m.new) root chains dst (label_of (held_in (M.sizes m.old) (M.front m.old) key)) result }
+{
+    m.stands();
+    let Reply::Block(label) = m.show(key) else {
+        return Reply::BadType;
+    };
+    if !look_up(m, rt, table, key, &label) {
+        let _none = perform(m, rt, Command::Forget { dst });
+        clear(m, rt);
+        return Reply::Empty;
+    }
+    let reply = perform(m, rt, Command::GetData { dst, ephe: 8 });
+    clear(m, rt);
+    reply
+}

@@ -1,0 +1,58 @@
+//! Bindings that are taken out.
+ghost use Rattle.std.specs.Prelude.{◌≡◌, ◌+◌, ◌<◌, ◌≤◌, List};
+ghost use Rattle.heap_model.specs.declared.graph.Value.TheVariants.{Block};
+ghost use Rattle.heap_model.specs.declared.label.Label as labels;
+ghost use Rattle.heap_model.specs.Graph.{label_of};
+ghost use Rattle.table_laws.specs.Structures.{Cell, IsTable};
+ghost use Rattle.table_laws.specs.Performing.{refusals, full_of};
+ghost use Rattle.table_laws.specs.Stages.{graph_of, held_in};
+ghost use Rattle.weak_tables.specs.Held.{Cleared, HoldsTable};
+ghost use Rattle.weak_tables.specs.Tables.{TakeAnswers};
+
+use crate::machine::{Machine, perform};
+use crate::searching::look_up;
+use heap_model::command::Command;
+use heap_model::reply::Reply;
+use std::sync::Wait;
+
+// Empties the registers that the calls use between.
+pub(crate) fn clear<M: Machine, R: Wait>(m: &mut M, rt: &R)
+    ensures sizes { M.sizes m.new ≡ M.sizes m.old }
+    ensures labels { M.labels_left m.old ≤ M.labels_left m.new }
+    ensures room { M.ephes_room m.old ≤ M.ephes_room m.new }
+    ensures given { refusals (M.front m.new) ≡ refusals (M.front m.old) }
+    ensures cleared { Cleared (M.sizes m.old) (M.front m.old) (M.front m.new) }
+{
+    m.stands();
+    let _eight = perform(m, rt, Command::Forget { dst: 8 });
+    let _nine = perform(m, rt, Command::Forget { dst: 9 });
+    let _ten = perform(m, rt, Command::Forget { dst: 10 });
+}
+
+/// Takes the binding of the key in a register out of the table in another. Answers `type` exactly where the register holds
+/// no label, `none` exactly where the key isn't bound, and else that it is done: then the table binds what it bound, without
+/// this key. The collector may take bindings whose key isn't reached. Registers are below 8. Registers 8, 9 and 10 hold
+/// nothing afterwards, but after `type`, which leaves all as it was.
+pub fn table_take<M: Machine, R: Wait>(m: &mut M, rt: &R, table: u8, key: u8) -> Reply
+    requires few { (table < 8) × (key < 8) }
+    requires table { HoldsTable (M.sizes m.old) (M.front m.old) table }
+    ensures sizes { M.sizes m.new ≡ M.sizes m.old }
+    ensures labels { M.labels_left m.old ≤ M.labels_left m.new }
+    ensures room { M.ephes_room m.old ≤ M.ephes_room m.new }
+    ensures refused { refusals (M.front m.new) ≡ refusals (M.front m.old) + full_of result }
+    ensures answer { (root : labels.Label) (chains : List (List Cell)) → held_in (M.sizes m.old) (M.front m.old) table ≡ Block root → IsTable (graph_of (M.sizes m.old) (M.front m.old)) root chains
+        → TakeAnswers (M.sizes m.old) (M.front m.old) (M.front m.new) root chains (label_of (held_in (M.sizes m.old) (M.front m.old) key)) result }
+{
+    m.stands();
+    let Reply::Block(label) = m.show(key) else {
+        return Reply::BadType;
+    };
+    if !look_up(m, rt, table, key, &label) {
+        clear(m, rt);
+        return Reply::Empty;
+    }
+    let _key = perform(m, rt, Command::UnsetKey { ephe: 8, index: 0 });
+    let _datum = perform(m, rt, Command::UnsetData { ephe: 8 });
+    clear(m, rt);
+    Reply::Done
+}
