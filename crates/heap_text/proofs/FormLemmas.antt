@@ -42,6 +42,14 @@ found_if_built Two _ = refl
 pub word_found : (ver : Version) (w : Word) → is_built ver w ≡ true → word_of ver (form w).text ≡ Some w
 word_found ver w e = found_if_built ver w ∙ ap (λ b. cond b (Some w) None) e
 
+-- a word of both versions
+built_in : (ver : Version) (w : Word) → is_built One w ≡ true → is_built Two w ≡ true → is_built ver w ≡ true
+built_in One w first second = first
+built_in Two w first second = second
+
+pub spelled_word : (ver : Version) (text : List ℕ) (w : Word) → is_built One w ≡ true → is_built Two w ≡ true → (form w).text ≡ text → Some w ≡ word_of ver text
+spelled_word ver text w first second same = sym (word_found ver w (built_in ver w first second)) ∙ ap (word_of ver) same
+
 chosen_first : (b : Bool) (v w : Word) (o : Option Word) → cond b (Some v) o ≡ Some w → ((b ≡ true) × (v ≡ w)) ⊎ (o ≡ Some w)
 chosen_first true v w o e = inl (refl, cc)
 chosen_first false v w o e = inr e

@@ -1,6 +1,7 @@
 // The table of command forms, for the reader and the printer.
-ghost use Rattle.std.specs.Prelude.{◌≡◌, ◌≤◌, pos, length, slice_index_or};
-ghost use Rattle.heap_text.specs.Forms.{form, word_of, made, byte as byte_of, short as short_of, wide as wide_of, fits as fits_kind, least as least_of, greatest as greatest_of, most_fields as most_fields_of};
+ghost use Rattle.std.specs.Prelude.{◌≡◌, ◌≤◌, true, pos, length, slice_index_or, IfSome};
+ghost use Rattle.heap_text.specs.declared.version.Version.TheVariants.{One, Two};
+ghost use Rattle.heap_text.specs.Forms.{form, word_of, is_built, made, byte as byte_of, short as short_of, wide as wide_of, fits as fits_kind, least as least_of, greatest as greatest_of, most_fields as most_fields_of};
 
 use crate::form::{Operand, Word};
 use crate::version::Version;
@@ -143,8 +144,42 @@ pub(crate) fn operands_of(word: Word) -> &'static [Operand]
     }
 }
 
-// The row that a text is the word of, if it is one of the version.
-pub(crate) fn find_word(version: Version, text: &[u8]) -> Option<Word>
+// The row of each version that a text may be the word of, by its length and its first letters. It is a guess: the text may be
+// another one, and a row that isn't guessed is found all the same.
+fn guess(text: &[u8]) -> Option<Word>
+    ensures first { IfSome result (λ w. is_built One w ≡ true) }
+    ensures second { IfSome result (λ w. is_built Two w ≡ true) }
+{
+    match text {
+        [b'i', _, _] => Some(Word::Int),
+        [b'd', _, _, _] => Some(Word::Drop),
+        [b'e', _, _, _] => Some(Word::Ephe),
+        [b'l', _, _, _] => Some(Word::Load),
+        [b'm', _, _, _] => Some(Word::Move),
+        [b'p', _, _, _] => Some(Word::Poll),
+        [b'a', _, _, _, _] => Some(Word::Alloc),
+        [b's', _, _, _, _] => Some(Word::Store),
+        [b'm', b'i', _, _, _] => Some(Word::Minor),
+        [b'm', _, _, _, _] => Some(Word::Major),
+        [b'g', _, _, _, _, _, _] => Some(Word::GetKey),
+        [b's', _, _, _, _, _, _] => Some(Word::SetKey),
+        [b'a', _, _, _, _, _, _, _] => Some(Word::AllocMaj),
+        [b'f', _, _, _, _, _, _, _] => Some(Word::Finalise),
+        [b'g', _, _, _, _, _, _, _] => Some(Word::GetData),
+        [b's', _, _, _, _, _, _, _] => Some(Word::SetData),
+        [b'c', _, _, _, _, _, _, _, _] => Some(Word::CheckKey),
+        [b'u', _, _, _, _, _, _, _, _] => Some(Word::UnsetKey),
+        [b'c', _, _, _, _, _, _, _, _, _] => Some(Word::CheckData),
+        [b'f', _, _, _, _, _, _, _, _, _] => Some(Word::FullMajor),
+        [b'u', _, _, _, _, _, _, _, _, _] => Some(Word::UnsetData),
+        [b'f', ..] => Some(Word::FinaliseLast),
+        _ => None,
+    }
+}
+
+// The row that a text is the word of, if it is one of the version, by all words of the version in order.
+#[inline(never)]
+fn search_word(version: Version, text: &[u8]) -> Option<Word>
     ensures { result ≡ word_of version text.now }
 {
     match version {
@@ -156,6 +191,16 @@ pub(crate) fn find_word(version: Version, text: &[u8]) -> Option<Word>
             .iter()
             .copied()
             .find(|word| text_of(*word) == text),
+    }
+}
+
+// The row that a text is the word of, if it is one of the version.
+pub(crate) fn find_word(version: Version, text: &[u8]) -> Option<Word>
+    ensures { result ≡ word_of version text.now }
+{
+    match guess(text) {
+        Some(word) if text_of(word) == text => Some(word),
+        _ => search_word(version, text),
     }
 }
 
