@@ -144,35 +144,29 @@ pub(crate) fn operands_of(word: Word) -> &'static [Operand]
     }
 }
 
-// The row of each version that a text may be the word of, by its length and its first letters. It is a guess: the text may be
-// another one, and a row that isn't guessed is found all the same.
-fn guess(text: &[u8]) -> Option<Word>
+// The row of each version that a text is the word of. The compiler tests the length first, and then byte by byte. A row that isn't
+// named here is found by `search_word`.
+#[tactic(auto, using(crate::proofs::FormLemmas::text_read))]
+fn common_word(text: &[u8]) -> Option<Word>
+    ensures spelled { IfSome result (λ w. text.now ≡ (form w).text) }
     ensures first { IfSome result (λ w. is_built One w ≡ true) }
     ensures second { IfSome result (λ w. is_built Two w ≡ true) }
 {
     match text {
-        [b'i', _, _] => Some(Word::Int),
-        [b'd', _, _, _] => Some(Word::Drop),
-        [b'e', _, _, _] => Some(Word::Ephe),
-        [b'l', _, _, _] => Some(Word::Load),
-        [b'm', _, _, _] => Some(Word::Move),
-        [b'p', _, _, _] => Some(Word::Poll),
-        [b'a', _, _, _, _] => Some(Word::Alloc),
-        [b's', _, _, _, _] => Some(Word::Store),
-        [b'm', b'i', _, _, _] => Some(Word::Minor),
-        [b'm', _, _, _, _] => Some(Word::Major),
-        [b'g', _, _, _, _, _, _] => Some(Word::GetKey),
-        [b's', _, _, _, _, _, _] => Some(Word::SetKey),
-        [b'a', _, _, _, _, _, _, _] => Some(Word::AllocMaj),
-        [b'f', _, _, _, _, _, _, _] => Some(Word::Finalise),
-        [b'g', _, _, _, _, _, _, _] => Some(Word::GetData),
-        [b's', _, _, _, _, _, _, _] => Some(Word::SetData),
-        [b'c', _, _, _, _, _, _, _, _] => Some(Word::CheckKey),
-        [b'u', _, _, _, _, _, _, _, _] => Some(Word::UnsetKey),
-        [b'c', _, _, _, _, _, _, _, _, _] => Some(Word::CheckData),
-        [b'f', _, _, _, _, _, _, _, _, _] => Some(Word::FullMajor),
-        [b'u', _, _, _, _, _, _, _, _, _] => Some(Word::UnsetData),
-        [b'f', ..] => Some(Word::FinaliseLast),
+        b"int" => Some(Word::Int),
+        b"move" => Some(Word::Move),
+        b"drop" => Some(Word::Drop),
+        b"load" => Some(Word::Load),
+        b"poll" => Some(Word::Poll),
+        b"alloc" => Some(Word::Alloc),
+        b"store" => Some(Word::Store),
+        b"set_key" => Some(Word::SetKey),
+        b"get_key" => Some(Word::GetKey),
+        b"allocmaj" => Some(Word::AllocMaj),
+        b"set_data" => Some(Word::SetData),
+        b"get_data" => Some(Word::GetData),
+        b"check_key" => Some(Word::CheckKey),
+        b"check_data" => Some(Word::CheckData),
         _ => None,
     }
 }
@@ -198,9 +192,9 @@ fn search_word(version: Version, text: &[u8]) -> Option<Word>
 pub(crate) fn find_word(version: Version, text: &[u8]) -> Option<Word>
     ensures { result ≡ word_of version text.now }
 {
-    match guess(text) {
-        Some(word) if text_of(word) == text => Some(word),
-        _ => search_word(version, text),
+    match common_word(text) {
+        Some(word) => Some(word),
+        None => search_word(version, text),
     }
 }
 
