@@ -5,7 +5,7 @@ use Rattle.std.proofs.Common.{◌≡◌, ℕ, ◌+◌, ◌≤◌, ◌^◌, min, 
 use Rattle.std.specs.Prelude.{Option, is_some, find, nat_lt, unsigned_abs, slice_index_or, codes, bytes_eq, int_le}
 use Rattle.std.proofs.lemmas.Bool.Decides.{nat_tests}
 use Rattle.std.proofs.lemmas.Int.{ints}
-use Rattle.std.proofs.lemmas.Slice.Eq.{bytes_eq-Decides}
+use Rattle.std.proofs.lemmas.Slice.Eq.{bytes_eq-Decides, HasBytesAt, text_from_reads}
 use Rattle.std.proofs.lemmas.Bool.{and_parts as both}
 use Rattle.heap_model.specs.declared.command.Command.{Command}
 use Rattle.heap_model.specs.declared.command.Command.TheVariants.{PutInt, Copy, Forget, Alloc, AllocMaj, Load, Store, Raw, Cas, Ephe, SetKey, UnsetKey, GetKey, CheckKey, SetData, UnsetData, GetData, CheckData, Finalise, FinaliseLast, Poll, Minor, Major, FullMajor, Spawn, Argument, PutResult, Join}
@@ -41,6 +41,18 @@ found_if_built Two _ = refl
 
 pub word_found : (ver : Version) (w : Word) → is_built ver w ≡ true → word_of ver (form w).text ≡ Some w
 word_found ver w e = found_if_built ver w ∙ ap (λ b. cond b (Some w) None) e
+
+-- a word of both versions
+built_in : (ver : Version) (w : Word) → is_built One w ≡ true → is_built Two w ≡ true → is_built ver w ≡ true
+built_in One w first second = first
+built_in Two w first second = second
+
+-- a text that was read byte by byte
+pub text_read : (text word : List ℕ) → length text ≡ length word → HasBytesAt text 0 word → text ≡ word
+text_read text word = text_from_reads text word
+
+pub spelled_word : (ver : Version) (text : List ℕ) (w : Word) → is_built One w ≡ true → is_built Two w ≡ true → (form w).text ≡ text → Some w ≡ word_of ver text
+spelled_word ver text w first second same = sym (word_found ver w (built_in ver w first second)) ∙ ap (word_of ver) same
 
 chosen_first : (b : Bool) (v w : Word) (o : Option Word) → cond b (Some v) o ≡ Some w → ((b ≡ true) × (v ≡ w)) ⊎ (o ≡ Some w)
 chosen_first true v w o e = inl (refl, cc)

@@ -4,6 +4,7 @@ pub mod NumberLemmas
 pub mod RangeLemmas
 pub mod DecimalLemmas
 pub mod TextLemmas
+pub mod FrontLemmas
 pub mod FormLemmas
 pub mod ShapeLemmas
 pub mod SectionLemmas

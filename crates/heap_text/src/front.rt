@@ -1,75 +1,45 @@
 // The front of a line that is being printed.
-ghost use Rattle.std.specs.Prelude.{◌≡◌, ◌≤◌, ◌+◌, ◌++◌, length, drop};
+ghost use Rattle.std.specs.Prelude.{◌≡◌, ◌≤◌, ◌+◌, ◌++◌, length, take, drop};
 ghost use Rattle.heap_model.specs.Output.{line};
 
 use itoa::{Buffer, Integer};
-use std::marker::Model;
 
 /// The room for a line of text.
 pub type Line = [u8; 64];
 
-const ROOM: usize = 80;
-
-// What is printed so far. It may be longer than a line on the way.
-#[derive(Debug, Drop)]
-pub(crate) struct Front {
-    bytes: [u8; ROOM],
-    len: usize,
+// Puts a text behind the first `at` bytes, and answers where it ends. What lies behind it stays as it was.
+pub(crate) fn put(out: &mut Line, at: usize, text: &[u8]) -> usize
+    requires { at + length text.now ≤ 64 }
+    ensures end { result ≡ at + length text.now }
+    ensures front { take result out.new ≡ take at out.old ++ text.now }
+    ensures rest { drop result out.new ≡ drop result out.old }
+{
+    let end = at + text.len();
+    out[at..end].copy_from_slice(text);
+    end
 }
 
-impl Model for Front {
-    ghost use Rattle.std.specs.Prelude.{ℕ, List, take, ◌≤◌};
-
-    ghost Value = { List ℕ };
-
-    ghost view = { λ f. take f.len f.bytes };
-
-    ghost invariant = { λ f. f.len ≤ 80 };
+// Puts a text, and behind it a number in decimal, behind the first `at` bytes, and answers where it ends. What lies behind
+// it stays as it was.
+#[tactic(auto, using(crate::proofs::FrontLemmas::same_further))]
+pub(crate) fn put_number<I: Integer>(out: &mut Line, at: usize, text: &[u8], n: I) -> usize
+    requires { at + length text.now + I.MAX_STR_LEN ≤ 64 }
+    ensures start { at ≤ result }
+    ensures end { result ≤ at + length text.now + I.MAX_STR_LEN }
+    ensures front { take result out.new ≡ (take at out.old ++ text.now) ++ I.text n }
+    ensures rest { drop result out.new ≡ drop result out.old }
+{
+    let at = put(out, at, text);
+    let mut buffer = Buffer::new();
+    put(out, at, buffer.format(n).as_bytes())
 }
 
-impl Front {
-    pub(crate) fn from_text(text: &[u8]) -> Front
-        requires { length text.now ≤ 80 }
-        ensures { result ≡ text.now }
-    {
-        let mut bytes = [0; ROOM];
-        bytes[..text.len()].copy_from_slice(text);
-        Front {
-            bytes,
-            len: text.len(),
-        }
-    }
-
-    // A text at the end.
-    pub(crate) fn push(&mut self, text: &[u8])
-        requires { length self.old + length text.now ≤ 80 }
-        ensures { self.new ≡ self.old ++ text.now }
-    {
-        let end = self.len + text.len();
-        self.bytes[self.len..end].copy_from_slice(text);
-        self.len = end;
-    }
-
-    // A number in decimal at the end.
-    pub(crate) fn push_number<I: Integer>(&mut self, n: I)
-        requires { length self.old + I.MAX_STR_LEN ≤ 80 }
-        ensures text { self.new ≡ self.old ++ I.text n }
-        ensures short { length self.new ≤ length self.old + I.MAX_STR_LEN }
-    {
-        let mut buffer = Buffer::new();
-        self.push(buffer.format(n).as_bytes());
-    }
-
-    // Puts the text and a line feed at the front of the line, and answers their length.
-    pub(crate) fn print(&self, out: &mut Line) -> usize
-        requires { length self.now ≤ 63 }
-        ensures length { result ≡ length (line self.now) }
-        ensures fits { result ≤ 64 }
-        ensures text { out.new ≡ line self.now ++ drop result out.old }
-    {
-        let len = self.len;
-        out[..len].copy_from_slice(&self.bytes[..len]);
-        out[len] = b'\n';
-        len + 1
-    }
+// Puts a line feed behind the first `at` bytes, and answers how long the line is. What lies behind it stays as it was.
+pub(crate) fn end_line(out: &mut Line, at: usize) -> usize
+    requires { at ≤ 63 }
+    ensures length { result ≡ length (line (take at out.old)) }
+    ensures fits { result ≡ at + 1 }
+    ensures text { out.new ≡ line (take at out.old) ++ drop result out.old }
+{
+    put(out, at, b"\n")
 }

@@ -1,6 +1,7 @@
 // The table of command forms, for the reader and the printer.
-ghost use Rattle.std.specs.Prelude.{◌≡◌, ◌≤◌, pos, length, slice_index_or};
-ghost use Rattle.heap_text.specs.Forms.{form, word_of, made, byte as byte_of, short as short_of, wide as wide_of, fits as fits_kind, least as least_of, greatest as greatest_of, most_fields as most_fields_of};
+ghost use Rattle.std.specs.Prelude.{◌≡◌, ◌≤◌, true, pos, length, slice_index_or, IfSome};
+ghost use Rattle.heap_text.specs.declared.version.Version.TheVariants.{One, Two};
+ghost use Rattle.heap_text.specs.Forms.{form, word_of, is_built, made, byte as byte_of, short as short_of, wide as wide_of, fits as fits_kind, least as least_of, greatest as greatest_of, most_fields as most_fields_of};
 
 use crate::form::{Operand, Word};
 use crate::version::Version;
@@ -143,8 +144,36 @@ pub(crate) fn operands_of(word: Word) -> &'static [Operand]
     }
 }
 
-// The row that a text is the word of, if it is one of the version.
-pub(crate) fn find_word(version: Version, text: &[u8]) -> Option<Word>
+// The row of each version that a text is the word of. The compiler tests the length first, and then byte by byte. A row that isn't
+// named here is found by `search_word`.
+#[tactic(auto, using(crate::proofs::FormLemmas::text_read))]
+fn common_word(text: &[u8]) -> Option<Word>
+    ensures spelled { IfSome result (λ w. text.now ≡ (form w).text) }
+    ensures first { IfSome result (λ w. is_built One w ≡ true) }
+    ensures second { IfSome result (λ w. is_built Two w ≡ true) }
+{
+    match text {
+        b"int" => Some(Word::Int),
+        b"move" => Some(Word::Move),
+        b"drop" => Some(Word::Drop),
+        b"load" => Some(Word::Load),
+        b"poll" => Some(Word::Poll),
+        b"alloc" => Some(Word::Alloc),
+        b"store" => Some(Word::Store),
+        b"set_key" => Some(Word::SetKey),
+        b"get_key" => Some(Word::GetKey),
+        b"allocmaj" => Some(Word::AllocMaj),
+        b"set_data" => Some(Word::SetData),
+        b"get_data" => Some(Word::GetData),
+        b"check_key" => Some(Word::CheckKey),
+        b"check_data" => Some(Word::CheckData),
+        _ => None,
+    }
+}
+
+// The row that a text is the word of, if it is one of the version, by all words of the version in order.
+#[inline(never)]
+fn search_word(version: Version, text: &[u8]) -> Option<Word>
     ensures { result ≡ word_of version text.now }
 {
     match version {
@@ -156,6 +185,16 @@ pub(crate) fn find_word(version: Version, text: &[u8]) -> Option<Word>
             .iter()
             .copied()
             .find(|word| text_of(*word) == text),
+    }
+}
+
+// The row that a text is the word of, if it is one of the version.
+pub(crate) fn find_word(version: Version, text: &[u8]) -> Option<Word>
+    ensures { result ≡ word_of version text.now }
+{
+    match common_word(text) {
+        Some(word) => Some(word),
+        None => search_word(version, text),
     }
 }
 
