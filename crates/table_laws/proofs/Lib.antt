@@ -20,3 +20,4 @@ pub mod FoundLemmas
 pub mod RefusalLemmas
 pub mod SizeLemmas
 pub mod ArrayMakeLemmas
+pub mod OtherLemmas

@@ -10,8 +10,9 @@ use Rattle.heap_model.specs.Graph.{Graph, has_label, has_no_repeats}
 use Rattle.heap_model.specs.Domains.{reach}
 use Rattle.heap_model.specs.Entries.{Allowed, next}
 use Rattle.heap_model.specs.History.{IsPrefix, Legal}
-use Rattle.table_laws.specs.Structures.{Binding, Cell, datum_at, keys_of, bindings, IsTable, IsWeakArray, slot_keys}
+use Rattle.table_laws.specs.Structures.{Binding, Cell, datum_at, keys_of, bindings, IsTable, IsWeakArray, slot_keys, table_labels, Apart}
 use Rattle.table_laws.specs.Thinning.{is_collector, state_of, IsOutside, WasOutside, ThinnedBy, EmptiedBy}
+use Rattle.table_laws.specs.Stages.{Goes, graph_of}
 
 -- what an entry of the collector takes from a table: only pairs whose key is outside reach. The table stays one, with the same chains
 abbrev pub TakesFromTables : Type 0
@@ -41,3 +42,13 @@ OneLayout = (g : Graph) (root : Label) (a b : List (List Cell)) → IsTable g ro
 abbrev pub BoundWhileReached : Type 0
 BoundWhileReached = (z : Sizes) (old new : List Entry) (before after : List Binding) (k : Label) (v : Value) → ThinnedBy (WasOutside z old new) before after → datum_at before k ≡ Some v
     → ((front : List Entry) → IsPrefix old front → IsPrefix front new → IsTrue (has_label (reach (state_of z front)) k)) → datum_at after k ≡ Some v
+
+-- what a call leaves of each table apart from the blocks that it may change: it is a table with the same chains, and has lost only keys that were outside reach
+abbrev pub OtherTablesStay : Type 0
+OtherTablesStay = (z : Sizes) (old new : List Entry) (own : List Label) → Goes z old new own → (root : Label) (chains : List (List Cell)) → IsTable (graph_of z old) root chains → Apart (table_labels root chains) own
+    → IsTable (graph_of z new) root chains × ThinnedBy (WasOutside z old new) (bindings (graph_of z old) chains) (bindings (graph_of z new) chains)
+
+-- and of each such weak array
+abbrev pub OtherArraysStay : Type 0
+OtherArraysStay = (z : Sizes) (old new : List Entry) (own : List Label) → Goes z old new own → (root : Label) (slots : List Label) → IsWeakArray (graph_of z old) root slots → Apart (root ∷ slots) own
+    → IsWeakArray (graph_of z new) root slots × EmptiedBy (WasOutside z old new) (slot_keys (graph_of z old) slots) (slot_keys (graph_of z new) slots)

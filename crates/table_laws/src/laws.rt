@@ -1,5 +1,5 @@
 //! Laws of tables and weak arrays. Each function's contract is one law, and it does nothing else.
-ghost use Rattle.table_laws.specs.TableLaws.{BoundWhileReached, TakesFromTables, TakesFromArrays, CollectedKeysAreReached, KeysDiffer, OneLayout};
+ghost use Rattle.table_laws.specs.TableLaws.{BoundWhileReached, OtherTablesStay, OtherArraysStay, TakesFromTables, TakesFromArrays, CollectedKeysAreReached, KeysDiffer, OneLayout};
 
 /// An entry of the collector takes from a table only pairs whose key is outside reach, and leaves it a table with the
 /// same chains.
@@ -31,4 +31,14 @@ pub fn layout_is_one()
 /// out.
 pub fn bound_while_reached()
     ensures { BoundWhileReached }
+{}
+
+/// A call leaves each table that has none of the blocks that it may change: only the collector takes bindings of it.
+pub fn other_tables_stay()
+    ensures { OtherTablesStay }
+{}
+
+/// And so each such weak array.
+pub fn other_arrays_stay()
+    ensures { OtherArraysStay }
 {}
