@@ -1,7 +1,10 @@
 -- How a domain stands before its first command.
-use Rattle.std.proofs.Common.{◌≡◌, ◌∙◌, ℕ, ◌/◌, ◌+◌, ◌%◌, ◌<◌, ◌≤◌, zero, suc, false, length, List, Option, None, replicate, ap, refl, sym, arith}
+use Rattle.std.proofs.Common.{◌≡◌, ◌∙◌, ℕ, ◌/◌, ◌+◌, ◌%◌, ◌<◌, ◌≤◌, zero, suc, true, false, length, List, [], Option, None, replicate, ap, refl, sym, arith}
 use Rattle.std.specs.Prelude.{slice_index_or}
 use Rattle.heap_model.specs.declared.command.Command.{Command}
+use Rattle.domain_turns.specs.declared.supply.Supply.TheVariants.{Listed, Open}
+use Rattle.mark_slices.specs.Decks.{DeckCounts}
+use Rattle.mark_slices.specs.Slices.{IsDeckOf}
 use Rattle.heap_model.specs.Domains.{class_count, opening_domain, no_domain}
 use Rattle.heap_rule.specs.declared.config.Config.{Config}
 use Rattle.heap_rule.specs.Opening.{opening_token}
@@ -10,7 +13,7 @@ use Rattle.heap_rule.specs.Pools.{prepared_at}
 use Rattle.heap_rule.specs.Token.{Token, SharedHeap}
 use Rattle.steps_finalisers.specs.Registering.{count_of}
 use Rattle.heap_rule.specs.Views.{no_collection}
-use Rattle.domain_turns.specs.Runs.{AllFit, CanBegin, IsBetween, ephemerons_in, registrations_in}
+use Rattle.domain_turns.specs.Runs.{AllFit, CanBegin, HasReserved, IsBetween, IsRun, ephemerons_in, registrations_in}
 
 nothing_prepared : (n class : ℕ) → ◌≡◌ {A = Option ℕ} (slice_index_or (replicate n None) class None) None
 nothing_prepared zero class = refl
@@ -38,6 +41,35 @@ begins_enlisted t cs can = let none = can.none_listed in let few = can.enlists i
 
 pub begins_replied : (t : Token) (cs : List Command) → CanBegin t cs → 0 + (count_of t.view.own.finalisers + registrations_in cs) ≤ 0 + registrations_in cs
 begins_replied t cs can = let none = can.none_listed in omega arith
+
+-- so each command of a list may, and each finaliser
+pub reserves_listed : (count commands replies : ℕ) → count + count ≤ replies → HasReserved Listed count commands replies
+reserves_listed count commands replies enough = record { answers = enough; one = λ other. absurd (other refl) }
+
+-- an open run of a domain that may begin
+pub begins_open : (t : Token) (hints : DeckCounts) → CanBegin t [] → IsDeckOf t.config t.view hints → IsRun (record { token = t; commands = []; next = 0; replies = []; ended = false; left = None; asked = None; collected = false; progress = no_collection; due = 0; hints = hints; supply = Open })
+begins_open t hints can deck = record {
+  inside = can.inside;
+  made = ([], can.no_commands);
+  answered = ([], can.no_replies);
+  replied = let none = can.none_listed in omega arith;
+  within = omega arith;
+  few = omega arith;
+  fit = can.fit;
+  room = can.room;
+  enlists = let none = can.none_listed in omega arith;
+  idle = can.idle;
+  at_rest = can.at_rest;
+  goes_on = λ _. can.acts.goes_on;
+  owes = λ _. can.owes;
+  between = begins_between t [] can;
+  labels = let few = can.labels in omega arith;
+  deck = deck;
+  done = λ ended. let clash : false ≡ true = ended in cc;
+  over = λ ended. let clash : false ≡ true = ended in cc;
+  shut = λ ended. let clash : false ≡ true = ended in cc;
+  one = λ _. record { one = omega arith; registers_none = refl; none_listed = can.none_listed; answered = refl };
+}
 
 owes_none : (n d : ℕ) → (slice_index_or (replicate n opening_domain) d no_domain).due ≡ 0
 owes_none zero d = refl

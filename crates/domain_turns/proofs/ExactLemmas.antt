@@ -1,16 +1,21 @@
 -- The answer of a turn is determined by what it did: each answer comes exactly where its cause holds.
-use Rattle.std.proofs.Common.{◌≡◌, ◌∙◌, ◌⊎◌, ℕ, Bool, true, false, ◌+◌, ◌<◌, List, [], ◌∷◌, ◌++◌, refl, sym, ap, subst, inl, inr, ⊎_elim, arith, None}
+use Rattle.std.proofs.Common.{◌≡◌, ◌∙◌, ◌⊎◌, ℕ, Bool, true, false, ◌+◌, ◌<◌, ◌≤◌, List, [], ◌∷◌, ◌++◌, length, slice_get, refl, sym, ap, subst, inl, inr, ⊎_elim, arith, Option, None, Some}
+use Rattle.heap_model.specs.declared.command.Command as model
+use Rattle.heap_model.specs.declared.command.Command.TheVariants.{Poll}
 use Rattle.heap_rule.specs.declared.phase.Note.{Note}
 use Rattle.heap_rule.specs.declared.phase.Note.TheVariants.{Want, Asked, Barrier, Ended, Cleared}
 use Rattle.heap_rule.specs.declared.view.DomainView.{DomainView}
+use Rattle.heap_rule.specs.declared.view.Waiting.{Waiting as Waited}
 use Rattle.heap_rule.specs.Token.{SharedHeap}
 use Rattle.domain_turns.specs.declared.turned.Turned.{Turned}
-use Rattle.domain_turns.specs.declared.turned.Turned.TheVariants.{Did, Waiting, Idle}
+use Rattle.domain_turns.specs.declared.turned.Turned.TheVariants.{Did, Waiting, Hungry, Idle}
 use Rattle.domain_turns.specs.declared.turned.Turned.TheVariants.{Ended as Over}
 use Rattle.heap_rule.specs.declared.view.Hunt.TheVariants.{Rests as AtRest}
 use Rattle.size_pools.proofs.Seeking.{sought_view}
+use Rattle.domain_turns.proofs.Turning.{inside}
 use Rattle.domain_turns.proofs.Working.{works_keeps}
-use Rattle.domain_turns.specs.Runs.{RunView, CalmDid, RunAnswers, TurnAnswers, Starts, Stops, Resumes, GoesBy, IsAnswered, SeesAnswer, wanting, asking_end}
+use Rattle.domain_turns.specs.declared.supply.Supply.TheVariants.{Open}
+use Rattle.domain_turns.specs.Runs.{RunView, CalmDid, RunAnswers, TurnAnswers, Starts, Stops, Resumes, GoesBy, IsAnswered, IsUnqueued, SeesAnswer, wanting, asking_end}
 use Rattle.domain_turns.specs.Pausing.{ComesToAnswer}
 use Rattle.domain_turns.specs.Tries.{wish_of}
 use Rattle.heap_rule.specs.declared.config.Config.{Config}
@@ -52,9 +57,19 @@ IsOther (Want w) = Unit {0}
 IsOther (Asked w) = Unit {0}
 IsOther _ = ⊥
 
+-- nothing is left to do for an open run
+record IsOut (r : RunView) : Type 0 where
+  more : r.supply ≡ Open
+  past : length r.commands ≤ r.next
+  unqueued : IsUnqueued r.token
+
+none_first : (xs : List Waited) (first : Waited) → xs ≡ [] → slice_get xs 0 ≡ Some first → ⊥
+none_first xs first none at = let clash : ◌≡◌ {A = Option Waited} None (Some first) = sym (ap (λ (l : List Waited). slice_get l 0) none) ∙ at in cc
+
 -- the sign that a turn with this answer leaves
 abbrev Sign : SharedHeap → RunView → RunView → Turned → Type 0
-Sign h old new Did = (arrivals new ≡ arrivals old + 1) ⊎ Left old new IsOther
+Sign h old new Did = (arrivals new ≡ arrivals old + 1) ⊎ (Left old new IsOther × (IsOut old → ⊥))
+Sign h old new Hungry = Left old new IsOther × IsOut old
 Sign h old new (Waiting b) = Left old new (IsBarrier b)
 Sign h old new (Idle n) = Left old new (IsEnded n) × (n < h.config.domains)
 Sign h old new Over = Left old new (IsEnded h.config.domains)
@@ -62,11 +77,24 @@ Sign h old new Over = Left old new (IsEnded h.config.domains)
 run_sign : (h : SharedHeap) (old new : RunView) (a : Turned) → RunAnswers h old new a → Sign h old new a
 run_sign h old new Did says = ⊎_elim
     (λ (s : Stops old new). inl (ap arrivals s.run))
-    (λ (c : CalmDid h (wanting old 0) new). inr (did c)) says
+    (λ (c : CalmDid h (wanting old 0) new). inr (did c, busy c)) says
   where
     asked : (spent : Bool) (made : RunView) → Left old made IsOther → Left old (asking_end spent made) IsOther
     asked false made l = l
     asked true made l = (l.0, (Asked (bit_of Finish), notes made, refl, tt))
+
+    next_left : (c : model.Command) → slice_get old.commands old.next ≡ Some c → IsOut old → ⊥
+    next_left c at out = let below = inside old.commands old.next c at in let past = out.past in omega arith
+
+    busy : CalmDid h (wanting old 0) new → IsOut old → ⊥
+    busy (Finalises f) out = let first = f.first.is_first in none_first old.token.view.own.finalisers.queue.items f.first.first out.unqueued first
+    busy (Wishes a) out = next_left a.command a.next out
+    busy (Refuses a) out = next_left a.command a.next out
+    busy (Tries c other t) out = next_left c t.next out
+    busy (Works p) out =
+        let kept = works_keeps h (wanting old 0) p.worked p.spent p.works in
+        next_left Poll (subst (λ (w : List model.Command × ℕ). slice_get w.0 w.1 ≡ Some Poll) (λ i. (kept.commands i, kept.next i)) p.tried.next) out
+    busy (Ends t) out = t.shut out.more
 
     did : CalmDid h (wanting old 0) new → Left old new IsOther
     did (Finalises f) = (ap (λ (x : DomainView). x.own.arrivals) f.first.view, (Want 0, notes old, ap (λ (x : DomainView). x.seen.notes) f.first.view, tt))
@@ -84,19 +112,41 @@ run_sign h old new Did says = ⊎_elim
         subst (λ (r : RunView). Left old r IsOther) (sym p.run) (asked p.spent p.made (t.tried.stays.arrivals ∙ here, (Want 0, notes old, t.tried.stays.notes ∙ seen, tt)))
     did (Ends t) = (ap (λ (x : DomainView). x.own.arrivals) t.ended.view, (Want 0, notes old, ap (λ (x : DomainView). x.seen.notes) t.ended.view, tt))
 run_sign h old new (Waiting b) says = absurd says
+run_sign h old new Hungry says = ((ap arrivals says.run, (Want 0, notes old, ap notes says.run, tt)), record { more = says.more; past = says.past; unqueued = says.unqueued })
 run_sign h old new (Idle n) says = ((ap arrivals says.0.run, (Ended n, (notes old ++ Want 0 ∷ []), ap notes says.0.run, refl)), says.1)
 run_sign h old new Over says = (ap arrivals says.run, (Ended h.config.domains, (notes old ++ Want 0 ∷ []), ap notes says.run, refl))
 
 starts_same : (h : SharedHeap) (old start : RunView) → Starts h old start → arrivals start ≡ arrivals old
 starts_same h old start s = ⊎_elim (λ (t : (old.left ≡ None) × (start ≡ old)). ap arrivals t.1) (λ (t : Resumes h old start). ap (λ (x : DomainView). x.own.arrivals) t.passed.view) s
 
-from_start : (h : SharedHeap) (old start new : RunView) (a : Turned) → arrivals start ≡ arrivals old → Sign h start new a → Sign h old new a
-from_start h old start new Did same s = ⊎_elim
-    (λ (e : arrivals new ≡ arrivals start + 1). inl (e ∙ ap (λ (n : ℕ). n + 1) same))
-    (λ (l : Left start new IsOther). inr (l.0 ∙ same, l.1)) s
-from_start h old start new (Waiting b) same s = (s.0 ∙ same, s.1)
-from_start h old start new (Idle n) same s = ((s.0.0 ∙ same, s.0.1), s.1)
-from_start h old start new Over same s = (s.0 ∙ same, s.1)
+-- what is left to do is the same where a turn starts
+starts_out : (h : SharedHeap) (old start : RunView) → Starts h old start → (IsOut start → IsOut old) × (IsOut old → IsOut start)
+starts_out h old start s = ⊎_elim
+    (λ (t : (old.left ≡ None) × (start ≡ old)). (λ out. subst IsOut t.1 out, λ out. subst IsOut (sym t.1) out))
+    (λ (t : Resumes h old start).
+    let supply : start.supply ≡ old.supply = ap (λ (r : RunView). r.supply) t.run in
+    let commands : start.commands ≡ old.commands = ap (λ (r : RunView). r.commands) t.run in
+    let next : start.next ≡ old.next = ap (λ (r : RunView). r.next) t.run in
+    let queue : start.token.view.own.finalisers.queue.items ≡ old.token.view.own.finalisers.queue.items = ap (λ (x : DomainView). x.own.finalisers.queue.items) t.passed.view in (
+      λ out. record { more = sym supply ∙ out.more; past = subst (λ (w : List model.Command × ℕ). length w.0 ≤ w.1) (λ i. (commands i, next i)) out.past; unqueued = sym queue ∙ out.unqueued },
+      λ out. record { more = supply ∙ out.more; past = subst (λ (w : List model.Command × ℕ). length w.0 ≤ w.1) (λ i. (sym commands i, sym next i)) out.past; unqueued = queue ∙ out.unqueued },
+    ))
+    s
+
+from_start : (h : SharedHeap) (old start new : RunView) (a : Turned) → Starts h old start → Sign h start new a → Sign h old new a
+from_start h old start new a started s = by a s
+  where
+    same : arrivals start ≡ arrivals old
+    same = starts_same h old start started
+
+    by : (b : Turned) → Sign h start new b → Sign h old new b
+    by Did t = ⊎_elim
+        (λ (e : arrivals new ≡ arrivals start + 1). inl (e ∙ ap (λ (n : ℕ). n + 1) same))
+        (λ (l : Left start new IsOther × (IsOut start → ⊥)). inr ((l.0.0 ∙ same, l.0.1), λ out. l.1 ((starts_out h old start started).1 out))) t
+    by (Waiting b) t = (t.0 ∙ same, t.1)
+    by Hungry t = ((t.0.0 ∙ same, t.0.1), (starts_out h old start started).0 t.1)
+    by (Idle n) t = ((t.0.0 ∙ same, t.0.1), t.1)
+    by Over t = (t.0 ∙ same, t.1)
 
 -- a domain that came to a phase in which a collection is answered has arrived once more
 answer_arrives : (k : Config) (x begun y z : DomainView) → ComesToAnswer k x begun → y ≡ arrived_view z → z.own.arrivals ≡ begun.own.arrivals → y.own.arrivals ≡ x.own.arrivals + 1
@@ -109,11 +159,12 @@ sign h old new Did says = ⊎_elim
     (λ (a : IsAnswered h old new). inl (answer_arrives h.config old.token.view a.answers.begun new.token.view (with_front a.answers.begun a.answers.front) a.answers.comes a.answers.view refl))
     (⊎_elim
     (λ (s : SeesAnswer h old new). let g = s.gives in inl (answer_arrives h.config old.token.view g.begun new.token.view (with_front g.begun new.token.view.seen.front) g.comes g.view refl))
-    (λ (t : (start : RunView) × Starts h old start × RunAnswers h start new Did). from_start h old t.0 new Did (starts_same h old t.0 t.1) (run_sign h t.0 new Did t.2))))
+    (λ (t : (start : RunView) × Starts h old start × RunAnswers h start new Did). from_start h old t.0 new Did t.1 (run_sign h t.0 new Did t.2))))
     says
 sign h old new (Waiting b) w = (ap arrivals w.run, (Barrier b, notes old, ap notes w.run, refl))
-sign h old new (Idle n) t = from_start h old t.0 new (Idle n) (starts_same h old t.0 t.1) (run_sign h t.0 new (Idle n) t.2)
-sign h old new Over t = from_start h old t.0 new Over (starts_same h old t.0 t.1) (run_sign h t.0 new Over t.2)
+sign h old new Hungry t = from_start h old t.0 new Hungry t.1 (run_sign h t.0 new Hungry t.2)
+sign h old new (Idle n) t = from_start h old t.0 new (Idle n) t.1 (run_sign h t.0 new (Idle n) t.2)
+sign h old new Over t = from_start h old t.0 new Over t.1 (run_sign h t.0 new Over t.2)
 
 -- two signs have one last note
 one_note : (old new : RunView) (P Q : Note → Type 0) → Left old new P → Left old new Q → (n : Note) × P n × Q n
@@ -132,8 +183,15 @@ ends b c e = cc
 apart : (b c : ℕ) → Barrier b ≡ Ended c → ⊥
 apart b c e = cc
 
+no_other : (h : SharedHeap) (old new : RunView) (P : Note → Type 0) → ((n : Note) → P n → IsOther n → ⊥) → Left old new P → Left old new IsOther → ⊥
+no_other h old new P none l o = let t = one_note old new P IsOther l o in none t.0 t.1 t.2
+
+-- a turn that leaves what is to be done as it was did something else
+no_hungry : (h : SharedHeap) (old new : RunView) → Sign h old new Did → Sign h old new Hungry → ⊥
+no_hungry h old new s t = ⊎_elim (λ (e : arrivals new ≡ arrivals old + 1). let f = t.0.0 in omega arith) (λ (o : Left old new IsOther × (IsOut old → ⊥)). o.1 t.1) s
+
 no_did : (h : SharedHeap) (old new : RunView) (P : Note → Type 0) → ((n : Note) → P n → IsOther n → ⊥) → Left old new P → Sign h old new Did → ⊥
-no_did h old new P none l s = ⊎_elim (λ (e : arrivals new ≡ arrivals old + 1). let f = l.0 in omega arith) (λ (o : Left old new IsOther). let t = one_note old new P IsOther l o in none t.0 t.1 t.2) s
+no_did h old new P none l s = ⊎_elim (λ (e : arrivals new ≡ arrivals old + 1). let f = l.0 in omega arith) (λ (o : Left old new IsOther × (IsOut old → ⊥)). no_other h old new P none l o.0) s
 
 not_barrier : (b : ℕ) (n : Note) → IsBarrier b n → IsOther n → ⊥
 not_barrier b n is other = subst IsOther is other
@@ -144,18 +202,27 @@ not_ended c n is other = subst IsOther is other
 one_sign : (h : SharedHeap) (old new : RunView) (a b : Turned) → Sign h old new a → Sign h old new b → a ≡ b
 one_sign h old new Did Did p q = refl
 one_sign h old new Did (Waiting c) p q = absurd (no_did h old new (IsBarrier c) (not_barrier c) q p)
+one_sign h old new Did Hungry p q = absurd (no_hungry h old new p q)
 one_sign h old new Did (Idle c) p q = absurd (no_did h old new (IsEnded c) (not_ended c) q.0 p)
 one_sign h old new Did Over p q = absurd (no_did h old new (IsEnded h.config.domains) (not_ended h.config.domains) q p)
 one_sign h old new (Waiting b) Did p q = absurd (no_did h old new (IsBarrier b) (not_barrier b) p q)
 one_sign h old new (Waiting b) (Waiting c) p q = let t = one_note old new (IsBarrier b) (IsBarrier c) p q in ap Waiting (same_barrier b c (sym t.1 ∙ t.2))
+one_sign h old new (Waiting b) Hungry p q = absurd (no_other h old new (IsBarrier b) (not_barrier b) p q.0)
 one_sign h old new (Waiting b) (Idle c) p q = let t = one_note old new (IsBarrier b) (IsEnded c) p q.0 in absurd (apart b c (sym t.1 ∙ t.2))
 one_sign h old new (Waiting b) Over p q = let t = one_note old new (IsBarrier b) (IsEnded h.config.domains) p q in absurd (apart b h.config.domains (sym t.1 ∙ t.2))
+one_sign h old new Hungry Did p q = absurd (no_hungry h old new q p)
+one_sign h old new Hungry (Waiting c) p q = absurd (no_other h old new (IsBarrier c) (not_barrier c) q p.0)
+one_sign h old new Hungry Hungry p q = refl
+one_sign h old new Hungry (Idle c) p q = absurd (no_other h old new (IsEnded c) (not_ended c) q.0 p.0)
+one_sign h old new Hungry Over p q = absurd (no_other h old new (IsEnded h.config.domains) (not_ended h.config.domains) q p.0)
 one_sign h old new (Idle b) Did p q = absurd (no_did h old new (IsEnded b) (not_ended b) p.0 q)
 one_sign h old new (Idle b) (Waiting c) p q = let t = one_note old new (IsBarrier c) (IsEnded b) q p.0 in absurd (apart c b (sym t.1 ∙ t.2))
+one_sign h old new (Idle b) Hungry p q = absurd (no_other h old new (IsEnded b) (not_ended b) p.0 q.0)
 one_sign h old new (Idle b) (Idle c) p q = let t = one_note old new (IsEnded b) (IsEnded c) p.0 q.0 in ap Idle (ends b c (sym t.1 ∙ t.2))
 one_sign h old new (Idle b) Over p q = let t = one_note old new (IsEnded b) (IsEnded h.config.domains) p.0 q in absurd (let e : b ≡ h.config.domains = ends b h.config.domains (sym t.1 ∙ t.2) in let f = p.1 in omega arith)
 one_sign h old new Over Did p q = absurd (no_did h old new (IsEnded h.config.domains) (not_ended h.config.domains) p q)
 one_sign h old new Over (Waiting c) p q = let t = one_note old new (IsBarrier c) (IsEnded h.config.domains) q p in absurd (apart c h.config.domains (sym t.1 ∙ t.2))
+one_sign h old new Over Hungry p q = absurd (no_other h old new (IsEnded h.config.domains) (not_ended h.config.domains) p q.0)
 one_sign h old new Over (Idle c) p q = let t = one_note old new (IsEnded c) (IsEnded h.config.domains) q.0 p in absurd (let e : c ≡ h.config.domains = ends c h.config.domains (sym t.1 ∙ t.2) in let f = q.1 in omega arith)
 one_sign h old new Over Over p q = refl
 

@@ -10,7 +10,7 @@ use Rattle.heap_rule.specs.declared.view.Own.{Own}
 use Rattle.heap_rule.specs.declared.view.DomainView.{DomainView}
 use Rattle.heap_rule.specs.Token.{SharedHeap}
 use Rattle.domain_turns.specs.declared.turned.Turned.{Turned}
-use Rattle.domain_turns.specs.declared.turned.Turned.TheVariants.{Did, Waiting, Idle}
+use Rattle.domain_turns.specs.declared.turned.Turned.TheVariants.{Did, Waiting, Hungry, Idle}
 use Rattle.domain_turns.specs.declared.turned.Turned.TheVariants.{Ended as Over}
 use Rattle.domain_turns.specs.declared.passing.LookOutcome.{LookOutcome}
 use Rattle.domain_turns.specs.declared.passing.LookOutcome.TheVariants.{Waits, Arrived, Answered, Runs}
@@ -35,16 +35,18 @@ same_prefix old new is = record { rest = []; appends = is ∙ sym (append-nil ol
 -- a wish changes nothing of it
 asks : (spent : Bool) (old new : RunView) → GoesOn old new → GoesOn old (asking_end spent new)
 asks false old new g = g
-asks true old new g = record { commands = g.commands; number = g.number; front = g.front }
+asks true old new g = record { commands = g.commands; supply = g.supply; number = g.number; front = g.front }
 
 calm_did : (h : SharedHeap) (old new : RunView) → CalmDid h old new → GoesOn old new
 calm_did h old new (Finalises f) = record {
   commands = ap (λ (r : RunView). r.commands) f.run;
+  supply = ap (λ (r : RunView). r.supply) f.run;
   number = ap (λ (x : DomainView). x.own.number) f.first.view;
   front = answered_front _ _ _ _ _ _ f.first.answers;
 }
 calm_did h old new (Wishes a) = record {
   commands = ap (λ (r : RunView). r.commands) a.run;
+  supply = ap (λ (r : RunView). r.supply) a.run;
   number = ap (λ (r : RunView). r.token.view.own.number) a.run;
   front = same_prefix _ _ (ap (λ (r : RunView). r.token.view.seen.front) a.run);
 }
@@ -52,42 +54,47 @@ calm_did h old new (Refuses a) =
     let view = sought_view h.config old.token.view a.searched.view AtRest a.refused.view in
     let same : a.searched.view.seen.front ≡ old.token.view.seen.front = ap (λ (x : DomainView). x.seen.front) view in record {
       commands = ap (λ (r : RunView). r.commands) a.run;
+      supply = ap (λ (r : RunView). r.supply) a.run;
       number = ap (λ (r : RunView). r.token.view.own.number) a.run ∙ ap (λ (x : DomainView). x.own.number) view;
       front = same_prefix _ _ (ap (λ (r : RunView). r.token.view.seen.front) a.run ∙ same);
     }
-calm_did h old new (Tries c other t) = record { commands = ap (λ (r : RunView). r.commands) t.run; number = ap (λ (o : Own). o.number) t.tried.own; front = answered_front _ _ _ _ _ _ (stood h old.token new.token c old.collected t.reply t.tried.stands).1 }
+calm_did h old new (Tries c other t) = record { commands = ap (λ (r : RunView). r.commands) t.run; supply = ap (λ (r : RunView). r.supply) t.run; number = ap (λ (o : Own). o.number) t.tried.own; front = answered_front _ _ _ _ _ _ (stood h old.token new.token c old.collected t.reply t.tried.stands).1 }
 calm_did h old new (Works p) =
     let t = p.tried in
     let kept = works_keeps h old p.worked p.spent p.works in
     let seen = kept.front in
     let g : GoesOn old p.made = record {
       commands = ap (λ (r : RunView). r.commands) t.run ∙ kept.commands;
+      supply = ap (λ (r : RunView). r.supply) t.run ∙ kept.supply;
       number = ap (λ (o : Own). o.number) t.tried.own ∙ kept.number;
       front = subst (λ (f : List Entry). IsPrefix f p.made.token.view.seen.front) seen (answered_front _ _ _ _ _ _ (stood h p.worked.token p.made.token Poll p.worked.collected t.reply t.tried.stands).1);
     } in
     subst (GoesOn old) (sym p.run) (asks p.spent old p.made g)
-calm_did h old new (Ends t) = record { commands = ap (λ (r : RunView). r.commands) t.run; number = ap (λ (x : DomainView). x.own.number) t.ended.view; front = answered_front _ _ _ _ _ _ t.ended.answers }
+calm_did h old new (Ends t) = record { commands = ap (λ (r : RunView). r.commands) t.run; supply = ap (λ (r : RunView). r.supply) t.run; number = ap (λ (x : DomainView). x.own.number) t.ended.view; front = answered_front _ _ _ _ _ _ t.ended.answers }
 
 rests : (old new : RunView) (n : ℕ) → Rests old new n → GoesOn old new
 rests old new n r = record {
   commands = ap (λ (r : RunView). r.commands) r.run;
+  supply = ap (λ (r : RunView). r.supply) r.run;
   number = ap (λ (r : RunView). r.token.view.own.number) r.run;
   front = same_prefix _ _ (ap (λ (r : RunView). r.token.view.seen.front) r.run);
 }
 
 -- what a run has that has found a want word it had before
 wanted : (old new : RunView) (w : ℕ) → GoesOn (wanting old w) new → GoesOn old new
-wanted old new w g = record { commands = g.commands; number = g.number; front = g.front }
+wanted old new w g = record { commands = g.commands; supply = g.supply; number = g.number; front = g.front }
 
 pub run_goes : (h : SharedHeap) (old new : RunView) (a : Turned) → RunAnswers h old new a → GoesOn old new
 run_goes h old new Did says = ⊎_elim
     (λ (s : Stops old new). record {
       commands = ap (λ (r : RunView). r.commands) s.run;
+      supply = ap (λ (r : RunView). r.supply) s.run;
       number = ap (λ (r : RunView). r.token.view.own.number) s.run;
       front = same_prefix _ _ (ap (λ (r : RunView). r.token.view.seen.front) s.run);
     })
     (λ (c : CalmDid h (wanting old 0) new). wanted old new 0 (calm_did h (wanting old 0) new c)) says
 run_goes h old new (Waiting b) says = absurd says
+run_goes h old new Hungry says = record { commands = ap (λ (r : RunView). r.commands) says.run; supply = ap (λ (r : RunView). r.supply) says.run; number = ap (λ (r : RunView). r.token.view.own.number) says.run; front = same_prefix _ _ (ap (λ (r : RunView). r.token.view.seen.front) says.run) }
 run_goes h old new (Idle n) says = wanted old new 0 (rests (wanting old 0) new n says.0)
 run_goes h old new Over says = wanted old new 0 (rests (wanting old 0) new h.config.domains says)
 
@@ -98,6 +105,7 @@ calm_run h old start new w a is none says = by_answer a (subst (λ (n : ℕ). Ca
     by_answer : (b : Turned) → CalmAnswers h (wanting old 0) new b → RunAnswers h old new b
     by_answer Did c = inr c
     by_answer (Waiting b) c = c
+    by_answer Hungry c = c
     by_answer (Idle n) c = c
     by_answer Over c = c
 
@@ -108,6 +116,7 @@ resumed_goes h old start new a r says =
     let p = front_prefix _ _ _ r.passed.seen in
     record {
       commands = g.commands ∙ ap (λ (x : RunView). x.commands) r.run;
+      supply = g.supply ∙ ap (λ (x : RunView). x.supply) r.run;
       number = g.number ∙ ap (λ x. x.own.number) r.passed.view;
       front = record { rest = p.rest ++ g.front.rest; appends = g.front.appends ∙ (ap (λ (xs : List Entry). xs ++ g.front.rest) p.appends ∙ append_assoc old.token.view.seen.front p.rest g.front.rest) };
     }
@@ -118,6 +127,7 @@ gone_goes h old new g =
     let l = passes_leaves h.config old.token.view new.token.view g.last g.kind g.passes in
     record {
       commands = ap (λ (r : RunView). r.commands) g.run;
+      supply = ap (λ (r : RunView). r.supply) g.run;
       number = l.number;
       front = front_prefix _ _ _ l.front;
     }
@@ -132,6 +142,7 @@ seen_goes h old new s =
     let p = answer_front h.config old.token.view g.begun g.comes in
     let q = front_prefix _ _ _ g.seen in record {
       commands = ap (λ (r : RunView). r.commands) s.run;
+      supply = ap (λ (r : RunView). r.supply) s.run;
       number = ap (λ (x : DomainView). x.own.number) g.view ∙ ap (λ (x : DomainView). x.own.number) g.comes.passed.view;
       front = record { rest = p.rest ++ q.rest; appends = q.appends ∙ (ap (λ (xs : List Entry). xs ++ q.rest) p.appends ∙ append_assoc old.token.view.seen.front p.rest q.rest) };
     }
@@ -142,6 +153,7 @@ answered_goes h old new s =
     let p = answer_front h.config old.token.view a.begun a.comes in
     let q = answered_front _ _ _ _ _ _ a.answers in record {
       commands = ap (λ (r : RunView). r.commands) s.run;
+      supply = ap (λ (r : RunView). r.supply) s.run;
       number = ap (λ (x : DomainView). x.own.number) a.view ∙ ap (λ (x : DomainView). x.own.number) a.comes.passed.view;
       front = subst (IsPrefix old.token.view.seen.front) (sym (ap (λ (x : DomainView). x.seen.front) a.view))
           (record { rest = p.rest ++ q.rest; appends = q.appends ∙ (ap (λ (xs : List Entry). xs ++ q.rest) p.appends ∙ append_assoc old.token.view.seen.front p.rest q.rest) });
@@ -149,8 +161,8 @@ answered_goes h old new s =
 
 -- whatever a look at the barrier came to
 pub past_goes : (h : SharedHeap) (old new : RunView) (past : LookOutcome) → PastAnswers h old new past → GoesOn old new
-past_goes h old new (Waits b) w = record { commands = ap (λ (r : RunView). r.commands) w.run; number = ap (λ (r : RunView). r.token.view.own.number) w.run; front = same_prefix _ _ (ap (λ (r : RunView). r.token.view.seen.front) w.run) }
+past_goes h old new (Waits b) w = record { commands = ap (λ (r : RunView). r.commands) w.run; supply = ap (λ (r : RunView). r.supply) w.run; number = ap (λ (r : RunView). r.token.view.own.number) w.run; front = same_prefix _ _ (ap (λ (r : RunView). r.token.view.seen.front) w.run) }
 past_goes h old new (Arrived kind) g = gone_goes h old new g
 past_goes h old new (Answered blocks None) g = seen_goes h old new g
 past_goes h old new (Answered blocks (Some reply)) g = answered_goes h old new g
-past_goes h old new Runs r = record { commands = ap (λ (x : RunView). x.commands) r.run; number = ap (λ (x : DomainView). x.own.number) r.passed.view; front = front_prefix _ _ _ r.passed.seen }
+past_goes h old new Runs r = record { commands = ap (λ (x : RunView). x.commands) r.run; supply = ap (λ (x : RunView). x.supply) r.run; number = ap (λ (x : DomainView). x.own.number) r.passed.view; front = front_prefix _ _ _ r.passed.seen }

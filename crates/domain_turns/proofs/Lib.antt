@@ -4,10 +4,13 @@ pub mod PauseLemmas
 pub mod Trying
 pub mod Pooling
 pub mod Working
+pub mod Supplying
 pub mod Moving
 pub mod LeavingLemmas
 pub mod GoingLemmas
 pub mod ExactLemmas
+pub mod Looking
 pub mod Turning
+pub mod StretchLemmas
 pub mod PassingLemmas
 pub mod Refused

@@ -1,5 +1,5 @@
 -- A run whose domain moved in the phases, and made no entry.
-use Rattle.std.proofs.Common.{◌≡◌, ◌∙◌, ℕ, ◌+◌, ◌<◌, ◌≤◌, Bool, true, false, List, [], ◌∷◌, ◌++◌, append-nil, refl, sym, ap, subst, Option, arith, drop, length}
+use Rattle.std.proofs.Common.{◌≡◌, ◌∙◌, ℕ, ◌+◌, ◌<◌, ◌≤◌, Bool, true, false, List, [], ◌∷◌, ◌++◌, append-nil, refl, sym, ap, subst, Option, arith, drop, take, length}
 use Rattle.std.specs.Prelude.{IsTrue, ◌||◌}
 use Rattle.std.specs.List.{list_any}
 use Rattle.heap_model.specs.declared.entry.Entry.{Entry}
@@ -20,8 +20,9 @@ use Rattle.heap_rule.specs.declared.phase.Progress.{Progress}
 use Rattle.domain_turns.specs.Pausing.{due_of}
 use Rattle.mark_slices.specs.Decks.{DeckCounts, StaysDeck}
 use Rattle.mark_slices.specs.Slices.{IsDeckOf}
-use Rattle.domain_turns.specs.Runs.{RunView, IsRun, IsBetween, ephemerons_in, registrations_in, is_end_of}
+use Rattle.domain_turns.specs.Runs.{RunView, HasLabels, IsRun, IsBetween, ephemerons_in, registrations_in, is_end_of}
 use Rattle.domain_turns.proofs.Owing.{due_on}
+use Rattle.domain_turns.proofs.Supplying.{ends_as}
 use Rattle.remembered_set.specs.Bounded.{Bounded}
 
 -- the domain made no entry, has the labels, the block in the making and as many finalisers as it had, and room for as many ephemerons or more
@@ -66,8 +67,8 @@ moved_is_run r new left asked collected progress hints is stays m between =
     ∙ ap (λ t. replies (sizes_in k) old d ++ t) (replies_from-others (state_after (opening (sizes_in k)) old) rest d m.front.others) ∙ append-nil (replies (sizes_in k) old d) in
     record {
       inside = subst (λ (z : ℕ × Config). z.0 < z.1.domains) (λ i. (sym m.number i, sym m.config i)) is.inside;
-      made = ap (commands new.view.seen.front) m.number ∙ made ∙ is.made;
-      answered = ap (λ (n : ℕ). replies (sizes_in new.config) new.view.seen.front n) m.number ∙ ap (λ (c : Config). replies (sizes_in c) new.view.seen.front d) m.config ∙ answered ∙ is.answered;
+      made = ends_as r.supply (commands old d) (commands new.view.seen.front new.view.own.number) (take r.next r.commands) (ap (commands new.view.seen.front) m.number ∙ made) is.made;
+      answered = ends_as r.supply (replies (sizes_in k) old d) (replies (sizes_in new.config) new.view.seen.front new.view.own.number) r.replies (ap (λ (n : ℕ). replies (sizes_in new.config) new.view.seen.front n) m.number ∙ ap (λ (c : Config). replies (sizes_in c) new.view.seen.front d) m.config ∙ answered) is.answered;
       replied = subst (λ (n : ℕ). length r.replies + (n + registrations_in (drop r.next r.commands)) ≤ r.next + registrations_in r.commands) (sym m.listed) is.replied;
       within = is.within;
       few = is.few;
@@ -80,10 +81,12 @@ moved_is_run r new left asked collected progress hints is stays m between =
           ((keeps_front (opening (sizes_in k)) d new.view.seen.front old m.front).ended ∙ is.goes_on running);
       owes = λ running. subst (λ (c : Config). due_of c new.view ≡ r.due) (sym m.config) (due_on k r.token.view new.view m.number m.front ∙ is.owes running);
       between = between;
-      labels = subst (λ (n : ℕ). n ≤ 4000000000 + r.next) (sym m.serial) is.labels;
+      labels = subst (λ (n : ℕ). HasLabels r.supply n r.next r.commands) (sym m.serial) is.labels;
       deck = deck_on r new hints m.number m.config stays is.deck;
       done = is.done;
       over = λ ended. subst (λ (x : ℕ × List Entry). IsTrue (list_any (is_end_of x.0) x.1)) (λ i. (sym m.number i, sym m.front.appends i)) (any_append (is_end_of d) old rest (is.over ended));
+      shut = is.shut;
+      one = λ handed. let o = is.one handed in record { one = o.one; registers_none = o.registers_none; none_listed = m.listed ∙ o.none_listed; answered = o.answered };
     }
 
 -- the whole token, by its view

@@ -5,7 +5,7 @@ use Rattle.heap_rule.specs.declared.view.Own.{Own}
 use Rattle.heap_rule.specs.declared.view.Share.{Share}
 use Rattle.heap_rule.specs.declared.view.Spot.{Spot}
 use Rattle.heap_rule.specs.Standing.{with_front}
-use Rattle.heap_rule.specs.Token.{Token, SharedHeap}
+use Rattle.heap_rule.specs.Token.{SharedHeap}
 use Rattle.darkening_beside.specs.Aware.{scanned_in}
 use Rattle.mark_slices.specs.Decks.{DeckCounts, HasMissed, HasTaken, last_count, missed_at}
 use Rattle.domain_turns.specs.Runs.{MarksBeside, Polls, RunView, SweepsBeside, asking_end}

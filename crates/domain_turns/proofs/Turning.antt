@@ -1,5 +1,5 @@
 -- A turn keeps what is true of a run.
-use Rattle.std.proofs.Common.{true≢false, ◌≡◌, ◌≢◌, ◌∙◌, ℕ, zero, suc, ◌+◌, ◌-◌, ◌<◌, ◌≤◌, Bool, true, false, List, [], ◌∷◌, ◌++◌, length, take, drop, slice_get, Some, None, Option, refl, sym, ap, subst, arith, length-append, append-nil, eq-eqb, add-one, ⊎_elim}
+use Rattle.std.proofs.Common.{true≢false, ◌≡◌, ◌≢◌, ◌∙◌, ℕ, zero, suc, ◌+◌, ◌-◌, ◌^◌, ◌<◌, ◌≤◌, Bool, true, false, List, [], ◌∷◌, ◌++◌, length, take, drop, slice_get, Some, None, Option, refl, sym, ap, subst, arith, length-append, append-nil, eq-eqb, add-one, ⊎_elim}
 use Rattle.heap_model.specs.declared.command.Command as model
 use Rattle.heap_model.specs.declared.entry.Entry.{Entry}
 use Rattle.heap_model.specs.declared.entry.Entry.TheVariants.{Command as CommandOf, End, Ran as RanEntry}
@@ -37,12 +37,14 @@ use Rattle.steps_finalisers.specs.Registering.{count_of}
 use Rattle.steps_sweep.proofs.Dues.{due_at}
 use Rattle.finaliser_queues.specs.declared.running.Ran.{Ran}
 use Rattle.finaliser_queues.specs.Running.{RanFirst, reply_of}
-use Rattle.domain_turns.specs.Tries.{Enters, Stands, Tried, NeedsPause, ListsEphemeron, ephemerons_of, labels_given, registrations_of}
+use Rattle.domain_turns.specs.Tries.{Enters, Stands, Tried, NeedsPause, ListsEphemeron, ephemerons_of, labels_given, labels_of, registrations_of}
 use Rattle.heap_rule.specs.declared.phase.Kind.{Kind}
 use Rattle.heap_rule.specs.Phases.{IsEven}
-use Rattle.domain_turns.specs.Runs.{RunView, IsBetween, IsRun, HasEnded, ephemerons_in, registrations_in, is_end_of, served_since}
+use Rattle.domain_turns.specs.Runs.{RunView, EndsIn, HasLabels, IsBetween, IsRun, HasEnded, ephemerons_in, registrations_in, is_end_of, served_since}
 use Rattle.domain_turns.proofs.Owing.{command_due, drop_registrations, ended_count, enlisted_count, ran_count, ran_fresh, registrations_few}
 use Rattle.domain_turns.proofs.PauseLemmas.{quiet_as}
+use Rattle.domain_turns.proofs.Supplying.{ends_as, ends_on, labels_after, labels_next, registers_none}
+use Rattle.domain_turns.specs.declared.supply.Supply.TheVariants.{Open}
 use Rattle.std.specs.List.{list_any}
 use Rattle.std.specs.Prelude.{cond, IsTrue, ◌||◌}
 
@@ -80,7 +82,7 @@ next_running r is c at = by r.ended refl where
   by false e = e
   by true e = absurd (let done = is.done e in let below = inside r.commands r.next c at in let n : ℕ = r.next in omega arith)
 
-labels_few : (c : model.Command) (r : Reply) → labels_given c r ≤ 1
+labels_few : (c : model.Command) (r : Reply) → labels_given c r ≤ labels_of c
 labels_few (Alloc dst tag fields) (Block l) = omega arith
 labels_few (Raw dst tag fields) (Block l) = omega arith
 labels_few (AllocMaj dst tag fields) (Block l) = omega arith
@@ -116,6 +118,10 @@ next_enlists r is c at =
     let count : ℕ = count_of r.token.view.own.finalisers in
     let rest : ℕ = registrations_in (drop (suc r.next) r.commands) in
     omega arith
+
+-- and a label for a block that it allocates
+pub next_labels : (r : RunView) → IsRun r → (c : model.Command) → slice_get r.commands r.next ≡ Some c → r.token.view.own.serial + labels_of c < 2 ^ 32
+next_labels r is c at = labels_next r.supply r.token.view.own.serial r.next r.commands c at (let below = inside r.commands r.next c at in let few = is.few in omega arith) is.labels
 
 -- another reply fits: that of the next command, and that of each finaliser
 pub next_replies : (r : RunView) → IsRun r → (c : model.Command) → slice_get r.commands r.next ≡ Some c → length r.replies < length r.commands + length r.commands
@@ -167,7 +173,7 @@ ended_between h old new asked collected progress is t =
 record HasMade (old new : Token) (c : model.Command) (full : Bool) (reply : Reply) (due : ℕ) : Type 0 where
   config : new.config ≡ old.config
   number : new.view.own.number ≡ old.view.own.number
-  serial : new.view.own.serial ≤ old.view.own.serial + 1
+  serial : new.view.own.serial ≤ old.view.own.serial + labels_of c
   room : (n : ℕ) → ephemerons_of c + n ≤ old.view.own.ephemerons.room → n ≤ new.view.own.ephemerons.room
   listed : count_of new.view.own.finalisers ≤ registrations_of c + count_of old.view.own.finalisers
   owes : due_of old.config new.view ≡ due
@@ -182,11 +188,13 @@ made_is_run r new c full reply left progress due hints stays is running at m bet
     let d : ℕ = r.token.view.own.number in
     let z = sizes_in r.token.config in
     let e : Entry = CommandOf d c full in
-    let made : commands new.view.seen.front d ≡ take r.next r.commands ++ c ∷ [] =
-    commands_after z d r.token.view.seen.front new.view.seen.front e (Replied reply) m.answers
-    ∙ ap (λ (cs : List model.Command). cs ++ command_of d e) is.made ∙ ap (λ (cs : List model.Command). take r.next r.commands ++ cs) (own d c full) in
-    let answered : replies z new.view.seen.front d ≡ r.replies ++ reply ∷ [] =
-    replies_after z d r.token.view.seen.front new.view.seen.front e (Replied reply) (eq-eqb d d refl) m.answers ∙ ap (λ (rs : List Reply). rs ++ reply ∷ []) is.answered in
+    let made : EndsIn r.supply (commands new.view.seen.front d) (take r.next r.commands ++ c ∷ []) =
+    ends_as r.supply (commands r.token.view.seen.front d ++ c ∷ []) (commands new.view.seen.front d) (take r.next r.commands ++ c ∷ [])
+    (commands_after z d r.token.view.seen.front new.view.seen.front e (Replied reply) m.answers ∙ ap (λ (cs : List model.Command). commands r.token.view.seen.front d ++ cs) (own d c full))
+    (ends_on r.supply (commands r.token.view.seen.front d) (take r.next r.commands) (c ∷ []) is.made) in
+    let answered : EndsIn r.supply (replies z new.view.seen.front d) (r.replies ++ reply ∷ []) =
+    ends_as r.supply (replies z r.token.view.seen.front d ++ reply ∷ []) (replies z new.view.seen.front d) (r.replies ++ reply ∷ [])
+    (replies_after z d r.token.view.seen.front new.view.seen.front e (Replied reply) (eq-eqb d d refl) m.answers) (ends_on r.supply (replies z r.token.view.seen.front d) r.replies (reply ∷ []) is.answered) in
     let left_over : ℕ = registrations_in (drop (suc r.next) r.commands) in
     let all = drop_registrations r.commands r.next c at in
     let listed = m.listed in
@@ -195,8 +203,9 @@ made_is_run r new c full reply left progress due hints stays is running at m bet
     let enough : count_of new.view.own.finalisers + left_over ≤ r.token.config.finals = let before = is.enlists in omega arith in
     record {
       inside = subst (λ (z : ℕ × Config). z.0 < z.1.domains) (λ i. (sym m.number i, sym m.config i)) is.inside;
-      made = ap (commands new.view.seen.front) m.number ∙ made ∙ sym (take_next r.commands r.next c at) ∙ ap (λ (n : ℕ). take n r.commands) (sym (add-one r.next));
-      answered = ap (λ (n : ℕ). replies (sizes_in new.config) new.view.seen.front n) m.number ∙ ap (λ (k : Config). replies (sizes_in k) new.view.seen.front d) m.config ∙ answered;
+      made = ends_as r.supply (commands new.view.seen.front d) (commands new.view.seen.front new.view.own.number) (take (r.next + 1) r.commands) (ap (commands new.view.seen.front) m.number)
+          (subst (λ (l : List model.Command). EndsIn r.supply (commands new.view.seen.front d) l) (sym (take_next r.commands r.next c at) ∙ ap (λ (n : ℕ). take n r.commands) (sym (add-one r.next))) made);
+      answered = ends_as r.supply (replies z new.view.seen.front d) (replies (sizes_in new.config) new.view.seen.front new.view.own.number) (r.replies ++ reply ∷ []) (ap (λ (n : ℕ). replies (sizes_in new.config) new.view.seen.front n) m.number ∙ ap (λ (k : Config). replies (sizes_in k) new.view.seen.front d) m.config) answered;
       replied = subst (λ (n : ℕ). length (r.replies ++ reply ∷ []) + (count_of new.view.own.finalisers + registrations_in (drop n r.commands)) ≤ n + registrations_in r.commands) (sym (add-one r.next)) more;
       within = let below = inside r.commands r.next c at in omega arith;
       few = is.few;
@@ -210,10 +219,17 @@ made_is_run r new c full reply left progress due hints stays is running at m bet
           (acts_after z d r.token.view.seen.front new.view.seen.front c full (Replied reply) m.answers (is.goes_on running));
       owes = λ _. subst (λ (k : Config). due_of k new.view ≡ due) (sym m.config) m.owes;
       between = between;
-      labels = let few = m.serial in let l = is.labels in let n : ℕ = r.next in omega arith;
+      labels = labels_after r.supply r.token.view.own.serial new.view.own.serial r.next r.commands c at m.serial is.labels;
       deck = deck_on r new hints m.number m.config stays is.deck;
       done = λ ended. let clash : false ≡ true = sym running ∙ ended in cc;
       over = λ ended. let clash : false ≡ true = sym running ∙ ended in cc;
+      shut = λ ended. let clash : false ≡ true = sym running ∙ ended in cc;
+      one = λ handed. let o = is.one handed in record {
+        one = o.one;
+        registers_none = o.registers_none;
+        none_listed = let none = o.none_listed in let registers = registers_none r.commands r.next c at o.registers_none in let few = m.listed in omega arith;
+        answered = length-append r.replies (reply ∷ []) ∙ ap (λ (n : ℕ). n + 1) o.answered;
+      };
     }
 
 -- each of these is another than `full_major`, which always waits for a pause
@@ -269,8 +285,8 @@ any_last p (x ∷ xs) e is = any_more (p x) (list_any p (xs ++ e ∷ [])) (any_l
     any_more true b h = refl
     any_more false b h = h
 
-pub ended_is_run : (h : SharedHeap) (r : RunView) (new : Token) → IsRun r → r.left ≡ None → length r.commands ≤ r.next → HasEnded h r.token new → IsRun (record r { token = new; ended = true; collected = false })
-ended_is_run h r new is left whole t =
+pub ended_is_run : (h : SharedHeap) (r : RunView) (new : Token) → IsRun r → r.supply ≢ Open → r.left ≡ None → length r.commands ≤ r.next → HasEnded h r.token new → IsRun (record r { token = new; ended = true; collected = false })
+ended_is_run h r new is shut left whole t =
     let d : ℕ = r.token.view.own.number in
     let z = sizes_in r.token.config in
     let number = ap (λ (x : DomainView). x.own.number) t.view in
@@ -282,8 +298,8 @@ ended_is_run h r new is left whole t =
     let fewer : count_of new.view.own.finalisers ≤ count_of r.token.view.own.finalisers = subst (λ (x : DomainView). count_of x.own.finalisers ≤ count_of r.token.view.own.finalisers) (sym t.view) (ended_count r.token.view.own) in
     record {
       inside = subst (λ (z : ℕ × Config). z.0 < z.1.domains) (λ i. (sym number i, sym t.heap.1 i)) is.inside;
-      made = ap (commands new.view.seen.front) number ∙ made ∙ is.made;
-      answered = ap (λ (n : ℕ). replies (sizes_in new.config) new.view.seen.front n) number ∙ ap (λ (k : Config). replies (sizes_in k) new.view.seen.front d) t.heap.1 ∙ answered ∙ is.answered;
+      made = ends_as r.supply (commands r.token.view.seen.front d) (commands new.view.seen.front new.view.own.number) (take r.next r.commands) (ap (commands new.view.seen.front) number ∙ made) is.made;
+      answered = ends_as r.supply (replies z r.token.view.seen.front d) (replies (sizes_in new.config) new.view.seen.front new.view.own.number) r.replies (ap (λ (n : ℕ). replies (sizes_in new.config) new.view.seen.front n) number ∙ ap (λ (k : Config). replies (sizes_in k) new.view.seen.front d) t.heap.1 ∙ answered) is.answered;
       replied = let less : count_of new.view.own.finalisers ≤ count_of r.token.view.own.finalisers = fewer in let before = is.replied in let rest : ℕ = registrations_in (drop r.next r.commands) in let total : ℕ = registrations_in r.commands in let n : ℕ = r.next in omega arith;
       within = is.within;
       few = is.few;
@@ -295,11 +311,13 @@ ended_is_run h r new is left whole t =
       goes_on = λ running. cc;
       owes = λ running. cc;
       between = subst (λ (l : Option Kind). IsBetween l r.asked false r.progress new) (sym left) (ended_between h r.token new r.asked r.collected r.progress (subst (λ (l : Option Kind). IsBetween l r.asked r.collected r.progress r.token) left is.between) t);
-      labels = omega (arith, is.labels, serial);
+      labels = subst (λ (n : ℕ). HasLabels r.supply n r.next r.commands) (sym serial) is.labels;
       deck = deck_on r new r.hints number t.heap.1 (stays_same r.hints) is.deck;
       done = λ ended. omega (arith, is.within, whole);
       over = λ ended. subst (λ (n : ℕ). IsTrue (list_any (is_end_of n) new.view.seen.front)) (sym number)
           (subst (λ (front : List Entry). IsTrue (list_any (is_end_of d) front)) (sym t.answers.appends) (any_last (is_end_of d) (r.token.view.seen.front ++ t.answers.between) (End d) (eq-eqb d d refl)));
+      shut = λ _. shut;
+      one = λ handed. let o = is.one handed in record { one = o.one; registers_none = o.registers_none; none_listed = let none = o.none_listed in let less = fewer in omega arith; answered = o.answered };
     }
 
 -- the run of a finaliser leaves the domain between two turns
@@ -334,8 +352,9 @@ ran_is_run h r new ran is running left was here goes f =
     subst (λ (c : Config). Answers (sizes_in c) d r.token.view.seen.front new.view.seen.front (RanEntry d) (Replied reply)) (sym was.1) f.answers in
     let made : commands new.view.seen.front d ≡ commands r.token.view.seen.front d =
     commands_after z d r.token.view.seen.front new.view.seen.front (RanEntry d) (Replied reply) answers ∙ append-nil (commands r.token.view.seen.front d) in
-    let answered : replies z new.view.seen.front d ≡ r.replies ++ reply ∷ [] =
-    replies_after z d r.token.view.seen.front new.view.seen.front (RanEntry d) (Replied reply) (eq-eqb d d refl) answers ∙ ap (λ (rs : List Reply). rs ++ reply ∷ []) is.answered in
+    let answered : EndsIn r.supply (replies z new.view.seen.front d) (r.replies ++ reply ∷ []) =
+    ends_as r.supply (replies z r.token.view.seen.front d ++ reply ∷ []) (replies z new.view.seen.front d) (r.replies ++ reply ∷ [])
+    (replies_after z d r.token.view.seen.front new.view.seen.front (RanEntry d) (Replied reply) (eq-eqb d d refl) answers) (ends_on r.supply (replies z r.token.view.seen.front d) r.replies (reply ∷ []) is.answered) in
     let count : ℕ = count_of new.view.own.finalisers in
     let rest : ℕ = registrations_in (drop r.next r.commands) in
     let less : count + 1 ≡ count_of r.token.view.own.finalisers = ap (λ (x : DomainView). count_of x.own.finalisers + 1) f.view ∙ ran_count f.first r.token.view.own f.is_first in
@@ -344,8 +363,8 @@ ran_is_run h r new ran is running left was here goes f =
     let enough : count + rest ≤ k.finals = let before = is.enlists in omega arith in
     record {
       inside = subst (λ (z : ℕ × Config). z.0 < z.1.domains) (λ i. (sym number i, sym config i)) is.inside;
-      made = ap (commands new.view.seen.front) number ∙ made ∙ is.made;
-      answered = ap (λ (n : ℕ). replies (sizes_in new.config) new.view.seen.front n) number ∙ ap (λ (c : Config). replies (sizes_in c) new.view.seen.front d) config ∙ answered;
+      made = ends_as r.supply (commands r.token.view.seen.front d) (commands new.view.seen.front new.view.own.number) (take r.next r.commands) (ap (commands new.view.seen.front) number ∙ made) is.made;
+      answered = ends_as r.supply (replies z new.view.seen.front d) (replies (sizes_in new.config) new.view.seen.front new.view.own.number) (r.replies ++ reply ∷ []) (ap (λ (n : ℕ). replies (sizes_in new.config) new.view.seen.front n) number ∙ ap (λ (c : Config). replies (sizes_in c) new.view.seen.front d) config) answered;
       replied = more;
       within = is.within;
       few = is.few;
@@ -357,10 +376,12 @@ ran_is_run h r new ran is running left was here goes f =
       goes_on = λ _. goes;
       owes = λ _. subst (λ (c : Config). due_of c new.view ≡ length new.view.own.finalisers.queue.items) (sym here.1) f.due;
       between = subst (λ (l : Option Kind). IsBetween l r.asked r.collected r.progress new) (sym left) (ran_between h r.token new ran r.asked r.collected r.progress config (sym was.1) (subst (λ (l : Option Kind). IsBetween l r.asked r.collected r.progress r.token) left is.between) f);
-      labels = omega (arith, is.labels, serial);
+      labels = subst (λ (n : ℕ). HasLabels r.supply n r.next r.commands) (sym serial) is.labels;
       deck = deck_on r new r.hints number config (stays_same r.hints) is.deck;
       done = λ ended. let clash : false ≡ true = sym running ∙ ended in cc;
       over = λ ended. let clash : false ≡ true = sym running ∙ ended in cc;
+      shut = λ ended. let clash : false ≡ true = sym running ∙ ended in cc;
+      one = λ handed. absurd (let none = (is.one handed).none_listed in let some = less in omega arith);
     }
 
 -- a view of a running domain by which nothing changed of how it stands between two turns

@@ -1,14 +1,17 @@
 -- A domain's trace on the shared heap, and what a turn does to it.
-use Rattle.std.specs.Prelude.{◌≡◌, ◌≢◌, ◌==◌, ◌&&◌, ℕ, ◌+◌, ◌*◌, ◌%◌, ◌<◌, ◌≤◌, ◌⊎◌, ◌↔◌, nat_lt, nat_le, Option, None, Bool, true, false, List, [], ◌∷◌, ◌++◌, length, take, drop, replicate, slice_get, Some, IsTrue}
+use Rattle.std.specs.Prelude.{◌≡◌, ◌≢◌, ◌==◌, ◌&&◌, ℕ, ◌+◌, ◌*◌, ◌%◌, ◌^◌, ◌<◌, ◌≤◌, ◌⊎◌, ◌↔◌, nat_lt, nat_le, Option, None, Bool, true, false, List, [], ◌∷◌, ◌++◌, length, take, drop, replicate, slice_get, Some, IsTrue}
 use Rattle.std.specs.List.{list_any}
 use Rattle.heap_model.specs.declared.command.Command as model
 use Rattle.heap_model.specs.declared.entry.Entry.{Entry}
-use Rattle.heap_model.specs.declared.entry.Entry.TheVariants.{End}
+use Rattle.heap_model.specs.declared.entry.Entry.TheVariants.{End, Command as CommandOf, Ran as RanOf}
 use Rattle.heap_model.specs.declared.reply.Reply.{Reply}
-use Rattle.heap_model.specs.declared.reply.Applied.TheVariants.{Silent}
-use Rattle.heap_model.specs.History.{IsPrefix, commands, replies}
-use Rattle.heap_model.specs.Fronts.{Answers}
-use Rattle.heap_model.specs.Domains.{class_count, domain_at, reserve}
+use Rattle.heap_model.specs.declared.reply.Applied.{Applied}
+use Rattle.heap_model.specs.declared.reply.Applied.TheVariants.{Replied, Silent}
+use Rattle.heap_model.specs.declared.state.Sizes.{Sizes}
+use Rattle.heap_model.specs.Entries.{reply as reply_to}
+use Rattle.heap_model.specs.History.{IsPrefix, Legal, commands, replies, state_after}
+use Rattle.heap_model.specs.Fronts.{Answers, IsFrontOf, NoneOf}
+use Rattle.heap_model.specs.Domains.{class_count, domain_at, opening, reserve}
 use Rattle.heap_model.specs.declared.command.Command.TheVariants.{Minor, Major, FullMajor, Poll}
 use Rattle.heap_rule.specs.declared.config.Config.{Config}
 use Rattle.heap_rule.specs.declared.view.DomainView.{DomainView}
@@ -38,16 +41,18 @@ use Rattle.safepoint.specs.Looks.{PassedBarrier, bit_of}
 use Rattle.safepoint.specs.declared.answer.Want as wish
 use Rattle.safepoint.specs.declared.answer.Want.TheVariants.{Finish, Full}
 use Rattle.domain_turns.specs.declared.turned.Turned.{Turned}
-use Rattle.domain_turns.specs.declared.turned.Turned.TheVariants.{Did, Waiting, Idle}
+use Rattle.domain_turns.specs.declared.supply.Supply.{Supply}
+use Rattle.domain_turns.specs.declared.supply.Supply.TheVariants.{Listed, Open}
+use Rattle.domain_turns.specs.declared.turned.Turned.TheVariants.{Did, Waiting, Hungry, Idle}
 use Rattle.domain_turns.specs.declared.turned.Turned.TheVariants.{Ended as Over}
 use Rattle.heap_rule.specs.declared.view.Hunt.TheVariants.{Rests as AtRest}
 use Rattle.heap_rule.specs.Limits.{sizes_in}
 use Rattle.heap_rule.specs.Standing.{noted, Acts, with_front}
 use Rattle.heap_rule.specs.Token.{Token, SharedHeap, IsIn}
 use Rattle.domain_turns.specs.Pausing.{HasNothingPending, HasLeft, KnowsProgress, LeavesEven, LeavesOdd, GivesBack, AnswersLive, IsCollected, blocks_left, due_of}
-use Rattle.domain_turns.specs.Tries.{FitsHeap, IsFresh, NeedsPause, Refused, Tried, ephemerons_of, registrations_of, wish_of}
+use Rattle.domain_turns.specs.Tries.{FitsHeap, IsFresh, NeedsPause, Refused, Tried, ephemerons_of, labels_of, registrations_of, wish_of}
 
--- a run: the domain's token, its commands, the place of the next one, its replies, whether its trace has ended, where the domain has arrived from which kind of phase, how often it had arrived when it asked for a pause for the next command, whether the last pause since then was a complete collection that left so many blocks that they may use up the pools, how far, for domain 0, a collection has come, how many finalisers the domain owes before its next `full_major`, and what its deck of hints has counted
+-- a run: the domain's token, its commands, the place of the next one, its replies, whether its trace has ended, where the domain has arrived from which kind of phase, how often it had arrived when it asked for a pause for the next command, whether the last pause since then was a complete collection that left so many blocks that they may use up the pools, how far, for domain 0, a collection has come, how many finalisers the domain owes before its next `full_major`, what its deck of hints has counted, and where its commands come from
 pub record RunView : Type 0 where
   pub token : Token
   pub commands : List model.Command
@@ -60,6 +65,7 @@ pub record RunView : Type 0 where
   pub progress : Progress
   pub due : ℕ
   pub hints : DeckCounts
+  pub supply : Supply
 
 -- whether an entry is the end of domain d
 abbrev pub is_end_of : ℕ → Entry → Bool
@@ -79,6 +85,21 @@ ephemerons_in (c ∷ cs) = ephemerons_of c + ephemerons_in cs
 abbrev pub registrations_in : List model.Command → ℕ
 registrations_in [] = 0
 registrations_in (c ∷ cs) = registrations_of c + registrations_in cs
+
+-- and how many labels they give out at most
+abbrev pub labels_in : List model.Command → ℕ
+labels_in [] = 0
+labels_in (c ∷ cs) = labels_of c + labels_in cs
+
+-- what a front has of a run: exactly this where all its commands were listed, and else this behind what came of earlier commands
+abbrev pub EndsIn : {A : Type 0} → Supply → List A → List A → Type 0
+EndsIn Listed whole last = whole ≡ last
+EndsIn _ whole last = (past : List _) × (whole ≡ past ++ last)
+
+-- labels are left for the commands to come: by the number of commands where all were listed, and else by those that each gives out at most
+abbrev pub HasLabels : Supply → ℕ → ℕ → List model.Command → Type 0
+HasLabels Listed serial next cs = serial ≤ 4000000000 + next
+HasLabels _ serial next cs = serial + labels_in (drop next cs) < 2 ^ 32
 
 -- a pause began and ended since the domain asked: it has arrived since
 abbrev pub served_since : Option ℕ → ℕ → Bool
@@ -123,11 +144,18 @@ pub record IsBetween (left : Option Kind) (asked : Option ℕ) (collected : Bool
   pub fresh : collected ≡ true → IsFresh t.config t.view
   pub knows : KnowsProgress progress t.view
 
--- what is true of a run between any two turns: the domain's commands in its front are those before the next, each once and in order, and the replies are those of its entries. It has room for the ephemerons that the others make and for the finalisers that they register. Each finaliser that it has may still answer once
+-- what else is true of a run whose commands are handed in: it holds one at most, which registers no finaliser, none is registered, and the reply of the command is kept once it is done
+pub record HoldsOne (r : RunView) : Type 0 where
+  pub one : length r.commands ≤ 1
+  pub registers_none : registrations_in r.commands ≡ 0
+  pub none_listed : count_of r.token.view.own.finalisers ≡ 0
+  pub answered : length r.replies ≡ r.next
+
+-- what is true of a run between any two turns: the domain's commands in its front are those before the next, each once and in order, and the replies are those of its entries, with what came of earlier commands before them where commands are handed in. It has room for the ephemerons that the others make and for the finalisers that they register. Each finaliser that it has may still answer once
 pub record IsRun (r : RunView) : Type 0 where
   pub inside : r.token.view.own.number < r.token.config.domains
-  pub made : commands r.token.view.seen.front r.token.view.own.number ≡ take r.next r.commands
-  pub answered : replies (sizes_in r.token.config) r.token.view.seen.front r.token.view.own.number ≡ r.replies
+  pub made : EndsIn r.supply (commands r.token.view.seen.front r.token.view.own.number) (take r.next r.commands)
+  pub answered : EndsIn r.supply (replies (sizes_in r.token.config) r.token.view.seen.front r.token.view.own.number) r.replies
   pub replied : length r.replies + (count_of r.token.view.own.finalisers + registrations_in (drop r.next r.commands)) ≤ r.next + registrations_in r.commands
   pub within : r.next ≤ length r.commands
   pub few : length r.commands ≤ 200000
@@ -139,10 +167,43 @@ pub record IsRun (r : RunView) : Type 0 where
   pub goes_on : r.ended ≡ false → (domain_at (state_of r.token.config r.token.view.seen.front) r.token.view.own.number).ended ≡ false
   pub owes : r.ended ≡ false → due_of r.token.config r.token.view ≡ r.due
   pub between : IsBetween r.left r.asked r.collected r.progress r.token
-  pub labels : r.token.view.own.serial ≤ 4000000000 + r.next
+  pub labels : HasLabels r.supply r.token.view.own.serial r.next r.commands
   pub deck : IsDeckOf r.token.config r.token.view r.hints
   pub done : r.ended ≡ true → r.next ≡ length r.commands
   pub over : r.ended ≡ true → IsTrue (list_any (is_end_of r.token.view.own.number) r.token.view.seen.front)
+  pub shut : r.ended ≡ true → r.supply ≢ Open
+  pub one : r.supply ≢ Listed → HoldsOne r
+
+-- the room that a run has reserved, for commands and for replies: each command answers once, and so does each finaliser that it registers. Where commands are handed in there is room for one
+pub record HasReserved (supply : Supply) (count commands replies : ℕ) : Type 0 where
+  pub answers : count + count ≤ replies
+  pub one : supply ≢ Listed → (1 ≤ commands) × (2 ≤ replies)
+
+-- an open run whose last command is done may be given this one: it fits, registers no finaliser, and there are room and a label for what it makes
+pub record MaySubmit (r : RunView) (c : model.Command) : Type 0 where
+  pub more : r.supply ≡ Open
+  pub done : r.next ≡ length r.commands
+  pub fits : FitsHeap c
+  pub registers_none : registrations_of c ≡ 0
+  pub room : ephemerons_of c ≤ r.token.view.own.ephemerons.room
+  pub labels : r.token.view.own.serial + labels_of c < 2 ^ 32
+
+-- the first of the replies, where commands are handed in
+abbrev pub first_reply : Supply → List Reply → Option Reply
+first_reply Listed replies = None
+first_reply _ replies = slice_get replies 0
+
+-- the reply to the command that was handed in last, once it is done
+abbrev pub answer_of : RunView → Option Reply
+answer_of r = first_reply r.supply r.replies
+
+-- no command was handed in, or the last one isn't done
+abbrev pub IsUnanswered : RunView → Type 0
+IsUnanswered r = (r.supply ≡ Listed) ⊎ ((r.commands ≡ []) ⊎ (r.next < length r.commands))
+
+-- this is the last reply of the domain in its front
+abbrev pub IsLastReply : RunView → Reply → Type 0
+IsLastReply r a = (past : List Reply) × (replies (sizes_in r.token.config) r.token.view.seen.front r.token.view.own.number ≡ past ++ a ∷ [])
 
 -- the domain after the end of its trace, with this front: its registers hold nothing, and it has forgotten what was registered
 abbrev pub left_with : DomainView → List Entry → DomainView
@@ -176,8 +237,9 @@ pub record TriesCommand (h : SharedHeap) (start : Token) (old new : RunView) (c 
   pub tried : Tried h start new.token c old.collected reply
   pub run : new ≡ record old { token = new.token; next = old.next + 1; replies = old.replies ++ reply ∷ []; asked = None; collected = false; due = 0 }
 
--- a turn ended the trace, where no finaliser waited
+-- a turn ended the trace, where no finaliser waited and no command may come any more
 pub record EndsTrace (h : SharedHeap) (start : Token) (old new : RunView) : Type 0 where
+  pub shut : old.supply ≢ Open
   pub past : length old.commands ≤ old.next
   pub unqueued : IsUnqueued start
   pub ended : HasEnded h start new.token
@@ -290,10 +352,23 @@ RestAnswers h old new (Idle n) = Rests old new n × (n < h.config.domains)
 RestAnswers h old new Over = Rests old new h.config.domains
 RestAnswers h old new _ = ⊥
 
+-- no command is left of an open run, no finaliser waits, and nothing has changed
+pub record Hungers (old new : RunView) : Type 0 where
+  pub more : old.supply ≡ Open
+  pub past : length old.commands ≤ old.next
+  pub unqueued : IsUnqueued old.token
+  pub run : new ≡ old
+
 -- what such a turn answers
 abbrev pub CalmAnswers : SharedHeap → RunView → RunView → Turned → Type 0
 CalmAnswers h old new Did = CalmDid h old new
+CalmAnswers h old new Hungry = Hungers old new
 CalmAnswers h old new a = RestAnswers h old new a
+
+-- the domain has looked at the want word, and nothing else has changed
+pub record HasLooked (old new : RunView) : Type 0 where
+  pub found : ℕ
+  pub run : new ≡ record old { token = noted_token old.token (Want found) }
 
 -- the run whose domain has found this want word
 abbrev pub wanting : RunView → ℕ → RunView
@@ -382,11 +457,62 @@ pub record Waits (h : SharedHeap) (old new : RunView) (b : ℕ) : Type 0 where
 abbrev pub TurnAnswers : SharedHeap → RunView → RunView → Turned → Type 0
 TurnAnswers h old new (Waiting b) = Waits h old new b
 TurnAnswers h old new Did = GoesBy h old new ⊎ (IsAnswered h old new ⊎ (SeesAnswer h old new ⊎ ((start : RunView) × Starts h old start × RunAnswers h start new Did)))
+TurnAnswers h old new Hungry = (start : RunView) × Starts h old start × RunAnswers h start new Hungry
 TurnAnswers h old new (Idle n) = (start : RunView) × Starts h old start × RunAnswers h start new (Idle n)
 TurnAnswers h old new Over = (start : RunView) × Starts h old start × RunAnswers h start new Over
 
--- the same domain's run of the same commands: what the domain saw of the history is a front part of what it sees now
+-- the front has grown by entries of others, and then by this one of the domain, to which the answer is that of the state before it
+pub record Appended (z : Sizes) (d : ℕ) (old new : List Entry) (e : Entry) (answer : Applied) : Type 0 where
+  pub between : List Entry
+  pub others : NoneOf d between
+  pub appends : new ≡ old ++ between ++ e ∷ []
+  pub legal : Legal z new
+  pub replies : reply_to (state_after (opening z) (old ++ between)) e ≡ answer
+
+-- a turn made no entry of the domain
+pub record MadeNone (old new : RunView) : Type 0 where
+  pub next : new.next ≡ old.next
+  pub replies : new.replies ≡ old.replies
+  pub ended : new.ended ≡ old.ended
+  pub front : IsFrontOf old.token.view.own.number new.token.view.seen.front old.token.view.seen.front
+
+-- or the entry of its next command, whose reply was kept
+pub record MadeNext (z : Sizes) (old new : RunView) : Type 0 where
+  pub command : model.Command
+  pub full : Bool
+  pub reply : Reply
+  pub here : slice_get old.commands old.next ≡ Some command
+  pub next : new.next ≡ old.next + 1
+  pub replies : new.replies ≡ old.replies ++ reply ∷ []
+  pub ended : new.ended ≡ old.ended
+  pub front : Appended z old.token.view.own.number old.token.view.seen.front new.token.view.seen.front (CommandOf old.token.view.own.number command full) (Replied reply)
+
+-- or that of a finaliser, whose reply was kept
+pub record MadeRun (z : Sizes) (old new : RunView) : Type 0 where
+  pub reply : Reply
+  pub next : new.next ≡ old.next
+  pub replies : new.replies ≡ old.replies ++ reply ∷ []
+  pub ended : new.ended ≡ old.ended
+  pub front : Appended z old.token.view.own.number old.token.view.seen.front new.token.view.seen.front (RanOf old.token.view.own.number) (Replied reply)
+
+-- or that of its end
+pub record MadeEnd (z : Sizes) (old new : RunView) : Type 0 where
+  pub shut : old.supply ≢ Open
+  pub next : new.next ≡ old.next
+  pub replies : new.replies ≡ old.replies
+  pub ended : new.ended ≡ true
+  pub front : Appended z old.token.view.own.number old.token.view.seen.front new.token.view.seen.front (End old.token.view.own.number) Silent
+
+-- how the domain's front grew in a turn: by entries of others, and by one of the domain at most, which comes last
+pub data Stretches (z : Sizes) (old new : RunView) : Type 0 where
+  ByOthers : MadeNone old new → Stretches z old new
+  ByCommand : MadeNext z old new → Stretches z old new
+  ByFinaliser : MadeRun z old new → Stretches z old new
+  ByEnd : MadeEnd z old new → Stretches z old new
+
+-- the same domain's run of the same commands, from the same supply: what the domain saw of the history is a front part of what it sees now
 pub record GoesOn (old new : RunView) : Type 0 where
   pub commands : new.commands ≡ old.commands
+  pub supply : new.supply ≡ old.supply
   pub number : new.token.view.own.number ≡ old.token.view.own.number
   pub front : IsPrefix old.token.view.seen.front new.token.view.seen.front

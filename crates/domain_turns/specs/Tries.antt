@@ -83,6 +83,14 @@ registrations_of (Finalise item number dst) = 1
 registrations_of (FinaliseLast item number) = 1
 registrations_of _ = 0
 
+-- how many labels it gives out at most
+abbrev pub labels_of : Command → ℕ
+labels_of (Alloc dst tag fields) = 1
+labels_of (Raw dst tag fields) = 1
+labels_of (AllocMaj dst tag fields) = 1
+labels_of (Ephe dst keys) = 1
+labels_of _ = 0
+
 -- a store, after which the domain may have to remember one word more
 abbrev pub IsStore : Command → Type 0
 IsStore (Store block index item) = Unit {0}

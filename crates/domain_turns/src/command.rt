@@ -12,7 +12,7 @@ ghost use Rattle.heap_rule.specs.Standing.{with_front};
 ghost use Rattle.steps_fields.specs.Ticks.{is_quiet};
 ghost use Rattle.steps_fields.specs.Ticks.{IsUsedUp};
 ghost use Rattle.steps_finalisers.specs.Registering.{count_of};
-ghost use Rattle.domain_turns.specs.Tries.{AttemptAnswers, FitsHeap, HasFew, IsFresh, IsPlainCall, IsStore, RefusesAs, RefusesFull, ephemerons_of, full_entry, registrations_of};
+ghost use Rattle.domain_turns.specs.Tries.{AttemptAnswers, FitsHeap, HasFew, IsFresh, IsPlainCall, IsStore, RefusesAs, RefusesFull, ephemerons_of, full_entry, labels_of, registrations_of};
 
 use ephemeron_rounds::{
     check_data, check_key, get_data, get_key, set_data, set_key, unset_data, unset_key,
@@ -328,7 +328,7 @@ pub(crate) fn try_command(
     requires fits { FitsHeap command.now }
     requires room { ephemerons_of command.now ≤ dom.old.view.own.ephemerons.room }
     requires enlists { registrations_of command.now + count_of dom.old.view.own.finalisers ≤ heap.now.config.finals }
-    requires serial { dom.old.view.own.serial + 1 < 2 ^ 32 }
+    requires serial { dom.old.view.own.serial + labels_of command.now < 2 ^ 32 }
     requires fresh { collected ≡ true → IsFresh heap.now.config dom.old.view }
     ensures answer { AttemptAnswers heap.now dom.old dom.new command.now served collected result }
     ensures poll { command.now ≡ Poll → dom.new.view ≡ with_front dom.old.view dom.new.view.seen.front }

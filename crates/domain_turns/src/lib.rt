@@ -2,14 +2,21 @@
 //!
 //! A turn runs a finaliser, tries one command, does the domain's share of a pause, or ends the trace. It
 //! takes no lock and no memory, and never waits.
+//!
+//! The commands of a run are all given when it is made, or it is an open one: then they are handed in one by
+//! one, each once the one before is done.
 #![tactic(auto)]
 
 mod command;
 mod passing;
 mod run;
+mod showing;
+mod supply;
 mod turned;
 mod turns;
 
 pub use run::DomainRun;
+pub use showing::show;
+pub use supply::Supply;
 pub use turned::Turned;
 pub use turns::turn;

@@ -1,11 +1,12 @@
 //! One domain's trace, and how far it has come.
-ghost use Rattle.std.specs.Prelude.{◌≡◌, ◌↔◌, ◌<◌, true, false, [], length, take, IfOk, None};
+ghost use Rattle.std.specs.Prelude.{◌≡◌, ◌↔◌, ◌<◌, ◌∷◌, true, false, [], length, take, IfOk, IfSome, None};
 ghost use Rattle.heap_model.specs.History.{commands as commands_of, replies as replies_of};
 ghost use Rattle.heap_rule.specs.Limits.{sizes_in};
 ghost use Rattle.mark_slices.specs.Slices.{IsDeckOf};
 ghost use Rattle.heap_rule.specs.Views.{no_collection};
-ghost use Rattle.domain_turns.specs.Runs.{CanBegin, IsRun};
+ghost use Rattle.domain_turns.specs.Runs.{CanBegin, IsLastReply, IsRun, IsUnanswered, MaySubmit, answer_of};
 
+use crate::supply::Supply;
 use heap_model::command::Command;
 use heap_model::reply::Reply;
 use heap_rule::{Domain, Kind, Progress};
@@ -35,17 +36,19 @@ pub struct DomainRun {
     pub(crate) due: usize,
     // Hints of the blocks that are to be scanned.
     pub(crate) hints: Hints,
+    // Where the commands come from. Those that are handed in one by one take the place of the one before.
+    pub(crate) supply: Supply,
 }
 
 impl Model for DomainRun {
-    ghost use Rattle.std.specs.Prelude.{◌≡◌, ◌+◌, ◌≤◌, [], length, vec_capacity};
-    ghost use Rattle.domain_turns.specs.Runs.{IsRun, RunView};
+    ghost use Rattle.std.specs.Prelude.{◌≡◌, [], length, vec_capacity};
+    ghost use Rattle.domain_turns.specs.Runs.{HasReserved, IsRun, RunView};
 
     ghost Value = { RunView };
 
-    ghost view = { λ r. record { token = r.domain; commands = r.commands.items; next = r.next; replies = r.replies.items; ended = r.ended; left = r.left; asked = r.asked; collected = r.collected; progress = r.progress; due = r.due; hints = r.hints } };
+    ghost view = { λ r. record { token = r.domain; commands = r.commands.items; next = r.next; replies = r.replies.items; ended = r.ended; left = r.left; asked = r.asked; collected = r.collected; progress = r.progress; due = r.due; hints = r.hints; supply = r.supply } };
 
-    ghost invariant = { λ r. IsRun (record { token = r.domain; commands = r.commands.items; next = r.next; replies = r.replies.items; ended = r.ended; left = r.left; asked = r.asked; collected = r.collected; progress = r.progress; due = r.due; hints = r.hints }) × (length r.commands.items + length r.commands.items ≤ vec_capacity r.replies) };
+    ghost invariant = { λ r. IsRun (record { token = r.domain; commands = r.commands.items; next = r.next; replies = r.replies.items; ended = r.ended; left = r.left; asked = r.asked; collected = r.collected; progress = r.progress; due = r.due; hints = r.hints; supply = r.supply }) × HasReserved r.supply (length r.commands.items) (vec_capacity r.commands) (vec_capacity r.replies) };
 }
 
 impl DomainRun {
@@ -56,7 +59,7 @@ impl DomainRun {
     /// labels were made. The hints are the domain's, among those of all domains. No collection has begun so
     /// far. The room for the replies is reserved here: each command answers once, and so does each
     /// finaliser that it registers. Fails for want of memory alone, and then the domain is given up.
-    #[tactic(auto, using(crate::proofs::Beginning::begins_between, crate::proofs::Beginning::begins_enlisted, crate::proofs::Beginning::begins_replied))]
+    #[tactic(auto, using(crate::proofs::Beginning::begins_between, crate::proofs::Beginning::begins_enlisted, crate::proofs::Beginning::begins_replied, crate::proofs::Beginning::reserves_listed))]
     pub fn make(
         alloc: Global,
         dom: Domain,
@@ -65,7 +68,7 @@ impl DomainRun {
     ) -> Result<DomainRun, AllocError>
         requires begins { CanBegin dom commands.items }
         requires deck { IsDeckOf dom.config dom.view hints }
-        ensures { IfOk result (λ r. r ≡ record { token = dom; commands = commands.items; next = 0; replies = []; ended = false; left = None; asked = None; collected = false; progress = no_collection; due = 0; hints = hints }) }
+        ensures { IfOk result (λ r. r ≡ record { token = dom; commands = commands.items; next = 0; replies = []; ended = false; left = None; asked = None; collected = false; progress = no_collection; due = 0; hints = hints; supply = Supply.Listed }) }
     {
         let replies = Vec::with_capacity(alloc, 2 * commands.len())?;
         Ok(DomainRun {
@@ -80,22 +83,96 @@ impl DomainRun {
             progress: Progress::start(),
             due: 0,
             hints,
+            supply: Supply::Listed,
         })
     }
 
-    /// The place of the command that is next. The domain's commands in its part of the history are
-    /// those before it, each once and in order.
+    /// An open run of a domain: its commands are handed in one by one, by [`submit`](DomainRun::submit), and
+    /// its trace ends only after [`close`](DomainRun::close). The domain and its hints are as for
+    /// [`make`](DomainRun::make), with no command. Of the replies it keeps the last alone. The room for a
+    /// command and its reply is reserved here. Fails for want of memory alone, and then the domain is given up.
+    pub fn make_open(alloc: Global, dom: Domain, hints: Hints) -> Result<DomainRun, AllocError>
+        requires begins { CanBegin dom [] }
+        requires deck { IsDeckOf dom.config dom.view hints }
+        ensures { IfOk result (λ r. r ≡ record { token = dom; commands = []; next = 0; replies = []; ended = false; left = None; asked = None; collected = false; progress = no_collection; due = 0; hints = hints; supply = Supply.Open }) }
+    {
+        let commands = Vec::with_capacity(alloc, 1)?;
+        let replies = Vec::with_capacity(alloc, 2)?;
+        Ok(DomainRun {
+            domain: dom,
+            commands,
+            next: 0,
+            replies,
+            ended: false,
+            left: None,
+            asked: None,
+            collected: false,
+            progress: Progress::start(),
+            due: 0,
+            hints,
+            supply: Supply::Open,
+        })
+    }
+
+    /// Hands in the next command of an open run whose last command is done. It fits the shared heap, its
+    /// registers and numbers are in their ranges, it registers no finaliser, and there are room for an
+    /// ephemeron that it makes and a label for a block. The reply to the command before is forgotten.
+    pub fn submit(&mut self, command: Command)
+        requires may { MaySubmit self.old command }
+        ensures { self.new ≡ record self.old { commands = command ∷ []; next = 0; replies = []; asked = None; collected = false } }
+    {
+        self.commands.clear();
+        self.commands.push_reserved(command);
+        self.replies.clear();
+        self.next = 0;
+        self.asked = None;
+        self.collected = false;
+    }
+
+    /// The reply to the command that was handed in last: the last reply of the domain in its part of the
+    /// history. None exactly where that command isn't done yet or none was handed in.
+    pub fn answer(&self) -> Option<Reply>
+        ensures answer { result ≡ answer_of self.now }
+        ensures none { (result ≡ None) ↔ IsUnanswered self.now }
+        ensures of_history { IfSome result (IsLastReply self.now) }
+    {
+        match self.supply {
+            Supply::Listed => None,
+            Supply::Open | Supply::Closed => self.replies.first().copied(),
+        }
+    }
+
+    /// No command comes any more. The last one that was handed in is done.
+    pub fn close(&mut self)
+        requires more { self.old.supply ≡ Supply.Open }
+        requires done { self.old.next ≡ length self.old.commands }
+        ensures { self.new ≡ record self.old { supply = Supply.Closed } }
+    {
+        self.supply = Supply::Closed;
+    }
+
+    /// Where the commands come from, and whether more may come.
+    pub fn supply(&self) -> Supply
+        ensures { result ≡ self.now.supply }
+    {
+        self.supply
+    }
+
+    /// The place of the command that is next. Where all commands were listed, the domain's commands in its
+    /// part of the history are those before it, each once and in order. Of an open run it is 0 until the
+    /// command that was handed in last is done, and then 1.
     pub fn next(&self) -> usize
         ensures next { result ≡ self.now.next }
-        ensures made { commands_of self.now.token.view.seen.front self.now.token.view.own.number ≡ take self.now.next self.now.commands }
+        ensures made { self.now.supply ≡ Supply.Listed → commands_of self.now.token.view.seen.front self.now.token.view.own.number ≡ take self.now.next self.now.commands }
     {
         self.next
     }
 
-    /// The replies, in order: those of the domain's entries in its part of the history.
+    /// The replies, in order. Where all commands were listed, they are those of the domain's entries in its
+    /// part of the history. Of an open run it is that of the command handed in last, once it is done.
     pub fn replies(&self) -> &[Reply]
         ensures replies { result.now ≡ self.now.replies }
-        ensures of_history { self.now.replies ≡ replies_of (sizes_in self.now.token.config) self.now.token.view.seen.front self.now.token.view.own.number }
+        ensures of_history { self.now.supply ≡ Supply.Listed → self.now.replies ≡ replies_of (sizes_in self.now.token.config) self.now.token.view.seen.front self.now.token.view.own.number }
     {
         &self.replies
     }
@@ -116,7 +193,8 @@ impl DomainRun {
 
     /// Each run is faithful: the domain's commands in its part of the history are those before the next,
     /// each once and in order, the replies are those of its entries there, and a trace that has ended has
-    /// made all its commands and then its end.
+    /// made all its commands and then its end. Where commands are handed in, those of earlier commands come
+    /// before.
     pub fn is_faithful(&self)
         ensures { IsRun self.now }
     {

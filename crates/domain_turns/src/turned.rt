@@ -8,6 +8,9 @@ pub enum Turned {
     Did,
     /// The domain has arrived and others haven't: the barrier word, below the end of its turn.
     Waiting(u64),
+    /// All commands that were handed in are done, no finaliser waits, no pause is wanted, and more commands
+    /// may be handed in.
+    Hungry,
     /// The trace has ended, no pause is wanted, and so many traces have ended, which aren't all.
     Idle { ended: u64 },
     /// The trace has ended, no pause is wanted, and all traces have ended.

@@ -9,13 +9,15 @@ ghost use Rattle.heap_rule.specs.Running.{Runs};
 ghost use Rattle.heap_rule.specs.Standing.{noted, with_front};
 ghost use Rattle.heap_rule.specs.Token.{IsIn};
 ghost use Rattle.safepoint.specs.Looks.{bit_of};
-ghost use Rattle.domain_turns.specs.Runs.{HasEnded, EndsTrace, RunAnswers, TurnAnswers, RestAnswers, CalmAnswers, GoesOn, CalmDid, IsUnqueued, Polls, RunsFinaliser, TrialAnswers, WaitsForAnswer, is_asked, may_use_up, served_since, noted_token, WorksBeside};
+ghost use Rattle.heap_rule.specs.Limits.{sizes_in};
+ghost use Rattle.domain_turns.specs.Runs.{Stretches, HasEnded, EndsTrace, RunAnswers, TurnAnswers, RestAnswers, CalmAnswers, GoesOn, CalmDid, IsUnqueued, Polls, RunsFinaliser, TrialAnswers, WaitsForAnswer, is_asked, may_use_up, served_since, noted_token, WorksBeside};
 ghost use Rattle.domain_turns.specs.LookOutcomes.{PastAnswers};
 ghost use Rattle.domain_turns.specs.declared.turned.Turned as turned;
 
 use crate::command::{Attempt, try_command};
 use crate::passing::{LookOutcome, left_after, pass};
 use crate::run::DomainRun;
+use crate::supply::Supply;
 use crate::turned::Turned;
 use finaliser_queues::run_next;
 use heap_model::command::Command;
@@ -94,9 +96,10 @@ fn try_next(heap: &Heap, run: &mut DomainRun, command: &Command) -> Option<Want>
     }
 }
 
-// Ends the trace of a run that has no command left.
+// Ends the trace of a run that has no command left, and gets none.
 fn end_trace(heap: &Heap, run: &mut DomainRun)
     requires here { IsIn run.old.token heap.now }
+    requires shut { run.old.supply ≢ Supply.Open }
     requires running { run.old.ended ≡ false }
     requires left { run.old.left ≡ None }
     requires unqueued { IsUnqueued run.old.token }
@@ -230,22 +233,43 @@ fn rest(heap: &Heap, run: &mut DomainRun) -> Turned
     }
 }
 
+// The turn of a run that has no command left, where no pause is wanted: its trace ends, unless more
+// commands may come.
+fn run_out(heap: &Heap, run: &mut DomainRun) -> Turned
+    requires here { IsIn run.old.token heap.now }
+    requires running { run.old.ended ≡ false }
+    requires left { run.old.left ≡ None }
+    requires unqueued { IsUnqueued run.old.token }
+    requires whole { length run.old.commands ≤ run.old.next }
+    ensures here { IsIn run.new.token heap.now }
+    ensures answer { CalmAnswers heap.now run.old run.new result }
+{
+    if run.supply == Supply::Open {
+        return Turned::Hungry;
+    }
+    end_trace(heap, run);
+    Turned::Did
+}
+
 // The turn of a run whose trace hasn't ended, where no pause is wanted. The finalisers that wait come
 // before its next command, and before the end of its trace.
 #[inline(always)]
-fn step_on(heap: &Heap, run: &mut DomainRun)
+fn step_on(heap: &Heap, run: &mut DomainRun) -> Turned
     requires here { IsIn run.old.token heap.now }
     requires running { run.old.ended ≡ false }
     requires left { run.old.left ≡ None }
     ensures here { IsIn run.new.token heap.now }
-    ensures did { CalmDid heap.now run.old run.new }
+    ensures answer { CalmAnswers heap.now run.old run.new result }
 {
     if runs_finaliser(heap, run) {
-        return;
+        return Turned::Did;
     }
     match run.commands.get(run.next).copied() {
-        Some(command) => attempt(heap, run, &command),
-        None => end_trace(heap, run),
+        Some(command) => {
+            attempt(heap, run, &command);
+            Turned::Did
+        }
+        None => run_out(heap, run),
     }
 }
 
@@ -260,8 +284,7 @@ fn go_on(heap: &Heap, run: &mut DomainRun) -> Turned
     if run.ended {
         return rest(heap, run);
     }
-    step_on(heap, run);
-    Turned::Did
+    step_on(heap, run)
 }
 
 // The turn of a running domain.
@@ -383,6 +406,9 @@ fn turn_on(heap: &Heap, run: &mut DomainRun) -> Turned
 /// frees the garbage there, or no own pool is left to be swept. From one collection to the next it looks
 /// at each place once.
 ///
+/// Of an open run the trace doesn't end: where all commands that were handed in are done the turn answers
+/// `Hungry`, and changes nothing.
+///
 /// A `full_major` is answered in the pause, as the collection is, and after all finalisers that waited
 /// when the domain's last `full_major` was answered. A domain that runs again after a pause
 /// has an empty minor area, remembers no field, and holds no address of a minor area.
@@ -394,6 +420,7 @@ pub fn turn(heap: &Heap, run: &mut DomainRun) -> Turned
     ensures answer { TurnAnswers heap.now run.old run.new result }
     ensures exact { (other : turned.Turned) → TurnAnswers heap.now run.old run.new other → other ≡ result }
     ensures goes_on { GoesOn run.old run.new }
+    ensures stretch { Stretches (sizes_in heap.now.config) run.old run.new }
     ensures ended { result ≡ Turned.Ended → run.new.ended ≡ true }
 {
     turn_on(heap, run)

@@ -1,4 +1,4 @@
-use Rattle.std.proofs.Common.{ℕ, IfOk, inl, inr, subst}
+use Rattle.std.proofs.Common.{IfOk, inr, subst}
 use Rattle.heap_model.specs.declared.command.Command.{Command}
 use Rattle.heap_model.specs.declared.reply.Reply.TheVariants.{Block}
 use Rattle.heap_rule.specs.Running.{Did}

@@ -1,4 +1,5 @@
-use Rattle.std.proofs.Common.{◌≡◌, ◌≤◌, length, None, sym, subst}
+use Rattle.std.proofs.Common.{◌≡◌, ◌≢◌, ◌≤◌, length, None, sym, subst}
+use Rattle.domain_turns.specs.declared.supply.Supply.TheVariants.{Open}
 use Rattle.domain_turns.specs.Runs.{RunView}
 use Rattle.domain_turns.proofs.Turning.{ended_is_run}
 use Rattle.domain_turns.proofs.turns.end_trace.Goals as goal
@@ -7,4 +8,5 @@ pub invariant_of-run : goal.invariant_of-run
 invariant_of-run c =
     let whole = subst (λ (x : RunView). length x.commands ≤ x.next) (sym c.run.view_is) c.requires.whole in
     let left = subst (λ (x : RunView). x.left ≡ None) (sym c.run.view_is) c.requires.left in
-    (ended_is_run _ _ _ c.run.invariant.0 left whole c.end.ensures, c.run.invariant.1)
+    let shut = subst (λ (x : RunView). x.supply ≢ Open) (sym c.run.view_is) c.requires.shut in
+    (ended_is_run _ _ _ c.run.invariant.0 shut left whole c.end.ensures, c.run.invariant.1)

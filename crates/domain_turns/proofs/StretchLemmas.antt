@@ -1,0 +1,260 @@
+-- How a domain's front grows in a turn.
+use Rattle.std.proofs.Common.{◌≡◌, ◌∙◌, ℕ, ◌+◌, Bool, true, false, List, [], ◌∷◌, ◌++◌, refl, sym, ap, subst, ⊎_elim, slice_get, Some, None}
+use Rattle.heap_model.specs.declared.command.Command as model
+use Rattle.heap_model.specs.declared.command.Command.TheVariants.{FullMajor, Poll}
+use Rattle.heap_model.specs.declared.entry.Entry.{Entry}
+use Rattle.heap_model.specs.declared.entry.Entry.TheVariants.{Command as CommandOf, End, Ran as RanOf}
+use Rattle.heap_model.specs.declared.reply.Reply.{Reply}
+use Rattle.heap_model.specs.declared.reply.Applied.{Applied}
+use Rattle.heap_model.specs.declared.reply.Applied.TheVariants.{Replied, Silent}
+use Rattle.heap_model.specs.declared.state.Sizes.{Sizes}
+use Rattle.heap_model.specs.Domains.{opening}
+use Rattle.heap_model.specs.Entries.{reply as reply_to}
+use Rattle.heap_model.specs.Fronts.{Answers, IsFrontOf}
+use Rattle.heap_model.specs.History.{state_after}
+use Rattle.heap_model.proofs.Histories.FrontLemmas.{front_trans, front_whole}
+use Rattle.heap_rule.specs.declared.config.Config.{Config}
+use Rattle.heap_rule.specs.declared.view.DomainView.{DomainView}
+use Rattle.heap_rule.specs.declared.view.Hunt.TheVariants.{Rests as AtRest}
+use Rattle.heap_rule.specs.Limits.{sizes_in}
+use Rattle.heap_rule.specs.Token.{SharedHeap, IsIn}
+use Rattle.finaliser_queues.specs.Running.{reply_of}
+use Rattle.size_pools.proofs.Seeking.{sought_view}
+use Rattle.domain_turns.specs.declared.turned.Turned.{Turned}
+use Rattle.domain_turns.specs.declared.turned.Turned.TheVariants.{Did, Waiting, Hungry, Idle}
+use Rattle.domain_turns.specs.declared.turned.Turned.TheVariants.{Ended as Over}
+use Rattle.domain_turns.specs.Runs.{RunView, Appended, CalmDid, EndsTrace, GoesBy, IsAnswered, MadeNone, Resumes, Rests, RunAnswers, RunsFinaliser, SeesAnswer, Starts, Stops, Stretches, TriesCommand, TurnAnswers, Waits, asking_end, wanting}
+use Rattle.domain_turns.specs.Runs.CalmDid.{Finalises, Wishes, Refuses, Tries, Works, Ends}
+use Rattle.domain_turns.specs.Runs.Stretches.{ByOthers, ByCommand, ByFinaliser, ByEnd}
+use Rattle.domain_turns.proofs.LeavingLemmas.{passes_leaves}
+use Rattle.domain_turns.proofs.Turning.{stood}
+use Rattle.domain_turns.proofs.Working.{works_keeps}
+
+-- an entry behind a front that had grown by entries of others alone
+pub appended_after : (z : Sizes) (d : ℕ) (old mid new : List Entry) (e : Entry) (r : Applied) → IsFrontOf d mid old → Appended z d mid new e r → Appended z d old new e r
+appended_after z d old mid new e r f a =
+    let before : List Entry = mid ++ a.between in
+    let g : IsFrontOf d before old = front_trans d before mid old (record { rest = a.between; appends = refl; others = a.others }) f in record {
+      between = g.rest;
+      others = g.others;
+      appends = a.appends ∙ ap (λ (l : List Entry). l ++ e ∷ []) g.appends;
+      legal = a.legal;
+      replies = subst (λ (l : List Entry). reply_to (state_after (opening z) l) e ≡ r) g.appends a.replies;
+    }
+
+appended : (z : Sizes) (d : ℕ) (old mid new : List Entry) (e : Entry) (r : Applied) → IsFrontOf d mid old → Answers z d mid new e r → Appended z d old new e r
+appended z d old mid new e r f a = appended_after z d old mid new e r f (record { between = a.between; others = a.others; appends = a.appends; legal = a.legal; replies = a.replies })
+
+-- where a part of a turn starts: the same run, whose front has grown by entries of others alone
+record StartsFrom (h : SharedHeap) (old start : RunView) : Type 0 where
+  commands : start.commands ≡ old.commands
+  supply : start.supply ≡ old.supply
+  next : start.next ≡ old.next
+  replies : start.replies ≡ old.replies
+  ended : start.ended ≡ old.ended
+  number : start.token.view.own.number ≡ old.token.view.own.number
+  config : start.token.config ≡ h.config
+  front : IsFrontOf old.token.view.own.number start.token.view.seen.front old.token.view.seen.front
+
+-- what a run that is made of another has of it
+record Keeps (made new : RunView) : Type 0 where
+  next : new.next ≡ made.next
+  replies : new.replies ≡ made.replies
+  ended : new.ended ≡ made.ended
+  front : new.token.view.seen.front ≡ made.token.view.seen.front
+
+keeps_all : (r : RunView) → Keeps r r
+keeps_all r = record { next = refl; replies = refl; ended = refl; front = refl }
+
+asking_keeps : (spent : Bool) (made : RunView) → Keeps made (asking_end spent made)
+asking_keeps false made = keeps_all made
+asking_keeps true made = record { next = refl; replies = refl; ended = refl; front = refl }
+
+same_front : (d : ℕ) (front : List Entry) → IsFrontOf d front front
+same_front d front = front_whole d front
+
+still : (h : SharedHeap) (old start new : RunView) → StartsFrom h old start → Keeps start new → MadeNone old new
+still h old start new s k = record {
+  next = k.next ∙ s.next;
+  replies = k.replies ∙ s.replies;
+  ended = k.ended ∙ s.ended;
+  front = subst (λ (f : List Entry). IsFrontOf old.token.view.own.number f old.token.view.seen.front) (sym k.front) s.front;
+}
+
+-- the entry of a command that was tried
+tried : (h : SharedHeap) (old start made new : RunView) (c : model.Command) → StartsFrom h old start → TriesCommand h start.token start made c → Keeps made new → Stretches (sizes_in h.config) old new
+tried h old start made new c s t k =
+    let st = stood h start.token made.token c start.collected t.reply t.tried.stands in
+    let here : Answers (sizes_in h.config) old.token.view.own.number start.token.view.seen.front new.token.view.seen.front (CommandOf old.token.view.own.number c st.0) (Replied t.reply) =
+    subst (λ (w : Config × (ℕ × List Entry)). Answers (sizes_in w.0) w.1.0 start.token.view.seen.front w.1.1 (CommandOf w.1.0 c st.0) (Replied t.reply)) (λ i. (s.config i, (s.number i, sym k.front i))) st.1 in
+    ByCommand (record {
+      command = c;
+      full = st.0;
+      reply = t.reply;
+      here = subst (λ (w : List model.Command × ℕ). slice_get w.0 w.1 ≡ Some c) (λ i. (s.commands i, s.next i)) t.next;
+      next = k.next ∙ (ap (λ (r : RunView). r.next) t.run ∙ ap (λ (n : ℕ). n + 1) s.next);
+      replies = k.replies ∙ (ap (λ (r : RunView). r.replies) t.run ∙ ap (λ (rs : List Reply). rs ++ t.reply ∷ []) s.replies);
+      ended = k.ended ∙ (ap (λ (r : RunView). r.ended) t.run ∙ s.ended);
+      front = appended (sizes_in h.config) old.token.view.own.number old.token.view.seen.front start.token.view.seen.front new.token.view.seen.front (CommandOf old.token.view.own.number c st.0) (Replied t.reply) s.front here;
+    })
+
+ran : (h : SharedHeap) (old start new : RunView) → StartsFrom h old start → RunsFinaliser h start.token start new → Stretches (sizes_in h.config) old new
+ran h old start new s f =
+    let here : Answers (sizes_in h.config) old.token.view.own.number start.token.view.seen.front new.token.view.seen.front (RanOf old.token.view.own.number) (Replied (reply_of f.ran)) =
+    subst (λ (d : ℕ). Answers (sizes_in h.config) d start.token.view.seen.front new.token.view.seen.front (RanOf d) (Replied (reply_of f.ran))) s.number f.first.answers in
+    ByFinaliser (record {
+      reply = reply_of f.ran;
+      next = ap (λ (r : RunView). r.next) f.run ∙ s.next;
+      replies = ap (λ (r : RunView). r.replies) f.run ∙ ap (λ (rs : List Reply). rs ++ reply_of f.ran ∷ []) s.replies;
+      ended = ap (λ (r : RunView). r.ended) f.run ∙ s.ended;
+      front = appended (sizes_in h.config) old.token.view.own.number old.token.view.seen.front start.token.view.seen.front new.token.view.seen.front (RanOf old.token.view.own.number) (Replied (reply_of f.ran)) s.front here;
+    })
+
+ended : (h : SharedHeap) (old start new : RunView) → StartsFrom h old start → EndsTrace h start.token start new → Stretches (sizes_in h.config) old new
+ended h old start new s t =
+    let here : Answers (sizes_in h.config) old.token.view.own.number start.token.view.seen.front new.token.view.seen.front (End old.token.view.own.number) Silent =
+    subst (λ (w : Config × ℕ). Answers (sizes_in w.0) w.1 start.token.view.seen.front new.token.view.seen.front (End w.1) Silent) (λ i. (s.config i, s.number i)) t.ended.answers in
+    ByEnd (record {
+      shut = λ more. t.shut (s.supply ∙ more);
+      next = ap (λ (r : RunView). r.next) t.run ∙ s.next;
+      replies = ap (λ (r : RunView). r.replies) t.run ∙ s.replies;
+      ended = ap (λ (r : RunView). r.ended) t.run;
+      front = appended (sizes_in h.config) old.token.view.own.number old.token.view.seen.front start.token.view.seen.front new.token.view.seen.front (End old.token.view.own.number) Silent s.front here;
+    })
+
+calm : (h : SharedHeap) (old start new : RunView) → StartsFrom h old start → CalmDid h start new → Stretches (sizes_in h.config) old new
+calm h old start new s (Finalises f) = ran h old start new s f
+calm h old start new s (Wishes a) = ByOthers (still h old start new s (record {
+  next = ap (λ (r : RunView). r.next) a.run;
+  replies = ap (λ (r : RunView). r.replies) a.run;
+  ended = ap (λ (r : RunView). r.ended) a.run;
+  front = ap (λ (r : RunView). r.token.view.seen.front) a.run;
+}))
+calm h old start new s (Refuses a) = ByOthers (still h old start new s (record {
+  next = ap (λ (r : RunView). r.next) a.run;
+  replies = ap (λ (r : RunView). r.replies) a.run;
+  ended = ap (λ (r : RunView). r.ended) a.run;
+  front = ap (λ (r : RunView). r.token.view.seen.front) a.run ∙ ap (λ (x : DomainView). x.seen.front) (sought_view h.config start.token.view a.searched.view AtRest a.refused.view);
+}))
+calm h old start new s (Tries c other t) = tried h old start new new c s t (keeps_all new)
+calm h old start new s (Works p) =
+    let kept = works_keeps h start p.worked p.spent p.works in
+    let worked : StartsFrom h old p.worked = record {
+      commands = kept.commands ∙ s.commands;
+      supply = kept.supply ∙ s.supply;
+      next = kept.next ∙ s.next;
+      replies = kept.replies ∙ s.replies;
+      ended = kept.ended ∙ s.ended;
+      number = kept.number ∙ s.number;
+      config = kept.config;
+      front = subst (λ (f : List Entry). IsFrontOf old.token.view.own.number f old.token.view.seen.front) (sym kept.front) s.front;
+    } in
+    tried h old p.worked p.made new Poll worked p.tried (subst (Keeps p.made) (sym p.run) (asking_keeps p.spent p.made))
+calm h old start new s (Ends t) = ended h old start new s t
+
+rests : (h : SharedHeap) (old start new : RunView) (n : ℕ) → StartsFrom h old start → Rests start new n → Stretches (sizes_in h.config) old new
+rests h old start new n s r = ByOthers (still h old start new s (record {
+  next = ap (λ (x : RunView). x.next) r.run;
+  replies = ap (λ (x : RunView). x.replies) r.run;
+  ended = ap (λ (x : RunView). x.ended) r.run;
+  front = ap (λ (x : RunView). x.token.view.seen.front) r.run;
+}))
+
+-- who has found a want word has what it had before
+wanted : (h : SharedHeap) (old start : RunView) (w : ℕ) → StartsFrom h old start → StartsFrom h old (wanting start w)
+wanted h old start w s = record { commands = s.commands; supply = s.supply; next = s.next; replies = s.replies; ended = s.ended; number = s.number; config = s.config; front = s.front }
+
+running : (h : SharedHeap) (old start new : RunView) (a : Turned) → StartsFrom h old start → RunAnswers h start new a → Stretches (sizes_in h.config) old new
+running h old start new Did s says = ⊎_elim
+    (λ (t : Stops start new). ByOthers (still h old start new s (record {
+      next = ap (λ (r : RunView). r.next) t.run;
+      replies = ap (λ (r : RunView). r.replies) t.run;
+      ended = ap (λ (r : RunView). r.ended) t.run;
+      front = ap (λ (r : RunView). r.token.view.seen.front) t.run;
+    })))
+    (λ (c : CalmDid h (wanting start 0) new). calm h old (wanting start 0) new (wanted h old start 0 s) c) says
+running h old start new (Waiting b) s says = absurd says
+running h old start new Hungry s says = ByOthers (still h old start new s (record {
+  next = ap (λ (r : RunView). r.next) says.run;
+  replies = ap (λ (r : RunView). r.replies) says.run;
+  ended = ap (λ (r : RunView). r.ended) says.run;
+  front = ap (λ (r : RunView). r.token.view.seen.front) says.run;
+}))
+running h old start new (Idle n) s says = rests h old (wanting start 0) new n (wanted h old start 0 s) says.0
+running h old start new Over s says = rests h old (wanting start 0) new h.config.domains (wanted h old start 0 s) says
+
+-- a turn starts with the run as it was, or once a look has found that the domain runs again
+starts : (h : SharedHeap) (old start : RunView) → IsIn old.token h → Starts h old start → StartsFrom h old start
+starts h old start here = ⊎_elim
+    (λ (t : (old.left ≡ None) × (start ≡ old)). subst (StartsFrom h old) (sym t.1) (record { commands = refl; supply = refl; next = refl; replies = refl; ended = refl; number = refl; config = here.1; front = same_front old.token.view.own.number old.token.view.seen.front }))
+    (λ (t : Resumes h old start). record {
+      commands = ap (λ (r : RunView). r.commands) t.run;
+      supply = ap (λ (r : RunView). r.supply) t.run;
+      next = ap (λ (r : RunView). r.next) t.run;
+      replies = ap (λ (r : RunView). r.replies) t.run;
+      ended = ap (λ (r : RunView). r.ended) t.run;
+      number = ap (λ (x : DomainView). x.own.number) t.passed.view;
+      config = ap (λ (r : RunView). r.token.config) t.run ∙ here.1;
+      front = t.passed.seen;
+    })
+
+gone : (h : SharedHeap) (old new : RunView) → GoesBy h old new → Stretches (sizes_in h.config) old new
+gone h old new g = ByOthers (record {
+  next = ap (λ (r : RunView). r.next) g.run;
+  replies = ap (λ (r : RunView). r.replies) g.run;
+  ended = ap (λ (r : RunView). r.ended) g.run;
+  front = (passes_leaves h.config old.token.view new.token.view g.last g.kind g.passes).front;
+})
+
+answered : (h : SharedHeap) (old new : RunView) → IsAnswered h old new → Stretches (sizes_in h.config) old new
+answered h old new s =
+    let a = s.answers in
+    let d : ℕ = old.token.view.own.number in
+    let front : new.token.view.seen.front ≡ a.front = ap (λ (x : DomainView). x.seen.front) a.view in
+    let here : Answers (sizes_in h.config) d a.begun.seen.front new.token.view.seen.front (CommandOf d FullMajor false) (Replied s.reply) =
+    subst (λ (f : List Entry). Answers (sizes_in h.config) d a.begun.seen.front f (CommandOf d FullMajor false) (Replied s.reply)) (sym front) a.answers in
+    ByCommand (record {
+      command = FullMajor;
+      full = false;
+      reply = s.reply;
+      here = s.waited.next;
+      next = ap (λ (r : RunView). r.next) s.run;
+      replies = ap (λ (r : RunView). r.replies) s.run;
+      ended = ap (λ (r : RunView). r.ended) s.run;
+      front = appended (sizes_in h.config) d old.token.view.seen.front a.begun.seen.front new.token.view.seen.front (CommandOf d FullMajor false) (Replied s.reply) a.comes.passed.seen here;
+    })
+
+seen : (h : SharedHeap) (old new : RunView) → SeesAnswer h old new → Stretches (sizes_in h.config) old new
+seen h old new s =
+    let g = s.gives in
+    let number : g.begun.own.number ≡ old.token.view.own.number = ap (λ (x : DomainView). x.own.number) g.comes.passed.view in
+    let later : IsFrontOf old.token.view.own.number new.token.view.seen.front g.begun.seen.front = subst (λ (d : ℕ). IsFrontOf d new.token.view.seen.front g.begun.seen.front) number g.seen in
+    ByOthers (record {
+      next = ap (λ (r : RunView). r.next) s.run;
+      replies = ap (λ (r : RunView). r.replies) s.run;
+      ended = ap (λ (r : RunView). r.ended) s.run;
+      front = front_trans old.token.view.own.number new.token.view.seen.front g.begun.seen.front old.token.view.seen.front later g.comes.passed.seen;
+    })
+
+waits : (h : SharedHeap) (old new : RunView) (b : ℕ) → Waits h old new b → Stretches (sizes_in h.config) old new
+waits h old new b w = ByOthers (record {
+  next = ap (λ (r : RunView). r.next) w.run;
+  replies = ap (λ (r : RunView). r.replies) w.run;
+  ended = ap (λ (r : RunView). r.ended) w.run;
+  front = subst (λ (f : List Entry). IsFrontOf old.token.view.own.number f old.token.view.seen.front) (sym (ap (λ (r : RunView). r.token.view.seen.front) w.run)) (same_front old.token.view.own.number old.token.view.seen.front);
+})
+
+-- by what a turn did
+pub turn_stretches : (h : SharedHeap) (old new : RunView) (a : Turned) → IsIn old.token h → TurnAnswers h old new a → Stretches (sizes_in h.config) old new
+turn_stretches h old new Did here says = ⊎_elim
+    (λ (g : GoesBy h old new). gone h old new g)
+    (⊎_elim
+    (λ (a : IsAnswered h old new). answered h old new a)
+    (⊎_elim
+    (λ (s : SeesAnswer h old new). seen h old new s)
+    (λ (t : (start : RunView) × Starts h old start × RunAnswers h start new Did). running h old t.0 new Did (starts h old t.0 here t.1) t.2)))
+    says
+turn_stretches h old new (Waiting b) here w = waits h old new b w
+turn_stretches h old new Hungry here t = running h old t.0 new Hungry (starts h old t.0 here t.1) t.2
+turn_stretches h old new (Idle n) here t = running h old t.0 new (Idle n) (starts h old t.0 here t.1) t.2
+turn_stretches h old new Over here t = running h old t.0 new Over (starts h old t.0 here t.1) t.2

@@ -1,0 +1,97 @@
+-- What is true of a run however its commands come, and of an open run that gets the next one.
+use Rattle.std.proofs.Common.{◌≡◌, ◌≢◌, ◌∙◌, ℕ, zero, suc, ◌+◌, ◌≤◌, ◌<◌, ◌^◌, true, false, List, [], ◌∷◌, ◌++◌, append-nil, append_assoc, drop, slice_get, Some, None, refl, sym, ap, subst, add-one, arith}
+use Rattle.heap_model.specs.declared.command.Command as model
+use Rattle.heap_model.specs.declared.command.Command.TheVariants.{Alloc, AllocMaj, Ephe, Raw}
+use Rattle.domain_turns.specs.declared.supply.Supply.{Supply}
+use Rattle.domain_turns.specs.declared.supply.Supply.TheVariants.{Listed, Open, Closed}
+use Rattle.heap_model.specs.declared.reply.Reply.{Reply}
+use Rattle.heap_model.specs.History.{commands, replies}
+use Rattle.heap_rule.specs.Limits.{sizes_in}
+use Rattle.steps_finalisers.specs.Registering.{count_of}
+use Rattle.domain_turns.specs.Tries.{FitsHeap, labels_of, registrations_of}
+use Rattle.domain_turns.specs.Runs.{RunView, AllFit, EndsIn, HasLabels, IsRun, MaySubmit, labels_in, registrations_in}
+
+pub ends_on : {A : Type 0} (s : Supply) (whole last more : List A) → EndsIn s whole last → EndsIn s (whole ++ more) (last ++ more)
+ends_on Listed whole last more is = ap (λ l. l ++ more) is
+ends_on Open whole last more is = (is.0, ap (λ l. l ++ more) is.1 ∙ append_assoc is.0 last more)
+ends_on Closed whole last more is = (is.0, ap (λ l. l ++ more) is.1 ∙ append_assoc is.0 last more)
+
+pub ends_as : {A : Type 0} (s : Supply) (old new last : List A) → new ≡ old → EndsIn s old last → EndsIn s new last
+ends_as s old new last same is = subst (λ l. EndsIn s l last) (sym same) is
+
+one_label : (c : model.Command) → labels_of c ≤ 1
+one_label (Alloc dst tag fields) = omega arith
+one_label (Raw dst tag fields) = omega arith
+one_label (AllocMaj dst tag fields) = omega arith
+one_label (Ephe dst keys) = omega arith
+one_label c = omega arith
+
+drop_labels : (cs : List model.Command) (n : ℕ) (c : model.Command) → slice_get cs n ≡ Some c → labels_in (drop n cs) ≡ labels_of c + labels_in (drop (suc n) cs)
+drop_labels [] n c at = cc
+drop_labels (x ∷ xs) zero c at = let is : x ≡ c = cc in ap (λ (y : model.Command). labels_of y + labels_in xs) is
+drop_labels (x ∷ xs) (suc n) c at = drop_labels xs n c at
+
+-- a label is left for the next command
+pub labels_next : (s : Supply) (serial next : ℕ) (cs : List model.Command) (c : model.Command) → slice_get cs next ≡ Some c → next < 200000 → HasLabels s serial next cs → serial + labels_of c < 2 ^ 32
+labels_next Listed serial next cs c at few is = let one = one_label c in omega arith
+labels_next Open serial next cs c at few is = let all = drop_labels cs next c at in let rest : ℕ = labels_in (drop (suc next) cs) in omega arith
+labels_next Closed serial next cs c at few is = let all = drop_labels cs next c at in let rest : ℕ = labels_in (drop (suc next) cs) in omega arith
+
+-- and labels are left for those behind it
+pub labels_after : (s : Supply) (serial later next : ℕ) (cs : List model.Command) (c : model.Command) → slice_get cs next ≡ Some c → later ≤ serial + labels_of c → HasLabels s serial next cs → HasLabels s later (next + 1) cs
+labels_after Listed serial later next cs c at made is = let one = one_label c in omega arith
+labels_after Open serial later next cs c at made is = subst (λ (n : ℕ). later + labels_in (drop n cs) < 2 ^ 32) (sym (add-one next)) (let all = drop_labels cs next c at in let rest : ℕ = labels_in (drop (suc next) cs) in omega arith)
+labels_after Closed serial later next cs c at made is = subst (λ (n : ℕ). later + labels_in (drop n cs) < 2 ^ 32) (sym (add-one next)) (let all = drop_labels cs next c at in let rest : ℕ = labels_in (drop (suc next) cs) in omega arith)
+
+-- where no command of a list registers a finaliser, this one doesn't
+pub registers_none : (cs : List model.Command) (n : ℕ) (c : model.Command) → slice_get cs n ≡ Some c → registrations_in cs ≡ 0 → registrations_of c ≡ 0
+registers_none [] n c at none = cc
+registers_none (x ∷ xs) zero c at none = let is : x ≡ c = cc in subst (λ (y : model.Command). registrations_of y ≡ 0) is (let rest : ℕ = registrations_in xs in omega arith)
+registers_none (x ∷ xs) (suc n) c at none = registers_none xs n c at (let first : ℕ = registrations_of x in omega arith)
+
+fits_one : (c : model.Command) → FitsHeap c → AllFit (c ∷ [])
+fits_one c fits zero d at = let is : c ≡ d = cc in subst FitsHeap is fits
+fits_one c fits (suc i) d at = cc
+
+-- an open run has its next command
+pub submitted_is_run : (r : RunView) (c : model.Command) → IsRun r → MaySubmit r c → IsRun (record r { commands = c ∷ []; next = 0; replies = []; asked = None; collected = false })
+submitted_is_run r c is may =
+    let open_one : r.supply ≢ Listed = λ listed. let clash : Open ≡ Listed = sym may.more ∙ listed in cc in
+    let one = is.one open_one in
+    let none : count_of r.token.view.own.finalisers ≡ 0 = one.none_listed in
+    let registers : registrations_of c ≡ 0 = may.registers_none in
+    let b = is.between in
+    let here : List model.Command = commands r.token.view.seen.front r.token.view.own.number in
+    let said : List Reply = replies (sizes_in r.token.config) r.token.view.seen.front r.token.view.own.number in
+    let never : r.ended ≡ true → ⊥ = λ ended. is.shut ended may.more in
+    record {
+      inside = is.inside;
+      made = subst (λ (s : Supply). EndsIn s here []) (sym may.more) (here, sym (append-nil here));
+      answered = subst (λ (s : Supply). EndsIn s said []) (sym may.more) (said, sym (append-nil said));
+      replied = omega (arith, none, registers);
+      within = omega arith;
+      few = omega arith;
+      fit = fits_one c may.fits;
+      room = let room = may.room in omega arith;
+      enlists = omega (arith, none, registers);
+      idle = is.idle;
+      at_rest = is.at_rest;
+      goes_on = is.goes_on;
+      owes = is.owes;
+      between = record {
+        stands = b.stands;
+        quiet = b.quiet;
+        even = b.even;
+        remembers = b.remembers;
+        emptied = λ none served. cc;
+        has_left = b.has_left;
+        fresh = λ e. cc;
+        knows = b.knows;
+      };
+      labels = subst (λ (s : Supply). HasLabels s r.token.view.own.serial 0 (c ∷ [])) (sym may.more) (let few = may.labels in omega arith);
+      deck = is.deck;
+      done = λ ended. absurd (never ended);
+      over = λ ended. absurd (never ended);
+      shut = is.shut;
+      one = λ _. record { one = omega arith; registers_none = omega (arith, registers); none_listed = none; answered = refl };
+    }

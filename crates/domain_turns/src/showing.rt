@@ -1,0 +1,28 @@
+//! What a register of a run holds.
+ghost use Rattle.std.specs.Prelude.{◌≡◌, ◌<◌};
+ghost use Rattle.heap_model.specs.Commands.{shown};
+ghost use Rattle.heap_model.specs.Domains.{register as register_value};
+ghost use Rattle.heap_rule.specs.Rule.{state_of};
+ghost use Rattle.heap_rule.specs.Token.{IsIn};
+ghost use Rattle.heap_rule.specs.declared.phase.Note.TheVariants as note;
+ghost use Rattle.domain_turns.specs.Runs.{HasLooked};
+
+use crate::run::DomainRun;
+use field_access::shown_register;
+use heap_model::reply::Reply;
+use heap_rule::Heap;
+use safepoint::wants;
+
+/// The reply that shows what a register of the run's domain holds: `int` with an integer, `blk` with the
+/// label of a block, or `none`. The register is below 16. No entry is made: the domain notes the want word,
+/// by whose load it knows that its register holds what it holds in the state, and nothing else changes.
+pub fn show(heap: &Heap, run: &mut DomainRun, r: u8) -> Reply
+    requires here { IsIn run.old.token heap.now }
+    requires few { r < 16 }
+    ensures here { IsIn run.new.token heap.now }
+    ensures looked { HasLooked run.old run.new }
+    ensures reply { result ≡ shown (register_value (state_of heap.now.config run.old.token.view.seen.front) run.old.token.view.own.number r) }
+{
+    wants(heap, &mut run.domain);
+    shown_register(heap, &mut run.domain, r)
+}
