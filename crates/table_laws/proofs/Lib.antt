@@ -21,3 +21,4 @@ pub mod RefusalLemmas
 pub mod SizeLemmas
 pub mod ArrayMakeLemmas
 pub mod OtherLemmas
+pub mod LabelLemmas

@@ -1,5 +1,4 @@
 -- What a call leaves of the tables and weak arrays that it wasn't called on.
-use Rattle.std.proofs.Common.{ℕ, List, [], ◌∷◌, IsTrue}
 use Rattle.heap_model.proofs.Reach.ReachLemmas.{or_right}
 use Rattle.heap_model.specs.Graph.{same_label}
 use Rattle.table_laws.specs.Thinning.{WasOutside}

@@ -54,7 +54,7 @@ module _ (z : Sizes) (limits : IsWithinLimits z) (old new : List Entry) (c : Com
   new_is : new ≡ front ++ CommandOf 0 c p.full ∷ []
   new_is = p.appends
 
-  left_is : state_of z new ≡ next middle (CommandOf 0 c p.full)
+  pub left_is : state_of z new ≡ next middle (CommandOf 0 c p.full)
   left_is = ap (state_of z) new_is ∙ state_after-push (opening z) front _
 
   whole_legal : LegalFrom (opening z) front × LegalFrom middle (CommandOf 0 c p.full ∷ [])
@@ -63,13 +63,13 @@ module _ (z : Sizes) (limits : IsWithinLimits z) (old new : List Entry) (c : Com
   allowed : CommandAllowed middle 0 c p.full
   allowed = whole_legal.1.0
 
-  inside : 0 < length middle.domains
+  pub inside : 0 < length middle.domains
   inside = inside_running middle.domains 0 allowed.running
 
   sixteen : length (domain_at middle 0).registers ≡ 16
   sixteen = (shaped-history z front limits).register_count 0 inside
 
-  kept : KeepsDomain (state_of z old) middle 0
+  pub kept : KeepsDomain (state_of z old) middle 0
   kept = keeps_front (opening z) 0 front old (record { rest = p.between; appends = refl; others = collector_none p.between 0 p.collector })
 
   until_new : (k : Label) → Went z old front k → Went z old new k
