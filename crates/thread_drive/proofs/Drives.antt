@@ -22,6 +22,7 @@ each_driven h old new here all same ended i r at =
       record {
         here = there;
         commands = s.commands;
+        supply = s.supply;
         number = s.number;
         config = there.1 ∙ sym (here i r at).1;
         front = s.front;

@@ -8,6 +8,7 @@ use Rattle.heap_rule.specs.Token.{SharedHeap, IsIn}
 pub record Driven (h : SharedHeap) (old new : RunView) : Type 0 where
   pub here : IsIn new.token h
   pub commands : new.commands ≡ old.commands
+  pub supply : new.supply ≡ old.supply
   pub number : new.token.view.own.number ≡ old.token.view.own.number
   pub config : new.token.config ≡ old.token.config
   pub front : IsPrefix old.token.view.seen.front new.token.view.seen.front
@@ -16,6 +17,7 @@ pub record Driven (h : SharedHeap) (old new : RunView) : Type 0 where
 -- the same domain's run of the same commands, maybe further on: what the domain saw of the history is a front part of what it sees now
 pub record IsSameRun (old new : RunView) : Type 0 where
   pub commands : new.commands ≡ old.commands
+  pub supply : new.supply ≡ old.supply
   pub number : new.token.view.own.number ≡ old.token.view.own.number
   pub front : IsPrefix old.token.view.seen.front new.token.view.seen.front
 

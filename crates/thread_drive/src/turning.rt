@@ -15,7 +15,7 @@ use std::sync::Wait;
 pub(crate) enum Went {
     /// It did something.
     On,
-    /// It waits for others.
+    /// It waits for others, or for its next command.
     Nowhere,
     /// All traces have ended.
     Ended,
@@ -39,7 +39,7 @@ fn reached(turned: Turned) -> Went
 {
     match turned {
         Turned::Did => Went::On,
-        Turned::Waiting(_) | Turned::Idle { .. } => Went::Nowhere,
+        Turned::Waiting(_) | Turned::Hungry | Turned::Idle { .. } => Went::Nowhere,
         Turned::Ended => Went::Ended,
     }
 }
