@@ -1,5 +1,5 @@
 -- In the history of one domain the entries of others are the collector's.
-use Rattle.std.proofs.Common.{◌≡◌, ◌≢◌, ◌∙◌, true≢false, ℕ, zero, suc, ◌+◌, Bool, true, false, List, [], ◌∷◌, ◌++◌, append_assoc, append-nil, length, refl, sym, ap, subst, arith, cc}
+use Rattle.std.proofs.Common.{◌≡◌, ◌≢◌, ◌∙◌, true≢false, ℕ, zero, suc, ◌+◌, Bool, true, false, List, [], ◌∷◌, ◌++◌, append_assoc, append-nil, length, refl, sym, ap, subst, arith}
 use Rattle.std.specs.Prelude.{IsTrue, not, slice_index_or}
 use Rattle.std.specs.List.{list_all}
 use Rattle.heap_model.specs.declared.command.Command as model

@@ -129,6 +129,7 @@ impl Session {
         ensures stops { StopsAfter (sizes_in self.config) self.front result.history }
     {
         let Session { heap, run, room } = self;
+        let _limits = heap.config();
         let mut run = run;
         run.is_faithful();
         run.close();
