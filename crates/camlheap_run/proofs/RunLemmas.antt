@@ -19,7 +19,9 @@ use Rattle.heap_rule.specs.Limits.{sizes_in}
 use Rattle.heap_rule.specs.Opening.{opening_token, opening_tokens}
 use Rattle.heap_rule.specs.Token.{Token, SharedHeap, IsIn}
 use Rattle.heap_rule.specs.Ending.{EndedHeap, AllIn, AllBegin, Begins}
-use Rattle.domain_turns.specs.Runs.{RunView, IsRun, is_end_of}
+use Rattle.domain_turns.specs.declared.supply.Supply.{Supply}
+use Rattle.domain_turns.specs.declared.supply.Supply.TheVariants.{Listed}
+use Rattle.domain_turns.specs.Runs.{RunView, EndsIn, IsRun, is_end_of}
 use Rattle.thread_drive.specs.Driven.{Driven}
 use Rattle.camlheap_run.specs.declared.begin.Begun.{Begun}
 use Rattle.camlheap_run.specs.declared.report.Report.{Report}
@@ -125,20 +127,25 @@ ends_in : (history : List Entry) (t : Token) → Begins history t.view → IsTru
 ends_in history t begins over =
     subst (λ (l : List Entry). IsTrue (list_any (is_end_of t.view.own.number) l)) (sym begins.appends) (any_front (is_end_of t.view.own.number) t.view.seen.front begins.rest over)
 
+-- where all commands were listed nothing came before
+whole_of : {A : Type 0} (s : Supply) (whole last : List A) → s ≡ Listed → EndsIn s whole last → whole ≡ last
+whole_of s whole last listed ends = subst (λ (t : Supply). EndsIn t whole last) listed ends
+
 told : (h : SharedHeap) (k : Config) (script : List (List Command)) (d : ℕ) (old q : RunView) (history : List Entry) → old ≡ opened script (opening_token h.table k d) → Driven h old q → IsRun q → Begins history q.token.view
     → Told (sizes_in k) script history d q
 told h k script d old q history is driven run begins =
     let number : q.token.view.own.number ≡ d = driven.number ∙ ap (λ (r : RunView). r.token.view.own.number) is in
     let config : q.token.config ≡ k = driven.config ∙ ap (λ (r : RunView). r.token.config) is in
+    let listed : q.supply ≡ Listed = driven.supply ∙ ap (λ (r : RunView). r.supply) is in
     let whole : take q.next q.commands ≡ q.commands = ap (λ (m : ℕ). take m q.commands) (run.done driven.ended) ∙ take_all (length q.commands) q.commands (omega arith) in
-    let all : commands history d ≡ q.commands = ap (commands history) (sym number) ∙ commands_of_front history q.token begins ∙ run.made ∙ whole in
+    let all : commands history d ≡ q.commands = ap (commands history) (sym number) ∙ commands_of_front history q.token begins ∙ whole_of q.supply (commands q.token.view.seen.front q.token.view.own.number) (take q.next q.commands) listed run.made ∙ whole in
     record {
       number = number;
       made = all ∙ driven.commands ∙ ap (λ (r : RunView). r.commands) is;
       counted = ap length all ∙ sym (run.done driven.ended);
       ends = subst (λ (m : ℕ). IsTrue (list_any (is_end_of m) history)) number (ends_in history q.token begins (run.over driven.ended));
       answered = ap (λ (m : ℕ). replies (sizes_in k) history m) (sym number) ∙ ap (λ (c : Config). replies (sizes_in c) history q.token.view.own.number) (sym config)
-          ∙ replies_of_front (sizes_in q.token.config) history q.token begins ∙ run.answered;
+          ∙ replies_of_front (sizes_in q.token.config) history q.token begins ∙ whole_of q.supply (replies (sizes_in q.token.config) q.token.view.seen.front q.token.view.own.number) q.replies listed run.answered;
     }
 
 -- each domain has its run, which tells its part of the history

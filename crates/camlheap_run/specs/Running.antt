@@ -11,6 +11,7 @@ use Rattle.heap_rule.specs.Opening.{opening_tokens}
 use Rattle.heap_rule.specs.Token.{Token, SharedHeap, IsIn}
 use Rattle.heap_rule.specs.Ending.{EndedHeap, AllBegin}
 use Rattle.heap_rule.specs.Views.{no_collection}
+use Rattle.domain_turns.specs.declared.supply.Supply.TheVariants.{Listed}
 use Rattle.domain_turns.specs.Runs.{RunView, IsRun, CanBegin}
 use Rattle.mark_slices.specs.Decks.{DeckCounts, uncounted}
 use Rattle.camlheap_run.specs.declared.begin.Begun.{Begun}
@@ -35,7 +36,7 @@ deck_of t = uncounted t.view.own.number t.config.domains
 
 -- the run of its section
 abbrev pub opened : List (List Command) → Token → RunView
-opened script t = record { token = t; commands = section_of script t; next = 0; replies = []; ended = false; left = None; asked = None; collected = false; progress = no_collection; due = 0; hints = deck_of t }
+opened script t = record { token = t; commands = section_of script t; next = 0; replies = []; ended = false; left = None; asked = None; collected = false; progress = no_collection; due = 0; hints = deck_of t; supply = Listed }
 
 -- the domain has a section, and may begin it
 pub record HasSection (script : List (List Command)) (t : Token) : Type 0 where

@@ -1,0 +1,155 @@
+-- A turn of the run of a session.
+use Rattle.std.proofs.Common.{◌≡◌, ◌≢◌, ◌∙◌, ℕ, ◌+◌, ◌<◌, Bool, true, false, List, [], ◌∷◌, ◌++◌, append-nil, length, length-append, slice_get, Some, None, Option, refl, sym, ap, subst, arith}
+use Rattle.std.proofs.lemmas.Option.{slice_get_within}
+use Rattle.heap_model.specs.declared.command.Command as model
+use Rattle.heap_model.specs.declared.entry.Entry.{Entry}
+use Rattle.heap_model.specs.declared.entry.Entry.TheVariants.{Command, End}
+use Rattle.heap_model.specs.declared.reply.Reply.{Reply}
+use Rattle.heap_model.specs.declared.reply.Applied.TheVariants.{Replied, Silent}
+use Rattle.heap_model.specs.declared.state.Sizes.{Sizes}
+use Rattle.heap_model.specs.Domains.{IsWithinLimits}
+use Rattle.heap_model.specs.Fronts.{IsFrontOf}
+use Rattle.heap_model.proofs.Histories.FrontLemmas.{front_trans, front_whole}
+use Rattle.heap_rule.specs.Limits.{sizes_in}
+use Rattle.heap_rule.specs.Token.{SharedHeap, IsIn}
+use Rattle.domain_turns.specs.declared.supply.Supply.{Supply}
+use Rattle.domain_turns.specs.declared.supply.Supply.TheVariants.{Listed, Open, Closed}
+use Rattle.domain_turns.specs.Runs.{RunView, Appended, GoesOn, IsRun, Stretches, answer_of, first_reply}
+use Rattle.domain_turns.specs.Runs.Stretches.{ByOthers, ByCommand, ByFinaliser, ByEnd}
+use Rattle.domain_turns.proofs.StretchLemmas.{appended_after}
+use Rattle.heap_session.specs.Performing.{Performed}
+use Rattle.heap_session.proofs.Collectors.{performs}
+use Rattle.heap_session.specs.Driving.{Answered, AwaitAnswers, Awaits, CloseAnswers, Closes, IsAlone, Over, Rests}
+
+-- no turn at all
+pub still_stretches : (z : Sizes) (r : RunView) → Stretches z r r
+still_stretches z r = ByOthers (record { next = refl; replies = refl; ended = refl; front = front_whole r.token.view.own.number r.token.view.seen.front })
+
+pub still_goes : (r : RunView) → GoesOn r r
+still_goes r = record { commands = refl; supply = refl; number = refl; front = record { rest = []; appends = sym (append-nil r.token.view.seen.front) } }
+
+still_alone : (h : SharedHeap) (old new : RunView) → IsAlone h old → IsIn new.token h → GoesOn old new → IsAlone h new
+still_alone h old new a here g = record { here = here; one = a.one; number = g.number ∙ a.number }
+
+open_handed : (s : Supply) → s ≡ Open → s ≢ Listed
+open_handed s is listed = let clash : Open ≡ Listed = sym is ∙ listed in cc
+
+closed_handed : (s : Supply) → s ≡ Closed → s ≢ Listed
+closed_handed s is listed = let clash : Closed ≡ Listed = sym is ∙ listed in cc
+
+-- a turn of a run that has a command to make
+pub awaits_turn : (h : SharedHeap) (front : List Entry) (c : model.Command) (old new : RunView) → Awaits h front c old → IsIn new.token h → Stretches (sizes_in h.config) old new → GoesOn old new → IsRun new → AwaitAnswers h front c new (answer_of new)
+awaits_turn h front c old new a here s g is = by s
+  where
+    alone : IsAlone h new
+    alone = still_alone h old new a.alone here g
+
+    more : new.supply ≡ Open
+    more = g.supply ∙ a.more
+
+    by : Stretches (sizes_in h.config) old new → AwaitAnswers h front c new (answer_of new)
+    by (ByOthers m) =
+        let replies : new.replies ≡ [] = m.replies ∙ a.replies in
+        let none : answer_of new ≡ None = λ i. first_reply (more i) (replies i) in
+        let later : IsFrontOf 0 new.token.view.seen.front old.token.view.seen.front = subst (λ (d : ℕ). IsFrontOf d new.token.view.seen.front old.token.view.seen.front) a.alone.number m.front in
+        subst (AwaitAnswers h front c new) (sym none) (record {
+          alone = alone;
+          more = more;
+          commands = g.commands ∙ a.commands;
+          next = m.next ∙ a.next;
+          replies = replies;
+          front = front_trans 0 new.token.view.seen.front old.token.view.seen.front front later a.front;
+        })
+    by (ByCommand m) =
+        let replies : new.replies ≡ m.reply ∷ [] = m.replies ∙ ap (λ (rs : List Reply). rs ++ m.reply ∷ []) a.replies in
+        let some : answer_of new ≡ Some m.reply = λ i. first_reply (more i) (replies i) in
+        let at : ◌≡◌ {A = Option model.Command} (Some c) (Some m.command) = subst (λ (w : List model.Command × ℕ). slice_get w.0 w.1 ≡ Some m.command) (λ i. (a.commands i, a.next i)) m.here in
+        let same : m.command ≡ c = cc in
+        let last : Appended (sizes_in h.config) 0 old.token.view.seen.front new.token.view.seen.front (Command 0 c m.full) (Replied m.reply) =
+        subst (λ (w : ℕ × model.Command). Appended (sizes_in h.config) w.0 old.token.view.seen.front new.token.view.seen.front (Command w.0 w.1 m.full) (Replied m.reply)) (λ i. (a.alone.number i, same i)) m.front in
+        subst (AwaitAnswers h front c new) (sym some) (record {
+          alone = alone;
+          more = more;
+          done = m.next ∙ (ap (λ (n : ℕ). n + 1) a.next ∙ sym (ap (λ (cs : List model.Command). length cs) (g.commands ∙ a.commands)));
+          full = m.full;
+          front = appended_after (sizes_in h.config) 0 front old.token.view.seen.front new.token.view.seen.front (Command 0 c m.full) (Replied m.reply) a.front last;
+        })
+    by (ByFinaliser m) =
+        let replies : new.replies ≡ m.reply ∷ [] = m.replies ∙ ap (λ (rs : List Reply). rs ++ m.reply ∷ []) a.replies in
+        let count : length new.replies ≡ 1 = ap (λ (rs : List Reply). length rs) replies in
+        let kept : length new.replies ≡ new.next = (is.one (open_handed new.supply more)).answered in
+        let next : new.next ≡ 0 = m.next ∙ a.next in
+        absurd (omega (arith, count, kept, next))
+    by (ByEnd m) = absurd (m.shut a.more)
+
+-- a turn of one that gets no more
+pub closes_turn : (h : SharedHeap) (front : List Entry) (old new : RunView) → Closes h front old → IsIn new.token h → Stretches (sizes_in h.config) old new → GoesOn old new → IsRun new → CloseAnswers h front new new.ended
+closes_turn h front old new a here s g is = by s
+  where
+    alone : IsAlone h new
+    alone = still_alone h old new a.alone here g
+
+    closed : new.supply ≡ Closed
+    closed = g.supply ∙ a.closed
+
+    by : Stretches (sizes_in h.config) old new → CloseAnswers h front new new.ended
+    by (ByOthers m) =
+        let running : new.ended ≡ false = m.ended ∙ a.running in
+        let later : IsFrontOf 0 new.token.view.seen.front old.token.view.seen.front = subst (λ (d : ℕ). IsFrontOf d new.token.view.seen.front old.token.view.seen.front) a.alone.number m.front in
+        subst (CloseAnswers h front new) (sym running) (record {
+          alone = alone;
+          closed = closed;
+          done = m.next ∙ (a.done ∙ sym (ap (λ (cs : List model.Command). length cs) g.commands));
+          running = running;
+          answered = ap (λ (rs : List Reply). length rs) m.replies ∙ (a.answered ∙ sym m.next);
+          front = front_trans 0 new.token.view.seen.front old.token.view.seen.front front later a.front;
+        })
+    by (ByCommand m) = absurd (let below : old.next < length old.commands = slice_get_within old.commands old.next m.command m.here in let done : old.next ≡ length old.commands = a.done in omega (arith, below, done))
+    by (ByFinaliser m) =
+        let count : length new.replies ≡ length old.replies + 1 = ap (λ (rs : List Reply). length rs) m.replies ∙ length-append old.replies (m.reply ∷ []) in
+        let kept : length new.replies ≡ new.next = (is.one (closed_handed new.supply closed)).answered in
+        let next : new.next ≡ old.next = m.next in
+        let before : length old.replies ≡ old.next = a.answered in
+        absurd (omega (arith, count, kept, next, before))
+    by (ByEnd m) =
+        let last : Appended (sizes_in h.config) 0 old.token.view.seen.front new.token.view.seen.front (End 0) Silent =
+        subst (λ (d : ℕ). Appended (sizes_in h.config) d old.token.view.seen.front new.token.view.seen.front (End d) Silent) a.alone.number m.front in
+        subst (CloseAnswers h front new) (sym m.ended) (record {
+          alone = alone;
+          ended = m.ended;
+          front = appended_after (sizes_in h.config) 0 front old.token.view.seen.front new.token.view.seen.front (End 0) Silent a.front last;
+        })
+
+-- a run that rests and gets a command has it to make
+pub submitted : (h : SharedHeap) (r new : RunView) (c : model.Command) → Rests h r → new ≡ record r { commands = c ∷ []; next = 0; replies = []; asked = None; collected = false } → Awaits h r.token.view.seen.front c new
+submitted h r new c rests is = subst (λ (x : RunView). Awaits h r.token.view.seen.front c x) (sym is) (record {
+  alone = record { here = rests.alone.here; one = rests.alone.one; number = rests.alone.number };
+  more = rests.more;
+  commands = refl;
+  next = refl;
+  replies = refl;
+  front = front_whole 0 r.token.view.seen.front;
+})
+
+-- once it has made it, it rests again
+pub rests_again : (h : SharedHeap) (front : List Entry) (c : model.Command) (reply : Reply) (r : RunView) → Answered h front c reply r → Rests h r
+rests_again h front c reply r a = record { alone = a.alone; more = a.more; done = a.done; legal = a.front.legal }
+
+-- and its command was performed
+pub performed : (h : SharedHeap) (start : List Entry) (c : model.Command) (reply : Reply) (r : RunView) → IsWithinLimits (sizes_in h.config) → Answered h start c reply r → Performed (sizes_in h.config) start r.token.view.seen.front c reply
+performed h start c reply r limits a = performs (sizes_in h.config) start r.token.view.seen.front c a.full reply limits a.alone.one a.front
+
+-- a run that rests and gets no more is about to end
+pub closed : (h : SharedHeap) (r new : RunView) → Rests h r → IsRun r → new ≡ record r { supply = Closed } → Closes h r.token.view.seen.front new
+closed h r new rests is same = subst (λ (x : RunView). Closes h r.token.view.seen.front x) (sym same) (record {
+  alone = record { here = rests.alone.here; one = rests.alone.one; number = rests.alone.number };
+  closed = refl;
+  done = rests.done;
+  running = by r.ended refl;
+  answered = (is.one (open_handed r.supply rests.more)).answered;
+  front = front_whole 0 r.token.view.seen.front;
+})
+  where
+    by : (b : Bool) → r.ended ≡ b → r.ended ≡ false
+    by false e = e
+    by true e = absurd (is.shut e rests.more)

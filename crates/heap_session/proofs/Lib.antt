@@ -1,0 +1,3 @@
+pub mod Collectors
+pub mod Driven
+pub mod Refused

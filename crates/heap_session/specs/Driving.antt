@@ -1,0 +1,68 @@
+-- The run of a session, between two turns.
+use Rattle.std.specs.Prelude.{◌≡◌, ℕ, Bool, true, false, List, [], ◌∷◌, length, Option, Some, None}
+use Rattle.heap_model.specs.declared.command.Command as model
+use Rattle.heap_model.specs.declared.entry.Entry.{Entry}
+use Rattle.heap_model.specs.declared.entry.Entry.TheVariants.{Command, End}
+use Rattle.heap_model.specs.declared.reply.Reply.{Reply}
+use Rattle.heap_model.specs.declared.reply.Applied.TheVariants.{Replied, Silent}
+use Rattle.heap_model.specs.Fronts.{IsFrontOf}
+use Rattle.heap_model.specs.History.{Legal}
+use Rattle.heap_rule.specs.Limits.{sizes_in}
+use Rattle.heap_rule.specs.Token.{SharedHeap, IsIn}
+use Rattle.domain_turns.specs.declared.supply.Supply.TheVariants.{Open, Closed}
+use Rattle.domain_turns.specs.Runs.{RunView, Appended}
+
+-- the run of the one domain of a heap
+pub record IsAlone (h : SharedHeap) (r : RunView) : Type 0 where
+  pub here : IsIn r.token h
+  pub one : h.config.domains ≡ 1
+  pub number : r.token.view.own.number ≡ 0
+
+-- it waits for its next command
+pub record Rests (h : SharedHeap) (r : RunView) : Type 0 where
+  pub alone : IsAlone h r
+  pub more : r.supply ≡ Open
+  pub done : r.next ≡ length r.commands
+  pub legal : Legal (sizes_in h.config) r.token.view.seen.front
+
+-- it has this command to make, since whose handing in the front has grown by entries of others alone
+pub record Awaits (h : SharedHeap) (start : List Entry) (c : model.Command) (r : RunView) : Type 0 where
+  pub alone : IsAlone h r
+  pub more : r.supply ≡ Open
+  pub commands : r.commands ≡ c ∷ []
+  pub next : r.next ≡ 0
+  pub replies : r.replies ≡ []
+  pub front : IsFrontOf 0 r.token.view.seen.front start
+
+-- it has made it, with this reply
+pub record Answered (h : SharedHeap) (start : List Entry) (c : model.Command) (reply : Reply) (r : RunView) : Type 0 where
+  pub alone : IsAlone h r
+  pub more : r.supply ≡ Open
+  pub done : r.next ≡ length r.commands
+  pub full : Bool
+  pub front : Appended (sizes_in h.config) 0 start r.token.view.seen.front (Command 0 c full) (Replied reply)
+
+-- by the reply, if there is one
+abbrev pub AwaitAnswers : SharedHeap → List Entry → model.Command → RunView → Option Reply → Type 0
+AwaitAnswers h front c r None = Awaits h front c r
+AwaitAnswers h front c r (Some reply) = Answered h front c reply r
+
+-- it gets no more command, and the front has grown by entries of others alone since
+pub record Closes (h : SharedHeap) (start : List Entry) (r : RunView) : Type 0 where
+  pub alone : IsAlone h r
+  pub closed : r.supply ≡ Closed
+  pub done : r.next ≡ length r.commands
+  pub running : r.ended ≡ false
+  pub answered : length r.replies ≡ r.next
+  pub front : IsFrontOf 0 r.token.view.seen.front start
+
+-- its trace has ended
+pub record Over (h : SharedHeap) (start : List Entry) (r : RunView) : Type 0 where
+  pub alone : IsAlone h r
+  pub ended : r.ended ≡ true
+  pub front : Appended (sizes_in h.config) 0 start r.token.view.seen.front (End 0) Silent
+
+-- by whether it has
+abbrev pub CloseAnswers : SharedHeap → List Entry → RunView → Bool → Type 0
+CloseAnswers h front r false = Closes h front r
+CloseAnswers h front r true = Over h front r

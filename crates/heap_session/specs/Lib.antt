@@ -1,0 +1,3 @@
+pub mod Performing
+pub mod Sessions
+pub mod Driving

@@ -1,0 +1,17 @@
+//! A heap of one domain that a program drives from its own thread: it hands in a command, gets the reply, and
+//! chooses the next one by it.
+//!
+//! ```text
+//! let mut session = Session::make(alloc, 4096, 64, 16)?;
+//! session.perform(rt, Command::Alloc { dst: 1, tag: 0, fields: 2 });
+//! let live = session.perform(rt, Command::FullMajor);
+//! let ended = session.stop(rt);
+//! ```
+#![tactic(auto)]
+
+mod closing;
+mod performing;
+mod session;
+mod turning;
+
+pub use session::Session;

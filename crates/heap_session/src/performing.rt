@@ -1,0 +1,37 @@
+//! The turns by which a command is made.
+ghost use Rattle.std.specs.Prelude.{◌≡◌, List};
+ghost use Rattle.heap_model.specs.declared.command.Command as model;
+ghost use Rattle.heap_model.specs.declared.entry.Entry.{Entry};
+ghost use Rattle.heap_rule.specs.Token.{IsIn};
+ghost use Rattle.heap_session.specs.Driving.{Awaits, Answered, AwaitAnswers};
+
+use crate::turning::turn_below;
+use domain_turns::DomainRun;
+use heap_model::reply::Reply;
+use heap_rule::Heap;
+use std::sync::Wait;
+
+// One turn of a run that has a command to make. Answers its reply, once it is made.
+fn await_turn(heap: &Heap, run: &mut DomainRun) -> Option<Reply>
+    requires here { IsIn run.old.token heap.now }
+    ensures here { IsIn run.new.token heap.now }
+    ensures answers { (front : List Entry) (c : model.Command) → Awaits heap.now front c run.old → AwaitAnswers heap.now front c run.new result }
+{
+    turn_below(heap, run);
+    run.is_faithful();
+    run.answer()
+}
+
+// Turns a run that has a command to make until it is made, and answers the reply.
+pub(crate) fn await_answer<R: Wait>(rt: &R, heap: &Heap, run: &mut DomainRun) -> Reply
+    requires here { IsIn run.old.token heap.now }
+    ensures here { IsIn run.new.token heap.now }
+    ensures answered { (front : List Entry) (c : model.Command) → Awaits heap.now front c run.old → Answered heap.now front c result run.new }
+{
+    'turns: for _ in rt.forever() {
+        if let Some(reply) = await_turn(heap, run) {
+            return reply;
+        }
+    }
+    unreachable!()
+}

@@ -1,0 +1,60 @@
+//! A heap that a program drives: each call of a session once, with the replies that the model gives.
+ghost use Rattle.std.specs.Prelude.{◌≡◌};
+ghost use Rattle.domain_turns.specs.Tries.{FitsHeap, registrations_of};
+
+use crate::fixtures::same;
+use heap_model::command::Command;
+use heap_model::label::Label;
+use heap_model::reply::Reply;
+use heap_session::Session;
+use std::sync::Wait;
+use std::test::Fail;
+
+// Makes a command, where there are room and a label for what it makes.
+fn made(rt: &impl Wait, session: &mut Session, command: Command) -> Option<Reply>
+    requires fits { FitsHeap command }
+    requires registers_none { registrations_of command ≡ 0 }
+{
+    if session.ephes_room() < 1 || session.labels_left() < 1 {
+        return None;
+    }
+    Some(session.perform(rt, command))
+}
+
+const fn block(serial: u32) -> Reply {
+    Reply::Block(Label { domain: 0, serial })
+}
+
+#[test]
+fn a_program_drives_a_heap(rt: HostRuntime) -> Result<(), Fail> {
+    let mut session = Session::make(rt.alloc(), 4096, 20, 2)?;
+    let alloc = Command::Alloc {
+        dst: 1,
+        tag: 0,
+        fields: 2,
+    };
+    same(&rt, made(&rt, &mut session, alloc), Some(block(1)));
+    let ephe = Command::Ephe { dst: 3, keys: 1 };
+    same(&rt, made(&rt, &mut session, ephe), Some(block(2)));
+    let set = Command::SetKey {
+        ephe: 3,
+        index: 0,
+        item: 1,
+    };
+    same(&rt, made(&rt, &mut session, set), Some(Reply::Done));
+    same(&rt, session.show(1), block(1));
+    let forget = Command::Forget { dst: 1 };
+    same(&rt, made(&rt, &mut session, forget), Some(Reply::Done));
+    let live = Reply::Live {
+        blocks: 2,
+        words: 22,
+    };
+    let collect = Command::FullMajor;
+    same(&rt, made(&rt, &mut session, collect), Some(live));
+    let check = Command::CheckKey { ephe: 3, index: 0 };
+    same(&rt, made(&rt, &mut session, check), Some(Reply::No));
+    same(&rt, session.labels_left(), u32::MAX - 2);
+    session.is_legal();
+    session.stop(&rt).is_legal();
+    Ok(())
+}
