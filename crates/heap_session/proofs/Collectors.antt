@@ -1,7 +1,6 @@
 -- In the history of one domain the entries of others are the collector's.
-use Rattle.std.proofs.Common.{◌≡◌, ◌≢◌, ◌∙◌, true≢false, ℕ, zero, suc, ◌+◌, Bool, true, false, List, [], ◌∷◌, ◌++◌, append_assoc, append-nil, length, refl, sym, ap, subst, arith}
-use Rattle.std.specs.Prelude.{IsTrue, not, slice_index_or}
-use Rattle.std.specs.List.{list_all}
+use Rattle.std.proofs.Common.{◌≡◌, ◌∙◌, true≢false, ℕ, zero, suc, Bool, true, false, List, [], ◌∷◌, ◌++◌, length, refl, sym, ap, subst, arith}
+use Rattle.std.specs.Prelude.{slice_index_or}
 use Rattle.heap_model.specs.declared.command.Command as model
 use Rattle.heap_model.specs.declared.entry.Entry.{Entry}
 use Rattle.heap_model.specs.declared.entry.Entry.TheVariants.{Command, End, Cut, Queue, Seal, Wipe, Last, Collected, Done, Ran}
@@ -15,7 +14,7 @@ use Rattle.heap_model.specs.Entries.{Allowed, next}
 use Rattle.heap_model.specs.Fronts.{IsFrontOf, NoneOf}
 use Rattle.heap_model.specs.History.{Legal, LegalFrom, is_entry_of, state_after}
 use Rattle.heap_model.proofs.Histories.FrontLemmas.{none_cons}
-use Rattle.heap_model.proofs.Histories.HistoryLemmas.{state_after-append, state_after-push}
+use Rattle.heap_model.proofs.Histories.HistoryLemmas.{state_after-push}
 use Rattle.heap_model.proofs.Histories.ShapeAfterLemmas.{shaped-history}
 use Rattle.heap_rule.proofs.HistorySizes.{sizes_after}
 use Rattle.domain_turns.specs.Runs.{Appended}

@@ -19,7 +19,7 @@ use Rattle.domain_turns.specs.Runs.Stretches.{ByOthers, ByCommand, ByFinaliser, 
 use Rattle.domain_turns.proofs.StretchLemmas.{appended_after}
 use Rattle.heap_session.specs.Performing.{Performed}
 use Rattle.heap_session.proofs.Collectors.{performs}
-use Rattle.heap_session.specs.Driving.{Answered, AwaitAnswers, Awaits, CloseAnswers, Closes, IsAlone, Over, Rests}
+use Rattle.heap_session.specs.Driving.{Answered, AwaitAnswers, Awaits, CloseAnswers, Closes, IsAlone, Rests}
 
 -- no turn at all
 pub still_stretches : (z : Sizes) (r : RunView) → Stretches z r r

@@ -1,6 +1,5 @@
 -- What the clauses of a session refuse.
-use Rattle.std.proofs.Common.{◌≡◌, ◌∙◌, ℕ, Bool, true, false, List, [], ◌∷◌, ◌++◌, append-nil, refl, sym, ap, slice_get, Some, None}
-use Rattle.std.specs.Prelude.{IsTrue}
+use Rattle.std.proofs.Common.{◌≡◌, ◌∙◌, true, false, List, [], ◌∷◌, ◌++◌, append-nil, refl, ap, slice_get, Some, None}
 use Rattle.std.specs.List.{list_all}
 use Rattle.heap_model.specs.declared.command.Command as model
 use Rattle.heap_model.specs.declared.entry.Entry.{Entry}
@@ -9,7 +8,6 @@ use Rattle.heap_model.specs.declared.reply.Reply.{Reply}
 use Rattle.heap_model.specs.declared.state.Sizes.{Sizes}
 use Rattle.heap_model.specs.declared.state.State.{State}
 use Rattle.heap_model.specs.Domains.{opening}
-use Rattle.heap_model.specs.Entries.{reply}
 use Rattle.heap_model.specs.Fronts.{NoneOf}
 use Rattle.heap_model.specs.History.{commands, is_entry_of, replies, replies_from, reply_list, state_after}
 use Rattle.heap_model.proofs.Graphs.GraphLemmas.{and_parts}

@@ -1,5 +1,4 @@
 use Rattle.std.proofs.Common.{subst}
-use Rattle.heap_session.specs.Driving.{Answered}
 use Rattle.heap_session.specs.Performing.{Performed}
 use Rattle.heap_session.specs.Sessions.{SessionView}
 use Rattle.heap_rule.specs.Limits.{sizes_in}
