@@ -38,12 +38,17 @@ script() {
         first = split(before, prepared, "|")
         for (i = 1; i <= first; i++) print prepared[i]
         each = split(again, lines, "|")
+        for (i = 1; i <= each; i++) {
+            modulus[i] = index(lines[i], "k%126") ? 126 : index(lines[i], "k%4") ? 4 : 0
+            counts[i] = substr(lines[i], length(lines[i])) == "k"
+        }
         for (k = 0; k < commands / each; k++) {
             for (i = 1; i <= each; i++) {
                 line = lines[i]
-                sub(/k%126/, k % 126, line)
-                sub(/k%4/, k % 4, line)
-                sub(/k$/, k, line)
+                # A substitution is dear, so none is made where nothing is to be put in.
+                if (modulus[i] == 126) sub(/k%126/, k % 126, line)
+                if (modulus[i] == 4) sub(/k%4/, k % 4, line)
+                if (counts[i]) sub(/k$/, k, line)
                 print line
             }
         }
