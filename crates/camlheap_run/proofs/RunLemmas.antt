@@ -21,7 +21,7 @@ use Rattle.heap_rule.specs.Token.{Token, SharedHeap, IsIn}
 use Rattle.heap_rule.specs.Ending.{EndedHeap, AllIn, AllBegin, Begins}
 use Rattle.domain_turns.specs.declared.supply.Supply.{Supply}
 use Rattle.domain_turns.specs.declared.supply.Supply.TheVariants.{Listed}
-use Rattle.domain_turns.specs.Runs.{RunView, EndsIn, IsRun, is_end_of}
+use Rattle.domain_turns.specs.Runs.{RunView, EndsIn, GoesOn, IsRun, is_end_of}
 use Rattle.thread_drive.specs.Driven.{Driven}
 use Rattle.camlheap_run.specs.declared.begin.Begun.{Begun}
 use Rattle.camlheap_run.specs.declared.report.Report.{Report}
@@ -51,23 +51,15 @@ begins_at history [] i r all at = cc
 begins_at history (q ∷ runs) zero r all at = let is : q ≡ r = cc in subst (λ (x : RunView). Begins history x.token.view) is all.0
 begins_at history (q ∷ runs) (suc i) r all at = begins_at history runs i r all.1 at
 
--- each run that came back is one that was driven
-abbrev pub EachDriven : SharedHeap → List RunView → List RunView → Type 0
-EachDriven h old new = (i : ℕ) (r : RunView) → slice_get old i ≡ Some r → (q : RunView) × (slice_get new i ≡ Some q) × Driven h r q
+-- the runs of a heap, driven to their ends
+abbrev pub AreDriven : SharedHeap → List RunView → List RunView → Type 0
+AreDriven h old new = Driven (λ (x : SharedHeap) (r : RunView). IsIn r.token x) GoesOn (λ (r : RunView). r.ended ≡ true) h old new
 
-driven_from : (h : SharedHeap) (old new : List RunView) → length new ≡ length old → EachDriven h old new → (i : ℕ) (q : RunView) → slice_get new i ≡ Some q → (r : RunView) × Driven h r q
-driven_from h old new long each i q at =
-    let within : i < length new = slice_get_within new i q at in
-    let was : slice_get old i ≡ Some (get_or old i q) = slice_get-get_or old i q (omega arith) in
-    let d = each i (get_or old i q) was in
-    let is : d.0 ≡ q = let both : ◌≡◌ {A = Option RunView} (Some d.0) (Some q) = sym d.1 ∙ at in cc in
-    (get_or old i q, subst (λ (x : RunView). Driven h (get_or old i q) x) is d.2)
+pub all_here : (h : SharedHeap) (old new : List RunView) → AreDriven h old new → AllByRecursion (IsHere h) new
+all_here h old new driven = all_from_each (IsHere h) new driven.here
 
-pub all_here : (h : SharedHeap) (old new : List RunView) → length new ≡ length old → EachDriven h old new → AllByRecursion (IsHere h) new
-all_here h old new long each = all_from_each (IsHere h) new (λ i q at. (driven_from h old new long each i q at).1.here)
-
-pub all_over : (h : SharedHeap) (old new : List RunView) → length new ≡ length old → EachDriven h old new → AllByRecursion IsOver new
-all_over h old new long each = all_from_each IsOver new (λ i q at. (driven_from h old new long each i q at).1.ended)
+pub all_over : (h : SharedHeap) (old new : List RunView) → AreDriven h old new → AllByRecursion IsOver new
+all_over h old new driven = all_from_each IsOver new driven.over
 
 -- runs that have begun are the heap's
 pub begun_here : (k : Config) (script : List (List Command)) (b : Begun) → IsBegun k script b → (i : ℕ) (r : RunView) → slice_get b.runs.items i ≡ Some r → IsIn r.token b.heap
@@ -88,8 +80,7 @@ length-begun k script b begun = ap length begun.runs ∙ length-opened b.heap k 
 pub record Ran (z : Sizes) (k : Config) (script : List (List Command)) (b : Begun) (new : List RunView) (past : EndedHeap) : Type 0 where
   pub sizes : sizes_in k ≡ z
   pub begun : IsBegun k script b
-  pub long : length new ≡ length b.runs.items
-  pub each : EachDriven b.heap b.runs.items new
+  pub driven : AreDriven b.heap b.runs.items new
   pub ended : IsPastOf b.heap new past
 
 -- one domain's part of the history: that of its run
@@ -131,19 +122,19 @@ ends_in history t begins over =
 whole_of : {A : Type 0} (s : Supply) (whole last : List A) → s ≡ Listed → EndsIn s whole last → whole ≡ last
 whole_of s whole last listed ends = subst (λ (t : Supply). EndsIn t whole last) listed ends
 
-told : (h : SharedHeap) (k : Config) (script : List (List Command)) (d : ℕ) (old q : RunView) (history : List Entry) → old ≡ opened script (opening_token h.table k d) → Driven h old q → IsRun q → Begins history q.token.view
-    → Told (sizes_in k) script history d q
-told h k script d old q history is driven run begins =
-    let number : q.token.view.own.number ≡ d = driven.number ∙ ap (λ (r : RunView). r.token.view.own.number) is in
-    let config : q.token.config ≡ k = driven.config ∙ ap (λ (r : RunView). r.token.config) is in
-    let listed : q.supply ≡ Listed = driven.supply ∙ ap (λ (r : RunView). r.supply) is in
-    let whole : take q.next q.commands ≡ q.commands = ap (λ (m : ℕ). take m q.commands) (run.done driven.ended) ∙ take_all (length q.commands) q.commands (omega arith) in
+told : (h : SharedHeap) (k : Config) (script : List (List Command)) (d : ℕ) (old q : RunView) (history : List Entry) → old ≡ opened script (opening_token h.table k d) → h.config ≡ k → IsIn q.token h → GoesOn old q → q.ended ≡ true → IsRun q
+    → Begins history q.token.view → Told (sizes_in k) script history d q
+told h k script d old q history is sized here goes ended run begins =
+    let number : q.token.view.own.number ≡ d = goes.number ∙ ap (λ (r : RunView). r.token.view.own.number) is in
+    let config : q.token.config ≡ k = here.1 ∙ sized in
+    let listed : q.supply ≡ Listed = goes.supply ∙ ap (λ (r : RunView). r.supply) is in
+    let whole : take q.next q.commands ≡ q.commands = ap (λ (m : ℕ). take m q.commands) (run.done ended) ∙ take_all (length q.commands) q.commands (omega arith) in
     let all : commands history d ≡ q.commands = ap (commands history) (sym number) ∙ commands_of_front history q.token begins ∙ whole_of q.supply (commands q.token.view.seen.front q.token.view.own.number) (take q.next q.commands) listed run.made ∙ whole in
     record {
       number = number;
-      made = all ∙ driven.commands ∙ ap (λ (r : RunView). r.commands) is;
-      counted = ap length all ∙ sym (run.done driven.ended);
-      ends = subst (λ (m : ℕ). IsTrue (list_any (is_end_of m) history)) number (ends_in history q.token begins (run.over driven.ended));
+      made = all ∙ goes.commands ∙ ap (λ (r : RunView). r.commands) is;
+      counted = ap length all ∙ sym (run.done ended);
+      ends = subst (λ (m : ℕ). IsTrue (list_any (is_end_of m) history)) number (ends_in history q.token begins (run.over ended));
       answered = ap (λ (m : ℕ). replies (sizes_in k) history m) (sym number) ∙ ap (λ (c : Config). replies (sizes_in c) history q.token.view.own.number) (sym config)
           ∙ replies_of_front (sizes_in q.token.config) history q.token begins ∙ whole_of q.supply (replies (sizes_in q.token.config) q.token.view.seen.front q.token.view.own.number) q.replies listed run.answered;
     }
@@ -154,9 +145,15 @@ each_told : (z : Sizes) (k : Config) (script : List (List Command)) (b : Begun) 
 each_told z k script b new past ran d below =
     let first : RunView = opened script (opening_token b.heap.table k (0 + d)) in
     let was : slice_get b.runs.items d ≡ Some first = ap (λ (l : List RunView). slice_get l d) ran.begun.runs ∙ opened_at b.heap k script 0 k.domains d below in
-    let found = ran.each d first was in
-    let same : first ≡ opened script (opening_token b.heap.table k d) = let at : 0 + d ≡ d = omega arith in ap (λ (m : ℕ). opened script (opening_token b.heap.table k m)) at in
-    (found.0, found.1, told b.heap k script d first found.0 past.history same found.2 (each_from_all IsRun new d found.0 ran.ended.faithful found.1) (begins_at past.history new d found.0 ran.ended.fronts found.1))
+    let within : d < length new = subst (λ (n : ℕ). d < n) (sym ran.driven.count) (slice_get_within b.runs.items d first was) in
+    let q : RunView = get_or new d first in
+    let at : slice_get new d ≡ Some q = slice_get-get_or new d first within in
+    let same : first ≡ opened script (opening_token b.heap.table k d) = let is : 0 + d ≡ d = omega arith in ap (λ (m : ℕ). opened script (opening_token b.heap.table k m)) is in (
+      q,
+      at,
+      told b.heap k script d first q past.history same ran.begun.config (ran.driven.here d q at) (ran.driven.further d first q was at) (ran.driven.over d q at)
+          (each_from_all IsRun new d q ran.ended.faithful at) (begins_at past.history new d q ran.ended.fronts at),
+    )
 
 sizes_are : (z : Sizes) (k : Config) (script : List (List Command)) (b : Begun) (new : List RunView) (past : EndedHeap) → Ran z k script b new past → past.sizes ≡ sizes_in k
 sizes_are z k script b new past ran = ran.ended.sizes ∙ ap sizes_in ran.begun.config
@@ -205,7 +202,7 @@ text_told Summary z script history d q t =
 -- the report of the history are the texts of the runs
 prints : (report : Report) (z : Sizes) (k : Config) (script : List (List Command)) (b : Begun) (new : List RunView) (past : EndedHeap) → Ran z k script b new past → text_of report (sizes_in k) past.history ≡ flat_map (run_text report) new
 prints report z k script b new past ran =
-    let many : length new ≡ k.domains = ran.long ∙ length-begun k script b ran.begun in
+    let many : length new ≡ k.domains = ran.driven.count ∙ length-begun k script b ran.begun in
     by_domains report (sizes_in k) past.history ∙ texts (domain_text report (sizes_in k) past.history) (run_text report) new 0 k.domains many (λ i q at.
     let below : i < length new = slice_get_within new i q at in
     let t = each_told z k script b new past ran i (omega arith) in

@@ -2,3 +2,4 @@ pub mod Tries
 pub mod Runs
 pub mod LookOutcomes
 pub mod Pausing
+pub mod Driving

@@ -8,6 +8,7 @@
 #![tactic(auto)]
 
 mod command;
+mod driving;
 mod passing;
 mod run;
 mod showing;

@@ -2,3 +2,4 @@ pub mod CommandLemmas
 pub mod PlaceLemmas
 pub mod SoundLemmas
 pub mod ModeLemmas
+pub mod RoundLemmas

@@ -145,7 +145,7 @@ fn grow_once(
     add_labels(live, &edges)
 }
 
-// The labels reachable from the roots.
+// The labels reachable from the roots. A round that adds nothing is the last that could.
 pub(crate) fn reachable_from(
     alloc: Global,
     graph: &Sequence<(Label, Node)>,
@@ -156,7 +156,11 @@ pub(crate) fn reachable_from(
     let mut live = Vec::new(alloc);
     add_labels(&mut live, roots)?;
     for _i in 0..graph.items.len() {
+        let before = live.len();
         grow_once(alloc, graph, &mut live)?;
+        if live.len() == before {
+            return Ok(live);
+        }
     }
     Ok(live)
 }

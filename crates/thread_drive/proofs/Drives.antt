@@ -1,31 +1,23 @@
--- The runs before and after, at their places.
-use Rattle.std.proofs.Common.{◌≡◌, ◌∙◌, ◌<◌, ℕ, List, length, get_or, Some, sym, subst}
+-- The traces before and after, at their places.
+use Rattle.std.proofs.Common.{◌≡◌, ℕ, List, get_or, Some, subst}
 use Rattle.std.specs.Prelude.{slice_get, slice_index_or}
 use Rattle.std.proofs.lemmas.Option.{slice_get-get_or, slice_get_within, get_or_from_slice_get}
-use Rattle.domain_turns.specs.Runs.{RunView}
-use Rattle.heap_rule.specs.Token.{SharedHeap, IsIn}
-use Rattle.thread_drive.specs.Driven.{Driven, IsSameRun, IsSameRuns, AllHere, AllEnded}
+use Rattle.thread_drive.specs.Driven.{AllAre, AllFollow, Driven}
 
-pub all_here : (h : SharedHeap) (runs : List RunView) → ((i : ℕ) (r : RunView) → slice_get runs i ≡ Some r → IsIn r.token h) → AllHere h runs
-all_here h runs each k d few = each k (slice_index_or runs k d) (slice_get-get_or runs k d few)
+pub all_are : {T : Type 0} (is : T → Type 0) (traces : List T) → ((i : ℕ) (t : T) → slice_get traces i ≡ Some t → is t) → AllAre is traces
+all_are is traces each k d few = each k (slice_index_or traces k d) (slice_get-get_or traces k d few)
 
-pub each_driven : (h : SharedHeap) (old new : List RunView) → ((i : ℕ) (r : RunView) → slice_get old i ≡ Some r → IsIn r.token h) → AllHere h new → IsSameRuns old new → AllEnded new
-    → (i : ℕ) (r : RunView) → slice_get old i ≡ Some r → (q : RunView) × (slice_get new i ≡ Some q) × Driven h r q
-each_driven h old new here all same ended i r at =
-    let below : i < length old = slice_get_within old i r at in
-    let within : i < length new = subst (λ (n : ℕ). i < n) (sym same.0) below in
-    let q : RunView = get_or new i r in
-    let s : IsSameRun r q = subst (λ (x : RunView). IsSameRun x q) (get_or_from_slice_get old i r r at) (same.1 i r below) in
-    let there : IsIn q.token h = all i r within in (
-      q,
-      slice_get-get_or new i r within,
-      record {
-        here = there;
-        commands = s.commands;
-        supply = s.supply;
-        number = s.number;
-        config = there.1 ∙ sym (here i r at).1;
-        front = s.front;
-        ended = ended i r within;
-      },
-    )
+-- what holds at each place holds of what is found there
+found : {T : Type 0} (is : T → Type 0) (traces : List T) → AllAre is traces → (i : ℕ) (q : T) → slice_get traces i ≡ Some q → is q
+found {T} is traces all i q at = subst (λ (x : T). is x) (get_or_from_slice_get traces i q q at) (all i q (slice_get_within traces i q at))
+
+pub driven : {S T : Type 0} (shares : S → T → Type 0) (follows : T → T → Type 0) (is_over : T → Type 0) (shared : S) (old new : List T)
+    → AllAre (shares shared) new → AllFollow follows old new → AllAre is_over new → Driven shares follows is_over shared old new
+driven {S} {T} shares follows is_over shared old new here all over = record {
+  count = all.0;
+  here = found (shares shared) new here;
+  further = λ i r q from to.
+      subst (λ (x : T). follows x q) (get_or_from_slice_get old i r r from)
+          (subst (λ (x : T). follows (get_or old i r) x) (get_or_from_slice_get new i q r to) (all.1 i r (slice_get_within old i r from)));
+  over = found is_over new over;
+}

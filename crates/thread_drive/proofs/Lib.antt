@@ -1,3 +1,3 @@
 pub mod PutBack
-pub mod SameRuns
+pub mod Places
 pub mod Drives

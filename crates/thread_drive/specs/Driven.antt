@@ -1,34 +1,17 @@
--- What driving does to the runs of a heap.
-use Rattle.std.specs.Prelude.{◌≡◌, ◌<◌, ℕ, true, List, length, slice_index_or}
-use Rattle.heap_model.specs.History.{IsPrefix}
-use Rattle.domain_turns.specs.Runs.{RunView}
-use Rattle.heap_rule.specs.Token.{SharedHeap, IsIn}
+-- What driving does to traces that share something.
+use Rattle.std.specs.Prelude.{◌≡◌, ◌<◌, ℕ, List, length, slice_get, slice_index_or, Some}
 
--- driven to its end: the same domain's run of the same commands, and its trace has ended
-pub record Driven (h : SharedHeap) (old new : RunView) : Type 0 where
-  pub here : IsIn new.token h
-  pub commands : new.commands ≡ old.commands
-  pub supply : new.supply ≡ old.supply
-  pub number : new.token.view.own.number ≡ old.token.view.own.number
-  pub config : new.token.config ≡ old.token.config
-  pub front : IsPrefix old.token.view.seen.front new.token.view.seen.front
-  pub ended : new.ended ≡ true
+-- the same traces, in the same order, each maybe further on
+abbrev pub AllFollow : {T : Type 0} → (T → T → Type 0) → List T → List T → Type 0
+AllFollow follows old new = (length new ≡ length old) × ((k : ℕ) (d : _) → k < length old → follows (slice_index_or old k d) (slice_index_or new k d))
 
--- the same domain's run of the same commands, maybe further on: what the domain saw of the history is a front part of what it sees now
-pub record IsSameRun (old new : RunView) : Type 0 where
-  pub commands : new.commands ≡ old.commands
-  pub supply : new.supply ≡ old.supply
-  pub number : new.token.view.own.number ≡ old.token.view.own.number
-  pub front : IsPrefix old.token.view.seen.front new.token.view.seen.front
+-- this holds of each
+abbrev pub AllAre : {T : Type 0} → (T → Type 0) → List T → Type 0
+AllAre is traces = (k : ℕ) (d : _) → k < length traces → is (slice_index_or traces k d)
 
--- the same runs, in the same order
-abbrev pub IsSameRuns : List RunView → List RunView → Type 0
-IsSameRuns old new = (length new ≡ length old) × ((k : ℕ) (d : RunView) → k < length old → IsSameRun (slice_index_or old k d) (slice_index_or new k d))
-
--- each run is one of the heap's
-abbrev pub AllHere : SharedHeap → List RunView → Type 0
-AllHere h runs = (k : ℕ) (d : RunView) → k < length runs → IsIn (slice_index_or runs k d).token h
-
--- each trace has ended
-abbrev pub AllEnded : List RunView → Type 0
-AllEnded runs = (k : ℕ) (d : RunView) → k < length runs → (slice_index_or runs k d).ended ≡ true
+-- driven to their ends: each trace is at its place, is one of those that share this, follows the one that was there, and is over
+pub record Driven {S T : Type 0} (shares : S → T → Type 0) (follows : T → T → Type 0) (is_over : T → Type 0) (shared : S) (old new : List T) : Type 0 where
+  pub count : length new ≡ length old
+  pub here : (i : ℕ) (q : T) → slice_get new i ≡ Some q → shares shared q
+  pub further : (i : ℕ) (r q : T) → slice_get old i ≡ Some r → slice_get new i ≡ Some q → follows r q
+  pub over : (i : ℕ) (q : T) → slice_get new i ≡ Some q → is_over q

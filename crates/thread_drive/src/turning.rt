@@ -1,121 +1,71 @@
-//! The turns of one run, with the gate around each command.
-ghost use Rattle.std.specs.Prelude.{◌≡◌, true};
-ghost use Rattle.heap_rule.specs.Token.{IsIn};
-ghost use Rattle.thread_drive.specs.Driven.{IsSameRun};
+//! The turns of one trace, with the gate around each command.
+ghost use Rattle.std.specs.Prelude.{◌≡◌};
 
+use crate::trace::{Trace, Went};
 use crate::waiting::Waiter;
 use crossbeam_utils::sync::EventCount;
-use domain_turns::{DomainRun, Turned, turn};
-use heap_rule::Heap;
 use outer_io::Gate;
 use std::sync::Wait;
 
-/// How far a turn came.
-#[derive(Clone, Copy, Debug, PartialEq, Eq)]
-pub(crate) enum Went {
-    /// It did something.
-    On,
-    /// It waits for others, or for its next command.
-    Nowhere,
-    /// All traces have ended.
-    Ended,
-}
-
-// A domain that has arrived so often isn't turned any more.
-const MOST_ARRIVALS: u64 = 1 << 60;
-
-// The index of a run's next command, as a gate is told it.
-#[inline(always)]
-fn next_index(run: &DomainRun) -> u32
-    ensures { result ≡ run.now.next }
-{
-    run.is_faithful();
-    run.next() as u32
-}
-
-// How far a turn with this answer came.
-fn reached(turned: Turned) -> Went
-    ensures { result ≡ Went.Ended → turned ≡ Turned.Ended }
-{
-    match turned {
-        Turned::Did => Went::On,
-        Turned::Waiting(_) | Turned::Hungry | Turned::Idle { .. } => Went::Nowhere,
-        Turned::Ended => Went::Ended,
-    }
-}
-
-// One turn, where the domain may still arrive.
-#[inline(always)]
-fn turn_below(heap: &Heap, run: &mut DomainRun) -> Went
-    requires { IsIn run.old.token heap.now }
-    ensures here { IsIn run.new.token heap.now }
-    ensures same { IsSameRun run.old run.new }
-    ensures ended { result ≡ Went.Ended → run.new.ended ≡ true }
-{
-    if run.domain().arrivals() >= MOST_ARRIVALS {
-        return Went::Nowhere;
-    }
-    reached(turn(heap, run))
-}
-
 // Tells the gate of the next command, if one is left that it wasn't told of: it was told of those before `told`.
 #[inline(always)]
-fn tell_before<G: Gate>(gate: &G, told: &mut u32, run: &DomainRun) {
-    let at = next_index(run);
-    if run.has_next() && *told <= at {
+fn tell_before<S, T: Trace<S>, G: Gate>(shared: &S, gate: &G, told: &mut u32, trace: &T)
+    requires { T.shares shared.now trace.now }
+{
+    let at = trace.next_index();
+    if trace.has_next() && *told <= at {
         *told = at.saturating_add(1);
-        gate.before(run.domain().number(), at);
+        gate.before(trace.number(shared), at);
     }
 }
 
-// One turn, with the gate around the command, if one is left. Where it went on without a command the
-// domain arrived, asked for a pause, ran a finaliser or ended its trace, and others that wait may go on
-// too.
+// One turn, with the gate around the command, if one is left. Where it went on without a command others that
+// wait may go on too: it may have come to a pause, asked for one, or ended.
 #[inline(always)]
-pub(crate) fn turn_once<G: Gate>(
-    heap: &Heap,
+pub(crate) fn turn_once<S, T: Trace<S>, G: Gate>(
+    shared: &S,
     gate: &G,
     events: &EventCount,
     told: &mut u32,
-    run: &mut DomainRun,
+    trace: &mut T,
 ) -> Went
-    requires { IsIn run.old.token heap.now }
-    ensures here { IsIn run.new.token heap.now }
-    ensures same { IsSameRun run.old run.new }
-    ensures ended { result ≡ Went.Ended → run.new.ended ≡ true }
+    requires { T.shares shared.now trace.old }
+    ensures here { T.shares shared.now trace.new }
+    ensures follows { T.follows trace.old trace.new }
+    ensures over { result ≡ Went.Ended → T.is_over trace.new }
 {
-    let at = next_index(run);
-    tell_before(gate, told, run);
-    let went = turn_below(heap, run);
-    if next_index(run) != at {
-        gate.after(run.domain().number(), at);
+    let at = trace.next_index();
+    tell_before(shared, gate, told, trace);
+    let went = trace.turn(shared);
+    if trace.next_index() != at {
+        gate.after(trace.number(shared), at);
     } else if went == Went::On {
         events.notify_all();
     }
     went
 }
 
-// Turns a run until all traces have ended.
-pub(crate) fn turn_to_end<R: Wait, G: Gate>(
+// Turns a trace until it has ended.
+pub(crate) fn turn_to_end<S, T: Trace<S>, R: Wait, G: Gate>(
     rt: &R,
-    heap: &Heap,
+    shared: &S,
     gate: &G,
     events: &EventCount,
-    mut run: DomainRun,
-) -> DomainRun
-    requires { IsIn run.token heap.now }
-    ensures here { IsIn result.token heap.now }
-    ensures same { IsSameRun run result }
-    ensures ended { result.ended ≡ true }
+    mut trace: T,
+) -> T
+    requires { T.shares shared.now trace }
+    ensures here { T.shares shared.now result }
+    ensures follows { T.follows trace result }
+    ensures over { T.is_over result }
 {
     let mut waiter = Waiter::new(events);
     let mut told = 0;
     'turns: for _ in rt.forever() {
         let announced = waiter.announced();
-        match turn_once(heap, gate, events, &mut told, &mut run) {
+        match turn_once(shared, gate, events, &mut told, &mut trace) {
             Went::On => waiter.went_on(),
             Went::Nowhere => waiter.wait(rt, announced),
-            Went::Ended => return run,
+            Went::Ended => return trace,
         }
     }
     unreachable!()

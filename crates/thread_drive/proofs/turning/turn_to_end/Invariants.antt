@@ -1,6 +1,4 @@
-use Rattle.heap_rule.specs.Token.{IsIn}
-use Rattle.thread_drive.specs.Driven.{IsSameRun}
 use Rattle.thread_drive.proofs.turning.turn_to_end.Given as goal
 
 abbrev pub invariant-turns : goal.invariant-turns
-invariant-turns g l = IsSameRun l.initial.run l.run × IsIn l.run.token l.heap
+invariant-turns g l = g.T.Trace.follows l.initial.trace l.trace × g.T.Trace.shares l.shared l.trace

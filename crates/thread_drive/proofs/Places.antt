@@ -1,26 +1,6 @@
--- A turn, by what it did.
-use Rattle.std.proofs.Common.{◌≡◌, ◌≢◌, ◌<◌, ◌∙◌, ℕ, zero, suc, List, [], ◌∷◌, ◌++◌, length, append-nil, append_assoc, refl, sym, ap, arith}
+-- What one of a list is, once another was put at a place.
+use Rattle.std.proofs.Common.{◌≡◌, ◌≢◌, ◌<◌, ℕ, zero, suc, List, [], ◌∷◌, length, refl, ap, arith}
 use Rattle.std.specs.Prelude.{slice_index_or, slice_set}
-use Rattle.heap_model.specs.declared.entry.Entry.{Entry}
-use Rattle.domain_turns.specs.Runs.{RunView, GoesOn}
-use Rattle.thread_drive.specs.Driven.{IsSameRun}
-
-pub same_refl : (r : RunView) → IsSameRun r r
-same_refl r = record { commands = refl; supply = refl; number = refl; front = record { rest = []; appends = sym (append-nil r.token.view.seen.front) } }
-
-pub same_trans : (a b c : RunView) → IsSameRun a b → IsSameRun b c → IsSameRun a c
-same_trans a b c p q = record {
-  commands = q.commands ∙ p.commands;
-  supply = q.supply ∙ p.supply;
-  number = q.number ∙ p.number;
-  front = record {
-    rest = p.front.rest ++ q.front.rest;
-    appends = q.front.appends ∙ (ap (λ (xs : List Entry). xs ++ q.front.rest) p.front.appends ∙ append_assoc a.token.view.seen.front p.front.rest q.front.rest);
-  };
-}
-
-pub goes_same : (a b : RunView) → GoesOn a b → IsSameRun a b
-goes_same a b g = record { commands = g.commands; supply = g.supply; number = g.number; front = g.front }
 
 -- what one of a list is after another was put at one place: that one there, and as before elsewhere
 pub at_set : {A : Type 0} (P : A → Type 0) (xs : List A) (i k : ℕ) (y d : A) → i < length xs → (k ≡ i → P y) → (k ≢ i → P (slice_index_or xs k d)) → P (slice_index_or (slice_set xs i y) k d)

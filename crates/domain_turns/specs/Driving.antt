@@ -1,0 +1,21 @@
+-- A run that goes on is one trace.
+use Rattle.std.specs.Prelude.{◌≡◌, List, [], ◌++◌, refl}
+use Rattle.std.proofs.Common.{◌∙◌, sym, ap, append-nil, append_assoc}
+use Rattle.heap_model.specs.declared.entry.Entry.{Entry}
+use Rattle.domain_turns.specs.Runs.{RunView, GoesOn}
+
+-- a run that wasn't turned
+pub goes_nowhere : (r : RunView) → GoesOn r r
+goes_nowhere r = record { commands = refl; supply = refl; number = refl; front = record { rest = []; appends = sym (append-nil r.token.view.seen.front) } }
+
+-- a run that went on twice
+pub goes_further : (a b c : RunView) → GoesOn a b → GoesOn b c → GoesOn a c
+goes_further a b c p q = record {
+  commands = q.commands ∙ p.commands;
+  supply = q.supply ∙ p.supply;
+  number = q.number ∙ p.number;
+  front = record {
+    rest = p.front.rest ++ q.front.rest;
+    appends = q.front.appends ∙ (ap (λ (xs : List Entry). xs ++ q.front.rest) p.front.appends ∙ append_assoc a.token.view.seen.front p.front.rest q.front.rest);
+  };
+}

@@ -1,0 +1,66 @@
+//! A run as a trace that is turned to its end: those of one heap share it.
+ghost use Rattle.std.specs.Prelude.{◌≡◌, ◌<◌, true, length};
+ghost use Rattle.heap_rule.specs.Token.{IsIn};
+ghost use Rattle.domain_turns.specs.Runs.{GoesOn};
+ghost use Rattle.domain_turns.specs.Driving.{goes_nowhere, goes_further};
+
+use crate::run::DomainRun;
+use crate::turned::Turned;
+use crate::turns::turn;
+use heap_rule::Heap;
+use thread_drive::{Trace, Went};
+
+// A domain that has arrived so often isn't turned any more.
+const MOST_ARRIVALS: u64 = 1 << 60;
+
+// How far a turn with this answer came.
+fn reached(turned: Turned) -> Went
+    ensures { result ≡ Went.Ended → turned ≡ Turned.Ended }
+{
+    match turned {
+        Turned::Did => Went::On,
+        Turned::Waiting(_) | Turned::Hungry | Turned::Idle { .. } => Went::Nowhere,
+        Turned::Ended => Went::Ended,
+    }
+}
+
+/// A domain that has arrived 2^60 times isn't turned any more: its turns come nowhere.
+impl Trace<Heap> for DomainRun {
+    ghost shares = { λ h r. IsIn r.token h };
+
+    ghost follows = { GoesOn };
+
+    ghost is_over = { λ r. r.ended ≡ true };
+
+    ghost index = { λ r. r.next };
+
+    ghost has_more = { λ r. r.next < length r.commands };
+
+    ghost follows_itself = { goes_nowhere };
+
+    ghost follows_on = { goes_further };
+
+    fn number(&self, shared: &Heap) -> u32 {
+        let _config = shared.config();
+        self.domain.number()
+    }
+
+    #[inline(always)]
+    fn next_index(&self) -> u32 {
+        self.is_faithful();
+        self.next() as u32
+    }
+
+    #[inline(always)]
+    fn has_next(&self) -> bool {
+        DomainRun::has_next(self)
+    }
+
+    #[inline(always)]
+    fn turn(&mut self, shared: &Heap) -> Went {
+        if self.domain().arrivals() >= MOST_ARRIVALS {
+            return Went::Nowhere;
+        }
+        reached(turn(shared, self))
+    }
+}
