@@ -17,19 +17,19 @@ fold_longer [] live = omega arith
 fold_longer (l ∷ ls) live =
     let rest : length (with_label live l) ≤ length (fold with_label (with_label live l) ls) = fold_longer ls (with_label live l) in
     ⊎_elim
-        (λ (same : with_label live l ≡ live). let long : length (with_label live l) ≡ length live = ap length same in omega (arith, rest, long))
-        (λ (more : length (with_label live l) ≡ suc (length live)). omega (arith, rest, more))
-        (with_is live l)
+    (λ (same : with_label live l ≡ live). let long : length (with_label live l) ≡ length live = ap length same in omega (arith, rest, long))
+    (λ (more : length (with_label live l) ≡ suc (length live)). omega (arith, rest, more))
+    (with_is live l)
 
 fold_stays : (ls live : List Label) → length (fold with_label live ls) ≡ length live → fold with_label live ls ≡ live
 fold_stays [] live few = refl
 fold_stays (l ∷ ls) live few =
     let rest : length (with_label live l) ≤ length (fold with_label (with_label live l) ls) = fold_longer ls (with_label live l) in
     ⊎_elim
-        (λ (same : with_label live l ≡ live). let long : length (with_label live l) ≡ length live = ap length same in
-        fold_stays ls (with_label live l) (few ∙ sym long) ∙ same)
-        (λ (more : length (with_label live l) ≡ suc (length live)). absurd (omega (arith, rest, more, few)))
-        (with_is live l)
+    (λ (same : with_label live l ≡ live). let long : length (with_label live l) ≡ length live = ap length same in
+    fold_stays ls (with_label live l) (few ∙ sym long) ∙ same)
+    (λ (more : length (with_label live l) ≡ suc (length live)). absurd (omega (arith, rest, more, few)))
+    (with_is live l)
 
 -- a round that leaves as many labels as it found adds none
 pub grow_stays : (g : Graph) (live : List Label) → length (grow g live) ≡ length live → grow g live ≡ live

@@ -18,6 +18,6 @@ driven {S} {T} shares follows is_over shared old new here all over = record {
   here = found (shares shared) new here;
   further = λ i r q from to.
       subst (λ (x : T). follows x q) (get_or_from_slice_get old i r r from)
-          (subst (λ (x : T). follows (get_or old i r) x) (get_or_from_slice_get new i q r to) (all.1 i r (slice_get_within old i r from)));
+      (subst (λ (x : T). follows (get_or old i r) x) (get_or_from_slice_get new i q r to) (all.1 i r (slice_get_within old i r from)));
   over = found is_over new over;
 }

@@ -85,14 +85,7 @@ fn ended_trace<S, T: Trace<S>, R: Wait, G: Gate>(
 }
 
 // Starts a thread for a trace, or gives the trace back where the thread is refused.
-fn start<
-    's,
-    E,
-    S: Sync,
-    T: Trace<S> + Send + Drop + 's,
-    R: Threads + Wait + Sync,
-    G: Gate + Sync,
->(
+fn start<'s, E, S: Sync, T: Trace<S> + Send + Drop + 's, R: Threads + Wait + Sync, G: Gate + Sync>(
     scope: &Scope<'s, E>,
     rt: &'s R,
     shared: &'s S,
@@ -232,7 +225,16 @@ pub fn drive<S: Sync, T: Trace<S> + Send + Drop, R: Threads + Wait + Sync, G: Ga
         {
             let mut traces = traces;
             let last = traces.len() - 1;
-            drive_to(scope, rt, shared, gate, told, handed_back, &mut traces, last);
+            drive_to(
+                scope,
+                rt,
+                shared,
+                gate,
+                told,
+                handed_back,
+                &mut traces,
+                last,
+            );
             traces
         },
     )
