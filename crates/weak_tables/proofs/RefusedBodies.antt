@@ -51,7 +51,7 @@ pub no_half_cell_is_left : (z : Sizes) (old new : List Entry) (root : Label) (ch
 no_half_cell_is_left z old new root chains other x table = layout_law (graph_of z new) root other chains table x.reads.table
 
 -- the bindings without a key have all others
-other_stays : (k j : Label) (bs : List Binding) → j ≢ k → datum_at (without k bs) j ≡ datum_at bs j
+pub other_stays : (k j : Label) (bs : List Binding) → j ≢ k → datum_at (without k bs) j ≡ datum_at bs j
 other_stays k j [] other = refl
 other_stays k j (b ∷ bs) other = go (same_label b.0 k) refl (other_stays k j bs other)
   where
