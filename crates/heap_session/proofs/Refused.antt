@@ -1,5 +1,5 @@
 -- What the clauses of a session refuse.
-use Rattle.std.proofs.Common.{◌≡◌, ◌∙◌, true, false, List, [], ◌∷◌, ◌++◌, append-nil, refl, ap, slice_get, Some, None}
+use Rattle.std.proofs.Common.{◌≡◌, ◌∙◌, false, List, [], ◌∷◌, ◌++◌, append-nil, ap, slice_get, Some, None}
 use Rattle.heap_model.specs.declared.command.Command as model
 use Rattle.heap_model.specs.declared.entry.Entry.{Entry}
 use Rattle.heap_model.specs.declared.entry.Entry.TheVariants.{Command}
@@ -7,8 +7,8 @@ use Rattle.heap_model.specs.declared.reply.Reply.{Reply}
 use Rattle.heap_model.specs.declared.state.Sizes.{Sizes}
 use Rattle.heap_model.specs.declared.state.State.{State}
 use Rattle.heap_model.specs.Domains.{opening}
-use Rattle.heap_model.specs.History.{commands, replies, replies_from, reply_list, state_after}
-use Rattle.heap_model.proofs.Histories.HistoryLemmas.{commands-append, commands-others, replies_from-append, replies_from-others}
+use Rattle.heap_model.specs.History.{replies, replies_from, reply_list, state_after}
+use Rattle.heap_model.proofs.Histories.HistoryLemmas.{replies_from-append, replies_from-others}
 use Rattle.domain_turns.specs.Runs.{RunView}
 use Rattle.table_laws.specs.Performing.{Performed}
 use Rattle.table_laws.proofs.StepLemmas.{collector_none}

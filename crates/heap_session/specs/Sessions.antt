@@ -3,8 +3,7 @@ use Rattle.std.specs.Prelude.{◌≡◌, ℕ, ◌+◌, ◌<◌, ◌≤◌, ◌^�
 use Rattle.heap_model.specs.declared.command.Command.{Command}
 use Rattle.heap_model.specs.declared.entry.Entry.{Entry}
 use Rattle.heap_rule.specs.declared.config.Config.{Config}
-use Rattle.command_counts.specs.Counts.{ephemerons_of, labels_of}
-use Rattle.domain_turns.specs.Tries.{FitsHeap, registrations_of}
+use Rattle.domain_turns.specs.Tries.{FitsHeap, ephemerons_of, labels_of, registrations_of}
 
 -- a session: the numbers of its heap, the history so far, how many labels were given out, and how many more ephemerons fit
 pub record SessionView : Type 0 where

@@ -1,5 +1,5 @@
 -- What the clauses of the calls refuse: where a clause holds a wrong outcome doesn't, whatever body met it.
-use Rattle.std.proofs.Common.{◌≡◌, ◌≢◌, ◌⊎◌, inl, inr, ⊎_elim, ℕ, Bool, true, false, cond, IsTrue, List, [], ◌∷◌, ◌++◌, length, Option, Some, None, refl, ap, sym, ◌∙◌, subst, append-nil}
+use Rattle.std.proofs.Common.{◌≡◌, ◌≢◌, ⊎_elim, ℕ, Bool, true, false, cond, IsTrue, List, [], ◌∷◌, ◌++◌, length, Option, Some, None, refl, ap, sym, ◌∙◌, append-nil}
 use Rattle.heap_model.specs.declared.label.Label.{Label}
 use Rattle.heap_model.specs.declared.command.Command.{Command}
 use Rattle.heap_model.specs.declared.entry.Entry.{Entry}
@@ -13,7 +13,7 @@ use Rattle.heap_model.specs.History.{IsPrefix, commands}
 use Rattle.heap_model.proofs.Graphs.GraphLemmas.{same_label-true, same_label-false}
 use Rattle.heap_model.proofs.Histories.HistoryLemmas.{commands-append, commands-push, commands-others}
 use Rattle.table_laws.specs.Structures.{Binding, Cell, bindings, datum_at, without, keys_of, is_bucket_full, IsTable}
-use Rattle.table_laws.specs.Thinning.{AllCollector, WasOutside}
+use Rattle.table_laws.specs.Thinning.{WasOutside}
 use Rattle.table_laws.specs.Performing.{Performed}
 use Rattle.table_laws.specs.Stages.{graph_of}
 use Rattle.table_laws.proofs.BindingLemmas.{thinned_datum}

@@ -1,4 +1,4 @@
-use Rattle.std.proofs.Common.{ℕ, Bool, true, false, sym, subst}
+use Rattle.std.proofs.Common.{ℕ, Bool, subst}
 use Rattle.heap_model.specs.declared.state.Sizes.{Sizes}
 use Rattle.weak_tables.specs.Walks.{CellAnswers, LinksCell}
 use Rattle.weak_tables.proofs.SearchLemmas.{bucket_below}

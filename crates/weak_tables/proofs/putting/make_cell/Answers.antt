@@ -1,9 +1,8 @@
-use Rattle.std.proofs.Common.{◌≡◌, ◌≢◌, true, false, inl, inr, sym, subst, ◌∙◌}
-use Rattle.heap_model.specs.declared.command.Command.TheVariants.{Alloc, Ephe}
+use Rattle.std.proofs.Common.{◌≡◌, ◌≢◌, true, false, inl, sym, subst, ◌∙◌}
+use Rattle.heap_model.specs.declared.command.Command.TheVariants.{Ephe}
 use Rattle.heap_model.specs.declared.reply.Reply.{Reply}
 use Rattle.heap_model.specs.declared.reply.Reply.TheVariants.{Full}
 use Rattle.table_laws.specs.Performing.{Performed}
-use Rattle.weak_tables.specs.Walks.{CellAnswers, MakesCell}
 use Rattle.weak_tables.proofs.TakeLemmas.{at_sizes}
 use Rattle.weak_tables.proofs.PutLemmas.{cell_answers}
 use Rattle.weak_tables.proofs.putting.make_cell.Goals as goal
