@@ -2,7 +2,7 @@
 use Rattle.std.proofs.Common.{◌≡◌, ◌≢◌, ◌⊎◌, inl, inr, ⊎_elim, ℕ, ◌+◌, ◌<◌, ◌≤◌, Bool, true, false, List, [], ◌∷◌, ◌++◌, length, get_or, set, slice_get, Option, Some, None, refl, ap, sym, ◌∙◌, subst, append_assoc}
 use Rattle.heap_model.specs.declared.label.Label.{Label}
 use Rattle.heap_model.specs.declared.command.Command.{Command}
-use Rattle.heap_model.specs.declared.command.Command.TheVariants.{Copy, Forget, Alloc, Load, Store, Ephe as NewEphe, SetKey, UnsetKey, GetKey, CheckKey, SetData, UnsetData, GetData}
+use Rattle.heap_model.specs.declared.command.Command.TheVariants.{Copy, Forget, FullMajor, Alloc, Load, Store, Ephe as NewEphe, SetKey, UnsetKey, GetKey, CheckKey, SetData, UnsetData, GetData}
 use Rattle.heap_model.specs.declared.entry.Entry.{Entry}
 use Rattle.heap_model.specs.declared.entry.Entry.TheVariants.{Command as CommandOf}
 use Rattle.heap_model.specs.declared.reply.Reply.{Reply}
@@ -16,11 +16,11 @@ use Rattle.heap_model.specs.declared.state.Sizes.{Sizes}
 use Rattle.heap_model.specs.declared.state.State.{State}
 use Rattle.heap_model.specs.Graph.{Graph, label_of, same_label, node_at, with_node}
 use Rattle.heap_model.specs.Domains.{IsWithinLimits, domain_at, register, opening}
-use Rattle.heap_model.specs.Commands.{CommandAllowed, FullOnlyWhereAllowed, MayBeFull, is_allocation, shown, key_value, new_plain}
+use Rattle.heap_model.specs.Commands.{CommandAllowed, FullOnlyWhereAllowed, MayBeFull, is_allocation, live_reply, shown, key_value, new_plain}
 use Rattle.heap_model.specs.Entries.{next, reply}
 use Rattle.heap_model.specs.History.{state_after, LegalFrom, Legal}
 use Rattle.heap_model.specs.Fronts.{NoneOf, KeepsDomain}
-use Rattle.heap_model.proofs.Commands.FrameLemmas.{inside_running}
+use Rattle.heap_model.proofs.Commands.FrameLemmas.{inside_running, part_set}
 use Rattle.heap_model.proofs.Commands.LeavesLemmas.{Leaves, new_label, leaves_load, leaves_load_past, leaves_copy, leaves_forget, leaves_store, leaves_store_nothing, leaves_full, leaves_allocation, leaves_alloc}
 use Rattle.heap_model.proofs.Graphs.GraphLemmas.{same_label_refl, node_at-with_node_same, node_at-append_new}
 use Rattle.heap_model.proofs.Histories.NumberLemmas.{next_label_after}
@@ -215,6 +215,15 @@ module _ (z : Sizes) (limits : IsWithinLimits z) (old new : List Entry) (r : Rep
       let leaves = leaves_forget (middle z limits old new c r p) 0 (inside z limits old new c r p) dst in
       let all = reads z limits old new c r p _ _ _ refl leaves in
       (subst (λ (rs : List Value). After z old new [] (set rs dst Nothing)) (kept z limits old new c r p).registers all.0, all.1)
+
+  -- a complete collection, once the collector's entries are made
+  pub full_major_step : Performed z old new FullMajor r → After z old new [] (registers_of z old)
+  full_major_step p =
+      let c = FullMajor in
+      let s = middle z limits old new c r p in
+      let leaves : Leaves s (CommandOf 0 FullMajor false) 0 s.graph (domain_at s 0).registers (domain_at s 0).serial (Replied (live_reply s)) =
+      record { graph_is = refl; registers_are = part_set (λ y. y.registers) s.domains 0 _ refl 0; serial_is = part_set (λ y. y.serial) s.domains 0 _ refl 0; replies = refl } in
+      subst (λ (rs : List Value). After z old new [] rs) (kept z limits old new c r p).registers (reads z limits old new c r p _ _ _ refl leaves).0
 
   pub copy_step : (dst src : ℕ) (v : Value) → register before 0 src ≡ v → Performed z old new (Copy dst src) r → After z old new [] (set (registers_of z old) dst v) × (r ≡ Done)
   copy_step dst src v is p =
