@@ -8,8 +8,6 @@ mod fixtures;
 #[cfg(test)]
 mod scenes;
 #[cfg(test)]
-mod sessions;
-#[cfg(test)]
 mod slices;
 #[cfg(test)]
 mod traces;

@@ -1,6 +1,6 @@
 use Rattle.std.proofs.Common.{arith}
 use Rattle.command_counts.proofs.Few.{one_ephemeron, one_label}
-use Rattle.tests_of_turns.proofs.sessions.made.Goals as goal
+use Rattle.tests_of_sessions.proofs.sessions.made.Goals as goal
 
 pub perform-requires : goal.perform-requires
 perform-requires g c =
