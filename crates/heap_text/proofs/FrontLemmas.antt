@@ -1,9 +1,10 @@
 -- What lies behind the front of a line.
-use Rattle.std.proofs.Common.{◌≡◌, ℕ, ◌+◌, ◌-◌, ◌<◌, ◌≤◌, zero, suc, pos, List, [], ◌∷◌, ◌++◌, map, length, get_or, drop, append_assoc, refl, ap, sym, ◌∙◌, arith, decimal}
-use Rattle.std.proofs.Math.Seq.{drop-nil}
+use Rattle.std.proofs.Common.{◌≡◌, ℕ, ◌+◌, ◌-◌, ◌<◌, ◌≤◌, zero, suc, pos, List, [], ◌∷◌, ◌++◌, map, length, get_or, drop, take, append_assoc, refl, ap, sym, ◌∙◌, arith, decimal}
+use Rattle.std.proofs.Math.Seq.{drop-nil, take-length}
+use Rattle.std.proofs.lemmas.List.{length-drop}
 use Rattle.heap_text.proofs.TextLemmas.{spaced}
 
-drop_on : (a b : ℕ) (xs : List ℕ) → drop (a + b) xs ≡ drop b (drop a xs)
+pub drop_on : (a b : ℕ) (xs : List ℕ) → drop (a + b) xs ≡ drop b (drop a xs)
 drop_on zero b xs =
     let same : 0 + b ≡ b = omega arith in
     ap (λ n. drop n xs) same
@@ -11,6 +12,10 @@ drop_on (suc a) b [] = drop-nil (suc a + b) ∙ sym (drop-nil b)
 drop_on (suc a) b (x ∷ xs) =
     let same : suc a + b ≡ suc (a + b) = omega arith in
     ap (λ n. drop n (x ∷ xs)) same ∙ drop_on a b xs
+
+-- all that stands behind a place
+pub all_behind : (at : ℕ) (xs : List ℕ) → take (length xs - at) (drop at xs) ≡ drop at xs
+all_behind at xs = ap (λ n. take n (drop at xs)) (sym (length-drop at xs)) ∙ take-length (drop at xs)
 
 -- two lines that are the same from a place on are the same from a later place on
 pub same_further : (a b : ℕ) (xs ys : List ℕ) → a ≤ b → drop a xs ≡ drop a ys → drop b xs ≡ drop b ys

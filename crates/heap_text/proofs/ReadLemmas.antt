@@ -1,8 +1,8 @@
 -- What a line that is read, or that isn't taken, says of the whole text.
 use Rattle.heap_text.specs.declared.version.Version.{Version}
 use Rattle.heap_text.specs.declared.version.Version.TheVariants.{One, Two}
-use Rattle.std.proofs.Common.{◌≡◌, ℕ, ◌+◌, ◌<◌, ◌≤◌, ◌^◌, List, [], ◌∷◌, ◌++◌, length, Bool, true, false, cond, refl, ap, sym, ◌∙◌, arith, append_assoc, sum_by, inl, inr, None, Some}
-use Rattle.std.specs.Prelude.{Option, option_map, bytes_eq, ◌==◌, if◌then◌else◌}
+use Rattle.std.proofs.Common.{◌≡◌, ℕ, ◌+◌, ◌<◌, ◌≤◌, ◌^◌, List, [], ◌∷◌, ◌++◌, length, Bool, true, false, cond, refl, ap, sym, ◌∙◌, subst, arith, append_assoc, sum_by, inl, inr, None, Some}
+use Rattle.std.specs.Prelude.{Option, option_map, option_and_then, bytes_eq, ◌==◌, if◌then◌else◌}
 use Rattle.std.specs.List.{slice_split}
 use Rattle.std.proofs.lemmas.Bool.Decides.{nat_tests}
 use Rattle.std.proofs.lemmas.Option.{same_Some}
@@ -15,10 +15,11 @@ use Rattle.heap_text.specs.declared.fault.ScriptFault.TheVariants.{Syntax, Order
 use Rattle.heap_text.specs.Split.{split_at_mark}
 use Rattle.heap_text.specs.Forms.{made, first_line}
 use Rattle.heap_text.specs.Spelling.{lines_from, script_lines, spelling, IsWritten}
-use Rattle.heap_text.specs.Faults.{line_shape, fault_of_shape, fault_behind, fault_from, first_fault, script_fault, version_of, IsFaultUnlessMemory}
-use Rattle.heap_text.specs.Steps.{TakesLine}
+use Rattle.heap_text.specs.Faults.{LineShape, line_shape, fault_of_shape, fault_behind, fault_from, first_fault, script_fault, version_of, IsFaultUnlessMemory}
+use Rattle.heap_text.specs.Steps.{TakesLine, TakesSaid, said_with, line_said, fault_of_said}
 use Rattle.heap_text.proofs.SplitLemmas.{split_found, split_whole}
 use Rattle.heap_text.proofs.ShapeLemmas.{heading_said, command_said}
+use Rattle.heap_text.proofs.LineLemmas.{said_line, fault_with}
 use Rattle.heap_text.proofs.SectionLemmas.{split_spelling, Grown, grown_by_heading, grown_by_command}
 use Rattle.heap_text.proofs.FaultLemmas.{Before, faults_behind, line_fault_below, stopped_at, ended_wrong}
 use Rattle.heap_text.proofs.OnlyLemmas.{begun, fault_of_few}
@@ -133,3 +134,29 @@ first_read ver domains bytes first behind few cutting same =
       fault_of_few domains bytes few ∙ ap (script_fault domains) (split_found 10 bytes first behind cutting ∙ ap (λ x. x ∷ slice_split (λ b. b == 10) behind) is)
           ∙ begun ver domains (slice_split (λ b. b == 10) behind) (omega (arith, length-slice_split (λ b. b == 10) behind)),
     )
+
+-- the line that was taken, and what is left behind it
+pub said_taken : (ver : Version) (domains : ℕ) (old new : List (List Command)) (front rest left : List ℕ) → domains < 2 ^ 32 → IsWritten ver domains old → front ≡ spelling ver old ++ rest → TakesSaid ver domains (line_said ver rest) left old new
+    → (text : List ℕ) × Grown ver domains old new text × (front ≡ spelling ver new ++ left)
+said_taken ver domains old new front rest left small w said t =
+    let found = said_line ver rest t.shape left t.is_said in
+    let grown = line_taken ver domains old new found.0 small w (subst (λ (s : LineShape). TakesLine ver domains s old new) found.2 t.takes) in
+    (found.0, grown, moved_on ver front rest found.0 left old new said found.1 grown.spelled)
+
+-- the fault of what stands next, with its line feed or without
+fault_by : (ver : Version) (domains number : ℕ) (sections : List (List Command)) (behind rest : List ℕ) (f : ScriptFault) (o : Option (List ℕ × List ℕ)) → split_at_mark 10 rest ≡ o → domains < 2 ^ 32 → IsWritten ver domains sections
+    → line (first_line ver) ++ behind ≡ spelling ver sections ++ rest → number ≡ length (script_lines ver sections) + 1 → false ≡ (length rest == 0)
+    → IsFaultUnlessMemory f (fault_of_said ver domains number (length sections) (sum_by length sections) (option_and_then (λ p. said_with (line_shape ver p.0) p.1) o))
+    → IsFaultUnlessMemory f (fault_from ver domains (first_line ver ∷ []) (slice_split (λ b. b == 10) behind))
+fault_by ver domains number sections behind rest f None cutting small w e n some fault =
+    subst (λ (o : Option ScriptFault). IsFaultUnlessMemory f o) (sym (end_read ver domains number sections behind rest small w e (sym cutting) n some)) fault
+fault_by ver domains number sections behind rest f (Some p) cutting small w e n some fault =
+    fault_read ver domains number sections behind rest p.0 p.1 f small w e (sym cutting) n
+    (subst (λ (o : Option ScriptFault). IsFaultUnlessMemory f o) (fault_with ver domains number (length sections) (sum_by length sections) (line_shape ver p.0) p.1) fault)
+
+pub said_fault : (ver : Version) (domains number : ℕ) (sections : List (List Command)) (behind rest : List ℕ) (f : ScriptFault) → domains < 2 ^ 32 → IsWritten ver domains sections
+    → line (first_line ver) ++ behind ≡ spelling ver sections ++ rest → number ≡ length (script_lines ver sections) + 1 → 0 < length rest
+    → IsFaultUnlessMemory f (fault_of_said ver domains number (length sections) (sum_by length sections) (line_said ver rest))
+    → IsFaultUnlessMemory f (fault_from ver domains (first_line ver ∷ []) (slice_split (λ b. b == 10) behind))
+said_fault ver domains number sections behind rest f small w e n some fault =
+    fault_by ver domains number sections behind rest f (split_at_mark 10 rest) refl small w e n (grind (arith, nat_tests)) fault

@@ -13,6 +13,7 @@ pub mod read;
 pub mod script;
 mod split;
 mod table;
+mod text;
 pub mod version;
 
 pub use fault::ScriptFault;

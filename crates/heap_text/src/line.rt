@@ -1,17 +1,15 @@
 // Reading one line of a section.
-ghost use Rattle.std.specs.Prelude.{◌≡◌, ℕ, ◌≤◌, ◌<◌, length, sum_by, option_map, Some, IfErr, OnOk};
+ghost use Rattle.std.specs.Prelude.{◌≡◌, ℕ, ℤ, List, ◌≤◌, ◌<◌, length, sum_by, drop, option_map, IfSome, IfOk, IfErr, OnOk};
 ghost use Rattle.heap_text.specs.declared.version.Version as declared_version;
-ghost use Rattle.heap_text.specs.Number.{counted_numbers};
-ghost use Rattle.heap_text.specs.Forms.{form};
-ghost use Rattle.heap_text.specs.Split.{texts_behind};
-ghost use Rattle.heap_text.specs.Faults.{line_shape, heading_shape, command_shape, fault_of_shape, is_section as is_section_of, first_out_of_range as first_out_of_range_of, IsFaultUnlessMemory};
-ghost use Rattle.heap_text.specs.Steps.{IsHeadingNumber, OpensSection, AddsCommand, TakesLine};
+ghost use Rattle.heap_text.specs.Faults.{is_section as is_section_of, first_out_of_range as first_out_of_range_of, IsFaultUnlessMemory};
+ghost use Rattle.heap_text.specs.Steps.{heading_said, row_said, line_said, fault_of_said, IsHeading, TakesSaid};
 
 use crate::fault::ScriptFault;
 use crate::form::{Operand, Word};
-use crate::number::{first_text, numbers_of};
+use crate::number::row_at;
 use crate::script::Script;
-use crate::table::{find_word, fits, make, operands_of};
+use crate::table::{common_word, fits, make, operands_of, search_word, text_of};
+use crate::text::first_text;
 use crate::version::Version;
 use std::alloc::Global;
 
@@ -32,15 +30,14 @@ fn first_out_of_range(version: Version, kinds: &[Operand], numbers: &[i64]) -> O
     None
 }
 
-// The number of a heading: what stands behind the word `domain`.
-fn heading_number(rest: Option<&[u8]>) -> Option<i64>
-    ensures { IsHeadingNumber (heading_shape (counted_numbers 1
-        (texts_behind (option_map (λ r. r.now) rest.entry)))) result }
+// The number of a heading whose word ends at a place, and where the next line begins.
+fn heading_at(bytes: &[u8], at: usize) -> Option<(i64, usize)>
+    ensures said { IsHeading (heading_said (drop at bytes.now)) (option_map {U = ℤ × List ℕ} (λ p. (p.0, drop p.1 bytes.now)) result) }
+    ensures further { IfSome result (λ p. at < p.1) }
+    ensures within { IfSome result (λ p. p.1 ≤ length bytes.now) }
 {
-    match numbers_of(rest, 1) {
-        None => None,
-        Some(numbers) => numbers.first().copied(),
-    }
+    let row = row_at(bytes, at, 1)?;
+    Some((row.numbers[0], row.next))
 }
 
 // Whether a number is that of a section.
@@ -50,22 +47,23 @@ fn is_section(domains: u32, number: i64) -> bool
     0 <= number && number < i64::from(domains)
 }
 
-// Takes a heading: what stands behind the word `domain`.
+// Takes a heading, whose word ends at a place, and answers where the next line begins.
 fn take_heading(
     alloc: Global,
     domains: u32,
     line: u32,
     script: &mut Script,
-    rest: Option<&[u8]>,
-) -> Result<(), ScriptFault>
-    ensures ok { OnOk result (OpensSection domains (heading_shape (counted_numbers 1
-        (texts_behind (option_map (λ r. r.now) rest.entry)))) script.old.sections script.new.sections) }
+    bytes: &[u8],
+    at: usize,
+) -> Result<usize, ScriptFault>
+    ensures ok { (version : declared_version.Version) → IfOk result (λ next. TakesSaid version domains (heading_said (drop at bytes.now)) (drop next bytes.now) script.old.sections script.new.sections) }
+    ensures further { IfOk result (λ next. at < next) }
+    ensures within { IfOk result (λ next. next ≤ length bytes.now) }
     ensures version { OnOk result (script.new.version ≡ script.old.version) }
-    ensures fault { (version : declared_version.Version) → IfErr result (λ e. IsFaultUnlessMemory e (fault_of_shape version domains line (length script.old.sections)
-        (sum_by length script.old.sections) (heading_shape (counted_numbers 1
-        (texts_behind (option_map (λ r. r.now) rest.entry)))))) }
+    ensures fault { (version : declared_version.Version) → IfErr result (λ e. IsFaultUnlessMemory e (fault_of_said version domains line (length script.old.sections)
+        (sum_by length script.old.sections) (heading_said (drop at bytes.now)))) }
 {
-    let Some(number) = heading_number(rest) else {
+    let Some((number, next)) = heading_at(bytes, at) else {
         return Err(ScriptFault::Syntax { line });
     };
     if !is_section(domains, number) {
@@ -75,28 +73,30 @@ fn take_heading(
         return Err(ScriptFault::Order { line });
     }
     match script.open_section(alloc) {
-        Ok(()) => Ok(()),
+        Ok(()) => Ok(next),
         Err(_) => Err(ScriptFault::Memory),
     }
 }
 
-// Takes a command: what stands behind the word of its row.
+// Takes a command, the word of whose row ends at a place, and answers where the next line begins.
+#[inline(always)]
 fn take_command(
     version: Version,
     line: u32,
     script: &mut Script,
     word: Word,
-    rest: Option<&[u8]>,
-) -> Result<(), ScriptFault>
-    ensures ok { OnOk result (AddsCommand version (command_shape word (counted_numbers (length (form word).operands)
-        (texts_behind (option_map (λ r. r.now) rest.entry)))) script.old.sections script.new.sections) }
+    bytes: &[u8],
+    at: usize,
+) -> Result<usize, ScriptFault>
+    ensures ok { (domains : ℕ) → IfOk result (λ next. TakesSaid version domains (row_said word (drop at bytes.now)) (drop next bytes.now) script.old.sections script.new.sections) }
+    ensures further { IfOk result (λ next. at < next) }
+    ensures within { IfOk result (λ next. next ≤ length bytes.now) }
     ensures version { OnOk result (script.new.version ≡ script.old.version) }
-    ensures fault { (domains : ℕ) → IfErr result (λ e. IsFaultUnlessMemory e (fault_of_shape version domains line
-        (length script.old.sections) (sum_by length script.old.sections) (command_shape word (counted_numbers (length (form word).operands)
-        (texts_behind (option_map (λ r. r.now) rest.entry)))))) }
+    ensures fault { (domains : ℕ) → IfErr result (λ e. IsFaultUnlessMemory e (fault_of_said version domains line (length script.old.sections)
+        (sum_by length script.old.sections) (row_said word (drop at bytes.now)))) }
 {
     let operands = operands_of(word);
-    let Some(numbers) = numbers_of(rest, operands.len()) else {
+    let Some(row) = row_at(bytes, at, operands.len()) else {
         return Err(ScriptFault::Syntax { line });
     };
     if script.sections() == 0 {
@@ -105,36 +105,67 @@ fn take_command(
     if MAX_COMMANDS <= script.commands() {
         return Err(ScriptFault::TooMany { line });
     }
-    match first_out_of_range(version, operands, numbers.as_slice()) {
+    match first_out_of_range(version, operands, &row.numbers[..operands.len()]) {
         Some(which) => Err(ScriptFault::Range { line, which }),
-        None => match script.push(make(word, numbers.as_slice())) {
-            Ok(()) => Ok(()),
+        None => match script.push(make(word, &row.numbers)) {
+            Ok(()) => Ok(row.next),
             Err(_) => Err(ScriptFault::Memory),
         },
     }
 }
 
-// Takes a line below the first.
+// Takes the line that begins at a place, whose word isn't one of the common ones.
+#[inline(never)]
+fn take_other(
+    alloc: Global,
+    version: Version,
+    domains: u32,
+    line: u32,
+    script: &mut Script,
+    bytes: &[u8],
+    at: usize,
+) -> Result<usize, ScriptFault>
+    requires { at ≤ length bytes.now }
+    ensures ok { IfOk result (λ next. TakesSaid version domains (line_said version (drop at bytes.now)) (drop next bytes.now) script.old.sections script.new.sections) }
+    ensures further { IfOk result (λ next. at < next) }
+    ensures within { IfOk result (λ next. next ≤ length bytes.now) }
+    ensures version { OnOk result (script.new.version ≡ script.old.version) }
+    ensures fault { IfErr result (λ e. IsFaultUnlessMemory e (fault_of_said version domains line (length script.old.sections)
+        (sum_by length script.old.sections) (line_said version (drop at bytes.now)))) }
+{
+    let text = first_text(&bytes[at..]);
+    let end = at + text.len();
+    if text == b"domain".as_slice() {
+        take_heading(alloc, domains, line, script, bytes, end)
+    } else {
+        match search_word(version, text) {
+            Some(word) => take_command(version, line, script, word, bytes, end),
+            None => Err(ScriptFault::Syntax { line }),
+        }
+    }
+}
+
+// Takes the line below the first that begins at a place, and answers where the next line begins.
+#[inline(always)]
 pub(crate) fn take_line(
     alloc: Global,
     version: Version,
     domains: u32,
     line: u32,
     script: &mut Script,
-    text: &[u8],
-) -> Result<(), ScriptFault>
-    ensures ok { OnOk result (TakesLine version domains (line_shape version text.now) script.old.sections script.new.sections) }
+    bytes: &[u8],
+    at: usize,
+) -> Result<usize, ScriptFault>
+    requires { at ≤ length bytes.now }
+    ensures ok { IfOk result (λ next. TakesSaid version domains (line_said version (drop at bytes.now)) (drop next bytes.now) script.old.sections script.new.sections) }
+    ensures further { IfOk result (λ next. at < next) }
+    ensures within { IfOk result (λ next. next ≤ length bytes.now) }
     ensures version { OnOk result (script.new.version ≡ script.old.version) }
-    ensures fault { IfErr result (λ e. IsFaultUnlessMemory e
-        (fault_of_shape version domains line (length script.old.sections) (sum_by length script.old.sections) (line_shape version text.now))) }
+    ensures fault { IfErr result (λ e. IsFaultUnlessMemory e (fault_of_said version domains line (length script.old.sections)
+        (sum_by length script.old.sections) (line_said version (drop at bytes.now)))) }
 {
-    let (word, rest) = first_text(text);
-    if word == b"domain".as_slice() {
-        take_heading(alloc, domains, line, script, rest)
-    } else {
-        match find_word(version, word) {
-            Some(word) => take_command(version, line, script, word, rest),
-            None => Err(ScriptFault::Syntax { line }),
-        }
+    match common_word(&bytes[at..]) {
+        Some(word) => take_command(version, line, script, word, bytes, at + text_of(word).len()),
+        None => take_other(alloc, version, domains, line, script, bytes, at),
     }
 }

@@ -1,13 +1,18 @@
 // Numbers in decimal, of any count of digits.
-ghost use Rattle.std.specs.Prelude.{◌≡◌, ℕ, ℤ, ◌≤◌, ◌^◌, ◌-◌, ◌∷◌, pos, min, List, length, map, Option, option_map, IfSome, Some, None, if◌then◌else◌};
+ghost use Rattle.std.specs.Prelude.{◌≡◌, ℕ, ℤ, List, ◌≤◌, ◌<◌, ◌+◌, ◌^◌, ◌-◌, pos, neg_ℤ, min, length, map, take, drop, Some, None, option_map, IfSome, ◌==◌, if◌then◌else◌};
 ghost use Rattle.std.specs.Str.{all_ascii_digits};
 ghost use Rattle.decimals.specs.Natural.{value_on, natural};
-ghost use Rattle.heap_text.specs.Split.{texts_behind, before_mark, behind_mark};
-ghost use Rattle.heap_text.specs.Faults.{texts};
-ghost use Rattle.heap_text.specs.Number.{number, counted_numbers, clipped};
+ghost use Rattle.heap_text.specs.Split.{first_text, read_whole, numbers_behind};
+ghost use Rattle.heap_text.specs.Number.{number, clipped};
 
-use crate::split::split_once;
-use arrayvec::ArrayVec;
+use crate::text::behind;
+
+// The numbers behind a word, and where the next line begins.
+#[derive(Clone, Copy)]
+pub(crate) struct Row {
+    pub(crate) numbers: [i64; 4],
+    pub(crate) next: usize,
+}
 
 fn clip(n: u64) -> i64
     ensures { result ≡ pos (min n (2 ^ 63 - 1)) }
@@ -15,82 +20,88 @@ fn clip(n: u64) -> i64
     n.min(i64::MAX as u64) as i64
 }
 
-// The number that the digits before the first space are, and what stands behind the space, if there is one. A number that
-// is too large for 64 bits is the greatest of them.
-fn first_digits(line: &[u8]) -> Option<(u64, Option<&[u8]>)>
-    ensures { option_map {U = ℕ × Option (List ℕ)} (λ p. (p.0, option_map (λ r. r.now) p.1)) result
-        ≡ (if all_ascii_digits (before_mark 32 line.now)
-        then Some (min (value_on 0 (before_mark 32 line.now)) (2 ^ 64 - 1), behind_mark 32 line.now) else None) }
+// The number with a sign.
+fn negative(n: u64) -> i64
+    ensures { result ≡ neg_ℤ (pos (min n (2 ^ 63 - 1))) }
 {
-    let mut sum: u64 = 0;
-    for (at, byte) in line.iter().enumerate() {
-        if *byte == b' ' {
-            return Some((sum, Some(&line[at + 1..])));
-        }
-        if !byte.is_ascii_digit() {
-            return None;
-        }
-        sum = sum
+    -clip(n)
+}
+
+// The number that a first digit and those behind it are, and where they end. One that is too large for 64 bits is the
+// greatest of them.
+fn digits_on(bytes: &[u8], at: usize, first: u8) -> (u64, usize)
+    requires { at ≤ length bytes.now }
+    ensures value { read_whole (at + length (first_text (drop at bytes.now))) (Some result)
+        ≡ (if all_ascii_digits (first_text (drop at bytes.now)) then Some (min (value_on first (first_text (drop at bytes.now))) (2 ^ 64 - 1)) else None) }
+    ensures start { at ≤ result.1 }
+    ensures within { result.1 ≤ at + length (first_text (drop at bytes.now)) }
+{
+    let mut value = u64::from(first);
+    let mut end = at;
+    'digits: while end < bytes.len() && bytes[end].is_ascii_digit() {
+        value = value
             .saturating_mul(10)
-            .saturating_add(u64::from(*byte - b'0'));
+            .saturating_add(u64::from(bytes[end] - b'0'));
+        end += 1;
     }
-    Some((sum, None))
+    (value, end)
 }
 
-// The number without a sign before the first space, and what stands behind the space, if there is one.
-fn first_natural(line: &[u8]) -> Option<(u64, Option<&[u8]>)>
-    ensures { option_map {U = ℕ × Option (List ℕ)} (λ p. (p.0, option_map (λ r. r.now) p.1)) result
-        ≡ option_map (λ n. (min n (2 ^ 64 - 1), behind_mark 32 line.now)) (natural (before_mark 32 line.now)) }
+// The number without a sign at a place, and where it ends. It is that of the text there, if it ends where the text does.
+fn natural_at(bytes: &[u8], at: usize) -> Option<(u64, usize)>
+    ensures value { read_whole (at + length (first_text (drop at bytes.now))) result
+        ≡ option_map (λ n. min n (2 ^ 64 - 1)) (natural (first_text (drop at bytes.now))) }
+    ensures some { IfSome result (λ p. at < p.1) }
+    ensures within { IfSome result (λ p. p.1 ≤ at + length (first_text (drop at bytes.now))) }
 {
-    match line {
-        [] | [b' ', ..] => None,
-        [b'0', b' ', ..] | [b'0'] => first_digits(line),
-        [b'0', ..] => None,
-        _ => first_digits(line),
+    if bytes.len() <= at || !bytes[at].is_ascii_digit() {
+        return None;
+    }
+    let first = bytes[at] - b'0';
+    if first == 0 {
+        Some((0, at + 1))
+    } else {
+        Some(digits_on(bytes, at + 1, first))
     }
 }
 
-// The number before the first space, and what stands behind the space, if there is one.
-fn first_number(line: &[u8]) -> Option<(i64, Option<&[u8]>)>
-    ensures { option_map {U = ℤ × Option (List ℕ)} (λ p. (p.0, option_map (λ r. r.now) p.1)) result
-        ≡ option_map (λ z. (clipped z, behind_mark 32 line.now)) (number (before_mark 32 line.now)) }
+// The number at a place, and where it ends. It is that of the text there, if it ends where the text does.
+#[inline(always)]
+fn number_at(bytes: &[u8], at: usize) -> Option<(i64, usize)>
+    ensures value { read_whole (at + length (first_text (drop at bytes.now))) result
+        ≡ option_map clipped (number (first_text (drop at bytes.now))) }
+    ensures some { IfSome result (λ p. at < p.1) }
+    ensures within { IfSome result (λ p. p.1 ≤ at + length (first_text (drop at bytes.now))) }
 {
-    match line {
-        [b'-', digits @ ..] => match first_natural(digits) {
-            None | Some((0, _)) => None,
-            Some((magnitude, rest)) => Some((-clip(magnitude), rest)),
-        },
-        _ => match first_natural(line) {
+    match behind(bytes, at, b'-') {
+        None => match natural_at(bytes, at) {
             None => None,
-            Some((magnitude, rest)) => Some((clip(magnitude), rest)),
+            Some((magnitude, end)) => Some((clip(magnitude), end)),
+        },
+        Some(digits) => match natural_at(bytes, digits) {
+            None | Some((0, _)) => None,
+            Some((magnitude, end)) => Some((negative(magnitude), end)),
         },
     }
 }
 
-// The numbers behind a word: exactly so many.
-pub(crate) fn numbers_of(mut rest: Option<&[u8]>, count: usize) -> Option<ArrayVec<i64, 4>>
+// The numbers behind a word that ends at a place: exactly so many, each behind a space, and a line feed behind the last.
+#[inline(always)]
+pub(crate) fn row_at(bytes: &[u8], at: usize, count: usize) -> Option<Row>
     requires { count ≤ 4 }
-    ensures counted { IfSome result (λ v. length v.items ≡ count) }
-    ensures value { option_map (λ v. v.items) result
-        ≡ option_map (map clipped) (counted_numbers count (texts_behind (option_map (λ r. r.now) rest.entry))) }
+    ensures value { option_map {U = List ℤ × List ℕ} (λ r. (take count r.numbers, drop r.next bytes.now)) result
+        ≡ option_map (λ p. (map clipped p.0, p.1)) (numbers_behind count (drop at bytes.now)) }
+    ensures four { IfSome result (λ r. length r.numbers ≡ 4) }
+    ensures further { IfSome result (λ r. at < r.next) }
+    ensures within { IfSome result (λ r. r.next ≤ length bytes.now) }
 {
-    let mut numbers = ArrayVec::new();
-    'texts: for _ in 0..count {
-        let Some((number, tail)) = first_number(rest?) else {
-            return None;
-        };
-        numbers.push(number);
-        rest = tail;
+    let mut numbers = [0; 4];
+    let mut end = at;
+    'numbers: for i in 0..count {
+        let (number, behind_it) = number_at(bytes, behind(bytes, end, b' ')?)?;
+        numbers[i] = number;
+        end = behind_it;
     }
-    if rest.is_some() { None } else { Some(numbers) }
-}
-
-// The text before the first space, and what stands after the space, if there is one.
-pub(crate) fn first_text(line: &[u8]) -> (&[u8], Option<&[u8]>)
-    ensures { texts line.now ≡ result.0.now ∷ texts_behind (option_map (λ r. r.now) result.1) }
-{
-    match split_once(line, b' ') {
-        Some((text, tail)) => (text, Some(tail)),
-        None => (line, None),
-    }
+    let next = behind(bytes, end, b'\n')?;
+    Some(Row { numbers, next })
 }

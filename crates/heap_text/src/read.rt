@@ -35,19 +35,15 @@ fn read_sections(
 {
     let mut script = Script::new(alloc, version);
     let mut line: u32 = 2;
-    let mut rest = behind;
-    'lines: while let Some((text, tail)) = split_once(rest, b'\n') {
-        if let Err(fault) = take_line(alloc, version, domains, line, &mut script, text) {
-            return Err(fault);
+    let mut at = 0;
+    'lines: while at < behind.len() {
+        match take_line(alloc, version, domains, line, &mut script, behind, at) {
+            Ok(next) => at = next,
+            Err(fault) => return Err(fault),
         }
-        rest = tail;
         line += 1;
     }
-    if rest.is_empty() {
-        Ok(script)
-    } else {
-        Err(ScriptFault::Syntax { line })
-    }
+    Ok(script)
 }
 
 // A script with an empty section for each further domain.

@@ -1,6 +1,7 @@
 // The table of command forms, for the reader and the printer.
-ghost use Rattle.std.specs.Prelude.{◌≡◌, ◌≤◌, true, pos, length, slice_index_or, IfSome};
+ghost use Rattle.std.specs.Prelude.{◌≡◌, ◌≤◌, true, pos, length, IfSome};
 ghost use Rattle.heap_text.specs.declared.version.Version.TheVariants.{One, Two};
+ghost use Rattle.heap_text.specs.Split.{first_text};
 ghost use Rattle.heap_text.specs.Forms.{form, word_of, is_built, made, byte as byte_of, short as short_of, wide as wide_of, fits as fits_kind, least as least_of, greatest as greatest_of, most_fields as most_fields_of};
 
 use crate::form::{Operand, Word};
@@ -144,36 +145,61 @@ pub(crate) fn operands_of(word: Word) -> &'static [Operand]
     }
 }
 
-// The row of each version that a text is the word of. The compiler tests the length first, and then byte by byte. A row that isn't
-// named here is found by `search_word`.
-#[tactic(auto, using(crate::proofs::FormLemmas::text_read))]
-fn common_word(text: &[u8]) -> Option<Word>
-    ensures spelled { IfSome result (λ w. text.now ≡ (form w).text) }
+// The row of each version whose word, and a mark behind it, these bytes begin with. A row that isn't named here is found by
+// `search_word`.
+#[tactic(auto, using(crate::proofs::FormLemmas::spaced_word, crate::proofs::FormLemmas::ended_word))]
+pub(crate) fn common_word(bytes: &[u8]) -> Option<Word>
+    ensures spelled { IfSome result (λ w. first_text bytes.now ≡ (form w).text) }
     ensures first { IfSome result (λ w. is_built One w ≡ true) }
     ensures second { IfSome result (λ w. is_built Two w ≡ true) }
 {
-    match text {
-        b"int" => Some(Word::Int),
-        b"move" => Some(Word::Move),
-        b"drop" => Some(Word::Drop),
-        b"load" => Some(Word::Load),
-        b"poll" => Some(Word::Poll),
-        b"alloc" => Some(Word::Alloc),
-        b"store" => Some(Word::Store),
-        b"set_key" => Some(Word::SetKey),
-        b"get_key" => Some(Word::GetKey),
-        b"allocmaj" => Some(Word::AllocMaj),
-        b"set_data" => Some(Word::SetData),
-        b"get_data" => Some(Word::GetData),
-        b"check_key" => Some(Word::CheckKey),
-        b"check_data" => Some(Word::CheckData),
+    match bytes {
+        [b'i', b'n', b't', b' ', ..] => Some(Word::Int),
+        [b'm', b'o', b'v', b'e', b' ', ..] => Some(Word::Move),
+        [b'd', b'r', b'o', b'p', b' ', ..] => Some(Word::Drop),
+        [b'l', b'o', b'a', b'd', b' ', ..] => Some(Word::Load),
+        [b'p', b'o', b'l', b'l', b'\n', ..] => Some(Word::Poll),
+        [b'a', b'l', b'l', b'o', b'c', b' ', ..] => Some(Word::Alloc),
+        [b's', b't', b'o', b'r', b'e', b' ', ..] => Some(Word::Store),
+        [b's', b'e', b't', b'_', b'k', b'e', b'y', b' ', ..] => Some(Word::SetKey),
+        [b'g', b'e', b't', b'_', b'k', b'e', b'y', b' ', ..] => Some(Word::GetKey),
+        [b'a', b'l', b'l', b'o', b'c', b'm', b'a', b'j', b' ', ..] => Some(Word::AllocMaj),
+        [b's', b'e', b't', b'_', b'd', b'a', b't', b'a', b' ', ..] => Some(Word::SetData),
+        [b'g', b'e', b't', b'_', b'd', b'a', b't', b'a', b' ', ..] => Some(Word::GetData),
+        [
+            b'c',
+            b'h',
+            b'e',
+            b'c',
+            b'k',
+            b'_',
+            b'k',
+            b'e',
+            b'y',
+            b' ',
+            ..
+        ] => Some(Word::CheckKey),
+        [
+            b'c',
+            b'h',
+            b'e',
+            b'c',
+            b'k',
+            b'_',
+            b'd',
+            b'a',
+            b't',
+            b'a',
+            b' ',
+            ..
+        ] => Some(Word::CheckData),
         _ => None,
     }
 }
 
 // The row that a text is the word of, if it is one of the version, by all words of the version in order.
 #[inline(never)]
-fn search_word(version: Version, text: &[u8]) -> Option<Word>
+pub(crate) fn search_word(version: Version, text: &[u8]) -> Option<Word>
     ensures { result ≡ word_of version text.now }
 {
     match version {
@@ -188,24 +214,12 @@ fn search_word(version: Version, text: &[u8]) -> Option<Word>
     }
 }
 
-// The row that a text is the word of, if it is one of the version.
-pub(crate) fn find_word(version: Version, text: &[u8]) -> Option<Word>
-    ensures { result ≡ word_of version text.now }
-{
-    match common_word(text) {
-        Some(word) => Some(word),
-        None => search_word(version, text),
-    }
-}
-
-// The command of a row and its numbers.
-pub(crate) fn make(word: Word, numbers: &[i64]) -> Command
+// The command of a row and its numbers, behind which others may stand.
+#[inline(always)]
+pub(crate) fn make(word: Word, numbers: &[i64; 4]) -> Command
     ensures { result ≡ made word numbers.now }
 {
-    let a = number_at(numbers, 0);
-    let b = number_at(numbers, 1);
-    let c = number_at(numbers, 2);
-    let d = number_at(numbers, 3);
+    let [a, b, c, d] = *numbers;
     match word {
         Word::Int => Command::PutInt {
             dst: byte(a),
@@ -303,12 +317,6 @@ pub(crate) fn make(word: Word, numbers: &[i64]) -> Command
             section: wide(b),
         },
     }
-}
-
-fn number_at(numbers: &[i64], i: usize) -> i64
-    ensures { result ≡ slice_index_or numbers.now i (pos 0) }
-{
-    numbers.get(i).copied().unwrap_or(0)
 }
 
 // A number as a field of 8 bits holds it. One in its range stays as it is.

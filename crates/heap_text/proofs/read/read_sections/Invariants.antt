@@ -1,4 +1,4 @@
-use Rattle.std.proofs.Common.{◌≡◌, ◌≤◌, ◌+◌, ◌++◌, length}
+use Rattle.std.proofs.Common.{◌≡◌, ◌≤◌, ◌+◌, ◌-◌, ◌++◌, length, drop}
 use Rattle.heap_model.specs.Output.{line}
 use Rattle.heap_text.specs.Forms.{first_line}
 use Rattle.heap_text.specs.Spelling.{spelling, script_lines, IsWritten}
@@ -8,11 +8,12 @@ use Rattle.heap_text.proofs.read.read_sections.Given as goal
 abbrev pub invariant-lines : goal.invariant-lines
 invariant-lines l = record {
   version : l.script.version ≡ l.version;
-  spelled : line (first_line l.version) ++ l.behind ≡ spelling l.version l.script.sections ++ l.rest;
+  spelled : line (first_line l.version) ++ l.behind ≡ spelling l.version l.script.sections ++ drop l.at l.behind;
   is_written : IsWritten l.version l.domains l.script.sections;
   number : l.line ≡ length (script_lines l.version l.script.sections) + 1;
-  left : l.line + length l.rest ≤ 2 + length l.behind;
+  few : l.line ≤ 2 + l.at;
+  inside : l.at ≤ length l.behind;
 }
 
 abbrev pub decreases-lines : goal.decreases-lines
-decreases-lines l = length l.rest
+decreases-lines l = length l.behind - l.at
