@@ -1,4 +1,9 @@
+pub mod Alive
 pub mod Sameness
+pub mod Holding
+pub mod Moving
+pub mod Commanding
+pub mod Steps
 pub mod Queued
 pub mod Queues
 pub mod Wiped

@@ -1,6 +1,6 @@
 -- What is reached in states that are the same but for garbage is the same list.
 use Rattle.std.proofs.Common.{◌≡◌, ℕ, zero, suc, Bool, true, false, cond, List, [], ◌∷◌, ◌++◌, map, length, refl, sym, ap, ◌∙◌, None, Some}
-use Rattle.std.specs.Prelude.{IsTrue, Option, filter_map, flat_map, fold, option_to_list}
+use Rattle.std.specs.Prelude.{◌+◌, IsTrue, Option, filter_map, flat_map, fold, option_to_list, sum_by}
 use Rattle.std.specs.List.{list_all}
 use Rattle.std.specs.Option.{option_map_or}
 use Rattle.std.proofs.lemmas.List.{length-map}
@@ -11,22 +11,14 @@ use Rattle.heap_model.specs.declared.graph.Value.{Value}
 use Rattle.heap_model.specs.declared.state.DomainState.{DomainState}
 use Rattle.heap_model.specs.declared.state.Pending.{Pending}
 use Rattle.heap_model.specs.declared.state.State.{State}
-use Rattle.heap_model.specs.Graph.{has_label, label_of, node_at}
+use Rattle.heap_model.specs.Graph.{has_label, label_of, node_at, words_at, words_of}
+use Rattle.heap_model.specs.Commands.{live_reply}
+use Rattle.heap_model.specs.declared.reply.Reply.TheVariants.{Live}
 use Rattle.heap_model.specs.Domains.{pending_label, queues, roots, waiting, settled_roots, reach, settled_reach}
 use Rattle.heap_model.specs.Reach.{key_holds, edges_of, edges_at, with_label, grow, grow_rounds, reachable}
-use Rattle.schedule_laws.specs.Sameness.{AllAlive, held_by, AreSameDomains, IsSameBut}
-
-all_both : (alive : Label → Bool) (xs ys : List Label) → AllAlive alive xs → AllAlive alive ys → AllAlive alive (xs ++ ys)
-all_both alive [] ys a b = b
-all_both alive (x ∷ xs) ys a b = (a.0, all_both alive xs ys a.1 b)
-
-all_second : (alive : Label → Bool) (xs ys : List Label) → AllAlive alive (xs ++ ys) → AllAlive alive ys
-all_second alive [] ys a = a
-all_second alive (x ∷ xs) ys a = all_second alive xs ys a.1
-
-all_first : (alive : Label → Bool) (xs ys : List Label) → AllAlive alive (xs ++ ys) → AllAlive alive xs
-all_first alive [] ys a = tt
-all_first alive (x ∷ xs) ys a = (a.0, all_first alive xs ys a.1)
+use Rattle.heap_model.specs.WellFormed.{names_of}
+use Rattle.schedule_laws.specs.Sameness.{AllAlive, AreSameDomains, IsSameBut}
+use Rattle.schedule_laws.proofs.Alive.{all_both, all_first, all_second}
 
 -- a set grows by a label that passes
 one_more : (t : Bool) (alive : Label → Bool) (live : List Label) (l : Label) → AllAlive alive live → IsTrue (alive l) → AllAlive alive (cond t live (live ++ l ∷ []))
@@ -42,13 +34,13 @@ kept_data : (t : Bool) (alive : Label → Bool) (ls : List Label) → AllAlive a
 kept_data true alive ls a = a
 kept_data false alive ls a = tt
 
-edges_held : (alive live : Label → Bool) (n : Node) → AllAlive alive (held_by n) → AllAlive alive (edges_of live n)
+edges_held : (alive live : Label → Bool) (n : Node) → AllAlive alive (names_of n) → AllAlive alive (edges_of live n)
 edges_held alive live (Plain tag fields) a = a
 edges_held alive live (Raw tag fields) a = tt
 edges_held alive live (Ephe keys datum) a = kept_data (list_all (key_holds live) keys) alive (option_to_list (label_of datum)) (all_second alive (filter_map (λ k. k) keys) (option_to_list (label_of datum)) a)
 
 module _ (s t : State) (same : IsSameBut s t) where
-  edges_in : (live : Label → Bool) (o : Option Node) → ((n : Node) → o ≡ Some n → AllAlive same.alive (held_by n)) → AllAlive same.alive (option_map_or (edges_of live) o [])
+  edges_in : (live : Label → Bool) (o : Option Node) → ((n : Node) → o ≡ Some n → AllAlive same.alive (names_of n)) → AllAlive same.alive (option_map_or (edges_of live) o [])
   edges_in live None each = tt
   edges_in live (Some n) each = edges_held same.alive live n (each n refl)
 
@@ -67,6 +59,24 @@ module _ (s t : State) (same : IsSameBut s t) where
   same_rounds (suc n) live a =
       ap (λ (ls : List Label). grow_rounds n t.graph (fold with_label live ls)) (same_edges (has_label live) live a)
       ∙ same_rounds n (grow s.graph live) (all_added same.alive live (flat_map (edges_at s.graph (has_label live)) live) a (all_edges (has_label live) live a))
+
+  -- what is reached from labels that pass passes
+  rounds_alive : (n : ℕ) (live : List Label) → AllAlive same.alive live → AllAlive same.alive (grow_rounds n s.graph live)
+  rounds_alive zero live a = a
+  rounds_alive (suc n) live a = rounds_alive n (grow s.graph live) (all_added same.alive live (flat_map (edges_at s.graph (has_label live)) live) a (all_edges (has_label live) live a))
+
+  pub reachable_alive : (ls : List Label) → AllAlive same.alive ls → AllAlive same.alive (reachable s.graph ls)
+  unfolding reachable
+  reachable_alive ls a = rounds_alive (length s.graph) (fold with_label [] ls) (all_added same.alive [] ls tt a)
+
+  -- the blocks of labels that pass are as large
+  add_words : (n : ℕ) (ls : List Label) → AllAlive same.alive ls → fold (λ (m : ℕ) (l : Label). m + words_at t.graph l) n ls ≡ fold (λ (m : ℕ) (l : Label). m + words_at s.graph l) n ls
+  add_words n [] a = refl
+  add_words n (l ∷ ls) a =
+      ap (λ (o : Option Node). fold (λ (m : ℕ) (x : Label). m + words_at t.graph x) (n + option_map_or words_of o 0) ls) (same.nodes l a.0) ∙ add_words (n + words_at s.graph l) ls a.1
+
+  pub same_words : (ls : List Label) → AllAlive same.alive ls → sum_by (words_at t.graph) ls ≡ sum_by (words_at s.graph) ls
+  same_words ls a = add_words 0 ls a
 
   same_length : length t.graph ≡ length s.graph
   same_length = sym (length-map t.graph (λ e. e.0)) ∙ ap length same.labels_same ∙ length-map s.graph (λ e. e.0)
@@ -114,3 +124,10 @@ same_settled s t same =
     ap (λ (ls : List Label). reachable t.graph (ls ++ waiting t)) (same_roots s t same)
     ∙ ap (λ (ls : List Label). reachable t.graph (roots s (queues s) ++ ls)) (same_waiting s.domains t.domains same.domains)
     ∙ same_reachable s t same (settled_roots s (queues s)) same.held.roots
+
+-- so is what `full_major` answers
+pub same_live : (s t : State) → IsSameBut s t → live_reply t ≡ live_reply s
+same_live s t same =
+    let rooted = all_first same.alive (roots s (queues s)) (waiting s) same.held.roots in
+    let reached : reach t ≡ reach s = same_reach s t same in
+    ap (λ (ls : List Label). Live (length ls) (sum_by (words_at t.graph) ls)) reached ∙ ap (Live (length (reach s))) (same_words s t same (reach s) (reachable_alive s t same (roots s (queues s)) rooted))

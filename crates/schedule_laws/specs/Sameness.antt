@@ -15,6 +15,7 @@ use Rattle.heap_model.specs.Graph.{labels, label_of, node_at}
 use Rattle.heap_model.specs.Domains.{opening, queues, settled_roots}
 use Rattle.heap_model.specs.Entries.{Allowed, next, reply}
 use Rattle.heap_model.specs.History.{state_after, Legal, replies_from}
+use Rattle.heap_model.specs.WellFormed.{names_of}
 use Rattle.schedule_laws.specs.Scheduled.{complete}
 
 -- each of these labels passes a test
@@ -22,16 +23,10 @@ abbrev pub AllAlive : (Label → Bool) → List Label → Type 0
 AllAlive alive [] = Unit {0}
 AllAlive alive (l ∷ ls) = IsTrue (alive l) × AllAlive alive ls
 
--- the labels in a node, those in the keys of an ephemeron too
-abbrev pub held_by : Node → List Label
-held_by (Plain tag fields) = filter_map label_of fields
-held_by (Raw tag fields) = []
-held_by (Ephe keys datum) = filter_map (λ k. k) keys ++ option_to_list (label_of datum)
-
 -- all that commands and finalisers may still come to: what registers, queues and waiting registrations refer to, and what that holds
 pub record IsHeld (s : State) (alive : Label → Bool) : Type 0 where
   pub roots : AllAlive alive (settled_roots s (queues s))
-  pub nodes : (l : Label) (n : Node) → IsTrue (alive l) → node_at s.graph l ≡ Some n → AllAlive alive (held_by n)
+  pub nodes : (l : Label) (n : Node) → IsTrue (alive l) → node_at s.graph l ≡ Some n → AllAlive alive (names_of n)
 
 -- the parts of a domain that an entry may read before they are set anew: all but `low`
 pub record IsSameDomain (x y : DomainState) : Type 0 where
