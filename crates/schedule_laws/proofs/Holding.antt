@@ -69,12 +69,12 @@ module _ (alive : Label → Bool) where
   domains_held s h =
       let rooted = all_first alive (roots s (queues s)) (waiting s) h.roots in
       held_each s.domains (all_first alive (flat_map in_registers s.domains) (flat_map (filter_map pending_label) (queues s)) rooted)
-          (all_second alive (flat_map in_registers s.domains) (flat_map (filter_map pending_label) (queues s)) rooted) (all_second alive (roots s (queues s)) (waiting s) h.roots)
+      (all_second alive (flat_map in_registers s.domains) (flat_map (filter_map pending_label) (queues s)) rooted) (all_second alive (roots s (queues s)) (waiting s) h.roots)
 
   pub roots_held : (s : State) → AreDomainsHeld alive s.domains → AllAlive alive (settled_roots s (queues s))
   roots_held s h =
       all_both alive (roots s (queues s)) (waiting s) (all_both alive (flat_map in_registers s.domains) (flat_map (filter_map pending_label) (queues s)) (held_registers s.domains h) (held_queues s.domains h))
-          (held_finals s.domains h)
+      (held_finals s.domains h)
 
 same_itself : (x : DomainState) → IsSameDomain x x
 same_itself x = record { registers = refl; serial = refl; ended = refl; finals = refl; lasts = refl; queue = refl; fresh = refl; due = refl }

@@ -64,8 +64,8 @@ module _ (s t : State) (same : IsSameBut s t) where
       let held = held_domain d in
       let is = same_domain d in
       with_domains s t same d (record x { registers = slice_set x.registers r v }) (record y { registers = slice_set y.registers r v })
-          (record { registers = all_set same.alive label_of x.registers r v held.registers a; queue = held.queue; finals = held.finals })
-          (record { registers = ap (λ (vs : List Value). slice_set vs r v) is.registers; serial = is.serial; ended = is.ended; finals = is.finals; lasts = is.lasts; queue = is.queue; fresh = is.fresh; due = is.due })
+      (record { registers = all_set same.alive label_of x.registers r v held.registers a; queue = held.queue; finals = held.finals })
+      (record { registers = ap (λ (vs : List Value). slice_set vs r v) is.registers; serial = is.serial; ended = is.ended; finals = is.finals; lasts = is.lasts; queue = is.queue; fresh = is.fresh; due = is.due })
 
   -- a registration is added
   pub final_same : (d : ℕ) (f : Finaliser) → IsTrue (same.alive f.label) → IsSameBut (with_final s d f) (with_final t d f)
@@ -75,8 +75,8 @@ module _ (s t : State) (same : IsSameBut s t) where
       let held = held_domain d in
       let is = same_domain d in
       with_domains s t same d (record x { finals = x.finals ++ f ∷ [] }) (record y { finals = y.finals ++ f ∷ [] })
-          (record { registers = held.registers; queue = held.queue; finals = all_map_push same.alive (λ (g : Finaliser). g.label) x.finals f held.finals a })
-          (record { registers = is.registers; serial = is.serial; ended = is.ended; finals = ap (λ (fs : List Finaliser). fs ++ f ∷ []) is.finals; lasts = is.lasts; queue = is.queue; fresh = is.fresh; due = is.due })
+      (record { registers = held.registers; queue = held.queue; finals = all_map_push same.alive (λ (g : Finaliser). g.label) x.finals f held.finals a })
+      (record { registers = is.registers; serial = is.serial; ended = is.ended; finals = ap (λ (fs : List Finaliser). fs ++ f ∷ []) is.finals; lasts = is.lasts; queue = is.queue; fresh = is.fresh; due = is.due })
 
   pub last_same : (d : ℕ) (f : LastFinaliser) → IsSameBut (with_last s d f) (with_last t d f)
   last_same d f =
@@ -85,8 +85,8 @@ module _ (s t : State) (same : IsSameBut s t) where
       let held = held_domain d in
       let is = same_domain d in
       with_domains s t same d (record x { lasts = x.lasts ++ f ∷ [] }) (record y { lasts = y.lasts ++ f ∷ [] })
-          (record { registers = held.registers; queue = held.queue; finals = held.finals })
-          (record { registers = is.registers; serial = is.serial; ended = is.ended; finals = is.finals; lasts = ap (λ (fs : List LastFinaliser). fs ++ f ∷ []) is.lasts; queue = is.queue; fresh = is.fresh; due = is.due })
+      (record { registers = held.registers; queue = held.queue; finals = held.finals })
+      (record { registers = is.registers; serial = is.serial; ended = is.ended; finals = is.finals; lasts = ap (λ (fs : List LastFinaliser). fs ++ f ∷ []) is.lasts; queue = is.queue; fresh = is.fresh; due = is.due })
 
   -- the node of a block is replaced
   module _ (l : Label) (old new : Node) (alive : IsTrue (same.alive l)) (at : node_at s.graph l ≡ Some old) (names : AllAlive same.alive (names_of new)) where
@@ -216,8 +216,8 @@ numbered_same s t same d serial =
     let held = held_domain s t same d in
     let is = same_domain s t same d in
     with_domains s t same d (record (domain_at s d) { serial = serial }) (record (domain_at t d) { serial = serial })
-        (record { registers = held.registers; queue = held.queue; finals = held.finals })
-        (record { registers = is.registers; serial = refl; ended = is.ended; finals = is.finals; lasts = is.lasts; queue = is.queue; fresh = is.fresh; due = is.due })
+    (record { registers = held.registers; queue = held.queue; finals = held.finals })
+    (record { registers = is.registers; serial = refl; ended = is.ended; finals = is.finals; lasts = is.lasts; queue = is.queue; fresh = is.fresh; due = is.due })
 
 -- an allocation, by the serial of its label
 abbrev made_with : State → ℕ → ℕ → Node → ℕ → Outcome
@@ -236,4 +236,4 @@ allocates_same s t same d dst n new names =
     let m = numbered_same (grown s l n) (grown t l n) g.same d serial in
     let serials : (domain_at t d).serial + 1 ≡ serial = ap (λ k. k + 1) (same_domain s t same d).serial in
     subst (λ (y : Outcome). AreSame (made_with s d dst n serial) y) (ap (made_with t d dst n) (sym serials))
-        (record { replies = refl; states = put_same (numbered (grown s l n) d serial) (numbered (grown t l n) d serial) m d dst (Block l) (g.passes, tt) })
+    (record { replies = refl; states = put_same (numbered (grown s l n) d serial) (numbered (grown t l n) d serial) m d dst (Block l) (g.passes, tt) })

@@ -38,8 +38,8 @@ after_same s t same d =
     let held = held_domain s t same d in
     let is = same_domain s t same d in
     with_domains s t same d (record (domain_at s d) { fresh = false; due = length (domain_at s d).queue }) (record (domain_at t d) { fresh = false; due = length (domain_at t d).queue })
-        (record { registers = held.registers; queue = held.queue; finals = held.finals })
-        (record { registers = is.registers; serial = is.serial; ended = is.ended; finals = is.finals; lasts = is.lasts; queue = is.queue; fresh = refl; due = ap length is.queue })
+    (record { registers = held.registers; queue = held.queue; finals = held.finals })
+    (record { registers = is.registers; serial = is.serial; ended = is.ended; finals = is.finals; lasts = is.lasts; queue = is.queue; fresh = refl; due = ap length is.queue })
 
 module _ (s t : State) (same : IsSameBut s t) (d : ℕ) where
   module _ (new : node_at s.graph (record { domain = d; serial = (domain_at s d).serial + 1 }) ≡ None) where
@@ -71,7 +71,7 @@ module _ (s t : State) (same : IsSameBut s t) (d : ℕ) where
       let held = held_domain s t same d in
       let is = same_domain s t same d in
       with_domains s t same d (without_first (domain_at s d) rest) (without_first (domain_at t d) rest) (record { registers = held.registers; queue = a; finals = held.finals })
-          (record { registers = is.registers; serial = is.serial; ended = is.ended; finals = is.finals; lasts = is.lasts; queue = refl; fresh = is.fresh; due = refl })
+      (record { registers = is.registers; serial = is.serial; ended = is.ended; finals = is.finals; lasts = is.lasts; queue = refl; fresh = is.fresh; due = refl })
 
   run_same : (q : List Pending) → AllAlive same.alive (filter_map pending_label q) → IsSameBut (after_run s d q) (after_run t d q)
   unfolding without_same
