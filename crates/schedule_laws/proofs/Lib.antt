@@ -9,4 +9,5 @@ pub mod Queues
 pub mod Wiped
 pub mod Taken
 pub mod Settled
+pub mod Placing
 mod Rows
