@@ -10,4 +10,5 @@ pub mod Wiped
 pub mod Taken
 pub mod Settled
 pub mod Placing
+pub mod Keeping
 mod Rows
