@@ -11,4 +11,5 @@ pub mod Taken
 pub mod Settled
 pub mod Placing
 pub mod Keeping
+pub mod Queueing
 mod Rows
