@@ -12,4 +12,5 @@ pub mod Settled
 pub mod Placing
 pub mod Keeping
 pub mod Queueing
+pub mod Lasting
 mod Rows
