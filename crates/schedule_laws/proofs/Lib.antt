@@ -13,4 +13,5 @@ pub mod Placing
 pub mod Keeping
 pub mod Queueing
 pub mod Lasting
+pub mod Labelled
 mod Rows
