@@ -14,4 +14,5 @@ pub mod Keeping
 pub mod Queueing
 pub mod Lasting
 pub mod Labelled
+pub mod Wiping
 mod Rows

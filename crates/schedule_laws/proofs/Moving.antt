@@ -23,7 +23,7 @@ use Rattle.schedule_laws.proofs.Alive.{all_at, all_map_push, all_set, all_weaker
 use Rattle.schedule_laws.proofs.Holding.{AreDomainsHeld, IsDomainHeld, domains_held, held_again, held_at, in_finals, in_queue, in_registers, same_at, with_domains}
 
 -- whether two labels are the same
-label_cases : (m l : Label) → (m ≡ l) ⊎ ((m ≡ l) → ⊥)
+pub label_cases : (m l : Label) → (m ≡ l) ⊎ ((m ≡ l) → ⊥)
 label_cases m l = go (same_label m l) refl
   where
     go : (b : Bool) → same_label m l ≡ b → (m ≡ l) ⊎ ((m ≡ l) → ⊥)

@@ -110,6 +110,18 @@ module _ (gone : Label → Bool) where
   pub all_wiped_keys : (ks : List (Option Label)) → wiped_keys (places_where (is_gone_key gone) ks) ks ≡ all_emptied gone ks
   all_wiped_keys ks = ap (λ ps. wiped_keys ps ks) (places_are (is_gone_key gone) ks) ∙ wiped_of ks
 
+  wiped_twice : (ks : List (Option Label)) → wiped_keys (places_of (is_gone_key gone) ks) (all_emptied gone ks) ≡ all_emptied gone ks
+  wiped_twice [] = refl
+  wiped_twice (k ∷ ks) = go (is_gone_key gone k) (wiped_twice ks)
+    where
+      go : (b : Bool) → wiped_keys (places_of (is_gone_key gone) ks) (all_emptied gone ks) ≡ all_emptied gone ks → wiped_keys (cond b (zero ∷ map suc (places_of (is_gone_key gone) ks)) (map suc (places_of (is_gone_key gone) ks))) (cond b None k ∷ all_emptied gone ks) ≡ cond b None k ∷ all_emptied gone ks
+      go true later = ap (λ ls. slice_set ls zero None) (wiped-shifted None (places_of (is_gone_key gone) ks) (all_emptied gone ks) ∙ ap (λ ls. None ∷ ls) later)
+      go false later = wiped-shifted k (places_of (is_gone_key gone) ks) (all_emptied gone ks) ∙ ap (λ ls. k ∷ ls) later
+
+  -- once more changes nothing
+  pub wiped_again : (ks : List (Option Label)) → wiped_keys (places_where (is_gone_key gone) ks) (all_emptied gone ks) ≡ all_emptied gone ks
+  wiped_again ks = ap (λ ps. wiped_keys ps (all_emptied gone ks)) (places_are (is_gone_key gone) ks) ∙ wiped_twice ks
+
   -- there is a place where one is gone, and none where none is
   any_of : (ks : List (Option Label)) → list_any (is_gone_key gone) ks ≡ some_of (places_of (is_gone_key gone) ks)
   any_of [] = refl
