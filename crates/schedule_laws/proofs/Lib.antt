@@ -15,4 +15,5 @@ pub mod Queueing
 pub mod Lasting
 pub mod Labelled
 pub mod Wiping
+pub mod Sealing
 mod Rows
