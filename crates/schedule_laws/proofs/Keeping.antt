@@ -33,7 +33,7 @@ queued_leaves f leaves t [] all = refl
 queued_leaves f leaves t (Queue e places ∷ h) all = queued_leaves f leaves (next t (Queue e places)) h all ∙ leaves t e (with_queued (domain_at t e) places)
 queued_leaves f leaves t (e ∷ h) all = cc
 
-wiped_domains : (t : State) (l : Label) (places : List ℕ) (o : Option Node) (ls : List Label) → (with_taken (with_wiped t l (wiped places o)) ls).domains ≡ t.domains
+pub wiped_domains : (t : State) (l : Label) (places : List ℕ) (o : Option Node) (ls : List Label) → (with_taken (with_wiped t l (wiped places o)) ls).domains ≡ t.domains
 wiped_domains t l places None ls = refl
 wiped_domains t l places (Some (Plain tag fields)) ls = refl
 wiped_domains t l places (Some (Raw tag fields)) ls = refl

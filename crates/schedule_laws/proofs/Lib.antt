@@ -16,4 +16,6 @@ pub mod Lasting
 pub mod Labelled
 pub mod Wiping
 pub mod Sealing
+pub mod Reaching
+pub mod Collecting
 mod Rows
