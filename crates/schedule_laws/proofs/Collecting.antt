@@ -16,10 +16,10 @@ use Rattle.heap_model.specs.declared.state.Mode.TheVariants.{Open}
 use Rattle.heap_model.specs.declared.state.Pending.{Pending}
 use Rattle.heap_model.specs.declared.state.Sizes.{Sizes}
 use Rattle.heap_model.specs.declared.state.State.{State}
-use Rattle.heap_model.specs.Graph.{Graph, has_label, labels, node_at}
-use Rattle.heap_model.specs.Domains.{domain_at, is_reachable_with, no_domain, opening, pending_label, queues, reach, roots, settled_reach, settled_roots, waiting}
+use Rattle.heap_model.specs.Graph.{Graph, has_label, labels, node_at, same_label}
+use Rattle.heap_model.specs.Domains.{domain_at, is_reachable_with, no_domain, opening, pending_label, queues, reach, roots, settled_reach, settled_roots, shared_label, waiting, with_block, with_domain}
 use Rattle.heap_model.specs.Reach.{reachable}
-use Rattle.heap_model.specs.Entries.{CollectedAllowed, ephe_holds, is_gone, is_let_go, next, queued_last, with_finals_open, with_lasts_open}
+use Rattle.heap_model.specs.Entries.{CollectedAllowed, ephe_holds, is_gone, is_let_go, next, queued_last, with_finals_open, with_last_queued, with_lasts_open, with_taken}
 use Rattle.heap_model.specs.History.{Legal, LegalFrom, state_after}
 use Rattle.heap_model.specs.WellFormed.{names_of}
 use Rattle.heap_model.proofs.Collections.CollectionLemmas.{collected_waiting}
@@ -27,24 +27,35 @@ use Rattle.heap_model.proofs.Collections.CutLemmas.{collected_settled, holds_aft
 use Rattle.heap_model.proofs.Collections.MarkLemmas.{all_labels}
 use Rattle.heap_model.proofs.Histories.HistoryLemmas.{state_after-append}
 use Rattle.heap_model.proofs.Histories.NumberLemmas.{node_at-no_label}
-use Rattle.heap_model.proofs.Reach.ReachLemmas.{Within, has-append_cases, has-append_left, has-append_right, reachable_roots}
+use Rattle.heap_model.proofs.Reach.ReachLemmas.{Within, has-append_cases, has-append_left, has-append_right, never_true, or_cases, reachable_roots}
+use Rattle.heap_model.proofs.Graphs.GraphLemmas.{same_label-true}
 use Rattle.schedule_laws.specs.Sameness.{AllAlive, AreSameDomains, IsSameBut, IsSameDomain, is_queue, is_taking}
 use Rattle.schedule_laws.specs.Scheduled.{all_lasts, all_queued, all_wiped, labels_in_order}
 use Rattle.schedule_laws.proofs.Holding.{in_finals, in_registers}
-use Rattle.schedule_laws.proofs.Keeping.{domains_stay, queued_leaves, taken_leaves}
+use Rattle.schedule_laws.proofs.Alive.{all_first}
+use Rattle.schedule_laws.proofs.Keeping.{domains_stay, labels_stay, queued_leaves, same_points, taken_keeps, taken_leaves}
+use Rattle.schedule_laws.proofs.Lasting.{IsLastsFrom, all_is_taking, all_lasts_from, all_lasts_graph}
 use Rattle.schedule_laws.proofs.Labelled.{labels_ordered}
-use Rattle.schedule_laws.proofs.Moving.{same_domain}
+use Rattle.schedule_laws.proofs.Moving.{has_node, no_label, same_domain}
 use Rattle.schedule_laws.proofs.Queueing.{IsQueuedFrom}
 use Rattle.schedule_laws.proofs.Queues.{at_cut, dead_in, queues_during, queues_known}
-use Rattle.schedule_laws.proofs.Reaching.{holds_none, reached_names, taken_reach, taken_reached, taken_registers, taken_settled, waits_at}
-use Rattle.schedule_laws.proofs.Sameness.{same_reach, same_settled}
+use Rattle.schedule_laws.proofs.Reaching.{all_from, holds_none, reached_names, taken_reach, taken_reached, taken_registers, taken_settled, waits_at}
+use Rattle.schedule_laws.proofs.Sameness.{reachable_alive, same_reach, same_settled}
 use Rattle.schedule_laws.proofs.Sealing.{many_same, queued_same, seal_same}
-use Rattle.schedule_laws.proofs.Taken.{Taking, at_seal, gone_in, gone_last, takings}
+use Rattle.schedule_laws.proofs.Taken.{NodeOf, Taking, at_seal, gone_in, gone_last, takings}
+use Rattle.schedule_laws.proofs.Queued.{dead_of, others_of}
+use Rattle.schedule_laws.proofs.Wiped.{emptied_node}
+use Rattle.schedule_laws.proofs.Wiping.{all_wiped_domains, all_wiped_is_taking, all_wiped_nodes, cleaned}
 use Rattle.schedule_laws.proofs.Settled.{collected_ephemeron, collected_lasts}
 
 pub legal_parts : (s : State) (h k : List Entry) → LegalFrom s (h ++ k) → LegalFrom s h × LegalFrom (state_after s h) k
 legal_parts s [] k legal = (tt, legal)
 legal_parts s (e ∷ h) k legal = let later = legal_parts (next s e) h k legal.1 in ((legal.0, later.0), later.1)
+
+-- a label of a list all of which passes
+each_of : (alive : Label → Bool) (ls : List Label) (l : Label) → AllAlive alive ls → IsTrue (has_label ls l) → IsTrue (alive l)
+each_of alive [] l a h = cc
+each_of alive (k ∷ ls) l a h = ⊎_elim (λ here. subst (λ z. IsTrue (alive z)) (same_label-true k l here) a.0) (λ later. each_of alive ls l a.1 later) (or_cases (same_label k l) (has_label ls l) h)
 
 -- once a domain was opened for the entries to come
 opened_at : (f : DomainState → DomainState) (P : DomainState → Type 0) → P no_domain → ((x : DomainState) → P (f x)) → (xs : List DomainState) (d : ℕ) → P (slice_index_or (map f xs) d no_domain)
@@ -187,3 +198,164 @@ module _ (z : Sizes) (h queued taken : List Entry) (queues_all : list_all is_que
 
     pub seals_same : IsSameBut sealed other_sealed
     seals_same = seal_same queued_all (state_after other_cut (all_queued other_cut)) (queued_same start t same queued queues_all queued_known)
+
+    abbrev alive : Label → Bool
+    alive = has_label (reach taken_all)
+
+    -- what is reached at the end was so at the seal, in both
+    reached_then : (l : Label) → IsTrue (alive l) → IsTrue (has_label (reach sealed) l)
+    reached_then l a = subst (λ ls. IsTrue (has_label ls l)) end_reach a
+
+    passed_then : (l : Label) → IsTrue (alive l) → IsTrue (seals_same.alive l)
+    passed_then l a =
+        each_of seals_same.alive (reach sealed) l
+            (reachable_alive sealed other_sealed seals_same (roots sealed (queues sealed)) (all_first seals_same.alive (roots sealed (queues sealed)) (waiting sealed) seals_same.held.roots)) (reached_then l a)
+
+    gone_same : gone_in other_sealed ≡ gone_in sealed
+    gone_same = ap (λ ls l. not (has_label ls l)) (same_settled sealed other_sealed seals_same)
+
+    order_same : labels_in_order other_sealed ≡ labels_in_order sealed
+    order_same =
+        let serials : (λ d. (domain_at other_sealed d).serial) ≡ (λ d. (domain_at sealed d).serial) = λ i d. (same_domain sealed other_sealed seals_same d).serial i in
+        let many : length other_sealed.domains ≡ length sealed.domains = many_same sealed other_sealed seals_same in
+        ap (λ (f : ℕ → ℕ). shared_label ∷ flat_map (λ d. map (λ n. record { domain = d; serial = n }) (range_with_len 1 (f d))) (range_with_len 0 (length other_sealed.domains))) serials
+        ∙ ap (λ (n : ℕ). shared_label ∷ flat_map (λ d. map (λ k. record { domain = d; serial = k }) (range_with_len 1 (domain_at sealed d).serial)) (range_with_len 0 n)) many
+
+    abbrev pub other_wiped : State
+    other_wiped = state_after other_sealed (all_wiped other_sealed)
+
+    wiped_labels : labels other_wiped.graph ≡ labels other_sealed.graph
+    wiped_labels = taken_leaves (λ (v : State). labels v.graph) (λ v d x. refl) labels_stay (λ v ls. refl) other_sealed (all_wiped other_sealed) (all_wiped_is_taking other_sealed)
+
+    -- what is reached has the same blocks
+    old_node : (l : Label) (o : Option Node) → node_at sealed.graph l ≡ o → NodeOf sealed o (node_at taken_all.graph l)
+    old_node l o at = subst (λ (p : Option Node). NodeOf sealed p (node_at taken_all.graph l)) at (since_seal.nodes l)
+
+    emptied_now : (l : Label) (n : Node) → IsTrue (alive l) → node_at sealed.graph l ≡ Some n → node_at taken_all.graph l ≡ Some (emptied_node (gone_in sealed) n)
+    emptied_now l (Plain tag fields) a at = old_node l (Some (Plain tag fields)) at
+    emptied_now l (Raw tag fields) a at = old_node l (Some (Raw tag fields)) at
+    emptied_now l (Ephe keys datum) a at = go (node_at taken_all.graph l) refl (old_node l (Some (Ephe keys datum)) at)
+      where
+        go : (o : Option Node) → node_at taken_all.graph l ≡ o → NodeOf sealed (Some (Ephe keys datum)) o → o ≡ Some (emptied_node (gone_in sealed) (Ephe keys datum))
+        go None is n = let clash : ◌≡◌ {A = Option Node} None (Some (Ephe keys datum)) = n in cc
+        go (Some (Plain tag fields)) is n = let clash : ◌≡◌ {A = Option Node} (Some (Plain tag fields)) (Some (Ephe keys datum)) = n in cc
+        go (Some (Raw tag fields)) is n = let clash : ◌≡◌ {A = Option Node} (Some (Raw tag fields)) (Some (Ephe keys datum)) = n in cc
+        go (Some (Ephe now left)) is n = ap Some (collected_ephemeron sealed taken_all since_seal l keys datum now left allowed a at is)
+
+    nodes_now : (l : Label) → IsTrue (alive l) → node_at other_wiped.graph l ≡ node_at taken_all.graph l
+    nodes_now l a = go (node_at sealed.graph l) refl
+      where
+        go : (o : Option Node) → node_at sealed.graph l ≡ o → node_at other_wiped.graph l ≡ node_at taken_all.graph l
+        go None at =
+            let there : node_at other_sealed.graph l ≡ None = seals_same.nodes l (passed_then l a) ∙ at in
+            node_at-no_label other_wiped.graph l (ap (λ ls. has_label ls l) wiped_labels ∙ no_label other_sealed.graph l there) ∙ sym (old_node l None at)
+        go (Some n) at =
+            let there : node_at other_sealed.graph l ≡ Some n = seals_same.nodes l (passed_then l a) ∙ at in
+            let reached : IsTrue (has_label (reach other_sealed) l) = subst (λ ls. IsTrue (has_label ls l)) (sym (same_reach sealed other_sealed seals_same)) (reached_then l a) in
+            let listed : IsTrue (has_label (labels_in_order other_sealed) l) = subst (λ ls. IsTrue (has_label ls l)) (sym order_same) (end_ordered l (has_node sealed.graph l n at)) in
+            all_wiped_nodes other_sealed l reached listed ∙ ap (cleaned other_sealed) there ∙ ap (λ (gone : Label → Bool). Some (emptied_node gone n)) gone_same ∙ sym (emptied_now l n a at)
+
+    -- the seal with the blocks of the end
+    abbrev half : State
+    half = record sealed { graph = taken_all.graph }
+
+    settled_alive : (l : Label) → IsTrue (has_label (settled_reach sealed (queues sealed)) l) → IsTrue (alive l)
+    settled_alive l h = settled_within l (subst (λ ls. IsTrue (has_label ls l)) (sym since_seal.settled) h)
+
+    half_same : IsSameBut half other_wiped
+    half_same = record {
+      alive = alive;
+      held = record {
+        roots = all_from alive (settled_roots sealed (queues sealed)) (λ l h. settled_alive l (reachable_roots sealed.graph (settled_roots sealed (queues sealed)) l h));
+        nodes = end_names;
+      };
+      nodes = nodes_now;
+      labels_same = wiped_labels ∙ seals_same.labels_same ∙ sym (taken_leaves (λ (v : State). labels v.graph) (λ v d x. refl) labels_stay (λ v ls. refl) sealed taken takes_all);
+      domains = subst (λ (xs : List DomainState). AreSameDomains sealed.domains xs) (sym (all_wiped_domains other_sealed)) seals_same.domains;
+      sizes = taken_leaves (λ (v : State). v.sizes) (λ v d x. refl) (λ v l n. refl) (λ v ls. refl) other_sealed (all_wiped other_sealed) (all_wiped_is_taking other_sealed) ∙ seals_same.sizes;
+      mode = taken_leaves (λ (v : State). v.mode) (λ v d x. refl) (λ v l n. refl) (λ v ls. refl) other_sealed (all_wiped other_sealed) (all_wiped_is_taking other_sealed) ∙ seals_same.mode;
+      kept = taken_leaves (λ (v : State). v.kept) (λ v d x. refl) (λ v l n. refl) (λ v ls. refl) other_sealed (all_wiped other_sealed) (all_wiped_is_taking other_sealed) ∙ seals_same.kept;
+    }
+
+    settled_now : settled_reach other_wiped (queues other_wiped) ≡ settled_reach sealed (queues sealed)
+    settled_now = same_settled half other_wiped half_same ∙ taken_reach (settled_roots sealed (queues sealed)) sealed taken takes_all legal_taken (λ x h. h)
+
+    -- each `finalise_last` whose block is gone may be queued
+    let_go : (l : Label) → gone_in sealed l ≡ true → is_let_go other_wiped l ≡ true
+    let_go l gone = all_labels (λ x. not (ephe_holds l (node_at other_wiped.graph x))) (settled_reach other_wiped (queues other_wiped)) (λ x h.
+        let reached : IsTrue (alive x) = settled_alive x (subst (λ ls. IsTrue (has_label ls x)) settled_now h) in
+        let dead : alive l ≡ false = never_true (alive l) (λ a.
+        let inside : has_label (settled_reach sealed (queues sealed)) l ≡ true = subst (λ ls. IsTrue (has_label ls l)) since_seal.settled (reach_within l a) in
+        let clash : false ≡ true = sym (ap not inside) ∙ gone in cc) in
+        go x reached dead (node_at taken_all.graph x) refl)
+      where
+        go : (x : Label) → IsTrue (alive x) → alive l ≡ false → (o : Option Node) → node_at taken_all.graph x ≡ o → not (ephe_holds l (node_at other_wiped.graph x)) ≡ true
+        go x reached dead None at = ap (λ (o : Option Node). not (ephe_holds l o)) (nodes_now x reached ∙ at)
+        go x reached dead (Some (Plain tag fields)) at = ap (λ (o : Option Node). not (ephe_holds l o)) (nodes_now x reached ∙ at)
+        go x reached dead (Some (Raw tag fields)) at = ap (λ (o : Option Node). not (ephe_holds l o)) (nodes_now x reached ∙ at)
+        go x reached dead (Some (Ephe keys datum)) at =
+            ap (λ (o : Option Node). not (ephe_holds l o)) (nodes_now x reached ∙ at) ∙ ap not (holds_none alive l keys datum dead (end_names x (Ephe keys datum) reached at))
+
+    abbrev may_queue : LastFinaliser → Bool
+    may_queue f = is_gone other_wiped (queues other_wiped) f.label && is_let_go other_wiped f.label
+
+    may_queue_is : (f : LastFinaliser) → may_queue f ≡ gone_last sealed f
+    may_queue_is f = go (gone_last sealed f) refl (ap (λ ls. not (has_label ls f.label)) settled_now)
+      where
+        go : (b : Bool) → gone_last sealed f ≡ b → is_gone other_wiped (queues other_wiped) f.label ≡ gone_last sealed f → may_queue f ≡ gone_last sealed f
+        go true e now = ap (λ b. b && is_let_go other_wiped f.label) (now ∙ e) ∙ let_go f.label e ∙ sym e
+        go false e now = ap (λ b. b && is_let_go other_wiped f.label) (now ∙ e) ∙ sym e
+
+    abbrev pub other_taken : State
+    other_taken = state_after other_wiped (all_lasts other_wiped)
+
+    lasts_taking : list_all is_taking (all_lasts other_wiped) ≡ true
+    lasts_taking = all_is_taking may_queue other_wiped
+
+    wiped_domain : (d : ℕ) → domain_at other_wiped d ≡ domain_at other_sealed d
+    wiped_domain d = ap (λ (xs : List DomainState). slice_index_or xs d no_domain) (all_wiped_domains other_sealed)
+
+    same_part : {B : Type 0} (f : DomainState → B) → ((x : DomainState) (place : ℕ) → f (with_last_queued x place) ≡ f x) → (d : ℕ) → f (domain_at other_sealed d) ≡ f (domain_at sealed d) → f (domain_at other_taken d) ≡ f (domain_at taken_all d)
+    same_part f keeps d is = taken_keeps f keeps other_wiped (all_lasts other_wiped) lasts_taking d ∙ ap f (wiped_domain d) ∙ is ∙ sym (taken_keeps f keeps sealed taken takes_all d)
+
+    same_end_domain : (d : ℕ) → IsSameDomain (domain_at taken_all d) (domain_at other_taken d)
+    same_end_domain d =
+        let is : IsSameDomain (domain_at sealed d) (domain_at other_sealed d) = same_domain sealed other_sealed seals_same d in
+        let new : IsLastsFrom may_queue (domain_at other_wiped d) (domain_at other_taken d) = all_lasts_from may_queue other_wiped d in
+        let old = collected_lasts sealed taken_all since_seal d allowed in
+        let tests : may_queue ≡ gone_last sealed = λ i f. may_queue_is f i in
+        let lasts_then : (domain_at other_wiped d).lasts ≡ (domain_at sealed d).lasts = ap (λ (x : DomainState). x.lasts) (wiped_domain d) ∙ is.lasts in
+        let queue_then : (domain_at other_wiped d).queue ≡ (domain_at sealed d).queue = ap (λ (x : DomainState). x.queue) (wiped_domain d) ∙ is.queue in
+        record {
+          registers = same_part (λ x. x.registers) (λ x p. refl) d is.registers;
+          serial = same_part (λ x. x.serial) (λ x p. refl) d is.serial;
+          ended = same_part (λ x. x.ended) (λ x p. refl) d is.ended;
+          finals = same_part (λ x. x.finals) (λ x p. refl) d is.finals;
+          lasts = new.lasts ∙ ap (λ test. others_of queued_last test (domain_at other_wiped d).lasts) tests ∙ ap (others_of queued_last (gone_last sealed)) lasts_then ∙ sym old.0;
+          queue = new.queue ∙ ap (λ test. (domain_at other_wiped d).queue ++ map queued_last (reverse (dead_of queued_last test (domain_at other_wiped d).lasts))) tests
+              ∙ ap (λ fs. (domain_at other_wiped d).queue ++ map queued_last (reverse (dead_of queued_last (gone_last sealed) fs))) lasts_then
+              ∙ ap (λ q. q ++ map queued_last (reverse (dead_of queued_last (gone_last sealed) (domain_at sealed d).lasts))) queue_then ∙ sym old.1;
+          fresh = same_part (λ x. x.fresh) (λ x p. refl) d is.fresh;
+          due = same_part (λ x. x.due) (λ x p. refl) d is.due;
+        }
+
+    same_whole : {B : Type 0} (f : State → B) → ((v : State) (d : ℕ) (x : DomainState) → f (with_domain v d x) ≡ f v) → ((v : State) (l : Label) (n : Node) → f (with_block v l n) ≡ f v) → ((v : State) (ls : List Label) → f (with_taken v ls) ≡ f v)
+        → f other_sealed ≡ f sealed → f other_taken ≡ f taken_all
+    same_whole f a b c is =
+        taken_leaves f a b c other_wiped (all_lasts other_wiped) lasts_taking ∙ taken_leaves f a b c other_sealed (all_wiped other_sealed) (all_wiped_is_taking other_sealed) ∙ is ∙ sym (taken_leaves f a b c sealed taken takes_all)
+
+    -- the two are the same but for garbage where they are complete
+    pub ends_same : IsSameBut taken_all other_taken
+    ends_same = record {
+      alive = alive;
+      held = record {
+        roots = all_from alive (settled_roots taken_all (queues taken_all)) (λ l h. settled_within l (reachable_roots taken_all.graph (settled_roots taken_all (queues taken_all)) l h));
+        nodes = end_names;
+      };
+      nodes = λ l a. ap (λ (g : Graph). node_at g l) (all_lasts_graph may_queue other_wiped) ∙ nodes_now l a;
+      labels_same = same_whole (λ (v : State). labels v.graph) (λ v d x. refl) labels_stay (λ v ls. refl) seals_same.labels_same;
+      domains = same_points taken_all.domains other_taken.domains (same_whole (λ (v : State). length v.domains) domains_stay (λ v l n. refl) (λ v ls. refl) (many_same sealed other_sealed seals_same)) same_end_domain;
+      sizes = same_whole (λ (v : State). v.sizes) (λ v d x. refl) (λ v l n. refl) (λ v ls. refl) seals_same.sizes;
+      mode = same_whole (λ (v : State). v.mode) (λ v d x. refl) (λ v l n. refl) (λ v ls. refl) seals_same.mode;
+      kept = same_whole (λ (v : State). v.kept) (λ v d x. refl) (λ v l n. refl) (λ v ls. refl) seals_same.kept;
+    }

@@ -171,3 +171,16 @@ module _ (gone : LastFinaliser → Bool) where
 
     pub all_lasts_from : (d : ℕ) → IsLastsFrom (domain_at s d) (domain_at (state_after s (from_on 0 (length s.domains))) d)
     all_lasts_from d = (lasts_since (length s.domains) 0 s (omega arith) (λ k more. refl)).since d (omega arith)
+
+    graph_of : (ps : List ℕ) (t : State) (a : ℕ) → (state_after t (map (λ p. Last a p) ps)).graph ≡ t.graph
+    graph_of [] t a = refl
+    graph_of (p ∷ ps) t a = graph_of ps (next t (Last a p)) a
+
+    graph_from : (n a : ℕ) (t : State) → (state_after t (from_on a n)).graph ≡ t.graph
+    graph_from zero a t = refl
+    graph_from (suc n) a t =
+        ap (λ (v : State). v.graph) (state_after-append t (lasts_of a) (from_on (a + 1) n)) ∙ graph_from n (a + 1) (state_after t (lasts_of a)) ∙ graph_of (reverse (places_where gone (domain_at s a).lasts)) t a
+
+    -- no block changes
+    pub all_lasts_graph : (state_after s (from_on 0 (length s.domains))).graph ≡ s.graph
+    all_lasts_graph = graph_from (length s.domains) 0 s

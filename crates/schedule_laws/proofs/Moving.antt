@@ -117,6 +117,23 @@ module _ (s t : State) (same : IsSameBut s t) where
       kept = same.kept;
     }
 
+-- a label without a node is none of the graph's, and one with a node is
+pub no_label : (g : Graph) (l : Label) → node_at g l ≡ None → has_label (labels g) l ≡ false
+no_label [] l e = refl
+no_label (x ∷ g) l e = go (same_label x.0 l) (no_label g l) e
+  where
+    go : (b : Bool) → (node_at g l ≡ None → has_label (labels g) l ≡ false) → cond b (Some x.1) (node_at g l) ≡ None → (b || has_label (labels g) l) ≡ false
+    go true rest e = cc
+    go false rest e = rest e
+
+pub has_node : (g : Graph) (l : Label) (n : Node) → node_at g l ≡ Some n → has_label (labels g) l ≡ true
+has_node [] l n e = cc
+has_node (x ∷ g) l n e = go (same_label x.0 l) (has_node g l n) e
+  where
+    go : (b : Bool) → (node_at g l ≡ Some n → has_label (labels g) l ≡ true) → cond b (Some x.1) (node_at g l) ≡ Some n → (b || has_label (labels g) l) ≡ true
+    go true rest e = refl
+    go false rest e = rest e
+
 -- a label more passes
 abbrev more_alive : (Label → Bool) → Label → Label → Bool
 more_alive alive l m = alive m || same_label m l
@@ -175,14 +192,6 @@ module _ (s t : State) (same : IsSameBut s t) (l : Label) (n : Node) (new : node
 
   none_there : node_at t.graph l ≡ None
   none_there = node_at-no_label t.graph l (ap (λ ls. has_label ls l) same.labels_same ∙ no_label s.graph l new)
-    where
-      no_label : (g : Graph) (l : Label) → node_at g l ≡ None → has_label (labels g) l ≡ false
-      no_label [] l e = refl
-      no_label (x ∷ g) l e = go (same_label x.0 l) (no_label g l) e
-        where
-          go : (b : Bool) → (node_at g l ≡ None → has_label (labels g) l ≡ false) → cond b (Some x.1) (node_at g l) ≡ None → (b || has_label (labels g) l) ≡ false
-          go true rest e = cc
-          go false rest e = rest e
 
   grown_same : (m : Label) → IsTrue (more m) → node_at (t.graph ++ (l, n) ∷ []) m ≡ node_at (s.graph ++ (l, n) ∷ []) m
   grown_same m a = same_append s.graph t.graph (l, n) m (⊎_elim

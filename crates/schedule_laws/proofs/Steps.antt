@@ -33,7 +33,7 @@ pub record IsSameStep (s t : State) (e : Entry) : Type 0 where
   pub states : IsSameBut (next s e) (next t e)
 
 -- a domain has made the entry of a command
-after_same : (s t : State) (same : IsSameBut s t) (d : ℕ) → IsSameBut (after_command s d) (after_command t d)
+pub after_same : (s t : State) (same : IsSameBut s t) (d : ℕ) → IsSameBut (after_command s d) (after_command t d)
 after_same s t same d =
     let held = held_domain s t same d in
     let is = same_domain s t same d in

@@ -10,6 +10,7 @@ use Rattle.heap_model.specs.declared.graph.Node.{Node}
 use Rattle.heap_model.specs.declared.graph.Node.TheVariants.{Plain, Raw, Ephe}
 use Rattle.heap_model.specs.declared.graph.Value.{Value}
 use Rattle.heap_model.specs.declared.graph.Value.TheVariants.{Nothing}
+use Rattle.heap_model.specs.declared.state.DomainState.{DomainState}
 use Rattle.heap_model.specs.declared.state.State.{State}
 use Rattle.heap_model.specs.Graph.{Graph, has_label, node_at, same_label, with_node}
 use Rattle.heap_model.specs.Domains.{reach}
@@ -22,6 +23,7 @@ use Rattle.schedule_laws.specs.Sameness.{is_taking}
 use Rattle.schedule_laws.specs.Scheduled.{all_wiped, gone_keys, labels_in_order, places_where, wiping}
 use Rattle.schedule_laws.proofs.Wiped.{all_emptied, emptied_node, is_gone_key}
 use Rattle.schedule_laws.proofs.Taken.{gone_in}
+use Rattle.schedule_laws.proofs.Keeping.{wiped_domains}
 use Rattle.schedule_laws.proofs.Moving.{label_cases}
 use Rattle.schedule_laws.proofs.Placing.{all_wiped_keys, any_gone, some_of, wiped_again}
 
@@ -159,3 +161,15 @@ module _ (s : State) where
 
   pub all_wiped_is_taking : list_all is_taking (all_wiped s) ≡ true
   all_wiped_is_taking = are_taking (filter (has_label (reach s)) (labels_in_order s))
+
+  wiped_domains_of : (t : State) (ls : List Label) → (state_after t (flat_map wipe_of ls)).domains ≡ t.domains
+  wiped_domains_of t [] = refl
+  wiped_domains_of t (l ∷ ls) =
+      ap (λ (v : State). v.domains) (state_after-append t (wipe_of l) (flat_map wipe_of ls)) ∙ wiped_domains_of (state_after t (wipe_of l)) ls ∙ one (gone_keys s (node_at s.graph l))
+    where
+      one : (ps : List ℕ) → (state_after t (wiping l ps)).domains ≡ t.domains
+      one [] = refl
+      one (p ∷ ps) = wiped_domains t l (p ∷ ps) (node_at t.graph l) (keys_at (p ∷ ps) (node_at t.graph l))
+
+  pub all_wiped_domains : (state_after s (all_wiped s)).domains ≡ s.domains
+  all_wiped_domains = wiped_domains_of s (filter (has_label (reach s)) (labels_in_order s))
