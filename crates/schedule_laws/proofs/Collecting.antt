@@ -1,47 +1,48 @@
 -- A complete collection leaves what the one of a schedule leaves, and answers the same, however its entries are cut and ordered.
-use Rattle.std.proofs.Common.{◌≡◌, ◌⊎◌, ℕ, zero, suc, ◌+◌, Bool, true, false, cond, not, ◌&&◌, IsTrue, List, [], ◌∷◌, ◌++◌, map, length, filter_map, refl, sym, ap, ◌∙◌, subst, ⊎_elim, arith, append_assoc, None, Some}
-use Rattle.std.specs.Prelude.{Option, flat_map, reverse, slice_index_or}
+use Rattle.std.proofs.Common.{◌≡◌, ℕ, zero, suc, Bool, true, false, cond, not, ◌&&◌, IsTrue, List, [], ◌∷◌, ◌++◌, map, length, filter_map, refl, sym, ap, ◌∙◌, subst, ⊎_elim, append_assoc, append-nil, None, Some}
+use Rattle.std.specs.Prelude.{◌==◌, Option, flat_map, reverse, slice_index_or}
 use Rattle.std.specs.List.{list_all, range_with_len}
 use Rattle.std.proofs.lemmas.Bool.{and_parts}
+use Rattle.std.proofs.lemmas.List.Folds.{list_all-append}
 use Rattle.heap_model.specs.declared.label.Label.{Label}
 use Rattle.heap_model.specs.declared.entry.Entry.{Entry}
-use Rattle.heap_model.specs.declared.entry.Entry.TheVariants.{Cut, Seal, Collected, Done}
+use Rattle.heap_model.specs.declared.entry.Entry.TheVariants.{Command as CommandOf, Cut, Queue, Seal, Wipe, Last, Collected, Done}
+use Rattle.heap_model.specs.declared.command.Command.TheVariants.{FullMajor}
+use Rattle.heap_model.specs.declared.reply.Reply.{Reply}
+use Rattle.heap_model.specs.Commands.{live_reply}
 use Rattle.heap_model.specs.declared.graph.Node.{Node}
 use Rattle.heap_model.specs.declared.graph.Node.TheVariants.{Plain, Raw, Ephe}
-use Rattle.heap_model.specs.declared.graph.Value.{Value}
 use Rattle.heap_model.specs.declared.state.DomainState.{DomainState}
 use Rattle.heap_model.specs.declared.state.Finaliser.{Finaliser}
 use Rattle.heap_model.specs.declared.state.LastFinaliser.{LastFinaliser}
-use Rattle.heap_model.specs.declared.state.Mode.TheVariants.{Open}
-use Rattle.heap_model.specs.declared.state.Pending.{Pending}
 use Rattle.heap_model.specs.declared.state.Sizes.{Sizes}
 use Rattle.heap_model.specs.declared.state.State.{State}
 use Rattle.heap_model.specs.Graph.{Graph, has_label, labels, node_at, same_label}
 use Rattle.heap_model.specs.Domains.{domain_at, is_reachable_with, no_domain, opening, pending_label, queues, reach, roots, settled_reach, settled_roots, shared_label, waiting, with_block, with_domain}
 use Rattle.heap_model.specs.Reach.{reachable}
-use Rattle.heap_model.specs.Entries.{CollectedAllowed, ephe_holds, is_gone, is_let_go, next, queued_last, with_finals_open, with_last_queued, with_lasts_open, with_taken}
-use Rattle.heap_model.specs.History.{Legal, LegalFrom, state_after}
+use Rattle.heap_model.specs.Entries.{CollectedAllowed, ephe_holds, freshened, is_gone, is_let_go, next, queued_last, with_finals_open, with_last_queued, with_lasts_open, with_taken}
+use Rattle.heap_model.specs.History.{Legal, LegalFrom, is_entry_of, replies_from, state_after}
 use Rattle.heap_model.specs.WellFormed.{names_of}
-use Rattle.heap_model.proofs.Collections.CollectionLemmas.{collected_waiting}
 use Rattle.heap_model.proofs.Collections.CutLemmas.{collected_settled, holds_after, is_collecting, pending_labels}
 use Rattle.heap_model.proofs.Collections.MarkLemmas.{all_labels}
-use Rattle.heap_model.proofs.Histories.HistoryLemmas.{state_after-append}
+use Rattle.heap_model.proofs.Histories.HistoryLemmas.{replies_from-append, replies_from-others, state_after-append}
 use Rattle.heap_model.proofs.Histories.NumberLemmas.{node_at-no_label}
 use Rattle.heap_model.proofs.Reach.ReachLemmas.{Within, has-append_cases, has-append_left, has-append_right, never_true, or_cases, reachable_roots}
 use Rattle.heap_model.proofs.Graphs.GraphLemmas.{same_label-true}
-use Rattle.schedule_laws.specs.Sameness.{AllAlive, AreSameDomains, IsSameBut, IsSameDomain, is_queue, is_taking}
-use Rattle.schedule_laws.specs.Scheduled.{all_lasts, all_queued, all_wiped, labels_in_order}
-use Rattle.schedule_laws.proofs.Holding.{in_finals, in_registers}
+use Rattle.schedule_laws.specs.Sameness.{AllAlive, AreSameDomains, CollectionLaw, IsSameBut, IsSameDomain, is_answer, is_queue, is_taking}
+use Rattle.schedule_laws.specs.Scheduled.{all_lasts, all_queued, all_wiped, complete, labels_in_order}
+use Rattle.schedule_laws.proofs.Holding.{domains_held, in_finals, in_registers}
 use Rattle.schedule_laws.proofs.Alive.{all_first}
 use Rattle.schedule_laws.proofs.Keeping.{domains_stay, labels_stay, queued_leaves, same_points, taken_keeps, taken_leaves}
 use Rattle.schedule_laws.proofs.Lasting.{IsLastsFrom, all_is_taking, all_lasts_from, all_lasts_graph}
 use Rattle.schedule_laws.proofs.Labelled.{labels_ordered}
 use Rattle.schedule_laws.proofs.Moving.{has_node, no_label, same_domain}
-use Rattle.schedule_laws.proofs.Queueing.{IsQueuedFrom}
+use Rattle.schedule_laws.proofs.Queueing.{IsQueuedFrom, all_is_queue}
 use Rattle.schedule_laws.proofs.Queues.{at_cut, dead_in, queues_during, queues_known}
-use Rattle.schedule_laws.proofs.Reaching.{all_from, holds_none, reached_names, taken_reach, taken_reached, taken_registers, taken_settled, waits_at}
-use Rattle.schedule_laws.proofs.Sameness.{reachable_alive, same_reach, same_settled}
-use Rattle.schedule_laws.proofs.Sealing.{many_same, queued_same, seal_same}
+use Rattle.schedule_laws.proofs.Reaching.{all_from, holds_none, reached_names, taken_reach, taken_reached, taken_registers, waits_at}
+use Rattle.schedule_laws.proofs.Sameness.{reachable_alive, same_live, same_reach, same_settled}
+use Rattle.schedule_laws.proofs.Sealing.{held_mapped, many_same, queued_same, remade, same_mapped, seal_same}
+use Rattle.schedule_laws.proofs.Steps.{after_same}
 use Rattle.schedule_laws.proofs.Taken.{NodeOf, Taking, at_seal, gone_in, gone_last, takings}
 use Rattle.schedule_laws.proofs.Queued.{dead_of, others_of}
 use Rattle.schedule_laws.proofs.Wiped.{emptied_node}
@@ -209,7 +210,7 @@ module _ (z : Sizes) (h queued taken : List Entry) (queues_all : list_all is_que
     passed_then : (l : Label) → IsTrue (alive l) → IsTrue (seals_same.alive l)
     passed_then l a =
         each_of seals_same.alive (reach sealed) l
-            (reachable_alive sealed other_sealed seals_same (roots sealed (queues sealed)) (all_first seals_same.alive (roots sealed (queues sealed)) (waiting sealed) seals_same.held.roots)) (reached_then l a)
+        (reachable_alive sealed other_sealed seals_same (roots sealed (queues sealed)) (all_first seals_same.alive (roots sealed (queues sealed)) (waiting sealed) seals_same.held.roots)) (reached_then l a)
 
     gone_same : gone_in other_sealed ≡ gone_in sealed
     gone_same = ap (λ ls l. not (has_label ls l)) (same_settled sealed other_sealed seals_same)
@@ -309,7 +310,7 @@ module _ (z : Sizes) (h queued taken : List Entry) (queues_all : list_all is_que
     abbrev pub other_taken : State
     other_taken = state_after other_wiped (all_lasts other_wiped)
 
-    lasts_taking : list_all is_taking (all_lasts other_wiped) ≡ true
+    pub lasts_taking : list_all is_taking (all_lasts other_wiped) ≡ true
     lasts_taking = all_is_taking may_queue other_wiped
 
     wiped_domain : (d : ℕ) → domain_at other_wiped d ≡ domain_at other_sealed d
@@ -359,3 +360,105 @@ module _ (z : Sizes) (h queued taken : List Entry) (queues_all : list_all is_que
       mode = same_whole (λ (v : State). v.mode) (λ v d x. refl) (λ v l n. refl) (λ v ls. refl) seals_same.mode;
       kept = same_whole (λ (v : State). v.kept) (λ v d x. refl) (λ v l n. refl) (λ v ls. refl) seals_same.kept;
     }
+
+-- a collection is answered, and done
+pub collected_same : (s t : State) (same : IsSameBut s t) → IsSameBut (next s Collected) (next t Collected)
+collected_same s t same =
+    remade s t same (next s Collected) (next t Collected) refl refl
+    (held_mapped freshened same.alive (λ x h. record { registers = h.registers; queue = h.queue; finals = h.finals }) s.domains (domains_held same.alive s same.held))
+    (same_mapped freshened (λ x y is. record { registers = is.registers; serial = is.serial; ended = is.ended; finals = is.finals; lasts = is.lasts; queue = is.queue; fresh = refl; due = is.due }) s.domains t.domains same.domains)
+    same.sizes refl (ap length (same_reach s t same))
+
+pub done_same : (s t : State) (same : IsSameBut s t) → IsSameBut (next s Done) (next t Done)
+done_same s t same = remade s t same (next s Done) (next t Done) refl refl (domains_held same.alive s same.held) same.domains same.sizes refl same.kept
+
+-- the answers are the same
+pub record AreAnswered (s t : State) (answered : List Entry) : Type 0 where
+  pub states : IsSameBut (state_after s answered) (state_after t answered)
+  pub replies : (d : ℕ) → replies_from t answered d ≡ replies_from s answered d
+
+pub answers_same : (s t : State) → IsSameBut s t → (answered : List Entry) → list_all is_answer answered ≡ true → AreAnswered s t answered
+answers_same s t same [] all = record { states = same; replies = λ d. refl }
+answers_same s t same (CommandOf e FullMajor false ∷ answered) all =
+    let later = answers_same (next s (CommandOf e FullMajor false)) (next t (CommandOf e FullMajor false)) (after_same s t same e) answered all in
+    record {
+      states = later.states;
+      replies = λ d. ap (λ (r : Reply). cond (e == d) (r ∷ []) [] ++ replies_from (next t (CommandOf e FullMajor false)) answered d) (same_live s t same)
+          ∙ ap (λ rs. cond (e == d) (live_reply s ∷ []) [] ++ rs) (later.replies d);
+    }
+answers_same s t same (e ∷ answered) all = cc
+
+-- entries of the collector answer nothing
+quiet : (is : Entry → Bool) → ((d : ℕ) (e : Entry) → is e ≡ true → not (is_entry_of d e) ≡ true) → (d : ℕ) (h : List Entry) → list_all is h ≡ true → list_all (λ e. not (is_entry_of d e)) h ≡ true
+quiet is none d [] all = refl
+quiet is none d (e ∷ h) all = let parts = and_parts (is e) (list_all is h) all in ap (λ b. b && list_all (λ x. not (is_entry_of d x)) h) (none d e parts.0) ∙ quiet is none d h parts.1
+
+queue_quiet : (d : ℕ) (e : Entry) → is_queue e ≡ true → not (is_entry_of d e) ≡ true
+queue_quiet d (Queue k places) is = refl
+queue_quiet d e is = cc
+
+taking_quiet : (d : ℕ) (e : Entry) → is_taking e ≡ true → not (is_entry_of d e) ≡ true
+taking_quiet d (Wipe l places) is = refl
+taking_quiet d (Last k place) is = refl
+taking_quiet d e is = cc
+
+-- what a complete collection leaves and answers, by its parts
+module _ (s : State) (queued taken answered : List Entry) where
+  abbrev collected_at : State
+  collected_at = next (state_after (next (state_after (next s Cut) queued) Seal) taken) Collected
+
+  abbrev all_of : List Entry
+  all_of = Cut ∷ queued ++ Seal ∷ taken ++ Collected ∷ answered ++ Done ∷ []
+
+  parts_are : all_of ≡ Cut ∷ (queued ++ (Seal ∷ (taken ++ (Collected ∷ (answered ++ Done ∷ [])))))
+  parts_are =
+      append_assoc (Cut ∷ queued ++ Seal ∷ taken) (Collected ∷ answered) (Done ∷ []) ∙ append_assoc (Cut ∷ queued) (Seal ∷ taken) (Collected ∷ answered ++ Done ∷ [])
+
+  pub left_by : state_after s all_of ≡ next (state_after collected_at answered) Done
+  left_by =
+      ap (state_after s) parts_are ∙ state_after-append (next s Cut) queued (Seal ∷ (taken ++ (Collected ∷ (answered ++ Done ∷ []))))
+      ∙ state_after-append (next (state_after (next s Cut) queued) Seal) taken (Collected ∷ (answered ++ Done ∷ [])) ∙ state_after-append collected_at answered (Done ∷ [])
+
+  pub answered_by : list_all is_queue queued ≡ true → list_all is_taking taken ≡ true → (d : ℕ) → replies_from s all_of d ≡ replies_from collected_at answered d
+  answered_by queues_all takes_all d =
+      let cut : State = next s Cut in
+      let sealed : State = next (state_after cut queued) Seal in
+      let behind : List Entry = Collected ∷ (answered ++ Done ∷ []) in
+      ap (λ k. replies_from s k d) parts_are
+      ∙ replies_from-append cut queued (Seal ∷ (taken ++ behind)) d ∙ ap (λ rs. rs ++ replies_from sealed (taken ++ behind) d) (replies_from-others cut queued d (quiet is_queue queue_quiet d queued queues_all))
+      ∙ replies_from-append sealed taken behind d ∙ ap (λ rs. rs ++ replies_from collected_at (answered ++ Done ∷ []) d) (replies_from-others sealed taken d (quiet is_taking taking_quiet d taken takes_all))
+      ∙ replies_from-append collected_at answered (Done ∷ []) d ∙ append-nil (replies_from collected_at answered d)
+
+pub collection_law : CollectionLaw
+collection_law z h t c answered legal mode same is =
+    let s : State = state_after (opening z) h in
+    let queued : List Entry = is.queued in
+    let taken : List Entry = is.taken in
+    let behind : List Entry = Collected ∷ (answered ++ Done ∷ []) in
+    let all_legal : Legal z (h ++ (Cut ∷ queued ++ Seal ∷ taken) ++ behind) =
+    subst (λ k. LegalFrom (opening z) k)
+    (ap (λ k. h ++ k) (is.is ∙ append_assoc (Cut ∷ queued ++ Seal ∷ taken) (Collected ∷ answered) (Done ∷ [])) ∙ sym (append_assoc h (Cut ∷ queued ++ Seal ∷ taken) behind)) legal in
+    let split = legal_parts (opening z) (h ++ (Cut ∷ queued ++ Seal ∷ taken)) behind all_legal in
+    let allowed : CollectedAllowed (state_after (next (state_after (next s Cut) queued) Seal) taken) =
+    subst CollectedAllowed (state_after-append (opening z) h (Cut ∷ queued ++ Seal ∷ taken) ∙ state_after-append (next s Cut) queued (Seal ∷ taken)) split.1.0 in
+    let ends = ends_same z h queued taken is.are_queues is.are_taking split.0 allowed t same in
+    let collected = collected_same (state_after (next (state_after (next s Cut) queued) Seal) taken) (other_taken z h queued taken is.are_queues is.are_taking split.0 allowed t same) ends in
+    let answers = answers_same (next (state_after (next (state_after (next s Cut) queued) Seal) taken) Collected) (next (other_taken z h queued taken is.are_queues is.are_taking split.0 allowed t same) Collected) collected answered is.are_answers in
+    let cut : State = next t Cut in
+    let sealed : State = next (state_after cut (all_queued cut)) Seal in
+    let wiped : List Entry = all_wiped sealed in
+    let lasts : List Entry = all_lasts (state_after sealed wiped) in
+    let joined : state_after sealed (wiped ++ lasts) ≡ state_after (state_after sealed wiped) lasts = state_after-append sealed wiped lasts in
+    let shape : complete t answered ≡ all_of t (all_queued cut) (wiped ++ lasts) answered =
+    ap (λ k. k ++ (Collected ∷ answered) ++ Done ∷ []) (append_assoc (Cut ∷ all_queued cut) (Seal ∷ wiped) lasts) in
+    let takes : list_all is_taking (wiped ++ lasts) ≡ true =
+    list_all-append is_taking wiped lasts ∙ ap (λ b. b && list_all is_taking lasts) (all_wiped_is_taking sealed) ∙ lasts_taking z h queued taken is.are_queues is.are_taking split.0 allowed t same in
+    let left : state_after (opening z) (h ++ c) ≡ next (state_after (next (state_after (next (state_after (next s Cut) queued) Seal) taken) Collected) answered) Done =
+    state_after-append (opening z) h c ∙ ap (state_after s) is.is ∙ left_by s queued taken answered in
+    let here : State = next (state_after (next (state_after (next (state_after (next s Cut) queued) Seal) taken) Collected) answered) Done in
+    let left_too : state_after t (complete t answered) ≡ next (state_after (next (state_after (state_after sealed wiped) lasts) Collected) answered) Done =
+    ap (state_after t) shape ∙ left_by t (all_queued cut) (wiped ++ lasts) answered ∙ ap (λ (v : State). next (state_after (next v Collected) answered) Done) joined in (
+      subst (λ (v : State). IsSameBut v (state_after t (complete t answered))) (sym left) (subst (λ (v : State). IsSameBut here v) (sym left_too) (done_same _ _ answers.states)),
+      λ d. ap (λ k. replies_from t k d) shape ∙ answered_by t (all_queued cut) (wiped ++ lasts) answered (all_is_queue cut) takes d ∙ ap (λ (v : State). replies_from (next v Collected) answered d) joined ∙ answers.replies d
+          ∙ sym (ap (λ k. replies_from s k d) is.is ∙ answered_by s queued taken answered is.are_queues is.are_taking d),
+    )

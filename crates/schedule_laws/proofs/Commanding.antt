@@ -1,5 +1,5 @@
 -- A command in states that are the same but for garbage: it answers the same, and leaves the same but for garbage.
-use Rattle.std.proofs.Common.{◌≡◌, ℕ, ◌+◌, Bool, true, false, IsTrue, is_some, List, [], ◌∷◌, ◌++◌, filter_map, option_to_list, pos, replicate, slice_get, option_map, option_and_then, unwrap_or, Option, Some, None, refl, sym, ap, ◌∙◌, subst}
+use Rattle.std.proofs.Common.{◌≡◌, ℕ, ◌+◌, Bool, true, false, IsTrue, is_some, List, [], filter_map, option_to_list, pos, replicate, slice_get, Option, Some, None, refl, sym, subst}
 use Rattle.std.specs.Prelude.{slice_set}
 use Rattle.heap_model.specs.declared.label.Label.{Label}
 use Rattle.heap_model.specs.declared.command.Command.{Command}
@@ -9,11 +9,11 @@ use Rattle.heap_model.specs.declared.graph.Value.TheVariants.{Int, Block, Nothin
 use Rattle.heap_model.specs.declared.graph.Node.{Node}
 use Rattle.heap_model.specs.declared.graph.Node.TheVariants.{Plain, Raw, Ephe}
 use Rattle.heap_model.specs.declared.reply.Reply.{Reply}
-use Rattle.heap_model.specs.declared.reply.Reply.TheVariants.{Yes, No, Full, Done, Live, BadType, BadIndex}
+use Rattle.heap_model.specs.declared.reply.Reply.TheVariants.{Yes, No, Done, BadType, BadIndex}
 use Rattle.heap_model.specs.declared.state.State.{State}
-use Rattle.heap_model.specs.Graph.{block_at, label_of, node_at, words_at, words_of}
-use Rattle.heap_model.specs.Domains.{domain_at, label_in, queues, reach, register, roots, waiting, with_block, with_register}
-use Rattle.heap_model.specs.Commands.{Outcome, allocated, at_ephe, at_field, block_in, datum_set, datum_stored, exchanged, finalised, finalised_last, in_bounds, is_full_value, key_set, key_stored, key_value, live_reply, loaded, new_plain, new_raw, only_replies, outcome, read_into, same_value, shown, stored, tells, written_over, written_where}
+use Rattle.heap_model.specs.Graph.{label_of, node_at}
+use Rattle.heap_model.specs.Domains.{domain_at, label_in, register, with_block, with_register}
+use Rattle.heap_model.specs.Commands.{Outcome, at_ephe, at_field, block_in, datum_set, datum_stored, exchanged, finalised, finalised_last, in_bounds, is_full_value, key_set, key_stored, key_value, live_reply, loaded, new_plain, new_raw, only_replies, outcome, read_into, same_value, stored, tells, written_over, written_where}
 use Rattle.heap_model.specs.WellFormed.{names_of}
 use Rattle.heap_model.proofs.Commands.MoveLemmas.{held_block}
 use Rattle.schedule_laws.specs.Sameness.{AllAlive, IsSameBut}

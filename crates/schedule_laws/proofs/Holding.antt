@@ -6,7 +6,7 @@ use Rattle.heap_model.specs.declared.graph.Node.{Node}
 use Rattle.heap_model.specs.declared.state.DomainState.{DomainState}
 use Rattle.heap_model.specs.declared.state.State.{State}
 use Rattle.heap_model.specs.Graph.{label_of, node_at}
-use Rattle.heap_model.specs.Domains.{domain_at, no_domain, pending_label, queues, roots, settled_roots, waiting, with_domain}
+use Rattle.heap_model.specs.Domains.{no_domain, pending_label, queues, roots, settled_roots, waiting, with_domain}
 use Rattle.heap_model.specs.WellFormed.{names_of}
 use Rattle.schedule_laws.specs.Sameness.{AllAlive, AreSameDomains, IsHeld, IsSameBut, IsSameDomain}
 use Rattle.schedule_laws.proofs.Alive.{all_both, all_first, all_second}

@@ -1,5 +1,5 @@
 -- What the entries of a collection leave as it is.
-use Rattle.std.proofs.Common.{◌≡◌, ℕ, zero, suc, Bool, true, false, List, [], ◌∷◌, length, length-set, refl, sym, ap, ◌∙◌, subst, ⊎_elim, arith, None, Some}
+use Rattle.std.proofs.Common.{◌≡◌, ℕ, zero, suc, Bool, true, List, [], ◌∷◌, length, length-set, refl, sym, ap, ◌∙◌, ⊎_elim, arith, None, Some}
 use Rattle.std.specs.Prelude.{Option, slice_index_or}
 use Rattle.std.specs.List.{list_all}
 use Rattle.heap_model.specs.declared.label.Label.{Label}

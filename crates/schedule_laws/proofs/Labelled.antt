@@ -1,5 +1,5 @@
 -- Each block has the label of the shared block, or one that a domain gave out. So the labels in their order are all there are.
-use Rattle.std.proofs.Common.{◌≡◌, ◌⊎◌, inl, inr, ℕ, zero, suc, ◌+◌, ◌<◌, ◌≤◌, Bool, true, false, ◌||◌, IsTrue, ◌≢◌, List, [], ◌∷◌, ◌++◌, map, flat_map, length, length-set, refl, sym, ap, ◌∙◌, subst, ⊎_elim, arith}
+use Rattle.std.proofs.Common.{◌≡◌, ◌⊎◌, inl, inr, ℕ, zero, suc, ◌+◌, ◌<◌, ◌≤◌, true, false, IsTrue, ◌≢◌, List, [], ◌∷◌, map, flat_map, length, length-set, refl, sym, ◌∙◌, subst, ⊎_elim, arith}
 use Rattle.std.specs.Prelude.{Option, None, Some}
 use Rattle.std.specs.List.{range_with_len}
 use Rattle.std.proofs.lemmas.Bool.{cases_eq, cases_lt}
@@ -10,7 +10,6 @@ use Rattle.heap_model.specs.declared.entry.Entry.{Entry}
 use Rattle.heap_model.specs.declared.entry.Entry.TheVariants.{Command as CommandOf, End, Cut, Queue, Seal, Wipe, Last as LastOf, Collected, Done, Ran}
 use Rattle.heap_model.specs.declared.graph.Node.{Node}
 use Rattle.heap_model.specs.declared.graph.Node.TheVariants.{Plain, Raw, Ephe}
-use Rattle.heap_model.specs.declared.state.DomainState.{DomainState}
 use Rattle.heap_model.specs.declared.state.Pending.{Pending}
 use Rattle.heap_model.specs.declared.state.Pending.TheVariants.{Fin, Last}
 use Rattle.heap_model.specs.declared.state.Sizes.{Sizes}
@@ -20,7 +19,6 @@ use Rattle.heap_model.specs.Domains.{domain_at, opening, shared_label, with_bloc
 use Rattle.heap_model.specs.Commands.{allocated, outcome, with_final, with_last}
 use Rattle.heap_model.specs.Entries.{Allowed, after_run, next, wiped, with_wiped}
 use Rattle.heap_model.specs.History.{Legal, LegalFrom, state_after}
-use Rattle.heap_model.specs.WellFormed.{IsNumbered}
 use Rattle.heap_model.proofs.Commands.FrameLemmas.{inside_running}
 use Rattle.heap_model.proofs.Commands.MoveLemmas.{moved}
 use Rattle.heap_model.proofs.Graphs.GraphLemmas.{labels-with_node, same_label-true, same_label_refl}
@@ -133,7 +131,7 @@ ordered_of : (s : State) (l : Label) → IsOwned s l → l.serial ≤ (domain_at
 ordered_of s l (inl shared) few = subst (λ z. IsTrue (has_label (labels_in_order s) z)) (sym shared) refl
 ordered_of s l (inr own) few =
     has_cons shared_label l (flat_map (of_domain s) (range_with_len 0 (length s.domains)))
-        (in_domains (of_domain s) l l.domain 0 (length s.domains) (omega arith) (omega (arith, own.0)) (in_range l.domain 1 (domain_at s l.domain).serial l.serial own.1 (omega (arith, few))))
+    (in_domains (of_domain s) l l.domain 0 (length s.domains) (omega arith) (omega (arith, own.0)) (in_range l.domain 1 (domain_at s l.domain).serial l.serial own.1 (omega (arith, few))))
 
 -- each block's label is among the labels in their order
 pub labels_ordered : (z : Sizes) (h : List Entry) → Legal z h → (l : Label) → IsTrue (has_label (labels (state_after (opening z) h).graph) l) → IsTrue (has_label (labels_in_order (state_after (opening z) h)) l)

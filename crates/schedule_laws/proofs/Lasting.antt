@@ -1,7 +1,7 @@
 -- What the entries `Last` of a schedule's collection make of each domain: all that is gone is queued, the newest first.
-use Rattle.std.proofs.Common.{◌≡◌, ◌≢◌, ℕ, zero, suc, ◌+◌, ◌<◌, ◌≤◌, Bool, true, false, cond, ◌&&◌, List, [], ◌∷◌, ◌++◌, map, fold, length, get_or-set_same, refl, sym, ap, ◌∙◌, subst, ⊎_elim, arith, append_assoc, append-nil, Some}
-use Rattle.std.specs.Prelude.{Option, flat_map, remove, reverse, slice_get, slice_index_or}
-use Rattle.std.specs.List.{cons_option, list_all, range_with_len}
+use Rattle.std.proofs.Common.{◌≡◌, ◌≢◌, ℕ, zero, suc, ◌+◌, ◌<◌, ◌≤◌, Bool, true, false, cond, ◌&&◌, List, [], ◌∷◌, ◌++◌, map, fold, length, get_or-set_same, refl, sym, ap, ◌∙◌, subst, ⊎_elim, arith, append_assoc, append-nil}
+use Rattle.std.specs.Prelude.{flat_map, remove, reverse, slice_index_or}
+use Rattle.std.specs.List.{list_all, range_with_len}
 use Rattle.std.proofs.Math.ListN.{get_or-eq_default}
 use Rattle.std.proofs.lemmas.Bool.{cases_eq, cases_lt}
 use Rattle.std.proofs.lemmas.List.{reverse-append}

@@ -1,5 +1,5 @@
 -- States that are the same but for garbage, moved side by side: a register, the node of a block, a new block, a registration.
-use Rattle.std.proofs.Common.{◌≡◌, ◌⊎◌, inl, inr, ℕ, ◌+◌, ◌≤◌, Bool, true, false, cond, ◌||◌, IsTrue, List, [], ◌∷◌, ◌++◌, filter_map, option_to_list, slice_get, option_map, option_and_then, Option, Some, None, refl, sym, ap, ◌∙◌, subst, ⊎_elim, arith}
+use Rattle.std.proofs.Common.{◌≡◌, ◌⊎◌, inl, inr, ℕ, ◌+◌, Bool, true, false, cond, ◌||◌, IsTrue, List, [], ◌∷◌, ◌++◌, option_to_list, option_map, option_and_then, Option, Some, None, refl, sym, ap, ◌∙◌, subst, ⊎_elim}
 use Rattle.std.specs.Prelude.{slice_set, slice_index_or}
 use Rattle.heap_model.specs.declared.label.Label.{Label}
 use Rattle.heap_model.specs.declared.graph.Value.{Value}
@@ -13,8 +13,8 @@ use Rattle.heap_model.specs.Graph.{Graph, block_at, has_label, label_of, labels,
 use Rattle.heap_model.specs.Domains.{domain_at, label_in, register, with_block, with_domain, with_register}
 use Rattle.heap_model.specs.declared.reply.Reply.TheVariants.{Block as BlockReply}
 use Rattle.heap_model.specs.Commands.{Outcome, allocated, block_in, with_final, with_last}
-use Rattle.heap_model.specs.WellFormed.{IsNumbered, names_of}
-use Rattle.heap_model.proofs.Graphs.GraphLemmas.{labels-with_node, node_at-append_cases, node_at-append_new, node_at-with_node_cases, node_at-with_node_other, node_at-with_node_same, same_label-true, same_label_refl}
+use Rattle.heap_model.specs.WellFormed.{names_of}
+use Rattle.heap_model.proofs.Graphs.GraphLemmas.{labels-with_node, node_at-append_cases, node_at-with_node_cases, node_at-with_node_other, node_at-with_node_same, same_label-true, same_label_refl}
 use Rattle.heap_model.proofs.Histories.WellFormedLemmas.{labels-append}
 use Rattle.heap_model.proofs.Histories.NumberLemmas.{node_at-no_label}
 use Rattle.heap_model.proofs.Reach.ReachLemmas.{or_cases, or_left, or_right}

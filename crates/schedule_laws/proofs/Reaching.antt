@@ -1,7 +1,7 @@
 -- What is reached at the seal of a collection is what is reached at its end, and all of it names only what is reached.
-use Rattle.std.proofs.Common.{◌≡◌, ℕ, zero, suc, Bool, true, false, cond, not, ◌&&◌, IsTrue, List, [], ◌∷◌, ◌++◌, map, filter_map, option_to_list, refl, sym, ap, ◌∙◌, subst, ⊎_elim, None, Some}
+use Rattle.std.proofs.Common.{◌≡◌, ℕ, zero, suc, Bool, true, false, cond, ◌&&◌, IsTrue, List, [], ◌∷◌, ◌++◌, map, filter_map, option_to_list, refl, sym, ap, ◌∙◌, subst, None, Some}
 use Rattle.std.specs.Prelude.{Option, flat_map, slice_index_or}
-use Rattle.std.specs.List.{cons_option, list_all, list_any}
+use Rattle.std.specs.List.{list_all, list_any}
 use Rattle.std.proofs.lemmas.Bool.{and_parts}
 use Rattle.heap_model.specs.declared.label.Label.{Label}
 use Rattle.heap_model.specs.declared.entry.Entry.{Entry}
@@ -14,11 +14,11 @@ use Rattle.heap_model.specs.declared.state.DomainState.{DomainState}
 use Rattle.heap_model.specs.declared.state.Sizes.{Sizes}
 use Rattle.heap_model.specs.declared.state.State.{State}
 use Rattle.heap_model.specs.Graph.{has_label, label_of, node_at, same_label}
-use Rattle.heap_model.specs.Domains.{domain_at, no_domain, opening, pending_label, queues, reach, roots, settled_reach, settled_roots, waiting}
+use Rattle.heap_model.specs.Domains.{domain_at, no_domain, opening, pending_label, queues, reach, roots, settled_roots, waiting}
 use Rattle.heap_model.specs.Reach.{edges_of, key_holds, reachable}
 use Rattle.heap_model.specs.Commands.{is_int_value}
 use Rattle.heap_model.specs.Entries.{CollectedAllowed, ephe_holds, has_live_keys, is_label, keys_at, next, with_last_queued}
-use Rattle.heap_model.specs.History.{Legal, LegalFrom, state_after}
+use Rattle.heap_model.specs.History.{LegalFrom, state_after}
 use Rattle.heap_model.specs.WellFormed.{names_of}
 use Rattle.heap_model.proofs.Collections.CollectionLemmas.{all_has}
 use Rattle.heap_model.proofs.Collections.CutLemmas.{part_same, roots_same}
@@ -103,7 +103,7 @@ module _ (z : Sizes) (h : List Entry) (allowed : CollectedAllowed (state_after (
   reached_names l (Plain tag fields) a at =
       let s : State = state_after (opening z) h in
       all_from (has_label (reach s)) (filter_map label_of fields)
-          (λ m b. (reach_after z h).closed l m a (subst (λ (o : Option Node). IsTrue (has_label (option_map_or (edges_of (has_label (reach s))) o []) m)) (sym at) b))
+      (λ m b. (reach_after z h).closed l m a (subst (λ (o : Option Node). IsTrue (has_label (option_map_or (edges_of (has_label (reach s))) o []) m)) (sym at) b))
   reached_names l (Raw tag fields) a at = ints_name (has_label (reach (state_after (opening z) h))) fields (fields_law z h l (Raw tag fields) at)
   reached_names l (Ephe keys datum) a at =
       let s : State = state_after (opening z) h in
@@ -111,8 +111,8 @@ module _ (z : Sizes) (h : List Entry) (allowed : CollectedAllowed (state_after (
       let live : list_all (key_holds alive) keys ≡ true = sym (ap (has_live_keys s) at) ∙ all_has (λ x. has_live_keys s (node_at s.graph x)) (reach s) allowed.keys l a in
       let edges : edges_of alive (Ephe keys datum) ≡ option_to_list (label_of datum) = ap (λ b. cond b (option_to_list (label_of datum)) []) live in
       all_both alive (filter_map (λ k. k) keys) (option_to_list (label_of datum)) (live_keys alive keys live)
-          (all_from alive (option_to_list (label_of datum)) (λ m b. (reach_after z h).closed l m a
-          (subst (λ (o : Option Node). IsTrue (has_label (option_map_or (edges_of alive) o []) m)) (sym at) (subst (λ ls. IsTrue (has_label ls m)) (sym edges) b))))
+      (all_from alive (option_to_list (label_of datum)) (λ m b. (reach_after z h).closed l m a
+      (subst (λ (o : Option Node). IsTrue (has_label (option_map_or (edges_of alive) o []) m)) (sym at) (subst (λ ls. IsTrue (has_label ls m)) (sym edges) b))))
 
 -- an ephemeron whose names pass holds no label that doesn't
 not_a_key : (alive : Label → Bool) (l : Label) (o : Option Label) → alive l ≡ false → AllAlive alive (option_to_list o) → is_label l o ≡ false
@@ -131,7 +131,7 @@ no_key alive l (Some k ∷ keys) dead a = rw (not_a_key alive l (Some k) dead (a
 pub holds_none : (alive : Label → Bool) (l : Label) (keys : List (Option Label)) (datum : Value) → alive l ≡ false → AllAlive alive (names_of (Ephe keys datum)) → ephe_holds l (Some (Ephe keys datum)) ≡ false
 holds_none alive l keys datum dead a =
     rw (no_key alive l keys dead (all_first alive (filter_map (λ k. k) keys) (option_to_list (label_of datum)) a))
-        (not_a_key alive l (label_of datum) dead (all_second alive (filter_map (λ k. k) keys) (option_to_list (label_of datum)) a))
+    (not_a_key alive l (label_of datum) dead (all_second alive (filter_map (λ k. k) keys) (option_to_list (label_of datum)) a))
 
 -- what all registrations of the heap pass those of one domain pass
 pub waits_at : {A : Type 0} (parts : DomainState → List A) (test : A → Bool) (xs : List DomainState) (d : ℕ) → parts no_domain ≡ [] → list_all test (flat_map parts xs) ≡ true → list_all test (parts (slice_index_or xs d no_domain)) ≡ true

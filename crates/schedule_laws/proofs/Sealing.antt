@@ -1,29 +1,25 @@
 -- Two states that are the same but for garbage are so at the seals of their collections, however the first is cut into entries.
-use Rattle.std.proofs.Common.{◌≡◌, ℕ, zero, suc, ◌+◌, Bool, true, false, cond, not, ◌&&◌, IsTrue, List, [], ◌∷◌, ◌++◌, map, length, filter_map, refl, sym, ap, ◌∙◌, subst, arith, append_assoc, append-nil, Some}
-use Rattle.std.specs.Prelude.{Option, flat_map, reverse, slice_index_or}
+use Rattle.std.proofs.Common.{◌≡◌, ℕ, suc, Bool, true, false, cond, not, List, [], ◌∷◌, ◌++◌, map, length, filter_map, refl, sym, ap, ◌∙◌, subst}
+use Rattle.std.specs.Prelude.{reverse}
 use Rattle.std.specs.List.{list_all}
-use Rattle.std.proofs.lemmas.Bool.{and_parts}
-use Rattle.std.proofs.lemmas.List.{length-map, reverse-append}
+use Rattle.std.proofs.lemmas.List.{reverse-append}
 use Rattle.std.proofs.lemmas.List.Elements.{filter_map-append}
 use Rattle.heap_model.specs.declared.label.Label.{Label}
 use Rattle.heap_model.specs.declared.entry.Entry.{Entry}
 use Rattle.heap_model.specs.declared.entry.Entry.TheVariants.{Cut, Seal}
-use Rattle.heap_model.specs.declared.graph.Node.{Node}
 use Rattle.heap_model.specs.declared.state.DomainState.{DomainState}
 use Rattle.heap_model.specs.declared.state.Finaliser.{Finaliser}
-use Rattle.heap_model.specs.declared.state.LastFinaliser.{LastFinaliser}
-use Rattle.heap_model.specs.declared.state.Mode.{Mode}
 use Rattle.heap_model.specs.declared.state.Pending.{Pending}
 use Rattle.heap_model.specs.declared.state.State.{State}
 use Rattle.heap_model.specs.Graph.{Graph, has_label, label_of, labels, node_at}
-use Rattle.heap_model.specs.Domains.{domain_at, is_reachable_with, no_domain, pending_label, queues, reach}
+use Rattle.heap_model.specs.Domains.{domain_at, is_reachable_with, pending_label, queues, reach}
 use Rattle.heap_model.specs.Entries.{next, queued_final, with_finals_open, with_lasts_open}
-use Rattle.heap_model.specs.History.{LegalFrom, state_after}
+use Rattle.heap_model.specs.History.{state_after}
 use Rattle.heap_model.proofs.Collections.CutLemmas.{queues_mapped}
 use Rattle.schedule_laws.specs.Sameness.{AllAlive, AreSameDomains, IsSameBut, IsSameDomain, is_queue}
 use Rattle.schedule_laws.specs.Scheduled.{all_queued}
 use Rattle.schedule_laws.proofs.Alive.{all_both}
-use Rattle.schedule_laws.proofs.Holding.{AreDomainsHeld, IsDomainHeld, domains_held, held_at, roots_held, same_at}
+use Rattle.schedule_laws.proofs.Holding.{AreDomainsHeld, IsDomainHeld, domains_held, roots_held}
 use Rattle.schedule_laws.proofs.Keeping.{domains_stay, held_points, queued_keeps, queued_leaves, same_points}
 use Rattle.schedule_laws.proofs.Moving.{held_domain, same_domain}
 use Rattle.schedule_laws.proofs.Queued.{dead_of, others_of}
@@ -61,9 +57,9 @@ module _ (f : DomainState → DomainState) (alive : Label → Bool) (holds : (x 
 pub cut_same : (s t : State) (same : IsSameBut s t) → IsSameBut (next s Cut) (next t Cut)
 cut_same s t same =
     remade s t same (next s Cut) (next t Cut) refl refl
-        (held_mapped with_finals_open same.alive (λ x h. record { registers = h.registers; queue = h.queue; finals = h.finals }) s.domains (domains_held same.alive s same.held))
-        (same_mapped with_finals_open (λ x y is. record { registers = is.registers; serial = is.serial; ended = is.ended; finals = is.finals; lasts = is.lasts; queue = is.queue; fresh = is.fresh; due = is.due }) s.domains t.domains same.domains)
-        same.sizes refl same.kept
+    (held_mapped with_finals_open same.alive (λ x h. record { registers = h.registers; queue = h.queue; finals = h.finals }) s.domains (domains_held same.alive s same.held))
+    (same_mapped with_finals_open (λ x y is. record { registers = is.registers; serial = is.serial; ended = is.ended; finals = is.finals; lasts = is.lasts; queue = is.queue; fresh = is.fresh; due = is.due }) s.domains t.domains same.domains)
+    same.sizes refl same.kept
 
 -- what is dead at the cut is what isn't reached
 dead_then : (s : State) (f : Finaliser) → dead_in (next s Cut) f ≡ not (has_label (reach (next s Cut)) f.label)
@@ -145,28 +141,28 @@ queued_same s t same queued all each =
     let many : length t2.domains ≡ length s2.domains =
     queued_leaves (λ (v : State). length v.domains) domains_stay t1 (all_queued t1) other ∙ many_same s1 t1 one ∙ sym (queued_leaves (λ (v : State). length v.domains) domains_stay s1 queued all) in
     remade s1 t1 one s2 t2 graphs graphs_too
-        (held_points one.alive s2.domains (λ d. queued_held one.alive (dead_in s1) (domain_at s1 d) (domain_at s2 d) (held_domain s1 t1 one d) (queued_keeps (λ x. x.registers) (λ x ps. refl) s1 queued all d) (each d)))
-        (same_points s2.domains t2.domains many (λ d.
-        let is : IsSameDomain (domain_at s1 d) (domain_at t1 d) = same_domain s1 t1 one d in
-        let both = queued_alike (dead_in s1) (dead_in t1) deads (domain_at s1 d) (domain_at t1 d) (domain_at s2 d) (domain_at t2 d) is (each d) (all_queued_from t1 d) in
-        record {
-          registers = queued_keeps (λ x. x.registers) (λ x ps. refl) t1 (all_queued t1) other d ∙ is.registers ∙ sym (queued_keeps (λ x. x.registers) (λ x ps. refl) s1 queued all d);
-          serial = queued_keeps (λ x. x.serial) (λ x ps. refl) t1 (all_queued t1) other d ∙ is.serial ∙ sym (queued_keeps (λ x. x.serial) (λ x ps. refl) s1 queued all d);
-          ended = queued_keeps (λ x. x.ended) (λ x ps. refl) t1 (all_queued t1) other d ∙ is.ended ∙ sym (queued_keeps (λ x. x.ended) (λ x ps. refl) s1 queued all d);
-          finals = both.0;
-          lasts = queued_keeps (λ x. x.lasts) (λ x ps. refl) t1 (all_queued t1) other d ∙ is.lasts ∙ sym (queued_keeps (λ x. x.lasts) (λ x ps. refl) s1 queued all d);
-          queue = both.1;
-          fresh = queued_keeps (λ x. x.fresh) (λ x ps. refl) t1 (all_queued t1) other d ∙ is.fresh ∙ sym (queued_keeps (λ x. x.fresh) (λ x ps. refl) s1 queued all d);
-          due = queued_keeps (λ x. x.due) (λ x ps. refl) t1 (all_queued t1) other d ∙ is.due ∙ sym (queued_keeps (λ x. x.due) (λ x ps. refl) s1 queued all d);
-        }))
-        (queued_leaves (λ (v : State). v.sizes) (λ v d x. refl) t1 (all_queued t1) other ∙ one.sizes ∙ sym (queued_leaves (λ (v : State). v.sizes) (λ v d x. refl) s1 queued all))
-        (queued_leaves (λ (v : State). v.mode) (λ v d x. refl) t1 (all_queued t1) other ∙ one.mode ∙ sym (queued_leaves (λ (v : State). v.mode) (λ v d x. refl) s1 queued all))
-        (queued_leaves (λ (v : State). v.kept) (λ v d x. refl) t1 (all_queued t1) other ∙ one.kept ∙ sym (queued_leaves (λ (v : State). v.kept) (λ v d x. refl) s1 queued all))
+    (held_points one.alive s2.domains (λ d. queued_held one.alive (dead_in s1) (domain_at s1 d) (domain_at s2 d) (held_domain s1 t1 one d) (queued_keeps (λ x. x.registers) (λ x ps. refl) s1 queued all d) (each d)))
+    (same_points s2.domains t2.domains many (λ d.
+    let is : IsSameDomain (domain_at s1 d) (domain_at t1 d) = same_domain s1 t1 one d in
+    let both = queued_alike (dead_in s1) (dead_in t1) deads (domain_at s1 d) (domain_at t1 d) (domain_at s2 d) (domain_at t2 d) is (each d) (all_queued_from t1 d) in
+    record {
+      registers = queued_keeps (λ x. x.registers) (λ x ps. refl) t1 (all_queued t1) other d ∙ is.registers ∙ sym (queued_keeps (λ x. x.registers) (λ x ps. refl) s1 queued all d);
+      serial = queued_keeps (λ x. x.serial) (λ x ps. refl) t1 (all_queued t1) other d ∙ is.serial ∙ sym (queued_keeps (λ x. x.serial) (λ x ps. refl) s1 queued all d);
+      ended = queued_keeps (λ x. x.ended) (λ x ps. refl) t1 (all_queued t1) other d ∙ is.ended ∙ sym (queued_keeps (λ x. x.ended) (λ x ps. refl) s1 queued all d);
+      finals = both.0;
+      lasts = queued_keeps (λ x. x.lasts) (λ x ps. refl) t1 (all_queued t1) other d ∙ is.lasts ∙ sym (queued_keeps (λ x. x.lasts) (λ x ps. refl) s1 queued all d);
+      queue = both.1;
+      fresh = queued_keeps (λ x. x.fresh) (λ x ps. refl) t1 (all_queued t1) other d ∙ is.fresh ∙ sym (queued_keeps (λ x. x.fresh) (λ x ps. refl) s1 queued all d);
+      due = queued_keeps (λ x. x.due) (λ x ps. refl) t1 (all_queued t1) other d ∙ is.due ∙ sym (queued_keeps (λ x. x.due) (λ x ps. refl) s1 queued all d);
+    }))
+    (queued_leaves (λ (v : State). v.sizes) (λ v d x. refl) t1 (all_queued t1) other ∙ one.sizes ∙ sym (queued_leaves (λ (v : State). v.sizes) (λ v d x. refl) s1 queued all))
+    (queued_leaves (λ (v : State). v.mode) (λ v d x. refl) t1 (all_queued t1) other ∙ one.mode ∙ sym (queued_leaves (λ (v : State). v.mode) (λ v d x. refl) s1 queued all))
+    (queued_leaves (λ (v : State). v.kept) (λ v d x. refl) t1 (all_queued t1) other ∙ one.kept ∙ sym (queued_leaves (λ (v : State). v.kept) (λ v d x. refl) s1 queued all))
 
 -- at the seal
 pub seal_same : (s t : State) (same : IsSameBut s t) → IsSameBut (next s Seal) (next t Seal)
 seal_same s t same =
     remade s t same (next s Seal) (next t Seal) refl refl
-        (held_mapped with_lasts_open same.alive (λ x h. record { registers = h.registers; queue = h.queue; finals = h.finals }) s.domains (domains_held same.alive s same.held))
-        (same_mapped with_lasts_open (λ x y is. record { registers = is.registers; serial = is.serial; ended = is.ended; finals = is.finals; lasts = is.lasts; queue = is.queue; fresh = is.fresh; due = is.due }) s.domains t.domains same.domains)
-        same.sizes refl same.kept
+    (held_mapped with_lasts_open same.alive (λ x h. record { registers = h.registers; queue = h.queue; finals = h.finals }) s.domains (domains_held same.alive s same.held))
+    (same_mapped with_lasts_open (λ x y is. record { registers = is.registers; serial = is.serial; ended = is.ended; finals = is.finals; lasts = is.lasts; queue = is.queue; fresh = is.fresh; due = is.due }) s.domains t.domains same.domains)
+    same.sizes refl same.kept

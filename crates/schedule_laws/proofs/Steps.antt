@@ -1,24 +1,19 @@
 -- A step answers the same in states that are the same but for garbage, and leaves the same but for garbage.
-use Rattle.std.proofs.Common.{◌≡◌, ℕ, ◌+◌, Bool, true, false, List, [], ◌∷◌, length, filter_map, replicate, Some, None, refl, sym, ap, ◌∙◌, subst}
-use Rattle.heap_model.specs.declared.label.Label.{Label}
+use Rattle.std.proofs.Common.{◌≡◌, ℕ, ◌+◌, Bool, true, false, List, [], ◌∷◌, length, filter_map, replicate, None, refl, sym, ap, subst}
 use Rattle.heap_model.specs.declared.command.Command.{Command as CommandType}
 use Rattle.heap_model.specs.declared.entry.Entry.{Entry}
 use Rattle.heap_model.specs.declared.entry.Entry.TheVariants.{Command as CommandOf, End, Cut, Queue, Seal, Wipe, Last, Collected, Done, Ran}
 use Rattle.heap_model.specs.declared.graph.Value.{Value}
 use Rattle.heap_model.specs.declared.graph.Value.TheVariants.{Block, Nothing}
-use Rattle.heap_model.specs.declared.reply.Reply.TheVariants.{Full}
-use Rattle.heap_model.specs.declared.reply.Applied.{Applied}
 use Rattle.heap_model.specs.declared.reply.Applied.TheVariants.{Replied}
-use Rattle.heap_model.specs.declared.state.DomainState.{DomainState}
 use Rattle.heap_model.specs.declared.state.Pending.{Pending}
 use Rattle.heap_model.specs.declared.state.Pending.TheVariants.{Fin, Last as LastPending}
-use Rattle.heap_model.specs.declared.state.Sizes.{Sizes}
 use Rattle.heap_model.specs.declared.state.State.{State}
 use Rattle.heap_model.specs.Graph.{label_of, node_at}
 use Rattle.heap_model.specs.Domains.{domain_at, opening, pending_label, with_domain}
-use Rattle.heap_model.specs.Commands.{after_command, command_outcome, only_replies}
+use Rattle.heap_model.specs.Commands.{after_command, command_outcome}
 use Rattle.heap_model.specs.Entries.{after_run, ended, next, reply, run_reply, without_first}
-use Rattle.heap_model.specs.History.{Legal, state_after}
+use Rattle.heap_model.specs.History.{state_after}
 use Rattle.heap_model.proofs.Histories.NumberLemmas.{next_label_after}
 use Rattle.schedule_laws.specs.Sameness.{AllAlive, IsSameBut, StepLaw, is_step}
 use Rattle.schedule_laws.proofs.Alive.{all_replicate}

@@ -10,7 +10,6 @@ use Rattle.heap_model.specs.declared.graph.Node.{Node}
 use Rattle.heap_model.specs.declared.graph.Node.TheVariants.{Plain, Raw, Ephe}
 use Rattle.heap_model.specs.declared.graph.Value.{Value}
 use Rattle.heap_model.specs.declared.graph.Value.TheVariants.{Nothing}
-use Rattle.heap_model.specs.declared.state.DomainState.{DomainState}
 use Rattle.heap_model.specs.declared.state.State.{State}
 use Rattle.heap_model.specs.Graph.{Graph, has_label, node_at, same_label, with_node}
 use Rattle.heap_model.specs.Domains.{reach}
@@ -78,17 +77,17 @@ module _ (s : State) where
       let empty : Node = Ephe (all_emptied (gone_in s) keys) Nothing in
       let is : cleaned (Some (Ephe keys datum)) ≡ Some empty = ap (λ b. Some (cond b empty (Ephe keys datum))) gone in
       ⊎_elim
-          (λ (old : node_at t.graph l ≡ node_at s.graph l).
-          let there : node_at t.graph l ≡ Some (Ephe keys datum) = old ∙ at in
-          let keys_are : wiped_keys (p ∷ ps) keys ≡ all_emptied (gone_in s) keys = ap (λ ns. wiped_keys ns keys) (sym places) ∙ all_wiped_keys (gone_in s) keys in
-          let graph : (next t (Wipe l (p ∷ ps))).graph ≡ with_node t.graph l empty = ap (wiped_graph t l (p ∷ ps)) there ∙ ap (λ ks. with_node t.graph l (Ephe ks Nothing)) keys_are in
-          done t l empty (Ephe keys datum) (Some (Ephe keys datum)) (next t (Wipe l (p ∷ ps))) graph there is)
-          (λ (new : node_at t.graph l ≡ cleaned (node_at s.graph l)).
-          let there : node_at t.graph l ≡ Some empty = new ∙ ap cleaned at ∙ is in
-          let keys_are : wiped_keys (p ∷ ps) (all_emptied (gone_in s) keys) ≡ all_emptied (gone_in s) keys = ap (λ ns. wiped_keys ns (all_emptied (gone_in s) keys)) (sym places) ∙ wiped_again (gone_in s) keys in
-          let graph : (next t (Wipe l (p ∷ ps))).graph ≡ with_node t.graph l empty = ap (wiped_graph t l (p ∷ ps)) there ∙ ap (λ ks. with_node t.graph l (Ephe ks Nothing)) keys_are in
-          done t l empty empty (Some (Ephe keys datum)) (next t (Wipe l (p ∷ ps))) graph there is)
-          (fits l)
+      (λ (old : node_at t.graph l ≡ node_at s.graph l).
+      let there : node_at t.graph l ≡ Some (Ephe keys datum) = old ∙ at in
+      let keys_are : wiped_keys (p ∷ ps) keys ≡ all_emptied (gone_in s) keys = ap (λ ns. wiped_keys ns keys) (sym places) ∙ all_wiped_keys (gone_in s) keys in
+      let graph : (next t (Wipe l (p ∷ ps))).graph ≡ with_node t.graph l empty = ap (wiped_graph t l (p ∷ ps)) there ∙ ap (λ ks. with_node t.graph l (Ephe ks Nothing)) keys_are in
+      done t l empty (Ephe keys datum) (Some (Ephe keys datum)) (next t (Wipe l (p ∷ ps))) graph there is)
+      (λ (new : node_at t.graph l ≡ cleaned (node_at s.graph l)).
+      let there : node_at t.graph l ≡ Some empty = new ∙ ap cleaned at ∙ is in
+      let keys_are : wiped_keys (p ∷ ps) (all_emptied (gone_in s) keys) ≡ all_emptied (gone_in s) keys = ap (λ ns. wiped_keys ns (all_emptied (gone_in s) keys)) (sym places) ∙ wiped_again (gone_in s) keys in
+      let graph : (next t (Wipe l (p ∷ ps))).graph ≡ with_node t.graph l empty = ap (wiped_graph t l (p ∷ ps)) there ∙ ap (λ ks. with_node t.graph l (Ephe ks Nothing)) keys_are in
+      done t l empty empty (Some (Ephe keys datum)) (next t (Wipe l (p ∷ ps))) graph there is)
+      (fits l)
     where
       done : (t : State) (l : Label) (empty old : Node) (o : Option Node) (u : State) → u.graph ≡ with_node t.graph l empty → node_at t.graph l ≡ Some old → cleaned o ≡ Some empty → IsCleanedAt t u l o
       done t l empty old o u graph there is = record {

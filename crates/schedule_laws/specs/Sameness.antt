@@ -1,17 +1,16 @@
 -- States that are the same but for garbage, and the two laws of them on which a replay stands: a step answers the same in both, and a complete collection leaves the same in both, however its entries are cut and ordered.
-use Rattle.std.specs.Prelude.{◌≡◌, ℕ, Bool, true, false, IsTrue, List, [], ◌∷◌, ◌++◌, filter_map, option_to_list, Some}
+use Rattle.std.specs.Prelude.{◌≡◌, ℕ, Bool, true, false, IsTrue, List, [], ◌∷◌, ◌++◌, Some}
 use Rattle.std.specs.List.{list_all}
 use Rattle.heap_model.specs.declared.label.Label.{Label}
 use Rattle.heap_model.specs.declared.command.Command.TheVariants.{FullMajor}
 use Rattle.heap_model.specs.declared.entry.Entry.{Entry}
 use Rattle.heap_model.specs.declared.entry.Entry.TheVariants.{Command as CommandOf, End, Cut, Queue, Seal, Wipe, Last, Collected, Done, Ran}
 use Rattle.heap_model.specs.declared.graph.Node.{Node}
-use Rattle.heap_model.specs.declared.graph.Node.TheVariants.{Plain, Raw, Ephe}
 use Rattle.heap_model.specs.declared.state.DomainState.{DomainState}
 use Rattle.heap_model.specs.declared.state.Sizes.{Sizes}
 use Rattle.heap_model.specs.declared.state.State.{State}
 use Rattle.heap_model.specs.declared.state.Mode.TheVariants.{Open}
-use Rattle.heap_model.specs.Graph.{labels, label_of, node_at}
+use Rattle.heap_model.specs.Graph.{labels, node_at}
 use Rattle.heap_model.specs.Domains.{opening, queues, settled_roots}
 use Rattle.heap_model.specs.Entries.{Allowed, next, reply}
 use Rattle.heap_model.specs.History.{state_after, Legal, replies_from}
@@ -55,7 +54,7 @@ pub record IsSameBut (s t : State) : Type 0 where
   pub mode : t.mode ≡ s.mode
   pub kept : t.kept ≡ s.kept
 
--- an entry that a domain makes while it runs, and that isn't answered `full`
+-- an entry that a domain makes while it runs: a command but `full_major`, its end, or a finaliser's run
 abbrev pub is_step : Entry → Bool
 is_step (CommandOf d FullMajor full) = false
 is_step (CommandOf d c full) = true
@@ -85,12 +84,12 @@ pub record IsCollection (h answered : List Entry) : Type 0 where
   pub are_answers : list_all is_answer answered ≡ true
   pub is : h ≡ Cut ∷ queued ++ Seal ∷ taken ++ Collected ∷ answered ++ Done ∷ []
 
--- a step answers the same in both, and leaves both the same. Not proved here
+-- a step answers the same in both, and leaves both the same but for garbage
 abbrev pub StepLaw : Type 0
 StepLaw = (z : Sizes) (h : List Entry) (t : State) (e : Entry) → Legal z h → IsSameBut (state_after (opening z) h) t → is_step e ≡ true → Allowed (state_after (opening z) h) e
     → (reply t e ≡ reply (state_after (opening z) h) e) × IsSameBut (next (state_after (opening z) h) e) (next t e)
 
--- a complete collection leaves what the one of the schedule leaves, and answers the same. Not proved here
+-- a complete collection leaves what the one of the schedule leaves, but for garbage, and answers the same
 abbrev pub CollectionLaw : Type 0
 CollectionLaw = (z : Sizes) (h : List Entry) (t : State) (c answered : List Entry) → Legal z (h ++ c) → (state_after (opening z) h).mode ≡ Open → IsSameBut (state_after (opening z) h) t → IsCollection c answered
     → IsSameBut (state_after (opening z) (h ++ c)) (state_after t (complete t answered))
