@@ -1,0 +1,14 @@
+//! Laws of states that are the same but for garbage. Each function's contract is one law, and it does nothing else.
+ghost use Rattle.schedule_laws.specs.Sameness.{CollectionLaw, StepLaw};
+
+/// A command, the end of a trace or the run of a finaliser answers the same in states that are the same but for garbage, and
+/// leaves states that are.
+pub fn steps_answer_alike()
+    ensures { StepLaw }
+{}
+
+/// A complete collection, however its entries are cut and ordered, leaves what that of a schedule leaves, but for garbage, and
+/// its `full_major` answers the same.
+pub fn collections_leave_alike()
+    ensures { CollectionLaw }
+{}
