@@ -1,5 +1,5 @@
 //! Scripts: a version, and a list of commands for each domain.
-ghost use Rattle.std.specs.Prelude.{◌≡◌, ◌≤◌, ◌<◌, ◌+◌, ◌++◌, ◌∷◌, [], length, slice_index_or, sum_by, IfOk, OnOk};
+ghost use Rattle.std.specs.Prelude.{◌≡◌, ◌≤◌, ◌<◌, ◌+◌, ◌++◌, ◌∷◌, [], length, map, slice_index_or, sum_by, IfOk, OnOk};
 ghost use Rattle.heap_text.specs.Forms.{version_number};
 ghost use Rattle.heap_text.specs.Script.{with_command};
 
@@ -48,6 +48,13 @@ impl Script {
         ensures { result.now ≡ slice_index_or self.now.sections i [] }
     {
         self.sections[i].as_slice()
+    }
+
+    /// The commands of each domain, in the order of the domains.
+    pub fn into_sections(self) -> Vec<Vec<Command>>
+        ensures { map (λ v. v.items) result.items ≡ self.sections }
+    {
+        self.sections
     }
 
     // A script with no section.
