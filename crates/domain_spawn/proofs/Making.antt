@@ -1,0 +1,143 @@
+-- One entry is one step, and steps behind steps are all of them.
+use Rattle.std.proofs.Common.{◌≡◌, ℕ, zero, suc, ◌-◌, ◌≤◌, ℤ, arith, Bool, true, false, cond, List, [], ◌∷◌, ◌++◌, get_or, pos, refl, ap, sym, ◌∙◌, subst, append_assoc, append-nil}
+use Rattle.std.proofs.lemmas.List.{map-append}
+use Rattle.std.proofs.lemmas.List.Concat.{flat_map-append}
+use Rattle.heap_model.specs.declared.command.Command.{Command}
+use Rattle.heap_model.specs.declared.command.Command.TheVariants.{PutInt, Store, Spawn}
+use Rattle.heap_model.specs.declared.graph.Value.{Value}
+use Rattle.heap_model.specs.declared.graph.Value.TheVariants.{Int, Block, Nothing}
+use Rattle.heap_model.specs.Commands.{is_full_value}
+use Rattle.heap_words.specs.declared.value.Value as words
+use Rattle.heap_words.specs.declared.value.Value.TheVariants.{Ref, Int as IntWord, Nothing as NothingWord}
+use Rattle.heap_rule.specs.Places.{Shows}
+use Rattle.heap_model.specs.declared.entry.Entry.{Entry}
+use Rattle.heap_model.specs.declared.reply.Reply.{Reply}
+use Rattle.heap_model.specs.Domains.{opening}
+use Rattle.heap_model.specs.History.{IsPrefix, Legal}
+use Rattle.heap_rule.specs.declared.config.Config.{Config}
+use Rattle.heap_rule.specs.declared.view.DomainView.{DomainView}
+use Rattle.heap_rule.specs.declared.view.Own.{Own}
+use Rattle.heap_rule.specs.Limits.{sizes_in}
+use Rattle.heap_rule.specs.Running.{Did, Stays, ChangesRegisters, own_entry}
+use Rattle.heap_rule.specs.Token.{Token, SharedHeap}
+use Rattle.field_access.specs.Remembered.{ChangesRemembered}
+use Rattle.spawn_laws.specs.Hidden.{hidden, scratch, flag_of}
+use Rattle.spawn_laws.specs.Expansion.{Step, steps_from, spawn_commands}
+use Rattle.spawn_laws.specs.Printed.{is_printed, printed_of, printed_replies}
+use Rattle.spawn_laws.proofs.Growing.{steps_answer, printed_answer}
+use Rattle.domain_spawn.specs.Expanding.{MakesSteps, MakesOne, MakesAll, PassesArgument, Expands, argument_commands}
+
+prefix_after : (a b c : List Entry) → IsPrefix a b → IsPrefix b c → IsPrefix a c
+prefix_after a b c x y = record { rest = x.rest ++ y.rest; appends = y.appends ∙ (ap (λ (h : List Entry). h ++ y.rest) x.appends ∙ append_assoc a x.rest y.rest) }
+
+stays_after : (x y z : DomainView) → Stays x y → Stays y z → Stays x z
+stays_after x y z a b = record {
+  arrivals = b.arrivals ∙ a.arrivals;
+  stage = b.stage ∙ a.stage;
+  notes = b.notes ∙ a.notes;
+  copying = b.copying ∙ a.copying;
+  queue = b.queue ∙ a.queue;
+  weak = b.weak ∙ a.weak;
+  progress = b.progress ∙ a.progress;
+  remembers = λ all. b.remembers (a.remembers all);
+}
+
+-- a call that makes an entry
+pub made_one : (h : SharedHeap) (old new : Token) (c : Command) (r : Reply) → Did h old new c r → new.view.own.number ≡ old.view.own.number → MakesOne h old new c r
+made_one h old new c r did number =
+    let d : ℕ = old.view.own.number in
+    let a = did.answers in
+    record {
+      runs = did.runs;
+      number = number;
+      front = record { rest = a.between ++ own_entry old c ∷ []; appends = a.appends ∙ append_assoc old.view.seen.front a.between (own_entry old c ∷ []) };
+      legal = a.legal;
+      steps = steps_answer (sizes_in old.config) d old.view.seen.front new.view.seen.front c false r a;
+      printed = printed_answer (sizes_in old.config) d old.view.seen.front new.view.seen.front c false r a
+          ∙ ap (λ (rs : List Reply). printed_replies (sizes_in old.config) old.view.seen.front d ++ rs) (sym (append-nil (cond (is_printed d c) (r ∷ []) [])));
+      heap = did.heap;
+      stays = did.stays;
+    }
+
+-- one that leaves what the domain owns but its registers, or but what it remembers
+pub number_of_registers : (old new : Token) → ChangesRegisters old new → new.view.own.number ≡ old.view.own.number
+number_of_registers old new rest = ap (λ (o : Own). o.number) rest.own
+
+pub number_of_remembered : (old new : Token) → ChangesRemembered old new → new.view.own.number ≡ old.view.own.number
+number_of_remembered old new rest = ap (λ (o : Own). o.number) rest.own
+
+pub room_of_registers : (old new : Token) → ChangesRegisters old new → new.view.own.remembered.room ≡ old.view.own.remembered.room
+room_of_registers old new rest = ap (λ (o : Own). o.remembered.room) rest.own
+
+-- steps behind steps
+pub made_both : (h : SharedHeap) (a b c : Token) (xs ys : List Step) → MakesSteps h a b xs → MakesSteps h b c ys → MakesSteps h a c (xs ++ ys)
+made_both h a b c xs ys x y =
+    let d : ℕ = a.view.own.number in
+    let k : Config = a.config in
+    let heads : ◌≡◌ {A = Config × ℕ} (b.config, b.view.own.number) (k, d) = λ i. (x.heap.1 i, x.number i) in
+    let steps : steps_from (opening (sizes_in k)) c.view.seen.front d ≡ steps_from (opening (sizes_in k)) b.view.seen.front d ++ ys =
+    subst (λ (m : Config × ℕ). steps_from (opening (sizes_in m.0)) c.view.seen.front m.1 ≡ steps_from (opening (sizes_in m.0)) b.view.seen.front m.1 ++ ys) heads y.steps in
+    let printed : printed_replies (sizes_in k) c.view.seen.front d ≡ printed_replies (sizes_in k) b.view.seen.front d ++ printed_of d ys =
+    subst (λ (m : Config × ℕ). printed_replies (sizes_in m.0) c.view.seen.front m.1 ≡ printed_replies (sizes_in m.0) b.view.seen.front m.1 ++ printed_of m.1 ys) heads y.printed in
+    record {
+      runs = y.runs;
+      number = y.number ∙ x.number;
+      front = prefix_after a.view.seen.front b.view.seen.front c.view.seen.front x.front y.front;
+      legal = subst (λ (m : Config × ℕ). Legal (sizes_in m.0) c.view.seen.front) heads y.legal;
+      steps = steps ∙ (ap (λ (zs : List Step). zs ++ ys) x.steps ∙ append_assoc (steps_from (opening (sizes_in k)) a.view.seen.front d) xs ys);
+      printed = printed ∙ (ap (λ (rs : List Reply). rs ++ printed_of d ys) x.printed ∙ (append_assoc (printed_replies (sizes_in k) a.view.seen.front d) (printed_of d xs) (printed_of d ys)
+          ∙ ap (λ (rs : List Reply). printed_replies (sizes_in k) a.view.seen.front d ++ rs) (sym (flat_map-append (λ (s : Step). cond (is_printed d s.command) (s.answer ∷ []) []) xs ys))));
+      heap = (y.heap.0 ∙ x.heap.0, y.heap.1 ∙ x.heap.1);
+      stays = stays_after a.view b.view c.view x.stays y.stays;
+    }
+
+-- an integer, and a store of it into a flag
+pub made_flag : (h : SharedHeap) (a b c : Token) (z : ℤ) (section : ℕ) (r t : Reply) → Did h a b (PutInt scratch z) r → ChangesRegisters a b → Did h b c (Store hidden section scratch) t → ChangesRemembered b c
+    → MakesAll h a c (PutInt scratch z ∷ Store hidden section scratch ∷ [])
+made_flag h a b c z section r t first first_rest second second_rest =
+    let one : MakesOne h a b (PutInt scratch z) r = made_one h a b (PutInt scratch z) r first (number_of_registers a b first_rest) in
+    let two : MakesOne h b c (Store hidden section scratch) t = made_one h b c (Store hidden section scratch) t second (number_of_remembered b c second_rest) in
+    record { steps = _; makes = made_both h a b c _ _ one two; are = refl }
+
+-- the room that a store leaves, whether it had to be remembered or not
+pub room_kept : (P : Type 0) (old new : ℕ) → 2 ≤ old → (P → new ≡ old - 1) → ((P → ⊥) → new ≡ old) → 1 ≤ new
+room_kept P old zero enough with_one without =
+    let never : P → ⊥ = λ p. (let less : 0 ≡ old - 1 = with_one p in absurd (omega arith)) in
+    let same : 0 ≡ old = without never in
+    absurd (omega arith)
+room_kept P old (suc n) enough with_one without = omega arith
+
+-- what a register's word says of what it holds in the model
+pub shows_full : (w : words.Value) (v : Value) → Shows w v → (w ≡ NothingWord → ⊥) → is_full_value v ≡ true
+shows_full (IntWord z) (Int m) shows other = refl
+shows_full (IntWord z) (Block l) shows other = absurd shows
+shows_full (IntWord z) Nothing shows other = absurd shows
+shows_full (Ref a) (Int m) shows other = absurd shows
+shows_full (Ref a) (Block l) shows other = refl
+shows_full (Ref a) Nothing shows other = absurd shows
+shows_full NothingWord v shows other = absurd (other refl)
+
+pub shows_nothing : (w : words.Value) (v : Value) → Shows w v → w ≡ NothingWord → is_full_value v ≡ false
+shows_nothing (IntWord z) v shows is = cc
+shows_nothing (Ref a) v shows is = cc
+shows_nothing NothingWord (Int m) shows is = absurd shows
+shows_nothing NothingWord (Block l) shows is = absurd shows
+shows_nothing NothingWord Nothing shows is = refl
+
+-- the steps of a spawn: those that pass the argument, and those that set the flag
+flag_behind : (b : Bool) (section item : ℕ) → argument_commands b section item ++ PutInt scratch (pos 1) ∷ Store hidden (flag_of section) scratch ∷ [] ≡ spawn_commands b section item
+flag_behind true section item = refl
+flag_behind false section item = refl
+
+pub spawns : (h : SharedHeap) (a b c : Token) (section item : ℕ) → PassesArgument h a b section item → MakesAll h b c (PutInt scratch (pos 1) ∷ Store hidden (flag_of section) scratch ∷ []) → Expands h a c (Spawn section item)
+spawns h a b c section item x y = record {
+  steps = (x.first ∷ x.more) ++ y.steps;
+  makes = made_both h a b c (x.first ∷ x.more) y.steps x.makes y.makes;
+  is = record {
+    first = x.first;
+    more = x.more ++ y.steps;
+    are = refl;
+    commands_are = map-append (λ (s : Step). s.command) (x.first ∷ x.more) y.steps
+        ∙ ((λ i. x.are i ++ y.are i) ∙ flag_behind (is_full_value (get_or x.first.held item Nothing)) section item);
+  };
+}

@@ -1,0 +1,13 @@
+use Rattle.std.proofs.Common.{ℕ, pos, ◌∷◌, [], subst}
+use Rattle.heap_model.specs.declared.command.Command.TheVariants.{PutInt, Store}
+use Rattle.spawn_laws.specs.Hidden.{hidden, scratch}
+use Rattle.domain_spawn.specs.Expanding.{MakesAll}
+use Rattle.domain_spawn.proofs.Making.{made_flag}
+use Rattle.domain_spawn.proofs.flags.finish.Goals as goal
+
+pub returns : goal.returns
+returns c = record {
+  makes =
+      subst (λ (n : ℕ). MakesAll c.args.heap.now c.args.dom.now c.store.new.dom (PutInt scratch (pos 2) ∷ Store hidden n scratch ∷ [])) c.number-section.ensures.value
+      (made_flag _ _ _ _ _ _ _ _ c.put_int.ensures.did c.put_int.ensures.rest c.store.ensures.did c.store.ensures.rest);
+}

@@ -1,0 +1,10 @@
+use Rattle.std.proofs.Common.{ℕ, ◌+◌, subst}
+use Rattle.heap_model.specs.declared.command.Command.TheVariants.{Store}
+use Rattle.domain_spawn.specs.Expanding.{MakesOne}
+use Rattle.domain_spawn.proofs.Making.{made_one, number_of_remembered}
+use Rattle.domain_spawn.proofs.values.put_result.Goals as goal
+
+pub returns-clause-makes : goal.returns-clause-makes
+returns-clause-makes c =
+    subst (λ (n : ℕ). MakesOne c.args.heap.now c.args.dom.now c.store.new.dom (Store 15 (16 + n) c.args.item) c.store.result) c.number-section.ensures.value
+    (made_one _ _ _ _ _ c.store.ensures.did (number_of_remembered _ _ c.store.ensures.rest))

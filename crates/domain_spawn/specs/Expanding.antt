@@ -1,0 +1,66 @@
+-- What a call leaves that makes a few commands of its domain, one behind the other.
+use Rattle.std.specs.Prelude.{◌≡◌, ℕ, Bool, true, false, List, [], ◌∷◌, ◌++◌, slice_index_or, ℤ, pos}
+use Rattle.heap_model.specs.declared.command.Command.{Command}
+use Rattle.heap_model.specs.declared.command.Command.TheVariants.{PutInt, Store}
+use Rattle.heap_model.specs.declared.reply.Reply.{Reply}
+use Rattle.heap_model.specs.declared.graph.Value.{Value}
+use Rattle.heap_model.specs.declared.graph.Value.TheVariants.{Nothing}
+use Rattle.heap_model.specs.Commands.{is_full_value}
+use Rattle.heap_model.specs.Domains.{domain_at, opening}
+use Rattle.heap_model.specs.History.{IsPrefix, Legal}
+use Rattle.heap_rule.specs.Limits.{sizes_in}
+use Rattle.heap_rule.specs.Rule.{state_of}
+use Rattle.heap_rule.specs.Running.{Runs, Stays}
+use Rattle.heap_rule.specs.Token.{Token, SharedHeap}
+use Rattle.spawn_laws.specs.Hidden.{hidden, scratch, argument_of}
+use Rattle.spawn_laws.specs.Expansion.{Step, steps_from, is_int, flag_load, IsExpansion, Make}
+use Rattle.spawn_laws.specs.Printed.{printed_of, printed_replies}
+
+-- the domain runs on, and its part of the history has grown by entries of others and by these steps
+pub record MakesSteps (h : SharedHeap) (old new : Token) (xs : List Step) : Type 0 where
+  pub runs : Runs h new
+  pub number : new.view.own.number ≡ old.view.own.number
+  pub front : IsPrefix old.view.seen.front new.view.seen.front
+  pub legal : Legal (sizes_in old.config) new.view.seen.front
+  pub steps : steps_from (opening (sizes_in old.config)) new.view.seen.front old.view.own.number ≡ steps_from (opening (sizes_in old.config)) old.view.seen.front old.view.own.number ++ xs
+  pub printed : printed_replies (sizes_in old.config) new.view.seen.front old.view.own.number ≡ printed_replies (sizes_in old.config) old.view.seen.front old.view.own.number ++ printed_of old.view.own.number xs
+  pub heap : (new.table ≡ old.table) × (new.config ≡ old.config)
+  pub stays : Stays old.view new.view
+
+-- what a domain's registers hold at its part of the history
+abbrev pub held_at : Token → List Value
+held_at t = (domain_at (state_of t.config t.view.seen.front) t.view.own.number).registers
+
+-- one step: this command, with this answer
+abbrev pub MakesOne : SharedHeap → Token → Token → Command → Reply → Type 0
+MakesOne h old new c r = MakesSteps h old new (record { held = held_at old; command = c; answer = r } ∷ [])
+
+-- one load of a section's flag, and whether it is this number
+pub record LooksAt (h : SharedHeap) (old new : Token) (section : ℕ) (until : ℤ) (seen : Bool) : Type 0 where
+  pub answer : Reply
+  pub makes : MakesOne h old new (flag_load section) answer
+  pub told : seen ≡ is_int until answer
+
+-- the steps of a command
+pub record Expands (h : SharedHeap) (old new : Token) (c : Command) : Type 0 where
+  pub steps : List Step
+  pub makes : MakesSteps h old new steps
+  pub is : IsExpansion old.view.own.number c steps
+
+-- steps that make these commands
+pub record MakesAll (h : SharedHeap) (old new : Token) (cs : List Command) : Type 0 where
+  pub steps : List Step
+  pub makes : MakesSteps h old new steps
+  pub are : Make cs steps
+
+-- the commands that pass an argument, by whether there is one
+abbrev pub argument_commands : Bool → ℕ → ℕ → List Command
+argument_commands true section item = Store hidden (argument_of section) item ∷ []
+argument_commands false section item = PutInt scratch (pos 0) ∷ Store hidden (argument_of section) scratch ∷ []
+
+-- the steps by which an argument is passed: there is one where the register held something before the first of them
+pub record PassesArgument (h : SharedHeap) (old new : Token) (section item : ℕ) : Type 0 where
+  pub first : Step
+  pub more : List Step
+  pub makes : MakesSteps h old new (first ∷ more)
+  pub are : Make (argument_commands (is_full_value (slice_index_or first.held item Nothing)) section item) (first ∷ more)

@@ -1,0 +1,12 @@
+pub mod Hiding
+pub mod Keeping
+pub mod Slots
+pub mod Phases
+pub mod Beginning
+pub mod Joining
+pub mod JoinLaws
+pub mod Growing
+pub mod Rows
+pub mod Printing
+pub mod Progressing
+pub mod Gathering
