@@ -2,18 +2,13 @@
 ghost use Rattle.std.specs.Prelude.{◌≡◌};
 ghost use Rattle.domain_turns.specs.Tries.{FitsHeap, registrations_of};
 
+use crate::same::same;
 use heap_model::command::Command;
 use heap_model::label::Label;
 use heap_model::reply::Reply;
 use heap_session::Session;
-use std::process::Abort;
 use std::sync::Wait;
 use std::test::Fail;
-
-// Stops the test where the two aren't the same. A test that calls it is proved much faster than one with as many assertions.
-fn same<T: Copy + PartialEq>(rt: &impl Abort, got: T, wanted: T) {
-    assert!(rt; got == wanted);
-}
 
 // Makes a command, where there are room and a label for what it makes.
 fn made(rt: &impl Wait, session: &mut Session, command: Command) -> Option<Reply>
