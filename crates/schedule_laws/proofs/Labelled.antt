@@ -2,7 +2,7 @@
 use Rattle.std.proofs.Common.{◌≡◌, ◌⊎◌, inl, inr, ℕ, zero, suc, ◌+◌, ◌<◌, ◌≤◌, true, false, IsTrue, ◌≢◌, List, [], ◌∷◌, map, flat_map, length, length-set, refl, sym, ◌∙◌, subst, ⊎_elim, arith}
 use Rattle.std.specs.Prelude.{Option, None, Some}
 use Rattle.std.specs.List.{range_with_len}
-use Rattle.std.proofs.lemmas.Bool.{cases_eq, cases_lt}
+use Rattle.std.proofs.lemmas.Bool.{cases_eq}
 use Rattle.std.proofs.lemmas.List.{length-map}
 use Rattle.heap_model.specs.declared.label.Label.{Label}
 use Rattle.heap_model.specs.declared.command.Command.{Command}
@@ -26,6 +26,7 @@ use Rattle.heap_model.proofs.Histories.NumberLemmas.{numbered_after, numbered_op
 use Rattle.heap_model.proofs.Histories.WellFormedLemmas.{labels-append}
 use Rattle.heap_model.proofs.Reach.ReachLemmas.{has-append_cases, has-append_left, has-append_right, or_cases, or_left}
 use Rattle.schedule_laws.specs.Scheduled.{labels_in_order}
+use Rattle.schedule_laws.proofs.Placing.{next_place}
 
 -- the label of the shared block, or one that a domain gave out
 abbrev IsOwned : State → Label → Type 0
@@ -108,21 +109,15 @@ in_range d a (suc n) m more less = ⊎_elim
     (λ (is : m ≡ a). subst (λ k. IsTrue (has_label (map (λ x. record { domain = d; serial = x }) (range_with_len a (suc n))) (record { domain = d; serial = k }))) (sym is)
     (or_left (same_label (record { domain = d; serial = a }) (record { domain = d; serial = a })) _ (same_label_refl (record { domain = d; serial = a }))))
     (λ (apart : m ≢ a). has_cons (record { domain = d; serial = a }) (record { domain = d; serial = m }) (map (λ x. record { domain = d; serial = x }) (range_with_len (a + 1) n))
-    (in_range d (a + 1) n m (above a m more apart) (omega (arith, less))))
+    (in_range d (a + 1) n m (next_place a m more apart) (omega (arith, less))))
     (cases_eq m a)
-  where
-    above : (a m : ℕ) → a ≤ m → m ≢ a → a + 1 ≤ m
-    above a m more other = ⊎_elim (λ (below : m < a + 1). absurd (other (omega (arith, more, below)))) (λ (past : a + 1 ≤ m). past) (cases_lt m (a + 1))
 
 in_domains : (f : ℕ → List Label) (l : Label) (d a n : ℕ) → a ≤ d → d < a + n → IsTrue (has_label (f d) l) → IsTrue (has_label (flat_map f (range_with_len a n)) l)
 in_domains f l d a zero more less h = absurd (omega (arith, more, less))
 in_domains f l d a (suc n) more less h = ⊎_elim
     (λ (is : d ≡ a). has-append_left (f a) (flat_map f (range_with_len (a + 1) n)) l (subst (λ k. IsTrue (has_label (f k) l)) is h))
-    (λ (apart : d ≢ a). has-append_right (f a) (flat_map f (range_with_len (a + 1) n)) l (in_domains f l d (a + 1) n (above a d more apart) (omega (arith, less)) h))
+    (λ (apart : d ≢ a). has-append_right (f a) (flat_map f (range_with_len (a + 1) n)) l (in_domains f l d (a + 1) n (next_place a d more apart) (omega (arith, less)) h))
     (cases_eq d a)
-  where
-    above : (a m : ℕ) → a ≤ m → m ≢ a → a + 1 ≤ m
-    above a m more other = ⊎_elim (λ (below : m < a + 1). absurd (other (omega (arith, more, below)))) (λ (past : a + 1 ≤ m). past) (cases_lt m (a + 1))
 
 abbrev of_domain : State → ℕ → List Label
 of_domain s d = map (λ n. record { domain = d; serial = n }) (range_with_len 1 (domain_at s d).serial)

@@ -3,8 +3,8 @@ use Rattle.std.proofs.Common.{◌≡◌, ◌≢◌, ℕ, zero, suc, ◌+◌, ◌
 use Rattle.std.specs.Prelude.{flat_map, remove, reverse, slice_index_or}
 use Rattle.std.specs.List.{list_all, range_with_len}
 use Rattle.std.proofs.Math.ListN.{get_or-eq_default}
-use Rattle.std.proofs.lemmas.Bool.{cases_eq, cases_lt}
-use Rattle.std.proofs.lemmas.List.{reverse-append}
+use Rattle.std.proofs.lemmas.Bool.{cases_eq}
+use Rattle.std.proofs.lemmas.List.{map-append, reverse-append}
 use Rattle.std.proofs.lemmas.List.Folds.{list_all-append}
 use Rattle.std.proofs.lemmas.List.Sums.{fold-append}
 use Rattle.heap_model.specs.declared.entry.Entry.{Entry}
@@ -21,7 +21,7 @@ use Rattle.heap_model.proofs.Histories.HistoryLemmas.{state_after-append}
 use Rattle.schedule_laws.specs.Sameness.{is_taking}
 use Rattle.schedule_laws.specs.Scheduled.{places_where}
 use Rattle.schedule_laws.proofs.Queued.{dead_of, others_of}
-use Rattle.schedule_laws.proofs.Placing.{places_are, places_of}
+use Rattle.schedule_laws.proofs.Placing.{next_place, places_are, places_of}
 use Rattle.schedule_laws.proofs.Keeping.{domains_stay, taken_leaves}
 
 -- a queue, and the registrations that wait
@@ -43,19 +43,11 @@ shifted f (p ∷ ps) w = shifted f ps (one_queued w p)
 
 reverse-map : (f : ℕ → ℕ) (ps : List ℕ) → reverse (map f ps) ≡ map f (reverse ps)
 reverse-map f [] = refl
-reverse-map f (p ∷ ps) = reverse-append (f p ∷ []) (map f ps) ∙ ap (λ ns. ns ++ f p ∷ []) (reverse-map f ps) ∙ sym (pushed (reverse ps) p) ∙ ap (map f) (sym (reverse-append (p ∷ []) ps))
-  where
-    pushed : (ns : List ℕ) (n : ℕ) → map f (ns ++ n ∷ []) ≡ map f ns ++ f n ∷ []
-    pushed [] n = refl
-    pushed (m ∷ ns) n = ap (λ ms. f m ∷ ms) (pushed ns n)
+reverse-map f (p ∷ ps) = reverse-append (f p ∷ []) (map f ps) ∙ ap (λ ns. ns ++ f p ∷ []) (reverse-map f ps) ∙ sym (map-append f (reverse ps) (p ∷ [])) ∙ ap (map f) (sym (reverse-append (p ∷ []) ps))
 
 module _ (gone : LastFinaliser → Bool) where
   abbrev all_gone : List Pending → List LastFinaliser → Waiting
   all_gone q xs = record { queue = q ++ map queued_last (reverse (dead_of queued_last gone xs)); left = others_of queued_last gone xs }
-
-  map_push : (xs : List LastFinaliser) (x : LastFinaliser) → map queued_last (xs ++ x ∷ []) ≡ map queued_last xs ++ queued_last x ∷ []
-  map_push [] x = refl
-  map_push (y ∷ xs) x = ap (λ l. queued_last y ∷ l) (map_push xs x)
 
   all_runs : (q : List Pending) (xs : List LastFinaliser) → fold one_queued (record { queue = q; left = xs }) (reverse (places_of gone xs)) ≡ all_gone q xs
   all_runs q [] = ap (λ l. record { queue = l; left = [] }) (sym (append-nil q))
@@ -74,7 +66,7 @@ module _ (gone : LastFinaliser → Bool) where
           let ds : List LastFinaliser = dead_of queued_last gone xs in
           ap (fold one_queued (record { queue = q; left = x ∷ xs })) (reverse-append (zero ∷ []) ns) ∙ fold-append one_queued (record { queue = q; left = x ∷ xs }) (reverse ns) (zero ∷ []) ∙ ap (λ w. one_queued w zero) later
           ∙ ap (λ l. record { queue = l; left = others_of queued_last gone xs })
-          (append_assoc q (map queued_last (reverse ds)) (queued_last x ∷ []) ∙ ap (λ l. q ++ l) (sym (map_push (reverse ds) x) ∙ ap (map queued_last) (sym (reverse-append (x ∷ []) ds))))
+          (append_assoc q (map queued_last (reverse ds)) (queued_last x ∷ []) ∙ ap (λ l. q ++ l) (sym (map-append queued_last (reverse ds) (x ∷ [])) ∙ ap (map queued_last) (sym (reverse-append (x ∷ []) ds))))
 
   -- all that is gone of a domain was queued
   pub record IsLastsFrom (x y : DomainState) : Type 0 where
@@ -158,12 +150,9 @@ module _ (gone : LastFinaliser → Bool) where
           since = λ k more. ⊎_elim
               (λ (is : k ≡ a). subst (λ m. IsLastsFrom (domain_at t m) (domain_at (state_after u (from_on (a + 1) n)) m)) (sym is)
               (subst (λ (x : DomainState). IsLastsFrom (domain_at t a) x) (sym (later.before a (omega arith))) own))
-              (λ (apart : k ≢ a). subst (λ (x : DomainState). IsLastsFrom x (domain_at (state_after u (from_on (a + 1) n)) k)) (one.others k apart) (later.since k (not_below a k more apart)))
+              (λ (apart : k ≢ a). subst (λ (x : DomainState). IsLastsFrom x (domain_at (state_after u (from_on (a + 1) n)) k)) (one.others k apart) (later.since k (next_place a k more apart)))
               (cases_eq k a);
         })
-      where
-        not_below : (a k : ℕ) → a ≤ k → k ≢ a → a + 1 ≤ k
-        not_below a k more other = ⊎_elim (λ (below : k < a + 1). absurd (other (omega (arith, more, below)))) (λ (past : a + 1 ≤ k). past) (cases_lt k (a + 1))
 
     -- all of them
     pub all_is_taking : list_all is_taking (from_on 0 (length s.domains)) ≡ true

@@ -1,7 +1,8 @@
 -- All places of a list that pass a test: what is left without them, what stands at them, and keys emptied there.
-use Rattle.std.proofs.Common.{◌≡◌, ℕ, zero, suc, ◌+◌, Bool, true, false, cond, ◌||◌, List, [], ◌∷◌, ◌++◌, map, length, refl, sym, ap, ◌∙◌, arith, append-nil, None, Some}
+use Rattle.std.proofs.Common.{◌≡◌, ◌≢◌, ◌<◌, ◌≤◌, ⊎_elim, ℕ, zero, suc, ◌+◌, Bool, true, false, cond, ◌||◌, List, [], ◌∷◌, ◌++◌, map, length, refl, sym, ap, ◌∙◌, arith, append-nil, None, Some}
 use Rattle.std.specs.Prelude.{Option, filter, filter_map, remove, reverse, slice_get, slice_set}
 use Rattle.std.specs.List.{cons_option, list_any, range_with_len}
+use Rattle.std.proofs.lemmas.Bool.{cases_lt}
 use Rattle.std.proofs.lemmas.List.{reverse-append}
 use Rattle.std.proofs.lemmas.List.Elements.{filter_map-append}
 use Rattle.heap_model.specs.declared.label.Label.{Label}
@@ -10,6 +11,10 @@ use Rattle.heap_model.specs.Entries.{at_places, is_some_and, wiped_keys, without
 use Rattle.schedule_laws.specs.Scheduled.{places_where}
 use Rattle.schedule_laws.proofs.Queued.{dead_of, others_of}
 use Rattle.schedule_laws.proofs.Wiped.{all_emptied, is_gone_key}
+
+-- a place that isn't the first of those from a on is one of those behind it
+pub next_place : (a k : ℕ) → a ≤ k → k ≢ a → a + 1 ≤ k
+next_place a k more other = ⊎_elim (λ (below : k < a + 1). absurd (other (omega (arith, more, below)))) (λ (past : a + 1 ≤ k). past) (cases_lt k (a + 1))
 
 range-suc : (a n : ℕ) → range_with_len (suc a) n ≡ map suc (range_with_len a n)
 range-suc a zero = refl

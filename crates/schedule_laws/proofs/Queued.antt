@@ -4,7 +4,7 @@ use Rattle.std.specs.Prelude.{Option, nat_lt, filter_map, reverse, remove, slice
 use Rattle.std.specs.List.{list_all}
 use Rattle.std.proofs.lemmas.Bool.{and_parts}
 use Rattle.std.proofs.lemmas.Bool.Decides.{nat_tests}
-use Rattle.std.proofs.lemmas.List.{reverse-append}
+use Rattle.std.proofs.lemmas.List.{map-append, reverse-append}
 use Rattle.std.proofs.lemmas.List.Elements.{filter_map-append}
 use Rattle.heap_model.specs.declared.state.Pending.{Pending}
 use Rattle.heap_model.specs.Entries.{is_rising, is_some_and, without_places, at_places}
@@ -62,10 +62,6 @@ module _ {A : Type 0} (to_pending : A → Pending) (dead : A → Bool) where
   remove_mid [] f cs = refl
   remove_mid (a ∷ ahead) f cs = ap (λ l. a ∷ l) (remove_mid ahead f cs)
 
-  map_snoc : (fs : List A) (f : A) → map to_pending (fs ++ f ∷ []) ≡ map to_pending fs ++ to_pending f ∷ []
-  map_snoc [] f = refl
-  map_snoc (g ∷ fs) f = ap (λ l. to_pending g ∷ l) (map_snoc fs f)
-
   -- one more, before all that are gone
   pub one_gone : (all : List A) (before : List Pending) (xs : List A) (queue : List Pending) (low p : ℕ) (f : A) → Part all before xs queue low → p < low → slice_get xs p ≡ Some f → dead f ≡ true
       → Part all before (remove xs p) (queue ++ to_pending f ∷ []) p
@@ -84,7 +80,7 @@ module _ {A : Type 0} (to_pending : A → Pending) (dead : A → Bool) where
         merged = inr (part.gone, refl, merge_front c.bs part.back part.kept part.gone part.merged);
         left = ap (λ l. remove l p) rest ∙ ap (remove (c.ahead ++ c.at ∷ (c.bs ++ part.kept))) (sym c.long) ∙ remove_mid c.ahead c.at (c.bs ++ part.kept);
         queue_is = ap (λ l. l ++ to_pending f ∷ []) part.queue_is ∙ append_assoc before (map to_pending (reverse part.gone)) (to_pending f ∷ [])
-            ∙ ap (λ l. before ++ l) (sym (map_snoc (reverse part.gone) f) ∙ ap (map to_pending) (sym (reverse-append (f ∷ []) part.gone)));
+            ∙ ap (λ l. before ++ l) (sym (map-append to_pending (reverse part.gone) (f ∷ [])) ∙ ap (map to_pending) (sym (reverse-append (f ∷ []) part.gone)));
         low_is = sym c.long;
         all_dead = ap (λ b. b && list_all dead part.gone) is_dead ∙ part.all_dead;
       }
@@ -144,7 +140,7 @@ module _ {A : Type 0} (to_pending : A → Pending) (dead : A → Bool) where
       ap (λ l. at_places l xs) (reverse-append (p ∷ []) (q ∷ ps)) ∙ filter_map-append (slice_get xs) (reverse (q ∷ ps)) (p ∷ []) ∙ ap (λ (l : List A). at_places (reverse (q ∷ ps)) xs ++ l) (one_at xs p f.0 f.1) in
       let queued : (queue ++ map to_pending (at_places (reverse (q ∷ ps)) xs)) ++ to_pending f.0 ∷ [] ≡ queue ++ map to_pending (at_places (reverse (p ∷ q ∷ ps)) xs) =
       append_assoc queue (map to_pending (at_places (reverse (q ∷ ps)) xs)) (to_pending f.0 ∷ [])
-      ∙ ap (λ l. queue ++ l) (sym (map_snoc (at_places (reverse (q ∷ ps)) xs) f.0) ∙ ap (map to_pending) (sym order)) in
+      ∙ ap (λ l. queue ++ l) (sym (map-append to_pending (at_places (reverse (q ∷ ps)) xs) (f.0 ∷ [])) ∙ ap (map to_pending) (sym order)) in
       subst (λ (l : List Pending). Part all before (without_places (p ∷ q ∷ ps) xs) l p) queued step
 
   settle_one : (t : Bool) (f : A) (fs kept gone : List A) → dead f ≡ t → ((ks gs : List A) → Merge fs ks gs → list_all (λ x. not (dead x)) ks ≡ true → list_all dead gs ≡ true → (ks ≡ others_of fs) × (gs ≡ dead_of fs))

@@ -3,7 +3,7 @@ use Rattle.std.proofs.Common.{◌≡◌, ◌≢◌, ℕ, zero, suc, ◌+◌, ◌
 use Rattle.std.specs.Prelude.{flat_map, reverse, slice_index_or}
 use Rattle.std.specs.List.{list_all, range_with_len}
 use Rattle.std.proofs.Math.ListN.{get_or-eq_default}
-use Rattle.std.proofs.lemmas.Bool.{cases_eq, cases_lt}
+use Rattle.std.proofs.lemmas.Bool.{cases_eq}
 use Rattle.std.proofs.lemmas.List.Folds.{list_all-append}
 use Rattle.heap_model.specs.declared.entry.Entry.{Entry}
 use Rattle.heap_model.specs.declared.entry.Entry.TheVariants.{Queue}
@@ -19,7 +19,7 @@ use Rattle.schedule_laws.specs.Sameness.{is_queue}
 use Rattle.schedule_laws.specs.Scheduled.{all_queued, dead_finals, places_where, queuing}
 use Rattle.schedule_laws.proofs.Queued.{dead_of, others_of}
 use Rattle.schedule_laws.proofs.Queues.{dead_in}
-use Rattle.schedule_laws.proofs.Placing.{all_reversed, all_without, none_dead}
+use Rattle.schedule_laws.proofs.Placing.{next_place, all_reversed, all_without, none_dead}
 use Rattle.schedule_laws.proofs.Keeping.{queued_leaves, domains_stay}
 
 -- all that is dead of a domain was queued
@@ -95,12 +95,9 @@ module _ (s : State) where
             (λ (is : k ≡ a). subst (λ m. IsQueuedFrom (dead_in s) (domain_at t m) (domain_at (state_after u (from_on (a + 1) n)) m)) (sym is)
             (subst (λ (x : DomainState). IsQueuedFrom (dead_in s) (domain_at t a) x) (sym (later.before a (omega arith))) one.own))
             (λ (apart : k ≢ a). subst (λ (x : DomainState). IsQueuedFrom (dead_in s) x (domain_at (state_after u (from_on (a + 1) n)) k)) (one.others k apart)
-            (later.since k (let other : k ≢ a = apart in not_below a k more other)))
+            (later.since k (next_place a k more apart)))
             (cases_eq k a);
       })
-    where
-      not_below : (a k : ℕ) → a ≤ k → k ≢ a → a + 1 ≤ k
-      not_below a k more other = ⊎_elim (λ (below : k < a + 1). absurd (other (omega (arith, more, below)))) (λ (past : a + 1 ≤ k). past) (cases_lt k (a + 1))
 
   -- all of them
   pub all_is_queue : list_all is_queue (all_queued s) ≡ true

@@ -2,7 +2,7 @@
 use Rattle.std.proofs.Common.{◌≡◌, ℕ, suc, Bool, true, false, cond, not, List, [], ◌∷◌, ◌++◌, map, length, filter_map, refl, sym, ap, ◌∙◌, subst}
 use Rattle.std.specs.Prelude.{reverse}
 use Rattle.std.specs.List.{list_all}
-use Rattle.std.proofs.lemmas.List.{reverse-append}
+use Rattle.std.proofs.lemmas.List.{map-append, reverse-append}
 use Rattle.std.proofs.lemmas.List.Elements.{filter_map-append}
 use Rattle.heap_model.specs.declared.label.Label.{Label}
 use Rattle.heap_model.specs.declared.entry.Entry.{Entry}
@@ -85,17 +85,13 @@ module _ (alive : Label → Bool) where
   all_dead dead [] a = tt
   all_dead dead (f ∷ fs) a = go (dead f) (all_dead dead fs a.1)
     where
-      mapped : (gs : List Finaliser) (g : Finaliser) → map queued_final (gs ++ g ∷ []) ≡ map queued_final gs ++ queued_final g ∷ []
-      mapped [] g = refl
-      mapped (x ∷ gs) g = ap (λ l. queued_final x ∷ l) (mapped gs g)
-
       go : (b : Bool) → AllAlive alive (filter_map pending_label (map queued_final (reverse (dead_of queued_final dead fs))))
           → AllAlive alive (filter_map pending_label (map queued_final (reverse (cond b (f ∷ dead_of queued_final dead fs) (dead_of queued_final dead fs)))))
       go false rest = rest
       go true rest =
           let ds : List Finaliser = dead_of queued_final dead fs in
           let is : filter_map pending_label (map queued_final (reverse (f ∷ ds))) ≡ filter_map pending_label (map queued_final (reverse ds)) ++ f.label ∷ [] =
-          ap (λ l. filter_map pending_label (map queued_final l)) (reverse-append (f ∷ []) ds) ∙ ap (filter_map pending_label) (mapped (reverse ds) f) ∙ filter_map-append pending_label (map queued_final (reverse ds)) (queued_final f ∷ []) in
+          ap (λ l. filter_map pending_label (map queued_final l)) (reverse-append (f ∷ []) ds) ∙ ap (filter_map pending_label) (map-append queued_final (reverse ds) (f ∷ [])) ∙ filter_map-append pending_label (map queued_final (reverse ds)) (queued_final f ∷ []) in
           subst (AllAlive alive) (sym is) (all_both alive (filter_map pending_label (map queued_final (reverse ds))) (f.label ∷ []) rest (a.0, tt))
 
   queued_held : (dead : Finaliser → Bool) (x y : DomainState) → IsDomainHeld alive x → y.registers ≡ x.registers → IsQueuedFrom dead x y → IsDomainHeld alive y
