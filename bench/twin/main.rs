@@ -3,8 +3,8 @@
 //! same order, so what it takes is what the proved program could take. Nothing else should use it.
 //!
 //! A load whose word nobody uses stands where the proved program makes that step. What differs: where the system refuses a
-//! thread, or memory runs out, it ends by a panic or an abort; it takes the words of heads as they come, without a check; it
-//! keeps each section as it was read, without a copy; and it sleeps by a `Condvar`, which takes a lock.
+//! thread, or memory runs out, it ends by a panic or an abort; it takes the words of heads as they come, without a check; and it
+//! sleeps by a `Condvar`, which takes a lock.
 
 mod commands;
 mod ephemerons;

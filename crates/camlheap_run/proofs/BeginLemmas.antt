@@ -3,7 +3,6 @@ use Rattle.std.proofs.Math.Nat.{le-max_left, le-max_right}
 use Rattle.std.proofs.Common.{◌≡◌, ℕ, zero, suc, ◌+◌, ◌<◌, ◌≤◌, Bool, true, false, List, [], ◌∷◌, length, map, refl, ap, ◌∙◌, arith, Some, None}
 use Rattle.std.specs.Prelude.{Option, cond, not, ◌&&◌, nat_le, slice_get, slice_index_or}
 use Rattle.std.proofs.lemmas.Bool.Decides.{nat_tests}
-use Rattle.std.specs.List.{AllByRecursion}
 use Rattle.heap_model.specs.declared.command.Command.{Command}
 use Rattle.heap_model.specs.Domains.{fits_domains}
 use Rattle.heap_rule.specs.declared.config.Config.{Config}
@@ -11,33 +10,31 @@ use Rattle.heap_rule.specs.Limits.{sizes_in, first_outside, first_of}
 use Rattle.heap_rule.specs.Opening.{opening_token, opening_tokens}
 use Rattle.heap_rule.specs.Token.{SharedHeap}
 use Rattle.mark_slices.specs.Decks.{DeckCounts, uncounted}
-use Rattle.camlheap_run.specs.Running.{HasSection, deck_of, most_of, opened}
+use Rattle.camlheap_run.specs.Running.{MayBegin, deck_of, most_of, opened, opened_with, opened_each}
 use Rattle.domain_turns.specs.Runs.{ephemerons_in, registrations_in}
 use Rattle.domain_turns.proofs.Beginning.{opening_begins}
 use Rattle.camlheap_run.proofs.SectionLemmas.{IsFine}
 
--- no section has more of what is counted than the one that has most. A domain without a section has none
-section_in : (count : List Command → ℕ) → count [] ≡ 0 → (script : List (List Command)) (d : ℕ) → count (slice_index_or script d []) ≤ most_of count script
-section_in count none [] d = omega (arith, none)
-section_in count none (cs ∷ sections) zero = le-max_left (count cs) (most_of count sections)
-section_in count none (cs ∷ sections) (suc d) =
-    let most : ℕ = most_of count (cs ∷ sections) in
-    let rest : ℕ = most_of count sections in
-    let inside : count (slice_index_or sections d []) ≤ rest = section_in count none sections d in
-    let more : rest ≤ most = le-max_right (count cs) (most_of count sections) in
-    omega (arith, inside, more)
-
--- each of these domains has a section, and may begin it
-pub have_sections : (h : SharedHeap) (k : Config) (script : List (List Command)) (from n : ℕ) → from + n ≤ k.domains → length script ≡ k.domains → ((d : ℕ) → IsFine (slice_index_or script d [])) → most_of ephemerons_in script ≤ k.ephes → most_of registrations_in script ≤ k.finals
-    → AllByRecursion (HasSection script) (opening_tokens h.table k from n)
-have_sections h k script from zero few long fine ephemerons registrations = tt
-have_sections h k script from (suc n) few long fine ephemerons registrations = (
-  record {
-    inside = omega arith;
-    begins = opening_begins h k from (slice_index_or script from []) (omega arith) (fine from).few (fine from).fit (omega (arith, section_in ephemerons_in refl script from, ephemerons)) (omega (arith, section_in registrations_in refl script from, registrations));
-  },
-  have_sections h k script (from + 1) n (omega arith) long fine ephemerons registrations,
+-- each of these domains may begin its section
+pub may_begin : (h : SharedHeap) (k : Config) (from n : ℕ) (sections : List (List Command)) → length sections ≡ n → from + n ≤ k.domains → ((d : ℕ) → IsFine (slice_index_or sections d [])) → most_of ephemerons_in sections ≤ k.ephes → most_of registrations_in sections ≤ k.finals
+    → MayBegin (opening_tokens h.table k from n) sections
+may_begin h k from zero sections many few fine ephemerons registrations = tt
+may_begin h k from (suc n) [] many few fine ephemerons registrations = cc
+may_begin h k from (suc n) (cs ∷ sections) many few fine ephemerons registrations = (
+  opening_begins h k from cs (omega arith) (fine 0).few (fine 0).fit (omega (arith, le-max_left (ephemerons_in cs) (most_of ephemerons_in sections), ephemerons)) (omega (arith, le-max_left (registrations_in cs) (most_of registrations_in sections), registrations)),
+  may_begin h k (from + 1) n sections (omega (arith, many)) (omega arith) (λ d. fine (suc d)) (omega (arith, le-max_right (ephemerons_in cs) (most_of ephemerons_in sections), ephemerons)) (omega (arith, le-max_right (registrations_in cs) (most_of registrations_in sections), registrations)),
 )
+
+-- the runs that are made of the sections in order are theirs
+pub opened_are : (h : SharedHeap) (k : Config) (script : List (List Command)) (from n : ℕ) (sections : List (List Command)) → length sections ≡ n → ((i : ℕ) → slice_index_or sections i [] ≡ slice_index_or script (from + i) [])
+    → opened_each (opening_tokens h.table k from n) sections ≡ map (opened script) (opening_tokens h.table k from n)
+opened_are h k script from zero sections many same = refl
+opened_are h k script from (suc n) [] many same = cc
+opened_are h k script from (suc n) (cs ∷ sections) many same =
+    let at : from + 0 ≡ from = omega arith in
+    let first : cs ≡ slice_index_or script from [] = same 0 ∙ ap (λ (i : ℕ). slice_index_or script i []) at in
+    let rest = opened_are h k script (from + 1) n sections (omega (arith, many)) (λ i. let on : from + suc i ≡ (from + 1) + i = omega arith in same (suc i) ∙ ap (λ (j : ℕ). slice_index_or script j []) on) in
+    (λ i. opened_with (opening_token h.table k from) (first i) ∷ rest i)
 
 -- the decks that are made are theirs
 pub decks_are : (h : SharedHeap) (k : Config) (from n : ℕ) (decks : List DeckCounts) → length decks ≡ n → ((i : ℕ) (d : DeckCounts) → i < n → slice_index_or decks i d ≡ uncounted (from + i) k.domains) → decks ≡ map deck_of (opening_tokens h.table k from n)

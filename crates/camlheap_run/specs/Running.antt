@@ -1,5 +1,5 @@
 -- The runs of a script's sections on one heap, from its start to its end.
-use Rattle.std.specs.Prelude.{◌≡◌, ℕ, ◌<◌, ◌≤◌, max, true, false, List, [], ◌∷◌, map, length, slice_index_or, vec_capacity, None}
+use Rattle.std.specs.Prelude.{◌≡◌, ℕ, ◌<◌, ◌≤◌, max, true, false, List, [], ◌∷◌, map, slice_index_or, vec_capacity, None}
 use Rattle.std.specs.List.{AllByRecursion}
 use Rattle.heap_model.specs.declared.command.Command.{Command}
 use Rattle.heap_model.specs.declared.state.Sizes.{Sizes}
@@ -34,14 +34,24 @@ section_of script t = slice_index_or script t.view.own.number []
 abbrev pub deck_of : Token → DeckCounts
 deck_of t = uncounted t.view.own.number t.config.domains
 
+-- a domain's run of commands, before the first
+abbrev pub opened_with : Token → List Command → RunView
+opened_with t commands = record { token = t; commands = commands; next = 0; replies = []; ended = false; left = None; asked = None; collected = false; progress = no_collection; due = 0; hints = deck_of t; supply = Listed }
+
 -- the run of its section
 abbrev pub opened : List (List Command) → Token → RunView
-opened script t = record { token = t; commands = section_of script t; next = 0; replies = []; ended = false; left = None; asked = None; collected = false; progress = no_collection; due = 0; hints = deck_of t; supply = Listed }
+opened script t = opened_with t (section_of script t)
 
--- the domain has a section, and may begin it
-pub record HasSection (script : List (List Command)) (t : Token) : Type 0 where
-  pub inside : t.view.own.number < length script
-  pub begins : CanBegin t (section_of script t)
+-- the runs of domains, each with the commands at its place
+abbrev pub opened_each : List Token → List (List Command) → List RunView
+opened_each (t ∷ ts) (cs ∷ sections) = opened_with t cs ∷ opened_each ts sections
+opened_each _ _ = []
+
+-- each of these domains may begin the commands at its place
+abbrev pub MayBegin : List Token → List (List Command) → Type 0
+MayBegin [] sections = Unit {0}
+MayBegin (t ∷ ts) [] = ⊥
+MayBegin (t ∷ ts) (cs ∷ sections) = CanBegin t cs × MayBegin ts sections
 
 -- a heap of this size was started, with a run for each domain in order, and there is room for its domains when they come back
 pub record IsBegun (k : Config) (script : List (List Command)) (b : Begun) : Type 0 where

@@ -1,9 +1,8 @@
 //! Starts a heap, with a run for each of its domains. All memory of a run is taken here.
 ghost use Rattle.std.specs.Prelude.{◌≡◌, ◌≤◌, None, map, IfOk};
-ghost use Rattle.std.specs.List.{AllByRecursion};
 ghost use Rattle.heap_rule.specs.Limits.{first_outside, sizes_in};
 ghost use Rattle.camlheap_run.specs.Reading.{IsSpelled};
-ghost use Rattle.camlheap_run.specs.Running.{AreRunSizes, HasSection, IsBegun, deck_of, most_of, opened};
+ghost use Rattle.camlheap_run.specs.Running.{AreRunSizes, IsBegun, MayBegin, deck_of, most_of, opened_each};
 ghost use Rattle.domain_turns.specs.Runs.{ephemerons_in, registrations_in};
 
 use domain_turns::DomainRun;
@@ -86,35 +85,34 @@ pub(crate) fn config_of(sizes: &Sizes, script: &Script) -> Config
     }
 }
 
-// A run of each domain's section, in the order of the domains, each with its own of these decks.
+// A run of each domain, in the order of the domains, each with its own of these decks and of these sections.
 fn runs_of(
     alloc: Global,
     domains: Vec<Domain>,
     mut decks: Vec<Hints>,
-    script: &Script,
+    mut sections: Vec<Vec<Command>>,
 ) -> Result<Vec<DomainRun>, AllocError>
-    requires sections { AllByRecursion (HasSection script.now.sections) domains.items }
+    requires sections { MayBegin domains.items (map (λ v. v.items) sections.items) }
     requires decks { decks.items ≡ map deck_of domains.items }
-    ensures { IfOk result (λ runs. runs.items ≡ map (opened script.now.sections) domains.items) }
+    ensures { IfOk result (λ runs. runs.items ≡ opened_each domains.items (map (λ v. v.items) sections.items)) }
 {
     let mut runs = Vec::new(alloc);
     'domains: for domain in domains {
-        let section = script.section(domain.number() as usize);
-        let commands = Vec::from_slice(alloc, section)?;
+        let commands = sections.remove(0);
         let hints = decks.remove(0);
         runs.push(DomainRun::make(alloc, domain, hints, commands)?)?;
     }
     Ok(runs)
 }
 
-// Starts the heap of a script.
+// Starts the heap of a script. The runs get the sections themselves.
 #[inline(never)]
-pub(crate) fn begin(alloc: Global, config: Config, script: &Script) -> Result<Begun, AllocError>
+pub(crate) fn begin(alloc: Global, config: Config, script: Script) -> Result<Begun, AllocError>
     requires limits { first_outside config ≡ None }
-    requires script { IsSpelled config.domains script.now }
-    requires ephemerons { most_of ephemerons_in script.now.sections ≤ config.ephes }
-    requires registrations { most_of registrations_in script.now.sections ≤ config.finals }
-    ensures { IfOk result (IsBegun config script.now.sections) }
+    requires script { IsSpelled config.domains script }
+    requires ephemerons { most_of ephemerons_in script.sections ≤ config.ephes }
+    requires registrations { most_of registrations_in script.sections ≤ config.finals }
+    ensures { IfOk result (IsBegun config script.sections) }
 {
     let (heap, domains) = match Heap::start(alloc, config) {
         Ok(started) => started,
@@ -123,6 +121,6 @@ pub(crate) fn begin(alloc: Global, config: Config, script: &Script) -> Result<Be
     };
     let room = Vec::with_capacity(alloc, domains.len())?;
     let decks = Hints::make(alloc, config.domains, config.ephes)?;
-    let runs = runs_of(alloc, domains, decks, script)?;
+    let runs = runs_of(alloc, domains, decks, script.into_sections())?;
     Ok(Begun { heap, runs, room })
 }

@@ -37,5 +37,5 @@ pub(crate) fn load<R: Threads + Wait + Sync, K: Sink, G: Gate + Sync>(
         Ok(script) => script,
         Err(AllocError) => return Status::Memory,
     };
-    run(rt, alloc, &sizes, &script, Report::Summary, out, gate)
+    run(rt, alloc, &sizes, script, Report::Summary, out, gate)
 }

@@ -25,22 +25,22 @@ pub(crate) fn run<R: Threads + Wait + Sync, K: Sink, G: Gate + Sync>(
     rt: &R,
     alloc: Global,
     sizes: &Sizes,
-    script: &Script,
+    script: Script,
     report: Report,
     out: &mut K,
     gate: &G,
 ) -> Status
     requires limits { AreRunSizes sizes.now }
-    requires script { IsSpelled sizes.now.domains script.now }
+    requires script { IsSpelled sizes.now.domains script }
     ensures later { K.faults out.old ≤ K.faults out.new }
-    ensures done { (ended : Option EndedHeap) → result ≡ Status.Done ended → WritesRun (text_of report) sizes.now script.now.sections ended (K.written out.old) (K.written out.new) }
-    ensures cut { (ended : Option EndedHeap) → result ≡ Status.WriteFault ended → WritesFrontOfRun (text_of report) sizes.now script.now.sections ended (K.written out.old) (K.written out.new) }
+    ensures done { (ended : Option EndedHeap) → result ≡ Status.Done ended → WritesRun (text_of report) sizes.now script.sections ended (K.written out.old) (K.written out.new) }
+    ensures cut { (ended : Option EndedHeap) → result ≡ Status.WriteFault ended → WritesFrontOfRun (text_of report) sizes.now script.sections ended (K.written out.old) (K.written out.new) }
     ensures fault { (ended : Option EndedHeap) → result ≡ Status.WriteFault ended → Rose (K.faults out.old) (K.faults out.new) }
     ensures failed { K.faults out.old < K.faults out.new → IsWriteFault result }
     ensures quiet { result ≡ Status.Memory → out.new ≡ out.old }
     ensures answers { IsRunAnswer result }
 {
-    let Begun { heap, runs, room } = match begin(alloc, config_of(sizes, script), script) {
+    let Begun { heap, runs, room } = match begin(alloc, config_of(sizes, &script), script) {
         Ok(begun) => begun,
         Err(AllocError) => return Status::Memory,
     };

@@ -47,7 +47,7 @@ pub(crate) fn run_source<R: Threads + Wait + Sync, S: Source, K: Sink, G: Gate +
         → IsEither result (Status.Script f) Status.Memory }
 {
     match script_of(alloc, sizes.domains, src) {
-        Ok(script) => run(rt, alloc, sizes, &script, Report::Replies, out, gate),
+        Ok(script) => run(rt, alloc, sizes, script, Report::Replies, out, gate),
         Err(NoScript::ReadFault) => Status::ReadFault,
         Err(NoScript::Refused(fault)) => Status::Script(fault),
         Err(NoScript::Memory) => Status::Memory,

@@ -10,6 +10,7 @@ use heap_text::{Line, print_heading, print_reply};
 use outer_io::{Failed, Sink};
 
 // Hands a text to the sink, and again what a write leaves of it.
+#[inline(always)]
 pub(crate) fn write_all<K: Sink>(out: &mut K, text: &[u8]) -> Result<(), Failed>
     ensures cause { HasCause (K.faults out.old) (K.faults out.new) result }
     ensures bytes { Writes (K.written out.old) (K.written out.new) result text.now }
