@@ -1,0 +1,5 @@
+pub mod NumberLemmas
+pub mod RowLemmas
+pub mod ShapeLemmas
+pub mod LineLemmas
+pub mod ReadLemmas
