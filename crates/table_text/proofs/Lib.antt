@@ -3,3 +3,4 @@ pub mod RowLemmas
 pub mod ShapeLemmas
 pub mod LineLemmas
 pub mod ReadLemmas
+pub mod WritableLemmas

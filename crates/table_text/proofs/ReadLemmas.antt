@@ -1,5 +1,5 @@
 -- What the lines that were read say of the whole text.
-use Rattle.std.proofs.Common.{◌≡◌, ℕ, ◌+◌, ◌<◌, ◌≤◌, List, [], ◌∷◌, ◌++◌, map, length, length-append, Bool, true, false, cond, ◌&&◌, refl, ap, sym, ◌∙◌, arith, append_assoc, None, Some, Ok, Err, IfOk, IfErr}
+use Rattle.std.proofs.Common.{◌≡◌, ℕ, ◌+◌, ◌<◌, ◌≤◌, List, [], ◌∷◌, ◌++◌, map, length, length-append, Bool, true, false, cond, refl, ap, sym, ◌∙◌, arith, append_assoc, None, Some, Ok, Err, IfOk, IfErr}
 use Rattle.std.specs.Prelude.{Option, Result, flat_map, bytes_eq, nat_lt, ◌==◌}
 use Rattle.std.specs.List.{slice_split, list_all}
 use Rattle.std.proofs.lemmas.Bool.{and_parts}
@@ -34,12 +34,6 @@ spelling-push : (lines : List TableLine) (l : TableLine) → spelling (lines ++ 
 spelling-push lines l =
     ap (λ ts. flat_map line (first_line ∷ ts)) (texts-push lines l) ∙ flat_map-append line (first_line ∷ map line_text lines) (line_text l ∷ [])
     ∙ ap (λ x. spelling lines ++ x) (append-nil (line (line_text l)))
-
-pub writable-push : (lines : List TableLine) (l : TableLine) → list_all is_writable lines ≡ true → is_writable l ≡ true → list_all is_writable (lines ++ l ∷ []) ≡ true
-writable-push [] l e f = ap (λ b. b && true) f
-writable-push (x ∷ lines) l e f =
-    let p = and_parts (is_writable x) (list_all is_writable lines) e in
-    ap (λ b. b && list_all is_writable (lines ++ l ∷ [])) p.0 ∙ writable-push lines l p.1 f
 
 -- the text moves on by a line
 pub moved_on : (front rest text tail : List ℕ) (lines : List TableLine) (l : TableLine) → front ≡ spelling lines ++ rest → Some (text, tail) ≡ split_at_mark 10 rest → text ≡ line_text l → front ≡ spelling (lines ++ l ∷ []) ++ tail

@@ -1,5 +1,6 @@
 //! What was read: the lines of a text.
-ghost use Rattle.std.specs.Prelude.{◌≡◌, ◌<◌, ◌++◌, ◌∷◌, [], length, OnOk, Some, slice_get};
+ghost use Rattle.std.specs.Prelude.{◌≡◌, ◌<◌, ◌++◌, ◌∷◌, [], length, OnOk, Some, slice_get, true};
+ghost use Rattle.table_text.specs.Forms.{is_writable};
 
 use crate::line::TableLine;
 use std::alloc::{AllocError, Global};
@@ -12,12 +13,16 @@ pub struct TableText {
 }
 
 impl Model for TableText {
-    ghost use Rattle.std.specs.Prelude.{List};
+    ghost use Rattle.std.specs.Prelude.{◌≡◌, List, true};
+    ghost use Rattle.std.specs.List.{list_all};
     ghost use Rattle.table_text.specs.declared.line.TableLine.{TableLine};
+    ghost use Rattle.table_text.specs.Forms.{is_writable};
 
     ghost Value = { List TableLine };
 
     ghost view = { λ t. t.lines.items };
+
+    ghost invariant = { λ t. list_all is_writable t.lines.items ≡ true };
 }
 
 impl TableText {
@@ -28,10 +33,11 @@ impl TableText {
         self.lines.len()
     }
 
-    /// Line `i`, counted from 0.
+    /// Line `i`, counted from 0. Its numbers are in their ranges.
     pub fn line(&self, i: usize) -> TableLine
         requires { i < length self.now }
-        ensures { Some result ≡ slice_get self.now i }
+        ensures line { Some result ≡ slice_get self.now i }
+        ensures fits { is_writable result ≡ true }
     {
         self.lines[i]
     }
@@ -47,6 +53,7 @@ impl TableText {
 
     // One line more.
     pub(crate) fn push(&mut self, line: TableLine) -> Result<(), AllocError>
+        requires { is_writable line ≡ true }
         ensures { OnOk result (self.new ≡ self.old ++ line ∷ []) }
     {
         self.lines.push(line)?;

@@ -4,7 +4,8 @@ use Rattle.std.specs.List.{list_all}
 use Rattle.table_text.specs.declared.line.TableLine.{TableLine}
 use Rattle.table_text.specs.Forms.{is_writable}
 use Rattle.table_text.specs.Spelling.{spelling}
-use Rattle.table_text.proofs.ReadLemmas.{moved_on, faults_on, writable-push, fault_read, end_read}
+use Rattle.table_text.proofs.ReadLemmas.{moved_on, faults_on, fault_read, end_read}
+use Rattle.table_text.proofs.WritableLemmas.{writable-push}
 use Rattle.table_text.proofs.read.read_lines.Goals as goal
 
 pub returns-in-Err-clause-fault : goal.returns-in-Err-clause-fault
