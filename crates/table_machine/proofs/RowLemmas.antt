@@ -1,5 +1,5 @@
 -- The machine on two texts, line by line.
-use Rattle.std.proofs.Common.{◌≡◌, inl, inr, ⊎_elim, ℕ, zero, suc, ℤ, pos, Bool, true, false, ◌||◌, IsTrue, List, [], ◌∷◌, replicate, Option, Some, None, refl, ap, sym, ◌∙◌, subst}
+use Rattle.std.proofs.Common.{◌≡◌, inl, inr, ⊎_elim, zero, suc, ℤ, pos, Bool, true, false, ◌||◌, IsTrue, List, [], ◌∷◌, replicate, Option, Some, None, refl, ap, sym, ◌∙◌, subst}
 use Rattle.heap_model.specs.declared.label.Label.{Label}
 use Rattle.heap_model.specs.declared.graph.Value.TheVariants.{Int}
 use Rattle.heap_model.specs.declared.state.Sizes.{Sizes}
@@ -10,13 +10,13 @@ use Rattle.table_laws.specs.Structures.{Binding}
 use Rattle.table_laws.specs.Thinning.{ThinnedBy, EmptiedBy}
 use Rattle.table_text.specs.declared.line.TableLine.{TableLine}
 use Rattle.table_machine.specs.declared.reply.LineReply.{LineReply}
-use Rattle.table_machine.specs.Machine.{TableState, Holds, IsLost, IsNew, AllGone, MayGo, Effect, LineStep, MachineAnswers, opened}
+use Rattle.table_machine.specs.Machine.{TableState, Holds, IsLost, MayGo, Effect, LineStep, MachineAnswers}
 use Rattle.table_machine.specs.Rows.{binding_lines, binding_replies, slot_lines, slot_replies}
 
-first : Label
+abbrev first : Label
 first = record { domain = 0; serial = 20 }
 
-second : Label
+abbrev second : Label
 second = record { domain = 0; serial = 21 }
 
 -- nothing goes
@@ -81,25 +81,51 @@ binding_row z = record {
       ∷ state two (bound_both (pos 11)) empty ∷ state one (bound_both (pos 11)) empty ∷ state one (bound_first (pos 11)) empty ∷ state one (bound_first (pos 11)) empty ∷ state one (bound_first (pos 11)) empty
       ∷ state one [] empty ∷ state one [] empty ∷ state one [] empty ∷ [];
   runs = (
-    plain z _ _ _ _ _ (refl, first, record { lost = unheld (replicate 5 None) first refl; unbound = refl; unset = unheld empty first refl }, refl),
-    plain z _ _ _ _ _ (refl, second, record { lost = unheld one second refl; unbound = refl; unset = unheld empty second refl }, refl),
-    plain z _ _ _ _ _ (refl, refl, refl, record { rest = refl; bound = refl }),
-    plain z _ _ _ _ _ (refl, refl, refl, record { rest = refl; bound = refl }),
-    plain z _ _ _ _ _ (refl, refl, refl, record { rest = refl; bound = refl }),
-    plain z _ _ _ _ _ (refl, refl),
-    plain z _ _ _ _ _ (refl, refl),
-    plain z _ _ _ _ _ (refl, refl),
-    record {
-      left = state one (bound_first (pos 11)) empty;
-      goes = record { registers = refl; bindings = inl (_, refl, inr (unheld one second refl, refl)); slots = none_emptied _ empty };
-      does = inl (refl, refl, record { bindings = λ k h. (0, ap (λ (l : Label). Some (Some l)) (sym (is_first k h))); slots = λ k h. absurd (unheld empty k refl h) });
-    },
-    plain z _ _ _ _ _ (refl, refl),
-    plain z _ _ _ _ _ (refl, refl),
-    plain z _ _ _ _ _ (refl, refl),
-    plain z _ _ _ _ _ (refl, refl),
-    plain z _ _ _ _ _ (refl, refl),
-    tt,
+    plain z _ _ _ _ _ (refl, (first, record { lost = unheld (replicate 5 None) first refl; unbound = refl; unset = unheld empty first refl }, refl)),
+    (
+      plain z _ _ _ _ _ (refl, (second, record { lost = unheld one second refl; unbound = refl; unset = unheld empty second refl }, refl)),
+      (
+        plain z _ _ _ _ _ (refl, refl, refl, record { rest = refl; bound = refl }),
+        (
+          plain z _ _ _ _ _ (refl, refl, refl, record { rest = refl; bound = refl }),
+          (
+            plain z _ _ _ _ _ (refl, refl, refl, record { rest = refl; bound = refl }),
+            (
+              plain z _ _ _ _ _ (refl, refl),
+              (
+                plain z _ _ _ _ _ (refl, refl),
+                (
+                  plain z _ _ _ _ _ (refl, refl),
+                  (
+                    record {
+                      left = state one (bound_first (pos 11)) empty;
+                      goes = record { registers = refl; bindings = inl (_, refl, inr (unheld one second refl, refl)); slots = none_emptied _ empty };
+                      does = inl (refl, refl, record { bindings = λ k h. (0, ap (λ (l : Label). Some (Some l)) (sym (is_first k h))); slots = λ k h. absurd (unheld empty k refl h) });
+                    },
+                    (
+                      plain z _ _ _ _ _ (refl, refl),
+                      (
+                        plain z _ _ _ _ _ (refl, refl),
+                        (
+                          plain z _ _ _ _ _ (refl, refl),
+                          (
+                            plain z _ _ _ _ _ (refl, refl),
+                            (
+                              plain z _ _ _ _ _ (refl, refl),
+                              (tt),
+                            ),
+                          ),
+                        ),
+                      ),
+                    ),
+                  ),
+                ),
+              ),
+            ),
+          ),
+        ),
+      ),
+    ),
   );
 }
 
@@ -127,20 +153,38 @@ slot_row z = record {
   states = state one [] empty ∷ state one [] kept ∷ state copied [] kept ∷ state moved [] kept ∷ state moved [] kept ∷ state twice [] kept ∷ state again [] kept ∷ state (replicate 5 None) [] kept ∷ state (replicate 5 None) [] empty
       ∷ state (replicate 5 None) [] empty ∷ [];
   runs = (
-    plain z _ _ _ _ _ (refl, first, record { lost = unheld (replicate 5 None) first refl; unbound = refl; unset = unheld empty first refl }, refl),
-    plain z _ _ _ _ _ (refl, refl),
-    plain z _ _ _ _ _ (refl, refl),
-    plain z _ _ _ _ _ (refl, refl),
-    plain z _ _ _ _ _ (refl, refl, record { bindings = λ k h. absurd (let clash : false ≡ true = h in cc); slots = λ k h. (1, ap (λ (l : Label). Some (Some l)) (sym (in_slot k h))) }),
-    plain z _ _ _ _ _ (refl, refl),
-    plain z _ _ _ _ _ (refl, refl),
-    plain z _ _ _ _ _ (refl, refl),
-    record {
-      left = state (replicate 5 None) [] empty;
-      goes = record { registers = refl; bindings = refl; slots = (None, _, refl, inl refl, None, _, refl, inl refl, None, _, refl, inl refl, None, _, refl, inr (refl, first, refl, unheld (replicate 5 None) first refl), none_emptied _ (replicate 12 None)) };
-      does = inl (refl, refl, record { bindings = λ k h. absurd (let clash : false ≡ true = h in cc); slots = λ k h. absurd (unheld empty k refl h) });
-    },
-    plain z _ _ _ _ _ (refl, refl),
-    tt,
+    plain z _ _ _ _ _ (refl, (first, record { lost = unheld (replicate 5 None) first refl; unbound = refl; unset = unheld empty first refl }, refl)),
+    (
+      plain z _ _ _ _ _ (refl, refl),
+      (
+        plain z _ _ _ _ _ (refl, refl),
+        (
+          plain z _ _ _ _ _ (refl, refl),
+          (
+            plain z _ _ _ _ _ (refl, refl, record { bindings = λ k h. absurd (let clash : false ≡ true = h in cc); slots = λ k h. (1, ap (λ (l : Label). Some (Some l)) (sym (in_slot k h))) }),
+            (
+              plain z _ _ _ _ _ (refl, refl),
+              (
+                plain z _ _ _ _ _ (refl, refl),
+                (
+                  plain z _ _ _ _ _ (refl, refl),
+                  (
+                    record {
+                      left = state (replicate 5 None) [] empty;
+                      goes = record { registers = refl; bindings = refl; slots = (None, _, refl, inl refl, (None, _, refl, inl refl, (None, _, refl, inl refl, (None, _, refl, inr (refl, (first, refl, unheld (replicate 5 None) first refl)), none_emptied _ (replicate 12 None))))) };
+                      does = inl (refl, refl, record { bindings = λ k h. absurd (let clash : false ≡ true = h in cc); slots = λ k h. absurd (unheld empty k refl h) });
+                    },
+                    (
+                      plain z _ _ _ _ _ (refl, refl),
+                      (tt),
+                    ),
+                  ),
+                ),
+              ),
+            ),
+          ),
+        ),
+      ),
+    ),
   );
 }

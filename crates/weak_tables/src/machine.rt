@@ -6,7 +6,7 @@ ghost use Rattle.heap_model.specs.Domains.{IsWithinLimits, domain_at};
 ghost use Rattle.heap_model.specs.History.{Legal};
 ghost use Rattle.heap_model.specs.Commands.{shown};
 ghost use Rattle.table_laws.specs.Thinning.{state_of};
-ghost use Rattle.table_laws.specs.Performing.{Performed, refusals, full_of, refused_by};
+ghost use Rattle.table_laws.specs.Performing.{Performed, refusals, full_of, refused_by, writes, writings};
 ghost use Rattle.table_laws.specs.Stages.{held_in};
 ghost use Rattle.weak_tables.specs.Commands.{IsCallCommand, labels_of, ephemerons_of};
 
@@ -67,6 +67,7 @@ pub(crate) fn perform<M: Machine, R: Wait>(m: &mut M, rt: &R, c: Command) -> Rep
     ensures room { M.ephes_room m.old ≤ M.ephes_room m.new + ephemerons_of c }
     ensures refused { refusals (M.front m.new) ≡ refusals (M.front m.old) + full_of result }
     ensures given { full_of result ≡ refused_by c result }
+    ensures written { writings (M.front m.new) ≡ writings (M.front m.old) + writes c }
     ensures performed { Performed (M.sizes m.old) (M.front m.old) (M.front m.new) c result }
 {
     m.stands();
