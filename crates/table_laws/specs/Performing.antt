@@ -4,7 +4,7 @@ use Rattle.heap_model.specs.declared.label.Label.{Label}
 use Rattle.heap_model.specs.declared.command.Command as declared_command
 use Rattle.heap_model.specs.declared.command.Command.TheVariants.{PutInt, Copy, Forget, Alloc, AllocMaj, Load, Raw as NewRaw, Ephe as NewEphe, GetKey, GetData}
 use Rattle.heap_model.specs.declared.entry.Entry.{Entry}
-use Rattle.heap_model.specs.declared.entry.Entry.TheVariants.{Command, Ran}
+use Rattle.heap_model.specs.declared.entry.Entry.TheVariants.{Command, End, Ran}
 use Rattle.heap_model.specs.declared.graph.Value.{Value}
 use Rattle.heap_model.specs.declared.graph.Node.TheVariants.{Ephe}
 use Rattle.heap_model.specs.declared.reply.Reply.{Reply}
@@ -63,9 +63,10 @@ writes (GetKey dst ephe index) = is_spared dst
 writes (GetData dst ephe) = is_spared dst
 writes _ = 0
 
--- and an entry: a run of a finaliser may write any
+-- and an entry: the end of a trace and a run of a finaliser may write any
 abbrev pub written : Entry → ℕ
 written (Command d c full) = writes c
+written (End d) = 1
 written (Ran d) = 1
 written _ = 0
 

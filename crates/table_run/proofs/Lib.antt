@@ -1,0 +1,7 @@
+pub mod RegisterLemmas
+pub mod MachineLemmas
+pub mod RefusalLemmas
+pub mod StandLemmas
+pub mod LineLemmas
+pub mod CallLemmas
+pub mod OwnLemmas

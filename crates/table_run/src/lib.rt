@@ -1,0 +1,2 @@
+//! A text of a table, run line by line.
+#![tactic(auto)]
