@@ -1,11 +1,14 @@
 -- How a domain stands before its first command.
-use Rattle.std.proofs.Common.{◌≡◌, ◌∙◌, ℕ, ◌/◌, ◌+◌, ◌%◌, ◌<◌, ◌≤◌, zero, suc, true, false, length, List, [], Option, None, replicate, ap, refl, sym, arith}
+use Rattle.std.proofs.Common.{◌≡◌, ◌≢◌, ◌∙◌, ℕ, ◌/◌, ◌+◌, ◌%◌, ◌<◌, ◌≤◌, zero, suc, true, false, length, List, [], Option, None, replicate, ap, refl, sym, arith}
 use Rattle.std.specs.Prelude.{slice_index_or}
 use Rattle.heap_model.specs.declared.command.Command.{Command}
+use Rattle.domain_turns.specs.declared.supply.Supply.{Supply}
 use Rattle.domain_turns.specs.declared.supply.Supply.TheVariants.{Listed, Open}
 use Rattle.mark_slices.specs.Decks.{DeckCounts}
 use Rattle.mark_slices.specs.Slices.{IsDeckOf}
 use Rattle.heap_model.specs.Domains.{class_count, opening_domain, no_domain}
+use Rattle.heap_model.specs.History.{commands, replies}
+use Rattle.heap_rule.specs.Limits.{sizes_in}
 use Rattle.heap_rule.specs.declared.config.Config.{Config}
 use Rattle.heap_rule.specs.Opening.{opening_token}
 use Rattle.heap_rule.specs.Phases.{IsEven}
@@ -13,7 +16,7 @@ use Rattle.heap_rule.specs.Pools.{prepared_at}
 use Rattle.heap_rule.specs.Token.{Token, SharedHeap}
 use Rattle.steps_finalisers.specs.Registering.{count_of}
 use Rattle.heap_rule.specs.Views.{no_collection}
-use Rattle.domain_turns.specs.Runs.{AllFit, CanBegin, HasReserved, IsBetween, IsRun, ephemerons_in, registrations_in}
+use Rattle.domain_turns.specs.Runs.{AllFit, CanBegin, EndsIn, HasLabels, HasReserved, IsBetween, IsRun, ephemerons_in, registrations_in, unturned}
 
 nothing_prepared : (n class : ℕ) → ◌≡◌ {A = Option ℕ} (slice_index_or (replicate n None) class None) None
 nothing_prepared zero class = refl
@@ -23,7 +26,7 @@ nothing_prepared (suc n) (suc class) = nothing_prepared n class
 even_rest : (n : ℕ) → n % 2 ≡ 0 → IsEven n
 even_rest n rest = (n / 2, omega arith)
 
-pub begins_between : (t : Token) (cs : List Command) → CanBegin t cs → IsBetween None None false no_collection t
+begins_between : (t : Token) (cs : List Command) → CanBegin t cs → IsBetween None None false no_collection t
 begins_between t cs can = record {
   stands = can.acts.runs;
   quiet = record { quiet = can.quiet; no_copies = can.no_copies; unprepared = λ class _. ap (λ l. prepared_at l class) can.unprepared ∙ nothing_prepared class_count class; paid = can.acts.paid };
@@ -36,40 +39,49 @@ begins_between t cs can = record {
 }
 
 -- no finaliser is registered so far, and each that the commands register may answer once
-pub begins_enlisted : (t : Token) (cs : List Command) → CanBegin t cs → count_of t.view.own.finalisers + registrations_in cs ≤ t.config.finals
+begins_enlisted : (t : Token) (cs : List Command) → CanBegin t cs → count_of t.view.own.finalisers + registrations_in cs ≤ t.config.finals
 begins_enlisted t cs can = let none = can.none_listed in let few = can.enlists in omega arith
 
-pub begins_replied : (t : Token) (cs : List Command) → CanBegin t cs → 0 + (count_of t.view.own.finalisers + registrations_in cs) ≤ 0 + registrations_in cs
+begins_replied : (t : Token) (cs : List Command) → CanBegin t cs → 0 + (count_of t.view.own.finalisers + registrations_in cs) ≤ 0 + registrations_in cs
 begins_replied t cs can = let none = can.none_listed in omega arith
 
 -- so each command of a list may, and each finaliser
 pub reserves_listed : (count commands replies : ℕ) → count + count ≤ replies → HasReserved Listed count commands replies
 reserves_listed count commands replies enough = record { answers = enough; one = λ other. absurd (other refl) }
 
--- an open run of a domain that may begin
-pub begins_open : (t : Token) (hints : DeckCounts) → CanBegin t [] → IsDeckOf t.config t.view hints → IsRun (record { token = t; commands = []; next = 0; replies = []; ended = false; left = None; asked = None; collected = false; progress = no_collection; due = 0; hints = hints; supply = Open })
-begins_open t hints can deck = record {
+-- the run of a domain that may begin, by what its supply asks
+begins_as : (t : Token) (cs : List Command) (hints : DeckCounts) (s : Supply) → CanBegin t cs → IsDeckOf t.config t.view hints → EndsIn s (commands t.view.seen.front t.view.own.number) [] → EndsIn s (replies (sizes_in t.config) t.view.seen.front t.view.own.number) []
+    → HasLabels s t.view.own.serial 0 cs → (s ≢ Listed → (length cs ≤ 1) × (registrations_in cs ≡ 0)) → IsRun (unturned t cs hints s)
+begins_as t cs hints s can deck made answered labels handed = record {
   inside = can.inside;
-  made = ([], can.no_commands);
-  answered = ([], can.no_replies);
-  replied = let none = can.none_listed in omega arith;
+  made = made;
+  answered = answered;
+  replied = begins_replied t cs can;
   within = omega arith;
-  few = omega arith;
+  few = can.few;
   fit = can.fit;
   room = can.room;
-  enlists = let none = can.none_listed in omega arith;
+  enlists = begins_enlisted t cs can;
   idle = can.idle;
   at_rest = can.at_rest;
   goes_on = λ _. can.acts.goes_on;
   owes = λ _. can.owes;
-  between = begins_between t [] can;
-  labels = let few = can.labels in omega arith;
+  between = begins_between t cs can;
+  labels = labels;
   deck = deck;
   done = λ ended. let clash : false ≡ true = ended in cc;
   over = λ ended. let clash : false ≡ true = ended in cc;
   shut = λ ended. let clash : false ≡ true = ended in cc;
-  one = λ _. record { one = omega arith; registers_none = refl; none_listed = can.none_listed; answered = refl };
+  one = λ other. let few = handed other in record { one = few.0; registers_none = few.1; none_listed = can.none_listed; answered = refl };
 }
+
+-- all of its commands were listed
+pub begins_listed : (t : Token) (cs : List Command) (hints : DeckCounts) → CanBegin t cs → IsDeckOf t.config t.view hints → IsRun (unturned t cs hints Listed)
+begins_listed t cs hints can deck = begins_as t cs hints Listed can deck can.no_commands can.no_replies (let few = can.labels in omega arith) (λ other. absurd (other refl))
+
+-- or they are handed in
+pub begins_open : (t : Token) (hints : DeckCounts) → CanBegin t [] → IsDeckOf t.config t.view hints → IsRun (unturned t [] hints Open)
+begins_open t hints can deck = begins_as t [] hints Open can deck ([], can.no_commands) ([], can.no_replies) (let few = can.labels in omega arith) (λ _. (omega arith, refl))
 
 owes_none : (n d : ℕ) → (slice_index_or (replicate n opening_domain) d no_domain).due ≡ 0
 owes_none zero d = refl

@@ -33,6 +33,7 @@ use Rattle.steps_finalisers.specs.Registering.{count_of}
 use Rattle.domain_turns.specs.Tries.{IsFresh}
 use Rattle.domain_turns.specs.Pausing.{HasNothingPending, IsPast, IsReady, HasLeft, KnowsAnswer, KnowsProgress, LeavesEven, LeavesOdd, ComesToAnswer, GivesBack, AnswersFrom, CountsAndAnswers}
 use Rattle.domain_turns.specs.Runs.{IsBetween, Passes}
+use Rattle.domain_turns.proofs.Looking.{noted_left}
 use Rattle.domain_turns.proofs.Moving.{Moves, view_moves}
 use Rattle.domain_turns.proofs.Owing.{bare_count}
 use Rattle.domain_turns.proofs.PauseLemmas.{not_both, even_next, odd_next, answer_on, before_answer, fresh_on, past_as, keeps_as, arrived_void, later_past, quiet_as, looked_past, looked_quiet, ready_next, same_held, even_past, even_quiet, arrived_quiet}
@@ -302,16 +303,7 @@ waits_between h old new before asked collected progress later b a i is says know
       even = λ none. cc;
       remembers = λ none. cc;
       emptied = λ none. cc;
-      has_left = λ known e. subst (λ (z : Config × DomainView). HasLeft z.0 known z.1) (λ j. (sym config j, sym says j)) (noted_left old.config known old.view b (is.has_left known e));
+      has_left = λ known e. subst (λ (z : Config × DomainView). HasLeft z.0 known z.1) (λ j. (sym config j, sym says j)) (noted_left old.config known old.view (Barrier b) (is.has_left known e));
       fresh = λ e. subst (λ (z : Config × DomainView). IsFresh z.0 z.1) (λ j. (sym config j, sym says j)) (is.fresh e);
       knows = knows;
-    }
-  where
-    noted_past : (k : Config) (kind : Kind) (x : DomainView) (n : ℕ) → IsPast k kind x → IsPast k kind (noted x (Barrier n))
-    noted_past k kind x n p = record { remembers = p.remembers; looked_through = p.looked_through; holds_old = p.holds_old; emptied = p.emptied; forgotten = p.forgotten; void = p.void; answer = p.answer }
-
-    noted_left : (k : Config) (kind : Kind) (x : DomainView) (n : ℕ) → HasLeft k kind x → HasLeft k kind (noted x (Barrier n))
-    noted_left k kind x n left = record {
-      past = λ either. noted_past k kind x n (left.past either);
-      ready = λ even first. let r = left.ready even first in record { before = r.before; follows = r.follows; past = noted_past k r.before x n r.past; fresh = r.fresh };
     }

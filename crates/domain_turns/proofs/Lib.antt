@@ -4,6 +4,7 @@ pub mod PauseLemmas
 pub mod Trying
 pub mod Pooling
 pub mod Working
+pub mod Taking
 pub mod Supplying
 pub mod Moving
 pub mod LeavingLemmas

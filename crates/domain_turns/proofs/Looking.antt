@@ -15,7 +15,7 @@ use Rattle.domain_turns.proofs.Moving.{moved_is_run, still_moves, token_is}
 noted_past : (k : Config) (kind : Kind) (x : DomainView) (n : Note) → IsPast k kind x → IsPast k kind (noted x n)
 noted_past k kind x n p = record { remembers = p.remembers; looked_through = p.looked_through; holds_old = p.holds_old; emptied = p.emptied; forgotten = p.forgotten; void = p.void; answer = p.answer }
 
-noted_left : (k : Config) (kind : Kind) (x : DomainView) (n : Note) → HasLeft k kind x → HasLeft k kind (noted x n)
+pub noted_left : (k : Config) (kind : Kind) (x : DomainView) (n : Note) → HasLeft k kind x → HasLeft k kind (noted x n)
 noted_left k kind x n left = record {
   past = λ either. noted_past k kind x n (left.past either);
   ready = λ even first. let r = left.ready even first in record { before = r.before; follows = r.follows; past = noted_past k r.before x n r.past; fresh = r.fresh };

@@ -7,7 +7,7 @@ use Rattle.heap_model.specs.Domains.{opening}
 use Rattle.heap_model.specs.History.{IsPrefix, state_after, commands, replies}
 use Rattle.heap_model.specs.Fronts.{IsFrontOf}
 use Rattle.heap_model.proofs.Histories.HistoryLemmas.{commands-append, commands-others, replies_from-append, replies_from-others}
-use Rattle.heap_model.proofs.Histories.FrontLemmas.{keeps_front}
+use Rattle.heap_model.proofs.Histories.FrontLemmas.{front_whole, keeps_front}
 use Rattle.heap_rule.specs.declared.config.Config.{Config}
 use Rattle.heap_rule.specs.declared.phase.Kind.{Kind}
 use Rattle.heap_rule.specs.declared.view.DomainView.{DomainView}
@@ -93,9 +93,6 @@ moved_is_run r new left asked collected progress hints is stays m between =
 pub token_is : (h : SharedHeap) (old new : Token) (view : DomainView) → IsIn old h → IsIn new h → new.view ≡ view → new ≡ record old { view = view }
 token_is h old new view a b is = λ i. record { table = (b.0 ∙ sym a.0) i; config = (b.1 ∙ sym a.1) i; view = is i }
 
-pub same_front : (d : ℕ) (front : List Entry) → IsFrontOf d front front
-same_front d front = record { rest = []; appends = sym (append-nil front); others = refl }
-
 -- the domain moved to a view with the same number, labels, listed ephemerons, finalisers and block in the making
 pub view_moves : (h : SharedHeap) (old new : Token) (y : DomainView) → IsIn old h → IsIn new h → new.view ≡ y → y.own.number ≡ old.view.own.number → y.own.serial ≡ old.view.own.serial → y.own.ephemerons ≡ old.view.own.ephemerons → y.own.finalisers ≡ old.view.own.finalisers → y.seen.made ≡ old.view.seen.made → y.seen.hunt ≡ old.view.seen.hunt
     → IsFrontOf old.view.own.number y.seen.front old.view.seen.front → Moves old new
@@ -113,7 +110,7 @@ view_moves h old new y a b is number serial listed enlisted made hunt front = re
 -- and has the same front
 pub still_moves : (h : SharedHeap) (old new : Token) (y : DomainView) → IsIn old h → IsIn new h → new.view ≡ y → y.own.number ≡ old.view.own.number → y.own.serial ≡ old.view.own.serial → y.own.ephemerons ≡ old.view.own.ephemerons → y.own.finalisers ≡ old.view.own.finalisers → y.seen.made ≡ old.view.seen.made → y.seen.hunt ≡ old.view.seen.hunt
     → y.seen.front ≡ old.view.seen.front → Moves old new
-still_moves h old new y a b is number serial listed enlisted made hunt front = view_moves h old new y a b is number serial listed enlisted made hunt (subst (λ (f : List Entry). IsFrontOf old.view.own.number f old.view.seen.front) (sym front) (same_front old.view.own.number old.view.seen.front))
+still_moves h old new y a b is number serial listed enlisted made hunt front = view_moves h old new y a b is number serial listed enlisted made hunt (subst (λ (f : List Entry). IsFrontOf old.view.own.number f old.view.seen.front) (sym front) (front_whole old.view.own.number old.view.seen.front))
 
 pub front_prefix : (d : ℕ) (new old : List Entry) → IsFrontOf d new old → IsPrefix old new
 front_prefix d new old f = record { rest = f.rest; appends = f.appends }

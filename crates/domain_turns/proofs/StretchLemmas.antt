@@ -23,10 +23,12 @@ use Rattle.size_pools.proofs.Seeking.{sought_view}
 use Rattle.domain_turns.specs.declared.turned.Turned.{Turned}
 use Rattle.domain_turns.specs.declared.turned.Turned.TheVariants.{Did, Waiting, Hungry, Idle}
 use Rattle.domain_turns.specs.declared.turned.Turned.TheVariants.{Ended as Over}
-use Rattle.domain_turns.specs.Runs.{RunView, Appended, CalmDid, EndsTrace, GoesBy, IsAnswered, MadeNone, Resumes, Rests, RunAnswers, RunsFinaliser, SeesAnswer, Starts, Stops, Stretches, TriesCommand, TurnAnswers, Waits, asking_end, wanting}
+use Rattle.domain_turns.specs.Tries.{ephemerons_given, labels_given}
+use Rattle.domain_turns.specs.Runs.{RunView, Appended, CalmDid, EndsTrace, GoesBy, IsAnswered, MadeNone, Resumes, Rests, RunAnswers, RunsFinaliser, SeesAnswer, Starts, Stops, Stretches, Takes, TriesCommand, TurnAnswers, Waits, asking_end, wanting}
 use Rattle.domain_turns.specs.Runs.CalmDid.{Finalises, Wishes, Refuses, Tries, Works, Ends}
 use Rattle.domain_turns.specs.Runs.Stretches.{ByOthers, ByCommand, ByFinaliser, ByEnd}
 use Rattle.domain_turns.proofs.LeavingLemmas.{passes_leaves}
+use Rattle.domain_turns.proofs.Taking.{arrived_takes, searched_takes, takes_more, takes_none, takes_on, takes_then, tried_takes}
 use Rattle.domain_turns.proofs.Turning.{stood}
 use Rattle.domain_turns.proofs.Working.{works_keeps}
 
@@ -55,6 +57,7 @@ record StartsFrom (h : SharedHeap) (old start : RunView) : Type 0 where
   number : start.token.view.own.number ≡ old.token.view.own.number
   config : start.token.config ≡ h.config
   front : IsFrontOf old.token.view.own.number start.token.view.seen.front old.token.view.seen.front
+  takes : Takes 0 0 old.token.view start.token.view
 
 -- what a run that is made of another has of it
 record Keeps (made new : RunView) : Type 0 where
@@ -62,16 +65,14 @@ record Keeps (made new : RunView) : Type 0 where
   replies : new.replies ≡ made.replies
   ended : new.ended ≡ made.ended
   front : new.token.view.seen.front ≡ made.token.view.seen.front
+  takes : Takes 0 0 made.token.view new.token.view
 
 keeps_all : (r : RunView) → Keeps r r
-keeps_all r = record { next = refl; replies = refl; ended = refl; front = refl }
+keeps_all r = record { next = refl; replies = refl; ended = refl; front = refl; takes = takes_none r.token.view r.token.view refl refl }
 
 asking_keeps : (spent : Bool) (made : RunView) → Keeps made (asking_end spent made)
 asking_keeps false made = keeps_all made
-asking_keeps true made = record { next = refl; replies = refl; ended = refl; front = refl }
-
-same_front : (d : ℕ) (front : List Entry) → IsFrontOf d front front
-same_front d front = front_whole d front
+asking_keeps true made = record { next = refl; replies = refl; ended = refl; front = refl; takes = takes_none _ _ refl refl }
 
 still : (h : SharedHeap) (old start new : RunView) → StartsFrom h old start → Keeps start new → MadeNone old new
 still h old start new s k = record {
@@ -79,6 +80,7 @@ still h old start new s k = record {
   replies = k.replies ∙ s.replies;
   ended = k.ended ∙ s.ended;
   front = subst (λ (f : List Entry). IsFrontOf old.token.view.own.number f old.token.view.seen.front) (sym k.front) s.front;
+  takes = takes_on 0 0 old.token.view start.token.view new.token.view s.takes k.takes;
 }
 
 -- the entry of a command that was tried
@@ -96,6 +98,7 @@ tried h old start made new c s t k =
       replies = k.replies ∙ (ap (λ (r : RunView). r.replies) t.run ∙ ap (λ (rs : List Reply). rs ++ t.reply ∷ []) s.replies);
       ended = k.ended ∙ (ap (λ (r : RunView). r.ended) t.run ∙ s.ended);
       front = appended (sizes_in h.config) old.token.view.own.number old.token.view.seen.front start.token.view.seen.front new.token.view.seen.front (CommandOf old.token.view.own.number c st.0) (Replied t.reply) s.front here;
+      takes = takes_on (labels_given c t.reply) (ephemerons_given c t.reply) old.token.view start.token.view new.token.view s.takes (takes_then (labels_given c t.reply) (ephemerons_given c t.reply) start.token.view made.token.view new.token.view (tried_takes h start.token made.token c start.collected t.reply t.tried) k.takes);
     })
 
 ran : (h : SharedHeap) (old start new : RunView) → StartsFrom h old start → RunsFinaliser h start.token start new → Stretches (sizes_in h.config) old new
@@ -108,6 +111,7 @@ ran h old start new s f =
       replies = ap (λ (r : RunView). r.replies) f.run ∙ ap (λ (rs : List Reply). rs ++ reply_of f.ran ∷ []) s.replies;
       ended = ap (λ (r : RunView). r.ended) f.run ∙ s.ended;
       front = appended (sizes_in h.config) old.token.view.own.number old.token.view.seen.front start.token.view.seen.front new.token.view.seen.front (RanOf old.token.view.own.number) (Replied (reply_of f.ran)) s.front here;
+      takes = takes_on 0 0 old.token.view start.token.view new.token.view s.takes (takes_none start.token.view new.token.view (ap (λ (x : DomainView). x.own.serial) f.first.view) (ap (λ (x : DomainView). x.own.ephemerons) f.first.view));
     })
 
 ended : (h : SharedHeap) (old start new : RunView) → StartsFrom h old start → EndsTrace h start.token start new → Stretches (sizes_in h.config) old new
@@ -120,6 +124,7 @@ ended h old start new s t =
       replies = ap (λ (r : RunView). r.replies) t.run ∙ s.replies;
       ended = ap (λ (r : RunView). r.ended) t.run;
       front = appended (sizes_in h.config) old.token.view.own.number old.token.view.seen.front start.token.view.seen.front new.token.view.seen.front (End old.token.view.own.number) Silent s.front here;
+      takes = takes_on 0 0 old.token.view start.token.view new.token.view s.takes (takes_none start.token.view new.token.view (ap (λ (x : DomainView). x.own.serial) t.ended.view) (ap (λ (x : DomainView). x.own.ephemerons) t.ended.view));
     })
 
 calm : (h : SharedHeap) (old start new : RunView) → StartsFrom h old start → CalmDid h start new → Stretches (sizes_in h.config) old new
@@ -129,12 +134,14 @@ calm h old start new s (Wishes a) = ByOthers (still h old start new s (record {
   replies = ap (λ (r : RunView). r.replies) a.run;
   ended = ap (λ (r : RunView). r.ended) a.run;
   front = ap (λ (r : RunView). r.token.view.seen.front) a.run;
+  takes = takes_none _ _ (ap (λ (r : RunView). r.token.view.own.serial) a.run) (ap (λ (r : RunView). r.token.view.own.ephemerons) a.run);
 }))
 calm h old start new s (Refuses a) = ByOthers (still h old start new s (record {
   next = ap (λ (r : RunView). r.next) a.run;
   replies = ap (λ (r : RunView). r.replies) a.run;
   ended = ap (λ (r : RunView). r.ended) a.run;
   front = ap (λ (r : RunView). r.token.view.seen.front) a.run ∙ ap (λ (x : DomainView). x.seen.front) (sought_view h.config start.token.view a.searched.view AtRest a.refused.view);
+  takes = takes_then 0 0 start.token.view a.searched.view new.token.view (searched_takes h.config start.token.view a.searched.view a.refused.view) (takes_none _ _ (ap (λ (r : RunView). r.token.view.own.serial) a.run) (ap (λ (r : RunView). r.token.view.own.ephemerons) a.run));
 }))
 calm h old start new s (Tries c other t) = tried h old start new new c s t (keeps_all new)
 calm h old start new s (Works p) =
@@ -148,6 +155,7 @@ calm h old start new s (Works p) =
       number = kept.number ∙ s.number;
       config = kept.config;
       front = subst (λ (f : List Entry). IsFrontOf old.token.view.own.number f old.token.view.seen.front) (sym kept.front) s.front;
+      takes = takes_on 0 0 old.token.view start.token.view p.worked.token.view s.takes kept.takes;
     } in
     tried h old p.worked p.made new Poll worked p.tried (subst (Keeps p.made) (sym p.run) (asking_keeps p.spent p.made))
 calm h old start new s (Ends t) = ended h old start new s t
@@ -158,11 +166,12 @@ rests h old start new n s r = ByOthers (still h old start new s (record {
   replies = ap (λ (x : RunView). x.replies) r.run;
   ended = ap (λ (x : RunView). x.ended) r.run;
   front = ap (λ (x : RunView). x.token.view.seen.front) r.run;
+  takes = takes_none _ _ (ap (λ (x : RunView). x.token.view.own.serial) r.run) (ap (λ (x : RunView). x.token.view.own.ephemerons) r.run);
 }))
 
 -- who has found a want word has what it had before
 wanted : (h : SharedHeap) (old start : RunView) (w : ℕ) → StartsFrom h old start → StartsFrom h old (wanting start w)
-wanted h old start w s = record { commands = s.commands; supply = s.supply; next = s.next; replies = s.replies; ended = s.ended; number = s.number; config = s.config; front = s.front }
+wanted h old start w s = record { commands = s.commands; supply = s.supply; next = s.next; replies = s.replies; ended = s.ended; number = s.number; config = s.config; front = s.front; takes = takes_on 0 0 old.token.view start.token.view (wanting start w).token.view s.takes (takes_none start.token.view (wanting start w).token.view refl refl) }
 
 running : (h : SharedHeap) (old start new : RunView) (a : Turned) → StartsFrom h old start → RunAnswers h start new a → Stretches (sizes_in h.config) old new
 running h old start new Did s says = ⊎_elim
@@ -171,6 +180,7 @@ running h old start new Did s says = ⊎_elim
       replies = ap (λ (r : RunView). r.replies) t.run;
       ended = ap (λ (r : RunView). r.ended) t.run;
       front = ap (λ (r : RunView). r.token.view.seen.front) t.run;
+      takes = takes_none _ _ (ap (λ (r : RunView). r.token.view.own.serial) t.run) (ap (λ (r : RunView). r.token.view.own.ephemerons) t.run);
     })))
     (λ (c : CalmDid h (wanting start 0) new). calm h old (wanting start 0) new (wanted h old start 0 s) c) says
 running h old start new (Waiting b) s says = absurd says
@@ -179,6 +189,7 @@ running h old start new Hungry s says = ByOthers (still h old start new s (recor
   replies = ap (λ (r : RunView). r.replies) says.run;
   ended = ap (λ (r : RunView). r.ended) says.run;
   front = ap (λ (r : RunView). r.token.view.seen.front) says.run;
+  takes = takes_none _ _ (ap (λ (r : RunView). r.token.view.own.serial) says.run) (ap (λ (r : RunView). r.token.view.own.ephemerons) says.run);
 }))
 running h old start new (Idle n) s says = rests h old (wanting start 0) new n (wanted h old start 0 s) says.0
 running h old start new Over s says = rests h old (wanting start 0) new h.config.domains (wanted h old start 0 s) says
@@ -186,7 +197,7 @@ running h old start new Over s says = rests h old (wanting start 0) new h.config
 -- a turn starts with the run as it was, or once a look has found that the domain runs again
 starts : (h : SharedHeap) (old start : RunView) → IsIn old.token h → Starts h old start → StartsFrom h old start
 starts h old start here = ⊎_elim
-    (λ (t : (old.left ≡ None) × (start ≡ old)). subst (StartsFrom h old) (sym t.1) (record { commands = refl; supply = refl; next = refl; replies = refl; ended = refl; number = refl; config = here.1; front = same_front old.token.view.own.number old.token.view.seen.front }))
+    (λ (t : (old.left ≡ None) × (start ≡ old)). subst (StartsFrom h old) (sym t.1) (record { commands = refl; supply = refl; next = refl; replies = refl; ended = refl; number = refl; config = here.1; front = front_whole old.token.view.own.number old.token.view.seen.front; takes = takes_none old.token.view old.token.view refl refl }))
     (λ (t : Resumes h old start). record {
       commands = ap (λ (r : RunView). r.commands) t.run;
       supply = ap (λ (r : RunView). r.supply) t.run;
@@ -196,15 +207,19 @@ starts h old start here = ⊎_elim
       number = ap (λ (x : DomainView). x.own.number) t.passed.view;
       config = ap (λ (r : RunView). r.token.config) t.run ∙ here.1;
       front = t.passed.seen;
+      takes = takes_none _ _ (ap (λ (x : DomainView). x.own.serial) t.passed.view) (ap (λ (x : DomainView). x.own.ephemerons) t.passed.view);
     })
 
 gone : (h : SharedHeap) (old new : RunView) → GoesBy h old new → Stretches (sizes_in h.config) old new
-gone h old new g = ByOthers (record {
-  next = ap (λ (r : RunView). r.next) g.run;
-  replies = ap (λ (r : RunView). r.replies) g.run;
-  ended = ap (λ (r : RunView). r.ended) g.run;
-  front = (passes_leaves h.config old.token.view new.token.view g.last g.kind g.passes).front;
-})
+gone h old new g =
+    let l = passes_leaves h.config old.token.view new.token.view g.last g.kind g.passes in
+    ByOthers (record {
+      next = ap (λ (r : RunView). r.next) g.run;
+      replies = ap (λ (r : RunView). r.replies) g.run;
+      ended = ap (λ (r : RunView). r.ended) g.run;
+      front = l.front;
+      takes = takes_more old.token.view new.token.view l.serial l.room;
+    })
 
 answered : (h : SharedHeap) (old new : RunView) → IsAnswered h old new → Stretches (sizes_in h.config) old new
 answered h old new s =
@@ -222,6 +237,7 @@ answered h old new s =
       replies = ap (λ (r : RunView). r.replies) s.run;
       ended = ap (λ (r : RunView). r.ended) s.run;
       front = appended (sizes_in h.config) d old.token.view.seen.front a.begun.seen.front new.token.view.seen.front (CommandOf d FullMajor false) (Replied s.reply) a.comes.passed.seen here;
+      takes = arrived_takes old.token.view a.begun new.token.view a.front a.view (ap (λ (x : DomainView). x.own.serial) a.comes.passed.view) (ap (λ (x : DomainView). x.own.ephemerons) a.comes.passed.view);
     })
 
 seen : (h : SharedHeap) (old new : RunView) → SeesAnswer h old new → Stretches (sizes_in h.config) old new
@@ -234,6 +250,7 @@ seen h old new s =
       replies = ap (λ (r : RunView). r.replies) s.run;
       ended = ap (λ (r : RunView). r.ended) s.run;
       front = front_trans old.token.view.own.number new.token.view.seen.front g.begun.seen.front old.token.view.seen.front later g.comes.passed.seen;
+      takes = arrived_takes old.token.view g.begun new.token.view new.token.view.seen.front g.view (ap (λ (x : DomainView). x.own.serial) g.comes.passed.view) (ap (λ (x : DomainView). x.own.ephemerons) g.comes.passed.view);
     })
 
 waits : (h : SharedHeap) (old new : RunView) (b : ℕ) → Waits h old new b → Stretches (sizes_in h.config) old new
@@ -241,7 +258,8 @@ waits h old new b w = ByOthers (record {
   next = ap (λ (r : RunView). r.next) w.run;
   replies = ap (λ (r : RunView). r.replies) w.run;
   ended = ap (λ (r : RunView). r.ended) w.run;
-  front = subst (λ (f : List Entry). IsFrontOf old.token.view.own.number f old.token.view.seen.front) (sym (ap (λ (r : RunView). r.token.view.seen.front) w.run)) (same_front old.token.view.own.number old.token.view.seen.front);
+  front = subst (λ (f : List Entry). IsFrontOf old.token.view.own.number f old.token.view.seen.front) (sym (ap (λ (r : RunView). r.token.view.seen.front) w.run)) (front_whole old.token.view.own.number old.token.view.seen.front);
+  takes = takes_none _ _ (ap (λ (r : RunView). r.token.view.own.serial) w.run) (ap (λ (r : RunView). r.token.view.own.ephemerons) w.run);
 })
 
 -- by what a turn did

@@ -1,7 +1,7 @@
 -- What is true of a run however its commands come, and of an open run that gets the next one.
 use Rattle.std.proofs.Common.{◌≡◌, ◌≢◌, ◌∙◌, ℕ, zero, suc, ◌+◌, ◌≤◌, ◌<◌, ◌^◌, true, false, List, [], ◌∷◌, ◌++◌, append-nil, append_assoc, drop, slice_get, Some, None, refl, sym, ap, subst, add-one, arith}
 use Rattle.heap_model.specs.declared.command.Command as model
-use Rattle.heap_model.specs.declared.command.Command.TheVariants.{Alloc, AllocMaj, Ephe, Raw}
+use Rattle.command_counts.proofs.Few.{one_label}
 use Rattle.domain_turns.specs.declared.supply.Supply.{Supply}
 use Rattle.domain_turns.specs.declared.supply.Supply.TheVariants.{Listed, Open, Closed}
 use Rattle.heap_model.specs.declared.reply.Reply.{Reply}
@@ -18,13 +18,6 @@ ends_on Closed whole last more is = (is.0, ap (λ l. l ++ more) is.1 ∙ append_
 
 pub ends_as : {A : Type 0} (s : Supply) (old new last : List A) → new ≡ old → EndsIn s old last → EndsIn s new last
 ends_as s old new last same is = subst (λ l. EndsIn s l last) (sym same) is
-
-one_label : (c : model.Command) → labels_of c ≤ 1
-one_label (Alloc dst tag fields) = omega arith
-one_label (Raw dst tag fields) = omega arith
-one_label (AllocMaj dst tag fields) = omega arith
-one_label (Ephe dst keys) = omega arith
-one_label c = omega arith
 
 drop_labels : (cs : List model.Command) (n : ℕ) (c : model.Command) → slice_get cs n ≡ Some c → labels_in (drop n cs) ≡ labels_of c + labels_in (drop (suc n) cs)
 drop_labels [] n c at = cc

@@ -1,10 +1,9 @@
 -- A turn keeps what is true of a run.
-use Rattle.std.proofs.Common.{true≢false, ◌≡◌, ◌≢◌, ◌∙◌, ℕ, zero, suc, ◌+◌, ◌-◌, ◌^◌, ◌<◌, ◌≤◌, Bool, true, false, List, [], ◌∷◌, ◌++◌, length, take, drop, slice_get, Some, None, Option, refl, sym, ap, subst, arith, length-append, append-nil, eq-eqb, add-one, ⊎_elim}
+use Rattle.std.proofs.Common.{true≢false, ◌≡◌, ◌≢◌, ◌∙◌, ℕ, zero, suc, ◌+◌, ◌^◌, ◌<◌, ◌≤◌, Bool, true, false, List, [], ◌∷◌, ◌++◌, length, take, drop, slice_get, Some, None, Option, refl, sym, ap, subst, arith, length-append, append-nil, eq-eqb, add-one, ⊎_elim}
 use Rattle.heap_model.specs.declared.command.Command as model
 use Rattle.heap_model.specs.declared.entry.Entry.{Entry}
 use Rattle.heap_model.specs.declared.entry.Entry.TheVariants.{Command as CommandOf, End, Ran as RanEntry}
 use Rattle.heap_model.specs.declared.reply.Reply.{Reply}
-use Rattle.heap_model.specs.declared.reply.Reply.TheVariants.{Block}
 use Rattle.heap_model.specs.declared.reply.Applied.TheVariants.{Replied, Silent}
 use Rattle.heap_model.specs.History.{commands, command_of, replies}
 use Rattle.heap_model.proofs.Histories.AnswerLemmas.{commands_after, replies_after}
@@ -15,7 +14,7 @@ use Rattle.heap_model.specs.declared.command.Command.TheVariants.{PutInt, Alloc,
 use Rattle.heap_model.specs.Domains.{domain_at}
 use Rattle.heap_model.specs.Fronts.{Answers}
 use Rattle.heap_model.proofs.Histories.AnswerLemmas.{acts_after}
-use Rattle.heap_model.proofs.Histories.FrontLemmas.{answers_after}
+use Rattle.heap_model.proofs.Histories.FrontLemmas.{answers_after, front_whole}
 use Rattle.heap_rule.specs.declared.view.Hunt.TheVariants.{Rests}
 use Rattle.heap_rule.specs.declared.phase.Kind.TheVariants.{Answer}
 use Rattle.heap_rule.specs.Rule.{state_of}
@@ -30,17 +29,19 @@ use Rattle.remembered_set.specs.Bounded.{Bounded}
 use Rattle.heap_model.specs.Fronts.{IsFrontOf}
 use Rattle.domain_turns.proofs.LeavingLemmas.{answer_between, knows_on}
 use Rattle.mark_slices.proofs.Going.{stays_same}
-use Rattle.domain_turns.proofs.Moving.{Moves, deck_on, moved_is_run, same_front, still_moves}
+use Rattle.domain_turns.proofs.Moving.{Moves, deck_on, moved_is_run, still_moves}
 use Rattle.heap_rule.specs.declared.view.Own.{Own}
 use Rattle.heap_rule.specs.declared.view.DomainView.{DomainView}
 use Rattle.steps_finalisers.specs.Registering.{count_of}
 use Rattle.steps_sweep.proofs.Dues.{due_at}
 use Rattle.finaliser_queues.specs.declared.running.Ran.{Ran}
 use Rattle.finaliser_queues.specs.Running.{RanFirst, reply_of}
-use Rattle.domain_turns.specs.Tries.{Enters, Stands, Tried, NeedsPause, ListsEphemeron, ephemerons_of, labels_given, labels_of, registrations_of}
+use Rattle.domain_turns.specs.Tries.{Enters, Stands, Tried, NeedsPause, ephemerons_given, ephemerons_of, labels_given, labels_of, registrations_of}
+use Rattle.command_counts.proofs.Few.{ephemerons_few, labels_few}
 use Rattle.heap_rule.specs.declared.phase.Kind.{Kind}
 use Rattle.heap_rule.specs.Phases.{IsEven}
-use Rattle.domain_turns.specs.Runs.{RunView, EndsIn, HasLabels, IsBetween, IsRun, HasEnded, ephemerons_in, registrations_in, is_end_of, served_since}
+use Rattle.domain_turns.specs.Runs.{RunView, EndsIn, HasLabels, IsBetween, IsRun, HasEnded, Takes, ephemerons_in, registrations_in, is_end_of, served_since}
+use Rattle.domain_turns.proofs.Taking.{arrived_takes, tried_takes}
 use Rattle.domain_turns.proofs.Owing.{command_due, drop_registrations, ended_count, enlisted_count, ran_count, ran_fresh, registrations_few}
 use Rattle.domain_turns.proofs.PauseLemmas.{quiet_as}
 use Rattle.domain_turns.proofs.Supplying.{ends_as, ends_on, labels_after, labels_next, registers_none}
@@ -81,26 +82,6 @@ next_running r is c at = by r.ended refl where
   by : (b : Bool) → r.ended ≡ b → r.ended ≡ false
   by false e = e
   by true e = absurd (let done = is.done e in let below = inside r.commands r.next c at in let n : ℕ = r.next in omega arith)
-
-labels_few : (c : model.Command) (r : Reply) → labels_given c r ≤ labels_of c
-labels_few (Alloc dst tag fields) (Block l) = omega arith
-labels_few (Raw dst tag fields) (Block l) = omega arith
-labels_few (AllocMaj dst tag fields) (Block l) = omega arith
-labels_few (Ephe dst keys) (Block l) = omega arith
-labels_few c r = omega arith
-
--- a command leaves room for as many ephemerons as there was room for besides its own
-room_left : (k : Config) (c : model.Command) (r : Reply) (x y : DomainView) (n : ℕ) → ListsEphemeron k x y c r → ephemerons_of c + n ≤ x.own.ephemerons.room → n ≤ y.own.ephemerons.room
-room_left k (AllocMaj dst tag fields) r x y n lists fits = let more : x.own.ephemerons.room ≤ y.own.ephemerons.room = lists.shortens.no_less in omega arith
-room_left k (Ephe dst keys) (Block l) x y n lists fits =
-    let before : Bounded ℕ = lists.0 in
-    let same : y.own.ephemerons.room ≡ before.room - 1 = ap (λ (b : Bounded ℕ). b.room) lists.1 in
-    let more : x.own.ephemerons.room ≤ before.room = lists.2.shortens.no_less in omega arith
-room_left k (Ephe dst keys) r x y n lists fits = let more : x.own.ephemerons.room ≤ y.own.ephemerons.room = lists.shortens.no_less in omega arith
-room_left k c r x y n lists fits = let same : y.own.ephemerons.room ≡ x.own.ephemerons.room = ap (λ (b : Bounded ℕ). b.room) lists in omega arith
-
-none_more : (n room : ℕ) → 0 + n ≤ room → n ≤ room
-none_more n room fits = omega arith
 
 -- the domain has room for an ephemeron that the next command makes
 pub next_room : (r : RunView) → IsRun r → (c : model.Command) → slice_get r.commands r.next ≡ Some c → ephemerons_of c ≤ r.token.view.own.ephemerons.room
@@ -173,8 +154,7 @@ ended_between h old new asked collected progress is t =
 record HasMade (old new : Token) (c : model.Command) (full : Bool) (reply : Reply) (due : ℕ) : Type 0 where
   config : new.config ≡ old.config
   number : new.view.own.number ≡ old.view.own.number
-  serial : new.view.own.serial ≤ old.view.own.serial + labels_of c
-  room : (n : ℕ) → ephemerons_of c + n ≤ old.view.own.ephemerons.room → n ≤ new.view.own.ephemerons.room
+  takes : Takes (labels_given c reply) (ephemerons_given c reply) old.view new.view
   listed : count_of new.view.own.finalisers ≤ registrations_of c + count_of old.view.own.finalisers
   owes : due_of old.config new.view ≡ due
   idle : new.view.seen.made ≡ []
@@ -211,7 +191,7 @@ made_is_run r new c full reply left progress due hints stays is running at m bet
       few = is.few;
       fit = is.fit;
       room = subst (λ (n : ℕ). ephemerons_in (drop n r.commands) ≤ new.view.own.ephemerons.room) (sym (add-one r.next))
-          (m.room (ephemerons_in (drop (suc r.next) r.commands)) (subst (λ (n : ℕ). n ≤ r.token.view.own.ephemerons.room) (drop_next r.commands r.next c at) is.room));
+          (let few = ephemerons_few c reply in let rest : ℕ = ephemerons_in (drop (suc r.next) r.commands) in omega (arith, few, drop_next r.commands r.next c at, is.room, m.takes.room));
       enlists = subst (λ (z : ℕ × Config). count_of new.view.own.finalisers + registrations_in (drop z.0 r.commands) ≤ z.1.finals) (λ i. (sym (add-one r.next) i, sym m.config i)) enough;
       idle = m.idle;
       at_rest = m.at_rest;
@@ -219,7 +199,7 @@ made_is_run r new c full reply left progress due hints stays is running at m bet
           (acts_after z d r.token.view.seen.front new.view.seen.front c full (Replied reply) m.answers (is.goes_on running));
       owes = λ _. subst (λ (k : Config). due_of k new.view ≡ due) (sym m.config) m.owes;
       between = between;
-      labels = labels_after r.supply r.token.view.own.serial new.view.own.serial r.next r.commands c at m.serial is.labels;
+      labels = labels_after r.supply r.token.view.own.serial new.view.own.serial r.next r.commands c at (let few = labels_few c reply in omega (arith, few, m.takes.labels_are)) is.labels;
       deck = deck_on r new hints m.number m.config stays is.deck;
       done = λ ended. let clash : false ≡ true = sym running ∙ ended in cc;
       over = λ ended. let clash : false ≡ true = sym running ∙ ended in cc;
@@ -240,14 +220,12 @@ pub tried_is_run : (h : SharedHeap) (r : RunView) (new : Token) (c : model.Comma
     → IsRun (record r { token = new; next = r.next + 1; replies = r.replies ++ reply ∷ []; asked = None; collected = false; due = 0 })
 tried_is_run h r new c reply own served is running left at t ready =
     let st = stood h r.token new c r.collected reply t.stands in
-    let few = labels_few c reply in
-    let serial : new.view.own.serial ≡ r.token.view.own.serial + labels_given c reply = ap (λ (o : Own). o.serial) t.own in
     let number : new.view.own.number ≡ r.token.view.own.number = ap (λ (o : Own). o.number) t.own in
     let d : ℕ = r.token.view.own.number in
     let owes : due_of r.token.config new.view ≡ 0 = ap (λ (n : ℕ). due_at (state_of r.token.config new.view.seen.front) n) number
     ∙ command_due (sizes_in r.token.config) d r.token.view.seen.front new.view.seen.front c st.0 (Replied reply) st.1 (not_full h.config own served c ready) in
     made_is_run r new c st.0 reply r.left r.progress 0 r.hints (stays_same r.hints) is running at
-    record { listed = subst (λ (o : Own). count_of o.finalisers ≤ registrations_of c + count_of r.token.view.own.finalisers) (sym t.own) (enlisted_count c r.token.view.own); owes = owes; config = t.heap.1; number = ap (λ (o : Own). o.number) t.own; serial = omega (arith, serial, few); room = λ n fits. room_left h.config c reply r.token.view new.view n t.lists fits; idle = t.runs.idle; at_rest = t.runs.at_rest; answers = st.1 }
+    record { listed = subst (λ (o : Own). count_of o.finalisers ≤ registrations_of c + count_of r.token.view.own.finalisers) (sym t.own) (enlisted_count c r.token.view.own); owes = owes; config = t.heap.1; number = ap (λ (o : Own). o.number) t.own; takes = tried_takes h r.token new c r.collected reply t; idle = t.runs.idle; at_rest = t.runs.at_rest; answers = st.1 }
     (subst (λ (l : Option Kind). IsBetween l None false r.progress new) (sym left) (tried_between h r.token new c reply r.asked r.collected r.progress (subst (λ (l : Option Kind). IsBetween l r.asked r.collected r.progress r.token) left is.between) t))
 
 -- the same where a collection is answered by the reply of a `full_major`
@@ -257,7 +235,6 @@ answered_is_run h r new reply progress hints stays is running at was here a know
     let passed = a.comes.passed.view in
     let own : new.view.own ≡ record a.begun.own { arrivals = a.begun.own.arrivals + 1; pending = forgotten a.begun.own.pending } = ap (λ (x : DomainView). x.own) a.view in
     let config : new.config ≡ r.token.config = here.1 ∙ sym was.1 in
-    let serial : new.view.own.serial ≡ r.token.view.own.serial = ap (λ (o : Own). o.serial) own ∙ ap (λ (x : DomainView). x.own.serial) passed in
     let front : new.view.seen.front ≡ a.front = ap (λ (x : DomainView). x.seen.front) a.view in
     let entry : Entry = CommandOf r.token.view.own.number FullMajor false in
     let answers : Answers (sizes_in h.config) r.token.view.own.number r.token.view.seen.front new.view.seen.front entry (Replied reply) =
@@ -267,8 +244,7 @@ answered_is_run h r new reply progress hints stays is running at was here a know
     record {
       config = config;
       number = ap (λ (o : Own). o.number) own ∙ ap (λ (x : DomainView). x.own.number) passed;
-      serial = omega (arith, serial);
-      room = λ n fits. subst (λ (o : Own). n ≤ o.ephemerons.room) (sym own) (subst (λ (x : DomainView). n ≤ x.own.ephemerons.room) (sym passed) (none_more n r.token.view.own.ephemerons.room fits));
+      takes = arrived_takes r.token.view a.begun new.view a.front a.view (ap (λ (x : DomainView). x.own.serial) passed) (ap (λ (x : DomainView). x.own.ephemerons) passed);
       listed = let same : count_of new.view.own.finalisers ≡ count_of r.token.view.own.finalisers = ap (λ (o : Own). count_of o.finalisers) own ∙ ap (λ (x : DomainView). count_of x.own.finalisers) passed in omega (arith, same);
       owes = subst (λ (k : Config). due_of k new.view ≡ length new.view.own.finalisers.queue.items) (sym was.1) a.due;
       idle = ap (λ (x : DomainView). x.seen.made) a.view ∙ (ap (λ (x : DomainView). x.seen.made) passed ∙ is.idle);
@@ -459,7 +435,7 @@ swept_is_run h r new most count is left was here s =
       listed = ap (λ (x : DomainView). count_of x.own.finalisers) v;
       made = ap (λ (x : DomainView). x.seen.made) v;
       hunt = λ at_rest. ap (λ (x : DomainView). x.seen.hunt) v ∙ at_rest;
-      front = subst (λ (f : List Entry). IsFrontOf r.token.view.own.number f r.token.view.seen.front) (sym stands.front) (same_front r.token.view.own.number r.token.view.seen.front);
+      front = subst (λ (f : List Entry). IsFrontOf r.token.view.own.number f r.token.view.seen.front) (sym stands.front) (front_whole r.token.view.own.number r.token.view.seen.front);
     } in
     let old : IsBetween None r.asked r.collected r.progress r.token = subst (λ (l : Option Kind). IsBetween l r.asked r.collected r.progress r.token) left is.between in
     moved_is_run r new r.left r.asked r.collected r.progress r.hints is (stays_same r.hints) moves

@@ -2,9 +2,10 @@
 use Rattle.std.proofs.Common.{◌≡◌, ℕ, Bool, false, ⊎_elim, ap}
 use Rattle.heap_rule.specs.declared.view.DomainView.{DomainView}
 use Rattle.heap_rule.specs.Token.{SharedHeap}
-use Rattle.domain_turns.specs.Runs.{MarksBeside, RunView, SweepsBeside, WorksBeside}
+use Rattle.domain_turns.specs.Runs.{MarksBeside, RunView, SweepsBeside, Takes, WorksBeside}
+use Rattle.domain_turns.proofs.Taking.{takes_more, takes_none}
 
--- its run, its number, its front, what it has noted, and the number of its arrivals
+-- its run, its number, its front, what it has noted, the number of its arrivals, its labels, and room for as many ephemerons or more
 pub record KeepsOn (h : SharedHeap) (old new : RunView) : Type 0 where
   pub commands : new.commands ≡ old.commands
   pub supply : new.supply ≡ old.supply
@@ -17,6 +18,7 @@ pub record KeepsOn (h : SharedHeap) (old new : RunView) : Type 0 where
   pub front : new.token.view.seen.front ≡ old.token.view.seen.front
   pub notes : new.token.view.seen.notes ≡ old.token.view.seen.notes
   pub arrivals : new.token.view.own.arrivals ≡ old.token.view.own.arrivals
+  pub takes : Takes 0 0 old.token.view new.token.view
 
 pub works_keeps : (h : SharedHeap) (old new : RunView) (spent : Bool) → WorksBeside h old new spent → KeepsOn h old new
 works_keeps h old new spent = ⊎_elim
@@ -32,6 +34,7 @@ works_keeps h old new spent = ⊎_elim
       front = ap (λ (x : DomainView). x.seen.front) m.learnt.view;
       notes = ap (λ (x : DomainView). x.seen.notes) m.learnt.view;
       arrivals = ap (λ (x : DomainView). x.own.arrivals) m.learnt.view;
+      takes = takes_none _ _ (ap (λ (x : DomainView). x.own.serial) m.learnt.view) (ap (λ (x : DomainView). x.own.ephemerons) m.learnt.view);
     })
     (λ (s : ((count : ℕ) × SweepsBeside h old new count) × (spent ≡ false)). record {
       commands = ap (λ (r : RunView). r.commands) s.0.1.run;
@@ -45,4 +48,5 @@ works_keeps h old new spent = ⊎_elim
       front = ap (λ (x : DomainView). x.seen.front) s.0.1.swept.view;
       notes = ap (λ (x : DomainView). x.seen.notes) s.0.1.swept.view;
       arrivals = ap (λ (x : DomainView). x.own.arrivals) s.0.1.swept.view;
+      takes = takes_more _ _ (ap (λ (x : DomainView). x.own.serial) s.0.1.swept.view) s.0.1.swept.shortens.no_less;
     })

@@ -50,7 +50,7 @@ use Rattle.heap_rule.specs.Limits.{sizes_in}
 use Rattle.heap_rule.specs.Standing.{noted, Acts, with_front}
 use Rattle.heap_rule.specs.Token.{Token, SharedHeap, IsIn}
 use Rattle.domain_turns.specs.Pausing.{HasNothingPending, HasLeft, KnowsProgress, LeavesEven, LeavesOdd, GivesBack, AnswersLive, IsCollected, blocks_left, due_of}
-use Rattle.domain_turns.specs.Tries.{FitsHeap, IsFresh, NeedsPause, Refused, Tried, ephemerons_of, labels_of, registrations_of, wish_of}
+use Rattle.domain_turns.specs.Tries.{FitsHeap, IsFresh, NeedsPause, Refused, Tried, ephemerons_given, ephemerons_of, labels_given, labels_of, registrations_of, wish_of}
 
 -- a run: the domain's token, its commands, the place of the next one, its replies, whether its trace has ended, where the domain has arrived from which kind of phase, how often it had arrived when it asked for a pause for the next command, whether the last pause since then was a complete collection that left so many blocks that they may use up the pools, how far, for domain 0, a collection has come, how many finalisers the domain owes before its next `full_major`, what its deck of hints has counted, and where its commands come from
 pub record RunView : Type 0 where
@@ -105,6 +105,10 @@ HasLabels _ serial next cs = serial + labels_in (drop next cs) < 2 ^ 32
 abbrev pub served_since : Option ℕ → ℕ → Bool
 served_since None arrivals = false
 served_since (Some at) arrivals = nat_lt at arrivals
+
+-- a run before its first turn
+abbrev pub unturned : Token → List model.Command → DeckCounts → Supply → RunView
+unturned t cs hints supply = record { token = t; commands = cs; next = 0; replies = []; ended = false; left = None; asked = None; collected = false; progress = no_collection; due = 0; hints = hints; supply = supply }
 
 -- a domain that runs, without an entry so far, may begin these commands. It has room for the ephemerons that they make and the finalisers that they register, none is registered so far, and it is in the middle of no pause, and knows of no collection
 pub record CanBegin (t : Token) (cs : List model.Command) : Type 0 where
@@ -469,12 +473,18 @@ pub record Appended (z : Sizes) (d : ℕ) (old new : List Entry) (e : Entry) (an
   pub legal : Legal z new
   pub replies : reply_to (state_after (opening z) (old ++ between)) e ≡ answer
 
+-- the domain has given out so many labels, and has room for so many ephemerons fewer at most: it has room for more only where ephemerons were swept
+pub record Takes (labels ephemerons : ℕ) (x y : DomainView) : Type 0 where
+  pub labels_are : y.own.serial ≡ x.own.serial + labels
+  pub room : x.own.ephemerons.room ≤ y.own.ephemerons.room + ephemerons
+
 -- a turn made no entry of the domain
 pub record MadeNone (old new : RunView) : Type 0 where
   pub next : new.next ≡ old.next
   pub replies : new.replies ≡ old.replies
   pub ended : new.ended ≡ old.ended
   pub front : IsFrontOf old.token.view.own.number new.token.view.seen.front old.token.view.seen.front
+  pub takes : Takes 0 0 old.token.view new.token.view
 
 -- or the entry of its next command, whose reply was kept
 pub record MadeNext (z : Sizes) (old new : RunView) : Type 0 where
@@ -486,6 +496,7 @@ pub record MadeNext (z : Sizes) (old new : RunView) : Type 0 where
   pub replies : new.replies ≡ old.replies ++ reply ∷ []
   pub ended : new.ended ≡ old.ended
   pub front : Appended z old.token.view.own.number old.token.view.seen.front new.token.view.seen.front (CommandOf old.token.view.own.number command full) (Replied reply)
+  pub takes : Takes (labels_given command reply) (ephemerons_given command reply) old.token.view new.token.view
 
 -- or that of a finaliser, whose reply was kept
 pub record MadeRun (z : Sizes) (old new : RunView) : Type 0 where
@@ -494,6 +505,7 @@ pub record MadeRun (z : Sizes) (old new : RunView) : Type 0 where
   pub replies : new.replies ≡ old.replies ++ reply ∷ []
   pub ended : new.ended ≡ old.ended
   pub front : Appended z old.token.view.own.number old.token.view.seen.front new.token.view.seen.front (RanOf old.token.view.own.number) (Replied reply)
+  pub takes : Takes 0 0 old.token.view new.token.view
 
 -- or that of its end
 pub record MadeEnd (z : Sizes) (old new : RunView) : Type 0 where
@@ -502,8 +514,9 @@ pub record MadeEnd (z : Sizes) (old new : RunView) : Type 0 where
   pub replies : new.replies ≡ old.replies
   pub ended : new.ended ≡ true
   pub front : Appended z old.token.view.own.number old.token.view.seen.front new.token.view.seen.front (End old.token.view.own.number) Silent
+  pub takes : Takes 0 0 old.token.view new.token.view
 
--- how the domain's front grew in a turn: by entries of others, and by one of the domain at most, which comes last
+-- how the domain's front grew in a turn: by entries of others, and by one of the domain at most, which comes last; and what labels and room it took
 pub data Stretches (z : Sizes) (old new : RunView) : Type 0 where
   ByOthers : MadeNone old new → Stretches z old new
   ByCommand : MadeNext z old new → Stretches z old new

@@ -7,6 +7,7 @@ use Rattle.heap_model.specs.declared.entry.Entry.TheVariants.{Command as Command
 use Rattle.heap_model.specs.declared.reply.Reply.{Reply}
 use Rattle.heap_model.specs.declared.reply.Reply.TheVariants.{Block}
 use Rattle.heap_model.specs.declared.reply.Applied.TheVariants.{Replied}
+pub use Rattle.command_counts.specs.Counts.{ephemerons_given, ephemerons_of, labels_given, labels_of}
 use Rattle.domain_turns.specs.declared.command.Attempt.{Attempt}
 use Rattle.domain_turns.specs.declared.command.Attempt.TheVariants.{Made, Needs, NoRoom}
 use Rattle.heap_model.specs.Fronts.{Answers}
@@ -72,24 +73,11 @@ FitsHeap Major = Unit {0}
 FitsHeap FullMajor = Unit {0}
 FitsHeap _ = ⊥
 
--- how many ephemerons the command makes, if it isn't answered `full`
-abbrev pub ephemerons_of : Command → ℕ
-ephemerons_of (Ephe dst keys) = 1
-ephemerons_of _ = 0
-
--- how many finalisers it registers at most
+-- how many finalisers a command registers at most
 abbrev pub registrations_of : Command → ℕ
 registrations_of (Finalise item number dst) = 1
 registrations_of (FinaliseLast item number) = 1
 registrations_of _ = 0
-
--- how many labels it gives out at most
-abbrev pub labels_of : Command → ℕ
-labels_of (Alloc dst tag fields) = 1
-labels_of (Raw dst tag fields) = 1
-labels_of (AllocMaj dst tag fields) = 1
-labels_of (Ephe dst keys) = 1
-labels_of _ = 0
 
 -- a store, after which the domain may have to remember one word more
 abbrev pub IsStore : Command → Type 0
@@ -219,14 +207,6 @@ abbrev pub RefusesAs : SharedHeap → Token → Token → Command → Bool → A
 RefusesAs h old new c collected (Made r) = (collected ≡ true) × RefusesFull h old new c r × (new.view.own ≡ record old.view.own { registers = new.view.own.registers })
 RefusesAs h old new c collected (Needs want) = ⊥
 RefusesAs h old new c collected NoRoom = (collected ≡ false) × (new ≡ old)
-
--- how many labels the command gave out: one where it is an allocation that isn't answered `full`
-abbrev pub labels_given : Command → Reply → ℕ
-labels_given (Alloc dst tag fields) (Block l) = 1
-labels_given (Raw dst tag fields) (Block l) = 1
-labels_given (AllocMaj dst tag fields) (Block l) = 1
-labels_given (Ephe dst keys) (Block l) = 1
-labels_given _ _ = 0
 
 -- how far the places of each size class were then looked at: an allocation in the major heap may look at more of them
 abbrev pub looked_by : Command → Own → Own → List Spot

@@ -1,10 +1,9 @@
 //! One domain's trace, and how far it has come.
-ghost use Rattle.std.specs.Prelude.{◌≡◌, ◌↔◌, ◌<◌, ◌∷◌, true, false, [], length, take, IfOk, IfSome, None};
+ghost use Rattle.std.specs.Prelude.{◌≡◌, ◌↔◌, ◌<◌, ◌∷◌, true, false, [], length, take, vec_capacity, IfOk, IfSome, None};
 ghost use Rattle.heap_model.specs.History.{commands as commands_of, replies as replies_of};
 ghost use Rattle.heap_rule.specs.Limits.{sizes_in};
 ghost use Rattle.mark_slices.specs.Slices.{IsDeckOf};
-ghost use Rattle.heap_rule.specs.Views.{no_collection};
-ghost use Rattle.domain_turns.specs.Runs.{CanBegin, IsLastReply, IsRun, IsUnanswered, MaySubmit, answer_of};
+ghost use Rattle.domain_turns.specs.Runs.{CanBegin, HasReserved, IsLastReply, IsRun, IsUnanswered, MaySubmit, answer_of, unturned};
 
 use crate::supply::Supply;
 use heap_model::command::Command;
@@ -52,27 +51,21 @@ impl Model for DomainRun {
 }
 
 impl DomainRun {
-    /// A run of a domain from its first command on. The domain runs and no entry of it stands in the
-    /// history so far; there are at most 200,000 commands, each of a kind that runs on the shared heap
-    /// and with its numbers in their ranges; the domain has room for as many ephemerons as they make
-    /// and as many finalisers as they register, and none is registered so far; at most 4,000,000,000
-    /// labels were made. The hints are the domain's, among those of all domains. No collection has begun so
-    /// far. The room for the replies is reserved here: each command answers once, and so does each
-    /// finaliser that it registers. Fails for want of memory alone, and then the domain is given up.
-    #[tactic(auto, using(crate::proofs::Beginning::begins_between, crate::proofs::Beginning::begins_enlisted, crate::proofs::Beginning::begins_replied, crate::proofs::Beginning::reserves_listed))]
-    pub fn make(
-        alloc: Global,
-        dom: Domain,
+    // A run before its first turn, whose lists have the room that it reserves.
+    fn begin(
+        domain: Domain,
         hints: Hints,
         commands: Vec<Command>,
-    ) -> Result<DomainRun, AllocError>
-        requires begins { CanBegin dom commands.items }
-        requires deck { IsDeckOf dom.config dom.view hints }
-        ensures { IfOk result (λ r. r ≡ record { token = dom; commands = commands.items; next = 0; replies = []; ended = false; left = None; asked = None; collected = false; progress = no_collection; due = 0; hints = hints; supply = Supply.Listed }) }
+        replies: Vec<Reply>,
+        supply: Supply,
+    ) -> DomainRun
+        requires run { IsRun (unturned domain commands.items hints supply) }
+        requires unanswered { replies.items ≡ [] }
+        requires reserved { HasReserved supply (length commands.items) (vec_capacity commands) (vec_capacity replies) }
+        ensures { result ≡ unturned domain commands.items hints supply }
     {
-        let replies = Vec::with_capacity(alloc, 2 * commands.len())?;
-        Ok(DomainRun {
-            domain: dom,
+        DomainRun {
+            domain,
             commands,
             next: 0,
             replies,
@@ -83,8 +76,30 @@ impl DomainRun {
             progress: Progress::start(),
             due: 0,
             hints,
-            supply: Supply::Listed,
-        })
+            supply,
+        }
+    }
+
+    /// A run of a domain from its first command on. The domain runs and no entry of it stands in the
+    /// history so far; there are at most 200,000 commands, each of a kind that runs on the shared heap
+    /// and with its numbers in their ranges; the domain has room for as many ephemerons as they make
+    /// and as many finalisers as they register, and none is registered so far; at most 4,000,000,000
+    /// labels were made. The hints are the domain's, among those of all domains. No collection has begun so
+    /// far. The room for the replies is reserved here: each command answers once, and so does each
+    /// finaliser that it registers. Fails for want of memory alone, and then the domain is given up.
+    #[tactic(auto, using(crate::proofs::Beginning::reserves_listed))]
+    pub fn make(
+        alloc: Global,
+        dom: Domain,
+        hints: Hints,
+        commands: Vec<Command>,
+    ) -> Result<DomainRun, AllocError>
+        requires begins { CanBegin dom commands.items }
+        requires deck { IsDeckOf dom.config dom.view hints }
+        ensures { IfOk result (λ r. r ≡ unturned dom commands.items hints Supply.Listed) }
+    {
+        let replies = Vec::with_capacity(alloc, 2 * commands.len())?;
+        Ok(DomainRun::begin(dom, hints, commands, replies, Supply::Listed))
     }
 
     /// An open run of a domain: its commands are handed in one by one, by [`submit`](DomainRun::submit), and
@@ -94,24 +109,11 @@ impl DomainRun {
     pub fn make_open(alloc: Global, dom: Domain, hints: Hints) -> Result<DomainRun, AllocError>
         requires begins { CanBegin dom [] }
         requires deck { IsDeckOf dom.config dom.view hints }
-        ensures { IfOk result (λ r. r ≡ record { token = dom; commands = []; next = 0; replies = []; ended = false; left = None; asked = None; collected = false; progress = no_collection; due = 0; hints = hints; supply = Supply.Open }) }
+        ensures { IfOk result (λ r. r ≡ unturned dom [] hints Supply.Open) }
     {
         let commands = Vec::with_capacity(alloc, 1)?;
         let replies = Vec::with_capacity(alloc, 2)?;
-        Ok(DomainRun {
-            domain: dom,
-            commands,
-            next: 0,
-            replies,
-            ended: false,
-            left: None,
-            asked: None,
-            collected: false,
-            progress: Progress::start(),
-            due: 0,
-            hints,
-            supply: Supply::Open,
-        })
+        Ok(DomainRun::begin(dom, hints, commands, replies, Supply::Open))
     }
 
     /// Hands in the next command of an open run whose last command is done. It fits the shared heap, its

@@ -18,7 +18,9 @@ use Rattle.heap_model.proofs.Histories.HistoryLemmas.{state_after-push}
 use Rattle.heap_model.proofs.Histories.ShapeAfterLemmas.{shaped-history}
 use Rattle.heap_rule.proofs.HistorySizes.{sizes_after}
 use Rattle.domain_turns.specs.Runs.{Appended}
-use Rattle.heap_session.specs.Performing.{AllCollector, Performed, StopsAfter, is_collector}
+use Rattle.table_laws.specs.Performing.{Performed}
+use Rattle.table_laws.specs.Thinning.{AllCollector, is_collector}
+use Rattle.heap_session.specs.Stopping.{StopsAfter}
 
 -- of one domain there is no other
 no_other : (xs : List DomainState) (d : ℕ) → length xs ≡ 1 → (slice_index_or xs (suc d) no_domain).ended ≡ true

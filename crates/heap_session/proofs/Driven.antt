@@ -14,16 +14,20 @@ use Rattle.heap_rule.specs.Limits.{sizes_in}
 use Rattle.heap_rule.specs.Token.{SharedHeap, IsIn}
 use Rattle.domain_turns.specs.declared.supply.Supply.{Supply}
 use Rattle.domain_turns.specs.declared.supply.Supply.TheVariants.{Listed, Open, Closed}
-use Rattle.domain_turns.specs.Runs.{RunView, Appended, GoesOn, IsRun, Stretches, answer_of, first_reply}
+use Rattle.domain_turns.specs.Runs.{RunView, Appended, GoesOn, IsRun, Stretches, Takes, answer_of, first_reply}
 use Rattle.domain_turns.specs.Runs.Stretches.{ByOthers, ByCommand, ByFinaliser, ByEnd}
 use Rattle.domain_turns.proofs.StretchLemmas.{appended_after}
-use Rattle.heap_session.specs.Performing.{Performed}
+use Rattle.domain_turns.proofs.Taking.{takes_none, takes_on}
+use Rattle.table_laws.specs.Performing.{Performed}
+use Rattle.table_laws.proofs.LabelLemmas.{performed_labels}
 use Rattle.heap_session.proofs.Collectors.{performs}
-use Rattle.heap_session.specs.Driving.{Answered, AwaitAnswers, Awaits, CloseAnswers, Closes, IsAlone, Rests}
+use Rattle.heap_session.specs.Driving.{Answered, AwaitAnswers, Awaits, CloseAnswers, Closes, HasGivenOut, IsAlone, Rests}
+use Rattle.command_counts.specs.Counts.{ephemerons_given, labels_given}
+use Rattle.heap_rule.specs.declared.view.DomainView.{DomainView}
 
 -- no turn at all
 pub still_stretches : (z : Sizes) (r : RunView) → Stretches z r r
-still_stretches z r = ByOthers (record { next = refl; replies = refl; ended = refl; front = front_whole r.token.view.own.number r.token.view.seen.front })
+still_stretches z r = ByOthers (record { next = refl; replies = refl; ended = refl; front = front_whole r.token.view.own.number r.token.view.seen.front; takes = takes_none r.token.view r.token.view refl refl })
 
 pub still_goes : (r : RunView) → GoesOn r r
 still_goes r = record { commands = refl; supply = refl; number = refl; front = record { rest = []; appends = sym (append-nil r.token.view.seen.front) } }
@@ -38,8 +42,8 @@ closed_handed : (s : Supply) → s ≡ Closed → s ≢ Listed
 closed_handed s is listed = let clash : Closed ≡ Listed = sym is ∙ listed in cc
 
 -- a turn of a run that has a command to make
-pub awaits_turn : (h : SharedHeap) (front : List Entry) (c : model.Command) (old new : RunView) → Awaits h front c old → IsIn new.token h → Stretches (sizes_in h.config) old new → GoesOn old new → IsRun new → AwaitAnswers h front c new (answer_of new)
-awaits_turn h front c old new a here s g is = by s
+pub awaits_turn : (h : SharedHeap) (start : DomainView) (c : model.Command) (old new : RunView) → Awaits h start c old → IsIn new.token h → Stretches (sizes_in h.config) old new → GoesOn old new → IsRun new → AwaitAnswers h start c new (answer_of new)
+awaits_turn h start c old new a here s g is = by s
   where
     alone : IsAlone h new
     alone = still_alone h old new a.alone here g
@@ -47,18 +51,19 @@ awaits_turn h front c old new a here s g is = by s
     more : new.supply ≡ Open
     more = g.supply ∙ a.more
 
-    by : Stretches (sizes_in h.config) old new → AwaitAnswers h front c new (answer_of new)
+    by : Stretches (sizes_in h.config) old new → AwaitAnswers h start c new (answer_of new)
     by (ByOthers m) =
         let replies : new.replies ≡ [] = m.replies ∙ a.replies in
         let none : answer_of new ≡ None = λ i. first_reply (more i) (replies i) in
         let later : IsFrontOf 0 new.token.view.seen.front old.token.view.seen.front = subst (λ (d : ℕ). IsFrontOf d new.token.view.seen.front old.token.view.seen.front) a.alone.number m.front in
-        subst (AwaitAnswers h front c new) (sym none) (record {
+        subst (AwaitAnswers h start c new) (sym none) (record {
           alone = alone;
           more = more;
           commands = g.commands ∙ a.commands;
           next = m.next ∙ a.next;
           replies = replies;
-          front = front_trans 0 new.token.view.seen.front old.token.view.seen.front front later a.front;
+          front = front_trans 0 new.token.view.seen.front old.token.view.seen.front start.seen.front later a.front;
+          takes = takes_on 0 0 start old.token.view new.token.view a.takes m.takes;
         })
     by (ByCommand m) =
         let replies : new.replies ≡ m.reply ∷ [] = m.replies ∙ ap (λ (rs : List Reply). rs ++ m.reply ∷ []) a.replies in
@@ -67,12 +72,13 @@ awaits_turn h front c old new a here s g is = by s
         let same : m.command ≡ c = cc in
         let last : Appended (sizes_in h.config) 0 old.token.view.seen.front new.token.view.seen.front (Command 0 c m.full) (Replied m.reply) =
         subst (λ (w : ℕ × model.Command). Appended (sizes_in h.config) w.0 old.token.view.seen.front new.token.view.seen.front (Command w.0 w.1 m.full) (Replied m.reply)) (λ i. (a.alone.number i, same i)) m.front in
-        subst (AwaitAnswers h front c new) (sym some) (record {
+        subst (AwaitAnswers h start c new) (sym some) (record {
           alone = alone;
           more = more;
           done = m.next ∙ (ap (λ (n : ℕ). n + 1) a.next ∙ sym (ap (λ (cs : List model.Command). length cs) (g.commands ∙ a.commands)));
           full = m.full;
-          front = appended_after (sizes_in h.config) 0 front old.token.view.seen.front new.token.view.seen.front (Command 0 c m.full) (Replied m.reply) a.front last;
+          front = appended_after (sizes_in h.config) 0 start.seen.front old.token.view.seen.front new.token.view.seen.front (Command 0 c m.full) (Replied m.reply) a.front last;
+          takes = takes_on (labels_given c m.reply) (ephemerons_given c m.reply) start old.token.view new.token.view a.takes (subst (λ (d : model.Command). Takes (labels_given d m.reply) (ephemerons_given d m.reply) old.token.view new.token.view) same m.takes);
         })
     by (ByFinaliser m) =
         let replies : new.replies ≡ m.reply ∷ [] = m.replies ∙ ap (λ (rs : List Reply). rs ++ m.reply ∷ []) a.replies in
@@ -121,23 +127,26 @@ closes_turn h front old new a here s g is = by s
         })
 
 -- a run that rests and gets a command has it to make
-pub submitted : (h : SharedHeap) (r new : RunView) (c : model.Command) → Rests h r → new ≡ record r { commands = c ∷ []; next = 0; replies = []; asked = None; collected = false } → Awaits h r.token.view.seen.front c new
-submitted h r new c rests is = subst (λ (x : RunView). Awaits h r.token.view.seen.front c x) (sym is) (record {
+pub submitted : (h : SharedHeap) (r new : RunView) (c : model.Command) → Rests h r → new ≡ record r { commands = c ∷ []; next = 0; replies = []; asked = None; collected = false } → Awaits h r.token.view c new
+submitted h r new c rests is = subst (λ (x : RunView). Awaits h r.token.view c x) (sym is) (record {
   alone = record { here = rests.alone.here; one = rests.alone.one; number = rests.alone.number };
   more = rests.more;
   commands = refl;
   next = refl;
   replies = refl;
   front = front_whole 0 r.token.view.seen.front;
+  takes = takes_none r.token.view r.token.view refl refl;
 })
 
--- once it has made it, it rests again
-pub rests_again : (h : SharedHeap) (front : List Entry) (c : model.Command) (reply : Reply) (r : RunView) → Answered h front c reply r → Rests h r
-rests_again h front c reply r a = record { alone = a.alone; more = a.more; done = a.done; legal = a.front.legal }
+-- once it has made it, its command was performed
+pub performed : (h : SharedHeap) (start : DomainView) (c : model.Command) (reply : Reply) (r : RunView) → IsWithinLimits (sizes_in h.config) → Answered h start c reply r → Performed (sizes_in h.config) start.seen.front r.token.view.seen.front c reply
+performed h start c reply r limits a = performs (sizes_in h.config) start.seen.front r.token.view.seen.front c a.full reply limits a.alone.one a.front
 
--- and its command was performed
-pub performed : (h : SharedHeap) (start : List Entry) (c : model.Command) (reply : Reply) (r : RunView) → IsWithinLimits (sizes_in h.config) → Answered h start c reply r → Performed (sizes_in h.config) start r.token.view.seen.front c reply
-performed h start c reply r limits a = performs (sizes_in h.config) start r.token.view.seen.front c a.full reply limits a.alone.one a.front
+-- and it rests again
+pub rests_again : (h : SharedHeap) (start : DomainView) (c : model.Command) (reply : Reply) (r : RunView) → IsWithinLimits (sizes_in h.config) → HasGivenOut h start → Answered h start c reply r → Rests h r
+rests_again h start c reply r limits given a =
+    let grows = performed_labels (sizes_in h.config) limits start.seen.front r.token.view.seen.front c reply (performed h start c reply r limits a) in
+    record { alone = a.alone; more = a.more; done = a.done; legal = a.front.legal; given = a.takes.labels_are ∙ (ap (λ (n : ℕ). n + labels_given c reply) given ∙ sym grows) }
 
 -- a run that rests and gets no more is about to end
 pub closed : (h : SharedHeap) (r new : RunView) → Rests h r → IsRun r → new ≡ record r { supply = Closed } → Closes h r.token.view.seen.front new

@@ -9,8 +9,12 @@ use Rattle.heap_model.specs.Fronts.{IsFrontOf}
 use Rattle.heap_model.specs.History.{Legal}
 use Rattle.heap_rule.specs.Limits.{sizes_in}
 use Rattle.heap_rule.specs.Token.{SharedHeap, IsIn}
+use Rattle.heap_model.specs.Domains.{domain_at}
+use Rattle.heap_rule.specs.declared.view.DomainView.{DomainView}
+use Rattle.heap_rule.specs.Rule.{state_of}
+use Rattle.command_counts.specs.Counts.{ephemerons_given, labels_given}
 use Rattle.domain_turns.specs.declared.supply.Supply.TheVariants.{Open, Closed}
-use Rattle.domain_turns.specs.Runs.{RunView, Appended}
+use Rattle.domain_turns.specs.Runs.{RunView, Appended, Takes}
 
 -- the run of the one domain of a heap
 pub record IsAlone (h : SharedHeap) (r : RunView) : Type 0 where
@@ -18,34 +22,41 @@ pub record IsAlone (h : SharedHeap) (r : RunView) : Type 0 where
   pub one : h.config.domains ≡ 1
   pub number : r.token.view.own.number ≡ 0
 
+-- the domain has given out the labels that it has in the state
+abbrev pub HasGivenOut : SharedHeap → DomainView → Type 0
+HasGivenOut h x = x.own.serial ≡ (domain_at (state_of h.config x.seen.front) 0).serial
+
 -- it waits for its next command
 pub record Rests (h : SharedHeap) (r : RunView) : Type 0 where
   pub alone : IsAlone h r
   pub more : r.supply ≡ Open
   pub done : r.next ≡ length r.commands
   pub legal : Legal (sizes_in h.config) r.token.view.seen.front
+  pub given : HasGivenOut h r.token.view
 
--- it has this command to make, since whose handing in the front has grown by entries of others alone
-pub record Awaits (h : SharedHeap) (start : List Entry) (c : model.Command) (r : RunView) : Type 0 where
+-- it has this command to make, since whose handing in the front has grown by entries of others alone, and no label or room was taken
+pub record Awaits (h : SharedHeap) (start : DomainView) (c : model.Command) (r : RunView) : Type 0 where
   pub alone : IsAlone h r
   pub more : r.supply ≡ Open
   pub commands : r.commands ≡ c ∷ []
   pub next : r.next ≡ 0
   pub replies : r.replies ≡ []
-  pub front : IsFrontOf 0 r.token.view.seen.front start
+  pub front : IsFrontOf 0 r.token.view.seen.front start.seen.front
+  pub takes : Takes 0 0 start r.token.view
 
 -- it has made it, with this reply
-pub record Answered (h : SharedHeap) (start : List Entry) (c : model.Command) (reply : Reply) (r : RunView) : Type 0 where
+pub record Answered (h : SharedHeap) (start : DomainView) (c : model.Command) (reply : Reply) (r : RunView) : Type 0 where
   pub alone : IsAlone h r
   pub more : r.supply ≡ Open
   pub done : r.next ≡ length r.commands
   pub full : Bool
-  pub front : Appended (sizes_in h.config) 0 start r.token.view.seen.front (Command 0 c full) (Replied reply)
+  pub front : Appended (sizes_in h.config) 0 start.seen.front r.token.view.seen.front (Command 0 c full) (Replied reply)
+  pub takes : Takes (labels_given c reply) (ephemerons_given c reply) start r.token.view
 
 -- by the reply, if there is one
-abbrev pub AwaitAnswers : SharedHeap → List Entry → model.Command → RunView → Option Reply → Type 0
-AwaitAnswers h front c r None = Awaits h front c r
-AwaitAnswers h front c r (Some reply) = Answered h front c reply r
+abbrev pub AwaitAnswers : SharedHeap → DomainView → model.Command → RunView → Option Reply → Type 0
+AwaitAnswers h start c r None = Awaits h start c r
+AwaitAnswers h start c r (Some reply) = Answered h start c reply r
 
 -- it gets no more command, and the front has grown by entries of others alone since
 pub record Closes (h : SharedHeap) (start : List Entry) (r : RunView) : Type 0 where

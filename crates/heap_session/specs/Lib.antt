@@ -1,3 +1,3 @@
-pub mod Performing
+pub mod Stopping
 pub mod Sessions
 pub mod Driving

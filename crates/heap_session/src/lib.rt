@@ -7,11 +7,14 @@
 //! let live = session.perform(rt, Command::FullMajor);
 //! let ended = session.stop(rt);
 //! ```
+//!
+//! The calls of `weak_tables` on weak arrays and tables take a session.
 #![tactic(auto)]
 
 mod closing;
 mod performing;
 mod session;
+mod tables;
 mod turning;
 
 pub use session::Session;

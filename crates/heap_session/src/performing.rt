@@ -1,7 +1,6 @@
 //! The turns by which a command is made.
-ghost use Rattle.std.specs.Prelude.{◌≡◌, List};
 ghost use Rattle.heap_model.specs.declared.command.Command as model;
-ghost use Rattle.heap_model.specs.declared.entry.Entry.{Entry};
+ghost use Rattle.heap_rule.specs.declared.view.DomainView.{DomainView};
 ghost use Rattle.heap_rule.specs.Token.{IsIn};
 ghost use Rattle.heap_session.specs.Driving.{Awaits, Answered, AwaitAnswers};
 
@@ -15,7 +14,7 @@ use std::sync::Wait;
 fn await_turn(heap: &Heap, run: &mut DomainRun) -> Option<Reply>
     requires here { IsIn run.old.token heap.now }
     ensures here { IsIn run.new.token heap.now }
-    ensures answers { (front : List Entry) (c : model.Command) → Awaits heap.now front c run.old → AwaitAnswers heap.now front c run.new result }
+    ensures answers { (start : DomainView) (c : model.Command) → Awaits heap.now start c run.old → AwaitAnswers heap.now start c run.new result }
 {
     turn_below(heap, run);
     run.is_faithful();
@@ -26,7 +25,7 @@ fn await_turn(heap: &Heap, run: &mut DomainRun) -> Option<Reply>
 pub(crate) fn await_answer<R: Wait>(rt: &R, heap: &Heap, run: &mut DomainRun) -> Reply
     requires here { IsIn run.old.token heap.now }
     ensures here { IsIn run.new.token heap.now }
-    ensures answered { (front : List Entry) (c : model.Command) → Awaits heap.now front c run.old → Answered heap.now front c result run.new }
+    ensures answered { (start : DomainView) (c : model.Command) → Awaits heap.now start c run.old → Answered heap.now start c result run.new }
 {
     'turns: for _ in rt.forever() {
         if let Some(reply) = await_turn(heap, run) {

@@ -1,12 +1,14 @@
 //! A heap of one domain, and the commands that are handed in to it.
-ghost use Rattle.std.specs.Prelude.{◌≡◌, ◌↔◌, ◌+◌, ◌<◌, ℕ, [], IfOk, Some, Err};
+ghost use Rattle.std.specs.Prelude.{◌≡◌, ◌↔◌, ◌+◌, ◌<◌, ◌≤◌, ℕ, [], IfOk, Some, Err};
+ghost use Rattle.command_counts.specs.Counts.{ephemerons_given, labels_given};
 ghost use Rattle.heap_model.specs.Commands.{shown};
-ghost use Rattle.heap_model.specs.Domains.{IsWithinLimits, register as register_value};
+ghost use Rattle.heap_model.specs.Domains.{IsWithinLimits, domain_at, register as register_value};
 ghost use Rattle.heap_model.specs.History.{Legal};
 ghost use Rattle.heap_rule.specs.Limits.{first_outside, sizes_in};
 ghost use Rattle.heap_rule.specs.Rule.{state_of};
-ghost use Rattle.heap_session.specs.Performing.{Performed, StopsAfter};
 ghost use Rattle.heap_session.specs.Sessions.{MayPerform, alone};
+ghost use Rattle.heap_session.specs.Stopping.{StopsAfter};
+ghost use Rattle.table_laws.specs.Performing.{Performed};
 
 use crate::closing::turn_to_end;
 use crate::performing::await_answer;
@@ -85,10 +87,13 @@ impl Session {
         u32::MAX - self.run.domain().labels_made()
     }
 
-    /// The numbers are within their limits, and the history so far is legal for them.
+    /// There is one domain, the numbers are within their limits, the history so far is legal for them, and so many
+    /// labels were given out as it says.
     pub fn is_legal(&self)
+        ensures alone { self.now.config.domains ≡ 1 }
         ensures limits { IsWithinLimits (sizes_in self.now.config) }
         ensures legal { Legal (sizes_in self.now.config) self.now.front }
+        ensures labels { self.now.labels ≡ (domain_at (state_of self.now.config self.now.front) 0).serial }
     {
         let _config = self.heap.config();
     }
@@ -98,12 +103,15 @@ impl Session {
     /// it makes and a label for a block.
     ///
     /// The history grows by entries of the collector and then by this command, and the reply is that of the
-    /// state before it. A pause that the command needs is gone through by this thread; one in which a
+    /// state before it. A label is given out exactly where the command allocates and isn't answered `full`. Room
+    /// is taken for the ephemeron that it makes, and there is more only where ephemerons were swept. A pause that the command needs is gone through by this thread; one in which a
     /// `full_major` is answered ends with the next command. A domain that has arrived 2^60 times isn't turned
     /// any more, and then this call doesn't return.
     pub fn perform<R: Wait>(&mut self, rt: &R, command: Command) -> Reply
         requires may { MayPerform self.old command }
         ensures config { self.new.config ≡ self.old.config }
+        ensures labels { self.new.labels ≡ self.old.labels + labels_given command result }
+        ensures room { self.old.room ≤ self.new.room + ephemerons_given command result }
         ensures performed { Performed (sizes_in self.old.config) self.old.front self.new.front command result }
     {
         let _limits = self.heap.config();

@@ -1,5 +1,5 @@
 -- A command that is answered `full` is an entry that says so, and no other entry is.
-use Rattle.std.proofs.Common.{◌≡◌, ℕ, ◌+◌, Bool, true, false, cond, IsTrue, is_some, List, [], ◌∷◌, ◌++◌, slice_get, Option, Some, None, refl, ap, sym, ◌∙◌, arith}
+use Rattle.std.proofs.Common.{◌≡◌, ℕ, ◌+◌, Bool, true, false, cond, IsTrue, is_some, List, [], ◌∷◌, ◌++◌, slice_get, Option, Some, None, refl, ap, sym, subst, ◌∙◌, arith}
 use Rattle.heap_model.specs.declared.label.Label.{Label}
 use Rattle.heap_model.specs.declared.command.Command as declared_command
 use Rattle.heap_model.specs.declared.command.Command.TheVariants.{PutInt, Copy, Forget, Alloc, AllocMaj, Load, Store, Raw as NewRaw, Cas, Ephe as NewEphe, SetKey, UnsetKey, GetKey, CheckKey, SetData, UnsetData, GetData, CheckData, Finalise, FinaliseLast, Poll, Minor, Major, FullMajor, Spawn, Argument, PutResult, Join}
@@ -18,6 +18,7 @@ use Rattle.heap_model.specs.Domains.{IsWithinLimits, label_in, register}
 use Rattle.heap_model.specs.Commands.{Outcome, in_bounds, read_into, tells, loaded, at_field, written_where, same_value, exchanged, at_ephe, key_set, key_stored, key_value, datum_stored, is_full_value, finalised, finalised_last, block_in, is_allocation, outcome}
 use Rattle.heap_model.specs.Entries.{reply as reply_of}
 use Rattle.heap_model.proofs.Reach.ReachLemmas.{and_left, and_right}
+use Rattle.command_counts.specs.Counts.{blocks_of, labels_given, labels_of}
 use Rattle.table_laws.specs.Thinning.{is_collector, AllCollector, state_of}
 use Rattle.table_laws.specs.Performing.{Performed, refused, refusals, full_of, refused_by}
 use Rattle.table_laws.proofs.StepLemmas.{not_full}
@@ -193,3 +194,35 @@ performed_given z limits old new c r p = go (is_allocation c) refl
         let is : Replied r ≡ Replied (outcome s 0 c).reply = sym p.replies ∙ ap (λ b. reply_of s (Command 0 c b)) (not_full z limits old new c r p e) in
         let same : r ≡ (outcome s 0 c).reply = cc in
         full_none r (λ full. outcome_given s 0 c (sym same ∙ full))
+
+-- what an allocation answers of itself is its block
+block_reply : (s : State) (c : declared_command.Command) → is_allocation c ≡ true → (l : Label) × ((outcome s 0 c).reply ≡ reply.Block l)
+block_reply s (Alloc dst tag fields) is = (_, refl)
+block_reply s (AllocMaj dst tag fields) is = (_, refl)
+block_reply s (NewRaw dst tag fields) is = (_, refl)
+block_reply s (NewEphe dst keys) is = (_, refl)
+block_reply s c is = cc
+
+-- so an allocation gives out a label or is answered `full`, and no other command does either
+pub performed_gives : (z : Sizes) (limits : IsWithinLimits z) (old new : List Entry) (c : declared_command.Command) (r : Reply) → Performed z old new c r → labels_given c r + full_of r ≡ labels_of c
+performed_gives z limits old new c r p = go (is_allocation c) refl
+  where
+    s : State
+    s = state_of z (old ++ p.between)
+
+    one : (b : Bool) → p.full ≡ b → is_allocation c ≡ true → blocks_of r + full_of r ≡ 1
+    one true e is =
+        let answered : Replied r ≡ Replied reply.Full = sym p.replies ∙ ap (λ b. reply_of s (Command 0 c b)) e in
+        let same : r ≡ reply.Full = cc in
+        ap (λ a. blocks_of a + full_of a) same
+    one false e is =
+        let made = block_reply s c is in
+        let answered : Replied r ≡ Replied (reply.Block made.0) = sym p.replies ∙ (ap (λ b. reply_of s (Command 0 c b)) e ∙ ap Replied made.1) in
+        let same : r ≡ reply.Block made.0 = cc in
+        ap (λ a. blocks_of a + full_of a) same
+
+    go : (b : Bool) → is_allocation c ≡ b → cond (is_allocation c) (blocks_of r) 0 + full_of r ≡ cond (is_allocation c) 1 0
+    go true e = subst (λ (a : Bool). cond a (blocks_of r) 0 + full_of r ≡ cond a 1 0) (sym e) (one p.full refl e)
+    go false e =
+        let none : full_of r ≡ 0 = performed_given z limits old new c r p ∙ ap (λ a. cond a (full_of r) 0) e in
+        subst (λ (a : Bool). cond a (blocks_of r) 0 + full_of r ≡ cond a 1 0) (sym e) (omega (arith, none))

@@ -216,6 +216,7 @@ module _ (z : Sizes) (limits : IsWithinLimits z) (old new : List Entry) (r : Rep
       let all = reads z limits old new c r p _ _ _ refl leaves in
       (subst (λ (rs : List Value). After z old new [] (set rs dst (Int v))) (kept z limits old new c r p).registers all.0, all.1)
 
+  -- a complete collection, once the collector's entries are made
   pub full_major_step : (p : Performed z old new FullMajor r) → After z old new [] (registers_of z old) × ((state_of z new).graph ≡ (state_of z (old ++ p.between)).graph)
   full_major_step p =
       let c : Command = FullMajor in

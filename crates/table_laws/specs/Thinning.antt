@@ -1,9 +1,8 @@
 -- What the collector may take from the bindings, and what a call leaves of all other blocks.
-use Rattle.std.specs.Prelude.{◌≡◌, ◌⊎◌, ℕ, Bool, true, false, not, IsTrue, List, [], ◌∷◌, Option, Some, None}
+use Rattle.std.specs.Prelude.{◌≡◌, ◌⊎◌, ℕ, Bool, false, not, IsTrue, List, [], ◌∷◌, Option, Some, None}
 use Rattle.std.specs.List.{list_all}
 use Rattle.heap_model.specs.declared.label.Label.{Label}
 use Rattle.heap_model.specs.declared.entry.Entry.{Entry}
-use Rattle.heap_model.specs.declared.entry.Entry.TheVariants.{Command, End, Ran}
 use Rattle.heap_model.specs.declared.graph.Value.TheVariants.{Block, Nothing}
 use Rattle.heap_model.specs.declared.graph.Node.{Node}
 use Rattle.heap_model.specs.declared.graph.Node.TheVariants.{Plain, Raw, Ephe}
@@ -11,15 +10,13 @@ use Rattle.heap_model.specs.declared.state.Sizes.{Sizes}
 use Rattle.heap_model.specs.declared.state.State.{State}
 use Rattle.heap_model.specs.Graph.{Graph, has_label, node_at}
 use Rattle.heap_model.specs.Domains.{opening, register, reach}
+use Rattle.heap_model.specs.Fronts.{is_call}
 use Rattle.heap_model.specs.History.{IsPrefix, state_after}
 use Rattle.table_laws.specs.Structures.{Binding}
 
 -- whether an entry is the collector's
 abbrev pub is_collector : Entry → Bool
-is_collector (Command d c full) = false
-is_collector (End d) = false
-is_collector (Ran d) = false
-is_collector _ = true
+is_collector e = not (is_call e)
 
 -- all entries are the collector's
 abbrev pub AllCollector : List Entry → Type 0

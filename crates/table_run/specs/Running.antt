@@ -1,5 +1,5 @@
 -- A text of a table, run line by line: each line is a step of the machine, and the history has a prefix for it.
-use Rattle.std.specs.Prelude.{◌≡◌, ℕ, ◌+◌, List, [], ◌∷◌, ◌++◌}
+use Rattle.std.specs.Prelude.{◌≡◌, ℕ, ◌+◌, ◌≤◌, List, [], ◌∷◌, ◌++◌}
 use Rattle.heap_model.specs.declared.entry.Entry.{Entry}
 use Rattle.heap_model.specs.declared.reply.Reply.{Reply}
 use Rattle.heap_model.specs.declared.reply.Reply.TheVariants as given
@@ -7,9 +7,10 @@ use Rattle.heap_model.specs.declared.state.Sizes.{Sizes}
 use Rattle.heap_model.specs.History.{IsPrefix}
 use Rattle.table_laws.specs.Performing.{refusals}
 use Rattle.table_text.specs.declared.line.TableLine.{TableLine}
+use Rattle.table_text.specs.declared.line.TableLine.TheVariants.{Put}
 use Rattle.table_machine.specs.declared.reply.LineReply.{LineReply}
 use Rattle.table_machine.specs.declared.reply.LineReply.TheVariants as reply
-use Rattle.table_machine.specs.Machine.{TableState, MayGo, LineStep, opened}
+use Rattle.table_machine.specs.Machine.{TableState, MayGo, LineStep, all_made, opened}
 use Rattle.table_run.specs.Standing.{Places, Shown, Stands}
 
 -- 1 for the reply `full`
@@ -61,3 +62,27 @@ pub record LineDone (z : Sizes) (p : Places) (lines : List TableLine) (l : Table
   pub left : TableState
   pub goes : MayGo after left
   pub stands : Stands z p left new
+
+-- at most so many labels were given out: 18 before the first line, and those of the lines so far
+abbrev pub HasGiven : ℕ → List TableLine → Type 0
+HasGiven left before = 4294967295 ≤ left + 18 + all_made before
+
+-- what a line is answered and leaves, in whatever state of the machine it finds the heap
+abbrev pub LineAnswers : Sizes → ℕ → TableLine → List Entry → LineReply → List Entry → Type 0
+LineAnswers z labels l old a new =
+    (p : Places) (s : TableState) (before : List TableLine) → Stands z p s old → HasGiven labels before → LineDone z p (before ++ l ∷ []) l s old a new
+
+-- for how many ephemerons a line needs room
+abbrev pub rooms_of : TableLine → ℕ
+rooms_of (Put r v) = 1
+rooms_of _ = 0
+
+abbrev pub all_rooms : List TableLine → ℕ
+all_rooms [] = 0
+all_rooms (l ∷ ls) = rooms_of l + all_rooms ls
+
+-- the table and the weak array were made, and nothing was refused
+pub record Begins (z : Sizes) (h : List Entry) : Type 0 where
+  pub places : Places
+  pub stands : Stands z places opened h
+  pub none : refusals h ≡ 0

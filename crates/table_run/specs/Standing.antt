@@ -53,3 +53,9 @@ pub record Stands (z : Sizes) (p : Places) (s : TableState) (h : List Entry) : T
   pub keys : (k : Label) → IsKnown s k → node_at (graph_of z h) k ≡ Some key_node
   pub ints : AreInts s.bindings
   pub others : (r : ℕ) → 8 ≤ r → held_in z h r ≡ Nothing
+
+-- the heap stands for a state of the machine
+pub record IsStanding (z : Sizes) (h : List Entry) : Type 0 where
+  pub places : Places
+  pub state : TableState
+  pub stands : Stands z places state h

@@ -1,3 +1,2 @@
 pub mod FreshDomains
 pub mod Resting
-pub mod Rooms

@@ -274,6 +274,11 @@ module _ (z : Sizes) (limits : IsWithinLimits z) (root : Label) (chains : List (
         before = t.1;
         behind = cleared_goes z limits f new c t.0 [] t.2;
         number = t.3;
+        many = high;
+        few =
+            let after = cleared_reads z limits f new c root chains f (reads_from z f root chains x.reads.goes.legal x.reads.table) in
+            let less = thinned_length (WasOutside z f new) (bindings (graph_of z f) chains) (bindings (graph_of z new) chains) after.thinned in
+            omega (arith, low, less);
       }
 
 -- at a later front the table is held, and is no larger

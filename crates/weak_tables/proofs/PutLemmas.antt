@@ -1,4 +1,5 @@
 -- What `table_put` and `table_get` leave.
+use Rattle.std.specs.Prelude.{not, ◌↔◌}
 use Rattle.std.proofs.Common.{◌≡◌, ◌≢◌, ◌⊎◌, inl, inr, ⊎_elim, ℕ, ◌+◌, ◌<◌, ◌%◌, Bool, true, false, IsTrue, List, [], ◌∷◌, ◌++◌, length, get_or, set, flat_map, Option, Some, None, refl, ap, sym, ◌∙◌, subst, arith, pos, append_assoc, get_or-set_same}
 use Rattle.heap_model.specs.declared.label.Label.{Label}
 use Rattle.heap_model.specs.declared.command.Command.TheVariants.{Forget, Alloc, Load, Store, Ephe as NewEphe, SetKey, SetData, GetData}
@@ -35,7 +36,7 @@ use Rattle.table_laws.proofs.StageLemmas.{goes_from, goes_on, goes_reading, thin
 use Rattle.table_laws.proofs.FillLemmas.{whole, fill_data, fill_key, holding_datum}
 use Rattle.table_laws.proofs.GrowLemmas.{grow_ephe, grow_node, link_ephe, link_head, link_next, link_cell}
 use Rattle.weak_tables.specs.Held.{KeepsOthers, IsClean, HoldsTable, Reads, Cleared}
-use Rattle.weak_tables.specs.Walks.{Found, Missed, Ready, Refused, Placed, LooksUp}
+use Rattle.weak_tables.specs.Walks.{CellAnswers, LinksCell, Found, Missed, Ready, Refused, Placed, LooksUp}
 use Rattle.weak_tables.specs.Tables.{Puts, PutAnswers, Gets, GetAnswers}
 use Rattle.weak_tables.proofs.SearchLemmas.{set_here, set_other, keeps_set, below_eight, keeps_all, reads_on, reads_from}
 use Rattle.weak_tables.proofs.TakeLemmas.{thinned_none, goes_wider, cleared_clean, cleared_keeps, cleared_goes, cleared_reads, cleared_table, cleared_without, cleared_datum, same_registers}
@@ -269,6 +270,20 @@ module _ (z : Sizes) (limits : IsWithinLimits z) (root : Label) (chains : List (
             ephe = ap (λ (rs : List Value). get_or rs 8 Nothing) step_6.0.registers_are ∙ (same_5 8 ∙ eight_4);
             left = thinned_without (WasOutside z f0 f6) k _ _ thin_6;
           }
+
+  -- by what the making of a cell answers
+  pub cell_refused : (f : List Entry) → CellAnswers z f0 f false → Refused z f0 f root chains
+  cell_refused f answers = ⊎_elim (λ p. refused_ephe f reply.Full p refl) (λ m. refused_node m.between m.ephe m.first m.room f reply.Full m.second refl) answers
+
+  pub cell_linked : (f new : List Entry) → CellAnswers z f0 f true → datum_at (bindings (graph_of z f0) chains) k ≡ None → LinksCell z f new tr i → (full : Bool) → IsTrue full → Ready z f0 new root chains k full
+  cell_linked f new made none l full all =
+      let m = made.2 in
+      grown_ready m.between m.ephe m.first m.room f made.0 m.second made.1 none l.named l.read l.followed new l.ephe_reply l.head_reply l.next_reply l.linked_reply l.ephe l.head l.next l.linked full all
+
+-- what the making of a cell answers, by whether its block was refused
+pub cell_answers : (z : Sizes) (a b c : List Entry) (ephe node : Reply) (full : Bool) → Performed z a b (NewEphe 8 1) ephe → ephe ≢ reply.Full → Performed z b c (Alloc 9 0 2) node → (full ≡ true) ↔ (node ≡ reply.Full) → CellAnswers z a c (not full)
+cell_answers z a b c ephe node true p room q is = inr (record { ephe = ephe; between = b; first = p; room = room; second = subst (λ (r : Reply). Performed z b c (Alloc 9 0 2) r) (is.0 refl) q })
+cell_answers z a b c ephe node false p room q is = (node, (λ full. let clash : false ≡ true = is.1 full in cc), record { ephe = ephe; between = b; first = p; room = room; second = q })
 
 -- a search that found the key, and one that was followed by a new cell
 found_own : (root : Label) (chains : List (List Cell)) (l : Label) → IsTrue (has_label [] l) → IsTrue (has_label (table_labels root chains) l)

@@ -1,5 +1,5 @@
 -- What the clauses of the calls refuse: where a clause holds a wrong outcome doesn't, whatever body met it.
-use Rattle.std.proofs.Common.{◌≡◌, ◌≢◌, ◌⊎◌, inl, inr, ⊎_elim, ℕ, Bool, true, false, cond, IsTrue, List, [], ◌∷◌, ◌++◌, length, Option, Some, None, refl, ap, sym, ◌∙◌, subst, append-nil}
+use Rattle.std.proofs.Common.{◌≡◌, ◌≢◌, ⊎_elim, ℕ, Bool, true, false, cond, IsTrue, List, [], ◌∷◌, ◌++◌, length, Option, Some, None, refl, ap, sym, ◌∙◌, append-nil}
 use Rattle.heap_model.specs.declared.label.Label.{Label}
 use Rattle.heap_model.specs.declared.command.Command.{Command}
 use Rattle.heap_model.specs.declared.entry.Entry.{Entry}
@@ -13,7 +13,7 @@ use Rattle.heap_model.specs.History.{IsPrefix, commands}
 use Rattle.heap_model.proofs.Graphs.GraphLemmas.{same_label-true, same_label-false}
 use Rattle.heap_model.proofs.Histories.HistoryLemmas.{commands-append, commands-push, commands-others}
 use Rattle.table_laws.specs.Structures.{Binding, Cell, bindings, datum_at, without, keys_of, is_bucket_full, IsTable}
-use Rattle.table_laws.specs.Thinning.{AllCollector, WasOutside}
+use Rattle.table_laws.specs.Thinning.{WasOutside}
 use Rattle.table_laws.specs.Performing.{Performed}
 use Rattle.table_laws.specs.Stages.{graph_of}
 use Rattle.table_laws.proofs.BindingLemmas.{thinned_datum}
@@ -51,7 +51,7 @@ pub no_half_cell_is_left : (z : Sizes) (old new : List Entry) (root : Label) (ch
 no_half_cell_is_left z old new root chains other x table = layout_law (graph_of z new) root other chains table x.reads.table
 
 -- the bindings without a key have all others
-other_stays : (k j : Label) (bs : List Binding) → j ≢ k → datum_at (without k bs) j ≡ datum_at bs j
+pub other_stays : (k j : Label) (bs : List Binding) → j ≢ k → datum_at (without k bs) j ≡ datum_at bs j
 other_stays k j [] other = refl
 other_stays k j (b ∷ bs) other = go (same_label b.0 k) refl (other_stays k j bs other)
   where

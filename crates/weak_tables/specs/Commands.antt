@@ -26,17 +26,6 @@ IsCallCommand (GetData dst ephe) = (dst < 16) × (ephe < 16)
 IsCallCommand FullMajor = Unit {0}
 IsCallCommand _ = ⊥
 
--- how many labels a command gives out, if it isn't answered `full`
-abbrev pub labels_of : Command → ℕ
-labels_of (Alloc dst tag fields) = 1
-labels_of (Ephe dst keys) = 1
-labels_of _ = 0
-
--- how many ephemerons it makes then
-abbrev pub ephemerons_of : Command → ℕ
-ephemerons_of (Ephe dst keys) = 1
-ephemerons_of _ = 0
-
 -- a reply that shows a block
 abbrev pub IsBlock : Reply → Type 0
 IsBlock (reply.Block l) = Unit {0}

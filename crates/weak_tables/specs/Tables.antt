@@ -1,5 +1,5 @@
 -- What the calls on tables answer and leave.
-use Rattle.std.specs.Prelude.{◌≡◌, ◌≢◌, ◌⊎◌, ℕ, IsTrue, List, [], length, Option, Some, None}
+use Rattle.std.specs.Prelude.{◌≡◌, ◌≢◌, ◌≤◌, ◌⊎◌, ℕ, IsTrue, List, [], length, Option, Some, None}
 use Rattle.heap_model.specs.declared.label.Label.{Label}
 use Rattle.heap_model.specs.declared.entry.Entry.{Entry}
 use Rattle.heap_model.specs.declared.graph.Value.{Value}
@@ -93,7 +93,7 @@ pub record MakesNone (z : Sizes) (old new : List Entry) : Type 0 where
 abbrev pub MakeAnswers : Sizes → List Entry → List Entry → ℕ → Reply → Type 0
 MakeAnswers z old new dst r = ((root : Label) × (r ≡ reply.Block root) × Makes z old new dst root) ⊎ ((r ≡ reply.Full) × MakesNone z old new)
 
--- `table_count`: the number of bindings at some front from the first to the last, up to which and from which on no block was written
+-- `table_count`: the number of bindings at some front, up to which and from which on no block was written, from the first, where there are no fewer, to the last, where there are no more
 pub record Counts (z : Sizes) (old new : List Entry) (root : Label) (chains : List (List Cell)) (count : ℕ) : Type 0 where
   pub leaves : Leaves z old new root chains
   pub keeps : KeepsOthers z old new
@@ -101,3 +101,5 @@ pub record Counts (z : Sizes) (old new : List Entry) (root : Label) (chains : Li
   pub before : Goes z old front []
   pub behind : Goes z front new []
   pub number : length (bindings (graph_of z front) chains) ≡ count
+  pub many : count ≤ length (bindings (graph_of z old) chains)
+  pub few : length (bindings (graph_of z new) chains) ≤ count

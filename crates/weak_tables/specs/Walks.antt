@@ -2,7 +2,7 @@
 use Rattle.std.specs.Prelude.{◌≡◌, ◌≢◌, ◌⊎◌, ℕ, ◌%◌, ◌≤◌, take, Bool, true, false, IsTrue, List, [], ◌∷◌, ◌++◌, length, slice_index_or, Option, Some, None}
 use Rattle.std.specs.List.{list_all}
 use Rattle.heap_model.specs.declared.label.Label.{Label}
-use Rattle.heap_model.specs.declared.command.Command.TheVariants.{Load}
+use Rattle.heap_model.specs.declared.command.Command.TheVariants.{Alloc, Load, Store, Ephe as NewEphe}
 use Rattle.heap_model.specs.declared.entry.Entry.{Entry}
 use Rattle.heap_model.specs.declared.graph.Value.{Value}
 use Rattle.heap_model.specs.declared.graph.Value.TheVariants.{Block}
@@ -94,6 +94,33 @@ LooksUp z old new table k found = (root : Label) (chains : List (List Cell)) →
 -- a table's chains are as they were, or have one cell more
 abbrev pub Grows : Graph → Label → List (List Cell) → List (List Cell) → Type 0
 Grows g k chains grown = (grown ≡ chains) ⊎ HasOneMore g k chains grown
+
+-- an ephemeron of one key was made, in register 8, and then a block of two fields was asked for, for register 9
+pub record MakesCell (z : Sizes) (old new : List Entry) (node : Reply) : Type 0 where
+  pub ephe : Reply
+  pub between : List Entry
+  pub first : Performed z old between (NewEphe 8 1) ephe
+  pub room : ephe ≢ reply.Full
+  pub second : Performed z between new (Alloc 9 0 2) node
+
+-- both were made, or one of them was refused
+abbrev pub CellAnswers : Sizes → List Entry → List Entry → Bool → Type 0
+CellAnswers z old new true = (node : Reply) × (node ≢ reply.Full) × MakesCell z old new node
+CellAnswers z old new false = Performed z old new (NewEphe 8 1) reply.Full ⊎ MakesCell z old new reply.Full
+
+-- the block in register 9 got the ephemeron in register 8 and what led to the first cell of a bucket, and the bucket got that block
+pub record LinksCell (z : Sizes) (old new : List Entry) (table index : ℕ) : Type 0 where
+  pub named : List Entry
+  pub read : List Entry
+  pub followed : List Entry
+  pub ephe_reply : Reply
+  pub head_reply : Reply
+  pub next_reply : Reply
+  pub linked_reply : Reply
+  pub ephe : Performed z old named (Store 9 0 8) ephe_reply
+  pub head : Performed z named read (Load 10 table index) head_reply
+  pub next : Performed z read followed (Store 9 1 10) next_reply
+  pub linked : Performed z followed new (Store table index 9) linked_reply
 
 -- an ephemeron is at hand that alone may bind the key, in the table as it is now
 pub record Ready (z : Sizes) (first now : List Entry) (root : Label) (chains : List (List Cell)) (k : Label) (full : Bool) : Type 0 where

@@ -23,7 +23,7 @@ pub fn weak_get<M: Machine, R: Wait>(m: &mut M, rt: &R, dst: u8, array: u8, inde
     requires few { (dst < 8) × (array < 8) }
     requires array { HoldsArray (M.sizes m.old) (M.front m.old) array }
     ensures sizes { M.sizes m.new ≡ M.sizes m.old }
-    ensures labels { M.labels_left m.old ≤ M.labels_left m.new }
+    ensures labels { M.labels_left m.new ≡ M.labels_left m.old }
     ensures room { M.ephes_room m.old ≤ M.ephes_room m.new }
     ensures refused { refusals (M.front m.new) ≡ refusals (M.front m.old) + full_of result }
     ensures written { writings (M.front m.new) ≤ writings (M.front m.old) + is_spared dst }
@@ -63,7 +63,7 @@ pub fn weak_set<M: Machine, R: Wait>(m: &mut M, rt: &R, array: u8, index: u16, i
     requires few { (array < 8) × (item < 8) }
     requires array { HoldsArray (M.sizes m.old) (M.front m.old) array }
     ensures sizes { M.sizes m.new ≡ M.sizes m.old }
-    ensures labels { M.labels_left m.old ≤ M.labels_left m.new }
+    ensures labels { M.labels_left m.new ≡ M.labels_left m.old }
     ensures room { M.ephes_room m.old ≤ M.ephes_room m.new }
     ensures refused { refusals (M.front m.new) ≡ refusals (M.front m.old) + full_of result }
     ensures written { writings (M.front m.new) ≡ writings (M.front m.old) }

@@ -21,7 +21,7 @@ fn count_bucket<M: Machine, R: Wait>(m: &mut M, rt: &R, table: u8, index: u16) -
     requires few { (table < 8) × (index < 64) }
     requires table { HoldsTable (M.sizes m.old) (M.front m.old) table }
     ensures sizes { M.sizes m.new ≡ M.sizes m.old }
-    ensures labels { M.labels_left m.old ≤ M.labels_left m.new }
+    ensures labels { M.labels_left m.new ≡ M.labels_left m.old }
     ensures room { M.ephes_room m.old ≤ M.ephes_room m.new }
     ensures given { refusals (M.front m.new) ≡ refusals (M.front m.old) }
     ensures written { writings (M.front m.new) ≡ writings (M.front m.old) }
@@ -73,7 +73,7 @@ pub fn table_count<M: Machine, R: Wait>(m: &mut M, rt: &R, table: u8) -> u32
     requires few { table < 8 }
     requires table { HoldsTable (M.sizes m.old) (M.front m.old) table }
     ensures sizes { M.sizes m.new ≡ M.sizes m.old }
-    ensures labels { M.labels_left m.old ≤ M.labels_left m.new }
+    ensures labels { M.labels_left m.new ≡ M.labels_left m.old }
     ensures room { M.ephes_room m.old ≤ M.ephes_room m.new }
     ensures given { refusals (M.front m.new) ≡ refusals (M.front m.old) }
     ensures written { writings (M.front m.new) ≡ writings (M.front m.old) }

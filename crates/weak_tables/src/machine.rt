@@ -6,9 +6,10 @@ ghost use Rattle.heap_model.specs.Domains.{IsWithinLimits, domain_at};
 ghost use Rattle.heap_model.specs.History.{Legal};
 ghost use Rattle.heap_model.specs.Commands.{shown};
 ghost use Rattle.table_laws.specs.Thinning.{state_of};
-ghost use Rattle.table_laws.specs.Performing.{Performed, refusals, full_of, refused_by, writes, writings};
+ghost use Rattle.table_laws.specs.Performing.{Performed, refusals, full_of, writes, writings};
 ghost use Rattle.table_laws.specs.Stages.{held_in};
-ghost use Rattle.weak_tables.specs.Commands.{IsCallCommand, labels_of, ephemerons_of};
+ghost use Rattle.command_counts.specs.Counts.{labels_of, labels_given, ephemerons_of, ephemerons_given};
+ghost use Rattle.weak_tables.specs.Commands.{IsCallCommand};
 
 use heap_model::command::Command;
 use heap_model::reply::Reply;
@@ -45,28 +46,29 @@ pub trait Machine {
         ensures room { ephes_room self.new ≡ ephes_room self.old }
         ensures reply { result ≡ shown (held_in (sizes self.old) (front self.old) r) };
 
-    /// Makes a command. The history grows by entries of the collector and then by this one. It gives out no more labels
-    /// than it makes blocks, and takes no more room for ephemerons than it makes.
+    /// Makes a command. The history grows by entries of the collector and then by this one. It gives out a label exactly
+    /// for the block that it makes, and takes room for the ephemeron that it makes: more room is there only where
+    /// ephemerons were swept.
     fn perform<R: Wait>(&mut self, rt: &R, c: Command) -> Reply
         requires fits { IsCallCommand c }
         requires label { labels_of c ≤ labels_left self.old }
         requires room { ephemerons_of c ≤ ephes_room self.old }
         ensures sizes { sizes self.new ≡ sizes self.old }
-        ensures labels { labels_left self.old ≤ labels_left self.new + labels_of c }
-        ensures room { ephes_room self.old ≤ ephes_room self.new + ephemerons_of c }
+        ensures labels { labels_left self.old ≡ labels_left self.new + labels_given c result }
+        ensures room { ephes_room self.old ≤ ephes_room self.new + ephemerons_given c result }
         ensures performed { Performed (sizes self.old) (front self.old) (front self.new) c result };
 }
 
-// Makes a command: one entry more is refused exactly where it is answered `full`, and only an allocation is.
+// Makes a command: one entry more is refused exactly where it is answered `full`, and an allocation gives out a label or is.
 pub(crate) fn perform<M: Machine, R: Wait>(m: &mut M, rt: &R, c: Command) -> Reply
     requires fits { IsCallCommand c }
     requires label { labels_of c ≤ M.labels_left m.old }
     requires room { ephemerons_of c ≤ M.ephes_room m.old }
     ensures sizes { M.sizes m.new ≡ M.sizes m.old }
-    ensures labels { M.labels_left m.old ≤ M.labels_left m.new + labels_of c }
+    ensures labels { M.labels_left m.old ≡ M.labels_left m.new + labels_given c result }
     ensures room { M.ephes_room m.old ≤ M.ephes_room m.new + ephemerons_of c }
     ensures refused { refusals (M.front m.new) ≡ refusals (M.front m.old) + full_of result }
-    ensures given { full_of result ≡ refused_by c result }
+    ensures given { labels_given c result + full_of result ≡ labels_of c }
     ensures written { writings (M.front m.new) ≡ writings (M.front m.old) + writes c }
     ensures performed { Performed (M.sizes m.old) (M.front m.old) (M.front m.new) c result }
 {

@@ -20,7 +20,7 @@ pub fn table_make<M: Machine, R: Wait>(m: &mut M, rt: &R, dst: u8) -> Reply
     requires few { dst < 8 }
     requires labels { 1 ≤ M.labels_left m.old }
     ensures sizes { M.sizes m.new ≡ M.sizes m.old }
-    ensures labels { M.labels_left m.old ≤ M.labels_left m.new + 1 }
+    ensures labels { M.labels_left m.old + full_of result ≡ M.labels_left m.new + 1 }
     ensures room { M.ephes_room m.old ≤ M.ephes_room m.new }
     ensures refused { refusals (M.front m.new) ≡ refusals (M.front m.old) + full_of result }
     ensures made { MakeAnswers (M.sizes m.old) (M.front m.old) (M.front m.new) dst result }

@@ -7,7 +7,7 @@ ghost use Rattle.table_laws.specs.Structures.{Cell, IsTable, bindings, datum_at,
 ghost use Rattle.table_laws.specs.Performing.{refusals, full_of, writings, is_spared};
 ghost use Rattle.table_laws.specs.Stages.{graph_of, held_in};
 ghost use Rattle.weak_tables.specs.Held.{HoldsTable};
-ghost use Rattle.weak_tables.specs.Walks.{Placed};
+ghost use Rattle.weak_tables.specs.Walks.{CellAnswers, LinksCell, Placed};
 ghost use Rattle.weak_tables.specs.Tables.{GetAnswers, PutAnswers};
 
 use crate::find::Find;
@@ -20,22 +20,17 @@ use heap_model::label::Label;
 use heap_model::reply::Reply;
 use std::sync::Wait;
 
-// Makes a cell without a key, and links it first into the bucket of this one. Where an allocation is refused the table
-// stays as it is.
-fn grow<M: Machine, R: Wait>(m: &mut M, rt: &R, table: u8, label: &Label) -> bool
-    requires few { table < 8 }
+// Makes a cell without a key: its ephemeron in register 8 and its node in register 9. Tells whether neither was refused.
+fn make_cell<M: Machine, R: Wait>(m: &mut M, rt: &R) -> bool
     requires labels { 2 ≤ M.labels_left m.old }
     requires room { 1 ≤ M.ephes_room m.old }
-    requires table { HoldsTable (M.sizes m.old) (M.front m.old) table }
     ensures sizes { M.sizes m.new ≡ M.sizes m.old }
     ensures labels { M.labels_left m.old ≤ M.labels_left m.new + 2 }
     ensures room { M.ephes_room m.old ≤ M.ephes_room m.new + 1 }
     ensures refused { refusals (M.front m.new) ≡ refusals (M.front m.old) + cond result 0 1 }
     ensures written { writings (M.front m.new) ≡ writings (M.front m.old) }
-    ensures placed { (root : labels.Label) (chains : List (List Cell)) → held_in (M.sizes m.old) (M.front m.old) table ≡ Block root → IsTable (graph_of (M.sizes m.old) (M.front m.old)) root chains
-        → datum_at (bindings (graph_of (M.sizes m.old) (M.front m.old)) chains) label.now ≡ None → (full : Bool) → IsTrue full → Placed (M.sizes m.old) (M.front m.old) (M.front m.new) root chains label.now full result }
+    ensures made { CellAnswers (M.sizes m.old) (M.front m.old) (M.front m.new) result }
 {
-    m.stands();
     let ephe = perform(m, rt, Command::Ephe { dst: 8, keys: 1 });
     if is_full(&ephe) {
         return false;
@@ -49,10 +44,19 @@ fn grow<M: Machine, R: Wait>(m: &mut M, rt: &R, table: u8, label: &Label) -> boo
             fields: 2,
         },
     );
-    if is_full(&node) {
-        return false;
-    }
-    let index = bucket_of(label);
+    !is_full(&node)
+}
+
+// Puts the cell in registers 8 and 9 before the others of a bucket.
+fn link_cell<M: Machine, R: Wait>(m: &mut M, rt: &R, table: u8, index: u16)
+    requires few { table < 8 }
+    ensures sizes { M.sizes m.new ≡ M.sizes m.old }
+    ensures labels { M.labels_left m.new ≡ M.labels_left m.old }
+    ensures room { M.ephes_room m.old ≤ M.ephes_room m.new }
+    ensures refused { refusals (M.front m.new) ≡ refusals (M.front m.old) }
+    ensures written { writings (M.front m.new) ≡ writings (M.front m.old) }
+    ensures links { LinksCell (M.sizes m.old) (M.front m.old) (M.front m.new) table index }
+{
     let _first = perform(
         m,
         rt,
@@ -89,6 +93,28 @@ fn grow<M: Machine, R: Wait>(m: &mut M, rt: &R, table: u8, label: &Label) -> boo
             item: 9,
         },
     );
+}
+
+// Makes a cell without a key, and links it first into the bucket of this one. Where an allocation is refused the table
+// stays as it is.
+fn grow<M: Machine, R: Wait>(m: &mut M, rt: &R, table: u8, label: &Label) -> bool
+    requires few { table < 8 }
+    requires labels { 2 ≤ M.labels_left m.old }
+    requires room { 1 ≤ M.ephes_room m.old }
+    requires table { HoldsTable (M.sizes m.old) (M.front m.old) table }
+    ensures sizes { M.sizes m.new ≡ M.sizes m.old }
+    ensures labels { M.labels_left m.old ≤ M.labels_left m.new + 2 }
+    ensures room { M.ephes_room m.old ≤ M.ephes_room m.new + 1 }
+    ensures refused { refusals (M.front m.new) ≡ refusals (M.front m.old) + cond result 0 1 }
+    ensures written { writings (M.front m.new) ≡ writings (M.front m.old) }
+    ensures placed { (root : labels.Label) (chains : List (List Cell)) → held_in (M.sizes m.old) (M.front m.old) table ≡ Block root → IsTable (graph_of (M.sizes m.old) (M.front m.old)) root chains
+        → datum_at (bindings (graph_of (M.sizes m.old) (M.front m.old)) chains) label.now ≡ None → (full : Bool) → IsTrue full → Placed (M.sizes m.old) (M.front m.old) (M.front m.new) root chains label.now full result }
+{
+    m.stands();
+    if !make_cell(m, rt) {
+        return false;
+    }
+    link_cell(m, rt, table, bucket_of(label));
     true
 }
 
@@ -168,7 +194,7 @@ pub fn table_get<M: Machine, R: Wait>(m: &mut M, rt: &R, dst: u8, table: u8, key
     requires few { (dst < 8) × (table < 8) × (key < 8) }
     requires table { HoldsTable (M.sizes m.old) (M.front m.old) table }
     ensures sizes { M.sizes m.new ≡ M.sizes m.old }
-    ensures labels { M.labels_left m.old ≤ M.labels_left m.new }
+    ensures labels { M.labels_left m.new ≡ M.labels_left m.old }
     ensures room { M.ephes_room m.old ≤ M.ephes_room m.new }
     ensures refused { refusals (M.front m.new) ≡ refusals (M.front m.old) + full_of result }
     ensures written { writings (M.front m.new) ≤ writings (M.front m.old) + is_spared dst }

@@ -35,7 +35,7 @@ fn after_all(spare: bool) -> Find
 // Notes the ephemeron of a cell whose key was found empty, if none was noted before: register 8 holds it.
 fn keep_spare<M: Machine, R: Wait>(m: &mut M, rt: &R, found: &Reply, spare: bool) -> bool
     ensures sizes { M.sizes m.new ≡ M.sizes m.old }
-    ensures labels { M.labels_left m.old ≤ M.labels_left m.new }
+    ensures labels { M.labels_left m.new ≡ M.labels_left m.old }
     ensures room { M.ephes_room m.old ≤ M.ephes_room m.new }
     ensures given { refusals (M.front m.new) ≡ refusals (M.front m.old) }
     ensures written { writings (M.front m.new) ≡ writings (M.front m.old) }
@@ -72,7 +72,7 @@ pub(crate) fn search<M: Machine, R: Wait>(
     requires key { held_in (M.sizes m.old) (M.front m.old) key ≡ Block label.now }
     requires table { HoldsTable (M.sizes m.old) (M.front m.old) table }
     ensures sizes { M.sizes m.new ≡ M.sizes m.old }
-    ensures labels { M.labels_left m.old ≤ M.labels_left m.new }
+    ensures labels { M.labels_left m.new ≡ M.labels_left m.old }
     ensures room { M.ephes_room m.old ≤ M.ephes_room m.new }
     ensures given { refusals (M.front m.new) ≡ refusals (M.front m.old) }
     ensures written { writings (M.front m.new) ≡ writings (M.front m.old) }
@@ -149,7 +149,7 @@ pub(crate) fn look_up<M: Machine, R: Wait>(
     requires key { held_in (M.sizes m.old) (M.front m.old) key ≡ Block label.now }
     requires table { HoldsTable (M.sizes m.old) (M.front m.old) table }
     ensures sizes { M.sizes m.new ≡ M.sizes m.old }
-    ensures labels { M.labels_left m.old ≤ M.labels_left m.new }
+    ensures labels { M.labels_left m.new ≡ M.labels_left m.old }
     ensures room { M.ephes_room m.old ≤ M.ephes_room m.new }
     ensures given { refusals (M.front m.new) ≡ refusals (M.front m.old) }
     ensures written { writings (M.front m.new) ≡ writings (M.front m.old) }

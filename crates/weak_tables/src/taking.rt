@@ -18,7 +18,7 @@ use std::sync::Wait;
 // Empties the registers that the calls use between.
 pub(crate) fn clear<M: Machine, R: Wait>(m: &mut M, rt: &R)
     ensures sizes { M.sizes m.new ≡ M.sizes m.old }
-    ensures labels { M.labels_left m.old ≤ M.labels_left m.new }
+    ensures labels { M.labels_left m.new ≡ M.labels_left m.old }
     ensures room { M.ephes_room m.old ≤ M.ephes_room m.new }
     ensures given { refusals (M.front m.new) ≡ refusals (M.front m.old) }
     ensures written { writings (M.front m.new) ≡ writings (M.front m.old) }
@@ -38,7 +38,7 @@ pub fn table_take<M: Machine, R: Wait>(m: &mut M, rt: &R, table: u8, key: u8) ->
     requires few { (table < 8) × (key < 8) }
     requires table { HoldsTable (M.sizes m.old) (M.front m.old) table }
     ensures sizes { M.sizes m.new ≡ M.sizes m.old }
-    ensures labels { M.labels_left m.old ≤ M.labels_left m.new }
+    ensures labels { M.labels_left m.new ≡ M.labels_left m.old }
     ensures room { M.ephes_room m.old ≤ M.ephes_room m.new }
     ensures refused { refusals (M.front m.new) ≡ refusals (M.front m.old) + full_of result }
     ensures written { writings (M.front m.new) ≡ writings (M.front m.old) }

@@ -1,5 +1,5 @@
 use Rattle.std.proofs.Common.{arith}
-use Rattle.tests_of_turns.proofs.Rooms.{one_ephemeron, one_label}
+use Rattle.command_counts.proofs.Few.{one_ephemeron, one_label}
 use Rattle.tests_of_turns.proofs.sessions.made.Goals as goal
 
 pub perform-requires : goal.perform-requires

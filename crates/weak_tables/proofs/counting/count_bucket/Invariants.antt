@@ -10,7 +10,7 @@ use Rattle.weak_tables.proofs.counting.count_bucket.Given as goal
 abbrev pub invariant-cells : goal.invariant-cells
 invariant-cells g l = record {
   same : g.M.Machine.sizes l.m ≡ g.M.Machine.sizes l.fn.m;
-  labels : g.M.Machine.labels_left l.fn.m ≤ g.M.Machine.labels_left l.m;
+  labels : g.M.Machine.labels_left l.m ≡ g.M.Machine.labels_left l.fn.m;
   room : g.M.Machine.ephes_room l.fn.m ≤ g.M.Machine.ephes_room l.m;
   given : refusals (g.M.Machine.front l.m) ≡ refusals (g.M.Machine.front l.fn.m);
   written : writings (g.M.Machine.front l.m) ≡ writings (g.M.Machine.front l.fn.m);

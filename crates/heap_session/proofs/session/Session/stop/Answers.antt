@@ -5,7 +5,7 @@ use Rattle.heap_model.specs.History.{Legal}
 use Rattle.heap_rule.specs.Ending.{AllBegin}
 use Rattle.heap_rule.specs.Limits.{sizes_in}
 use Rattle.heap_rule.specs.Token.{Token}
-use Rattle.heap_session.specs.Performing.{StopsAfter}
+use Rattle.heap_session.specs.Stopping.{StopsAfter}
 use Rattle.heap_session.specs.Sessions.{SessionView}
 use Rattle.heap_session.proofs.Collectors.{stops}
 use Rattle.heap_session.proofs.Driven.{closed}

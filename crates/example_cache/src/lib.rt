@@ -1,0 +1,15 @@
+//! An example of a program of one's own on a heap session: a cache with a bounded number of entries, each of a key that
+//! the program holds in a register. An entry stays as long as its key does, and goes once the key is gone.
+//!
+//! ```text
+//! let mut cache = Cache::make(rt, Session::make(alloc, 4096, 64, 100)?, 100)?;
+//! cache.new_key(rt, 1);
+//! cache.insert(rt, 1, 0);
+//! cache.let_go(rt, 1);
+//! cache.collect(rt);
+//! ```
+#![tactic(auto)]
+
+mod cache;
+
+pub use cache::{Cache, Inserted};

@@ -1,0 +1,16 @@
+-- What the end of a session makes of the history.
+use Rattle.std.specs.Prelude.{◌≡◌, List, [], ◌∷◌, ◌++◌}
+use Rattle.heap_model.specs.declared.entry.Entry.{Entry}
+use Rattle.heap_model.specs.declared.entry.Entry.TheVariants.{End}
+use Rattle.heap_model.specs.declared.state.Sizes.{Sizes}
+use Rattle.heap_model.specs.History.{Legal}
+use Rattle.table_laws.specs.Thinning.{AllCollector}
+
+-- the history of an ended heap is a front, then entries of the collector, the end of the one trace, and entries of the collector
+pub record StopsAfter (z : Sizes) (front history : List Entry) : Type 0 where
+  pub before : List Entry
+  pub after : List Entry
+  pub collector : AllCollector before
+  pub last : AllCollector after
+  pub appends : history ≡ (front ++ before ++ End 0 ∷ []) ++ after
+  pub legal : Legal z history
