@@ -31,7 +31,8 @@ use Rattle.table_text.specs.declared.line.TableLine.{TableLine}
 use Rattle.table_text.specs.declared.line.TableLine.TheVariants as line
 use Rattle.table_machine.specs.declared.reply.LineReply.{LineReply}
 use Rattle.table_machine.specs.declared.reply.LineReply.TheVariants as reply
-use Rattle.table_machine.specs.Machine.{TableState, MayGo, IsLost, Holds, key_in, with_key, WithKey, Shows, ReadsSlot, Effect, LineStep}
+use Rattle.table_machine.specs.Machine.{TableState, MayGo, IsLost, Holds, key_in, with_key, WithKey, Shows, ReadsSlot}
+use Rattle.table_run.specs.Steps.{Effect, LineStep}
 use Rattle.table_run.specs.Standing.{Places, Shown, Stands, AreInts}
 use Rattle.table_run.specs.Running.{LineRuns, LineDone, full_in, said}
 use Rattle.table_run.proofs.MachineLemmas.{may_same, datum_int, place_holds}

@@ -5,3 +5,5 @@ pub mod StandLemmas
 pub mod LineLemmas
 pub mod CallLemmas
 pub mod OwnLemmas
+pub mod LinesLemmas
+pub mod TextLemmas

@@ -19,7 +19,8 @@ use Rattle.table_text.specs.declared.line.TableLine.{TableLine}
 use Rattle.table_text.specs.declared.line.TableLine.TheVariants as line
 use Rattle.table_machine.specs.declared.reply.LineReply.{LineReply}
 use Rattle.table_machine.specs.declared.reply.LineReply.TheVariants as reply
-use Rattle.table_machine.specs.Machine.{TableState, MayGo, IsLost, IsNew, Holds, key_in, with_key, LineStep, MayBeRefused}
+use Rattle.table_machine.specs.Machine.{TableState, MayGo, IsLost, IsNew, Holds, key_in, with_key, MayBeRefused}
+use Rattle.table_run.specs.Steps.{LineStep}
 use Rattle.table_run.specs.Standing.{Places, Shown, Stands, IsKnown, key_node}
 use Rattle.table_run.specs.Running.{LineDone, full_in}
 use Rattle.table_run.proofs.MachineLemmas.{known_before}

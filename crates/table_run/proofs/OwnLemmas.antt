@@ -32,7 +32,8 @@ use Rattle.table_text.specs.declared.line.TableLine.{TableLine}
 use Rattle.table_text.specs.declared.line.TableLine.TheVariants as line
 use Rattle.table_machine.specs.declared.reply.LineReply.{LineReply}
 use Rattle.table_machine.specs.declared.reply.LineReply.TheVariants as reply
-use Rattle.table_machine.specs.Machine.{TableState, MayGo, IsLost, Holds, key_in, WithKey, Deletes, Binds, Effect, LineStep, MayBeRefused}
+use Rattle.table_machine.specs.Machine.{TableState, MayGo, IsLost, Holds, key_in, WithKey, Deletes, Binds, MayBeRefused}
+use Rattle.table_run.specs.Steps.{Effect, LineStep}
 use Rattle.table_run.specs.Standing.{Places, Shown, Stands, IsKnown, key_node, AreInts}
 use Rattle.table_run.specs.Running.{LineDone, full_in, said}
 use Rattle.table_run.proofs.MachineLemmas.{may_same, known_before, key_kept, slot_kept, thinned_ints, ints_without, ints_with, place_holds}

@@ -21,7 +21,8 @@ use Rattle.table_laws.proofs.StageLemmas.{prefix_trans}
 use Rattle.weak_tables.specs.Held.{KeepsOthers, IsClean}
 use Rattle.table_text.specs.declared.line.TableLine.{TableLine}
 use Rattle.table_machine.specs.declared.reply.LineReply.{LineReply}
-use Rattle.table_machine.specs.Machine.{TableState, MayGo, IsLost, Holds, key_in, LineStep}
+use Rattle.table_machine.specs.Machine.{TableState, MayGo, IsLost, Holds, key_in}
+use Rattle.table_run.specs.Steps.{LineStep}
 use Rattle.table_run.specs.Standing.{Places, Shown, Stands, IsKnown, key_node, AreInts}
 use Rattle.table_run.specs.Running.{LineRuns, LineDone, full_in}
 use Rattle.table_run.proofs.MachineLemmas.{may_same, may_twice, known_before, thinned_ints, holds_place, place_holds}

@@ -10,7 +10,8 @@ use Rattle.table_text.specs.declared.line.TableLine.{TableLine}
 use Rattle.table_text.specs.declared.line.TableLine.TheVariants.{Put}
 use Rattle.table_machine.specs.declared.reply.LineReply.{LineReply}
 use Rattle.table_machine.specs.declared.reply.LineReply.TheVariants as reply
-use Rattle.table_machine.specs.Machine.{TableState, MayGo, LineStep, all_made, opened}
+use Rattle.table_machine.specs.Machine.{TableState, MayGo, all_made, opened}
+use Rattle.table_run.specs.Steps.{LineStep}
 use Rattle.table_run.specs.Standing.{Places, Shown, Stands}
 
 -- 1 for the reply `full`
@@ -86,3 +87,18 @@ pub record Begins (z : Sizes) (h : List Entry) : Type 0 where
   pub places : Places
   pub stands : Stands z places opened h
   pub none : refusals h ≡ 0
+
+-- so many lines of a text were run, and the heap stands for what is left of the machine since
+pub record RanTo (z : Sizes) (lines : List TableLine) (replies : List LineReply) (now : List Entry) : Type 0 where
+  pub places : Places
+  pub first : List Entry
+  pub begins : Shown z places opened first
+  pub none : refusals first ≡ 0
+  pub state : TableState
+  pub last : List Entry
+  pub lines_run : LinesRun z places [] opened first lines replies state last
+  pub until : IsPrefix last now
+  pub given : refusals now ≡ refusals last
+  pub left : TableState
+  pub goes : MayGo state left
+  pub stands : Stands z places left now

@@ -58,7 +58,7 @@ module _ (z : Sizes) (root : Label) (slots : List Label) where
   reads_cleared : (first old new : List Entry) → ReadsArray z first old root slots → Cleared z old new → ReadsArray z first new root slots
   reads_cleared first old new x c = reads_on first c.second new _ (reads_on first c.first c.second _ (reads_on first old c.first _ x c.eight) c.nine) c.ten
 
-past_end : (slots : List Label) (i : ℕ) → slice_get slots i ≡ None → length slots ≤ i
+pub past_end : (slots : List Label) (i : ℕ) → slice_get slots i ≡ None → length slots ≤ i
 past_end [] i none = omega arith
 past_end (x ∷ slots) zero none = cc
 past_end (x ∷ slots) (suc i) none = let rest = past_end slots i none in omega arith
@@ -77,7 +77,7 @@ weak_parts (Some (Ephe (key ∷ []) datum)) w = (key, datum, refl)
 weak_parts (Some (Ephe (key ∷ other ∷ keys) datum)) w = cc
 
 -- a slot's key stays where it isn't one that may be taken
-emptied_stays : (P : Label → Type 0) (i : ℕ) (a b : List (Option Label)) (key : Option Label) → EmptiedBy P a b → ((k : Label) → key ≡ Some k → P k → ⊥) → slice_get a i ≡ Some key → slice_get b i ≡ Some key
+pub emptied_stays : (P : Label → Type 0) (i : ℕ) (a b : List (Option Label)) (key : Option Label) → EmptiedBy P a b → ((k : Label) → key ≡ Some k → P k → ⊥) → slice_get a i ≡ Some key → slice_get b i ≡ Some key
 emptied_stays P i [] b key e kept at = cc
 emptied_stays P zero (x ∷ a) b key (now, rest, is, inl same, later) kept at = let first : x ≡ key = cc in ap (λ (ks : List (Option Label)). slice_get ks 0) is ∙ ap Some (same ∙ first)
 emptied_stays P zero (x ∷ a) b key (now, rest, is, inr (none, (k, was, gone)), later) kept at = absurd (let first : x ≡ key = cc in kept k (sym first ∙ was) gone)
