@@ -1,7 +1,7 @@
 // What each line does. Register 6 holds the table and register 7 the weak array; register 0 is used between.
 ghost use Rattle.std.specs.Prelude.{◌≡◌, ◌+◌, ◌<◌, ◌≤◌, true};
 ghost use Rattle.heap_model.specs.declared.reply.Reply.TheVariants as variant;
-ghost use Rattle.table_text.specs.declared.line.TableLine as declared_line;
+ghost use Rattle.table_text.specs.declared.line.TableLine.TheVariants as line_of;
 ghost use Rattle.table_text.specs.Forms.{is_writable};
 ghost use Rattle.table_machine.specs.Machine.{made_by};
 ghost use Rattle.table_run.specs.Standing.{IsStanding};
@@ -29,7 +29,7 @@ fn make_key<M: Machine, R: Wait>(m: &mut M, rt: &R, reg: u8) -> LineReply
     ensures sizes { M.sizes m.new ≡ M.sizes m.old }
     ensures labels { M.labels_left m.old ≤ M.labels_left m.new + 1 }
     ensures room { M.ephes_room m.old ≤ M.ephes_room m.new }
-    ensures runs { LineAnswers (M.sizes m.old) (M.labels_left m.old) (declared_line.TheVariants.Key reg) (M.front m.old) result (M.front m.new) }
+    ensures runs { LineAnswers (M.sizes m.old) (M.labels_left m.old) (line_of.Key reg) (M.front m.old) result (M.front m.new) }
 {
     m.stands();
     let key = m.perform(
@@ -53,7 +53,7 @@ fn forget<M: Machine, R: Wait>(m: &mut M, rt: &R, reg: u8) -> LineReply
     ensures sizes { M.sizes m.new ≡ M.sizes m.old }
     ensures labels { M.labels_left m.old ≤ M.labels_left m.new }
     ensures room { M.ephes_room m.old ≤ M.ephes_room m.new }
-    ensures runs { LineAnswers (M.sizes m.old) (M.labels_left m.old) (declared_line.TheVariants.Forget reg) (M.front m.old) result (M.front m.new) }
+    ensures runs { LineAnswers (M.sizes m.old) (M.labels_left m.old) (line_of.Forget reg) (M.front m.old) result (M.front m.new) }
 {
     m.stands();
     let _nothing = m.perform(rt, Command::Forget { dst: reg });
@@ -62,14 +62,15 @@ fn forget<M: Machine, R: Wait>(m: &mut M, rt: &R, reg: u8) -> LineReply
 
 // The key in a register is bound to a value.
 fn put<M: Machine, R: Wait>(m: &mut M, rt: &R, reg: u8, value: i64) -> LineReply
-    requires fits { is_writable (declared_line.TheVariants.Put reg value) ≡ true }
+    requires register { (1 ≤ reg) × (reg ≤ 5) }
+    requires fits { is_writable (line_of.Put reg value) ≡ true }
     requires labels { 2 ≤ M.labels_left m.old }
     requires room { 1 ≤ M.ephes_room m.old }
     requires stands { IsStanding (M.sizes m.old) (M.front m.old) }
     ensures sizes { M.sizes m.new ≡ M.sizes m.old }
     ensures labels { M.labels_left m.old ≤ M.labels_left m.new + 2 }
     ensures room { M.ephes_room m.old ≤ M.ephes_room m.new + 1 }
-    ensures runs { LineAnswers (M.sizes m.old) (M.labels_left m.old) (declared_line.TheVariants.Put reg value) (M.front m.old) result (M.front m.new) }
+    ensures runs { LineAnswers (M.sizes m.old) (M.labels_left m.old) (line_of.Put reg value) (M.front m.old) result (M.front m.new) }
 {
     m.stands();
     let _value = m.perform(rt, Command::PutInt { dst: 0, value });
@@ -85,7 +86,7 @@ fn get<M: Machine, R: Wait>(m: &mut M, rt: &R, reg: u8) -> LineReply
     ensures sizes { M.sizes m.new ≡ M.sizes m.old }
     ensures labels { M.labels_left m.old ≤ M.labels_left m.new }
     ensures room { M.ephes_room m.old ≤ M.ephes_room m.new }
-    ensures runs { LineAnswers (M.sizes m.old) (M.labels_left m.old) (declared_line.TheVariants.Get reg) (M.front m.old) result (M.front m.new) }
+    ensures runs { LineAnswers (M.sizes m.old) (M.labels_left m.old) (line_of.Get reg) (M.front m.old) result (M.front m.new) }
 {
     m.stands();
     let reply = table_get(m, rt, 0, TABLE, reg);
@@ -99,7 +100,7 @@ fn delete<M: Machine, R: Wait>(m: &mut M, rt: &R, reg: u8) -> LineReply
     ensures sizes { M.sizes m.new ≡ M.sizes m.old }
     ensures labels { M.labels_left m.old ≤ M.labels_left m.new }
     ensures room { M.ephes_room m.old ≤ M.ephes_room m.new }
-    ensures runs { LineAnswers (M.sizes m.old) (M.labels_left m.old) (declared_line.TheVariants.Del reg) (M.front m.old) result (M.front m.new) }
+    ensures runs { LineAnswers (M.sizes m.old) (M.labels_left m.old) (line_of.Del reg) (M.front m.old) result (M.front m.new) }
 {
     m.stands();
     let reply = table_take(m, rt, TABLE, reg);
@@ -114,7 +115,7 @@ fn set_slot<M: Machine, R: Wait>(m: &mut M, rt: &R, slot: u8, reg: u8) -> LineRe
     ensures sizes { M.sizes m.new ≡ M.sizes m.old }
     ensures labels { M.labels_left m.old ≤ M.labels_left m.new }
     ensures room { M.ephes_room m.old ≤ M.ephes_room m.new }
-    ensures runs { LineAnswers (M.sizes m.old) (M.labels_left m.old) (declared_line.TheVariants.SetWeak slot reg) (M.front m.old) result (M.front m.new) }
+    ensures runs { LineAnswers (M.sizes m.old) (M.labels_left m.old) (line_of.SetWeak slot reg) (M.front m.old) result (M.front m.new) }
 {
     m.stands();
     let reply = weak_set(m, rt, ARRAY, u16::from(slot), reg);
@@ -129,7 +130,7 @@ fn get_slot<M: Machine, R: Wait>(m: &mut M, rt: &R, dst: u8, slot: u8) -> LineRe
     ensures sizes { M.sizes m.new ≡ M.sizes m.old }
     ensures labels { M.labels_left m.old ≤ M.labels_left m.new }
     ensures room { M.ephes_room m.old ≤ M.ephes_room m.new }
-    ensures runs { LineAnswers (M.sizes m.old) (M.labels_left m.old) (declared_line.TheVariants.GetWeak dst slot) (M.front m.old) result (M.front m.new) }
+    ensures runs { LineAnswers (M.sizes m.old) (M.labels_left m.old) (line_of.GetWeak dst slot) (M.front m.old) result (M.front m.new) }
 {
     m.stands();
     let reply = weak_get(m, rt, 0, ARRAY, u16::from(slot));
@@ -143,7 +144,7 @@ fn count<M: Machine, R: Wait>(m: &mut M, rt: &R) -> LineReply
     ensures sizes { M.sizes m.new ≡ M.sizes m.old }
     ensures labels { M.labels_left m.old ≤ M.labels_left m.new }
     ensures room { M.ephes_room m.old ≤ M.ephes_room m.new }
-    ensures runs { LineAnswers (M.sizes m.old) (M.labels_left m.old) declared_line.TheVariants.Count (M.front m.old) result (M.front m.new) }
+    ensures runs { LineAnswers (M.sizes m.old) (M.labels_left m.old) line_of.Count (M.front m.old) result (M.front m.new) }
 {
     m.stands();
     LineReply::Counted(table_count(m, rt, TABLE))
@@ -154,7 +155,7 @@ fn collect<M: Machine, R: Wait>(m: &mut M, rt: &R) -> LineReply
     ensures sizes { M.sizes m.new ≡ M.sizes m.old }
     ensures labels { M.labels_left m.old ≤ M.labels_left m.new }
     ensures room { M.ephes_room m.old ≤ M.ephes_room m.new }
-    ensures runs { LineAnswers (M.sizes m.old) (M.labels_left m.old) declared_line.TheVariants.FullMajor (M.front m.old) result (M.front m.new) }
+    ensures runs { LineAnswers (M.sizes m.old) (M.labels_left m.old) line_of.FullMajor (M.front m.old) result (M.front m.new) }
 {
     m.stands();
     let _nothing = m.perform(rt, Command::Forget { dst: 0 });
