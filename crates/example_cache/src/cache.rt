@@ -1,9 +1,13 @@
 //! A cache, and its calls.
-ghost use Rattle.std.specs.Prelude.{◌≡◌, ◌<◌, IfOk, None, true};
+ghost use Rattle.std.specs.Prelude.{◌≡◌, ◌<◌, ◌≤◌, ◌-◌, ℕ, IfOk, None, true};
+ghost use Rattle.command_counts.specs.Counts.{labels_of};
+ghost use Rattle.heap_model.specs.Domains.{IsWithinLimits};
+ghost use Rattle.heap_rule.specs.Limits.{sizes_in};
+ghost use Rattle.table_laws.specs.Performing.{Performed};
 ghost use Rattle.heap_model.specs.declared.graph.Value.TheVariants as value;
 ghost use Rattle.heap_model.specs.declared.label.Label as labels;
 ghost use Rattle.heap_model.specs.Graph.{label_of};
-ghost use Rattle.example_cache.specs.Caching.{ForgetAnswers, GetAnswers, Holds, InsertAnswers, KeepsAll, holds};
+ghost use Rattle.example_cache.specs.Caching.{Counts, ForgetAnswers, GetAnswers, HasEntries, Holds, InsertAnswers, KeepsAll, KeepsRegisters, PutAnswers, SparesTable, holds, entry_of as entry_shown, inserted_of as inserted_by, is_for_key as shows_key};
 
 use heap_model::command::Command;
 use heap_model::reply::Reply;
@@ -49,6 +53,34 @@ impl Model for Cache {
     ghost invariant = { λ c. IsCache (record { session = c.session; most = c.most }) };
 }
 
+// The entry that a reply shows, if it shows one.
+fn entry_of(reply: Reply) -> Option<Reply>
+    ensures { result ≡ entry_shown reply }
+{
+    match reply {
+        Reply::BadType | Reply::Empty => None,
+        _ => Some(reply),
+    }
+}
+
+// Whether a reply says that a register held a key.
+fn is_for_key(reply: &Reply) -> bool
+    ensures { result ≡ shows_key reply.now }
+{
+    !matches!(reply, Reply::BadType)
+}
+
+// What the reply of a put says of it.
+fn inserted_of(reply: &Reply) -> Inserted
+    ensures { result ≡ inserted_by reply.now }
+{
+    match reply {
+        Reply::BadType => Inserted::NoKey,
+        Reply::Full => Inserted::NoRoom,
+        _ => Inserted::Stored,
+    }
+}
+
 impl Cache {
     /// An empty cache of at most so many entries. Hands the heap back where it has no room for the table.
     pub fn make<R: Wait>(rt: &R, session: Session, most: u32) -> Result<Cache, Session>
@@ -56,6 +88,7 @@ impl Cache {
         ensures empty { IfOk result (λ c. (k : labels.Label) → Holds c k None) }
     {
         let mut session = session;
+        session.is_legal();
         if session.labels_left() < 1 {
             return Err(session);
         }
@@ -79,7 +112,7 @@ impl Cache {
             tag: 0,
             fields: 1,
         };
-        matches!(self.session.perform(rt, key), Reply::Block(_))
+        matches!(self.make_spare(rt, key), Reply::Block(_))
     }
 
     /// Lets go of what a register below 7 holds.
@@ -88,14 +121,14 @@ impl Cache {
         ensures none { holds self.new r ≡ value.Nothing }
         ensures entries { KeepsAll self.old self.new }
     {
-        self.session.perform(rt, Command::Forget { dst: r });
+        self.make_spare(rt, Command::Forget { dst: r });
     }
 
     /// Has the heap collect all that can't be reached.
     pub fn collect<R: Wait>(&mut self, rt: &R)
         ensures entries { KeepsAll self.old self.new }
     {
-        self.session.perform(rt, Command::FullMajor);
+        self.make_spare(rt, Command::FullMajor);
     }
 
     /// Puts an entry: of the key in one register what the other holds. Registers are below 7.
@@ -103,17 +136,10 @@ impl Cache {
         requires few { (key < 7) × (item < 7) }
         ensures answers { InsertAnswers self.old self.new (label_of (holds self.old key)) (holds self.old item) result }
     {
-        if self.session.labels_left() < 2 || self.session.ephes_room() < 1 {
-            return Inserted::NoRoom;
-        }
-        if table_count(&mut self.session, rt, TABLE) >= self.most {
+        if self.count(rt) >= self.most {
             return Inserted::AtBound;
         }
-        match table_put(&mut self.session, rt, TABLE, key, item) {
-            Reply::BadType => Inserted::NoKey,
-            Reply::Full => Inserted::NoRoom,
-            _ => Inserted::Stored,
-        }
+        self.put(rt, key, item)
     }
 
     /// The entry of the key in a register, which goes into another and is shown, or none. Registers are below 7.
@@ -122,10 +148,8 @@ impl Cache {
         ensures answers { GetAnswers self.old self.new (label_of (holds self.old key)) result }
         ensures entries { KeepsAll self.old self.new }
     {
-        match table_get(&mut self.session, rt, dst, TABLE, key) {
-            Reply::BadType | Reply::Empty => None,
-            entry => Some(entry),
-        }
+        self.session.is_legal();
+        entry_of(table_get(&mut self.session, rt, dst, TABLE, key))
     }
 
     /// Forgets the entry of the key in a register below 7, if there is one. Answers whether the register holds a key.
@@ -133,6 +157,43 @@ impl Cache {
         requires few { key < 7 }
         ensures answers { ForgetAnswers self.old self.new (label_of (holds self.old key)) result }
     {
-        table_take(&mut self.session, rt, TABLE, key) != Reply::BadType
+        self.session.is_legal();
+        is_for_key(&table_take(&mut self.session, rt, TABLE, key))
+    }
+
+    // Makes a command that spares the table.
+    fn make_spare<R: Wait>(&mut self, rt: &R, command: Command) -> Reply
+        requires spares { SparesTable command }
+        requires label { labels_of command ≤ 4294967295 - self.old.session.labels }
+        ensures limits { IsWithinLimits (sizes_in self.old.session.config) }
+        ensures sizes { sizes_in self.new.session.config ≡ sizes_in self.old.session.config }
+        ensures performed { Performed (sizes_in self.old.session.config) self.old.session.front self.new.session.front command result }
+        ensures entries { KeepsAll self.old self.new }
+    {
+        self.session.is_legal();
+        self.session.perform(rt, command)
+    }
+
+    // Counts the entries.
+    fn count<R: Wait>(&mut self, rt: &R) -> u32
+        ensures counts { Counts self.old self.new result }
+        ensures registers { KeepsRegisters self.old self.new }
+        ensures entries { KeepsAll self.old self.new }
+    {
+        self.session.is_legal();
+        table_count(&mut self.session, rt, TABLE)
+    }
+
+    // Puts an entry into a cache that has fewer than it may have.
+    fn put<R: Wait>(&mut self, rt: &R, key: u8, item: u8) -> Inserted
+        requires few { (key < 7) × (item < 7) }
+        requires fewer { (count : ℕ) × HasEntries (sizes_in self.old.session.config) self.old.session.front count × (count < self.old.most) }
+        ensures answers { PutAnswers self.old self.new (label_of (holds self.old key)) (holds self.old item) result }
+    {
+        self.session.is_legal();
+        if self.session.labels_left() < 2 || self.session.ephes_room() < 1 {
+            return Inserted::NoRoom;
+        }
+        inserted_of(&table_put(&mut self.session, rt, TABLE, key, item))
     }
 }

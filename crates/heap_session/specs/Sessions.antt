@@ -1,5 +1,5 @@
 -- A session as its callers see it.
-use Rattle.std.specs.Prelude.{◌≡◌, ℕ, ◌+◌, ◌<◌, ◌≤◌, ◌^◌, List}
+use Rattle.std.specs.Prelude.{◌≡◌, ℕ, ◌-◌, ◌≤◌, List}
 use Rattle.heap_model.specs.declared.command.Command.{Command}
 use Rattle.heap_model.specs.declared.entry.Entry.{Entry}
 use Rattle.heap_rule.specs.declared.config.Config.{Config}
@@ -21,4 +21,4 @@ pub record MayPerform (s : SessionView) (c : Command) : Type 0 where
   pub fits : FitsHeap c
   pub registers_none : registrations_of c ≡ 0
   pub room : ephemerons_of c ≤ s.room
-  pub labels : s.labels + labels_of c < 2 ^ 32
+  pub labels : labels_of c ≤ 4294967295 - s.labels

@@ -115,6 +115,7 @@ impl Session {
         ensures performed { Performed (sizes_in self.old.config) self.old.front self.new.front command result }
     {
         let _limits = self.heap.config();
+        let _left = self.labels_left();
         self.run.submit(command);
         await_answer(rt, &self.heap, &mut self.run)
     }

@@ -27,7 +27,6 @@ impl Machine for Session {
     }
 
     fn perform<R: Wait>(&mut self, rt: &R, c: Command) -> Reply {
-        self.labels_left();
         Session::perform(self, rt, c)
     }
 }

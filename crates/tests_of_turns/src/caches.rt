@@ -1,0 +1,37 @@
+//! A cache of the example crate: its entries go with their keys, and it has no more than it may.
+use crate::fixtures::same;
+use example_cache::{Cache, Inserted};
+use heap_model::label::Label;
+use heap_model::reply::Reply;
+use heap_session::Session;
+use std::test::Fail;
+
+// The shared block, which register 0 holds.
+const SHARED: Reply = Reply::Block(Label {
+    domain: 0,
+    serial: 0,
+});
+
+#[test]
+fn entries_go_with_their_keys(rt: HostRuntime) -> Result<(), Fail> {
+    let session = Session::make(rt.alloc(), 4096, 20, 4)?;
+    let Ok(mut cache) = Cache::make(&rt, session, 2) else {
+        return Err(Fail::from("no room for the table"));
+    };
+    for key in 1..4u8 {
+        same(&rt, cache.new_key(&rt, key), true);
+    }
+    same(&rt, cache.insert(&rt, 1, 0), Inserted::Stored);
+    same(&rt, cache.insert(&rt, 2, 0), Inserted::Stored);
+    same(&rt, cache.insert(&rt, 3, 0), Inserted::AtBound);
+    same(&rt, cache.get(&rt, 4, 1), Some(SHARED));
+    same(&rt, cache.insert(&rt, 5, 0), Inserted::AtBound);
+    cache.let_go(&rt, 2);
+    cache.collect(&rt);
+    same(&rt, cache.insert(&rt, 5, 0), Inserted::NoKey);
+    same(&rt, cache.insert(&rt, 3, 0), Inserted::Stored);
+    same(&rt, cache.forget(&rt, 1), true);
+    same(&rt, cache.get(&rt, 4, 1), None);
+    same(&rt, cache.get(&rt, 4, 3), Some(SHARED));
+    Ok(())
+}
