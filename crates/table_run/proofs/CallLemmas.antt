@@ -1,20 +1,19 @@
 -- The lines of one call that writes no block: a look-up, a key that isn't bound, a slot that is read, and a count.
-use Rattle.std.proofs.Common.{◌≡◌, ◌≢◌, ◌⊎◌, inl, inr, ⊎_elim, ℕ, zero, suc, ◌+◌, ◌-◌, ◌<◌, ◌≤◌, ℤ, false, true, IsTrue, List, [], ◌∷◌, ◌++◌, length, get_or, set, slice_get, Option, Some, None, refl, ap, sym, ◌∙◌, subst, arith}
+use Rattle.std.proofs.Common.{◌≡◌, inl, ℕ, ◌+◌, ◌-◌, ◌≤◌, ℤ, List, [], ◌∷◌, ◌++◌, Option, Some, None, refl, ap, sym, ◌∙◌, subst, arith}
 use Rattle.heap_model.specs.declared.label.Label.{Label}
 use Rattle.heap_model.specs.declared.entry.Entry.{Entry}
 use Rattle.heap_model.specs.declared.reply.Reply.{Reply}
 use Rattle.heap_model.specs.declared.reply.Reply.TheVariants as given
 use Rattle.heap_model.specs.declared.graph.Value.{Value}
 use Rattle.heap_model.specs.declared.graph.Value.TheVariants.{Int, Block, Nothing}
-use Rattle.heap_model.specs.declared.graph.Node.{Node}
 use Rattle.heap_model.specs.declared.state.Sizes.{Sizes}
-use Rattle.heap_model.specs.Graph.{label_of, node_at}
+use Rattle.heap_model.specs.Graph.{label_of}
 use Rattle.heap_model.specs.Domains.{IsWithinLimits}
 use Rattle.heap_model.specs.Commands.{key_value, shown}
 use Rattle.heap_model.specs.History.{IsPrefix}
-use Rattle.table_laws.specs.Structures.{Binding, Cell, bindings, datum_at, slot_keys, IsTable, IsWeakArray}
-use Rattle.table_laws.specs.Thinning.{EmptiedBy, WasOutside, Went}
-use Rattle.table_laws.specs.Performing.{After, refusals, registers_of, writings, full_of}
+use Rattle.table_laws.specs.Structures.{bindings, datum_at, slot_keys, IsTable, IsWeakArray}
+use Rattle.table_laws.specs.Thinning.{WasOutside}
+use Rattle.table_laws.specs.Performing.{refusals, writings, full_of}
 use Rattle.table_laws.specs.Stages.{Goes, graph_of, held_in}
 use Rattle.table_laws.proofs.BindingLemmas.{thinned_datum, thinned_more}
 use Rattle.table_laws.proofs.ArrayLemmas.{emptied_more}
@@ -22,23 +21,20 @@ use Rattle.table_laws.proofs.ChangeLemmas.{table_kept, bindings_thinned, array_k
 use Rattle.table_laws.proofs.RefusalLemmas.{refusals-append}
 use Rattle.table_laws.proofs.WritingLemmas.{writings-append}
 use Rattle.table_laws.proofs.LawLemmas.{keys_emptied}
-use Rattle.table_laws.proofs.StageLemmas.{since_outside, prefix_trans}
+use Rattle.table_laws.proofs.StageLemmas.{since_outside}
 use Rattle.weak_tables.specs.Commands.{value_of}
-use Rattle.weak_tables.specs.Held.{KeepsOthers, IsClean}
 use Rattle.weak_tables.specs.Tables.{Gets, GetAnswers, Counts}
-use Rattle.weak_tables.specs.Arrays.{GetsSlot}
 use Rattle.table_text.specs.declared.line.TableLine.{TableLine}
 use Rattle.table_text.specs.declared.line.TableLine.TheVariants as line
 use Rattle.table_machine.specs.declared.reply.LineReply.{LineReply}
 use Rattle.table_machine.specs.declared.reply.LineReply.TheVariants as reply
-use Rattle.table_machine.specs.Machine.{TableState, MayGo, IsLost, Holds, key_in, with_key, WithKey, Shows, ReadsSlot}
+use Rattle.table_machine.specs.Machine.{TableState, MayGo, IsLost, key_in, WithKey, Shows}
 use Rattle.table_run.specs.Steps.{Effect, LineStep}
-use Rattle.table_run.specs.Standing.{Places, Shown, Stands, AreInts}
-use Rattle.table_run.specs.Running.{LineRuns, LineDone, full_in, said}
+use Rattle.table_run.specs.Standing.{Places, Shown, Stands}
+use Rattle.table_run.specs.Running.{LineDone, full_in, said}
 use Rattle.table_run.proofs.MachineLemmas.{may_same, datum_int, place_holds}
 use Rattle.table_run.proofs.RegisterLemmas.{register_at}
 use Rattle.table_run.proofs.StandLemmas.{outside_lost, others_clean, keeps_high, left_with, frame_goes, frame_same, line_ends}
-use Rattle.table_run.proofs.LineLemmas.{after_with, after_goes, stands_set}
 
 label_key : (o : Option Label) → label_of (key_value o) ≡ o
 label_key None = refl

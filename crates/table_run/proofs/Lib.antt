@@ -5,5 +5,6 @@ pub mod StandLemmas
 pub mod LineLemmas
 pub mod CallLemmas
 pub mod OwnLemmas
+pub mod ValueLemmas
 pub mod LinesLemmas
 pub mod TextLemmas

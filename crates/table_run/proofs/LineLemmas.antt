@@ -1,12 +1,12 @@
 -- The lines of one command: a key is made, forgotten or copied, and a register that isn't the machine's is written.
-use Rattle.std.proofs.Common.{◌≡◌, ◌≢◌, ◌⊎◌, inl, inr, ⊎_elim, ℕ, zero, suc, ◌+◌, ◌-◌, ◌<◌, ◌≤◌, false, true, IsTrue, List, [], ◌∷◌, ◌++◌, length, get_or, set, slice_get, Option, Some, None, refl, ap, sym, ◌∙◌, subst, arith, length-set, get_or-set_same, get_or-set_other}
+use Rattle.std.proofs.Common.{◌≡◌, ◌≢◌, ◌⊎◌, inl, inr, ⊎_elim, ℕ, zero, suc, ◌+◌, ◌-◌, ◌≤◌, List, [], ◌∷◌, get_or, set, Option, Some, None, refl, ap, sym, ◌∙◌, subst, arith, length-set, get_or-set_same, get_or-set_other}
 use Rattle.heap_model.specs.declared.label.Label.{Label}
 use Rattle.heap_model.specs.declared.entry.Entry.{Entry}
 use Rattle.heap_model.specs.declared.graph.Value.{Value}
-use Rattle.heap_model.specs.declared.graph.Value.TheVariants.{Int, Block, Nothing}
+use Rattle.heap_model.specs.declared.graph.Value.TheVariants.{Block, Nothing}
 use Rattle.heap_model.specs.declared.graph.Node.{Node}
 use Rattle.heap_model.specs.declared.state.Sizes.{Sizes}
-use Rattle.heap_model.specs.Graph.{has_label, node_at}
+use Rattle.heap_model.specs.Graph.{node_at}
 use Rattle.heap_model.specs.Domains.{IsWithinLimits}
 use Rattle.heap_model.specs.Commands.{key_value}
 use Rattle.table_laws.specs.Structures.{keys_of}
@@ -17,12 +17,10 @@ use Rattle.table_laws.proofs.OnceLemmas.{lacks}
 use Rattle.weak_tables.proofs.SearchLemmas.{set_here, set_other}
 use Rattle.table_text.specs.declared.line.TableLine.{TableLine}
 use Rattle.table_text.specs.declared.line.TableLine.TheVariants as line
-use Rattle.table_machine.specs.declared.reply.LineReply.{LineReply}
 use Rattle.table_machine.specs.declared.reply.LineReply.TheVariants as reply
-use Rattle.table_machine.specs.Machine.{TableState, MayGo, IsLost, IsNew, Holds, key_in, with_key, MayBeRefused}
-use Rattle.table_run.specs.Steps.{LineStep}
-use Rattle.table_run.specs.Standing.{Places, Shown, Stands, IsKnown, key_node}
-use Rattle.table_run.specs.Running.{LineDone, full_in}
+use Rattle.table_machine.specs.Machine.{TableState, MayGo, Holds, with_key, MayBeRefused}
+use Rattle.table_run.specs.Standing.{Places, Stands, IsKnown, key_node}
+use Rattle.table_run.specs.Running.{LineDone}
 use Rattle.table_run.proofs.MachineLemmas.{known_before}
 use Rattle.table_run.proofs.StandLemmas.{went_lost, left_with, frame_goes, frame_key, frame_stands, frame_same, line_ends}
 

@@ -1,17 +1,15 @@
 -- What each function of a line answers, from the clauses of the calls in it.
-use Rattle.std.proofs.Common.{◌≡◌, ◌≢◌, ◌⊎◌, inl, inr, ⊎_elim, ℕ, zero, suc, ◌+◌, ◌-◌, ◌*◌, ◌<◌, ◌≤◌, ℤ, false, true, IsTrue, List, [], ◌∷◌, ◌++◌, length, get_or, set, slice_get, Option, Some, None, refl, ap, sym, ◌∙◌, subst, arith, append_assoc}
+use Rattle.std.proofs.Common.{◌≡◌, inl, inr, ⊎_elim, ℕ, ◌+◌, ◌<◌, ◌≤◌, ℤ, List, [], ◌∷◌, ◌++◌, set, slice_get, Option, Some, None, refl, ap, sym, ◌∙◌, subst, arith}
 use Rattle.heap_model.specs.declared.label.Label.{Label}
-use Rattle.heap_model.specs.declared.command.Command.{Command}
 use Rattle.heap_model.specs.declared.command.Command.TheVariants.{PutInt, Copy, Forget, Alloc, FullMajor}
 use Rattle.heap_model.specs.declared.entry.Entry.{Entry}
 use Rattle.heap_model.specs.declared.reply.Reply.{Reply}
 use Rattle.heap_model.specs.declared.reply.Reply.TheVariants as given
 use Rattle.heap_model.specs.declared.graph.Value.{Value}
 use Rattle.heap_model.specs.declared.graph.Value.TheVariants.{Int, Block, Nothing}
-use Rattle.heap_model.specs.declared.graph.Node.{Node}
 use Rattle.heap_model.specs.declared.state.Sizes.{Sizes}
-use Rattle.heap_model.specs.Graph.{label_of, node_at}
-use Rattle.heap_model.specs.Domains.{IsWithinLimits, domain_at, reserve}
+use Rattle.heap_model.specs.Graph.{label_of}
+use Rattle.heap_model.specs.Domains.{IsWithinLimits, domain_at}
 use Rattle.heap_model.specs.Commands.{key_value, shown}
 use Rattle.heap_model.specs.History.{IsPrefix, Legal}
 use Rattle.table_laws.specs.Structures.{Cell, IsTable, IsWeakArray, datum_at, slot_keys}
@@ -24,15 +22,14 @@ use Rattle.table_laws.proofs.RefusalLemmas.{performed_refusals, performed_given}
 use Rattle.table_laws.proofs.StepLemmas.{put_step, forget_step, alloc_step, copy_step, full_major_step}
 use Rattle.weak_tables.specs.Held.{HoldsTable, HoldsArray}
 use Rattle.weak_tables.specs.Tables.{GetAnswers, TakeAnswers, PutAnswers, Counts}
-use Rattle.weak_tables.specs.Arrays.{SetAnswers, SlotAnswers, GetsSlot}
+use Rattle.weak_tables.specs.Arrays.{SetAnswers, SlotAnswers}
 use Rattle.weak_tables.proofs.SlotLemmas.{past_end, emptied_stays}
 use Rattle.table_text.specs.declared.line.TableLine.{TableLine}
 use Rattle.table_text.specs.declared.line.TableLine.TheVariants as line
-use Rattle.table_machine.specs.declared.reply.LineReply.{LineReply}
 use Rattle.table_machine.specs.declared.reply.LineReply.TheVariants as reply
 use Rattle.table_machine.specs.Machine.{TableState, MayGo, MayBeRefused, WithKey, Deletes, Binds, ReadsSlot, key_in, with_key, made_by, all_made}
-use Rattle.table_run.specs.Standing.{Places, Stands, IsStanding, key_node}
-use Rattle.table_run.specs.Running.{LineDone, LineAnswers, HasGiven, full_in, said}
+use Rattle.table_run.specs.Standing.{Places, Stands, IsStanding}
+use Rattle.table_run.specs.Running.{LineDone, HasGiven, full_in, said}
 use Rattle.table_run.proofs.LineLemmas.{after_with, after_goes, after_key, stands_zero, stands_reading, stands_set, forget_line, key_line, full_line}
 use Rattle.table_run.proofs.RefusalLemmas.{used_up}
 use Rattle.table_run.proofs.OwnLemmas.{take_done, put_done, slot_done}

@@ -1,46 +1,40 @@
 -- The lines whose call writes the table or the weak array: a key is bound, its binding is taken, a slot is set.
-use Rattle.std.proofs.Common.{◌≡◌, ◌≢◌, ◌⊎◌, inl, inr, ⊎_elim, ℕ, zero, suc, ◌+◌, ◌-◌, ◌<◌, ◌≤◌, ℤ, pos, Bool, false, true, not, cond, IsTrue, List, [], ◌∷◌, ◌++◌, map, length, flat_map, get_or, set, slice_get, Option, Some, None, refl, ap, sym, ◌∙◌, subst, arith, append-nil}
+use Rattle.std.proofs.Common.{◌≡◌, ◌⊎◌, inl, inr, ⊎_elim, ℕ, zero, suc, ◌-◌, ◌<◌, ◌≤◌, ℤ, pos, Bool, false, true, cond, IsTrue, List, [], ◌∷◌, ◌++◌, map, length, flat_map, get_or, set, Option, Some, None, refl, ap, sym, ◌∙◌, subst, arith, append-nil}
 use Rattle.std.specs.List.{list_all}
 use Rattle.heap_model.specs.declared.label.Label.{Label}
 use Rattle.heap_model.specs.declared.entry.Entry.{Entry}
-use Rattle.heap_model.specs.declared.reply.Reply.{Reply}
-use Rattle.heap_model.specs.declared.reply.Reply.TheVariants as given
 use Rattle.heap_model.specs.declared.graph.Value.{Value}
 use Rattle.heap_model.specs.declared.graph.Value.TheVariants.{Int, Block, Nothing}
 use Rattle.heap_model.specs.declared.graph.Node.{Node}
 use Rattle.heap_model.specs.declared.graph.Node.TheVariants.{Plain}
 use Rattle.heap_model.specs.declared.state.Sizes.{Sizes}
-use Rattle.heap_model.specs.Graph.{Graph, same_label, has_label, has_no_repeats, label_of, node_at}
+use Rattle.heap_model.specs.Graph.{Graph, same_label, has_label, node_at}
 use Rattle.heap_model.specs.Domains.{IsWithinLimits}
-use Rattle.heap_model.specs.Commands.{key_value}
 use Rattle.heap_model.specs.History.{IsPrefix}
-use Rattle.heap_model.proofs.Graphs.GraphLemmas.{same_label-true, same_label_refl}
+use Rattle.heap_model.proofs.Graphs.GraphLemmas.{same_label-true}
 use Rattle.heap_model.proofs.Reach.ReachLemmas.{or_cases, or_left, or_right, and_left, and_right, has-append_cases}
 use Rattle.table_laws.specs.Structures.{Binding, Cell, is_weak, bindings, keys_of, without, datum_at, Links, cell_labels, table_labels, IsTable, IsWeakArray, slot_keys, Apart}
-use Rattle.table_laws.specs.Thinning.{ThinnedBy, EmptiedBy, WasOutside, Changes}
-use Rattle.table_laws.specs.Performing.{refusals, writings, full_of}
+use Rattle.table_laws.specs.Thinning.{ThinnedBy, EmptiedBy, WasOutside}
+use Rattle.table_laws.specs.Performing.{refusals, writings}
 use Rattle.table_laws.specs.Stages.{Goes, graph_of, held_in}
 use Rattle.table_laws.proofs.BindingLemmas.{thinned_more, thinned_keys}
-use Rattle.table_laws.proofs.ArrayLemmas.{emptied_more, slot_there}
+use Rattle.table_laws.proofs.ArrayLemmas.{emptied_more}
 use Rattle.table_laws.proofs.ChangeLemmas.{table_kept, bindings_thinned, array_kept}
 use Rattle.table_laws.proofs.LawLemmas.{keys_emptied, differ_law}
 use Rattle.table_laws.proofs.OnceLemmas.{lacks, not_both}
-use Rattle.weak_tables.specs.Held.{KeepsOthers, IsClean}
-use Rattle.weak_tables.specs.Tables.{Takes, TakeAnswers, Puts, PutAnswers}
-use Rattle.weak_tables.specs.Arrays.{SetsSlot, SetAnswers}
+use Rattle.weak_tables.specs.Tables.{Takes, Puts}
+use Rattle.weak_tables.specs.Arrays.{SetsSlot}
 use Rattle.table_text.specs.declared.line.TableLine.{TableLine}
 use Rattle.table_text.specs.declared.line.TableLine.TheVariants as line
-use Rattle.table_machine.specs.declared.reply.LineReply.{LineReply}
 use Rattle.table_machine.specs.declared.reply.LineReply.TheVariants as reply
-use Rattle.table_machine.specs.Machine.{TableState, MayGo, IsLost, Holds, key_in, WithKey, Deletes, Binds, MayBeRefused}
-use Rattle.table_run.specs.Steps.{Effect, LineStep}
-use Rattle.table_run.specs.Standing.{Places, Shown, Stands, IsKnown, key_node, AreInts}
-use Rattle.table_run.specs.Running.{LineDone, full_in, said}
-use Rattle.table_run.proofs.MachineLemmas.{may_same, known_before, key_kept, slot_kept, thinned_ints, ints_without, ints_with, place_holds}
+use Rattle.table_machine.specs.Machine.{TableState, MayGo, IsLost, Holds, key_in, WithKey, Deletes, Binds}
+use Rattle.table_run.specs.Steps.{Effect}
+use Rattle.table_run.specs.Standing.{Places, Stands, IsKnown, key_node, AreInts}
+use Rattle.table_run.specs.Running.{LineDone}
+use Rattle.table_run.proofs.MachineLemmas.{known_before, key_kept, slot_kept, thinned_ints, ints_without, ints_with, place_holds}
 use Rattle.table_run.proofs.RegisterLemmas.{register_at}
-use Rattle.table_run.proofs.StandLemmas.{outside_lost, others_clean, keeps_high, line_ends}
+use Rattle.table_run.proofs.StandLemmas.{outside_lost, line_ends}
 use Rattle.table_run.proofs.LineLemmas.{holds_set}
-use Rattle.table_run.proofs.CallLemmas.{nothing_done, left, read_goes, read_stands, read_line, not_taken}
 
 -- the block of a key is none of a table's
 module _ (g : Graph) (k : Label) (at : node_at g k ≡ Some key_node) where

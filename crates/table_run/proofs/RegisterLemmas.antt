@@ -1,5 +1,5 @@
 -- A stretch of a history in which no register from 1 to 7 is written leaves them at each of its fronts.
-use Rattle.std.proofs.Common.{◌≡◌, ◌≢◌, ℕ, zero, suc, ◌+◌, ◌≤◌, Bool, true, false, List, [], ◌∷◌, ◌++◌, get_or, set, slice_get, replicate, is_some, Option, Some, None, refl, ap, sym, ◌∙◌, subst, arith, get_or-set_other, append_assoc}
+use Rattle.std.proofs.Common.{◌≡◌, ◌≢◌, ℕ, zero, suc, ◌+◌, ◌≤◌, Bool, true, false, List, [], ◌∷◌, get_or, slice_get, replicate, is_some, Option, Some, None, refl, ap, ◌∙◌, arith, get_or-set_other}
 use Rattle.std.proofs.lemmas.Bool.Decides.{nat_tests}
 use Rattle.heap_model.specs.declared.label.Label.{Label}
 use Rattle.heap_model.specs.declared.command.Command as declared_command
@@ -14,7 +14,7 @@ use Rattle.heap_model.specs.declared.state.Sizes.{Sizes}
 use Rattle.heap_model.specs.declared.state.State.{State}
 use Rattle.heap_model.specs.declared.state.DomainState.{DomainState}
 use Rattle.heap_model.specs.Domains.{domain_at, with_domain, with_register, register, label_in, opening}
-use Rattle.heap_model.specs.Commands.{Outcome, in_bounds, read_into, tells, loaded, at_field, written_where, same_value, exchanged, at_ephe, key_set, key_stored, key_value, datum_stored, is_full_value, finalised, finalised_last, block_in, allocated, new_plain, new_raw, command_outcome, outcome}
+use Rattle.heap_model.specs.Commands.{Outcome, in_bounds, read_into, tells, loaded, at_field, written_where, same_value, exchanged, at_ephe, key_set, key_stored, key_value, datum_stored, is_full_value, finalised, finalised_last, block_in, allocated, new_plain, new_raw, outcome}
 use Rattle.heap_model.specs.Entries.{next}
 use Rattle.heap_model.specs.History.{IsPrefix, is_entry_of, state_after}
 use Rattle.heap_model.proofs.Commands.FrameLemmas.{part_set, keeps_next}

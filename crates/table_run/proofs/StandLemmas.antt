@@ -1,17 +1,16 @@
 -- What stays of the two structures where no block of theirs is written, and what may have gone.
-use Rattle.std.proofs.Common.{◌≡◌, ◌⊎◌, inl, inr, ⊎_elim, ℕ, zero, suc, ◌+◌, ◌-◌, ◌<◌, ◌≤◌, false, true, IsTrue, List, [], ◌∷◌, ◌++◌, length, get_or, Option, Some, None, refl, ap, sym, ◌∙◌, subst, arith, append-nil}
+use Rattle.std.proofs.Common.{◌≡◌, inl, inr, ℕ, zero, suc, ◌+◌, ◌-◌, ◌<◌, ◌≤◌, List, [], length, get_or, Option, Some, None, refl, ap, sym, ◌∙◌, subst, arith, append-nil}
 use Rattle.heap_model.specs.declared.label.Label.{Label}
 use Rattle.heap_model.specs.declared.entry.Entry.{Entry}
-use Rattle.heap_model.specs.declared.graph.Value.TheVariants.{Int, Block, Nothing}
-use Rattle.heap_model.specs.declared.graph.Node.{Node}
+use Rattle.heap_model.specs.declared.graph.Value.TheVariants.{Block, Nothing}
 use Rattle.heap_model.specs.declared.state.Sizes.{Sizes}
-use Rattle.heap_model.specs.Graph.{has_label, node_at}
+use Rattle.heap_model.specs.Graph.{node_at}
 use Rattle.heap_model.specs.Commands.{key_value}
 use Rattle.heap_model.specs.History.{IsPrefix}
-use Rattle.table_laws.specs.Structures.{Binding, Cell, bindings, table_labels, IsTable, IsWeakArray, slot_keys, Apart}
+use Rattle.table_laws.specs.Structures.{Binding, Cell, bindings, IsTable, IsWeakArray, slot_keys}
 use Rattle.table_laws.specs.Thinning.{ThinnedBy, EmptiedBy, WasOutside, Went, Changes, state_of}
-use Rattle.table_laws.specs.Performing.{After, refusals, writings}
-use Rattle.table_laws.specs.Stages.{Goes, graph_of, held_in}
+use Rattle.table_laws.specs.Performing.{refusals, writings}
+use Rattle.table_laws.specs.Stages.{graph_of, held_in}
 use Rattle.table_laws.proofs.BindingLemmas.{thinned_more}
 use Rattle.table_laws.proofs.ArrayLemmas.{emptied_more}
 use Rattle.table_laws.proofs.ChangeLemmas.{table_kept, bindings_thinned, array_kept}
@@ -21,11 +20,11 @@ use Rattle.table_laws.proofs.StageLemmas.{prefix_trans}
 use Rattle.weak_tables.specs.Held.{KeepsOthers, IsClean}
 use Rattle.table_text.specs.declared.line.TableLine.{TableLine}
 use Rattle.table_machine.specs.declared.reply.LineReply.{LineReply}
-use Rattle.table_machine.specs.Machine.{TableState, MayGo, IsLost, Holds, key_in}
+use Rattle.table_machine.specs.Machine.{TableState, MayGo, IsLost, Holds}
 use Rattle.table_run.specs.Steps.{LineStep}
-use Rattle.table_run.specs.Standing.{Places, Shown, Stands, IsKnown, key_node, AreInts}
-use Rattle.table_run.specs.Running.{LineRuns, LineDone, full_in}
-use Rattle.table_run.proofs.MachineLemmas.{may_same, may_twice, known_before, thinned_ints, holds_place, place_holds}
+use Rattle.table_run.specs.Standing.{Places, Stands, IsKnown, key_node, AreInts}
+use Rattle.table_run.specs.Running.{LineDone, full_in}
+use Rattle.table_run.proofs.MachineLemmas.{may_same, may_twice, known_before, thinned_ints, holds_place}
 use Rattle.table_run.proofs.RegisterLemmas.{register_at}
 
 -- a register that holds a key of the machine

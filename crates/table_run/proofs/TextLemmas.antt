@@ -1,32 +1,32 @@
 -- A text, from the two structures that are made to its last line.
-use Rattle.std.proofs.Common.{◌≡◌, ◌≢◌, ◌⊎◌, inl, inr, ⊎_elim, ℕ, zero, suc, ◌+◌, ◌-◌, ◌<◌, ◌≤◌, false, true, IsTrue, List, [], ◌∷◌, ◌++◌, length, take, get_or, replicate, flat_map, slice_get, Option, Some, None, refl, ap, sym, ◌∙◌, subst, arith, append_assoc, append-nil}
+use Rattle.std.proofs.Common.{◌≡◌, ◌≢◌, inl, inr, ℕ, zero, suc, ◌+◌, ◌-◌, ◌≤◌, false, true, List, [], ◌∷◌, ◌++◌, length, take, get_or, replicate, slice_get, Some, None, refl, ap, sym, ◌∙◌, subst, arith, append_assoc, append-nil}
 use Rattle.std.proofs.lemmas.List.{length-map}
 use Rattle.heap_model.specs.declared.label.Label.{Label}
 use Rattle.heap_model.specs.declared.entry.Entry.{Entry}
 use Rattle.heap_model.specs.declared.reply.Reply.{Reply}
 use Rattle.heap_model.specs.declared.reply.Reply.TheVariants as given
-use Rattle.heap_model.specs.declared.graph.Value.{Value}
 use Rattle.heap_model.specs.declared.graph.Value.TheVariants.{Block, Nothing}
 use Rattle.heap_model.specs.declared.state.Sizes.{Sizes}
-use Rattle.heap_model.specs.Graph.{Graph, has_label, node_at}
+use Rattle.heap_model.specs.Graph.{Graph}
 use Rattle.heap_model.specs.Domains.{IsWithinLimits, domain_at, opening, register, reserve}
 use Rattle.heap_model.specs.Commands.{key_value}
 use Rattle.heap_model.specs.History.{IsPrefix, Legal}
-use Rattle.table_laws.specs.Structures.{Binding, Cell, bucket_count, binding_of, chain_bindings, bindings, table_labels, empty_chains, IsTable, slot_keys, Apart}
+use Rattle.table_laws.specs.Structures.{Cell, bucket_count, bindings, table_labels, empty_chains, IsTable, Apart}
 use Rattle.table_laws.specs.Thinning.{WasOutside, state_of}
 use Rattle.table_laws.specs.Performing.{refusals, full_of}
 use Rattle.table_laws.specs.Stages.{graph_of, held_in}
 use Rattle.table_laws.proofs.ChangeLemmas.{table_kept}
 use Rattle.table_laws.proofs.GrowLemmas.{new_to_table}
 use Rattle.table_laws.proofs.StageLemmas.{prefix_trans}
-use Rattle.weak_tables.specs.Tables.{Makes, MakeAnswers}
-use Rattle.weak_tables.specs.Arrays.{MakesArray, ArrayAnswers}
+use Rattle.weak_tables.specs.Tables.{MakeAnswers}
+use Rattle.weak_tables.specs.Arrays.{ArrayAnswers}
 use Rattle.table_text.specs.declared.line.TableLine.{TableLine}
 use Rattle.table_machine.specs.declared.reply.LineReply.{LineReply}
-use Rattle.table_machine.specs.Machine.{TableState, MayGo, Holds, made_by, all_made, opened}
-use Rattle.table_run.specs.Standing.{Places, Shown, Stands, IsKnown, key_node}
-use Rattle.table_run.specs.Running.{LineRuns, LinesRun, LineDone, TextRuns, RanTo, Begins, full_in, rooms_of, all_rooms}
+use Rattle.table_machine.specs.Machine.{TableState, Holds, made_by, all_made, opened}
+use Rattle.table_run.specs.Standing.{Places, Shown, IsKnown}
+use Rattle.table_run.specs.Running.{LineRuns, LinesRun, LineDone, LineAnswers, HasGiven, TextRuns, RanTo, Begins, full_in, rooms_of, all_rooms}
 use Rattle.table_run.proofs.MachineLemmas.{may_same, may_twice}
+use Rattle.table_run.proofs.LinesLemmas.{made-append}
 use Rattle.table_run.proofs.RefusalLemmas.{used_up}
 use Rattle.table_run.proofs.StandLemmas.{others_clean}
 
@@ -190,3 +190,19 @@ rooms_before (x ∷ ls) (suc i) l at = let rest = rooms_before ls i l at in omeg
 pub rooms-append : (a : List TableLine) (l : TableLine) → all_rooms (a ++ l ∷ []) ≡ all_rooms a + rooms_of l
 rooms-append [] l = omega arith
 rooms-append (x ∷ a) l = let rest = rooms-append a l in omega (arith, rest)
+
+pub take_none : (ls : List TableLine) → take 0 ls ≡ []
+take_none [] = refl
+take_none (l ∷ ls) = refl
+
+-- the next line, from a state in which the heap stands
+pub ran_line : (z : Sizes) (all : List TableLine) (i : ℕ) (l : TableLine) (replies : List LineReply) (now new : List Entry) (a : LineReply) (left : ℕ) → Some l ≡ slice_get all i → (x : RanTo z (take i all) replies now) → HasGiven left (take i all) → LineAnswers z left l now a new → RanTo z (take (i + 1) all) (replies ++ a ∷ []) new
+ran_line z all i l replies now new a left at x given answers =
+    subst (λ (ls : List TableLine). RanTo z ls (replies ++ a ∷ []) new) (sym (take_more all i l at)) (ran_more z (take i all) replies now x l a new (answers x.places x.left (take i all) x.stands given))
+
+-- what is known of labels and room, with that line's share
+pub made_more : (all : List TableLine) (i : ℕ) (l : TableLine) → Some l ≡ slice_get all i → all_made (take (i + 1) all) ≡ all_made (take i all) + made_by l
+made_more all i l at = ap all_made (take_more all i l at) ∙ made-append (take i all) l
+
+pub rooms_more : (all : List TableLine) (i : ℕ) (l : TableLine) → Some l ≡ slice_get all i → all_rooms (take (i + 1) all) ≡ all_rooms (take i all) + rooms_of l
+rooms_more all i l at = ap all_rooms (take_more all i l at) ∙ rooms-append (take i all) l

@@ -32,6 +32,7 @@ pub fn run_text<M: Machine, R: Wait>(
     ensures runs { TextRuns (M.sizes m.old) text.now result.items (M.front m.new) }
 {
     let mut replies = room;
+    m.stands();
     prepare(m, rt);
     'lines: for i in 0..text.len() {
         replies.push_reserved(run_line(m, rt, text.line(i)));

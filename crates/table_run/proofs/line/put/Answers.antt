@@ -1,4 +1,4 @@
-use Rattle.std.proofs.Common.{◌≡◌, ◌∙◌, ◌+◌, ◌≤◌, ℕ, List, [], ◌∷◌, ◌++◌, sym, subst, arith}
+use Rattle.std.proofs.Common.{ℤ, ◌≡◌, ◌∙◌, ◌+◌, ℕ, List, [], ◌∷◌, ◌++◌, sym, subst, arith}
 use Rattle.heap_model.specs.declared.entry.Entry.{Entry}
 use Rattle.heap_model.specs.declared.state.Sizes.{Sizes}
 use Rattle.table_text.specs.declared.line.TableLine.TheVariants as line_of
@@ -11,8 +11,11 @@ use Rattle.heap_model.specs.Domains.{domain_at}
 use Rattle.table_laws.specs.Thinning.{state_of}
 use Rattle.table_machine.specs.declared.reply.LineReply.{LineReply}
 use Rattle.table_run.specs.Running.{LineDone}
+use Rattle.heap_model.specs.declared.command.Command.TheVariants.{PutInt}
+use Rattle.table_laws.specs.Performing.{Performed}
 use Rattle.weak_tables.specs.Held.{HoldsTable}
 use Rattle.weak_tables.specs.Tables.{PutAnswers}
+use Rattle.table_run.proofs.ValueLemmas.{value_held}
 use Rattle.table_run.proofs.LinesLemmas.{standing_put, put_made}
 use Rattle.table_run.proofs.line.put.Goals as goal
 
@@ -20,8 +23,9 @@ pub table_put-reply-requires-clause-table : goal.table_put-reply-requires-clause
 table_put-reply-requires-clause-table g c =
     let z : Sizes = g.M.Machine.sizes c.args.m.now in
     let old : List Entry = g.M.Machine.front c.args.m.now in
+    let performed : Performed z old (g.M.Machine.front c.perform-value.new.self) (PutInt 0 c.args.value) c.perform-value.result = subst (λ (w : ℤ). Performed z old (g.M.Machine.front c.perform-value.new.self) (PutInt 0 w) c.perform-value.result) (value_held c.args.reg c.args.value c.requires.fits) c.perform-value.ensures.performed in
     subst (λ (y : Sizes). HoldsTable y (g.M.Machine.front c.perform-value.new.self) 6) (sym c.perform-value.ensures.sizes)
-    (standing_put z c.stands.ensures.limits old (g.M.Machine.front c.perform-value.new.self) c.args.value c.perform-value.result c.perform-value.ensures.performed c.requires.stands)
+    (standing_put z c.stands.ensures.limits old (g.M.Machine.front c.perform-value.new.self) c.args.value c.perform-value.result performed c.requires.stands)
 
 pub returns-clause-runs : goal.returns-clause-runs
 returns-clause-runs g c =
@@ -35,8 +39,9 @@ returns-clause-runs g c =
     let answer : (root : Label) (chains : List (List Cell)) → held_in z mid 6 ≡ Block root → IsTable (graph_of z mid) root chains → PutAnswers z mid new root chains (label_of (held_in z mid r)) (held_in z mid 0) c.table_put-reply.result =
     subst (λ (y : Sizes). (root : Label) (chains : List (List Cell)) → held_in y mid 6 ≡ Block root → IsTable (graph_of y mid) root chains → PutAnswers y mid new root chains (label_of (held_in y mid r)) (held_in y mid 0) c.table_put-reply.result)
     c.perform-value.ensures.sizes c.table_put-reply.ensures.answer in
+    let performed : Performed z old mid (PutInt 0 c.args.value) c.perform-value.result = subst (λ (w : ℤ). Performed z old mid (PutInt 0 w) c.perform-value.result) (value_held c.args.reg c.args.value c.requires.fits) c.perform-value.ensures.performed in
     let l0 = c.perform-value.ensures.labels in
     let l1 = c.table_put-reply.ensures.labels in
     λ p s before x few. subst (λ (a : LineReply). LineDone z p (before ++ line_of.Put c.args.reg c.args.value ∷ []) (line_of.Put c.args.reg c.args.value) s old a new) (sym c.said.ensures)
-    (put_made z c.stands.ensures.limits old mid new r c.args.value c.perform-value.result c.table_put-reply.result c.requires.register.0 c.requires.register.1 c.perform-value.ensures.performed c.table_put-reply.ensures.written c.table_put-reply.ensures.refused answer
+    (put_made z c.stands.ensures.limits old mid new r c.args.value c.perform-value.result c.table_put-reply.result c.requires.register.0 c.requires.register.1 performed c.table_put-reply.ensures.written c.table_put-reply.ensures.refused answer
     p s before x (g.M.Machine.labels_left c.args.m.now) left c.stands.ensures.alone serial (omega (arith, l0, l1)) few)
