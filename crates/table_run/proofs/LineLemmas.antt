@@ -79,7 +79,7 @@ module _ (z : Sizes) (limits : IsWithinLimits z) (p : Places) (s : TableState) (
     registers : (q : ℕ) → 1 ≤ q → q ≤ 5 → held_in z new q ≡ key_value (get_or (set s.registers (r - 1) key) (q - 1) None)
     registers q some few = ⊎_elim
         (λ same. ap (held_in z new) same ∙ here ∙ ap key_value (sym (ap (λ (n : ℕ). get_or (set s.registers (r - 1) key) (n - 1) None) same
-            ∙ get_or-set_same s.registers (r - 1) key None (let five = x.five in omega arith))))
+        ∙ get_or-set_same s.registers (r - 1) key None (let five = x.five in omega arith))))
         (λ differs. other q differs ∙ x.shown.registers q some few ∙ ap key_value (sym (get_or-set_other s.registers (r - 1) (q - 1) key None (λ e. differs (omega arith)))))
         (same_or_other q r)
 

@@ -157,7 +157,15 @@ ran_more z lines replies now x l a new y = record {
 
 pub ran_all : (z : Sizes) (lines all : List TableLine) (replies : List LineReply) (now : List Entry) → lines ≡ all → RanTo z lines replies now → TextRuns z all replies now
 ran_all z lines all replies now same x = subst (λ (ls : List TableLine). TextRuns z ls replies now) same (record {
-  places = x.places; first = x.first; begins = x.begins; none = x.none; state = x.state; last = x.last; lines_run = x.lines_run; within = x.until })
+  places = x.places;
+  first = x.first;
+  begins = x.begins;
+  none = x.none;
+  state = x.state;
+  last = x.last;
+  lines_run = x.lines_run;
+  within = x.until;
+})
 
 -- the next line, and what lines need
 pub take_more : (ls : List TableLine) (i : ℕ) (l : TableLine) → Some l ≡ slice_get ls i → take (i + 1) ls ≡ take i ls ++ l ∷ []
