@@ -12,18 +12,21 @@ use Rattle.heap_model.specs.declared.state.State.{State}
 use Rattle.heap_model.specs.Graph.{Graph, same_label, has_label, has_no_repeats, node_at}
 use Rattle.heap_model.specs.Domains.{opening}
 use Rattle.heap_model.specs.Entries.{wiped, with_wiped, next}
-use Rattle.heap_model.specs.History.{IsPrefix}
+use Rattle.heap_model.specs.History.{Legal, LegalFrom}
 use Rattle.heap_model.specs.Laws.{written_by}
 use Rattle.heap_model.proofs.Graphs.GraphLemmas.{same_label-true, same_label_refl, node_at-with_node_other}
 use Rattle.heap_model.proofs.Graphs.GraphStepLemmas.{nodes_stay_law}
-use Rattle.heap_model.proofs.Histories.HistoryLemmas.{state_after-push}
-use Rattle.heap_model.proofs.Reach.ReachLemmas.{and_left, and_right, is_false, has-append_left, has-append_right}
+use Rattle.heap_model.proofs.Histories.HistoryLemmas.{legal_append, state_after-push}
+use Rattle.heap_model.proofs.Reach.ReachLemmas.{and_left, and_right, and_both, is_false, has-append_left, has-append_right}
 use Rattle.table_laws.specs.Structures.{Binding, Cell, binding_of, chain_bindings, bindings, cell_labels, IsTable}
-use Rattle.table_laws.specs.Thinning.{is_collector, AllCollector, state_of, ThinnedBy, Changes}
+use Rattle.table_laws.specs.Thinning.{is_collector, AllCollector, state_of, WasOutside, Went, ThinnedBy, Changes}
 use Rattle.table_laws.specs.Performing.{Performed}
-use Rattle.table_laws.specs.Stages.{graph_of, Declines}
+use Rattle.table_laws.specs.Stages.{Goes, graph_of, Declines}
 use Rattle.table_laws.proofs.OnceLemmas.{lacks, not_both, once_parts}
-use Rattle.table_laws.proofs.ChangeLemmas.{not_first, thin_is, bindings_thinned}
+use Rattle.table_laws.proofs.ChangeLemmas.{not_first, thin_is, changes_twice, changes_more, bindings_thinned}
+use Rattle.table_laws.proofs.CollectorLemmas.{stretch_thins}
+use Rattle.table_laws.proofs.StageLemmas.{prefix_trans, later_outside, since_outside, goes_from}
+use Rattle.table_laws.proofs.StepLemmas.{legal_parts}
 
 -- two graphs that differ at one label at most
 abbrev SameBut : Label → Graph → Graph → Type 0
@@ -123,11 +126,16 @@ collector_less s Collected mine chains once = omega arith
 collector_less s Done mine chains once = omega arith
 collector_less s (Ran d) mine chains once = cc
 
-prefix_on : (a b c : List Entry) → IsPrefix a b → IsPrefix b c → IsPrefix a c
-prefix_on a b c x y = record { rest = x.rest ++ y.rest; appends = y.appends ∙ (ap (λ (h : List Entry). h ++ y.rest) x.appends ∙ append_assoc a x.rest y.rest) }
-
-prefix_same : (a : List Entry) → IsPrefix a a
-prefix_same a = record { rest = []; appends = sym (append-nil a) }
+goes_both : (z : Sizes) (a b c : List Entry) → Goes z a b [] → Goes z b c [] → Goes z a c []
+goes_both z a b c x y =
+    let early = λ (k : Label) (w : WasOutside z a b k). later_outside z a b c k y.grows w in
+    let late = λ (k : Label) (w : WasOutside z b c k). since_outside z a b c k x.grows w in record {
+      legal = y.legal;
+      grows = prefix_trans a b c x.grows y.grows;
+      changes = changes_twice (WasOutside z a c) [] (graph_of z a) (graph_of z b) (graph_of z c)
+          (changes_more (WasOutside z a b) (WasOutside z a c) [] [] _ _ early (λ l h. h) x.changes)
+          (changes_more (WasOutside z b c) (WasOutside z a c) [] [] _ _ late (λ l h. h) y.changes);
+    }
 
 below_or_more : (a b : ℕ) → (a < b) ⊎ (b ≤ a)
 below_or_more a zero = inr (omega arith)
@@ -143,38 +151,52 @@ module _ (z : Sizes) (chains : List (List Cell)) where
   count : List Entry → ℕ
   count h = length (bindings (graph_of z h) chains)
 
-  pub declines_both : (a b c : List Entry) → IsPrefix a b → IsPrefix b c → Declines z a b chains → Declines z b c chains → Declines z a c chains
+  pub declines_both : (a b c : List Entry) → Goes z a b [] → Goes z b c [] → Declines z a b chains → Declines z b c chains → Declines z a c chains
   declines_both a b c ab bc x y n low high = ⊎_elim
-      (λ more. let t = x n more high in (t.0, t.1, prefix_on t.0 b c t.2 bc, t.3))
-      (λ less. let t = y n low less in (t.0, prefix_on a b t.0 ab t.1, t.2, t.3))
+      (λ more. let t = x n more high in (t.0, t.1, goes_both z t.0 b c t.2 bc, t.3))
+      (λ less. let t = y n low less in (t.0, goes_both z a b t.0 ab t.1, t.2, t.3))
       (at_most_or_less (length (bindings (graph_of z b) chains)) n)
 
-  pub declines_equal : (a b : List Entry) → IsPrefix a b → bindings (graph_of z b) chains ≡ bindings (graph_of z a) chains → Declines z a b chains
-  declines_equal a b ab same n low high =
+  pub declines_equal : (a b : List Entry) → Legal z a → Goes z a b [] → bindings (graph_of z b) chains ≡ bindings (graph_of z a) chains → Declines z a b chains
+  declines_equal a b legal ab same n low high =
       let lengths : length (bindings (graph_of z b) chains) ≡ length (bindings (graph_of z a) chains) = ap length same in
-      (a, prefix_same a, ab, omega (arith, lengths, low, high))
+      (a, goes_from z a [] legal, ab, omega (arith, lengths, low, high))
 
   -- where the number falls by one at most
-  declines_one : (a b : List Entry) → IsPrefix a b → length (bindings (graph_of z a) chains) ≤ length (bindings (graph_of z b) chains) + 1 → Declines z a b chains
-  declines_one a b ab less n low high = ⊎_elim
-      (λ all. (a, prefix_same a, ab, omega (arith, all, high)))
-      (λ one. (b, ab, prefix_same b, omega (arith, one, low)))
+  declines_one : (a b : List Entry) → Legal z a → Goes z a b [] → length (bindings (graph_of z a) chains) ≤ length (bindings (graph_of z b) chains) + 1 → Declines z a b chains
+  declines_one a b legal ab less n low high = ⊎_elim
+      (λ all. (a, goes_from z a [] legal, ab, omega (arith, all, high)))
+      (λ one. (b, ab, goes_from z b [] ab.legal, omega (arith, one, low)))
       (cases (length (bindings (graph_of z a) chains)) (length (bindings (graph_of z b) chains)) n less low high)
     where
       cases : (x y n : ℕ) → x ≤ y + 1 → y ≤ n → n ≤ x → (x ≤ n) ⊎ (n ≤ y)
       cases x y n less low high = ⊎_elim (λ h. inr (omega arith)) (λ h. inl h) (below_or_more n x)
 
-  -- over a stretch of the collector's entries
-  pub declines_stretch : (old more : List Entry) → AllCollector more → IsTrue (has_no_repeats (flat_map cell_labels chains)) → Declines z old (old ++ more) chains
-  declines_stretch old [] mine once = declines_equal old (old ++ []) (record { rest = []; appends = refl }) (ap (λ (h : List Entry). bindings (graph_of z h) chains) (append-nil old))
-  declines_stretch old (e ∷ more) mine once =
+  -- the collector's entries write no block
+  goes_stretch : (old more : List Entry) → Legal z old → LegalFrom (state_of z old) more → AllCollector more → Goes z old (old ++ more) []
+  goes_stretch old more before legal mine = record {
+    legal = legal_append (opening z) old more before legal;
+    grows = record { rest = more; appends = refl };
+    changes = changes_more (Went z old (old ++ more)) (WasOutside z old (old ++ more)) [] [] _ _ (λ k w. w.was) (λ l h. h) (stretch_thins z old more legal mine);
+  }
+
+  -- over a stretch of them
+  pub declines_stretch : (old more : List Entry) → Legal z old → LegalFrom (state_of z old) more → AllCollector more → IsTrue (has_no_repeats (flat_map cell_labels chains)) → Declines z old (old ++ more) chains
+  declines_stretch old [] before legal mine once =
+      declines_equal old (old ++ []) before (goes_stretch old [] before legal mine) (ap (λ (h : List Entry). bindings (graph_of z h) chains) (append-nil old))
+  declines_stretch old (e ∷ more) before legal mine once =
       let whole : (old ++ e ∷ []) ++ more ≡ old ++ e ∷ more = append_assoc old (e ∷ []) more in
       let there : state_of z (old ++ e ∷ []) ≡ next (state_of z old) e = state_after-push (opening z) old e in
+      let own : IsTrue (is_collector e) = and_left (is_collector e) _ mine in
+      let others : AllCollector more = and_right (is_collector e) _ mine in
       let less : length (bindings (graph_of z old) chains) ≤ length (bindings (graph_of z (old ++ e ∷ [])) chains) + 1 =
-      subst (λ (t : State). length (bindings (graph_of z old) chains) ≤ length (bindings t.graph chains) + 1) (sym there) (collector_less (state_of z old) e (and_left _ _ mine) chains once) in
-      let first : Declines z old (old ++ e ∷ []) chains = declines_one old (old ++ e ∷ []) (record { rest = e ∷ []; appends = refl }) less in
-      let later : Declines z (old ++ e ∷ []) ((old ++ e ∷ []) ++ more) chains = declines_stretch (old ++ e ∷ []) more (and_right (is_collector e) _ mine) once in
-      declines_both old (old ++ e ∷ []) (old ++ e ∷ more) (record { rest = e ∷ []; appends = refl }) (record { rest = more; appends = sym whole })
+      subst (λ (t : State). length (bindings (graph_of z old) chains) ≤ length (bindings t.graph chains) + 1) (sym there) (collector_less (state_of z old) e own chains once) in
+      let step : Goes z old (old ++ e ∷ []) [] = goes_stretch old (e ∷ []) before (legal.0, tt) (and_both _ _ own refl) in
+      let rest : LegalFrom (state_of z (old ++ e ∷ [])) more = subst (λ (t : State). LegalFrom t more) (sym there) legal.1 in
+      let onwards : Goes z (old ++ e ∷ []) (old ++ e ∷ more) [] = subst (λ (h : List Entry). Goes z (old ++ e ∷ []) h []) whole (goes_stretch (old ++ e ∷ []) more step.legal rest others) in
+      let first : Declines z old (old ++ e ∷ []) chains = declines_one old (old ++ e ∷ []) before step less in
+      let later : Declines z (old ++ e ∷ []) ((old ++ e ∷ []) ++ more) chains = declines_stretch (old ++ e ∷ []) more step.legal rest others once in
+      declines_both old (old ++ e ∷ []) (old ++ e ∷ more) step onwards
       first (subst (λ (h : List Entry). Declines z (old ++ e ∷ []) h chains) whole later)
 
 -- nothing may be taken
@@ -198,6 +220,13 @@ module _ (z : Sizes) (old new : List Entry) (c : Command) (r : Reply) (p : Perfo
   declines_reading table there =
       let once = and_right (not (has_label (flat_map cell_labels chains) root)) _ table.once in
       let same : bindings (graph_of z new) chains ≡ bindings (graph_of z front) chains = none_taken _ _ (bindings_thinned (λ k. ⊥) [] (graph_of z front) (graph_of z new) stays root chains (λ l h. refl) there) in
-      declines_both z chains old front new (record { rest = p.between; appends = refl }) (record { rest = CommandOf 0 c p.full ∷ []; appends = p.appends })
-      (declines_stretch z chains old p.between p.collector once)
-      (declines_equal z chains front new (record { rest = CommandOf 0 c p.full ∷ []; appends = p.appends }) same)
+      let until = legal_parts (opening z) front (CommandOf 0 c p.full ∷ []) (subst (Legal z) p.appends p.legal) in
+      let parts = legal_parts (opening z) old p.between until.0 in
+      let step : Goes z front new [] = record {
+        legal = p.legal;
+        grows = record { rest = CommandOf 0 c p.full ∷ []; appends = p.appends };
+        changes = changes_more (λ k. ⊥) (WasOutside z front new) [] [] _ _ (λ k none. absurd none) (λ l h. h) stays;
+      } in
+      declines_both z chains old front new (goes_stretch z chains old p.between parts.0 parts.1 p.collector) step
+      (declines_stretch z chains old p.between parts.0 parts.1 p.collector once)
+      (declines_equal z chains front new until.0 step same)

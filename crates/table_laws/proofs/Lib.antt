@@ -22,3 +22,4 @@ pub mod SizeLemmas
 pub mod ArrayMakeLemmas
 pub mod OtherLemmas
 pub mod LabelLemmas
+pub mod WritingLemmas

@@ -2,7 +2,7 @@
 use Rattle.std.proofs.Common.{◌≡◌, ◌≢◌, ℕ, ◌<◌, false, List, [], ◌∷◌, set, slice_get, length, is_some, option_and_then, option_map, Option, Some, None, refl, ap, ◌∙◌, get_or-set_same}
 use Rattle.heap_model.specs.declared.label.Label.{Label}
 use Rattle.heap_model.specs.declared.command.Command.{Command}
-use Rattle.heap_model.specs.declared.command.Command.TheVariants.{SetKey, UnsetKey, GetKey, CheckKey, SetData, UnsetData, GetData}
+use Rattle.heap_model.specs.declared.command.Command.TheVariants.{SetKey, UnsetKey, GetKey, CheckKey, SetData, UnsetData, GetData, FullMajor}
 use Rattle.heap_model.specs.declared.entry.Entry.TheVariants.{Command as CommandOf}
 use Rattle.heap_model.specs.declared.reply.Reply.{Reply}
 use Rattle.heap_model.specs.declared.reply.Reply.TheVariants.{Done, BadType, Yes, No}
@@ -15,7 +15,7 @@ use Rattle.heap_model.specs.declared.state.DomainState.{DomainState}
 use Rattle.heap_model.specs.declared.state.State.{State}
 use Rattle.heap_model.specs.Graph.{node_at, with_node, block_at, label_of}
 use Rattle.heap_model.specs.Domains.{domain_at, no_domain, with_block, register}
-use Rattle.heap_model.specs.Commands.{Outcome, only_replies, done_with, read_into, shown, tells, in_bounds, block_in, at_ephe, key_set, key_stored, datum_set, datum_stored, key_value, outcome}
+use Rattle.heap_model.specs.Commands.{Outcome, only_replies, done_with, read_into, shown, tells, in_bounds, block_in, at_ephe, key_set, key_stored, datum_set, datum_stored, key_value, live_reply, outcome}
 use Rattle.heap_model.proofs.Commands.FrameLemmas.{part_set}
 use Rattle.heap_model.proofs.Commands.LeavesLemmas.{Leaves}
 
@@ -38,6 +38,9 @@ module _ (s : State) (d : ℕ) where
 
   leaves_reply : (c : Command) (r : Reply) → outcome s d c ≡ only_replies s r → Leaves s (CommandOf d c false) d s.graph mine.registers mine.serial (Replied r)
   leaves_reply c r is = leaves_of c (only_replies s r) is
+
+  pub leaves_full_major : Leaves s (CommandOf d FullMajor false) d s.graph mine.registers mine.serial (Replied (live_reply s))
+  leaves_full_major = leaves_reply FullMajor (live_reply s) refl
 
   leaves_read : d < length s.domains → (c : Command) (dst : ℕ) (v : Value) → outcome s d c ≡ read_into s d dst v → Leaves s (CommandOf d c false) d s.graph (set mine.registers dst v) mine.serial (Replied (shown v))
   leaves_read inside c dst v is = let l = leaves_of c (read_into s d dst v) is in record {

@@ -26,17 +26,20 @@ use Rattle.table_laws.proofs.ChangeLemmas.{changes_same, changes_on, changes_mor
 use Rattle.table_laws.proofs.CellLemmas.{links_head, links_behind}
 use Rattle.table_laws.proofs.StepLemmas.{load_step}
 
-prefix_trans : (a b c : List Entry) → IsPrefix a b → IsPrefix b c → IsPrefix a c
+pub prefix_trans : (a b c : List Entry) → IsPrefix a b → IsPrefix b c → IsPrefix a c
 prefix_trans a b c x y = record { rest = x.rest ++ y.rest; appends = y.appends ∙ (ap (λ (h : List Entry). h ++ y.rest) x.appends ∙ append_assoc a x.rest y.rest) }
 
 pub goes_from : (z : Sizes) (first : List Entry) (own : List Label) → Legal z first → Goes z first first own
 goes_from z first own legal = record { legal = legal; grows = record { rest = []; appends = sym (append-nil first) }; changes = changes_same (WasOutside z first first) own (graph_of z first) }
 
-later_outside : (z : Sizes) (first now new : List Entry) (k : Label) → IsPrefix now new → WasOutside z first now k → WasOutside z first new k
+pub later_outside : (z : Sizes) (first now new : List Entry) (k : Label) → IsPrefix now new → WasOutside z first now k → WasOutside z first new k
 later_outside z first now new k grows w = record { front = w.front; since = w.since; until = prefix_trans w.front now new w.until grows; outside = w.outside }
 
+pub since_outside : (z : Sizes) (first now new : List Entry) (k : Label) → IsPrefix first now → WasOutside z now new k → WasOutside z first new k
+since_outside z first now new k grows w = record { front = w.front; since = prefix_trans first now w.front grows w.since; until = w.until; outside = w.outside }
+
 earlier_outside : (z : Sizes) (first now new : List Entry) (k : Label) → IsPrefix first now → Went z now new k → WasOutside z first new k
-earlier_outside z first now new k grows w = record { front = w.was.front; since = prefix_trans first now w.was.front grows w.was.since; until = w.was.until; outside = w.was.outside }
+earlier_outside z first now new k grows w = since_outside z first now new k grows w.was
 
 pub goes_on : (z : Sizes) (first now new : List Entry) (own more : List Label) (rs : List Value) → Goes z first now own → After z now new more rs
     → ((l : Label) → IsTrue (has_label more l) → IsTrue (has_label own l) ⊎ (node_at (graph_of z first) l ≡ None)) → Goes z first new own

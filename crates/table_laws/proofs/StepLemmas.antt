@@ -1,27 +1,27 @@
 -- What each command does that tables and weak arrays are made of: what it answers, which registers it changes, and which block.
-use Rattle.std.proofs.Common.{◌≡◌, ◌≢◌, ◌⊎◌, inl, inr, ⊎_elim, ℕ, ◌+◌, ◌<◌, ◌≤◌, Bool, true, false, List, [], ◌∷◌, ◌++◌, length, get_or, set, slice_get, Option, Some, None, refl, ap, sym, ◌∙◌, subst, append_assoc}
+use Rattle.std.proofs.Common.{◌≡◌, ◌≢◌, ◌⊎◌, inl, inr, ⊎_elim, ℕ, ◌+◌, ◌<◌, ◌≤◌, Bool, true, false, List, [], ◌∷◌, ◌++◌, length, get_or, set, slice_get, ℤ, Option, Some, None, refl, ap, sym, ◌∙◌, subst, append_assoc}
 use Rattle.heap_model.specs.declared.label.Label.{Label}
 use Rattle.heap_model.specs.declared.command.Command.{Command}
-use Rattle.heap_model.specs.declared.command.Command.TheVariants.{Copy, Forget, FullMajor, Alloc, Load, Store, Ephe as NewEphe, SetKey, UnsetKey, GetKey, CheckKey, SetData, UnsetData, GetData}
+use Rattle.heap_model.specs.declared.command.Command.TheVariants.{PutInt, Copy, Forget, Alloc, Load, Store, Ephe as NewEphe, SetKey, UnsetKey, GetKey, CheckKey, SetData, UnsetData, GetData, FullMajor}
 use Rattle.heap_model.specs.declared.entry.Entry.{Entry}
 use Rattle.heap_model.specs.declared.entry.Entry.TheVariants.{Command as CommandOf}
 use Rattle.heap_model.specs.declared.reply.Reply.{Reply}
 use Rattle.heap_model.specs.declared.reply.Reply.TheVariants.{Done, Block as BlockReply, BadType, BadIndex, Full}
 use Rattle.heap_model.specs.declared.reply.Applied.TheVariants.{Replied}
 use Rattle.heap_model.specs.declared.graph.Value.{Value}
-use Rattle.heap_model.specs.declared.graph.Value.TheVariants.{Block, Nothing}
+use Rattle.heap_model.specs.declared.graph.Value.TheVariants.{Int, Block, Nothing}
 use Rattle.heap_model.specs.declared.graph.Node.{Node}
 use Rattle.heap_model.specs.declared.graph.Node.TheVariants.{Plain, Ephe}
 use Rattle.heap_model.specs.declared.state.Sizes.{Sizes}
 use Rattle.heap_model.specs.declared.state.State.{State}
 use Rattle.heap_model.specs.Graph.{Graph, label_of, same_label, node_at, with_node}
 use Rattle.heap_model.specs.Domains.{IsWithinLimits, domain_at, register, opening}
-use Rattle.heap_model.specs.Commands.{CommandAllowed, FullOnlyWhereAllowed, MayBeFull, is_allocation, live_reply, shown, key_value, new_plain}
+use Rattle.heap_model.specs.Commands.{CommandAllowed, FullOnlyWhereAllowed, MayBeFull, is_allocation, shown, key_value, new_plain}
 use Rattle.heap_model.specs.Entries.{next, reply}
 use Rattle.heap_model.specs.History.{state_after, LegalFrom, Legal}
 use Rattle.heap_model.specs.Fronts.{NoneOf, KeepsDomain}
-use Rattle.heap_model.proofs.Commands.FrameLemmas.{inside_running, part_set}
-use Rattle.heap_model.proofs.Commands.LeavesLemmas.{Leaves, new_label, leaves_load, leaves_load_past, leaves_copy, leaves_forget, leaves_store, leaves_store_nothing, leaves_full, leaves_allocation, leaves_alloc}
+use Rattle.heap_model.proofs.Commands.FrameLemmas.{inside_running}
+use Rattle.heap_model.proofs.Commands.LeavesLemmas.{Leaves, new_label, leaves_put, leaves_load, leaves_load_past, leaves_copy, leaves_forget, leaves_store, leaves_store_nothing, leaves_full, leaves_allocation, leaves_alloc}
 use Rattle.heap_model.proofs.Graphs.GraphLemmas.{same_label_refl, node_at-with_node_same, node_at-append_new}
 use Rattle.heap_model.proofs.Histories.NumberLemmas.{next_label_after}
 use Rattle.heap_model.proofs.Histories.FrontLemmas.{keeps_front}
@@ -31,7 +31,7 @@ use Rattle.heap_model.proofs.Reach.ReachLemmas.{or_left, and_left, and_right, an
 use Rattle.table_laws.specs.Thinning.{is_collector, AllCollector, state_of, Went, Thin, Changes}
 use Rattle.table_laws.specs.Performing.{Performed, After, Remains, registers_of}
 use Rattle.table_laws.proofs.ChangeLemmas.{changes_same, changes_twice, changes_more, changes_write, changes_append}
-use Rattle.table_laws.proofs.OutcomeLemmas.{full_reply, leaves_set_key_type, leaves_get_key, leaves_check_key, leaves_get_data, leaves_set_key, leaves_unset_key, leaves_set_data, leaves_unset_data}
+use Rattle.table_laws.proofs.OutcomeLemmas.{full_reply, leaves_full_major, leaves_set_key_type, leaves_get_key, leaves_check_key, leaves_get_data, leaves_set_key, leaves_unset_key, leaves_set_data, leaves_unset_data}
 use Rattle.table_laws.proofs.CollectorLemmas.{collector_other, stretch_thins}
 
 -- each part of a legal history is legal where it stands
@@ -209,21 +209,27 @@ module _ (z : Sizes) (limits : IsWithinLimits z) (old new : List Entry) (r : Rep
       let all = reads z limits old new c r p _ _ _ refl leaves in
       (subst (λ (rs : List Value). After z old new [] (set rs dst v)) (kept z limits old new c r p).registers all.0, all.1)
 
+  pub put_step : (dst : ℕ) (v : ℤ) → Performed z old new (PutInt dst v) r → After z old new [] (set (registers_of z old) dst (Int v)) × (r ≡ Done)
+  put_step dst v p =
+      let c = PutInt dst v in
+      let leaves = leaves_put (middle z limits old new c r p) 0 (inside z limits old new c r p) dst v in
+      let all = reads z limits old new c r p _ _ _ refl leaves in
+      (subst (λ (rs : List Value). After z old new [] (set rs dst (Int v))) (kept z limits old new c r p).registers all.0, all.1)
+
+  -- a complete collection, once the collector's entries are made
+  pub full_major_step : (p : Performed z old new FullMajor r) → After z old new [] (registers_of z old) × ((state_of z new).graph ≡ (state_of z (old ++ p.between)).graph)
+  full_major_step p =
+      let c : Command = FullMajor in
+      let leaves = leaves_full_major (middle z limits old new c r p) 0 in
+      let all = reads z limits old new c r p _ _ _ refl leaves in
+      (subst (λ (rs : List Value). After z old new [] rs) (kept z limits old new c r p).registers all.0, all.2)
+
   pub forget_step : (dst : ℕ) → Performed z old new (Forget dst) r → After z old new [] (set (registers_of z old) dst Nothing) × (r ≡ Done)
   forget_step dst p =
       let c = Forget dst in
       let leaves = leaves_forget (middle z limits old new c r p) 0 (inside z limits old new c r p) dst in
       let all = reads z limits old new c r p _ _ _ refl leaves in
       (subst (λ (rs : List Value). After z old new [] (set rs dst Nothing)) (kept z limits old new c r p).registers all.0, all.1)
-
-  -- a complete collection, once the collector's entries are made
-  pub full_major_step : Performed z old new FullMajor r → After z old new [] (registers_of z old)
-  full_major_step p =
-      let c = FullMajor in
-      let s = middle z limits old new c r p in
-      let leaves : Leaves s (CommandOf 0 FullMajor false) 0 s.graph (domain_at s 0).registers (domain_at s 0).serial (Replied (live_reply s)) =
-      record { graph_is = refl; registers_are = part_set (λ y. y.registers) s.domains 0 _ refl 0; serial_is = part_set (λ y. y.serial) s.domains 0 _ refl 0; replies = refl } in
-      subst (λ (rs : List Value). After z old new [] rs) (kept z limits old new c r p).registers (reads z limits old new c r p _ _ _ refl leaves).0
 
   pub copy_step : (dst src : ℕ) (v : Value) → register before 0 src ≡ v → Performed z old new (Copy dst src) r → After z old new [] (set (registers_of z old) dst v) × (r ≡ Done)
   copy_step dst src v is p =

@@ -1,9 +1,10 @@
 -- One command of the one domain of a heap, with the collector's entries that come before it.
-use Rattle.std.specs.Prelude.{◌≡◌, ℕ, ◌+◌, Bool, true, cond, List, [], ◌∷◌, ◌++◌, Option, Some}
+use Rattle.std.specs.Prelude.{◌≡◌, ℕ, ◌+◌, Bool, true, cond, ◌&&◌, nat_le, List, [], ◌∷◌, ◌++◌, Option, Some}
 use Rattle.heap_model.specs.declared.label.Label.{Label}
 use Rattle.heap_model.specs.declared.command.Command as declared_command
+use Rattle.heap_model.specs.declared.command.Command.TheVariants.{PutInt, Copy, Forget, Alloc, AllocMaj, Load, Raw as NewRaw, Ephe as NewEphe, GetKey, GetData}
 use Rattle.heap_model.specs.declared.entry.Entry.{Entry}
-use Rattle.heap_model.specs.declared.entry.Entry.TheVariants.{Command}
+use Rattle.heap_model.specs.declared.entry.Entry.TheVariants.{Command, End, Ran}
 use Rattle.heap_model.specs.declared.graph.Value.{Value}
 use Rattle.heap_model.specs.declared.graph.Node.TheVariants.{Ephe}
 use Rattle.heap_model.specs.declared.reply.Reply.{Reply}
@@ -43,6 +44,36 @@ full_of _ = 0
 -- how many refusals a command and its reply are: only an allocation may be refused
 abbrev pub refused_by : declared_command.Command → Reply → ℕ
 refused_by c r = cond (is_allocation c) (full_of r) 0
+
+-- whether a register is one that a call writes only where it is told to: 1 to 7, as a number
+abbrev pub is_spared : ℕ → ℕ
+is_spared r = cond (nat_le 1 r && nat_le r 7) 1 0
+
+-- whether a command writes one of these, as a number
+abbrev pub writes : declared_command.Command → ℕ
+writes (PutInt dst value) = is_spared dst
+writes (Copy dst src) = is_spared dst
+writes (Forget dst) = is_spared dst
+writes (Alloc dst tag fields) = is_spared dst
+writes (AllocMaj dst tag fields) = is_spared dst
+writes (Load dst src index) = is_spared dst
+writes (NewRaw dst tag fields) = is_spared dst
+writes (NewEphe dst keys) = is_spared dst
+writes (GetKey dst ephe index) = is_spared dst
+writes (GetData dst ephe) = is_spared dst
+writes _ = 0
+
+-- and an entry: the end of a trace and a run of a finaliser may write any
+abbrev pub written : Entry → ℕ
+written (Command d c full) = writes c
+written (End d) = 1
+written (Ran d) = 1
+written _ = 0
+
+-- how many entries of a history write one of these
+abbrev pub writings : List Entry → ℕ
+writings [] = 0
+writings (e ∷ h) = written e + writings h
 
 -- what the registers hold after a history
 abbrev pub registers_of : Sizes → List Entry → List Value

@@ -63,10 +63,10 @@ pub record Linking (z : Sizes) (h : List Entry) (root : Label) (chains : List (L
   pub fresh_ephe : has_label (table_labels root chains) c.ephe ≡ false
   pub fresh_node : has_label (table_labels root chains) c.node ≡ false
 
--- each number of bindings between that of a later front and that of an earlier one is the number at some front between
+-- each number of bindings between that of a later front and that of an earlier one is the number at some front between, up to which and from which on no block was written
 abbrev pub Declines : Sizes → List Entry → List Entry → List (List Cell) → Type 0
 Declines z first now chains = (n : ℕ) → length (bindings (graph_of z now) chains) ≤ n → n ≤ length (bindings (graph_of z first) chains)
-    → (front : List Entry) × IsPrefix first front × IsPrefix front now × (length (bindings (graph_of z front) chains) ≡ n)
+    → (front : List Entry) × Goes z first front [] × Goes z front now [] × (length (bindings (graph_of z front) chains) ≡ n)
 
 -- a walk through a bucket has passed these cells, and register 9 holds what leads to the rest
 pub record Walking (z : Sizes) (h : List Entry) (root : Label) (chains : List (List Cell)) (i : ℕ) (done rest : List Cell) : Type 0 where

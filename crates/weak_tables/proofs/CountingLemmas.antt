@@ -16,20 +16,24 @@ use Rattle.heap_model.specs.History.{Legal}
 use Rattle.table_laws.specs.Structures.{Binding, Cell, bucket_count, is_weak, bound, binding_of, chain_bindings, bindings, head_of, IsCell, Links, IsTable}
 use Rattle.table_laws.specs.Thinning.{ThinnedBy, WasOutside, Went}
 use Rattle.table_laws.specs.Performing.{Performed, After, registers_of}
-use Rattle.table_laws.specs.Stages.{Walking, Declines, graph_of, held_in}
+use Rattle.table_laws.specs.Stages.{Goes, Walking, Declines, graph_of, held_in}
 use Rattle.table_laws.proofs.ChangeLemmas.{weak_kept, chain_thinned}
 use Rattle.table_laws.proofs.CellLemmas.{links_behind}
 use Rattle.table_laws.proofs.CountLemmas.{declines_both, declines_equal}
 use Rattle.table_laws.proofs.OutcomeLemmas.{full_reply}
-use Rattle.table_laws.proofs.StageLemmas.{search_begins}
+use Rattle.table_laws.proofs.StageLemmas.{goes_from, goes_reading, search_begins}
 use Rattle.table_laws.proofs.WalkLemmas.{thinned_length, reading_declines, walk_kept, walk_ephe, walk_next, walk_check, walk_passes}
 use Rattle.weak_tables.specs.Commands.{IsBlock, one_of}
 use Rattle.weak_tables.specs.Held.{KeepsOthers, HoldsTable, Reads, Cleared}
 use Rattle.weak_tables.specs.Walks.{Counting, Counted, CountedTo}
 use Rattle.weak_tables.specs.Tables.{Counts}
 use Rattle.weak_tables.proofs.SearchLemmas.{sixteen, set_here, keeps_set, below_eight, keeps_all, reads_on, reads_from, shown_block, shown_none}
-use Rattle.weak_tables.proofs.TakeLemmas.{same_registers, cleared_clean, cleared_keeps, cleared_reads}
-use Rattle.weak_tables.proofs.PutLemmas.{prefix_on, goes_both, thinned_both}
+use Rattle.weak_tables.proofs.TakeLemmas.{same_registers, cleared_clean, cleared_keeps, cleared_goes, cleared_reads}
+use Rattle.weak_tables.proofs.PutLemmas.{goes_both, thinned_both}
+
+-- a command that writes no block
+goes_after : (z : Sizes) (a b : List Entry) (rs : List Value) → Legal z a → After z a b [] rs → Goes z a b []
+goes_after z a b rs legal after = goes_reading z a a b [] rs (goes_from z a [] legal) after
 
 one_bound : (key : Option Label) (datum : Value) → one_of (full_reply key) ≡ length (bound key datum)
 one_bound None datum = refl
@@ -117,8 +121,8 @@ module _ (z : Sizes) (limits : IsWithinLimits z) (root : Label) (chains : List (
     keeps_g = same_registers z first f g (keeps_set z limits first now f 8 _ load.0.registers_are x.keeps (λ r a b c. a)) check.2.registers_are
 
     declines_g : Declines z first g chains
-    declines_g = declines_both z chains first f g reads_f.goes.grows check.2.grows
-        (declines_both z chains first now f x.reads.goes.grows load.0.grows x.declines (reading_declines z limits now f (Load 8 9 0) r p (λ s. refl) root chains x.reads.table))
+    declines_g = declines_both z chains first f g reads_f.goes (goes_after z f g _ reads_f.goes.legal check.2)
+        (declines_both z chains first now f x.reads.goes (goes_after z now f _ x.reads.goes.legal load.0) x.declines (reading_declines z limits now f (Load 8 9 0) r p (λ s. refl) root chains x.reads.table))
         (reading_declines z limits f g (CheckKey 8 0) s q (λ s. refl) root chains reads_f.table)
 
     -- the cell as it was at the start
@@ -157,7 +161,7 @@ module _ (z : Sizes) (limits : IsWithinLimits z) (root : Label) (chains : List (
         let before = x.low in record {
           reads = reads_on z first g h _ root chains reads_g t.0;
           keeps = keeps_set z limits first g h 9 _ t.0.registers_are keeps_g (λ r a b c. b);
-          declines = declines_both z chains first g h reads_g.goes.grows t.0.grows declines_g (reading_declines z limits g h (Load 9 9 1) u w (λ s. refl) root chains reads_g.table);
+          declines = declines_both z chains first g h reads_g.goes (goes_after z g h _ reads_g.goes.legal t.0) declines_g (reading_declines z limits g h (Load 9 9 1) u w (λ s. refl) root chains reads_g.table);
           done = x.done ++ cell.0 ∷ [];
           rest = cell.1;
           walking = passed;
@@ -218,7 +222,7 @@ module _ (z : Sizes) (limits : IsWithinLimits z) (root : Label) (chains : List (
   counted_none legal table = record {
     reads = reads_from z old root chains legal table;
     keeps = keeps_all z old;
-    declines = declines_equal z chains old old (record { rest = []; appends = sym (append-nil old) }) refl;
+    declines = declines_equal z chains old old legal (goes_from z old [] legal) refl;
     low = nothing chains;
     high = omega arith;
   } where
@@ -253,7 +257,7 @@ module _ (z : Sizes) (limits : IsWithinLimits z) (root : Label) (chains : List (
             thinned = thinned_both z old f g x.reads.goes.grows y.reads.goes.grows _ _ _ x.reads.thinned y.reads.thinned;
           };
           keeps = λ r p q s. y.keeps r p q s ∙ x.keeps r p q s;
-          declines = declines_both z chains old f g x.reads.goes.grows y.reads.goes.grows x.declines y.declines;
+          declines = declines_both z chains old f g x.reads.goes y.reads.goes x.declines y.declines;
           low = omega (arith, sum, less, a, b);
           high = high_next;
         }
@@ -267,8 +271,8 @@ module _ (z : Sizes) (limits : IsWithinLimits z) (root : Label) (chains : List (
         leaves = record { reads = cleared_reads z limits f new c root chains old x.reads; clean = cleared_clean z limits f new c };
         keeps = cleared_keeps z limits f new c old x.keeps;
         front = t.0;
-        since = t.1;
-        until = prefix_on t.0 f new t.2 (prefix_on f c.first new c.eight.grows (prefix_on c.first c.second new c.nine.grows c.ten.grows));
+        before = t.1;
+        behind = cleared_goes z limits f new c t.0 [] t.2;
         number = t.3;
         many = high;
         few =

@@ -432,6 +432,7 @@ module _ (z : Sizes) (limits : IsWithinLimits z) (root : Label) (chains : List (
         front = f;
         since = x.reads.goes.grows;
         until = until_new t.1.grows c;
+        rest = cleared_reads z limits g new c root chains f (reads_on z f f g _ root chains (reads_from z f root chains x.reads.goes.legal x.reads.table) t.1);
         found = Some x.datum;
         bound = holding_datum z limits root chains k kr at x.done x.cell x.rest f (Some k) x.datum x.holding ∙ rw (same_label_refl k) refl;
         answers = t.2 ∙ ap shown w.1;
@@ -447,6 +448,7 @@ module _ (z : Sizes) (limits : IsWithinLimits z) (root : Label) (chains : List (
         front = f;
         since = x.reads.goes.grows;
         until = until_new t.0.grows c;
+        rest = cleared_reads z limits g new c root chains f (reads_on z f f g _ root chains (reads_from z f root chains x.reads.goes.legal x.reads.table) t.0);
         found = None;
         bound = x.none;
         answers = refl;

@@ -69,7 +69,7 @@ no_neighbour_is_unlinked z old new root chains k j x other reached = thinned_dat
 -- a count counts no emptied cell
 pub no_emptied_cell_counts : (z : Sizes) (old new : List Entry) (root : Label) (chains : List (List Cell)) (count : ℕ) → Counts z old new root chains count
     → ((front : List Entry) → IsPrefix old front → IsPrefix front new → bindings (graph_of z front) chains ≡ []) → count ≡ 0
-no_emptied_cell_counts z old new root chains count x none = sym x.number ∙ ap length (none x.front x.since x.until)
+no_emptied_cell_counts z old new root chains count x none = sym x.number ∙ ap length (none x.front x.before.grows x.behind.grows)
 
 -- a command is made once
 pub no_command_is_made_twice : (z : Sizes) (old new : List Entry) (c : Command) (r : Reply) → Performed z old new c r → commands new 0 ≡ commands old 0 ++ c ∷ []

@@ -1,11 +1,12 @@
 -- What `weak_get` and `weak_set` leave.
-use Rattle.std.proofs.Common.{◌≡◌, ◌⊎◌, inl, ⊎_elim, ℕ, zero, suc, ◌<◌, ◌≤◌, true, false, not, IsTrue, List, [], ◌∷◌, map, length, set, slice_get, Option, Some, None, refl, ap, sym, ◌∙◌, subst, arith}
+use Rattle.std.proofs.Common.{◌≡◌, ◌⊎◌, inl, inr, ⊎_elim, ℕ, zero, suc, ◌<◌, ◌≤◌, true, false, not, IsTrue, List, [], ◌∷◌, map, length, set, slice_get, Option, Some, None, refl, ap, sym, ◌∙◌, subst, arith}
 use Rattle.heap_model.specs.declared.label.Label.{Label}
 use Rattle.heap_model.specs.declared.command.Command.TheVariants.{Load, SetKey, GetKey}
 use Rattle.heap_model.specs.declared.entry.Entry.{Entry}
 use Rattle.heap_model.specs.declared.reply.Reply.{Reply}
 use Rattle.heap_model.specs.declared.reply.Reply.TheVariants as reply
 use Rattle.heap_model.specs.declared.graph.Value.{Value}
+use Rattle.heap_model.specs.Commands.{key_value}
 use Rattle.heap_model.specs.declared.graph.Value.TheVariants.{Int, Block, Nothing}
 use Rattle.heap_model.specs.declared.graph.Node.{Node}
 use Rattle.heap_model.specs.declared.graph.Node.TheVariants.{Plain, Raw, Ephe}
@@ -57,7 +58,7 @@ module _ (z : Sizes) (root : Label) (slots : List Label) where
   reads_cleared : (first old new : List Entry) → ReadsArray z first old root slots → Cleared z old new → ReadsArray z first new root slots
   reads_cleared first old new x c = reads_on first c.second new _ (reads_on first c.first c.second _ (reads_on first old c.first _ x c.eight) c.nine) c.ten
 
-past_end : (slots : List Label) (i : ℕ) → slice_get slots i ≡ None → length slots ≤ i
+pub past_end : (slots : List Label) (i : ℕ) → slice_get slots i ≡ None → length slots ≤ i
 past_end [] i none = omega arith
 past_end (x ∷ slots) zero none = cc
 past_end (x ∷ slots) (suc i) none = let rest = past_end slots i none in omega arith
@@ -74,6 +75,27 @@ weak_parts (Some (Raw tag fields)) w = cc
 weak_parts (Some (Ephe [] datum)) w = cc
 weak_parts (Some (Ephe (key ∷ []) datum)) w = (key, datum, refl)
 weak_parts (Some (Ephe (key ∷ other ∷ keys) datum)) w = cc
+
+-- a slot's key stays where it isn't one that may be taken
+pub emptied_stays : (P : Label → Type 0) (i : ℕ) (a b : List (Option Label)) (key : Option Label) → EmptiedBy P a b → ((k : Label) → key ≡ Some k → P k → ⊥) → slice_get a i ≡ Some key → slice_get b i ≡ Some key
+emptied_stays P i [] b key e kept at = cc
+emptied_stays P zero (x ∷ a) b key (now, rest, is, inl same, later) kept at = let first : x ≡ key = cc in ap (λ (ks : List (Option Label)). slice_get ks 0) is ∙ ap Some (same ∙ first)
+emptied_stays P zero (x ∷ a) b key (now, rest, is, inr (none, (k, was, gone)), later) kept at = absurd (let first : x ≡ key = cc in kept k (sym first ∙ was) gone)
+emptied_stays P (suc i) (x ∷ a) b key (now, rest, is, here, later) kept at = ap (λ (ks : List (Option Label)). slice_get ks (suc i)) is ∙ emptied_stays P i a rest key later kept at
+
+-- while a register below 8 holds it
+module _ (z : Sizes) (limits : IsWithinLimits z) (root : Label) (slots : List Label) (old new : List Entry) (c : Cleared z old new) (index r : ℕ) (few : r < 8) (key : Option Label) (held : held_in z old r ≡ key_value key) where
+  slot_after : (a b : List Entry) (rs : List Value) → After z a b [] rs → held_in z a r ≡ key_value key → IsWeakArray (graph_of z a) root slots → slice_get (slot_keys (graph_of z a) slots) index ≡ Some key → slice_get (slot_keys (graph_of z b) slots) index ≡ Some key
+  slot_after a b rs after here array at =
+      emptied_stays (Went z a b) index _ _ key (keys_emptied (Went z a b) [] (graph_of z a) (graph_of z b) after.changes slots (λ l h. refl) array.weak) (λ k is went. went.unheld 0 r (here ∙ ap key_value is)) at
+
+  slot_cleared : IsWeakArray (graph_of z old) root slots → slice_get (slot_keys (graph_of z old) slots) index ≡ Some key → slice_get (slot_keys (graph_of z new) slots) index ≡ Some key
+  slot_cleared array at =
+      let h1 : held_in z c.first r ≡ key_value key = set_other z limits old old c.first 8 Nothing c.eight.registers_are r (λ e. absurd (omega arith)) ∙ held in
+      let h2 : held_in z c.second r ≡ key_value key = set_other z limits old c.first c.second 9 Nothing c.nine.registers_are r (λ e. absurd (omega arith)) ∙ h1 in
+      let a1 = array_kept (Went z old c.first) [] (graph_of z old) (graph_of z c.first) c.eight.changes root slots (λ l h. refl) array in
+      let a2 = array_kept (Went z c.first c.second) [] (graph_of z c.first) (graph_of z c.second) c.nine.changes root slots (λ l h. refl) a1 in
+      slot_after c.second new _ c.ten h2 a2 (slot_after c.first c.second _ c.nine h1 a1 (slot_after old c.first _ c.eight held array at))
 
 module _ (z : Sizes) (limits : IsWithinLimits z) (root : Label) (slots : List Label) (ar index : ℕ) (first f : List Entry) (r : Reply) (legal : Legal z first) (held : held_in z first ar ≡ Block root) (array : IsWeakArray (graph_of z first) root slots)
     (p : Performed z first f (Load 8 ar index) r) where
@@ -116,6 +138,7 @@ module _ (z : Sizes) (limits : IsWithinLimits z) (root : Label) (slots : List La
             until = prefix_on g c.first new c.eight.grows (prefix_on c.first c.second new c.nine.grows c.ten.grows);
             key = t.0.key_now;
             slot = slot_key (graph_of z g) slots index e at ∙ ap (λ (o : Option Node). Some (key_of o)) t.3;
+            still = slot_cleared z limits root slots g new c index dst few t.0.key_now (set_here z limits first f g dst _ t.1.registers_are (omega arith)) reads_g.array (slot_key (graph_of z g) slots index e at ∙ ap (λ (o : Option Node). Some (key_of o)) t.3);
             answers = t.2;
             holds = below_eight z g new dst few (cleared_keeps z limits g new c g (keeps_all z g)) ∙ set_here z limits first f g dst _ t.1.registers_are (omega arith);
           }

@@ -1,5 +1,5 @@
 -- What `table_take` leaves.
-use Rattle.std.proofs.Common.{◌≡◌, inl, inr, ⊎_elim, ℕ, ◌<◌, ◌%◌, Bool, true, false, IsTrue, List, [], ◌∷◌, get_or, Option, Some, None, refl, ap, sym, ◌∙◌, subst, arith}
+use Rattle.std.proofs.Common.{◌≡◌, inl, inr, ⊎_elim, ℕ, ◌<◌, ◌%◌, Bool, true, false, cond, ◌||◌, IsTrue, List, [], ◌∷◌, get_or, Option, Some, None, refl, ap, sym, ◌∙◌, subst, arith}
 use Rattle.heap_model.specs.declared.label.Label.{Label}
 use Rattle.heap_model.specs.declared.command.Command.TheVariants.{Forget, UnsetKey, UnsetData}
 use Rattle.heap_model.specs.declared.entry.Entry.{Entry}
@@ -12,7 +12,7 @@ use Rattle.heap_model.specs.Graph.{same_label, has_label, label_of}
 use Rattle.heap_model.specs.Commands.{shown}
 use Rattle.heap_model.specs.declared.command.Command.{Command}
 use Rattle.heap_model.specs.Domains.{IsWithinLimits}
-use Rattle.heap_model.proofs.Graphs.GraphLemmas.{same_label-true}
+use Rattle.heap_model.proofs.Graphs.GraphLemmas.{same_label-true, same_label_refl}
 use Rattle.heap_model.proofs.Reach.ReachLemmas.{or_cases, or_right}
 use Rattle.table_laws.specs.Structures.{Binding, Cell, bucket_count, bindings, datum_at, without, keys_of, table_labels, IsTable}
 use Rattle.table_laws.specs.Thinning.{ThinnedBy, WasOutside, Went}
@@ -34,6 +34,27 @@ use Rattle.weak_tables.proofs.SearchLemmas.{set_here, set_other, keeps_set, belo
 -- what isn't bound isn't bound where some is taken
 pub thinned_none : (P : Label → Type 0) (k : Label) (a b : List Binding) → ThinnedBy P a b → datum_at a k ≡ None → datum_at b k ≡ None
 thinned_none P k a b t none = key_unbound k b (lacks (keys_of b) k (λ there. not_both (keys_of a) k (thinned_keys P a b k t there) (unbound_key k a none)))
+
+-- what is bound was bound where more was
+some_bound : (bs : List Binding) (k : Label) → IsTrue (has_label (keys_of bs) k) → (w : Value) × (datum_at bs k ≡ Some w)
+some_bound [] k h = absurd (let clash : false ≡ true = h in cc)
+some_bound (b ∷ bs) k h = go (same_label b.0 k) refl h (some_bound bs k)
+  where
+    go : (c : Bool) → same_label b.0 k ≡ c → IsTrue (same_label b.0 k || has_label (keys_of bs) k) → (IsTrue (has_label (keys_of bs) k) → (w : Value) × (datum_at bs k ≡ Some w)) → (w : Value) × (cond (same_label b.0 k) (Some b.1) (datum_at bs k) ≡ Some w)
+    go true e h rest = (b.1, ap (λ d. cond d (Some b.1) (datum_at bs k)) e)
+    go false e h rest =
+        let t = rest (⊎_elim (λ same. absurd (let clash : false ≡ true = sym e ∙ same in cc)) (λ later. later) (or_cases (same_label b.0 k) (has_label (keys_of bs) k) h)) in
+        (t.0, ap (λ d. cond d (Some b.1) (datum_at bs k)) e ∙ t.1)
+
+bound_key : (bs : List Binding) (k : Label) (v : Value) → datum_at bs k ≡ Some v → IsTrue (has_label (keys_of bs) k)
+bound_key bs k v is = go (has_label (keys_of bs) k) refl
+  where
+    go : (c : Bool) → has_label (keys_of bs) k ≡ c → IsTrue (has_label (keys_of bs) k)
+    go true e = e
+    go false e = absurd (let clash : ◌≡◌ {A = Option Value} None (Some v) = sym (key_unbound k bs e) ∙ is in cc)
+
+thinned_bound : (P : Label → Type 0) (k : Label) (a b : List Binding) (v : Value) → ThinnedBy P a b → datum_at b k ≡ Some v → (w : Value) × (datum_at a k ≡ Some w)
+thinned_bound P k a b v t is = some_bound a k (thinned_keys P a b k t (bound_key b k v is))
 
 pub goes_wider : (z : Sizes) (first now : List Entry) (own more : List Label) → ((l : Label) → IsTrue (has_label own l) → IsTrue (has_label more l)) → Goes z first now own → Goes z first now more
 goes_wider z first now own more within g = record { legal = g.legal; grows = g.grows; changes = changes_more (WasOutside z first now) (WasOutside z first now) own more _ _ (λ k w. w) within g.changes }
@@ -147,6 +168,9 @@ module _ (z : Sizes) (limits : IsWithinLimits z) (root : Label) (chains : List (
   left_h : ThinnedBy (WasOutside z first h) (without k (bindings (graph_of z first) chains)) (without k (bindings (graph_of z h) chains))
   left_h = thinned_on z first g h _ _ _ goes_g.grows second_step.0.grows (thinned_on z first f g _ _ _ goes_f.grows first_step.0.grows left_f first_step.3) second_step.3
 
+  bound_first : (w : Value) × (datum_at (bindings (graph_of z first) chains) k ≡ Some w)
+  bound_first = thinned_bound (WasOutside z first f) k _ _ x.datum x.reads.thinned (holding_datum z limits root chains k kr i x.done x.cell x.rest f (Some k) x.datum x.holding ∙ rw (same_label_refl k) refl)
+
   pub take_done : Takes z first new root chains k
   take_done =
       let none_h : datum_at (bindings (graph_of z h) chains) k ≡ None = holding_datum z limits root chains k kr i x.done x.cell x.rest h None Nothing second_step.2 in
@@ -155,6 +179,8 @@ module _ (z : Sizes) (limits : IsWithinLimits z) (root : Label) (chains : List (
         keeps = cleared_keeps z limits h new c first (same_registers z first g h (same_registers z first f g x.keeps first_step.0.registers_are) second_step.0.registers_are);
         clean = cleared_clean z limits h new c;
         table = cleared_table z limits h new c root chains second_step.2.table;
+        was = bound_first.0;
+        bound = bound_first.1;
         left = subst (λ (bs : List Binding). ThinnedBy (WasOutside z first new) (without k (bindings (graph_of z first) chains)) bs) (without_unbound k _ none)
             (cleared_without z limits h new c root chains first k _ (table_labels root chains) goes_h second_step.2.table left_h);
         none = none;

@@ -19,7 +19,7 @@ pub record Spares (z : Sizes) (old new : List Entry) (root : Label) (slots : Lis
   pub reads : ReadsArray z old new root slots
   pub keeps : KeepsOthers z old new
 
--- `weak_get` within the slots: the key that the slot had on the way, in a register
+-- `weak_get` within the slots: the key that the slot had on the way, and has still, in a register
 pub record GetsSlot (z : Sizes) (old new : List Entry) (root : Label) (slots : List Label) (dst index : ℕ) (r : Reply) : Type 0 where
   pub reads : ReadsArray z old new root slots
   pub keeps : (r : ℕ) → r ≢ 8 → r ≢ 9 → r ≢ 10 → r ≢ dst → held_in z new r ≡ held_in z old r
@@ -29,6 +29,7 @@ pub record GetsSlot (z : Sizes) (old new : List Entry) (root : Label) (slots : L
   pub until : IsPrefix front new
   pub key : Option Label
   pub slot : slice_get (slot_keys (graph_of z front) slots) index ≡ Some key
+  pub still : slice_get (slot_keys (graph_of z new) slots) index ≡ Some key
   pub answers : r ≡ shown (key_value key)
   pub holds : held_in z new dst ≡ key_value key
 

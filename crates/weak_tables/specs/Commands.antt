@@ -1,14 +1,15 @@
 -- The commands of which the calls are made, and what their replies show.
-use Rattle.std.specs.Prelude.{ℕ, ◌<◌, ◌≤◌, Option, Some, None}
+use Rattle.std.specs.Prelude.{ℕ, ◌<◌, ◌≤◌, pos, neg_ℤ, ◌≤ℤ◌, Option, Some, None}
 use Rattle.heap_model.specs.declared.command.Command.{Command}
-use Rattle.heap_model.specs.declared.command.Command.TheVariants.{Copy, Forget, Alloc, Load, Store, Ephe, SetKey, UnsetKey, GetKey, CheckKey, SetData, UnsetData, GetData}
+use Rattle.heap_model.specs.declared.command.Command.TheVariants.{PutInt, Copy, Forget, Alloc, Load, Store, Ephe, SetKey, UnsetKey, GetKey, CheckKey, SetData, UnsetData, GetData, FullMajor}
 use Rattle.heap_model.specs.declared.graph.Value.{Value}
 use Rattle.heap_model.specs.declared.graph.Value.TheVariants.{Nothing}
 use Rattle.heap_model.specs.declared.reply.Reply.{Reply}
 use Rattle.heap_model.specs.declared.reply.Reply.TheVariants as reply
 
--- the commands of which the calls are made, with their numbers in their ranges
+-- the commands of which the calls are made, an integer and a complete collection, with their numbers in their ranges
 abbrev pub IsCallCommand : Command → Type 0
+IsCallCommand (PutInt dst value) = (dst < 16) × (neg_ℤ (pos 4611686018427387904) ≤ℤ value) × (value ≤ℤ pos 4611686018427387903)
 IsCallCommand (Copy dst src) = (dst < 16) × (src < 16)
 IsCallCommand (Forget dst) = dst < 16
 IsCallCommand (Alloc dst tag fields) = (dst < 16) × (tag ≤ 245) × (1 ≤ fields) × (fields ≤ 1022)
@@ -22,6 +23,7 @@ IsCallCommand (CheckKey ephe index) = ephe < 16
 IsCallCommand (SetData ephe item) = (ephe < 16) × (item < 16)
 IsCallCommand (UnsetData ephe) = ephe < 16
 IsCallCommand (GetData dst ephe) = (dst < 16) × (ephe < 16)
+IsCallCommand FullMajor = Unit {0}
 IsCallCommand _ = ⊥
 
 -- a reply that shows a block

@@ -17,12 +17,14 @@ use Rattle.weak_tables.specs.Commands.{value_of}
 use Rattle.weak_tables.specs.Held.{KeepsOthers, IsClean, Reads}
 use Rattle.weak_tables.specs.Walks.{Grows, Refused}
 
--- what `table_take` leaves: the table binds what it bound, without the key
+-- what `table_take` leaves of a table that bound the key: it binds what it bound, without the key
 pub record Takes (z : Sizes) (old new : List Entry) (root : Label) (chains : List (List Cell)) (k : Label) : Type 0 where
   pub goes : Goes z old new (table_labels root chains)
   pub keeps : KeepsOthers z old new
   pub clean : IsClean z new
   pub table : IsTable (graph_of z new) root chains
+  pub was : Value
+  pub bound : datum_at (bindings (graph_of z old) chains) k ≡ Some was
   pub left : ThinnedBy (WasOutside z old new) (without k (bindings (graph_of z old) chains)) (bindings (graph_of z new) chains)
   pub none : datum_at (bindings (graph_of z new) chains) k ≡ None
 
@@ -46,6 +48,7 @@ pub record Gets (z : Sizes) (old new : List Entry) (root : Label) (chains : List
   pub front : List Entry
   pub since : IsPrefix old front
   pub until : IsPrefix front new
+  pub rest : Reads z front new root chains
   pub found : Option Value
   pub bound : datum_at (bindings (graph_of z front) chains) k ≡ found
   pub answers : r ≡ shown (value_of found)
@@ -90,13 +93,13 @@ pub record MakesNone (z : Sizes) (old new : List Entry) : Type 0 where
 abbrev pub MakeAnswers : Sizes → List Entry → List Entry → ℕ → Reply → Type 0
 MakeAnswers z old new dst r = ((root : Label) × (r ≡ reply.Block root) × Makes z old new dst root) ⊎ ((r ≡ reply.Full) × MakesNone z old new)
 
--- `table_count`: the number of bindings at some front from the first, where there are no fewer, to the last, where there are no more
+-- `table_count`: the number of bindings at some front, up to which and from which on no block was written, from the first, where there are no fewer, to the last, where there are no more
 pub record Counts (z : Sizes) (old new : List Entry) (root : Label) (chains : List (List Cell)) (count : ℕ) : Type 0 where
   pub leaves : Leaves z old new root chains
   pub keeps : KeepsOthers z old new
   pub front : List Entry
-  pub since : IsPrefix old front
-  pub until : IsPrefix front new
+  pub before : Goes z old front []
+  pub behind : Goes z front new []
   pub number : length (bindings (graph_of z front) chains) ≡ count
   pub many : count ≤ length (bindings (graph_of z old) chains)
   pub few : length (bindings (graph_of z new) chains) ≤ count

@@ -3,7 +3,7 @@ ghost use Rattle.std.specs.Prelude.{◌≡◌, ◌<◌, ◌≤◌, List};
 ghost use Rattle.heap_model.specs.declared.graph.Value.TheVariants.{Block};
 ghost use Rattle.heap_model.specs.declared.label.Label as labels;
 ghost use Rattle.table_laws.specs.Structures.{Cell, IsTable};
-ghost use Rattle.table_laws.specs.Performing.{refusals};
+ghost use Rattle.table_laws.specs.Performing.{refusals, writings};
 ghost use Rattle.table_laws.specs.Stages.{graph_of, held_in};
 ghost use Rattle.weak_tables.specs.Held.{HoldsTable};
 ghost use Rattle.weak_tables.specs.Walks.{Counted};
@@ -24,6 +24,7 @@ fn count_bucket<M: Machine, R: Wait>(m: &mut M, rt: &R, table: u8, index: u16) -
     ensures labels { M.labels_left m.new ≡ M.labels_left m.old }
     ensures room { M.ephes_room m.old ≤ M.ephes_room m.new }
     ensures given { refusals (M.front m.new) ≡ refusals (M.front m.old) }
+    ensures written { writings (M.front m.new) ≡ writings (M.front m.old) }
     ensures counted { (root : labels.Label) (chains : List (List Cell)) → held_in (M.sizes m.old) (M.front m.old) table ≡ Block root → IsTable (graph_of (M.sizes m.old) (M.front m.old)) root chains
         → Counted (M.sizes m.old) (M.front m.old) (M.front m.new) root chains index result }
 {
@@ -75,6 +76,7 @@ pub fn table_count<M: Machine, R: Wait>(m: &mut M, rt: &R, table: u8) -> u32
     ensures labels { M.labels_left m.new ≡ M.labels_left m.old }
     ensures room { M.ephes_room m.old ≤ M.ephes_room m.new }
     ensures given { refusals (M.front m.new) ≡ refusals (M.front m.old) }
+    ensures written { writings (M.front m.new) ≡ writings (M.front m.old) }
     ensures counts { (root : labels.Label) (chains : List (List Cell)) → held_in (M.sizes m.old) (M.front m.old) table ≡ Block root → IsTable (graph_of (M.sizes m.old) (M.front m.old)) root chains
         → Counts (M.sizes m.old) (M.front m.old) (M.front m.new) root chains result }
 {

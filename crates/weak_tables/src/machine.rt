@@ -6,7 +6,7 @@ ghost use Rattle.heap_model.specs.Domains.{IsWithinLimits, domain_at};
 ghost use Rattle.heap_model.specs.History.{Legal};
 ghost use Rattle.heap_model.specs.Commands.{shown};
 ghost use Rattle.table_laws.specs.Thinning.{state_of};
-ghost use Rattle.table_laws.specs.Performing.{Performed, refusals, full_of};
+ghost use Rattle.table_laws.specs.Performing.{Performed, refusals, full_of, writes, writings};
 ghost use Rattle.table_laws.specs.Stages.{held_in};
 ghost use Rattle.command_counts.specs.Counts.{labels_of, labels_given, ephemerons_of, ephemerons_given};
 ghost use Rattle.weak_tables.specs.Commands.{IsCallCommand};
@@ -69,6 +69,7 @@ pub(crate) fn perform<M: Machine, R: Wait>(m: &mut M, rt: &R, c: Command) -> Rep
     ensures room { M.ephes_room m.old ≤ M.ephes_room m.new + ephemerons_of c }
     ensures refused { refusals (M.front m.new) ≡ refusals (M.front m.old) + full_of result }
     ensures given { labels_given c result + full_of result ≡ labels_of c }
+    ensures written { writings (M.front m.new) ≡ writings (M.front m.old) + writes c }
     ensures performed { Performed (M.sizes m.old) (M.front m.old) (M.front m.new) c result }
 {
     m.stands();

@@ -4,7 +4,7 @@ ghost use Rattle.heap_model.specs.declared.graph.Value.TheVariants.{Block};
 ghost use Rattle.heap_model.specs.declared.label.Label as labels;
 ghost use Rattle.heap_model.specs.Graph.{label_of};
 ghost use Rattle.table_laws.specs.Structures.{Cell, IsTable, bindings, datum_at, is_bucket_full};
-ghost use Rattle.table_laws.specs.Performing.{refusals, full_of};
+ghost use Rattle.table_laws.specs.Performing.{refusals, full_of, writings, is_spared};
 ghost use Rattle.table_laws.specs.Stages.{graph_of, held_in};
 ghost use Rattle.weak_tables.specs.Held.{HoldsTable};
 ghost use Rattle.weak_tables.specs.Walks.{CellAnswers, LinksCell, Placed};
@@ -28,6 +28,7 @@ fn make_cell<M: Machine, R: Wait>(m: &mut M, rt: &R) -> bool
     ensures labels { M.labels_left m.old ≤ M.labels_left m.new + 2 }
     ensures room { M.ephes_room m.old ≤ M.ephes_room m.new + 1 }
     ensures refused { refusals (M.front m.new) ≡ refusals (M.front m.old) + cond result 0 1 }
+    ensures written { writings (M.front m.new) ≡ writings (M.front m.old) }
     ensures made { CellAnswers (M.sizes m.old) (M.front m.old) (M.front m.new) result }
 {
     let ephe = perform(m, rt, Command::Ephe { dst: 8, keys: 1 });
@@ -53,6 +54,7 @@ fn link_cell<M: Machine, R: Wait>(m: &mut M, rt: &R, table: u8, index: u16)
     ensures labels { M.labels_left m.new ≡ M.labels_left m.old }
     ensures room { M.ephes_room m.old ≤ M.ephes_room m.new }
     ensures refused { refusals (M.front m.new) ≡ refusals (M.front m.old) }
+    ensures written { writings (M.front m.new) ≡ writings (M.front m.old) }
     ensures links { LinksCell (M.sizes m.old) (M.front m.old) (M.front m.new) table index }
 {
     let _first = perform(
@@ -104,6 +106,7 @@ fn grow<M: Machine, R: Wait>(m: &mut M, rt: &R, table: u8, label: &Label) -> boo
     ensures labels { M.labels_left m.old ≤ M.labels_left m.new + 2 }
     ensures room { M.ephes_room m.old ≤ M.ephes_room m.new + 1 }
     ensures refused { refusals (M.front m.new) ≡ refusals (M.front m.old) + cond result 0 1 }
+    ensures written { writings (M.front m.new) ≡ writings (M.front m.old) }
     ensures placed { (root : labels.Label) (chains : List (List Cell)) → held_in (M.sizes m.old) (M.front m.old) table ≡ Block root → IsTable (graph_of (M.sizes m.old) (M.front m.old)) root chains
         → datum_at (bindings (graph_of (M.sizes m.old) (M.front m.old)) chains) label.now ≡ None → (full : Bool) → IsTrue full → Placed (M.sizes m.old) (M.front m.old) (M.front m.new) root chains label.now full result }
 {
@@ -127,6 +130,7 @@ fn place<M: Machine, R: Wait>(m: &mut M, rt: &R, table: u8, key: u8, label: &Lab
     ensures labels { M.labels_left m.old ≤ M.labels_left m.new + 2 }
     ensures room { M.ephes_room m.old ≤ M.ephes_room m.new + 1 }
     ensures refused { refusals (M.front m.new) ≡ refusals (M.front m.old) + cond result 0 1 }
+    ensures written { writings (M.front m.new) ≡ writings (M.front m.old) }
     ensures placed { (root : labels.Label) (chains : List (List Cell)) → held_in (M.sizes m.old) (M.front m.old) table ≡ Block root → IsTable (graph_of (M.sizes m.old) (M.front m.old)) root chains
         → Placed (M.sizes m.old) (M.front m.old) (M.front m.new) root chains label.now (is_bucket_full (graph_of (M.sizes m.old) (M.front m.old)) label.now chains) result }
 {
@@ -153,6 +157,7 @@ pub fn table_put<M: Machine, R: Wait>(m: &mut M, rt: &R, table: u8, key: u8, ite
     ensures labels { M.labels_left m.old ≤ M.labels_left m.new + 2 }
     ensures room { M.ephes_room m.old ≤ M.ephes_room m.new + 1 }
     ensures refused { refusals (M.front m.new) ≡ refusals (M.front m.old) + full_of result }
+    ensures written { writings (M.front m.new) ≡ writings (M.front m.old) }
     ensures answer { (root : labels.Label) (chains : List (List Cell)) → held_in (M.sizes m.old) (M.front m.old) table ≡ Block root → IsTable (graph_of (M.sizes m.old) (M.front m.old)) root chains
         → PutAnswers (M.sizes m.old) (M.front m.old) (M.front m.new) root chains (label_of (held_in (M.sizes m.old) (M.front m.old) key)) (held_in (M.sizes m.old) (M.front m.old) item) result }
 {
@@ -192,6 +197,7 @@ pub fn table_get<M: Machine, R: Wait>(m: &mut M, rt: &R, dst: u8, table: u8, key
     ensures labels { M.labels_left m.new ≡ M.labels_left m.old }
     ensures room { M.ephes_room m.old ≤ M.ephes_room m.new }
     ensures refused { refusals (M.front m.new) ≡ refusals (M.front m.old) + full_of result }
+    ensures written { writings (M.front m.new) ≤ writings (M.front m.old) + is_spared dst }
     ensures answer { (root : labels.Label) (chains : List (List Cell)) → held_in (M.sizes m.old) (M.front m.old) table ≡ Block root → IsTable (graph_of (M.sizes m.old) (M.front m.old)) root chains
         → GetAnswers (M.sizes m.old) (M.front m.old) (M.front m.new) root chains dst (label_of (held_in (M.sizes m.old) (M.front m.old) key)) result }
 {

@@ -2,7 +2,7 @@
 ghost use Rattle.std.specs.Prelude.{◌≡◌, ◌<◌, ◌≤◌, ◌%◌};
 ghost use Rattle.heap_model.specs.declared.graph.Value.TheVariants.{Block};
 ghost use Rattle.table_laws.specs.Structures.{bucket_count};
-ghost use Rattle.table_laws.specs.Performing.{refusals};
+ghost use Rattle.table_laws.specs.Performing.{refusals, writings};
 ghost use Rattle.table_laws.specs.Stages.{held_in};
 ghost use Rattle.weak_tables.specs.Held.{HoldsTable};
 ghost use Rattle.weak_tables.specs.Walks.{KeepsSpare, LooksUp, Searched, passed_all};
@@ -38,6 +38,7 @@ fn keep_spare<M: Machine, R: Wait>(m: &mut M, rt: &R, found: &Reply, spare: bool
     ensures labels { M.labels_left m.new ≡ M.labels_left m.old }
     ensures room { M.ephes_room m.old ≤ M.ephes_room m.new }
     ensures given { refusals (M.front m.new) ≡ refusals (M.front m.old) }
+    ensures written { writings (M.front m.new) ≡ writings (M.front m.old) }
     ensures kept { KeepsSpare (M.sizes m.old) (M.front m.old) (M.front m.new) found.now spare result }
 {
     if spare {
@@ -74,6 +75,7 @@ pub(crate) fn search<M: Machine, R: Wait>(
     ensures labels { M.labels_left m.new ≡ M.labels_left m.old }
     ensures room { M.ephes_room m.old ≤ M.ephes_room m.new }
     ensures given { refusals (M.front m.new) ≡ refusals (M.front m.old) }
+    ensures written { writings (M.front m.new) ≡ writings (M.front m.old) }
     ensures searched { Searched (M.sizes m.old) (M.front m.old) (M.front m.new) table label.now result }
 {
     m.stands();
@@ -150,6 +152,7 @@ pub(crate) fn look_up<M: Machine, R: Wait>(
     ensures labels { M.labels_left m.new ≡ M.labels_left m.old }
     ensures room { M.ephes_room m.old ≤ M.ephes_room m.new }
     ensures given { refusals (M.front m.new) ≡ refusals (M.front m.old) }
+    ensures written { writings (M.front m.new) ≡ writings (M.front m.old) }
     ensures found { LooksUp (M.sizes m.old) (M.front m.old) (M.front m.new) table label.now result }
 {
     m.stands();

@@ -4,7 +4,7 @@ ghost use Rattle.heap_model.specs.declared.graph.Value.TheVariants.{Block};
 ghost use Rattle.heap_model.specs.declared.label.Label as labels;
 ghost use Rattle.heap_model.specs.Graph.{label_of};
 ghost use Rattle.table_laws.specs.Structures.{Cell, IsTable};
-ghost use Rattle.table_laws.specs.Performing.{refusals, full_of};
+ghost use Rattle.table_laws.specs.Performing.{refusals, full_of, writings};
 ghost use Rattle.table_laws.specs.Stages.{graph_of, held_in};
 ghost use Rattle.weak_tables.specs.Held.{Cleared, HoldsTable};
 ghost use Rattle.weak_tables.specs.Tables.{TakeAnswers};
@@ -21,6 +21,7 @@ pub(crate) fn clear<M: Machine, R: Wait>(m: &mut M, rt: &R)
     ensures labels { M.labels_left m.new ≡ M.labels_left m.old }
     ensures room { M.ephes_room m.old ≤ M.ephes_room m.new }
     ensures given { refusals (M.front m.new) ≡ refusals (M.front m.old) }
+    ensures written { writings (M.front m.new) ≡ writings (M.front m.old) }
     ensures cleared { Cleared (M.sizes m.old) (M.front m.old) (M.front m.new) }
 {
     m.stands();
@@ -40,6 +41,7 @@ pub fn table_take<M: Machine, R: Wait>(m: &mut M, rt: &R, table: u8, key: u8) ->
     ensures labels { M.labels_left m.new ≡ M.labels_left m.old }
     ensures room { M.ephes_room m.old ≤ M.ephes_room m.new }
     ensures refused { refusals (M.front m.new) ≡ refusals (M.front m.old) + full_of result }
+    ensures written { writings (M.front m.new) ≡ writings (M.front m.old) }
     ensures answer { (root : labels.Label) (chains : List (List Cell)) → held_in (M.sizes m.old) (M.front m.old) table ≡ Block root → IsTable (graph_of (M.sizes m.old) (M.front m.old)) root chains
         → TakeAnswers (M.sizes m.old) (M.front m.old) (M.front m.new) root chains (label_of (held_in (M.sizes m.old) (M.front m.old) key)) result }
 {

@@ -18,6 +18,7 @@ cells-init g c =
       labels = (let labels = c.perform-at.ensures.labels in omega (arith, labels));
       room = (let room = c.perform-at.ensures.room in omega (arith, room));
       given = (let refused = c.perform-at.ensures.refused in let given = c.perform-at.ensures.given in omega (arith, refused, given));
+      written = (let w = c.perform-at.ensures.written in omega (arith, w));
       counting = λ root chains held table. counting_begins z c.stands.ensures.limits root chains c.args.table c.args.index c.requires.few.0 old _ _ c.stands.ensures.legal c.requires.few.1 held table c.perform-at.ensures.performed;
     }
 
@@ -46,6 +47,7 @@ cells-preserved g c =
       room = (let r0 = c.cells.invariant.room in let r1 = c.perform-ephe.ensures.room in let r2 = c.perform-full.ensures.room in let r3 = c.perform-at-in-cells.ensures.room in omega (arith, r0, r1, r2, r3));
       given = (let f0 = c.cells.invariant.given in let f1 = c.perform-ephe.ensures.refused in let f2 = c.perform-full.ensures.refused in let f3 = c.perform-at-in-cells.ensures.refused in
           let g1 = c.perform-ephe.ensures.given in let g2 = c.perform-full.ensures.given in let g3 = c.perform-at-in-cells.ensures.given in omega (arith, f0, f1, f2, f3, g1, g2, g3));
+      written = (let w0 = c.cells.invariant.written in let w1 = c.perform-ephe.ensures.written in let w2 = c.perform-full.ensures.written in let w3 = c.perform-at-in-cells.ensures.written in omega (arith, w0, w1, w2, w3));
       counting = λ root chains held table.
           subst (λ (n : ℕ). Counting z old (g.M.Machine.front c.perform-at-in-cells.new.m) root chains c.args.index c.perform-at-in-cells.result (c.cells.count + n)) (sym c.one-count.ensures.one)
           (counting_round z c.stands.ensures.limits root chains c.args.table c.args.index c.requires.few.0 old table (g.M.Machine.front c.cells.m) _ _ c.cells.at _ _ c.cells.count (c.cells.invariant.counting root chains held table)

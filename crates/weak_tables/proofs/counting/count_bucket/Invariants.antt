@@ -2,7 +2,7 @@ use Rattle.std.proofs.Common.{◌≡◌, ◌≤◌, List}
 use Rattle.heap_model.specs.declared.label.Label.{Label}
 use Rattle.heap_model.specs.declared.graph.Value.TheVariants.{Block}
 use Rattle.table_laws.specs.Structures.{Cell, IsTable}
-use Rattle.table_laws.specs.Performing.{refusals}
+use Rattle.table_laws.specs.Performing.{refusals, writings}
 use Rattle.table_laws.specs.Stages.{graph_of, held_in}
 use Rattle.weak_tables.specs.Walks.{Counting}
 use Rattle.weak_tables.proofs.counting.count_bucket.Given as goal
@@ -13,6 +13,7 @@ invariant-cells g l = record {
   labels : g.M.Machine.labels_left l.m ≡ g.M.Machine.labels_left l.fn.m;
   room : g.M.Machine.ephes_room l.fn.m ≤ g.M.Machine.ephes_room l.m;
   given : refusals (g.M.Machine.front l.m) ≡ refusals (g.M.Machine.front l.fn.m);
+  written : writings (g.M.Machine.front l.m) ≡ writings (g.M.Machine.front l.fn.m);
   counting : (root : Label) (chains : List (List Cell)) → held_in (g.M.Machine.sizes l.fn.m) (g.M.Machine.front l.fn.m) l.table ≡ Block root → IsTable (graph_of (g.M.Machine.sizes l.fn.m) (g.M.Machine.front l.fn.m)) root chains
       → Counting (g.M.Machine.sizes l.fn.m) (g.M.Machine.front l.fn.m) (g.M.Machine.front l.m) root chains l.index l.at l.count;
 }

@@ -14,7 +14,7 @@ use Rattle.table_laws.proofs.SizeLemmas.{bindings_counted}
 use Rattle.weak_tables.proofs.counting.table_count.Goals as goal
 
 pub buckets-init : goal.buckets-init
-buckets-init g c = record { same = search rules; labels = omega arith; room = omega arith; given = search rules; counted = λ root chains held table. counted_none (g.M.Machine.sizes c.args.m.now) c.stands.ensures.limits root chains (g.M.Machine.front c.args.m.now) c.stands.ensures.legal table }
+buckets-init g c = record { same = search rules; labels = omega arith; room = omega arith; given = search rules; written = search rules; counted = λ root chains held table. counted_none (g.M.Machine.sizes c.args.m.now) c.stands.ensures.limits root chains (g.M.Machine.front c.args.m.now) c.stands.ensures.legal table }
 
 pub count_bucket-count-requires-clause-table : goal.count_bucket-count-requires-clause-table
 count_bucket-count-requires-clause-table g c =
@@ -51,6 +51,7 @@ buckets-preserved g c =
       labels = (let l0 = c.buckets.invariant.labels in let l1 = c.count_bucket-count.ensures.labels in omega (arith, l0, l1));
       room = (let r0 = c.buckets.invariant.room in let r1 = c.count_bucket-count.ensures.room in omega (arith, r0, r1));
       given = c.count_bucket-count.ensures.given ∙ c.buckets.invariant.given;
+      written = c.count_bucket-count.ensures.written ∙ c.buckets.invariant.written;
       counted = λ root chains held table.
           let x : CountedTo z old f root chains c.buckets.index c.buckets.count = c.buckets.invariant.counted root chains held table in
           let y = counted root chains (below_eight z old f c.args.table c.requires.few x.keeps ∙ held) x.reads.table in

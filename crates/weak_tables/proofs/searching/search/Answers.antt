@@ -22,6 +22,7 @@ cells-init g c =
       labels = omega (arith, labels);
       room = omega (arith, room);
       given = omega (arith, refused, given);
+      written = (let w = c.perform-at.ensures.written in omega (arith, w));
       midst = λ root chains held table. midst_begins z c.stands.ensures.limits root chains c.args.label.now c.args.table c.args.key c.requires.few.0 c.requires.few.1 old table _ _ c.stands.ensures.legal (bucket_below c.args.label.now.serial) held p;
     }
 
@@ -54,6 +55,8 @@ cells-preserved g c =
       labels = omega (arith, l0, l1, l2, l3, l4);
       room = omega (arith, r0, r1, r2, r3, r4);
       given = omega (arith, f0, f1, f2, f3, f4, g1, g2, g4);
+      written = (let w0 = c.cells.invariant.written in let w1 = c.perform-ephe.ensures.written in let w2 = c.perform-found.ensures.written in let w3 = c.keep_spare-spare.ensures.written in let w4 = c.perform-at-in-cells.ensures.written in
+          omega (arith, w0, w1, w2, w3, w4));
       midst = λ root chains held table.
           midst_next z c.stands.ensures.limits root chains c.args.label.now c.args.table c.args.key c.requires.few.0 c.requires.few.1 old table (g.M.Machine.front c.cells.m) _ _ c.cells.at _ _ c.cells.spare (c.cells.invariant.midst root chains held table)
           (c.is_block.ensures.0 c.if-not-is_block.false) c.requires.key (at_sizes z _ _ _ _ _ c.cells.invariant.same c.perform-ephe.ensures.performed) (at_sizes z _ _ _ _ _ s1 c.perform-found.ensures.performed) _ _

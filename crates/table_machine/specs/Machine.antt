@@ -1,0 +1,136 @@
+-- The machine of a text of a table: five registers, the bindings of one table and the slots of one weak array.
+use Rattle.std.specs.Prelude.{Bool, true, ◌≡◌, ◌⊎◌, ℕ, ◌+◌, ◌-◌, ◌≤◌, false, IsTrue, List, [], ◌∷◌, ◌++◌, length, replicate, slice_get, slice_set, slice_index_or, Option, Some, None}
+use Rattle.heap_model.specs.declared.label.Label.{Label}
+use Rattle.heap_model.specs.declared.graph.Value.{Value}
+use Rattle.heap_model.specs.declared.graph.Value.TheVariants.{Int}
+use Rattle.heap_model.specs.declared.state.Sizes.{Sizes}
+use Rattle.heap_model.specs.Graph.{has_label}
+use Rattle.heap_model.specs.Domains.{reserve}
+use Rattle.table_laws.specs.Structures.{Binding, keys_of, without, datum_at}
+use Rattle.table_laws.specs.Thinning.{ThinnedBy, EmptiedBy}
+use Rattle.table_text.specs.declared.line.TableLine.{TableLine}
+use Rattle.table_text.specs.declared.line.TableLine.TheVariants.{Key, Forget, Put, Get, Del, SetWeak, GetWeak, Count, FullMajor}
+use Rattle.table_machine.specs.declared.reply.LineReply.{LineReply}
+use Rattle.table_machine.specs.declared.reply.LineReply.TheVariants as reply
+
+-- the machine: the keys in registers 1 to 5, in their order, the bindings, and the keys in the sixteen slots
+pub record TableState : Type 0 where
+  pub registers : List (Option Label)
+  pub bindings : List Binding
+  pub slots : List (Option Label)
+
+-- before the first line nothing holds a key
+abbrev pub opened : TableState
+opened = record { registers = replicate 5 None; bindings = []; slots = replicate 16 None }
+
+-- what register r holds
+abbrev pub key_in : TableState → ℕ → Option Label
+key_in s r = slice_index_or s.registers (r - 1) None
+
+abbrev pub with_key : TableState → ℕ → Option Label → TableState
+with_key s r key = record s { registers = slice_set s.registers (r - 1) key }
+
+-- one of these places holds the label
+abbrev pub Holds : List (Option Label) → Label → Type 0
+Holds places k = (i : ℕ) × (slice_get places i ≡ Some (Some k))
+
+-- no register holds the label
+abbrev pub IsLost : TableState → Label → Type 0
+IsLost s k = Holds s.registers k → ⊥
+
+-- before a line some bindings and slots may go whose key is in no register
+pub record MayGo (s t : TableState) : Type 0 where
+  pub registers : t.registers ≡ s.registers
+  pub bindings : ThinnedBy (IsLost s) s.bindings t.bindings
+  pub slots : EmptiedBy (IsLost s) s.slots t.slots
+
+-- after a complete collection all of these are gone
+pub record AllGone (s : TableState) : Type 0 where
+  pub bindings : (k : Label) → IsTrue (has_label (keys_of s.bindings) k) → Holds s.registers k
+  pub slots : (k : Label) → Holds s.slots k → Holds s.registers k
+
+-- the label is nowhere in the machine
+pub record IsNew (s : TableState) (k : Label) : Type 0 where
+  pub lost : IsLost s k
+  pub unbound : has_label (keys_of s.bindings) k ≡ false
+  pub unset : Holds s.slots k → ⊥
+
+-- a key is bound to a value, and what else was bound is so still
+pub record Binds (k : Label) (v : Value) (old new : List Binding) : Type 0 where
+  pub rest : without k new ≡ without k old
+  pub bound : datum_at new k ≡ Some v
+
+-- a line that names a register which holds nothing is answered `type`
+abbrev pub WithKey : Option Label → TableState → LineReply → TableState → (Label → Type 0) → Type 0
+WithKey None s r t f = (r ≡ reply.BadType) × (t ≡ s)
+WithKey (Some k) s r t f = f k
+
+-- what a look-up answers
+abbrev pub Shows : Option Value → LineReply → Type 0
+Shows (Some (Int v)) r = r ≡ reply.Number v
+Shows (Some other) r = ⊥
+Shows None r = r ≡ reply.Empty
+
+abbrev pub Deletes : Label → TableState → LineReply → TableState → Option Value → Type 0
+Deletes k s r t None = (r ≡ reply.Empty) × (t ≡ s)
+Deletes k s r t (Some v) = (r ≡ reply.Done) × (t ≡ record s { bindings = without k s.bindings })
+
+abbrev pub ReadsSlot : TableState → LineReply → TableState → ℕ → Option (Option Label) → Type 0
+ReadsSlot s r t d None = ⊥
+ReadsSlot s r t d (Some None) = (r ≡ reply.Empty) × (t ≡ with_key s d None)
+ReadsSlot s r t d (Some (Some k)) = (r ≡ reply.Yes) × (t ≡ with_key s d (Some k))
+
+-- what a complete collection must have taken, where the machine is strict
+abbrev pub Gone : Bool → TableState → Type 0
+Gone true s = AllGone s
+Gone false s = Unit {0}
+
+-- what a line answers and leaves, once what may go has gone
+abbrev pub EffectOf : Bool → TableState → TableLine → LineReply → TableState → Type 0
+EffectOf strict s (Key r) a t = (a ≡ reply.Done) × ((k : Label) × IsNew s k × (t ≡ with_key s r (Some k)))
+EffectOf strict s (Forget r) a t = (a ≡ reply.Done) × (t ≡ with_key s r None)
+EffectOf strict s (Put r v) a t = WithKey (key_in s r) s a t (λ k. (a ≡ reply.Done) × (t.registers ≡ s.registers) × (t.slots ≡ s.slots) × Binds k (Int v) s.bindings t.bindings)
+EffectOf strict s (Get r) a t = WithKey (key_in s r) s a t (λ k. Shows (datum_at s.bindings k) a × (t ≡ s))
+EffectOf strict s (Del r) a t = WithKey (key_in s r) s a t (λ k. Deletes k s a t (datum_at s.bindings k))
+EffectOf strict s (SetWeak i r) a t = WithKey (key_in s r) s a t (λ k. (a ≡ reply.Done) × (t ≡ record s { slots = slice_set s.slots i (Some k) }))
+EffectOf strict s (GetWeak d i) a t = ReadsSlot s a t d (slice_get s.slots i)
+EffectOf strict s Count a t = (a ≡ reply.Counted (length s.bindings)) × (t ≡ s)
+EffectOf strict s FullMajor a t = (a ≡ reply.Done) × (t ≡ s) × Gone strict s
+
+abbrev pub Effect : TableState → TableLine → LineReply → TableState → Type 0
+Effect = EffectOf true
+
+-- how many labels a line may make
+abbrev pub made_by : TableLine → ℕ
+made_by (Key r) = 1
+made_by (Put r v) = 2
+made_by _ = 0
+
+abbrev pub all_made : List TableLine → ℕ
+all_made [] = 0
+all_made (l ∷ ls) = made_by l + all_made ls
+
+-- when the last of these lines may be answered `full`: it makes a block, and with the 19 labels that were made before the first line, the shared block's among them, so many may be kept that the pools are used up
+pub record MayBeRefused (z : Sizes) (lines : List TableLine) (l : TableLine) : Type 0 where
+  pub allocates : made_by l ≡ 0 → ⊥
+  pub kept : z.pools ≤ 19 + all_made lines + reserve z + z.classes
+
+-- a line, the last of these, is answered and leaves this state. `full` changes nothing
+pub record StepOf (strict : Bool) (z : Sizes) (lines : List TableLine) (l : TableLine) (s : TableState) (a : LineReply) (t : TableState) : Type 0 where
+  pub left : TableState
+  pub goes : MayGo s left
+  pub does : EffectOf strict left l a t ⊎ ((a ≡ reply.Full) × (t ≡ left) × MayBeRefused z lines l)
+
+abbrev pub LineStep : Sizes → List TableLine → TableLine → TableState → LineReply → TableState → Type 0
+LineStep = StepOf true
+
+-- the machine from a state on, over all lines behind those before: each line's reply, and the state after it
+abbrev pub MachineRuns : Sizes → List TableLine → TableState → List TableLine → List LineReply → List TableState → Type 0
+MachineRuns z before s [] [] [] = Unit {0}
+MachineRuns z before s (l ∷ lines) (a ∷ replies) (t ∷ states) = LineStep z (before ++ l ∷ []) l s a t × MachineRuns z (before ++ l ∷ []) t lines replies states
+MachineRuns z before s _ _ _ = ⊥
+
+-- the replies are those that the machine may give to these lines
+pub record MachineAnswers (z : Sizes) (lines : List TableLine) (replies : List LineReply) : Type 0 where
+  pub states : List TableState
+  pub runs : MachineRuns z [] opened lines replies states

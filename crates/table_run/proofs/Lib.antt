@@ -1,0 +1,10 @@
+pub mod RegisterLemmas
+pub mod MachineLemmas
+pub mod RefusalLemmas
+pub mod StandLemmas
+pub mod LineLemmas
+pub mod CallLemmas
+pub mod OwnLemmas
+pub mod ValueLemmas
+pub mod LinesLemmas
+pub mod TextLemmas

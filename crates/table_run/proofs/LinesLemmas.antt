@@ -1,0 +1,271 @@
+-- What each function of a line answers, from the clauses of the calls in it.
+use Rattle.std.proofs.Common.{◌≡◌, inl, inr, ⊎_elim, ℕ, ◌+◌, ◌<◌, ◌≤◌, ℤ, List, [], ◌∷◌, ◌++◌, set, slice_get, Option, Some, None, refl, ap, sym, ◌∙◌, subst, arith}
+use Rattle.heap_model.specs.declared.label.Label.{Label}
+use Rattle.heap_model.specs.declared.command.Command.TheVariants.{PutInt, Copy, Forget, Alloc, FullMajor}
+use Rattle.heap_model.specs.declared.entry.Entry.{Entry}
+use Rattle.heap_model.specs.declared.reply.Reply.{Reply}
+use Rattle.heap_model.specs.declared.reply.Reply.TheVariants as given
+use Rattle.heap_model.specs.declared.graph.Value.{Value}
+use Rattle.heap_model.specs.declared.graph.Value.TheVariants.{Int, Block, Nothing}
+use Rattle.heap_model.specs.declared.state.Sizes.{Sizes}
+use Rattle.heap_model.specs.Graph.{label_of}
+use Rattle.heap_model.specs.Domains.{IsWithinLimits, domain_at}
+use Rattle.heap_model.specs.Commands.{key_value, shown}
+use Rattle.heap_model.specs.History.{IsPrefix, Legal}
+use Rattle.table_laws.specs.Structures.{Cell, IsTable, IsWeakArray, datum_at, slot_keys}
+use Rattle.table_laws.specs.Thinning.{Went, state_of}
+use Rattle.table_laws.proofs.LawLemmas.{keys_emptied}
+use Rattle.weak_tables.proofs.SearchLemmas.{set_here}
+use Rattle.table_laws.specs.Performing.{Performed, After, refusals, full_of, writings, registers_of}
+use Rattle.table_laws.specs.Stages.{graph_of, held_in}
+use Rattle.table_laws.proofs.RefusalLemmas.{performed_refusals, performed_given}
+use Rattle.table_laws.proofs.StepLemmas.{put_step, forget_step, alloc_step, copy_step, full_major_step}
+use Rattle.weak_tables.specs.Held.{HoldsTable, HoldsArray}
+use Rattle.weak_tables.specs.Tables.{GetAnswers, TakeAnswers, PutAnswers, Counts}
+use Rattle.weak_tables.specs.Arrays.{SetAnswers, SlotAnswers}
+use Rattle.weak_tables.proofs.SlotLemmas.{past_end, emptied_stays}
+use Rattle.table_text.specs.declared.line.TableLine.{TableLine}
+use Rattle.table_text.specs.declared.line.TableLine.TheVariants as line
+use Rattle.table_machine.specs.declared.reply.LineReply.TheVariants as reply
+use Rattle.table_machine.specs.Machine.{TableState, MayGo, MayBeRefused, WithKey, Deletes, Binds, ReadsSlot, key_in, with_key, made_by, all_made}
+use Rattle.table_run.specs.Standing.{Places, Stands, IsStanding}
+use Rattle.table_run.specs.Running.{LineDone, HasGiven, full_in, said}
+use Rattle.table_run.proofs.LineLemmas.{after_with, after_goes, after_key, stands_zero, stands_reading, stands_set, forget_line, key_line, full_line}
+use Rattle.table_run.proofs.RefusalLemmas.{used_up}
+use Rattle.table_run.proofs.OwnLemmas.{take_done, put_done, slot_done}
+use Rattle.table_run.proofs.CallLemmas.{held_key, nothing_done, left, read_goes, read_stands, read_line, get_line, said_full, count_line}
+use Rattle.table_run.proofs.StandLemmas.{line_ends, line_later, others_clean, keeps_high}
+
+-- a register holds the table, and one the weak array
+pub standing_table : (z : Sizes) (h : List Entry) → IsStanding z h → HoldsTable z h 6
+standing_table z h x = record { root = x.places.table; chains = x.stands.shown.chains; held = x.stands.table_held; table = x.stands.shown.table }
+
+pub standing_array : (z : Sizes) (h : List Entry) → IsStanding z h → HoldsArray z h 7
+standing_array z h x = record { root = x.places.array; slots = x.places.slots; held = x.stands.array_held; array = x.stands.shown.array }
+
+-- how many labels lines may make
+pub made-append : (a : List TableLine) (l : TableLine) → all_made (a ++ l ∷ []) ≡ all_made a + made_by l
+made-append [] l = omega arith
+made-append (x ∷ a) l = let rest = made-append a l in omega (arith, rest)
+
+-- `full` comes only where it may
+pub may_refuse : (z : Sizes) (limits : IsWithinLimits z) (old new : List Entry) (left_old left_new : ℕ) (before : List TableLine) (l : TableLine) → z.domains ≡ 1 → Legal z new → IsPrefix old new → refusals old < refusals new → (domain_at (state_of z new) 0).serial + left_new ≡ 4294967295
+    → left_old ≤ left_new + made_by l → HasGiven left_old before → (made_by l ≡ 0 → ⊥) → MayBeRefused z (before ++ l ∷ []) l
+may_refuse z limits old new left_old left_new before l one legal grows more serial labels given some =
+    let used = used_up z limits old new one legal grows more in
+    let sum = made-append before l in
+    record { allocates = some; kept = omega (arith, used, sum, serial, labels, given) }
+
+module _ (z : Sizes) (limits : IsWithinLimits z) (old new : List Entry) where
+  -- `key R`
+  pub key_made : (r : ℕ) (rep : Reply) → 1 ≤ r → r ≤ 5 → Performed z old new (Alloc r 0 1) rep → (rep ≡ given.Full → ⊥) → (p : Places) (s : TableState) (lines : List TableLine) → Stands z p s old → LineDone z p lines (line.Key r) s old reply.Done new
+  key_made r rep low high q room p s lines x =
+      let count = performed_refusals z old new (Alloc r 0 1) rep q in
+      ⊎_elim (λ no. absurd (room no.1))
+      (λ made. key_line z limits p s old new x lines r made.0 low high made.1 made.3 made.4 (count ∙ ap (λ (a : Reply). refusals old + full_of a) made.2 ∙ zero_more (refusals old)))
+      (alloc_step z limits old new rep r 0 1 q)
+    where
+      zero_more : (n : ℕ) → n + 0 ≡ n
+      zero_more n = omega arith
+
+  pub key_refused : (r : ℕ) (rep : Reply) → Performed z old new (Alloc r 0 1) rep → rep ≡ given.Full → (p : Places) (s : TableState) (before : List TableLine) (left_old left_new : ℕ) → z.domains ≡ 1 → (domain_at (state_of z new) 0).serial + left_new ≡ 4294967295
+      → left_old ≤ left_new + 1 → HasGiven left_old before → Stands z p s old → LineDone z p (before ++ line.Key r ∷ []) (line.Key r) s old reply.Full new
+  key_refused r rep q full p s before left_old left_new one serial labels given_few x =
+      let count : refusals new ≡ refusals old + 1 = performed_refusals z old new (Alloc r 0 1) rep q ∙ ap (λ (a : Reply). refusals old + full_of a) full in
+      ⊎_elim
+      (λ no. full_line z limits p s old new x (before ++ line.Key r ∷ []) (line.Key r) no.0
+      (may_refuse z limits old new left_old left_new before (line.Key r) one no.0.legal no.0.grows (omega (arith, count)) serial labels given_few (λ none. absurd (omega (arith, none)))) count)
+      (λ made. absurd (let clash : given.Block made.0 ≡ given.Full = sym made.2 ∙ full in cc))
+      (alloc_step z limits old new rep r 0 1 q)
+
+  -- `forget R`
+  pub forgotten : (r : ℕ) (rep : Reply) → 1 ≤ r → r ≤ 5 → Performed z old new (Forget r) rep → (p : Places) (s : TableState) (lines : List TableLine) → Stands z p s old → LineDone z p lines (line.Forget r) s old reply.Done new
+  forgotten r rep low high q p s lines x =
+      let t = forget_step z limits old new rep r q in
+      let count = performed_refusals z old new (Forget r) rep q in
+      forget_line z limits p s old new x lines r low high t.0 (count ∙ (ap (λ (a : Reply). refusals old + full_of a) t.1 ∙ zero_more (refusals old)))
+    where
+      zero_more : (n : ℕ) → n + 0 ≡ n
+      zero_more n = omega arith
+
+  -- `get R`
+  pub got : (r : ℕ) (rep : Reply) → 1 ≤ r → r ≤ 5 → writings new ≤ writings old + 0 → refusals new ≡ refusals old + full_of rep
+      → ((root : Label) (chains : List (List Cell)) → held_in z old 6 ≡ Block root → IsTable (graph_of z old) root chains → GetAnswers z old new root chains 0 (label_of (held_in z old r)) rep)
+      → (p : Places) (s : TableState) (lines : List TableLine) → Stands z p s old → LineDone z p lines (line.Get r) s old (said rep) new
+  got r rep low high quiet count answer p s lines x =
+      get_line z limits p s old new x lines r rep (key_in s r) refl
+      (subst (λ (o : Option Label). GetAnswers z old new p.table x.shown.chains 0 o rep) (held_key z p s old x r low high) (answer p.table x.shown.chains x.table_held x.shown.table)) (omega arith)
+      (count ∙ ap (λ (n : ℕ). refusals old + n) (sym (said_full rep)))
+
+  -- `del R`
+  taken : (r : ℕ) (rep : Reply) → writings new ≡ writings old → refusals new ≡ refusals old + full_of rep → (p : Places) (s : TableState) (lines : List TableLine) (x : Stands z p s old) (o : Option Label) → key_in s r ≡ o
+      → TakeAnswers z old new p.table x.shown.chains o rep → LineDone z p lines (line.Del r) s old (said rep) new
+  taken r rep quiet count p s lines x None key (bad, same) =
+      nothing_done z p s old new x lines (line.Del r) (said rep) (subst (λ (o : Option Label). WithKey o s (said rep) s (λ j. Deletes j s (said rep) s (datum_at s.bindings j))) (sym key) (ap said bad, refl))
+      (count ∙ ap (λ (n : ℕ). refusals old + n) (sym (said_full rep))) same
+  taken r rep quiet count p s lines x (Some k) key (inl (done, t)) =
+      let none : refusals new ≡ refusals old = (let e : refusals new ≡ refusals old + 0 = count ∙ ap (λ (a : Reply). refusals old + full_of a) done in omega (arith, e)) in
+      subst (λ (a : Reply). LineDone z p lines (line.Del r) s old (said a) new) (sym done)
+      (take_done z limits p s old new x (omega (arith, quiet)) (others_clean z old new x.others (keeps_high z old new t.keeps) t.clean) lines r k key t none)
+  taken r rep quiet count p s lines x (Some k) key (inr (empty, leaves, keeps, none)) =
+      let few : writings new ≤ writings old = omega (arith, quiet) in
+      let goes = leaves.reads.goes in
+      let t = left z limits p s old new x goes few in
+      read_line z limits p s old new x goes few lines (line.Del r) (said rep)
+      (subst (λ (o : Option Label). WithKey o t (said rep) t (λ j. Deletes j t (said rep) t (datum_at t.bindings j))) (sym key) (subst (λ (o : Option Value). Deletes k t (said rep) t o) (sym none) (ap said empty, refl)))
+      (count ∙ ap (λ (n : ℕ). refusals old + n) (sym (said_full rep))) (others_clean z old new x.others (keeps_high z old new keeps) leaves.clean)
+
+  pub deleted : (r : ℕ) (rep : Reply) → 1 ≤ r → r ≤ 5 → writings new ≡ writings old → refusals new ≡ refusals old + full_of rep
+      → ((root : Label) (chains : List (List Cell)) → held_in z old 6 ≡ Block root → IsTable (graph_of z old) root chains → TakeAnswers z old new root chains (label_of (held_in z old r)) rep)
+      → (p : Places) (s : TableState) (lines : List TableLine) → Stands z p s old → LineDone z p lines (line.Del r) s old (said rep) new
+  deleted r rep low high quiet count answer p s lines x =
+      taken r rep quiet count p s lines x (key_in s r) refl (subst (λ (o : Option Label). TakeAnswers z old new p.table x.shown.chains o rep) (held_key z p s old x r low high) (answer p.table x.shown.chains x.table_held x.shown.table))
+
+  -- `wset I R`
+  slot_taken : (i r : ℕ) (rep : Reply) → i < 16 → writings new ≡ writings old → refusals new ≡ refusals old + full_of rep → (p : Places) (s : TableState) (lines : List TableLine) (x : Stands z p s old) (e : Option Label) (o : Option Label) → slice_get p.slots i ≡ e → key_in s r ≡ o
+      → SetAnswers z old new p.array p.slots i e o rep → LineDone z p lines (line.SetWeak i r) s old (said rep) new
+  slot_taken i r rep below quiet count p s lines x None o at key answer = absurd (let few = past_end p.slots i at in let sixteen = x.sixteen in omega (arith, few, sixteen, below))
+  slot_taken i r rep below quiet count p s lines x (Some e) None at key (bad, spares, clean) =
+      let few : writings new ≤ writings old = omega (arith, quiet) in
+      let goes = spares.reads.goes in
+      let t = left z limits p s old new x goes few in
+      read_line z limits p s old new x goes few lines (line.SetWeak i r) (said rep)
+      (subst (λ (o : Option Label). WithKey o t (said rep) t (λ k. (said rep ≡ reply.Done) × (t ≡ record t { slots = set t.slots i (Some k) }))) (sym key) (ap said bad, refl))
+      (count ∙ ap (λ (n : ℕ). refusals old + n) (sym (said_full rep))) (others_clean z old new x.others (keeps_high z old new spares.keeps) clean)
+  slot_taken i r rep below quiet count p s lines x (Some e) (Some k) at key (done, t) =
+      let none : refusals new ≡ refusals old = (let e : refusals new ≡ refusals old + 0 = count ∙ ap (λ (a : Reply). refusals old + full_of a) done in omega (arith, e)) in
+      subst (λ (a : Reply). LineDone z p lines (line.SetWeak i r) s old (said a) new) (sym done)
+      (slot_done z limits p s old new x (omega (arith, quiet)) (others_clean z old new x.others (keeps_high z old new t.keeps) t.clean) lines i r k below key t none)
+
+  pub slot_set : (i r : ℕ) (rep : Reply) → i < 16 → 1 ≤ r → r ≤ 5 → writings new ≡ writings old → refusals new ≡ refusals old + full_of rep
+      → ((root : Label) (slots : List Label) → held_in z old 7 ≡ Block root → IsWeakArray (graph_of z old) root slots → SetAnswers z old new root slots i (slice_get slots i) (label_of (held_in z old r)) rep)
+      → (p : Places) (s : TableState) (lines : List TableLine) → Stands z p s old → LineDone z p lines (line.SetWeak i r) s old (said rep) new
+  slot_set i r rep below low high quiet count answer p s lines x =
+      slot_taken i r rep below quiet count p s lines x (slice_get p.slots i) (key_in s r) refl refl
+      (subst (λ (o : Option Label). SetAnswers z old new p.array p.slots i (slice_get p.slots i) o rep) (held_key z p s old x r low high) (answer p.array p.slots x.array_held x.shown.array))
+
+  -- `count`
+  pub counted : (n : ℕ) → writings new ≡ writings old → refusals new ≡ refusals old → ((root : Label) (chains : List (List Cell)) → held_in z old 6 ≡ Block root → IsTable (graph_of z old) root chains → Counts z old new root chains n)
+      → (p : Places) (s : TableState) (lines : List TableLine) → Stands z p s old → LineDone z p lines line.Count s old (reply.Counted n) new
+  counted n quiet none answer p s lines x = count_line z limits p s old new x lines n (answer p.table x.shown.chains x.table_held x.shown.table) quiet none
+
+-- an integer in register 0
+stands_put : (z : Sizes) (limits : IsWithinLimits z) (old mid : List Entry) (w : ℤ) (rep : Reply) → Performed z old mid (PutInt 0 w) rep → (p : Places) (s : TableState) → Stands z p s old
+    → (t : TableState) × MayGo s t × Stands z p t mid × (t.registers ≡ s.registers) × (held_in z mid 0 ≡ Int w) × IsPrefix old mid × (refusals mid ≡ refusals old)
+stands_put z limits old mid w rep q p s x =
+    let t = put_step z limits old mid rep 0 w q in
+    let count : refusals mid ≡ refusals old + 0 = performed_refusals z old mid (PutInt 0 w) rep q ∙ ap (λ (a : Reply). refusals old + full_of a) t.1 in
+    (after_with z limits p s old mid x _ t.0 s.registers, after_goes z limits p s old mid x _ t.0, stands_zero z limits p s old mid x (Int w) t.0, refl, set_here z limits old old mid 0 (Int w) t.0.registers_are (omega arith), t.0.grows, omega (arith, count))
+
+module _ (z : Sizes) (limits : IsWithinLimits z) (mid new : List Entry) where
+  -- `put R V`, once the value is in register 0
+  bound : (r : ℕ) (w : ℤ) (rep : Reply) → writings new ≡ writings mid → refusals new ≡ refusals mid + full_of rep → (p : Places) (s : TableState) (before : List TableLine) (x : Stands z p s mid) (left_old left_new : ℕ) → z.domains ≡ 1
+      → (domain_at (state_of z new) 0).serial + left_new ≡ 4294967295 → left_old ≤ left_new + 2 → HasGiven left_old before → (o : Option Label) → key_in s r ≡ o → PutAnswers z mid new p.table x.shown.chains o (Int w) rep
+      → LineDone z p (before ++ line.Put r w ∷ []) (line.Put r w) s mid (said rep) new
+  bound r w rep quiet count p s before x left_old left_new one serial labels given_few None key (bad, same) =
+      nothing_done z p s mid new x _ (line.Put r w) (said rep)
+      (subst (λ (o : Option Label). WithKey o s (said rep) s (λ k. (said rep ≡ reply.Done) × (s.registers ≡ s.registers) × (s.slots ≡ s.slots) × Binds k (Int w) s.bindings s.bindings)) (sym key) (ap said bad, refl))
+      (count ∙ ap (λ (n : ℕ). refusals mid + n) (sym (said_full rep))) same
+  bound r w rep quiet count p s before x left_old left_new one serial labels given_few (Some k) key (inl (done, g)) =
+      let none : refusals new ≡ refusals mid = (let e : refusals new ≡ refusals mid + 0 = count ∙ ap (λ (a : Reply). refusals mid + full_of a) done in omega (arith, e)) in
+      subst (λ (a : Reply). LineDone z p (before ++ line.Put r w ∷ []) (line.Put r w) s mid (said a) new) (sym done)
+      (put_done z limits p s mid new x (omega (arith, quiet)) (others_clean z mid new x.others (keeps_high z mid new g.keeps) g.clean) _ r w k key g none)
+  bound r w rep quiet count p s before x left_old left_new one serial labels given_few (Some k) key (inr (full, refused, clean)) =
+      let more : refusals new ≡ refusals mid + 1 = count ∙ ap (λ (a : Reply). refusals mid + full_of a) full in
+      let few : writings new ≤ writings mid = omega (arith, quiet) in
+      let goes = refused.reads.goes in
+      let t = left z limits p s mid new x goes few in
+      subst (λ (a : Reply). LineDone z p (before ++ line.Put r w ∷ []) (line.Put r w) s mid (said a) new) (sym full)
+      (line_ends z p _ (line.Put r w) s mid reply.Full t new
+      (record {
+        left = t;
+        goes = read_goes z limits p s mid new x goes few;
+        does = inr (refl, refl, may_refuse z limits mid new left_old left_new before (line.Put r w) one goes.legal goes.grows (omega (arith, more)) serial labels given_few (λ none. absurd (omega (arith, none))));
+      })
+      goes.grows more (read_stands z limits p s mid new x goes few (others_clean z mid new x.others (keeps_high z mid new refused.keeps) clean)))
+
+-- `put R V`
+pub put_made : (z : Sizes) (limits : IsWithinLimits z) (old mid new : List Entry) (r : ℕ) (w : ℤ) (a rep : Reply) → 1 ≤ r → r ≤ 5 → Performed z old mid (PutInt 0 w) a → writings new ≡ writings mid → refusals new ≡ refusals mid + full_of rep
+    → ((root : Label) (chains : List (List Cell)) → held_in z mid 6 ≡ Block root → IsTable (graph_of z mid) root chains → PutAnswers z mid new root chains (label_of (held_in z mid r)) (held_in z mid 0) rep)
+    → (p : Places) (s : TableState) (before : List TableLine) → Stands z p s old → (left_old left_new : ℕ) → z.domains ≡ 1 → (domain_at (state_of z new) 0).serial + left_new ≡ 4294967295 → left_old ≤ left_new + 2 → HasGiven left_old before
+    → LineDone z p (before ++ line.Put r w ∷ []) (line.Put r w) s old (said rep) new
+put_made z limits old mid new r w a rep low high q quiet count answer p s before x left_old left_new one serial labels given_few =
+    let t = stands_put z limits old mid w a q p s x in
+    let y : Stands z p t.0 mid = t.2 in
+    let answered = subst (λ (o : Option Label). PutAnswers z mid new p.table y.shown.chains o (Int w) rep) (held_key z p t.0 mid y r low high)
+    (subst (λ (v : Value). PutAnswers z mid new p.table y.shown.chains (label_of (held_in z mid r)) v rep) t.4 (answer p.table y.shown.chains y.table_held y.shown.table)) in
+    line_later z p _ (line.Put r w) s t.0 old mid (said rep) new t.1 t.5 t.6 (bound z limits mid new r w rep quiet count p t.0 before y left_old left_new one serial labels given_few (key_in t.0 r) refl answered)
+
+-- the table is held while an integer is put
+pub standing_put : (z : Sizes) (limits : IsWithinLimits z) (old mid : List Entry) (w : ℤ) (a : Reply) → Performed z old mid (PutInt 0 w) a → IsStanding z old → HoldsTable z mid 6
+standing_put z limits old mid w a q x = let t = stands_put z limits old mid w a q x.places x.state x.stands in standing_table z mid (record { places = x.places; state = t.0; stands = t.2 })
+
+-- `wget D I`
+module _ (z : Sizes) (limits : IsWithinLimits z) (mid new : List Entry) (p : Places) (s : TableState) (x : Stands z p s mid) (d i : ℕ) (key : Option Label) (held : held_in z mid 0 ≡ key_value key) (slot : slice_get s.slots i ≡ Some key) (low : 1 ≤ d) (high : d ≤ 5)
+    (after : After z mid new [] (set (registers_of z mid) d (key_value key))) where
+  abbrev here : TableState
+  here = after_with z limits p s mid new x _ after s.registers
+
+  still : slice_get here.slots i ≡ Some key
+  still = emptied_stays (Went z mid new) i (slot_keys (graph_of z mid) p.slots) (slot_keys (graph_of z new) p.slots) key
+      (keys_emptied (Went z mid new) [] (graph_of z mid) (graph_of z new) after.changes p.slots (λ l h. refl) x.shown.array.weak) (λ k is went. went.unheld 0 0 (held ∙ ap key_value is))
+      (ap (λ (ks : List (Option Label)). slice_get ks i) x.shown.slots_are ∙ slot)
+
+  reads : ReadsSlot here (said (shown (key_value key))) (with_key here d key) d (Some key)
+  reads = go key
+    where
+      go : (o : Option Label) → ReadsSlot here (said (shown (key_value o))) (with_key here d o) d (Some o)
+      go None = (refl, refl)
+      go (Some k) = (refl, refl)
+
+  pub copied : (lines : List TableLine) → refusals new ≡ refusals mid → LineDone z p lines (line.GetWeak d i) s mid (said (shown (key_value key))) new
+  copied lines none =
+      line_ends z p lines (line.GetWeak d i) s mid (said (shown (key_value key))) (with_key here d key) new
+      (record { left = here; goes = after_goes z limits p s mid new x _ after; does = inl (subst (λ (o : Option (Option Label)). ReadsSlot here (said (shown (key_value key))) (with_key here d key) d o) (sym still) reads) })
+      after.grows (none ∙ full_none key (refusals mid))
+      (stands_set z limits p s mid new x d low high key after (λ k is. after_key z limits p s mid new x _ after k (inr (inr (i, slot ∙ ap Some is)))))
+    where
+      full_none : (o : Option Label) (n : ℕ) → n ≡ n + full_in (said (shown (key_value o)))
+      full_none None n = omega arith
+      full_none (Some k) n = omega arith
+
+slot_read : (z : Sizes) (limits : IsWithinLimits z) (old mid new : List Entry) (d i : ℕ) (rep b : Reply) → i < 16 → 1 ≤ d → d ≤ 5 → writings mid ≤ writings old + 0 → refusals mid ≡ refusals old + full_of rep → Performed z mid new (Copy d 0) b
+    → (p : Places) (s : TableState) (lines : List TableLine) (x : Stands z p s old) → (e : Option Label) → slice_get p.slots i ≡ e → SlotAnswers z old mid p.array p.slots 0 i e rep → LineDone z p lines (line.GetWeak d i) s old (said rep) new
+slot_read z limits old mid new d i rep b below low high quiet count q p s lines x None at answer = absurd (let few = past_end p.slots i at in let sixteen = x.sixteen in omega (arith, few, sixteen, below))
+slot_read z limits old mid new d i rep b below low high quiet count q p s lines x (Some e) at g =
+    let few : writings mid ≤ writings old = omega (arith, quiet) in
+    let goes = g.reads.goes in
+    let t = left z limits p s old mid x goes few in
+    let y : Stands z p t mid = read_stands z limits p s old mid x goes few (others_clean z old mid x.others (λ q high. g.keeps q (λ e. absurd (omega arith)) (λ e. absurd (omega arith)) (λ e. absurd (omega arith)) (λ e. absurd (omega arith))) g.clean) in
+    let c = copy_step z limits mid new b d 0 (key_value g.key) g.holds q in
+    let shows : full_of rep ≡ 0 = ap full_of g.answers ∙ none_full g.key in
+    let first : refusals mid ≡ refusals old = omega (arith, count, shows) in
+    let last : refusals new ≡ refusals mid + 0 = performed_refusals z mid new (Copy d 0) b q ∙ ap (λ (a : Reply). refusals mid + full_of a) c.1 in
+    subst (λ (a : Reply). LineDone z p lines (line.GetWeak d i) s old (said a) new) (sym g.answers)
+    (line_later z p lines (line.GetWeak d i) s t old mid (said (shown (key_value g.key))) new (read_goes z limits p s old mid x goes few) goes.grows first
+    (copied z limits mid new p t y d i g.key g.holds g.still low high c.0 lines (omega (arith, last))))
+  where
+    none_full : (o : Option Label) → full_of (shown (key_value o)) ≡ 0
+    none_full None = refl
+    none_full (Some k) = refl
+
+pub slot_got : (z : Sizes) (limits : IsWithinLimits z) (old mid new : List Entry) (d i : ℕ) (rep b : Reply) → i < 16 → 1 ≤ d → d ≤ 5 → writings mid ≤ writings old + 0 → refusals mid ≡ refusals old + full_of rep → Performed z mid new (Copy d 0) b
+    → ((root : Label) (slots : List Label) → held_in z old 7 ≡ Block root → IsWeakArray (graph_of z old) root slots → SlotAnswers z old mid root slots 0 i (slice_get slots i) rep)
+    → (p : Places) (s : TableState) (lines : List TableLine) → Stands z p s old → LineDone z p lines (line.GetWeak d i) s old (said rep) new
+slot_got z limits old mid new d i rep b below low high quiet count q answer p s lines x =
+    slot_read z limits old mid new d i rep b below low high quiet count q p s lines x (slice_get p.slots i) refl (answer p.array p.slots x.array_held x.shown.array)
+
+-- `full_major`
+pub gone : (z : Sizes) (limits : IsWithinLimits z) (old mid new : List Entry) (a b : Reply) → Performed z old mid (Forget 0) a → Performed z mid new FullMajor b → (p : Places) (s : TableState) (lines : List TableLine) → Stands z p s old
+    → LineDone z p lines line.FullMajor s old reply.Done new
+gone z limits old mid new a b q w p s lines x =
+    let first = forget_step z limits old mid a 0 q in
+    let t = after_with z limits p s old mid x _ first.0 s.registers in
+    let y : Stands z p t mid = stands_zero z limits p s old mid x Nothing first.0 in
+    let second = full_major_step z limits mid new b w in
+    let u = after_with z limits p t mid new y _ second.0 t.registers in
+    let none : refusals mid ≡ refusals old + 0 = performed_refusals z old mid (Forget 0) a q ∙ ap (λ (r : Reply). refusals old + full_of r) first.1 in
+    let given_none : full_of b ≡ 0 = performed_given z limits mid new FullMajor b w in
+    let count = performed_refusals z mid new FullMajor b w in
+    line_later z p lines line.FullMajor s t old mid reply.Done new (after_goes z limits p s old mid x _ first.0) first.0.grows (omega (arith, none))
+    (line_ends z p lines line.FullMajor t mid reply.Done u new (record { left = u; goes = after_goes z limits p t mid new y _ second.0; does = inl (refl, refl, tt) }) second.0.grows (omega (arith, count, given_none)) (stands_reading z limits p t mid new y second.0))

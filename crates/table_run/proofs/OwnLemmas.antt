@@ -1,0 +1,248 @@
+-- The lines whose call writes the table or the weak array: a key is bound, its binding is taken, a slot is set.
+use Rattle.std.proofs.Common.{◌≡◌, ◌⊎◌, inl, inr, ⊎_elim, ℕ, zero, suc, ◌-◌, ◌<◌, ◌≤◌, ℤ, pos, Bool, false, true, cond, IsTrue, List, [], ◌∷◌, ◌++◌, map, length, flat_map, get_or, set, Option, Some, None, refl, ap, sym, ◌∙◌, subst, arith, append-nil}
+use Rattle.std.specs.List.{list_all}
+use Rattle.heap_model.specs.declared.label.Label.{Label}
+use Rattle.heap_model.specs.declared.entry.Entry.{Entry}
+use Rattle.heap_model.specs.declared.graph.Value.{Value}
+use Rattle.heap_model.specs.declared.graph.Value.TheVariants.{Int, Block, Nothing}
+use Rattle.heap_model.specs.declared.graph.Node.{Node}
+use Rattle.heap_model.specs.declared.graph.Node.TheVariants.{Plain}
+use Rattle.heap_model.specs.declared.state.Sizes.{Sizes}
+use Rattle.heap_model.specs.Graph.{Graph, same_label, has_label, node_at}
+use Rattle.heap_model.specs.Domains.{IsWithinLimits}
+use Rattle.heap_model.specs.History.{IsPrefix}
+use Rattle.heap_model.proofs.Graphs.GraphLemmas.{same_label-true}
+use Rattle.heap_model.proofs.Reach.ReachLemmas.{or_cases, or_left, or_right, and_left, and_right, has-append_cases}
+use Rattle.table_laws.specs.Structures.{Binding, Cell, is_weak, bindings, keys_of, without, datum_at, Links, cell_labels, table_labels, IsTable, IsWeakArray, slot_keys, Apart}
+use Rattle.table_laws.specs.Thinning.{ThinnedBy, EmptiedBy, WasOutside}
+use Rattle.table_laws.specs.Performing.{refusals, writings}
+use Rattle.table_laws.specs.Stages.{Goes, graph_of, held_in}
+use Rattle.table_laws.proofs.BindingLemmas.{thinned_more, thinned_keys}
+use Rattle.table_laws.proofs.ArrayLemmas.{emptied_more}
+use Rattle.table_laws.proofs.ChangeLemmas.{table_kept, bindings_thinned, array_kept}
+use Rattle.table_laws.proofs.LawLemmas.{keys_emptied, differ_law}
+use Rattle.table_laws.proofs.OnceLemmas.{lacks, not_both}
+use Rattle.weak_tables.specs.Tables.{Takes, Puts}
+use Rattle.weak_tables.specs.Arrays.{SetsSlot}
+use Rattle.table_text.specs.declared.line.TableLine.{TableLine}
+use Rattle.table_text.specs.declared.line.TableLine.TheVariants as line
+use Rattle.table_machine.specs.declared.reply.LineReply.TheVariants as reply
+use Rattle.table_machine.specs.Machine.{TableState, MayGo, IsLost, Holds, key_in, WithKey, Deletes, Binds}
+use Rattle.table_run.specs.Steps.{Effect}
+use Rattle.table_run.specs.Standing.{Places, Stands, IsKnown, key_node, AreInts}
+use Rattle.table_run.specs.Running.{LineDone}
+use Rattle.table_run.proofs.MachineLemmas.{known_before, key_kept, slot_kept, thinned_ints, ints_without, ints_with, place_holds}
+use Rattle.table_run.proofs.RegisterLemmas.{register_at}
+use Rattle.table_run.proofs.StandLemmas.{outside_lost, line_ends}
+use Rattle.table_run.proofs.LineLemmas.{holds_set}
+
+-- the block of a key is none of a table's
+module _ (g : Graph) (k : Label) (at : node_at g k ≡ Some key_node) where
+  no_cell : (l : Label) (tag : ℕ) (e : Label) (rest : Value) → node_at g l ≡ Some (Plain tag (Block e ∷ rest ∷ [])) → same_label l k ≡ true → ⊥
+  no_cell l tag e rest node same = let clash : Some (Plain tag (Block e ∷ rest ∷ [])) ≡ Some key_node = sym node ∙ (ap (node_at g) (same_label-true l k same) ∙ at) in cc
+
+  no_weak : (l : Label) → IsTrue (is_weak (node_at g l)) → same_label l k ≡ true → ⊥
+  no_weak l weak same = let there : IsTrue (is_weak (Some key_node)) = subst (λ (o : Option Node). IsTrue (is_weak o)) (ap (node_at g) (same_label-true l k same) ∙ at) weak in let clash : false ≡ true = there in cc
+
+  chain_without : (v : Value) (cells : List Cell) → Links g v cells → has_label (cell_labels cells) k ≡ false
+  chain_without v [] links = refl
+  chain_without v (c ∷ cs) (here, (rest, cell, later)) =
+      let behind = chain_without rest cs later in
+      lacks (c.node ∷ c.ephe ∷ cell_labels cs) k (λ h. ⊎_elim (λ same. no_cell c.node cell.tag c.ephe rest cell.node same)
+      (λ more. ⊎_elim (λ same. no_weak c.ephe cell.weak same) (λ there. not_both (cell_labels cs) k there behind) (or_cases (same_label c.ephe k) (has_label (cell_labels cs) k) more))
+      (or_cases (same_label c.node k) (has_label (c.ephe ∷ cell_labels cs) k) h))
+
+  flat_without : (css : List (List Cell)) → ((i : ℕ) → i < length css → has_label (cell_labels (get_or css i [])) k ≡ false) → has_label (flat_map cell_labels css) k ≡ false
+  flat_without [] each = refl
+  flat_without (cs ∷ css) each =
+      let first : has_label (cell_labels cs) k ≡ false = each 0 (omega arith) in
+      let later = flat_without css (λ i below. each (suc i) (omega arith)) in
+      lacks (cell_labels cs ++ flat_map cell_labels css) k (λ h. ⊎_elim (λ here. not_both (cell_labels cs) k here first) (λ behind. not_both (flat_map cell_labels css) k behind later) (has-append_cases (cell_labels cs) (flat_map cell_labels css) k h))
+
+  pub table_without : (root : Label) (chains : List (List Cell)) → IsTable g root chains → has_label (table_labels root chains) k ≡ false
+  table_without root chains table =
+      let flat = flat_without chains (λ i below. chain_without _ (get_or chains i []) (table.linked i (subst (λ n. i < n) table.count below))) in
+      lacks (table_labels root chains) k (λ h. ⊎_elim
+      (λ same. (let is : Some (Plain table.tag table.fields) ≡ Some key_node = sym table.node ∙ (ap (node_at g) (same_label-true root k same) ∙ at) in
+      let fields : table.fields ≡ Int (pos 0) ∷ [] = cc in let one : length table.fields ≡ 1 = ap length fields in absurd (let size = table.size in omega (arith, one, size))))
+      (λ there. not_both (flat_map cell_labels chains) k there flat) (or_cases (same_label root k) (has_label (flat_map cell_labels chains) k) h))
+
+  slots_without : (slots : List Label) → IsTrue (list_all (λ e. is_weak (node_at g e)) slots) → has_label slots k ≡ false
+  slots_without [] weak = refl
+  slots_without (e ∷ slots) weak =
+      let later = slots_without slots (and_right (is_weak (node_at g e)) _ weak) in
+      lacks (e ∷ slots) k (λ h. ⊎_elim (λ same. no_weak e (and_left (is_weak (node_at g e)) _ weak) same) (λ there. not_both slots k there later) (or_cases (same_label e k) (has_label slots k) h))
+
+  not_fields : (tag : ℕ) (slots : List Label) → Some (Plain tag (map Block slots)) ≡ Some key_node → ⊥
+  not_fields tag [] is = let fields : ◌≡◌ {A = List Value} [] (Int (pos 0) ∷ []) = cc in cc
+  not_fields tag (e ∷ slots) is = let fields : Block e ∷ map Block slots ≡ Int (pos 0) ∷ [] = cc in cc
+
+  pub array_without : (root : Label) (slots : List Label) → IsWeakArray g root slots → has_label (root ∷ slots) k ≡ false
+  array_without root slots array =
+      let later = slots_without slots array.weak in
+      lacks (root ∷ slots) k (λ h. ⊎_elim (λ same. not_fields array.tag slots (sym array.node ∙ (ap (node_at g) (same_label-true root k same) ∙ at))) (λ there. not_both slots k there later) (or_cases (same_label root k) (has_label slots k) h))
+
+without_keys : (k j : Label) (bs : List Binding) → IsTrue (has_label (keys_of (without k bs)) j) → IsTrue (has_label (keys_of bs) j)
+without_keys k j [] h = h
+without_keys k j (b ∷ bs) h = go (same_label b.0 k) h (λ later. without_keys k j bs later)
+  where
+    go : (c : Bool) → IsTrue (has_label (keys_of (cond c (without k bs) (b ∷ without k bs))) j) → (IsTrue (has_label (keys_of (without k bs)) j) → IsTrue (has_label (keys_of bs) j)) → IsTrue (has_label (keys_of (b ∷ bs)) j)
+    go true h rest = or_right (same_label b.0 j) _ (rest h)
+    go false h rest = ⊎_elim (λ same. or_left (same_label b.0 j) _ same) (λ later. or_right (same_label b.0 j) _ (rest later)) (or_cases (same_label b.0 j) (has_label (keys_of (without k bs)) j) h)
+
+-- a key is another one, or is bound without it
+other_key : (k j : Label) (bs : List Binding) → IsTrue (has_label (keys_of bs) j) → (k ≡ j) ⊎ IsTrue (has_label (keys_of (without k bs)) j)
+other_key k j [] h = inr h
+other_key k j (b ∷ bs) h = go (same_label b.0 k) refl (or_cases (same_label b.0 j) (has_label (keys_of bs) j) h) (λ later. other_key k j bs later)
+  where
+    go : (c : Bool) → same_label b.0 k ≡ c → IsTrue (same_label b.0 j) ⊎ IsTrue (has_label (keys_of bs) j) → (IsTrue (has_label (keys_of bs) j) → (k ≡ j) ⊎ IsTrue (has_label (keys_of (without k bs)) j))
+        → (k ≡ j) ⊎ IsTrue (has_label (keys_of (cond c (without k bs) (b ∷ without k bs))) j)
+    go true e (inl here) rest = inl (sym (same_label-true b.0 k e) ∙ same_label-true b.0 j here)
+    go true e (inr later) rest = rest later
+    go false e (inl here) rest = inr (or_left (same_label b.0 j) _ here)
+    go false e (inr later) rest = ⊎_elim (λ same. inl same) (λ there. inr (or_right (same_label b.0 j) _ there)) (rest later)
+
+prefix_end : (h : List Entry) → IsPrefix h h
+prefix_end h = record { rest = []; appends = sym (append-nil h) }
+
+flipped : (a b : List Label) → Apart a b → Apart b a
+flipped a b apart l there = lacks a l (λ h. not_both b l there (apart l h))
+
+module _ (z : Sizes) (limits : IsWithinLimits z) (p : Places) (s : TableState) (old new : List Entry) (x : Stands z p s old) (quiet : writings new ≤ writings old) (others : (r : ℕ) → 8 ≤ r → held_in z new r ≡ Nothing) where
+  abbrev chains : List (List Cell)
+  chains = x.shown.chains
+
+  abbrev P : Label → Type 0
+  P = WasOutside z old new
+
+  lost : (k : Label) → P k → IsLost s k
+  lost = outside_lost z p s old new x quiet
+
+  same : Goes z old new [] ⊎ IsPrefix old new → (r : ℕ) → 1 ≤ r → r ≤ 7 → held_in z new r ≡ held_in z old r
+  same (inl goes) r low high = register_at z old new new r low high goes.grows (prefix_end new) quiet
+  same (inr grows) r low high = register_at z old new new r low high grows (prefix_end new) quiet
+
+  -- the heap stands for a state with the same registers
+  stands_of : (grows : IsPrefix old new) (bs : List Binding) (ks : List (Option Label)) (css : List (List Cell)) → IsTable (graph_of z new) p.table css → IsWeakArray (graph_of z new) p.array p.slots
+      → bindings (graph_of z new) css ≡ bs → slot_keys (graph_of z new) p.slots ≡ ks → Apart (p.array ∷ p.slots) (table_labels p.table css) → ((k : Label) → IsKnown (record { registers = s.registers; bindings = bs; slots = ks }) k → node_at (graph_of z new) k ≡ Some key_node)
+      → AreInts bs → Stands z p (record { registers = s.registers; bindings = bs; slots = ks }) new
+  stands_of grows bs ks css table array bindings_are slots_are apart keys ints = record {
+    shown = record { chains = css; table = table; array = array; registers = λ r low high. same (inr grows) r low (omega arith) ∙ x.shown.registers r low high; bindings_are = bindings_are; slots_are = slots_are };
+    five = x.five;
+    sixteen = x.sixteen;
+    table_held = same (inr grows) 6 (omega arith) (omega arith) ∙ x.table_held;
+    array_held = same (inr grows) 7 (omega arith) (omega arith) ∙ x.array_held;
+    apart = apart;
+    keys = keys;
+    ints = ints;
+    others = others;
+  }
+
+  -- the table was written, the weak array wasn't
+  module _ (goes : Goes z old new (table_labels p.table chains)) where
+    array_t : IsWeakArray (graph_of z new) p.array p.slots
+    array_t = array_kept P (table_labels p.table chains) (graph_of z old) (graph_of z new) goes.changes p.array p.slots x.apart x.shown.array
+
+    emptied_t : EmptiedBy (IsLost s) s.slots (slot_keys (graph_of z new) p.slots)
+    emptied_t = subst (λ (ks : List (Option Label)). EmptiedBy (IsLost s) ks (slot_keys (graph_of z new) p.slots)) x.shown.slots_are
+        (emptied_more P (IsLost s) lost _ _ (keys_emptied P (table_labels p.table chains) (graph_of z old) (graph_of z new) goes.changes p.slots (λ l h. x.apart l (or_right (same_label p.array l) _ h)) x.shown.array.weak))
+
+    key_t : (k : Label) → IsKnown s k → node_at (graph_of z new) k ≡ Some key_node
+    key_t k known = goes.changes k key_node (x.keys k known) (table_without (graph_of z old) k (x.keys k known) p.table chains x.shown.table)
+
+    -- what is bound besides a key was bound before
+    before_t : (k : Label) (rest : List Binding) → ThinnedBy P (without k (bindings (graph_of z old) chains)) rest → ThinnedBy (IsLost s) (without k s.bindings) rest
+    before_t k rest t = subst (λ (bs : List Binding). ThinnedBy (IsLost s) (without k bs) rest) x.shown.bindings_are (thinned_more P (IsLost s) lost _ _ t)
+
+    ints_t : (k : Label) (rest : List Binding) → ThinnedBy (IsLost s) (without k s.bindings) rest → AreInts rest
+    ints_t k rest t = thinned_ints (IsLost s) _ _ t (ints_without k s.bindings x.ints)
+
+    key_before : (k j : Label) (rest : List Binding) → ThinnedBy (IsLost s) (without k s.bindings) rest → IsTrue (has_label (keys_of rest) j) → IsKnown s j
+    key_before k j rest t h = inr (inl (without_keys k j s.bindings (thinned_keys (IsLost s) _ _ j t h)))
+
+    slot_before : (bs : List Binding) → ThinnedBy (IsLost s) s.bindings bs → (j : Label) → Holds (slot_keys (graph_of z new) p.slots) j → IsKnown s j
+    slot_before bs t j held = known_before s (record { registers = s.registers; bindings = bs; slots = slot_keys (graph_of z new) p.slots }) j (record { registers = refl; bindings = t; slots = emptied_t }) (inr (inr held))
+
+  -- `del R` of a key that is bound
+  pub take_done : (lines : List TableLine) (r : ℕ) (k : Label) → key_in s r ≡ Some k → Takes z old new p.table chains k → refusals new ≡ refusals old → LineDone z p lines (line.Del r) s old reply.Done new
+  take_done lines r k key t none =
+      let rest : List Binding = bindings (graph_of z new) chains in
+      let thin = before_t t.goes k rest t.left in
+      let m = key_kept (IsLost s) k s.bindings rest thin in
+      let mid : TableState = record { registers = s.registers; bindings = m.left; slots = slot_keys (graph_of z new) p.slots } in
+      let after : TableState = record { registers = s.registers; bindings = without k m.left; slots = slot_keys (graph_of z new) p.slots } in
+      let was : datum_at m.left k ≡ Some t.was = m.datum ∙ (ap (λ (bs : List Binding). datum_at bs k) (sym x.shown.bindings_are) ∙ t.bound) in
+      let effect : Effect mid (line.Del r) reply.Done after =
+      subst (λ (o : Option Label). WithKey o mid reply.Done after (λ j. Deletes j mid reply.Done after (datum_at mid.bindings j))) (sym key) (subst (λ (o : Option Value). Deletes k mid reply.Done after o) (sym was) (refl, refl)) in
+      let known : (j : Label) → IsKnown after j → IsKnown s j =
+      λ j known. ⊎_elim (λ held. inl held) (λ more. ⊎_elim (λ bound. key_before t.goes k j rest thin (subst (λ (bs : List Binding). IsTrue (has_label (keys_of bs) j)) m.others bound)) (λ slot. slot_before t.goes m.left m.thinned j slot) more) known in
+      line_ends z p lines (line.Del r) s old reply.Done after new
+      (record { left = mid; goes = record { registers = refl; bindings = m.thinned; slots = emptied_t t.goes }; does = inl effect }) t.goes.grows (omega (arith, none))
+      (stands_of t.goes.grows (without k m.left) _ chains t.table (array_t t.goes) (sym m.others) refl x.apart (λ j is. key_t t.goes j (known j is)) (subst AreInts (sym m.others) (ints_t t.goes k rest thin)))
+
+  -- `put R V`
+  pub put_done : (lines : List TableLine) (r : ℕ) (w : ℤ) (k : Label) → key_in s r ≡ Some k → Puts z old new p.table chains k (Int w) → refusals new ≡ refusals old → LineDone z p lines (line.Put r w) s old reply.Done new
+  put_done lines r w k key g none =
+      let all : List Binding = bindings (graph_of z new) g.grown in
+      let thin = before_t g.goes k (without k all) g.left in
+      let m = key_kept (IsLost s) k s.bindings (without k all) thin in
+      let mid : TableState = record { registers = s.registers; bindings = m.left; slots = slot_keys (graph_of z new) p.slots } in
+      let after : TableState = record { registers = s.registers; bindings = all; slots = slot_keys (graph_of z new) p.slots } in
+      let effect : Effect mid (line.Put r w) reply.Done after =
+      subst (λ (o : Option Label). WithKey o mid reply.Done after (λ j. (reply.Done ≡ reply.Done) × (s.registers ≡ s.registers) × (mid.slots ≡ mid.slots) × Binds j (Int w) mid.bindings all)) (sym key)
+      (refl, refl, refl, record { rest = sym m.others; bound = g.bound }) in
+      let held : IsKnown s k = inl (r - 1, place_holds s.registers (r - 1) k key) in
+      let known : (j : Label) → IsKnown after j → IsKnown s j =
+      λ j known. ⊎_elim (λ held. inl held)
+      (λ more. ⊎_elim (λ bound. ⊎_elim (λ same. subst (IsKnown s) same held) (λ other. key_before g.goes k j (without k all) thin other) (other_key k j all bound)) (λ slot. slot_before g.goes m.left m.thinned j slot) more) known in
+      let apart : Apart (p.array ∷ p.slots) (table_labels p.table g.grown) =
+      λ l mine. lacks (table_labels p.table g.grown) l (λ h. ⊎_elim (λ before. not_both (table_labels p.table chains) l before (x.apart l mine)) (λ fresh. array_there (graph_of z old) l x.shown.array mine fresh) (g.labels l h)) in
+      line_ends z p lines (line.Put r w) s old reply.Done after new
+      (record { left = mid; goes = record { registers = refl; bindings = m.thinned; slots = emptied_t g.goes }; does = inl effect }) g.goes.grows (omega (arith, none))
+      (stands_of g.goes.grows all _ g.grown g.table (array_t g.goes) refl refl apart (λ j is. key_t g.goes j (known j is))
+      (ints_with k all w (differ_law (graph_of z new) p.table g.grown g.table) (ints_t g.goes k (without k all) thin) g.bound))
+    where
+      slot_is : (g : Graph) (slots : List Label) (l : Label) → IsTrue (list_all (λ e. is_weak (node_at g e)) slots) → IsTrue (has_label slots l) → node_at g l ≡ None → ⊥
+      slot_is g [] l weak h none = let clash : false ≡ true = h in cc
+      slot_is g (e ∷ slots) l weak h none = ⊎_elim
+          (λ same. (let there : IsTrue (is_weak None) = subst (λ (o : Option Node). IsTrue (is_weak o)) (ap (node_at g) (same_label-true e l same) ∙ none) (and_left (is_weak (node_at g e)) _ weak) in let clash : false ≡ true = there in cc))
+          (λ later. slot_is g slots l (and_right (is_weak (node_at g e)) _ weak) later none) (or_cases (same_label e l) (has_label slots l) h)
+
+      array_there : (g : Graph) (l : Label) → IsWeakArray g p.array p.slots → IsTrue (has_label (p.array ∷ p.slots) l) → node_at g l ≡ None → ⊥
+      array_there g l array h none = ⊎_elim
+          (λ same. let clash : ◌≡◌ {A = Option Node} None (Some (Plain array.tag (map Block p.slots))) = sym none ∙ (ap (node_at g) (sym (same_label-true p.array l same)) ∙ array.node) in cc)
+          (λ later. slot_is g p.slots l array.weak later none) (or_cases (same_label p.array l) (has_label p.slots l) h)
+
+  -- `wset I R`
+  pub slot_done : (lines : List TableLine) (i r : ℕ) (k : Label) → i < 16 → key_in s r ≡ Some k → SetsSlot z old new p.array p.slots i k → refusals new ≡ refusals old → LineDone z p lines (line.SetWeak i r) s old reply.Done new
+  slot_done lines i r k few key g none =
+      let own : List Label = p.array ∷ p.slots in
+      let apart : Apart (table_labels p.table chains) own = flipped own (table_labels p.table chains) x.apart in
+      let held : Holds s.registers k = (r - 1, place_holds s.registers (r - 1) k key) in
+      let all : List (Option Label) = slot_keys (graph_of z new) p.slots in
+      let emptied : EmptiedBy (IsLost s) (set s.slots i (Some k)) all = subst (λ (ks : List (Option Label)). EmptiedBy (IsLost s) (set ks i (Some k)) all) x.shown.slots_are (emptied_more P (IsLost s) lost _ _ g.keys) in
+      let long : i < length s.slots = subst (λ (ks : List (Option Label)). i < length ks) x.shown.slots_are (slots_long (graph_of z old) p.slots i (let sixteen = x.sixteen in omega arith)) in
+      let m = slot_kept (IsLost s) k (λ gone. gone held) s.slots all i long emptied in
+      let bs : List Binding = bindings (graph_of z new) chains in
+      let table : IsTable (graph_of z new) p.table chains = table_kept P own (graph_of z old) (graph_of z new) g.goes.changes p.table chains apart x.shown.table in
+      let thin : ThinnedBy (IsLost s) s.bindings bs =
+      subst (λ (a : List Binding). ThinnedBy (IsLost s) a bs) x.shown.bindings_are (thinned_more P (IsLost s) lost _ _ (bindings_thinned P own (graph_of z old) (graph_of z new) g.goes.changes p.table chains apart x.shown.table)) in
+      let mid : TableState = record { registers = s.registers; bindings = bs; slots = m.0 } in
+      let goes : MayGo s mid = record { registers = refl; bindings = thin; slots = m.1 } in
+      let after : TableState = record { registers = s.registers; bindings = bs; slots = set m.0 i (Some k) } in
+      let effect : Effect mid (line.SetWeak i r) reply.Done after =
+      subst (λ (o : Option Label). WithKey o mid reply.Done after (λ j. (reply.Done ≡ reply.Done) × (after ≡ record mid { slots = set mid.slots i (Some j) }))) (sym key) (refl, refl) in
+      let known : (j : Label) → IsKnown after j → IsKnown s j =
+      λ j known. ⊎_elim (λ held. inl held)
+      (λ more. ⊎_elim (λ bound. known_before s mid j goes (inr (inl bound)))
+      (λ slot. ⊎_elim (λ same. (let is : k ≡ j = cc in inl (subst (Holds s.registers) is held))) (λ before. known_before s mid j goes (inr (inr before))) (holds_set m.0 i (Some k) j slot)) more) known in
+      line_ends z p lines (line.SetWeak i r) s old reply.Done after new
+      (record { left = mid; goes = goes; does = inl effect }) g.goes.grows (omega (arith, none))
+      (stands_of g.goes.grows bs (set m.0 i (Some k)) chains table g.array refl (sym m.2) x.apart
+      (λ j is. (let before = known j is in g.goes.changes j key_node (x.keys j before) (array_without (graph_of z old) j (x.keys j before) p.array p.slots x.shown.array)))
+      (thinned_ints (IsLost s) _ _ thin x.ints))
+    where
+      slots_long : (g : Graph) (slots : List Label) (i : ℕ) → i < length slots → i < length (slot_keys g slots)
+      slots_long g [] i below = absurd (omega arith)
+      slots_long g (e ∷ slots) zero below = omega arith
+      slots_long g (e ∷ slots) (suc i) below = let rest = slots_long g slots i (omega arith) in omega arith

@@ -1,0 +1,148 @@
+-- What stays of the two structures where no block of theirs is written, and what may have gone.
+use Rattle.std.proofs.Common.{◌≡◌, inl, inr, ℕ, zero, suc, ◌+◌, ◌-◌, ◌<◌, ◌≤◌, List, [], length, get_or, Option, Some, None, refl, ap, sym, ◌∙◌, subst, arith, append-nil}
+use Rattle.heap_model.specs.declared.label.Label.{Label}
+use Rattle.heap_model.specs.declared.entry.Entry.{Entry}
+use Rattle.heap_model.specs.declared.graph.Value.TheVariants.{Block, Nothing}
+use Rattle.heap_model.specs.declared.state.Sizes.{Sizes}
+use Rattle.heap_model.specs.Graph.{node_at}
+use Rattle.heap_model.specs.Commands.{key_value}
+use Rattle.heap_model.specs.History.{IsPrefix}
+use Rattle.table_laws.specs.Structures.{Binding, Cell, bindings, IsTable, IsWeakArray, slot_keys}
+use Rattle.table_laws.specs.Thinning.{ThinnedBy, EmptiedBy, WasOutside, Went, Changes, state_of}
+use Rattle.table_laws.specs.Performing.{refusals, writings}
+use Rattle.table_laws.specs.Stages.{graph_of, held_in}
+use Rattle.table_laws.proofs.BindingLemmas.{thinned_more}
+use Rattle.table_laws.proofs.ArrayLemmas.{emptied_more}
+use Rattle.table_laws.proofs.ChangeLemmas.{table_kept, bindings_thinned, array_kept}
+use Rattle.table_laws.proofs.CollectorLemmas.{outside_unheld}
+use Rattle.table_laws.proofs.LawLemmas.{keys_emptied}
+use Rattle.table_laws.proofs.StageLemmas.{prefix_trans}
+use Rattle.weak_tables.specs.Held.{KeepsOthers, IsClean}
+use Rattle.table_text.specs.declared.line.TableLine.{TableLine}
+use Rattle.table_machine.specs.declared.reply.LineReply.{LineReply}
+use Rattle.table_machine.specs.Machine.{TableState, MayGo, IsLost, Holds}
+use Rattle.table_run.specs.Steps.{LineStep}
+use Rattle.table_run.specs.Standing.{Places, Stands, IsKnown, key_node, AreInts}
+use Rattle.table_run.specs.Running.{LineDone, full_in}
+use Rattle.table_run.proofs.MachineLemmas.{may_same, may_twice, known_before, thinned_ints, holds_place}
+use Rattle.table_run.proofs.RegisterLemmas.{register_at}
+
+-- a register that holds a key of the machine
+pub register_of : (z : Sizes) (p : Places) (s : TableState) (h : List Entry) (i : ℕ) (k : Label) → Stands z p s h → get_or s.registers i None ≡ Some k → i < 5 → held_in z h (i + 1) ≡ Block k
+register_of z p s h i k x is below =
+    let same : i + 1 - 1 ≡ i = omega arith in
+    x.shown.registers (i + 1) (omega arith) (omega arith) ∙ ap key_value (ap (λ (n : ℕ). get_or s.registers n None) same ∙ is)
+
+-- what may go at one command is held by none
+pub went_lost : (z : Sizes) (p : Places) (s : TableState) (old new : List Entry) → Stands z p s old → (k : Label) → Went z old new k → IsLost s k
+went_lost z p s old new x k w (i, at) = let t = holds_place s.registers i k at in w.unheld 0 (i + 1) (register_of z p s old i k x t.0 (let five = x.five in let below = t.1 in omega arith))
+
+-- and so is what may go in a call that writes none of the registers
+pub outside_lost : (z : Sizes) (p : Places) (s : TableState) (old new : List Entry) → Stands z p s old → writings new ≤ writings old → (k : Label) → WasOutside z old new k → IsLost s k
+outside_lost z p s old new x quiet k w (i, at) =
+    let t = holds_place s.registers i k at in
+    let below : i < 5 = (let five = x.five in let few = t.1 in omega arith) in
+    let there : held_in z w.front (i + 1) ≡ Block k = register_at z old w.front new (i + 1) (omega arith) (omega arith) w.since w.until quiet ∙ register_of z p s old i k x t.0 below in
+    outside_unheld (state_of z w.front) k w.outside 0 (i + 1) there
+
+-- a register from 8 on holds nothing after a call
+pub others_clean : (z : Sizes) (old new : List Entry) → ((r : ℕ) → 8 ≤ r → held_in z old r ≡ Nothing) → ((r : ℕ) → 11 ≤ r → held_in z new r ≡ held_in z old r) → IsClean z new → (r : ℕ) → 8 ≤ r → held_in z new r ≡ Nothing
+others_clean z old new before keeps clean r high = go (r - 8) (omega arith)
+  where
+    go : (n : ℕ) → r ≡ 8 + n → held_in z new r ≡ Nothing
+    go zero is = ap (held_in z new) is ∙ clean.eight
+    go (suc zero) is = (let nine : r ≡ 9 = omega arith in ap (held_in z new) nine) ∙ clean.nine
+    go (suc (suc zero)) is = (let ten : r ≡ 10 = omega arith in ap (held_in z new) ten) ∙ clean.ten
+    go (suc (suc (suc n))) is = keeps r (omega arith) ∙ before r high
+
+pub keeps_high : (z : Sizes) (old new : List Entry) → KeepsOthers z old new → (r : ℕ) → 11 ≤ r → held_in z new r ≡ held_in z old r
+keeps_high z old new keeps r high = keeps r (λ e. absurd (omega arith)) (λ e. absurd (omega arith)) (λ e. absurd (omega arith))
+
+-- no block of the two structures was written: they are what they were, and what went was lost
+module _ (z : Sizes) (p : Places) (s : TableState) (old new : List Entry) (x : Stands z p s old) (P : Label → Type 0) (changes : Changes P [] (graph_of z old) (graph_of z new)) (lost : (k : Label) → P k → IsLost s k) where
+  abbrev chains : List (List Cell)
+  chains = x.shown.chains
+
+  table_new : IsTable (graph_of z new) p.table chains
+  table_new = table_kept P [] (graph_of z old) (graph_of z new) changes p.table chains (λ l h. refl) x.shown.table
+
+  thin : ThinnedBy P (bindings (graph_of z old) chains) (bindings (graph_of z new) chains)
+  thin = bindings_thinned P [] (graph_of z old) (graph_of z new) changes p.table chains (λ l h. refl) x.shown.table
+
+  array_new : IsWeakArray (graph_of z new) p.array p.slots
+  array_new = array_kept P [] (graph_of z old) (graph_of z new) changes p.array p.slots (λ l h. refl) x.shown.array
+
+  emptied : EmptiedBy P (slot_keys (graph_of z old) p.slots) (slot_keys (graph_of z new) p.slots)
+  emptied = keys_emptied P [] (graph_of z old) (graph_of z new) changes p.slots (λ l h. refl) x.shown.array.weak
+
+  -- the machine with what is left, and these keys in its registers
+  abbrev pub left_with : List (Option Label) → TableState
+  left_with rs = record { registers = rs; bindings = bindings (graph_of z new) chains; slots = slot_keys (graph_of z new) p.slots }
+
+  pub frame_goes : MayGo s (left_with s.registers)
+  frame_goes = record {
+    registers = refl;
+    bindings = subst (λ (bs : List Binding). ThinnedBy (IsLost s) bs (bindings (graph_of z new) chains)) x.shown.bindings_are (thinned_more P (IsLost s) lost _ _ thin);
+    slots = subst (λ (ks : List (Option Label)). EmptiedBy (IsLost s) ks (slot_keys (graph_of z new) p.slots)) x.shown.slots_are (emptied_more P (IsLost s) lost _ _ emptied);
+  }
+
+  pub frame_key : (k : Label) → IsKnown s k → node_at (graph_of z new) k ≡ Some key_node
+  frame_key k known = changes k key_node (x.keys k known) refl
+
+  pub frame_stands : (rs : List (Option Label)) → length rs ≡ 5 → ((r : ℕ) → 1 ≤ r → r ≤ 5 → held_in z new r ≡ key_value (get_or rs (r - 1) None)) → held_in z new 6 ≡ Block p.table → held_in z new 7 ≡ Block p.array
+      → ((r : ℕ) → 8 ≤ r → held_in z new r ≡ Nothing) → ((k : Label) → Holds rs k → node_at (graph_of z new) k ≡ Some key_node) → Stands z p (left_with rs) new
+  frame_stands rs five registers table_held array_held others keys = record {
+    shown = record { chains = chains; table = table_new; array = array_new; registers = registers; bindings_are = refl; slots_are = refl };
+    five = five;
+    sixteen = x.sixteen;
+    table_held = table_held;
+    array_held = array_held;
+    apart = x.apart;
+    keys = λ k known. known_key k known;
+    ints = thinned_ints P _ _ thin (subst AreInts (sym x.shown.bindings_are) x.ints);
+    others = others;
+  } where
+    known_key : (k : Label) → IsKnown (left_with rs) k → node_at (graph_of z new) k ≡ Some key_node
+    known_key k (inl held) = keys k held
+    known_key k (inr there) = frame_key k (known_before s (left_with s.registers) k frame_goes (inr there))
+
+  -- with the same keys in the registers
+  pub frame_same : ((r : ℕ) → 1 ≤ r → r ≤ 7 → held_in z new r ≡ held_in z old r) → ((r : ℕ) → 8 ≤ r → held_in z new r ≡ Nothing) → Stands z p (left_with s.registers) new
+  frame_same same others = frame_stands s.registers x.five (λ r low high. same r low (omega arith) ∙ x.shown.registers r low high) (same 6 (omega arith) (omega arith) ∙ x.table_held) (same 7 (omega arith) (omega arith) ∙ x.array_held) others
+      (λ k held. frame_key k (inl held))
+
+prefix_self : (h : List Entry) → IsPrefix h h
+prefix_self h = record { rest = []; appends = sym (append-nil h) }
+
+-- a line that is over with the last front of its call
+pub line_ends : (z : Sizes) (p : Places) (lines : List TableLine) (l : TableLine) (s : TableState) (old : List Entry) (a : LineReply) (t : TableState) (new : List Entry) → LineStep z lines l s a t → IsPrefix old new → refusals new ≡ refusals old + full_in a → Stands z p t new
+    → LineDone z p lines l s old a new
+line_ends z p lines l s old a t new step grows refused x = record {
+  after = t;
+  front = new;
+  runs = record { step = step; grows = grows; shown = x.shown; refused = refused };
+  until = prefix_self new;
+  given = refl;
+  left = t;
+  goes = may_same t;
+  stands = x;
+}
+
+-- something was done before a line
+pub line_later : (z : Sizes) (p : Places) (lines : List TableLine) (l : TableLine) (s t : TableState) (old mid : List Entry) (a : LineReply) (new : List Entry) → MayGo s t → IsPrefix old mid → refusals mid ≡ refusals old → LineDone z p lines l t mid a new
+    → LineDone z p lines l s old a new
+line_later z p lines l s t old mid a new goes grows none x = record {
+  after = x.after;
+  front = x.front;
+  runs = record {
+    step = record { left = x.runs.step.left; goes = may_twice s t x.runs.step.left goes x.runs.step.goes; does = x.runs.step.does };
+    grows = prefix_trans old mid x.front grows x.runs.grows;
+    shown = x.runs.shown;
+    refused = x.runs.refused ∙ ap (λ (n : ℕ). n + full_in a) none;
+  };
+  until = x.until;
+  given = x.given;
+  left = x.left;
+  goes = x.goes;
+  stands = x.stands;
+}

@@ -1,0 +1,216 @@
+-- A text, from the two structures that are made to its last line.
+use Rattle.std.proofs.Common.{◌≡◌, ◌≢◌, inl, inr, ℕ, zero, suc, ◌+◌, ◌-◌, ◌≤◌, false, true, List, [], ◌∷◌, ◌++◌, length, take, get_or, replicate, slice_get, Some, None, refl, ap, sym, ◌∙◌, subst, arith, append_assoc, append-nil}
+use Rattle.std.proofs.lemmas.List.{length-map}
+use Rattle.heap_model.specs.declared.label.Label.{Label}
+use Rattle.heap_model.specs.declared.entry.Entry.{Entry}
+use Rattle.heap_model.specs.declared.reply.Reply.{Reply}
+use Rattle.heap_model.specs.declared.reply.Reply.TheVariants as given
+use Rattle.heap_model.specs.declared.graph.Value.TheVariants.{Block, Nothing}
+use Rattle.heap_model.specs.declared.state.Sizes.{Sizes}
+use Rattle.heap_model.specs.Graph.{Graph}
+use Rattle.heap_model.specs.Domains.{IsWithinLimits, domain_at, opening, register, reserve}
+use Rattle.heap_model.specs.Commands.{key_value}
+use Rattle.heap_model.specs.History.{IsPrefix, Legal}
+use Rattle.table_laws.specs.Structures.{Cell, bucket_count, bindings, table_labels, empty_chains, IsTable, Apart}
+use Rattle.table_laws.specs.Thinning.{WasOutside, state_of}
+use Rattle.table_laws.specs.Performing.{refusals, full_of}
+use Rattle.table_laws.specs.Stages.{graph_of, held_in}
+use Rattle.table_laws.proofs.ChangeLemmas.{table_kept}
+use Rattle.table_laws.proofs.GrowLemmas.{new_to_table}
+use Rattle.table_laws.proofs.StageLemmas.{prefix_trans}
+use Rattle.weak_tables.specs.Tables.{MakeAnswers}
+use Rattle.weak_tables.specs.Arrays.{ArrayAnswers}
+use Rattle.table_text.specs.declared.line.TableLine.{TableLine}
+use Rattle.table_machine.specs.declared.reply.LineReply.{LineReply}
+use Rattle.table_machine.specs.Machine.{TableState, Holds, made_by, all_made, opened}
+use Rattle.table_run.specs.Standing.{Places, Shown, IsKnown}
+use Rattle.table_run.specs.Running.{LineRuns, LinesRun, LineDone, LineAnswers, HasGiven, TextRuns, RanTo, Begins, full_in, rooms_of, all_rooms}
+use Rattle.table_run.proofs.MachineLemmas.{may_same, may_twice}
+use Rattle.table_run.proofs.LinesLemmas.{made-append}
+use Rattle.table_run.proofs.RefusalLemmas.{used_up}
+use Rattle.table_run.proofs.StandLemmas.{others_clean}
+
+-- lists of nothing
+get_none : {A : Type 0} (x : A) (n i : ℕ) → get_or (replicate n x) i x ≡ x
+get_none x zero zero = refl
+get_none x zero (suc i) = refl
+get_none x (suc n) zero = refl
+get_none x (suc n) (suc i) = get_none x n i
+
+none_held : (n : ℕ) (k : Label) → Holds (replicate n None) k → ⊥
+none_held zero k (zero, at) = cc
+none_held zero k (suc i, at) = cc
+none_held (suc n) k (zero, at) = cc
+none_held (suc n) k (suc i, at) = none_held n k (i, at)
+
+none_bound : (g : Graph) (n : ℕ) → bindings g (replicate n []) ≡ []
+none_bound g zero = refl
+none_bound g (suc n) = none_bound g n
+
+module _ (z : Sizes) (one : z.domains ≡ 1) where
+  -- at the start a register from 1 on holds nothing, and no label was given out
+  opening_register : (r : ℕ) → 1 ≤ r → held_in z [] r ≡ Nothing
+  opening_register r some = ap (λ (n : ℕ). register (opening (record z { domains = n })) 0 r) one ∙ go r some
+    where
+      go : (q : ℕ) → 1 ≤ q → get_or (Block (record { domain = 0; serial = 0 }) ∷ replicate 15 Nothing) q Nothing ≡ Nothing
+      go zero some = absurd (omega arith)
+      go (suc q) some = get_none Nothing 15 q
+
+  pub opening_serial : (domain_at (state_of z []) 0).serial ≡ 0
+  opening_serial = ap (λ (n : ℕ). (domain_at (opening (record z { domains = n })) 0).serial) one
+
+module _ (z : Sizes) (limits : IsWithinLimits z) (one : z.domains ≡ 1) (pools : reserve z + z.classes + 32 ≤ z.pools) where
+  -- so few labels were given out that nothing is refused
+  unrefused : (old new : List Entry) (left_new : ℕ) (rep : Reply) → Legal z new → IsPrefix old new → (domain_at (state_of z new) 0).serial + left_new ≡ 4294967295 → 4294967295 ≤ left_new + 18 → refusals new ≡ refusals old + full_of rep → rep ≡ given.Full → ⊥
+  unrefused old new left_new rep legal grows serial few count full =
+      let more : refusals new ≡ refusals old + 1 = count ∙ ap (λ (a : Reply). refusals old + full_of a) full in
+      let used = used_up z limits old new one legal grows (omega (arith, more)) in
+      absurd (omega (arith, used, pools, serial, few))
+
+  pub prepared : (mid new : List Entry) (left_mid left_new : ℕ) (a b : Reply) → (domain_at (state_of z mid) 0).serial + left_mid ≡ 4294967295 → (domain_at (state_of z new) 0).serial + left_new ≡ 4294967295 → 4294967295 ≤ left_mid + 18 → 4294967295 ≤ left_new + 18
+      → refusals mid ≡ 0 + full_of a → refusals new ≡ refusals mid + full_of b → MakeAnswers z [] mid 6 a → ArrayAnswers z mid new 7 16 b → Begins z new
+  prepared mid new left_mid left_new a b serial_mid serial_new few_mid few_new count_a count_b (inr (full, none)) y = absurd (unrefused [] mid left_mid a none.goes.legal none.goes.grows serial_mid few_mid count_a full)
+  prepared mid new left_mid left_new a b serial_mid serial_new few_mid few_new count_a count_b (inl x) (inr (full, none)) = absurd (unrefused mid new left_new b none.goes.legal none.goes.grows serial_new few_new count_b full)
+  prepared mid new left_mid left_new a b serial_mid serial_new few_mid few_new count_a count_b (inl (root, is_a, t)) (inl (array, is_b, w)) =
+      let chains : List (List Cell) = empty_chains bucket_count in
+      let table : IsTable (graph_of z new) root chains = table_kept (WasOutside z mid new) [] (graph_of z mid) (graph_of z new) w.goes.changes root chains (λ l h. refl) t.table in
+      let held : (r : ℕ) → r ≢ 6 → r ≢ 7 → r ≢ 8 → r ≢ 9 → r ≢ 10 → held_in z new r ≡ held_in z [] r = λ r six seven eight nine ten. w.keeps r eight nine ten seven ∙ t.keeps r six in
+      let p : Places = record { table = root; array = array; slots = w.slots } in
+      let shown : Shown z p opened new = record {
+        chains = chains;
+        table = table;
+        array = w.array;
+        registers = λ r low high. held r (λ e. absurd (omega arith)) (λ e. absurd (omega arith)) (λ e. absurd (omega arith)) (λ e. absurd (omega arith)) (λ e. absurd (omega arith)) ∙ opening_register z one r low ∙ sym (ap key_value (get_none None 5 (r - 1)));
+        bindings_are = none_bound (graph_of z new) bucket_count;
+        slots_are = w.empty;
+      } in
+      let apart : Apart (array ∷ w.slots) (table_labels root chains) = λ l mine. new_to_table (graph_of z mid) root chains l t.table (w.fresh l mine) in
+      let sixteen : length w.slots ≡ 16 = sym (length-map w.slots _) ∙ ap length w.empty in
+      let count : refusals new ≡ 0 = (let first : refusals mid ≡ 0 + 0 = count_a ∙ ap (λ (r : Reply). 0 + full_of r) is_a in let second : refusals new ≡ refusals mid + 0 = count_b ∙ ap (λ (r : Reply). refusals mid + full_of r) is_b in omega (arith, first, second)) in
+      record {
+        places = p;
+        stands = record {
+          shown = shown;
+          five = refl;
+          sixteen = sixteen;
+          table_held = w.keeps 6 (λ e. absurd (omega arith)) (λ e. absurd (omega arith)) (λ e. absurd (omega arith)) (λ e. absurd (omega arith)) ∙ t.holds;
+          array_held = w.holds;
+          apart = apart;
+          keys = λ k known. absurd (unknown k known);
+          ints = tt;
+          others = others_clean z [] new (λ r high. opening_register z one r (omega arith)) (λ r high. held r (λ e. absurd (omega arith)) (λ e. absurd (omega arith)) (λ e. absurd (omega arith)) (λ e. absurd (omega arith)) (λ e. absurd (omega arith))) w.clean;
+        };
+        none = count;
+      }
+    where
+      unknown : (k : Label) → IsKnown opened k → ⊥
+      unknown k (inl held) = none_held 5 k held
+      unknown k (inr (inl bound)) = let clash : false ≡ true = bound in cc
+      unknown k (inr (inr slot)) = none_held 16 k slot
+
+-- one line more
+lines_push : (z : Sizes) (p : Places) (before : List TableLine) (s : TableState) (old : List Entry) (ls : List TableLine) (rs : List LineReply) (t : TableState) (mid : List Entry) (l : TableLine) (a : LineReply) (u : TableState) (new : List Entry)
+    → LinesRun z p before s old ls rs t mid → LineRuns z p ((before ++ ls) ++ l ∷ []) l t mid a u new → LinesRun z p before s old (ls ++ l ∷ []) (rs ++ a ∷ []) u new
+lines_push z p before s old [] [] t mid l a u new (same, front) r =
+    (u, new, subst (λ (x : TableState × List Entry). LineRuns z p (before ++ l ∷ []) l x.0 x.1 a u new) (λ i. (same i, front i)) (subst (λ (b : List TableLine). LineRuns z p (b ++ l ∷ []) l t mid a u new) (append-nil before) r), (refl, refl))
+lines_push z p before s old (x ∷ ls) (b ∷ rs) t mid l a u new (m, h, first, rest) r =
+    (m, h, first, lines_push z p (before ++ x ∷ []) m h ls rs t mid l a u new rest (subst (λ (c : List TableLine). LineRuns z p (c ++ l ∷ []) l t mid a u new) (sym (append_assoc before (x ∷ []) ls)) r))
+lines_push z p before s old [] (b ∷ rs) t mid l a u new runs r = absurd runs
+lines_push z p before s old (x ∷ ls) [] t mid l a u new runs r = absurd runs
+
+pub ran_none : (z : Sizes) (h : List Entry) → Begins z h → RanTo z [] [] h
+ran_none z h b = record {
+  places = b.places;
+  first = h;
+  begins = b.stands.shown;
+  none = b.none;
+  state = opened;
+  last = h;
+  lines_run = (refl, refl);
+  until = record { rest = []; appends = sym (append-nil h) };
+  given = refl;
+  left = opened;
+  goes = may_same opened;
+  stands = b.stands;
+}
+
+pub ran_more : (z : Sizes) (lines : List TableLine) (replies : List LineReply) (now : List Entry) (x : RanTo z lines replies now) (l : TableLine) (a : LineReply) (new : List Entry) → LineDone z x.places (lines ++ l ∷ []) l x.left now a new → RanTo z (lines ++ l ∷ []) (replies ++ a ∷ []) new
+ran_more z lines replies now x l a new y = record {
+  places = x.places;
+  first = x.first;
+  begins = x.begins;
+  none = x.none;
+  state = y.after;
+  last = y.front;
+  lines_run = lines_push z x.places [] opened x.first lines replies x.state x.last l a y.after y.front x.lines_run (record {
+    step = record { left = y.runs.step.left; goes = may_twice x.state x.left y.runs.step.left x.goes y.runs.step.goes; does = y.runs.step.does };
+    grows = prefix_trans x.last now y.front x.until y.runs.grows;
+    shown = y.runs.shown;
+    refused = y.runs.refused ∙ ap (λ (n : ℕ). n + full_in a) x.given;
+  });
+  until = y.until;
+  given = y.given;
+  left = y.left;
+  goes = y.goes;
+  stands = y.stands;
+}
+
+pub ran_all : (z : Sizes) (lines all : List TableLine) (replies : List LineReply) (now : List Entry) → lines ≡ all → RanTo z lines replies now → TextRuns z all replies now
+ran_all z lines all replies now same x = subst (λ (ls : List TableLine). TextRuns z ls replies now) same (record {
+  places = x.places;
+  first = x.first;
+  begins = x.begins;
+  none = x.none;
+  state = x.state;
+  last = x.last;
+  lines_run = x.lines_run;
+  within = x.until;
+})
+
+-- the next line, and what lines need
+pub take_more : (ls : List TableLine) (i : ℕ) (l : TableLine) → Some l ≡ slice_get ls i → take (i + 1) ls ≡ take i ls ++ l ∷ []
+take_more ls i l at = ap (λ (n : ℕ). take n ls) (let same : i + 1 ≡ suc i = omega arith in same) ∙ go ls i at
+  where
+    go : (xs : List TableLine) (j : ℕ) → Some l ≡ slice_get xs j → take (suc j) xs ≡ take j xs ++ l ∷ []
+    go [] zero at = cc
+    go [] (suc j) at = cc
+    go (x ∷ xs) zero at = let same : l ≡ x = cc in ap (λ (y : TableLine). y ∷ []) (sym same)
+    go (x ∷ xs) (suc j) at = ap (λ (ys : List TableLine). x ∷ ys) (go xs j at)
+
+pub take_all : (ls : List TableLine) (i : ℕ) → length ls ≤ i → take i ls ≡ ls
+take_all [] zero few = refl
+take_all [] (suc i) few = refl
+take_all (l ∷ ls) zero few = absurd (omega arith)
+take_all (l ∷ ls) (suc i) few = ap (λ (xs : List TableLine). l ∷ xs) (take_all ls i (omega arith))
+
+pub made_before : (ls : List TableLine) (i : ℕ) (l : TableLine) → Some l ≡ slice_get ls i → all_made (take i ls) + made_by l ≤ all_made ls
+made_before [] zero l at = cc
+made_before [] (suc i) l at = cc
+made_before (x ∷ ls) zero l at = let same : made_by l ≡ made_by x = ap made_by (let is : l ≡ x = cc in is) in omega (arith, same)
+made_before (x ∷ ls) (suc i) l at = let rest = made_before ls i l at in omega (arith, rest)
+
+pub rooms_before : (ls : List TableLine) (i : ℕ) (l : TableLine) → Some l ≡ slice_get ls i → all_rooms (take i ls) + rooms_of l ≤ all_rooms ls
+rooms_before [] zero l at = cc
+rooms_before [] (suc i) l at = cc
+rooms_before (x ∷ ls) zero l at = let same : rooms_of l ≡ rooms_of x = ap rooms_of (let is : l ≡ x = cc in is) in omega (arith, same)
+rooms_before (x ∷ ls) (suc i) l at = let rest = rooms_before ls i l at in omega (arith, rest)
+
+pub rooms-append : (a : List TableLine) (l : TableLine) → all_rooms (a ++ l ∷ []) ≡ all_rooms a + rooms_of l
+rooms-append [] l = omega arith
+rooms-append (x ∷ a) l = let rest = rooms-append a l in omega (arith, rest)
+
+pub take_none : (ls : List TableLine) → take 0 ls ≡ []
+take_none [] = refl
+take_none (l ∷ ls) = refl
+
+-- the next line, from a state in which the heap stands
+pub ran_line : (z : Sizes) (all : List TableLine) (i : ℕ) (l : TableLine) (replies : List LineReply) (now new : List Entry) (a : LineReply) (left : ℕ) → Some l ≡ slice_get all i → (x : RanTo z (take i all) replies now) → HasGiven left (take i all) → LineAnswers z left l now a new → RanTo z (take (i + 1) all) (replies ++ a ∷ []) new
+ran_line z all i l replies now new a left at x given answers =
+    subst (λ (ls : List TableLine). RanTo z ls (replies ++ a ∷ []) new) (sym (take_more all i l at)) (ran_more z (take i all) replies now x l a new (answers x.places x.left (take i all) x.stands given))
+
+-- what is known of labels and room, with that line's share
+pub made_more : (all : List TableLine) (i : ℕ) (l : TableLine) → Some l ≡ slice_get all i → all_made (take (i + 1) all) ≡ all_made (take i all) + made_by l
+made_more all i l at = ap all_made (take_more all i l at) ∙ made-append (take i all) l
+
+pub rooms_more : (all : List TableLine) (i : ℕ) (l : TableLine) → Some l ≡ slice_get all i → all_rooms (take (i + 1) all) ≡ all_rooms (take i all) + rooms_of l
+rooms_more all i l at = ap all_rooms (take_more all i l at) ∙ rooms-append (take i all) l

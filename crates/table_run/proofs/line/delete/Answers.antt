@@ -1,0 +1,16 @@
+use Rattle.std.proofs.Common.{List, [], ◌∷◌, ◌++◌, sym, subst}
+use Rattle.heap_model.specs.declared.entry.Entry.{Entry}
+use Rattle.heap_model.specs.declared.state.Sizes.{Sizes}
+use Rattle.table_text.specs.declared.line.TableLine.TheVariants as line_of
+use Rattle.table_machine.specs.declared.reply.LineReply.{LineReply}
+use Rattle.table_run.specs.Running.{LineDone}
+use Rattle.table_run.proofs.LinesLemmas.{deleted}
+use Rattle.table_run.proofs.line.delete.Goals as goal
+
+pub returns-clause-runs : goal.returns-clause-runs
+returns-clause-runs g c =
+    let z : Sizes = g.M.Machine.sizes c.args.m.now in
+    let old : List Entry = g.M.Machine.front c.args.m.now in
+    let new : List Entry = g.M.Machine.front c.table_take-reply.new.m in
+    λ p s before x few. subst (λ (a : LineReply). LineDone z p (before ++ line_of.Del c.args.reg ∷ []) (line_of.Del c.args.reg) s old a new) (sym c.said.ensures)
+    (deleted z c.stands.ensures.limits old new c.args.reg c.table_take-reply.result c.requires.register.0 c.requires.register.1 c.table_take-reply.ensures.written c.table_take-reply.ensures.refused c.table_take-reply.ensures.answer p s (before ++ line_of.Del c.args.reg ∷ []) x)

@@ -1,0 +1,104 @@
+-- A text of a table, run line by line: each line is a step of the machine, and the history has a prefix for it.
+use Rattle.std.specs.Prelude.{◌≡◌, ℕ, ◌+◌, ◌≤◌, List, [], ◌∷◌, ◌++◌}
+use Rattle.heap_model.specs.declared.entry.Entry.{Entry}
+use Rattle.heap_model.specs.declared.reply.Reply.{Reply}
+use Rattle.heap_model.specs.declared.reply.Reply.TheVariants as given
+use Rattle.heap_model.specs.declared.state.Sizes.{Sizes}
+use Rattle.heap_model.specs.History.{IsPrefix}
+use Rattle.table_laws.specs.Performing.{refusals}
+use Rattle.table_text.specs.declared.line.TableLine.{TableLine}
+use Rattle.table_text.specs.declared.line.TableLine.TheVariants.{Put}
+use Rattle.table_machine.specs.declared.reply.LineReply.{LineReply}
+use Rattle.table_machine.specs.declared.reply.LineReply.TheVariants as reply
+use Rattle.table_machine.specs.Machine.{TableState, MayGo, all_made, opened}
+use Rattle.table_run.specs.Steps.{LineStep}
+use Rattle.table_run.specs.Standing.{Places, Shown, Stands}
+
+-- 1 for the reply `full`
+abbrev pub full_in : LineReply → ℕ
+full_in reply.Full = 1
+full_in _ = 0
+
+-- what a call's reply is as a line's
+abbrev pub said : Reply → LineReply
+said (given.Int v) = reply.Number v
+said (given.Block l) = reply.Yes
+said given.BadType = reply.BadType
+said given.Empty = reply.Empty
+said given.Full = reply.Full
+said _ = reply.Done
+
+-- a line, the last of these, from a state at one prefix of the history to a state at the next: a step of the machine, and one command of the line was answered `full` exactly where the reply is
+pub record LineRuns (z : Sizes) (p : Places) (lines : List TableLine) (l : TableLine) (s : TableState) (old : List Entry) (a : LineReply) (t : TableState) (new : List Entry) : Type 0 where
+  pub step : LineStep z lines l s a t
+  pub grows : IsPrefix old new
+  pub shown : Shown z p t new
+  pub refused : refusals new ≡ refusals old + full_in a
+
+-- all lines behind those before, from one state and prefix to another
+abbrev pub LinesRun : Sizes → Places → List TableLine → TableState → List Entry → List TableLine → List LineReply → TableState → List Entry → Type 0
+LinesRun z p before s old [] [] t new = (t ≡ s) × (new ≡ old)
+LinesRun z p before s old (l ∷ lines) (a ∷ replies) t new =
+    (u : TableState) × (h : List Entry) × LineRuns z p (before ++ l ∷ []) l s old a u h × LinesRun z p (before ++ l ∷ []) u h lines replies t new
+LinesRun z p before s old _ _ t new = ⊥
+
+-- a text was run from its first line to its last, in this history: the table and the array were made before, without a command that was answered `full`, and both are empty then
+pub record TextRuns (z : Sizes) (lines : List TableLine) (replies : List LineReply) (history : List Entry) : Type 0 where
+  pub places : Places
+  pub first : List Entry
+  pub begins : Shown z places opened first
+  pub none : refusals first ≡ 0
+  pub state : TableState
+  pub last : List Entry
+  pub lines_run : LinesRun z places [] opened first lines replies state last
+  pub within : IsPrefix last history
+
+-- what a line leaves for the next one: a state of the machine at a prefix of the history, of which some bindings and slots may have gone since
+pub record LineDone (z : Sizes) (p : Places) (lines : List TableLine) (l : TableLine) (s : TableState) (old : List Entry) (a : LineReply) (new : List Entry) : Type 0 where
+  pub after : TableState
+  pub front : List Entry
+  pub runs : LineRuns z p lines l s old a after front
+  pub until : IsPrefix front new
+  pub given : refusals new ≡ refusals front
+  pub left : TableState
+  pub goes : MayGo after left
+  pub stands : Stands z p left new
+
+-- at most so many labels were given out: 18 before the first line, and those of the lines so far
+abbrev pub HasGiven : ℕ → List TableLine → Type 0
+HasGiven left before = 4294967295 ≤ left + 18 + all_made before
+
+-- what a line is answered and leaves, in whatever state of the machine it finds the heap
+abbrev pub LineAnswers : Sizes → ℕ → TableLine → List Entry → LineReply → List Entry → Type 0
+LineAnswers z labels l old a new =
+    (p : Places) (s : TableState) (before : List TableLine) → Stands z p s old → HasGiven labels before → LineDone z p (before ++ l ∷ []) l s old a new
+
+-- for how many ephemerons a line needs room
+abbrev pub rooms_of : TableLine → ℕ
+rooms_of (Put r v) = 1
+rooms_of _ = 0
+
+abbrev pub all_rooms : List TableLine → ℕ
+all_rooms [] = 0
+all_rooms (l ∷ ls) = rooms_of l + all_rooms ls
+
+-- the table and the weak array were made, and nothing was refused
+pub record Begins (z : Sizes) (h : List Entry) : Type 0 where
+  pub places : Places
+  pub stands : Stands z places opened h
+  pub none : refusals h ≡ 0
+
+-- so many lines of a text were run, and the heap stands for what is left of the machine since
+pub record RanTo (z : Sizes) (lines : List TableLine) (replies : List LineReply) (now : List Entry) : Type 0 where
+  pub places : Places
+  pub first : List Entry
+  pub begins : Shown z places opened first
+  pub none : refusals first ≡ 0
+  pub state : TableState
+  pub last : List Entry
+  pub lines_run : LinesRun z places [] opened first lines replies state last
+  pub until : IsPrefix last now
+  pub given : refusals now ≡ refusals last
+  pub left : TableState
+  pub goes : MayGo state left
+  pub stands : Stands z places left now

@@ -1,0 +1,41 @@
+//! A text, line by line.
+ghost use Rattle.std.specs.Prelude.{◌≡◌, ◌+◌, ◌≤◌, [], length, vec_capacity};
+ghost use Rattle.heap_model.specs.Domains.{reserve};
+ghost use Rattle.table_machine.specs.Machine.{all_made};
+ghost use Rattle.table_run.specs.Running.{TextRuns, all_rooms};
+
+use crate::line::run_line;
+use crate::prepare::prepare;
+use std::sync::Wait;
+use table_machine::LineReply;
+use table_text::TableText;
+use weak_tables::machine::Machine;
+
+/// Runs a text of a table over a session that has made no command, and answers what is written for its lines. `room` is
+/// empty and has room for them: no memory is taken.
+///
+/// The replies are those of the machine of the text ([`table_machine`]), and the history has a prefix for each line, after
+/// which registers 1 to 5, the bindings of one table and the slots of one weak array are the machine's.
+pub fn run_text<M: Machine, R: Wait>(
+    m: &mut M,
+    rt: &R,
+    text: &TableText,
+    room: Vec<LineReply>,
+) -> Vec<LineReply>
+    requires empty { M.front m.old ≡ [] }
+    requires pools { reserve (M.sizes m.old) + (M.sizes m.old).classes + 32 ≤ (M.sizes m.old).pools }
+    requires labels { 18 + all_made text.now ≤ M.labels_left m.old }
+    requires ephemerons { 16 + all_rooms text.now ≤ M.ephes_room m.old }
+    requires none { room.items ≡ [] }
+    requires capacity { length text.now ≤ vec_capacity room }
+    ensures sizes { M.sizes m.new ≡ M.sizes m.old }
+    ensures runs { TextRuns (M.sizes m.old) text.now result.items (M.front m.new) }
+{
+    let mut replies = room;
+    m.stands();
+    prepare(m, rt);
+    'lines: for i in 0..text.len() {
+        replies.push_reserved(run_line(m, rt, text.line(i)));
+    }
+    replies
+}

@@ -1,0 +1,6 @@
+pub mod NumberLemmas
+pub mod RowLemmas
+pub mod ShapeLemmas
+pub mod LineLemmas
+pub mod ReadLemmas
+pub mod WritableLemmas

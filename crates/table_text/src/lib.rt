@@ -1,0 +1,15 @@
+//! The text of a table: what its lines are, its first fault, and how it is read.
+#![tactic(auto)]
+
+mod form;
+pub mod law;
+pub mod line;
+mod number;
+pub mod read;
+mod split;
+pub mod text;
+mod word;
+
+pub use line::TableLine;
+pub use read::read_table;
+pub use text::TableText;

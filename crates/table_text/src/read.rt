@@ -1,0 +1,117 @@
+//! Reads the text of a table.
+ghost use Rattle.std.specs.Prelude.{◌≡◌, ◌==◌, ◌≤◌, ◌<◌, ◌+◌, ◌++◌, List, length, Some, None, Ok, Err, IfOk, IfErr, true};
+ghost use Rattle.std.specs.List.{slice_split, list_all};
+ghost use Rattle.heap_model.specs.Output.{line as line_of};
+ghost use Rattle.heap_text.specs.declared.fault.ScriptFault as declared_fault;
+ghost use Rattle.heap_text.specs.Spelling.{IsUnlessMemory};
+ghost use Rattle.heap_text.specs.Faults.{IsFaultUnlessMemory};
+ghost use Rattle.table_text.specs.declared.line.TableLine.{TableLine as declared_line};
+ghost use Rattle.table_text.specs.Forms.{is_writable};
+ghost use Rattle.table_text.specs.Spelling.{first_line, line_text, spelling, Spells};
+ghost use Rattle.table_text.specs.Faults.{line_shape, fault_of_shape, fault_from, first_fault};
+
+use crate::form::{find_word, first_out_of_range, make, operands_of};
+use crate::line::TableLine;
+use crate::number::numbers_of;
+use crate::split::{first_text, split_once};
+use crate::text::TableText;
+use heap_text::ScriptFault;
+use std::alloc::Global;
+
+/// The greatest count of bytes of a text.
+const MAX_BYTES: usize = 16_777_216;
+
+/// The greatest count of lines behind the first.
+const MAX_LINES: u32 = 10_000;
+
+// Reads a line behind the first, and so many more.
+fn read_line(before: u32, text: &[u8]) -> Result<TableLine, ScriptFault>
+    requires { before ≤ 10000 }
+    ensures text { IfOk result (λ l. text.now ≡ line_text l) }
+    ensures fits { IfOk result (λ l. is_writable l ≡ true) }
+    ensures few { IfOk result (λ _. before < 10000) }
+    ensures fault { IfErr result (λ e. fault_of_shape before (line_shape text.now) ≡ Some e) }
+{
+    let line = before + 2;
+    let (word, rest) = first_text(text);
+    let Some(word) = find_word(word) else {
+        return Err(ScriptFault::Syntax { line });
+    };
+    let operands = operands_of(word);
+    let Some(numbers) = numbers_of(rest, operands.len()) else {
+        return Err(ScriptFault::Syntax { line });
+    };
+    if MAX_LINES <= before {
+        return Err(ScriptFault::TooMany { line });
+    }
+    match first_out_of_range(operands, numbers.as_slice()) {
+        Some(which) => Err(ScriptFault::Range { line, which }),
+        None => Ok(make(word, numbers.as_slice())),
+    }
+}
+
+// The lines that stand behind the first one.
+fn read_lines(alloc: Global, behind: &[u8]) -> Result<TableText, ScriptFault>
+    requires { length behind.now ≤ 16777216 }
+    ensures found { IfOk result (λ t. line_of first_line ++ behind.now ≡ spelling t) }
+    ensures writable { IfOk result (λ t. list_all is_writable t ≡ true) }
+    ensures few { IfOk result (λ t. length t ≤ 10000) }
+    ensures fault { IfErr result (λ e. IsFaultUnlessMemory e (fault_from 0 (slice_split (λ b. b == 10) behind.now))) }
+{
+    let mut lines = TableText::new(alloc);
+    let mut before: u32 = 0;
+    let mut rest = behind;
+    'lines: while let Some((text, tail)) = split_once(rest, b'\n') {
+        match read_line(before, text) {
+            Ok(line) => {
+                if lines.push(line).is_err() {
+                    return Err(ScriptFault::Memory);
+                }
+            }
+            Err(fault) => return Err(fault),
+        }
+        rest = tail;
+        before += 1;
+    }
+    if rest.is_empty() {
+        Ok(lines)
+    } else {
+        Err(ScriptFault::Syntax { line: before + 2 })
+    }
+}
+
+// The lines of a text, or its first fault.
+fn text_or_fault(alloc: Global, bytes: &[u8]) -> Result<TableText, ScriptFault>
+    ensures found { IfOk result (λ t. Spells t bytes.now) }
+    ensures fault { IfErr result (λ e. IsFaultUnlessMemory e (first_fault bytes.now)) }
+{
+    if MAX_BYTES < bytes.len() {
+        return Err(ScriptFault::TooLong {
+            bytes: bytes.len() as u64,
+        });
+    }
+    let Some((first, behind)) = split_once(bytes, b'\n') else {
+        return Err(ScriptFault::Syntax { line: 1 });
+    };
+    if first != b"table 1".as_slice() {
+        return Err(ScriptFault::Syntax { line: 1 });
+    }
+    read_lines(alloc, behind)
+}
+
+/// Reads the text of a table: the line `table 1`, and at most 10,000 lines behind it. Every line ends with a line feed.
+///
+/// A text that is refused is told by its first fault. Only want of memory comes without a cause in the bytes. No fault is
+/// `Order`.
+pub fn read_table(alloc: Global, bytes: &[u8]) -> Result<TableText, ScriptFault>
+    // What is read is spelled so.
+    ensures found { IfOk result (λ t. Spells t bytes.now) }
+    // What is spelled so is read, unless memory runs out.
+    ensures only { (t : List declared_line) → Spells t bytes.now → IsUnlessMemory result (Ok t) }
+    // A fault is the first one of the bytes, unless memory ran out.
+    ensures fault { IfErr result (λ e. IsFaultUnlessMemory e (first_fault bytes.now)) }
+    // The first fault of the bytes is answered, unless memory runs out.
+    ensures refused { (e : declared_fault.ScriptFault) → first_fault bytes.now ≡ Some e → IsUnlessMemory result (Err e) }
+{
+    text_or_fault(alloc, bytes)
+}
