@@ -125,7 +125,7 @@ spared z limits old new r (Alloc dst tag fields) spares p = ⊎_elim
     (λ made. (set (registers_of z old) dst (Block made.0), made.1, get_or-set_other (registers_of z old) dst 7 (Block made.0) Nothing (λ e. let below = spares.0 in absurd (omega (arith, e, below)))))
     (alloc_step z limits old new r dst tag fields p)
 spared z limits old new r (Forget dst) spares p = (set (registers_of z old) dst Nothing, (forget_step z limits old new r dst p).0, get_or-set_other (registers_of z old) dst 7 Nothing Nothing (λ e. absurd (omega (arith, e, spares))))
-spared z limits old new r FullMajor spares p = (registers_of z old, full_major_step z limits old new r p, refl)
+spared z limits old new r FullMajor spares p = (registers_of z old, (full_major_step z limits old new r p).0, refl)
 spared z limits old new r c spares p = absurd spares
 
 -- one call after the other
