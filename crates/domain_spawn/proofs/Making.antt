@@ -15,13 +15,13 @@ use Rattle.heap_model.specs.declared.reply.Reply.{Reply}
 use Rattle.heap_model.specs.Domains.{opening}
 use Rattle.heap_model.specs.History.{IsPrefix, Legal}
 use Rattle.heap_rule.specs.declared.config.Config.{Config}
-use Rattle.heap_rule.specs.declared.view.DomainView.{DomainView}
 use Rattle.heap_rule.specs.declared.view.Own.{Own}
 use Rattle.heap_rule.specs.Limits.{sizes_in}
-use Rattle.heap_rule.specs.Running.{Did, Stays, ChangesRegisters, own_entry}
+use Rattle.heap_rule.specs.Running.{Did, ChangesRegisters, own_entry}
 use Rattle.heap_rule.specs.Token.{Token, SharedHeap}
 use Rattle.field_access.specs.Remembered.{ChangesRemembered}
 use Rattle.spawn_laws.specs.Hidden.{hidden, scratch, flag_of}
+use Rattle.heap_rule.proofs.Calls.{stays_trans}
 use Rattle.spawn_laws.specs.Expansion.{Step, steps_from, spawn_commands}
 use Rattle.spawn_laws.specs.Printed.{is_printed, printed_of, printed_replies}
 use Rattle.spawn_laws.proofs.Growing.{steps_answer, printed_answer}
@@ -29,18 +29,6 @@ use Rattle.domain_spawn.specs.Expanding.{MakesSteps, MakesOne, MakesAll, PassesA
 
 prefix_after : (a b c : List Entry) → IsPrefix a b → IsPrefix b c → IsPrefix a c
 prefix_after a b c x y = record { rest = x.rest ++ y.rest; appends = y.appends ∙ (ap (λ (h : List Entry). h ++ y.rest) x.appends ∙ append_assoc a x.rest y.rest) }
-
-stays_after : (x y z : DomainView) → Stays x y → Stays y z → Stays x z
-stays_after x y z a b = record {
-  arrivals = b.arrivals ∙ a.arrivals;
-  stage = b.stage ∙ a.stage;
-  notes = b.notes ∙ a.notes;
-  copying = b.copying ∙ a.copying;
-  queue = b.queue ∙ a.queue;
-  weak = b.weak ∙ a.weak;
-  progress = b.progress ∙ a.progress;
-  remembers = λ all. b.remembers (a.remembers all);
-}
 
 -- a call that makes an entry
 pub made_one : (h : SharedHeap) (old new : Token) (c : Command) (r : Reply) → Did h old new c r → new.view.own.number ≡ old.view.own.number → MakesOne h old new c r
@@ -88,7 +76,7 @@ made_both h a b c xs ys x y =
       printed = printed ∙ (ap (λ (rs : List Reply). rs ++ printed_of d ys) x.printed ∙ (append_assoc (printed_replies (sizes_in k) a.view.seen.front d) (printed_of d xs) (printed_of d ys)
           ∙ ap (λ (rs : List Reply). printed_replies (sizes_in k) a.view.seen.front d ++ rs) (sym (flat_map-append (λ (s : Step). cond (is_printed d s.command) (s.answer ∷ []) []) xs ys))));
       heap = (y.heap.0 ∙ x.heap.0, y.heap.1 ∙ x.heap.1);
-      stays = stays_after a.view b.view c.view x.stays y.stays;
+      stays = stays_trans a.view b.view c.view x.stays y.stays;
     }
 
 -- an integer, and a store of it into a flag
