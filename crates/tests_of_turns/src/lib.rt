@@ -2,8 +2,6 @@
 #![tactic(auto)]
 
 #[cfg(test)]
-mod caches;
-#[cfg(test)]
 mod drives;
 #[cfg(test)]
 mod fixtures;
