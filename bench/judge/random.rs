@@ -27,7 +27,7 @@ pub struct Kind {
     words: &'static [&'static str],
     counts: &'static [usize],
     /// How many commands each of so many domains has.
-    lengths: &'static [usize],
+    pub lengths: &'static [usize],
 }
 
 /// All commands of version 2.
@@ -78,6 +78,12 @@ pub const WHOLE: Kind = Kind {
     counts: &[1, 1, 2, 2, 3, 126, 127, 1022],
     lengths: &[60, 24, 12, 8, 6, 5, 4, 4],
 };
+
+/// The same with so many commands for each of so many domains.
+#[allow(dead_code)]
+pub const fn of_length(lengths: &'static [usize]) -> Kind {
+    Kind { lengths, ..WHOLE }
+}
 
 /// What OCaml 5 can play with a reply that the definition allows: its `Gc.full_major` is more than one collection.
 pub const OF_OCAML: Kind = Kind {
@@ -158,10 +164,15 @@ fn command(dice: &mut Dice, kind: &Kind) -> String {
 /// A script, and for how many domains it is.
 pub fn script(dice: &mut Dice, kind: &Kind) -> (String, usize) {
     let domains = 1 + dice.below(kind.lengths.len());
+    (script_for(dice, kind, domains), domains)
+}
+
+/// A script for so many domains.
+pub fn script_for(dice: &mut Dice, kind: &Kind, domains: usize) -> String {
     let mut lines = vec![format!("heap {}", kind.version)];
     for domain in 0..domains {
         lines.push(format!("domain {domain}"));
         lines.extend((0..kind.lengths[domains - 1]).map(|_| command(dice, kind)));
     }
-    (lines.join("\n") + "\n", domains)
+    lines.join("\n") + "\n"
 }

@@ -1,0 +1,3 @@
+mod PlayLemmas
+mod RowLemmas
+mod TextLemmas

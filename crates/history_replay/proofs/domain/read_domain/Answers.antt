@@ -1,0 +1,9 @@
+use Rattle.std.proofs.Common.{rules}
+use Rattle.history_replay.proofs.PlayLemmas.{done_more}
+use Rattle.history_replay.proofs.domain.read_domain.Goals as goal
+
+pub loop-i-preserved : goal.loop-i-preserved
+loop-i-preserved c =
+    done_more c.args._sizes.now c.args.d c.args.section.now c.args.history.now c.args.told.now c.loop-i.i c.index-history-i.result c.in-Some.applied
+    c.loop-i.replies.items c.add_reply.new.replies.items c.loop-i.made c.in-Some-count_made.count c.loop-i.ended c.has_ended-ended.result
+    c.loop-i-test.true (search rules) c.requires (search rules) c.loop-i.invariant (search rules) (search rules) (search rules) (search rules)

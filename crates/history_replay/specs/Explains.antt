@@ -1,0 +1,26 @@
+-- What it is that a history explains an output.
+use Rattle.std.specs.Prelude.{◌≡◌, ℕ, ◌<◌, List, [], ◌++◌, flat_map, slice_index_or, IsTrue}
+use Rattle.std.specs.List.{list_any, range_with_len}
+use Rattle.heap_model.specs.declared.command.Command.{Command}
+use Rattle.heap_model.specs.declared.entry.Entry.{Entry}
+use Rattle.heap_model.specs.declared.state.Sizes.{Sizes}
+use Rattle.heap_model.specs.History.{Legal, commands}
+use Rattle.heap_model.specs.Output.{output, section_text}
+use Rattle.history_replay.specs.Steps.{is_end_of}
+
+-- a legal history in which each domain's commands are those of its section, each once and in order, and each domain ends
+pub record IsRunOf (z : Sizes) (sections : List (List Command)) (history : List Entry) : Type 0 where
+  pub legal : Legal z history
+  pub each_command : (d : ℕ) → d < z.domains → commands history d ≡ slice_index_or sections d []
+  pub each_ends : (d : ℕ) → d < z.domains → IsTrue (list_any (is_end_of d) history)
+
+-- such a history, which prints these bytes
+pub record Explains (z : Sizes) (sections : List (List Command)) (bytes : List ℕ) (history : List Entry) : Type 0 where
+  pub run : IsRunOf z sections history
+  pub prints : output z history ≡ bytes
+
+-- the same of the first n domains, whose sections of lines stand before the rest of the bytes
+pub record ExplainsFront (z : Sizes) (sections : List (List Command)) (bytes : List ℕ) (history : List Entry) (n : ℕ) (rest : List ℕ) : Type 0 where
+  pub each_command : (d : ℕ) → d < n → commands history d ≡ slice_index_or sections d []
+  pub each_ends : (d : ℕ) → d < n → IsTrue (list_any (is_end_of d) history)
+  pub bytes_are : bytes ≡ flat_map (section_text z history) (range_with_len 0 n) ++ rest

@@ -1,0 +1,42 @@
+//! All domains of a history, and all lines of an output.
+ghost use Rattle.std.specs.Prelude.{◌≡◌, IfOk, IsTrue, length};
+ghost use Rattle.heap_model.specs.Domains.{IsWithinLimits};
+ghost use Rattle.history_replay.specs.Explains.{Explains};
+
+use crate::domain::read_domain;
+use crate::lines::behind_section;
+use crate::play::play;
+use heap_model::entry::Entry;
+use heap_model::state::Sizes;
+use heap_text::Script;
+use std::alloc::{AllocError, Global};
+
+/// Whether a history of a heap of these sizes is legal, has the commands of a script, each domain's in order, up to the
+/// end of each domain, and prints these bytes.
+pub fn gives(
+    alloc: Global,
+    sizes: &Sizes,
+    script: &Script,
+    history: &[Entry],
+    bytes: &[u8],
+) -> Result<bool, AllocError>
+    requires limits { IsWithinLimits sizes.now }
+    requires sections { length script.now.sections ≡ sizes.now.domains }
+    ensures { IfOk result (λ yes. IsTrue yes → Explains sizes.now script.now.sections bytes.now history.now) }
+{
+    let Some(told) = play(alloc, sizes, history)? else {
+        return Ok(false);
+    };
+    let mut rest = bytes;
+    for d in 0..sizes.domains {
+        let section = script.section(d as usize);
+        let Some(replies) = read_domain(alloc, sizes, d, section, history, &told)? else {
+            return Ok(false);
+        };
+        let Some(behind) = behind_section(rest, d, &replies) else {
+            return Ok(false);
+        };
+        rest = behind;
+    }
+    Ok(rest.is_empty())
+}
