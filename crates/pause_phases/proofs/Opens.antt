@@ -340,7 +340,7 @@ module _ (k : Config) (who : Decider) (x : DomainView) where
         (cleared ∙ ap (λ (w : DomainView). with_share w (record w.seen.share { blocks = Some 0; words = Some 0 })) is) refl next chosen (λ _. (refl, refl))
 
     -- where garbage was left of an earlier pause
-    late_opens : (next : Kind) → x.seen.share.progress.unswept ≡ true → Follows Sweep next → next ≡ next_kind k Sweep x.seen.share.progress wishes → next ≢ Promote → MayFollow x.seen.share Sweep next → Opens k who x z Sweep next
+    late_opens : (next : Kind) → x.seen.share.progress.unswept ≡ true → Follows Sweep next → next ≡ next_kind k who Sweep x.seen.share.progress wishes → next ≢ Promote → MayFollow x.seen.share Sweep next → Opens k who x z Sweep next
     late_opens next owed follows chosen copies may = record {
       follows = follows;
       findings = wishes;

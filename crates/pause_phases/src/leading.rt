@@ -58,7 +58,13 @@ fn name(heap: &Heap, dom: &mut Domain, next: Kind)
 /// pause follow from that and from how often something is changed. The words are read whoever decides.
 ///
 /// The rule of sweeping beside running domains is of "Retrofitting Parallelism onto OCaml", section 3.2.
-pub fn lead_on(heap: &Heap, dom: &mut Domain, last: Kind, decider: Decider, progress: &mut Progress) -> Kind
+pub fn lead_on(
+    heap: &Heap,
+    dom: &mut Domain,
+    last: Kind,
+    decider: Decider,
+    progress: &mut Progress,
+) -> Kind
     requires here { IsIn dom.old heap.now }
     requires first { dom.old.view.own.number ≡ 0 }
     requires odd { dom.old.view.seen.stage ≡ Leads last }

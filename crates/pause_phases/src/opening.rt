@@ -81,10 +81,20 @@ fn before_run(heap: &Heap, dom: &mut Domain, armed: bool) -> u32
 
 // What comes after the minor collection, where so many pools are listed, by whether a collection of the
 // major heap goes on beside running domains, and whether garbage of the last one may be left.
-fn kind_after_reset(limits: &Config, decider: Decider, wants: Wants, free: u32, progress: Progress) -> Kind
+fn kind_after_reset(
+    limits: &Config,
+    decider: Decider,
+    wants: Wants,
+    free: u32,
+    progress: Progress,
+) -> Kind
     ensures { result ≡ kind_after_reset limits.now decider wants.bits free progress }
 {
-    match (progress.armed, finishes(decider, wants), begins(limits, decider, wants, free)) {
+    match (
+        progress.armed,
+        finishes(decider, wants),
+        begins(limits, decider, wants, free),
+    ) {
         (true, true, _) => Kind::Mark,
         (false, _, true) if progress.unswept => Kind::Sweep,
         (false, _, true) => Kind::Roots,
@@ -245,7 +255,13 @@ fn after_answer(heap: &Heap, dom: &mut Domain) -> Kind
 }
 
 // Finds which kind comes next, or is told, and does what belongs before it.
-pub(crate) fn open(heap: &Heap, dom: &mut Domain, last: Kind, decider: Decider, progress: Progress) -> Kind
+pub(crate) fn open(
+    heap: &Heap,
+    dom: &mut Domain,
+    last: Kind,
+    decider: Decider,
+    progress: Progress,
+) -> Kind
     requires here { IsIn dom.old heap.now }
     requires first { dom.old.view.own.number ≡ 0 }
     requires odd { dom.old.view.seen.stage ≡ Leads last }
