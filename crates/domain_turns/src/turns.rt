@@ -10,6 +10,8 @@ ghost use Rattle.heap_rule.specs.Standing.{noted, with_front};
 ghost use Rattle.heap_rule.specs.Token.{IsIn};
 ghost use Rattle.safepoint.specs.Looks.{bit_of};
 ghost use Rattle.heap_rule.specs.Limits.{sizes_in};
+ghost use Rattle.heap_model.specs.Domains.{domain_at};
+ghost use Rattle.heap_rule.specs.Rule.{state_of};
 ghost use Rattle.domain_turns.specs.Runs.{Stretches, HasEnded, EndsTrace, RunAnswers, TurnAnswers, RestAnswers, CalmAnswers, GoesOn, CalmDid, IsUnqueued, PassesOn, Polls, RunsFinaliser, TrialAnswers, WaitsForAnswer, is_asked, may_use_up, served_since, noted_token, WorksBeside};
 ghost use Rattle.domain_turns.specs.LookOutcomes.{PastAnswers};
 ghost use Rattle.domain_turns.specs.declared.turned.Turned as turned;
@@ -28,6 +30,7 @@ use safepoint::{Want, arrive, ask, wants};
 use size_classes::reserve;
 use steps_marking::armed_now;
 use steps_pauses::{ended_add, ended_load};
+use steps_queue_looks::queue_load;
 use sweeper::sweep_slice;
 
 // Makes the entry of the end of a trace. The registers hold nothing then.
@@ -398,6 +401,25 @@ impl DomainRun {
         ensures run { self.new ≡ record self.old { token = record self.old.token { view = arrived_view self.old.token.view }; left = Some Run; collected = false } }
     {
         stop(heap, self);
+    }
+
+    /// Looks at the queue of a running domain: as many finalisers wait there as in the state after what the
+    /// domain has seen of the history. Nothing changes.
+    pub fn look_at_queue(&mut self, heap: &Heap)
+        requires here { IsIn self.old.token heap.now }
+        requires running { self.old.left ≡ None }
+        ensures same { self.new ≡ self.old }
+        ensures queue { length (domain_at (state_of heap.now.config self.old.token.view.seen.front) self.old.token.view.own.number).queue ≡ length self.old.token.view.own.finalisers.queue.items }
+    {
+        queue_load(heap, &mut self.domain);
+    }
+
+    /// Forgets that a complete collection lets the next command be answered `full`: before it is, another
+    /// one must come.
+    pub fn forget_collected(&mut self)
+        ensures { self.new ≡ record self.old { collected = false } }
+    {
+        self.collected = false;
     }
 
     /// Asks for a complete collection, for no command of the domain, which runs. Its trace may have ended.
