@@ -1,0 +1,48 @@
+-- How the histories that the runs may share follow the scheduled one.
+use Rattle.std.specs.Prelude.{◌≡◌, ◌≢◌, ℕ, Bool, true, false, List, length, replicate, slice_index_or}
+use Rattle.heap_model.specs.declared.entry.Entry.{Entry}
+use Rattle.heap_model.specs.declared.entry.Entry.TheVariants.{Ran}
+use Rattle.heap_model.specs.declared.state.Mode.TheVariants.{Open}
+use Rattle.heap_model.specs.declared.state.Sizes.{Sizes}
+use Rattle.heap_model.specs.Domains.{domain_at, opening}
+use Rattle.heap_model.specs.History.{Legal, replies, state_after}
+use Rattle.schedule_laws.specs.Sameness.{IsSameBut}
+use Rattle.schedule_laws.specs.Scheduled.{Played, take_turn, with_entries, with_next}
+use Rattle.schedule_drive.specs.Together.{AllHave, AllRuns, OneRun}
+use Rattle.schedule_drive.specs.Pausing.{AsksAlone, askeds, lefts}
+
+-- a history follows the scheduled one so far: no collection goes on, the states are the same but for garbage, each domain has the same replies in both, and the same commands are left
+pub record Follows (v : AllRuns) (p : Played) (h : List Entry) : Type 0 where
+  pub legal : Legal v.sizes h
+  pub mode : (state_after (opening v.sizes) h).mode ≡ Open
+  pub same : IsSameBut (state_after (opening v.sizes) h) p.state
+  pub replies : (d : ℕ) → replies v.sizes p.history d ≡ replies v.sizes h d
+  pub state : state_after (opening v.sizes) p.history ≡ p.state
+  pub left : lefts v ≡ p.left
+
+-- each history that the runs may share does
+abbrev pub AllFollow : AllRuns → (List Entry → Type 0) → Played → Type 0
+AllFollow v shares p = (h : List Entry) → shares h → Follows v p h
+
+-- the rest of a turn of domain d, which hasn't ended
+abbrev pub turn_rest : Played → ℕ → Played
+turn_rest q d = with_next (with_entries q (replicate (length (domain_at q.state d).queue) (Ran d))) d
+
+-- a history follows the scheduled one in the midst of a turn of domain d
+pub record Midst (v : AllRuns) (p : Played) (d : ℕ) (h : List Entry) : Type 0 where
+  pub here : Played
+  pub follows : Follows v here h
+  pub rest : turn_rest here d ≡ take_turn p d
+
+abbrev pub AllMidst : AllRuns → (List Entry → Type 0) → Played → ℕ → Type 0
+AllMidst v shares p d = (h : List Entry) → shares h → Midst v p d h
+
+-- all domains run, and none has asked for a pause
+pub record IsCalm (v : AllRuns) : Type 0 where
+  pub run : AllHave (λ x. x.runs) true v
+  pub none : (d : ℕ) → slice_index_or (askeds v) d false ≡ false
+
+-- or that of domain d may have
+pub record IsCalmBut (v : AllRuns) (d : ℕ) : Type 0 where
+  pub run : AllHave (λ x. x.runs) true v
+  pub alone : AsksAlone v d
