@@ -1,3 +1,4 @@
 mod Listing
 mod Walking
 mod Passing
+mod Agreeing

@@ -11,13 +11,17 @@ use Rattle.schedule_laws.specs.Scheduled.{Played, take_turn, with_entries, with_
 use Rattle.schedule_drive.specs.Together.{AllHave, AllRuns, OneRun}
 use Rattle.schedule_drive.specs.Pausing.{AsksAlone, askeds, lefts}
 
--- a history follows the scheduled one so far: no collection goes on, the states are the same but for garbage, each domain has the same replies in both, and the same commands are left
+-- a history agrees with the scheduled one so far: no collection goes on, the states are the same but for garbage, and each domain has the same replies in both
+pub record Agrees (z : Sizes) (p : Played) (h : List Entry) : Type 0 where
+  pub legal : Legal z h
+  pub mode : (state_after (opening z) h).mode ≡ Open
+  pub same : IsSameBut (state_after (opening z) h) p.state
+  pub replies : (d : ℕ) → replies z p.history d ≡ replies z h d
+  pub state : state_after (opening z) p.history ≡ p.state
+
+-- and the same commands are left
 pub record Follows (v : AllRuns) (p : Played) (h : List Entry) : Type 0 where
-  pub legal : Legal v.sizes h
-  pub mode : (state_after (opening v.sizes) h).mode ≡ Open
-  pub same : IsSameBut (state_after (opening v.sizes) h) p.state
-  pub replies : (d : ℕ) → replies v.sizes p.history d ≡ replies v.sizes h d
-  pub state : state_after (opening v.sizes) p.history ≡ p.state
+  pub agrees : Agrees v.sizes p h
   pub left : lefts v ≡ p.left
 
 -- each history that the runs may share does
