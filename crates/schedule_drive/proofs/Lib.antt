@@ -2,3 +2,4 @@ mod Listing
 mod Walking
 mod Passing
 mod Agreeing
+mod Turns

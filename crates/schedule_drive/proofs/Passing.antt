@@ -112,7 +112,7 @@ pause_stays shares shares_old shares_new v u w complete p is on = record {
 }
 
 -- one that was taken back is
-set_false : (bs : List Bool) (d : ℕ) → get_or (set bs d false) d false ≡ false
+pub set_false : (bs : List Bool) (d : ℕ) → get_or (set bs d false) d false ≡ false
 set_false [] d = refl
 set_false (b ∷ bs) zero = refl
 set_false (b ∷ bs) (suc d) = set_false bs d
@@ -210,7 +210,7 @@ same_count shares_old shares_new u w e step =
     step
 
 -- a run of a trace without commands
-no_run : OneRun
+pub no_run : OneRun
 no_run = record { left = []; replies = []; asked = false; runs = false; ended = false }
 
 -- there is one

@@ -1,5 +1,7 @@
 -- How the histories that the runs may share follow the scheduled one.
-use Rattle.std.specs.Prelude.{◌≡◌, ◌≢◌, ℕ, Bool, true, false, List, length, replicate, slice_index_or}
+use Rattle.std.specs.Prelude.{◌≡◌, ◌≢◌, ℕ, Bool, true, false, List, [], ◌∷◌, length, replicate, slice_index_or}
+use Rattle.heap_model.specs.declared.command.Command.{Command}
+use Rattle.heap_model.specs.declared.command.Command.TheVariants.{FullMajor}
 use Rattle.heap_model.specs.declared.entry.Entry.{Entry}
 use Rattle.heap_model.specs.declared.entry.Entry.TheVariants.{Ran}
 use Rattle.heap_model.specs.declared.state.Mode.TheVariants.{Open}
@@ -8,7 +10,7 @@ use Rattle.heap_model.specs.Domains.{domain_at, opening}
 use Rattle.heap_model.specs.History.{Legal, replies, state_after}
 use Rattle.schedule_laws.specs.Sameness.{IsSameBut}
 use Rattle.schedule_laws.specs.Scheduled.{Played, take_turn, with_entries, with_next}
-use Rattle.schedule_drive.specs.Together.{AllHave, AllRuns, OneRun}
+use Rattle.schedule_drive.specs.Together.{AllHave, AllRuns, Has, OneRun, Unqueued}
 use Rattle.schedule_drive.specs.Pausing.{AsksAlone, askeds, lefts}
 
 -- a history agrees with the scheduled one so far: no collection goes on, the states are the same but for garbage, and each domain has the same replies in both
@@ -50,3 +52,20 @@ pub record IsCalm (v : AllRuns) : Type 0 where
 pub record IsCalmBut (v : AllRuns) (d : ℕ) : Type 0 where
   pub run : AllHave (λ x. x.runs) true v
   pub alone : AsksAlone v d
+
+-- the domain alone has asked for a pause, for its next command, which is a `full_major`, and no finaliser waits before it
+pub record Waits (v : AllRuns) (shares : List Entry → Type 0) (d : ℕ) : Type 0 where
+  pub asked : slice_index_or (askeds v) d false ≡ true
+  pub others : List Command
+  pub next : slice_index_or (lefts v) d [] ≡ FullMajor ∷ others
+  pub unqueued : Unqueued v.sizes shares d
+
+-- a turn of domain d goes on, until its next command or its end was made
+pub record Advances (shares_old shares_new : List Entry → Type 0) (old new : AllRuns) (d : ℕ) (made : Bool) : Type 0 where
+  pub sizes : new.sizes ≡ old.sizes
+  pub count : length new.runs ≡ length old.runs
+  pub calm : IsCalmBut new d
+  pub over : made ≡ true → IsCalm new
+  pub goes_on : made ≡ false → Has (λ x. x.ended) false new d
+  pub stays : (p : Played) → AllMidst old shares_old p d → made ≡ false → AllMidst new shares_new p d
+  pub turns : (p : Played) → AllMidst old shares_old p d → made ≡ true → AllFollow new shares_new (take_turn p d)

@@ -3,5 +3,6 @@
 
 mod pausing;
 mod together;
+mod turning;
 
 pub use together::{Stepped, TogetherRuns};
