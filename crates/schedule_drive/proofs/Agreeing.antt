@@ -1,6 +1,5 @@
 -- A history that grows as the scheduled one does agrees with it.
-use Rattle.std.proofs.Common.{◌≡◌, ◌≢◌, ℕ, zero, suc, ◌<◌, ◌≤◌, Bool, true, false, cond, List, [], ◌∷◌, ◌++◌, length, get_or, set, replicate, refl, sym, ap, ◌∙◌, subst, ⊎_elim, append_assoc, append-nil}
-use Rattle.std.specs.List.{list_all}
+use Rattle.std.proofs.Common.{◌≡◌, ◌≢◌, ℕ, ◌<◌, true, false, cond, List, [], ◌∷◌, ◌++◌, length, set, replicate, refl, sym, ap, ◌∙◌, subst, ⊎_elim, append_assoc, append-nil}
 use Rattle.std.proofs.lemmas.Bool.{cases_lt}
 use Rattle.std.proofs.lemmas.List.{get_or-set_same, get_or_past, length-set, set-get_or}
 use Rattle.heap_model.specs.declared.command.Command.{Command as CommandType}
@@ -16,12 +15,12 @@ use Rattle.heap_model.specs.declared.state.Pending.TheVariants.{Fin, Last as Las
 use Rattle.heap_model.specs.declared.state.Sizes.{Sizes}
 use Rattle.heap_model.specs.declared.state.State.{State}
 use Rattle.heap_model.specs.Domains.{domain_at, no_domain, opening, with_domain}
-use Rattle.heap_model.specs.Entries.{after_run, next, reply, without_first}
+use Rattle.heap_model.specs.Entries.{after_run, next, without_first}
 use Rattle.heap_model.specs.History.{Legal, LegalFrom, is_entry_of, replies, replies_from, reply_list, state_after}
 use Rattle.heap_model.proofs.Commands.MoveLemmas.{outcome-mode}
 use Rattle.heap_model.proofs.Histories.HistoryLemmas.{replies_from-append, state_after-append}
 use Rattle.schedule_laws.specs.Sameness.{IsCollection, IsSameBut, is_step}
-use Rattle.schedule_laws.specs.Scheduled.{Played, behind, complete, left_of, next_entries, take_turn, with_entries, with_next}
+use Rattle.schedule_laws.specs.Scheduled.{Played, behind, complete, left_of, next_entries, with_entries, with_next}
 use Rattle.schedule_laws.proofs.Collecting.{collection_law, legal_parts}
 use Rattle.schedule_laws.proofs.Steps.{step_law}
 use Rattle.schedule_drive.specs.Together.{Grows}

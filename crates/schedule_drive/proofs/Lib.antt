@@ -3,3 +3,4 @@ mod Walking
 mod Passing
 mod Agreeing
 mod Turns
+mod Rounds

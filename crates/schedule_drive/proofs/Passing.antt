@@ -1,5 +1,5 @@
 -- A pause, step by step.
-use Rattle.std.proofs.Common.{◌≡◌, ◌≢◌, ◌⊎◌, ℕ, zero, suc, ◌<◌, Bool, true, false, ◌&&◌, List, length, [], ◌∷◌, ◌++◌, map, get_or, set, slice_get, refl, sym, ap, ◌∙◌, subst, inl, inr, ⊎_elim, append_assoc, append-nil, Some, arith}
+use Rattle.std.proofs.Common.{◌≡◌, ◌⊎◌, ℕ, zero, suc, ◌<◌, Bool, true, false, ◌&&◌, List, length, [], ◌∷◌, ◌++◌, map, get_or, set, slice_get, refl, sym, ap, ◌∙◌, subst, inl, inr, ⊎_elim, append_assoc, append-nil, Some, arith}
 use Rattle.std.specs.List.{list_all}
 use Rattle.std.proofs.lemmas.Bool.{cases_eq, false≢true}
 use Rattle.std.proofs.lemmas.List.{get_or-set_other, length-set, map-set}
@@ -156,15 +156,15 @@ module _ (v u w : AllRuns) (d e : ℕ) (answered own : List Entry) (alone : Asks
       let asked : get_or (askeds u) e false ≡ true = read_at (λ (r : OneRun). r.asked) u.runs e x false was ∙ tells.asked in
       ⊎_elim
       (λ (n : NotYet v u answered).
-          let same : e ≡ d = asker_is v u d e answered alone asked n in
-          inr (record {
-            asked = ap (λ k. get_or (askeds v) k false) (sym same) ∙ ap (λ (bs : List Bool). get_or bs e false) (sym n.asked) ∙ asked;
-            others = tells.others;
-            next = ap (λ k. get_or (lefts v) k []) (sym same) ∙ ap (λ (cs : List (List Command)). get_or cs e []) (sym n.left) ∙ read_at (λ (r : OneRun). r.left) u.runs e x [] was ∙ tells.next;
-            one = ap (λ k. k ++ own) n.none ∙ tells.made ∙ ap (λ k. CommandOf k FullMajor false ∷ []) same;
-            left = ap (λ rs. map (λ (r : OneRun). r.left) rs) runs ∙ map-set (λ (r : OneRun). r.left) u.runs e y ∙ ap (λ (cs : List (List Command)). set cs e y.left) n.left ∙ ap (λ k. set (lefts v) k y.left) same ∙ ap (λ cs. set (lefts v) d cs) (ap (λ (r : OneRun). r.left) tells.run);
-            none = ap (λ rs. map (λ (r : OneRun). r.asked) rs) runs ∙ map-set (λ (r : OneRun). r.asked) u.runs e y ∙ ap (λ (bs : List Bool). set bs e y.asked) n.asked ∙ ap (λ k. set (askeds v) k y.asked) same ∙ ap (λ b. set (askeds v) d b) (ap (λ (r : OneRun). r.asked) tells.run);
-          }))
+      let same : e ≡ d = asker_is v u d e answered alone asked n in
+      inr (record {
+        asked = ap (λ k. get_or (askeds v) k false) (sym same) ∙ ap (λ (bs : List Bool). get_or bs e false) (sym n.asked) ∙ asked;
+        others = tells.others;
+        next = ap (λ k. get_or (lefts v) k []) (sym same) ∙ ap (λ (cs : List (List Command)). get_or cs e []) (sym n.left) ∙ read_at (λ (r : OneRun). r.left) u.runs e x [] was ∙ tells.next;
+        one = ap (λ k. k ++ own) n.none ∙ tells.made ∙ ap (λ k. CommandOf k FullMajor false ∷ []) same;
+        left = ap (λ rs. map (λ (r : OneRun). r.left) rs) runs ∙ map-set (λ (r : OneRun). r.left) u.runs e y ∙ ap (λ (cs : List (List Command)). set cs e y.left) n.left ∙ ap (λ k. set (lefts v) k y.left) same ∙ ap (λ cs. set (lefts v) d cs) (ap (λ (r : OneRun). r.left) tells.run);
+        none = ap (λ rs. map (λ (r : OneRun). r.asked) rs) runs ∙ map-set (λ (r : OneRun). r.asked) u.runs e y ∙ ap (λ (bs : List Bool). set bs e y.asked) n.asked ∙ ap (λ k. set (askeds v) k y.asked) same ∙ ap (λ b. set (askeds v) d b) (ap (λ (r : OneRun). r.asked) tells.run);
+      }))
       (λ (a : Answered d v u answered). absurd (asker_waits v u d e answered alone asked a))
       how
 

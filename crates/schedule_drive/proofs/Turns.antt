@@ -1,5 +1,5 @@
 -- A turn, from what its calls tell.
-use Rattle.std.proofs.Common.{◌≡◌, ◌≢◌, ◌⊎◌, ℕ, ◌<◌, ◌≤◌, Bool, true, false, List, [], ◌∷◌, ◌++◌, map, length, get_or, set, slice_get, Some, refl, sym, ap, ◌∙◌, subst, ⊎_elim, append-nil}
+use Rattle.std.proofs.Common.{◌≡◌, ◌≢◌, ℕ, ◌<◌, ◌≤◌, Bool, true, false, List, [], ◌∷◌, ◌++◌, map, length, get_or, set, slice_get, Some, refl, sym, ap, ◌∙◌, subst, ⊎_elim, append-nil}
 use Rattle.std.proofs.lemmas.Bool.{cases_eq, false≢true}
 use Rattle.std.proofs.lemmas.List.{get_or-set_other, get_or-set_same, get_or_past, length-map, length-set, map-set}
 use Rattle.std.proofs.lemmas.Option.{slice_get-get_or, slice_get_cases, slice_get_within}
@@ -7,23 +7,21 @@ use Rattle.heap_model.specs.declared.command.Command.{Command as CommandType}
 use Rattle.heap_model.specs.declared.command.Command.TheVariants.{Argument, FullMajor, Join, PutResult, Spawn}
 use Rattle.heap_model.specs.declared.entry.Entry.{Entry}
 use Rattle.heap_model.specs.declared.entry.Entry.TheVariants.{Command as CommandOf, End, Ran as RanOf}
-use Rattle.heap_model.specs.declared.state.DomainState.{DomainState}
-use Rattle.heap_model.specs.declared.state.Mode.TheVariants.{Open}
 use Rattle.heap_model.specs.declared.state.Pending.{Pending}
 use Rattle.heap_model.specs.declared.state.Sizes.{Sizes}
 use Rattle.heap_model.specs.declared.state.State.{State}
 use Rattle.heap_model.specs.Commands.{CommandAllowed}
 use Rattle.heap_model.specs.Domains.{domain_at, opening}
 use Rattle.heap_model.specs.Entries.{EndAllowed, RanAllowed}
-use Rattle.heap_model.specs.History.{Legal, LegalFrom, state_after}
+use Rattle.heap_model.specs.History.{Legal, state_after}
 use Rattle.schedule_laws.specs.Sameness.{IsCollection}
 use Rattle.schedule_laws.specs.Scheduled.{Played, complete, left_of, take_turn, turn_on, with_entries}
 use Rattle.schedule_laws.proofs.Collecting.{legal_parts}
 use Rattle.schedule_laws.proofs.Moving.{same_domain}
-use Rattle.schedule_drive.specs.Together.{AllHave, AllRuns, AsksComplete, Grows, Has, IsShared, MakesEnd, MakesNext, OneRun, Rests, SharesOn, TurnTells, Turned}
+use Rattle.schedule_drive.specs.Together.{AllHave, AllRuns, AsksComplete, Grows, Has, IsShared, MakesEnd, MakesNext, OneRun, Rests, SharesOn, Turned}
 use Rattle.schedule_drive.specs.declared.together.Stepped.TheVariants.{Ran, Made, Needs}
-use Rattle.schedule_drive.specs.Pausing.{Answered, AsksAlone, NotYet, Paused, Walked, WalkedFrom, askeds, endeds, lefts}
-use Rattle.schedule_drive.specs.Following.{Advances, Agrees, AllFollow, AllMidst, Follows, IsCalm, IsCalmBut, Midst, Waits, turn_rest}
+use Rattle.schedule_drive.specs.Pausing.{Answered, AsksAlone, NotYet, Paused, Walked, askeds, endeds, lefts}
+use Rattle.schedule_drive.specs.Following.{Advances, Agrees, AllFollow, AllMidst, Follows, IsCalm, IsCalmBut, Waits, turn_rest}
 use Rattle.schedule_drive.proofs.Listing.{kept_at, read_at}
 use Rattle.schedule_drive.proofs.Passing.{no_run, set_false}
 use Rattle.schedule_drive.proofs.Agreeing.{agrees_collection, agrees_step, grown_none, grown_step, next_command, next_end, next_full, rest_next, rest_ran, short_step}
@@ -256,7 +254,7 @@ module _ (shares_old shares_new : List Entry → Type 0) (v w : AllRuns) (d : �
   }
 
 -- as many runs stay
-counts : (v w : AllRuns) → endeds w ≡ endeds v → length w.runs ≡ length v.runs
+pub counts : (v w : AllRuns) → endeds w ≡ endeds v → length w.runs ≡ length v.runs
 counts v w same = sym (length-map w.runs (λ (r : OneRun). r.ended)) ∙ ap length same ∙ length-map v.runs (λ (r : OneRun). r.ended)
 
 -- a pause is over

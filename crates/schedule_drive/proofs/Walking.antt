@@ -1,14 +1,12 @@
 -- How far the collection of a pause comes with each entry.
-use Rattle.std.proofs.Common.{◌≡◌, ◌≢◌, ◌⊎◌, ℕ, Bool, true, false, not, ◌&&◌, List, [], ◌∷◌, ◌++◌, refl, sym, ap, ◌∙◌, subst, inl, inr, ⊎_elim, append_assoc, append-nil, None, Some, Option}
+use Rattle.std.proofs.Common.{◌≡◌, ℕ, Bool, true, false, ◌&&◌, List, [], ◌∷◌, ◌++◌, refl, sym, ap, ◌∙◌, subst, inl, inr, ⊎_elim, append_assoc, append-nil, None, Some, Option}
 use Rattle.std.specs.List.{list_all}
-use Rattle.std.proofs.lemmas.Bool.{and_parts}
 use Rattle.std.proofs.lemmas.List.Folds.{list_all-append}
 use Rattle.heap_model.specs.declared.label.Label.{Label}
 use Rattle.heap_model.specs.declared.command.Command.TheVariants.{FullMajor}
 use Rattle.heap_model.specs.declared.entry.Entry.{Entry}
 use Rattle.heap_model.specs.declared.entry.Entry.TheVariants.{Command as CommandOf, Cut, Queue, Seal, Wipe, Last, Collected, Done}
 use Rattle.heap_model.specs.declared.graph.Node.{Node}
-use Rattle.heap_model.specs.declared.state.Mode.{Mode}
 use Rattle.heap_model.specs.declared.state.Mode.TheVariants.{Open, Cut as CutMode, Sealed, Answer}
 use Rattle.heap_model.specs.declared.state.State.{State}
 use Rattle.heap_model.specs.Graph.{node_at}
@@ -111,7 +109,7 @@ quiet_walks s false (Leads false) c answered more begun quiet legal w =
 quiet_walks s true (Leads true) c answered more begun quiet legal w = (
   w.0,
   ⊎_elim (λ none. inl (open_none s (c ++ more) begun (ap (λ k. list_all is_quiet (k ++ more)) none ∙ quiet) legal))
-  (λ later. inr (⊎_elim
+      (λ later. inr (⊎_elim
       (λ (part : IsCut c). inl (record {
         queued = part.queued ++ more;
         are_queues = list_all-append is_queue part.queued more ∙ ap (λ b. b && list_all is_queue more) part.are_queues ∙ cut_queues (state_after s c) more (cut_mode s c part) quiet (behind s c more legal);
@@ -125,7 +123,7 @@ quiet_walks s true (Leads true) c answered more begun quiet legal w = (
         is = ap (λ k. k ++ more) part.is ∙ append_assoc (Cut ∷ part.queued) (Seal ∷ part.taken) more;
       }))
       later))
-  w.1,
+      w.1,
 )
 quiet_walks s true Answers c answered more begun quiet legal w =
     let none : more ≡ [] = answer_none (state_after s c) more (collected_mode s c answered w) quiet (behind s c more legal) in
@@ -148,43 +146,43 @@ lead_walks s true (Leads true) (Leads true) c answered control begun legal step 
     ⊎_elim (λ none. stay true (Leads true) c answered control none w)
     (⊎_elim
     (λ (cut : control ≡ Cut ∷ []).
-        let mode : (state_after s c).mode ≡ Open = (subst (λ k. LegalFrom (state_after s c) k) cut (behind s c control legal)).0 in (
-          w.0,
-          ⊎_elim
-              (λ none. inr (inl (record { queued = []; are_queues = refl; is = ap (λ k. k ++ control) none ∙ cut })))
-              (λ later. ⊎_elim
-                  (λ (part : IsCut c). let clash : Open ≡ CutMode = sym mode ∙ cut_mode s c part in cc)
-                  (λ (part : IsSealed c). let clash : Open ≡ Sealed = sym mode ∙ sealed_mode s c part in cc)
-                  later)
-              w.1,
-        ))
+    let mode : (state_after s c).mode ≡ Open = (subst (λ k. LegalFrom (state_after s c) k) cut (behind s c control legal)).0 in (
+      w.0,
+      ⊎_elim
+          (λ none. inr (inl (record { queued = []; are_queues = refl; is = ap (λ k. k ++ control) none ∙ cut })))
+          (λ later. ⊎_elim
+          (λ (part : IsCut c). let clash : Open ≡ CutMode = sym mode ∙ cut_mode s c part in cc)
+          (λ (part : IsSealed c). let clash : Open ≡ Sealed = sym mode ∙ sealed_mode s c part in cc)
+          later)
+          w.1,
+    ))
     (λ (seal : control ≡ Seal ∷ []).
-        let mode : (state_after s c).mode ≡ CutMode = (subst (λ k. LegalFrom (state_after s c) k) seal (behind s c control legal)).0.mode in (
-          w.0,
-          ⊎_elim
-              (λ none. let clash : CutMode ≡ Open = sym mode ∙ ap (λ k. (state_after s k).mode) none ∙ begun in cc)
-              (λ later. ⊎_elim
-                  (λ (part : IsCut c). inr (inr (record { queued = part.queued; taken = []; are_queues = part.are_queues; are_taking = refl; is = ap (λ k. k ++ control) part.is ∙ ap (λ k. Cut ∷ part.queued ++ k) seal })))
-                  (λ (part : IsSealed c). let clash : CutMode ≡ Sealed = sym mode ∙ sealed_mode s c part in cc)
-                  later)
-              w.1,
-        )))
+    let mode : (state_after s c).mode ≡ CutMode = (subst (λ k. LegalFrom (state_after s c) k) seal (behind s c control legal)).0.mode in (
+      w.0,
+      ⊎_elim
+          (λ none. let clash : CutMode ≡ Open = sym mode ∙ ap (λ k. (state_after s k).mode) none ∙ begun in cc)
+          (λ later. ⊎_elim
+          (λ (part : IsCut c). inr (inr (record { queued = part.queued; taken = []; are_queues = part.are_queues; are_taking = refl; is = ap (λ k. k ++ control) part.is ∙ ap (λ k. Cut ∷ part.queued ++ k) seal })))
+          (λ (part : IsSealed c). let clash : CutMode ≡ Sealed = sym mode ∙ sealed_mode s c part in cc)
+          later)
+          w.1,
+    )))
     step
 lead_walks s true (Leads true) Answers c answered control begun legal step w =
     let mode : (state_after s c).mode ≡ Sealed = (subst (λ k. LegalFrom (state_after s c) k) step (behind s c control legal)).0.mode in
     ⊎_elim
     (λ none. let clash : Sealed ≡ Open = sym mode ∙ ap (λ k. (state_after s k).mode) none ∙ begun in cc)
     (λ later. ⊎_elim
-        (λ (part : IsCut c). let clash : Sealed ≡ CutMode = sym mode ∙ cut_mode s c part in cc)
-        (λ (part : IsSealed c). record {
-          queued = part.queued;
-          taken = part.taken;
-          are_queues = part.are_queues;
-          are_taking = part.are_taking;
-          are_answers = ap (λ k. list_all is_answer k) w.0;
-          is = ap (λ k. k ++ control) part.is ∙ ap (λ k. Cut ∷ part.queued ++ Seal ∷ part.taken ++ k) (step ∙ ap (λ k. Collected ∷ k) (sym w.0));
-        })
-        later)
+    (λ (part : IsCut c). let clash : Sealed ≡ CutMode = sym mode ∙ cut_mode s c part in cc)
+    (λ (part : IsSealed c). record {
+      queued = part.queued;
+      taken = part.taken;
+      are_queues = part.are_queues;
+      are_taking = part.are_taking;
+      are_answers = ap (λ k. list_all is_answer k) w.0;
+      is = ap (λ k. k ++ control) part.is ∙ ap (λ k. Cut ∷ part.queued ++ Seal ∷ part.taken ++ k) (step ∙ ap (λ k. Collected ∷ k) (sym w.0));
+    })
+    later)
     w.1
 lead_walks s true Answers Answers c answered control begun legal step w = stay true Answers c answered control step w
 lead_walks s true Answers Rests c answered control begun legal step w = record {
@@ -219,9 +217,9 @@ answer_walks s true d (Leads true) c answered begun legal w =
     ⊎_elim
     (λ none. let clash : Open ≡ Answer = sym begun ∙ ap (λ k. (state_after s k).mode) (sym none) ∙ answer_at s d c legal in cc)
     (λ later. ⊎_elim
-        (λ (part : IsCut c). let clash : CutMode ≡ Answer = sym (cut_mode s c part) ∙ answer_at s d c legal in cc)
-        (λ (part : IsSealed c). let clash : Sealed ≡ Answer = sym (sealed_mode s c part) ∙ answer_at s d c legal in cc)
-        later)
+    (λ (part : IsCut c). let clash : CutMode ≡ Answer = sym (cut_mode s c part) ∙ answer_at s d c legal in cc)
+    (λ (part : IsSealed c). let clash : Sealed ≡ Answer = sym (sealed_mode s c part) ∙ answer_at s d c legal in cc)
+    later)
     w.1
 answer_walks s true d Answers c answered begun legal w =
     let one : List Entry = CommandOf d FullMajor false ∷ [] in

@@ -1,5 +1,5 @@
 -- How the histories that the runs may share follow the scheduled one.
-use Rattle.std.specs.Prelude.{◌≡◌, ◌≢◌, ℕ, Bool, true, false, List, [], ◌∷◌, length, replicate, slice_index_or}
+use Rattle.std.specs.Prelude.{◌≡◌, ℕ, Bool, true, false, List, [], ◌∷◌, length, nat_lt, replicate, slice_index_or}
 use Rattle.heap_model.specs.declared.command.Command.{Command}
 use Rattle.heap_model.specs.declared.command.Command.TheVariants.{FullMajor}
 use Rattle.heap_model.specs.declared.entry.Entry.{Entry}
@@ -8,9 +8,11 @@ use Rattle.heap_model.specs.declared.state.Mode.TheVariants.{Open}
 use Rattle.heap_model.specs.declared.state.Sizes.{Sizes}
 use Rattle.heap_model.specs.Domains.{domain_at, opening}
 use Rattle.heap_model.specs.History.{Legal, replies, state_after}
+use Rattle.schedule_laws.specs.declared.items.Item.{Item}
+use Rattle.schedule_laws.specs.declared.items.Item.TheVariants.{Collect, Turn}
 use Rattle.schedule_laws.specs.Sameness.{IsSameBut}
 use Rattle.schedule_laws.specs.Scheduled.{Played, take_turn, with_entries, with_next}
-use Rattle.schedule_drive.specs.Together.{AllHave, AllRuns, Has, OneRun, Unqueued}
+use Rattle.schedule_drive.specs.Together.{AllHave, AllRuns, Has, Unqueued}
 use Rattle.schedule_drive.specs.Pausing.{AsksAlone, askeds, lefts}
 
 -- a history agrees with the scheduled one so far: no collection goes on, the states are the same but for garbage, and each domain has the same replies in both
@@ -29,6 +31,15 @@ pub record Follows (v : AllRuns) (p : Played) (h : List Entry) : Type 0 where
 -- each history that the runs may share does
 abbrev pub AllFollow : AllRuns → (List Entry → Type 0) → Played → Type 0
 AllFollow v shares p = (h : List Entry) → shares h → Follows v p h
+
+-- whether an item is one for so many domains
+abbrev pub is_for : ℕ → Item → Bool
+is_for n (Turn d) = nat_lt d n
+is_for n Collect = true
+
+-- the state is that of the scheduled history
+abbrev pub IsPlayed : Sizes → Played → Type 0
+IsPlayed z p = state_after (opening z) p.history ≡ p.state
 
 -- the rest of a turn of domain d, which hasn't ended
 abbrev pub turn_rest : Played → ℕ → Played

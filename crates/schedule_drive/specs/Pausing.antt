@@ -8,9 +8,9 @@ use Rattle.heap_model.specs.declared.entry.Entry.TheVariants.{Command as Command
 use Rattle.heap_model.specs.declared.state.Mode.TheVariants.{Open}
 use Rattle.heap_model.specs.declared.state.Sizes.{Sizes}
 use Rattle.heap_model.specs.Domains.{opening}
-use Rattle.heap_model.specs.History.{Legal, state_after}
+use Rattle.heap_model.specs.History.{state_after}
 use Rattle.schedule_laws.specs.Sameness.{IsCollection, is_answer, is_queue, is_taking}
-use Rattle.schedule_drive.specs.Together.{AllRuns, Answers, Lead, Leads, OneRun, Passed, Rests}
+use Rattle.schedule_drive.specs.Together.{AllRuns, Answers, Lead, Leads, Passed, Rests}
 
 -- the commands of each run that are left
 abbrev pub lefts : AllRuns → List (List Command)

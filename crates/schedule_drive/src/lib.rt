@@ -2,7 +2,9 @@
 #![tactic(auto)]
 
 mod pausing;
+mod replaying;
 mod together;
 mod turning;
 
+pub use replaying::replay;
 pub use together::{Stepped, TogetherRuns};

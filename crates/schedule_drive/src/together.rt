@@ -1,5 +1,5 @@
 //! What a replay needs of the runs of a heap.
-ghost use Rattle.std.specs.Prelude.{◌<◌, ◌≡◌, List, [], Some, false, length, slice_get, true};
+ghost use Rattle.std.specs.Prelude.{◌<◌, ◌≡◌, ◌≤◌, List, [], Some, false, length, slice_get, true};
 ghost use Rattle.heap_model.specs.declared.entry.Entry.{Entry};
 ghost use Rattle.schedule_drive.specs.Together.{AllHave, AllRuns, Has, IsShared, OneRun, Passed, SharesOn, Stands, Turned, all_halted};
 
@@ -36,10 +36,11 @@ pub trait TogetherRuns {
     fn count(&self) -> usize
         ensures { result ≡ length (seen self.now).runs };
 
-    /// How many commands of a run are left.
+    /// How many commands of a run are left: 200,000 at most.
     fn commands_left(&self, at: usize) -> usize
         requires { at < length (seen self.now).runs }
-        ensures { (x : OneRun) → slice_get (seen self.now).runs at ≡ Some x → result ≡ length x.left };
+        ensures left { (x : OneRun) → slice_get (seen self.now).runs at ≡ Some x → result ≡ length x.left }
+        ensures few { result ≤ 200000 };
 
     /// Whether the trace of a run has ended.
     fn has_ended(&self, at: usize) -> bool

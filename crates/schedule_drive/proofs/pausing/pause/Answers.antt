@@ -1,5 +1,4 @@
-use Rattle.std.proofs.Common.{rules, ap, sym, subst, length, map, ◌≡◌, ◌<◌, ◌∙◌}
-use Rattle.schedule_drive.specs.Together.{AllRuns}
+use Rattle.std.proofs.Common.{sym, subst, ◌<◌, ◌∙◌}
 use Rattle.schedule_drive.proofs.Passing.{leads_none, pause_begins, pause_goes, same_count, some_run}
 use Rattle.schedule_drive.proofs.pausing.pause.Goals as goal
 

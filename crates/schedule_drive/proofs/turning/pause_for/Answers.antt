@@ -1,4 +1,4 @@
-use Rattle.std.proofs.Common.{◌≡◌, false, subst, sym, true}
+use Rattle.std.proofs.Common.{subst, sym}
 use Rattle.schedule_drive.specs.Following.{Advances}
 use Rattle.schedule_drive.specs.Pausing.{Paused}
 use Rattle.schedule_drive.specs.Together.{Has}
