@@ -1,0 +1,5 @@
+mod Cutting
+mod LineLemmas
+mod TextLemmas
+mod OnlyLemmas
+mod ReadingLemmas
