@@ -46,7 +46,7 @@ one_schedule domains r s bytes small v w =
     let place : r.1 ≡ s.1 = v.place_is ∙ ap (λ (is : List Item). length (spelling is)) items ∙ sym w.place_is in
     ap (λ (is : List Item). (is, r.1)) items ∙ ap (λ (n : ℕ). (s.0, n)) place
 
-no_other : (domains : ℕ) (items : List Item) (place : ℕ) (bytes : List ℕ) (k : ℕ) → domains < 2 ^ 32 → Spells domains items place bytes → first_wrong domains bytes ≡ Some k → ⊥
+pub no_other : (domains : ℕ) (items : List Item) (place : ℕ) (bytes : List ℕ) (k : ℕ) → domains < 2 ^ 32 → Spells domains items place bytes → first_wrong domains bytes ≡ Some k → ⊥
 no_other domains items place bytes k small s e =
     let none = none_wrong domains items place bytes small s in
     cc

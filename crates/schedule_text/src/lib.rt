@@ -4,10 +4,12 @@
 mod allowed;
 mod fault;
 mod reading;
+mod replay;
 mod schedule;
 mod split;
 
 pub use allowed::{NotReplayable, replayable};
 pub use fault::ScheduleFault;
 pub use reading::read_schedule;
+pub use replay::{Replay, ReplayFault, read_replay};
 pub use schedule::Schedule;
