@@ -2,8 +2,9 @@
 # Runs each example RUNS times (200 without it) and counts its outputs: first as it is, then where the system refuses
 # every thread, then where it refuses all but one. Ends with 1 where an output is none of those that stand beside it.
 #
-# An example is NAME.heap, here or in a folder, and its words are those in NAME.args, or else `run` with a domain for each section. One with
-# words alone reads nothing.
+# An example is NAME.heap, NAME.replay or NAME.table, here or in a folder, and its words are those in NAME.args. Else a script is run, and a
+# schedule with a script replayed, with a domain for each section, and a text of `table` has that word alone. One with words alone reads
+# nothing.
 set -u
 runs=${RUNS:-200}
 top=$(cd "$(dirname "${BASH_SOURCE[0]}")/.." && pwd) || exit 1
@@ -17,18 +18,22 @@ cp "$top/crates/camlheap/out/camlheap" "$work/camlheap" && chmod 755 "$work" || 
 
 # The names of all examples.
 names() {
-    find "$examples" \( -name '*.heap' -o -name '*.args' \) -printf '%P\n' | sed 's/\.[a-z]*$//' | sort -u
+    find "$examples" \( -name '*.heap' -o -name '*.replay' -o -name '*.table' -o -name '*.args' \) -printf '%P\n' |
+        sed 's/\.[a-z]*$//' | sort -u
 }
 
 # Runs the example $1 once, under the limit $2 if there is one, and prints the name of the file that has its output.
 outcome() {
-    local words script=$examples/$1.heap expected
-    [ -e "$script" ] || script=/dev/null
-    if [ -e "$examples/$1.args" ]; then
-        read -r -a words <"$examples/$1.args"
-    else
-        words=(run --domains "$(grep -c '^domain ' "$script")")
-    fi
+    local words word=none script=/dev/null kind expected
+    for kind in heap replay table; do
+        [ ! -e "$examples/$1.$kind" ] || { word=$kind && script=$examples/$1.$kind; }
+    done
+    case $word in
+        heap) words=(run --domains "$(grep -c '^domain ' "$script")") ;;
+        replay) words=(replay --domains "$(grep -c '^domain ' "$script")") ;;
+        *) words=("$word") ;;
+    esac
+    [ ! -e "$examples/$1.args" ] || read -r -a words <"$examples/$1.args"
     ${2:+limited "$2"} "$work/camlheap" "${words[@]}" <"$script" >"$work/out" || { echo "status $?"; return; }
     for expected in "$examples/$1".*expected; do
         if cmp -s "$work/out" "$expected"; then

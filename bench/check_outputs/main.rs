@@ -21,6 +21,8 @@ use std::process::{Command, ExitCode, Stdio};
 use std::time::{Duration, Instant};
 
 const MOST_STATES: usize = 30_000;
+/// So many states history_check looks at.
+const STATES: &str = "2000000";
 
 /// The statuses of history_check.
 const LEGAL: i32 = 0;
@@ -65,7 +67,7 @@ impl Programs {
     /// The status of history_check, and how long it took.
     fn judged(&self, script: &Script, output: &str) -> (i32, Duration) {
         let mut command = Command::new(&self.checker);
-        command.args(["--domains", &script.domains.to_string()]);
+        command.args(["--domains", &script.domains.to_string(), "--states", STATES]);
         let begun = Instant::now();
         let input = format!("{}---\n{output}", script.text);
         let status = piped(&mut command, &input).expect("history_check runs").1;

@@ -7,3 +7,4 @@ pub mod GeneratingLemmas
 pub mod RunLemmas
 pub mod WordLemmas
 pub mod StatusLemmas
+pub mod TableLemmas

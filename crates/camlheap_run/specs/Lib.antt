@@ -6,3 +6,4 @@ pub mod Generating
 pub mod Run
 pub mod Running
 pub mod Outcome
+pub mod Tables

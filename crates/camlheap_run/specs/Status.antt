@@ -32,7 +32,7 @@ fault_text NoMemory = codes "out of memory"
 -- the line of a status, with its line feed; a run that is done has none
 abbrev pub line_of : Status → List ℕ
 line_of (Done ended) = []
-line_of Usage = line (codes "usage: camlheap run [--domains N] [--minor W] [--pools P] | gen BASE N C | load BASE N C")
+line_of Usage = line (codes "usage: camlheap run|table [--domains N] [--minor W] [--pools P] | gen|load BASE N C")
 line_of (Script fault) = line (fault_text fault)
 line_of ReadFault = line (codes "read fault")
 line_of (WriteFault ended) = line (codes "write fault")

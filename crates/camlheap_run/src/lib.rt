@@ -1,6 +1,7 @@
 //! The top call: all that the program does, over the words of the command line, a source, a sink and a gate.
 #![tactic(auto)]
 
+mod answering;
 mod begin;
 mod end;
 mod generating;
@@ -12,6 +13,7 @@ mod run;
 mod source;
 mod status;
 mod summary;
+mod table;
 mod top;
 mod writing;
 

@@ -1,13 +1,16 @@
-//! Reads the script of a source.
+//! Reads the script, or the text of a table, that a source gives.
 ghost use Rattle.std.specs.Prelude.{◌≡◌, ◌<◌, ◌≤◌, List, IfOk, IsErr, Err};
 ghost use Rattle.outer_io.specs.Faults.{Rose};
 ghost use Rattle.heap_text.specs.Script.{Scripted};
 ghost use Rattle.heap_text.specs.declared.fault.ScriptFault.{ScriptFault};
-ghost use Rattle.camlheap_run.specs.Reading.{AreRead, ReadsScript, ReadsFault, IsNoScript, TellsScript, TellsFault};
+ghost use Rattle.table_text.specs.declared.line.TableLine.{TableLine};
+ghost use Rattle.table_text.specs.Faults.{first_fault as table_fault};
+ghost use Rattle.camlheap_run.specs.Reading.{AreRead, ReadsScript, ReadsTable, ReadsFault, ReadsFirst, IsNoScript, TellsScript, TellsTable, TellsFault, TellsFirst};
 
 use heap_text::{Script, ScriptFault, read_script};
 use outer_io::Source;
 use std::alloc::Global;
+use table_text::{TableText, read_table};
 
 /// Why not all bytes of a source were read.
 #[derive(Clone, Copy, Debug, PartialEq, Eq)]
@@ -43,7 +46,7 @@ pub(crate) fn read_bytes<S: Source>(alloc: Global, src: &mut S) -> Result<Vec<u8
     Ok(bytes)
 }
 
-/// Why a source gave no script.
+/// Why a source gave no script, or no text of a table.
 #[derive(Clone, Copy, Debug, PartialEq, Eq)]
 pub(crate) enum NoScript {
     ReadFault,
@@ -51,7 +54,7 @@ pub(crate) enum NoScript {
     Memory,
 }
 
-// Want of memory is no fault of the script.
+// Want of memory is no fault of the text.
 fn no_script(fault: ScriptFault) -> NoScript
     ensures { IsNoScript fault result }
 {
@@ -85,6 +88,29 @@ pub(crate) fn script_of<S: Source>(
     };
     match read_script(alloc, domains, &bytes) {
         Ok(script) => Ok(script),
+        Err(fault) => Err(no_script(fault)),
+    }
+}
+
+// Reads the source, and the text of a table that its bytes spell.
+pub(crate) fn table_of<S: Source>(alloc: Global, src: &mut S) -> Result<TableText, NoScript>
+    ensures later { S.faults src.old ≤ S.faults src.new }
+    ensures fault { result ≡ Err NoScript.ReadFault → Rose (S.faults src.old) (S.faults src.new) }
+    ensures failed { S.faults src.old < S.faults src.new → result ≡ Err NoScript.ReadFault }
+    ensures text { IfOk result (ReadsTable (S.left src.old) (S.left src.new)) }
+    ensures refused { (f : ScriptFault) → result ≡ Err (NoScript.Refused f) → ReadsFirst table_fault (S.left src.old) (S.left src.new) f }
+
+    // What spells a text isn't refused, and what has a fault isn't read.
+    ensures only_faults { (lines : List TableLine) (f : ScriptFault) → TellsTable (S.left src.old) lines → result ≡ Err (NoScript.Refused f) → ⊥ }
+    ensures only_texts { (f : ScriptFault) → TellsFirst table_fault (S.left src.old) f → IsErr result }
+{
+    let bytes = match read_bytes(alloc, src) {
+        Ok(bytes) => bytes,
+        Err(ReadStop::Fault) => return Err(NoScript::ReadFault),
+        Err(ReadStop::Memory) => return Err(NoScript::Memory),
+    };
+    match read_table(alloc, &bytes) {
+        Ok(text) => Ok(text),
         Err(fault) => Err(no_script(fault)),
     }
 }

@@ -1,17 +1,21 @@
-//! Runs the script that a source gives.
+//! Runs the script, or the text of a table, that a source gives.
 ghost use Rattle.std.specs.Prelude.{◌≡◌, ◌<◌, ◌≤◌, List, Option};
 ghost use Rattle.heap_text.specs.Script.{Scripted};
 ghost use Rattle.heap_rule.specs.Ending.{EndedHeap};
 ghost use Rattle.heap_text.specs.declared.fault.ScriptFault.{ScriptFault};
+ghost use Rattle.table_text.specs.declared.line.TableLine.{TableLine};
+ghost use Rattle.table_text.specs.Faults.{first_fault as table_fault};
 ghost use Rattle.outer_io.specs.Faults.{Rose};
-ghost use Rattle.camlheap_run.specs.Reading.{ReadsFault, TellsScript, TellsFault};
+ghost use Rattle.camlheap_run.specs.Reading.{ReadsFault, ReadsFirst, TellsScript, TellsTable, TellsFault, TellsFirst};
 ghost use Rattle.camlheap_run.specs.Running.{AreRunSizes};
+ghost use Rattle.camlheap_run.specs.Tables.{MayHoldTable, TableRunsToEnd, TableStopsWriting};
 ghost use Rattle.camlheap_run.specs.Outcome.{RunsToEnd, StopsWriting, IsSourceAnswer, IsSilent, IsWriteFault, IsEither, IsDoneOrMemory};
 
 use crate::Status;
-use crate::reading::{NoScript, script_of};
+use crate::reading::{NoScript, script_of, table_of};
 use crate::report::Report;
 use crate::run::run;
+use crate::table::run_table;
 use heap_model::state::Sizes;
 use outer_io::{Gate, Sink, Source};
 use std::alloc::Global;
@@ -48,6 +52,41 @@ pub(crate) fn run_source<R: Threads + Wait + Sync, S: Source, K: Sink, G: Gate +
 {
     match script_of(alloc, sizes.domains, src) {
         Ok(script) => run(rt, alloc, sizes, script, Report::Replies, out, gate),
+        Err(NoScript::ReadFault) => Status::ReadFault,
+        Err(NoScript::Refused(fault)) => Status::Script(fault),
+        Err(NoScript::Memory) => Status::Memory,
+    }
+}
+
+// Reads the text of a table, runs it, and writes its replies.
+pub(crate) fn run_table_source<R: Wait, S: Source, K: Sink>(
+    rt: &R,
+    alloc: Global,
+    sizes: &Sizes,
+    src: &mut S,
+    out: &mut K,
+) -> Status
+    requires { MayHoldTable sizes.now }
+    ensures done { (ended : Option EndedHeap) → result ≡ Status.Done ended → TableRunsToEnd sizes.now ended (S.left src.old) (S.left src.new) (K.written out.old) (K.written out.new) }
+    ensures cut { (ended : Option EndedHeap) → result ≡ Status.WriteFault ended → TableStopsWriting sizes.now ended (S.left src.old) (S.left src.new) (K.written out.old) (K.written out.new) }
+    ensures quiet { IsSilent result → out.new ≡ out.old }
+    ensures answers { IsSourceAnswer result }
+    ensures script { (f : ScriptFault) → result ≡ Status.Script f → ReadsFirst table_fault (S.left src.old) (S.left src.new) f }
+    ensures reads { S.faults src.old ≤ S.faults src.new }
+    ensures writes { K.faults out.old ≤ K.faults out.new }
+    ensures read_fault { result ≡ Status.ReadFault → Rose (S.faults src.old) (S.faults src.new) }
+    ensures write_fault { (ended : Option EndedHeap) → result ≡ Status.WriteFault ended → Rose (K.faults out.old) (K.faults out.new) }
+    ensures read_failed { S.faults src.old < S.faults src.new → result ≡ Status.ReadFault }
+    ensures write_failed { K.faults out.old < K.faults out.new → IsWriteFault result }
+    ensures complete { (lines : List TableLine) → TellsTable (S.left src.old) lines
+        → ¬ (Rose (S.faults src.old) (S.faults src.new)) → ¬ (Rose (K.faults out.old) (K.faults out.new))
+        → IsDoneOrMemory result }
+    ensures refused { (f : ScriptFault) → TellsFirst table_fault (S.left src.old) f
+        → ¬ (Rose (S.faults src.old) (S.faults src.new))
+        → IsEither result (Status.Script f) Status.Memory }
+{
+    match table_of(alloc, src) {
+        Ok(text) => run_table(rt, alloc, sizes, &text, out),
         Err(NoScript::ReadFault) => Status::ReadFault,
         Err(NoScript::Refused(fault)) => Status::Script(fault),
         Err(NoScript::Memory) => Status::Memory,

@@ -14,7 +14,7 @@ pub enum Status {
     Done { ended: Option<Ended> },
     /// The words of the command line aren't in the grammar. Nothing was read.
     Usage,
-    /// The script has this fault first. Nothing was written. [`camlheap`](crate::camlheap) never answers
+    /// The script, or the text of a table, has this fault first. Nothing was written. [`camlheap`](crate::camlheap) never answers
     /// `Script(ScriptFault::Memory)`: want of memory is `Memory`.
     Script(ScriptFault),
     /// A read failed. Nothing was written.
@@ -40,7 +40,7 @@ pub fn status_number(status: &Status) -> u8
 }
 
 const USAGE: &[u8] =
-    b"usage: camlheap run [--domains N] [--minor W] [--pools P] | gen BASE N C | load BASE N C\n";
+    b"usage: camlheap run|table [--domains N] [--minor W] [--pools P] | gen|load BASE N C\n";
 
 // Puts what the fault line of a script says of a line: its number, and a text.
 fn put_line(out: &mut [u8; 128], number: u32, text: &[u8]) -> usize

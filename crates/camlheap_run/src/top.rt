@@ -6,16 +6,19 @@ ghost use Rattle.heap_text.specs.Script.{Scripted};
 ghost use Rattle.heap_model.specs.declared.state.Sizes.{Sizes};
 ghost use Rattle.heap_rule.specs.Ending.{EndedHeap};
 ghost use Rattle.heap_text.specs.declared.fault.ScriptFault.{ScriptFault};
+ghost use Rattle.table_text.specs.declared.line.TableLine.{TableLine};
+ghost use Rattle.table_text.specs.Faults.{first_fault as table_fault};
 ghost use Rattle.outer_io.specs.Faults.{Rose};
 ghost use Rattle.camlheap_run.specs.Generating.{WritesScript, WritesFrontOfScript};
-ghost use Rattle.camlheap_run.specs.Words.{AsksToRun, ReadsSource};
-ghost use Rattle.camlheap_run.specs.Reading.{ReadsFault, TellsScript, TellsFault};
+ghost use Rattle.camlheap_run.specs.Words.{AsksToRead, ReadsSource};
+ghost use Rattle.camlheap_run.specs.Reading.{ReadsFirst, TellsScript, TellsTable, TellsFault, TellsFirst};
+ghost use Rattle.camlheap_run.specs.Tables.{TableRunsToEnd, TableStopsWriting};
 ghost use Rattle.camlheap_run.specs.Outcome.{RunsToEnd, StopsWriting, LoadsToEnd, StopsLoading, IsSilent, IsWriteFault, IsEither, IsDoneOrMemory};
 
 use crate::Status;
 use crate::generating::generate_script;
 use crate::load::load;
-use crate::source::run_source;
+use crate::source::{run_source, run_table_source};
 use command_line::{Job, read_words};
 use outer_io::{Gate, Sink, Source};
 use std::alloc::{AllocError, Global};
@@ -27,6 +30,8 @@ use std::thread::Threads;
 ///
 /// - `run` reads a script from the source, runs its sections on one shared heap, in threads, and writes the replies to the
 ///   sink: for each domain the line `domain d` and the lines of its replies.
+/// - `table` reads a text of a table from the source, runs it line by line on a heap of one domain, on this thread, and
+///   writes a line for each of its lines.
 /// - `gen` reads nothing and writes a generated script.
 /// - `load` reads nothing, runs the generated script on a heap of the usual sizes, and writes a line for each domain:
 ///   `domain d commands R ints I sum S`, with the number of its commands, the number of replies `int v` among theirs, and
@@ -52,6 +57,13 @@ pub fn camlheap<R: Threads + Wait + Sync, S: Source, K: Sink, G: Gate + Sync>(
     ensures cut { (z : Sizes) (ended : Option EndedHeap) → asked_job (map string_bytes words.now) ≡ Some (Job.Run z) → result ≡ Status.WriteFault ended
         → StopsWriting z ended (S.left src.old) (S.left src.new) (K.written out.old) (K.written out.new) }
 
+    // What was read and written by `table`: the replies are those of the machine of the text, whose registers, bindings
+    // and slots are those of the heap at a prefix of its history for each line.
+    ensures table { (z : Sizes) (ended : Option EndedHeap) → asked_job (map string_bytes words.now) ≡ Some (Job.Table z) → result ≡ Status.Done ended
+        → TableRunsToEnd z ended (S.left src.old) (S.left src.new) (K.written out.old) (K.written out.new) }
+    ensures table_cut { (z : Sizes) (ended : Option EndedHeap) → asked_job (map string_bytes words.now) ≡ Some (Job.Table z) → result ≡ Status.WriteFault ended
+        → TableStopsWriting z ended (S.left src.old) (S.left src.new) (K.written out.old) (K.written out.new) }
+
     // What was written by `gen`.
     ensures generated { (g : Generated) (ended : Option EndedHeap) → asked_job (map string_bytes words.now) ≡ Some (Job.Gen g) → result ≡ Status.Done ended
         → WritesScript g ended (K.written out.old) (K.written out.new) }
@@ -64,7 +76,7 @@ pub fn camlheap<R: Threads + Wait + Sync, S: Source, K: Sink, G: Gate + Sync>(
     ensures loaded_cut { (g : Generated) (ended : Option EndedHeap) → asked_job (map string_bytes words.now) ≡ Some (Job.Load g) → result ≡ Status.WriteFault ended
         → StopsLoading g ended (K.written out.old) (K.written out.new) }
 
-    // What stays: the sink where nothing was to be written, and the source where `run` isn't asked for.
+    // What stays: the sink where nothing was to be written, and the source where it isn't to be read.
     ensures quiet { IsSilent result → out.new ≡ out.old }
     ensures unread { ¬ (ReadsSource (asked_job (map string_bytes words.now))) → src.new ≡ src.old }
 
@@ -72,17 +84,17 @@ pub fn camlheap<R: Threads + Wait + Sync, S: Source, K: Sink, G: Gate + Sync>(
     ensures usage { result ≡ Status.Usage → asked_job (map string_bytes words.now) ≡ None }
     ensures words { result ≢ Status.Usage → IsSome (asked_job (map string_bytes words.now)) }
     ensures script { (f : ScriptFault) → result ≡ Status.Script f
-        → AsksToRun (asked_job (map string_bytes words.now)) (λ z. ReadsFault z.domains (S.left src.old) (S.left src.new) f) }
+        → AsksToRead (asked_job (map string_bytes words.now)) (λ first_of. ReadsFirst first_of (S.left src.old) (S.left src.new) f) }
     ensures reads { S.faults src.old ≤ S.faults src.new }
     ensures writes { K.faults out.old ≤ K.faults out.new }
-    ensures read_fault { result ≡ Status.ReadFault → AsksToRun (asked_job (map string_bytes words.now)) (λ _. Rose (S.faults src.old) (S.faults src.new)) }
+    ensures read_fault { result ≡ Status.ReadFault → AsksToRead (asked_job (map string_bytes words.now)) (λ _. Rose (S.faults src.old) (S.faults src.new)) }
     ensures write_fault { (ended : Option EndedHeap) → result ≡ Status.WriteFault ended → Rose (K.faults out.old) (K.faults out.new) }
 
     // A read or a write that failed decides the answer: none is tried again.
     ensures read_failed { S.faults src.old < S.faults src.new → result ≡ Status.ReadFault }
     ensures write_failed { K.faults out.old < K.faults out.new → IsWriteFault result }
 
-    // Where the source tells its bytes, they decide what `run` answers, unless a read or a write fails or memory runs out.
+    // Where the source tells its bytes, they decide what `run` and `table` answer, unless a read or a write fails or memory runs out.
     ensures complete { (z : Sizes) (s : Scripted) → asked_job (map string_bytes words.now) ≡ Some (Job.Run z)
         → TellsScript z.domains (S.left src.old) s
         → ¬ (Rose (S.faults src.old) (S.faults src.new)) → ¬ (Rose (K.faults out.old) (K.faults out.new))
@@ -92,12 +104,22 @@ pub fn camlheap<R: Threads + Wait + Sync, S: Source, K: Sink, G: Gate + Sync>(
         → ¬ (Rose (S.faults src.old) (S.faults src.new))
         → IsEither result (Status.Script f) Status.Memory }
 
+    ensures table_complete { (z : Sizes) (lines : List TableLine) → asked_job (map string_bytes words.now) ≡ Some (Job.Table z)
+        → TellsTable (S.left src.old) lines
+        → ¬ (Rose (S.faults src.old) (S.faults src.new)) → ¬ (Rose (K.faults out.old) (K.faults out.new))
+        → IsDoneOrMemory result }
+    ensures table_refused { (z : Sizes) (f : ScriptFault) → asked_job (map string_bytes words.now) ≡ Some (Job.Table z)
+        → TellsFirst table_fault (S.left src.old) f
+        → ¬ (Rose (S.faults src.old) (S.faults src.new))
+        → IsEither result (Status.Script f) Status.Memory }
+
     // `gen` and `load` are done, unless a write fails or memory runs out.
     ensures complete_unread { IsSome (asked_job (map string_bytes words.now)) → ¬ (ReadsSource (asked_job (map string_bytes words.now)))
         → ¬ (Rose (K.faults out.old) (K.faults out.new)) → IsDoneOrMemory result }
 {
     match read_words(alloc, words) {
         Ok(Some(Job::Run(sizes))) => run_source(rt, alloc, &sizes, src, out, gate),
+        Ok(Some(Job::Table(sizes))) => run_table_source(rt, alloc, &sizes, src, out),
         Ok(Some(Job::Gen(generated))) => generate_script(alloc, &generated, out),
         Ok(Some(Job::Load(generated))) => load(rt, alloc, &generated, out, gate),
         Ok(None) => Status::Usage,

@@ -6,8 +6,8 @@ use Rattle.std.specs.Option.{option_map_or}
 use Rattle.clap.specs.Simple.{Shape, built, entered, is_simple, label_of, names_of, rows_at, subcommand_of}
 use Rattle.clap.specs.Takes.{default_passes, entered_passes, is_valid, level_passes, settle_passes, takes, turn_passes, walk_passes}
 use Rattle.clap.specs.Walk.{Names, Text, Walk, answers_to, nothing_held, walk, walk_from, walked, finished}
-use Rattle.command_line.specs.Commands.{camlheap_app, run_app}
-use Rattle.command_line.proofs.WalkLemmas.{built_below}
+use Rattle.command_line.specs.Commands.{camlheap_app}
+use Rattle.command_line.proofs.WalkLemmas.{built_options}
 use Rattle.command_line.proofs.TakesLemmas.{both_hold}
 use Rattle.command_line.proofs.ScriptLemmas.{built_script}
 
@@ -79,10 +79,14 @@ enters_takes word s words e passes =
     both_hold _ _ simple (subst (λ (o : Option (Text × List Text)). (entered_passes (built camlheap_app) o && level_passes (built camlheap_app).top names nothing_held (word ∷ words) (is_some (entered (built camlheap_app) o))) ≡ true)
     (sym stop) (both_hold _ _ below top))
 
--- each of the three names is such a word
-pub enters_run : Enters (codes "run") (built_below run_app.top)
+-- each of the four names is such a word
+pub enters_run : Enters (codes "run") (built_options (codes "run"))
 unfolding walked
 enters_run = record { stops = refl; passes = refl; found = refl }
+
+pub enters_table : Enters (codes "table") (built_options (codes "table"))
+unfolding walked
+enters_table = record { stops = refl; passes = refl; found = refl }
 
 pub enters_gen : Enters (codes "gen") (built_script (codes "gen"))
 unfolding walked

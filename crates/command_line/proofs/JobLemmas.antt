@@ -1,25 +1,26 @@
 -- What the words ask for: which reading it comes from, and its limits.
 use Rattle.std.proofs.Common.{◌≡◌, ◌∙◌, ◌≤◌, ℕ, Bool, true, false, List, [], ◌∷◌, Option, Some, None, codes, inl, inr, refl, sym, ap, subst, arith}
-use Rattle.std.specs.Prelude.{◌⊎◌, IfSome, is_none, option_map, bytes_eq, nat_le, if◌then◌else◌}
+use Rattle.std.specs.Prelude.{◌==◌, ◌⊎◌, IfSome, is_none, option_map, bytes_eq, nat_le, if◌then◌else◌}
 use Rattle.std.specs.Option.{option_or}
 use Rattle.std.proofs.lemmas.Bool.{and_parts}
-use Rattle.std.proofs.lemmas.Bool.Decides.{nat_tests}
+use Rattle.std.proofs.lemmas.Bool.Decides.{Decides-eqb, nat_tests}
 use Rattle.std.proofs.lemmas.Slice.Eq.{bytes_eq-Decides}
 use Rattle.heap_model.specs.declared.state.Sizes.{Sizes}
 use Rattle.heap_model.specs.Domains.{class_count, first_outside}
 use Rattle.command_line.specs.declared.job.Job.{Job}
-use Rattle.command_line.specs.declared.job.Job.TheVariants.{Run, Gen, Load}
+use Rattle.command_line.specs.declared.job.Job.TheVariants.{Run, Table, Gen, Load}
 use Rattle.command_line.specs.declared.job.Generated.{Generated}
 use Rattle.command_line.specs.declared.options.Given.{Given}
 use Rattle.command_line.specs.Numbers.{option_number}
-use Rattle.command_line.specs.RunWords.{run_given, run_sizes, sizes_given, if_within_limits}
-use Rattle.command_line.specs.Jobs.{IsGenerable, IsWithinRange, asked_job, generated_after, if_generable, is_generable, script_if, script_of}
+use Rattle.command_line.specs.RunWords.{given_after, if_sizes, is_run, is_table, run_sizes, sizes_after, sizes_or, table_sizes}
+use Rattle.command_line.specs.Jobs.{AreTableSizes, IsGenerable, IsWithinRange, asked_job, generated_after, if_generable, is_generable, script_if, script_of}
 use Rattle.command_line.proofs.WalkLemmas.{some_of, some_map}
 use Rattle.command_line.proofs.TakesLemmas.{both_hold}
 
 -- the reading that gives what the words ask for
 abbrev pub Reads : List (List ℕ) → Job → Type 0
 Reads words (Run z) = run_sizes words ≡ Some z
+Reads words (Table z) = table_sizes words ≡ Some z
 Reads words (Gen g) = generated_after (codes "gen") words ≡ Some g
 Reads words (Load g) = generated_after (codes "load") words ≡ Some g
 
@@ -32,28 +33,69 @@ pub asked_reads : (words : List (List ℕ)) (j : Job) → asked_job words ≡ So
 unfolding asked_job
 asked_reads words j e = elim (or_cases (option_map Run (run_sizes words)) _ j e) [
   | inl run ↦ let z = some_map Run (run_sizes words) j run in subst (Reads words) z.2 z.1
-  | inr script ↦ elim (or_cases (option_map Gen (generated_after (codes "gen") words)) _ j script) [
-    | inl gen ↦ let g = some_map Gen (generated_after (codes "gen") words) j gen in subst (Reads words) g.2 g.1
-    | inr load ↦ let g = some_map Load (generated_after (codes "load") words) j load in subst (Reads words) g.2 g.1
+  | inr later ↦ elim (or_cases (option_map Table (table_sizes words)) _ j later) [
+    | inl table ↦ let z = some_map Table (table_sizes words) j table in subst (Reads words) z.2 z.1
+    | inr script ↦ elim (or_cases (option_map Gen (generated_after (codes "gen") words)) _ j script) [
+      | inl gen ↦ let g = some_map Gen (generated_after (codes "gen") words) j gen in subst (Reads words) g.2 g.1
+      | inr load ↦ let g = some_map Load (generated_after (codes "load") words) j load in subst (Reads words) g.2 g.1
+    ]
   ]
 ]
 
 -- ---- sizes
 
-fits_by : (o : Option ℕ) (y z : Sizes) → (if is_none o then Some y else None) ≡ Some z → (o ≡ None) × (y ≡ z)
-fits_by None y z e = (refl, cc)
-fits_by (Some k) y z e = cc
-
--- sizes that are taken are within the limits
-pub fitting : (y z : Sizes) → if_within_limits y ≡ Some z → (first_outside y ≡ None) × (y ≡ z)
-fitting y z e = fits_by (first_outside y) y z e
-
--- ---- scripts
-
 -- a choice that is made
 pub chosen : {A : Type 0} (b : Bool) (o : Option A) (x : A) → (if b then o else None) ≡ Some x → (b ≡ true) × (o ≡ Some x)
 chosen true o x e = (refl, e)
 chosen false o x e = cc
+
+-- sizes that are taken pass the test
+pub fitting : (test : Sizes → Bool) (y z : Sizes) → if_sizes test y ≡ Some z → (test z ≡ true) × (y ≡ z)
+fitting test y z e =
+    let p = chosen (test y) (Some y) z e in
+    let is : y ≡ z = cc in
+    (subst (λ (x : Sizes). test x ≡ true) is p.0, is)
+
+-- what the words give, and the sizes that come of it
+pub record GivesSizes (command : List ℕ) (domains : ℕ) (test : Sizes → Bool) (words : List (List ℕ)) (z : Sizes) : Type 0 where
+  pub given : Given
+  pub reads : given_after command words ≡ Some given
+  pub sizes : z ≡ sizes_or domains given
+  pub passes : test z ≡ true
+
+pub gives_sizes : (command : List ℕ) (domains : ℕ) (test : Sizes → Bool) (words : List (List ℕ)) (z : Sizes) → sizes_after command domains test words ≡ Some z → GivesSizes command domains test words z
+gives_sizes command domains test words z e =
+    let g = some_of (λ (g : Given). if_sizes test (sizes_or domains g)) (given_after command words) z e in
+    let p = fitting test (sizes_or domains g.0) z g.2 in
+    record { given = g.0; reads = g.1; sizes = sym p.1; passes = p.0 }
+
+none_there : (o : Option ℕ) → is_none o ≡ true → o ≡ None
+none_there None e = refl
+none_there (Some n) e = cc
+
+-- the tests of sizes are exact
+pub runnable : (z : Sizes) → is_run z ≡ true → first_outside z ≡ None
+runnable z e = none_there (first_outside z) e
+
+pub passes_run : (z : Sizes) → first_outside z ≡ None → is_run z ≡ true
+passes_run z e = ap is_none e
+
+small : (m n : ℕ) → nat_le m n ≡ true → m ≤ n
+small m n e = grind (arith, nat_tests)
+
+test_small : (m n : ℕ) → m ≤ n → nat_le m n ≡ true
+test_small m n e = grind (arith, nat_tests)
+
+pub tabular : (z : Sizes) → is_table z ≡ true → AreTableSizes z
+tabular z e =
+    let p = and_parts (is_none (first_outside z)) _ e in
+    let q = and_parts (z.domains == 1) _ p.1 in
+    record { limits = none_there (first_outside z) p.0; one = (Decides-eqb z.domains 1).0 q.0; pools = small _ _ q.1 }
+
+pub passes_table : (z : Sizes) → AreTableSizes z → is_table z ≡ true
+passes_table z are = both_hold _ _ (ap is_none are.limits) (both_hold _ _ ((Decides-eqb z.domains 1).1 are.one) (test_small _ _ are.pools))
+
+-- ---- scripts
 
 parts_of : (b d c : Option ℕ) (g : Generated) → script_if b d c ≡ Some g → (b ≡ Some g.base) × (d ≡ Some g.domains) × (c ≡ Some g.commands)
 parts_of None d c g e = cc
@@ -97,12 +139,6 @@ numbers_of command (word ∷ base ∷ domains ∷ commands ∷ []) g e =
     }
 numbers_of command (word ∷ base ∷ domains ∷ commands ∷ more ∷ words) g e = cc
 
-small : (m n : ℕ) → nat_le m n ≡ true → m ≤ n
-small m n e = grind (arith, nat_tests)
-
-test_small : (m n : ℕ) → m ≤ n → nat_le m n ≡ true
-test_small m n e = grind (arith, nat_tests)
-
 -- the test of a script is exact
 pub generable : (g : Generated) → is_generable g ≡ true → IsGenerable g
 generable g e =
@@ -116,14 +152,18 @@ passes_test g is = both_hold _ _ (test_small _ _ is.base) (both_hold _ _ (test_s
 
 -- ---- limits
 
-run_within : (words : List (List ℕ)) (z : Sizes) → run_sizes words ≡ Some z → (first_outside z ≡ None) × (z.classes ≡ class_count)
-run_within words z e =
-    let g = some_of (λ (g : Given). if_within_limits (sizes_given g)) (run_given words) z e in
-    let p = fitting (sizes_given g.0) z g.2 in
-    (subst (λ (y : Sizes). first_outside y ≡ None) p.1 p.0, ap (λ (y : Sizes). y.classes) (sym p.1))
+class_of : (command : List ℕ) (domains : ℕ) (test : Sizes → Bool) (words : List (List ℕ)) (z : Sizes) → GivesSizes command domains test words z → z.classes ≡ class_count
+class_of command domains test words z gives = ap (λ (y : Sizes). y.classes) gives.sizes
+
+run_within : (words : List (List ℕ)) (z : Sizes) → run_sizes words ≡ Some z → IsWithinRange (Run z)
+run_within words z e = let g = gives_sizes (codes "run") 2 is_run words z e in (runnable z g.passes, class_of _ _ _ words z g)
+
+table_within : (words : List (List ℕ)) (z : Sizes) → table_sizes words ≡ Some z → IsWithinRange (Table z)
+table_within words z e = let g = gives_sizes (codes "table") 1 is_table words z e in (tabular z g.passes, class_of _ _ _ words z g)
 
 reads_within : (words : List (List ℕ)) (j : Job) → Reads words j → IsWithinRange j
 reads_within words (Run z) e = run_within words z e
+reads_within words (Table z) e = table_within words z e
 reads_within words (Gen g) e = generable g (numbers_of (codes "gen") words g e).test
 reads_within words (Load g) e = generable g (numbers_of (codes "load") words g e).test
 

@@ -1,5 +1,5 @@
 -- What a parse finds of words that are taken is what they ask for.
-use Rattle.std.proofs.Common.{◌≡◌, ◌∙◌, ℕ, true, List, [], ◌∷◌, Option, Some, None, codes, refl, sym, ap, subst}
+use Rattle.std.proofs.Common.{◌≡◌, ◌∙◌, ℕ, Bool, true, List, [], ◌∷◌, Option, Some, None, codes, refl, sym, ap, subst}
 use Rattle.std.specs.Prelude.{option_and_then, option_map, bytes_eq, IsSome}
 use Rattle.std.proofs.lemmas.Slice.Eq.{bytes_eq-Decides}
 use Rattle.clap.specs.Walk.{Row, Text, rows_after}
@@ -8,20 +8,20 @@ use Rattle.clap.specs.Takes.{takes}
 use Rattle.clap.specs.declared.parser.matches.ArgMatches.{ArgMatches}
 use Rattle.heap_model.specs.declared.state.Sizes.{Sizes}
 use Rattle.command_line.specs.declared.job.Job.{Job}
-use Rattle.command_line.specs.declared.job.Job.TheVariants.{Run, Gen, Load}
+use Rattle.command_line.specs.declared.job.Job.TheVariants.{Run, Table, Gen, Load}
 use Rattle.command_line.specs.declared.job.Generated.{Generated}
 use Rattle.command_line.specs.declared.options.Setting.TheVariants.{Domains, Minor, Pools}
 use Rattle.command_line.specs.declared.options.Given.{Given}
 use Rattle.command_line.specs.Numbers.{option_number}
 use Rattle.command_line.specs.Options.{given_by, nothing_read}
-use Rattle.command_line.specs.Commands.{camlheap_app, run_app, given_in, job_at, script_in}
-use Rattle.command_line.specs.RunWords.{run_given, run_sizes, sizes_given, if_within_limits}
+use Rattle.command_line.specs.Commands.{camlheap_app, given_in, job_at, script_in}
+use Rattle.command_line.specs.RunWords.{is_run, is_table, sizes_after, sizes_or}
 use Rattle.command_line.specs.Jobs.{asked_job, script_if}
-use Rattle.command_line.proofs.WalkLemmas.{built_below, run_rules, finds, number_plain, some_of}
-use Rattle.command_line.proofs.TakesLemmas.{run_takes}
+use Rattle.command_line.proofs.WalkLemmas.{built_options, run_rules, finds, number_plain}
+use Rattle.command_line.proofs.TakesLemmas.{options_take}
 use Rattle.command_line.proofs.ScriptLemmas.{ArePlain, built_script, finds_three, script_rows, takes_three}
-use Rattle.command_line.proofs.CommandLemmas.{Enters, enters, enters_gen, enters_load, enters_run, enters_takes}
-use Rattle.command_line.proofs.JobLemmas.{HasNumbers, Reads, asked_reads, chosen, fitting, numbers_of}
+use Rattle.command_line.proofs.CommandLemmas.{Enters, enters, enters_gen, enters_load, enters_run, enters_table, enters_takes}
+use Rattle.command_line.proofs.JobLemmas.{HasNumbers, Reads, asked_reads, chosen, gives_sizes, numbers_of}
 
 -- what a parse of these words finds
 abbrev found_of_words : List Text → Option Job
@@ -32,7 +32,7 @@ record Finds (words : List Text) (j : Job) : Type 0 where
   taken : takes camlheap_app words ≡ true
   job : found_of_words words ≡ Some j
 
--- ---- a run
+-- ---- a command with options
 
 same_given : (g h : Given) → g.domains ≡ h.domains → g.minor ≡ h.minor → g.pools ≡ h.pools → g ≡ h
 same_given g h a b c = ap (λ x. record g { domains = x }) a ∙ ap (λ x. record g { domains = h.domains; minor = x }) b ∙ ap (λ x. record h { pools = x }) c
@@ -40,20 +40,24 @@ same_given g h a b c = ap (λ x. record g { domains = x }) a ∙ ap (λ x. recor
 finds_given : (words : List Text) (g : Given) → given_by nothing_read words ≡ Some g → given_in (rows_after run_rules [] words) ≡ g
 finds_given words g e = same_given (given_in (rows_after run_rules [] words)) g (finds words g e Domains) (finds words g e Minor) (finds words g e Pools)
 
-finds_run : (words : List Text) (g : Given) → given_by nothing_read words ≡ Some g → Finds (codes "run" ∷ words) (Run (sizes_given g))
-finds_run words g e = record {
-  taken = enters_takes (codes "run") (built_below run_app.top) words enters_run (run_takes words g e);
-  job = ap (option_and_then job_at) (enters (codes "run") (built_below run_app.top) words enters_run) ∙ ap (λ (x : Given). Some (Run (sizes_given x))) (finds_given words g e);
+-- a command of which a parse reads options, whatever it is asked for with the sizes that they give
+options_find : (command : Text) (domains : ℕ) (with : Sizes → Job) (words : List Text) (g : Given) → Enters command (built_options command)
+    → ((rows : List Row) → job_at (command, rows) ≡ Some (with (sizes_or domains (given_in rows)))) → given_by nothing_read words ≡ Some g → Finds (command ∷ words) (with (sizes_or domains g))
+options_find command domains with words g at reads e = record {
+  taken = enters_takes command (built_options command) words at (options_take command words g e);
+  job = ap (option_and_then job_at) (enters command (built_options command) words at)
+      ∙ (reads (rows_after run_rules [] words) ∙ ap (λ (x : Given). Some (with (sizes_or domains x))) (finds_given words g e));
 }
 
-run_finds : (words : List Text) (z : Sizes) → run_sizes words ≡ Some z → Finds words (Run z)
-run_finds [] z e = cc
-run_finds (word ∷ words) z e =
-    let h = some_of (λ (g : Given). if_within_limits (sizes_given g)) (run_given (word ∷ words)) z e in
-    let p = chosen (bytes_eq word (codes "run")) (given_by nothing_read words) h.0 h.1 in
-    let is : word ≡ codes "run" = (bytes_eq-Decides word (codes "run")).0 p.0 in
-    subst (λ (y : Sizes). Finds (word ∷ words) (Run y)) (fitting (sizes_given h.0) z h.2).1
-    (subst (λ (w : Text). Finds (w ∷ words) (Run (sizes_given h.0))) (sym is) (finds_run words h.0 p.1))
+sizes_find : (command : Text) (domains : ℕ) (test : Sizes → Bool) (with : Sizes → Job) (words : List Text) (z : Sizes) → Enters command (built_options command)
+    → ((rows : List Row) → job_at (command, rows) ≡ Some (with (sizes_or domains (given_in rows)))) → sizes_after command domains test words ≡ Some z → Finds words (with z)
+sizes_find command domains test with [] z at reads e = cc
+sizes_find command domains test with (word ∷ words) z at reads e =
+    let h = gives_sizes command domains test (word ∷ words) z e in
+    let p = chosen (bytes_eq word command) (given_by nothing_read words) h.given h.reads in
+    let is : word ≡ command = (bytes_eq-Decides word command).0 p.0 in
+    subst (λ (y : Sizes). Finds (word ∷ words) (with y)) (sym h.sizes)
+    (subst (λ (w : Text). Finds (w ∷ words) (with (sizes_or domains h.given))) (sym is) (options_find command domains with words h.given at reads p.1))
 
 -- ---- a script
 
@@ -84,7 +88,8 @@ script_finds command with words g at reads h =
 -- ---- each command
 
 reads_finds : (words : List Text) (j : Job) → Reads words j → Finds words j
-reads_finds words (Run z) e = run_finds words z e
+reads_finds words (Run z) e = sizes_find (codes "run") 2 is_run Run words z enters_run (λ rows. refl) e
+reads_finds words (Table z) e = sizes_find (codes "table") 1 is_table Table words z enters_table (λ rows. refl) e
 reads_finds words (Gen g) e = script_finds (codes "gen") Gen words g enters_gen (λ rows. refl) (numbers_of (codes "gen") words g e)
 reads_finds words (Load g) e = script_finds (codes "load") Load words g enters_load (λ rows. refl) (numbers_of (codes "load") words g e)
 

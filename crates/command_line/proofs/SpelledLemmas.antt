@@ -1,6 +1,6 @@
 -- Words ask for sizes exactly where they are spelled so.
 use Rattle.std.proofs.Common.{◌≡◌, ◌∙◌, ℕ, ◌+◌, ◌*◌, ◌<◌, ◌≤◌, ◌^◌, suc, Bool, true, false, List, [], ◌∷◌, ◌++◌, take, drop, Option, Some, None, codes, decimal, refl, sym, ap, subst, arith}
-use Rattle.std.specs.Prelude.{◌==◌, option_and_then, option_map, is_none, is_some, bytes_eq, flat_map, if◌then◌else◌}
+use Rattle.std.specs.Prelude.{◌==◌, option_and_then, option_map, is_some, bytes_eq, flat_map, if◌then◌else◌}
 use Rattle.std.specs.Option.{option_or}
 use Rattle.std.proofs.Math.Nat.{mul-le-mul_right}
 use Rattle.std.specs.List.{before_first, after_first, position_or_len}
@@ -15,14 +15,14 @@ use Rattle.command_line.specs.declared.options.Given.{Given}
 use Rattle.command_line.specs.declared.options.Read.{Read}
 use Rattle.command_line.specs.Numbers.{option_number}
 use Rattle.command_line.specs.Options.{given_at, with_number, with_text, with_name, with_option, with_word, setting_named, given_by, nothing_read}
-use Rattle.command_line.specs.RunWords.{run_given, run_sizes, sizes_given, if_within_limits}
+use Rattle.command_line.specs.RunWords.{given_after, if_sizes, is_run, is_table, sizes_after, sizes_or, table_sizes}
 use Rattle.command_line.specs.declared.job.Job.{Job}
-use Rattle.command_line.specs.declared.job.Job.TheVariants.{Run, Gen, Load}
+use Rattle.command_line.specs.declared.job.Job.TheVariants.{Run, Table, Gen, Load}
 use Rattle.command_line.specs.declared.job.Generated.{Generated}
-use Rattle.command_line.specs.Jobs.{IsGenerable, asked_job, generated_after, if_generable, script_if}
-use Rattle.command_line.specs.Spelled.{name_of, Choice, choice_words, Gives, SpellsRun, AsksForRun, AsksForScript, AsksFor}
+use Rattle.command_line.specs.Jobs.{AreTableSizes, IsGenerable, asked_job, generated_after, if_generable, script_if}
+use Rattle.command_line.specs.Spelled.{name_of, Choice, choice_words, Gives, SpellsOptions, AsksForSizes, AsksForScript, AsksFor}
 use Rattle.command_line.proofs.NumberLemmas.{number_read, number_again}
-use Rattle.command_line.proofs.JobLemmas.{Reads, asked_reads, chosen, fitting, generable, numbers_of, passes_test}
+use Rattle.command_line.proofs.JobLemmas.{Reads, asked_reads, chosen, generable, gives_sizes, numbers_of, passes_run, passes_table, passes_test, runnable, tabular}
 use Rattle.command_line.proofs.WalkLemmas.{named_is, some_of, some_map, if_new}
 
 -- a name, and the text behind its `=` if there is one
@@ -191,33 +191,45 @@ read_again : (cs : List Choice) (before after : Given) → Gives before cs after
 read_again [] before after g = ap Some g
 read_again (c ∷ cs) before after g = choice_again c before (Some after) (flat_map choice_words cs) c.in_one g.0 g.1 (read_again cs _ after g.2)
 
-given_spelled : (words : List (List ℕ)) (given : Given) → run_given words ≡ Some given → SpellsRun words given
-given_spelled [] given e = cc
-given_spelled (word ∷ words) given e =
-    let p = chosen (bytes_eq word (codes "run")) (given_by nothing_read words) given e in
+given_spelled : (command : List ℕ) (words : List (List ℕ)) (given : Given) → given_after command words ≡ Some given → SpellsOptions command words given
+given_spelled command [] given e = cc
+given_spelled command (word ∷ words) given e =
+    let p = chosen (bytes_eq word command) (given_by nothing_read words) given e in
     let r = read_back words _ None given p.1 in
     record {
       choices = r.0;
-      words_are = ap (λ (w : List ℕ). w ∷ words) ((bytes_eq-Decides word (codes "run")).0 p.0) ∙ ap (λ (ws : List (List ℕ)). codes "run" ∷ ws) r.1;
+      words_are = ap (λ (w : List ℕ). w ∷ words) ((bytes_eq-Decides word command).0 p.0) ∙ ap (λ (ws : List (List ℕ)). command ∷ ws) r.1;
       gives = r.2;
     }
 
-spelled_given : (words : List (List ℕ)) (given : Given) → SpellsRun words given → run_given words ≡ Some given
-spelled_given words given s = ap run_given s.words_are ∙ read_again s.choices _ given s.gives
+spelled_given : (command : List ℕ) (words : List (List ℕ)) (given : Given) → SpellsOptions command words given → given_after command words ≡ Some given
+spelled_given command words given s =
+    let same : bytes_eq command command ≡ true = (bytes_eq-Decides command command).1 refl in
+    ap (given_after command) s.words_are ∙ (ap (λ (b : Bool). if b then given_by nothing_read (flat_map choice_words s.choices) else None) same ∙ read_again s.choices _ given s.gives)
 
--- ---- a run
+-- ---- a command with options
 
-run_spelled : (words : List (List ℕ)) (z : Sizes) → run_sizes words ≡ Some z → AsksForRun words z
-run_spelled words z e =
-    let g = some_of (λ (g : Given). if_within_limits (sizes_given g)) (run_given words) z e in
-    let p = fitting (sizes_given g.0) z g.2 in
-    record { given = g.0; spells = given_spelled words g.0 g.1; sizes = sym p.1; limits = subst (λ (y : Sizes). first_outside y ≡ None) p.1 p.0 }
+sizes_spelled : (command : List ℕ) (domains : ℕ) (test : Sizes → Bool) (Fits : Sizes → Type 0) (words : List (List ℕ)) (z : Sizes) → ((y : Sizes) → test y ≡ true → Fits y)
+    → sizes_after command domains test words ≡ Some z → AsksForSizes command domains Fits words z
+sizes_spelled command domains test Fits words z exact e =
+    let g = gives_sizes command domains test words z e in
+    record { given = g.given; spells = given_spelled command words g.given g.reads; sizes = g.sizes; limits = exact z g.passes }
 
-spelled_run : (words : List (List ℕ)) (z : Sizes) → AsksForRun words z → run_sizes words ≡ Some z
-spelled_run words z a =
-    let fits : first_outside (sizes_given a.given) ≡ None = subst (λ (y : Sizes). first_outside y ≡ None) a.sizes a.limits in
-    ap (option_and_then (λ (g : Given). if_within_limits (sizes_given g))) (spelled_given words a.given a.spells)
-    ∙ (ap (λ (o : Option ℕ). if is_none o then Some (sizes_given a.given) else None) fits ∙ ap Some (sym a.sizes))
+spelled_sizes : (command : List ℕ) (domains : ℕ) (test : Sizes → Bool) (Fits : Sizes → Type 0) (words : List (List ℕ)) (z : Sizes) → ((y : Sizes) → Fits y → test y ≡ true)
+    → AsksForSizes command domains Fits words z → sizes_after command domains test words ≡ Some z
+spelled_sizes command domains test Fits words z exact a =
+    let passes : test (sizes_or domains a.given) ≡ true = subst (λ (y : Sizes). test y ≡ true) a.sizes (exact z a.limits) in
+    ap (option_and_then (λ (g : Given). if_sizes test (sizes_or domains g))) (spelled_given command words a.given a.spells)
+    ∙ (ap (λ (b : Bool). if b then Some (sizes_or domains a.given) else None) passes ∙ ap Some (sym a.sizes))
+
+-- the words of a table ask for no run
+table_first : (words : List (List ℕ)) (z : Sizes) → AsksForSizes (codes "table") 1 AreTableSizes words z → asked_job words ≡ Some (Table z)
+unfolding asked_job
+table_first words z a =
+    let rest : List (List ℕ) = flat_map choice_words a.spells.choices in
+    let sizes : table_sizes (codes "table" ∷ rest) ≡ Some z = ap table_sizes (sym a.spells.words_are) ∙ spelled_sizes (codes "table") 1 is_table AreTableSizes words z passes_table a in
+    ap asked_job a.spells.words_are
+    ∙ ap (λ (o : Option Sizes). option_or (option_map Table o) (option_or (option_map Gen (generated_after (codes "gen") (codes "table" ∷ rest))) (option_map Load (generated_after (codes "load") (codes "table" ∷ rest))))) sizes
 
 -- ---- a script
 
@@ -253,7 +265,8 @@ script_again g is =
 -- ---- each command
 
 read_spelled : (words : List (List ℕ)) (j : Job) → Reads words j → AsksFor words j
-read_spelled words (Run z) e = run_spelled words z e
+read_spelled words (Run z) e = sizes_spelled (codes "run") 2 is_run (λ y. first_outside y ≡ None) words z runnable e
+read_spelled words (Table z) e = sizes_spelled (codes "table") 1 is_table AreTableSizes words z tabular e
 read_spelled words (Gen g) e = script_spelled (codes "gen") words g e
 read_spelled words (Load g) e = script_spelled (codes "load") words g e
 
@@ -263,6 +276,8 @@ asked words j e = read_spelled words j (asked_reads words j e)
 
 pub answered : (words : List (List ℕ)) (j : Job) → AsksFor words j → asked_job words ≡ Some j
 unfolding asked_job
-answered words (Run z) a = ap (λ (o : Option Sizes). option_or (option_map Run o) (option_or (option_map Gen (generated_after (codes "gen") words)) (option_map Load (generated_after (codes "load") words)))) (spelled_run words z a)
+answered words (Run z) a = ap (λ (o : Option Sizes). option_or (option_map Run o) (option_or (option_map Table (table_sizes words)) (option_or (option_map Gen (generated_after (codes "gen") words)) (option_map Load (generated_after (codes "load") words)))))
+    (spelled_sizes (codes "run") 2 is_run (λ y. first_outside y ≡ None) words z passes_run a)
+answered words (Table z) a = table_first words z a
 answered words (Gen g) a = ap asked_job a.words_are ∙ ap (λ (o : Option Generated). option_or (option_map Gen o) None) (script_again g a.limits)
 answered words (Load g) a = ap asked_job a.words_are ∙ ap (option_map Load) (script_again g a.limits)

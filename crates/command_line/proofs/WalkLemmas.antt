@@ -17,7 +17,7 @@ use Rattle.command_line.specs.declared.options.Given.{Given}
 use Rattle.command_line.specs.declared.options.Read.{Read}
 use Rattle.command_line.specs.Numbers.{option_number}
 use Rattle.command_line.specs.Options.{given_at, with_number, with_name, with_word, setting_named, given_by, nothing_read}
-use Rattle.command_line.specs.Commands.{run_app, camlheap_app}
+use Rattle.command_line.specs.Commands.{options_app, camlheap_app}
 use Rattle.command_line.specs.Spelled.{name_of}
 use Rattle.std.proofs.lemmas.Slice.Eq.{bytes_eq-Decides}
 use Rattle.decimals.specs.Natural.{is_natural}
@@ -29,9 +29,13 @@ use Rattle.command_line.proofs.RowLemmas.{at_row-missing, first_of-missing, firs
 abbrev pub built_below : Shape → Shape
 built_below s = built_leaf (inherited camlheap_app.top s)
 
+-- a command with the options of `run`, as a parse has it
+abbrev pub built_options : Text → Shape
+built_options name = built_below (options_app name).top
+
 -- the options as a parse has them
 abbrev pub run_rules : List Rule
-run_rules = (built_below run_app.top).rules
+run_rules = (built_options []).rules
 
 -- the option as a parse has it
 abbrev pub rule_for : Setting → Option Rule

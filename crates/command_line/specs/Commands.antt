@@ -2,11 +2,11 @@
 use Rattle.std.specs.Prelude.{ℕ, true, List, Option, Some, None, option_map, option_and_then, codes, bytes_eq, if◌then◌else◌}
 use Rattle.clap.specs.Words.{App, Row, Rule, Text, first_of, new_app, new_rule, with_rule, with_subcommand}
 use Rattle.command_line.specs.declared.job.Job.{Job}
-use Rattle.command_line.specs.declared.job.Job.TheVariants.{Run, Gen, Load}
+use Rattle.command_line.specs.declared.job.Job.TheVariants.{Run, Table, Gen, Load}
 use Rattle.command_line.specs.declared.job.Generated.{Generated}
 use Rattle.command_line.specs.declared.options.Given.{Given}
 use Rattle.command_line.specs.Numbers.{option_number}
-use Rattle.command_line.specs.RunWords.{sizes_given}
+use Rattle.command_line.specs.RunWords.{sizes_or}
 use Rattle.command_line.specs.Jobs.{script_if}
 
 -- an option with a long name
@@ -17,9 +17,9 @@ option_rule name = record (new_rule name) { long = Some name }
 abbrev pub number_rule : Text → Rule
 number_rule name = record (new_rule name) { required = true }
 
--- the command `run` with its options
-abbrev pub run_app : App
-run_app = with_rule (with_rule (with_rule (new_app (codes "run")) (option_rule (codes "domains"))) (option_rule (codes "minor"))) (option_rule (codes "pools"))
+-- a command with the options of `run`
+abbrev pub options_app : Text → App
+options_app name = with_rule (with_rule (with_rule (new_app name) (option_rule (codes "domains"))) (option_rule (codes "minor"))) (option_rule (codes "pools"))
 
 -- a command with the three numbers of a script
 abbrev pub script_app : Text → App
@@ -31,7 +31,8 @@ plain_app a = record a { top = record a.top { no_binary_name = true; disable_hel
 
 abbrev pub camlheap_app : App
 camlheap_app =
-    with_subcommand (with_subcommand (with_subcommand (plain_app (new_app (codes "camlheap"))) run_app.top) (script_app (codes "gen")).top) (script_app (codes "load")).top
+    with_subcommand (with_subcommand (with_subcommand (with_subcommand (plain_app (new_app (codes "camlheap"))) (options_app (codes "run")).top) (options_app (codes "table")).top)
+    (script_app (codes "gen")).top) (script_app (codes "load")).top
 
 -- the number that a parse found under a name
 abbrev pub number_in : List Row → Text → Option ℕ
@@ -46,6 +47,7 @@ script_in rows = script_if (number_in rows (codes "base")) (number_in rows (code
 -- what a parse that entered this command found
 abbrev pub job_at : Text × List Row → Option Job
 job_at entered =
-    if bytes_eq entered.0 (codes "run") then Some (Run (sizes_given (given_in entered.1)))
+    if bytes_eq entered.0 (codes "run") then Some (Run (sizes_or 2 (given_in entered.1)))
+    else (if bytes_eq entered.0 (codes "table") then Some (Table (sizes_or 1 (given_in entered.1)))
     else (if bytes_eq entered.0 (codes "gen") then option_map Gen (script_in entered.1)
-    else (if bytes_eq entered.0 (codes "load") then option_map Load (script_in entered.1) else None))
+    else (if bytes_eq entered.0 (codes "load") then option_map Load (script_in entered.1) else None)))

@@ -1,23 +1,38 @@
--- The words of `run`.
-use Rattle.std.specs.Prelude.{ℕ, List, [], ◌∷◌, Option, Some, None, is_none, option_and_then, unwrap_or, codes, bytes_eq, if◌then◌else◌}
+-- The words of a command with options: `run` or `table`.
+use Rattle.std.specs.Prelude.{ℕ, ◌+◌, ◌==◌, ◌&&◌, Bool, nat_le, List, [], ◌∷◌, Option, Some, None, is_none, option_and_then, unwrap_or, codes, bytes_eq, if◌then◌else◌}
 use Rattle.heap_model.specs.declared.state.Sizes.{Sizes}
-use Rattle.heap_model.specs.Domains.{sizes_of, class_count, first_outside}
+use Rattle.heap_model.specs.Domains.{sizes_of, class_count, first_outside, reserve}
 use Rattle.command_line.specs.declared.options.Given.{Given}
 use Rattle.command_line.specs.Options.{given_by, nothing_read}
 
--- the numbers that the words give behind `run`
-abbrev pub run_given : List (List ℕ) → Option Given
-run_given [] = None
-run_given (word ∷ words) = if bytes_eq word (codes "run") then given_by nothing_read words else None
+-- the numbers that the words give behind this command
+abbrev pub given_after : List ℕ → List (List ℕ) → Option Given
+given_after command [] = None
+given_after command (word ∷ words) = if bytes_eq word command then given_by nothing_read words else None
 
--- the sizes of a run: what isn't given is 2 domains, 32768 minor words and 512 pools
-abbrev pub sizes_given : Given → Sizes
-sizes_given g = sizes_of (unwrap_or g.domains 2) (unwrap_or g.pools 512) (unwrap_or g.minor 32768) class_count
+-- the sizes of a heap: so many domains where the words don't say how many; what else isn't given is 32768 minor words and 512 pools
+abbrev pub sizes_or : ℕ → Given → Sizes
+sizes_or domains g = sizes_of (unwrap_or g.domains domains) (unwrap_or g.pools 512) (unwrap_or g.minor 32768) class_count
 
--- sizes, where none of them is outside the limits of a heap
-abbrev pub if_within_limits : Sizes → Option Sizes
-if_within_limits z = if is_none (first_outside z) then Some z else None
+-- a run may have sizes that are within the limits of a heap
+abbrev pub is_run : Sizes → Bool
+is_run z = is_none (first_outside z)
 
--- the sizes that the words of a run ask for, where the words are taken
+-- a text of a table may have those of one domain, with 32 pools beside those that are kept free and one for each class
+abbrev pub is_table : Sizes → Bool
+is_table z = is_none (first_outside z) && (z.domains == 1 && nat_le (reserve z + z.classes + 32) z.pools)
+
+abbrev pub if_sizes : (Sizes → Bool) → Sizes → Option Sizes
+if_sizes test z = if test z then Some z else None
+
+-- the sizes that the words ask for: this command, and options behind it that give sizes which pass a test
+abbrev pub sizes_after : List ℕ → ℕ → (Sizes → Bool) → List (List ℕ) → Option Sizes
+sizes_after command domains test words = option_and_then (λ g. if_sizes test (sizes_or domains g)) (given_after command words)
+
+-- the sizes that the words of a run ask for, where the words are taken: without the option it has 2 domains
 abbrev pub run_sizes : List (List ℕ) → Option Sizes
-run_sizes words = option_and_then (λ g. if_within_limits (sizes_given g)) (run_given words)
+run_sizes words = sizes_after (codes "run") 2 is_run words
+
+-- the sizes that the words of a table ask for, where the words are taken
+abbrev pub table_sizes : List (List ℕ) → Option Sizes
+table_sizes words = sizes_after (codes "table") 1 is_table words

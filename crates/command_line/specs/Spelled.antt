@@ -1,4 +1,4 @@
--- The words as they are spelled: `run` and options, each with its number, or `gen` or `load` and three numbers.
+-- The words as they are spelled: `run` or `table` and options, each with its number, or `gen` or `load` and three numbers.
 use Rattle.std.specs.Prelude.{◌≡◌, ℕ, ◌<◌, ◌^◌, Bool, List, [], ◌∷◌, ◌++◌, None, codes, decimal, flat_map, if◌then◌else◌}
 use Rattle.heap_model.specs.declared.state.Sizes.{Sizes}
 use Rattle.heap_model.specs.Domains.{first_outside}
@@ -7,10 +7,10 @@ use Rattle.command_line.specs.declared.options.Setting.TheVariants.{Domains, Min
 use Rattle.command_line.specs.declared.options.Given.{Given}
 use Rattle.command_line.specs.Options.{given_at, with_number}
 use Rattle.command_line.specs.declared.job.Job.{Job}
-use Rattle.command_line.specs.declared.job.Job.TheVariants.{Run, Gen, Load}
+use Rattle.command_line.specs.declared.job.Job.TheVariants.{Run, Table, Gen, Load}
 use Rattle.command_line.specs.declared.job.Generated.{Generated}
-use Rattle.command_line.specs.Jobs.{IsGenerable}
-use Rattle.command_line.specs.RunWords.{sizes_given}
+use Rattle.command_line.specs.Jobs.{AreTableSizes, IsGenerable}
+use Rattle.command_line.specs.RunWords.{sizes_or}
 
 -- the name of an option
 abbrev pub name_of : Setting → List ℕ
@@ -35,18 +35,18 @@ abbrev pub Gives : Given → List Choice → Given → Type 0
 Gives before [] after = before ≡ after
 Gives before (c ∷ cs) after = (given_at before c.setting ≡ None) × (c.number < 2 ^ 32) × Gives (with_number before c.setting c.number) cs after
 
--- the words are `run` and options, which give these numbers
-pub record SpellsRun (words : List (List ℕ)) (given : Given) : Type 0 where
+-- the words are this command and options, which give these numbers
+pub record SpellsOptions (command : List ℕ) (words : List (List ℕ)) (given : Given) : Type 0 where
   pub choices : List Choice
-  pub words_are : words ≡ codes "run" ∷ flat_map choice_words choices
+  pub words_are : words ≡ command ∷ flat_map choice_words choices
   pub gives : Gives (record { domains = None; minor = None; pools = None }) choices given
 
--- the words are spelled so, and ask for these sizes, which are within the limits of a heap
-pub record AsksForRun (words : List (List ℕ)) (z : Sizes) : Type 0 where
+-- the words are spelled so, and ask for these sizes, of which this holds; so many domains where no option says how many
+pub record AsksForSizes (command : List ℕ) (domains : ℕ) (Fits : Sizes → Type 0) (words : List (List ℕ)) (z : Sizes) : Type 0 where
   pub given : Given
-  pub spells : SpellsRun words given
-  pub sizes : z ≡ sizes_given given
-  pub limits : first_outside z ≡ None
+  pub spells : SpellsOptions command words given
+  pub sizes : z ≡ sizes_or domains given
+  pub limits : Fits z
 
 -- the words are this command and the three numbers of a script that may be asked for
 pub record AsksForScript (command : List ℕ) (words : List (List ℕ)) (g : Generated) : Type 0 where
@@ -55,6 +55,7 @@ pub record AsksForScript (command : List ℕ) (words : List (List ℕ)) (g : Gen
 
 -- the words are spelled so, and ask for this
 abbrev pub AsksFor : List (List ℕ) → Job → Type 0
-AsksFor words (Run z) = AsksForRun words z
+AsksFor words (Run z) = AsksForSizes (codes "run") 2 (λ y. first_outside y ≡ None) words z
+AsksFor words (Table z) = AsksForSizes (codes "table") 1 AreTableSizes words z
 AsksFor words (Gen g) = AsksForScript (codes "gen") words g
 AsksFor words (Load g) = AsksForScript (codes "load") words g

@@ -1,9 +1,12 @@
 //! What the words of the command line ask for.
 ghost use Rattle.std.specs.Prelude.{◌≡◌};
+ghost use Rattle.heap_model.specs.Domains.{class_count};
 ghost use Rattle.command_line.specs.Jobs.{is_generable, load_sizes};
+ghost use Rattle.command_line.specs.RunWords.{is_run as may_be_run, is_table as may_be_table};
 
 use crate::options::{Given, sizes};
 use heap_model::state::Sizes;
+use size_classes::reserve;
 
 const LARGEST_BASE: u32 = 1_000_000;
 
@@ -11,11 +14,21 @@ const MOST_DOMAINS: u32 = 8;
 
 const MOST_COMMANDS: u64 = 200_000;
 
+// How many domains a heap has where the words don't say it.
+pub(crate) const RUN_DOMAINS: u32 = 2;
+
+pub(crate) const TABLE_DOMAINS: u32 = 1;
+
+// How many pools a heap must have for a text of a table, beside those that are kept free and one for each class.
+const TABLE_POOLS: u32 = 32;
+
 /// What the words of the command line ask for.
 #[derive(Clone, Copy, Debug, PartialEq, Eq)]
 pub enum Job {
     /// A run of a script on a heap of these sizes.
     Run(Sizes),
+    /// A run of a text of a table on a heap of these sizes, which has one domain.
+    Table(Sizes),
     /// A script that is generated and written.
     Gen(Generated),
     /// A script that is generated and run.
@@ -39,11 +52,12 @@ impl Generated {
     pub fn sizes(&self) -> Sizes
         ensures { result ≡ load_sizes self.now }
     {
-        sizes(Given {
+        let given = Given {
             domains: Some(self.domains),
             minor: None,
             pools: None,
-        })
+        };
+        sizes(given, RUN_DOMAINS)
     }
 
     // Whether the words may ask for this script.
@@ -55,4 +69,24 @@ impl Generated {
             && self.domains <= MOST_DOMAINS
             && u64::from(self.domains) * u64::from(self.commands) <= MOST_COMMANDS
     }
+}
+
+// Whether a script may be run on a heap of these sizes.
+pub(crate) fn is_run(sizes: &Sizes) -> bool
+    requires { sizes.now.classes ≡ class_count }
+    ensures { result ≡ may_be_run sizes.now }
+{
+    sizes.first_outside().is_none()
+}
+
+// Whether a text of a table may be run on a heap of these sizes.
+pub(crate) fn is_table(sizes: &Sizes) -> bool
+    requires { sizes.now.classes ≡ class_count }
+    ensures { result ≡ may_be_table sizes.now }
+{
+    if !is_run(sizes) || sizes.domains != 1 {
+        return false;
+    }
+    let needed = reserve(sizes.domains, sizes.minor_words) + sizes.classes + TABLE_POOLS;
+    needed <= sizes.pools
 }

@@ -1,18 +1,16 @@
-//! The options of `run`, and what they give.
+//! The options of `run` and `table`, and what they give.
 ghost use Rattle.std.specs.Prelude.{◌≡◌, Option};
 ghost use Rattle.command_line.specs.Options.{given_at, setting_named, with_number};
-ghost use Rattle.command_line.specs.RunWords.{sizes_given};
+ghost use Rattle.command_line.specs.RunWords.{sizes_or};
 
 use heap_model::state::Sizes;
 use size_classes::CLASS_COUNT;
-
-const DOMAINS: u32 = 2;
 
 const MINOR_WORDS: u32 = 32768;
 
 const POOLS: u32 = 512;
 
-// An option of `run`.
+// An option.
 #[derive(Clone, Copy, Debug, PartialEq, Eq)]
 pub enum Setting {
     Domains,
@@ -73,12 +71,12 @@ impl Given {
     }
 }
 
-// The sizes that the numbers ask for.
-pub(crate) fn sizes(given: Given) -> Sizes
-    ensures { result ≡ sizes_given given }
+// The sizes that the numbers ask for, with so many domains where no number says how many.
+pub(crate) fn sizes(given: Given, domains: u32) -> Sizes
+    ensures { result ≡ sizes_or domains given }
 {
     Sizes {
-        domains: given.domains.unwrap_or(DOMAINS),
+        domains: given.domains.unwrap_or(domains),
         pools: given.pools.unwrap_or(POOLS),
         minor_words: given.minor.unwrap_or(MINOR_WORDS),
         classes: CLASS_COUNT as u32,

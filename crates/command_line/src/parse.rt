@@ -3,9 +3,9 @@ ghost use Rattle.std.specs.Prelude.{◌≡◌, false, true, IfOk, IfErr, map, st
 ghost use Rattle.clap.specs.Words.{app_of, found_of, kind_of, rows_of, rule_of, subcommand_rows_of, takes, with_rule, HasMatchesOf};
 ghost use Rattle.clap.specs.declared.builder.command.Command.TheViews.{out-Command};
 ghost use Rattle.clap.specs.declared.error.kind.ErrorKind.TheVariants.{OutOfMemory};
-ghost use Rattle.command_line.specs.Commands.{camlheap_app, given_in, job_at, number_in, number_rule, option_rule, run_app, script_app, script_in};
+ghost use Rattle.command_line.specs.Commands.{camlheap_app, given_in, job_at, number_in, number_rule, option_rule, options_app, script_app, script_in};
 
-use crate::job::{Generated, Job};
+use crate::job::{Generated, Job, RUN_DOMAINS, TABLE_DOMAINS};
 use crate::number::number;
 use crate::options::{Given, sizes};
 use clap::{Arg, ArgMatches, Command, Error};
@@ -31,12 +31,12 @@ fn with_option<'a>(
     command.arg(option_arg(alloc, name))
 }
 
-// The command `run` with its options.
-fn run_command<'a>(alloc: Global) -> Result<Command<'a>, AllocError>
-    ensures shape { IfOk result (λ c. app_of c ≡ run_app) }
+// A command with the options of `run`.
+fn options_command<'a>(alloc: Global, name: &'a str) -> Result<Command<'a>, AllocError>
+    ensures shape { IfOk result (λ c. app_of c ≡ options_app name.entry.now) }
     ensures local { IfOk result (λ c. (out-Command c).has_globals ≡ false) }
 {
-    let named = Command::new(alloc, "run");
+    let named = Command::new(alloc, name);
     let one = with_option(alloc, named, "domains")?;
     let two = with_option(alloc, one, "minor")?;
     let three = with_option(alloc, two, "pools")?;
@@ -79,7 +79,8 @@ fn script_command<'a>(alloc: Global, name: &'a str) -> Result<Command<'a>, Alloc
 fn camlheap_command<'a>(alloc: Global) -> Result<Command<'a>, AllocError>
     ensures { IfOk result (λ c. app_of c ≡ camlheap_app) }
 {
-    let run = run_command(alloc)?;
+    let run = options_command(alloc, "run")?;
+    let table = options_command(alloc, "table")?;
     let generate = script_command(alloc, "gen")?;
     let load = script_command(alloc, "load")?;
     let named = Command::new(alloc, "camlheap").no_binary_name(true);
@@ -87,9 +88,10 @@ fn camlheap_command<'a>(alloc: Global) -> Result<Command<'a>, AllocError>
     let plain = without_flag.disable_help_subcommand(true);
     let asking = plain.subcommand_required(true);
     let one = asking.subcommand(run)?;
-    let two = one.subcommand(generate)?;
-    let three = two.subcommand(load)?;
-    Ok(three)
+    let two = one.subcommand(table)?;
+    let three = two.subcommand(generate)?;
+    let four = three.subcommand(load)?;
+    Ok(four)
 }
 
 // The matches of the words. Words that the command takes fail for want of memory alone.
@@ -115,7 +117,7 @@ fn number_found(matches: &ArgMatches<'_>, name: &str) -> Option<u32>
     number(matches.get_str(name)?)
 }
 
-// The numbers of all options of `run`.
+// The numbers of all options.
 fn given_found(matches: &ArgMatches<'_>) -> Given
     ensures { result ≡ given_in (rows_of (found_of matches.now)) }
 {
@@ -142,7 +144,8 @@ fn job_in(name: &str, matches: &ArgMatches<'_>) -> Option<Job>
     ensures { result ≡ job_at (name.now, rows_of (found_of matches.now)) }
 {
     match name {
-        "run" => Some(Job::Run(sizes(given_found(matches)))),
+        "run" => Some(Job::Run(sizes(given_found(matches), RUN_DOMAINS))),
+        "table" => Some(Job::Table(sizes(given_found(matches), TABLE_DOMAINS))),
         "gen" => Some(Job::Gen(script_found(matches)?)),
         "load" => Some(Job::Load(script_found(matches)?)),
         _ => None,

@@ -4,10 +4,10 @@ ghost use Rattle.command_line.specs.declared.job.Job.{Job};
 ghost use Rattle.command_line.specs.Jobs.{asked_job, generated_after, script_if, IsWithinRange};
 ghost use Rattle.command_line.specs.Numbers.{option_number};
 ghost use Rattle.command_line.specs.Options.{given_by, nothing_read, with_name, with_text, with_word};
-ghost use Rattle.command_line.specs.RunWords.{run_sizes};
+ghost use Rattle.command_line.specs.RunWords.{given_after, run_sizes, sizes_or, table_sizes};
 ghost use Rattle.command_line.specs.Spelled.{AsksFor};
 
-use crate::job::{Generated, Job};
+use crate::job::{Generated, Job, RUN_DOMAINS, TABLE_DOMAINS, is_run, is_table};
 use crate::long::long_option;
 use crate::number::number;
 use crate::options::{Given, Read, Setting, named_setting, sizes};
@@ -53,7 +53,7 @@ fn read_word(read: Read, word: &str) -> Option<Read>
     read_name(read, text, named_setting(name)?)
 }
 
-// The numbers that words give behind `run`.
+// The numbers that words give behind a command.
 fn given(words: &[String]) -> Option<Given>
     ensures { result ≡ given_by nothing_read (map string_bytes words.now) }
 {
@@ -74,19 +74,31 @@ fn given(words: &[String]) -> Option<Given>
     }
 }
 
+// The sizes that the words ask for, where they are this command and options; so many domains where no option says it.
+fn sizes_asked(words: &[String], command: &str, domains: u32) -> Option<Sizes>
+    ensures { result ≡ option_map (sizes_or domains) (given_after command.now (map string_bytes words.now)) }
+{
+    let (first, rest) = words.split_first()?;
+    if first.as_str() != command {
+        return None;
+    }
+    Some(sizes(given(rest)?, domains))
+}
+
 // The sizes that the words of a run ask for.
 fn run_asked(words: &[String]) -> Option<Sizes>
     ensures { result ≡ run_sizes (map string_bytes words.now) }
 {
-    let (first, rest) = words.split_first()?;
-    if first.as_str() != "run" {
-        return None;
-    }
-    let sizes = sizes(given(rest)?);
-    if sizes.first_outside().is_some() {
-        return None;
-    }
-    Some(sizes)
+    let sizes = sizes_asked(words, "run", RUN_DOMAINS)?;
+    if is_run(&sizes) { Some(sizes) } else { None }
+}
+
+// The sizes that the words of a table ask for.
+fn table_asked(words: &[String]) -> Option<Sizes>
+    ensures { result ≡ table_sizes (map string_bytes words.now) }
+{
+    let sizes = sizes_asked(words, "table", TABLE_DOMAINS)?;
+    if is_table(&sizes) { Some(sizes) } else { None }
 }
 
 // The script of three numbers, where each of them is one.
@@ -125,6 +137,9 @@ fn asked(words: &[String]) -> Option<Job>
     if let Some(sizes) = run_asked(words) {
         return Some(Job::Run(sizes));
     }
+    if let Some(sizes) = table_asked(words) {
+        return Some(Job::Table(sizes));
+    }
     if let Some(script) = script_asked(words, "gen") {
         return Some(Job::Gen(script));
     }
@@ -138,6 +153,8 @@ fn asked(words: &[String]) -> Option<Job>
 ///   limits of a heap: 1 to 8 domains, minor areas of 4096 to 65,536 words in whole pools of 4096,
 ///   and up to 2048 pools, among them those that are kept free for promotion and one more for each
 ///   class of each domain, and one. What isn't given is 2 domains, 32,768 words and 512 pools.
+/// - `table`, followed by the same options, where N is 1, as it is without the option. There are 32 pools
+///   at least beside those that are kept free and one for each class.
 /// - `gen BASE N C` or `load BASE N C`: a script whose integers count from BASE, which is 0 to
 ///   1,000,000, for N domains, which are 1 to 8, with C commands for each domain, which are at most
 ///   200,000 in all domains.

@@ -7,7 +7,10 @@ use Rattle.heap_model.specs.declared.entry.Entry.TheVariants.{Command, End}
 use Rattle.heap_model.specs.declared.reply.Reply.{Reply}
 use Rattle.heap_model.specs.declared.reply.Applied.TheVariants.{Replied, Silent}
 use Rattle.heap_model.specs.declared.state.Sizes.{Sizes}
-use Rattle.heap_model.specs.Domains.{IsWithinLimits}
+use Rattle.heap_model.specs.Domains.{IsWithinLimits, opening}
+use Rattle.heap_model.specs.Registrations.{all_registered, registered_by}
+use Rattle.heap_model.specs.declared.state.State.{State}
+use Rattle.heap_model.specs.declared.command.Command.TheVariants.{Finalise, FinaliseLast}
 use Rattle.heap_model.specs.Fronts.{IsFrontOf}
 use Rattle.heap_model.proofs.Histories.FrontLemmas.{front_trans, front_whole}
 use Rattle.heap_rule.specs.Limits.{sizes_in}
@@ -18,6 +21,8 @@ use Rattle.domain_turns.specs.Runs.{RunView, Appended, GoesOn, IsRun, Stretches,
 use Rattle.domain_turns.specs.Runs.Stretches.{ByOthers, ByCommand, ByFinaliser, ByEnd}
 use Rattle.domain_turns.proofs.StretchLemmas.{appended_after}
 use Rattle.domain_turns.proofs.Taking.{takes_none, takes_on}
+use Rattle.domain_turns.specs.Tries.{registrations_of}
+use Rattle.weak_tables.proofs.RegisteredLemmas.{none_performed}
 use Rattle.table_laws.specs.Performing.{Performed}
 use Rattle.table_laws.proofs.LabelLemmas.{performed_labels}
 use Rattle.heap_session.proofs.Collectors.{performs}
@@ -142,11 +147,25 @@ submitted h r new c rests is = subst (λ (x : RunView). Awaits h r.token.view c 
 pub performed : (h : SharedHeap) (start : DomainView) (c : model.Command) (reply : Reply) (r : RunView) → IsWithinLimits (sizes_in h.config) → Answered h start c reply r → Performed (sizes_in h.config) start.seen.front r.token.view.seen.front c reply
 performed h start c reply r limits a = performs (sizes_in h.config) start.seen.front r.token.view.seen.front c a.full reply limits a.alone.one a.front
 
+-- what registers none
+registers_none : (s : State) (c : model.Command) → registrations_of c ≡ 0 → registered_by s 0 c ≡ []
+registers_none s (Finalise item number dst) quiet = cc
+registers_none s (FinaliseLast item number) quiet = cc
+registers_none s _ quiet = refl
+
 -- and it rests again
-pub rests_again : (h : SharedHeap) (start : DomainView) (c : model.Command) (reply : Reply) (r : RunView) → IsWithinLimits (sizes_in h.config) → HasGivenOut h start → Answered h start c reply r → Rests h r
-rests_again h start c reply r limits given a =
+pub rests_again : (h : SharedHeap) (start : DomainView) (c : model.Command) (reply : Reply) (r : RunView) → IsWithinLimits (sizes_in h.config) → HasGivenOut h start → all_registered 0 (opening (sizes_in h.config)) start.seen.front ≡ [] → registrations_of c ≡ 0
+    → Answered h start c reply r → Rests h r
+rests_again h start c reply r limits given none quiet a =
     let grows = performed_labels (sizes_in h.config) limits start.seen.front r.token.view.seen.front c reply (performed h start c reply r limits a) in
-    record { alone = a.alone; more = a.more; done = a.done; legal = a.front.legal; given = a.takes.labels_are ∙ (ap (λ (n : ℕ). n + labels_given c reply) given ∙ sym grows) }
+    record {
+      alone = a.alone;
+      more = a.more;
+      done = a.done;
+      legal = a.front.legal;
+      given = a.takes.labels_are ∙ (ap (λ (n : ℕ). n + labels_given c reply) given ∙ sym grows);
+      unregistered = none_performed (sizes_in h.config) start.seen.front r.token.view.seen.front c reply (λ s. registers_none s c quiet) (performed h start c reply r limits a) none;
+    }
 
 -- a run that rests and gets no more is about to end
 pub closed : (h : SharedHeap) (r new : RunView) → Rests h r → IsRun r → new ≡ record r { supply = Closed } → Closes h r.token.view.seen.front new

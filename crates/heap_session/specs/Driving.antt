@@ -9,7 +9,8 @@ use Rattle.heap_model.specs.Fronts.{IsFrontOf}
 use Rattle.heap_model.specs.History.{Legal}
 use Rattle.heap_rule.specs.Limits.{sizes_in}
 use Rattle.heap_rule.specs.Token.{SharedHeap, IsIn}
-use Rattle.heap_model.specs.Domains.{domain_at}
+use Rattle.heap_model.specs.Domains.{domain_at, opening}
+use Rattle.heap_model.specs.Registrations.{all_registered}
 use Rattle.heap_rule.specs.declared.view.DomainView.{DomainView}
 use Rattle.heap_rule.specs.Rule.{state_of}
 use Rattle.command_counts.specs.Counts.{ephemerons_given, labels_given}
@@ -33,6 +34,7 @@ pub record Rests (h : SharedHeap) (r : RunView) : Type 0 where
   pub done : r.next ≡ length r.commands
   pub legal : Legal (sizes_in h.config) r.token.view.seen.front
   pub given : HasGivenOut h r.token.view
+  pub unregistered : all_registered 0 (opening (sizes_in h.config)) r.token.view.seen.front ≡ []
 
 -- it has this command to make, since whose handing in the front has grown by entries of others alone, and no label or room was taken
 pub record Awaits (h : SharedHeap) (start : DomainView) (c : model.Command) (r : RunView) : Type 0 where

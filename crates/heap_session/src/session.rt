@@ -2,7 +2,8 @@
 ghost use Rattle.std.specs.Prelude.{◌≡◌, ◌↔◌, ◌+◌, ◌<◌, ◌≤◌, ℕ, [], IfOk, Some, Err};
 ghost use Rattle.command_counts.specs.Counts.{ephemerons_given, labels_given};
 ghost use Rattle.heap_model.specs.Commands.{shown};
-ghost use Rattle.heap_model.specs.Domains.{IsWithinLimits, domain_at, register as register_value};
+ghost use Rattle.heap_model.specs.Domains.{IsWithinLimits, domain_at, opening, register as register_value};
+ghost use Rattle.heap_model.specs.Registrations.{all_registered};
 ghost use Rattle.heap_model.specs.History.{Legal};
 ghost use Rattle.heap_rule.specs.Limits.{first_outside, sizes_in};
 ghost use Rattle.heap_rule.specs.Rule.{state_of};
@@ -87,12 +88,13 @@ impl Session {
         u32::MAX - self.run.domain().labels_made()
     }
 
-    /// There is one domain, the numbers are within their limits, the history so far is legal for them, and so many
-    /// labels were given out as it says.
+    /// There is one domain, the numbers are within their limits, the history so far is legal for them and registers no
+    /// finaliser, and so many labels were given out as it says.
     pub fn is_legal(&self)
         ensures alone { self.now.config.domains ≡ 1 }
         ensures limits { IsWithinLimits (sizes_in self.now.config) }
         ensures legal { Legal (sizes_in self.now.config) self.now.front }
+        ensures unregistered { all_registered 0 (opening (sizes_in self.now.config)) self.now.front ≡ [] }
         ensures labels { self.now.labels ≡ (domain_at (state_of self.now.config self.now.front) 0).serial }
     {
         let _config = self.heap.config();

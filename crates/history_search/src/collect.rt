@@ -155,24 +155,25 @@ fn prints_at(story: &Story, d: usize, place: usize, entry: Registration) -> bool
     }
 }
 
-// Whether the queue of a domain prints the lines to come.
-fn fits_domain(story: &Story, point: &Point, d: usize) -> bool {
+// The place of the first line to come that the queue of a domain doesn't print in its turn.
+fn first_unfit(story: &Story, point: &Point, d: usize) -> Option<usize> {
     let mut place = first_awaited(story, point, d);
-    let mut fit = true;
     for entry in &point.entries {
         if entry.queued && entry.domain == d {
-            fit = fit && prints_at(story, d, place, *entry);
+            if !prints_at(story, d, place, *entry) {
+                return Some(place);
+            }
             place = place.saturating_add(1);
         }
     }
-    fit
+    None
 }
 
 /// Whether the queues of all domains print the lines to come.
 pub(crate) fn fits(story: &Story, point: &Point) -> bool {
     let mut fit = true;
     for d in 0..point.domains() {
-        fit = fit && fits_domain(story, point, d);
+        fit = fit && first_unfit(story, point, d).is_none();
     }
     fit
 }
@@ -547,27 +548,53 @@ fn kept_of(alloc: Global, story: &Story, out: &[bool]) -> Result<Reach, AllocErr
     Ok(kept)
 }
 
-// A collection that takes just these. `None` where it queues finalisers that don't print the lines to come.
-fn take(
-    alloc: Global,
-    story: &Story,
-    point: &Point,
-    out: &[bool],
-) -> Result<Option<Next>, AllocError> {
+// A collection that takes just these.
+fn take(alloc: Global, story: &Story, point: &Point, out: &[bool]) -> Result<Next, AllocError> {
     let kept = kept_of(alloc, story, out)?;
     let mut next = Next::after(alloc, point)?;
     next.note(Note::Cut)?;
     next.note(Note::Seal)?;
     next.take_unkept(story, &kept)?;
     next.note(Note::Done)?;
-    Ok(if fits(story, &next.point) {
-        Some(next)
-    } else {
-        None
-    })
+    Ok(next)
 }
 
-// Adds the states behind collections that take a block, and no more than they must. False where there are too many.
+// The blocks of which one must be taken too, where a collection left queues that don't print the lines to come: a
+// `finalise_last` of each may print the first line of a domain that its queue doesn't.
+fn lacking(alloc: Global, story: &Story, point: &Point) -> Result<Vec<usize>, AllocError> {
+    for d in 0..point.domains() {
+        if let Some(place) = first_unfit(story, point, d) {
+            return match story.line(d, place) {
+                Some(line) => lasts_for(alloc, story, point, d, line),
+                None => Ok(Vec::new(alloc)),
+            };
+        }
+    }
+    Ok(Vec::new(alloc))
+}
+
+// Adds a collection that takes just these, or where its queues don't print the lines to come, what may mend them.
+fn add_fit(
+    alloc: Global,
+    story: &Story,
+    point: &Point,
+    out: &[bool],
+    todo: &mut Vec<Vec<bool>>,
+    found: &mut Vec<Next>,
+) -> Result<(), AllocError> {
+    let next = take(alloc, story, point, out)?;
+    if fits(story, &next.point) {
+        found.push(next)?;
+        return Ok(());
+    }
+    for block in lacking(alloc, story, &next.point)? {
+        todo.push(with_taken(alloc, out, block)?)?;
+    }
+    Ok(())
+}
+
+// Adds the states behind collections that take a block, and no more than they must for the lines to come. False where
+// there are too many.
 fn add_taken(
     alloc: Global,
     story: &Story,
@@ -589,8 +616,8 @@ fn add_taken(
         }
         if let Some(number) = first_torn(story, point, &out) {
             add_mended(alloc, story, point, number, &out, &mut todo)?;
-        } else if let Some(next) = take(alloc, story, point, &out)? {
-            found.push(next)?;
+        } else {
+            add_fit(alloc, story, point, &out, &mut todo, found)?;
         }
     }
     Ok(false)

@@ -1,5 +1,5 @@
 -- The machine of a text of a table: five registers, the bindings of one table and the slots of one weak array.
-use Rattle.std.specs.Prelude.{Bool, true, ◌≡◌, ◌⊎◌, ℕ, ◌+◌, ◌-◌, ◌≤◌, false, IsTrue, List, [], ◌∷◌, ◌++◌, length, replicate, slice_get, slice_set, slice_index_or, Option, Some, None}
+use Rattle.std.specs.Prelude.{◌≡◌, ◌⊎◌, ℕ, ◌+◌, ◌-◌, ◌≤◌, false, IsTrue, List, [], ◌∷◌, ◌++◌, length, replicate, slice_get, slice_set, slice_index_or, Option, Some, None}
 use Rattle.heap_model.specs.declared.label.Label.{Label}
 use Rattle.heap_model.specs.declared.graph.Value.{Value}
 use Rattle.heap_model.specs.declared.graph.Value.TheVariants.{Int}
@@ -80,25 +80,17 @@ ReadsSlot s r t d None = ⊥
 ReadsSlot s r t d (Some None) = (r ≡ reply.Empty) × (t ≡ with_key s d None)
 ReadsSlot s r t d (Some (Some k)) = (r ≡ reply.Yes) × (t ≡ with_key s d (Some k))
 
--- what a complete collection must have taken, where the machine is strict
-abbrev pub Gone : Bool → TableState → Type 0
-Gone true s = AllGone s
-Gone false s = Unit {0}
-
 -- what a line answers and leaves, once what may go has gone
-abbrev pub EffectOf : Bool → TableState → TableLine → LineReply → TableState → Type 0
-EffectOf strict s (Key r) a t = (a ≡ reply.Done) × ((k : Label) × IsNew s k × (t ≡ with_key s r (Some k)))
-EffectOf strict s (Forget r) a t = (a ≡ reply.Done) × (t ≡ with_key s r None)
-EffectOf strict s (Put r v) a t = WithKey (key_in s r) s a t (λ k. (a ≡ reply.Done) × (t.registers ≡ s.registers) × (t.slots ≡ s.slots) × Binds k (Int v) s.bindings t.bindings)
-EffectOf strict s (Get r) a t = WithKey (key_in s r) s a t (λ k. Shows (datum_at s.bindings k) a × (t ≡ s))
-EffectOf strict s (Del r) a t = WithKey (key_in s r) s a t (λ k. Deletes k s a t (datum_at s.bindings k))
-EffectOf strict s (SetWeak i r) a t = WithKey (key_in s r) s a t (λ k. (a ≡ reply.Done) × (t ≡ record s { slots = slice_set s.slots i (Some k) }))
-EffectOf strict s (GetWeak d i) a t = ReadsSlot s a t d (slice_get s.slots i)
-EffectOf strict s Count a t = (a ≡ reply.Counted (length s.bindings)) × (t ≡ s)
-EffectOf strict s FullMajor a t = (a ≡ reply.Done) × (t ≡ s) × Gone strict s
-
 abbrev pub Effect : TableState → TableLine → LineReply → TableState → Type 0
-Effect = EffectOf true
+Effect s (Key r) a t = (a ≡ reply.Done) × ((k : Label) × IsNew s k × (t ≡ with_key s r (Some k)))
+Effect s (Forget r) a t = (a ≡ reply.Done) × (t ≡ with_key s r None)
+Effect s (Put r v) a t = WithKey (key_in s r) s a t (λ k. (a ≡ reply.Done) × (t.registers ≡ s.registers) × (t.slots ≡ s.slots) × Binds k (Int v) s.bindings t.bindings)
+Effect s (Get r) a t = WithKey (key_in s r) s a t (λ k. Shows (datum_at s.bindings k) a × (t ≡ s))
+Effect s (Del r) a t = WithKey (key_in s r) s a t (λ k. Deletes k s a t (datum_at s.bindings k))
+Effect s (SetWeak i r) a t = WithKey (key_in s r) s a t (λ k. (a ≡ reply.Done) × (t ≡ record s { slots = slice_set s.slots i (Some k) }))
+Effect s (GetWeak d i) a t = ReadsSlot s a t d (slice_get s.slots i)
+Effect s Count a t = (a ≡ reply.Counted (length s.bindings)) × (t ≡ s)
+Effect s FullMajor a t = (a ≡ reply.Done) × (t ≡ s) × AllGone s
 
 -- how many labels a line may make
 abbrev pub made_by : TableLine → ℕ
@@ -116,13 +108,10 @@ pub record MayBeRefused (z : Sizes) (lines : List TableLine) (l : TableLine) : T
   pub kept : z.pools ≤ 19 + all_made lines + reserve z + z.classes
 
 -- a line, the last of these, is answered and leaves this state. `full` changes nothing
-pub record StepOf (strict : Bool) (z : Sizes) (lines : List TableLine) (l : TableLine) (s : TableState) (a : LineReply) (t : TableState) : Type 0 where
+pub record LineStep (z : Sizes) (lines : List TableLine) (l : TableLine) (s : TableState) (a : LineReply) (t : TableState) : Type 0 where
   pub left : TableState
   pub goes : MayGo s left
-  pub does : EffectOf strict left l a t ⊎ ((a ≡ reply.Full) × (t ≡ left) × MayBeRefused z lines l)
-
-abbrev pub LineStep : Sizes → List TableLine → TableLine → TableState → LineReply → TableState → Type 0
-LineStep = StepOf true
+  pub does : Effect left l a t ⊎ ((a ≡ reply.Full) × (t ≡ left) × MayBeRefused z lines l)
 
 -- the machine from a state on, over all lines behind those before: each line's reply, and the state after it
 abbrev pub MachineRuns : Sizes → List TableLine → TableState → List TableLine → List LineReply → List TableState → Type 0

@@ -28,8 +28,7 @@ use Rattle.table_text.specs.declared.line.TableLine.{TableLine}
 use Rattle.table_text.specs.declared.line.TableLine.TheVariants as line
 use Rattle.table_machine.specs.declared.reply.LineReply.{LineReply}
 use Rattle.table_machine.specs.declared.reply.LineReply.TheVariants as reply
-use Rattle.table_machine.specs.Machine.{TableState, MayGo, IsLost, key_in, WithKey, Shows}
-use Rattle.table_run.specs.Steps.{Effect, LineStep}
+use Rattle.table_machine.specs.Machine.{Effect, LineStep, TableState, MayGo, IsLost, key_in, WithKey, Shows}
 use Rattle.table_run.specs.Standing.{Places, Shown, Stands}
 use Rattle.table_run.specs.Running.{LineDone, full_in, said}
 use Rattle.table_run.proofs.MachineLemmas.{may_same, datum_int, place_holds}

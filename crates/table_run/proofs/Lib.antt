@@ -1,10 +1,12 @@
 pub mod RegisterLemmas
 pub mod MachineLemmas
 pub mod RefusalLemmas
+pub mod SettledLemmas
 pub mod StandLemmas
 pub mod LineLemmas
 pub mod CallLemmas
 pub mod OwnLemmas
+pub mod GoneLemmas
 pub mod ValueLemmas
 pub mod LinesLemmas
 pub mod TextLemmas

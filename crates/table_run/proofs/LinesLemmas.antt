@@ -9,7 +9,8 @@ use Rattle.heap_model.specs.declared.graph.Value.{Value}
 use Rattle.heap_model.specs.declared.graph.Value.TheVariants.{Int, Block, Nothing}
 use Rattle.heap_model.specs.declared.state.Sizes.{Sizes}
 use Rattle.heap_model.specs.Graph.{label_of}
-use Rattle.heap_model.specs.Domains.{IsWithinLimits, domain_at}
+use Rattle.heap_model.specs.Domains.{IsWithinLimits, domain_at, opening}
+use Rattle.heap_model.specs.Registrations.{all_registered}
 use Rattle.heap_model.specs.Commands.{key_value, shown}
 use Rattle.heap_model.specs.History.{IsPrefix, Legal}
 use Rattle.table_laws.specs.Structures.{Cell, IsTable, IsWeakArray, datum_at, slot_keys}
@@ -27,13 +28,14 @@ use Rattle.weak_tables.proofs.SlotLemmas.{past_end, emptied_stays}
 use Rattle.table_text.specs.declared.line.TableLine.{TableLine}
 use Rattle.table_text.specs.declared.line.TableLine.TheVariants as line
 use Rattle.table_machine.specs.declared.reply.LineReply.TheVariants as reply
-use Rattle.table_machine.specs.Machine.{TableState, MayGo, MayBeRefused, WithKey, Deletes, Binds, ReadsSlot, key_in, with_key, made_by, all_made}
+use Rattle.table_machine.specs.Machine.{AllGone, TableState, MayGo, MayBeRefused, WithKey, Deletes, Binds, ReadsSlot, key_in, with_key, made_by, all_made}
 use Rattle.table_run.specs.Standing.{Places, Stands, IsStanding}
 use Rattle.table_run.specs.Running.{LineDone, HasGiven, full_in, said}
 use Rattle.table_run.proofs.LineLemmas.{after_with, after_goes, after_key, stands_zero, stands_reading, stands_set, forget_line, key_line, full_line}
 use Rattle.table_run.proofs.RefusalLemmas.{used_up}
 use Rattle.table_run.proofs.OwnLemmas.{take_done, put_done, slot_done}
 use Rattle.table_run.proofs.CallLemmas.{held_key, nothing_done, left, read_goes, read_stands, read_line, get_line, said_full, count_line}
+use Rattle.table_run.proofs.GoneLemmas.{forget_open, left_held}
 use Rattle.table_run.proofs.StandLemmas.{line_ends, line_later, others_clean, keeps_high}
 
 -- a register holds the table, and one the weak array
@@ -256,9 +258,9 @@ slot_got z limits old mid new d i rep b below low high quiet count q answer p s 
     slot_read z limits old mid new d i rep b below low high quiet count q p s lines x (slice_get p.slots i) refl (answer p.array p.slots x.array_held x.shown.array)
 
 -- `full_major`
-pub gone : (z : Sizes) (limits : IsWithinLimits z) (old mid new : List Entry) (a b : Reply) → Performed z old mid (Forget 0) a → Performed z mid new FullMajor b → (p : Places) (s : TableState) (lines : List TableLine) → Stands z p s old
+pub gone : (z : Sizes) (limits : IsWithinLimits z) (old mid new : List Entry) (a b : Reply) → z.domains ≡ 1 → all_registered 0 (opening z) mid ≡ [] → Performed z old mid (Forget 0) a → Performed z mid new FullMajor b → (p : Places) (s : TableState) (lines : List TableLine) → Stands z p s old
     → LineDone z p lines line.FullMajor s old reply.Done new
-gone z limits old mid new a b q w p s lines x =
+gone z limits old mid new a b one quiet q w p s lines x =
     let first = forget_step z limits old mid a 0 q in
     let t = after_with z limits p s old mid x _ first.0 s.registers in
     let y : Stands z p t mid = stands_zero z limits p s old mid x Nothing first.0 in
@@ -267,5 +269,8 @@ gone z limits old mid new a b q w p s lines x =
     let none : refusals mid ≡ refusals old + 0 = performed_refusals z old mid (Forget 0) a q ∙ ap (λ (r : Reply). refusals old + full_of r) first.1 in
     let given_none : full_of b ≡ 0 = performed_given z limits mid new FullMajor b w in
     let count = performed_refusals z mid new FullMajor b w in
+    let zero : held_in z mid 0 ≡ Nothing = set_here z limits old old mid 0 Nothing first.0.registers_are (omega arith) in
+    let last : Stands z p u new = stands_reading z limits p t mid new y second.0 in
+    let all_gone : AllGone u = left_held z limits mid new b one quiet w (forget_open z limits old mid a q) p t u y zero last refl second.1 in
     line_later z p lines line.FullMajor s t old mid reply.Done new (after_goes z limits p s old mid x _ first.0) first.0.grows (omega (arith, none))
-    (line_ends z p lines line.FullMajor t mid reply.Done u new (record { left = u; goes = after_goes z limits p t mid new y _ second.0; does = inl (refl, refl, tt) }) second.0.grows (omega (arith, count, given_none)) (stands_reading z limits p t mid new y second.0))
+    (line_ends z p lines line.FullMajor t mid reply.Done u new (record { left = u; goes = after_goes z limits p t mid new y _ second.0; does = inl (refl, refl, all_gone) }) second.0.grows (omega (arith, count, given_none)) last)

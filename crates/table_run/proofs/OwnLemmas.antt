@@ -22,13 +22,14 @@ use Rattle.table_laws.proofs.ArrayLemmas.{emptied_more}
 use Rattle.table_laws.proofs.ChangeLemmas.{table_kept, bindings_thinned, array_kept}
 use Rattle.table_laws.proofs.LawLemmas.{keys_emptied, differ_law}
 use Rattle.table_laws.proofs.OnceLemmas.{lacks, not_both}
+use Rattle.weak_tables.specs.Held.{AllHave, IsBare, IsTidy}
 use Rattle.weak_tables.specs.Tables.{Takes, Puts}
+use Rattle.weak_tables.proofs.TidyLemmas.{bare_lasts, has_kept, tidy_lasts}
 use Rattle.weak_tables.specs.Arrays.{SetsSlot}
 use Rattle.table_text.specs.declared.line.TableLine.{TableLine}
 use Rattle.table_text.specs.declared.line.TableLine.TheVariants as line
 use Rattle.table_machine.specs.declared.reply.LineReply.TheVariants as reply
-use Rattle.table_machine.specs.Machine.{TableState, MayGo, IsLost, Holds, key_in, WithKey, Deletes, Binds}
-use Rattle.table_run.specs.Steps.{Effect}
+use Rattle.table_machine.specs.Machine.{Effect, TableState, MayGo, IsLost, Holds, key_in, WithKey, Deletes, Binds}
 use Rattle.table_run.specs.Standing.{Places, Stands, IsKnown, key_node, AreInts}
 use Rattle.table_run.specs.Running.{LineDone}
 use Rattle.table_run.proofs.MachineLemmas.{known_before, key_kept, slot_kept, thinned_ints, ints_without, ints_with, place_holds}
@@ -125,8 +126,8 @@ module _ (z : Sizes) (limits : IsWithinLimits z) (p : Places) (s : TableState) (
   -- the heap stands for a state with the same registers
   stands_of : (grows : IsPrefix old new) (bs : List Binding) (ks : List (Option Label)) (css : List (List Cell)) → IsTable (graph_of z new) p.table css → IsWeakArray (graph_of z new) p.array p.slots
       → bindings (graph_of z new) css ≡ bs → slot_keys (graph_of z new) p.slots ≡ ks → Apart (p.array ∷ p.slots) (table_labels p.table css) → ((k : Label) → IsKnown (record { registers = s.registers; bindings = bs; slots = ks }) k → node_at (graph_of z new) k ≡ Some key_node)
-      → AreInts bs → Stands z p (record { registers = s.registers; bindings = bs; slots = ks }) new
-  stands_of grows bs ks css table array bindings_are slots_are apart keys ints = record {
+      → AreInts bs → AllHave IsTidy (graph_of z new) (table_labels p.table css) → AllHave IsBare (graph_of z new) p.slots → Stands z p (record { registers = s.registers; bindings = bs; slots = ks }) new
+  stands_of grows bs ks css table array bindings_are slots_are apart keys ints tidy bare = record {
     shown = record { chains = css; table = table; array = array; registers = λ r low high. same (inr grows) r low (omega arith) ∙ x.shown.registers r low high; bindings_are = bindings_are; slots_are = slots_are };
     five = x.five;
     sixteen = x.sixteen;
@@ -135,6 +136,8 @@ module _ (z : Sizes) (limits : IsWithinLimits z) (p : Places) (s : TableState) (
     apart = apart;
     keys = keys;
     ints = ints;
+    tidy = tidy;
+    bare = bare;
     others = others;
   }
 
@@ -149,6 +152,9 @@ module _ (z : Sizes) (limits : IsWithinLimits z) (p : Places) (s : TableState) (
 
     key_t : (k : Label) → IsKnown s k → node_at (graph_of z new) k ≡ Some key_node
     key_t k known = goes.changes k key_node (x.keys k known) (table_without (graph_of z old) k (x.keys k known) p.table chains x.shown.table)
+
+    bare_t : AllHave IsBare (graph_of z new) p.slots
+    bare_t l mine = has_kept IsBare bare_lasts P (table_labels p.table chains) (graph_of z old) (graph_of z new) goes.changes l (x.apart l (or_right (same_label p.array l) _ mine)) (x.bare l mine)
 
     -- what is bound besides a key was bound before
     before_t : (k : Label) (rest : List Binding) → ThinnedBy P (without k (bindings (graph_of z old) chains)) rest → ThinnedBy (IsLost s) (without k s.bindings) rest
@@ -178,7 +184,7 @@ module _ (z : Sizes) (limits : IsWithinLimits z) (p : Places) (s : TableState) (
       λ j known. ⊎_elim (λ held. inl held) (λ more. ⊎_elim (λ bound. key_before t.goes k j rest thin (subst (λ (bs : List Binding). IsTrue (has_label (keys_of bs) j)) m.others bound)) (λ slot. slot_before t.goes m.left m.thinned j slot) more) known in
       line_ends z p lines (line.Del r) s old reply.Done after new
       (record { left = mid; goes = record { registers = refl; bindings = m.thinned; slots = emptied_t t.goes }; does = inl effect }) t.goes.grows (omega (arith, none))
-      (stands_of t.goes.grows (without k m.left) _ chains t.table (array_t t.goes) (sym m.others) refl x.apart (λ j is. key_t t.goes j (known j is)) (subst AreInts (sym m.others) (ints_t t.goes k rest thin)))
+      (stands_of t.goes.grows (without k m.left) _ chains t.table (array_t t.goes) (sym m.others) refl x.apart (λ j is. key_t t.goes j (known j is)) (subst AreInts (sym m.others) (ints_t t.goes k rest thin)) (t.tidy x.tidy) (bare_t t.goes))
 
   -- `put R V`
   pub put_done : (lines : List TableLine) (r : ℕ) (w : ℤ) (k : Label) → key_in s r ≡ Some k → Puts z old new p.table chains k (Int w) → refusals new ≡ refusals old → LineDone z p lines (line.Put r w) s old reply.Done new
@@ -200,7 +206,7 @@ module _ (z : Sizes) (limits : IsWithinLimits z) (p : Places) (s : TableState) (
       line_ends z p lines (line.Put r w) s old reply.Done after new
       (record { left = mid; goes = record { registers = refl; bindings = m.thinned; slots = emptied_t g.goes }; does = inl effect }) g.goes.grows (omega (arith, none))
       (stands_of g.goes.grows all _ g.grown g.table (array_t g.goes) refl refl apart (λ j is. key_t g.goes j (known j is))
-      (ints_with k all w (differ_law (graph_of z new) p.table g.grown g.table) (ints_t g.goes k (without k all) thin) g.bound))
+      (ints_with k all w (differ_law (graph_of z new) p.table g.grown g.table) (ints_t g.goes k (without k all) thin) g.bound) (g.tidy x.tidy) (bare_t g.goes))
     where
       slot_is : (g : Graph) (slots : List Label) (l : Label) → IsTrue (list_all (λ e. is_weak (node_at g e)) slots) → IsTrue (has_label slots l) → node_at g l ≡ None → ⊥
       slot_is g [] l weak h none = let clash : false ≡ true = h in cc
@@ -240,7 +246,7 @@ module _ (z : Sizes) (limits : IsWithinLimits z) (p : Places) (s : TableState) (
       (record { left = mid; goes = goes; does = inl effect }) g.goes.grows (omega (arith, none))
       (stands_of g.goes.grows bs (set m.0 i (Some k)) chains table g.array refl (sym m.2) x.apart
       (λ j is. (let before = known j is in g.goes.changes j key_node (x.keys j before) (array_without (graph_of z old) j (x.keys j before) p.array p.slots x.shown.array)))
-      (thinned_ints (IsLost s) _ _ thin x.ints))
+      (thinned_ints (IsLost s) _ _ thin x.ints) (λ l mine. has_kept IsTidy tidy_lasts P own (graph_of z old) (graph_of z new) g.goes.changes l (apart l mine) (x.tidy l mine)) (g.bare x.bare))
     where
       slots_long : (g : Graph) (slots : List Label) (i : ℕ) → i < length slots → i < length (slot_keys g slots)
       slots_long g [] i below = absurd (omega arith)

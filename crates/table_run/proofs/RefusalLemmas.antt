@@ -26,9 +26,9 @@ use Rattle.table_laws.proofs.SizeLemmas.{blocks_counted}
 use Rattle.table_laws.proofs.StepLemmas.{legal_parts}
 
 -- the sizes stay, and no block is taken from the graph
-record Grown (s t : State) : Type 0 where
-  sizes : t.sizes ≡ s.sizes
-  blocks : length s.graph ≤ length t.graph
+pub record Grown (s t : State) : Type 0 where
+  pub sizes : t.sizes ≡ s.sizes
+  pub blocks : length s.graph ≤ length t.graph
 
 grown_same : (s t : State) → t.sizes ≡ s.sizes → length t.graph ≡ length s.graph → Grown s t
 grown_same s t sizes same = record { sizes = sizes; blocks = omega arith }
@@ -70,7 +70,7 @@ grown_next s Collected = grown_same s _ refl refl
 grown_next s Done = grown_same s _ refl refl
 grown_next s (Ran d) = grown_run s d (domain_at s d).queue
 
-grown_after : (s : State) (h : List Entry) → Grown s (state_after s h)
+pub grown_after : (s : State) (h : List Entry) → Grown s (state_after s h)
 grown_after s [] = grown_same s s refl refl
 grown_after s (e ∷ h) = grown_twice s (next s e) _ (grown_next s e) (grown_after (next s e) h)
 

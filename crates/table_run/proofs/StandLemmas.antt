@@ -7,7 +7,7 @@ use Rattle.heap_model.specs.declared.state.Sizes.{Sizes}
 use Rattle.heap_model.specs.Graph.{node_at}
 use Rattle.heap_model.specs.Commands.{key_value}
 use Rattle.heap_model.specs.History.{IsPrefix}
-use Rattle.table_laws.specs.Structures.{Binding, Cell, bindings, IsTable, IsWeakArray, slot_keys}
+use Rattle.table_laws.specs.Structures.{Binding, Cell, bindings, table_labels, IsTable, IsWeakArray, slot_keys}
 use Rattle.table_laws.specs.Thinning.{ThinnedBy, EmptiedBy, WasOutside, Went, Changes, state_of}
 use Rattle.table_laws.specs.Performing.{refusals, writings}
 use Rattle.table_laws.specs.Stages.{graph_of, held_in}
@@ -17,11 +17,11 @@ use Rattle.table_laws.proofs.ChangeLemmas.{table_kept, bindings_thinned, array_k
 use Rattle.table_laws.proofs.CollectorLemmas.{outside_unheld}
 use Rattle.table_laws.proofs.LawLemmas.{keys_emptied}
 use Rattle.table_laws.proofs.StageLemmas.{prefix_trans}
-use Rattle.weak_tables.specs.Held.{KeepsOthers, IsClean}
+use Rattle.weak_tables.specs.Held.{IsBare, IsTidy, KeepsOthers, IsClean}
+use Rattle.weak_tables.proofs.TidyLemmas.{all_kept, bare_lasts, tidy_lasts}
 use Rattle.table_text.specs.declared.line.TableLine.{TableLine}
 use Rattle.table_machine.specs.declared.reply.LineReply.{LineReply}
-use Rattle.table_machine.specs.Machine.{TableState, MayGo, IsLost, Holds}
-use Rattle.table_run.specs.Steps.{LineStep}
+use Rattle.table_machine.specs.Machine.{LineStep, TableState, MayGo, IsLost, Holds}
 use Rattle.table_run.specs.Standing.{Places, Stands, IsKnown, key_node, AreInts}
 use Rattle.table_run.specs.Running.{LineDone, full_in}
 use Rattle.table_run.proofs.MachineLemmas.{may_same, may_twice, known_before, thinned_ints, holds_place}
@@ -100,6 +100,8 @@ module _ (z : Sizes) (p : Places) (s : TableState) (old new : List Entry) (x : S
     apart = x.apart;
     keys = λ k known. known_key k known;
     ints = thinned_ints P _ _ thin (subst AreInts (sym x.shown.bindings_are) x.ints);
+    tidy = all_kept IsTidy tidy_lasts P (graph_of z old) (graph_of z new) changes (table_labels p.table chains) x.tidy;
+    bare = all_kept IsBare bare_lasts P (graph_of z old) (graph_of z new) changes p.slots x.bare;
     others = others;
   } where
     known_key : (k : Label) → IsKnown (left_with rs) k → node_at (graph_of z new) k ≡ Some key_node

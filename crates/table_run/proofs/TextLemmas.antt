@@ -1,5 +1,5 @@
 -- A text, from the two structures that are made to its last line.
-use Rattle.std.proofs.Common.{◌≡◌, ◌≢◌, inl, inr, ℕ, zero, suc, ◌+◌, ◌-◌, ◌≤◌, false, true, List, [], ◌∷◌, ◌++◌, length, take, get_or, replicate, slice_get, Some, None, refl, ap, sym, ◌∙◌, subst, arith, append_assoc, append-nil}
+use Rattle.std.proofs.Common.{◌≡◌, ◌≢◌, inl, inr, ⊎_elim, ℕ, zero, suc, ◌+◌, ◌-◌, ◌≤◌, false, true, List, [], ◌∷◌, ◌++◌, length, flat_map, take, get_or, replicate, slice_get, Some, None, refl, ap, sym, ◌∙◌, subst, arith, append_assoc, append-nil}
 use Rattle.std.proofs.lemmas.List.{length-map}
 use Rattle.heap_model.specs.declared.label.Label.{Label}
 use Rattle.heap_model.specs.declared.entry.Entry.{Entry}
@@ -7,11 +7,15 @@ use Rattle.heap_model.specs.declared.reply.Reply.{Reply}
 use Rattle.heap_model.specs.declared.reply.Reply.TheVariants as given
 use Rattle.heap_model.specs.declared.graph.Value.TheVariants.{Block, Nothing}
 use Rattle.heap_model.specs.declared.state.Sizes.{Sizes}
-use Rattle.heap_model.specs.Graph.{Graph}
+use Rattle.heap_model.specs.declared.graph.Node.TheVariants.{Plain}
+use Rattle.heap_model.specs.Graph.{Graph, has_label, same_label}
+use Rattle.heap_model.proofs.Graphs.GraphLemmas.{same_label-true}
+use Rattle.heap_model.proofs.Reach.ReachLemmas.{or_cases}
+use Rattle.weak_tables.specs.Held.{Has, IsTidy}
 use Rattle.heap_model.specs.Domains.{IsWithinLimits, domain_at, opening, register, reserve}
 use Rattle.heap_model.specs.Commands.{key_value}
 use Rattle.heap_model.specs.History.{IsPrefix, Legal}
-use Rattle.table_laws.specs.Structures.{Cell, bucket_count, bindings, table_labels, empty_chains, IsTable, Apart}
+use Rattle.table_laws.specs.Structures.{Cell, bucket_count, bindings, cell_labels, table_labels, empty_chains, IsTable, Apart}
 use Rattle.table_laws.specs.Thinning.{WasOutside, state_of}
 use Rattle.table_laws.specs.Performing.{refusals, full_of}
 use Rattle.table_laws.specs.Stages.{graph_of, held_in}
@@ -22,7 +26,7 @@ use Rattle.weak_tables.specs.Tables.{MakeAnswers}
 use Rattle.weak_tables.specs.Arrays.{ArrayAnswers}
 use Rattle.table_text.specs.declared.line.TableLine.{TableLine}
 use Rattle.table_machine.specs.declared.reply.LineReply.{LineReply}
-use Rattle.table_machine.specs.Machine.{TableState, Holds, made_by, all_made, opened}
+use Rattle.table_machine.specs.Machine.{MachineAnswers, MachineRuns, TableState, Holds, made_by, all_made, opened}
 use Rattle.table_run.specs.Standing.{Places, Shown, IsKnown}
 use Rattle.table_run.specs.Running.{LineRuns, LinesRun, LineDone, LineAnswers, HasGiven, TextRuns, RanTo, Begins, full_in, rooms_of, all_rooms}
 use Rattle.table_run.proofs.MachineLemmas.{may_same, may_twice}
@@ -98,6 +102,9 @@ module _ (z : Sizes) (limits : IsWithinLimits z) (one : z.domains ≡ 1) (pools 
           apart = apart;
           keys = λ k known. absurd (unknown k known);
           ints = tt;
+          tidy = λ l mine. ⊎_elim (λ same. subst (Has IsTidy (graph_of z new)) (same_label-true root l same) (record { node = Plain table.tag table.fields; at = table.node; is = tt })) (λ none. absurd (let clash : false ≡ true = none in cc))
+              (or_cases (same_label root l) (has_label (flat_map cell_labels chains) l) mine);
+          bare = w.bare;
           others = others_clean z [] new (λ r high. opening_register z one r (omega arith)) (λ r high. held r (λ e. absurd (omega arith)) (λ e. absurd (omega arith)) (λ e. absurd (omega arith)) (λ e. absurd (omega arith)) (λ e. absurd (omega arith))) w.clean;
         };
         none = count;
@@ -214,3 +221,17 @@ made_more all i l at = ap all_made (take_more all i l at) ∙ made-append (take 
 
 pub rooms_more : (all : List TableLine) (i : ℕ) (l : TableLine) → Some l ≡ slice_get all i → all_rooms (take (i + 1) all) ≡ all_rooms (take i all) + rooms_of l
 rooms_more all i l at = ap all_rooms (take_more all i l at) ∙ rooms-append (take i all) l
+
+-- the machine may give these replies to these lines
+lines_answered : (z : Sizes) (p : Places) (before : List TableLine) (s : TableState) (old : List Entry) (ls : List TableLine) (rs : List LineReply) (t : TableState) (new : List Entry) → LinesRun z p before s old ls rs t new → (states : List TableState) × MachineRuns z before s ls rs states
+lines_answered z p before s old [] [] t new runs = ([], tt)
+lines_answered z p before s old [] (a ∷ rs) t new runs = absurd runs
+lines_answered z p before s old (l ∷ ls) [] t new runs = absurd runs
+lines_answered z p before s old (l ∷ ls) (a ∷ rs) t new (u, h, first, rest) =
+    let later = lines_answered z p (before ++ l ∷ []) u h ls rs t new rest in
+    (u ∷ later.0, (first.step, later.1))
+
+pub text_answered : (z : Sizes) (ls : List TableLine) (rs : List LineReply) (h : List Entry) → TextRuns z ls rs h → MachineAnswers z ls rs
+text_answered z ls rs h runs =
+    let t = lines_answered z runs.places [] opened runs.first ls rs runs.state runs.last runs.lines_run in
+    record { states = t.0; runs = t.1 }

@@ -10,8 +10,7 @@ use Rattle.table_text.specs.declared.line.TableLine.{TableLine}
 use Rattle.table_text.specs.declared.line.TableLine.TheVariants.{Put}
 use Rattle.table_machine.specs.declared.reply.LineReply.{LineReply}
 use Rattle.table_machine.specs.declared.reply.LineReply.TheVariants as reply
-use Rattle.table_machine.specs.Machine.{TableState, MayGo, all_made, opened}
-use Rattle.table_run.specs.Steps.{LineStep}
+use Rattle.table_machine.specs.Machine.{LineStep, TableState, MayGo, all_made, opened}
 use Rattle.table_run.specs.Standing.{Places, Shown, Stands}
 
 -- 1 for the reply `full`

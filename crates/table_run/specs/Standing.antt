@@ -10,6 +10,7 @@ use Rattle.heap_model.specs.Graph.{has_label, node_at}
 use Rattle.heap_model.specs.Commands.{key_value}
 use Rattle.table_laws.specs.Structures.{Binding, Cell, bindings, keys_of, table_labels, IsTable, IsWeakArray, slot_keys, Apart}
 use Rattle.table_laws.specs.Stages.{graph_of, held_in}
+use Rattle.weak_tables.specs.Held.{AllHave, IsBare, IsTidy}
 use Rattle.table_machine.specs.Machine.{TableState, key_in, Holds}
 
 -- where the table and the weak array are: the same for all lines of a text
@@ -42,7 +43,7 @@ AreInts ((k, Int v) ∷ bs) = AreInts bs
 AreInts ((k, Block l) ∷ bs) = ⊥
 AreInts ((k, Nothing) ∷ bs) = ⊥
 
--- and all else that the next line needs: the two structures are held and apart, each key is a block of its own, and registers 8 to 15 hold nothing
+-- and all else that the next line needs: the two structures are held and apart, each key is a block of its own, no ephemeron without a key has a datum, those of slots have none, and registers 8 to 15 hold nothing
 pub record Stands (z : Sizes) (p : Places) (s : TableState) (h : List Entry) : Type 0 where
   pub shown : Shown z p s h
   pub five : length s.registers ≡ 5
@@ -52,6 +53,8 @@ pub record Stands (z : Sizes) (p : Places) (s : TableState) (h : List Entry) : T
   pub apart : Apart (p.array ∷ p.slots) (table_labels p.table shown.chains)
   pub keys : (k : Label) → IsKnown s k → node_at (graph_of z h) k ≡ Some key_node
   pub ints : AreInts s.bindings
+  pub tidy : AllHave IsTidy (graph_of z h) (table_labels p.table shown.chains)
+  pub bare : AllHave IsBare (graph_of z h) p.slots
   pub others : (r : ℕ) → 8 ≤ r → held_in z h r ≡ Nothing
 
 -- the heap stands for a state of the machine

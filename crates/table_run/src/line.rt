@@ -159,6 +159,7 @@ fn collect<M: Machine, R: Wait>(m: &mut M, rt: &R) -> LineReply
 {
     m.stands();
     let _nothing = m.perform(rt, Command::Forget { dst: 0 });
+    m.stands();
     let _live = m.perform(rt, Command::FullMajor);
     LineReply::Done
 }

@@ -246,7 +246,7 @@ const OTHER_WORDS: [&str; 21] = [
 ];
 
 const USAGE: &str =
-    "usage: camlheap run [--domains N] [--minor W] [--pools P] | gen BASE N C | load BASE N C\n";
+    "usage: camlheap run|table [--domains N] [--minor W] [--pools P] | gen|load BASE N C\n";
 
 #[test]
 fn refused_words_and_scripts(rt: HostRuntime) -> Result<(), Fail> {

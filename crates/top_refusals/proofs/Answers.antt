@@ -9,7 +9,7 @@ use Rattle.command_line.specs.declared.job.Job.TheVariants.{Run}
 use Rattle.camlheap_run.specs.declared.status.Status.{Status}
 use Rattle.camlheap_run.specs.declared.status.Status.TheVariants.{Usage, Script, ReadFault, WriteFault}
 use Rattle.camlheap_run.specs.Outcome.{IsDoneOrMemory}
-use Rattle.camlheap_run.specs.Words.{AsksToRun}
+use Rattle.camlheap_run.specs.Words.{AsksToRead}
 
 -- words that ask for something aren't answered `Usage`
 pub words_that_ask_are_heard : (asked : Option Job) (job : Job) (result : Status) → (result ≡ Usage → asked ≡ None) → asked ≡ Some job → result ≡ Usage → ⊥
@@ -24,11 +24,11 @@ stays : (before : ℕ) → before < 2 ^ 64 - 1 → Rose before before → ⊥
 stays before low rose = omega (arith, low, rose)
 
 -- no read fault is answered where the source's count of faults stays
-pub no_read_fault_without_a_rise : (z : Sizes) (before now : ℕ) (result : Status) → (result ≡ ReadFault → AsksToRun (Some (Run z)) (λ _. Rose before now)) → now ≡ before → before < 2 ^ 64 - 1 → result ≡ ReadFault → ⊥
+pub no_read_fault_without_a_rise : (z : Sizes) (before now : ℕ) (result : Status) → (result ≡ ReadFault → AsksToRead (Some (Run z)) (λ _. Rose before now)) → now ≡ before → before < 2 ^ 64 - 1 → result ≡ ReadFault → ⊥
 no_read_fault_without_a_rise z before now result says same low fault = stays before low (subst (λ (n : ℕ). Rose before n) same (says fault))
 
 -- nor where nothing is read
-pub no_read_fault_without_a_script : (before now : ℕ) (result : Status) → (result ≡ ReadFault → AsksToRun None (λ _. Rose before now)) → result ≡ ReadFault → ⊥
+pub no_read_fault_without_a_script : (before now : ℕ) (result : Status) → (result ≡ ReadFault → AsksToRead None (λ _. Rose before now)) → result ≡ ReadFault → ⊥
 no_read_fault_without_a_script before now result says fault = says fault
 
 -- no write fault is answered where the sink's count of faults stays

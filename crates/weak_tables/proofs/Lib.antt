@@ -1,3 +1,5 @@
+pub mod TidyLemmas
+pub mod RegisteredLemmas
 pub mod SearchLemmas
 pub mod TakeLemmas
 pub mod PutLemmas

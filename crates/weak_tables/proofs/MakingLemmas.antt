@@ -137,6 +137,7 @@ module _ (z : Sizes) (limits : IsWithinLimits z) (old f : List Entry) (r : Reply
           fresh = x.filling.fresh;
           array = ended.0;
           empty = ended.1 ∙ ap (λ (n : ℕ). replicate n None) x.count_is;
+          bare = λ l there. record { node = EpheNode (None ∷ []) Nothing; at = filling_new.empty l there; is = refl };
         }
 
 pub filled_sizes : (z y : Sizes) (first now : List Entry) (root : Label) (count left : ℕ) → y ≡ z → Filled y first now root count left → Filled z first now root count left

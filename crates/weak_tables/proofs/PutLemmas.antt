@@ -9,7 +9,7 @@ use Rattle.heap_model.specs.declared.reply.Reply.TheVariants as reply
 use Rattle.heap_model.specs.declared.graph.Value.{Value}
 use Rattle.heap_model.specs.declared.graph.Value.TheVariants.{Int, Block, Nothing}
 use Rattle.heap_model.specs.declared.graph.Node.{Node}
-use Rattle.heap_model.specs.declared.graph.Node.TheVariants.{Ephe}
+use Rattle.heap_model.specs.declared.graph.Node.TheVariants.{Plain, Ephe}
 use Rattle.heap_model.specs.declared.state.State.{State}
 use Rattle.heap_model.specs.declared.state.Sizes.{Sizes}
 use Rattle.heap_model.specs.Graph.{Graph, same_label, has_label, label_of, node_at}
@@ -20,7 +20,7 @@ use Rattle.heap_model.proofs.Histories.HistoryLemmas.{state_after-append}
 use Rattle.heap_model.specs.Commands.{shown, is_full_value}
 use Rattle.heap_model.specs.History.{IsPrefix, Legal, state_after}
 use Rattle.heap_model.proofs.Graphs.GraphLemmas.{same_label-true, same_label_refl}
-use Rattle.heap_model.proofs.Reach.ReachLemmas.{or_cases, or_left, or_right}
+use Rattle.heap_model.proofs.Reach.ReachLemmas.{never_true, or_cases, or_left, or_right, true_or_false}
 use Rattle.table_laws.specs.Structures.{Binding, Cell, bucket_count, binding_of, chain_bindings, bindings, datum_at, without, head_of, is_bucket_full, cell_labels, table_labels, is_bucket, IsTable}
 use Rattle.table_laws.specs.Thinning.{ThinnedBy, WasOutside, Went}
 use Rattle.table_laws.specs.Performing.{Performed, After, registers_of}
@@ -35,11 +35,12 @@ use Rattle.table_laws.proofs.StepLemmas.{forget_step, get_data_step}
 use Rattle.table_laws.proofs.StageLemmas.{goes_from, goes_on, goes_reading, thinned_on}
 use Rattle.table_laws.proofs.FillLemmas.{whole, fill_data, fill_key, holding_datum}
 use Rattle.table_laws.proofs.GrowLemmas.{grow_ephe, grow_node, link_ephe, link_head, link_next, link_cell}
-use Rattle.weak_tables.specs.Held.{KeepsOthers, IsClean, HoldsTable, Reads, Cleared}
+use Rattle.weak_tables.specs.Held.{AllHave, Has, IsTidy, KeepsOthers, IsClean, HoldsTable, Reads, Cleared}
 use Rattle.weak_tables.specs.Walks.{CellAnswers, LinksCell, Found, Missed, Ready, Refused, Placed, LooksUp}
 use Rattle.weak_tables.specs.Tables.{Puts, PutAnswers, Gets, GetAnswers}
 use Rattle.weak_tables.proofs.SearchLemmas.{set_here, set_other, keeps_set, below_eight, keeps_all, reads_on, reads_from}
 use Rattle.weak_tables.proofs.TakeLemmas.{thinned_none, goes_wider, cleared_clean, cleared_keeps, cleared_goes, cleared_reads, cleared_table, cleared_without, cleared_datum, same_registers}
+use Rattle.weak_tables.proofs.TidyLemmas.{tidy_lasts, all_kept, has_cleared, has_kept, has_twice, one_other}
 
 pub prefix_on : (a b c : List Entry) → IsPrefix a b → IsPrefix b c → IsPrefix a c
 prefix_on a b c x y = record { rest = x.rest ++ y.rest; appends = y.appends ∙ (ap (λ (h : List Entry). h ++ y.rest) x.appends ∙ append_assoc a x.rest y.rest) }
@@ -247,6 +248,39 @@ module _ (z : Sizes) (limits : IsWithinLimits z) (root : Label) (chains : List (
               ∙ (sym (datum_of_bucket (chain_bindings g) k 0 grown i (subst (λ n. i < n) (sym step_6.2.count) below) (let same : i ≡ 0 + i = omega arith in same)
               (λ t b. let same : t ≡ 0 + t = omega arith in subst (λ n. IsTrue (is_bucket n (chain_bindings g (get_or grown t [])))) same (step_6.2.bucket t (subst (λ n. t < n) step_6.2.count b)))) ∙ none_6))
 
+          -- the blocks of the grown table
+          root_6 : Has IsTidy (graph_of z f6) root
+          root_6 = record { node = Plain step_6.2.tag step_6.2.fields; at = step_6.2.node; is = tt }
+
+          node_6 : Has IsTidy (graph_of z f6) n
+          node_6 = has_kept IsTidy tidy_lasts (Went z f5 f6) (root ∷ []) (graph_of z f5) (graph_of z f6) step_6.0.changes n (one_other root n (not_first root (flat_map cell_labels chains) n step_5.2.fresh_node).0)
+              (record { node = Plain 0 (Block e ∷ head_of (get_or chains i []) ∷ []); at = step_5.2.node; is = tt })
+
+          cell_6 : Has IsTidy (graph_of z f6) e
+          cell_6 = record { node = Ephe (None ∷ []) Nothing; at = ephe_6; is = refl }
+
+          -- one that was there is neither the node nor, if it isn't the root, written
+          old_6 : (l : Label) → same_label root l ≡ false → Has IsTidy (graph_of z f0) l → Has IsTidy (graph_of z f6) l
+          old_6 l differ x =
+              let apart : same_label n l ≡ false = never_true (same_label n l) (λ same. let clash : ◌≡◌ {A = Option Node} None (Some x.node) = sym new_node ∙ (ap (node_at (graph_of z f0)) (same_label-true n l same) ∙ x.at) in cc) in
+              let x1 = has_kept IsTidy tidy_lasts (Went z f0 f1) [] (graph_of z f0) (graph_of z f1) made_ephe.1.changes l refl x in
+              let x2 = has_kept IsTidy tidy_lasts (Went z f1 f2) [] (graph_of z f1) (graph_of z f2) made_node.1.changes l refl x1 in
+              let x3 = has_kept IsTidy tidy_lasts (Went z f2 f3) (n ∷ []) (graph_of z f2) (graph_of z f3) step_3.0.changes l (one_other n l apart) x2 in
+              let x4 = has_kept IsTidy tidy_lasts (Went z f3 f4) [] (graph_of z f3) (graph_of z f4) step_4.0.changes l refl x3 in
+              let x5 = has_kept IsTidy tidy_lasts (Went z f4 f5) (n ∷ []) (graph_of z f4) (graph_of z f5) step_5.0.changes l (one_other n l apart) x4 in
+              has_kept IsTidy tidy_lasts (Went z f5 f6) (root ∷ []) (graph_of z f5) (graph_of z f6) step_6.0.changes l (one_other root l differ) x5
+
+          tidy_6 : AllHave IsTidy (graph_of z f0) (table_labels root chains) → AllHave IsTidy (graph_of z f6) (table_labels root grown)
+          tidy_6 before l h =
+              let as_root : IsTrue (same_label root l) → Has IsTidy (graph_of z f6) l = λ same. subst (Has IsTidy (graph_of z f6)) (same_label-true root l same) root_6 in
+              ⊎_elim as_root
+              (λ later. ⊎_elim
+              (λ is. subst (Has IsTidy (graph_of z f6)) (sym is) node_6)
+              (λ others. ⊎_elim (λ is. subst (Has IsTidy (graph_of z f6)) (sym is) cell_6)
+              (λ old. ⊎_elim as_root (λ differ. old_6 l differ (before l (or_right (same_label root l) _ old))) (true_or_false (same_label root l))) others)
+              (more_labels chains i c l inside later))
+              (or_cases (same_label root l) _ h)
+
           pub grown_ready : (full : Bool) → IsTrue full → Ready z f0 f6 root chains k full
           grown_ready full all = record {
             goes = goes_6;
@@ -269,6 +303,7 @@ module _ (z : Sizes) (limits : IsWithinLimits z) (root : Label) (chains : List (
             holding = record { table = step_6.2; below = below; placed = refl; split = chain_6; at = ephe_6; mine = inl refl; before = refl; behind = behind_6 };
             ephe = ap (λ (rs : List Value). get_or rs 8 Nothing) step_6.0.registers_are ∙ (same_5 8 ∙ eight_4);
             left = thinned_without (WasOutside z f0 f6) k _ _ thin_6;
+            tidy = tidy_6;
           }
 
   -- by what the making of a cell answers
@@ -306,6 +341,7 @@ ready_found z first f root chains k key full x = record {
   holding = x.holding;
   ephe = x.ephe;
   left = thinned_without (WasOutside z first f) k _ _ x.reads.thinned;
+  tidy = λ before. all_kept IsTidy tidy_lasts (WasOutside z first f) (graph_of z first) (graph_of z f) x.reads.goes.changes (table_labels root chains) before;
 }
 
 keeps_both : (z : Sizes) (a b c : List Entry) → KeepsOthers z a b → KeepsOthers z b c → KeepsOthers z a c
@@ -327,6 +363,7 @@ ready_grown z first f g root chains k full m x = record {
   holding = x.holding;
   ephe = x.ephe;
   left = thinned_both z first f g m.reads.goes.grows x.goes.grows _ _ _ (thinned_without (WasOutside z first f) k _ _ m.reads.thinned) x.left;
+  tidy = λ before. x.tidy (all_kept IsTidy tidy_lasts (WasOutside z first f) (graph_of z first) (graph_of z f) m.reads.goes.changes (table_labels root chains) before);
 }
 
 pub refused_grown : (z : Sizes) (first f g : List Entry) (root : Label) (chains : List (List Cell)) (k : Label) → Missed z first f root chains k → Refused z f g root chains → Refused z first g root chains
@@ -403,6 +440,8 @@ module _ (z : Sizes) (limits : IsWithinLimits z) (root : Label) (chains : List (
     table = cleared_table z limits h new c root x.grown step_h.2.table;
     left = cleared_without z limits h new c root x.grown first k _ _ goes_h step_h.2.table left_h;
     bound = cleared_datum z limits h new c root x.grown k kr few_key key_h step_h.2.table ∙ bound_h;
+    tidy = λ before l there. has_cleared IsTidy tidy_lasts z h new c l
+        (has_twice IsTidy tidy_lasts (Went z f g) (Went z g h) x.cell.ephe (graph_of z f) (graph_of z g) (graph_of z h) step_g.0.changes step_h.0.changes (record { node = Ephe (Some k ∷ []) v; at = step_h.2.at; is = tt }) l (x.tidy before l there));
   }
 
 -- a key that was found is read

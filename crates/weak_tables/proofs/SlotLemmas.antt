@@ -17,7 +17,7 @@ use Rattle.heap_model.specs.History.{IsPrefix, Legal}
 use Rattle.heap_model.proofs.Graphs.GraphLemmas.{same_label-true}
 use Rattle.heap_model.proofs.Reach.ReachLemmas.{or_cases, or_right, and_right}
 use Rattle.table_laws.specs.Structures.{is_weak, key_of, IsWeakArray, slot_keys}
-use Rattle.table_laws.specs.Thinning.{EmptiedBy, WasOutside, Went}
+use Rattle.table_laws.specs.Thinning.{EmptiedBy, Thin, WasOutside, Went}
 use Rattle.table_laws.specs.Performing.{Performed, After, registers_of}
 use Rattle.table_laws.specs.Stages.{Goes, graph_of, held_in}
 use Rattle.table_laws.proofs.ChangeLemmas.{array_kept}
@@ -25,11 +25,12 @@ use Rattle.table_laws.proofs.LawLemmas.{keys_emptied}
 use Rattle.table_laws.proofs.ArrayLemmas.{slot_field, slot_weak, slot_there, slots_fields, array_changed, keys_changed, emptied_more, emptied_set, emptied_twice}
 use Rattle.table_laws.proofs.StepLemmas.{load_step, load_past_step, get_key_step, set_key_step, set_key_type_step}
 use Rattle.table_laws.proofs.StageLemmas.{goes_from, goes_on, goes_reading}
-use Rattle.weak_tables.specs.Held.{KeepsOthers, IsClean, ReadsArray, Cleared}
+use Rattle.weak_tables.specs.Held.{Has, IsBare, KeepsOthers, IsClean, ReadsArray, Cleared}
 use Rattle.weak_tables.specs.Arrays.{Spares, GetsSlot, SetsSlot, SlotAnswers, SetAnswers}
 use Rattle.weak_tables.proofs.SearchLemmas.{set_here, set_other, keeps_set, below_eight, keeps_all}
 use Rattle.weak_tables.proofs.TakeLemmas.{goes_wider, cleared_clean, cleared_keeps, cleared_goes, same_registers}
 use Rattle.weak_tables.proofs.PutLemmas.{prefix_on, wider_left}
+use Rattle.weak_tables.proofs.TidyLemmas.{bare_lasts, has_cleared, has_kept, has_once}
 
 earlier : (z : Sizes) (first now new : List Entry) (k : Label) → IsPrefix first now → Went z now new k → WasOutside z first new k
 earlier z first now new k grows w = record { front = w.was.front; since = prefix_on first now w.was.front grows w.was.since; until = w.was.until; outside = w.was.outside }
@@ -68,7 +69,7 @@ slot_key g [] i e at = cc
 slot_key g (x ∷ slots) zero e at = let same : x ≡ e = cc in ap (λ (l : Label). Some (key_of (node_at g l))) same
 slot_key g (x ∷ slots) (suc i) e at = slot_key g slots i e at
 
-weak_parts : (o : Option Node) → IsTrue (is_weak o) → (key : Option Label) × (datum : Value) × (o ≡ Some (Ephe (key ∷ []) datum))
+pub weak_parts : (o : Option Node) → IsTrue (is_weak o) → (key : Option Label) × (datum : Value) × (o ≡ Some (Ephe (key ∷ []) datum))
 weak_parts None w = cc
 weak_parts (Some (Plain tag fields)) w = cc
 weak_parts (Some (Raw tag fields)) w = cc
@@ -96,6 +97,16 @@ module _ (z : Sizes) (limits : IsWithinLimits z) (root : Label) (slots : List La
       let a1 = array_kept (Went z old c.first) [] (graph_of z old) (graph_of z c.first) c.eight.changes root slots (λ l h. refl) array in
       let a2 = array_kept (Went z c.first c.second) [] (graph_of z c.first) (graph_of z c.second) c.nine.changes root slots (λ l h. refl) a1 in
       slot_after c.second new _ c.ten h2 a2 (slot_after c.first c.second _ c.nine h1 a1 (slot_after old c.first _ c.eight held array at))
+
+-- an ephemeron without a datum gets none from the collector
+bare_datum : (g : Graph) (e : Label) (key : Option Label) (datum : Value) → node_at g e ≡ Some (Ephe (key ∷ []) datum) → Has IsBare g e → datum ≡ Nothing
+bare_datum g e key datum at x = let same : x.node ≡ Ephe (key ∷ []) datum = (let both : Some x.node ≡ Some (Ephe (key ∷ []) datum) = sym x.at ∙ at in cc) in subst IsBare same x.is
+
+bare_left : (P : Label → Type 0) (key now : Option Label) (datum datum_now : Value) → Thin P (Ephe (key ∷ []) datum) (Some (Ephe (now ∷ []) datum_now)) → datum ≡ Nothing → datum_now ≡ Nothing
+bare_left P key now datum datum_now thin none = ⊎_elim
+    (λ same. (let is : datum_now ≡ datum = (let both : Ephe (now ∷ []) datum_now ≡ Ephe (key ∷ []) datum = cc in cc) in is ∙ none))
+    (λ gone. (let is : Some (Ephe (now ∷ []) datum_now) ≡ Some (Ephe (None ∷ []) Nothing) = gone.3 in cc))
+    thin
 
 module _ (z : Sizes) (limits : IsWithinLimits z) (root : Label) (slots : List Label) (ar index : ℕ) (first f : List Entry) (r : Reply) (legal : Legal z first) (held : held_in z first ar ≡ Block root) (array : IsWeakArray (graph_of z first) root slots)
     (p : Performed z first f (Load 8 ar index) r) where
@@ -176,6 +187,12 @@ module _ (z : Sizes) (limits : IsWithinLimits z) (root : Label) (slots : List La
               clean = cleared_clean z limits g new c;
               array = array_kept (Went z c.second new) [] (graph_of z c.second) (graph_of z new) c.ten.changes root slots (λ l h. refl) array_2;
               keys = emptied_on z first c.second new _ _ _ goes_2.grows c.ten.grows keys_2 (keys_emptied (Went z c.second new) [] (graph_of z c.second) (graph_of z new) c.ten.changes slots (λ l h. refl) array_2.weak);
+              bare = λ before l there.
+                  let start : (m : Label) → IsTrue (has_label slots m) → Has IsBare (graph_of z f) m =
+                  λ m mine. has_kept IsBare bare_lasts (WasOutside z first f) [] (graph_of z first) (graph_of z f) reads_f.goes.changes m refl (before m mine) in
+                  let datum : node_f.1 ≡ Nothing = bare_datum (graph_of z f) e node_f.0 node_f.1 node_f.2 (start e (slot_there slots index e at)) in
+                  has_cleared IsBare bare_lasts z g new c l
+                  (has_once IsBare bare_lasts (Went z f g) e (graph_of z f) (graph_of z g) t.1.changes (record { node = Ephe (Some k ∷ []) t.0.datum_now; at = t.3; is = bare_left (Went z f g) node_f.0 t.0.key_now node_f.1 t.0.datum_now t.0.left datum }) l (start l there));
             },
           )
 

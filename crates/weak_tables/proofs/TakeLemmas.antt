@@ -7,6 +7,7 @@ use Rattle.heap_model.specs.declared.reply.Reply.{Reply}
 use Rattle.heap_model.specs.declared.reply.Reply.TheVariants as reply
 use Rattle.heap_model.specs.declared.graph.Value.{Value}
 use Rattle.heap_model.specs.declared.graph.Value.TheVariants.{Int, Block, Nothing}
+use Rattle.heap_model.specs.declared.graph.Node.TheVariants.{Ephe}
 use Rattle.heap_model.specs.declared.state.Sizes.{Sizes}
 use Rattle.heap_model.specs.Graph.{same_label, has_label, label_of}
 use Rattle.heap_model.specs.Commands.{shown}
@@ -26,10 +27,11 @@ use Rattle.table_laws.proofs.CellLemmas.{in_chain}
 use Rattle.table_laws.proofs.StepLemmas.{forget_step}
 use Rattle.table_laws.proofs.StageLemmas.{held_stays, goes_on, goes_reading, thinned_on, table_reading, bindings_reading}
 use Rattle.table_laws.proofs.FillLemmas.{take_key, take_data, holding_datum}
-use Rattle.weak_tables.specs.Held.{KeepsOthers, IsClean, Reads, Cleared}
+use Rattle.weak_tables.specs.Held.{IsTidy, KeepsOthers, IsClean, Reads, Cleared}
 use Rattle.weak_tables.specs.Walks.{KeepsSpare, Found, Missed, LooksUp}
 use Rattle.weak_tables.specs.Tables.{Takes, Leaves, TakeAnswers}
 use Rattle.weak_tables.proofs.SearchLemmas.{set_here, set_other, keeps_set, below_eight, reads_on}
+use Rattle.weak_tables.proofs.TidyLemmas.{tidy_lasts, has_cleared, has_kept, has_twice}
 
 -- what isn't bound isn't bound where some is taken
 pub thinned_none : (P : Label → Type 0) (k : Label) (a b : List Binding) → ThinnedBy P a b → datum_at a k ≡ None → datum_at b k ≡ None
@@ -184,6 +186,9 @@ module _ (z : Sizes) (limits : IsWithinLimits z) (root : Label) (chains : List (
         left = subst (λ (bs : List Binding). ThinnedBy (WasOutside z first new) (without k (bindings (graph_of z first) chains)) bs) (without_unbound k _ none)
             (cleared_without z limits h new c root chains first k _ (table_labels root chains) goes_h second_step.2.table left_h);
         none = none;
+        tidy = λ before l there. has_cleared IsTidy tidy_lasts z h new c l
+            (has_twice IsTidy tidy_lasts (Went z f g) (Went z g h) x.cell.ephe (graph_of z f) (graph_of z g) (graph_of z h) first_step.0.changes second_step.0.changes (record { node = Ephe (None ∷ []) Nothing; at = second_step.2.at; is = refl }) l
+            (has_kept IsTidy tidy_lasts (WasOutside z first f) [] (graph_of z first) (graph_of z f) x.reads.goes.changes l refl (before l there)));
       }
 
 -- a key that wasn't found

@@ -12,7 +12,7 @@ use Rattle.table_laws.specs.Structures.{IsWeakArray, slot_keys}
 use Rattle.table_laws.specs.Thinning.{EmptiedBy, WasOutside}
 use Rattle.table_laws.specs.Stages.{Goes, graph_of, held_in}
 use Rattle.heap_model.specs.declared.reply.Reply.TheVariants as reply
-use Rattle.weak_tables.specs.Held.{KeepsOthers, IsClean, ReadsArray}
+use Rattle.weak_tables.specs.Held.{AllHave, IsBare, KeepsOthers, IsClean, ReadsArray}
 
 -- nothing was read or written: there is no such slot, or no label to set
 pub record Spares (z : Sizes) (old new : List Entry) (root : Label) (slots : List Label) : Type 0 where
@@ -44,6 +44,7 @@ pub record SetsSlot (z : Sizes) (old new : List Entry) (root : Label) (slots : L
   pub clean : IsClean z new
   pub array : IsWeakArray (graph_of z new) root slots
   pub keys : EmptiedBy (WasOutside z old new) (slice_set (slot_keys (graph_of z old) slots) index (Some k)) (slot_keys (graph_of z new) slots)
+  pub bare : AllHave IsBare (graph_of z old) slots → AllHave IsBare (graph_of z new) slots
 
 abbrev pub SetAnswers : Sizes → List Entry → List Entry → Label → List Label → ℕ → Option Label → Option Label → Reply → Type 0
 SetAnswers z old new root slots index None key r = (r ≡ reply.BadIndex) × Spares z old new root slots
@@ -60,6 +61,7 @@ pub record MakesArray (z : Sizes) (old new : List Entry) (dst count : ℕ) (root
   pub fresh : (l : Label) → IsTrue (has_label (root ∷ slots) l) → node_at (graph_of z old) l ≡ None
   pub array : IsWeakArray (graph_of z new) root slots
   pub empty : slot_keys (graph_of z new) slots ≡ replicate count None
+  pub bare : AllHave IsBare (graph_of z new) slots
 
 -- or an allocation was refused: the register is as it was
 pub record MakesNoArray (z : Sizes) (old new : List Entry) : Type 0 where

@@ -1,9 +1,13 @@
 -- What a call leaves in registers, and the table or weak array that it was called on.
-use Rattle.std.specs.Prelude.{◌≡◌, ◌≢◌, ℕ, List, [], slice_set}
+use Rattle.std.specs.Prelude.{◌≡◌, ◌≢◌, ℕ, IsTrue, List, [], ◌∷◌, slice_set, Option, Some, None}
 use Rattle.heap_model.specs.declared.label.Label.{Label}
 use Rattle.heap_model.specs.declared.entry.Entry.{Entry}
+use Rattle.heap_model.specs.declared.graph.Value.{Value}
 use Rattle.heap_model.specs.declared.graph.Value.TheVariants.{Block, Nothing}
+use Rattle.heap_model.specs.declared.graph.Node.{Node}
+use Rattle.heap_model.specs.declared.graph.Node.TheVariants.{Plain, Raw, Ephe}
 use Rattle.heap_model.specs.declared.state.Sizes.{Sizes}
+use Rattle.heap_model.specs.Graph.{Graph, has_label, node_at}
 use Rattle.table_laws.specs.Structures.{Cell, bindings, IsTable, IsWeakArray, slot_keys}
 use Rattle.table_laws.specs.Thinning.{ThinnedBy, EmptiedBy, WasOutside}
 use Rattle.table_laws.specs.Performing.{After, registers_of}
@@ -52,3 +56,30 @@ pub record ReadsArray (z : Sizes) (first now : List Entry) (root : Label) (slots
   pub goes : Goes z first now []
   pub array : IsWeakArray (graph_of z now) root slots
   pub emptied : EmptiedBy (WasOutside z first now) (slot_keys (graph_of z first) slots) (slot_keys (graph_of z now) slots)
+
+-- no datum where there is no key
+abbrev pub IsOwned : Option Label → Value → Type 0
+IsOwned None datum = datum ≡ Nothing
+IsOwned (Some k) datum = Unit {0}
+
+-- no ephemeron, or one of one key, which has no datum where it has no key
+abbrev pub IsTidy : Node → Type 0
+IsTidy (Plain tag fields) = Unit {0}
+IsTidy (Raw tag fields) = Unit {0}
+IsTidy (Ephe (key ∷ []) datum) = IsOwned key datum
+IsTidy (Ephe _ datum) = ⊥
+
+-- an ephemeron of one key without a datum
+abbrev pub IsBare : Node → Type 0
+IsBare (Ephe (key ∷ []) datum) = datum ≡ Nothing
+IsBare _ = ⊥
+
+-- a label is that of such a block
+pub record Has (Is : Node → Type 0) (g : Graph) (l : Label) : Type 0 where
+  pub node : Node
+  pub at : node_at g l ≡ Some node
+  pub is : Is node
+
+-- and so is each of these
+abbrev pub AllHave : (Node → Type 0) → Graph → List Label → Type 0
+AllHave Is g ls = (l : Label) → IsTrue (has_label ls l) → Has Is g l

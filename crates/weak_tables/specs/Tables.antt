@@ -14,7 +14,7 @@ use Rattle.table_laws.specs.Thinning.{ThinnedBy, WasOutside}
 use Rattle.table_laws.specs.Stages.{Goes, graph_of, held_in}
 use Rattle.heap_model.specs.declared.reply.Reply.TheVariants as reply
 use Rattle.weak_tables.specs.Commands.{value_of}
-use Rattle.weak_tables.specs.Held.{KeepsOthers, IsClean, Reads}
+use Rattle.weak_tables.specs.Held.{AllHave, IsTidy, KeepsOthers, IsClean, Reads}
 use Rattle.weak_tables.specs.Walks.{Grows, Refused}
 
 -- what `table_take` leaves of a table that bound the key: it binds what it bound, without the key
@@ -27,6 +27,7 @@ pub record Takes (z : Sizes) (old new : List Entry) (root : Label) (chains : Lis
   pub bound : datum_at (bindings (graph_of z old) chains) k ≡ Some was
   pub left : ThinnedBy (WasOutside z old new) (without k (bindings (graph_of z old) chains)) (bindings (graph_of z new) chains)
   pub none : datum_at (bindings (graph_of z new) chains) k ≡ None
+  pub tidy : AllHave IsTidy (graph_of z old) (table_labels root chains) → AllHave IsTidy (graph_of z new) (table_labels root chains)
 
 -- what a call leaves that changed no table
 pub record Leaves (z : Sizes) (old new : List Entry) (root : Label) (chains : List (List Cell)) : Type 0 where
@@ -71,6 +72,7 @@ pub record Puts (z : Sizes) (old new : List Entry) (root : Label) (chains : List
   pub table : IsTable (graph_of z new) root grown
   pub left : ThinnedBy (WasOutside z old new) (without k (bindings (graph_of z old) chains)) (without k (bindings (graph_of z new) grown))
   pub bound : datum_at (bindings (graph_of z new) grown) k ≡ Some v
+  pub tidy : AllHave IsTidy (graph_of z old) (table_labels root chains) → AllHave IsTidy (graph_of z new) (table_labels root grown)
 
 -- `table_put`: `type` exactly where one register holds no label or the other nothing, `full` where an allocation was refused
 abbrev pub PutAnswers : Sizes → List Entry → List Entry → Label → List (List Cell) → Option Label → Value → Reply → Type 0

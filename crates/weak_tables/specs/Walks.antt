@@ -18,7 +18,7 @@ use Rattle.table_laws.specs.Stages.{Goes, Searching, Walking, Holding, Declines,
 use Rattle.weak_tables.specs.declared.find.Find.{Find}
 use Rattle.weak_tables.specs.declared.find.Find.TheVariants.{Key, Spare, Nowhere}
 use Rattle.heap_model.specs.declared.reply.Reply.TheVariants as reply
-use Rattle.weak_tables.specs.Held.{KeepsOthers, Reads}
+use Rattle.weak_tables.specs.Held.{AllHave, IsTidy, KeepsOthers, Reads}
 
 -- register 8 holds the ephemeron of one of these cells, and it has no key
 pub record HoldsSpare (z : Sizes) (h : List Entry) (cells : List Cell) : Type 0 where
@@ -138,6 +138,7 @@ pub record Ready (z : Sizes) (first now : List Entry) (root : Label) (chains : L
   pub holding : Holding z now root grown k (k.serial % bucket_count) done cell rest key datum
   pub ephe : held_in z now 8 ≡ Block cell.ephe
   pub left : ThinnedBy (WasOutside z first now) (without k (bindings (graph_of z first) chains)) (without k (bindings (graph_of z now) grown))
+  pub tidy : AllHave IsTidy (graph_of z first) (table_labels root chains) → AllHave IsTidy (graph_of z now) (table_labels root grown)
 
 -- or no room was found for one, and no binding was put or taken
 pub record Refused (z : Sizes) (first now : List Entry) (root : Label) (chains : List (List Cell)) : Type 0 where

@@ -1,10 +1,11 @@
 //! What the calls need of a session.
-ghost use Rattle.std.specs.Prelude.{◌≡◌, ◌+◌, ◌<◌, ◌≤◌, ℕ, List};
+ghost use Rattle.std.specs.Prelude.{◌≡◌, ◌+◌, ◌<◌, ◌≤◌, ℕ, List, []};
 ghost use Rattle.heap_model.specs.declared.entry.Entry.{Entry};
 ghost use Rattle.heap_model.specs.declared.state.Sizes.{Sizes};
-ghost use Rattle.heap_model.specs.Domains.{IsWithinLimits, domain_at};
+ghost use Rattle.heap_model.specs.Domains.{IsWithinLimits, domain_at, opening};
 ghost use Rattle.heap_model.specs.History.{Legal};
 ghost use Rattle.heap_model.specs.Commands.{shown};
+ghost use Rattle.heap_model.specs.Registrations.{all_registered};
 ghost use Rattle.table_laws.specs.Thinning.{state_of};
 ghost use Rattle.table_laws.specs.Performing.{Performed, refusals, full_of, writes, writings};
 ghost use Rattle.table_laws.specs.Stages.{held_in};
@@ -29,12 +30,13 @@ pub trait Machine {
     /// How many ephemerons fit into the domain's list.
     ghost ephes_room: { Self → ℕ };
 
-    /// Nothing changes. There is one domain, the numbers are within their limits, the history is legal, and each label
-    /// was given out or is left.
+    /// Nothing changes. There is one domain, the numbers are within their limits, the history is legal and registers no
+    /// finaliser, and each label was given out or is left.
     fn stands(&self)
         ensures alone { (sizes self.now).domains ≡ 1 }
         ensures limits { IsWithinLimits (sizes self.now) }
         ensures legal { Legal (sizes self.now) (front self.now) }
+        ensures unregistered { all_registered 0 (opening (sizes self.now)) (front self.now) ≡ [] }
         ensures labels { (domain_at (state_of (sizes self.now) (front self.now)) 0).serial + labels_left self.now ≡ 4294967295 };
 
     /// The reply that shows what a register holds. No entry is made.

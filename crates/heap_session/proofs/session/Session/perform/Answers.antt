@@ -1,6 +1,7 @@
 use Rattle.std.proofs.Common.{subst, ◌≡◌, ◌≤◌, ◌+◌}
 use Rattle.command_counts.specs.Counts.{ephemerons_given, labels_given}
 use Rattle.table_laws.specs.Performing.{Performed}
+use Rattle.domain_turns.specs.Tries.{registrations_of}
 use Rattle.heap_session.specs.Sessions.{SessionView}
 use Rattle.heap_rule.specs.Limits.{sizes_in}
 use Rattle.heap_session.proofs.Driven.{performed, rests_again, submitted}
@@ -29,4 +30,4 @@ pub invariant_of-self : goal.invariant_of-self
 invariant_of-self g c =
     let start = c.self.inside.run.token.view in
     let awaits = submitted c.self.inside.heap c.self.inside.run c.submit.new.self c.args.command c.self.invariant.0 c.submit.ensures in
-    (rests_again c.self.inside.heap start c.args.command c.await_answer.result c.await_answer.new.run c.config-limits.ensures.limits c.self.invariant.0.given (c.await_answer.ensures.answered start c.args.command awaits), c.self.invariant.1, c.self.invariant.2)
+    (rests_again c.self.inside.heap start c.args.command c.await_answer.result c.await_answer.new.run c.config-limits.ensures.limits c.self.invariant.0.given c.self.invariant.0.unregistered c.requires.may.registers_none (c.await_answer.ensures.answered start c.args.command awaits), c.self.invariant.1, c.self.invariant.2)

@@ -1,7 +1,7 @@
 use Rattle.std.proofs.Common.{ap, ◌∙◌, codes}
 use Rattle.clap.specs.Words.{App, Text, with_rule}
 use Rattle.command_line.specs.Commands.{option_rule}
-use Rattle.command_line.proofs.parse.run_command.Goals as goal
+use Rattle.command_line.proofs.parse.options_command.Goals as goal
 
 pub returns-clause-shape : goal.returns-clause-shape
 returns-clause-shape c =

@@ -1,0 +1,74 @@
+#!/usr/bin/env bash
+# Runs texts of tables by the program. First random texts, whose outputs the machine of bench/tables/machine.py judges. Then a text of as
+# many fresh keys as a text has lines for, of which five are held at a time, on the least heap: it must have no line `full`. Last it counts
+# instructions by valgrind: what `get` costs by how many bindings there are, and what a command costs that a session is handed beside one
+# of a script. COUNT says how many random texts there are, 2000 without it. It ends with 1 where an output is wrong. CAMLHEAP names
+# another program than the proved one.
+set -euo pipefail
+shopt -s inherit_errexit
+export LC_ALL=C
+top=$(cd "$(dirname "${BASH_SOURCE[0]}")/.." && pwd)
+work=$(mktemp -d)
+trap 'rm -rf "$work"' EXIT
+if [ -n "${CAMLHEAP:-}" ]; then
+    program=$CAMLHEAP
+else
+    "$top/camlheap" table <"$top/examples/bindings.table" >/dev/null
+    cp "$top/crates/camlheap/out/camlheap" "$work/camlheap"
+    program=$work/camlheap
+fi
+
+python3 "$top/bench/tables/machine.py" random "$program" "${COUNT:-2000}"
+
+# The lines of a text of $1 fresh keys, each of which is bound. A register holds a key until it gets the fifth after it.
+fresh() {
+    awk -v keys="$1" 'BEGIN {
+        print "table 1"
+        for (k = 0; k < keys; k++) print "key " k % 5 + 1 "\nput " k % 5 + 1 " " k
+    }'
+}
+
+fresh 5000 >"$work/fresh"
+"$program" table --minor 4096 --pools 51 <"$work/fresh" >"$work/out"
+python3 "$top/bench/tables/machine.py" check "$work/fresh" "$work/out" 4096 51
+echo "5000 fresh keys, five held at a time, in the least heap: $(grep -c full "$work/out" || true) lines full"
+
+# The instructions of a run of the words $2.. over the file $1.
+instructions() {
+    local input=$1
+    shift
+    valgrind --tool=callgrind --callgrind-out-file="$work/counted" "$program" "$@" <"$input" >"$work/out" 2>"$work/error"
+    awk '/^summary:/ { print $2 }' "$work/counted"
+}
+
+# What a line costs by which the text of $1 is longer than the text of $2, both run by the words $4..; there are $3 such lines.
+difference() {
+    local long=$1 short=$2 lines=$3
+    shift 3
+    echo $((($(instructions "$long" "$@") - $(instructions "$short" "$@")) / lines))
+}
+
+# A text of $1 bindings, whose keys are let go of one after the other and are in no collection before its end, and then $2 times `get`.
+bound() {
+    awk -v keys="$1" -v gets="$2" 'BEGIN {
+        print "table 1"
+        for (k = 0; k < keys; k++) print "key 1\nput 1 " k
+        for (k = 0; k < gets; k++) print "get 1"
+    }'
+}
+
+for bindings in 64 1000 2000 4000; do
+    bound "$bindings" 0 >"$work/none"
+    bound "$bindings" 100 >"$work/gets"
+    { bound "$bindings" 0 && echo count; } >"$work/count"
+    there=$("$program" table --minor 65536 --pools 2048 <"$work/count" | tail -n 1)
+    echo "get in a table of $bindings bindings ($there): $(difference "$work/gets" "$work/none" 100 table --minor 65536 --pools 2048) instructions"
+done
+
+# One command in both: a register is emptied.
+{ echo "table 1" && yes "forget 1" | head -n 1000; } >"$work/session_short"
+{ echo "table 1" && yes "forget 1" | head -n 9000; } >"$work/session_long"
+{ printf 'heap 1\ndomain 0\n' && yes "drop 1" | head -n 1000; } >"$work/script_short"
+{ printf 'heap 1\ndomain 0\n' && yes "drop 1" | head -n 9000; } >"$work/script_long"
+echo "a register emptied by a session: $(difference "$work/session_long" "$work/session_short" 8000 table) instructions, with the line read and its reply written"
+echo "by a script: $(difference "$work/script_long" "$work/script_short" 8000 run --domains 1) instructions"

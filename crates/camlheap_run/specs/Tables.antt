@@ -1,0 +1,62 @@
+-- A run of a text of a table by the program.
+use Rattle.std.specs.Prelude.{◌≡◌, ℕ, ◌+◌, ◌≤◌, List, [], length, vec_capacity, Option, Some}
+use Rattle.std.specs.Io.KnownBytes.{Appends}
+use Rattle.heap_model.specs.declared.state.Sizes.{Sizes}
+use Rattle.heap_model.specs.Domains.{class_count}
+use Rattle.heap_model.specs.History.{Legal}
+use Rattle.heap_rule.specs.Ending.{EndedHeap}
+use Rattle.heap_session.specs.Sessions.{alone}
+use Rattle.table_text.specs.declared.line.TableLine.{TableLine}
+use Rattle.table_machine.specs.declared.reply.LineReply.{LineReply}
+use Rattle.table_machine.specs.Texts.{replies_text}
+use Rattle.table_run.specs.Running.{TextRuns}
+use Rattle.command_line.specs.Jobs.{AreTableSizes}
+use Rattle.camlheap_run.specs.declared.table.Opened.{Opened}
+use Rattle.camlheap_run.specs.Reading.{ReadsTable}
+use Rattle.camlheap_run.specs.Writing.{AppendsFront}
+
+-- sizes of a heap with all classes on which a text of a table may be run
+abbrev pub MayHoldTable : Sizes → Type 0
+MayHoldTable z = AreTableSizes z × (z.classes ≡ class_count)
+
+-- for how many ephemerons there is room: those of the sixteen slots, and one for each line
+abbrev pub ephemerons_for : List TableLine → ℕ
+ephemerons_for lines = 16 + length lines
+
+-- a session of such a heap that has made no command, and room for a reply to each line
+pub record IsOpened (z : Sizes) (lines : List TableLine) (o : Opened) : Type 0 where
+  pub session : o.session ≡ record { config = alone z.minor_words z.pools (ephemerons_for lines); front = []; labels = 0; room = ephemerons_for lines }
+  pub empty : o.room.items ≡ []
+  pub capacity : length lines ≤ vec_capacity o.room
+
+-- the heap that has ended is one of these sizes, its history is legal, and this text was run in it, with these replies
+pub record HasRunTable (z : Sizes) (lines : List TableLine) (replies : List LineReply) (ended : Option EndedHeap) : Type 0 where
+  pub past : EndedHeap
+  pub is_past : ended ≡ Some past
+  pub sizes : past.sizes ≡ z
+  pub legal : Legal z past.history
+  pub runs : TextRuns z lines replies past.history
+
+-- such a run, and its replies were written
+pub record WritesTable (z : Sizes) (lines : List TableLine) (ended : Option EndedHeap) (before after : Option (List ℕ)) : Type 0 where
+  pub replies : List LineReply
+  pub ran : HasRunTable z lines replies ended
+  pub written : Appends before after (replies_text replies)
+
+-- such a run, and a front part of the text of its replies was written
+pub record WritesFrontOfTable (z : Sizes) (lines : List TableLine) (ended : Option EndedHeap) (before after : Option (List ℕ)) : Type 0 where
+  pub replies : List LineReply
+  pub ran : HasRunTable z lines replies ended
+  pub written : AppendsFront before after (replies_text replies)
+
+-- Done: the source was read to its end, its bytes spell a text of a table, a heap made a run of it, and its replies were written
+pub record TableRunsToEnd (z : Sizes) (ended : Option EndedHeap) (left_before left_after written_before written_after : Option (List ℕ)) : Type 0 where
+  pub lines : List TableLine
+  pub reads : ReadsTable left_before left_after lines
+  pub writes : WritesTable z lines ended written_before written_after
+
+-- WriteFault: the same, and a front part was written
+pub record TableStopsWriting (z : Sizes) (ended : Option EndedHeap) (left_before left_after written_before written_after : Option (List ℕ)) : Type 0 where
+  pub lines : List TableLine
+  pub reads : ReadsTable left_before left_after lines
+  pub writes : WritesFrontOfTable z lines ended written_before written_after

@@ -1,0 +1,55 @@
+//! Writes the replies of a text of a table, line by line.
+ghost use Rattle.std.specs.Prelude.{◌≡◌, ◌≤◌, take};
+ghost use Rattle.heap_model.specs.Output.{line};
+ghost use Rattle.outer_io.specs.Faults.{HasCause};
+ghost use Rattle.table_machine.specs.Texts.{line_reply_text, replies_text};
+ghost use Rattle.camlheap_run.specs.Writing.{Writes};
+
+use crate::putting::{put, put_integer, put_number};
+use crate::writing::write_all;
+use outer_io::{Failed, Sink};
+use table_machine::LineReply;
+
+// Puts what is written for a line, without its line feed, at the front of the buffer, and answers where it ends.
+fn put_answer(out: &mut [u8; 128], reply: LineReply) -> usize
+    ensures end { result ≤ 64 }
+    ensures front { take result out.new ≡ line_reply_text reply }
+{
+    match reply {
+        LineReply::Done => put(out, 0, b"ok"),
+        LineReply::Full => put(out, 0, b"full"),
+        LineReply::BadType => put(out, 0, b"type"),
+        LineReply::Empty => put(out, 0, b"none"),
+        LineReply::Yes => put(out, 0, b"yes"),
+        LineReply::Number(value) => {
+            let at = put(out, 0, b"int ");
+            put_integer(out, at, value)
+        }
+        LineReply::Counted(count) => {
+            let at = put(out, 0, b"count ");
+            put_number(out, at, u64::from(count))
+        }
+    }
+}
+
+// Writes the line of a reply.
+fn write_answer<K: Sink>(out: &mut K, reply: LineReply) -> Result<(), Failed>
+    ensures cause { HasCause (K.faults out.old) (K.faults out.new) result }
+    ensures bytes { Writes (K.written out.old) (K.written out.new) result (line (line_reply_text reply)) }
+{
+    let mut text = [0; 128];
+    let at = put_answer(&mut text, reply);
+    let length = put(&mut text, at, b"\n");
+    write_all(out, &text[..length])
+}
+
+// Writes the lines of replies, in order.
+pub(crate) fn write_answers<K: Sink>(out: &mut K, replies: &[LineReply]) -> Result<(), Failed>
+    ensures cause { HasCause (K.faults out.old) (K.faults out.new) result }
+    ensures bytes { Writes (K.written out.old) (K.written out.new) result (replies_text replies.now) }
+{
+    'replies: for reply in replies {
+        write_answer(out, *reply)?;
+    }
+    Ok(())
+}
