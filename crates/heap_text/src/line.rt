@@ -19,6 +19,7 @@ use std::alloc::Global;
 const MAX_COMMANDS: u32 = 200_000;
 
 // The place of the first number outside the range of its operand, counted from 1.
+#[inline(always)]
 fn first_out_of_range(grammar: &Grammar, kinds: &[Operand], numbers: &[i64]) -> Option<u32>
     requires few { length kinds.now ≤ 4 }
     requires counted { length numbers.now ≡ length kinds.now }
