@@ -1,5 +1,6 @@
 -- The generator's script is within the limits of the format.
-use Rattle.heap_text.specs.declared.version.Version.TheVariants.{One}
+use Rattle.heap_text.specs.declared.version.Version.{Version}
+use Rattle.heap_text.specs.declared.version.Version.TheVariants.{One, Two, Three}
 use Rattle.std.proofs.Common.{◌≡◌, ℕ, ◌+◌, ◌-◌, ◌*◌, ◌/◌, ◌%◌, ◌≤◌, ◌<◌, zero, suc, pos, List, [], ◌∷◌, ◌++◌, map, length, replicate, Bool, true, false, cond, ◌&&◌, refl, ap, sym, ◌∙◌, subst, arith, lit≤, sum_by}
 use Rattle.std.specs.Prelude.{◌==◌}
 use Rattle.std.specs.List.{list_all, range_with_len}
@@ -11,7 +12,7 @@ use Rattle.std.proofs.lemmas.Bool.Decides.{nat_tests}
 use Rattle.std.proofs.lemmas.Int.{ints}
 use Rattle.heap_model.specs.declared.command.Command.{Command}
 use Rattle.heap_model.specs.declared.command.Command.TheVariants.{PutInt, Alloc, Load, Store, Finalise, FinaliseLast}
-use Rattle.heap_text.specs.Forms.{is_writable}
+use Rattle.heap_text.specs.Forms.{version_number, is_writable}
 use Rattle.heap_text.specs.Spawning.{start}
 use Rattle.heap_text.specs.Generated.{chain_row, ephemeron_row, collection_row, row_of, command_at, section_of, generated}
 use Rattle.heap_text.specs.Spelling.{spelling, IsWritten, Spells}
@@ -127,11 +128,16 @@ none_empty domains sections e =
     let none : 0 ≡ domains - length sections = omega arith in
     sym (append-nil sections) ∙ ap (λ n. sections ++ replicate n []) none
 
-pub generated_spelled : (base domains commands : ℕ) (script : List (List Command)) → base ≤ 1000000 → 1 ≤ domains → domains ≤ 8 → domains * commands ≤ 200000 → script ≡ generated base domains commands → Spells One domains (record { version = One; sections = script }) (spelling One script)
-generated_spelled base domains commands script b some few room e =
+oldest : (newest : Version) → 1 ≤ version_number newest
+oldest One = lit≤ tt
+oldest Two = lit≤ tt
+oldest Three = lit≤ tt
+
+pub generated_spelled : (newest : Version) (base domains commands : ℕ) (script : List (List Command)) → base ≤ 1000000 → 1 ≤ domains → domains ≤ 8 → domains * commands ≤ 200000 → script ≡ generated base domains commands → Spells newest domains (record { version = One; sections = script }) (spelling One script)
+generated_spelled newest base domains commands script b some few room e =
     let is_written = generated_written base domains commands script b some few room e in
     record {
-      is_read = lit≤ tt;
+      is_read = oldest newest;
       written = script;
       is_written = is_written;
       bytes_are = refl;
