@@ -1,6 +1,7 @@
 -- What is read of a source. Where the source tells its bytes, these are the bytes that it had left.
 use Rattle.std.specs.Prelude.{◌≡◌, ◌≢◌, ℕ, ◌≤◌, ◌⊎◌, List, length, take, Option, None, Some}
 use Rattle.std.specs.Io.KnownBytes.{Consumes, IsAtEnd}
+use Rattle.heap_text.specs.declared.version.Version.TheVariants.{Two}
 use Rattle.heap_text.specs.Script.{Scripted}
 use Rattle.heap_text.specs.declared.fault.ScriptFault.{ScriptFault}
 use Rattle.heap_text.specs.declared.fault.ScriptFault.TheVariants.{Memory}
@@ -30,7 +31,7 @@ pub record ReadsAll (Spelled : List ℕ → Type 0) (before after : Option (List
 
 -- they spell this script
 abbrev pub ReadsScript : ℕ → Option (List ℕ) → Option (List ℕ) → Scripted → Type 0
-ReadsScript domains before after script = ReadsAll (Spells domains script) before after
+ReadsScript domains before after script = ReadsAll (Spells Two domains script) before after
 
 -- they spell this text of a table
 abbrev pub ReadsTable : Option (List ℕ) → Option (List ℕ) → List TableLine → Type 0
@@ -38,7 +39,7 @@ ReadsTable before after lines = ReadsAll (SpellsTable lines) before after
 
 -- some bytes spell this script
 abbrev pub IsSpelled : ℕ → Scripted → Type 0
-IsSpelled domains script = (bytes : List ℕ) × Spells domains script bytes
+IsSpelled domains script = (bytes : List ℕ) × Spells Two domains script bytes
 
 -- the bytes that were read have this first fault, of what a grammar says the first fault of bytes is
 pub record ReadsFirst (first_of : List ℕ → Option ScriptFault) (before after : Option (List ℕ)) (fault : ScriptFault) : Type 0 where
@@ -48,7 +49,7 @@ pub record ReadsFirst (first_of : List ℕ → Option ScriptFault) (before after
   pub is_fault : fault ≢ Memory
 
 abbrev pub ReadsFault : ℕ → Option (List ℕ) → Option (List ℕ) → ScriptFault → Type 0
-ReadsFault domains before after fault = ReadsFirst (first_fault domains) before after fault
+ReadsFault domains before after fault = ReadsFirst (first_fault Two domains) before after fault
 
 -- the source tells its bytes, and they are spelled so
 abbrev pub Tells : (List ℕ → Type 0) → Option (List ℕ) → Type 0
@@ -57,7 +58,7 @@ Tells Spelled (Some bytes) = Spelled bytes
 
 -- they spell this script
 abbrev pub TellsScript : ℕ → Option (List ℕ) → Scripted → Type 0
-TellsScript domains told script = Tells (Spells domains script) told
+TellsScript domains told script = Tells (Spells Two domains script) told
 
 -- they spell this text of a table
 abbrev pub TellsTable : Option (List ℕ) → List TableLine → Type 0
@@ -69,7 +70,7 @@ TellsFirst first_of None fault = ⊥
 TellsFirst first_of (Some bytes) fault = first_of (take most_read bytes) ≡ Some fault
 
 abbrev pub TellsFault : ℕ → Option (List ℕ) → ScriptFault → Type 0
-TellsFault domains told fault = TellsFirst (first_fault domains) told fault
+TellsFault domains told fault = TellsFirst (first_fault Two domains) told fault
 
 -- why there is no script: its fault, or want of memory
 abbrev pub IsNoScript : ScriptFault → NoScript → Type 0

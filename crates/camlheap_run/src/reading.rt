@@ -7,7 +7,7 @@ ghost use Rattle.table_text.specs.declared.line.TableLine.{TableLine};
 ghost use Rattle.table_text.specs.Faults.{first_fault as table_fault};
 ghost use Rattle.camlheap_run.specs.Reading.{AreRead, ReadsScript, ReadsTable, ReadsFault, ReadsFirst, IsNoScript, TellsScript, TellsTable, TellsFault, TellsFirst};
 
-use heap_text::{Script, ScriptFault, read_script};
+use heap_text::{Script, ScriptFault, Version, read_script};
 use outer_io::Source;
 use std::alloc::Global;
 use table_text::{TableText, read_table};
@@ -86,7 +86,7 @@ pub(crate) fn script_of<S: Source>(
         Err(ReadStop::Fault) => return Err(NoScript::ReadFault),
         Err(ReadStop::Memory) => return Err(NoScript::Memory),
     };
-    match read_script(alloc, domains, &bytes) {
+    match read_script(alloc, Version::Two, domains, &bytes) {
         Ok(script) => Ok(script),
         Err(fault) => Err(no_script(fault)),
     }

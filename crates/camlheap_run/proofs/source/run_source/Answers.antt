@@ -1,5 +1,6 @@
 use Rattle.std.proofs.Common.{◌≡◌, sym, ap, inl, ◌∙◌}
 use Rattle.camlheap_run.specs.declared.status.Status.TheVariants.{Script}
+use Rattle.heap_text.specs.declared.version.Version.TheVariants.{Two}
 use Rattle.heap_text.specs.Faults.{first_fault}
 use Rattle.camlheap_run.proofs.ReadingLemmas.{told_fault}
 use Rattle.camlheap_run.proofs.source.run_source.Goals as goal
@@ -7,7 +8,7 @@ use Rattle.camlheap_run.proofs.source.run_source.Goals as goal
 pub returns-in-Err-Refused-clause-refused : goal.returns-in-Err-Refused-clause-refused
 returns-in-Err-Refused-clause-refused g c = λ f told sure.
     let reads = c.in-Err-Refused.ensures.refused c.in-Err-Refused.fault (cc c.in-Err-Refused.field-0-is) in
-    let first = told_fault (first_fault c.args.sizes.now.domains) _ _ reads.bytes f reads.are_read told in
+    let first = told_fault (first_fault Two c.args.sizes.now.domains) _ _ reads.bytes f reads.are_read told in
     let same : c.in-Err-Refused.fault ≡ f = cc (sym reads.first ∙ first) in
     rw c.in-Err-Refused.field-0-is (inl (ap Script same))
 
