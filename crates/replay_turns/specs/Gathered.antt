@@ -27,11 +27,11 @@ is_running (Some kind) = false
 
 -- a run as a replay sees it
 abbrev pub one_run : RunView → OneRun
-one_run r = record { left = drop r.next r.commands; replies = r.replies; asked = is_asked r.asked; full = r.collected; runs = is_running r.left; ended = r.ended }
+one_run r = record { left = drop r.next r.commands; replies = r.replies; asked = is_asked r.asked; runs = is_running r.left; ended = r.ended }
 
 -- where none is there
 abbrev pub run_at : Option RunView → OneRun
-run_at None = record { left = []; replies = []; asked = false; full = false; runs = true; ended = true }
+run_at None = record { left = []; replies = []; asked = false; runs = true; ended = true }
 run_at (Some r) = one_run r
 
 -- whether a number is even
@@ -92,6 +92,7 @@ pub record IsHeld (g : GatheredView) (d : ℕ) (r : RunView) : Type 0 where
   pub here : IsIn r.token g.heap
   pub number : r.token.view.own.number ≡ d
   pub listed : r.supply ≡ Listed
+  pub collected : r.collected ≡ false
   pub walk : d ≡ 0 → Walk g.complete r
 
 -- what is always true of them: there is a run for each domain of the heap

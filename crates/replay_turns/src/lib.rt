@@ -1,13 +1,14 @@
-// A library with one function.
+//! The runs of one heap that one thread drives, as a replay turns them.
+//!
+//! All domains are driven by their runs' holder, so that each sees what the others have made before it makes
+//! a step of its own. Domain 0 leads the pauses as the holder says, whatever the domains wish.
 #![tactic(auto)]
 
-ghost use Rattle.std.specs.Prelude.{◌≡◌};
-ghost use Rattle.replay_turns.specs.Echo.{echo_of};
+mod gathered;
+//mod halting;
+mod meeting;
+//mod passing;
+//mod stepping;
+//mod together;
 
-// The `ensures` clause is the contract: what `echo` returns is `echo_of` of its argument, a definition
-// in `specs/Echo.antt`, which a caller's clause can cite too.
-pub fn echo(x: usize) -> usize
-    ensures { result ≡ echo_of x }
-{
-    x
-}
+pub use gathered::Gathered;

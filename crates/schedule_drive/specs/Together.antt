@@ -19,12 +19,11 @@ pub data Lead : Type 0 where
   Leads : Bool → Lead
   Answers : Lead
 
--- One run: the commands that are left, the replies so far, whether it has asked for a pause for its next command, whether that may be answered `full`, whether its domain runs and hasn't arrived, and whether its trace has ended
+-- One run: the commands that are left, the replies so far, whether it has asked for a pause for its next command, whether its domain runs and hasn't arrived, and whether its trace has ended
 pub record OneRun : Type 0 where
   pub left : List Command
   pub replies : List Reply
   pub asked : Bool
-  pub full : Bool
   pub runs : Bool
   pub ended : Bool
 
@@ -74,22 +73,20 @@ SharesOn old new own = (g : List Entry) → new g → (h : List Entry) × old h 
 abbrev pub Unqueued : Sizes → (List Entry → Type 0) → ℕ → Type 0
 Unqueued z shares d = (g : List Entry) → shares g → (domain_at (state_after (opening z) g) d).queue ≡ []
 
--- the next command was made, with or without the answer `full`. It isn't a `full_major`
+-- the next command was made, which isn't a `full_major`. It wasn't answered `full`
 pub record MakesNext (d : ℕ) (x y : OneRun) (own : List Entry) : Type 0 where
   pub command : Command
-  pub full : Bool
   pub others : List Command
   pub next : x.left ≡ command ∷ others
   pub short : command ≢ FullMajor
-  pub made : own ≡ CommandOf d command full ∷ []
-  pub allowed : full ≡ true → x.full ≡ true
-  pub run : y ≡ record x { left = others; replies = y.replies; asked = false; full = false }
+  pub made : own ≡ CommandOf d command false ∷ []
+  pub run : y ≡ record x { left = others; replies = y.replies; asked = false }
 
 -- the end of the trace was made
 pub record MakesEnd (d : ℕ) (x y : OneRun) (own : List Entry) : Type 0 where
   pub none : x.left ≡ []
   pub made : own ≡ End d ∷ []
-  pub run : y ≡ record x { full = false; ended = true }
+  pub run : y ≡ record x { ended = true }
 
 -- the next command is a `full_major`, and no finaliser waits before it
 pub record AsksComplete (z : Sizes) (shares : List Entry → Type 0) (d : ℕ) (x y : OneRun) (own : List Entry) : Type 0 where
@@ -118,7 +115,7 @@ pub record Turned (shares_old shares_new : List Entry → Type 0) (old new : All
 
 -- a run whose domain has arrived
 abbrev pub halted : OneRun → OneRun
-halted x = record x { full = false; runs = false }
+halted x = record x { runs = false }
 
 -- all domains have arrived, and domain 0 leads a pause in which a complete collection is made or isn't
 abbrev pub all_halted : Bool → AllRuns → AllRuns
@@ -145,13 +142,12 @@ pub record IsAnswered (d : ℕ) (x y : OneRun) (own : List Entry) : Type 0 where
   pub next : x.left ≡ FullMajor ∷ others
   pub asked : x.asked ≡ true
   pub made : own ≡ CommandOf d FullMajor false ∷ []
-  pub run : y ≡ record x { left = others; replies = y.replies; asked = false; full = false }
+  pub run : y ≡ record x { left = others; replies = y.replies; asked = false }
 
--- or none was. Where it had asked for a pause its next command may be answered `full` from now on
+-- or none was
 pub record IsntAnswered (x y : OneRun) (own : List Entry) : Type 0 where
   pub made : own ≡ []
-  pub asked : y.full ≡ true → (x.full ≡ true) ⊎ (x.asked ≡ true)
-  pub run : y ≡ record x { full = y.full; runs = y.runs }
+  pub run : y ≡ record x { runs = y.runs }
 
 -- a step of domain d, which has arrived, in the pause: nothing else changes
 pub record Passed (shares_old shares_new : List Entry → Type 0) (old new : AllRuns) (d : ℕ) : Type 0 where

@@ -46,6 +46,11 @@ pub trait TogetherRuns {
         requires { at < length (seen self.now).runs }
         ensures { Has (λ x. x.runs) result (seen self.now) at };
 
+    /// Whether a run has asked for a pause for its next command.
+    fn has_asked(&self, at: usize) -> bool
+        requires { at < length (seen self.now).runs }
+        ensures { Has (λ x. x.asked) result (seen self.now) at };
+
     /// One turn of a run, while all domains run.
     fn turn<R: Wait>(&mut self, rt: &R, at: usize) -> Stepped
         requires inside { at < length (seen self.old).runs }
