@@ -1,2 +1,5 @@
 pub mod Places
 pub mod Behind
+pub mod Walk
+pub mod Grown
+pub mod PassLemmas

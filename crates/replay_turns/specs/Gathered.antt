@@ -1,18 +1,17 @@
 -- The runs of one heap that one thread drives, and which histories they may share.
-use Rattle.std.specs.Prelude.{◌≡◌, ◌⊎◌, ◌<◌, ◌%◌, ◌==◌, if◌then◌else◌, ℕ, Bool, true, false, List, [], ◌∷◌, ◌++◌, drop, length, map, slice_get, Option, Some, None}
+use Rattle.std.specs.Prelude.{◌≡◌, ◌≢◌, ◌⊎◌, ◌<◌, ◌%◌, ◌==◌, if◌then◌else◌, ℕ, Bool, true, false, List, [], ◌∷◌, ◌++◌, drop, length, map, slice_get, Option, Some, None}
 use Rattle.heap_model.specs.declared.entry.Entry.{Entry}
 use Rattle.heap_model.specs.Fronts.{AreNotControls, NoneOf}
 use Rattle.heap_model.specs.History.{Legal}
 use Rattle.heap_rule.specs.declared.phase.Kind.{Kind}
-use Rattle.heap_rule.specs.declared.phase.Kind.TheVariants.{Run, Promote, Reset, Answer}
-use Rattle.heap_rule.specs.declared.phase.Progress.{Progress}
+use Rattle.heap_rule.specs.declared.phase.Kind.TheVariants.{Run, Answer}
 use Rattle.heap_rule.specs.Limits.{sizes_in}
 use Rattle.heap_rule.specs.Meeting.{Trails}
 use Rattle.heap_rule.specs.Token.{SharedHeap, IsIn}
 use Rattle.domain_turns.specs.declared.supply.Supply.TheVariants.{Listed}
 use Rattle.domain_turns.specs.Runs.{RunView, IsRun, is_asked}
-use Rattle.schedule_drive.specs.Together.{AllRuns, OneRun, Lead, Controls, IsAnswered, IsntAnswered}
-use Rattle.schedule_drive.specs.Together.Lead.{Rests, Leads, Answers}
+use Rattle.replay_turns.specs.Walk.{IsWalk}
+use Rattle.schedule_drive.specs.Together.{AllRuns, OneRun, Lead, Rests, Leads, Answers, LeadStep, IsAnswered, IsntAnswered}
 
 -- the runs, each at the place of its domain, and whether a complete collection is made in the pause that domain 0 leads
 pub record GatheredView : Type 0 where
@@ -66,25 +65,11 @@ pub record MayShare (g : GatheredView) (h : List Entry) : Type 0 where
   pub legal : Legal (sizes_in g.heap.config) h
   pub trails : (d : ℕ) (r : RunView) → HasRun g.runs d r → Trails h r.token.view
 
--- the kinds of phases of a pause without a collection of the major heap
-abbrev pub IsShort : Option Kind → Type 0
-IsShort None = Unit {0}
-IsShort (Some Run) = Unit {0}
-IsShort (Some Promote) = Unit {0}
-IsShort (Some Reset) = Unit {0}
-IsShort (Some _) = ⊥
-
--- the kinds of phases before a collection of the major heap begins or after it has ended
-abbrev pub IsOutside : Option Kind → Type 0
-IsOutside (Some Answer) = Unit {0}
-IsOutside left = IsShort left
-
--- domain 0's way through the pauses of a replay: no collection goes on beside running domains, none leaves garbage, one is made only where it is to be a complete one, and it began in this pause
+-- domain 0's way through the pauses of a replay: no collection goes on beside running domains, none leaves garbage, and where it has arrived the walk goes on
 pub record Walk (complete : Bool) (r : RunView) : Type 0 where
   pub armed : r.progress.armed ≡ false
   pub unswept : r.progress.unswept ≡ false
-  pub short : complete ≡ false → IsShort r.left
-  pub whole : IsOutside r.left ⊎ (r.progress.whole ≡ true)
+  pub on : (kind : Kind) → r.left ≡ Some kind → IsWalk complete kind r.progress
 
 -- the run at the place d
 pub record IsHeld (g : GatheredView) (d : ℕ) (r : RunView) : Type 0 where
@@ -114,7 +99,8 @@ pub record Steps (d : ℕ) (old new own : List Entry) : Type 0 where
 -- one step in a pause of domain d
 pub record PassedBy (complete : Bool) (d : ℕ) (r s : RunView) : Type 0 where
   pub control : List Entry
-  pub controls : Controls d (lead_of complete r) (lead_of complete s) control
+  pub leads : d ≡ 0 → LeadStep (lead_of complete r) (lead_of complete s) control
+  pub silent : d ≢ 0 → control ≡ []
   pub own : List Entry
   pub tells : IsAnswered d (one_run r) (one_run s) own ⊎ IsntAnswered (one_run r) (one_run s) own
   pub steps : Steps d r.token.view.seen.front s.token.view.seen.front (control ++ own)

@@ -5,10 +5,10 @@
 #![tactic(auto)]
 
 mod gathered;
-//mod halting;
+mod halting;
 mod meeting;
-//mod passing;
-//mod stepping;
+mod passing;
+mod stepping;
 //mod together;
 
 pub use gathered::Gathered;

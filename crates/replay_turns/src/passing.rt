@@ -1,0 +1,48 @@
+//! A step in a pause.
+ghost use Rattle.std.specs.Prelude.{◌≡◌, ◌≢◌, ◌<◌, ◌^◌, length, None};
+ghost use Rattle.domain_turns.specs.Runs.{RunView};
+ghost use Rattle.replay_turns.specs.Gathered.{HasRun};
+ghost use Rattle.replay_turns.specs.Leveled.{AllHere};
+ghost use Rattle.replay_turns.specs.Moves.{PassesAt};
+
+use domain_turns::{DomainRun, pass_on};
+use heap_rule::Heap;
+use pause_phases::Decider;
+use std::sync::Wait;
+
+// A domain that has arrived so often isn't turned any more.
+const MOST_ARRIVALS: u64 = 1 << 60;
+
+// Waits without end where the domain can't arrive once more.
+pub(crate) fn may_arrive<R: Wait>(rt: &R, run: &DomainRun)
+    ensures { run.now.token.view.own.arrivals < 2 ^ 60 }
+{
+    if run.domain().arrivals() < MOST_ARRIVALS {
+        return;
+    }
+    'ever: for _ in rt.forever() {}
+    unreachable!()
+}
+
+// One step in a pause of the domain at this place, which has arrived. No command of it is to be answered
+// `full`.
+pub(crate) fn pass_at<R: Wait>(
+    rt: &R,
+    heap: &Heap,
+    runs: &mut [Option<DomainRun>],
+    at: usize,
+    complete: bool,
+)
+    requires inside { at < length runs.old }
+    requires here { AllHere heap.now runs.old }
+    requires gone { (r : RunView) → HasRun runs.old at r → r.left ≢ None }
+    ensures passes { PassesAt heap.now complete runs.old runs.new at }
+{
+    let Some(run) = &mut runs[at] else {
+        unreachable!()
+    };
+    may_arrive(rt, run);
+    pass_on(heap, run, Decider::Caller { complete });
+    run.forget_collected();
+    run.is_faithful();
+}
