@@ -6,3 +6,6 @@ pub mod Grown
 pub mod PassLemmas
 pub mod CalmLemmas
 pub mod LevelLemmas
+pub mod Histories
+pub mod Sharing
+pub mod Joining

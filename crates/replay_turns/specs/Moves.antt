@@ -31,6 +31,7 @@ pub record PassesAt (h : SharedHeap) (complete : Bool) (old new : List (Option R
   pub passed : RunView
   pub answer : turned.Turned
   pub passes : PassesOn h (Caller complete) run passed answer
+  pub is_passed : IsRun passed
   pub becomes : Becomes h old new at run (forgetting passed)
 
 -- the run of a domain that has arrived

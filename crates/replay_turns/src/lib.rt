@@ -9,6 +9,6 @@ mod halting;
 mod meeting;
 mod passing;
 mod stepping;
-//mod together;
+mod together;
 
 pub use gathered::Gathered;

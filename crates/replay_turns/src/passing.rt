@@ -43,6 +43,7 @@ pub(crate) fn pass_at<R: Wait>(
     };
     may_arrive(rt, run);
     pass_on(heap, run, Decider::Caller { complete });
+    run.is_faithful();
     run.forget_collected();
     run.is_faithful();
 }

@@ -86,7 +86,7 @@ pub record MakesNext (d : ℕ) (x y : OneRun) (own : List Entry) : Type 0 where
 pub record MakesEnd (d : ℕ) (x y : OneRun) (own : List Entry) : Type 0 where
   pub none : x.left ≡ []
   pub made : own ≡ End d ∷ []
-  pub run : y ≡ record x { ended = true }
+  pub run : y ≡ record x { asked = false; ended = true }
 
 -- the next command is a `full_major`, and no finaliser waits before it
 pub record AsksComplete (z : Sizes) (shares : List Entry → Type 0) (d : ℕ) (x y : OneRun) (own : List Entry) : Type 0 where

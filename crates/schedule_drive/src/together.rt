@@ -1,7 +1,7 @@
 //! What a replay needs of the runs of a heap.
-ghost use Rattle.std.specs.Prelude.{◌<◌, ◌≡◌, List, [], false, length, true};
+ghost use Rattle.std.specs.Prelude.{◌<◌, ◌≡◌, ◌≤◌, List, [], Some, false, length, slice_get, true};
 ghost use Rattle.heap_model.specs.declared.entry.Entry.{Entry};
-ghost use Rattle.schedule_drive.specs.Together.{AllHave, AllRuns, Has, IsShared, Passed, SharesOn, Stands, Turned, all_halted};
+ghost use Rattle.schedule_drive.specs.Together.{AllHave, AllRuns, Has, IsShared, OneRun, Passed, SharesOn, Stands, Turned, all_halted};
 
 use std::sync::Wait;
 
@@ -35,6 +35,12 @@ pub trait TogetherRuns {
     /// How many runs there are.
     fn count(&self) -> usize
         ensures { result ≡ length (seen self.now).runs };
+
+    /// How many commands of a run are left: 200,000 at most.
+    fn commands_left(&self, at: usize) -> usize
+        requires { at < length (seen self.now).runs }
+        ensures left { (x : OneRun) → slice_get (seen self.now).runs at ≡ Some x → result ≡ length x.left }
+        ensures few { result ≤ 200000 };
 
     /// Whether the trace of a run has ended.
     fn has_ended(&self, at: usize) -> bool

@@ -20,10 +20,11 @@ returns g c = record { passes = record {
   passed = c.pass_on.new.run;
   answer = c.pass_on.result;
   passes = c.pass_on.ensures.answer;
+  is_passed = c.is_faithful.ensures;
   becomes = record {
     was = has_run _ c.args.at _ _ c.requires.inside c.in-Some.is;
     here = c.pass_on.ensures.here;
-    is = subst IsRun c.forget_collected.ensures c.is_faithful.ensures;
+    is = subst IsRun c.forget_collected.ensures c.is_faithful-2.ensures;
     runs = ap (λ (r : RunView). slice_set c.args.runs.now c.args.at (Some r)) c.forget_collected.ensures;
   };
 } }
