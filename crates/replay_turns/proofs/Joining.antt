@@ -1,6 +1,7 @@
 -- The runs of a heap after the calls on one of them.
-use Rattle.std.proofs.Common.{◌≡◌, ◌≢◌, ◌∙◌, ◌<◌, ◌+◌, ◌*◌, ◌%◌, ◌==◌, ◌++◌, ◌⊎◌, inl, inr, ℕ, zero, suc, Bool, true, false, List, [], ◌∷◌, Option, Some, None, length, length-set, length-map, map, arith, refl, sym, ap, subst}
+use Rattle.std.proofs.Common.{true≢false, ◌≡◌, ◌≢◌, ◌∙◌, ◌<◌, ◌+◌, ◌*◌, ◌%◌, ◌==◌, ◌++◌, inl, inr, if◌then◌else◌, ℕ, zero, suc, Bool, true, false, List, [], ◌∷◌, Option, Some, None, length, length-set, map, arith, refl, sym, ap, subst}
 use Rattle.std.specs.Prelude.{slice_get, slice_set}
+use Rattle.std.proofs.lemmas.List.{length-map}
 use mathlib.Core.Logic.{dite}
 use native.Mathlib.Decide.{ℕ_discrete}
 use Rattle.heap_model.specs.declared.entry.Entry.{Entry}
@@ -12,7 +13,7 @@ use Rattle.heap_rule.specs.Limits.{sizes_in}
 use Rattle.heap_rule.specs.Phases.{IsEven}
 use Rattle.heap_rule.specs.Token.{SharedHeap, IsIn}
 use Rattle.domain_turns.specs.Runs.{RunView, IsRun, StandsAt, run_seeing}
-use Rattle.schedule_drive.specs.Together.{AllRuns, OneRun, Lead, Rests, Leads, Controls, Grows, LeadStep, Passed, SharesOn, all_halted, halted}
+use Rattle.schedule_drive.specs.Together.{AllRuns, OneRun, Lead, Rests, Leads, Controls, Grows, Has, AllHave, LeadStep, Passed, SharesOn, all_halted, halted}
 use Rattle.replay_turns.specs.Walk.{IsWalk}
 use Rattle.replay_turns.specs.Gathered.{GatheredView, HasRun, IsGathered, IsHeld, MayShare, PassedBy, Steps, Walk, is_even, is_running, lead_by, lead_in, lead_of, one_run, run_at, seen_in}
 use Rattle.replay_turns.specs.Leveled.{AllHere, Leveled, SawMore, Under}
@@ -49,6 +50,21 @@ map_filled runs d x filled at =
     let within : d < length runs = subst (λ (n : ℕ). d < n) (length-map runs run_at) (inside (map run_at runs) d x at) in
     let f = filled d within in
     (f.0, f.1, let same : ◌≡◌ {A = Option OneRun} (Some x) (Some (one_run f.0)) = sym at ∙ get_map run_at runs d (Some f.0) f.1 in cc)
+
+-- whether the domain of a run has arrived
+pub gone_run : (g : GatheredView) (at : ℕ) → Has (λ x. x.runs) false (seen_in g) at → (r : RunView) → HasRun g.runs at r → r.left ≡ None → ⊥
+gone_run g at gone r is none = true≢false (sym (ap is_running none) ∙ gone (one_run r) (get_map run_at g.runs at (Some r) is))
+
+pub runs_run : (g : GatheredView) → AllHave (λ x. x.runs) true (seen_in g) → (d : ℕ) (r : RunView) → HasRun g.runs d r → r.left ≡ None
+runs_run g all d r is = by r.left (all d (one_run r) (get_map run_at g.runs d (Some r) is))
+  where
+    by : (o : Option Kind) → is_running o ≡ true → o ≡ None
+    by None e = refl
+    by (Some kind) e = absurd (true≢false (sym e))
+
+-- and where they have met
+pub runs_met : (g : GatheredView) (mid : List (Option RunView)) (at : ℕ) → Leveled g.heap.config g.runs mid at (length g.runs) → AllHave (λ x. x.runs) true (seen_in g) → (d : ℕ) (r : RunView) → HasRun mid d r → r.left ≡ None
+runs_met g mid at l all d r is = let m = l.more d r is in ap (λ (x : RunView). x.left) m.2.is ∙ runs_run g all d m.0 m.1
 
 -- domains that have met
 module _ (g : GatheredView) (all : IsGathered g) (mid : List (Option RunView)) (at upto : ℕ) (l : Leveled g.heap.config g.runs mid at upto) where
@@ -97,8 +113,8 @@ module _ (g : GatheredView) (all : IsGathered g) (mid : List (Option RunView)) (
           empty [] (y ∷ ys) a b = absurd (omega (arith, b))
 
       some : length mid ≢ 0 → lead_by g.complete mid ≡ lead_by g.complete g.runs
-      some no =
-          let f = met_all.filled 0 (let n : ℕ = length mid in omega (arith, no)) in
+      some filled =
+          let f = met_all.filled 0 (let n : ℕ = length mid in omega (arith, filled)) in
           let m = l.more 0 f.0 f.1 in
           lead_at g.complete mid f.0 f.1 ∙ (ap (lead_of g.complete) m.2.is ∙ sym (lead_at g.complete g.runs m.0 m.1))
 
@@ -117,7 +133,7 @@ module _ (g : GatheredView) (all : IsGathered g) (mid : List (Option RunView)) (
     there = ap (λ (rs : List (Option RunView)). slice_get rs at) b.runs ∙ set_here mid at (Some s) within
 
     pub others : (d : ℕ) → d ≢ at → slice_get new d ≡ slice_get mid d
-    others d no = ap (λ (rs : List (Option RunView)). slice_get rs d) b.runs ∙ set_else mid at d (Some s) no
+    others d away = ap (λ (rs : List (Option RunView)). slice_get rs d) b.runs ∙ set_else mid at d (Some s) away
 
     pub after_all : IsGathered after
     after_all = record {
@@ -147,3 +163,137 @@ module _ (g : GatheredView) (all : IsGathered g) (mid : List (Option RunView)) (
             (λ d q is. (l.above d q r (subst (λ (n : ℕ). d < n) (l.count ∙ sym upto_is) (inside mid d (Some q) is)) is b.was).part) st h
             (subst (λ (rs : List (Option RunView)). MayShare (record g { runs = rs }) h) b.runs ms) in
         (r.token.view.seen.front, met_shares r.token.view.seen.front both.0, both.1)
+
+-- the run at a place passed on in a pause
+module _ (g : GatheredView) (all : IsGathered g) (mid : List (Option RunView)) (at : ℕ) (l : Leveled g.heap.config g.runs mid at (length g.runs)) (new : List (Option RunView)) (p : PassesAt g.heap g.complete mid new at) where
+  abbrev held_run : IsHeld (record g { runs = mid }) at p.run
+  held_run = met_held g all mid at (length g.runs) l at p.run p.becomes.was
+
+  abbrev number : ℕ
+  number = p.run.token.view.own.number
+
+  by : PassedBy g.complete number p.run p.passed
+  by = passed g.heap g.complete p.run p.passed held_run.is p.is_passed p.answer (λ first. held_run.walk (sym held_run.number ∙ first)) p.passes
+
+  pass_by : PassedBy g.complete at p.run p.passed
+  pass_by = subst (λ (d : ℕ). PassedBy g.complete d p.run p.passed) held_run.number by
+
+  pass_held : (supply : p.passed.supply ≡ p.run.supply) → (number : p.passed.token.view.own.number ≡ p.run.token.view.own.number) → IsHeld (record g { runs = mid }) at (forgetting p.passed)
+  pass_held supply number = record {
+    is = p.becomes.is;
+    here = p.becomes.here;
+    number = number ∙ held_run.number;
+    listed = supply ∙ held_run.listed;
+    collected = refl;
+    walk = λ first. let w = pass_by.walk first in record { armed = w.armed; unswept = w.unswept; on = w.on };
+  }
+
+  module _ (supply : p.passed.supply ≡ p.run.supply) (same : p.passed.token.view.own.number ≡ p.run.token.view.own.number) where
+    abbrev pub passed_view : GatheredView
+    passed_view = record g { runs = new }
+
+    pub passed_all : IsGathered passed_view
+    passed_all = after_all g all mid at (length g.runs) l p.run (forgetting p.passed) new p.becomes (pass_held supply same) refl
+
+    new_lead : at ≡ 0 → lead_by g.complete new ≡ lead_of g.complete p.passed
+    new_lead first = lead_at g.complete new (forgetting p.passed) (subst (λ (n : ℕ). HasRun new n (forgetting p.passed)) first (there g all mid at (length g.runs) l p.run (forgetting p.passed) new p.becomes (pass_held supply same) refl))
+
+    old_lead : at ≡ 0 → lead_by g.complete g.runs ≡ lead_of g.complete p.run
+    old_lead first = sym (met_lead g all mid at (length g.runs) l) ∙ lead_at g.complete mid p.run (subst (λ (n : ℕ). HasRun mid n p.run) first p.becomes.was)
+
+    same_lead : at ≢ 0 → lead_by g.complete new ≡ lead_by g.complete g.runs
+    same_lead away =
+        let f = (met_all g all mid at (length g.runs) l).filled 0 (let w = within g all mid at (length g.runs) l p.run (forgetting p.passed) new p.becomes (pass_held supply same) refl in omega (arith, w)) in
+        lead_at g.complete new f.0 (others g all mid at (length g.runs) l p.run (forgetting p.passed) new p.becomes (pass_held supply same) refl 0 (λ e. away (sym e)) ∙ f.1) ∙ (sym (lead_at g.complete mid f.0 f.1) ∙ met_lead g all mid at (length g.runs) l)
+
+    pub passed_tells : Passed (MayShare g) (MayShare passed_view) (seen_in g) (seen_in passed_view) at
+    passed_tells = record {
+      run = one_run p.run;
+      was = was_seen g all mid at (length g.runs) l p.run (forgetting p.passed) new p.becomes (pass_held supply same) refl;
+      becomes = one_run p.passed;
+      control = pass_by.control;
+      controls = dite (ℕ_discrete at 0)
+          (λ first. inl (first, subst (λ (w : Lead × Lead). LeadStep w.0 w.1 pass_by.control) (λ i. (sym (old_lead first) i, sym (new_lead first) i)) (pass_by.leads first)))
+          (λ away. inr (away, same_lead away, pass_by.silent away));
+      own = pass_by.own;
+      tells = pass_by.tells;
+      on = after_shares g all mid at (length g.runs) l p.run (forgetting p.passed) new p.becomes (pass_held supply same) refl (pass_by.control ++ pass_by.own) pass_by.steps;
+      view = λ i. record { sizes = sizes_in g.heap.config; runs = after_runs g all mid at (length g.runs) l p.run (forgetting p.passed) new p.becomes (pass_held supply same) refl i; lead = lead_by g.complete new };
+    }
+
+-- all arrived
+module _ (g : GatheredView) (all : IsGathered g) (mid : List (Option RunView)) (l : Leveled g.heap.config g.runs mid 0 (length g.runs)) (new : List (Option RunView)) (complete : Bool)
+    (u : HaltsUpto g.heap mid new (length mid)) (runs : (d : ℕ) (r : RunView) → HasRun mid d r → r.left ≡ None) (some : 0 < g.heap.config.domains) where
+  abbrev pub halted_view : GatheredView
+  halted_view = record { heap = g.heap; runs = new; complete = complete }
+
+  from : (d : ℕ) (s : RunView) → HasRun new d s → (r : RunView) × HasRun mid d r × (s ≡ halted_run r) × IsIn s.token g.heap × IsRun s
+  from d s is = u.halted d s (subst (λ (n : ℕ). d < n) u.count (inside new d (Some s) is)) is
+
+  halted_walk : (r : RunView) → Walk g.complete r → Walk complete (halted_run r)
+  halted_walk r w = record {
+    armed = w.armed;
+    unswept = w.unswept;
+    on = λ kind e. let is : Run ≡ kind = let f : ◌≡◌ {A = Option Kind} (Some Run) (Some kind) = e in cc in subst (λ (k : Kind). IsWalk complete k r.progress) is (walk_begins complete r.progress w.armed w.unswept);
+  }
+
+  pub halted_all_are : IsGathered halted_view
+  halted_all_are = record {
+    count = u.count ∙ met_count g all mid 0 (length g.runs) l;
+    filled = λ d below. u.stay d (subst (λ (n : ℕ). d < n) u.count below);
+    held = λ d s is.
+        let f = from d s is in
+        let held = met_held g all mid 0 (length g.runs) l d f.0 f.1 in
+        record {
+          is = f.4;
+          here = f.3;
+          number = ap (λ (x : RunView). x.token.view.own.number) f.2 ∙ held.number;
+          listed = ap (λ (x : RunView). x.supply) f.2 ∙ held.listed;
+          collected = ap (λ (x : RunView). x.collected) f.2;
+          walk = λ first. subst (Walk complete) (sym f.2) (halted_walk f.0 (held.walk first));
+        };
+  }
+
+  first_there : (r : RunView) × HasRun mid 0 r
+  first_there = (met_all g all mid 0 (length g.runs) l).filled 0 (let same = met_count g all mid 0 (length g.runs) l in omega (arith, same, some))
+
+  stage_runs : (d : ℕ) (q : RunView) → HasRun mid d q → q.token.view.seen.stage ≡ In Run
+  stage_runs d q is = subst (λ (o : Option Kind). StandsAt o q.token.view.seen.stage) (runs d q is) (met_held g all mid 0 (length g.runs) l d q is).is.between.stands
+
+  pub halted_on : SharesOn (MayShare g) (MayShare halted_view) []
+  halted_on h ms =
+      let both = halted_shares g mid first_there.0 first_there.1 (met_held g all mid 0 (length g.runs) l 0 first_there.0 first_there.1).number (met_count g all mid 0 (length g.runs) l) (met_all g all mid 0 (length g.runs) l).filled
+          (λ d q is. (met_held g all mid 0 (length g.runs) l d q is).number)
+          (λ d q is. l.above d q first_there.0 (subst (λ (n : ℕ). d < n) l.count (inside mid d (Some q) is)) is first_there.1)
+          (λ d q is _. stage_runs 0 first_there.0 first_there.1)
+          halted_view refl still h ms in
+      (first_there.0.token.view.seen.front, met_shares g all mid 0 (length g.runs) l first_there.0.token.view.seen.front both.0, both.1)
+    where
+      still : (d : ℕ) (q : RunView) → HasRun mid d q → (s : RunView) × HasRun new d s × (s.token.view.own.number ≡ q.token.view.own.number) × (s.token.view.seen.front ≡ q.token.view.seen.front)
+      still d q is =
+          let s = u.stay d (inside mid d (Some q) is) in
+          let f = from d s.0 s.1 in
+          let same : f.0 ≡ q = one_there mid d f.0 q f.1 is in
+          (s.0, s.1, ap (λ (x : RunView). x.token.view.own.number) (f.2 ∙ ap halted_run same), ap (λ (x : RunView). x.token.view.seen.front) (f.2 ∙ ap halted_run same))
+
+  odd_next : (n : ℕ) → IsEven n → is_even (n + 1) ≡ false
+  odd_next n e = let j : ℕ = e.0 in let is : n ≡ j * 2 = e.1 in let one : (n + 1) % 2 ≡ 1 = omega arith in ap (λ (m : ℕ). m == 0) one
+
+  pub halted_seen : seen_in halted_view ≡ all_halted complete (seen_in g)
+  halted_seen = λ i. record { sizes = sizes_in g.heap.config; runs = same_runs i; lead = same_lead i }
+    where
+      same_runs : map run_at new ≡ map halted (map run_at g.runs)
+      same_runs = same_lists (map halted (map run_at mid)) (map run_at new) (length-map new run_at ∙ (u.count ∙ (sym (length-map mid run_at) ∙ sym (length-map (map run_at mid) halted))))
+          (λ d x is.
+          let f = map_filled new d x halted_all_are.filled is in
+          let m = from d f.0 f.1 in
+          get_map halted (map run_at mid) d (one_run m.0) (get_map run_at mid d (Some m.0) m.1) ∙ ap Some (sym (f.2 ∙ ap one_run m.2)))
+          ∙ ap (map halted) (met_seen g all mid 0 (length g.runs) l)
+
+      same_lead : lead_by complete new ≡ Leads complete
+      same_lead =
+          let s = u.stay 0 (inside mid 0 (Some first_there.0) first_there.1) in
+          let m = from 0 s.0 s.1 in
+          let r : RunView = m.0 in
+          let even : IsEven r.token.view.own.arrivals = (met_held g all mid 0 (length g.runs) l 0 r m.1).is.between.even (runs 0 r m.1) in
+          lead_at complete new s.0 s.1 ∙ (ap (lead_of complete) m.2 ∙ ap (λ (b : Bool). if b then Rests else Leads complete) (odd_next r.token.view.own.arrivals even))

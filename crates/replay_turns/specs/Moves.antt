@@ -9,10 +9,11 @@ use Rattle.heap_rule.specs.Token.{SharedHeap, IsIn}
 use Rattle.pause_phases.specs.declared.decider.Decider.TheVariants.{Caller}
 use Rattle.steps_pauses.specs.Pauses.{arrived_view}
 use Rattle.domain_turns.specs.declared.turned.Turned as turned
-use Rattle.domain_turns.specs.Runs.{RunView, CalmAnswers, IsRun, PassesOn}
+use Rattle.domain_turns.specs.Runs.{RunView, CalmAnswers, GoesOn, IsRun, PassesOn}
 use Rattle.schedule_drive.specs.declared.together.Stepped.{Stepped}
 use Rattle.schedule_drive.specs.declared.together.Stepped.TheVariants.{Ran, Made, Needs}
 use Rattle.replay_turns.specs.Gathered.{HasRun}
+use Rattle.replay_turns.specs.Leveled.{Leveled}
 
 -- the run at a place has become another, which is of the heap too, and the others are as they were
 pub record Becomes (h : SharedHeap) (old new : List (Option RunView)) (at : ℕ) (r s : RunView) : Type 0 where
@@ -25,6 +26,12 @@ pub record Becomes (h : SharedHeap) (old new : List (Option RunView)) (at : ℕ)
 abbrev pub forgetting : RunView → RunView
 forgetting r = record r { collected = false }
 
+-- each domain met the one at a place, and then this came about
+pub record MetThen (k : Config) (old : List (Option RunView)) (at : ℕ) (Then : List (Option RunView) → Type 0) : Type 0 where
+  pub mid : List (Option RunView)
+  pub leveled : Leveled k old mid at (length old)
+  pub moved : Then mid
+
 -- the domain at a place made a step in a pause that domain 0 leads as it is told
 pub record PassesAt (h : SharedHeap) (complete : Bool) (old new : List (Option RunView)) (at : ℕ) : Type 0 where
   pub run : RunView
@@ -32,6 +39,7 @@ pub record PassesAt (h : SharedHeap) (complete : Bool) (old new : List (Option R
   pub answer : turned.Turned
   pub passes : PassesOn h (Caller complete) run passed answer
   pub is_passed : IsRun passed
+  pub goes_on : GoesOn run passed
   pub becomes : Becomes h old new at run (forgetting passed)
 
 -- the run of a domain that has arrived

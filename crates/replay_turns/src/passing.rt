@@ -3,8 +3,9 @@ ghost use Rattle.std.specs.Prelude.{◌≡◌, ◌≢◌, ◌<◌, ◌^◌, leng
 ghost use Rattle.domain_turns.specs.Runs.{RunView};
 ghost use Rattle.replay_turns.specs.Gathered.{HasRun};
 ghost use Rattle.replay_turns.specs.Leveled.{AllHere};
-ghost use Rattle.replay_turns.specs.Moves.{PassesAt};
+ghost use Rattle.replay_turns.specs.Moves.{MetThen, PassesAt};
 
+use crate::meeting::meet_each;
 use domain_turns::{DomainRun, pass_on};
 use heap_rule::Heap;
 use pause_phases::Decider;
@@ -26,7 +27,7 @@ pub(crate) fn may_arrive<R: Wait>(rt: &R, run: &DomainRun)
 
 // One step in a pause of the domain at this place, which has arrived. No command of it is to be answered
 // `full`.
-pub(crate) fn pass_at<R: Wait>(
+fn pass_alone<R: Wait>(
     rt: &R,
     heap: &Heap,
     runs: &mut [Option<DomainRun>],
@@ -46,4 +47,21 @@ pub(crate) fn pass_at<R: Wait>(
     run.is_faithful();
     run.forget_collected();
     run.is_faithful();
+}
+
+// The same once the domain has met each other one.
+pub(crate) fn pass_at<R: Wait>(
+    rt: &R,
+    heap: &Heap,
+    runs: &mut [Option<DomainRun>],
+    at: usize,
+    complete: bool,
+)
+    requires inside { at < length runs.old }
+    requires here { AllHere heap.now runs.old }
+    requires gone { (r : RunView) → HasRun runs.old at r → r.left ≢ None }
+    ensures passes { MetThen heap.now.config runs.old at (λ mid. PassesAt heap.now complete mid runs.new at) }
+{
+    meet_each(heap, runs, at);
+    pass_alone(rt, heap, runs, at, complete);
 }

@@ -5,8 +5,9 @@ ghost use Rattle.domain_turns.specs.Runs.{RunView};
 ghost use Rattle.heap_rule.specs.Token.{IsIn};
 ghost use Rattle.replay_turns.specs.Gathered.{HasRun};
 ghost use Rattle.replay_turns.specs.Leveled.{AllHere};
-ghost use Rattle.replay_turns.specs.Moves.{CameTo, StepsAt};
+ghost use Rattle.replay_turns.specs.Moves.{CameTo, MetThen, StepsAt};
 
+use crate::meeting::meet_each;
 use domain_turns::{DomainRun, go_on};
 use heap_rule::Heap;
 use schedule_drive::Stepped;
@@ -32,7 +33,7 @@ fn came_to(heap: &Heap, run: &mut DomainRun, next: usize, count: usize) -> Stepp
 }
 
 // One step of the domain at this place, which runs and hasn't ended.
-pub(crate) fn step_at(heap: &Heap, runs: &mut [Option<DomainRun>], at: usize) -> Stepped
+fn step_alone(heap: &Heap, runs: &mut [Option<DomainRun>], at: usize) -> Stepped
     requires inside { at < length runs.old }
     requires here { AllHere heap.now runs.old }
     requires running { (r : RunView) → HasRun runs.old at r → r.left ≡ None }
@@ -46,4 +47,15 @@ pub(crate) fn step_at(heap: &Heap, runs: &mut [Option<DomainRun>], at: usize) ->
     go_on(heap, run);
     run.is_faithful();
     came_to(heap, run, next, count)
+}
+
+// The same once the domain has met each other one.
+pub(crate) fn step_at(heap: &Heap, runs: &mut [Option<DomainRun>], at: usize) -> Stepped
+    requires inside { at < length runs.old }
+    requires here { AllHere heap.now runs.old }
+    requires running { (r : RunView) → HasRun runs.old at r → r.left ≡ None }
+    ensures steps { MetThen heap.now.config runs.old at (λ mid. StepsAt heap.now mid runs.new at result) }
+{
+    meet_each(heap, runs, at);
+    step_alone(heap, runs, at)
 }

@@ -2,8 +2,7 @@
 ghost use Rattle.replay_turns.specs.Gathered.{MayShare, seen_in};
 
 use crate::gathered::Gathered;
-use crate::halting::halt_each;
-use crate::meeting::meet_each;
+use crate::halting::halt_all;
 use crate::passing::pass_at;
 use crate::stepping::step_at;
 use schedule_drive::{Stepped, TogetherRuns};
@@ -39,19 +38,16 @@ impl TogetherRuns for Gathered {
     }
 
     fn turn<R: Wait>(&mut self, _rt: &R, at: usize) -> Stepped {
-        meet_each(&self.heap, self.runs.as_mut_slice(), at);
         step_at(&self.heap, self.runs.as_mut_slice(), at)
     }
 
     fn halt_all<R: Wait>(&mut self, rt: &R, complete: bool) {
         let _limits = self.heap.config();
-        meet_each(&self.heap, self.runs.as_mut_slice(), 0);
-        halt_each(rt, &self.heap, self.runs.as_mut_slice());
+        halt_all(rt, &self.heap, self.runs.as_mut_slice());
         self.complete = complete;
     }
 
     fn pass_on<R: Wait>(&mut self, rt: &R, at: usize) {
-        meet_each(&self.heap, self.runs.as_mut_slice(), at);
         pass_at(rt, &self.heap, self.runs.as_mut_slice(), at, self.complete);
     }
 }

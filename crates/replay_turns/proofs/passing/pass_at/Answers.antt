@@ -1,30 +1,10 @@
-use Rattle.std.proofs.Common.{Some, ap, subst}
-use Rattle.std.specs.Prelude.{slice_set}
-use Rattle.domain_turns.specs.Runs.{RunView, IsRun}
-use Rattle.heap_rule.specs.Token.{IsIn}
-use Rattle.replay_turns.proofs.SlotLemmas.{has_run, never_none}
+use Rattle.std.proofs.Common.{◌∙◌, length, ap, sym, subst}
+use Rattle.domain_turns.specs.Runs.{RunView}
+use Rattle.replay_turns.proofs.LevelLemmas.{level_here}
 use Rattle.replay_turns.proofs.passing.pass_at.Goals as goal
 
-pub unreachable-requires : goal.unreachable-requires
-unreachable-requires g c = let f = c.requires.here.filled c.args.at c.requires.inside in never_none _ c.args.at _ f.0 f.1 c.in_default.is
+pub pass_alone-requires-clause-here : goal.pass_alone-requires-clause-here
+pass_alone-requires-clause-here g c = level_here c.args.heap.now c.args.runs.now c.meet_each.new.runs c.args.at (length c.args.runs.now) c.requires.here c.meet_each.ensures.leveled
 
-pub pass_on-requires-clause-here : goal.pass_on-requires-clause-here
-pass_on-requires-clause-here g c = c.requires.here.here c.args.at _ (has_run _ c.args.at _ _ c.requires.inside c.in-Some.is)
-
-pub pass_on-requires-clause-arrived : goal.pass_on-requires-clause-arrived
-pass_on-requires-clause-arrived g c = c.requires.gone _ (has_run _ c.args.at _ _ c.requires.inside c.in-Some.is)
-
-pub returns : goal.returns
-returns g c = record { passes = record {
-  run = c.in-Some.run';
-  passed = c.pass_on.new.run;
-  answer = c.pass_on.result;
-  passes = c.pass_on.ensures.answer;
-  is_passed = c.is_faithful.ensures;
-  becomes = record {
-    was = has_run _ c.args.at _ _ c.requires.inside c.in-Some.is;
-    here = c.pass_on.ensures.here;
-    is = subst IsRun c.forget_collected.ensures c.is_faithful-2.ensures;
-    runs = ap (λ (r : RunView). slice_set c.args.runs.now c.args.at (Some r)) c.forget_collected.ensures;
-  };
-} }
+pub pass_alone-requires-clause-gone : goal.pass_alone-requires-clause-gone
+pass_alone-requires-clause-gone g c = λ r there none. let m = c.meet_each.ensures.leveled.more c.args.at r there in c.requires.gone m.0 m.1 (sym (ap (λ (x : RunView). x.left) m.2.is) ∙ none)
