@@ -13,11 +13,17 @@ use Rattle.heap_rule.specs.Limits.{sizes_in}
 use Rattle.heap_rule.specs.Phases.{IsEven}
 use Rattle.heap_rule.specs.Token.{SharedHeap, IsIn}
 use Rattle.domain_turns.specs.Runs.{RunView, IsRun, StandsAt, run_seeing}
-use Rattle.schedule_drive.specs.Together.{AllRuns, OneRun, Lead, Rests, Leads, Controls, Grows, Has, AllHave, LeadStep, Passed, SharesOn, all_halted, halted}
+use Rattle.schedule_drive.specs.Together.{AllRuns, OneRun, Lead, Rests, Leads, Controls, Grows, Has, AllHave, LeadStep, Passed, SharesOn, Turned, Unqueued, all_halted, halted}
 use Rattle.replay_turns.specs.Walk.{IsWalk}
 use Rattle.replay_turns.specs.Gathered.{GatheredView, HasRun, IsGathered, IsHeld, MayShare, PassedBy, Steps, Walk, is_even, is_running, lead_by, lead_in, lead_of, one_run, run_at, seen_in}
 use Rattle.replay_turns.specs.Leveled.{AllHere, Leveled, SawMore, Under}
-use Rattle.replay_turns.specs.Moves.{Becomes, HaltsUpto, PassesAt, forgetting, halted_run}
+use Rattle.replay_turns.specs.Moves.{Becomes, HaltsUpto, PassesAt, StepsAt, TurnedBy, forgetting, halted_run}
+use Rattle.schedule_drive.specs.declared.together.Stepped.{Stepped}
+use Rattle.heap_model.specs.Domains.{domain_at, opening}
+use Rattle.heap_rule.specs.declared.phase.Progress.{Progress}
+use Rattle.heap_rule.specs.Rule.{state_of}
+use Rattle.steps_queue_looks.proofs.Queues.{queue_of_front}
+use Rattle.replay_turns.proofs.CalmLemmas.{KeepsRun, calm_keeps}
 use Rattle.replay_turns.proofs.LevelLemmas.{level_here}
 use Rattle.replay_turns.proofs.PassLemmas.{passed}
 use Rattle.replay_turns.proofs.Places.{get_map, set_else, set_here, set_map}
@@ -297,3 +303,71 @@ module _ (g : GatheredView) (all : IsGathered g) (mid : List (Option RunView)) (
           let r : RunView = m.0 in
           let even : IsEven r.token.view.own.arrivals = (met_held g all mid 0 (length g.runs) l 0 r m.1).is.between.even (runs 0 r m.1) in
           lead_at complete new s.0 s.1 ∙ (ap (lead_of complete) m.2 ∙ ap (λ (b : Bool). if b then Rests else Leads complete) (odd_next r.token.view.own.arrivals even))
+
+-- the run at a place made a step, while all run
+module _ (g : GatheredView) (all : IsGathered g) (mid : List (Option RunView)) (at : ℕ) (l : Leveled g.heap.config g.runs mid at (length g.runs)) (new : List (Option RunView)) (stepped : Stepped) (p : StepsAt g.heap mid new at stepped)
+    (running : p.run.left ≡ None) (goes_on : p.run.ended ≡ false) where
+  abbrev before : IsHeld (record g { runs = mid }) at p.run
+  before = met_held g all mid at (length g.runs) l at p.run p.becomes.was
+
+  keeps : KeepsRun p.run p.made
+  keeps = calm_keeps g.heap p.run p.made p.answer p.calm
+
+  module _ (same : p.made.token.view.own.number ≡ p.run.token.view.own.number) where
+    made_held : IsHeld (record g { runs = mid }) at p.made
+    made_held = record {
+      is = p.becomes.is;
+      here = p.becomes.here;
+      number = same ∙ before.number;
+      listed = keeps.supply ∙ before.listed;
+      collected = keeps.collected before.collected;
+      walk = λ first. let w = before.walk first in record {
+        armed = ap (λ (q : Progress). q.armed) keeps.progress ∙ w.armed;
+        unswept = ap (λ (q : Progress). q.unswept) keeps.progress ∙ w.unswept;
+        on = λ kind e. absurd (let none : ◌≡◌ {A = Option Kind} None (Some kind) = sym (keeps.left ∙ running) ∙ e in cc);
+      };
+    }
+
+    abbrev pub stepped_view : GatheredView
+    stepped_view = record g { runs = new }
+
+    pub stepped_all : IsGathered stepped_view
+    stepped_all = after_all g all mid at (length g.runs) l p.run p.made new p.becomes made_held refl
+
+    made_there : HasRun new at p.made
+    made_there = there g all mid at (length g.runs) l p.run p.made new p.becomes made_held refl
+
+    made_runs : p.made.token.view.seen.stage ≡ In Run
+    made_runs = subst (λ (o : Option Kind). StandsAt o p.made.token.view.seen.stage) (keeps.left ∙ running) p.becomes.is.between.stands
+
+    -- what is so of the queue behind its front is so in each history that they may share
+    pub unqueued : length (domain_at (state_of g.heap.config p.made.token.view.seen.front) p.made.token.view.own.number).queue ≡ 0 → Unqueued (sizes_in g.heap.config) (MayShare stepped_view) at
+    unqueued none h ms =
+        let t = ms.trails at p.made made_there in
+        let d : ℕ = p.made.token.view.own.number in
+        let here : (domain_at (state_of g.heap.config h) d).queue ≡ (domain_at (state_of g.heap.config p.made.token.view.seen.front) d).queue = queue_of_front (opening (sizes_in g.heap.config)) d h p.made.token.view.seen.front t.begins (t.calls made_runs) in
+        subst (λ (n : ℕ). (domain_at (state_of g.heap.config h) n).queue ≡ []) made_held.number (no_length _ (ap length here ∙ none))
+      where
+        no_length : {A : Type 0} (xs : List A) → length xs ≡ 0 → xs ≡ []
+        no_length [] e = refl
+        no_length (x ∷ xs) e = absurd (omega (arith, e))
+
+    lead_same : lead_by g.complete new ≡ lead_by g.complete g.runs
+    lead_same = dite (ℕ_discrete at 0)
+        (λ first.
+        let old = sym (met_lead g all mid at (length g.runs) l) ∙ lead_at g.complete mid p.run (subst (λ (n : ℕ). HasRun mid n p.run) first p.becomes.was) in
+        lead_at g.complete new p.made (subst (λ (n : ℕ). HasRun new n p.made) first made_there) ∙ (ap (lead_in g.complete p.made.token.view.own.arrivals) (keeps.left ∙ running) ∙ sym (old ∙ ap (lead_in g.complete p.run.token.view.own.arrivals) running)))
+        (λ away.
+        let f = (met_all g all mid at (length g.runs) l).filled 0 (let w = within g all mid at (length g.runs) l p.run p.made new p.becomes made_held refl in omega (arith, w)) in
+        lead_at g.complete new f.0 (others g all mid at (length g.runs) l p.run p.made new p.becomes made_held refl 0 (λ e. away (sym e)) ∙ f.1) ∙ (sym (lead_at g.complete mid f.0 f.1) ∙ met_lead g all mid at (length g.runs) l))
+
+    pub stepped_tells : TurnedBy (sizes_in g.heap.config) (MayShare stepped_view) at p.run p.made stepped → Turned (MayShare g) (MayShare stepped_view) (seen_in g) (seen_in stepped_view) at stepped
+    stepped_tells t = record {
+      run = one_run p.run;
+      was = was_seen g all mid at (length g.runs) l p.run p.made new p.becomes made_held refl;
+      becomes = one_run p.made;
+      own = t.own;
+      on = after_shares g all mid at (length g.runs) l p.run p.made new p.becomes made_held refl t.own t.steps;
+      tells = t.tells;
+      view = λ i. record { sizes = sizes_in g.heap.config; runs = after_runs g all mid at (length g.runs) l p.run p.made new p.becomes made_held refl i; lead = lead_same i };
+    }

@@ -29,18 +29,23 @@ use Rattle.domain_turns.specs.Runs.{IsAnswered as RunIsAnswered}
 use Rattle.domain_turns.proofs.PauseLemmas.{even_next, odd_next}
 use Rattle.domain_turns.proofs.LeavingLemmas.{Leaves, even_knows, knows_on, passes_leaves}
 use Rattle.schedule_drive.specs.Together.{IsntAnswered, Lead, LeadStep, Rests, Leads, Answers}
-use Rattle.replay_turns.specs.Gathered.{PassedBy, Steps, Walk, is_even, is_running, lead_in, lead_of, one_run}
+use Rattle.replay_turns.specs.Gathered.{PassedBy, Steps, Walk, asked_for, is_even, is_running, lead_in, lead_of, one_run}
 use Rattle.replay_turns.specs.Walk.{IsWalk, controls_of, lead_left, lead_named}
 use Rattle.replay_turns.proofs.Grown.{Grown, grown_same, grown_twice, led_before, steps_control, steps_none, steps_one}
 use Rattle.replay_turns.proofs.Walk.{Goes, walk_goes}
 
 -- the commands from the next on
-drop_next : (cs : List model.Command) (n : ℕ) (c : model.Command) → slice_get cs n ≡ Some c → drop n cs ≡ c ∷ drop (n + 1) cs
+pub drop_next : (cs : List model.Command) (n : ℕ) (c : model.Command) → slice_get cs n ≡ Some c → drop n cs ≡ c ∷ drop (n + 1) cs
 drop_next cs n c at = go cs n at ∙ ap (λ (m : ℕ). c ∷ drop m cs) (sym (add-one n)) where
   go : (cs : List model.Command) (n : ℕ) → slice_get cs n ≡ Some c → drop n cs ≡ c ∷ drop (suc n) cs
   go [] n at = cc
   go (x ∷ xs) zero at = let is : x ≡ c = cc in ap (λ (y : model.Command). y ∷ xs) is
   go (x ∷ xs) (suc n) at = go xs n at
+
+-- nothing is asked for where the run has asked for nothing
+pub unasked : (cs : List model.Command) → asked_for cs None ≡ false
+unasked [] = refl
+unasked (c ∷ cs) = refl
 
 -- whether a number is even
 even_is : (n : ℕ) → IsEven n → is_even n ≡ true
@@ -278,9 +283,9 @@ module _ (h : SharedHeap) (complete : Bool) (r s : RunView) (is : IsRun r) (now 
         tells = inl record {
           others = drop (r.next + 1) r.commands;
           next = drop_next r.commands r.next FullMajor a.waited.next;
-          asked = a.waited.wished;
+          asked = ap (λ (cs : List model.Command). asked_for cs r.asked) (drop_next r.commands r.next FullMajor a.waited.next) ∙ a.waited.wished;
           made = refl;
-          run = ap one_run a.run ∙ λ i. record { left = drop (r.next + 1) r.commands; replies = sym (ap (λ (z : RunView). z.replies) a.run) i; asked = false; runs = is_running (sym a.arrived i); ended = r.ended };
+          run = ap one_run a.run ∙ λ i. record { left = drop (r.next + 1) r.commands; replies = sym (ap (λ (z : RunView). z.replies) a.run) i; asked = unasked (drop (r.next + 1) r.commands) i; runs = is_running (sym a.arrived i); ended = r.ended };
         };
         steps = steps_one d y.seen.front mid x.seen.front e (grown_twice d mid b.seen.front x.seen.front grew (passed_front h.config x b a.answers.comes.passed)) (ap (λ (v : DomainView). v.seen.front) view ∙ ends);
         walk = answer_walk a.last a.arrived b a.answers.comes left_is number kept walk;

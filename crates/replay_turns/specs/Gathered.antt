@@ -1,5 +1,6 @@
 -- The runs of one heap that one thread drives, and which histories they may share.
 use Rattle.std.specs.Prelude.{◌≡◌, ◌≢◌, ◌⊎◌, ◌<◌, ◌%◌, ◌==◌, if◌then◌else◌, ℕ, Bool, true, false, List, [], ◌∷◌, ◌++◌, drop, length, map, slice_get, Option, Some, None}
+use Rattle.heap_model.specs.declared.command.Command.{Command}
 use Rattle.heap_model.specs.declared.entry.Entry.{Entry}
 use Rattle.heap_model.specs.Fronts.{AreNotControls, NoneOf}
 use Rattle.heap_model.specs.History.{Legal}
@@ -24,9 +25,14 @@ abbrev pub is_running : Option Kind → Bool
 is_running None = true
 is_running (Some kind) = false
 
+-- whether a run has asked for a pause for its next command, where one is left
+abbrev pub asked_for : List Command → Option ℕ → Bool
+asked_for [] asked = false
+asked_for (c ∷ cs) asked = is_asked asked
+
 -- a run as a replay sees it
 abbrev pub one_run : RunView → OneRun
-one_run r = record { left = drop r.next r.commands; replies = r.replies; asked = is_asked r.asked; runs = is_running r.left; ended = r.ended }
+one_run r = record { left = drop r.next r.commands; replies = r.replies; asked = asked_for (drop r.next r.commands) r.asked; runs = is_running r.left; ended = r.ended }
 
 -- where none is there
 abbrev pub run_at : Option RunView → OneRun
