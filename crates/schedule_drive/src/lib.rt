@@ -1,6 +1,0 @@
-//! The loop of a replay: turns, pauses and complete collections in the order of a schedule, over a trait of runs.
-#![tactic(auto)]
-
-mod together;
-
-pub use together::{Stepped, TogetherRuns};
