@@ -1,0 +1,6 @@
+mod Listing
+mod Walking
+mod Passing
+mod Agreeing
+mod Turns
+mod Rounds

@@ -1,0 +1,375 @@
+-- A turn, from what its calls tell.
+use Rattle.std.proofs.Common.{◌≡◌, ◌≢◌, ℕ, ◌<◌, ◌≤◌, Bool, true, false, List, [], ◌∷◌, ◌++◌, map, length, get_or, set, slice_get, Some, refl, sym, ap, ◌∙◌, subst, ⊎_elim, append-nil}
+use Rattle.std.proofs.lemmas.Bool.{cases_eq, false≢true}
+use Rattle.std.proofs.lemmas.List.{get_or-set_other, get_or-set_same, get_or_past, length-map, length-set, map-set}
+use Rattle.std.proofs.lemmas.Option.{slice_get-get_or, slice_get_cases, slice_get_within}
+use Rattle.heap_model.specs.declared.command.Command.{Command as CommandType}
+use Rattle.heap_model.specs.declared.command.Command.TheVariants.{Argument, FullMajor, Join, PutResult, Spawn}
+use Rattle.heap_model.specs.declared.entry.Entry.{Entry}
+use Rattle.heap_model.specs.declared.entry.Entry.TheVariants.{Command as CommandOf, End, Ran as RanOf}
+use Rattle.heap_model.specs.declared.state.Pending.{Pending}
+use Rattle.heap_model.specs.declared.state.Sizes.{Sizes}
+use Rattle.heap_model.specs.declared.state.State.{State}
+use Rattle.heap_model.specs.Commands.{CommandAllowed}
+use Rattle.heap_model.specs.Domains.{domain_at, opening}
+use Rattle.heap_model.specs.Entries.{EndAllowed, RanAllowed}
+use Rattle.heap_model.specs.History.{Legal, state_after}
+use Rattle.schedule_laws.specs.Sameness.{IsCollection}
+use Rattle.schedule_laws.specs.Scheduled.{Played, complete, left_of, take_turn, turn_on, with_entries}
+use Rattle.schedule_laws.proofs.Collecting.{legal_parts}
+use Rattle.schedule_laws.proofs.Moving.{same_domain}
+use Rattle.schedule_drive.specs.Together.{AllHave, AllRuns, AsksComplete, Grows, Has, IsShared, MakesEnd, MakesNext, OneRun, Rests, SharesOn, Turned}
+use Rattle.schedule_drive.specs.declared.together.Stepped.TheVariants.{Ran, Made, Needs}
+use Rattle.schedule_drive.specs.Pausing.{Answered, AsksAlone, NotYet, Paused, Walked, askeds, endeds, lefts}
+use Rattle.schedule_drive.specs.Following.{Advances, Agrees, AllFollow, AllMidst, Follows, IsCalm, IsCalmBut, Waits, turn_rest}
+use Rattle.schedule_drive.proofs.Listing.{kept_at, read_at}
+use Rattle.schedule_drive.proofs.Passing.{no_run, set_false}
+use Rattle.schedule_drive.proofs.Agreeing.{agrees_collection, agrees_step, grown_none, grown_step, next_command, next_end, next_full, rest_next, rest_ran, short_step}
+
+-- the queue of a domain is the same in both
+queue_same : (z : Sizes) (p : Played) (h : List Entry) (d : ℕ) → Agrees z p h → (domain_at p.state d).queue ≡ (domain_at (state_after (opening z) h) d).queue
+queue_same z p h d a = (same_domain (state_after (opening z) h) p.state a.same d).queue
+
+-- the commands that are left of a run
+left_at : (v : AllRuns) (q : Played) (d : ℕ) (x : OneRun) → slice_get v.runs d ≡ Some x → lefts v ≡ q.left → left_of q d ≡ x.left
+left_at v q d x was left = ap (λ (cs : List (List CommandType)). get_or cs d []) (sym left) ∙ read_at (λ (r : OneRun). r.left) v.runs d x [] was
+
+module _ (shares_old shares_new : List Entry → Type 0) (v w : AllRuns) (p : Played) (d : ℕ) (x y : OneRun) (was : slice_get v.runs d ≡ Some x) (view : w ≡ record v { runs = set v.runs d y })
+    (shared : (g : List Entry) → shares_new g → IsShared w g) (midst : AllMidst v shares_old p d) where
+  sizes_same : w.sizes ≡ v.sizes
+  sizes_same = ap (λ (r : AllRuns). r.sizes) view
+
+  lefts_set : lefts w ≡ set (lefts v) d y.left
+  lefts_set = ap lefts view ∙ map-set (λ (r : OneRun). r.left) v.runs d y
+
+  lefts_same : y.left ≡ x.left → lefts w ≡ lefts v
+  lefts_same same = ap lefts view ∙ kept_at (λ (r : OneRun). r.left) v.runs d x y was same
+
+  legal_of : (g : List Entry) → shares_new g → Legal v.sizes g
+  legal_of g new = subst (λ z. Legal z g) sizes_same (shared g new).legal
+
+  follows_in : (q : Played) (g : List Entry) → Agrees v.sizes q g → lefts w ≡ q.left → Follows w q g
+  follows_in q g a left = record { agrees = subst (λ z. Agrees z q g) (sym sizes_same) a; left = left }
+
+  -- it ran a finaliser
+  pub turn_ran : SharesOn shares_old shares_new (RanOf d ∷ []) → y.left ≡ x.left → AllMidst w shares_new p d
+  turn_ran on same g new =
+      let from = on g new in
+      let h : List Entry = from.0 in
+      let m = midst h from.1 in
+      let a = m.follows.agrees in
+      let is : g ≡ h ++ RanOf d ∷ [] = grown_step v.sizes h g (RanOf d) (legal_of g new) a.mode refl from.2 in
+      let legal : Legal v.sizes (h ++ RanOf d ∷ []) = subst (λ k. Legal v.sizes k) is (legal_of g new) in
+      let allowed : RanAllowed (state_after (opening v.sizes) h) d = (legal_parts (opening v.sizes) h (RanOf d ∷ []) legal).1.0 in
+      let q : Played = with_entries m.here (RanOf d ∷ []) in
+      record {
+        here = q;
+        follows = follows_in q g (subst (λ k. Agrees v.sizes q k) (sym is) (agrees_step v.sizes m.here h (RanOf d) a legal refl)) (lefts_same same ∙ m.follows.left);
+        rest = queue_rest m.here (domain_at m.here.state d).queue refl (λ none. allowed.queue (sym (queue_same v.sizes m.here h d a) ∙ none)) ∙ m.rest;
+      }
+    where
+      queue_rest : (q : Played) (ws : List Pending) → (domain_at q.state d).queue ≡ ws → (ws ≡ [] → ⊥) → turn_rest (with_entries q (RanOf d ∷ [])) d ≡ turn_rest q d
+      queue_rest q [] queue some = absurd (some refl)
+      queue_rest q (w ∷ rest) queue some = rest_ran q d w rest queue
+
+  -- it asked for a pause
+  pub turn_asks : SharesOn shares_old shares_new [] → y.left ≡ x.left → AllMidst w shares_new p d
+  turn_asks on same g new =
+      let from = on g new in
+      let m = midst from.0 from.1 in
+      let is : g ≡ from.0 = grown_none v.sizes from.0 g (legal_of g new) m.follows.agrees.mode from.2 in
+      record {
+        here = m.here;
+        follows = follows_in m.here g (subst (λ k. Agrees v.sizes m.here k) (sym is) m.follows.agrees) (lefts_same same ∙ m.follows.left);
+        rest = m.rest;
+      }
+
+  -- it made the next command
+  pub turn_next : (own : List Entry) → SharesOn shares_old shares_new own → MakesNext d x y own → AllFollow w shares_new (take_turn p d)
+  turn_next own on made g new =
+      let c : CommandType = made.command in
+      let e : Entry = CommandOf d c false in
+      let from = on g new in
+      let h : List Entry = from.0 in
+      let m = midst h from.1 in
+      let a = m.follows.agrees in
+      let step = short_step d c made.short in
+      let is : g ≡ h ++ e ∷ [] = grown_step v.sizes h g e (legal_of g new) a.mode step (subst (λ k. Grows h k g) made.made from.2) in
+      let legal : Legal v.sizes (h ++ e ∷ []) = subst (λ k. Legal v.sizes k) is (legal_of g new) in
+      let allowed : CommandAllowed (state_after (opening v.sizes) h) d c false = (legal_parts (opening v.sizes) h (e ∷ []) legal).1.0 in
+      let none : (domain_at m.here.state d).queue ≡ [] = queue_same v.sizes m.here h d a ∙ no_queue (state_after (opening v.sizes) h) c made.short allowed in
+      let q : Played = record (with_entries m.here (e ∷ [])) { left = set m.here.left d made.others } in
+      let turn : q ≡ take_turn p d =
+      sym (rest_next m.here d none ∙ next_command m.here d c made.others (left_at v m.here d x was m.follows.left ∙ made.next) made.short) ∙ m.rest in
+      let before : Agrees v.sizes (with_entries m.here (e ∷ [])) (h ++ e ∷ []) = agrees_step v.sizes m.here h e a legal step in
+      let after : Agrees v.sizes q g = subst (λ k. Agrees v.sizes q k) (sym is) (record { legal = before.legal; mode = before.mode; same = before.same; replies = before.replies; state = before.state }) in
+      subst (λ r. Follows w r g) turn
+      (follows_in q g after (lefts_set ∙ ap (λ cs. set cs d y.left) m.follows.left ∙ ap (λ (cs : List CommandType). set m.here.left d cs) (ap (λ (r : OneRun). r.left) made.run)))
+    where
+      no_queue : (s : State) (c : CommandType) → c ≢ FullMajor → CommandAllowed s d c false → (domain_at s d).queue ≡ []
+      no_queue s FullMajor short allowed = absurd (short refl)
+      no_queue s (Spawn section item) short allowed = absurd allowed.fits
+      no_queue s (Argument dst) short allowed = absurd allowed.fits
+      no_queue s (PutResult item) short allowed = absurd allowed.fits
+      no_queue s (Join dst section) short allowed = absurd allowed.fits
+      no_queue s c short allowed = allowed.fits.1
+
+  -- it made the end
+  pub turn_end : (own : List Entry) → SharesOn shares_old shares_new own → MakesEnd d x y own → AllFollow w shares_new (take_turn p d)
+  turn_end own on made g new =
+      let e : Entry = End d in
+      let from = on g new in
+      let h : List Entry = from.0 in
+      let m = midst h from.1 in
+      let a = m.follows.agrees in
+      let is : g ≡ h ++ e ∷ [] = grown_step v.sizes h g e (legal_of g new) a.mode refl (subst (λ k. Grows h k g) made.made from.2) in
+      let legal : Legal v.sizes (h ++ e ∷ []) = subst (λ k. Legal v.sizes k) is (legal_of g new) in
+      let allowed : EndAllowed (state_after (opening v.sizes) h) d = (legal_parts (opening v.sizes) h (e ∷ []) legal).1.0 in
+      let none : (domain_at m.here.state d).queue ≡ [] = queue_same v.sizes m.here h d a ∙ allowed.queue in
+      let q : Played = with_entries m.here (e ∷ []) in
+      let turn : q ≡ take_turn p d = sym (rest_next m.here d none ∙ next_end m.here d (left_at v m.here d x was m.follows.left ∙ made.none)) ∙ m.rest in
+      subst (λ r. Follows w r g) turn
+      (follows_in q g (subst (λ k. Agrees v.sizes q k) (sym is) (agrees_step v.sizes m.here h e a legal refl)) (lefts_same (ap (λ (r : OneRun). r.left) made.run) ∙ m.follows.left))
+
+-- what each run has, by its place in a list
+pub all_true : (kind : OneRun → Bool) (b : Bool) (v : AllRuns) → AllHave kind b v → (e : ℕ) → get_or (map kind v.runs) e b ≡ b
+all_true kind b v all e =
+    ⊎_elim
+    (λ inside. read_at kind v.runs e inside.0 b inside.2 ∙ all e inside.0 inside.2)
+    (λ past. get_or_past (map kind v.runs) e b (subst (λ n. n ≤ e) (sym (length-map v.runs kind)) past.0))
+    (slice_get_cases v.runs e).1
+
+pub true_all : (kind : OneRun → Bool) (b : Bool) (v : AllRuns) → ((e : ℕ) → get_or (map kind v.runs) e b ≡ b) → AllHave kind b v
+true_all kind b v all e x was = sym (read_at kind v.runs e x b was) ∙ all e
+
+-- and of one alone
+pub has_at : (kind : OneRun → Bool) (b : Bool) (v : AllRuns) (e : ℕ) → Has kind b v e → get_or (map kind v.runs) e b ≡ b
+has_at kind b v e has =
+    ⊎_elim
+    (λ inside. read_at kind v.runs e inside.0 b inside.2 ∙ has inside.0 inside.2)
+    (λ past. get_or_past (map kind v.runs) e b (subst (λ n. n ≤ e) (sym (length-map v.runs kind)) past.0))
+    (slice_get_cases v.runs e).1
+
+pub at_has : (kind : OneRun → Bool) (b : Bool) (v : AllRuns) (e : ℕ) → get_or (map kind v.runs) e b ≡ b → Has kind b v e
+at_has kind b v e is x was = sym (read_at kind v.runs e x b was) ∙ is
+
+-- where one list of them is as another, or all asked for is taken back
+module _ (v w : AllRuns) where
+  pub all_same : (kind : OneRun → Bool) (b : Bool) → map kind w.runs ≡ map kind v.runs → AllHave kind b v → AllHave kind b w
+  all_same kind b same all = true_all kind b w (λ e. ap (λ (bs : List Bool). get_or bs e b) same ∙ all_true kind b v all e)
+
+  pub has_same : (kind : OneRun → Bool) (b : Bool) (e : ℕ) → map kind w.runs ≡ map kind v.runs → Has kind b v e → Has kind b w e
+  has_same kind b e same has = at_has kind b w e (ap (λ (bs : List Bool). get_or bs e b) same ∙ has_at kind b v e has)
+
+  pub alone_same : (d : ℕ) → askeds w ≡ askeds v → AsksAlone v d → AsksAlone w d
+  alone_same d same alone e other = ap (λ (bs : List Bool). get_or bs e false) same ∙ alone e other
+
+  pub none_asked : (d : ℕ) → askeds w ≡ set (askeds v) d false → AsksAlone v d → (e : ℕ) → get_or (askeds w) e false ≡ false
+  none_asked d taken alone e =
+      ap (λ (bs : List Bool). get_or bs e false) taken
+      ∙ ⊎_elim (λ same. ap (λ n. get_or (set (askeds v) d false) n false) same ∙ set_false (askeds v) d) (λ other. get_or-set_other (askeds v) d e false false other ∙ alone e other) (cases_eq e d)
+
+  pub alone_set : (d : ℕ) (b : Bool) → askeds w ≡ set (askeds v) d b → AsksAlone v d → AsksAlone w d
+  alone_set d b is alone e other = ap (λ (bs : List Bool). get_or bs e false) is ∙ get_or-set_other (askeds v) d e b false other ∙ alone e other
+
+-- what a turn of run d keeps of all
+module _ (shares_old shares_new : List Entry → Type 0) (v w : AllRuns) (d : ℕ) (x y : OneRun) (was : slice_get v.runs d ≡ Some x) (view : w ≡ record v { runs = set v.runs d y }) (calm : IsCalmBut v d) (going : Has (λ (r : OneRun). r.ended) false v d)
+    (shared : (g : List Entry) → shares_new g → IsShared w g) where
+  kept : (kind : OneRun → Bool) → kind y ≡ kind x → map kind w.runs ≡ map kind v.runs
+  kept kind same = ap (λ (r : AllRuns). map kind r.runs) view ∙ kept_at kind v.runs d x y was same
+
+  asked_set : askeds w ≡ set (askeds v) d y.asked
+  asked_set = ap askeds view ∙ map-set (λ (r : OneRun). r.asked) v.runs d y
+
+  count_same : length w.runs ≡ length v.runs
+  count_same = ap (λ (r : AllRuns). length r.runs) view ∙ length-set v.runs d y
+
+  still_calm : y.runs ≡ x.runs → IsCalmBut w d
+  still_calm same = record { run = all_same v w (λ (r : OneRun). r.runs) true (kept (λ (r : OneRun). r.runs) same) calm.run; alone = alone_set v w d y.asked asked_set calm.alone }
+
+  still_going : y.ended ≡ x.ended → Has (λ (r : OneRun). r.ended) false w d
+  still_going same = has_same v w (λ (r : OneRun). r.ended) false d (kept (λ (r : OneRun). r.ended) same) going
+
+  now_calm : y.runs ≡ x.runs → y.asked ≡ false → IsCalm w
+  now_calm runs asked = record { run = (still_calm runs).run; none = none_asked v w d (asked_set ∙ ap (λ b. set (askeds v) d b) asked) calm.alone }
+
+  sizes_of : w.sizes ≡ v.sizes
+  sizes_of = ap (λ (r : AllRuns). r.sizes) view
+
+  -- a finaliser ran
+  ran_on : SharesOn shares_old shares_new (RanOf d ∷ []) → y ≡ record x { replies = y.replies } → Advances shares_old shares_new v w d false
+  ran_on on run = record {
+    sizes = sizes_of;
+    count = count_same;
+    calm = still_calm (ap (λ (r : OneRun). r.runs) run);
+    over = λ made. absurd (false≢true made);
+    goes_on = λ none. still_going (ap (λ (r : OneRun). r.ended) run);
+    stays = λ p midst none. turn_ran shares_old shares_new v w p d x y was view shared midst on (ap (λ (r : OneRun). r.left) run);
+    turns = λ p midst made. absurd (false≢true made);
+  }
+
+  -- a pause was asked for
+  asked_on : SharesOn shares_old shares_new [] → y ≡ record x { asked = true } → Advances shares_old shares_new v w d false
+  asked_on on run = record {
+    sizes = sizes_of;
+    count = count_same;
+    calm = still_calm (ap (λ (r : OneRun). r.runs) run);
+    over = λ made. absurd (false≢true made);
+    goes_on = λ none. still_going (ap (λ (r : OneRun). r.ended) run);
+    stays = λ p midst none. turn_asks shares_old shares_new v w p d x y was view shared midst on (ap (λ (r : OneRun). r.left) run);
+    turns = λ p midst made. absurd (false≢true made);
+  }
+
+  -- the next command was made
+  next_on : (own : List Entry) → SharesOn shares_old shares_new own → MakesNext d x y own → Advances shares_old shares_new v w d true
+  next_on own on made = record {
+    sizes = sizes_of;
+    count = count_same;
+    calm = still_calm (ap (λ (r : OneRun). r.runs) made.run);
+    over = λ yes. now_calm (ap (λ (r : OneRun). r.runs) made.run) (ap (λ (r : OneRun). r.asked) made.run);
+    goes_on = λ none. absurd (false≢true (sym none));
+    stays = λ p midst none. absurd (false≢true (sym none));
+    turns = λ p midst yes. turn_next shares_old shares_new v w p d x y was view shared midst own on made;
+  }
+
+  -- or the end
+  end_on : (own : List Entry) → SharesOn shares_old shares_new own → MakesEnd d x y own → Advances shares_old shares_new v w d true
+  end_on own on made = record {
+    sizes = sizes_of;
+    count = count_same;
+    calm = still_calm (ap (λ (r : OneRun). r.runs) made.run);
+    over = λ yes. now_calm (ap (λ (r : OneRun). r.runs) made.run) (ap (λ (r : OneRun). r.asked) made.run);
+    goes_on = λ none. absurd (false≢true (sym none));
+    stays = λ p midst none. absurd (false≢true (sym none));
+    turns = λ p midst yes. turn_end shares_old shares_new v w p d x y was view shared midst own on made;
+  }
+
+  -- before a complete collection
+  waits_now : (own : List Entry) → AsksComplete v.sizes shares_new d x y own → Waits w shares_new d
+  waits_now own asks = record {
+    asked = ap (λ (bs : List Bool). get_or bs d false) asked_set ∙ get_or-set_same (askeds v) d y.asked false (subst (λ n. d < n) (sym (length-map v.runs (λ (r : OneRun). r.asked))) (slice_get_within v.runs d x was)) ∙ ap (λ (r : OneRun). r.asked) asks.run;
+    others = asks.others;
+    next = ap (λ (cs : List (List CommandType)). get_or cs d []) (ap lefts view ∙ kept_at (λ (r : OneRun). r.left) v.runs d x y was (ap (λ (r : OneRun). r.left) asks.run)) ∙ read_at (λ (r : OneRun). r.left) v.runs d x [] was ∙ asks.next;
+    unqueued = λ g new. ap (λ z. (domain_at (state_after (opening z) g) d).queue) sizes_of ∙ asks.unqueued g new;
+  }
+
+-- as many runs stay
+pub counts : (v w : AllRuns) → endeds w ≡ endeds v → length w.runs ≡ length v.runs
+counts v w same = sym (length-map w.runs (λ (r : OneRun). r.ended)) ∙ ap length same ∙ length-map v.runs (λ (r : OneRun). r.ended)
+
+-- a pause is over
+module _ (shares_old shares_new : List Entry → Type 0) (v w : AllRuns) (d : ℕ) (calm : IsCalmBut v d) (over : w.lead ≡ Rests) (run : AllHave (λ (r : OneRun). r.runs) true w) (shared : (g : List Entry) → shares_new g → IsShared w g) where
+  -- in which no collection was made
+  pub paused_on : Has (λ (r : OneRun). r.ended) false v d → Paused false shares_old shares_new v w → Advances shares_old shares_new v w d false
+  paused_on going p =
+      let t = p.told d calm.alone in
+      record {
+        sizes = p.sizes;
+        count = counts v w p.ended;
+        calm = record {
+          run = run;
+          alone = ⊎_elim (λ (n : NotYet v w t.0). alone_same v w d n.asked calm.alone) (λ (a : Answered d v w t.0). alone_set v w d false a.none calm.alone) t.1;
+        };
+        over = λ made. absurd (false≢true made);
+        goes_on = λ none. has_same v w (λ (r : OneRun). r.ended) false d p.ended going;
+        stays = λ q midst none g new.
+            let from = t.2 g new in
+            let m = midst from.start from.was in
+            let walked = subst (λ l. Walked false l from.made t.0) over (from.walked m.follows.agrees.mode) in
+            let is : g ≡ from.start = from.is ∙ ap (λ k. from.start ++ k) walked.0 ∙ append-nil from.start in
+            let left : lefts w ≡ lefts v = ⊎_elim (λ (n : NotYet v w t.0). n.left) (λ (a : Answered d v w t.0). let clash : [] ≡ CommandOf d FullMajor false ∷ [] = sym walked.1 ∙ a.one in cc) t.1 in
+            record {
+              here = m.here;
+              follows = record { agrees = subst (λ z. Agrees z m.here g) (sym p.sizes) (subst (λ k. Agrees v.sizes m.here k) (sym is) m.follows.agrees); left = left ∙ m.follows.left };
+              rest = m.rest;
+            };
+        turns = λ q midst made. absurd (false≢true made);
+      }
+
+  -- in which the `full_major` was answered
+  pub answered_on : Waits v shares_old d → Paused true shares_old shares_new v w → Has (λ (r : OneRun). r.asked) false w d → Advances shares_old shares_new v w d true
+  answered_on waits p has =
+      let t = p.told d calm.alone in
+      let a : Answered d v w t.0 =
+      ⊎_elim
+      (λ (n : NotYet v w t.0). absurd (false≢true (sym (has_at (λ (r : OneRun). r.asked) false w d has) ∙ ap (λ (bs : List Bool). get_or bs d false) n.asked ∙ waits.asked)))
+      (λ (a : Answered d v w t.0). a)
+      t.1 in
+      record {
+        sizes = p.sizes;
+        count = counts v w p.ended;
+        calm = record { run = run; alone = alone_set v w d false a.none calm.alone };
+        over = λ made. record { run = run; none = none_asked v w d a.none calm.alone };
+        goes_on = λ none. absurd (false≢true (sym none));
+        stays = λ q midst none. absurd (false≢true (sym none));
+        turns = λ q midst made g new.
+            let from = t.2 g new in
+            let m = midst from.start from.was in
+            let agrees = m.follows.agrees in
+            let one : List Entry = CommandOf d FullMajor false ∷ [] in
+            let walked : IsCollection from.made one = subst (λ k. IsCollection from.made k) a.one (subst (λ l. Walked true l from.made t.0) over (from.walked agrees.mode)) in
+            let legal : Legal v.sizes (from.start ++ from.made) = subst (λ k. Legal v.sizes k) from.is (subst (λ z. Legal z g) p.sizes (shared g new).legal) in
+            let none : (domain_at m.here.state d).queue ≡ [] = queue_same v.sizes m.here from.start d agrees ∙ waits.unqueued from.start from.was in
+            let left : left_of m.here d ≡ FullMajor ∷ a.others = ap (λ (cs : List (List CommandType)). get_or cs d []) (sym m.follows.left) ∙ a.next in
+            let made_now : List Entry = complete m.here.state one in
+            let then : Played = record (with_entries m.here made_now) { left = set m.here.left d a.others } in
+            let turn : then ≡ take_turn q d = sym (rest_next m.here d none ∙ next_full m.here d a.others left) ∙ m.rest in
+            let before : Agrees v.sizes (with_entries m.here made_now) (from.start ++ from.made) = agrees_collection v.sizes m.here from.start from.made one agrees legal walked in
+            let after : Agrees v.sizes then (from.start ++ from.made) = record { legal = before.legal; mode = before.mode; same = before.same; replies = before.replies; state = before.state } in
+            subst (λ r. Follows w r g) turn
+            (record { agrees = subst (λ z. Agrees z then g) (sym p.sizes) (subst (λ k. Agrees v.sizes then k) (sym from.is) after); left = a.left ∙ ap (λ (cs : List (List CommandType)). set cs d a.others) m.follows.left });
+      }
+
+-- one after another
+pub advances_then : (shares_old shares_mid shares_new : List Entry → Type 0) (v u w : AllRuns) (d : ℕ) (made : Bool) → Advances shares_old shares_mid v u d false → Advances shares_mid shares_new u w d made → Advances shares_old shares_new v w d made
+advances_then shares_old shares_mid shares_new v u w d made first second = record {
+  sizes = second.sizes ∙ first.sizes;
+  count = second.count ∙ first.count;
+  calm = second.calm;
+  over = second.over;
+  goes_on = second.goes_on;
+  stays = λ p midst none. second.stays p (first.stays p midst refl) none;
+  turns = λ p midst yes. second.turns p (first.stays p midst refl) yes;
+}
+
+-- a turn, by what it came to
+module _ (shares_old shares_new : List Entry → Type 0) (v w : AllRuns) (d : ℕ) (calm : IsCalmBut v d) (going : Has (λ (r : OneRun). r.ended) false v d) (shared : (g : List Entry) → shares_new g → IsShared w g) where
+  pub turned_ran : Turned shares_old shares_new v w d Ran → Advances shares_old shares_new v w d false
+  turned_ran t = ran_on shares_old shares_new v w d t.run t.becomes t.was t.view calm going shared (subst (λ k. SharesOn shares_old shares_new k) t.tells.0 t.on) t.tells.1
+
+  pub turned_made : Turned shares_old shares_new v w d Made → Advances shares_old shares_new v w d true
+  turned_made t =
+      ⊎_elim (next_on shares_old shares_new v w d t.run t.becomes t.was t.view calm going shared t.own t.on)
+      (end_on shares_old shares_new v w d t.run t.becomes t.was t.view calm going shared t.own t.on) t.tells
+
+  pub turned_needs : (complete : Bool) → Turned shares_old shares_new v w d (Needs complete) → Advances shares_old shares_new v w d false
+  turned_needs true t = asked_on shares_old shares_new v w d t.run t.becomes t.was t.view calm going shared (subst (λ k. SharesOn shares_old shares_new k) t.tells.made t.on) t.tells.run
+  turned_needs false t = asked_on shares_old shares_new v w d t.run t.becomes t.was t.view calm going shared (subst (λ k. SharesOn shares_old shares_new k) t.tells.0 t.on) t.tells.1
+
+  pub turned_waits : (complete : Bool) → Turned shares_old shares_new v w d (Needs complete) → complete ≡ true → Waits w shares_new d
+  turned_waits true t is = waits_now shares_old shares_new v w d t.run t.becomes t.was t.view calm going shared t.own t.tells
+  turned_waits false t is = absurd (false≢true is)
+
+-- whether the trace of a domain has ended, in the scheduled history too
+pub ended_is : (v : AllRuns) (p : Played) (d : ℕ) (b : Bool) (h : List Entry) → d < length v.runs → Has (λ (r : OneRun). r.ended) b v d → IsShared v h → Agrees v.sizes p h → (domain_at p.state d).ended ≡ b
+ended_is v p d b h few has shared agrees =
+    let x : OneRun = get_or v.runs d no_run in
+    let was : slice_get v.runs d ≡ Some x = slice_get-get_or v.runs d no_run few in
+    (same_domain (state_after (opening v.sizes) h) p.state agrees.same d).ended ∙ sym (shared.ended d x was) ∙ has x was
+
+module _ (shares : List Entry → Type 0) (v : AllRuns) (p : Played) (d : ℕ) (few : d < length v.runs) (shared : (h : List Entry) → shares h → IsShared v h) (follow : AllFollow v shares p) where
+  -- a turn of a domain that has ended
+  pub no_turn : Has (λ (r : OneRun). r.ended) true v d → AllFollow v shares (take_turn p d)
+  no_turn has h here =
+      let f = follow h here in
+      subst (λ q. Follows v q h) (sym (ap (turn_on p d) (ended_is v p d true h few has (shared h here) f.agrees))) f
+
+  -- the start of a turn of one that hasn't
+  pub turn_begins : Has (λ (r : OneRun). r.ended) false v d → AllMidst v shares p d
+  turn_begins has h here =
+      let f = follow h here in
+      record { here = p; follows = f; rest = sym (ap (turn_on p d) (ended_is v p d false h few has (shared h here) f.agrees)) }
+
+-- a calm heap is one in which one domain alone may have asked
+pub calm_but : (v : AllRuns) (d : ℕ) → IsCalm v → IsCalmBut v d
+calm_but v d calm = record { run = calm.run; alone = λ e other. calm.none e }

@@ -1,0 +1,21 @@
+use Rattle.std.proofs.Common.{◌≡◌, ◌∙◌, ap, sym, subst, fold, refl}
+use Rattle.heap_model.specs.declared.state.Sizes.{Sizes}
+use Rattle.heap_model.specs.History.{replies}
+use Rattle.schedule_laws.specs.Scheduled.{Played, begun, take_item, take_rounds}
+use Rattle.schedule_drive.specs.Following.{IsPlayed}
+use Rattle.schedule_drive.specs.Pausing.{lefts}
+use Rattle.schedule_drive.proofs.Rounds.{begins, items_played}
+use Rattle.schedule_drive.proofs.replaying.replay.Goals as goal
+
+pub returns-clause-replies : goal.returns-clause-replies
+returns-clause-replies g c h here d =
+    let z : Sizes = (g.T.TogetherRuns.seen c.args.runs.now).sizes in
+    let start : Played = begun z (lefts (g.T.TogetherRuns.seen c.args.runs.now)) in
+    let through : Played = fold take_item start c.args.items.now in
+    let items = c.take_items.ensures.taken start (begins (g.T.TogetherRuns.shares c.args.runs.now) (g.T.TogetherRuns.seen c.args.runs.now) c.requires.fresh) in
+    let played : IsPlayed (g.T.TogetherRuns.seen c.take_items.new.runs).sizes through = subst (λ y. IsPlayed y through) (sym c.take_items.ensures.sizes) (items_played z start c.args.items.now refl) in
+    let follow = c.take_rounds.ensures.taken through played items h here in
+    let all : Played = take_rounds c.rounds_of-rounds.result through in
+    let sizes : (g.T.TogetherRuns.seen c.take_rounds.new.runs).sizes ≡ z = c.take_rounds.ensures.sizes ∙ c.take_items.ensures.sizes in
+    ap (λ (y : Sizes). replies y h d) (sym sizes) ∙ sym (follow.agrees.replies d) ∙ ap (λ (y : Sizes). replies y all.history d) sizes
+    ∙ ap (λ n. replies z (take_rounds n through).history d) c.rounds_of-rounds.ensures

@@ -1,0 +1,12 @@
+use Rattle.std.proofs.Common.{subst, sym}
+use Rattle.schedule_laws.specs.Scheduled.{take_item}
+use Rattle.schedule_drive.specs.Following.{AllFollow}
+use Rattle.schedule_drive.proofs.replaying.take_item.Goals as goal
+
+pub returns-in-Turn-clause-taken : goal.returns-in-Turn-clause-taken
+returns-in-Turn-clause-taken g c p follow =
+    subst (λ i. AllFollow (g.T.TogetherRuns.seen c.take_turn.new.runs) (g.T.TogetherRuns.shares c.take_turn.new.runs) (take_item p i)) (sym c.in-Turn.is) (c.take_turn.ensures.taken p follow)
+
+pub returns-in-Collect-clause-taken : goal.returns-in-Collect-clause-taken
+returns-in-Collect-clause-taken g c p follow =
+    subst (λ i. AllFollow (g.T.TogetherRuns.seen c.collect.new.runs) (g.T.TogetherRuns.shares c.collect.new.runs) (take_item p i)) (sym c.in-Collect.is) (c.collect.ensures.taken p follow)

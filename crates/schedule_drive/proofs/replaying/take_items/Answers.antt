@@ -1,0 +1,20 @@
+use Rattle.std.proofs.Common.{◌≡◌, ◌∙◌, fold, rules, subst, sym, take, take_all}
+use Rattle.std.proofs.lemmas.List.Sums.{fold_more}
+use Rattle.schedule_laws.specs.Scheduled.{take_item}
+use Rattle.schedule_drive.specs.Following.{AllFollow}
+use Rattle.schedule_drive.proofs.replaying.take_items.Goals as goal
+
+pub loop-item-preserved : goal.loop-item-preserved
+loop-item-preserved g c = record {
+  sizes = c.take_item.ensures.sizes ∙ c.loop-item.invariant.sizes;
+  count = c.take_item.ensures.count ∙ c.loop-item.invariant.count;
+  calm = c.take_item.ensures.calm;
+  taken = λ p follow.
+      subst (λ q. AllFollow (g.T.TogetherRuns.seen c.take_item.new.runs) (g.T.TogetherRuns.shares c.take_item.new.runs) q) (sym (fold_more take_item p c.args.items.now c.loop-item.item-index _ (search rules)))
+      (c.take_item.ensures.taken (fold take_item p (take c.loop-item.item-index c.args.items.now)) (c.loop-item.invariant.taken p follow));
+}
+
+pub returns-clause-taken : goal.returns-clause-taken
+returns-clause-taken g c p follow =
+    let all : take c.loop-item.item-index c.args.items.now ≡ c.args.items.now = take_all c.loop-item.item-index c.args.items.now (search rules) in
+    subst (λ xs. AllFollow (g.T.TogetherRuns.seen c.loop-item.runs) (g.T.TogetherRuns.shares c.loop-item.runs) (fold take_item p xs)) all (c.loop-item.invariant.taken p follow)

@@ -1,0 +1,22 @@
+use Rattle.std.proofs.Common.{◌≡◌, ◌∙◌, rules, subst, sym}
+use Rattle.std.specs.List.{range_with_len}
+use Rattle.schedule_laws.specs.Scheduled.{take_round, take_rounds}
+use Rattle.schedule_drive.specs.Following.{AllFollow, IsPlayed}
+use Rattle.schedule_drive.proofs.Rounds.{one_more_number, rounds_played}
+use Rattle.schedule_drive.proofs.replaying.take_rounds.Goals as goal
+
+pub rounds-preserved : goal.rounds-preserved
+rounds-preserved g c = record {
+  sizes = c.take_round.ensures.sizes ∙ c.rounds.invariant.sizes;
+  calm = c.take_round.ensures.calm;
+  taken = λ p played follow.
+      subst (λ q. AllFollow (g.T.TogetherRuns.seen c.take_round.new.runs) (g.T.TogetherRuns.shares c.take_round.new.runs) q) (sym (one_more_number (λ q n. take_round q) p c.rounds.counter))
+      (c.take_round.ensures.taken (take_rounds c.rounds.counter p)
+      (subst (λ z. IsPlayed z (take_rounds c.rounds.counter p)) (sym c.rounds.invariant.sizes) (rounds_played (g.T.TogetherRuns.seen c.args.runs.now).sizes p (range_with_len 0 c.rounds.counter) played))
+      (c.rounds.invariant.taken p played follow));
+}
+
+pub returns-clause-taken : goal.returns-clause-taken
+returns-clause-taken g c p played follow =
+    let all : c.rounds.counter ≡ c.args.rounds = search rules in
+    subst (λ n. AllFollow (g.T.TogetherRuns.seen c.rounds.runs) (g.T.TogetherRuns.shares c.rounds.runs) (take_rounds n p)) all (c.rounds.invariant.taken p played follow)

@@ -1,0 +1,139 @@
+//! The loop: the items of a schedule, and then rounds until all traces have ended.
+ghost use Rattle.std.specs.Prelude.{◌<◌, ◌≡◌, ◌≤◌, ℕ, List, [], false, fold, length, max, true};
+ghost use Rattle.std.specs.List.{list_all, range_with_len};
+ghost use Rattle.heap_model.specs.declared.entry.Entry.{Entry};
+ghost use Rattle.heap_model.specs.History.{replies};
+ghost use Rattle.schedule_laws.specs.Scheduled.{Played, rounds_of, scheduled, take_item, take_round, take_rounds};
+ghost use Rattle.schedule_laws.specs.declared.items.Item.TheVariants.{Collect as CollectItem};
+ghost use Rattle.schedule_drive.specs.Following.{AllFollow, IsCalm, IsPlayed, is_for};
+ghost use Rattle.schedule_drive.specs.Pausing.{lefts};
+ghost use Rattle.schedule_drive.specs.Together.{AllHave, Has};
+
+use crate::pausing::pause;
+use crate::together::TogetherRuns;
+use crate::turning::{take_turn, wait_if};
+use schedule_laws::Item;
+use std::sync::Wait;
+
+// Whether all traces have ended.
+fn all_ended<T: TogetherRuns>(runs: &T) -> bool
+    ensures yes { result ≡ true → AllHave (λ x. x.ended) true (T.seen runs.now) }
+    ensures no { result ≡ false → (d : ℕ) × (d < length (T.seen runs.now).runs) × Has (λ x. x.ended) false (T.seen runs.now) d }
+{
+    'domains: for at in 0..runs.count() {
+        if !runs.has_ended(at) {
+            return false;
+        }
+    }
+    true
+}
+
+// A complete collection that no command asks for, if not all traces have ended.
+fn collect<T: TogetherRuns, R: Wait>(rt: &R, runs: &mut T)
+    requires calm { IsCalm (T.seen runs.old) }
+    ensures sizes { (T.seen runs.new).sizes ≡ (T.seen runs.old).sizes }
+    ensures count { length (T.seen runs.new).runs ≡ length (T.seen runs.old).runs }
+    ensures calm { IsCalm (T.seen runs.new) }
+    ensures taken { (p : Played) → AllFollow (T.seen runs.old) (T.shares runs.old) p → AllFollow (T.seen runs.new) (T.shares runs.new) (take_item p CollectItem) }
+{
+    runs.stands();
+    if all_ended(runs) {
+        return;
+    }
+    pause(rt, runs, true);
+    runs.stands();
+}
+
+// One item of a schedule.
+fn take_item<T: TogetherRuns, R: Wait>(rt: &R, runs: &mut T, item: Item)
+    requires calm { IsCalm (T.seen runs.old) }
+    requires inside { is_for (length (T.seen runs.old).runs) item ≡ true }
+    ensures sizes { (T.seen runs.new).sizes ≡ (T.seen runs.old).sizes }
+    ensures count { length (T.seen runs.new).runs ≡ length (T.seen runs.old).runs }
+    ensures calm { IsCalm (T.seen runs.new) }
+    ensures taken { (p : Played) → AllFollow (T.seen runs.old) (T.shares runs.old) p → AllFollow (T.seen runs.new) (T.shares runs.new) (take_item p item) }
+{
+    match item {
+        Item::Turn(domain) => take_turn(rt, runs, domain as usize),
+        Item::Collect => collect(rt, runs),
+    }
+}
+
+// All items of a schedule.
+fn take_items<T: TogetherRuns, R: Wait>(rt: &R, runs: &mut T, items: &[Item])
+    requires calm { IsCalm (T.seen runs.old) }
+    requires inside { list_all (is_for (length (T.seen runs.old).runs)) items.now ≡ true }
+    ensures sizes { (T.seen runs.new).sizes ≡ (T.seen runs.old).sizes }
+    ensures count { length (T.seen runs.new).runs ≡ length (T.seen runs.old).runs }
+    ensures calm { IsCalm (T.seen runs.new) }
+    ensures taken { (p : Played) → AllFollow (T.seen runs.old) (T.shares runs.old) p → AllFollow (T.seen runs.new) (T.shares runs.new) (fold take_item p items.now) }
+{
+    for item in items {
+        take_item(rt, runs, *item);
+    }
+}
+
+// A turn of each domain, from the first on.
+fn take_round<T: TogetherRuns, R: Wait>(rt: &R, runs: &mut T)
+    requires calm { IsCalm (T.seen runs.old) }
+    ensures sizes { (T.seen runs.new).sizes ≡ (T.seen runs.old).sizes }
+    ensures count { length (T.seen runs.new).runs ≡ length (T.seen runs.old).runs }
+    ensures calm { IsCalm (T.seen runs.new) }
+    ensures taken { (p : Played) → IsPlayed (T.seen runs.old).sizes p → AllFollow (T.seen runs.old) (T.shares runs.old) p → AllFollow (T.seen runs.new) (T.shares runs.new) (take_round p) }
+{
+    runs.stands();
+    'domains: for at in 0..runs.count() {
+        take_turn(rt, runs, at);
+    }
+}
+
+// So many rounds.
+fn take_rounds<T: TogetherRuns, R: Wait>(rt: &R, runs: &mut T, rounds: usize)
+    requires calm { IsCalm (T.seen runs.old) }
+    ensures sizes { (T.seen runs.new).sizes ≡ (T.seen runs.old).sizes }
+    ensures calm { IsCalm (T.seen runs.new) }
+    ensures taken { (p : Played) → IsPlayed (T.seen runs.old).sizes p → AllFollow (T.seen runs.old) (T.shares runs.old) p → AllFollow (T.seen runs.new) (T.shares runs.new) (take_rounds rounds p) }
+{
+    'rounds: for _ in 0..rounds {
+        take_round(rt, runs);
+    }
+}
+
+// The greater of two numbers.
+fn greater(a: usize, b: usize) -> usize
+    ensures { result ≡ max a b }
+{
+    if a < b { b } else { a }
+}
+
+// How many rounds end every trace: the longest has so many commands, and then its end.
+fn rounds_of<T: TogetherRuns>(runs: &T) -> usize
+    ensures { result ≡ rounds_of (lefts (T.seen runs.now)) }
+{
+    let mut most = 0;
+    'domains: for at in 0..runs.count() {
+        most = greater(most, runs.commands_left(at));
+    }
+    most + 1
+}
+
+/// Drives the runs of a heap by a schedule: its items in order, and then a turn of each domain again and again until all
+/// traces have ended. The runs are those just made, and each item is for one of them.
+///
+/// In each history that the runs may share then, each domain has the replies that it has in the scheduled history. That
+/// is a function of the numbers of the heap, the commands and the items, so a run prints the same each time.
+///
+/// As with [`TogetherRuns::turn`], this call may wait without end.
+pub fn replay<T: TogetherRuns, R: Wait>(rt: &R, runs: &mut T, items: &[Item])
+    requires calm { IsCalm (T.seen runs.old) }
+    requires fresh { (h : List Entry) → T.shares runs.old h → h ≡ [] }
+    requires inside { list_all (is_for (length (T.seen runs.old).runs)) items.now ≡ true }
+    ensures sizes { (T.seen runs.new).sizes ≡ (T.seen runs.old).sizes }
+    ensures ended { AllHave (λ x. x.ended) true (T.seen runs.new) }
+    ensures replies { (h : List Entry) → T.shares runs.new h → (d : ℕ) → replies (T.seen runs.old).sizes h d ≡ replies (T.seen runs.old).sizes (scheduled (T.seen runs.old).sizes (lefts (T.seen runs.old)) items.now) d }
+{
+    let rounds = rounds_of(runs);
+    take_items(rt, runs, items);
+    take_rounds(rt, runs, rounds);
+    wait_if(rt, !all_ended(runs));
+}

@@ -1,0 +1,78 @@
+//! What a replay needs of the runs of a heap.
+ghost use Rattle.std.specs.Prelude.{◌<◌, ◌≡◌, ◌≤◌, List, [], Some, false, length, slice_get, true};
+ghost use Rattle.heap_model.specs.declared.entry.Entry.{Entry};
+ghost use Rattle.schedule_drive.specs.Together.{AllHave, AllRuns, Has, IsShared, OneRun, Passed, SharesOn, Stands, Turned, all_halted};
+
+use std::sync::Wait;
+
+/// What a turn came to.
+#[derive(Clone, Copy, Debug, PartialEq, Eq)]
+pub enum Stepped {
+    /// It ran a finaliser.
+    Ran,
+    /// It made the next command, or the end of the trace.
+    Made,
+    /// A pause must come first. A complete collection must be made in it exactly where the next command is
+    /// a `full_major`.
+    Needs { complete: bool },
+}
+
+/// The runs of all domains of one heap, which one thread drives. Contracts see them as data, and which histories they
+/// may share: only as the heap ends it is known which one they do.
+pub trait TogetherRuns {
+    /// The runs.
+    ghost seen: { Self → AllRuns };
+
+    /// The histories that they may share.
+    ghost shares: { Self → List Entry → Type 0 };
+
+    /// Nothing changes. The numbers are within their limits, and there is a run for each domain. Each history that
+    /// they may share is legal, and the replies of a run are those of its domain there.
+    fn stands(&self)
+        ensures stands { Stands (seen self.now) }
+        ensures shared { (h : List Entry) → shares self.now h → IsShared (seen self.now) h };
+
+    /// How many runs there are.
+    fn count(&self) -> usize
+        ensures { result ≡ length (seen self.now).runs };
+
+    /// How many commands of a run are left: 200,000 at most.
+    fn commands_left(&self, at: usize) -> usize
+        requires { at < length (seen self.now).runs }
+        ensures left { (x : OneRun) → slice_get (seen self.now).runs at ≡ Some x → result ≡ length x.left }
+        ensures few { result ≤ 200000 };
+
+    /// Whether the trace of a run has ended.
+    fn has_ended(&self, at: usize) -> bool
+        requires { at < length (seen self.now).runs }
+        ensures { Has (λ x. x.ended) result (seen self.now) at };
+
+    /// Whether the domain of a run runs, and hasn't arrived.
+    fn running(&self, at: usize) -> bool
+        requires { at < length (seen self.now).runs }
+        ensures { Has (λ x. x.runs) result (seen self.now) at };
+
+    /// Whether a run has asked for a pause for its next command.
+    fn has_asked(&self, at: usize) -> bool
+        requires { at < length (seen self.now).runs }
+        ensures { Has (λ x. x.asked) result (seen self.now) at };
+
+    /// One turn of a run, while all domains run.
+    fn turn<R: Wait>(&mut self, rt: &R, at: usize) -> Stepped
+        requires inside { at < length (seen self.old).runs }
+        requires run { AllHave (λ x. x.runs) true (seen self.old) }
+        requires goes_on { Has (λ x. x.ended) false (seen self.old) at }
+        ensures turned { Turned (shares self.old) (shares self.new) (seen self.old) (seen self.new) at result };
+
+    /// All domains arrive, and domain 0 will lead a pause in which a complete collection is made, or none.
+    fn halt_all<R: Wait>(&mut self, rt: &R, complete: bool)
+        requires run { AllHave (λ x. x.runs) true (seen self.old) }
+        ensures on { SharesOn (shares self.old) (shares self.new) [] }
+        ensures seen { seen self.new ≡ all_halted complete (seen self.old) };
+
+    /// One step in the pause of a domain that has arrived.
+    fn pass_on<R: Wait>(&mut self, rt: &R, at: usize)
+        requires inside { at < length (seen self.old).runs }
+        requires gone { Has (λ x. x.runs) false (seen self.old) at }
+        ensures passed { Passed (shares self.old) (shares self.new) (seen self.old) (seen self.new) at };
+}

@@ -1,0 +1,75 @@
+//! Turns: each ends with the next command of its run, or with the end of the trace.
+ghost use Rattle.std.specs.Prelude.{◌<◌, ◌≡◌, false, length, true};
+ghost use Rattle.schedule_laws.specs.Scheduled.{Played, take_turn};
+ghost use Rattle.schedule_drive.specs.Following.{Advances, AllFollow, IsCalm, IsCalmBut, Waits};
+ghost use Rattle.schedule_drive.specs.Together.{Has};
+
+use crate::pausing::pause;
+use crate::together::{Stepped, TogetherRuns};
+use std::sync::Wait;
+
+// Waits without end where this is so.
+pub(crate) fn wait_if<R: Wait>(rt: &R, is: bool)
+    ensures { is ≡ false }
+{
+    if is {
+        'ever: for _ in rt.forever() {}
+        unreachable!()
+    }
+}
+
+// The pause that a run has asked for. Where its next command is a `full_major` it is answered then, and a run for which it
+// isn't waits without end.
+fn pause_for<T: TogetherRuns, R: Wait>(rt: &R, runs: &mut T, at: usize, complete: bool)
+    requires inside { at < length (T.seen runs.old).runs }
+    requires calm { IsCalmBut (T.seen runs.old) at }
+    requires goes_on { Has (λ x. x.ended) false (T.seen runs.old) at }
+    requires waits { complete ≡ true → Waits (T.seen runs.old) (T.shares runs.old) at }
+    ensures advances { Advances (T.shares runs.old) (T.shares runs.new) (T.seen runs.old) (T.seen runs.new) at complete }
+{
+    pause(rt, runs, complete);
+    runs.stands();
+    if complete {
+        wait_if(rt, runs.has_asked(at));
+    }
+}
+
+// One step of a turn, with the pause that it asks for. Answers whether the next command or the end was made.
+fn step_on<T: TogetherRuns, R: Wait>(rt: &R, runs: &mut T, at: usize) -> bool
+    requires inside { at < length (T.seen runs.old).runs }
+    requires calm { IsCalmBut (T.seen runs.old) at }
+    requires goes_on { Has (λ x. x.ended) false (T.seen runs.old) at }
+    ensures advances { Advances (T.shares runs.old) (T.shares runs.new) (T.seen runs.old) (T.seen runs.new) at result }
+{
+    let stepped = runs.turn(rt, at);
+    runs.stands();
+    match stepped {
+        Stepped::Ran => false,
+        Stepped::Made => true,
+        Stepped::Needs { complete } => {
+            pause_for(rt, runs, at, complete);
+            complete
+        }
+    }
+}
+
+// The domain at this place runs what waits in its queue, and makes its next command or its end, if it hasn't made that.
+pub(crate) fn take_turn<T: TogetherRuns, R: Wait>(rt: &R, runs: &mut T, at: usize)
+    requires inside { at < length (T.seen runs.old).runs }
+    requires calm { IsCalm (T.seen runs.old) }
+    ensures sizes { (T.seen runs.new).sizes ≡ (T.seen runs.old).sizes }
+    ensures count { length (T.seen runs.new).runs ≡ length (T.seen runs.old).runs }
+    ensures calm { IsCalm (T.seen runs.new) }
+    ensures taken { (p : Played) → AllFollow (T.seen runs.old) (T.shares runs.old) p → AllFollow (T.seen runs.new) (T.shares runs.new) (take_turn p at) }
+{
+    runs.stands();
+    if runs.has_ended(at) {
+        return;
+    }
+    'turns: for _ in rt.forever() {
+        if step_on(rt, runs, at) {
+            return;
+        }
+    }
+    unreachable!()
+}

@@ -1,0 +1,6 @@
+mod Cutting
+mod LineLemmas
+mod TextLemmas
+mod OnlyLemmas
+mod ReadingLemmas
+mod ReplayLemmas

@@ -1,0 +1,33 @@
+-- Which scripts can be replayed under a schedule.
+use Rattle.std.specs.Prelude.{◌≡◌, ℕ, ◌+◌, ◌*◌, ◌≤◌, nat_lt, Bool, true, false, List, sum_by, count_by, Option, None, Some, if◌then◌else◌}
+use Rattle.std.specs.List.{list_any}
+use Rattle.heap_model.specs.declared.command.Command.{Command}
+use Rattle.heap_model.specs.declared.command.Command.TheVariants.{Major}
+use Rattle.heap_model.specs.Commands.{is_allocation}
+use Rattle.heap_model.specs.Domains.{class_count}
+
+-- whether a command asks for a collection that may go on beside running domains
+abbrev pub is_major : Command → Bool
+is_major Major = true
+is_major _ = false
+
+-- whether there is one in a script
+abbrev pub has_major : List (List Command) → Bool
+has_major script = list_any (list_any is_major) script
+
+-- how many blocks a script makes, if no allocation is answered `full`
+abbrev pub allocations : List (List Command) → ℕ
+allocations script = sum_by (count_by is_allocation) script
+
+-- how many pools it may own at most: each holds one of its blocks or the shared one, or is one that a domain has begun for a size class
+abbrev pub pools_of : ℕ → List (List Command) → ℕ
+pools_of domains script = allocations script + 1 + class_count * domains
+
+-- a script that can be replayed on a heap with so many domains and pools
+pub record CanReplay (domains pools : ℕ) (script : List (List Command)) : Type 0 where
+  pub no_major : has_major script ≡ false
+  pub few : 2 * pools_of domains script ≤ pools
+
+-- why another one can't: 1 where it has a `major`, and else 2
+abbrev pub why_not : ℕ → ℕ → List (List Command) → Option ℕ
+why_not domains pools script = if has_major script then Some 1 else (if nat_lt pools (2 * pools_of domains script) then Some 2 else None)

@@ -1,0 +1,15 @@
+//! Schedules as text: how one is read, with its first wrong line, and which scripts can be replayed.
+#![tactic(auto)]
+
+mod allowed;
+mod fault;
+mod reading;
+mod replay;
+mod schedule;
+mod split;
+
+pub use allowed::{NotReplayable, replayable};
+pub use fault::ScheduleFault;
+pub use reading::read_schedule;
+pub use replay::{Replay, ReplayFault, read_replay};
+pub use schedule::Schedule;
