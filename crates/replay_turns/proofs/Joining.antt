@@ -17,7 +17,7 @@ use Rattle.schedule_drive.specs.Together.{AllRuns, OneRun, Lead, Rests, Leads, C
 use Rattle.replay_turns.specs.Walk.{IsWalk}
 use Rattle.replay_turns.specs.Gathered.{GatheredView, HasRun, IsGathered, IsHeld, MayShare, PassedBy, Steps, Walk, is_even, is_running, lead_by, lead_in, lead_of, one_run, run_at, seen_in}
 use Rattle.replay_turns.specs.Leveled.{AllHere, Leveled, SawMore, Under}
-use Rattle.replay_turns.specs.Moves.{Becomes, HaltsUpto, PassesAt, StepsAt, TurnedBy, forgetting, halted_run}
+use Rattle.replay_turns.specs.Moves.{Becomes, HaltsUpto, PassesAt, StepsAt, forgetting, halted_run}
 use Rattle.schedule_drive.specs.declared.together.Stepped.{Stepped}
 use Rattle.heap_model.specs.Domains.{domain_at, opening}
 use Rattle.heap_rule.specs.declared.phase.Progress.{Progress}
@@ -29,6 +29,7 @@ use Rattle.replay_turns.proofs.PassLemmas.{passed}
 use Rattle.replay_turns.proofs.Places.{get_map, set_else, set_here, set_map}
 use Rattle.replay_turns.proofs.Sharing.{halted_shares, leveled_shares, shares_on}
 use Rattle.replay_turns.proofs.SlotLemmas.{inside, one_there}
+use Rattle.replay_turns.proofs.TurnLemmas.{TurnedBy}
 use Rattle.replay_turns.proofs.Walk.{walk_begins}
 
 -- lists that are the same at each place

@@ -8,4 +8,6 @@ pub mod CalmLemmas
 pub mod LevelLemmas
 pub mod Histories
 pub mod Sharing
+pub mod TurnLemmas
 pub mod Joining
+pub mod Turning

@@ -9,10 +9,10 @@ use Rattle.schedule_drive.specs.declared.together.Stepped.{Stepped}
 use Rattle.schedule_drive.specs.Together.{AllHave, Has, Turned, Unqueued}
 use Rattle.replay_turns.specs.Gathered.{GatheredView, HasRun, IsGathered, IsHeld, MayShare, one_run, run_at, seen_in}
 use Rattle.replay_turns.specs.Leveled.{Leveled}
-use Rattle.replay_turns.specs.Moves.{StepsAt, TurnedBy}
+use Rattle.replay_turns.specs.Moves.{StepsAt}
 use Rattle.replay_turns.proofs.Joining.{met_held, runs_met, stepped_all, stepped_tells, unqueued}
 use Rattle.replay_turns.proofs.Places.{get_map}
-use Rattle.replay_turns.proofs.TurnLemmas.{turned}
+use Rattle.replay_turns.proofs.TurnLemmas.{TurnedBy, turned}
 
 module _ (g : GatheredView) (all : IsGathered g) (mid : List (Option RunView)) (at : ℕ) (l : Leveled g.heap.config g.runs mid at (length g.runs)) (new : List (Option RunView)) (stepped : Stepped) (p : StepsAt g.heap mid new at stepped)
     (run : AllHave (λ x. x.runs) Rattle.std.proofs.Common.true (seen_in g)) (going : Has (λ x. x.ended) false (seen_in g) at) where
@@ -26,7 +26,7 @@ module _ (g : GatheredView) (all : IsGathered g) (mid : List (Option RunView)) (
   held = met_held g all mid at (length g.runs) l at p.run p.becomes.was
 
   by : (shares : List Entry → Type 0) → (length (domain_at (state_of g.heap.config p.made.token.view.seen.front) p.made.token.view.own.number).queue ≡ 0 → Unqueued (sizes_in g.heap.config) shares at) → TurnedBy (sizes_in g.heap.config) shares at p.run p.made stepped
-  by shares none = turned g.heap shares at p.run p.made p.answer stepped held.is (sym held.number) running held.listed goes_on held.collected p.calm p.came none
+  by shares none = turned g.heap shares at p.run p.made stepped (sym held.number) goes_on held.collected p.came none p.answer held.listed p.calm
 
   number : p.made.token.view.own.number ≡ p.run.token.view.own.number
   number = (by (λ h. ⊥) (λ _ h ms. absurd ms)).number

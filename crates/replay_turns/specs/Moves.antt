@@ -12,10 +12,7 @@ use Rattle.domain_turns.specs.declared.turned.Turned as turned
 use Rattle.domain_turns.specs.Runs.{RunView, CalmAnswers, GoesOn, IsRun, PassesOn}
 use Rattle.schedule_drive.specs.declared.together.Stepped.{Stepped}
 use Rattle.schedule_drive.specs.declared.together.Stepped.TheVariants.{Ran, Made, Needs}
-use Rattle.heap_model.specs.declared.entry.Entry.{Entry}
-use Rattle.heap_model.specs.declared.state.Sizes.{Sizes}
-use Rattle.schedule_drive.specs.Together.{TurnTells}
-use Rattle.replay_turns.specs.Gathered.{HasRun, Steps, one_run}
+use Rattle.replay_turns.specs.Gathered.{HasRun}
 use Rattle.replay_turns.specs.Leveled.{Leveled}
 
 -- the run at a place has become another, which is of the heap too, and the others are as they were
@@ -76,10 +73,3 @@ pub record StepsAt (h : SharedHeap) (old new : List (Option RunView)) (at : ℕ)
   pub calm : CalmAnswers h run made answer
   pub came : CameTo h.config made run.next (length run.replies) stepped
   pub becomes : Becomes h old new at run made
-
--- what a step of domain d tells a replay
-pub record TurnedBy (z : Sizes) (shares : List Entry → Type 0) (d : ℕ) (r s : RunView) (stepped : Stepped) : Type 0 where
-  pub own : List Entry
-  pub steps : Steps d r.token.view.seen.front s.token.view.seen.front own
-  pub tells : TurnTells z shares d (one_run r) (one_run s) own stepped
-  pub number : s.token.view.own.number ≡ r.token.view.own.number

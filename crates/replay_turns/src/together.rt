@@ -34,7 +34,8 @@ impl TogetherRuns for Gathered {
     }
 
     fn has_asked(&self, at: usize) -> bool {
-        self.run(at).has_asked()
+        let run = self.run(at);
+        run.commands_left() > 0 && run.has_asked()
     }
 
     fn turn<R: Wait>(&mut self, _rt: &R, at: usize) -> Stepped {
