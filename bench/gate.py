@@ -1,6 +1,7 @@
 #!/usr/bin/env python3
 """Runs the gate from nothing, samples each process of the prover every second, and prints the gate's CPU seconds crate by crate as a
-table in Markdown. `bench/gate.py FILE` writes what the gate says into FILE and ends with the gate's status."""
+table in Markdown, and when the library or program of each crate was proved. `bench/gate.py FILE` writes what the gate says into FILE and
+ends with the gate's status."""
 import os
 import re
 import subprocess
@@ -16,7 +17,7 @@ class Prover:
 
     def __init__(self, words, folder, edits_seen):
         self.crate = words[words.index("--crate-name") + 1]
-        self.seconds = 0.0
+        self.seconds = self.seen = 0.0
         kept = words[words.index("--incremental") + 1] if "--incremental" in words else ""
         if "/rt-edit" in folder:
             key = (self.crate, kept or folder)
@@ -51,21 +52,27 @@ def sample(found, edits_seen):
                 continue
             found[key] = Prover(words, folder, edits_seen)
         found[key].seconds = (int(numbers[11]) + int(numbers[12])) / TICKS
+        found[key].seen = time.time()
 
 
-def table(found, refused):
+def table(found, refused, begun):
     """Returns the lines of the table, the dearest crate first."""
-    sums = {}
+    sums, ends = {}, {}
     for it in found.values():
         row = sums.setdefault(it.crate, dict.fromkeys(COLUMNS, 0.0))
         row[it.what] += it.seconds
-    lines = ["| crate | " + " | ".join(COLUMNS) + " | wrong bodies | in all |", "|---|" + "---|" * (len(COLUMNS) + 2)]
+        if it.what == COLUMNS[0]:
+            ends[it.crate] = max(it.seen, ends.get(it.crate, 0))
+    heads = [*COLUMNS, "wrong bodies", "in all", "proved after"]
+    lines = ["| crate | " + " | ".join(heads) + " |", "|---|" + "---|" * len(heads)]
     shown = lambda seconds: f"{seconds:.0f}" if seconds >= 0.5 else ""
     for crate, row in sorted(sums.items(), key=lambda it: -sum(it[1].values())):
         cells = [shown(row[column]) for column in COLUMNS]
-        lines.append(f"| `{crate}` | " + " | ".join(cells) + f" | {refused.get(crate, '')} | {sum(row.values()):.0f} |")
+        after = round(ends[crate] - begun) if crate in ends else 0
+        end = f"{after // 60}:{after % 60:02}" if after else ""
+        lines.append(f"| `{crate}` | " + " | ".join(cells) + f" | {refused.get(crate, '')} | {sum(row.values()):.0f} | {end} |")
     totals = [sum(row[column] for row in sums.values()) for column in COLUMNS]
-    lines.append("| all | " + " | ".join(map(shown, totals)) + f" | {sum(refused.values())} | {sum(totals):.0f} |")
+    lines.append("| all | " + " | ".join(map(shown, totals)) + f" | {sum(refused.values())} | {sum(totals):.0f} | |")
     return lines
 
 
@@ -85,7 +92,7 @@ def main():
         refused[crate] = refused.get(crate, 0) + 1
     used = os.times()
     commit = subprocess.check_output(["git", "-C", top, "rev-parse", "--short=12", "HEAD"], text=True).strip()
-    print(*table(found, refused), sep="\n")
+    print(*table(found, refused, begun), sep="\n")
     print(f"\n{text.strip().splitlines()[-1]}; commit {commit}; {time.time() - begun:.0f} s on {os.cpu_count()} processors, ")
     print(f"{used.children_user + used.children_system:.0f} CPU s in all, by the system's own count.")
     sys.exit(gate.returncode)

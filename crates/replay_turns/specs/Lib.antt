@@ -1,0 +1,5 @@
+pub mod Walk
+pub mod Gathered
+pub mod Leveled
+pub mod Moves
+pub mod Ends
