@@ -129,6 +129,7 @@ pub fn replay<T: TogetherRuns, R: Wait>(rt: &R, runs: &mut T, items: &[Item])
     requires fresh { (h : List Entry) → T.shares runs.old h → h ≡ [] }
     requires inside { list_all (is_for (length (T.seen runs.old).runs)) items.now ≡ true }
     ensures sizes { (T.seen runs.new).sizes ≡ (T.seen runs.old).sizes }
+    ensures calm { IsCalm (T.seen runs.new) }
     ensures ended { AllHave (λ x. x.ended) true (T.seen runs.new) }
     ensures replies { (h : List Entry) → T.shares runs.new h → (d : ℕ) → replies (T.seen runs.old).sizes h d ≡ replies (T.seen runs.old).sizes (scheduled (T.seen runs.old).sizes (lefts (T.seen runs.old)) items.now) d }
 {
