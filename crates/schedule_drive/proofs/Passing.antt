@@ -17,7 +17,7 @@ use Rattle.heap_model.specs.Domains.{opening}
 use Rattle.heap_model.specs.History.{Legal, LegalFrom, state_after}
 use Rattle.schedule_laws.proofs.Collecting.{legal_parts}
 use Rattle.schedule_drive.specs.Together.{AllHave, AllRuns, Controls, Grows, IsAnswered, IsShared, IsntAnswered, Lead, Leads, OneRun, Passed, Rests, SharesOn, Stands, all_halted, halted, is_quiet}
-use Rattle.schedule_drive.specs.Pausing.{Answered, AsksAlone, NotYet, PassedOne, Paused, Walked, WalkedFrom, askeds, endeds, lefts}
+use Rattle.schedule_drive.specs.Pausing.{Answered, AsksAlone, NotYet, PassedOne, Paused, Walked, WalkedFrom, all_commands, askeds, endeds, lefts}
 use Rattle.schedule_drive.proofs.Listing.{kept_at, read_at}
 use Rattle.schedule_drive.proofs.Walking.{answer_walks, control_walks, open_none, quiet_walks}
 
@@ -79,6 +79,7 @@ pause_begins shares_old shares_new v w complete on is legal =
     let same : w.sizes ≡ v.sizes = ap (λ (u : AllRuns). u.sizes) is in
     record {
       sizes = same;
+      commands = ap all_commands is ∙ map-map (λ (x : OneRun). x.commands) halted v.runs;
       ended = ap endeds is ∙ map-map (λ (x : OneRun). x.ended) halted v.runs;
       told = λ d alone. (
         [],
@@ -102,6 +103,7 @@ pause_begins shares_old shares_new v w complete on is legal =
 pub pause_stays : (shares shares_old shares_new : List Entry → Type 0) (v u w : AllRuns) (complete : Bool) → Paused complete shares shares_old v u → w ≡ u → ((g : List Entry) → shares_new g → shares_old g) → Paused complete shares shares_new v w
 pause_stays shares shares_old shares_new v u w complete p is on = record {
   sizes = ap (λ (r : AllRuns). r.sizes) is ∙ p.sizes;
+  commands = ap all_commands is ∙ p.commands;
   ended = ap endeds is ∙ p.ended;
   told = λ d alone.
       let t = p.told d alone in (
@@ -179,9 +181,11 @@ pause_passes shares shares_old shares_new v u w complete e p step legal =
     let y : OneRun = step.becomes in
     let runs : w.runs ≡ set u.runs e y = ap (λ (r : AllRuns). r.runs) step.view in
     let sizes : w.sizes ≡ v.sizes = ap (λ (r : AllRuns). r.sizes) step.view ∙ p.sizes in
+    let commands : y.commands ≡ x.commands = ⊎_elim (λ (a : IsAnswered e x y step.own). ap (λ (r : OneRun). r.commands) a.run) (λ (n : IsntAnswered x y step.own). ap (λ (r : OneRun). r.commands) n.run) step.tells in
     let ended : y.ended ≡ x.ended = ⊎_elim (λ (a : IsAnswered e x y step.own). ap (λ (r : OneRun). r.ended) a.run) (λ (n : IsntAnswered x y step.own). ap (λ (r : OneRun). r.ended) n.run) step.tells in
     record {
       sizes = sizes;
+      commands = ap (λ rs. map (λ (r : OneRun). r.commands) rs) runs ∙ kept_at (λ (r : OneRun). r.commands) u.runs e x y step.was commands ∙ p.commands;
       ended = ap (λ rs. map (λ (r : OneRun). r.ended) rs) runs ∙ kept_at (λ (r : OneRun). r.ended) u.runs e x y step.was ended ∙ p.ended;
       told = λ d alone.
           let t = p.told d alone in (
@@ -211,7 +215,7 @@ same_count shares_old shares_new u w e step =
 
 -- a run of a trace without commands
 pub no_run : OneRun
-no_run = record { left = []; replies = []; asked = false; runs = false; ended = false }
+no_run = record { commands = []; left = []; replies = []; asked = false; runs = false; ended = false }
 
 -- there is one
 pub some_run : (v : AllRuns) → Stands v → 0 < length v.runs

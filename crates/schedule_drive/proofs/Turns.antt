@@ -175,7 +175,7 @@ module _ (v w : AllRuns) where
 -- what a turn of run d keeps of all
 module _ (shares_old shares_new : List Entry → Type 0) (v w : AllRuns) (d : ℕ) (x y : OneRun) (was : slice_get v.runs d ≡ Some x) (view : w ≡ record v { runs = set v.runs d y }) (calm : IsCalmBut v d) (going : Has (λ (r : OneRun). r.ended) false v d)
     (shared : (g : List Entry) → shares_new g → IsShared w g) where
-  kept : (kind : OneRun → Bool) → kind y ≡ kind x → map kind w.runs ≡ map kind v.runs
+  kept : {A : Type 0} (kind : OneRun → A) → kind y ≡ kind x → map kind w.runs ≡ map kind v.runs
   kept kind same = ap (λ (r : AllRuns). map kind r.runs) view ∙ kept_at kind v.runs d x y was same
 
   asked_set : askeds w ≡ set (askeds v) d y.asked
@@ -201,6 +201,7 @@ module _ (shares_old shares_new : List Entry → Type 0) (v w : AllRuns) (d : �
   ran_on on run = record {
     sizes = sizes_of;
     count = count_same;
+    commands = kept (λ (r : OneRun). r.commands) (ap (λ (r : OneRun). r.commands) run);
     calm = still_calm (ap (λ (r : OneRun). r.runs) run);
     over = λ made. absurd (false≢true made);
     goes_on = λ none. still_going (ap (λ (r : OneRun). r.ended) run);
@@ -213,6 +214,7 @@ module _ (shares_old shares_new : List Entry → Type 0) (v w : AllRuns) (d : �
   asked_on on run = record {
     sizes = sizes_of;
     count = count_same;
+    commands = kept (λ (r : OneRun). r.commands) (ap (λ (r : OneRun). r.commands) run);
     calm = still_calm (ap (λ (r : OneRun). r.runs) run);
     over = λ made. absurd (false≢true made);
     goes_on = λ none. still_going (ap (λ (r : OneRun). r.ended) run);
@@ -225,6 +227,7 @@ module _ (shares_old shares_new : List Entry → Type 0) (v w : AllRuns) (d : �
   next_on own on made = record {
     sizes = sizes_of;
     count = count_same;
+    commands = kept (λ (r : OneRun). r.commands) (ap (λ (r : OneRun). r.commands) made.run);
     calm = still_calm (ap (λ (r : OneRun). r.runs) made.run);
     over = λ yes. now_calm (ap (λ (r : OneRun). r.runs) made.run) (ap (λ (r : OneRun). r.asked) made.run);
     goes_on = λ none. absurd (false≢true (sym none));
@@ -237,6 +240,7 @@ module _ (shares_old shares_new : List Entry → Type 0) (v w : AllRuns) (d : �
   end_on own on made = record {
     sizes = sizes_of;
     count = count_same;
+    commands = kept (λ (r : OneRun). r.commands) (ap (λ (r : OneRun). r.commands) made.run);
     calm = still_calm (ap (λ (r : OneRun). r.runs) made.run);
     over = λ yes. now_calm (ap (λ (r : OneRun). r.runs) made.run) (ap (λ (r : OneRun). r.asked) made.run);
     goes_on = λ none. absurd (false≢true (sym none));
@@ -266,6 +270,7 @@ module _ (shares_old shares_new : List Entry → Type 0) (v w : AllRuns) (d : �
       record {
         sizes = p.sizes;
         count = counts v w p.ended;
+        commands = p.commands;
         calm = record {
           run = run;
           alone = ⊎_elim (λ (n : NotYet v w t.0). alone_same v w d n.asked calm.alone) (λ (a : Answered d v w t.0). alone_set v w d false a.none calm.alone) t.1;
@@ -298,6 +303,7 @@ module _ (shares_old shares_new : List Entry → Type 0) (v w : AllRuns) (d : �
       record {
         sizes = p.sizes;
         count = counts v w p.ended;
+        commands = p.commands;
         calm = record { run = run; alone = alone_set v w d false a.none calm.alone };
         over = λ made. record { run = run; none = none_asked v w d a.none calm.alone };
         goes_on = λ none. absurd (false≢true (sym none));
@@ -325,6 +331,7 @@ pub advances_then : (shares_old shares_mid shares_new : List Entry → Type 0) (
 advances_then shares_old shares_mid shares_new v u w d made first second = record {
   sizes = second.sizes ∙ first.sizes;
   count = second.count ∙ first.count;
+  commands = second.commands ∙ first.commands;
   calm = second.calm;
   over = second.over;
   goes_on = second.goes_on;

@@ -13,7 +13,7 @@ use Rattle.schedule_laws.specs.declared.items.Item.TheVariants.{Collect, Turn}
 use Rattle.schedule_laws.specs.Sameness.{IsSameBut}
 use Rattle.schedule_laws.specs.Scheduled.{Played, take_turn, with_entries, with_next}
 use Rattle.schedule_drive.specs.Together.{AllHave, AllRuns, Has, Unqueued}
-use Rattle.schedule_drive.specs.Pausing.{AsksAlone, askeds, lefts}
+use Rattle.schedule_drive.specs.Pausing.{AsksAlone, all_commands, askeds, lefts}
 
 -- a history agrees with the scheduled one so far: no collection goes on, the states are the same but for garbage, and each domain has the same replies in both
 pub record Agrees (z : Sizes) (p : Played) (h : List Entry) : Type 0 where
@@ -75,6 +75,7 @@ pub record Waits (v : AllRuns) (shares : List Entry → Type 0) (d : ℕ) : Type
 pub record Advances (shares_old shares_new : List Entry → Type 0) (old new : AllRuns) (d : ℕ) (made : Bool) : Type 0 where
   pub sizes : new.sizes ≡ old.sizes
   pub count : length new.runs ≡ length old.runs
+  pub commands : all_commands new ≡ all_commands old
   pub calm : IsCalmBut new d
   pub over : made ≡ true → IsCalm new
   pub goes_on : made ≡ false → Has (λ x. x.ended) false new d

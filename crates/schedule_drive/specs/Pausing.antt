@@ -16,6 +16,10 @@ use Rattle.schedule_drive.specs.Together.{AllRuns, Answers, Lead, Leads, Passed,
 abbrev pub lefts : AllRuns → List (List Command)
 lefts v = map (λ x. x.left) v.runs
 
+-- all commands of each
+abbrev pub all_commands : AllRuns → List (List Command)
+all_commands v = map (λ x. x.commands) v.runs
+
 -- which runs have asked for a pause, and which have ended
 abbrev pub askeds : AllRuns → List Bool
 askeds v = map (λ x. x.asked) v.runs
@@ -85,6 +89,7 @@ pub record Answered (d : ℕ) (old new : AllRuns) (answered : List Entry) : Type
 -- a pause has come so far: nothing else changes of the runs. It is said for the domain that alone has asked for it
 pub record Paused (complete : Bool) (shares_old shares_new : List Entry → Type 0) (old new : AllRuns) : Type 0 where
   pub sizes : new.sizes ≡ old.sizes
+  pub commands : all_commands new ≡ all_commands old
   pub ended : endeds new ≡ endeds old
   pub told : (d : ℕ) → AsksAlone old d → (answered : List Entry) × (NotYet old new answered ⊎ Answered d old new answered) × ((g : List Entry) → shares_new g → WalkedFrom old.sizes complete new.lead shares_old answered g)
 

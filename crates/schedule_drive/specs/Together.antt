@@ -19,8 +19,9 @@ pub data Lead : Type 0 where
   Leads : Bool → Lead
   Answers : Lead
 
--- One run: the commands that are left, the replies so far, whether it has asked for a pause for its next command, whether its domain runs and hasn't arrived, and whether its trace has ended
+-- One run: all its commands, those that are left, the replies so far, whether it has asked for a pause for its next command, whether its domain runs and hasn't arrived, and whether its trace has ended
 pub record OneRun : Type 0 where
+  pub commands : List Command
   pub left : List Command
   pub replies : List Reply
   pub asked : Bool

@@ -6,7 +6,7 @@ ghost use Rattle.heap_model.specs.History.{replies};
 ghost use Rattle.schedule_laws.specs.Scheduled.{Played, rounds_of, scheduled, take_item, take_round, take_rounds};
 ghost use Rattle.schedule_laws.specs.declared.items.Item.TheVariants.{Collect as CollectItem};
 ghost use Rattle.schedule_drive.specs.Following.{AllFollow, IsCalm, IsPlayed, is_for};
-ghost use Rattle.schedule_drive.specs.Pausing.{lefts};
+ghost use Rattle.schedule_drive.specs.Pausing.{all_commands, lefts};
 ghost use Rattle.schedule_drive.specs.Together.{AllHave, Has};
 
 use crate::pausing::pause;
@@ -33,6 +33,7 @@ fn collect<T: TogetherRuns, R: Wait>(rt: &R, runs: &mut T)
     requires calm { IsCalm (T.seen runs.old) }
     ensures sizes { (T.seen runs.new).sizes ≡ (T.seen runs.old).sizes }
     ensures count { length (T.seen runs.new).runs ≡ length (T.seen runs.old).runs }
+    ensures commands { all_commands (T.seen runs.new) ≡ all_commands (T.seen runs.old) }
     ensures calm { IsCalm (T.seen runs.new) }
     ensures taken { (p : Played) → AllFollow (T.seen runs.old) (T.shares runs.old) p → AllFollow (T.seen runs.new) (T.shares runs.new) (take_item p CollectItem) }
 {
@@ -50,6 +51,7 @@ fn take_item<T: TogetherRuns, R: Wait>(rt: &R, runs: &mut T, item: Item)
     requires inside { is_for (length (T.seen runs.old).runs) item ≡ true }
     ensures sizes { (T.seen runs.new).sizes ≡ (T.seen runs.old).sizes }
     ensures count { length (T.seen runs.new).runs ≡ length (T.seen runs.old).runs }
+    ensures commands { all_commands (T.seen runs.new) ≡ all_commands (T.seen runs.old) }
     ensures calm { IsCalm (T.seen runs.new) }
     ensures taken { (p : Played) → AllFollow (T.seen runs.old) (T.shares runs.old) p → AllFollow (T.seen runs.new) (T.shares runs.new) (take_item p item) }
 {
@@ -65,6 +67,7 @@ fn take_items<T: TogetherRuns, R: Wait>(rt: &R, runs: &mut T, items: &[Item])
     requires inside { list_all (is_for (length (T.seen runs.old).runs)) items.now ≡ true }
     ensures sizes { (T.seen runs.new).sizes ≡ (T.seen runs.old).sizes }
     ensures count { length (T.seen runs.new).runs ≡ length (T.seen runs.old).runs }
+    ensures commands { all_commands (T.seen runs.new) ≡ all_commands (T.seen runs.old) }
     ensures calm { IsCalm (T.seen runs.new) }
     ensures taken { (p : Played) → AllFollow (T.seen runs.old) (T.shares runs.old) p → AllFollow (T.seen runs.new) (T.shares runs.new) (fold take_item p items.now) }
 {
@@ -78,6 +81,7 @@ fn take_round<T: TogetherRuns, R: Wait>(rt: &R, runs: &mut T)
     requires calm { IsCalm (T.seen runs.old) }
     ensures sizes { (T.seen runs.new).sizes ≡ (T.seen runs.old).sizes }
     ensures count { length (T.seen runs.new).runs ≡ length (T.seen runs.old).runs }
+    ensures commands { all_commands (T.seen runs.new) ≡ all_commands (T.seen runs.old) }
     ensures calm { IsCalm (T.seen runs.new) }
     ensures taken { (p : Played) → IsPlayed (T.seen runs.old).sizes p → AllFollow (T.seen runs.old) (T.shares runs.old) p → AllFollow (T.seen runs.new) (T.shares runs.new) (take_round p) }
 {
@@ -91,6 +95,7 @@ fn take_round<T: TogetherRuns, R: Wait>(rt: &R, runs: &mut T)
 fn take_rounds<T: TogetherRuns, R: Wait>(rt: &R, runs: &mut T, rounds: usize)
     requires calm { IsCalm (T.seen runs.old) }
     ensures sizes { (T.seen runs.new).sizes ≡ (T.seen runs.old).sizes }
+    ensures commands { all_commands (T.seen runs.new) ≡ all_commands (T.seen runs.old) }
     ensures calm { IsCalm (T.seen runs.new) }
     ensures taken { (p : Played) → IsPlayed (T.seen runs.old).sizes p → AllFollow (T.seen runs.old) (T.shares runs.old) p → AllFollow (T.seen runs.new) (T.shares runs.new) (take_rounds rounds p) }
 {
@@ -129,6 +134,7 @@ pub fn replay<T: TogetherRuns, R: Wait>(rt: &R, runs: &mut T, items: &[Item])
     requires fresh { (h : List Entry) → T.shares runs.old h → h ≡ [] }
     requires inside { list_all (is_for (length (T.seen runs.old).runs)) items.now ≡ true }
     ensures sizes { (T.seen runs.new).sizes ≡ (T.seen runs.old).sizes }
+    ensures commands { all_commands (T.seen runs.new) ≡ all_commands (T.seen runs.old) }
     ensures calm { IsCalm (T.seen runs.new) }
     ensures ended { AllHave (λ x. x.ended) true (T.seen runs.new) }
     ensures replies { (h : List Entry) → T.shares runs.new h → (d : ℕ) → replies (T.seen runs.old).sizes h d ≡ replies (T.seen runs.old).sizes (scheduled (T.seen runs.old).sizes (lefts (T.seen runs.old)) items.now) d }

@@ -2,6 +2,7 @@
 ghost use Rattle.std.specs.Prelude.{◌<◌, ◌≡◌, false, length, true};
 ghost use Rattle.schedule_laws.specs.Scheduled.{Played, take_turn};
 ghost use Rattle.schedule_drive.specs.Following.{Advances, AllFollow, IsCalm, IsCalmBut, Waits};
+ghost use Rattle.schedule_drive.specs.Pausing.{all_commands};
 ghost use Rattle.schedule_drive.specs.Together.{Has};
 
 use crate::pausing::pause;
@@ -59,6 +60,7 @@ pub(crate) fn take_turn<T: TogetherRuns, R: Wait>(rt: &R, runs: &mut T, at: usiz
     requires calm { IsCalm (T.seen runs.old) }
     ensures sizes { (T.seen runs.new).sizes ≡ (T.seen runs.old).sizes }
     ensures count { length (T.seen runs.new).runs ≡ length (T.seen runs.old).runs }
+    ensures commands { all_commands (T.seen runs.new) ≡ all_commands (T.seen runs.old) }
     ensures calm { IsCalm (T.seen runs.new) }
     ensures taken { (p : Played) → AllFollow (T.seen runs.old) (T.shares runs.old) p → AllFollow (T.seen runs.new) (T.shares runs.new) (take_turn p at) }
 {

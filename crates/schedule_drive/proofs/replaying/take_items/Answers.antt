@@ -8,6 +8,7 @@ pub loop-item-preserved : goal.loop-item-preserved
 loop-item-preserved g c = record {
   sizes = c.take_item.ensures.sizes ∙ c.loop-item.invariant.sizes;
   count = c.take_item.ensures.count ∙ c.loop-item.invariant.count;
+  commands = c.take_item.ensures.commands ∙ c.loop-item.invariant.commands;
   calm = c.take_item.ensures.calm;
   taken = λ p follow.
       subst (λ q. AllFollow (g.T.TogetherRuns.seen c.take_item.new.runs) (g.T.TogetherRuns.shares c.take_item.new.runs) q) (sym (fold_more take_item p c.args.items.now c.loop-item.item-index _ (search rules)))

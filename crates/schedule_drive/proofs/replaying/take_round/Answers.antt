@@ -9,6 +9,7 @@ pub domains-preserved : goal.domains-preserved
 domains-preserved g c = record {
   sizes = c.take_turn.ensures.sizes ∙ c.domains.invariant.sizes;
   count = c.take_turn.ensures.count ∙ c.domains.invariant.count;
+  commands = c.take_turn.ensures.commands ∙ c.domains.invariant.commands;
   calm = c.take_turn.ensures.calm;
   taken = λ p follow.
       subst (λ q. AllFollow (g.T.TogetherRuns.seen c.take_turn.new.runs) (g.T.TogetherRuns.shares c.take_turn.new.runs) q) (sym (one_more_number take_turn p c.domains.at))

@@ -8,6 +8,7 @@ use Rattle.schedule_drive.proofs.replaying.take_rounds.Goals as goal
 pub rounds-preserved : goal.rounds-preserved
 rounds-preserved g c = record {
   sizes = c.take_round.ensures.sizes ∙ c.rounds.invariant.sizes;
+  commands = c.take_round.ensures.commands ∙ c.rounds.invariant.commands;
   calm = c.take_round.ensures.calm;
   taken = λ p played follow.
       subst (λ q. AllFollow (g.T.TogetherRuns.seen c.take_round.new.runs) (g.T.TogetherRuns.shares c.take_round.new.runs) q) (sym (one_more_number (λ q n. take_round q) p c.rounds.counter))

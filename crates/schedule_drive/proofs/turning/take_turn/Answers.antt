@@ -14,6 +14,7 @@ turns-init g c =
     record {
       sizes = refl;
       count = refl;
+      commands = refl;
       calm = calm_but (g.T.TogetherRuns.seen c.args.runs.now) c.args.at c.requires.calm;
       goes_on = going;
       midst = λ p follow. turn_begins (g.T.TogetherRuns.shares c.args.runs.now) (g.T.TogetherRuns.seen c.args.runs.now) p c.args.at c.requires.inside c.stands.ensures.shared follow going;

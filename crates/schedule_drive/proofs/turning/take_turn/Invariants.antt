@@ -1,5 +1,6 @@
 use Rattle.std.proofs.Common.{◌≡◌, false, length}
 use Rattle.schedule_laws.specs.Scheduled.{Played}
+use Rattle.schedule_drive.specs.Pausing.{all_commands}
 use Rattle.schedule_drive.specs.Following.{AllFollow, AllMidst, IsCalmBut}
 use Rattle.schedule_drive.specs.Together.{Has}
 use Rattle.schedule_drive.proofs.turning.take_turn.Given as goal
@@ -8,6 +9,7 @@ abbrev pub invariant-turns : goal.invariant-turns
 invariant-turns g l = record {
   sizes : (g.T.TogetherRuns.seen l.runs).sizes ≡ (g.T.TogetherRuns.seen l.fn.runs).sizes;
   count : length (g.T.TogetherRuns.seen l.runs).runs ≡ length (g.T.TogetherRuns.seen l.fn.runs).runs;
+  commands : all_commands (g.T.TogetherRuns.seen l.runs) ≡ all_commands (g.T.TogetherRuns.seen l.fn.runs);
   calm : IsCalmBut (g.T.TogetherRuns.seen l.runs) l.at;
   goes_on : Has (λ x. x.ended) false (g.T.TogetherRuns.seen l.runs) l.at;
   midst : (p : Played) → AllFollow (g.T.TogetherRuns.seen l.fn.runs) (g.T.TogetherRuns.shares l.fn.runs) p → AllMidst (g.T.TogetherRuns.seen l.runs) (g.T.TogetherRuns.shares l.runs) p l.at;
