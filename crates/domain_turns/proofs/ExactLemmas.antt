@@ -24,6 +24,7 @@ use Rattle.steps_pauses.specs.Pauses.{arrived_view}
 use Rattle.safepoint.specs.Looks.{bit_of}
 use Rattle.safepoint.specs.declared.answer.Want.TheVariants.{Finish, Full}
 use Rattle.domain_turns.specs.Runs.CalmDid.{Finalises, Wishes, Refuses, Tries, Works, Ends}
+use Rattle.pause_phases.specs.declared.decider.Decider.TheVariants.{Wishes as ByWishes}
 use Rattle.domain_turns.proofs.LeavingLemmas.{passes_leaves}
 
 abbrev notes : RunView → List Note
@@ -154,7 +155,7 @@ answer_arrives k x begun y z c is same = ap (λ (v : DomainView). v.own.arrivals
 
 sign : (h : SharedHeap) (old new : RunView) (a : Turned) → TurnAnswers h old new a → Sign h old new a
 sign h old new Did says = ⊎_elim
-    (λ (g : GoesBy h old new). inl (passes_leaves h.config old.token.view new.token.view g.last g.kind g.passes).arrivals)
+    (λ (g : GoesBy h ByWishes old new). inl (passes_leaves ByWishes h.config old.token.view new.token.view g.last g.kind g.passes).arrivals)
     (⊎_elim
     (λ (a : IsAnswered h old new). inl (answer_arrives h.config old.token.view a.answers.begun new.token.view (with_front a.answers.begun a.answers.front) a.answers.comes a.answers.view refl))
     (⊎_elim

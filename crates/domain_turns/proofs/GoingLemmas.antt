@@ -15,6 +15,7 @@ use Rattle.domain_turns.specs.declared.turned.Turned.TheVariants.{Ended as Over}
 use Rattle.domain_turns.specs.declared.passing.LookOutcome.{LookOutcome}
 use Rattle.domain_turns.specs.declared.passing.LookOutcome.TheVariants.{Waits, Arrived, Answered, Runs}
 use Rattle.domain_turns.specs.LookOutcomes.{PastAnswers}
+use Rattle.pause_phases.specs.declared.decider.Decider.{Decider}
 use Rattle.domain_turns.specs.Pausing.{ComesToAnswer}
 use Rattle.heap_rule.specs.declared.view.Hunt.TheVariants.{Rests as AtRest}
 use Rattle.size_pools.proofs.Seeking.{sought_view}
@@ -122,9 +123,9 @@ resumed_goes h old start new a r says =
     }
 
 -- a domain that went through a phase
-pub gone_goes : (h : SharedHeap) (old new : RunView) → GoesBy h old new → GoesOn old new
-gone_goes h old new g =
-    let l = passes_leaves h.config old.token.view new.token.view g.last g.kind g.passes in
+pub gone_goes : (decider : Decider) (h : SharedHeap) (old new : RunView) → GoesBy h decider old new → GoesOn old new
+gone_goes decider h old new g =
+    let l = passes_leaves decider h.config old.token.view new.token.view g.last g.kind g.passes in
     record {
       commands = ap (λ (r : RunView). r.commands) g.run;
       supply = ap (λ (r : RunView). r.supply) g.run;
@@ -160,9 +161,9 @@ answered_goes h old new s =
     }
 
 -- whatever a look at the barrier came to
-pub past_goes : (h : SharedHeap) (old new : RunView) (past : LookOutcome) → PastAnswers h old new past → GoesOn old new
-past_goes h old new (Waits b) w = record { commands = ap (λ (r : RunView). r.commands) w.run; supply = ap (λ (r : RunView). r.supply) w.run; number = ap (λ (r : RunView). r.token.view.own.number) w.run; front = same_prefix _ _ (ap (λ (r : RunView). r.token.view.seen.front) w.run) }
-past_goes h old new (Arrived kind) g = gone_goes h old new g
-past_goes h old new (Answered blocks None) g = seen_goes h old new g
-past_goes h old new (Answered blocks (Some reply)) g = answered_goes h old new g
-past_goes h old new Runs r = record { commands = ap (λ (x : RunView). x.commands) r.run; supply = ap (λ (x : RunView). x.supply) r.run; number = ap (λ (x : DomainView). x.own.number) r.passed.view; front = front_prefix _ _ _ r.passed.seen }
+pub past_goes : (decider : Decider) (h : SharedHeap) (old new : RunView) (past : LookOutcome) → PastAnswers h decider old new past → GoesOn old new
+past_goes decider h old new (Waits b) w = record { commands = ap (λ (r : RunView). r.commands) w.run; supply = ap (λ (r : RunView). r.supply) w.run; number = ap (λ (r : RunView). r.token.view.own.number) w.run; front = same_prefix _ _ (ap (λ (r : RunView). r.token.view.seen.front) w.run) }
+past_goes decider h old new (Arrived kind) g = gone_goes decider h old new g
+past_goes decider h old new (Answered blocks None) g = seen_goes h old new g
+past_goes decider h old new (Answered blocks (Some reply)) g = answered_goes h old new g
+past_goes decider h old new Runs r = record { commands = ap (λ (x : RunView). x.commands) r.run; supply = ap (λ (x : RunView). x.supply) r.run; number = ap (λ (x : DomainView). x.own.number) r.passed.view; front = front_prefix _ _ _ r.passed.seen }

@@ -28,6 +28,7 @@ use Rattle.safepoint.specs.Looks.{PassedBarrier}
 use Rattle.heap_rule.specs.declared.phase.Progress.{Progress}
 use Rattle.pause_phases.specs.Sharing.{SharesIn, with_shared}
 use Rattle.pause_phases.specs.Leading.{LeadsOn}
+use Rattle.pause_phases.specs.declared.decider.Decider.{Decider}
 use Rattle.heap_rule.specs.declared.view.Finalisers.{Finalisers}
 use Rattle.steps_finalisers.specs.Registering.{count_of}
 use Rattle.domain_turns.specs.Tries.{IsFresh}
@@ -133,16 +134,16 @@ even_leaves k x b y Sweep p stage l = shares_leaves k x b y Sweep p stage l
 abbrev leading_view : DomainView → DomainView → Kind → Kind → DomainView
 leading_view b y last kind = record b { seen = record b.seen { front = y.seen.front; notes = y.seen.notes; stage = Led kind; share = record fresh_share { progress = progress_after last kind b.seen.share.progress } } }
 
-odd_leaves : (k : Config) (x b y : DomainView) (last kind : Kind) → PassedBarrier k x b → b.seen.stage ≡ Leads last → LeavesOdd k b y last kind → Leaves x y kind
-odd_leaves k x b y last kind p stage l = ⊎_elim
-    (λ (leads : (b.own.number ≡ 0) × LeadsOn k b y last kind). begun_leaves k x b y (leading_view b y last kind) kind p
+odd_leaves : (decider : Decider) (k : Config) (x b y : DomainView) (last kind : Kind) → PassedBarrier k x b → b.seen.stage ≡ Leads last → LeavesOdd k decider b y last kind → Leaves x y kind
+odd_leaves decider k x b y last kind p stage l = ⊎_elim
+    (λ (leads : (b.own.number ≡ 0) × LeadsOn k decider b y last kind). begun_leaves k x b y (leading_view b y last kind) kind p
     (record { number = refl; serial = refl; room = no_less b.own.ephemerons.room; listed = refl; arrivals = refl; made = refl; hunt = λ at_rest. at_rest; front = leads.1.seen }) leads.1.view refl)
     (λ (follows : (b.own.number ≢ 0) × (kind ≡ last) × (y ≡ arrived_view b)). begun_leaves k x b y b kind p (same_self b) follows.2 (ap kind_in stage ∙ sym follows.1)) l
 
-pub passes_leaves : (k : Config) (x y : DomainView) (last kind : Kind) → Passes k x y last kind → Leaves x y kind
-passes_leaves k x y last kind p = ⊎_elim
+pub passes_leaves : (decider : Decider) (k : Config) (x y : DomainView) (last kind : Kind) → Passes k decider x y last kind → Leaves x y kind
+passes_leaves decider k x y last kind p = ⊎_elim
     (λ (even : IsEven x.own.arrivals × (p.begun.seen.stage ≡ In kind) × Comes x.own.number last kind × IsModeOf kind (state_of k p.begun.seen.front).mode × LeavesEven k kind p.begun y). even_leaves k x p.begun y kind p.passed even.1 even.4)
-    (λ (odd : IsOdd x.own.arrivals × (p.begun.seen.stage ≡ Leads last) × LeavesOdd k p.begun y last kind). odd_leaves k x p.begun y last kind p.passed odd.1 odd.2)
+    (λ (odd : IsOdd x.own.arrivals × (p.begun.seen.stage ≡ Leads last) × LeavesOdd k decider p.begun y last kind). odd_leaves decider k x p.begun y last kind p.passed odd.1 odd.2)
     p.share
 
 -- where Collected was appended the collection is to be answered
@@ -150,8 +151,8 @@ collected_mode : (k : Config) (b y : DomainView) → EndsWith k b y Collected �
 collected_mode k b y ends = ap (λ (h : List Entry). (state_of k h).mode) ends.front ∙ ap (λ (s : model.State). s.mode) (state_after-push (opening (sizes_in k)) ends.before Collected)
 
 -- domain 0 has named a kind
-leads_ready : (k : Config) (b y : DomainView) (last kind : Kind) → b.own.number < k.domains → LeadsOn k b y last kind → IsPast k last b → IsReady k kind y
-leads_ready k b y last kind inside l past =
+leads_ready : (decider : Decider) (k : Config) (b y : DomainView) (last kind : Kind) → b.own.number < k.domains → LeadsOn k decider b y last kind → IsPast k last b → IsReady k kind y
+leads_ready decider k b y last kind inside l past =
     let number : y.own.number ≡ b.own.number = ap (λ (v : DomainView). v.own.number) l.view in
     let knows : last ≡ Sweep → KnowsAnswer k y = λ e. answer_on k b y inside number l.seen (past.answer e) in
     record {
@@ -163,21 +164,21 @@ leads_ready k b y last kind inside l past =
     }
 
 -- what the domain then remembers and holds
-passes_past : (k : Config) (x y : DomainView) (last kind : Kind) → x.own.number < k.domains → Passes k x y last kind → HasLeft k last x → HasLeft k kind y
-passes_past k x y last kind inside p left =
-    let l = passes_leaves k x y last kind p in
+passes_past : (decider : Decider) (k : Config) (x y : DomainView) (last kind : Kind) → x.own.number < k.domains → Passes k decider x y last kind → HasLeft k last x → HasLeft k kind y
+passes_past decider k x y last kind inside p left =
+    let l = passes_leaves decider k x y last kind p in
     let number : p.begun.own.number ≡ x.own.number = ap (λ (z : DomainView). z.own.number) p.passed.view in
     let within : p.begun.own.number < k.domains = subst (λ (n : ℕ). n < k.domains) (sym number) inside in ⊎_elim
     (λ (even : IsEven x.own.arrivals × (p.begun.seen.stage ≡ In kind) × Comes x.own.number last kind × IsModeOf kind (state_of k p.begun.seen.front).mode × LeavesEven k kind p.begun y). record {
       past = λ _. even_past k kind p.begun y even.4 even.3 (ready_next k last kind x p.begun inside left p.passed even.0 even.2 even.3);
       ready = λ again _. absurd (not_both y.own.arrivals again (subst IsOdd (sym l.arrivals) (even_next x.own.arrivals even.0)));
     })
-    (λ (odd : IsOdd x.own.arrivals × (p.begun.seen.stage ≡ Leads last) × LeavesOdd k p.begun y last kind).
+    (λ (odd : IsOdd x.own.arrivals × (p.begun.seen.stage ≡ Leads last) × LeavesOdd k decider p.begun y last kind).
     let went : IsPast k last p.begun = looked_past k last x p.begun inside p.passed (left.past (inl odd.0)) in
     let even : IsEven y.own.arrivals = subst IsEven (sym l.arrivals) (odd_next x.own.arrivals odd.0) in ⊎_elim
-    (λ (leads : (p.begun.own.number ≡ 0) × LeadsOn k p.begun y last kind). record {
+    (λ (leads : (p.begun.own.number ≡ 0) × LeadsOn k decider p.begun y last kind). record {
       past = λ either. absurd (⊎_elim (λ (up : IsOdd y.own.arrivals). not_both y.own.arrivals even up) (λ (other : y.own.number ≢ 0). other (l.number ∙ (sym number ∙ leads.0))) either);
-      ready = λ _ _. leads_ready k p.begun y last kind within leads.1 went;
+      ready = λ _ _. leads_ready decider k p.begun y last kind within leads.1 went;
     })
     (λ (follows : (p.begun.own.number ≢ 0) × (kind ≡ last) × (y ≡ arrived_view p.begun)). record {
       past = λ _. subst (λ (c : Kind). IsPast k c y) (sym follows.1)
@@ -187,12 +188,12 @@ passes_past k x y last kind inside p left =
     odd.2)
     p.share
 
-passes_quiet : (k : Config) (x y : DomainView) (last kind : Kind) → Passes k x y last kind → HasNothingPending x → HasNothingPending y
-passes_quiet k x y last kind p quiet =
+passes_quiet : (decider : Decider) (k : Config) (x y : DomainView) (last kind : Kind) → Passes k decider x y last kind → HasNothingPending x → HasNothingPending y
+passes_quiet decider k x y last kind p quiet =
     let q = looked_quiet k x p.begun p.passed quiet in ⊎_elim
     (λ (even : IsEven x.own.arrivals × (p.begun.seen.stage ≡ In kind) × Comes x.own.number last kind × IsModeOf kind (state_of k p.begun.seen.front).mode × LeavesEven k kind p.begun y). even_quiet k kind p.begun y even.4 q)
-    (λ (odd : IsOdd x.own.arrivals × (p.begun.seen.stage ≡ Leads last) × LeavesOdd k p.begun y last kind). ⊎_elim
-    (λ (leads : (p.begun.own.number ≡ 0) × LeadsOn k p.begun y last kind). arrived_quiet (leading_view p.begun y last kind) y leads.1.view q.unprepared)
+    (λ (odd : IsOdd x.own.arrivals × (p.begun.seen.stage ≡ Leads last) × LeavesOdd k decider p.begun y last kind). ⊎_elim
+    (λ (leads : (p.begun.own.number ≡ 0) × LeadsOn k decider p.begun y last kind). arrived_quiet (leading_view p.begun y last kind) y leads.1.view q.unprepared)
     (λ (follows : (p.begun.own.number ≢ 0) × (kind ≡ last) × (y ≡ arrived_view p.begun)). arrived_quiet p.begun y follows.2 q.unprepared)
     odd.2)
     p.share
@@ -264,9 +265,9 @@ pub gives_between : (h : SharedHeap) (old new : Token) (asked : Option ℕ) (col
 gives_between h old new asked collected progress i quiet g knows = answer_between h old.view g.begun new new.view.seen.front asked collected progress i quiet g.comes g.view
     (λ _. fresh_on h.config g.begun new.view (ap (λ (z : DomainView). z.own.number) g.view) g.seen (g.comes.ready.fresh refl)) knows
 
-pub passes_moves : (h : SharedHeap) (old new : Token) (before kind : Kind) → IsIn old h → IsIn new h → Passes h.config old.view new.view before kind → Moves old new
-passes_moves h old new before kind a i says =
-    let l = passes_leaves h.config old.view new.view before kind says in
+pub passes_moves : (decider : Decider) (h : SharedHeap) (old new : Token) (before kind : Kind) → IsIn old h → IsIn new h → Passes h.config decider old.view new.view before kind → Moves old new
+passes_moves decider h old new before kind a i says =
+    let l = passes_leaves decider h.config old.view new.view before kind says in
     record {
       config = i.1 ∙ sym a.1;
       number = l.number;
@@ -279,17 +280,17 @@ passes_moves h old new before kind a i says =
     }
 
 -- a run of which nothing but the domain's view has changed stays between two turns
-pub passes_between : (h : SharedHeap) (old new : Token) (before kind : Kind) (asked : Option ℕ) (collected : Bool) (progress later : Progress) → old.view.own.number < old.config.domains → IsIn old h → IsIn new h → IsBetween (Some before) asked collected progress old
-    → Passes h.config old.view new.view before kind → KnowsProgress later new.view → IsBetween (Some kind) asked collected later new
-passes_between h old new before kind asked collected progress later inside a i is says knows = record {
-  stands = (passes_leaves h.config old.view new.view before kind says).stage;
-  quiet = passes_quiet h.config old.view new.view before kind says is.quiet;
+pub passes_between : (decider : Decider) (h : SharedHeap) (old new : Token) (before kind : Kind) (asked : Option ℕ) (collected : Bool) (progress later : Progress) → old.view.own.number < old.config.domains → IsIn old h → IsIn new h → IsBetween (Some before) asked collected progress old
+    → Passes h.config decider old.view new.view before kind → KnowsProgress later new.view → IsBetween (Some kind) asked collected later new
+passes_between decider h old new before kind asked collected progress later inside a i is says knows = record {
+  stands = (passes_leaves decider h.config old.view new.view before kind says).stage;
+  quiet = passes_quiet decider h.config old.view new.view before kind says is.quiet;
   even = λ none. cc;
   remembers = λ none. cc;
   emptied = λ none. cc;
   has_left = λ known e. subst (λ (c : Kind). HasLeft new.config c new.view) (some_injective kind known e)
-      (subst (λ (k : Config). HasLeft k kind new.view) (sym i.1) (passes_past h.config old.view new.view before kind (subst (λ (k : Config). old.view.own.number < k.domains) a.1 inside) says (subst (λ (k : Config). HasLeft k before old.view) a.1 (is.has_left before refl))));
-  fresh = λ e. let l = passes_leaves h.config old.view new.view before kind says in
+      (subst (λ (k : Config). HasLeft k kind new.view) (sym i.1) (passes_past decider h.config old.view new.view before kind (subst (λ (k : Config). old.view.own.number < k.domains) a.1 inside) says (subst (λ (k : Config). HasLeft k before old.view) a.1 (is.has_left before refl))));
+  fresh = λ e. let l = passes_leaves decider h.config old.view new.view before kind says in
       subst (λ (k : Config). IsFresh k new.view) (sym i.1) (fresh_on h.config old.view new.view l.number l.front (subst (λ (k : Config). IsFresh k old.view) a.1 (is.fresh e)));
   knows = knows;
 }

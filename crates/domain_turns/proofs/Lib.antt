@@ -15,3 +15,4 @@ pub mod Turning
 pub mod StretchLemmas
 pub mod PassingLemmas
 pub mod Refused
+pub mod MeetingLemmas

@@ -1,5 +1,5 @@
 -- What the pass through a phase is of a run.
-use Rattle.std.proofs.Common.{true≢false, ◌≡◌, ◌∙◌, ℕ, ◌<◌, Bool, false, List, Option, Some, None, length, refl, sym, ap, subst}
+use Rattle.std.proofs.Common.{true≢false, ◌≡◌, ◌∙◌, ◌++◌, ◌∷◌, ◌&&◌, [], append_assoc, drop, not, ℕ, ◌<◌, Bool, false, List, Option, Some, None, length, refl, sym, ap, subst}
 use Rattle.heap_model.specs.declared.command.Command.TheVariants.{FullMajor}
 use Rattle.heap_model.specs.declared.entry.Entry.{Entry}
 use Rattle.heap_model.specs.declared.entry.Entry.TheVariants.{Command as CommandOf}
@@ -7,9 +7,14 @@ use Rattle.heap_model.specs.declared.state.Mode.TheVariants.{Answer as AnswerMod
 use Rattle.heap_model.specs.declared.reply.Reply.{Reply}
 use Rattle.heap_model.specs.declared.reply.Applied.TheVariants.{Replied}
 use Rattle.heap_model.specs.Domains.{domain_at, opening, reach}
-use Rattle.heap_model.specs.Fronts.{Answers, IsFrontOf}
+use Rattle.heap_model.specs.Fronts.{Answers, AreNotControls, IsFrontOf, is_control, unseen}
 use Rattle.heap_model.specs.History.{Legal}
-use Rattle.heap_model.proofs.Histories.FrontLemmas.{answers_after, keeps_front}
+use Rattle.heap_model.proofs.Histories.FrontLemmas.{answers_after, keeps_front, unseen_rest}
+use Rattle.control_entries.specs.Led.{IsLed}
+use Rattle.std.proofs.Math.Seq.{drop-append_seam}
+use Rattle.std.proofs.lemmas.List.Folds.{list_all-append}
+use Rattle.heap_model.specs.declared.reply.Applied.{Applied}
+use Rattle.heap_model.specs.declared.state.Sizes.{Sizes}
 use Rattle.heap_rule.specs.declared.config.Config.{Config}
 use Rattle.heap_rule.specs.declared.phase.Kind.{Kind}
 use Rattle.heap_rule.specs.declared.phase.Kind.TheVariants.{Run, Answer}
@@ -21,8 +26,9 @@ use Rattle.heap_rule.specs.Phases.{Comes, IsEven}
 use Rattle.heap_rule.specs.Rule.{state_of}
 use Rattle.heap_rule.specs.Token.{Token, SharedHeap, IsIn}
 use Rattle.heap_rule.specs.Standing.{noted, with_front}
-use Rattle.steps_pauses.specs.Pauses.{arrived_view, IsModeOf}
+use Rattle.steps_pauses.specs.Pauses.{arrived_view, kind_in, IsModeOf}
 use Rattle.mark_slices.specs.Decks.{DeckCounts, StaysDeck}
+use Rattle.pause_phases.specs.declared.decider.Decider.{Decider}
 use Rattle.safepoint.specs.Looks.{PassedBarrier}
 use Rattle.steps_sweep.specs.Answering.{LiveBlocksTold}
 use Rattle.heap_rule.specs.declared.phase.Progress.{Progress}
@@ -36,12 +42,23 @@ use Rattle.domain_turns.proofs.PauseLemmas.{before_else, fresh_on, ready_next, l
 use Rattle.domain_turns.proofs.LeavingLemmas.{passes_moves, passes_between, gives_moves, gives_between, waits_between}
 
 -- a look found that the phase has begun in which a collection is answered
-pub comes_to : (k : Config) (known : Kind) (x y : DomainView) → x.own.number < k.domains → HasLeft k known x → PassedBarrier k x y → y.seen.stage ≡ In Answer → IsEven x.own.arrivals → Comes x.own.number known Answer → IsModeOf Answer (state_of k y.seen.front).mode → ComesToAnswer k x y
-comes_to k known x y inside left p stage even comes mode = record { passed = p; stage = stage; even = even; ready = ready_next k known Answer x y inside left p even comes mode }
+pub comes_to : (k : Config) (known : Kind) (x y : DomainView) → x.own.number < k.domains → HasLeft k known x → PassedBarrier k x y → y.seen.stage ≡ In Answer → IsEven x.own.arrivals → kind_in x.seen.stage ≡ known → Comes x.own.number (kind_in x.seen.stage) Answer → IsModeOf Answer (state_of k y.seen.front).mode → ComesToAnswer k x y
+comes_to k known x y inside left p stage even is comes mode = record { passed = p; stage = stage; even = even; named = comes; ready = ready_next k known Answer x y inside left p even (subst (λ (l : Kind). Comes x.own.number l Answer) is comes) mode }
+
+-- what domain 0 knows of control entries where its front grew before a call and by it
+answered_led : (z : Sizes) (d : ℕ) (old mid new : List Entry) (e : Entry) (r : Applied) → IsFrontOf d mid old → IsLed d mid old → Answers z d mid new e r → IsLed d new mid → IsLed d new old
+answered_led z d old mid new e r f earlier a later first =
+    let tail : List Entry = a.between ++ e ∷ [] in
+    let grew : new ≡ mid ++ tail = a.appends ∙ append_assoc mid a.between (e ∷ []) in
+    let whole : new ≡ old ++ (f.rest ++ tail) = grew ∙ (ap (λ (h : List Entry). h ++ tail) f.appends ∙ append_assoc old f.rest tail) in
+    let last : unseen new mid ≡ tail = ap (drop (length mid)) grew ∙ drop-append_seam mid tail in
+    let behind : unseen new old ≡ f.rest ++ unseen new mid = ap (drop (length old)) whole ∙ (drop-append_seam old (f.rest ++ tail) ∙ ap (λ (h : List Entry). f.rest ++ h) (sym last)) in
+    let past : AreNotControls f.rest = subst AreNotControls (unseen_rest d mid old f) (earlier first) in
+    subst AreNotControls (sym behind) (list_all-append (λ x. not (is_control x)) f.rest (unseen new mid) ∙ λ i. past i && later first i)
 
 -- what it then did
-pub answers_pass : (k : Config) (x begun y : DomainView) (known : Kind) (live : Bool) (blocks : ℕ) (o : Option Reply) → ComesToAnswer k x begun → CountsAndAnswers k begun y live blocks o → PassAnswers k x y known live (Answered blocks o)
-answers_pass k x begun y known live blocks None c counts =
+pub answers_pass : (decider : Decider) (k : Config) (x begun y : DomainView) (known : Kind) (live : Bool) (blocks : ℕ) (o : Option Reply) → ComesToAnswer k x begun → CountsAndAnswers k begun y live blocks o → PassAnswers k decider x y known live (Answered blocks o)
+answers_pass decider k x begun y known live blocks None c counts =
     let counted : DomainView = counts.0 in
     let told = counts.1 in
     let a = counts.2 in
@@ -51,13 +68,14 @@ answers_pass k x begun y known live blocks None c counts =
         begun = begun;
         comes = c;
         seen = subst (λ (f : List Entry). IsFrontOf begun.own.number f begun.seen.front) front told.seen;
+        led = subst (λ (f : List Entry). IsLed begun.own.number f begun.seen.front) front told.led;
         legal = subst (λ (f : List Entry). Legal (sizes_in k) f) front told.legal;
         answers = subst (λ (f : List Entry). (state_of k f).mode ≡ AnswerMode) front told.answers;
         view = a.1 ∙ (ap arrived_view told.view ∙ ap (λ (f : List Entry). arrived_view (with_front begun f)) front);
       },
       subst (λ (f : List Entry). blocks ≡ length (reach (state_of k f))) front told.counts,
     )
-answers_pass k x begun y known live blocks (Some reply) c counts =
+answers_pass decider k x begun y known live blocks (Some reply) c counts =
     let told = counts.1 in
     let a = counts.2 in
     let l = a.1.1 in
@@ -77,6 +95,7 @@ answers_pass k x begun y known live blocks (Some reply) c counts =
         reply_is = l.reply_is;
         front = front;
         answers = subst (λ (d : ℕ). Answers (sizes_in k) d begun.seen.front front (CommandOf d FullMajor false) (Replied reply)) number answers;
+        led = subst (λ (d : ℕ). IsLed d front begun.seen.front) number (answered_led (sizes_in k) begun.own.number begun.seen.front counts.0.seen.front front (CommandOf begun.own.number FullMajor false) (Replied reply) told.seen told.led (subst (λ (d : ℕ). Answers (sizes_in k) d counts.0.seen.front front (CommandOf d FullMajor false) (Replied reply)) same l.answers) (subst (λ (d : ℕ). IsLed d front counts.0.seen.front) same l.led));
         view = a.1.2 ∙ (ap arrived_view l.view ∙ ap (λ (v : DomainView). arrived_view (with_front v front)) told.view);
         due = subst (λ (v : DomainView). due_of k v ≡ length v.own.finalisers.queue.items) (sym a.1.2) l.due;
       },
@@ -101,8 +120,8 @@ look_paid k x y p paid = due_on k x y (ap (λ (v : DomainView). v.own.number) p.
 between_of : (r : RunView) (known : Kind) → IsRun r → r.left ≡ Some known → IsBetween (Some known) r.asked r.collected r.progress r.token
 between_of r known is left = subst (λ (l : Option Kind). IsBetween l r.asked r.collected r.progress r.token) left is.between
 
-pub arrived_is_run : (h : SharedHeap) (r : RunView) (new : Token) (last kind : Kind) (progress : Progress) (hints : DeckCounts) → StaysDeck r.hints hints → IsRun r → r.left ≡ Some last → IsIn r.token h → IsIn new h → Passes h.config r.token.view new.view last kind → KnowsProgress progress new.view → IsRun (record r { token = new; left = Some kind; progress = progress; hints = hints })
-arrived_is_run h r new last kind progress hints stays is left was here p knows = moved_is_run r new (Some kind) r.asked r.collected progress hints is stays (passes_moves h r.token new last kind was here p) (passes_between h r.token new last kind r.asked r.collected r.progress progress is.inside was here (between_of r last is left) p knows)
+pub arrived_is_run : (decider : Decider) (h : SharedHeap) (r : RunView) (new : Token) (last kind : Kind) (progress : Progress) (hints : DeckCounts) → StaysDeck r.hints hints → IsRun r → r.left ≡ Some last → IsIn r.token h → IsIn new h → Passes h.config decider r.token.view new.view last kind → KnowsProgress progress new.view → IsRun (record r { token = new; left = Some kind; progress = progress; hints = hints })
+arrived_is_run decider h r new last kind progress hints stays is left was here p knows = moved_is_run r new (Some kind) r.asked r.collected progress hints is stays (passes_moves decider h r.token new last kind was here p) (passes_between decider h r.token new last kind r.asked r.collected r.progress progress is.inside was here (between_of r last is left) p knows)
 
 pub gives_is_run : (h : SharedHeap) (r : RunView) (new : Token) (collected : Bool) (progress : Progress) (hints : DeckCounts) → StaysDeck r.hints hints → IsRun r → IsIn r.token h → IsIn new h → GivesBack h.config r.token.view new.view → KnowsProgress progress new.view → IsRun (record r { token = new; left = Some Answer; collected = collected; progress = progress; hints = hints })
 gives_is_run h r new collected progress hints stays is was here g knows = moved_is_run r new (Some Answer) r.asked collected progress hints is stays (gives_moves h r.token new was here g) (gives_between h r.token new r.asked collected progress here is.between.quiet g knows)

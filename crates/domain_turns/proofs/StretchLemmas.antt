@@ -27,6 +27,7 @@ use Rattle.domain_turns.specs.Tries.{ephemerons_given, labels_given}
 use Rattle.domain_turns.specs.Runs.{RunView, Appended, CalmDid, EndsTrace, GoesBy, IsAnswered, MadeNone, Resumes, Rests, RunAnswers, RunsFinaliser, SeesAnswer, Starts, Stops, Stretches, Takes, TriesCommand, TurnAnswers, Waits, asking_end, wanting}
 use Rattle.domain_turns.specs.Runs.CalmDid.{Finalises, Wishes, Refuses, Tries, Works, Ends}
 use Rattle.domain_turns.specs.Runs.Stretches.{ByOthers, ByCommand, ByFinaliser, ByEnd}
+use Rattle.pause_phases.specs.declared.decider.Decider.TheVariants.{Wishes as ByWishes}
 use Rattle.domain_turns.proofs.LeavingLemmas.{passes_leaves}
 use Rattle.domain_turns.proofs.Taking.{arrived_takes, searched_takes, takes_more, takes_none, takes_on, takes_then, tried_takes}
 use Rattle.domain_turns.proofs.Turning.{stood}
@@ -210,9 +211,9 @@ starts h old start here = ⊎_elim
       takes = takes_none _ _ (ap (λ (x : DomainView). x.own.serial) t.passed.view) (ap (λ (x : DomainView). x.own.ephemerons) t.passed.view);
     })
 
-gone : (h : SharedHeap) (old new : RunView) → GoesBy h old new → Stretches (sizes_in h.config) old new
+gone : (h : SharedHeap) (old new : RunView) → GoesBy h ByWishes old new → Stretches (sizes_in h.config) old new
 gone h old new g =
-    let l = passes_leaves h.config old.token.view new.token.view g.last g.kind g.passes in
+    let l = passes_leaves ByWishes h.config old.token.view new.token.view g.last g.kind g.passes in
     ByOthers (record {
       next = ap (λ (r : RunView). r.next) g.run;
       replies = ap (λ (r : RunView). r.replies) g.run;
@@ -265,7 +266,7 @@ waits h old new b w = ByOthers (record {
 -- by what a turn did
 pub turn_stretches : (h : SharedHeap) (old new : RunView) (a : Turned) → IsIn old.token h → TurnAnswers h old new a → Stretches (sizes_in h.config) old new
 turn_stretches h old new Did here says = ⊎_elim
-    (λ (g : GoesBy h old new). gone h old new g)
+    (λ (g : GoesBy h ByWishes old new). gone h old new g)
     (⊎_elim
     (λ (a : IsAnswered h old new). answered h old new a)
     (⊎_elim

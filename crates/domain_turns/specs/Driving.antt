@@ -1,5 +1,5 @@
 -- A run that goes on is one trace.
-use Rattle.std.specs.Prelude.{◌≡◌, List, [], ◌++◌, refl}
+use Rattle.std.specs.Prelude.{List, [], ◌++◌, refl}
 use Rattle.std.proofs.Common.{◌∙◌, sym, ap, append-nil, append_assoc}
 use Rattle.heap_model.specs.declared.entry.Entry.{Entry}
 use Rattle.domain_turns.specs.Runs.{RunView, GoesOn}

@@ -6,10 +6,11 @@ use Rattle.heap_rule.specs.declared.phase.Kind.{Kind}
 use Rattle.heap_rule.specs.declared.phase.Stage.TheVariants.{In}
 use Rattle.heap_rule.specs.declared.phase.Kind.TheVariants.{Run, Answer}
 use Rattle.heap_rule.specs.declared.phase.Note.TheVariants.{Barrier}
-use Rattle.heap_rule.specs.Phases.{IsEven}
+use Rattle.heap_rule.specs.Phases.{Comes, IsEven}
 use Rattle.heap_rule.specs.Token.{SharedHeap}
 use Rattle.heap_rule.specs.Standing.{noted}
 use Rattle.mark_slices.specs.Decks.{DeckCounts}
+use Rattle.pause_phases.specs.declared.decider.Decider.{Decider}
 use Rattle.safepoint.specs.Looks.{PassedBarrier}
 use Rattle.domain_turns.specs.declared.passing.LookOutcome.{LookOutcome}
 use Rattle.domain_turns.specs.declared.passing.LookOutcome.TheVariants.{Waits, Arrived, Answered, Runs}
@@ -17,12 +18,12 @@ use Rattle.domain_turns.specs.Pausing.{IsCollected, GivesBack, AnswersLive, bloc
 use Rattle.domain_turns.specs.Runs.{RunView, Passes, PassesHints, GoesBy, IsAnswered, SeesAnswer, Waits as RunWaits, Resumes}
 
 -- what a look at the barrier came to, for a domain that arrived from a phase whose last even kind is `known`, and waits for the answer of a `full_major` or doesn't
-abbrev pub PassAnswers : Config → DomainView → DomainView → Kind → Bool → LookOutcome → Type 0
-PassAnswers k x y known live (Waits b) = (b < x.own.arrivals * k.domains) × (y ≡ noted x (Barrier b))
-PassAnswers k x y known live (Arrived kind) = Passes k x y known kind
-PassAnswers k x y known live (Answered blocks None) = (live ≡ false) × GivesBack k x y × (blocks ≡ blocks_left k y)
-PassAnswers k x y known live (Answered blocks (Some reply)) = (live ≡ true) × AnswersLive k x y reply
-PassAnswers k x y known live Runs = PassedBarrier k x y × (y.seen.stage ≡ In Run) × IsEven x.own.arrivals × IsCollected k y
+abbrev pub PassAnswers : Config → Decider → DomainView → DomainView → Kind → Bool → LookOutcome → Type 0
+PassAnswers k decider x y known live (Waits b) = (b < x.own.arrivals * k.domains) × (y ≡ noted x (Barrier b))
+PassAnswers k decider x y known live (Arrived kind) = Passes k decider x y known kind
+PassAnswers k decider x y known live (Answered blocks None) = (live ≡ false) × GivesBack k x y × (blocks ≡ blocks_left k y)
+PassAnswers k decider x y known live (Answered blocks (Some reply)) = (live ≡ true) × AnswersLive k x y reply
+PassAnswers k decider x y known live Runs = PassedBarrier k x y × (y.seen.stage ≡ In Run) × IsEven x.own.arrivals × IsCollected k y × Comes x.own.number known Run
 
 -- what becomes of the domain's hints: where it goes through no phase they stay as they are
 abbrev pub PassHints : DomainView → LookOutcome → DeckCounts → DeckCounts → Type 0
@@ -37,9 +38,9 @@ left_after (Answered blocks reply) known = Some Answer
 left_after Runs known = None
 
 -- the same of its run
-abbrev pub PastAnswers : SharedHeap → RunView → RunView → LookOutcome → Type 0
-PastAnswers h old new (Waits b) = RunWaits h old new b
-PastAnswers h old new (Arrived kind) = GoesBy h old new
-PastAnswers h old new (Answered blocks None) = SeesAnswer h old new
-PastAnswers h old new (Answered blocks (Some reply)) = IsAnswered h old new
-PastAnswers h old new Runs = Resumes h old new
+abbrev pub PastAnswers : SharedHeap → Decider → RunView → RunView → LookOutcome → Type 0
+PastAnswers h decider old new (Waits b) = RunWaits h old new b
+PastAnswers h decider old new (Arrived kind) = GoesBy h decider old new
+PastAnswers h decider old new (Answered blocks None) = SeesAnswer h old new
+PastAnswers h decider old new (Answered blocks (Some reply)) = IsAnswered h old new
+PastAnswers h decider old new Runs = Resumes h old new

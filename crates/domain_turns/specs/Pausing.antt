@@ -10,6 +10,7 @@ use Rattle.heap_model.specs.declared.state.Mode.TheVariants.{Answer as Answered}
 use Rattle.heap_model.specs.Domains.{domain_at, reach}
 use Rattle.heap_model.specs.Fronts.{Answers, IsFrontOf}
 use Rattle.heap_model.specs.History.{Legal}
+use Rattle.control_entries.specs.Led.{IsLed}
 use Rattle.heap_rule.specs.declared.config.Config.{Config}
 use Rattle.heap_rule.specs.declared.view.DomainView.{DomainView}
 use Rattle.heap_rule.specs.declared.phase.Kind.{Kind}
@@ -17,12 +18,12 @@ use Rattle.heap_rule.specs.declared.phase.Kind.TheVariants.{Run, Promote, Reset,
 use Rattle.heap_rule.specs.declared.phase.Stage.TheVariants.{In}
 use Rattle.heap_rule.specs.Copies.{nothing_copied, HoldsOld, IsEmptying}
 use Rattle.heap_rule.specs.Limits.{sizes_in}
-use Rattle.heap_rule.specs.Phases.{Follows, IsEven, IsOdd}
+use Rattle.heap_rule.specs.Phases.{Comes, Follows, IsEven, IsOdd}
 use Rattle.heap_rule.specs.Rule.{state_of}
 use Rattle.heap_rule.specs.Running.{RemembersAll}
 use Rattle.heap_rule.specs.Standing.{with_front}
 use Rattle.heap_rule.specs.Views.{voided}
-use Rattle.steps_pauses.specs.Pauses.{arrived_view}
+use Rattle.steps_pauses.specs.Pauses.{arrived_view, kind_in}
 use Rattle.safepoint.specs.Looks.{PassedBarrier}
 use Rattle.steps_promote.specs.Promotion.{reset_view}
 use Rattle.promote_claim.specs.Sharing.{Unprepared, Shared}
@@ -30,6 +31,7 @@ use Rattle.steps_sweep.specs.Answering.{LiveBlocksTold}
 use Rattle.heap_rule.specs.declared.phase.Progress.{Progress}
 use Rattle.pause_phases.specs.Sharing.{SharesIn}
 use Rattle.pause_phases.specs.Leading.{LeadsOn}
+use Rattle.pause_phases.specs.declared.decider.Decider.{Decider}
 use Rattle.domain_turns.specs.Tries.{IsFresh}
 
 -- no block was met, no copy is listed, no place is prepared for one, and no darkening is owed
@@ -88,15 +90,16 @@ LeavesEven k Reset x y = LeavesReset k x y
 LeavesEven k Answer x y = ⊥
 LeavesEven k kind x y = SharesIn k kind x y
 
--- how a domain leaves an odd phase: domain 0 finds which kind comes next, and names it
-abbrev pub LeavesOdd : Config → DomainView → DomainView → Kind → Kind → Type 0
-LeavesOdd k x y last kind = ((x.own.number ≡ 0) × LeadsOn k x y last kind) ⊎ ((x.own.number ≢ 0) × (kind ≡ last) × (y ≡ arrived_view x))
+-- how a domain leaves an odd phase: domain 0 finds which kind comes next, by the domains' wishes or by what its caller says, and names it
+abbrev pub LeavesOdd : Config → Decider → DomainView → DomainView → Kind → Kind → Type 0
+LeavesOdd k decider x y last kind = ((x.own.number ≡ 0) × LeadsOn k decider x y last kind) ⊎ ((x.own.number ≢ 0) × (kind ≡ last) × (y ≡ arrived_view x))
 
--- a look found that the phase has begun in which a collection is answered
+-- a look found that the phase has begun in which a collection is answered, which domain 0 named
 pub record ComesToAnswer (k : Config) (x begun : DomainView) : Type 0 where
   pub passed : PassedBarrier k x begun
   pub stage : begun.seen.stage ≡ In Answer
   pub even : IsEven x.own.arrivals
+  pub named : Comes x.own.number (kind_in x.seen.stage) Answer
   pub ready : IsReady k Answer begun
 
 -- how many blocks live in the state after the domain's front
@@ -108,6 +111,7 @@ pub record GivesBack (k : Config) (x y : DomainView) : Type 0 where
   pub begun : DomainView
   pub comes : ComesToAnswer k x begun
   pub seen : IsFrontOf begun.own.number y.seen.front begun.seen.front
+  pub led : IsLed begun.own.number y.seen.front begun.seen.front
   pub legal : Legal (sizes_in k) y.seen.front
   pub answers : (state_of k y.seen.front).mode ≡ Answered
   pub view : y ≡ arrived_view (with_front begun y.seen.front)
@@ -121,6 +125,7 @@ pub record LivesAs (k : Config) (x y : DomainView) (blocks : ℕ) (reply : Reply
   pub words : ℕ
   pub reply_is : reply ≡ Live blocks words
   pub answers : Answers (sizes_in k) x.own.number x.seen.front y.seen.front (CommandOf x.own.number FullMajor false) (Replied reply)
+  pub led : IsLed x.own.number y.seen.front x.seen.front
   pub view : y ≡ with_front x y.seen.front
   pub due : due_of k y ≡ length y.own.finalisers.queue.items
 
@@ -143,6 +148,7 @@ pub record AnswersLive (k : Config) (x y : DomainView) (reply : Reply) : Type 0 
   pub reply_is : reply ≡ Live blocks words
   pub front : List Entry
   pub answers : Answers (sizes_in k) x.own.number begun.seen.front front (CommandOf x.own.number FullMajor false) (Replied reply)
+  pub led : IsLed x.own.number front begun.seen.front
   pub view : y ≡ arrived_view (with_front begun front)
   pub due : due_of k y ≡ length y.own.finalisers.queue.items
 

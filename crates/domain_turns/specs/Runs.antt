@@ -37,6 +37,8 @@ use Rattle.finaliser_queues.specs.declared.running.Ran.{Ran}
 use Rattle.finaliser_queues.specs.Running.{RanFirst, reply_of}
 use Rattle.heap_rule.specs.Rule.{state_of}
 use Rattle.pause_phases.specs.Sharing.{HintsIn}
+use Rattle.pause_phases.specs.declared.decider.Decider.{Decider}
+use Rattle.pause_phases.specs.declared.decider.Decider.TheVariants.{Wishes as ByWishes}
 use Rattle.safepoint.specs.Looks.{PassedBarrier, bit_of}
 use Rattle.safepoint.specs.declared.answer.Want as wish
 use Rattle.safepoint.specs.declared.answer.Want.TheVariants.{Finish, Full}
@@ -47,6 +49,7 @@ use Rattle.domain_turns.specs.declared.turned.Turned.TheVariants.{Did, Waiting, 
 use Rattle.domain_turns.specs.declared.turned.Turned.TheVariants.{Ended as Over}
 use Rattle.heap_rule.specs.declared.view.Hunt.TheVariants.{Rests as AtRest}
 use Rattle.heap_rule.specs.Limits.{sizes_in}
+use Rattle.heap_rule.specs.Meeting.{Trails, seeing}
 use Rattle.heap_rule.specs.Standing.{noted, Acts, with_front}
 use Rattle.heap_rule.specs.Token.{Token, SharedHeap, IsIn}
 use Rattle.domain_turns.specs.Pausing.{HasNothingPending, HasLeft, KnowsProgress, LeavesEven, LeavesOdd, GivesBack, AnswersLive, IsCollected, blocks_left, due_of}
@@ -389,9 +392,10 @@ abbrev pub RunAnswers : SharedHeap → RunView → RunView → Turned → Type 0
 RunAnswers h old new Did = Stops old new ⊎ CalmAnswers h (wanting old 0) new Did
 RunAnswers h old new a = CalmAnswers h (wanting old 0) new a
 
--- the domain had arrived, and a look found that all have and that it runs: a collection is done
+-- the domain had arrived, and a look found that all have and that it runs, as domain 0 named: a collection is done
 pub record Resumes (h : SharedHeap) (old start : RunView) : Type 0 where
-  pub arrived : (last : Kind) × (old.left ≡ Some last)
+  pub arrived : (last : Kind) × (old.left ≡ Some last) × Comes old.token.view.own.number last Run
+  pub even : IsEven old.token.view.own.arrivals
   pub passed : PassedBarrier h.config old.token.view start.token.view
   pub runs : start.token.view.seen.stage ≡ In Run
   pub collected : IsCollected h.config start.token.view
@@ -402,21 +406,21 @@ abbrev pub Starts : SharedHeap → RunView → RunView → Type 0
 Starts h old start = ((old.left ≡ None) × (start ≡ old)) ⊎ Resumes h old start
 
 -- a look found that all have arrived: the domain did its share of the phase that had begun, and arrived
-pub record Passes (k : Config) (x y : DomainView) (last kind : Kind) : Type 0 where
+pub record Passes (k : Config) (decider : Decider) (x y : DomainView) (last kind : Kind) : Type 0 where
   pub begun : DomainView
   pub passed : PassedBarrier k x begun
-  pub share : (IsEven x.own.arrivals × (begun.seen.stage ≡ In kind) × Comes x.own.number last kind × IsModeOf kind (state_of k begun.seen.front).mode × LeavesEven k kind begun y) ⊎ (IsOdd x.own.arrivals × (begun.seen.stage ≡ Leads last) × LeavesOdd k begun y last kind)
+  pub share : (IsEven x.own.arrivals × (begun.seen.stage ≡ In kind) × Comes x.own.number last kind × IsModeOf kind (state_of k begun.seen.front).mode × LeavesEven k kind begun y) ⊎ (IsOdd x.own.arrivals × (begun.seen.stage ≡ Leads last) × LeavesOdd k decider begun y last kind)
 
 -- what becomes of the hints of a domain that goes through a phase: in an odd one they stay as they are
 abbrev pub PassesHints : ℕ → Kind → DeckCounts → DeckCounts → Type 0
 PassesHints arrivals kind l m = (IsEven arrivals × HintsIn kind l m) ⊎ (IsOdd arrivals × (m ≡ l))
 
 -- the domain had arrived, and went through the phase that had begun since
-pub record GoesBy (h : SharedHeap) (old new : RunView) : Type 0 where
+pub record GoesBy (h : SharedHeap) (decider : Decider) (old new : RunView) : Type 0 where
   pub last : Kind
   pub arrived : old.left ≡ Some last
   pub kind : Kind
-  pub passes : Passes h.config old.token.view new.token.view last kind
+  pub passes : Passes h.config decider old.token.view new.token.view last kind
   pub hints : PassesHints old.token.view.own.arrivals kind old.hints new.hints
   pub run : new ≡ record old { token = record old.token { view = new.token.view }; left = Some kind; progress = new.progress; hints = new.hints }
 
@@ -425,10 +429,11 @@ abbrev pub is_asked : Option ℕ → Bool
 is_asked None = false
 is_asked (Some at) = true
 
--- the next command is a `full_major`, and the domain owes no finaliser before it
+-- the next command is a `full_major`, for which the domain has asked for a pause, and it owes no finaliser before it
 pub record WaitsForAnswer (r : RunView) : Type 0 where
   pub next : slice_get r.commands r.next ≡ Some FullMajor
   pub paid : r.due ≡ 0
+  pub wished : is_asked r.asked ≡ true
 
 -- the domain had arrived, and a collection was answered, by the reply of its next command among others: it is `full_major`, before which it owed no finaliser. It then owes those that wait in its queue
 pub record IsAnswered (h : SharedHeap) (old new : RunView) : Type 0 where
@@ -443,7 +448,7 @@ pub record IsAnswered (h : SharedHeap) (old new : RunView) : Type 0 where
 abbrev pub may_use_up : Config → ℕ → Bool
 may_use_up k blocks = nat_le k.pools (blocks + reserve (sizes_in k))
 
--- or its next command is none, or it owes finalisers before it. A complete collection has come for it where it had been tried, and counts where it left so many blocks that they may use up the pools
+-- or its next command is none, or it hasn't asked for a pause for it, or it owes finalisers before it. A complete collection has come for it where it had been tried, and counts where it left so many blocks that they may use up the pools
 pub record SeesAnswer (h : SharedHeap) (old new : RunView) : Type 0 where
   pub last : Kind
   pub arrived : old.left ≡ Some last
@@ -460,10 +465,29 @@ pub record Waits (h : SharedHeap) (old new : RunView) (b : ℕ) : Type 0 where
 -- what a turn answers
 abbrev pub TurnAnswers : SharedHeap → RunView → RunView → Turned → Type 0
 TurnAnswers h old new (Waiting b) = Waits h old new b
-TurnAnswers h old new Did = GoesBy h old new ⊎ (IsAnswered h old new ⊎ (SeesAnswer h old new ⊎ ((start : RunView) × Starts h old start × RunAnswers h start new Did)))
+TurnAnswers h old new Did = GoesBy h ByWishes old new ⊎ (IsAnswered h old new ⊎ (SeesAnswer h old new ⊎ ((start : RunView) × Starts h old start × RunAnswers h start new Did)))
 TurnAnswers h old new Hungry = (start : RunView) × Starts h old start × RunAnswers h start new Hungry
 TurnAnswers h old new (Idle n) = (start : RunView) × Starts h old start × RunAnswers h start new (Idle n)
 TurnAnswers h old new Over = (start : RunView) × Starts h old start × RunAnswers h start new Over
+
+-- what a domain that had arrived did in a turn that ends where it runs again: it waits, went through the phase that had begun, or came back
+abbrev pub PassesOn : SharedHeap → Decider → RunView → RunView → Turned → Type 0
+PassesOn h decider old new (Waiting b) = Waits h old new b
+PassesOn h decider old new Did = GoesBy h decider old new ⊎ (IsAnswered h old new ⊎ (SeesAnswer h old new ⊎ Resumes h old new))
+PassesOn h decider old new _ = ⊥
+
+-- the run of a domain that has seen this history
+abbrev pub run_seeing : RunView → List Entry → RunView
+run_seeing r history = record r { token = seeing r.token history }
+
+-- The domains of two runs have met. Both see one history. Behind the front of each it has no entry of that domain, none of the collector while that domain runs, and behind domain 0's none by which a collection begins, goes on or ends
+pub record RunsMet (k : Config) (a b new_a new_b : RunView) : Type 0 where
+  pub history : List Entry
+  pub legal : Legal (sizes_in k) history
+  pub first : Trails history a.token.view
+  pub second : Trails history b.token.view
+  pub first_is : new_a ≡ run_seeing a history
+  pub second_is : new_b ≡ run_seeing b history
 
 -- the front has grown by entries of others, and then by this one of the domain, to which the answer is that of the state before it
 pub record Appended (z : Sizes) (d : ℕ) (old new : List Entry) (e : Entry) (answer : Applied) : Type 0 where

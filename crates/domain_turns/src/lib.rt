@@ -9,6 +9,7 @@
 
 mod command;
 mod driving;
+mod meeting;
 mod passing;
 mod run;
 mod showing;
@@ -20,4 +21,4 @@ pub use run::DomainRun;
 pub use showing::show;
 pub use supply::Supply;
 pub use turned::Turned;
-pub use turns::turn;
+pub use turns::{go_on, pass_on, turn};

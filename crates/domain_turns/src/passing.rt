@@ -19,7 +19,7 @@ use heap_model::reply::Reply;
 use heap_rule::{Domain, Heap, Kind, Progress};
 use mark_slices::Hints;
 use minor_area::reset;
-use pause_phases::{give_back, lead_on, share};
+use pause_phases::{Decider, give_back, lead_on, share};
 use promote_claim::promote;
 use safepoint::{Look, arrive, look};
 use steps_sweep::{live_blocks_load, live_words_load};
@@ -40,7 +40,13 @@ pub(crate) enum LookOutcome {
 
 // In an odd phase domain 0 names the kind that comes next, and then each domain arrives. Answers the kind
 // of the last even phase that the domain knows of.
-fn leave_odd(heap: &Heap, dom: &mut Domain, last: Kind, progress: &mut Progress) -> Kind
+fn leave_odd(
+    heap: &Heap,
+    dom: &mut Domain,
+    last: Kind,
+    decider: Decider,
+    progress: &mut Progress,
+) -> Kind
     requires here { IsIn dom.old heap.now }
     requires odd { dom.old.view.seen.stage ≡ Leads last }
     requires at_rest { dom.old.view.seen.hunt ≡ Rests }
@@ -49,11 +55,11 @@ fn leave_odd(heap: &Heap, dom: &mut Domain, last: Kind, progress: &mut Progress)
     requires forgot { dom.old.view.seen.share ≡ voided dom.old.view.seen.share }
     requires knows { KnowsProgress progress.old dom.old.view }
     ensures here { IsIn dom.new heap.now }
-    ensures leaves { LeavesOdd heap.now.config dom.old.view dom.new.view last result }
+    ensures leaves { LeavesOdd heap.now.config decider dom.old.view dom.new.view last result }
     ensures knows { KnowsProgress progress.new dom.new.view }
 {
     if dom.number() == 0 {
-        lead_on(heap, dom, last, progress)
+        lead_on(heap, dom, last, decider, progress)
     } else {
         arrive(heap, dom);
         last
@@ -161,6 +167,7 @@ pub(crate) fn pass(
     heap: &Heap,
     dom: &mut Domain,
     last: Kind,
+    decider: Decider,
     progress: &mut Progress,
     live: bool,
     hints: &mut Hints,
@@ -177,14 +184,14 @@ pub(crate) fn pass(
     requires goes_on { live ≡ true → (domain_at (state_of heap.now.config dom.old.view.seen.front) dom.old.view.own.number).ended ≡ false }
     requires paid { live ≡ true → due_of heap.now.config dom.old.view ≡ 0 }
     ensures here { IsIn dom.new heap.now }
-    ensures answer { PassAnswers heap.now.config dom.old.view dom.new.view last live result }
+    ensures answer { PassAnswers heap.now.config decider dom.old.view dom.new.view last live result }
     ensures knows { KnowsProgress progress.new dom.new.view }
     ensures deck { StaysDeck hints.old hints.new }
     ensures hints { PassHints dom.old.view result hints.old hints.new }
 {
     match look(heap, dom) {
         Look::NotAll(b) => LookOutcome::Waits(b),
-        Look::Lead => LookOutcome::Arrived(leave_odd(heap, dom, last, progress)),
+        Look::Lead => LookOutcome::Arrived(leave_odd(heap, dom, last, decider, progress)),
         Look::Next(Kind::Run) => LookOutcome::Runs,
         Look::Next(Kind::Answer) => {
             let (blocks, reply) = answer(heap, dom, live);

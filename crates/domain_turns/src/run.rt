@@ -1,9 +1,12 @@
 //! One domain's trace, and how far it has come.
-ghost use Rattle.std.specs.Prelude.{◌≡◌, ◌↔◌, ◌<◌, ◌∷◌, true, false, [], length, take, vec_capacity, IfOk, IfSome, None};
+ghost use Rattle.std.specs.Prelude.{◌≡◌, ◌↔◌, ◌<◌, ◌≤◌, ◌∷◌, true, false, [], drop, length, slice_get, take, vec_capacity, IfOk, IfSome, None, Some};
+ghost use Rattle.heap_model.specs.declared.command.Command.TheVariants.{FullMajor};
 ghost use Rattle.heap_model.specs.History.{commands as commands_of, replies as replies_of};
 ghost use Rattle.heap_rule.specs.Limits.{sizes_in};
+ghost use Rattle.heap_rule.specs.declared.phase.Kind.TheVariants.{Run};
+ghost use Rattle.heap_rule.specs.declared.phase.Stage.TheVariants.{In};
 ghost use Rattle.mark_slices.specs.Slices.{IsDeckOf};
-ghost use Rattle.domain_turns.specs.Runs.{CanBegin, HasReserved, IsLastReply, IsRun, IsUnanswered, MaySubmit, answer_of, unturned};
+ghost use Rattle.domain_turns.specs.Runs.{CanBegin, HasReserved, IsLastReply, IsRun, IsUnanswered, MaySubmit, answer_of, is_asked, unturned};
 
 use crate::supply::Supply;
 use heap_model::command::Command;
@@ -186,6 +189,21 @@ impl DomainRun {
         self.next < self.commands.len()
     }
 
+    /// How many commands are left to make: 200,000 at most.
+    pub fn commands_left(&self) -> usize
+        ensures left { result ≡ length (drop self.now.next self.now.commands) }
+        ensures few { result ≤ 200000 }
+    {
+        self.commands.len() - self.next
+    }
+
+    /// Whether it has asked for a pause for its next command.
+    pub fn has_asked(&self) -> bool
+        ensures { result ≡ is_asked self.now.asked }
+    {
+        self.asked.is_some()
+    }
+
     /// Whether the trace has ended.
     pub fn has_ended(&self) -> bool
         ensures { result ≡ self.now.ended }
@@ -201,6 +219,21 @@ impl DomainRun {
         ensures { IsRun self.now }
     {
         let _run = &self.domain;
+    }
+
+    /// Whether the domain runs, and hasn't arrived.
+    pub fn running(&self) -> bool
+        ensures value { (result ≡ true) ↔ (self.now.left ≡ None) }
+        ensures stage { result ≡ true → self.now.token.view.seen.stage ≡ In Run }
+    {
+        self.left.is_none()
+    }
+
+    /// Whether the next command is a `full_major`.
+    pub fn is_at_full_major(&self) -> bool
+        ensures { (result ≡ true) ↔ (slice_get self.now.commands self.now.next ≡ Some FullMajor) }
+    {
+        matches!(self.commands.get(self.next), Some(Command::FullMajor))
     }
 
     /// The token inside.

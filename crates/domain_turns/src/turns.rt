@@ -1,7 +1,7 @@
 //! Turns.
 ghost use Rattle.std.specs.Prelude.{◌≡◌, ◌≢◌, ◌≤◌, ◌<◌, ◌^◌, ◌&&◌, true, false, length, slice_get, Some, None};
 ghost use Rattle.heap_model.specs.declared.command.Command.TheVariants.{Poll};
-ghost use Rattle.safepoint.specs.declared.answer.Want.TheVariants.{Finish};
+ghost use Rattle.safepoint.specs.declared.answer.Want.TheVariants.{Finish, Full};
 ghost use Rattle.heap_rule.specs.declared.phase.Note.TheVariants as note;
 ghost use Rattle.heap_rule.specs.declared.phase.Kind.TheVariants.{Run};
 ghost use Rattle.steps_pauses.specs.Pauses.{arrived_view};
@@ -10,7 +10,9 @@ ghost use Rattle.heap_rule.specs.Standing.{noted, with_front};
 ghost use Rattle.heap_rule.specs.Token.{IsIn};
 ghost use Rattle.safepoint.specs.Looks.{bit_of};
 ghost use Rattle.heap_rule.specs.Limits.{sizes_in};
-ghost use Rattle.domain_turns.specs.Runs.{Stretches, HasEnded, EndsTrace, RunAnswers, TurnAnswers, RestAnswers, CalmAnswers, GoesOn, CalmDid, IsUnqueued, Polls, RunsFinaliser, TrialAnswers, WaitsForAnswer, is_asked, may_use_up, served_since, noted_token, WorksBeside};
+ghost use Rattle.heap_model.specs.Domains.{domain_at};
+ghost use Rattle.heap_rule.specs.Rule.{state_of};
+ghost use Rattle.domain_turns.specs.Runs.{Stretches, HasEnded, EndsTrace, RunAnswers, TurnAnswers, RestAnswers, CalmAnswers, GoesOn, CalmDid, IsUnqueued, PassesOn, Polls, RunsFinaliser, TrialAnswers, WaitsForAnswer, is_asked, may_use_up, served_since, noted_token, WorksBeside};
 ghost use Rattle.domain_turns.specs.LookOutcomes.{PastAnswers};
 ghost use Rattle.domain_turns.specs.declared.turned.Turned as turned;
 
@@ -23,10 +25,12 @@ use finaliser_queues::run_next;
 use heap_model::command::Command;
 use heap_rule::{Domain, Heap, Kind};
 use mark_slices::{Why, slice};
+use pause_phases::Decider;
 use safepoint::{Want, arrive, ask, wants};
 use size_classes::reserve;
 use steps_marking::armed_now;
 use steps_pauses::{ended_add, ended_load};
+use steps_queue_looks::queue_load;
 use sweeper::sweep_slice;
 
 // Makes the entry of the end of a trace. The registers hold nothing then.
@@ -273,9 +277,11 @@ fn step_on(heap: &Heap, run: &mut DomainRun) -> Turned
     }
 }
 
-// The turn of a running domain where no pause is wanted.
+/// The turn of a running domain whatever the want word is: it runs a finaliser, tries its next command,
+/// asks for a pause, or ends its trace. It doesn't arrive, and never waits. Of what a turn answers it
+/// answers neither `Waiting` nor that a pause was found wanted.
 #[inline(always)]
-fn go_on(heap: &Heap, run: &mut DomainRun) -> Turned
+pub fn go_on(heap: &Heap, run: &mut DomainRun) -> Turned
     requires here { IsIn run.old.token heap.now }
     requires left { run.old.left ≡ None }
     ensures here { IsIn run.new.token heap.now }
@@ -303,13 +309,15 @@ fn turn_running(heap: &Heap, run: &mut DomainRun) -> Turned
     go_on(heap, run)
 }
 
-// Whether the next command is a `full_major`, which is answered where a collection is, and the domain
-// owes no finaliser before it.
+// Whether the next command is a `full_major` for which the domain has asked for a pause, which is
+// answered where a complete collection is, and the domain owes no finaliser before it.
 fn waits_for_answer(run: &DomainRun) -> bool
     ensures yes { result ≡ true → WaitsForAnswer run.now }
     ensures no { result ≡ false → WaitsForAnswer run.now → ⊥ }
 {
-    run.due == 0 && matches!(run.commands.get(run.next), Some(Command::FullMajor))
+    run.due == 0
+        && run.asked.is_some()
+        && matches!(run.commands.get(run.next), Some(Command::FullMajor))
 }
 
 // Whether so many blocks may use up the pools: where each has one to itself, no more are free than the
@@ -331,18 +339,19 @@ fn lets_refuse(heap: &Heap, asked: Option<u64>, blocks: u64) -> bool
 
 // What a domain that has arrived does with the phase that has begun, if one has.
 #[inline(never)]
-fn pass_by(heap: &Heap, run: &mut DomainRun, last: Kind) -> LookOutcome
+fn pass_by(heap: &Heap, run: &mut DomainRun, last: Kind, decider: Decider) -> LookOutcome
     requires here { IsIn run.old.token heap.now }
     requires left { run.old.left ≡ Some last }
     requires few { run.old.token.view.own.arrivals < 2 ^ 60 }
     ensures here { IsIn run.new.token heap.now }
-    ensures answer { PastAnswers heap.now run.old run.new result }
+    ensures answer { PastAnswers heap.now decider run.old run.new result }
 {
     let live = waits_for_answer(run);
     let past = pass(
         heap,
         &mut run.domain,
         last,
+        decider,
         &mut run.progress,
         live,
         &mut run.hints,
@@ -364,6 +373,66 @@ fn pass_by(heap: &Heap, run: &mut DomainRun, last: Kind) -> LookOutcome
     past
 }
 
+/// Takes a domain that has arrived one step further: does its share of the phase that has begun, and
+/// arrives. Where the domains run again it does no more than come back. It never waits. Domain 0 finds
+/// which kind of phase comes next as the decider says.
+pub fn pass_on(heap: &Heap, run: &mut DomainRun, decider: Decider) -> Turned
+    requires here { IsIn run.old.token heap.now }
+    requires arrived { run.old.left ≢ None }
+    requires few { run.old.token.view.own.arrivals < 2 ^ 60 }
+    ensures here { IsIn run.new.token heap.now }
+    ensures answer { PassesOn heap.now decider run.old run.new result }
+    ensures goes_on { GoesOn run.old run.new }
+{
+    let Some(last) = run.left else { unreachable!() };
+    match pass_by(heap, run, last, decider) {
+        LookOutcome::Waits(b) => Turned::Waiting(b),
+        _ => Turned::Did,
+    }
+}
+
+impl DomainRun {
+    /// A running domain arrives, whether a pause is wanted or not. Its trace may have ended.
+    pub fn halt(&mut self, heap: &Heap)
+        requires here { IsIn self.old.token heap.now }
+        requires running { self.old.left ≡ None }
+        requires few { self.old.token.view.own.arrivals < 2 ^ 60 }
+        ensures here { IsIn self.new.token heap.now }
+        ensures run { self.new ≡ record self.old { token = record self.old.token { view = arrived_view self.old.token.view }; left = Some Run; collected = false } }
+    {
+        stop(heap, self);
+    }
+
+    /// Looks at the queue of a running domain: as many finalisers wait there as in the state after what the
+    /// domain has seen of the history. Nothing changes.
+    pub fn look_at_queue(&mut self, heap: &Heap)
+        requires here { IsIn self.old.token heap.now }
+        requires running { self.old.left ≡ None }
+        ensures same { self.new ≡ self.old }
+        ensures queue { length (domain_at (state_of heap.now.config self.old.token.view.seen.front) self.old.token.view.own.number).queue ≡ length self.old.token.view.own.finalisers.queue.items }
+    {
+        queue_load(heap, &mut self.domain);
+    }
+
+    /// Forgets that a complete collection lets the next command be answered `full`: before it is, another
+    /// one must come.
+    pub fn forget_collected(&mut self)
+        ensures { self.new ≡ record self.old { collected = false } }
+    {
+        self.collected = false;
+    }
+
+    /// Asks for a complete collection, for no command of the domain, which runs. Its trace may have ended.
+    pub fn ask_full(&mut self, heap: &Heap)
+        requires here { IsIn self.old.token heap.now }
+        requires running { self.old.left ≡ None }
+        ensures here { IsIn self.new.token heap.now }
+        ensures run { self.new ≡ record self.old { token = noted_token self.old.token (note.Asked (bit_of Full)) } }
+    {
+        ask(heap, &mut self.domain, Want::Full);
+    }
+}
+
 // The turn of a domain.
 #[inline(always)]
 fn turn_on(heap: &Heap, run: &mut DomainRun) -> Turned
@@ -377,7 +446,7 @@ fn turn_on(heap: &Heap, run: &mut DomainRun) -> Turned
     let Some(last) = run.left else {
         return turn_running(heap, run);
     };
-    match pass_by(heap, run, last) {
+    match pass_by(heap, run, last, Decider::Wishes) {
         LookOutcome::Waits(b) => Turned::Waiting(b),
         LookOutcome::Arrived(_) | LookOutcome::Answered { .. } => Turned::Did,
         LookOutcome::Runs => turn_running(heap, run),
@@ -409,8 +478,8 @@ fn turn_on(heap: &Heap, run: &mut DomainRun) -> Turned
 /// Of an open run the trace doesn't end: where all commands that were handed in are done the turn answers
 /// `Hungry`, and changes nothing.
 ///
-/// A `full_major` is answered in the pause, as the collection is, and after all finalisers that waited
-/// when the domain's last `full_major` was answered. A domain that runs again after a pause
+/// A `full_major` is answered in the pause, as the collection is, if the domain has asked for one for it,
+/// and after all finalisers that waited when the domain's last `full_major` was answered. A domain that runs again after a pause
 /// has an empty minor area, remembers no field, and holds no address of a minor area.
 #[inline(always)]
 pub fn turn(heap: &Heap, run: &mut DomainRun) -> Turned

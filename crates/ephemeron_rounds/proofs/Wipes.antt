@@ -10,6 +10,8 @@ use Rattle.heap_model.specs.declared.entry.Entry.{Entry}
 use Rattle.heap_model.specs.declared.entry.Entry.TheVariants.{Wipe}
 use Rattle.heap_model.specs.Fronts.{IsFrontOf}
 use Rattle.heap_model.proofs.Histories.FrontLemmas.{front_push}
+use Rattle.control_entries.specs.Led.{IsLed}
+use Rattle.control_entries.proofs.Led.{led_push, led_whole}
 use Rattle.heap_rule.specs.declared.config.Config.{Config}
 use Rattle.heap_rule.specs.declared.view.Cleaning.{Cleaning}
 use Rattle.heap_rule.specs.declared.view.DomainView.{DomainView}
@@ -161,7 +163,7 @@ module _ (k : Config) (x y : DomainView) (at word : ℕ) (colours : Colours) (kn
   -- it isn't marked
   pub not_cleaned : ((keys : ℕ) → IsMarkedEphemeron colours word keys → ⊥) → Cleaned at x y
   not_cleaned other = ⊎_elim
-      (λ (u : Passed colours). subst (Cleaned at x) (sym u.1) record { seen = front_same x (with_share x (place_seen at x.seen.share)) refl; view = refl })
+      (λ (u : Passed colours). subst (Cleaned at x) (sym u.1) record { seen = front_same x (with_share x (place_seen at x.seen.share)) refl; led = led_whole x.own.number x.seen.front x.seen.front refl; view = refl })
       (λ (b : Begins colours). absurd (other b.0 b.1))
       begins
 
@@ -199,6 +201,7 @@ module _ (y z : DomainView) (at keys : ℕ) (t : KeysCleaned at keys keys true y
       go : WipeDataTold k (with_cleaning x named) 0 u → Cleaned at x u
       go s = record {
         seen = subst (λ (h : List Entry). IsFrontOf x.own.number h x.seen.front) (sym s.front) (front_push x.own.number s.before x.seen.front (Wipe s.label s.cleaning.emptied) refl s.seen);
+        led = subst (λ (h : List Entry). IsLed x.own.number h x.seen.front) (sym s.front) (led_push x.own.number s.before x.seen.front (Wipe s.label s.cleaning.emptied) refl s.led);
         view = s.view ∙ ap (λ (n : Cleaning). with_front (with_share x (record (wiped_through n.block x.seen.share) { cleaning = None })) u.seen.front) (one_cleaning (Some named) named s.cleaning refl s.cleans)
             ∙ (λ i. with_front (with_share x (record x.seen.share { places_seen = at ∷ x.seen.share.places_seen; scan = sym idle i; cleaning = sym none i })) u.seen.front);
       }

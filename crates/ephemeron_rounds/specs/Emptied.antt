@@ -2,6 +2,7 @@
 use Rattle.std.specs.Prelude.{◌≡◌, ◌≢◌, ℕ, Bool, cond, MatchBool, List, [], ◌∷◌, Some, None}
 use Rattle.heap_model.specs.Fronts.{IsFrontOf}
 use Rattle.heap_model.specs.History.{Legal}
+use Rattle.control_entries.specs.Led.{IsLed}
 use Rattle.heap_rule.specs.declared.config.Config.{Config}
 use Rattle.heap_rule.specs.declared.view.Cleaning.{Cleaning}
 use Rattle.heap_rule.specs.declared.view.DomainView.{DomainView}
@@ -32,6 +33,7 @@ with_places x y = with_front (with_share x (record x.seen.share { colours = y.se
 -- the domain has been at an ephemeron, and cleans none. The front has grown by no entry of its own
 pub record Cleaned (at : ℕ) (x y : DomainView) : Type 0 where
   pub seen : IsFrontOf x.own.number y.seen.front x.seen.front
+  pub led : IsLed x.own.number y.seen.front x.seen.front
   pub view : y ≡ with_front (with_share x (record x.seen.share { places_seen = at ∷ x.seen.share.places_seen })) y.seen.front
 
 -- the front is legal if it was
@@ -41,5 +43,6 @@ StaysLegal k x y = Legal (sizes_in k) x.seen.front → Legal (sizes_in k) y.seen
 -- it has been at each one of its list, and nothing else has changed
 pub record AllCleaned (x y : DomainView) : Type 0 where
   pub seen : IsFrontOf x.own.number y.seen.front x.seen.front
+  pub led : IsLed x.own.number y.seen.front x.seen.front
   pub view : y ≡ with_places x y
   pub all : SeesListed y

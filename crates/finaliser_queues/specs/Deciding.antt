@@ -2,6 +2,7 @@
 use Rattle.std.specs.Prelude.{◌≡◌, ◌⊎◌, List, [], ◌∷◌, ◌++◌, length}
 use Rattle.heap_model.specs.Fronts.{IsFrontOf}
 use Rattle.heap_model.specs.History.{Legal}
+use Rattle.control_entries.specs.Led.{IsLed}
 use Rattle.heap_rule.specs.declared.config.Config.{Config}
 use Rattle.heap_rule.specs.declared.view.DomainView.{DomainView}
 use Rattle.heap_rule.specs.declared.view.Finalisers.{Finalisers}
@@ -33,6 +34,7 @@ deciding x lists y = with_front (with_share (with_own x (with_finalisers lists x
 -- Of the registrations of `finalise` some stay and the others are queued, behind all that waited before. The domain has looked at each. Its front has grown by the entries of others and of the collector, and is legal if it was
 pub record AllDecided (k : Config) (x y : DomainView) : Type 0 where
   pub seen : IsFrontOf x.own.number y.seen.front x.seen.front
+  pub led : IsLed x.own.number y.seen.front x.seen.front
   pub legal : Legal (sizes_in k) x.seen.front → Legal (sizes_in k) y.seen.front
   pub done : y.seen.share.kept ≡ length y.own.finalisers.finals.items
   pub view : y ≡ deciding x (record x.own.finalisers { finals = y.own.finalisers.finals; queue = y.own.finalisers.queue }) y
@@ -43,6 +45,7 @@ pub record AllDecided (k : Config) (x y : DomainView) : Type 0 where
 -- and so of those of `finalise_last`
 pub record AllLastsDecided (k : Config) (x y : DomainView) : Type 0 where
   pub seen : IsFrontOf x.own.number y.seen.front x.seen.front
+  pub led : IsLed x.own.number y.seen.front x.seen.front
   pub legal : Legal (sizes_in k) x.seen.front → Legal (sizes_in k) y.seen.front
   pub done : y.seen.share.kept ≡ length y.own.finalisers.lasts.items
   pub view : y ≡ deciding x (record x.own.finalisers { lasts = y.own.finalisers.lasts; queue = y.own.finalisers.queue }) y

@@ -13,13 +13,14 @@ use Rattle.heap_rule.specs.Limits.{sizes_in}
 use Rattle.heap_rule.specs.Views.{fresh_share}
 use Rattle.steps_pauses.specs.Pauses.{EndsWith, arrived_view, entry_of, kind_in, progress_after}
 use Rattle.safepoint.specs.Looks.{LedTo, cleared}
+use Rattle.pause_phases.specs.declared.decider.Decider.{Decider}
 use Rattle.pause_phases.specs.Leading.{LeadsOn, Opens, noted_before}
 
 -- the domain with another front, other notes, and the next kind named
 abbrev led_with : DomainView → Kind → List Entry → List Note → Progress → DomainView
 led_with x kind front notes p = record x { seen = record x.seen { front = front; notes = notes; stage = Led kind; share = record fresh_share { progress = p } } }
 
-module _ (k : Config) (x y z v : DomainView) (last kind : Kind) (stage : x.seen.stage ≡ Leads last) (o : Opens k x y last kind) (l : LedTo k kind y z) (is : v ≡ arrived_view z) where
+module _ (k : Config) (who : Decider) (x y z v : DomainView) (last kind : Kind) (stage : x.seen.stage ≡ Leads last) (o : Opens k who x y last kind) (l : LedTo k kind y z) (is : v ≡ arrived_view z) where
   last_is : kind_in y.seen.stage ≡ last
   last_is = ap (λ (w : DomainView). kind_in w.seen.stage) o.view ∙ ap kind_in stage
 
@@ -67,7 +68,7 @@ module _ (k : Config) (x y z v : DomainView) (last kind : Kind) (stage : x.seen.
       ∙ (ap (λ (n : List Note). arrived_view (led_with x kind v.seen.front n p)) (sym named)
       ∙ ap (λ (q : Progress). arrived_view (led_with x kind v.seen.front v.seen.notes q)) progress_now))))
 
-  pub leads_on : LeadsOn k x v last kind
+  pub leads_on : LeadsOn k who x v last kind
   leads_on = record {
     follows = o.follows;
     findings = o.findings;

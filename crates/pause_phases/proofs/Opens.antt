@@ -23,10 +23,9 @@ use Rattle.steps_marking.specs.Arming.{knowing_armed}
 use Rattle.steps_marking.specs.Changed.{FindTold}
 use Rattle.steps_marking.specs.Looks.{knowing_colours, with_share}
 use Rattle.steps_sweep.specs.Turning.{TurnTold}
-use Rattle.safepoint.specs.declared.answer.Want.TheVariants.{Full}
-use Rattle.safepoint.specs.Looks.{is_wanted}
 use Rattle.size_pools.specs.Listed.{ListsAnew, SetsBack}
-use Rattle.pause_phases.specs.Leading.{CountsCleared, Findings, Opens, begins, finishes, kind_after_reset, next_kind, noted_before, opened_view}
+use Rattle.pause_phases.specs.declared.decider.Decider.{Decider}
+use Rattle.pause_phases.specs.Leading.{CountsCleared, Findings, Opens, begins, completes, finishes, kind_after_reset, next_kind, noted_before, opened_view}
 
 -- the domain with other notes, another list in the making, and other knowledge of the phase
 abbrev opened : DomainView → List Note → Option Listing → Share → DomainView
@@ -168,6 +167,10 @@ reset_copies false end true true e = cc
 reset_copies false end true false e = cc
 reset_copies false end false unswept e = cc
 
+-- domain 0 may write the list of free pools in an odd phase of a collection
+pub leads_list : (y : DomainView) (last : Kind) → y.own.number ≡ 0 → y.seen.stage ≡ Leads last → IsEmptying last → IsLeader y
+leads_list y last first stage empty = record { first = first; last = last; stage = stage; empty = empty }
+
 -- where nothing is found and nothing is done
 abbrev nothing_found : Findings
 nothing_found = record { wants = 0; changed = 0; free = 0 }
@@ -180,8 +183,8 @@ IsBlind last = (last ≢ Reset) × (last ≢ Lasts)
 abbrev IsFree : Kind → Type 0
 IsFree next = (next ≢ Run) × (next ≢ Promote) × (next ≢ Rounds) × (next ≢ Decide) × (next ≢ Clean) × (next ≢ Answer) × (next ≢ Sweep)
 
-goes : (k : Config) (x : DomainView) (last next : Kind) → IsBlind last → IsFree next → Follows last next → next ≡ next_kind k last x.seen.share.progress nothing_found → [] ≡ noted_before last next x.seen.share.progress nothing_found → Opens k x x last next
-goes k x last next blind free follows chosen none = record {
+goes : (k : Config) (who : Decider) (x : DomainView) (last next : Kind) → IsBlind last → IsFree next → Follows last next → next ≡ next_kind k who last x.seen.share.progress nothing_found → [] ≡ noted_before last next x.seen.share.progress nothing_found → Opens k who x x last next
+goes k who x last next blind free follows chosen none = record {
   follows = follows;
   findings = nothing_found;
   chosen = chosen;
@@ -192,21 +195,21 @@ goes k x last next blind free follows chosen none = record {
   view = opened_as x x x.seen.notes (x.seen.notes ++ noted_before last next x.seen.share.progress nothing_found) x.seen.listing x.seen.share refl (no_notes x ∙ ap (λ (l : List Note). x.seen.notes ++ l) none);
 }
 
-module _ (k : Config) (x : DomainView) where
-  pub promote_opens : Opens k x x Promote Reset
-  promote_opens = goes k x Promote Reset ((λ e. cc), λ e. cc) ((λ e. cc), (λ e. cc), (λ e. cc), (λ e. cc), (λ e. cc), (λ e. cc), λ e. cc) refl refl refl
+module _ (k : Config) (who : Decider) (x : DomainView) where
+  pub promote_opens : Opens k who x x Promote Reset
+  promote_opens = goes k who x Promote Reset ((λ e. cc), λ e. cc) ((λ e. cc), (λ e. cc), (λ e. cc), (λ e. cc), (λ e. cc), (λ e. cc), λ e. cc) refl refl refl
 
-  pub decide_opens : Opens k x x Decide Queued
-  decide_opens = goes k x Decide Queued ((λ e. cc), λ e. cc) ((λ e. cc), (λ e. cc), (λ e. cc), (λ e. cc), (λ e. cc), (λ e. cc), λ e. cc) refl refl refl
+  pub decide_opens : Opens k who x x Decide Queued
+  decide_opens = goes k who x Decide Queued ((λ e. cc), λ e. cc) ((λ e. cc), (λ e. cc), (λ e. cc), (λ e. cc), (λ e. cc), (λ e. cc), λ e. cc) refl refl refl
 
-  pub queued_opens : Opens k x x Queued Mark
-  queued_opens = goes k x Queued Mark ((λ e. cc), λ e. cc) ((λ e. cc), (λ e. cc), (λ e. cc), (λ e. cc), (λ e. cc), (λ e. cc), λ e. cc) refl refl refl
+  pub queued_opens : Opens k who x x Queued Mark
+  queued_opens = goes k who x Queued Mark ((λ e. cc), λ e. cc) ((λ e. cc), (λ e. cc), (λ e. cc), (λ e. cc), (λ e. cc), (λ e. cc), λ e. cc) refl refl refl
 
-  pub clean_opens : Opens k x x Clean Lasts
-  clean_opens = goes k x Clean Lasts ((λ e. cc), λ e. cc) ((λ e. cc), (λ e. cc), (λ e. cc), (λ e. cc), (λ e. cc), (λ e. cc), λ e. cc) refl refl refl
+  pub clean_opens : Opens k who x x Clean Lasts
+  clean_opens = goes k who x Clean Lasts ((λ e. cc), λ e. cc) ((λ e. cc), (λ e. cc), (λ e. cc), (λ e. cc), (λ e. cc), (λ e. cc), λ e. cc) refl refl refl
 
   -- before Promote the cursor is set back
-  pub run_opens : (y : DomainView) → last_note y.seen.notes ≡ Some SetBack → SetsBack x y → Opens k x y Run Promote
+  pub run_opens : (y : DomainView) → last_note y.seen.notes ≡ Some SetBack → SetsBack x y → Opens k who x y Run Promote
   run_opens y set_back same = record {
     follows = refl;
     findings = nothing_found;
@@ -250,7 +253,7 @@ module _ (k : Config) (x : DomainView) where
     same_cut : y.seen.share.progress.cut ≡ x.seen.share.progress.cut
     same_cut = ap (λ (z : DomainView). z.seen.share.progress.cut) told
 
-    changed_opens : (last next : Kind) → Follows last next → next ≡ next_kind k last x.seen.share.progress (changed_as found) → Changed found ∷ [] ≡ noted_before last next x.seen.share.progress (changed_as found) → next ≢ Run → next ≢ Promote → MayFollow y.seen.share last next → Opens k x y last next
+    changed_opens : (last next : Kind) → Follows last next → next ≡ next_kind k who last x.seen.share.progress (changed_as found) → Changed found ∷ [] ≡ noted_before last next x.seen.share.progress (changed_as found) → next ≢ Run → next ≢ Promote → MayFollow y.seen.share last next → Opens k who x y last next
     changed_opens last next follows chosen notes run promote may = record {
       follows = follows;
       findings = changed_as found;
@@ -265,31 +268,27 @@ module _ (k : Config) (x : DomainView) where
     goes_back : (last : Kind) → last ≢ Lasts → last ≢ Reset → MayFollow y.seen.share last Mark
     goes_back last lasts reset = asks_nothing y.seen.share last Mark record { rounds = λ e. cc; decide = λ e. cc; clean = λ e. cc; answer = λ e. cc; run = λ e. cc; sweep = λ e. cc; lasts = lasts; reset = reset }
 
-    pub mark_ends : found ≡ 0 → Opens k x y Mark Rounds
+    pub mark_ends : found ≡ 0 → Opens k who x y Mark Rounds
     mark_ends none = changed_opens Mark Rounds (inr refl) (ap (λ (b : Bool). if b then Rounds else Mark) (sym (eq-eqb found 0 none))) refl (λ e. cc) (λ e. cc)
         (changed_may y.seen.share found Mark Rounds knows none (λ e. cc) (λ e. cc) (inl refl) (λ e. cc) (λ e. cc) (λ e. cc))
 
-    pub mark_goes_on : found ≢ 0 → Opens k x y Mark Mark
+    pub mark_goes_on : found ≢ 0 → Opens k who x y Mark Mark
     mark_goes_on some = changed_opens Mark Mark (inl refl) (ap (λ (b : Bool). if b then Rounds else Mark) (sym (ne_eqb found 0 some))) refl (λ e. cc) (λ e. cc) (goes_back Mark (λ e. cc) (λ e. cc))
 
-    pub rounds_go_back : found ≢ 0 → Opens k x y Rounds Mark
+    pub rounds_go_back : found ≢ 0 → Opens k who x y Rounds Mark
     rounds_go_back some = changed_opens Rounds Mark (inl refl) (ap (λ (b : Bool). after_rounds b x.seen.share.progress.cut) (sym (ne_eqb found 0 some))) refl (λ e. cc) (λ e. cc) (goes_back Rounds (λ e. cc) (λ e. cc))
 
-    pub rounds_end_first : found ≡ 0 → x.seen.share.progress.cut ≡ false → Opens k x y Rounds Decide
+    pub rounds_end_first : found ≡ 0 → x.seen.share.progress.cut ≡ false → Opens k who x y Rounds Decide
     rounds_end_first none first = changed_opens Rounds Decide (inr (inl refl)) (ap (after_rounds true) (sym first) ∙ ap (λ (b : Bool). after_rounds b x.seen.share.progress.cut) (sym (eq-eqb found 0 none))) refl (λ e. cc) (λ e. cc)
         (changed_may y.seen.share found Rounds Decide knows none (λ _. same_cut ∙ first) (λ e. cc) (inr refl) (λ e. cc) (λ e. cc) (λ e. cc))
 
-    pub rounds_end_second : found ≡ 0 → x.seen.share.progress.cut ≡ true → Opens k x y Rounds Clean
+    pub rounds_end_second : found ≡ 0 → x.seen.share.progress.cut ≡ true → Opens k who x y Rounds Clean
     rounds_end_second none second = changed_opens Rounds Clean (inr (inr refl)) (ap (after_rounds true) (sym second) ∙ ap (λ (b : Bool). after_rounds b x.seen.share.progress.cut) (sym (eq-eqb found 0 none))) refl (λ e. cc) (λ e. cc)
         (changed_may y.seen.share found Rounds Clean knows none (λ e. cc) (λ _. same_cut ∙ second) (inr refl) (λ e. cc) (λ e. cc) (λ e. cc))
 
   -- the list of free pools, where one is written and nothing else done since
   list_as : (y z : DomainView) → z.seen.listing ≡ y.seen.listing → HasList k y → HasList k z
   list_as y z same list = record { owners = list.owners; all = list.all; listing = same ∙ list.listing }
-
-  -- domain 0 may write it in an odd phase of a collection
-  pub leads_list : (y : DomainView) (last : Kind) → y.own.number ≡ 0 → y.seen.stage ≡ Leads last → IsEmptying last → IsLeader y
-  leads_list y last first stage empty = record { first = first; last = last; stage = stage; empty = empty }
 
   -- what comes after Sweep, by whether garbage was left of an earlier pause, whether a cycle begins, and whether the one that ended began in this pause
   abbrev after_sweep : Bool → Bool → Bool → Kind
@@ -317,31 +316,31 @@ module _ (k : Config) (x : DomainView) where
       share_is : u.seen.share ≡ share
       share_is = ap (λ (w : DomainView). w.seen.share) view
 
-      reset_with : (next : Kind) → next ≡ kind_after_reset k found free x.seen.share.progress → (next ≡ Sweep → (share.blocks ≡ Some 0) × (share.words ≡ Some 0)) → Opens k x u Reset next
+      reset_with : (next : Kind) → next ≡ kind_after_reset k who found free x.seen.share.progress → (next ≡ Sweep → (share.blocks ≡ Some 0) × (share.words ≡ Some 0)) → Opens k who x u Reset next
       reset_with next chosen cleared =
           let p : Progress = x.seen.share.progress in
-          let b = begins k found free in
-          let knows_all : ResetKnows share p.armed p.unswept (kind_after_reset k found free p) = record { known = ap (λ (q : Progress). q.armed) progress; owed = ap (λ (q : Progress). q.unswept) progress; cleared = λ e. cleared (chosen ∙ e) } in record {
-            follows = subst (Follows Reset) (sym chosen) (reset_follows p.armed (finishes found) b p.unswept);
+          let b = begins k who found free in
+          let knows_all : ResetKnows share p.armed p.unswept (kind_after_reset k who found free p) = record { known = ap (λ (q : Progress). q.armed) progress; owed = ap (λ (q : Progress). q.unswept) progress; cleared = λ e. cleared (chosen ∙ e) } in record {
+            follows = subst (Follows Reset) (sym chosen) (reset_follows p.armed (finishes who found) b p.unswept);
             findings = wishes;
             chosen = chosen;
-            may = subst (λ (s : Share). MayFollow s Reset next) (sym share_is) (subst (MayFollow share Reset) (sym chosen) (reset_may share p.armed (finishes found) b p.unswept knows_all));
+            may = subst (λ (s : Share). MayFollow s Reset next) (sym share_is) (subst (MayFollow share Reset) (sym chosen) (reset_may share p.armed (finishes who found) b p.unswept knows_all));
             list = λ _. list_as y u listed list;
-            set_back = λ e. absurd (reset_copies p.armed (finishes found) b p.unswept (sym chosen ∙ e));
+            set_back = λ e. absurd (reset_copies p.armed (finishes who found) b p.unswept (sym chosen ∙ e));
             progress_is = ap (λ (s : Share). s.progress) share_is ∙ progress;
             view = opened_as x u two_notes _ y.seen.listing share view in_order;
           }
 
-    pub reset_opens : (next : Kind) → next ≡ kind_after_reset k found free x.seen.share.progress → next ≢ Sweep → Opens k x z Reset next
+    pub reset_opens : (next : Kind) → next ≡ kind_after_reset k who found free x.seen.share.progress → next ≢ Sweep → Opens k who x z Reset next
     reset_opens next chosen other = reset_with z x.seen.share is refl next chosen (λ e. absurd (other e))
 
     -- before garbage is freed it sets back what is counted
-    pub reset_frees : (u : DomainView) (next : Kind) → CountsCleared z u → next ≡ kind_after_reset k found free x.seen.share.progress → Opens k x u Reset next
+    pub reset_frees : (u : DomainView) (next : Kind) → CountsCleared z u → next ≡ kind_after_reset k who found free x.seen.share.progress → Opens k who x u Reset next
     reset_frees u next cleared chosen = reset_with u (record x.seen.share { blocks = Some 0; words = Some 0 })
         (cleared ∙ ap (λ (w : DomainView). with_share w (record w.seen.share { blocks = Some 0; words = Some 0 })) is) refl next chosen (λ _. (refl, refl))
 
     -- where garbage was left of an earlier pause
-    late_opens : (next : Kind) → x.seen.share.progress.unswept ≡ true → Follows Sweep next → next ≡ next_kind k Sweep x.seen.share.progress wishes → next ≢ Promote → MayFollow x.seen.share Sweep next → Opens k x z Sweep next
+    late_opens : (next : Kind) → x.seen.share.progress.unswept ≡ true → Follows Sweep next → next ≡ next_kind k who Sweep x.seen.share.progress wishes → next ≢ Promote → MayFollow x.seen.share Sweep next → Opens k who x z Sweep next
     late_opens next owed follows chosen copies may = record {
       follows = follows;
       findings = wishes;
@@ -353,11 +352,11 @@ module _ (k : Config) (x : DomainView) where
       view = opened_as x z two_notes _ y.seen.listing x.seen.share is (in_order ∙ ap (λ (b : Bool). x.seen.notes ++ (if b then Listed free ∷ Want found ∷ [] else [])) (sym owed));
     }
 
-    pub late_begins : x.seen.share.progress.unswept ≡ true → begins k found free ≡ true → Opens k x z Sweep Roots
+    pub late_begins : x.seen.share.progress.unswept ≡ true → begins k who found free ≡ true → Opens k who x z Sweep Roots
     late_begins owed start = late_opens Roots owed (inr (inr refl)) (λ i. after_sweep (sym owed i) (sym start i) x.seen.share.progress.whole) (λ e. cc)
         (asks_nothing x.seen.share Sweep Roots record { rounds = λ e. cc; decide = λ e. cc; clean = λ e. cc; answer = λ e. cc; run = λ e. cc; sweep = λ e. cc; lasts = λ e. cc; reset = λ e. cc })
 
-    pub late_runs : x.seen.share.progress.unswept ≡ true → begins k found free ≡ false → Opens k x z Sweep Run
+    pub late_runs : x.seen.share.progress.unswept ≡ true → begins k who found free ≡ false → Opens k who x z Sweep Run
     late_runs owed start = late_opens Run owed (inl refl) (λ i. after_sweep (sym owed i) (sym start i) x.seen.share.progress.whole) (λ e. cc)
         (runs_may x.seen.share Sweep record { rotated = λ e. cc; on = λ e. cc; over = ⊎_elim (λ (e : Sweep ≡ Lasts). cc) (λ (e : Sweep ≡ Answer). cc); freed = λ _. owed })
 
@@ -368,11 +367,11 @@ module _ (k : Config) (x : DomainView) where
   -- these ways are taken once it has found the wishes, or nothing
   record Decides (last next : Kind) (f : Findings) : Type 0 where
     follows : Follows last next
-    chosen : next ≡ next_kind k last x.seen.share.progress f
+    chosen : next ≡ next_kind k who last x.seen.share.progress f
     copies : next ≢ Promote
 
   -- with what it then knows of the phase
-  decides : (last next : Kind) (f : Findings) (u : DomainView) (share : Share) → Decides last next f → u ≡ opened x (x.seen.notes ++ noted_before last next x.seen.share.progress f) u.seen.listing share → share.progress ≡ x.seen.share.progress → MayFollow share last next → (next ≡ Run → HasList k u) → Opens k x u last next
+  decides : (last next : Kind) (f : Findings) (u : DomainView) (share : Share) → Decides last next f → u ≡ opened x (x.seen.notes ++ noted_before last next x.seen.share.progress f) u.seen.listing share → share.progress ≡ x.seen.share.progress → MayFollow share last next → (next ≡ Run → HasList k u) → Opens k who x u last next
   decides last next f u share d view progress may list =
       let same : u.seen.share ≡ share = ap (λ (w : DomainView). w.seen.share) view in record {
         follows = d.follows;
@@ -388,7 +387,7 @@ module _ (k : Config) (x : DomainView) where
   unopened : x ≡ opened x (x.seen.notes ++ []) x.seen.listing x.seen.share
   unopened = ap (λ (n : List Note). opened x n x.seen.listing x.seen.share) (no_notes x)
 
-  pub roots_end : (y : DomainView) (found : ℕ) → y ≡ noted x (Want found) → is_wanted Full found ≡ true → Opens k x y Roots Mark
+  pub roots_end : (y : DomainView) (found : ℕ) → y ≡ noted x (Want found) → completes who found ≡ true → Opens k who x y Roots Mark
   roots_end y found told full = decides Roots Mark (wished found 0) y x.seen.share record { follows = inl refl; chosen = ap (λ (b : Bool). if b then Mark else Run) (sym full); copies = λ e. cc }
       (told ∙ ap (λ (l : Option Listing). opened x (x.seen.notes ++ Want found ∷ []) l x.seen.share) (sym (ap (λ (w : DomainView). w.seen.listing) told))) refl
       (asks_nothing x.seen.share Roots Mark record { rounds = λ e. cc; decide = λ e. cc; clean = λ e. cc; answer = λ e. cc; run = λ e. cc; sweep = λ e. cc; lasts = λ e. cc; reset = λ e. cc })
@@ -397,14 +396,14 @@ module _ (k : Config) (x : DomainView) where
   quiet_sweep : x.seen.share.progress.unswept ≡ false → x ≡ opened x (x.seen.notes ++ (if x.seen.share.progress.unswept then Listed 0 ∷ Want 0 ∷ [] else [])) x.seen.listing x.seen.share
   quiet_sweep none = unopened ∙ ap (λ (b : Bool). opened x (x.seen.notes ++ (if b then Listed 0 ∷ Want 0 ∷ [] else [])) x.seen.listing x.seen.share) (sym none)
 
-  pub sweep_begins : x.seen.share.progress.unswept ≡ false → x.seen.share.progress.whole ≡ false → Opens k x x Sweep Roots
-  sweep_begins none part = decides Sweep Roots nothing_found x x.seen.share record { follows = inr (inr refl); chosen = λ i. after_sweep (sym none i) (begins k 0 0) (sym part i); copies = λ e. cc }
+  pub sweep_begins : x.seen.share.progress.unswept ≡ false → x.seen.share.progress.whole ≡ false → Opens k who x x Sweep Roots
+  sweep_begins none part = decides Sweep Roots nothing_found x x.seen.share record { follows = inr (inr refl); chosen = λ i. after_sweep (sym none i) (begins k who 0 0) (sym part i); copies = λ e. cc }
       (quiet_sweep none) refl
       (asks_nothing x.seen.share Sweep Roots record { rounds = λ e. cc; decide = λ e. cc; clean = λ e. cc; answer = λ e. cc; run = λ e. cc; sweep = λ e. cc; lasts = λ e. cc; reset = λ e. cc })
       (λ e. cc)
 
-  pub sweep_answers : x.seen.share.progress.unswept ≡ false → x.seen.share.progress.whole ≡ true → Opens k x x Sweep Answer
-  sweep_answers none all = decides Sweep Answer nothing_found x x.seen.share record { follows = inr (inl refl); chosen = λ i. after_sweep (sym none i) (begins k 0 0) (sym all i); copies = λ e. cc }
+  pub sweep_answers : x.seen.share.progress.unswept ≡ false → x.seen.share.progress.whole ≡ true → Opens k who x x Sweep Answer
+  sweep_answers none all = decides Sweep Answer nothing_found x x.seen.share record { follows = inr (inl refl); chosen = λ i. after_sweep (sym none i) (begins k who 0 0) (sym all i); copies = λ e. cc }
       (quiet_sweep none) refl
       record {
         unchanged = ⊎_elim (λ (e : Answer ≡ Rounds). cc) (⊎_elim (λ (e : Answer ≡ Decide). cc) (λ (e : Answer ≡ Clean). cc));
@@ -433,11 +432,11 @@ module _ (k : Config) (x : DomainView) where
     turned_is : y3 ≡ opened x (x.seen.notes ++ Want found ∷ []) x.seen.listing turned_share
     turned_is = wished_view
 
-    lasts_decides : (next : Kind) (free : ℕ) → Follows Lasts next → next ≡ (if is_wanted Full found then Sweep else Run) → next ≢ Promote → Decides Lasts next (wished found free)
+    lasts_decides : (next : Kind) (free : ℕ) → Follows Lasts next → next ≡ (if completes who found then Sweep else Run) → next ≢ Promote → Decides Lasts next (wished found free)
     lasts_decides next free follows chosen copies = record { follows = follows; chosen = chosen; copies = copies }
 
     -- it sets back what is counted, and garbage is freed in this pause
-    pub lasts_frees : (u : DomainView) → is_wanted Full found ≡ true → CountsCleared y3 u → Opens k x u Lasts Sweep
+    pub lasts_frees : (u : DomainView) → completes who found ≡ true → CountsCleared y3 u → Opens k who x u Lasts Sweep
     lasts_frees u full cleared =
         let view : u ≡ opened x (x.seen.notes ++ Want found ∷ []) x.seen.listing (record turned_share { blocks = Some 0; words = Some 0 }) = cleared ∙ ap (λ (w : DomainView). with_share w (record w.seen.share { blocks = Some 0; words = Some 0 })) turned_is in
         let here = view ∙ ap (λ (l : Option Listing). opened x (x.seen.notes ++ Want found ∷ []) l (record turned_share { blocks = Some 0; words = Some 0 })) (sym (ap (λ (w : DomainView). w.seen.listing) view)) in
@@ -459,7 +458,7 @@ module _ (k : Config) (x : DomainView) where
         (λ e. cc)
 
     -- or the domains run, and free it as they do
-    pub lasts_run : (z : DomainView) (free : ℕ) → is_wanted Full found ≡ false → ListsAnew free (knowing_armed y3 false) z → HasList k z → Opens k x z Lasts Run
+    pub lasts_run : (z : DomainView) (free : ℕ) → completes who found ≡ false → ListsAnew free (knowing_armed y3 false) z → HasList k z → Opens k who x z Lasts Run
     lasts_run z free part lists list =
         let share : Share = record turned_share { armed = Some false } in
         let view : z ≡ opened x ((x.seen.notes ++ Want found ∷ []) ++ Listed free ∷ []) z.seen.listing share = lists ∙ ap (λ (w : DomainView). noted (with_listing (knowing_armed w false) z.seen.listing) (Listed free)) turned_is in
@@ -476,13 +475,13 @@ module _ (k : Config) (x : DomainView) where
     armed_view : (notes : List Note) → y ≡ opened x notes x.seen.listing x.seen.share → z ≡ opened x (notes ++ Listed free ∷ []) z.seen.listing armed_share
     armed_view notes before = lists ∙ ap (λ (w : DomainView). noted (with_listing (knowing_armed w armed) z.seen.listing) (Listed free)) before
 
-    pub roots_run : (found : ℕ) → y ≡ noted x (Want found) → is_wanted Full found ≡ false → armed ≡ true → Opens k x z Roots Run
+    pub roots_run : (found : ℕ) → y ≡ noted x (Want found) → completes who found ≡ false → armed ≡ true → Opens k who x z Roots Run
     roots_run found told part is = decides Roots Run (wished found free) z armed_share record { follows = inr refl; chosen = ap (λ (b : Bool). if b then Mark else Run) (sym part); copies = λ e. cc }
         (armed_view (x.seen.notes ++ Want found ∷ []) told ∙ ap (λ (n : List Note). opened x n z.seen.listing armed_share) (append_assoc x.seen.notes (Want found ∷ []) (Listed free ∷ []))) refl
         (runs_may armed_share Roots record { rotated = λ e. cc; on = λ _. ap Some is; over = ⊎_elim (λ (e : Roots ≡ Lasts). cc) (λ (e : Roots ≡ Answer). cc); freed = λ e. cc })
         (λ _. list)
 
-    pub answer_runs : y ≡ x → armed ≡ false → Opens k x z Answer Run
+    pub answer_runs : y ≡ x → armed ≡ false → Opens k who x z Answer Run
     answer_runs told is = decides Answer Run (wished 0 free) z armed_share record { follows = refl; chosen = refl; copies = λ e. cc }
         (armed_view x.seen.notes told) refl
         (runs_may armed_share Answer record { rotated = λ e. cc; on = λ e. cc; over = λ _. ap Some is; freed = λ e. cc })

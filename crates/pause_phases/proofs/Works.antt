@@ -3,6 +3,8 @@ use Rattle.std.proofs.Common.{◌≡◌, ◌≢◌, ◌⊎◌, inl, inr, ⊎_eli
 use Rattle.heap_model.specs.declared.entry.Entry.{Entry}
 use Rattle.heap_model.specs.Fronts.{IsFrontOf}
 use Rattle.heap_model.specs.History.{Legal}
+use Rattle.control_entries.specs.Led.{IsLed}
+use Rattle.control_entries.proofs.Led.{led_whole}
 use Rattle.remembered_set.specs.Bounded.{Bounded}
 use Rattle.heap_rule.specs.declared.config.Config.{Config}
 use Rattle.heap_rule.specs.declared.phase.Kind.{Kind}
@@ -43,8 +45,8 @@ built_as x y looked ephemerons swept finalisers front share is = is
 
 -- where registrations are decided the domain keeps its other lists, and has done what is asked of it
 module _ (k : Config) (kind : Kind) (x y : DomainView) (swept : Swept) (finalisers : Finalisers) (front : List Entry) (share : Share) (one_of : (kind ≡ Decide) ⊎ (kind ≡ Lasts)) (is : y ≡ built x x.own.looked x.own.ephemerons swept finalisers front share) where
-  decides : (kind ≢ Lasts → swept ≡ x.own.swept) → (kind ≡ Lasts → swept ≡ nothing_swept) → share.progress ≡ x.seen.share.progress → share.weak ≡ x.seen.share.weak → IsFrontOf x.own.number y.seen.front x.seen.front → (Legal (sizes_in k) x.seen.front → Legal (sizes_in k) y.seen.front) → Sorted kind x.own.finalisers y.own.finalisers → HasDone k y → Works k kind x y
-  decides kept anew progress weak seen legal sorted done =
+  decides : (kind ≢ Lasts → swept ≡ x.own.swept) → (kind ≡ Lasts → swept ≡ nothing_swept) → share.progress ≡ x.seen.share.progress → share.weak ≡ x.seen.share.weak → IsFrontOf x.own.number y.seen.front x.seen.front → IsLed x.own.number y.seen.front x.seen.front → (Legal (sizes_in k) x.seen.front → Legal (sizes_in k) y.seen.front) → Sorted kind x.own.finalisers y.own.finalisers → HasDone k y → Works k kind x y
+  decides kept anew progress weak seen led legal sorted done =
       let looked : y.own.looked ≡ x.own.looked = ap (λ (z : DomainView). z.own.looked) is in
       let listed : y.own.ephemerons ≡ x.own.ephemerons = ap (λ (z : DomainView). z.own.ephemerons) is in
       let room : y.own.ephemerons.room ≡ x.own.ephemerons.room = ap (λ (l : Bounded ℕ). l.room) listed in
@@ -65,6 +67,7 @@ module _ (k : Config) (kind : Kind) (x y : DomainView) (swept : Swept) (finalise
         registered = sorted.registered;
         held = sorted.held;
         front = seen;
+        led = led;
         legal = legal;
         stays = λ _ undecided unsettled. absurd (⊎_elim undecided unsettled one_of);
         done = done;
@@ -77,7 +80,7 @@ module _ (k : Config) (kind : Kind) (x : DomainView) (stage : x.seen.stage ≡ I
       let lists : Decided x.own.finalisers y.own.finalisers = record { lasts = ap (λ (z : DomainView). z.own.finalisers.lasts) d.view; queued = d.queued; queue = d.queue; splits = d.splits } in
       let here : y.seen.stage ≡ In Decide = ap (λ (z : DomainView). z.seen.stage) d.view ∙ (stage ∙ ap In is) in
       let done : HasDone k y = record { rooted = λ e. cc; queued = λ e. ⊎_elim (λ u. cc) (λ u. cc) e; told = λ e. ⊎_elim (λ u. cc) (⊎_elim (λ u. cc) (λ u. cc)) e; walked = λ e. cc; swept = λ e. cc; anew = λ e. cc; looked = λ e. ⊎_elim (λ u. cc) (λ u. cc) e; cleaned = λ e. cc; decided = λ _. d.done; settled = λ e. cc; held = λ e. ⊎_elim (λ u. cc) (λ u. cc) e; added = λ e. cc } in
-      decides k kind x y x.own.swept _ _ _ (inl is) d.view (λ _. refl) (λ (e : kind ≡ Lasts). cc) refl refl d.seen d.legal (sorted_finals kind x.own.finalisers y.own.finalisers is lists) done
+      decides k kind x y x.own.swept _ _ _ (inl is) d.view (λ _. refl) (λ (e : kind ≡ Lasts). cc) refl refl d.seen d.led d.legal (sorted_finals kind x.own.finalisers y.own.finalisers is lists) done
 
   -- and those of `finalise_last`, after which the domain notes that it has swept nothing
   pub lasts_works : (v y : DomainView) → kind ≡ Lasts → AllLastsDecided k x v → AnewTold v 0 y → Works k kind x y
@@ -89,8 +92,9 @@ module _ (k : Config) (kind : Kind) (x : DomainView) (stage : x.seen.stage ≡ I
       let settled : y.seen.share.kept ≡ length y.own.finalisers.lasts.items = ap (λ (z : DomainView). z.seen.share.kept) told ∙ (d.done ∙ ap (λ (f : Finalisers). length f.lasts.items) (sym same)) in
       let done : HasDone k y = record { rooted = λ e. cc; queued = λ e. ⊎_elim (λ u. cc) (λ u. cc) e; told = λ e. ⊎_elim (λ u. cc) (⊎_elim (λ u. cc) (λ u. cc)) e; walked = λ e. cc; swept = λ e. cc; anew = λ _. anew; looked = λ e. ⊎_elim (λ u. cc) (λ u. cc) e; cleaned = λ e. cc; decided = λ e. cc; settled = λ _. settled; held = λ e. ⊎_elim (λ u. cc) (λ u. cc) e; added = λ e. cc } in
       let seen : IsFrontOf x.own.number y.seen.front x.seen.front = subst (λ (f : List Entry). IsFrontOf x.own.number f x.seen.front) (sym (ap (λ (z : DomainView). z.seen.front) told)) d.seen in
+      let led : IsLed x.own.number y.seen.front x.seen.front = subst (λ (f : List Entry). IsLed x.own.number f x.seen.front) (sym (ap (λ (z : DomainView). z.seen.front) told)) d.led in
       let path = told ∙ ap (λ (z : DomainView). record z { own = unswept z.own }) d.view in
-      decides k kind x y nothing_swept _ _ _ (inr is) path (λ (e : kind ≢ Lasts). absurd (e is)) (λ _. refl) refl refl seen (λ legal. subst (λ (f : List Entry). Legal (sizes_in k) f) (sym (ap (λ (z : DomainView). z.seen.front) told)) (d.legal legal)) (subst (Sorted kind x.own.finalisers) (sym same) (sorted_lasts kind x.own.finalisers v.own.finalisers is lists)) done
+      decides k kind x y nothing_swept _ _ _ (inr is) path (λ (e : kind ≢ Lasts). absurd (e is)) (λ _. refl) refl refl seen led (λ legal. subst (λ (f : List Entry). Legal (sizes_in k) f) (sym (ap (λ (z : DomainView). z.seen.front) told)) (d.legal legal)) (subst (Sorted kind x.own.finalisers) (sym same) (sorted_lasts kind x.own.finalisers v.own.finalisers is lists)) done
 
 -- the domain has swept all its pools, and counts on
 pub swept_returns : (k : Config) (x v w : DomainView) → x.seen.stage ≡ In Sweep → SweptAll k x v → CountedLive k v w → Returns k w
@@ -126,6 +130,7 @@ sweep_works k x v w y stage s counted looks held =
       registered = ap count_of finalisers;
       held = λ c old. subst (RefersOld c) (sym finalisers) old;
       front = front_same x y front;
+      led = led_whole x.own.number y.seen.front x.seen.front (sym front);
       legal = λ legal. subst (λ (f : List Entry). Legal (sizes_in k) f) (sym front) legal;
       stays = λ _ _ _. front;
       done = record { rooted = λ e. cc; queued = λ e. ⊎_elim (λ u. cc) (λ u. cc) e; told = λ e. ⊎_elim (λ u. cc) (⊎_elim (λ u. cc) (λ u. cc)) e; walked = λ e. cc; swept = λ _. all; anew = λ e. cc; looked = λ e. ⊎_elim (λ u. cc) (λ u. cc) e; cleaned = λ e. cc; decided = λ e. cc; settled = λ e. cc; held = λ _. held; added = λ _. (ap (λ (z : DomainView). z.seen.share.added_blocks) path, ap (λ (z : DomainView). z.seen.share.added_words) path) };
@@ -153,6 +158,7 @@ shares_in k kind x y z w is =
       registered = ap count_of (sym finalisers) ∙ w.registered;
       held = λ c old. subst (RefersOld c) finalisers (w.held c old);
       front = subst (λ (f : List Entry). IsFrontOf x.own.number f x.seen.front) front w.front;
+      led = subst (λ (f : List Entry). IsLed x.own.number f x.seen.front) front w.led;
       legal = λ legal. subst (λ (f : List Entry). Legal (sizes_in k) f) front (w.legal legal);
       stays = λ other undecided unsettled. sym front ∙ w.stays other undecided unsettled;
     }

@@ -1,5 +1,5 @@
 -- How domain 0 leads through a collection of the major heap.
-use Rattle.std.specs.Prelude.{◌≡◌, ℕ, ◌*◌, ◌==◌, ◌||◌, nat_lt, if◌then◌else◌, Bool, true, false, List, [], ◌∷◌, ◌++◌, Some, None}
+use Rattle.std.specs.Prelude.{◌≡◌, ℕ, ◌*◌, ◌==◌, ◌||◌, nat_lt, if◌then◌else◌, Bool, List, [], ◌∷◌, ◌++◌, Some, None}
 use Rattle.heap_model.specs.declared.entry.Entry.{Entry}
 use Rattle.heap_model.specs.Fronts.{IsFrontOf}
 use Rattle.heap_rule.specs.declared.config.Config.{Config}
@@ -17,6 +17,8 @@ use Rattle.steps_pools.specs.Listings.{HasList}
 use Rattle.safepoint.specs.declared.answer.Want.TheVariants.{Cycle, Finish, Full}
 use Rattle.safepoint.specs.Looks.{cleared, is_wanted}
 use Rattle.steps_marking.specs.Looks.{with_share}
+use Rattle.pause_phases.specs.declared.decider.Decider.{Decider}
+use Rattle.pause_phases.specs.declared.decider.Decider.TheVariants.{Wishes, Caller}
 
 -- what domain 0 finds before it names the next kind: the wishes, the changed word, and how many pools the list of free pools names
 pub record Findings : Type 0 where
@@ -24,32 +26,39 @@ pub record Findings : Type 0 where
   pub changed : ℕ
   pub free : ℕ
 
--- a collection of the major heap is asked for, or fewer than half of the pools are free
-abbrev pub begins : Config → ℕ → ℕ → Bool
-begins k wants free = is_wanted Cycle wants || (is_wanted Full wants || nat_lt (2 * free) k.pools)
+-- a collection of the major heap is asked for, or fewer than half of the pools are free; or the caller says so
+abbrev pub begins : Config → Decider → ℕ → ℕ → Bool
+begins k Wishes wants free = is_wanted Cycle wants || (is_wanted Full wants || nat_lt (2 * free) k.pools)
+begins k (Caller complete) wants free = complete
 
--- the end of the one that goes on beside running domains is asked for
-abbrev pub finishes : ℕ → Bool
-finishes wants = is_wanted Finish wants || is_wanted Full wants
+-- the end of the one that goes on beside running domains is asked for, or the caller says so
+abbrev pub finishes : Decider → ℕ → Bool
+finishes Wishes wants = is_wanted Finish wants || is_wanted Full wants
+finishes (Caller complete) wants = complete
+
+-- a complete collection is asked for, or the caller says so
+abbrev pub completes : Decider → ℕ → Bool
+completes Wishes wants = is_wanted Full wants
+completes (Caller complete) wants = complete
 
 -- what comes after the minor collection: a cycle that goes on is finished where that is asked for, and goes on else; where none goes on one begins or none does. Before one begins the garbage is freed that is left of the last one
-abbrev pub kind_after_reset : Config → ℕ → ℕ → Progress → Kind
-kind_after_reset k wants free p = if p.armed then (if finishes wants then Mark else Run) else (if begins k wants free then (if p.unswept then Sweep else Roots) else Run)
+abbrev pub kind_after_reset : Config → Decider → ℕ → ℕ → Progress → Kind
+kind_after_reset k decider wants free p = if p.armed then (if finishes decider wants then Mark else Run) else (if begins k decider wants free then (if p.unswept then Sweep else Roots) else Run)
 
 -- which kind comes next, also by how far the collection has come. It ends in this pause where a complete one is asked for, and goes on beside running domains else. Where it ends its garbage is freed in this pause if a complete one is asked for, and by running domains else. A collection whose garbage was freed in the pause in which it ended is answered if it began there, and followed by another else; where the garbage was left of an earlier pause another begins if one is still asked for
-abbrev pub next_kind : Config → Kind → Progress → Findings → Kind
-next_kind k Run p f = Promote
-next_kind k Promote p f = Reset
-next_kind k Reset p f = kind_after_reset k f.wants f.free p
-next_kind k Roots p f = if is_wanted Full f.wants then Mark else Run
-next_kind k Mark p f = if f.changed == 0 then Rounds else Mark
-next_kind k Rounds p f = if f.changed == 0 then (if p.cut then Clean else Decide) else Mark
-next_kind k Decide p f = Queued
-next_kind k Queued p f = Mark
-next_kind k Clean p f = Lasts
-next_kind k Lasts p f = if is_wanted Full f.wants then Sweep else Run
-next_kind k Sweep p f = if p.unswept then (if begins k f.wants f.free then Roots else Run) else (if p.whole then Answer else Roots)
-next_kind k Answer p f = Run
+abbrev pub next_kind : Config → Decider → Kind → Progress → Findings → Kind
+next_kind k decider Run p f = Promote
+next_kind k decider Promote p f = Reset
+next_kind k decider Reset p f = kind_after_reset k decider f.wants f.free p
+next_kind k decider Roots p f = if completes decider f.wants then Mark else Run
+next_kind k decider Mark p f = if f.changed == 0 then Rounds else Mark
+next_kind k decider Rounds p f = if f.changed == 0 then (if p.cut then Clean else Decide) else Mark
+next_kind k decider Decide p f = Queued
+next_kind k decider Queued p f = Mark
+next_kind k decider Clean p f = Lasts
+next_kind k decider Lasts p f = if completes decider f.wants then Sweep else Run
+next_kind k decider Sweep p f = if p.unswept then (if begins k decider f.wants f.free then Roots else Run) else (if p.whole then Answer else Roots)
+next_kind k decider Answer p f = Run
 
 -- where the domains run next it writes the list of free pools
 abbrev pub noted_list : Kind → Findings → List Note
@@ -80,22 +89,22 @@ CountsCleared x y = y ≡ with_share x (record x.seen.share { blocks = Some 0; w
 abbrev pub opened_view : DomainView → DomainView → List Note → DomainView
 opened_view x y notes = record x { seen = record x.seen { notes = notes; listing = y.seen.listing; share = y.seen.share } }
 
--- domain 0 has found which kind comes next, and done what is asked of it before it names that kind
-pub record Opens (k : Config) (x y : DomainView) (last kind : Kind) : Type 0 where
+-- domain 0 has found which kind comes next, or was told, and done what is asked of it before it names that kind
+pub record Opens (k : Config) (decider : Decider) (x y : DomainView) (last kind : Kind) : Type 0 where
   pub follows : Follows last kind
   pub findings : Findings
-  pub chosen : kind ≡ next_kind k last x.seen.share.progress findings
+  pub chosen : kind ≡ next_kind k decider last x.seen.share.progress findings
   pub may : MayFollow y.seen.share last kind
   pub list : kind ≡ Run → HasList k y
   pub set_back : kind ≡ Promote → last_note y.seen.notes ≡ Some SetBack
   pub progress_is : y.seen.share.progress ≡ x.seen.share.progress
   pub view : y ≡ opened_view x y (x.seen.notes ++ noted_before last kind x.seen.share.progress findings)
 
--- domain 0 has named the kind that comes next by what it found, and arrived. The collector's entry stands, if there is one, and what the domain knew of the phase is void
-pub record LeadsOn (k : Config) (x y : DomainView) (last kind : Kind) : Type 0 where
+-- domain 0 has named the kind that comes next by what it found or the caller says, and arrived. The collector's entry stands, if there is one, and what the domain knew of the phase is void
+pub record LeadsOn (k : Config) (decider : Decider) (x y : DomainView) (last kind : Kind) : Type 0 where
   pub follows : Follows last kind
   pub findings : Findings
-  pub chosen : kind ≡ next_kind k last x.seen.share.progress findings
+  pub chosen : kind ≡ next_kind k decider last x.seen.share.progress findings
   pub notes : y.seen.notes ≡ x.seen.notes ++ noted_on last kind x.seen.share.progress findings
   pub seen : IsFrontOf x.own.number y.seen.front x.seen.front
   pub stays : entry_of x.seen.share.progress.unswept last kind ≡ None → y.seen.front ≡ x.seen.front

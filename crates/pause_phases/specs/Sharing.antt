@@ -2,6 +2,7 @@
 use Rattle.std.specs.Prelude.{◌≡◌, ◌≢◌, ◌≤◌, List, ◌++◌}
 use Rattle.heap_model.specs.Fronts.{IsFrontOf}
 use Rattle.heap_model.specs.History.{Legal}
+use Rattle.control_entries.specs.Led.{IsLed}
 use Rattle.heap_rule.specs.declared.config.Config.{Config}
 use Rattle.heap_rule.specs.declared.phase.Kind.{Kind}
 use Rattle.heap_rule.specs.declared.phase.Kind.TheVariants.{Run, Promote, Reset, Roots, Mark, Decide, Clean, Lasts, Sweep, Answer}
@@ -71,11 +72,12 @@ pub record Works (k : Config) (kind : Kind) (x y : DomainView) : Type 0 where
   pub registered : count_of y.own.finalisers ≡ count_of x.own.finalisers
   pub held : (c : Config) → RefersOld c x.own.finalisers → RefersOld c y.own.finalisers
   pub front : IsFrontOf x.own.number y.seen.front x.seen.front
+  pub led : IsLed x.own.number y.seen.front x.seen.front
   pub legal : Legal (sizes_in k) x.seen.front → Legal (sizes_in k) y.seen.front
   pub stays : kind ≢ Clean → kind ≢ Decide → kind ≢ Lasts → y.seen.front ≡ x.seen.front
   pub done : HasDone k y
 
--- The domain did its share and arrived. Only where it sweeps may its next search for a free place begin earlier, and its list of ephemerons get shorter, in which there is room for no fewer. Before the colours are rotated it notes that it has swept nothing, and where it sweeps it sweeps all. Only where registrations are decided may its lists of finalisers change: some go to the end of its queue, and none is lost or new. Only there and where keys are emptied may its front grow, by no entry of its own, and it stays legal
+-- The domain did its share and arrived. Only where it sweeps may its next search for a free place begin earlier, and its list of ephemerons get shorter, in which there is room for no fewer. Before the colours are rotated it notes that it has swept nothing, and where it sweeps it sweeps all. Only where registrations are decided may its lists of finalisers change: some go to the end of its queue, and none is lost or new. Only there and where keys are emptied may its front grow, by no entry of its own and where it leads by none of those that it makes as it leads, and it stays legal
 pub record SharesIn (k : Config) (kind : Kind) (x y : DomainView) : Type 0 where
   pub view : y ≡ arrived_view (with_shared x y)
   pub looked : kind ≢ Sweep → y.own.looked ≡ x.own.looked
@@ -91,5 +93,6 @@ pub record SharesIn (k : Config) (kind : Kind) (x y : DomainView) : Type 0 where
   pub registered : count_of y.own.finalisers ≡ count_of x.own.finalisers
   pub held : (c : Config) → RefersOld c x.own.finalisers → RefersOld c y.own.finalisers
   pub front : IsFrontOf x.own.number y.seen.front x.seen.front
+  pub led : IsLed x.own.number y.seen.front x.seen.front
   pub legal : Legal (sizes_in k) x.seen.front → Legal (sizes_in k) y.seen.front
   pub stays : kind ≢ Clean → kind ≢ Decide → kind ≢ Lasts → y.seen.front ≡ x.seen.front

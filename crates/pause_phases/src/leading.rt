@@ -12,6 +12,7 @@ ghost use Rattle.steps_pools.specs.Listings.{HasList};
 ghost use Rattle.safepoint.specs.Looks.{LedTo};
 ghost use Rattle.pause_phases.specs.Leading.{LeadsOn};
 
+use crate::decider::Decider;
 use crate::opening::open;
 use crate::progress::progress_after;
 use heap_rule::{Domain, Heap, Kind, Progress};
@@ -52,8 +53,18 @@ fn name(heap: &Heap, dom: &mut Domain, next: Kind)
 /// which matters in Reset and Sweep; and whether one goes on beside running domains, which matters in
 /// Reset. Afterwards it says so of the kind that is named.
 ///
+/// `decider` says who decides. By `Wishes` it is asked for what the domains wish. By `Caller` a complete
+/// collection is asked for, or none, as the caller says, and enough pools are free: then the kinds of a
+/// pause follow from that and from how often something is changed. The words are read whoever decides.
+///
 /// The rule of sweeping beside running domains is of "Retrofitting Parallelism onto OCaml", section 3.2.
-pub fn lead_on(heap: &Heap, dom: &mut Domain, last: Kind, progress: &mut Progress) -> Kind
+pub fn lead_on(
+    heap: &Heap,
+    dom: &mut Domain,
+    last: Kind,
+    decider: Decider,
+    progress: &mut Progress,
+) -> Kind
     requires here { IsIn dom.old heap.now }
     requires first { dom.old.view.own.number ≡ 0 }
     requires odd { dom.old.view.seen.stage ≡ Leads last }
@@ -63,10 +74,10 @@ pub fn lead_on(heap: &Heap, dom: &mut Domain, last: Kind, progress: &mut Progres
     requires forgot { dom.old.view.seen.share ≡ voided dom.old.view.seen.share }
     requires knows { progress.old ≡ dom.old.view.seen.share.progress }
     ensures here { IsIn dom.new heap.now }
-    ensures leads { LeadsOn heap.now.config dom.old.view dom.new.view last result }
+    ensures leads { LeadsOn heap.now.config decider dom.old.view dom.new.view last result }
     ensures knows { progress.new ≡ dom.new.view.seen.share.progress }
 {
-    let next = open(heap, dom, last, *progress);
+    let next = open(heap, dom, last, decider, *progress);
     name(heap, dom, next);
     arrive(heap, dom);
     *progress = progress_after(*progress, last, next);

@@ -3,10 +3,12 @@
 //! No call takes a lock or memory.
 #![tactic(auto)]
 
+mod decider;
 mod leading;
 mod opening;
 mod progress;
 mod sharing;
 
+pub use decider::Decider;
 pub use leading::lead_on;
 pub use sharing::{give_back, share};

@@ -8,8 +8,10 @@ ghost use Rattle.steps_marking.specs.Arming.{ArmMay, knowing_armed};
 ghost use Rattle.steps_pools.specs.Listings.{HasList, IsLeader};
 ghost use Rattle.size_pools.specs.Listed.{ListsAnew};
 ghost use Rattle.steps_sweep.specs.Turning.{ClearMay};
-ghost use Rattle.pause_phases.specs.Leading.{CountsCleared, Opens, begins, finishes, kind_after_reset};
+ghost use Rattle.pause_phases.specs.declared.decider.Decider.{Decider};
+ghost use Rattle.pause_phases.specs.Leading.{CountsCleared, Opens, begins, completes, finishes, kind_after_reset};
 
+use crate::decider::Decider;
 use heap_rule::{Config, Domain, Heap, Kind, Progress};
 use heap_words::{pack_colours, rotate};
 use safepoint::{Want, Wants, is_wanted, wants};
@@ -23,26 +25,44 @@ fn after_run(heap: &Heap, dom: &mut Domain) -> Kind
     requires first { dom.old.view.own.number ≡ 0 }
     requires odd { dom.old.view.seen.stage ≡ Leads Run }
     ensures here { IsIn dom.new heap.now }
-    ensures opens { Opens heap.now.config dom.old.view dom.new.view Run result }
+    ensures opens { (who : Decider) → Opens heap.now.config who dom.old.view dom.new.view Run result }
 {
     set_cursor_back(heap, dom);
     Kind::Promote
 }
 
-// Whether a collection of the major heap begins, where so many pools are listed.
-fn begins(limits: &Config, wants: Wants, free: u32) -> bool
-    ensures { result ≡ begins limits.now wants.bits free }
+// Whether a collection of the major heap begins, where so many pools are listed, or the caller says so.
+fn begins(limits: &Config, decider: Decider, wants: Wants, free: u32) -> bool
+    ensures { result ≡ begins limits.now decider wants.bits free }
 {
-    is_wanted(wants, Want::Cycle)
-        || is_wanted(wants, Want::Full)
-        || 2 * u64::from(free) < u64::from(limits.pools)
+    match decider {
+        Decider::Wishes => {
+            is_wanted(wants, Want::Cycle)
+                || is_wanted(wants, Want::Full)
+                || 2 * u64::from(free) < u64::from(limits.pools)
+        }
+        Decider::Caller { complete } => complete,
+    }
 }
 
 // Whether a collection that goes on beside running domains is finished.
-fn finishes(wants: Wants) -> bool
-    ensures { result ≡ finishes wants.bits }
+fn finishes(decider: Decider, wants: Wants) -> bool
+    ensures { result ≡ finishes decider wants.bits }
 {
-    is_wanted(wants, Want::Finish) || is_wanted(wants, Want::Full)
+    match decider {
+        Decider::Wishes => is_wanted(wants, Want::Finish) || is_wanted(wants, Want::Full),
+        Decider::Caller { complete } => complete,
+    }
+}
+
+// Whether a collection of the major heap is a complete one.
+fn completes(decider: Decider, wants: Wants) -> bool
+    ensures { result ≡ completes decider wants.bits }
+{
+    match decider {
+        Decider::Wishes => is_wanted(wants, Want::Full),
+        Decider::Caller { complete } => complete,
+    }
 }
 
 // Before the domains run the armed word says whether a collection of the major heap goes on beside them,
@@ -61,10 +81,20 @@ fn before_run(heap: &Heap, dom: &mut Domain, armed: bool) -> u32
 
 // What comes after the minor collection, where so many pools are listed, by whether a collection of the
 // major heap goes on beside running domains, and whether garbage of the last one may be left.
-fn kind_after_reset(limits: &Config, wants: Wants, free: u32, progress: Progress) -> Kind
-    ensures { result ≡ kind_after_reset limits.now wants.bits free progress }
+fn kind_after_reset(
+    limits: &Config,
+    decider: Decider,
+    wants: Wants,
+    free: u32,
+    progress: Progress,
+) -> Kind
+    ensures { result ≡ kind_after_reset limits.now decider wants.bits free progress }
 {
-    match (progress.armed, finishes(wants), begins(limits, wants, free)) {
+    match (
+        progress.armed,
+        finishes(decider, wants),
+        begins(limits, decider, wants, free),
+    ) {
         (true, true, _) => Kind::Mark,
         (false, _, true) if progress.unswept => Kind::Sweep,
         (false, _, true) => Kind::Roots,
@@ -85,17 +115,17 @@ fn clear_counts(heap: &Heap, dom: &mut Domain)
 
 // The list of free pools is written anew. A collection of the major heap begins or none does; one that
 // goes on is finished or goes on. Before one begins the garbage that is left of the last one is freed.
-fn after_reset(heap: &Heap, dom: &mut Domain, progress: Progress) -> Kind
+fn after_reset(heap: &Heap, dom: &mut Domain, decider: Decider, progress: Progress) -> Kind
     requires here { IsIn dom.old heap.now }
     requires first { dom.old.view.own.number ≡ 0 }
     requires odd { dom.old.view.seen.stage ≡ Leads Reset }
     requires knows { progress ≡ dom.old.view.seen.share.progress }
     ensures here { IsIn dom.new heap.now }
-    ensures opens { Opens heap.now.config dom.old.view dom.new.view Reset result }
+    ensures opens { Opens heap.now.config decider dom.old.view dom.new.view Reset result }
 {
     let free = write_list(heap, dom);
     let found = wants(heap, dom);
-    let next = kind_after_reset(&heap.config(), found, free, progress);
+    let next = kind_after_reset(&heap.config(), decider, found, free, progress);
     match next {
         Kind::Sweep => clear_counts(heap, dom),
         _ => (),
@@ -105,15 +135,15 @@ fn after_reset(heap: &Heap, dom: &mut Domain, progress: Progress) -> Kind
 
 // Where a complete collection is asked for it is finished in this pause, and else it goes on beside
 // running domains.
-fn after_roots(heap: &Heap, dom: &mut Domain) -> Kind
+fn after_roots(heap: &Heap, dom: &mut Domain, decider: Decider) -> Kind
     requires here { IsIn dom.old heap.now }
     requires first { dom.old.view.own.number ≡ 0 }
     requires odd { dom.old.view.seen.stage ≡ Leads Roots }
     ensures here { IsIn dom.new heap.now }
-    ensures opens { Opens heap.now.config dom.old.view dom.new.view Roots result }
+    ensures opens { Opens heap.now.config decider dom.old.view dom.new.view Roots result }
 {
     let found = wants(heap, dom);
-    if is_wanted(found, Want::Full) {
+    if completes(decider, found) {
         Kind::Mark
     } else {
         before_run(heap, dom, true);
@@ -127,7 +157,7 @@ fn after_mark(heap: &Heap, dom: &mut Domain) -> Kind
     requires first { dom.old.view.own.number ≡ 0 }
     requires odd { dom.old.view.seen.stage ≡ Leads Mark }
     ensures here { IsIn dom.new heap.now }
-    ensures opens { Opens heap.now.config dom.old.view dom.new.view Mark result }
+    ensures opens { (who : Decider) → Opens heap.now.config who dom.old.view dom.new.view Mark result }
 {
     if changed_load(heap, dom) == 0 {
         Kind::Rounds
@@ -144,7 +174,7 @@ fn after_rounds(heap: &Heap, dom: &mut Domain, cut: bool) -> Kind
     requires odd { dom.old.view.seen.stage ≡ Leads Rounds }
     requires cut { cut ≡ dom.old.view.seen.share.progress.cut }
     ensures here { IsIn dom.new heap.now }
-    ensures opens { Opens heap.now.config dom.old.view dom.new.view Rounds result }
+    ensures opens { (who : Decider) → Opens heap.now.config who dom.old.view dom.new.view Rounds result }
 {
     if changed_load(heap, dom) != 0 {
         return Kind::Mark;
@@ -154,18 +184,18 @@ fn after_rounds(heap: &Heap, dom: &mut Domain, cut: bool) -> Kind
 
 // What wasn't marked is garbage from here on. Where a complete collection is asked for it is freed in
 // this pause, and nothing that lives is counted yet. Else the domains run, and free it as they do.
-fn after_lasts(heap: &Heap, dom: &mut Domain) -> Kind
+fn after_lasts(heap: &Heap, dom: &mut Domain, decider: Decider) -> Kind
     requires here { IsIn dom.old heap.now }
     requires first { dom.old.view.own.number ≡ 0 }
     requires odd { dom.old.view.seen.stage ≡ Leads Lasts }
     requires forgot { dom.old.view.seen.share ≡ voided dom.old.view.seen.share }
     ensures here { IsIn dom.new heap.now }
-    ensures opens { Opens heap.now.config dom.old.view dom.new.view Lasts result }
+    ensures opens { Opens heap.now.config decider dom.old.view dom.new.view Lasts result }
 {
     let colours = colours_now(heap, dom);
     colours_store(heap, dom, pack_colours(rotate(colours)));
     let found = wants(heap, dom);
-    if is_wanted(found, Want::Full) {
+    if completes(decider, found) {
         clear_counts(heap, dom);
         Kind::Sweep
     } else {
@@ -176,17 +206,17 @@ fn after_lasts(heap: &Heap, dom: &mut Domain) -> Kind
 
 // Once the garbage is freed that was left of the last collection another one begins, or, where none is
 // asked for any more, the domains run.
-fn after_late_sweep(heap: &Heap, dom: &mut Domain) -> Kind
+fn after_late_sweep(heap: &Heap, dom: &mut Domain, decider: Decider) -> Kind
     requires here { IsIn dom.old heap.now }
     requires first { dom.old.view.own.number ≡ 0 }
     requires odd { dom.old.view.seen.stage ≡ Leads Sweep }
     requires unswept { dom.old.view.seen.share.progress.unswept ≡ true }
     ensures here { IsIn dom.new heap.now }
-    ensures opens { Opens heap.now.config dom.old.view dom.new.view Sweep result }
+    ensures opens { Opens heap.now.config decider dom.old.view dom.new.view Sweep result }
 {
     let free = write_list(heap, dom);
     let found = wants(heap, dom);
-    if begins(&heap.config(), found, free) {
+    if begins(&heap.config(), decider, found, free) {
         Kind::Roots
     } else {
         Kind::Run
@@ -195,16 +225,16 @@ fn after_late_sweep(heap: &Heap, dom: &mut Domain) -> Kind
 
 // A collection that began in this pause is answered, and after one that began in an earlier pause
 // another begins.
-fn after_sweep(heap: &Heap, dom: &mut Domain, progress: Progress) -> Kind
+fn after_sweep(heap: &Heap, dom: &mut Domain, decider: Decider, progress: Progress) -> Kind
     requires here { IsIn dom.old heap.now }
     requires first { dom.old.view.own.number ≡ 0 }
     requires odd { dom.old.view.seen.stage ≡ Leads Sweep }
     requires knows { progress ≡ dom.old.view.seen.share.progress }
     ensures here { IsIn dom.new heap.now }
-    ensures opens { Opens heap.now.config dom.old.view dom.new.view Sweep result }
+    ensures opens { Opens heap.now.config decider dom.old.view dom.new.view Sweep result }
 {
     if progress.unswept {
-        after_late_sweep(heap, dom)
+        after_late_sweep(heap, dom, decider)
     } else if progress.whole {
         Kind::Answer
     } else {
@@ -218,34 +248,40 @@ fn after_answer(heap: &Heap, dom: &mut Domain) -> Kind
     requires first { dom.old.view.own.number ≡ 0 }
     requires odd { dom.old.view.seen.stage ≡ Leads Answer }
     ensures here { IsIn dom.new heap.now }
-    ensures opens { Opens heap.now.config dom.old.view dom.new.view Answer result }
+    ensures opens { (who : Decider) → Opens heap.now.config who dom.old.view dom.new.view Answer result }
 {
     before_run(heap, dom, false);
     Kind::Run
 }
 
-// Finds which kind comes next, and does what belongs before it.
-pub(crate) fn open(heap: &Heap, dom: &mut Domain, last: Kind, progress: Progress) -> Kind
+// Finds which kind comes next, or is told, and does what belongs before it.
+pub(crate) fn open(
+    heap: &Heap,
+    dom: &mut Domain,
+    last: Kind,
+    decider: Decider,
+    progress: Progress,
+) -> Kind
     requires here { IsIn dom.old heap.now }
     requires first { dom.old.view.own.number ≡ 0 }
     requires odd { dom.old.view.seen.stage ≡ Leads last }
     requires forgot { dom.old.view.seen.share ≡ voided dom.old.view.seen.share }
     requires knows { progress ≡ dom.old.view.seen.share.progress }
     ensures here { IsIn dom.new heap.now }
-    ensures opens { Opens heap.now.config dom.old.view dom.new.view last result }
+    ensures opens { Opens heap.now.config decider dom.old.view dom.new.view last result }
 {
     match last {
         Kind::Run => after_run(heap, dom),
         Kind::Promote => Kind::Reset,
-        Kind::Reset => after_reset(heap, dom, progress),
-        Kind::Roots => after_roots(heap, dom),
+        Kind::Reset => after_reset(heap, dom, decider, progress),
+        Kind::Roots => after_roots(heap, dom, decider),
         Kind::Mark => after_mark(heap, dom),
         Kind::Rounds => after_rounds(heap, dom, progress.cut),
         Kind::Decide => Kind::Queued,
         Kind::Queued => Kind::Mark,
         Kind::Clean => Kind::Lasts,
-        Kind::Lasts => after_lasts(heap, dom),
-        Kind::Sweep => after_sweep(heap, dom, progress),
+        Kind::Lasts => after_lasts(heap, dom, decider),
+        Kind::Sweep => after_sweep(heap, dom, decider, progress),
         Kind::Answer => after_answer(heap, dom),
     }
 }

@@ -85,8 +85,8 @@ fn work(heap: &Heap, dom: &mut Domain, kind: Kind, hints: &mut Hints)
 /// sweeps, from where it looks for free places, and its list of ephemerons, in which there is room for no
 /// fewer; what it has swept; and, where registrations are decided, its lists of finalisers, of which none
 /// is lost and none comes up. Its front stays but where registrations are decided and where keys are
-/// emptied, and grows there by no entry of its own. In each phase but Roots and Mark it leaves its hints
-/// alone.
+/// emptied, and grows there by no entry of its own; where it is domain 0, by none by which a collection
+/// begins, goes on or ends. In each phase but Roots and Mark it leaves its hints alone.
 pub fn share(heap: &Heap, dom: &mut Domain, kind: Kind, hints: &mut Hints)
     requires here { IsIn dom.old heap.now }
     requires phase { IsShared kind }

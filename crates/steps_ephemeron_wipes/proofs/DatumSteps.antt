@@ -198,6 +198,7 @@ module _ (k : Config) (s : Words) (r : Rule k s) (id : ℕ) (hist : List Entry) 
       before = r.account.log;
       front = ap (λ (q : Label). r.account.log ++ Wipe q w.emptied ∷ []) (e.label may.label may.labelled);
       seen = (mine k s r id hist x at).front;
+      led = (mine k s r id hist x at).led;
       legal = legal_entry k s r id hist x at wipe allowed.0;
       view = refl;
     }

@@ -5,6 +5,7 @@ use Rattle.heap_model.specs.declared.entry.Entry.TheVariants.{Wipe}
 use Rattle.heap_model.specs.declared.label.Label.{Label}
 use Rattle.heap_model.specs.Fronts.{IsFrontOf}
 use Rattle.heap_model.specs.History.{Legal}
+use Rattle.control_entries.specs.Led.{IsLed}
 use Rattle.heap_rule.specs.declared.config.Config.{Config}
 use Rattle.heap_rule.specs.declared.view.Cleaning.{Cleaning}
 use Rattle.heap_rule.specs.declared.view.DomainView.{DomainView}
@@ -55,5 +56,6 @@ pub record WipeDataTold (k : Config) (x : DomainView) (new : ℕ) (y : DomainVie
   pub before : List Entry
   pub front : y.seen.front ≡ before ++ Wipe label cleaning.emptied ∷ []
   pub seen : IsFrontOf x.own.number before x.seen.front
+  pub led : IsLed x.own.number before x.seen.front
   pub legal : Legal (sizes_in k) y.seen.front
   pub view : y ≡ with_front (with_share x (wiped_through cleaning.block x.seen.share)) y.seen.front

@@ -172,7 +172,7 @@ module _ (k : Config) (s : Words) (r : Rule k s) (id : ℕ) (hist : List Entry) 
       }
 
       told : Queues k e (queued_last i rd x.own) x z
-      told = record { before = log; front = refl; seen = (mine k s r id hist x at).front; legal = legal_entry k s r id hist x at e row.0; view = refl }
+      told = record { before = log; front = refl; seen = (mine k s r id hist x at).front; led = (mine k s r id hist x at).led; legal = legal_entry k s r id hist x at e row.0; view = refl }
 
     pub last_looks : (z : DomainView) × Rule k record { words = s.words; homes = s.homes; views = set s.views id (one k hist z) } × LastLookTold k i marked rd x (at_address k s.words a) z
     last_looks = ⊎_elim

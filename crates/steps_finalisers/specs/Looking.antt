@@ -4,6 +4,7 @@ use Rattle.heap_model.specs.declared.entry.Entry.{Entry}
 use Rattle.heap_model.specs.declared.entry.Entry.TheVariants.{Queue, Last}
 use Rattle.heap_model.specs.Fronts.{IsFrontOf}
 use Rattle.heap_model.specs.History.{Legal}
+use Rattle.control_entries.specs.Led.{IsLed}
 use Rattle.heap_words.specs.declared.colours.Colours.{Colours}
 use Rattle.heap_rule.specs.declared.config.Config.{Config}
 use Rattle.heap_rule.specs.declared.phase.Kind.TheVariants.{Decide, Lasts}
@@ -61,6 +62,7 @@ pub record Queues (k : Config) (e : Entry) (own : Own) (x y : DomainView) : Type
   pub before : List Entry
   pub front : y.seen.front ≡ before ++ e ∷ []
   pub seen : IsFrontOf x.own.number before x.seen.front
+  pub led : IsLed x.own.number before x.seen.front
   pub legal : Legal (sizes_in k) y.seen.front
   pub view : y ≡ with_front (with_own x own) y.seen.front
 

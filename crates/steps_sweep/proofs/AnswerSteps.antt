@@ -17,6 +17,7 @@ use Rattle.heap_model.specs.Graph.{Graph}
 use Rattle.heap_model.specs.History.{is_entry_of}
 use Rattle.heap_model.proofs.Commands.FrameLemmas.{inside_running, part_set}
 use Rattle.heap_model.proofs.Histories.FrontLemmas.{answers_push}
+use Rattle.control_entries.proofs.Led.{led_push}
 use Rattle.cycle_laws.proofs.Cycling.{phase_steps}
 use Rattle.heap_words.specs.declared.value.Value.TheVariants.{Nothing}
 use Rattle.heap_rule.specs.declared.config.Config.{Config}
@@ -260,6 +261,7 @@ module _ (k : Config) (s : Words) (r : Rule k s) (id : ℕ) (hist : List Entry) 
         view = refl;
         holds = holds k r.limits live r.whole.placed (state_of k log') x st;
       };
+      led = led_push d r.account.log x.seen.front e refl (mine k s r id hist x at).led;
       due = ap (λ (t : model.State). (domain_at t d).due) after
           ∙ (ap (λ (z : DomainState). z.due) (get_or-set_same now.domains d (record (domain_at now d) { fresh = false; due = length (domain_at now d).queue }) no_domain inside)
           ∙ paired_length (StandsWaiting live) x.own.finalisers.queue.items (domain_at now d).queue good.stood.enrolled.queue);
@@ -279,7 +281,7 @@ live_blocks_may k x stage fits slots id hist s r _ at _ =
       keeps,
       tt,
       unmoved k s 9 (set s.views id (one k hist y)) rule,
-      (record { seen = (mine k s r id hist x at).front; legal = r.whole.legal; answers = (answer_facts k s r id hist x at stage).mode; counts = blocks_reach k s r id hist x at stage; view = refl }, refl),
+      (record { seen = (mine k s r id hist x at).front; led = (mine k s r id hist x at).led; legal = r.whole.legal; answers = (answer_facts k s r id hist x at stage).mode; counts = blocks_reach k s r id hist x at stage; view = refl }, refl),
     )
 
 pub live_blocks_closes : (k : Config) (x : DomainView) (found : ℕ) → Closes k x found (LiveBlocksTold k) CanLeave Leaves

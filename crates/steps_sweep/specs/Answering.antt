@@ -8,6 +8,7 @@ use Rattle.heap_model.specs.declared.state.Mode.TheVariants.{Answer as Answered}
 use Rattle.heap_model.specs.Domains.{domain_at, reach}
 use Rattle.heap_model.specs.Fronts.{IsFrontOf}
 use Rattle.heap_model.specs.History.{Legal}
+use Rattle.control_entries.specs.Led.{IsLed}
 use Rattle.heap_words.specs.declared.value.Value.TheVariants.{Nothing}
 use Rattle.heap_rule.specs.declared.config.Config.{Config}
 use Rattle.heap_rule.specs.declared.phase.Kind.TheVariants.{Answer}
@@ -21,6 +22,7 @@ use Rattle.steps_marking.specs.Looks.{with_share}
 -- the domain's front is the history so far, in which a collection is answered. The word that is found is the number of blocks that are reachable then, and the domain knows it
 pub record LiveBlocksTold (k : Config) (x : DomainView) (found : ℕ) (y : DomainView) : Type 0 where
   pub seen : IsFrontOf x.own.number y.seen.front x.seen.front
+  pub led : IsLed x.own.number y.seen.front x.seen.front
   pub legal : Legal (sizes_in k) y.seen.front
   pub answers : (state_of k y.seen.front).mode ≡ Answered
   pub counts : found ≡ length (reach (state_of k y.seen.front))
@@ -36,4 +38,5 @@ pub record LiveWordsMay (k : Config) (x : DomainView) (blocks : ℕ) : Type 0 wh
 -- its `full_major` is answered with these blocks and the words that are found, and it owes what its queue holds
 pub record LiveWordsTold (k : Config) (blocks : ℕ) (x : DomainView) (found : ℕ) (y : DomainView) : Type 0 where
   pub entered : Entered k (Command x.own.number FullMajor false) (Replied (Live blocks found)) Nothing [] x y
+  pub led : IsLed x.own.number y.seen.front x.seen.front
   pub due : (domain_at (state_of k y.seen.front) y.own.number).due ≡ length y.own.finalisers.queue.items

@@ -1,6 +1,5 @@
 use Rattle.std.proofs.Common.{inl, ap, subst}
 use Rattle.heap_rule.specs.declared.phase.Kind.{Kind}
-use Rattle.heap_rule.specs.declared.phase.Kind.TheVariants.{Answer}
 use Rattle.heap_rule.specs.Phases.{Comes}
 use Rattle.steps_pauses.specs.Pauses.{kind_in}
 use Rattle.safepoint.specs.Looks.{LookAnswers}
@@ -24,7 +23,7 @@ leave_even-requires-clause-ready c = let a = c.in-Next.ensures.answer in ready_n
 pub returns-in-Next-Answer-clause-answer : goal.returns-in-Next-Answer-clause-answer
 returns-in-Next-Answer-clause-answer c =
     let a = subst (λ (kind : Kind). LookAnswers c.args.heap.now.config c.args.dom.now.view c.look.new.dom.view (Next kind)) c.in-Next-Answer.field-0-is c.in-Next-Answer.ensures.answer in
-    answers_pass _ _ _ _ c.args.last c.args.live c.answer-blocks.result.0 c.answer-blocks.result.1 (comes_to _ c.args.last _ _ c.requires.inside c.requires.left a.0 a.1 a.2 (subst (λ (l : Kind). Comes c.args.dom.now.view.own.number l Answer) (ap kind_in c.requires.gone) a.3) a.4) c.answer-blocks.ensures.answers
+    answers_pass c.args.decider _ _ _ _ c.args.last c.args.live c.answer-blocks.result.0 c.answer-blocks.result.1 (comes_to _ c.args.last _ _ c.requires.inside c.requires.left a.0 a.1 a.2 (ap kind_in c.requires.gone) a.3 a.4) c.answer-blocks.ensures.answers
 
 pub returns-in-Next-clause-hints : goal.returns-in-Next-clause-hints
 returns-in-Next-clause-hints c = inl (c.in-Next.ensures.answer.2, c.leave_even.ensures.hints)

@@ -16,7 +16,7 @@ pub push_reserved-requires : goal.push_reserved-requires
 push_reserved-requires c =
     let r : RunView = record { token = c.run.inside.domain; commands = c.run.inside.commands.items; next = c.run.inside.next; replies = c.run.inside.replies.items; ended = c.run.inside.ended; left = c.run.inside.left; asked = c.run.inside.asked; collected = c.run.inside.collected; progress = c.run.inside.progress; due = c.run.inside.due; hints = c.run.inside.hints; supply = c.run.inside.supply } in
     let here : IsIn r.token c.args.heap.now = subst (λ (x : RunView). IsIn x.token c.args.heap.now) (sym c.run.view_is) c.requires.here in
-    let says = subst (λ (p : LookOutcome). PassAnswers c.args.heap.now.config r.token.view c.pass-past.new.dom.view c.args.last c.waits_for_answer-live.result p) (c.in-Answered.is ∙ ap (Answered c.in-Answered.blocks) c.in-Some.is) c.pass-past.ensures.answer in
+    let says = subst (λ (p : LookOutcome). PassAnswers c.args.heap.now.config c.args.decider r.token.view c.pass-past.new.dom.view c.args.last c.waits_for_answer-live.result p) (c.in-Answered.is ∙ ap (Answered c.in-Answered.blocks) c.in-Some.is) c.pass-past.ensures.answer in
     let at : slice_get r.commands r.next ≡ Some FullMajor = subst (λ (x : RunView). slice_get x.commands x.next ≡ Some FullMajor) (sym c.run.view_is) (c.waits_for_answer-live.ensures.yes says.0).next in
     let few : length r.replies < length r.commands + length r.commands = next_replies r c.run.invariant.0 FullMajor at in
     let room : length r.commands + length r.commands ≤ vec_capacity c.run.inside.replies = c.run.invariant.1.answers in
@@ -27,14 +27,14 @@ invariant_of-run-in-Waits c =
     let r : RunView = record { token = c.run.inside.domain; commands = c.run.inside.commands.items; next = c.run.inside.next; replies = c.run.inside.replies.items; ended = c.run.inside.ended; left = c.run.inside.left; asked = c.run.inside.asked; collected = c.run.inside.collected; progress = c.run.inside.progress; due = c.run.inside.due; hints = c.run.inside.hints; supply = c.run.inside.supply } in
     let here : IsIn r.token c.args.heap.now = subst (λ (x : RunView). IsIn x.token c.args.heap.now) (sym c.run.view_is) c.requires.here in
     let left : r.left ≡ Some c.args.last = subst (λ (x : RunView). x.left ≡ Some c.args.last) (sym c.run.view_is) c.requires.left in
-    let says : (p : LookOutcome) → c.pass-past.result ≡ p → PassAnswers c.args.heap.now.config r.token.view c.pass-past.new.dom.view c.args.last c.waits_for_answer-live.result p =
-    λ p is. subst (λ (q : LookOutcome). PassAnswers c.args.heap.now.config r.token.view c.pass-past.new.dom.view c.args.last c.waits_for_answer-live.result q) is c.pass-past.ensures.answer in
+    let says : (p : LookOutcome) → c.pass-past.result ≡ p → PassAnswers c.args.heap.now.config c.args.decider r.token.view c.pass-past.new.dom.view c.args.last c.waits_for_answer-live.result p =
+    λ p is. subst (λ (q : LookOutcome). PassAnswers c.args.heap.now.config c.args.decider r.token.view c.pass-past.new.dom.view c.args.last c.waits_for_answer-live.result q) is c.pass-past.ensures.answer in
     let after : (p : LookOutcome) → c.pass-past.result ≡ p → IsRun (record r { token = c.pass-past.new.dom; left = left_after p c.args.last; progress = c.pass-past.new.progress; hints = c.pass-past.new.hints }) → IsRun (record r { token = c.pass-past.new.dom; left = c.left_after-run-inside.result; progress = c.pass-past.new.progress; hints = c.pass-past.new.hints }) =
     λ p is run. subst (λ (l : Option Kind). IsRun (record r { token = c.pass-past.new.dom; left = l; progress = c.pass-past.new.progress; hints = c.pass-past.new.hints })) (sym (c.left_after-run-inside.ensures ∙ ap (λ (q : LookOutcome). left_after q c.args.last) is)) run in (
       ⊎_elim
           (λ (w : (b : ℕ) × (c.pass-past.result ≡ Waits b)). after (Waits w.0) w.1 (waits_is_run c.args.heap.now r c.pass-past.new.dom c.args.last w.0 c.pass-past.new.progress c.pass-past.new.hints c.pass-past.ensures.deck c.run.invariant.0 left here c.pass-past.ensures.here (says (Waits w.0) w.1).1 c.pass-past.ensures.knows))
           (⊎_elim
-          (λ (w : (kind : Kind) × (c.pass-past.result ≡ Arrived kind)). after (Arrived w.0) w.1 (arrived_is_run c.args.heap.now r c.pass-past.new.dom c.args.last w.0 c.pass-past.new.progress c.pass-past.new.hints c.pass-past.ensures.deck c.run.invariant.0 left here c.pass-past.ensures.here (says (Arrived w.0) w.1) c.pass-past.ensures.knows))
+          (λ (w : (kind : Kind) × (c.pass-past.result ≡ Arrived kind)). after (Arrived w.0) w.1 (arrived_is_run c.args.decider c.args.heap.now r c.pass-past.new.dom c.args.last w.0 c.pass-past.new.progress c.pass-past.new.hints c.pass-past.ensures.deck c.run.invariant.0 left here c.pass-past.ensures.here (says (Arrived w.0) w.1) c.pass-past.ensures.knows))
           (λ (is : c.pass-past.result ≡ Runs). let t = says Runs is in after Runs is (runs_is_run c.args.heap.now r c.pass-past.new.dom c.pass-past.new.progress c.pass-past.new.hints c.pass-past.ensures.deck c.run.invariant.0 here c.pass-past.ensures.here t.0 t.1 t.2 t.3 c.pass-past.ensures.knows)))
           c.in-Waits.is,
       c.run.invariant.1,
@@ -46,7 +46,7 @@ invariant_of-run-in_default c =
     let here : IsIn r.token c.args.heap.now = subst (λ (x : RunView). IsIn x.token c.args.heap.now) (sym c.run.view_is) c.requires.here in
     let left : r.left ≡ Some c.args.last = subst (λ (x : RunView). x.left ≡ Some c.args.last) (sym c.run.view_is) c.requires.left in
     let none : c.in-Answered.reply ≡ None = c.in_default.is in
-    let says = subst (λ (p : LookOutcome). PassAnswers c.args.heap.now.config r.token.view c.pass-past.new.dom.view c.args.last c.waits_for_answer-live.result p) (c.in-Answered.is ∙ ap (Answered c.in-Answered.blocks) none) c.pass-past.ensures.answer in
+    let says = subst (λ (p : LookOutcome). PassAnswers c.args.heap.now.config c.args.decider r.token.view c.pass-past.new.dom.view c.args.last c.waits_for_answer-live.result p) (c.in-Answered.is ∙ ap (Answered c.in-Answered.blocks) none) c.pass-past.ensures.answer in
     let is = gives_is_run c.args.heap.now r c.pass-past.new.dom c.lets_refuse-run-inside.result c.pass-past.new.progress c.pass-past.new.hints c.pass-past.ensures.deck c.run.invariant.0 here c.pass-past.ensures.here says.1 c.pass-past.ensures.knows in
     let gone = c.left_after-run-inside.ensures ∙ ap (λ (p : LookOutcome). left_after p c.args.last) c.in-Answered.is in (
       subst (λ (l : Option Kind). IsRun (record r { token = c.pass-past.new.dom; left = l; collected = c.lets_refuse-run-inside.result; progress = c.pass-past.new.progress; hints = c.pass-past.new.hints })) (sym gone) is,
@@ -58,7 +58,7 @@ invariant_of-run c =
     let r : RunView = record { token = c.run.inside.domain; commands = c.run.inside.commands.items; next = c.run.inside.next; replies = c.run.inside.replies.items; ended = c.run.inside.ended; left = c.run.inside.left; asked = c.run.inside.asked; collected = c.run.inside.collected; progress = c.run.inside.progress; due = c.run.inside.due; hints = c.run.inside.hints; supply = c.run.inside.supply } in
     let here : IsIn r.token c.args.heap.now = subst (λ (x : RunView). IsIn x.token c.args.heap.now) (sym c.run.view_is) c.requires.here in
     let left : r.left ≡ Some c.args.last = subst (λ (x : RunView). x.left ≡ Some c.args.last) (sym c.run.view_is) c.requires.left in
-    let says = subst (λ (p : LookOutcome). PassAnswers c.args.heap.now.config r.token.view c.pass-past.new.dom.view c.args.last c.waits_for_answer-live.result p) (c.in-Answered.is ∙ ap (Answered c.in-Answered.blocks) c.in-Some.is) c.pass-past.ensures.answer in
+    let says = subst (λ (p : LookOutcome). PassAnswers c.args.heap.now.config c.args.decider r.token.view c.pass-past.new.dom.view c.args.last c.waits_for_answer-live.result p) (c.in-Answered.is ∙ ap (Answered c.in-Answered.blocks) c.in-Some.is) c.pass-past.ensures.answer in
     let at : slice_get r.commands r.next ≡ Some FullMajor = subst (λ (x : RunView). slice_get x.commands x.next ≡ Some FullMajor) (sym c.run.view_is) (c.waits_for_answer-live.ensures.yes says.0).next in
     let is = answered_is_run c.args.heap.now r c.pass-past.new.dom c.in-Some.reply c.pass-past.new.progress c.pass-past.new.hints c.pass-past.ensures.deck c.run.invariant.0 (next_running r c.run.invariant.0 FullMajor at) at here c.pass-past.ensures.here says.1 c.pass-past.ensures.knows in
     let gone = c.left_after-run-inside.ensures ∙ ap (λ (p : LookOutcome). left_after p c.args.last) c.in-Answered.is in

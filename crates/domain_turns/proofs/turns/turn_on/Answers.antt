@@ -1,3 +1,4 @@
+use Rattle.pause_phases.specs.declared.decider.Decider.TheVariants.{Wishes}
 use Rattle.domain_turns.proofs.GoingLemmas.{run_goes, resumed_goes, past_goes}
 use Rattle.domain_turns.proofs.turns.turn_on.Goals as goal
 
@@ -8,4 +9,4 @@ pub returns-in-Runs-clause-goes_on : goal.returns-in-Runs-clause-goes_on
 returns-in-Runs-clause-goes_on c = resumed_goes c.args.heap.now c.args.run.now c.pass_by.new.run c.turn_running-in-Runs.new.run c.turn_running-in-Runs.result c.in-Runs.ensures.answer c.turn_running-in-Runs.ensures.answer
 
 pub returns-in-Arrived-clause-goes_on : goal.returns-in-Arrived-clause-goes_on
-returns-in-Arrived-clause-goes_on c = past_goes c.args.heap.now c.args.run.now c.pass_by.new.run c.pass_by.result c.pass_by.ensures.answer
+returns-in-Arrived-clause-goes_on c = past_goes Wishes c.args.heap.now c.args.run.now c.pass_by.new.run c.pass_by.result c.pass_by.ensures.answer

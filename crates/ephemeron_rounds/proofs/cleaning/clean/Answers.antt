@@ -10,6 +10,7 @@ pub returns-clause-cleaned : goal.returns-clause-cleaned
 returns-clause-cleaned c =
     let many : length c.colours_now-colours.new.dom.view.own.ephemerons.items ≡ length c.args.dom.now.view.own.ephemerons.items = ap (λ (u : DomainView). length u.own.ephemerons.items) c.colours_now-colours.ensures.knows in record {
       seen = c.loop-i.invariant.seen;
+      led = c.loop-i.invariant.led;
       view = c.loop-i.invariant.view;
       all = sees_listed c.args.dom.now.view c.loop-i.dom.view (ap (λ (u : DomainView). u.own.ephemerons.items) c.loop-i.invariant.view) (λ j less a got. c.loop-i.invariant.below j (omega arith) a got);
     }

@@ -1,5 +1,6 @@
 use Rattle.std.proofs.Common.{◌≡◌, Some}
 use Rattle.heap_model.specs.Fronts.{IsFrontOf}
+use Rattle.control_entries.specs.Led.{IsLed}
 use Rattle.heap_rule.specs.Token.{IsIn}
 use Rattle.ephemeron_rounds.specs.Emptied.{StaysLegal, with_places}
 use Rattle.ephemeron_rounds.proofs.Passes.{SeesBelow}
@@ -10,6 +11,7 @@ invariant-loop-i l = record {
   here : IsIn l.dom l.heap;
   known : l.dom.view.seen.share.colours ≡ Some l.colours;
   seen : IsFrontOf l.fn.dom.view.own.number l.dom.view.seen.front l.fn.dom.view.seen.front;
+  led : IsLed l.fn.dom.view.own.number l.dom.view.seen.front l.fn.dom.view.seen.front;
   legal : StaysLegal l.heap.config l.fn.dom.view l.dom.view;
   view : l.dom.view ≡ with_places l.fn.dom.view l.dom.view;
   below : SeesBelow l.i l.fn.dom.view l.dom.view;

@@ -4,9 +4,9 @@ use Rattle.pause_phases.proofs.Opens.{leads_list, answer_runs}
 use Rattle.pause_phases.proofs.opening.after_answer.Goals as goal
 
 pub before_run-requires-clause-leader : goal.before_run-requires-clause-leader
-before_run-requires-clause-leader c = leads_list c.args.heap.now.config c.args.dom.now.view c.args.dom.now.view Answer c.requires.first c.requires.odd ((λ e. cc), λ e. cc)
+before_run-requires-clause-leader c = leads_list c.args.dom.now.view Answer c.requires.first c.requires.odd ((λ e. cc), λ e. cc)
 
 pub returns-clause-opens : goal.returns-clause-opens
-returns-clause-opens c =
+returns-clause-opens c who =
     let x = c.args.dom.now.view in
-    answer_runs c.args.heap.now.config x x c.before_run.new.dom.view false c.before_run.result c.before_run.ensures.lists c.before_run.ensures.list refl refl
+    answer_runs c.args.heap.now.config who x x c.before_run.new.dom.view false c.before_run.result c.before_run.ensures.lists c.before_run.ensures.list refl refl

@@ -5,18 +5,18 @@ use Rattle.pause_phases.proofs.Opens.{leads_list, reset_opens, reset_frees}
 use Rattle.pause_phases.proofs.opening.after_reset.Goals as goal
 
 pub write_list-free-requires-clause-leader : goal.write_list-free-requires-clause-leader
-write_list-free-requires-clause-leader c = leads_list c.args.heap.now.config c.args.dom.now.view c.args.dom.now.view Reset c.requires.first c.requires.odd ((λ e. cc), λ e. cc)
+write_list-free-requires-clause-leader c = leads_list c.args.dom.now.view Reset c.requires.first c.requires.odd ((λ e. cc), λ e. cc)
 
 pub returns-in-Sweep-clause-opens : goal.returns-in-Sweep-clause-opens
 returns-in-Sweep-clause-opens c =
-    reset_frees c.args.heap.now.config c.args.dom.now.view c.write_list-free.new.dom.view c.wants-found.new.dom.view c.wants-found.result.bits c.write_list-free.result
+    reset_frees c.args.heap.now.config c.args.decider c.args.dom.now.view c.write_list-free.new.dom.view c.wants-found.new.dom.view c.wants-found.result.bits c.write_list-free.result
     c.write_list-free.ensures.lists c.write_list-free.ensures.list c.wants-found.ensures.view c.clear_counts.new.dom.view c.kind_after_reset-next.result c.clear_counts.ensures.cleared
-    (c.kind_after_reset-next.ensures ∙ λ i. kind_after_reset (c.config.ensures.value i) c.wants-found.result.bits c.write_list-free.result (c.requires.knows i))
+    (c.kind_after_reset-next.ensures ∙ λ i. kind_after_reset (c.config.ensures.value i) c.args.decider c.wants-found.result.bits c.write_list-free.result (c.requires.knows i))
 
 pub returns-in_default : goal.returns-in_default
 returns-in_default c = record {
   here = c.wants-found.ensures.here;
-  opens = reset_opens c.args.heap.now.config c.args.dom.now.view c.write_list-free.new.dom.view c.wants-found.new.dom.view c.wants-found.result.bits c.write_list-free.result
+  opens = reset_opens c.args.heap.now.config c.args.decider c.args.dom.now.view c.write_list-free.new.dom.view c.wants-found.new.dom.view c.wants-found.result.bits c.write_list-free.result
       c.write_list-free.ensures.lists c.write_list-free.ensures.list c.wants-found.ensures.view c.kind_after_reset-next.result
-      (c.kind_after_reset-next.ensures ∙ λ i. kind_after_reset (c.config.ensures.value i) c.wants-found.result.bits c.write_list-free.result (c.requires.knows i)) c.in_default.not-Sweep;
+      (c.kind_after_reset-next.ensures ∙ λ i. kind_after_reset (c.config.ensures.value i) c.args.decider c.wants-found.result.bits c.write_list-free.result (c.requires.knows i)) c.in_default.not-Sweep;
 }

@@ -7,11 +7,11 @@ use Rattle.pause_phases.proofs.opening.after_roots.Goals as goal
 pub before_run-requires-clause-leader : goal.before_run-requires-clause-leader
 before_run-requires-clause-leader c =
     let told = c.wants-found.ensures.view in
-    leads_list c.args.heap.now.config c.args.dom.now.view c.wants-found.new.dom.view Roots (ap (λ (x : DomainView). x.own.number) told ∙ c.requires.first) (ap (λ (x : DomainView). x.seen.stage) told ∙ c.requires.odd) ((λ e. cc), λ e. cc)
+    leads_list c.wants-found.new.dom.view Roots (ap (λ (x : DomainView). x.own.number) told ∙ c.requires.first) (ap (λ (x : DomainView). x.seen.stage) told ∙ c.requires.odd) ((λ e. cc), λ e. cc)
 
-pub returns-then-is_wanted-clause-opens : goal.returns-then-is_wanted-clause-opens
-returns-then-is_wanted-clause-opens c = roots_end c.args.heap.now.config c.args.dom.now.view c.wants-found.new.dom.view c.wants-found.result.bits c.wants-found.ensures.view (sym c.is_wanted.ensures ∙ c.if-is_wanted.true)
+pub returns-then-completes-clause-opens : goal.returns-then-completes-clause-opens
+returns-then-completes-clause-opens c = roots_end c.args.heap.now.config c.args.decider c.args.dom.now.view c.wants-found.new.dom.view c.wants-found.result.bits c.wants-found.ensures.view (sym c.completes.ensures ∙ c.if-completes.true)
 
-pub returns-else-is_wanted-clause-opens : goal.returns-else-is_wanted-clause-opens
-returns-else-is_wanted-clause-opens c =
-    roots_run c.args.heap.now.config c.args.dom.now.view c.wants-found.new.dom.view c.before_run.new.dom.view true c.before_run.result c.before_run.ensures.lists c.before_run.ensures.list c.wants-found.result.bits c.wants-found.ensures.view (sym c.is_wanted.ensures ∙ c.if-is_wanted.false) refl
+pub returns-else-completes-clause-opens : goal.returns-else-completes-clause-opens
+returns-else-completes-clause-opens c =
+    roots_run c.args.heap.now.config c.args.decider c.args.dom.now.view c.wants-found.new.dom.view c.before_run.new.dom.view true c.before_run.result c.before_run.ensures.lists c.before_run.ensures.list c.wants-found.result.bits c.wants-found.ensures.view (sym c.completes.ensures ∙ c.if-completes.false) refl

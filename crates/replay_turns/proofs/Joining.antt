@@ -1,0 +1,374 @@
+-- The runs of a heap after the calls on one of them.
+use Rattle.std.proofs.Common.{true≢false, ◌≡◌, ◌≢◌, ◌∙◌, ◌<◌, ◌+◌, ◌*◌, ◌%◌, ◌==◌, ◌++◌, inl, inr, if◌then◌else◌, ℕ, zero, suc, Bool, true, false, List, [], ◌∷◌, Option, Some, None, length, length-set, map, arith, refl, sym, ap, subst}
+use Rattle.std.specs.Prelude.{slice_get, slice_set}
+use Rattle.std.proofs.lemmas.List.{length-map}
+use mathlib.Core.Logic.{dite}
+use native.Mathlib.Decide.{ℕ_discrete}
+use Rattle.heap_model.specs.declared.entry.Entry.{Entry}
+use Rattle.heap_rule.specs.declared.config.Config.{Config}
+use Rattle.heap_rule.specs.declared.phase.Kind.{Kind}
+use Rattle.heap_rule.specs.declared.phase.Kind.TheVariants.{Run}
+use Rattle.heap_rule.specs.declared.phase.Stage.TheVariants.{In}
+use Rattle.heap_rule.specs.Limits.{sizes_in}
+use Rattle.heap_rule.specs.Phases.{IsEven}
+use Rattle.heap_rule.specs.Token.{SharedHeap, IsIn}
+use Rattle.domain_turns.specs.Runs.{RunView, IsRun, StandsAt, run_seeing}
+use Rattle.schedule_drive.specs.Together.{AllRuns, OneRun, Lead, Rests, Leads, Controls, Grows, Has, AllHave, LeadStep, Passed, SharesOn, Turned, Unqueued, all_halted, halted}
+use Rattle.replay_turns.specs.Walk.{IsWalk}
+use Rattle.replay_turns.specs.Gathered.{GatheredView, HasRun, IsGathered, IsHeld, MayShare, PassedBy, Steps, Walk, is_even, is_running, lead_by, lead_in, lead_of, one_run, run_at, seen_in}
+use Rattle.replay_turns.specs.Leveled.{AllHere, Leveled, SawMore, Under}
+use Rattle.replay_turns.specs.Moves.{Becomes, HaltsUpto, PassesAt, StepsAt, forgetting, halted_run}
+use Rattle.schedule_drive.specs.declared.together.Stepped.{Stepped}
+use Rattle.heap_model.specs.Domains.{domain_at, opening}
+use Rattle.heap_rule.specs.declared.phase.Progress.{Progress}
+use Rattle.heap_rule.specs.Rule.{state_of}
+use Rattle.steps_queue_looks.proofs.Queues.{queue_of_front}
+use Rattle.replay_turns.proofs.CalmLemmas.{KeepsRun, calm_keeps}
+use Rattle.replay_turns.proofs.LevelLemmas.{level_here}
+use Rattle.replay_turns.proofs.PassLemmas.{passed}
+use Rattle.replay_turns.proofs.Places.{get_map, set_else, set_here, set_map}
+use Rattle.replay_turns.proofs.Sharing.{halted_shares, leveled_shares, shares_on}
+use Rattle.replay_turns.proofs.SlotLemmas.{inside, one_there}
+use Rattle.replay_turns.proofs.TurnLemmas.{TurnedBy}
+use Rattle.replay_turns.proofs.Walk.{walk_begins}
+
+-- lists that are the same at each place
+pub same_lists : {A : Type 0} (xs ys : List A) → length ys ≡ length xs → ((i : ℕ) (y : A) → slice_get ys i ≡ Some y → slice_get xs i ≡ Some y) → ys ≡ xs
+same_lists [] [] count at = refl
+same_lists [] (y ∷ ys) count at = absurd (omega (arith, count))
+same_lists (x ∷ xs) [] count at = absurd (omega (arith, count))
+same_lists (x ∷ xs) (y ∷ ys) count at =
+    let here : x ≡ y = let e : ◌≡◌ {A = Option _} (Some x) (Some y) = at 0 y refl in cc in
+    let rest : ys ≡ xs = same_lists xs ys (omega (arith, count)) (λ i z is. at (suc i) z is) in
+    λ i. sym here i ∷ rest i
+
+-- how far the first has led
+pub lead_at : (complete : Bool) (runs : List (Option RunView)) (r : RunView) → HasRun runs 0 r → lead_by complete runs ≡ lead_of complete r
+lead_at complete [] r is = cc
+lead_at complete (o ∷ os) r is = let here : o ≡ Some r = cc in ap (λ (p : Option RunView). lead_by complete (p ∷ os)) here
+
+-- each is of the heap
+pub all_here : (g : GatheredView) → IsGathered g → AllHere g.heap g.runs
+all_here g all = record { filled = all.filled; here = λ d r is. (all.held d r is).here; are = λ d r is. (all.held d r is).is }
+
+-- what is seen of the places
+pub map_filled : (runs : List (Option RunView)) (d : ℕ) (x : OneRun) → ((e : ℕ) → e < length runs → (r : RunView) × HasRun runs e r) → slice_get (map run_at runs) d ≡ Some x → (r : RunView) × HasRun runs d r × (x ≡ one_run r)
+map_filled runs d x filled at =
+    let within : d < length runs = subst (λ (n : ℕ). d < n) (length-map runs run_at) (inside (map run_at runs) d x at) in
+    let f = filled d within in
+    (f.0, f.1, let same : ◌≡◌ {A = Option OneRun} (Some x) (Some (one_run f.0)) = sym at ∙ get_map run_at runs d (Some f.0) f.1 in cc)
+
+-- whether the domain of a run has arrived
+pub gone_run : (g : GatheredView) (at : ℕ) → Has (λ x. x.runs) false (seen_in g) at → (r : RunView) → HasRun g.runs at r → r.left ≡ None → ⊥
+gone_run g at gone r is none = true≢false (sym (ap is_running none) ∙ gone (one_run r) (get_map run_at g.runs at (Some r) is))
+
+pub runs_run : (g : GatheredView) → AllHave (λ x. x.runs) true (seen_in g) → (d : ℕ) (r : RunView) → HasRun g.runs d r → r.left ≡ None
+runs_run g all d r is = by r.left (all d (one_run r) (get_map run_at g.runs d (Some r) is))
+  where
+    by : (o : Option Kind) → is_running o ≡ true → o ≡ None
+    by None e = refl
+    by (Some kind) e = absurd (true≢false (sym e))
+
+-- and where they have met
+pub runs_met : (g : GatheredView) (mid : List (Option RunView)) (at : ℕ) → Leveled g.heap.config g.runs mid at (length g.runs) → AllHave (λ x. x.runs) true (seen_in g) → (d : ℕ) (r : RunView) → HasRun mid d r → r.left ≡ None
+runs_met g mid at l all d r is = let m = l.more d r is in ap (λ (x : RunView). x.left) m.2.is ∙ runs_run g all d m.0 m.1
+
+-- domains that have met
+module _ (g : GatheredView) (all : IsGathered g) (mid : List (Option RunView)) (at upto : ℕ) (l : Leveled g.heap.config g.runs mid at upto) where
+  abbrev pub met : GatheredView
+  met = record g { runs = mid }
+
+  pub met_count : length mid ≡ g.heap.config.domains
+  met_count = l.count ∙ all.count
+
+  pub met_held : (d : ℕ) (r : RunView) → HasRun mid d r → IsHeld met d r
+  met_held d r is =
+      let m = l.more d r is in
+      let held = all.held d m.0 m.1 in
+      let q : RunView = run_seeing m.0 m.2.history in record {
+        is = l.are d r is;
+        here = subst (λ (s : RunView). IsIn s.token g.heap) (sym m.2.is) held.here;
+        number = ap (λ (s : RunView). s.token.view.own.number) m.2.is ∙ held.number;
+        listed = ap (λ (s : RunView). s.supply) m.2.is ∙ held.listed;
+        collected = ap (λ (s : RunView). s.collected) m.2.is ∙ held.collected;
+        walk = λ first. subst (Walk g.complete) (sym m.2.is) (let w = held.walk first in record { armed = w.armed; unswept = w.unswept; on = w.on });
+      }
+
+  pub met_all : IsGathered met
+  met_all = record {
+    count = met_count;
+    filled = λ d below. l.stay d (subst (λ (n : ℕ). d < n) l.count below);
+    held = met_held;
+  }
+
+  pub met_seen : map run_at mid ≡ map run_at g.runs
+  met_seen = same_lists (map run_at g.runs) (map run_at mid) (length-map mid run_at ∙ (l.count ∙ sym (length-map g.runs run_at)))
+      (λ d x is.
+      let f = map_filled mid d x met_all.filled is in
+      let m = l.more d f.0 f.1 in
+      get_map run_at g.runs d (Some m.0) m.1 ∙ ap Some (sym (f.2 ∙ ap one_run m.2.is)))
+
+  pub met_lead : lead_by g.complete mid ≡ lead_by g.complete g.runs
+  met_lead = dite (ℕ_discrete (length mid) 0) none some
+    where
+      none : length mid ≡ 0 → lead_by g.complete mid ≡ lead_by g.complete g.runs
+      none e = empty mid g.runs e (sym l.count ∙ e)
+        where
+          empty : (xs ys : List (Option RunView)) → length xs ≡ 0 → length ys ≡ 0 → lead_by g.complete xs ≡ lead_by g.complete ys
+          empty [] [] a b = refl
+          empty (x ∷ xs) ys a b = absurd (omega (arith, a))
+          empty [] (y ∷ ys) a b = absurd (omega (arith, b))
+
+      some : length mid ≢ 0 → lead_by g.complete mid ≡ lead_by g.complete g.runs
+      some filled =
+          let f = met_all.filled 0 (let n : ℕ = length mid in omega (arith, filled)) in
+          let m = l.more 0 f.0 f.1 in
+          lead_at g.complete mid f.0 f.1 ∙ (ap (lead_of g.complete) m.2.is ∙ sym (lead_at g.complete g.runs m.0 m.1))
+
+  pub met_shares : (h : List Entry) → MayShare met h → MayShare g h
+  met_shares h ms = leveled_shares g g.heap.config mid at upto l h ms
+
+  -- and then one of them went on
+  module _ (r s : RunView) (new : List (Option RunView)) (b : Becomes g.heap mid new at r s) (held : IsHeld met at s) (upto_is : upto ≡ length g.runs) where
+    abbrev pub after : GatheredView
+    after = record g { runs = new }
+
+    pub within : at < length mid
+    within = inside mid at (Some r) b.was
+
+    pub there : HasRun new at s
+    there = ap (λ (rs : List (Option RunView)). slice_get rs at) b.runs ∙ set_here mid at (Some s) within
+
+    pub others : (d : ℕ) → d ≢ at → slice_get new d ≡ slice_get mid d
+    others d away = ap (λ (rs : List (Option RunView)). slice_get rs d) b.runs ∙ set_else mid at d (Some s) away
+
+    pub after_all : IsGathered after
+    after_all = record {
+      count = ap length b.runs ∙ (length-set mid at (Some s) ∙ met_count);
+      filled = λ d below. dite (ℕ_discrete d at)
+          (λ e. (s, subst (λ (n : ℕ). HasRun new n s) (sym e) there))
+          (λ no. let f = met_all.filled d (subst (λ (n : ℕ). d < n) (ap length b.runs ∙ length-set mid at (Some s)) below) in (f.0, others d no ∙ f.1));
+      held = λ d q is. dite (ℕ_discrete d at)
+          (λ e.
+          let same : s ≡ q = one_there new at s q there (subst (λ (n : ℕ). HasRun new n q) e is) in
+          subst (λ (n : ℕ). IsHeld after n q) (sym e) (subst (IsHeld after at) same (as_after at s held)))
+          (λ no. as_after d q (met_held d q (sym (others d no) ∙ is)));
+    }
+      where
+        as_after : (d : ℕ) (q : RunView) → IsHeld met d q → IsHeld after d q
+        as_after d q i = record { is = i.is; here = i.here; number = i.number; listed = i.listed; collected = i.collected; walk = i.walk }
+
+    pub after_runs : map run_at new ≡ slice_set (map run_at g.runs) at (one_run s)
+    after_runs = ap (map run_at) b.runs ∙ (set_map run_at mid at (Some s) ∙ ap (λ (xs : List OneRun). slice_set xs at (one_run s)) met_seen)
+
+    pub was_seen : slice_get (map run_at g.runs) at ≡ Some (one_run r)
+    was_seen = ap (λ (xs : List OneRun). slice_get xs at) (sym met_seen) ∙ get_map run_at mid at (Some r) b.was
+
+    pub after_shares : (own : List Entry) → Steps at r.token.view.seen.front s.token.view.seen.front own → SharesOn (MayShare g) (MayShare after) own
+    after_shares own st h ms =
+        let both = shares_on g mid at r s own g.complete b.was met_count met_all.filled (λ d q is. (met_held d q is).number) held.number
+            (λ d q is. (l.above d q r (subst (λ (n : ℕ). d < n) (l.count ∙ sym upto_is) (inside mid d (Some q) is)) is b.was).part) st h
+            (subst (λ (rs : List (Option RunView)). MayShare (record g { runs = rs }) h) b.runs ms) in
+        (r.token.view.seen.front, met_shares r.token.view.seen.front both.0, both.1)
+
+-- the run at a place passed on in a pause
+module _ (g : GatheredView) (all : IsGathered g) (mid : List (Option RunView)) (at : ℕ) (l : Leveled g.heap.config g.runs mid at (length g.runs)) (new : List (Option RunView)) (p : PassesAt g.heap g.complete mid new at) where
+  abbrev held_run : IsHeld (record g { runs = mid }) at p.run
+  held_run = met_held g all mid at (length g.runs) l at p.run p.becomes.was
+
+  abbrev number : ℕ
+  number = p.run.token.view.own.number
+
+  by : PassedBy g.complete number p.run p.passed
+  by = passed g.heap g.complete p.run p.passed held_run.is p.is_passed p.answer (λ first. held_run.walk (sym held_run.number ∙ first)) p.passes
+
+  pass_by : PassedBy g.complete at p.run p.passed
+  pass_by = subst (λ (d : ℕ). PassedBy g.complete d p.run p.passed) held_run.number by
+
+  pass_held : (supply : p.passed.supply ≡ p.run.supply) → (number : p.passed.token.view.own.number ≡ p.run.token.view.own.number) → IsHeld (record g { runs = mid }) at (forgetting p.passed)
+  pass_held supply number = record {
+    is = p.becomes.is;
+    here = p.becomes.here;
+    number = number ∙ held_run.number;
+    listed = supply ∙ held_run.listed;
+    collected = refl;
+    walk = λ first. let w = pass_by.walk first in record { armed = w.armed; unswept = w.unswept; on = w.on };
+  }
+
+  module _ (supply : p.passed.supply ≡ p.run.supply) (same : p.passed.token.view.own.number ≡ p.run.token.view.own.number) where
+    abbrev pub passed_view : GatheredView
+    passed_view = record g { runs = new }
+
+    pub passed_all : IsGathered passed_view
+    passed_all = after_all g all mid at (length g.runs) l p.run (forgetting p.passed) new p.becomes (pass_held supply same) refl
+
+    new_lead : at ≡ 0 → lead_by g.complete new ≡ lead_of g.complete p.passed
+    new_lead first = lead_at g.complete new (forgetting p.passed) (subst (λ (n : ℕ). HasRun new n (forgetting p.passed)) first (there g all mid at (length g.runs) l p.run (forgetting p.passed) new p.becomes (pass_held supply same) refl))
+
+    old_lead : at ≡ 0 → lead_by g.complete g.runs ≡ lead_of g.complete p.run
+    old_lead first = sym (met_lead g all mid at (length g.runs) l) ∙ lead_at g.complete mid p.run (subst (λ (n : ℕ). HasRun mid n p.run) first p.becomes.was)
+
+    same_lead : at ≢ 0 → lead_by g.complete new ≡ lead_by g.complete g.runs
+    same_lead away =
+        let f = (met_all g all mid at (length g.runs) l).filled 0 (let w = within g all mid at (length g.runs) l p.run (forgetting p.passed) new p.becomes (pass_held supply same) refl in omega (arith, w)) in
+        lead_at g.complete new f.0 (others g all mid at (length g.runs) l p.run (forgetting p.passed) new p.becomes (pass_held supply same) refl 0 (λ e. away (sym e)) ∙ f.1) ∙ (sym (lead_at g.complete mid f.0 f.1) ∙ met_lead g all mid at (length g.runs) l)
+
+    pub passed_tells : Passed (MayShare g) (MayShare passed_view) (seen_in g) (seen_in passed_view) at
+    passed_tells = record {
+      run = one_run p.run;
+      was = was_seen g all mid at (length g.runs) l p.run (forgetting p.passed) new p.becomes (pass_held supply same) refl;
+      becomes = one_run p.passed;
+      control = pass_by.control;
+      controls = dite (ℕ_discrete at 0)
+          (λ first. inl (first, subst (λ (w : Lead × Lead). LeadStep w.0 w.1 pass_by.control) (λ i. (sym (old_lead first) i, sym (new_lead first) i)) (pass_by.leads first)))
+          (λ away. inr (away, same_lead away, pass_by.silent away));
+      own = pass_by.own;
+      tells = pass_by.tells;
+      on = after_shares g all mid at (length g.runs) l p.run (forgetting p.passed) new p.becomes (pass_held supply same) refl (pass_by.control ++ pass_by.own) pass_by.steps;
+      view = λ i. record { sizes = sizes_in g.heap.config; runs = after_runs g all mid at (length g.runs) l p.run (forgetting p.passed) new p.becomes (pass_held supply same) refl i; lead = lead_by g.complete new };
+    }
+
+-- all arrived
+module _ (g : GatheredView) (all : IsGathered g) (mid : List (Option RunView)) (l : Leveled g.heap.config g.runs mid 0 (length g.runs)) (new : List (Option RunView)) (complete : Bool)
+    (u : HaltsUpto g.heap mid new (length mid)) (runs : (d : ℕ) (r : RunView) → HasRun mid d r → r.left ≡ None) (some : 0 < g.heap.config.domains) where
+  abbrev pub halted_view : GatheredView
+  halted_view = record { heap = g.heap; runs = new; complete = complete }
+
+  from : (d : ℕ) (s : RunView) → HasRun new d s → (r : RunView) × HasRun mid d r × (s ≡ halted_run r) × IsIn s.token g.heap × IsRun s
+  from d s is = u.halted d s (subst (λ (n : ℕ). d < n) u.count (inside new d (Some s) is)) is
+
+  halted_walk : (r : RunView) → Walk g.complete r → Walk complete (halted_run r)
+  halted_walk r w = record {
+    armed = w.armed;
+    unswept = w.unswept;
+    on = λ kind e. let is : Run ≡ kind = let f : ◌≡◌ {A = Option Kind} (Some Run) (Some kind) = e in cc in subst (λ (k : Kind). IsWalk complete k r.progress) is (walk_begins complete r.progress w.armed w.unswept);
+  }
+
+  pub halted_all_are : IsGathered halted_view
+  halted_all_are = record {
+    count = u.count ∙ met_count g all mid 0 (length g.runs) l;
+    filled = λ d below. u.stay d (subst (λ (n : ℕ). d < n) u.count below);
+    held = λ d s is.
+        let f = from d s is in
+        let held = met_held g all mid 0 (length g.runs) l d f.0 f.1 in
+        record {
+          is = f.4;
+          here = f.3;
+          number = ap (λ (x : RunView). x.token.view.own.number) f.2 ∙ held.number;
+          listed = ap (λ (x : RunView). x.supply) f.2 ∙ held.listed;
+          collected = ap (λ (x : RunView). x.collected) f.2;
+          walk = λ first. subst (Walk complete) (sym f.2) (halted_walk f.0 (held.walk first));
+        };
+  }
+
+  first_there : (r : RunView) × HasRun mid 0 r
+  first_there = (met_all g all mid 0 (length g.runs) l).filled 0 (let same = met_count g all mid 0 (length g.runs) l in omega (arith, same, some))
+
+  stage_runs : (d : ℕ) (q : RunView) → HasRun mid d q → q.token.view.seen.stage ≡ In Run
+  stage_runs d q is = subst (λ (o : Option Kind). StandsAt o q.token.view.seen.stage) (runs d q is) (met_held g all mid 0 (length g.runs) l d q is).is.between.stands
+
+  pub halted_on : SharesOn (MayShare g) (MayShare halted_view) []
+  halted_on h ms =
+      let both = halted_shares g mid first_there.0 first_there.1 (met_held g all mid 0 (length g.runs) l 0 first_there.0 first_there.1).number (met_count g all mid 0 (length g.runs) l) (met_all g all mid 0 (length g.runs) l).filled
+          (λ d q is. (met_held g all mid 0 (length g.runs) l d q is).number)
+          (λ d q is. l.above d q first_there.0 (subst (λ (n : ℕ). d < n) l.count (inside mid d (Some q) is)) is first_there.1)
+          (λ d q is _. stage_runs 0 first_there.0 first_there.1)
+          halted_view refl still h ms in
+      (first_there.0.token.view.seen.front, met_shares g all mid 0 (length g.runs) l first_there.0.token.view.seen.front both.0, both.1)
+    where
+      still : (d : ℕ) (q : RunView) → HasRun mid d q → (s : RunView) × HasRun new d s × (s.token.view.own.number ≡ q.token.view.own.number) × (s.token.view.seen.front ≡ q.token.view.seen.front)
+      still d q is =
+          let s = u.stay d (inside mid d (Some q) is) in
+          let f = from d s.0 s.1 in
+          let same : f.0 ≡ q = one_there mid d f.0 q f.1 is in
+          (s.0, s.1, ap (λ (x : RunView). x.token.view.own.number) (f.2 ∙ ap halted_run same), ap (λ (x : RunView). x.token.view.seen.front) (f.2 ∙ ap halted_run same))
+
+  odd_next : (n : ℕ) → IsEven n → is_even (n + 1) ≡ false
+  odd_next n e = let j : ℕ = e.0 in let is : n ≡ j * 2 = e.1 in let one : (n + 1) % 2 ≡ 1 = omega arith in ap (λ (m : ℕ). m == 0) one
+
+  pub halted_seen : seen_in halted_view ≡ all_halted complete (seen_in g)
+  halted_seen = λ i. record { sizes = sizes_in g.heap.config; runs = same_runs i; lead = same_lead i }
+    where
+      same_runs : map run_at new ≡ map halted (map run_at g.runs)
+      same_runs = same_lists (map halted (map run_at mid)) (map run_at new) (length-map new run_at ∙ (u.count ∙ (sym (length-map mid run_at) ∙ sym (length-map (map run_at mid) halted))))
+          (λ d x is.
+          let f = map_filled new d x halted_all_are.filled is in
+          let m = from d f.0 f.1 in
+          get_map halted (map run_at mid) d (one_run m.0) (get_map run_at mid d (Some m.0) m.1) ∙ ap Some (sym (f.2 ∙ ap one_run m.2)))
+          ∙ ap (map halted) (met_seen g all mid 0 (length g.runs) l)
+
+      same_lead : lead_by complete new ≡ Leads complete
+      same_lead =
+          let s = u.stay 0 (inside mid 0 (Some first_there.0) first_there.1) in
+          let m = from 0 s.0 s.1 in
+          let r : RunView = m.0 in
+          let even : IsEven r.token.view.own.arrivals = (met_held g all mid 0 (length g.runs) l 0 r m.1).is.between.even (runs 0 r m.1) in
+          lead_at complete new s.0 s.1 ∙ (ap (lead_of complete) m.2 ∙ ap (λ (b : Bool). if b then Rests else Leads complete) (odd_next r.token.view.own.arrivals even))
+
+-- the run at a place made a step, while all run
+module _ (g : GatheredView) (all : IsGathered g) (mid : List (Option RunView)) (at : ℕ) (l : Leveled g.heap.config g.runs mid at (length g.runs)) (new : List (Option RunView)) (stepped : Stepped) (p : StepsAt g.heap mid new at stepped)
+    (running : p.run.left ≡ None) (goes_on : p.run.ended ≡ false) where
+  abbrev before : IsHeld (record g { runs = mid }) at p.run
+  before = met_held g all mid at (length g.runs) l at p.run p.becomes.was
+
+  keeps : KeepsRun p.run p.made
+  keeps = calm_keeps g.heap p.run p.made p.answer p.calm
+
+  module _ (same : p.made.token.view.own.number ≡ p.run.token.view.own.number) where
+    made_held : IsHeld (record g { runs = mid }) at p.made
+    made_held = record {
+      is = p.becomes.is;
+      here = p.becomes.here;
+      number = same ∙ before.number;
+      listed = keeps.supply ∙ before.listed;
+      collected = keeps.collected before.collected;
+      walk = λ first. let w = before.walk first in record {
+        armed = ap (λ (q : Progress). q.armed) keeps.progress ∙ w.armed;
+        unswept = ap (λ (q : Progress). q.unswept) keeps.progress ∙ w.unswept;
+        on = λ kind e. absurd (let none : ◌≡◌ {A = Option Kind} None (Some kind) = sym (keeps.left ∙ running) ∙ e in cc);
+      };
+    }
+
+    abbrev pub stepped_view : GatheredView
+    stepped_view = record g { runs = new }
+
+    pub stepped_all : IsGathered stepped_view
+    stepped_all = after_all g all mid at (length g.runs) l p.run p.made new p.becomes made_held refl
+
+    made_there : HasRun new at p.made
+    made_there = there g all mid at (length g.runs) l p.run p.made new p.becomes made_held refl
+
+    made_runs : p.made.token.view.seen.stage ≡ In Run
+    made_runs = subst (λ (o : Option Kind). StandsAt o p.made.token.view.seen.stage) (keeps.left ∙ running) p.becomes.is.between.stands
+
+    -- what is so of the queue behind its front is so in each history that they may share
+    pub unqueued : length (domain_at (state_of g.heap.config p.made.token.view.seen.front) p.made.token.view.own.number).queue ≡ 0 → Unqueued (sizes_in g.heap.config) (MayShare stepped_view) at
+    unqueued none h ms =
+        let t = ms.trails at p.made made_there in
+        let d : ℕ = p.made.token.view.own.number in
+        let here : (domain_at (state_of g.heap.config h) d).queue ≡ (domain_at (state_of g.heap.config p.made.token.view.seen.front) d).queue = queue_of_front (opening (sizes_in g.heap.config)) d h p.made.token.view.seen.front t.begins (t.calls made_runs) in
+        subst (λ (n : ℕ). (domain_at (state_of g.heap.config h) n).queue ≡ []) made_held.number (no_length _ (ap length here ∙ none))
+      where
+        no_length : {A : Type 0} (xs : List A) → length xs ≡ 0 → xs ≡ []
+        no_length [] e = refl
+        no_length (x ∷ xs) e = absurd (omega (arith, e))
+
+    lead_same : lead_by g.complete new ≡ lead_by g.complete g.runs
+    lead_same = dite (ℕ_discrete at 0)
+        (λ first.
+        let old = sym (met_lead g all mid at (length g.runs) l) ∙ lead_at g.complete mid p.run (subst (λ (n : ℕ). HasRun mid n p.run) first p.becomes.was) in
+        lead_at g.complete new p.made (subst (λ (n : ℕ). HasRun new n p.made) first made_there) ∙ (ap (lead_in g.complete p.made.token.view.own.arrivals) (keeps.left ∙ running) ∙ sym (old ∙ ap (lead_in g.complete p.run.token.view.own.arrivals) running)))
+        (λ away.
+        let f = (met_all g all mid at (length g.runs) l).filled 0 (let w = within g all mid at (length g.runs) l p.run p.made new p.becomes made_held refl in omega (arith, w)) in
+        lead_at g.complete new f.0 (others g all mid at (length g.runs) l p.run p.made new p.becomes made_held refl 0 (λ e. away (sym e)) ∙ f.1) ∙ (sym (lead_at g.complete mid f.0 f.1) ∙ met_lead g all mid at (length g.runs) l))
+
+    pub stepped_tells : TurnedBy (sizes_in g.heap.config) (MayShare stepped_view) at p.run p.made stepped → Turned (MayShare g) (MayShare stepped_view) (seen_in g) (seen_in stepped_view) at stepped
+    stepped_tells t = record {
+      run = one_run p.run;
+      was = was_seen g all mid at (length g.runs) l p.run p.made new p.becomes made_held refl;
+      becomes = one_run p.made;
+      own = t.own;
+      on = after_shares g all mid at (length g.runs) l p.run p.made new p.becomes made_held refl t.own t.steps;
+      tells = t.tells;
+      view = λ i. record { sizes = sizes_in g.heap.config; runs = after_runs g all mid at (length g.runs) l p.run p.made new p.becomes made_held refl i; lead = lead_same i };
+    }

@@ -1,0 +1,13 @@
+pub mod Places
+pub mod SlotLemmas
+pub mod Behind
+pub mod Walk
+pub mod Grown
+pub mod PassLemmas
+pub mod CalmLemmas
+pub mod LevelLemmas
+pub mod Histories
+pub mod Sharing
+pub mod TurnLemmas
+pub mod Joining
+pub mod Turning

@@ -1,0 +1,31 @@
+-- The runs at their places.
+use Rattle.std.proofs.Common.{◌≡◌, ◌<◌, ℕ, zero, suc, List, [], ◌∷◌, length, Option, Some, None, refl, sym, ap, subst, arith, ◌∙◌}
+use Rattle.std.specs.Prelude.{slice_get, slice_index_or, slice_set}
+use Rattle.heap_rule.specs.Token.{SharedHeap}
+use Rattle.domain_turns.specs.Runs.{RunView}
+use Rattle.replay_turns.specs.Gathered.{HasRun}
+use Rattle.replay_turns.specs.Leveled.{AllHere}
+
+pub slot_is : {A : Type 0} (xs : List A) (i : ℕ) (d x : A) → i < length xs → slice_index_or xs i d ≡ x → slice_get xs i ≡ Some x
+slot_is [] i d x within is = absurd (omega (arith, within))
+slot_is (y ∷ ys) zero d x within is = ap Some is
+slot_is (y ∷ ys) (suc i) d x within is = slot_is ys i d x (omega (arith, within)) is
+
+pub inside : {A : Type 0} (xs : List A) (i : ℕ) (x : A) → slice_get xs i ≡ Some x → i < length xs
+inside [] i x at = cc
+inside (y ∷ ys) zero x at = omega arith
+inside (y ∷ ys) (suc i) x at = let more : i < length ys = inside ys i x at in omega arith
+
+-- a run stands there
+pub has_run : (runs : List (Option RunView)) (at : ℕ) (d : Option RunView) (r : RunView) → at < length runs → slice_index_or runs at d ≡ Some r → HasRun runs at r
+has_run runs at d r within is = slot_is runs at d (Some r) within is
+
+-- no place is empty
+pub never_none : (runs : List (Option RunView)) (at : ℕ) (d : Option RunView) (r : RunView) → HasRun runs at r → slice_index_or runs at d ≡ None → ⊥
+never_none runs at d r there none =
+    let found : slice_get runs at ≡ Some None = slot_is runs at d None (inside runs at (Some r) there) none in
+    let clash : ◌≡◌ {A = Option (Option RunView)} (Some None) (Some (Some r)) = sym found ∙ there in cc
+
+-- one run at a place
+pub one_there : (runs : List (Option RunView)) (at : ℕ) (r s : RunView) → HasRun runs at r → HasRun runs at s → r ≡ s
+one_there runs at r s a b = let same : ◌≡◌ {A = Option (Option RunView)} (Some (Some r)) (Some (Some s)) = sym a ∙ b in cc

@@ -1,0 +1,310 @@
+-- One step of a running domain.
+use Rattle.std.proofs.Common.{◌≡◌, ◌≢◌, ◌∙◌, ◌++◌, ◌∷◌, ◌+◌, ◌≤◌, ℕ, zero, suc, Bool, true, false, true≢false, IsTrue, List, [], Some, None, not, ap, arith, drop, inl, inr, length, length-append, refl, slice_get, sym, subst, ⊎_elim}
+use Rattle.std.specs.List.{list_all}
+use Rattle.heap_model.specs.declared.command.Command as model
+use Rattle.heap_model.specs.declared.command.Command.TheVariants.{PutInt, Copy, Forget, Alloc, AllocMaj, Load, Store, Ephe, SetKey, UnsetKey, GetKey, CheckKey, SetData, UnsetData, GetData, CheckData, Finalise, FinaliseLast, Poll, Minor, Major, FullMajor, Raw, Cas}
+use Rattle.heap_model.specs.declared.entry.Entry.{Entry}
+use Rattle.heap_model.specs.declared.entry.Entry.TheVariants.{Command as CommandOf, End as EndOf, Ran as RanOf, Cut, Queue, Seal, Wipe, Last, Collected, Done}
+use Rattle.heap_model.specs.declared.reply.Applied.{Applied}
+use Rattle.heap_model.specs.declared.reply.Applied.TheVariants.{Replied, Silent}
+use Rattle.heap_model.specs.declared.reply.Reply.{Reply}
+use Rattle.heap_model.specs.declared.state.Sizes.{Sizes}
+use Rattle.heap_model.specs.Domains.{domain_at}
+use Rattle.heap_model.specs.Fronts.{Answers, AreCalls, AreNotControls, IsFrontOf, is_call, is_control, is_full_major}
+use Rattle.heap_model.proofs.Graphs.GraphLemmas.{and_parts}
+use Rattle.heap_model.proofs.Histories.FrontLemmas.{unseen_rest}
+use Rattle.heap_rule.specs.declared.config.Config.{Config}
+use Rattle.heap_rule.specs.declared.view.DomainView.{DomainView}
+use Rattle.heap_rule.specs.declared.view.Hunt.TheVariants.{Rests as AtRest}
+use Rattle.heap_rule.specs.declared.view.Own.{Own}
+use Rattle.heap_rule.specs.Limits.{sizes_in}
+use Rattle.heap_rule.specs.Rule.{state_of}
+use Rattle.heap_rule.specs.Token.{SharedHeap, Token}
+use Rattle.finaliser_queues.specs.Running.{reply_of}
+use Rattle.size_pools.specs.Taken.{Sought}
+use Rattle.domain_turns.specs.declared.supply.Supply.TheVariants.{Listed, Open}
+use Rattle.domain_turns.specs.declared.turned.Turned.{Turned}
+use Rattle.domain_turns.specs.declared.turned.Turned.TheVariants.{Did, Waiting, Hungry, Idle}
+use Rattle.domain_turns.specs.declared.turned.Turned.TheVariants.{Ended as Over}
+use Rattle.domain_turns.specs.Runs.{RunView, Asks, AsksFull, CalmAnswers, CalmDid, EndsTrace, MarksBeside, Polls, RunsFinaliser, SweepsBeside, TriesCommand, WorksBeside, asking_end}
+use Rattle.domain_turns.specs.Runs.CalmDid.{Finalises, Wishes, Refuses, Tries, Works, Ends}
+use Rattle.domain_turns.specs.Tries.{Enters, NeedsPause, Stands}
+use Rattle.schedule_drive.specs.declared.together.Stepped.{Stepped}
+use Rattle.schedule_drive.specs.declared.together.Stepped.TheVariants.{Ran, Made, Needs}
+use Rattle.schedule_drive.specs.Together.{OneRun, TurnTells, Unqueued}
+use Rattle.replay_turns.specs.Gathered.{Steps, asked_for, is_running, one_run}
+use Rattle.replay_turns.specs.Moves.{CameTo}
+use Rattle.replay_turns.proofs.CalmLemmas.{works_run}
+use Rattle.replay_turns.proofs.Grown.{grown_same, steps_none, steps_one}
+use Rattle.replay_turns.proofs.PassLemmas.{drop_next, unasked}
+
+-- a step of domain d: what it makes, and what it leaves of the run
+pub record TurnedBy (z : Sizes) (shares : List Entry → Type 0) (d : ℕ) (r s : RunView) (stepped : Stepped) : Type 0 where
+  pub own : List Entry
+  pub steps : Steps d r.token.view.seen.front s.token.view.seen.front own
+  pub tells : TurnTells z shares d (one_run r) (one_run s) own stepped
+  pub number : s.token.view.own.number ≡ r.token.view.own.number
+
+-- a call is no control
+call_is_none : (e : Entry) → IsTrue (is_call e) → not (is_control e) ≡ true
+call_is_none (CommandOf d c full) is = refl
+call_is_none (EndOf d) is = refl
+call_is_none (RanOf d) is = refl
+call_is_none Cut is = absurd (true≢false (sym is))
+call_is_none (Queue d places) is = absurd (true≢false (sym is))
+call_is_none Seal is = absurd (true≢false (sym is))
+call_is_none (Wipe l keys) is = absurd (true≢false (sym is))
+call_is_none (Last d place) is = absurd (true≢false (sym is))
+call_is_none Collected is = absurd (true≢false (sym is))
+call_is_none Done is = absurd (true≢false (sym is))
+
+calls_lead_nothing : (xs : List Entry) → AreCalls xs → AreNotControls xs
+calls_lead_nothing [] calls = refl
+calls_lead_nothing (e ∷ xs) calls = let parts = and_parts (is_call e) (list_all is_call xs) calls in rw (call_is_none e parts.0) (calls_lead_nothing xs parts.1)
+
+-- no other command is made in a pause
+not_full : (d : ℕ) (c : model.Command) (full : Bool) → c ≢ FullMajor → is_full_major (CommandOf d c full) ≡ false
+not_full d (PutInt dst z) full other = refl
+not_full d (Copy dst src) full other = refl
+not_full d (Forget dst) full other = refl
+not_full d (Alloc dst tag fields) full other = refl
+not_full d (AllocMaj dst tag fields) full other = refl
+not_full d (Raw dst tag fields) full other = refl
+not_full d (Load dst src i) full other = refl
+not_full d (Store block i item) full other = refl
+not_full d (Cas block i expected item) full other = refl
+not_full d (Ephe dst keys) full other = refl
+not_full d (SetKey ephe i item) full other = refl
+not_full d (UnsetKey ephe i) full other = refl
+not_full d (GetKey dst ephe i) full other = refl
+not_full d (CheckKey ephe i) full other = refl
+not_full d (SetData ephe item) full other = refl
+not_full d (UnsetData ephe) full other = refl
+not_full d (GetData dst ephe) full other = refl
+not_full d (CheckData ephe) full other = refl
+not_full d (Finalise item number dst) full other = refl
+not_full d (FinaliseLast item number) full other = refl
+not_full d Poll full other = refl
+not_full d Minor full other = refl
+not_full d Major full other = refl
+not_full d FullMajor full other = absurd (other refl)
+not_full d _ full other = refl
+
+-- an answer of a running domain: others' calls, and its entry
+answer_steps : (z : Sizes) (d : ℕ) (new old : List Entry) (e : Entry) (a : Applied) → is_full_major e ≡ false → Answers z d old new e a → Steps d old new (e ∷ [])
+answer_steps z d new old e a running t =
+    let mid : List Entry = old ++ t.between in
+    let f : IsFrontOf d mid old = record { rest = t.between; appends = refl; others = t.others } in
+    steps_one d new mid old e (f, λ _. subst AreNotControls (sym (unseen_rest d mid old f)) (calls_lead_nothing t.between (t.calls running))) t.appends
+
+-- the entry of a command that isn't answered `full`
+enters : (h : SharedHeap) (old new : Token) (c : model.Command) (a : Reply) → Stands h old new c false a → Enters old new c false a
+enters h old new (Alloc dst tag fields) a s = ⊎_elim (λ u. u.0) (λ u. absurd (true≢false (sym u.2))) s
+enters h old new (Raw dst tag fields) a s = ⊎_elim (λ u. u.0) (λ u. absurd (true≢false (sym u.2))) s
+enters h old new (AllocMaj dst tag fields) a s = ⊎_elim (λ u. u.0) (λ u. absurd (true≢false (sym u.2))) s
+enters h old new (Ephe dst keys) a s = ⊎_elim (λ u. u.0) (λ u. absurd (true≢false (sym u.2))) s
+enters h old new _ a s = s
+
+-- lists
+drop_past : {A : Type 0} (xs : List A) (n : ℕ) → length xs ≤ n → drop n xs ≡ []
+drop_past [] zero past = refl
+drop_past [] (suc n) past = refl
+drop_past (x ∷ xs) zero past = absurd (omega (arith, past))
+drop_past (x ∷ xs) (suc n) past = drop_past xs n (omega (arith, past))
+
+empty_list : {A : Type 0} (xs : List A) → length xs ≡ 0 → xs ≡ []
+empty_list [] none = refl
+empty_list (x ∷ xs) none = absurd (omega (arith, none))
+
+one_more : {A : Type 0} (xs : List A) (x : A) → length (xs ++ x ∷ []) ≡ length xs → ⊥
+one_more xs x same = let all = length-append xs (x ∷ []) in omega (arith, all, same)
+
+more : (n : ℕ) → n + 1 ≡ n → ⊥
+more n same = omega (arith, same)
+
+module _ (h : SharedHeap) (shares : List Entry → Type 0) (d : ℕ) (r s : RunView) (stepped : Stepped) (mine : d ≡ r.token.view.own.number) (goes_on : r.ended ≡ false) (fresh : r.collected ≡ false)
+    (came : CameTo h.config s r.next (length r.replies) stepped)
+    (unqueued : length (domain_at (state_of h.config s.token.view.seen.front) s.token.view.own.number).queue ≡ 0 → Unqueued (sizes_in h.config) shares d) where
+  abbrev z : Sizes
+  z = sizes_in h.config
+
+  abbrev x : DomainView
+  x = r.token.view
+
+  abbrev y : DomainView
+  y = s.token.view
+
+  -- what a step may have come to that made no entry: it came to the need of a pause
+  no_entry : (command : model.Command) → slice_get r.commands r.next ≡ Some command → s.commands ≡ r.commands → s.next ≡ r.next → s.replies ≡ r.replies → s.ended ≡ r.ended → y.own.number ≡ x.own.number → y.seen.front ≡ x.seen.front
+      → one_run s ≡ record (one_run r) { asked = true } → (command ≡ FullMajor → length y.own.finalisers.queue.items ≡ 0) → TurnedBy z shares d r s stepped
+  no_entry command next commands same replies ended number front run empty = go stepped came where
+    steps : Steps d x.seen.front y.seen.front []
+    steps = steps_none d y.seen.front x.seen.front (grown_same d y.seen.front x.seen.front front)
+
+    named : slice_get s.commands s.next ≡ Some FullMajor → slice_get r.commands r.next ≡ Some FullMajor
+    named at = (λ i. slice_get (sym commands i) (sym same i)) ∙ at
+
+    go : (c : Stepped) → CameTo h.config s r.next (length r.replies) c → TurnedBy z shares d r s c
+    go Made at = ⊎_elim (λ (e : s.next ≢ r.next). absurd (e same)) (λ (e : s.ended ≡ true). absurd (true≢false (sym e ∙ (ended ∙ goes_on)))) at
+    go Ran at = absurd (at.2 (ap length replies))
+    go (Needs true) at =
+        let full : slice_get r.commands r.next ≡ Some FullMajor = named (at.3 refl) in
+        let is : command ≡ FullMajor = (let e : Some command ≡ Some FullMajor = sym next ∙ full in cc) in record {
+          own = [];
+          steps = steps;
+          tells = record { others = drop (r.next + 1) r.commands; next = drop_next r.commands r.next FullMajor full; unqueued = unqueued (at.5 ∙ empty is); made = refl; run = run };
+          number = number;
+        }
+    go (Needs false) at = record { own = []; steps = steps; tells = (refl, run); number = number }
+
+  asked_now : (command : model.Command) (at : ℕ) → slice_get r.commands r.next ≡ Some command → asked_for (drop r.next r.commands) (Some at) ≡ true
+  asked_now command at next = ap (λ (cs : List model.Command). asked_for cs (Some at)) (drop_next r.commands r.next command next)
+
+  -- the command was made
+  made_next : (command : model.Command) (reply : Reply) → slice_get r.commands r.next ≡ Some command → command ≢ FullMajor → Answers z x.own.number x.seen.front y.seen.front (CommandOf x.own.number command false) (Replied reply)
+      → s.next ≡ r.next + 1 → y.own.number ≡ x.own.number → one_run s ≡ record (one_run r) { left = drop (r.next + 1) r.commands; replies = s.replies; asked = false } → TurnedBy z shares d r s stepped
+  made_next command reply next short answers later number run = go stepped came where
+    go : (c : Stepped) → CameTo h.config s r.next (length r.replies) c → TurnedBy z shares d r s c
+    go Made at = record {
+      own = CommandOf d command false ∷ [];
+      steps = subst (λ (n : ℕ). Steps n x.seen.front y.seen.front (CommandOf n command false ∷ [])) (sym mine) (answer_steps z x.own.number y.seen.front x.seen.front (CommandOf x.own.number command false) (Replied reply) (not_full x.own.number command false short) answers);
+      tells = inl record { command = command; others = drop (r.next + 1) r.commands; next = drop_next r.commands r.next command next; short = short; made = refl; run = run };
+      number = number;
+    }
+    go Ran at = absurd (more r.next (sym later ∙ at.0))
+    go (Needs complete) at = absurd (more r.next (sym later ∙ at.0))
+
+  -- it is none that needs a pause
+  is_short : (k : Config) (own : Own) (served : Bool) (c : model.Command) → (NeedsPause k own served c → ⊥) → c ≢ FullMajor
+  is_short k own served c ready is = ready (subst (NeedsPause k own served) (sym is) tt)
+
+  -- the run behind a command, but for what a replay doesn't see
+  behind_command : (reply : Reply) → (v : RunView) → one_run s ≡ one_run v → v.replies ≡ r.replies ++ reply ∷ [] → s.replies ≡ v.replies
+      → one_run v ≡ record { left = drop (r.next + 1) r.commands; replies = r.replies ++ reply ∷ []; asked = asked_for (drop (r.next + 1) r.commands) None; runs = is_running r.left; ended = r.ended }
+      → one_run s ≡ record (one_run r) { left = drop (r.next + 1) r.commands; replies = s.replies; asked = false }
+  behind_command reply v same replies kept is = same ∙ (is ∙ λ i. record { left = drop (r.next + 1) r.commands; replies = sym (kept ∙ replies) i; asked = unasked (drop (r.next + 1) r.commands) i; runs = is_running r.left; ended = r.ended })
+
+  tries : (c : model.Command) → TriesCommand h r.token r s c → TurnedBy z shares d r s stepped
+  tries c t =
+      let config : r.token.config ≡ h.config = sym t.tried.heap.1 ∙ t.tried.runs.here.1 in
+      let made : Enters r.token s.token c false t.reply = enters h r.token s.token c t.reply (subst (λ (b : Bool). Stands h r.token s.token c b t.reply) fresh t.tried.stands) in
+      made_next c t.reply t.next (is_short h.config x.own _ c t.ready)
+      (subst (λ (k : Config). Answers (sizes_in k) x.own.number x.seen.front y.seen.front (CommandOf x.own.number c false) (Replied t.reply)) config made)
+      (ap (λ (v : RunView). v.next) t.run) (ap (λ (o : Own). o.number) t.tried.own)
+      (behind_command t.reply s refl (ap (λ (v : RunView). v.replies) t.run) refl (ap one_run t.run))
+
+  -- work for the collector leaves the front and the number
+  works_on : (worked : RunView) (spent : Bool) → WorksBeside h r worked spent → (worked.token.view.seen.front ≡ x.seen.front) × (worked.token.view.own.number ≡ x.own.number)
+  works_on worked spent w = ⊎_elim
+      (λ (m : MarksBeside h r worked spent). (ap (λ (v : DomainView). v.seen.front) m.learnt.view, ap (λ (v : DomainView). v.own.number) m.learnt.view))
+      (λ (u : ((count : ℕ) × SweepsBeside h r worked count) × (spent ≡ false)). (ap (λ (v : DomainView). v.seen.front) u.0.1.swept.view, ap (λ (v : DomainView). v.own.number) u.0.1.swept.view))
+      w
+
+  -- and so does the wish for the end of a cycle
+  asking_one : (b : Bool) (v : RunView) → one_run (asking_end b v) ≡ one_run v
+  asking_one false v = refl
+  asking_one true v = refl
+
+  asking_front : (b : Bool) (v : RunView) → (asking_end b v).token.view.seen.front ≡ v.token.view.seen.front
+  asking_front false v = refl
+  asking_front true v = refl
+
+  asking_number : (b : Bool) (v : RunView) → (asking_end b v).token.view.own.number ≡ v.token.view.own.number
+  asking_number false v = refl
+  asking_number true v = refl
+
+  asking_next : (b : Bool) (v : RunView) → (asking_end b v).next ≡ v.next
+  asking_next false v = refl
+  asking_next true v = refl
+
+  polls : Polls h r s → TurnedBy z shares d r s stepped
+  polls p =
+      let w : p.worked ≡ record r { token = p.worked.token; hints = p.worked.hints } = works_run h r p.worked p.spent p.works in
+      let kept = works_on p.worked p.spent p.works in
+      let t : TriesCommand h p.worked.token (record r { token = p.worked.token; hints = p.worked.hints }) p.made Poll = subst (λ (q : RunView). TriesCommand h p.worked.token q p.made Poll) w p.tried in
+      let config : p.worked.token.config ≡ h.config = sym t.tried.heap.1 ∙ t.tried.runs.here.1 in
+      let made : Enters p.worked.token p.made.token Poll false t.reply = enters h p.worked.token p.made.token Poll t.reply (subst (λ (b : Bool). Stands h p.worked.token p.made.token Poll b t.reply) fresh t.tried.stands) in
+      let front : p.made.token.view.seen.front ≡ y.seen.front = sym (ap (λ (v : RunView). v.token.view.seen.front) p.run ∙ asking_front p.spent p.made) in
+      let one : one_run s ≡ one_run p.made = ap one_run p.run ∙ asking_one p.spent p.made in
+      made_next Poll t.reply t.next (λ e. cc)
+      (subst (λ (q : Config × ℕ × List Entry × List Entry). Answers (sizes_in q.0) q.1 q.2 q.3 (CommandOf q.1 Poll false) (Replied t.reply)) (λ i. (config i, kept.1 i, kept.0 i, front i)) made)
+      (ap (λ (v : RunView). v.next) p.run ∙ (asking_next p.spent p.made ∙ ap (λ (v : RunView). v.next) t.run))
+      (ap (λ (v : RunView). v.token.view.own.number) p.run ∙ (asking_number p.spent p.made ∙ (ap (λ (o : Own). o.number) t.tried.own ∙ kept.1)))
+      (behind_command t.reply p.made one (ap (λ (v : RunView). v.replies) t.run) (ap (λ (o : OneRun). o.replies) one) (ap one_run t.run))
+
+  finalises : RunsFinaliser h r.token r s → TurnedBy z shares d r s stepped
+  finalises f = go stepped came where
+    same : s.next ≡ r.next
+    same = ap (λ (v : RunView). v.next) f.run
+
+    ended : s.ended ≡ r.ended
+    ended = ap (λ (v : RunView). v.ended) f.run
+
+    go : (c : Stepped) → CameTo h.config s r.next (length r.replies) c → TurnedBy z shares d r s c
+    go Made at = ⊎_elim (λ (e : s.next ≢ r.next). absurd (e same)) (λ (e : s.ended ≡ true). absurd (true≢false (sym e ∙ (ended ∙ goes_on)))) at
+    go Ran at = record {
+      own = RanOf d ∷ [];
+      steps = subst (λ (n : ℕ). Steps n x.seen.front y.seen.front (RanOf n ∷ [])) (sym mine) (answer_steps z x.own.number y.seen.front x.seen.front (RanOf x.own.number) (Replied (reply_of f.ran)) refl f.first.answers);
+      tells = (refl, ap one_run f.run ∙ ap (λ (l : List Reply). record (one_run r) { replies = l }) (sym (ap (λ (v : RunView). v.replies) f.run)));
+      number = ap (λ (v : DomainView). v.own.number) f.first.view;
+    }
+    go (Needs complete) at = absurd (one_more r.replies (reply_of f.ran) (ap length (sym (ap (λ (v : RunView). v.replies) f.run)) ∙ at.2))
+
+  asks : Asks h r.token r s → TurnedBy z shares d r s stepped
+  asks a = no_entry a.command a.next (ap (λ (v : RunView). v.commands) a.run) (ap (λ (v : RunView). v.next) a.run) (ap (λ (v : RunView). v.replies) a.run) (ap (λ (v : RunView). v.ended) a.run)
+      (ap (λ (v : RunView). v.token.view.own.number) a.run) (ap (λ (v : RunView). v.token.view.seen.front) a.run)
+      (ap one_run a.run ∙ λ i. record (one_run r) { asked = asked_now a.command x.own.arrivals a.next i })
+      (λ _. ap (λ (v : RunView). length v.token.view.own.finalisers.queue.items) a.run ∙ ap length a.unqueued)
+
+  -- a search leaves the front and the number
+  searched_on : (k : Config) (u v : DomainView) → Sought k u v AtRest → (v.seen.front ≡ u.seen.front) × (v.own.number ≡ u.own.number)
+  searched_on k u v sought = ⊎_elim
+      (λ hunted. (ap (λ (w : DomainView). w.seen.front) hunted, ap (λ (w : DomainView). w.own.number) hunted))
+      (λ swept. (ap (λ (w : DomainView). w.seen.front) swept.view, ap (λ (w : DomainView). w.own.number) swept.view))
+      sought
+
+  asks_full : AsksFull h r.token r s → TurnedBy z shares d r s stepped
+  asks_full a =
+      let kept = searched_on h.config x a.searched.view a.refused.view in
+      no_entry a.command a.next (ap (λ (v : RunView). v.commands) a.run) (ap (λ (v : RunView). v.next) a.run) (ap (λ (v : RunView). v.replies) a.run) (ap (λ (v : RunView). v.ended) a.run)
+      (ap (λ (v : RunView). v.token.view.own.number) a.run ∙ kept.1) (ap (λ (v : RunView). v.token.view.seen.front) a.run ∙ kept.0)
+      (ap one_run a.run ∙ λ i. record (one_run r) { asked = asked_now a.command x.own.arrivals a.next i })
+      (λ is. absurd (is_short h.config x.own _ a.command a.ready is))
+
+  ends : EndsTrace h r.token r s → TurnedBy z shares d r s stepped
+  ends e = go stepped came where
+    over : s.ended ≡ true
+    over = ap (λ (v : RunView). v.ended) e.run
+
+    none : drop r.next r.commands ≡ []
+    none = drop_past r.commands r.next e.past
+
+    config : r.token.config ≡ h.config
+    config = sym e.ended.heap.1 ∙ e.ended.here.1
+
+    go : (c : Stepped) → CameTo h.config s r.next (length r.replies) c → TurnedBy z shares d r s c
+    go Made at = record {
+      own = EndOf d ∷ [];
+      steps = subst (λ (n : ℕ). Steps n x.seen.front y.seen.front (EndOf n ∷ [])) (sym mine)
+          (answer_steps z x.own.number y.seen.front x.seen.front (EndOf x.own.number) Silent refl (subst (λ (k : Config). Answers (sizes_in k) x.own.number x.seen.front y.seen.front (EndOf x.own.number) Silent) config e.ended.answers));
+      tells = inr record { none = none; made = refl; run = ap one_run e.run ∙ λ i. record { left = drop r.next r.commands; replies = r.replies; asked = ap (λ (cs : List model.Command). asked_for cs r.asked) none i; runs = is_running r.left; ended = true } };
+      number = ap (λ (v : DomainView). v.own.number) e.ended.view;
+    }
+    go Ran at = absurd (true≢false (sym over ∙ at.1))
+    go (Needs complete) at = absurd (true≢false (sym over ∙ at.1))
+
+  did : CalmDid h r s → TurnedBy z shares d r s stepped
+  did (Finalises f) = finalises f
+  did (Wishes a) = asks a
+  did (Refuses a) = asks_full a
+  did (Tries c other t) = tries c t
+  did (Works p) = polls p
+  did (Ends e) = ends e
+
+  -- whatever the step answers
+  pub turned : (a : Turned) → r.supply ≡ Listed → CalmAnswers h r s a → TurnedBy z shares d r s stepped
+  turned Did listed says = did says
+  turned (Waiting b) listed says = absurd says
+  turned Hungry listed says = absurd (let e : Open ≡ Listed = sym says.more ∙ listed in cc)
+  turned (Idle n) listed says = absurd (true≢false (sym says.0.over ∙ goes_on))
+  turned Over listed says = absurd (true≢false (sym says.over ∙ goes_on))

@@ -1,0 +1,9 @@
+use Rattle.std.proofs.Common.{◌∙◌, arith}
+use Rattle.replay_turns.proofs.LevelLemmas.{halt_next, halts_here}
+use Rattle.replay_turns.proofs.halting.halt_each.Goals as goal
+
+pub halt_at-requires-clause-here : goal.halt_at-requires-clause-here
+halt_at-requires-clause-here g c = let i = c.all.invariant in halts_here c.args.heap.now c.args.runs.now c.all.runs c.all.at c.requires.here i.3
+
+pub all-preserved : goal.all-preserved
+all-preserved g c = let i = c.all.invariant in (i.0, omega (arith, c.all-test.true), i.2, halt_next c.args.heap.now c.args.runs.now c.all.runs c.halt_at.new.runs c.all.at i.3 c.halt_at.ensures.halts, i.4)

@@ -1,0 +1,43 @@
+use Rattle.std.proofs.Common.{◌∙◌, true, false, List, Option, ap, length, subst, sym}
+use Rattle.std.proofs.lemmas.List.{with_items_is}
+use Rattle.domain_turns.specs.Runs.{RunView}
+use Rattle.schedule_drive.specs.Together.{AllHave, Has, Turned}
+use Rattle.replay_turns.specs.Gathered.{GatheredView, HasRun, IsGathered, MayShare, seen_in}
+use Rattle.replay_turns.specs.Leveled.{AllHere}
+use Rattle.replay_turns.specs.Moves.{MetThen, StepsAt}
+use Rattle.replay_turns.proofs.Joining.{all_here, runs_run}
+use Rattle.replay_turns.proofs.Turning.{turned_all, turned_tells}
+use Rattle.replay_turns.proofs.together.GatheredTogetherRuns.turn.Goals as goal
+
+pub step_at-requires-clause-here : goal.step_at-requires-clause-here
+step_at-requires-clause-here g c =
+    let g0 : GatheredView = record { heap = c.self.inside.heap; runs = c.self.inside.runs.items; complete = c.self.inside.complete } in
+    subst (AllHere c.self.inside.heap) (sym c.as_mut_slice.ensures.value) (all_here g0 c.self.invariant)
+
+pub step_at-requires-clause-running : goal.step_at-requires-clause-running
+step_at-requires-clause-running g c = λ r there.
+    let run = subst (λ (v : GatheredView). AllHave (λ x. x.runs) true (seen_in v)) (sym c.self.view_is) c.requires.run in
+    let g0 : GatheredView = record { heap = c.self.inside.heap; runs = c.self.inside.runs.items; complete = c.self.inside.complete } in
+    runs_run g0 run c.args.at r (subst (λ (rs : List (Option RunView)). HasRun rs c.args.at r) c.as_mut_slice.ensures.value there)
+
+pub invariant_of-self : goal.invariant_of-self
+invariant_of-self g c =
+    let g0 : GatheredView = record { heap = c.self.inside.heap; runs = c.self.inside.runs.items; complete = c.self.inside.complete } in
+    let new = c.step_at.new.runs in
+    let run = subst (λ (v : GatheredView). AllHave (λ x. x.runs) true (seen_in v)) (sym c.self.view_is) c.requires.run in
+    let going = subst (λ (v : GatheredView). Has (λ x. x.ended) false (seen_in v) c.args.at) (sym c.self.view_is) c.requires.goes_on in
+    let m = subst (λ (rs : List (Option RunView)). MetThen c.self.inside.heap.config rs c.args.at (λ mid. StepsAt c.self.inside.heap mid new c.args.at c.step_at.result)) c.as_mut_slice.ensures.value c.step_at.ensures.steps in
+    let same = with_items_is c.self.inside.runs new (c.step_at.auto.runs ∙ (ap length c.as_mut_slice.ensures.value ∙ sym c.self.inside.runs.ok.0)) in
+    subst (λ (rs : List (Option RunView)). IsGathered (record g0 { runs = rs })) (sym same) (turned_all g0 c.self.invariant m.mid c.args.at m.leveled new c.step_at.result m.moved run going)
+
+pub returns : goal.returns
+returns g c =
+    let g0 : GatheredView = record { heap = c.self.inside.heap; runs = c.self.inside.runs.items; complete = c.self.inside.complete } in
+    let new = c.step_at.new.runs in
+    let run = subst (λ (v : GatheredView). AllHave (λ x. x.runs) true (seen_in v)) (sym c.self.view_is) c.requires.run in
+    let going = subst (λ (v : GatheredView). Has (λ x. x.ended) false (seen_in v) c.args.at) (sym c.self.view_is) c.requires.goes_on in
+    let m = subst (λ (rs : List (Option RunView)). MetThen c.self.inside.heap.config rs c.args.at (λ mid. StepsAt c.self.inside.heap mid new c.args.at c.step_at.result)) c.as_mut_slice.ensures.value c.step_at.ensures.steps in
+    let same = with_items_is c.self.inside.runs new (c.step_at.auto.runs ∙ (ap length c.as_mut_slice.ensures.value ∙ sym c.self.inside.runs.ok.0)) in
+    let tells = turned_tells g0 c.self.invariant m.mid c.args.at m.leveled new c.step_at.result m.moved run going in
+    let here = subst (λ (rs : List (Option RunView)). Turned (MayShare g0) (MayShare (record g0 { runs = rs })) (seen_in g0) (seen_in (record g0 { runs = rs })) c.args.at c.step_at.result) (sym same) tells in
+    record { turned = subst (λ (v : GatheredView). Turned (MayShare v) (MayShare (record g0 { runs = (Rattle.std.specs.Vec.with_items c.self.inside.runs new).items })) (seen_in v) (seen_in (record g0 { runs = (Rattle.std.specs.Vec.with_items c.self.inside.runs new).items })) c.args.at c.step_at.result) c.self.view_is here }

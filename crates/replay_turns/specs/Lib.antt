@@ -1,0 +1,4 @@
+pub mod Walk
+pub mod Gathered
+pub mod Leveled
+pub mod Moves

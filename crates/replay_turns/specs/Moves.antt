@@ -1,0 +1,75 @@
+-- What the calls on one run leave of the runs of a heap.
+use Rattle.std.specs.Prelude.{◌≡◌, ◌≢◌, ◌⊎◌, ◌<◌, ℕ, Bool, true, false, List, length, slice_get, slice_set, Option, Some, None}
+use Rattle.heap_model.specs.declared.command.Command.TheVariants.{FullMajor}
+use Rattle.heap_model.specs.Domains.{domain_at}
+use Rattle.heap_rule.specs.declared.config.Config.{Config}
+use Rattle.heap_rule.specs.declared.phase.Kind.TheVariants.{Run}
+use Rattle.heap_rule.specs.Rule.{state_of}
+use Rattle.heap_rule.specs.Token.{SharedHeap, IsIn}
+use Rattle.pause_phases.specs.declared.decider.Decider.TheVariants.{Caller}
+use Rattle.steps_pauses.specs.Pauses.{arrived_view}
+use Rattle.domain_turns.specs.declared.turned.Turned as turned
+use Rattle.domain_turns.specs.Runs.{RunView, CalmAnswers, GoesOn, IsRun, PassesOn}
+use Rattle.schedule_drive.specs.declared.together.Stepped.{Stepped}
+use Rattle.schedule_drive.specs.declared.together.Stepped.TheVariants.{Ran, Made, Needs}
+use Rattle.replay_turns.specs.Gathered.{HasRun}
+use Rattle.replay_turns.specs.Leveled.{Leveled}
+
+-- the run at a place has become another, which is of the heap too, and the others are as they were
+pub record Becomes (h : SharedHeap) (old new : List (Option RunView)) (at : ℕ) (r s : RunView) : Type 0 where
+  pub was : HasRun old at r
+  pub here : IsIn s.token h
+  pub is : IsRun s
+  pub runs : new ≡ slice_set old at (Some s)
+
+-- a run that forgets that its next command may be answered `full`
+abbrev pub forgetting : RunView → RunView
+forgetting r = record r { collected = false }
+
+-- each domain met the one at a place, and then this came about
+pub record MetThen (k : Config) (old : List (Option RunView)) (at : ℕ) (Then : List (Option RunView) → Type 0) : Type 0 where
+  pub mid : List (Option RunView)
+  pub leveled : Leveled k old mid at (length old)
+  pub moved : Then mid
+
+-- the domain at a place made a step in a pause that domain 0 leads as it is told
+pub record PassesAt (h : SharedHeap) (complete : Bool) (old new : List (Option RunView)) (at : ℕ) : Type 0 where
+  pub run : RunView
+  pub passed : RunView
+  pub answer : turned.Turned
+  pub passes : PassesOn h (Caller complete) run passed answer
+  pub is_passed : IsRun passed
+  pub goes_on : GoesOn run passed
+  pub becomes : Becomes h old new at run (forgetting passed)
+
+-- the run of a domain that has arrived
+abbrev pub halted_run : RunView → RunView
+halted_run r = record r { token = record r.token { view = arrived_view r.token.view }; left = Some Run; collected = false }
+
+-- the domain at a place has arrived
+pub record HaltsAt (h : SharedHeap) (old new : List (Option RunView)) (at : ℕ) : Type 0 where
+  pub run : RunView
+  pub becomes : Becomes h old new at run (halted_run run)
+
+-- those before a place have arrived
+pub record HaltsUpto (h : SharedHeap) (old new : List (Option RunView)) (upto : ℕ) : Type 0 where
+  pub count : length new ≡ length old
+  pub stay : (d : ℕ) → d < length old → (r : RunView) × HasRun new d r
+  pub halted : (d : ℕ) (s : RunView) → d < upto → HasRun new d s → (r : RunView) × HasRun old d r × (s ≡ halted_run r) × IsIn s.token h × IsRun s
+  pub others : (d : ℕ) → (d < upto → ⊥) → slice_get new d ≡ slice_get old d
+
+-- what a step came to, by what is seen of the run behind it: the place of its next command and its number of replies before are known
+abbrev pub CameTo : Config → RunView → ℕ → ℕ → Stepped → Type 0
+CameTo k s next count Made = (s.next ≢ next) ⊎ (s.ended ≡ true)
+CameTo k s next count Ran = (s.next ≡ next) × (s.ended ≡ false) × (length s.replies ≢ count)
+CameTo k s next count (Needs complete) = (s.next ≡ next) × (s.ended ≡ false) × (length s.replies ≡ count) × ((complete ≡ true) → slice_get s.commands s.next ≡ Some FullMajor) × ((complete ≡ false) → slice_get s.commands s.next ≡ Some FullMajor → ⊥)
+    × (length (domain_at (state_of k s.token.view.seen.front) s.token.view.own.number).queue ≡ length s.token.view.own.finalisers.queue.items)
+
+-- the domain at a place made a step, while it runs
+pub record StepsAt (h : SharedHeap) (old new : List (Option RunView)) (at : ℕ) (stepped : Stepped) : Type 0 where
+  pub run : RunView
+  pub made : RunView
+  pub answer : turned.Turned
+  pub calm : CalmAnswers h run made answer
+  pub came : CameTo h.config made run.next (length run.replies) stepped
+  pub becomes : Becomes h old new at run made

@@ -1,0 +1,61 @@
+//! A step of a domain that runs.
+ghost use Rattle.std.specs.Prelude.{◌≡◌, ◌≢◌, ◌<◌, false, length, None};
+ghost use Rattle.domain_turns.specs.declared.supply.Supply.TheVariants.{Listed};
+ghost use Rattle.domain_turns.specs.Runs.{RunView};
+ghost use Rattle.heap_rule.specs.Token.{IsIn};
+ghost use Rattle.replay_turns.specs.Gathered.{HasRun};
+ghost use Rattle.replay_turns.specs.Leveled.{AllHere};
+ghost use Rattle.replay_turns.specs.Moves.{CameTo, MetThen, StepsAt};
+
+use crate::meeting::meet_each;
+use domain_turns::{DomainRun, go_on};
+use heap_rule::Heap;
+use schedule_drive::Stepped;
+
+// What a step came to, after which the domain runs: the place of the next command and the number of replies before it
+// are known.
+fn came_to(heap: &Heap, run: &mut DomainRun, next: usize, count: usize) -> Stepped
+    requires here { IsIn run.old.token heap.now }
+    requires running { run.old.left ≡ None }
+    ensures same { run.new ≡ run.old }
+    ensures came { CameTo heap.now.config run.old next count result }
+{
+    if run.next() != next || run.has_ended() {
+        return Stepped::Made;
+    }
+    if run.replies().len() != count {
+        return Stepped::Ran;
+    }
+    run.look_at_queue(heap);
+    Stepped::Needs {
+        complete: run.is_at_full_major(),
+    }
+}
+
+// One step of the domain at this place, which runs and hasn't ended.
+fn step_alone(heap: &Heap, runs: &mut [Option<DomainRun>], at: usize) -> Stepped
+    requires inside { at < length runs.old }
+    requires here { AllHere heap.now runs.old }
+    requires running { (r : RunView) → HasRun runs.old at r → r.left ≡ None }
+    ensures steps { StepsAt heap.now runs.old runs.new at result }
+{
+    let Some(run) = &mut runs[at] else {
+        unreachable!()
+    };
+    let next = run.next();
+    let count = run.replies().len();
+    go_on(heap, run);
+    run.is_faithful();
+    came_to(heap, run, next, count)
+}
+
+// The same once the domain has met each other one.
+pub(crate) fn step_at(heap: &Heap, runs: &mut [Option<DomainRun>], at: usize) -> Stepped
+    requires inside { at < length runs.old }
+    requires here { AllHere heap.now runs.old }
+    requires running { (r : RunView) → HasRun runs.old at r → r.left ≡ None }
+    ensures steps { MetThen heap.now.config runs.old at (λ mid. StepsAt heap.now mid runs.new at result) }
+{
+    meet_each(heap, runs, at);
+    step_alone(heap, runs, at)
+}

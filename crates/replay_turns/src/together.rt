@@ -1,0 +1,54 @@
+//! The runs as a replay drives them.
+ghost use Rattle.replay_turns.specs.Gathered.{MayShare, seen_in};
+
+use crate::gathered::Gathered;
+use crate::halting::halt_all;
+use crate::passing::pass_at;
+use crate::stepping::step_at;
+use schedule_drive::{Stepped, TogetherRuns};
+use std::sync::Wait;
+
+impl TogetherRuns for Gathered {
+    ghost seen = { λ g. seen_in g };
+
+    ghost shares = { λ g h. MayShare g h };
+
+    fn stands(&self) {
+        let _limits = self.heap.config();
+    }
+
+    fn count(&self) -> usize {
+        self.runs.len()
+    }
+
+    fn has_ended(&self, at: usize) -> bool {
+        self.run(at).has_ended()
+    }
+
+    fn commands_left(&self, at: usize) -> usize {
+        self.run(at).commands_left()
+    }
+
+    fn running(&self, at: usize) -> bool {
+        self.run(at).running()
+    }
+
+    fn has_asked(&self, at: usize) -> bool {
+        let run = self.run(at);
+        run.commands_left() > 0 && run.has_asked()
+    }
+
+    fn turn<R: Wait>(&mut self, _rt: &R, at: usize) -> Stepped {
+        step_at(&self.heap, self.runs.as_mut_slice(), at)
+    }
+
+    fn halt_all<R: Wait>(&mut self, rt: &R, complete: bool) {
+        let _limits = self.heap.config();
+        halt_all(rt, &self.heap, self.runs.as_mut_slice());
+        self.complete = complete;
+    }
+
+    fn pass_on<R: Wait>(&mut self, rt: &R, at: usize) {
+        pass_at(rt, &self.heap, self.runs.as_mut_slice(), at, self.complete);
+    }
+}

@@ -1,0 +1,2 @@
+pub mod Queues
+mod LookSteps
