@@ -1,8 +1,7 @@
 -- What the clauses of registering, queueing and running finalisers refuse.
-use Rattle.std.proofs.Common.{◌≡◌, ◌∙◌, ℕ, suc, ◌+◌, ◌<◌, ◌≤◌, ◌⊎◌, Some, None, List, [], ◌∷◌, ◌++◌, length, remove, refl, sym, ap, ⊎_elim, subst, arith}
+use Rattle.std.proofs.Common.{◌≡◌, ◌∙◌, ℕ, suc, ◌+◌, List, [], ◌∷◌, ◌++◌, length, remove, ap, ⊎_elim, arith}
 use Rattle.heap_rule.specs.declared.config.Config.{Config}
 use Rattle.heap_rule.specs.declared.view.DomainView.{DomainView}
-use Rattle.heap_rule.specs.declared.view.Registered.{Registered}
 use Rattle.heap_rule.specs.declared.view.Waiting.{Waiting}
 use Rattle.finaliser_queues.specs.Deciding.{Splits}
 use Rattle.finaliser_queues.specs.Running.{RanFirst}

@@ -7,6 +7,7 @@ use Rattle.heap_rule.specs.declared.view.Share.{Share}
 use Rattle.heap_rule.specs.Phases.{IsEven, IsOdd}
 use Rattle.heap_rule.specs.Token.{SharedHeap}
 use Rattle.darkening_beside.specs.Aware.{scanned_in, vain_in}
+use Rattle.pause_phases.specs.declared.decider.Decider.{Decider}
 use Rattle.pause_phases.specs.Sharing.{HintsIn}
 use Rattle.mark_slices.specs.Decks.{DeckCounts, NotesAlone, NotesNoMore, NotesOn, Rises, TakesOwn, last_count}
 use Rattle.domain_turns.specs.Runs.{GoesBy, IsAnswered, MarksBeside, MayGoOn, Polls, Resumes, RunView, SeesAnswer, SweepsBeside, Waits, asking_end}
@@ -40,22 +41,22 @@ unmarked Lasts l m roots mark hints = hints
 unmarked Sweep l m roots mark hints = hints
 unmarked Answer l m roots mark hints = hints
 
-pub no_hint_goes_but_in_roots_and_mark : (h : SharedHeap) (old new : RunView) (g : GoesBy h old new) → g.kind ≢ Roots → g.kind ≢ Mark → new.hints ≡ old.hints
-no_hint_goes_but_in_roots_and_mark h old new g roots mark = ⊎_elim
+pub no_hint_goes_but_in_roots_and_mark : (h : SharedHeap) (who : Decider) (old new : RunView) (g : GoesBy h who old new) → g.kind ≢ Roots → g.kind ≢ Mark → new.hints ≡ old.hints
+no_hint_goes_but_in_roots_and_mark h who old new g roots mark = ⊎_elim
     (λ (e : IsEven old.token.view.own.arrivals × HintsIn g.kind old.hints new.hints). unmarked g.kind old.hints new.hints roots mark e.1)
     (λ (o : IsOdd old.token.view.own.arrivals × (new.hints ≡ old.hints)). o.1)
     g.hints
 
 -- in Roots none is taken, and in Mark none is noted
-pub no_hint_is_taken_in_roots : (h : SharedHeap) (old new : RunView) (g : GoesBy h old new) → g.kind ≡ Roots → new.hints.taken ≡ old.hints.taken
-no_hint_is_taken_in_roots h old new g roots = ⊎_elim
+pub no_hint_is_taken_in_roots : (h : SharedHeap) (who : Decider) (old new : RunView) (g : GoesBy h who old new) → g.kind ≡ Roots → new.hints.taken ≡ old.hints.taken
+no_hint_is_taken_in_roots h who old new g roots = ⊎_elim
     (λ (e : IsEven old.token.view.own.arrivals × HintsIn g.kind old.hints new.hints).
     let hints : NotesOn old.hints new.hints × NotesAlone old.hints new.hints = subst (λ (k : Kind). HintsIn k old.hints new.hints) roots e.1 in ap (λ (l : DeckCounts). l.taken) hints.1)
     (λ (o : IsOdd old.token.view.own.arrivals × (new.hints ≡ old.hints)). ap (λ (l : DeckCounts). l.taken) o.1)
     g.hints
 
-pub no_hint_is_noted_in_mark : (h : SharedHeap) (old new : RunView) (g : GoesBy h old new) → g.kind ≡ Mark → new.hints.pushes ≡ old.hints.pushes
-no_hint_is_noted_in_mark h old new g mark = ⊎_elim
+pub no_hint_is_noted_in_mark : (h : SharedHeap) (who : Decider) (old new : RunView) (g : GoesBy h who old new) → g.kind ≡ Mark → new.hints.pushes ≡ old.hints.pushes
+no_hint_is_noted_in_mark h who old new g mark = ⊎_elim
     (λ (e : IsEven old.token.view.own.arrivals × HintsIn g.kind old.hints new.hints).
     let hints : NotesOn old.hints new.hints × TakesOwn old.hints new.hints = subst (λ (k : Kind). HintsIn k old.hints new.hints) mark e.1 in ap (λ (l : DeckCounts). l.pushes) hints.1.same)
     (λ (o : IsOdd old.token.view.own.arrivals × (new.hints ≡ old.hints)). ap (λ (l : DeckCounts). l.pushes) o.1)

@@ -1,5 +1,5 @@
 -- What the clauses of marking, sweeping and of the rounds of ephemerons refuse.
-use Rattle.std.proofs.Common.{◌≡◌, ◌∙◌, ℕ, ◌+◌, ◌<◌, ◌≤◌, ◌⊎◌, Bool, true, false, Some, None, List, [], ◌∷◌, ◌++◌, length, slice_get, IsTrue, refl, sym, ap, ⊎_elim, subst, arith}
+use Rattle.std.proofs.Common.{◌≡◌, ◌∙◌, ℕ, ◌+◌, ◌<◌, ◌≤◌, true, false, Some, IsTrue, sym, ⊎_elim, arith}
 use Rattle.heap_words.specs.declared.value.Value.TheVariants.{Ref}
 use Rattle.heap_rule.specs.declared.config.Config.{Config}
 use Rattle.heap_rule.specs.declared.view.DomainView.{DomainView}
@@ -7,7 +7,7 @@ use Rattle.heap_rule.specs.declared.view.Held.TheVariants.{Queue}
 use Rattle.heap_rule.specs.Changes.{value_at}
 use Rattle.heap_rule.specs.Cycles.{seen_by}
 use Rattle.heap_rule.specs.Finalisers.{held_at}
-use Rattle.mark_slices.specs.Decks.{AllMissed, DeckCounts, HasTaken, HasNoted, last_count, missed_at}
+use Rattle.mark_slices.specs.Decks.{AllMissed, DeckCounts, HasNoted, last_count, missed_at}
 use Rattle.mark_slices.specs.Shares.{AllQueueRooted, AllRooted, AllWalked, IsQueueRoot, IsRoot}
 use Rattle.ephemeron_rounds.specs.Emptied.{AllCleaned}
 use Rattle.ephemeron_rounds.specs.Looking.{AllLooked}

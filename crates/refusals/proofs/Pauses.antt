@@ -1,12 +1,15 @@
 -- What the clauses of leading, of arriving and of the barrier refuse.
-use Rattle.std.proofs.Common.{◌≡◌, ◌∙◌, ℕ, ◌*◌, ◌<◌, ◌≤◌, true, false, Some, refl, sym, inl, inr, arith}
+use Rattle.std.proofs.Common.{◌≡◌, ◌∙◌, ℕ, ◌*◌, ◌<◌, ◌≤◌, true, false, if◌then◌else◌, Bool, Some, refl, sym, ap, inl, inr, arith}
 use Rattle.std.proofs.lemmas.Option.{same_Some}
 use Rattle.heap_rule.specs.declared.config.Config.{Config}
-use Rattle.heap_rule.specs.declared.phase.Kind.TheVariants.{Answer, Decide, Lasts, Reset, Roots, Rounds, Run, Sweep}
+use Rattle.heap_rule.specs.declared.phase.Kind.{Kind}
+use Rattle.heap_rule.specs.declared.phase.Kind.TheVariants.{Answer, Decide, Lasts, Mark, Reset, Roots, Rounds, Run, Sweep}
 use Rattle.heap_rule.specs.declared.phase.Stage.TheVariants.{In}
 use Rattle.heap_rule.specs.declared.view.DomainView.{DomainView}
 use Rattle.heap_rule.specs.declared.view.Share.{Share}
 use Rattle.steps_pauses.specs.Pauses.{ArriveMay, MayFollow}
+use Rattle.pause_phases.specs.declared.decider.Decider.TheVariants.{Caller}
+use Rattle.pause_phases.specs.Leading.{LeadsOn}
 use Rattle.safepoint.specs.Looks.{LookAnswers}
 use Rattle.safepoint.specs.declared.answer.Look.TheVariants.{NotAll}
 
@@ -40,3 +43,14 @@ no_arrival_from_sweep_leaves_a_pool k x may stage left = let done = may.done.swe
 -- nor at all while it owes the darkening of what a weak read has brought
 pub no_arrival_owes_a_darkening : (k : Config) (x : DomainView) (r : ℕ) → ArriveMay k x → x.seen.share.weak ≡ Some r → ⊥
 no_arrival_owes_a_darkening k x r may owes = let e = sym owes ∙ may.paid_reads in cc
+
+-- where the caller of a pause wants no collection none begins, and where it wants one one does
+pub no_collection_begins_unasked : (k : Config) (x y : DomainView) (kind : Kind) → LeadsOn k (Caller false) x y Reset kind → x.seen.share.progress.armed ≡ false → kind ≡ Run
+no_collection_begins_unasked k x y kind l armed = l.chosen ∙ ap (λ (b : Bool). if b then Run else Run) armed
+
+pub a_wanted_collection_begins : (k : Config) (x y : DomainView) (kind : Kind) → LeadsOn k (Caller true) x y Reset kind → x.seen.share.progress.armed ≡ false → x.seen.share.progress.unswept ≡ false → kind ≡ Roots
+a_wanted_collection_begins k x y kind l armed owed = l.chosen ∙ λ i. if armed i then Mark else (if owed i then Sweep else Roots)
+
+-- and it isn't left to running domains
+pub a_wanted_collection_is_complete : (k : Config) (x y : DomainView) (kind : Kind) → LeadsOn k (Caller true) x y Lasts kind → kind ≡ Sweep
+a_wanted_collection_is_complete k x y kind l = l.chosen

@@ -13,8 +13,9 @@ use Rattle.safepoint.specs.declared.answer.Want.TheVariants.{Finish}
 use Rattle.heap_model.specs.Domains.{reserve}
 use Rattle.heap_rule.specs.Limits.{sizes_in}
 use Rattle.std.proofs.lemmas.Bool.{le-leb, lt-leb}
+use Rattle.pause_phases.specs.declared.decider.Decider.{Decider}
 use Rattle.domain_turns.specs.Pausing.{LeavesOdd, blocks_left}
-use Rattle.domain_turns.specs.Runs.{CalmDid, EndsTrace, Polls, RunView, RunsFinaliser, SeesAnswer, Stops, TriesCommand, WorksBeside, asking_end, is_asked, may_use_up, served_since}
+use Rattle.domain_turns.specs.Runs.{CalmDid, EndsTrace, IsAnswered, Polls, RunView, RunsFinaliser, SeesAnswer, Stops, TriesCommand, WorksBeside, asking_end, is_asked, may_use_up, served_since}
 use Rattle.domain_turns.specs.Runs.CalmDid.{Finalises, Wishes, Refuses, Tries, Works, Ends}
 use Rattle.domain_turns.specs.Tries.{HasPool, Stands}
 
@@ -83,5 +84,9 @@ pub a_trace_ends_behind_its_commands : (h : SharedHeap) (start : Token) (old new
 a_trace_ends_behind_its_commands h start old new e left = let past = e.past in omega (arith, past, left)
 
 -- a domain other than 0 names no kind of its own
-pub domain_0_alone_leads : (k : Config) (x y : DomainView) (last kind : Kind) → x.own.number ≢ 0 → LeavesOdd k x y last kind → kind ≡ last
-domain_0_alone_leads k x y before kind other l = ⊎_elim (λ a. absurd (other a.0)) (λ a. a.1) l
+pub domain_0_alone_leads : (k : Config) (who : Decider) (x y : DomainView) (last kind : Kind) → x.own.number ≢ 0 → LeavesOdd k who x y last kind → kind ≡ last
+domain_0_alone_leads k who x y before kind other l = ⊎_elim (λ a. absurd (other a.0)) (λ a. a.1) l
+
+-- a domain isn't answered that has asked for no pause
+pub nobody_is_answered_unasked : (h : SharedHeap) (old new : RunView) → IsAnswered h old new → old.asked ≡ None → ⊥
+nobody_is_answered_unasked h old new a none = let e : false ≡ true = sym (ap is_asked none) ∙ a.waited.wished in cc

@@ -1,22 +1,21 @@
 -- The runs of a heap after the calls on one of them.
-use Rattle.std.proofs.Common.{true≢false, ◌≡◌, ◌≢◌, ◌∙◌, ◌<◌, ◌+◌, ◌*◌, ◌%◌, ◌==◌, ◌++◌, inl, inr, if◌then◌else◌, ℕ, zero, suc, Bool, true, false, List, [], ◌∷◌, Option, Some, None, length, length-set, map, arith, refl, sym, ap, subst}
+use Rattle.std.proofs.Common.{true≢false, ◌≡◌, ◌≢◌, ◌∙◌, ◌<◌, ◌+◌, ◌*◌, ◌%◌, ◌==◌, ◌++◌, inl, inr, if◌then◌else◌, ℕ, suc, Bool, true, false, List, [], ◌∷◌, Option, Some, None, length, length-set, map, arith, refl, sym, ap, subst}
 use Rattle.std.specs.Prelude.{slice_get, slice_set}
 use Rattle.std.proofs.lemmas.List.{length-map}
 use mathlib.Core.Logic.{dite}
 use native.Mathlib.Decide.{ℕ_discrete}
 use Rattle.heap_model.specs.declared.entry.Entry.{Entry}
-use Rattle.heap_rule.specs.declared.config.Config.{Config}
 use Rattle.heap_rule.specs.declared.phase.Kind.{Kind}
 use Rattle.heap_rule.specs.declared.phase.Kind.TheVariants.{Run}
 use Rattle.heap_rule.specs.declared.phase.Stage.TheVariants.{In}
 use Rattle.heap_rule.specs.Limits.{sizes_in}
 use Rattle.heap_rule.specs.Phases.{IsEven}
-use Rattle.heap_rule.specs.Token.{SharedHeap, IsIn}
+use Rattle.heap_rule.specs.Token.{IsIn}
 use Rattle.domain_turns.specs.Runs.{RunView, IsRun, StandsAt, run_seeing}
-use Rattle.schedule_drive.specs.Together.{AllRuns, OneRun, Lead, Rests, Leads, Controls, Grows, Has, AllHave, LeadStep, Passed, SharesOn, Turned, Unqueued, all_halted, halted}
+use Rattle.schedule_drive.specs.Together.{OneRun, Lead, Rests, Leads, Has, AllHave, LeadStep, Passed, SharesOn, Turned, Unqueued, all_halted, halted}
 use Rattle.replay_turns.specs.Walk.{IsWalk}
 use Rattle.replay_turns.specs.Gathered.{GatheredView, HasRun, IsGathered, IsHeld, MayShare, PassedBy, Steps, Walk, is_even, is_running, lead_by, lead_in, lead_of, one_run, run_at, seen_in}
-use Rattle.replay_turns.specs.Leveled.{AllHere, Leveled, SawMore, Under}
+use Rattle.replay_turns.specs.Leveled.{AllHere, Leveled}
 use Rattle.replay_turns.specs.Moves.{Becomes, HaltsUpto, PassesAt, StepsAt, forgetting, halted_run}
 use Rattle.schedule_drive.specs.declared.together.Stepped.{Stepped}
 use Rattle.heap_model.specs.Domains.{domain_at, opening}
@@ -24,7 +23,6 @@ use Rattle.heap_rule.specs.declared.phase.Progress.{Progress}
 use Rattle.heap_rule.specs.Rule.{state_of}
 use Rattle.steps_queue_looks.proofs.Queues.{queue_of_front}
 use Rattle.replay_turns.proofs.CalmLemmas.{KeepsRun, calm_keeps}
-use Rattle.replay_turns.proofs.LevelLemmas.{level_here}
 use Rattle.replay_turns.proofs.PassLemmas.{passed}
 use Rattle.replay_turns.proofs.Places.{get_map, set_else, set_here, set_map}
 use Rattle.replay_turns.proofs.Sharing.{halted_shares, leveled_shares, shares_on}
@@ -167,8 +165,8 @@ module _ (g : GatheredView) (all : IsGathered g) (mid : List (Option RunView)) (
     pub after_shares : (own : List Entry) → Steps at r.token.view.seen.front s.token.view.seen.front own → SharesOn (MayShare g) (MayShare after) own
     after_shares own st h ms =
         let both = shares_on g mid at r s own g.complete b.was met_count met_all.filled (λ d q is. (met_held d q is).number) held.number
-            (λ d q is. (l.above d q r (subst (λ (n : ℕ). d < n) (l.count ∙ sym upto_is) (inside mid d (Some q) is)) is b.was).part) st h
-            (subst (λ (rs : List (Option RunView)). MayShare (record g { runs = rs }) h) b.runs ms) in
+        (λ d q is. (l.above d q r (subst (λ (n : ℕ). d < n) (l.count ∙ sym upto_is) (inside mid d (Some q) is)) is b.was).part) st h
+        (subst (λ (rs : List (Option RunView)). MayShare (record g { runs = rs }) h) b.runs ms) in
         (r.token.view.seen.front, met_shares r.token.view.seen.front both.0, both.1)
 
 -- the run at a place passed on in a pause
@@ -270,10 +268,10 @@ module _ (g : GatheredView) (all : IsGathered g) (mid : List (Option RunView)) (
   pub halted_on : SharesOn (MayShare g) (MayShare halted_view) []
   halted_on h ms =
       let both = halted_shares g mid first_there.0 first_there.1 (met_held g all mid 0 (length g.runs) l 0 first_there.0 first_there.1).number (met_count g all mid 0 (length g.runs) l) (met_all g all mid 0 (length g.runs) l).filled
-          (λ d q is. (met_held g all mid 0 (length g.runs) l d q is).number)
-          (λ d q is. l.above d q first_there.0 (subst (λ (n : ℕ). d < n) l.count (inside mid d (Some q) is)) is first_there.1)
-          (λ d q is _. stage_runs 0 first_there.0 first_there.1)
-          halted_view refl still h ms in
+      (λ d q is. (met_held g all mid 0 (length g.runs) l d q is).number)
+      (λ d q is. l.above d q first_there.0 (subst (λ (n : ℕ). d < n) l.count (inside mid d (Some q) is)) is first_there.1)
+      (λ d q is _. stage_runs 0 first_there.0 first_there.1)
+      halted_view refl still h ms in
       (first_there.0.token.view.seen.front, met_shares g all mid 0 (length g.runs) l first_there.0.token.view.seen.front both.0, both.1)
     where
       still : (d : ℕ) (q : RunView) → HasRun mid d q → (s : RunView) × HasRun new d s × (s.token.view.own.number ≡ q.token.view.own.number) × (s.token.view.seen.front ≡ q.token.view.seen.front)

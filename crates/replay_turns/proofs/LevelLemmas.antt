@@ -1,13 +1,12 @@
 -- How the runs of a heap come to see one another's entries, and come to rest.
 use Rattle.std.proofs.Common.{◌≡◌, ◌≢◌, ◌∙◌, ◌<◌, ◌≤◌, ◌+◌, ⊎_elim, ℕ, List, Option, Some, length, length-set, arith, refl, sym, ap, subst}
-use Rattle.std.specs.Prelude.{slice_get, slice_set}
+use Rattle.std.specs.Prelude.{slice_get}
 use Rattle.std.proofs.lemmas.Bool.{cases_lt}
 use mathlib.Core.Logic.{dite}
 use native.Mathlib.Decide.{ℕ_discrete}
 use Rattle.heap_model.specs.declared.entry.Entry.{Entry}
-use Rattle.heap_model.specs.Fronts.{AreCalls, is_call, unseen}
+use Rattle.heap_model.specs.Fronts.{is_call}
 use Rattle.heap_model.proofs.Histories.FrontLemmas.{unseen_whole}
-use Rattle.heap_rule.specs.declared.config.Config.{Config}
 use Rattle.heap_rule.specs.declared.view.DomainView.{DomainView}
 use Rattle.heap_rule.specs.Standing.{with_front}
 use Rattle.heap_rule.specs.Token.{SharedHeap, IsIn}

@@ -11,3 +11,4 @@ pub mod Sharing
 pub mod TurnLemmas
 pub mod Joining
 pub mod Turning
+pub mod EndLemmas

@@ -25,17 +25,8 @@ use Rattle.replay_turns.specs.Gathered.{GatheredView, HasRun, IsGathered, IsHeld
 use Rattle.replay_turns.specs.Leveled.{Leveled, SawMore, Under}
 use Rattle.replay_turns.proofs.Behind.{All, all_join, all_parts, behind, behind_parts, front_behind, none_behind, trails_on, trails_part, trails_whole}
 use Rattle.replay_turns.proofs.Histories.{ended_front, ended_in, none_beyond, quiet, replies_front}
+use Rattle.replay_turns.proofs.SlotLemmas.{inside as inside_of, one_there}
 use Rattle.replay_turns.proofs.Places.{set_else, set_here}
-
--- what stands at a place stands within
-get_within : {A : Type 0} (xs : List A) (i : ℕ) (y : A) → slice_get xs i ≡ Some y → i < length xs
-get_within [] i y at = cc
-get_within (x ∷ xs) zero y at = omega arith
-get_within (x ∷ xs) (suc i) y at = let within = get_within xs i y at in omega arith
-
--- one run stands at a place
-one_there : (runs : List (Option RunView)) (d : ℕ) (q r : RunView) → HasRun runs d q → HasRun runs d r → q ≡ r
-one_there runs d q r a b = let same : Some (Some q) ≡ Some (Some r) = sym a ∙ b in cc
 
 -- a history behind a part of it, in which each domain has seen no more: no entry there is a domain's, but for these domains
 module _ (z : Sizes) (part rest h : List Entry) (goes : h ≡ part ++ rest) (legal : Legal z h) where
@@ -66,7 +57,7 @@ module _ (g : GatheredView) (mid : List (Option RunView)) (at : ℕ) (r s : RunV
   top = r.token.view.seen.front
 
   within : at < length mid
-  within = get_within mid at (Some r) here
+  within = inside_of mid at (Some r) here
 
   -- the others stand where they stood
   other : (d : ℕ) (q : RunView) → d ≢ at → HasRun mid d q → Trails h q.token.view
@@ -132,7 +123,7 @@ pub leveled_shares : (g : GatheredView) (k : Config) (mid : List (Option RunView
 leveled_shares g k mid at upto l h ms = record {
   legal = ms.legal;
   trails = λ d q is.
-      let r = l.stay d (get_within g.runs d (Some q) is) in
+      let r = l.stay d (inside_of g.runs d (Some q) is) in
       let m = l.more d r.0 r.1 in
       let same : m.0 ≡ q = one_there g.runs d m.0 q m.1 is in
       let saw : SawMore k m.0 r.0 = m.2 in

@@ -1,10 +1,8 @@
 -- The runs at their places.
-use Rattle.std.proofs.Common.{◌≡◌, ◌<◌, ℕ, zero, suc, List, [], ◌∷◌, length, Option, Some, None, refl, sym, ap, subst, arith, ◌∙◌}
-use Rattle.std.specs.Prelude.{slice_get, slice_index_or, slice_set}
-use Rattle.heap_rule.specs.Token.{SharedHeap}
+use Rattle.std.proofs.Common.{◌≡◌, ◌<◌, ℕ, zero, suc, List, [], ◌∷◌, length, Option, Some, None, sym, ap, arith, ◌∙◌}
+use Rattle.std.specs.Prelude.{slice_get, slice_index_or}
 use Rattle.domain_turns.specs.Runs.{RunView}
 use Rattle.replay_turns.specs.Gathered.{HasRun}
-use Rattle.replay_turns.specs.Leveled.{AllHere}
 
 pub slot_is : {A : Type 0} (xs : List A) (i : ℕ) (d x : A) → i < length xs → slice_index_or xs i d ≡ x → slice_get xs i ≡ Some x
 slot_is [] i d x within is = absurd (omega (arith, within))

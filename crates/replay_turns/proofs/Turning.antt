@@ -7,7 +7,7 @@ use Rattle.heap_rule.specs.Rule.{state_of}
 use Rattle.domain_turns.specs.Runs.{RunView}
 use Rattle.schedule_drive.specs.declared.together.Stepped.{Stepped}
 use Rattle.schedule_drive.specs.Together.{AllHave, Has, Turned, Unqueued}
-use Rattle.replay_turns.specs.Gathered.{GatheredView, HasRun, IsGathered, IsHeld, MayShare, one_run, run_at, seen_in}
+use Rattle.replay_turns.specs.Gathered.{GatheredView, IsGathered, IsHeld, MayShare, one_run, run_at, seen_in}
 use Rattle.replay_turns.specs.Leveled.{Leveled}
 use Rattle.replay_turns.specs.Moves.{StepsAt}
 use Rattle.replay_turns.proofs.Joining.{met_held, runs_met, stepped_all, stepped_tells, unqueued}

@@ -32,11 +32,11 @@ asked_for (c ∷ cs) asked = is_asked asked
 
 -- a run as a replay sees it
 abbrev pub one_run : RunView → OneRun
-one_run r = record { left = drop r.next r.commands; replies = r.replies; asked = asked_for (drop r.next r.commands) r.asked; runs = is_running r.left; ended = r.ended }
+one_run r = record { commands = r.commands; left = drop r.next r.commands; replies = r.replies; asked = asked_for (drop r.next r.commands) r.asked; runs = is_running r.left; ended = r.ended }
 
 -- where none is there
 abbrev pub run_at : Option RunView → OneRun
-run_at None = record { left = []; replies = []; asked = false; runs = true; ended = true }
+run_at None = record { commands = []; left = []; replies = []; asked = false; runs = true; ended = true }
 run_at (Some r) = one_run r
 
 -- whether a number is even

@@ -2,3 +2,4 @@ pub mod Walk
 pub mod Gathered
 pub mod Leveled
 pub mod Moves
+pub mod Ends

@@ -212,7 +212,7 @@ const LEAD_ON_OTHER: Command = Command::Store {
 // A collection goes on beside a domain that polls.
 const MARK: [Command; 4] = [Command::Major, Command::Poll, Command::Poll, Command::Poll];
 
-pub(crate) const SCENES: [Scene; 18] = [
+pub(crate) const SCENES: [Scene; 19] = [
     // A trace runs to its end.
     Scene {
         config: ONE_DOMAIN,
@@ -532,6 +532,29 @@ pub(crate) const SCENES: [Scene; 18] = [
         moments: &[(Until::Made(4), 0, Sight::Arrivals(59))],
         before: 3,
         replies: &[ONE_LIVES],
+    },
+    // The second domain asks for its `full_major`, and the first arrives before it asks for its own. It isn't answered in this
+    // pause, but in one for which it asked.
+    Scene {
+        config: TWO_DOMAINS,
+        sections: &[
+            &[(
+                1,
+                &[Command::FullMajor, Command::PutInt { dst: 1, value: 1 }],
+            )],
+            &[(1, &[Command::FullMajor])],
+        ],
+        moments: &[
+            (
+                Until::Answers(&[(1, Turned::Did), (0, Turned::Did)]),
+                0,
+                Sight::Arrivals(1),
+            ),
+            (Until::Made(1), 0, Sight::Arrivals(55)),
+            (Until::Made(2), 0, Sight::Arrivals(56)),
+        ],
+        before: 0,
+        replies: &[ONE_LIVES, Reply::Done],
     },
     // A poll scans 256 blocks and no more, of a chain and the shared block. One that finds none left to scan asks for the end
     // of the collection, and the pause comes before the next. It marks nothing: one phase finds that all is scanned.

@@ -15,12 +15,14 @@ pub halt-requires-clause-running : goal.halt-requires-clause-running
 halt-requires-clause-running g c = c.requires.running _ (has_run _ c.args.at _ _ c.requires.inside c.in-Some.is)
 
 pub returns : goal.returns
-returns g c = record { halts = record {
-  run = c.in-Some.run';
-  becomes = record {
-    was = has_run _ c.args.at _ _ c.requires.inside c.in-Some.is;
-    here = subst (λ (r : RunView). IsIn r.token c.args.heap.now) c.halt.ensures.run c.halt.ensures.here;
-    is = subst IsRun c.halt.ensures.run c.is_faithful.ensures;
-    runs = ap (λ (r : RunView). slice_set c.args.runs.now c.args.at (Some r)) c.halt.ensures.run;
+returns g c = record {
+  halts = record {
+    run = c.in-Some.run';
+    becomes = record {
+      was = has_run _ c.args.at _ _ c.requires.inside c.in-Some.is;
+      here = subst (λ (r : RunView). IsIn r.token c.args.heap.now) c.halt.ensures.run c.halt.ensures.here;
+      is = subst IsRun c.halt.ensures.run c.is_faithful.ensures;
+      runs = ap (λ (r : RunView). slice_set c.args.runs.now c.args.at (Some r)) c.halt.ensures.run;
+    };
   };
-} }
+}

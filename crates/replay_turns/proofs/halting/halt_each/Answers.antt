@@ -1,4 +1,4 @@
-use Rattle.std.proofs.Common.{◌∙◌, arith}
+use Rattle.std.proofs.Common.{arith}
 use Rattle.replay_turns.proofs.LevelLemmas.{halt_next, halts_here}
 use Rattle.replay_turns.proofs.halting.halt_each.Goals as goal
 

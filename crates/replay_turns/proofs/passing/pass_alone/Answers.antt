@@ -1,7 +1,6 @@
 use Rattle.std.proofs.Common.{Some, ap, subst}
 use Rattle.std.specs.Prelude.{slice_set}
 use Rattle.domain_turns.specs.Runs.{RunView, IsRun}
-use Rattle.heap_rule.specs.Token.{IsIn}
 use Rattle.replay_turns.proofs.SlotLemmas.{has_run, never_none}
 use Rattle.replay_turns.proofs.passing.pass_alone.Goals as goal
 
@@ -15,17 +14,19 @@ pub pass_on-requires-clause-arrived : goal.pass_on-requires-clause-arrived
 pass_on-requires-clause-arrived g c = c.requires.gone _ (has_run _ c.args.at _ _ c.requires.inside c.in-Some.is)
 
 pub returns : goal.returns
-returns g c = record { passes = record {
-  run = c.in-Some.run';
-  passed = c.pass_on.new.run;
-  answer = c.pass_on.result;
-  passes = c.pass_on.ensures.answer;
-  is_passed = c.is_faithful.ensures;
-  goes_on = c.pass_on.ensures.goes_on;
-  becomes = record {
-    was = has_run _ c.args.at _ _ c.requires.inside c.in-Some.is;
-    here = c.pass_on.ensures.here;
-    is = subst IsRun c.forget_collected.ensures c.is_faithful-2.ensures;
-    runs = ap (λ (r : RunView). slice_set c.args.runs.now c.args.at (Some r)) c.forget_collected.ensures;
+returns g c = record {
+  passes = record {
+    run = c.in-Some.run';
+    passed = c.pass_on.new.run;
+    answer = c.pass_on.result;
+    passes = c.pass_on.ensures.answer;
+    is_passed = c.is_faithful.ensures;
+    goes_on = c.pass_on.ensures.goes_on;
+    becomes = record {
+      was = has_run _ c.args.at _ _ c.requires.inside c.in-Some.is;
+      here = c.pass_on.ensures.here;
+      is = subst IsRun c.forget_collected.ensures c.is_faithful-2.ensures;
+      runs = ap (λ (r : RunView). slice_set c.args.runs.now c.args.at (Some r)) c.forget_collected.ensures;
+    };
   };
-} }
+}

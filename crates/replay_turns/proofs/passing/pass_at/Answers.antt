@@ -1,4 +1,4 @@
-use Rattle.std.proofs.Common.{◌∙◌, length, ap, sym, subst}
+use Rattle.std.proofs.Common.{◌∙◌, length, ap, sym}
 use Rattle.domain_turns.specs.Runs.{RunView}
 use Rattle.replay_turns.proofs.LevelLemmas.{level_here}
 use Rattle.replay_turns.proofs.passing.pass_at.Goals as goal

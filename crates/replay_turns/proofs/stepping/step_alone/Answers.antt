@@ -1,4 +1,4 @@
-use Rattle.std.proofs.Common.{◌∙◌, ap, length, subst, sym, Some, ℕ}
+use Rattle.std.proofs.Common.{◌∙◌, ap, length, subst, Some, ℕ}
 use Rattle.std.specs.Prelude.{slice_set}
 use Rattle.domain_turns.specs.Runs.{RunView}
 use Rattle.replay_turns.specs.Moves.{CameTo}
@@ -19,16 +19,18 @@ pub came_to-requires-clause-running : goal.came_to-requires-clause-running
 came_to-requires-clause-running c = (calm_keeps c.args.heap.now c.in-Some.run' c.go_on.new.run c.go_on.result c.go_on.ensures.answer).left ∙ c.requires.running _ (has_run _ c.args.at _ _ c.requires.inside c.in-Some.is)
 
 pub returns : goal.returns
-returns c = record { steps = record {
-  run = c.in-Some.run';
-  made = c.go_on.new.run;
-  answer = c.go_on.result;
-  calm = c.go_on.ensures.answer;
-  came = subst (λ (w : ℕ × ℕ). CameTo c.args.heap.now.config c.go_on.new.run w.0 w.1 c.came_to.result) (λ i. (c.next-next.ensures.next i, length (c.replies-count.ensures.replies i))) c.came_to.ensures.came;
-  becomes = record {
-    was = has_run _ c.args.at _ _ c.requires.inside c.in-Some.is;
-    here = c.go_on.ensures.here;
-    is = c.is_faithful.ensures;
-    runs = ap (λ (r : RunView). slice_set c.args.runs.now c.args.at (Some r)) c.came_to.ensures.same;
+returns c = record {
+  steps = record {
+    run = c.in-Some.run';
+    made = c.go_on.new.run;
+    answer = c.go_on.result;
+    calm = c.go_on.ensures.answer;
+    came = subst (λ (w : ℕ × ℕ). CameTo c.args.heap.now.config c.go_on.new.run w.0 w.1 c.came_to.result) (λ i. (c.next-next.ensures.next i, length (c.replies-count.ensures.replies i))) c.came_to.ensures.came;
+    becomes = record {
+      was = has_run _ c.args.at _ _ c.requires.inside c.in-Some.is;
+      here = c.go_on.ensures.here;
+      is = c.is_faithful.ensures;
+      runs = ap (λ (r : RunView). slice_set c.args.runs.now c.args.at (Some r)) c.came_to.ensures.same;
+    };
   };
-} }
+}

@@ -1,5 +1,4 @@
 use Rattle.std.proofs.Common.{◌∙◌, ◌<◌, length, subst, sym}
-use Rattle.domain_turns.specs.Runs.{RunView}
 use Rattle.replay_turns.specs.Gathered.{GatheredView, HasRun}
 use Rattle.replay_turns.proofs.SlotLemmas.{has_run, never_none}
 use Rattle.replay_turns.proofs.gathered.Gathered.run.Goals as goal

@@ -1,4 +1,4 @@
-use Rattle.std.proofs.Common.{◌≡◌, ◌∙◌, ◌<◌, ℕ, [], true, List, Option, ap, arith, length, subst, sym}
+use Rattle.std.proofs.Common.{◌≡◌, ◌∙◌, ◌<◌, [], true, List, Option, ap, arith, length, subst, sym}
 use Rattle.std.proofs.lemmas.List.{with_items_is}
 use Rattle.domain_turns.specs.Runs.{RunView}
 use Rattle.schedule_drive.specs.Together.{AllHave, SharesOn, all_halted}

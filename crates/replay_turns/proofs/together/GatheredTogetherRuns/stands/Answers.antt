@@ -1,5 +1,5 @@
 use Rattle.std.proofs.Common.{subst}
-use Rattle.replay_turns.specs.Gathered.{GatheredView, IsGathered}
+use Rattle.replay_turns.specs.Gathered.{IsGathered}
 use Rattle.replay_turns.proofs.Sharing.{shared_is}
 use Rattle.replay_turns.proofs.together.GatheredTogetherRuns.stands.Goals as goal
 
