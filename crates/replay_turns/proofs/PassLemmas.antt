@@ -285,7 +285,7 @@ module _ (h : SharedHeap) (complete : Bool) (r s : RunView) (is : IsRun r) (now 
           next = drop_next r.commands r.next FullMajor a.waited.next;
           asked = ap (λ (cs : List model.Command). asked_for cs r.asked) (drop_next r.commands r.next FullMajor a.waited.next) ∙ a.waited.wished;
           made = refl;
-          run = ap one_run a.run ∙ λ i. record { left = drop (r.next + 1) r.commands; replies = sym (ap (λ (z : RunView). z.replies) a.run) i; asked = unasked (drop (r.next + 1) r.commands) i; runs = is_running (sym a.arrived i); ended = r.ended };
+          run = ap one_run a.run ∙ λ i. record { commands = r.commands; left = drop (r.next + 1) r.commands; replies = sym (ap (λ (z : RunView). z.replies) a.run) i; asked = unasked (drop (r.next + 1) r.commands) i; runs = is_running (sym a.arrived i); ended = r.ended };
         };
         steps = steps_one d y.seen.front mid x.seen.front e (grown_twice d mid b.seen.front x.seen.front grew (passed_front h.config x b a.answers.comes.passed)) (ap (λ (v : DomainView). v.seen.front) view ∙ ends);
         walk = answer_walk a.last a.arrived b a.answers.comes left_is number kept walk;

@@ -180,9 +180,9 @@ module _ (h : SharedHeap) (shares : List Entry → Type 0) (d : ℕ) (r s : RunV
 
   -- the run behind a command, but for what a replay doesn't see
   behind_command : (reply : Reply) → (v : RunView) → one_run s ≡ one_run v → v.replies ≡ r.replies ++ reply ∷ [] → s.replies ≡ v.replies
-      → one_run v ≡ record { left = drop (r.next + 1) r.commands; replies = r.replies ++ reply ∷ []; asked = asked_for (drop (r.next + 1) r.commands) None; runs = is_running r.left; ended = r.ended }
+      → one_run v ≡ record { commands = r.commands; left = drop (r.next + 1) r.commands; replies = r.replies ++ reply ∷ []; asked = asked_for (drop (r.next + 1) r.commands) None; runs = is_running r.left; ended = r.ended }
       → one_run s ≡ record (one_run r) { left = drop (r.next + 1) r.commands; replies = s.replies; asked = false }
-  behind_command reply v same replies kept is = same ∙ (is ∙ λ i. record { left = drop (r.next + 1) r.commands; replies = sym (kept ∙ replies) i; asked = unasked (drop (r.next + 1) r.commands) i; runs = is_running r.left; ended = r.ended })
+  behind_command reply v same replies kept is = same ∙ (is ∙ λ i. record { commands = r.commands; left = drop (r.next + 1) r.commands; replies = sym (kept ∙ replies) i; asked = unasked (drop (r.next + 1) r.commands) i; runs = is_running r.left; ended = r.ended })
 
   tries : (c : model.Command) → TriesCommand h r.token r s c → TurnedBy z shares d r s stepped
   tries c t =
@@ -287,7 +287,7 @@ module _ (h : SharedHeap) (shares : List Entry → Type 0) (d : ℕ) (r s : RunV
       own = EndOf d ∷ [];
       steps = subst (λ (n : ℕ). Steps n x.seen.front y.seen.front (EndOf n ∷ [])) (sym mine)
           (answer_steps z x.own.number y.seen.front x.seen.front (EndOf x.own.number) Silent refl (subst (λ (k : Config). Answers (sizes_in k) x.own.number x.seen.front y.seen.front (EndOf x.own.number) Silent) config e.ended.answers));
-      tells = inr record { none = none; made = refl; run = ap one_run e.run ∙ λ i. record { left = drop r.next r.commands; replies = r.replies; asked = ap (λ (cs : List model.Command). asked_for cs r.asked) none i; runs = is_running r.left; ended = true } };
+      tells = inr record { none = none; made = refl; run = ap one_run e.run ∙ λ i. record { commands = r.commands; left = drop r.next r.commands; replies = r.replies; asked = ap (λ (cs : List model.Command). asked_for cs r.asked) none i; runs = is_running r.left; ended = true } };
       number = ap (λ (v : DomainView). v.own.number) e.ended.view;
     }
     go Ran at = absurd (true≢false (sym over ∙ at.1))

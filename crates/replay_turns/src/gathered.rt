@@ -100,6 +100,13 @@ impl Gathered {
         (heap, runs)
     }
 
+    /// There is a run for each domain of the heap, at its place, and of each it is known what it keeps.
+    pub fn is_whole(&self)
+        ensures { IsGathered self.now }
+    {
+        let _heap = &self.heap;
+    }
+
     // The run of the domain with this number.
     pub(crate) fn run(&self, at: usize) -> &DomainRun
         requires inside { at < length self.now.runs }
