@@ -1,28 +1,28 @@
 -- The runs of a heap, as a replay sees them, from their start to their end.
-use Rattle.std.proofs.Common.{◌≡◌, ℕ, zero, suc, ◌<◌, ◌≤◌, Bool, true, false, List, [], ◌∷◌, map, length, get_or, slice_get, drop, option_map, Some, None, refl, sym, ap, ◌∙◌, subst, ⊎_elim, Option}
+use Rattle.std.proofs.Common.{◌≡◌, ℕ, zero, suc, true, false, List, [], ◌∷◌, map, length, get_or, slice_get, drop, option_map, Some, None, refl, sym, ap, ◌∙◌, subst, Option}
 use Rattle.std.proofs.lemmas.List.{length-map}
-use Rattle.std.proofs.lemmas.Option.{slice_get-map, slice_get-get_or}
-use Rattle.std.proofs.lemmas.Simd.{map-map}
+use Rattle.std.proofs.lemmas.Option.{get_or_from_slice_get, slice_get-map}
 use Rattle.heap_model.specs.declared.command.Command.{Command}
 use Rattle.heap_model.specs.declared.entry.Entry.{Entry}
 use Rattle.heap_model.specs.declared.state.Sizes.{Sizes}
 use Rattle.heap_model.specs.History.{Legal, replies}
 use Rattle.heap_rule.specs.declared.phase.Kind.{Kind}
-use Rattle.heap_rule.specs.Ending.{Begins}
 use Rattle.heap_rule.specs.Limits.{sizes_in}
 use Rattle.heap_rule.specs.Token.{SharedHeap, IsIn}
-use Rattle.domain_turns.specs.Runs.{RunView, is_asked}
+use Rattle.domain_turns.specs.Runs.{RunView}
 use Rattle.schedule_laws.specs.declared.items.Item.{Item}
 use Rattle.schedule_laws.specs.Scheduled.{scheduled}
-use Rattle.schedule_drive.specs.Together.{AllHave, AllRuns, OneRun}
-use Rattle.schedule_drive.specs.Pausing.{all_commands, askeds, lefts}
+use Rattle.schedule_drive.specs.Together.{AllHave, OneRun}
+use Rattle.schedule_drive.specs.Pausing.{all_commands, lefts}
 use Rattle.schedule_drive.specs.Following.{IsCalm}
-use Rattle.schedule_drive.proofs.Listing.{read_at}
-use Rattle.schedule_drive.proofs.Turns.{true_all}
-use Rattle.replay_turns.specs.Ends.{MayGather, TakenApart}
+use Rattle.replay_turns.specs.Ends.{TakenApart}
 use Rattle.replay_turns.specs.Gathered.{GatheredView, HasRun, IsGathered, MayShare, asked_for, is_running, one_run, run_at, seen_in}
 use Rattle.replay_turns.proofs.EndLemmas.{nothing_shared}
-use Rattle.replay_run.specs.Replayed.{HasPlayed, IsUntouched, MayReplay, Replayed, commands_of}
+use Rattle.replay_run.specs.Replayed.{IsUntouched, MayReplay, Replayed, commands_of}
+
+-- what a list has at a place, of what another has there
+read_at : {A B : Type 0} (f : A → B) (xs : List A) (d : ℕ) (x : A) (e : B) → slice_get xs d ≡ Some x → get_or (map f xs) d e ≡ f x
+read_at f xs d x e was = get_or_from_slice_get (map f xs) d (f x) e (slice_get-map f xs d ∙ ap (option_map f) was)
 
 -- where the runs stand, as they were gathered
 abbrev gathered : SharedHeap → List RunView → GatheredView
@@ -54,9 +54,9 @@ each_is f a (r ∷ runs) each (suc d) = each_is f a runs (λ e q at. each (suc e
 -- runs that have done nothing yet are calm
 pub begins_calm : (h : SharedHeap) (runs : List RunView) → MayReplay h runs → IsCalm (seen_in (gathered h runs))
 begins_calm h runs may = record {
-  run = true_all (λ (x : OneRun). x.runs) true (seen_in (gathered h runs)) (λ d.
-      ap (λ bs. get_or bs d true) (seen_all (λ (x : OneRun). x.runs) (λ r. is_running r.left) (λ r. refl) runs)
-      ∙ each_is (λ (r : RunView). is_running r.left) true runs (λ e r at. ap is_running (may.gathers.each e r at).left) d);
+  run = λ d x was.
+      sym (read_at (λ (y : OneRun). y.runs) (seen_in (gathered h runs)).runs d x true was) ∙ ap (λ bs. get_or bs d true) (seen_all (λ (y : OneRun). y.runs) (λ r. is_running r.left) (λ r. refl) runs)
+      ∙ each_is (λ (r : RunView). is_running r.left) true runs (λ e r at. ap is_running (may.gathers.each e r at).left) d;
   none = λ d.
       ap (λ bs. get_or bs d false) (seen_all (λ (x : OneRun). x.asked) (λ r. asked_for (drop r.next r.commands) r.asked) (λ r. refl) runs)
       ∙ each_is (λ (r : RunView). asked_for (drop r.next r.commands) r.asked) false runs (λ e r at. ap (asked_for (drop r.next r.commands)) (may.each e r at).asked ∙ none_asked_for (drop r.next r.commands)) d;
@@ -117,7 +117,7 @@ taken g f runs items h new is untouched sizes commands ended whole answers heap 
             here = subst (λ (k : SharedHeap). IsIn r.token k) (sym heap) (apart.here d r at);
             number = ap (λ (x : RunView). x.token.view.own.number) more.is ∙ held.number;
             listed = ap (λ (x : RunView). x.supply) more.is ∙ held.listed;
-            commands = ap (λ (x : RunView). x.commands) more.is ∙ sym (read_at (λ (x : OneRun). x.commands) (seen_in f).runs d (one_run q) [] (seen_at f d q was.1)) ∙ ap (λ (cs : List (List Command)). get_or cs d []) (commands ∙ made);
+            made = ap (λ (x : RunView). x.commands) more.is ∙ sym (read_at (λ (x : OneRun). x.commands) (seen_in f).runs d (one_run q) [] (seen_at f d q was.1)) ∙ ap (λ (cs : List (List Command)). get_or cs d []) (commands ∙ made);
             over = ap (λ (x : RunView). x.ended) more.is ∙ ended d (one_run q) (seen_at f d q was.1);
           };
       replies = λ log legal begins d few.

@@ -34,7 +34,7 @@ pub record HasPlayed (h : SharedHeap) (d : ℕ) (commands : List Command) (r : R
   pub here : IsIn r.token h
   pub number : r.token.view.own.number ≡ d
   pub listed : r.supply ≡ Listed
-  pub commands : r.commands ≡ commands
+  pub made : r.commands ≡ commands
   pub over : r.ended ≡ true
 
 -- The runs have ended under a schedule: in each history with which the heap may end each domain has the replies that it has in the scheduled history
