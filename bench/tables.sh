@@ -48,27 +48,36 @@ difference() {
     echo $((($(instructions "$long" "$@") - $(instructions "$short" "$@")) / lines))
 }
 
-# A text of $1 bindings, whose keys are let go of one after the other and are in no collection before its end, and then $2 times `get`.
+# A text of $1 bindings, none of which is in a collection before its end, and then $2 times `get` of the key in register $3: the first of
+# all keys in 2, the last in 1. A bucket has its cells with the last first.
 bound() {
-    awk -v keys="$1" -v gets="$2" 'BEGIN {
-        print "table 1"
-        for (k = 0; k < keys; k++) print "key 1\nput 1 " k
-        for (k = 0; k < gets; k++) print "get 1"
+    awk -v keys="$1" -v gets="$2" -v register="$3" 'BEGIN {
+        print "table 1\nkey 2\nput 2 0"
+        for (k = 1; k < keys; k++) print "key 1\nput 1 " k
+        for (k = 0; k < gets; k++) print "get " register
     }'
 }
 
+largest=(table --minor 65536 --pools 2048)
 for bindings in 64 1000 2000 4000; do
-    bound "$bindings" 0 >"$work/none"
-    bound "$bindings" 100 >"$work/gets"
-    { bound "$bindings" 0 && echo count; } >"$work/count"
-    there=$("$program" table --minor 65536 --pools 2048 <"$work/count" | tail -n 1)
-    echo "get in a table of $bindings bindings ($there): $(difference "$work/gets" "$work/none" 100 table --minor 65536 --pools 2048) instructions"
+    bound "$bindings" 0 1 >"$work/none"
+    { cat "$work/none" && echo count; } >"$work/count"
+    there=$("$program" "${largest[@]}" <"$work/count" | tail -n 1)
+    for register in 1 2; do
+        bound "$bindings" 100 "$register" >"$work/gets"
+        echo "get of the $([ "$register" = 1 ] && echo last || echo first) of $bindings keys ($there): $(difference "$work/gets" "$work/none" 100 "${largest[@]}") instructions"
+    done
 done
 
+# $2 times the line $1.
+again() {
+    awk -v line="$1" -v times="$2" 'BEGIN { for (k = 0; k < times; k++) print line }'
+}
+
 # One command in both: a register is emptied.
-{ echo "table 1" && yes "forget 1" | head -n 1000; } >"$work/session_short"
-{ echo "table 1" && yes "forget 1" | head -n 9000; } >"$work/session_long"
-{ printf 'heap 1\ndomain 0\n' && yes "drop 1" | head -n 1000; } >"$work/script_short"
-{ printf 'heap 1\ndomain 0\n' && yes "drop 1" | head -n 9000; } >"$work/script_long"
-echo "a register emptied by a session: $(difference "$work/session_long" "$work/session_short" 8000 table) instructions, with the line read and its reply written"
-echo "by a script: $(difference "$work/script_long" "$work/script_short" 8000 run --domains 1) instructions"
+for lines in 1000 9000; do
+    { echo "table 1" && again "forget 1" "$lines"; } >"$work/session_$lines"
+    { printf 'heap 1\ndomain 0\n' && again "drop 1" "$lines"; } >"$work/script_$lines"
+done
+echo "a register emptied by a session: $(difference "$work/session_9000" "$work/session_1000" 8000 table) instructions, with the line read and its reply written"
+echo "by a script: $(difference "$work/script_9000" "$work/script_1000" 8000 run --domains 1) instructions"

@@ -4,7 +4,17 @@ use crate::{beside, ephemerons, finalisers};
 use std::test::Fail;
 
 // Words, a script, and what its run prints.
-const REPLIES: [(&str, &str, &str); 23] = [
+const REPLIES: [(&str, &str, &str); 25] = [
+    (
+        "table",
+        "table 1\nkey 1\nkey 2\nput 1 10\nput 2 20\nput 1 11\nget 1\ncount\nforget 2\nfull_major\ncount\nget 1\ndel 1\nget 1\nget 2\n",
+        "ok\nok\nok\nok\nok\nint 11\ncount 2\nok\nok\ncount 1\nint 11\nok\nnone\ntype\n",
+    ),
+    (
+        "table --minor=4096 --pools 51",
+        "table 1\nkey 1\nwset 3 1\nwget 2 3\nforget 1\nfull_major\nwget 4 3\nforget 2\nforget 4\nfull_major\nwget 5 3\n",
+        "ok\nok\nyes\nok\nok\nyes\nok\nok\nok\nnone\n",
+    ),
     ("run --domains 1", PLAIN, PLAIN_PRINTS),
     ("run --domains 1", "heap 1\ndomain 0\n", "domain 0\n"),
     ("run", "heap 1\ndomain 0\n", "domain 0\ndomain 1\n"),
@@ -141,7 +151,7 @@ fn scripts_of_one_domain(rt: HostRuntime) -> Result<(), Fail> {
 }
 
 // Words, a script, and the line of its first fault.
-const REFUSED: [(&str, &str, &str); 16] = [
+const REFUSED: [(&str, &str, &str); 20] = [
     (
         "run --domains 1",
         "heap 1\ndomain 0\nint 1 4611686018427387903\nint 1 -4611686018427387904\nint 1 4611686018427387904\n",
@@ -219,9 +229,21 @@ const REFUSED: [(&str, &str, &str); 16] = [
         "heap 1\ndomain 1\n",
         "script line 2: section order\n",
     ),
+    ("table", "heap 1\n", "script line 1: syntax\n"),
+    (
+        "table",
+        "table 1\nkey 1\nkey 6\n",
+        "script line 3: number 1 out of range\n",
+    ),
+    (
+        "table",
+        "table 1\nwset 16 1\n",
+        "script line 2: number 1 out of range\n",
+    ),
+    ("table", "table 1\ncount", "script line 2: syntax\n"),
 ];
 
-const OTHER_WORDS: [&str; 21] = [
+const OTHER_WORDS: [&str; 22] = [
     "",
     "run x",
     "run --domains 9",
@@ -230,6 +252,7 @@ const OTHER_WORDS: [&str; 21] = [
     "run --domains 1 --minor 4096 --pools 19",
     "run --minor 5000",
     "run --pools 20 --pools 20",
+    "table --domains 2",
     "--help",
     "gen",
     "gen 7 1",

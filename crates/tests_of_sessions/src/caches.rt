@@ -1,9 +1,12 @@
 //! A cache of the example crate: its entries go with their keys, and it has no more than it may.
+ghost use Rattle.std.specs.Prelude.{◌<◌};
+
 use crate::same::same;
 use example_cache::{Cache, Inserted};
 use heap_model::label::Label;
 use heap_model::reply::Reply;
 use heap_session::Session;
+use std::sync::Wait;
 use std::test::Fail;
 
 // The shared block, which register 0 holds.
@@ -33,5 +36,32 @@ fn entries_go_with_their_keys(rt: HostRuntime) -> Result<(), Fail> {
     same(&rt, cache.forget(&rt, 1), true);
     same(&rt, cache.get(&rt, 4, 1), None);
     same(&rt, cache.get(&rt, 4, 3), Some(SHARED));
+    Ok(())
+}
+
+// Two fresh keys, the second of which only the entry of the first leads to. Each gets an entry.
+fn insert_two(rt: &impl Wait, cache: &mut Cache, register: u8) -> bool
+    requires { register < 6 }
+{
+    cache.new_key(rt, register)
+        && cache.new_key(rt, 6)
+        && cache.insert(rt, register, 6) == Inserted::Stored
+        && cache.insert(rt, 6, 0) == Inserted::Stored
+}
+
+// 1,000 entries of fresh keys, ten of which are alive at a time, on the least heap, with room for 160 ephemerons.
+#[test]
+fn a_table_uses_its_cells_again(rt: HostRuntime) -> Result<(), Fail> {
+    let session = Session::make(rt.alloc(), 4096, 20, 160)?;
+    let Ok(mut cache) = Cache::make(&rt, session, 40) else {
+        return Err(Fail::from("no room for the table"));
+    };
+    for pair in 0..500u32 {
+        if pair % 10 == 0 {
+            cache.collect(&rt);
+        }
+        let register = 1 + (pair % 5) as u8;
+        same(&rt, insert_two(&rt, &mut cache, register), true);
+    }
     Ok(())
 }

@@ -34,6 +34,13 @@ const RUNS: [(&str, (u32, u32, u32)); 6] = [
     ("run --minor 4096 --pools=39", (2, 4096, 39)),
 ];
 
+// Words of a table, and the minor words and pools that they ask for.
+const TABLES: [(&str, (u32, u32)); 3] = [
+    ("table", (32768, 512)),
+    ("table --domains=1 --pools 600", (32768, 600)),
+    ("table --minor 4096 --pools 51", (4096, 51)),
+];
+
 // Numbers of a script that may be asked for.
 const SCRIPTS: [(&str, (u32, u32, u32)); 3] = [
     ("0 1 0", (0, 1, 0)),
@@ -41,7 +48,7 @@ const SCRIPTS: [(&str, (u32, u32, u32)); 3] = [
     ("1000000 8 25000", (1_000_000, 8, 25000)),
 ];
 
-const REFUSED: [&str; 33] = [
+const REFUSED: [&str; 36] = [
     "",
     "run x",
     "runs",
@@ -62,6 +69,9 @@ const REFUSED: [&str; 33] = [
     "run --help",
     "run --",
     "run --domain 1",
+    "table --domains 2",
+    "table --minor 4096 --pools 50",
+    "table table",
     "gen",
     "gen 1 2",
     "gen 1 2 3 4",
@@ -84,6 +94,19 @@ fn lines_are_taken_or_refused(rt: HostRuntime) -> Result<(), Fail> {
             domains: asked.0,
             pools: asked.2,
             minor_words: asked.1,
+            classes: 9,
+        });
+        same(
+            &rt,
+            (read(rt.alloc(), line)?, *line),
+            ((true, Some(job)), *line),
+        );
+    }
+    for (line, asked) in &TABLES {
+        let job = Job::Table(Sizes {
+            domains: 1,
+            pools: asked.1,
+            minor_words: asked.0,
             classes: 9,
         });
         same(

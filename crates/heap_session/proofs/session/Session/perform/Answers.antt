@@ -1,7 +1,6 @@
 use Rattle.std.proofs.Common.{subst, ◌≡◌, ◌≤◌, ◌+◌}
 use Rattle.command_counts.specs.Counts.{ephemerons_given, labels_given}
 use Rattle.table_laws.specs.Performing.{Performed}
-use Rattle.domain_turns.specs.Tries.{registrations_of}
 use Rattle.heap_session.specs.Sessions.{SessionView}
 use Rattle.heap_rule.specs.Limits.{sizes_in}
 use Rattle.heap_session.proofs.Driven.{performed, rests_again, submitted}
