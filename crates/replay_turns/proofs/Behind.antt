@@ -75,6 +75,3 @@ prefix_on a b c p q = record { rest = p.rest ++ q.rest; appends = q.appends ∙ 
 
 pub prefix_same : (a : List Entry) → IsPrefix a a
 prefix_same a = record { rest = []; appends = sym (append-nil a) }
-
-pub prefix_front : (d : ℕ) (new old : List Entry) → IsFrontOf d new old → IsPrefix old new
-prefix_front d new old f = record { rest = f.rest; appends = f.appends }

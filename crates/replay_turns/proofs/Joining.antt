@@ -27,7 +27,7 @@ use Rattle.replay_turns.proofs.PassLemmas.{passed}
 use Rattle.replay_turns.proofs.Places.{get_map, set_else, set_here, set_map}
 use Rattle.replay_turns.proofs.Sharing.{halted_shares, leveled_shares, shares_on}
 use Rattle.replay_turns.proofs.SlotLemmas.{inside, one_there}
-use Rattle.replay_turns.proofs.TurnLemmas.{TurnedBy}
+use Rattle.replay_turns.proofs.TurnLemmas.{TurnedBy, empty_list}
 use Rattle.replay_turns.proofs.Walk.{walk_begins}
 
 -- lists that are the same at each place
@@ -345,11 +345,7 @@ module _ (g : GatheredView) (all : IsGathered g) (mid : List (Option RunView)) (
         let t = ms.trails at p.made made_there in
         let d : ℕ = p.made.token.view.own.number in
         let here : (domain_at (state_of g.heap.config h) d).queue ≡ (domain_at (state_of g.heap.config p.made.token.view.seen.front) d).queue = queue_of_front (opening (sizes_in g.heap.config)) d h p.made.token.view.seen.front t.begins (t.calls made_runs) in
-        subst (λ (n : ℕ). (domain_at (state_of g.heap.config h) n).queue ≡ []) made_held.number (no_length _ (ap length here ∙ none))
-      where
-        no_length : {A : Type 0} (xs : List A) → length xs ≡ 0 → xs ≡ []
-        no_length [] e = refl
-        no_length (x ∷ xs) e = absurd (omega (arith, e))
+        subst (λ (n : ℕ). (domain_at (state_of g.heap.config h) n).queue ≡ []) made_held.number (empty_list _ (ap length here ∙ none))
 
     lead_same : lead_by g.complete new ≡ lead_by g.complete g.runs
     lead_same = dite (ℕ_discrete at 0)

@@ -112,7 +112,7 @@ drop_past [] (suc n) past = refl
 drop_past (x ∷ xs) zero past = absurd (omega (arith, past))
 drop_past (x ∷ xs) (suc n) past = drop_past xs n (omega (arith, past))
 
-empty_list : {A : Type 0} (xs : List A) → length xs ≡ 0 → xs ≡ []
+pub empty_list : {A : Type 0} (xs : List A) → length xs ≡ 0 → xs ≡ []
 empty_list [] none = refl
 empty_list (x ∷ xs) none = absurd (omega (arith, none))
 
