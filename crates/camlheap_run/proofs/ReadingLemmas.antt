@@ -5,16 +5,22 @@ use Rattle.std.specs.declared.option.Option.{Option}
 use Rattle.std.proofs.Math.Seq.{take-append_seam}
 use Rattle.std.proofs.lemmas.List.{take_all}
 use Rattle.std.specs.Io.KnownBytes.{IsAtEnd}
+use Rattle.heap_text.specs.declared.version.Version.TheVariants.{Two}
 use Rattle.heap_text.specs.declared.fault.ScriptFault.{ScriptFault}
 use Rattle.heap_text.specs.declared.fault.ScriptFault.TheVariants.{Syntax, Order, Range, TooLong, TooMany, Spawn, Memory}
-use Rattle.heap_text.specs.declared.version.Version.TheVariants.{Two}
 use Rattle.heap_text.specs.Script.{Scripted}
 use Rattle.heap_text.specs.Spelling.{IsUnlessMemory, Spells}
 use Rattle.camlheap_run.specs.declared.reading.NoScript.{NoScript}
+use Rattle.camlheap_run.specs.declared.reading.NoReplay.{NoReplay}
+use Rattle.camlheap_run.specs.declared.reading.NoReplay.TheVariants.{Refused as ReplayRefused}
 use Rattle.camlheap_run.specs.declared.reading.NoScript.TheVariants.{Refused}
+use Rattle.heap_model.specs.declared.state.Sizes.{Sizes}
+use Rattle.schedule_text.specs.declared.replay.ReplayFault.{ReplayFault}
+use Rattle.schedule_text.specs.declared.replay.ReplayFault.TheVariants.{Memory as ReplayMemory, NotReplayable as NotReplayableOf, Schedule as ScheduleOf, Script as ScriptOf}
+use Rattle.schedule_text.specs.Replays.{IsUnlessNoMemory, Replayed, SpellsReplay}
 use Rattle.table_text.specs.declared.line.TableLine.{TableLine}
 use Rattle.table_text.specs.Spelling.{Spells as SpellsTable}
-use Rattle.camlheap_run.specs.Reading.{AreRead, IsNoScript, most_read, Tells, TellsFirst, TellsScript, TellsTable}
+use Rattle.camlheap_run.specs.Reading.{AreRead, IsNoReplay, IsNoScript, most_read, Tells, TellsFirst, TellsReplay, TellsScript, TellsTable}
 
 -- the first bytes of the source are those that were read
 front_is_read : (all bytes rest : List ℕ) → all ≡ bytes ++ rest → length bytes ≤ most_read → IsAtEnd (Some rest) ⊎ (length bytes ≡ most_read) → take most_read all ≡ bytes
@@ -23,10 +29,10 @@ front_is_read all bytes rest is few (inl empty) =
     ap (take most_read) whole ∙ take_all most_read bytes few
 front_is_read all bytes rest is few (inr full) = ap (take most_read) is ∙ ap (λ n. take n (bytes ++ rest)) (sym full) ∙ take-append_seam bytes rest
 
-pub told_fault : (first_of : List ℕ → Option ScriptFault) (before after : Option (List ℕ)) (bytes : List ℕ) (f : ScriptFault) → AreRead before after bytes → TellsFirst first_of before f → first_of bytes ≡ Some f
-told_fault first_of None after bytes f read told = absurd told
-told_fault first_of (Some all) None bytes f read told = absurd read.consumed
-told_fault first_of (Some all) (Some rest) bytes f read told = ap first_of (sym (front_is_read all bytes rest read.consumed read.few read.whole)) ∙ told
+pub told_fault : {F : Type 0} (is_first : List ℕ → F → Type 0) (before after : Option (List ℕ)) (bytes : List ℕ) (f : F) → AreRead before after bytes → TellsFirst is_first before f → is_first bytes f
+told_fault is_first None after bytes f read told = absurd told
+told_fault is_first (Some all) None bytes f read told = absurd read.consumed
+told_fault is_first (Some all) (Some rest) bytes f read told = subst (λ bs. is_first bs f) (front_is_read all bytes rest read.consumed read.few read.whole) told
 
 -- what the bytes of the source spell was read whole
 all_is_read : (all bytes rest : List ℕ) → AreRead (Some all) (Some rest) bytes → length all ≤ 16777216 → all ≡ bytes
@@ -46,6 +52,9 @@ told_script domains before after bytes s read tells = told (Spells Two domains s
 pub told_table : (before after : Option (List ℕ)) (bytes : List ℕ) (lines : List TableLine) → AreRead before after bytes → TellsTable before lines → SpellsTable lines bytes
 told_table before after bytes lines read tells = told (SpellsTable lines) (λ all spells. spells.few_bytes) before after bytes read tells
 
+pub told_replay : (z : Sizes) (before after : Option (List ℕ)) (bytes : List ℕ) (r : Replayed) → AreRead before after bytes → TellsReplay z before r → SpellsReplay z.domains z.pools r bytes
+told_replay z before after bytes r read tells = told (SpellsReplay z.domains z.pools r) (λ all spells. spells.few) before after bytes read tells
+
 no_fault_but_memory : {A : Type 0} (s : A) (fault : ScriptFault) → fault ≢ Memory → IsUnlessMemory {A = A} (Err fault) (Ok s) → ⊥
 no_fault_but_memory s Memory other given = other refl
 no_fault_but_memory s (Syntax line) other given = cc
@@ -60,3 +69,15 @@ pub not_refused : {A : Type 0} (s : A) (fault f : ScriptFault) (why : NoScript) 
 not_refused s fault f why none is given =
     let refused = subst (IsNoScript fault) is none in
     no_fault_but_memory s fault (λ same. refused.1 (refused.0 ∙ same)) given
+
+-- nor is what spells a replay
+replay_fault_but_memory : (r : Replayed) (fault : ReplayFault) → fault ≢ ReplayMemory → IsUnlessNoMemory (Err fault) (Ok r) → ⊥
+replay_fault_but_memory r ReplayMemory other given = other refl
+replay_fault_but_memory r (ScheduleOf line) other given = cc
+replay_fault_but_memory r (ScriptOf fault) other given = cc
+replay_fault_but_memory r (NotReplayableOf why) other given = cc
+
+pub replay_not_refused : (r : Replayed) (fault f : ReplayFault) (why : NoReplay) → IsNoReplay fault why → why ≡ ReplayRefused f → IsUnlessNoMemory (Err fault) (Ok r) → ⊥
+replay_not_refused r fault f why none is given =
+    let refused = subst (IsNoReplay fault) is none in
+    replay_fault_but_memory r fault (λ same. refused.1 (refused.0 ∙ same)) given
