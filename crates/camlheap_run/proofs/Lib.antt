@@ -8,3 +8,4 @@ pub mod RunLemmas
 pub mod WordLemmas
 pub mod StatusLemmas
 pub mod TableLemmas
+mod ReplayLemmas

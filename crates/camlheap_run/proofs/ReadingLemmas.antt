@@ -11,9 +11,11 @@ use Rattle.heap_text.specs.Script.{Scripted}
 use Rattle.heap_text.specs.Spelling.{IsUnlessMemory, Spells}
 use Rattle.camlheap_run.specs.declared.reading.NoScript.{NoScript}
 use Rattle.camlheap_run.specs.declared.reading.NoScript.TheVariants.{Refused}
+use Rattle.heap_model.specs.declared.state.Sizes.{Sizes}
+use Rattle.schedule_text.specs.Replays.{Replayed, SpellsReplay}
 use Rattle.table_text.specs.declared.line.TableLine.{TableLine}
 use Rattle.table_text.specs.Spelling.{Spells as SpellsTable}
-use Rattle.camlheap_run.specs.Reading.{AreRead, IsNoScript, most_read, Tells, TellsFirst, TellsScript, TellsTable}
+use Rattle.camlheap_run.specs.Reading.{AreRead, IsNoScript, most_read, Tells, TellsFirst, TellsReplay, TellsScript, TellsTable}
 
 -- the first bytes of the source are those that were read
 front_is_read : (all bytes rest : List ℕ) → all ≡ bytes ++ rest → length bytes ≤ most_read → IsAtEnd (Some rest) ⊎ (length bytes ≡ most_read) → take most_read all ≡ bytes
@@ -22,10 +24,10 @@ front_is_read all bytes rest is few (inl empty) =
     ap (take most_read) whole ∙ take_all most_read bytes few
 front_is_read all bytes rest is few (inr full) = ap (take most_read) is ∙ ap (λ n. take n (bytes ++ rest)) (sym full) ∙ take-append_seam bytes rest
 
-pub told_fault : (first_of : List ℕ → Option ScriptFault) (before after : Option (List ℕ)) (bytes : List ℕ) (f : ScriptFault) → AreRead before after bytes → TellsFirst first_of before f → first_of bytes ≡ Some f
-told_fault first_of None after bytes f read told = absurd told
-told_fault first_of (Some all) None bytes f read told = absurd read.consumed
-told_fault first_of (Some all) (Some rest) bytes f read told = ap first_of (sym (front_is_read all bytes rest read.consumed read.few read.whole)) ∙ told
+pub told_fault : {F : Type 0} (is_first : List ℕ → F → Type 0) (before after : Option (List ℕ)) (bytes : List ℕ) (f : F) → AreRead before after bytes → TellsFirst is_first before f → is_first bytes f
+told_fault is_first None after bytes f read told = absurd told
+told_fault is_first (Some all) None bytes f read told = absurd read.consumed
+told_fault is_first (Some all) (Some rest) bytes f read told = subst (λ bs. is_first bs f) (front_is_read all bytes rest read.consumed read.few read.whole) told
 
 -- what the bytes of the source spell was read whole
 all_is_read : (all bytes rest : List ℕ) → AreRead (Some all) (Some rest) bytes → length all ≤ 16777216 → all ≡ bytes
@@ -44,6 +46,9 @@ told_script domains before after bytes s read tells = told (Spells domains s) (�
 
 pub told_table : (before after : Option (List ℕ)) (bytes : List ℕ) (lines : List TableLine) → AreRead before after bytes → TellsTable before lines → SpellsTable lines bytes
 told_table before after bytes lines read tells = told (SpellsTable lines) (λ all spells. spells.few_bytes) before after bytes read tells
+
+pub told_replay : (z : Sizes) (before after : Option (List ℕ)) (bytes : List ℕ) (r : Replayed) → AreRead before after bytes → TellsReplay z before r → SpellsReplay z.domains z.pools r bytes
+told_replay z before after bytes r read tells = told (SpellsReplay z.domains z.pools r) (λ all spells. spells.few) before after bytes read tells
 
 no_fault_but_memory : {A : Type 0} (s : A) (fault : ScriptFault) → fault ≢ Memory → IsUnlessMemory {A = A} (Err fault) (Ok s) → ⊥
 no_fault_but_memory s Memory other given = other refl

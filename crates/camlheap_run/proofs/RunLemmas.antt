@@ -37,16 +37,16 @@ all_in h [] here = tt
 all_in h (r ∷ runs) here = (here.0, all_in h runs here.1)
 
 -- what holds at each place holds of each
-all_from_each : {A : Type 0} (P : A → Type 0) (xs : List A) → ((i : ℕ) (x : A) → slice_get xs i ≡ Some x → P x) → AllByRecursion P xs
+pub all_from_each : {A : Type 0} (P : A → Type 0) (xs : List A) → ((i : ℕ) (x : A) → slice_get xs i ≡ Some x → P x) → AllByRecursion P xs
 all_from_each P [] each = tt
 all_from_each P (x ∷ xs) each = (each 0 x refl, all_from_each P xs (λ i y at. each (suc i) y at))
 
-each_from_all : {A : Type 0} (P : A → Type 0) (xs : List A) (i : ℕ) (x : A) → AllByRecursion P xs → slice_get xs i ≡ Some x → P x
+pub each_from_all : {A : Type 0} (P : A → Type 0) (xs : List A) (i : ℕ) (x : A) → AllByRecursion P xs → slice_get xs i ≡ Some x → P x
 each_from_all P [] i x all at = cc
 each_from_all P (y ∷ xs) zero x all at = let is : y ≡ x = cc in subst P is all.0
 each_from_all P (y ∷ xs) (suc i) x all at = each_from_all P xs i x all.1 at
 
-begins_at : (history : List Entry) (runs : List RunView) (i : ℕ) (r : RunView) → AllBegin history (map token_of runs) → slice_get runs i ≡ Some r → Begins history r.token.view
+pub begins_at : (history : List Entry) (runs : List RunView) (i : ℕ) (r : RunView) → AllBegin history (map token_of runs) → slice_get runs i ≡ Some r → Begins history r.token.view
 begins_at history [] i r all at = cc
 begins_at history (q ∷ runs) zero r all at = let is : q ≡ r = cc in subst (λ (x : RunView). Begins history x.token.view) is all.0
 begins_at history (q ∷ runs) (suc i) r all at = begins_at history runs i r all.1 at
@@ -84,12 +84,12 @@ pub record Ran (z : Sizes) (k : Config) (script : List (List Command)) (b : Begu
   pub ended : IsPastOf b.heap new past
 
 -- one domain's part of the history: that of its run
-record Told (z : Sizes) (script : List (List Command)) (history : List Entry) (d : ℕ) (q : RunView) : Type 0 where
-  number : q.token.view.own.number ≡ d
-  made : commands history d ≡ slice_index_or script d []
-  ends : IsTrue (list_any (is_end_of d) history)
-  counted : length (commands history d) ≡ q.next
-  answered : replies z history d ≡ q.replies
+pub record Told (z : Sizes) (script : List (List Command)) (history : List Entry) (d : ℕ) (q : RunView) : Type 0 where
+  pub number : q.token.view.own.number ≡ d
+  pub made : commands history d ≡ slice_index_or script d []
+  pub ends : IsTrue (list_any (is_end_of d) history)
+  pub counted : length (commands history d) ≡ q.next
+  pub answered : replies z history d ≡ q.replies
 
 any_more : (a b c : Bool) → IsTrue (a || b) → (IsTrue b → IsTrue c) → IsTrue (a || c)
 any_more true b c h f = refl
@@ -122,22 +122,25 @@ ends_in history t begins over =
 whole_of : {A : Type 0} (s : Supply) (whole last : List A) → s ≡ Listed → EndsIn s whole last → whole ≡ last
 whole_of s whole last listed ends = subst (λ (t : Supply). EndsIn t whole last) listed ends
 
-told : (h : SharedHeap) (k : Config) (script : List (List Command)) (d : ℕ) (old q : RunView) (history : List Entry) → old ≡ opened script (opening_token h.table k d) → h.config ≡ k → IsIn q.token h → GoesOn old q → q.ended ≡ true → IsRun q
-    → Begins history q.token.view → Told (sizes_in k) script history d q
-told h k script d old q history is sized here goes ended run begins =
-    let number : q.token.view.own.number ≡ d = goes.number ∙ ap (λ (r : RunView). r.token.view.own.number) is in
-    let config : q.token.config ≡ k = here.1 ∙ sized in
-    let listed : q.supply ≡ Listed = goes.supply ∙ ap (λ (r : RunView). r.supply) is in
+-- the run of domain d, which has ended with all commands of its section
+pub told_by : (z : Sizes) (script : List (List Command)) (d : ℕ) (q : RunView) (history : List Entry) → q.token.view.own.number ≡ d → q.supply ≡ Listed → q.commands ≡ slice_index_or script d [] → sizes_in q.token.config ≡ z → q.ended ≡ true → IsRun q
+    → Begins history q.token.view → Told z script history d q
+told_by z script d q history number listed section sized ended run begins =
     let whole : take q.next q.commands ≡ q.commands = ap (λ (m : ℕ). take m q.commands) (run.done ended) ∙ take_all (length q.commands) q.commands (omega arith) in
     let all : commands history d ≡ q.commands = ap (commands history) (sym number) ∙ commands_of_front history q.token begins ∙ whole_of q.supply (commands q.token.view.seen.front q.token.view.own.number) (take q.next q.commands) listed run.made ∙ whole in
     record {
       number = number;
-      made = all ∙ goes.commands ∙ ap (λ (r : RunView). r.commands) is;
+      made = all ∙ section;
       counted = ap length all ∙ sym (run.done ended);
       ends = subst (λ (m : ℕ). IsTrue (list_any (is_end_of m) history)) number (ends_in history q.token begins (run.over ended));
-      answered = ap (λ (m : ℕ). replies (sizes_in k) history m) (sym number) ∙ ap (λ (c : Config). replies (sizes_in c) history q.token.view.own.number) (sym config)
+      answered = ap (λ (m : ℕ). replies z history m) (sym number) ∙ ap (λ (y : Sizes). replies y history q.token.view.own.number) (sym sized)
           ∙ replies_of_front (sizes_in q.token.config) history q.token begins ∙ whole_of q.supply (replies (sizes_in q.token.config) q.token.view.seen.front q.token.view.own.number) q.replies listed run.answered;
     }
+
+told : (h : SharedHeap) (k : Config) (script : List (List Command)) (d : ℕ) (old q : RunView) (history : List Entry) → old ≡ opened script (opening_token h.table k d) → h.config ≡ k → IsIn q.token h → GoesOn old q → q.ended ≡ true → IsRun q
+    → Begins history q.token.view → Told (sizes_in k) script history d q
+told h k script d old q history is sized here goes ended run begins =
+    told_by (sizes_in k) script d q history (goes.number ∙ ap (λ (r : RunView). r.token.view.own.number) is) (goes.supply ∙ ap (λ (r : RunView). r.supply) is) (goes.commands ∙ ap (λ (r : RunView). r.commands) is) (ap sizes_in (here.1 ∙ sized)) ended run begins
 
 -- each domain has its run, which tells its part of the history
 each_told : (z : Sizes) (k : Config) (script : List (List Command)) (b : Begun) (new : List RunView) (past : EndedHeap) → Ran z k script b new past → (d : ℕ) → d < k.domains
@@ -155,15 +158,21 @@ each_told z k script b new past ran d below =
           (each_from_all IsRun new d q ran.ended.faithful at) (begins_at past.history new d q ran.ended.fronts at),
     )
 
-sizes_are : (z : Sizes) (k : Config) (script : List (List Command)) (b : Begun) (new : List RunView) (past : EndedHeap) → Ran z k script b new past → past.sizes ≡ sizes_in k
-sizes_are z k script b new past ran = ran.ended.sizes ∙ ap sizes_in ran.begun.config
+-- what is known once a heap has ended with these runs: each tells its domain's part of the history
+pub record AreTold (z : Sizes) (script : List (List Command)) (new : List RunView) (past : EndedHeap) : Type 0 where
+  pub sizes : past.sizes ≡ z
+  pub legal : Legal z past.history
+  pub many : length new ≡ z.domains
+  pub each : (d : ℕ) → d < z.domains → (q : RunView) × (slice_get new d ≡ Some q) × Told z script past.history d q
 
-is_run : (z : Sizes) (k : Config) (script : List (List Command)) (b : Begun) (new : List RunView) (past : EndedHeap) → Ran z k script b new past → IsRunOf (sizes_in k) script past.history
-is_run z k script b new past ran = record {
-  legal = subst (λ (y : Sizes). Legal y past.history) (sizes_are z k script b new past ran) ran.ended.legal;
-  each_command = λ d below. (each_told z k script b new past ran d below).2.made;
-  each_ends = λ d below. (each_told z k script b new past ran d below).2.ends;
-}
+pub ran_told : (z : Sizes) (k : Config) (script : List (List Command)) (b : Begun) (new : List RunView) (past : EndedHeap) → Ran z k script b new past → AreTold z script new past
+ran_told z k script b new past ran = subst (λ (y : Sizes). AreTold y script new past) ran.sizes
+    (record {
+      sizes = ran.ended.sizes ∙ ap sizes_in ran.begun.config;
+      legal = subst (λ (y : Sizes). Legal y past.history) (ran.ended.sizes ∙ ap sizes_in ran.begun.config) ran.ended.legal;
+      many = ran.driven.count ∙ length-begun k script b ran.begun;
+      each = each_told z k script b new past ran;
+    })
 
 -- the texts of a range of domains are those of their runs
 texts : (f : ℕ → List ℕ) (g : RunView → List ℕ) (runs : List RunView) (a n : ℕ) → length runs ≡ n → ((i : ℕ) (q : RunView) → slice_get runs i ≡ Some q → f (a + i) ≡ g q) → flat_map f (range_with_len a n) ≡ flat_map g runs
@@ -200,39 +209,46 @@ text_told Summary z script history d q t =
     ∙ ap (λ (m : ℕ). summary_line m q.next q.replies) (sym t.number)
 
 -- the report of the history are the texts of the runs
-prints : (report : Report) (z : Sizes) (k : Config) (script : List (List Command)) (b : Begun) (new : List RunView) (past : EndedHeap) → Ran z k script b new past → text_of report (sizes_in k) past.history ≡ flat_map (run_text report) new
-prints report z k script b new past ran =
-    let many : length new ≡ k.domains = ran.driven.count ∙ length-begun k script b ran.begun in
-    by_domains report (sizes_in k) past.history ∙ texts (domain_text report (sizes_in k) past.history) (run_text report) new 0 k.domains many (λ i q at.
+prints : (report : Report) (z : Sizes) (script : List (List Command)) (new : List RunView) (past : EndedHeap) → AreTold z script new past → text_of report z past.history ≡ flat_map (run_text report) new
+prints report z script new past are =
+    by_domains report z past.history ∙ texts (domain_text report z past.history) (run_text report) new 0 z.domains are.many (λ i q at.
     let below : i < length new = slice_get_within new i q at in
-    let t = each_told z k script b new past ran i (omega arith) in
+    let t = are.each i (subst (λ n. i < n) are.many below) in
     let is : t.0 ≡ q = let both : ◌≡◌ {A = Option RunView} (Some t.0) (Some q) = sym t.1 ∙ at in cc in
     let same : 0 + i ≡ i = omega arith in
-    ap (domain_text report (sizes_in k) past.history) same ∙ text_told report (sizes_in k) script past.history i t.0 t.2 ∙ ap (run_text report) is)
+    ap (domain_text report z past.history) same ∙ text_told report z script past.history i t.0 t.2 ∙ ap (run_text report) is)
 
-has_run : (z : Sizes) (k : Config) (script : List (List Command)) (b : Begun) (new : List RunView) (past : EndedHeap) (ended : Option EndedHeap) → Ran z k script b new past → Some past ≡ ended → HasRun z script ended
-has_run z k script b new past ended ran is = record {
+has_run : (z : Sizes) (script : List (List Command)) (new : List RunView) (past : EndedHeap) (ended : Option EndedHeap) → AreTold z script new past → Some past ≡ ended → HasRun z script ended
+has_run z script new past ended are is = record {
   past = past;
   is_past = sym is;
-  sizes = sizes_are z k script b new past ran ∙ ran.sizes;
-  run = subst (λ (y : Sizes). IsRunOf y script past.history) ran.sizes (is_run z k script b new past ran);
+  sizes = are.sizes;
+  run = record { legal = are.legal; each_command = λ d below. (are.each d below).2.made; each_ends = λ d below. (are.each d below).2.ends };
 }
 
-printed_is : (report : Report) (z : Sizes) (k : Config) (script : List (List Command)) (b : Begun) (new shown : List RunView) (past : EndedHeap) → Ran z k script b new past → shown ≡ new → flat_map (run_text report) shown ≡ text_of report z past.history
-printed_is report z k script b new shown past ran is = ap (flat_map (run_text report)) is ∙ sym (prints report z k script b new past ran) ∙ ap (λ (y : Sizes). text_of report y past.history) ran.sizes
+printed_is : (report : Report) (z : Sizes) (script : List (List Command)) (new shown : List RunView) (past : EndedHeap) → AreTold z script new past → shown ≡ new → flat_map (run_text report) shown ≡ text_of report z past.history
+printed_is report z script new shown past are is = ap (flat_map (run_text report)) is ∙ sym (prints report z script new past are)
+
+pub told_run : (report : Report) (z : Sizes) (script : List (List Command)) (new shown : List RunView) (past : EndedHeap) (ended : Option EndedHeap) (before after : Option (List ℕ))
+    → AreTold z script new past → shown ≡ new → Some past ≡ ended → Appends before after (flat_map (run_text report) shown) → WritesRun (text_of report) z script ended before after
+unfolding has_run
+told_run report z script new shown past ended before after are is last bytes = record {
+  ran = has_run z script new past ended are last;
+  written = subst (λ (t : List ℕ). Appends before after t) (printed_is report z script new shown past are is) bytes;
+}
+
+pub told_front : (report : Report) (z : Sizes) (script : List (List Command)) (new shown : List RunView) (past : EndedHeap) (ended : Option EndedHeap) (before after : Option (List ℕ))
+    → AreTold z script new past → shown ≡ new → Some past ≡ ended → AppendsFront before after (flat_map (run_text report) shown) → WritesFrontOfRun (text_of report) z script ended before after
+unfolding has_run
+told_front report z script new shown past ended before after are is last bytes = record {
+  ran = has_run z script new past ended are last;
+  written = subst (λ (t : List ℕ). AppendsFront before after t) (printed_is report z script new shown past are is) bytes;
+}
 
 pub writes_run : (report : Report) (z : Sizes) (k : Config) (script : List (List Command)) (b : Begun) (new shown : List RunView) (past : EndedHeap) (ended : Option EndedHeap) (before after : Option (List ℕ))
     → Ran z k script b new past → shown ≡ new → Some past ≡ ended → Appends before after (flat_map (run_text report) shown) → WritesRun (text_of report) z script ended before after
-unfolding has_run
-writes_run report z k script b new shown past ended before after ran is last bytes = record {
-  ran = has_run z k script b new past ended ran last;
-  written = subst (λ (t : List ℕ). Appends before after t) (printed_is report z k script b new shown past ran is) bytes;
-}
+writes_run report z k script b new shown past ended before after ran is last bytes = told_run report z script new shown past ended before after (ran_told z k script b new past ran) is last bytes
 
 pub writes_front : (report : Report) (z : Sizes) (k : Config) (script : List (List Command)) (b : Begun) (new shown : List RunView) (past : EndedHeap) (ended : Option EndedHeap) (before after : Option (List ℕ))
     → Ran z k script b new past → shown ≡ new → Some past ≡ ended → AppendsFront before after (flat_map (run_text report) shown) → WritesFrontOfRun (text_of report) z script ended before after
-unfolding has_run
-writes_front report z k script b new shown past ended before after ran is last bytes = record {
-  ran = has_run z k script b new past ended ran last;
-  written = subst (λ (t : List ℕ). AppendsFront before after t) (printed_is report z k script b new shown past ran is) bytes;
-}
+writes_front report z k script b new shown past ended before after ran is last bytes = told_front report z script new shown past ended before after (ran_told z k script b new past ran) is last bytes

@@ -7,3 +7,4 @@ pub mod Run
 pub mod Running
 pub mod Outcome
 pub mod Tables
+pub mod Replaying

@@ -6,8 +6,14 @@ use Rattle.heap_text.specs.declared.fault.ScriptFault.{ScriptFault}
 use Rattle.heap_text.specs.declared.fault.ScriptFault.TheVariants.{Memory}
 use Rattle.camlheap_run.specs.declared.reading.NoScript.{NoScript}
 use Rattle.camlheap_run.specs.declared.reading.NoScript.TheVariants.{ReadFault, Refused, Memory as NoMemory}
+use Rattle.camlheap_run.specs.declared.reading.NoReplay.{NoReplay}
+use Rattle.camlheap_run.specs.declared.reading.NoReplay.TheVariants.{ReadFault as NoReplayRead, Refused as ReplayRefused, Memory as NoReplayMemory}
 use Rattle.heap_text.specs.Spelling.{Spells}
 use Rattle.heap_text.specs.Faults.{first_fault}
+use Rattle.heap_model.specs.declared.state.Sizes.{Sizes}
+use Rattle.schedule_text.specs.declared.replay.ReplayFault.{ReplayFault}
+use Rattle.schedule_text.specs.declared.replay.ReplayFault.TheVariants.{Memory as ReplayMemory}
+use Rattle.schedule_text.specs.Replays.{HasFault, Replayed, SpellsReplay}
 use Rattle.table_text.specs.declared.line.TableLine.{TableLine}
 use Rattle.table_text.specs.Spelling.{Spells as SpellsTable}
 
@@ -36,19 +42,30 @@ ReadsScript domains before after script = ReadsAll (Spells domains script) befor
 abbrev pub ReadsTable : Option (List ℕ) → Option (List ℕ) → List TableLine → Type 0
 ReadsTable before after lines = ReadsAll (SpellsTable lines) before after
 
+-- they spell this replay
+abbrev pub ReadsReplay : Sizes → Option (List ℕ) → Option (List ℕ) → Replayed → Type 0
+ReadsReplay z before after r = ReadsAll (SpellsReplay z.domains z.pools r) before after
+
 -- some bytes spell this script
 abbrev pub IsSpelled : ℕ → Scripted → Type 0
 IsSpelled domains script = (bytes : List ℕ) × Spells domains script bytes
 
--- the bytes that were read have this first fault, of what a grammar says the first fault of bytes is
-pub record ReadsFirst (first_of : List ℕ → Option ScriptFault) (before after : Option (List ℕ)) (fault : ScriptFault) : Type 0 where
+-- a fault is the first one of bytes, by what a grammar says that is
+abbrev pub IsFirst : (List ℕ → Option ScriptFault) → List ℕ → ScriptFault → Type 0
+IsFirst first_of bytes fault = first_of bytes ≡ Some fault
+
+-- the bytes that were read have this fault, by what a grammar says of bytes
+pub record ReadsFirst {F : Type 0} (is_first : List ℕ → F → Type 0) (before after : Option (List ℕ)) (fault : F) : Type 0 where
   pub bytes : List ℕ
   pub are_read : AreRead before after bytes
-  pub first : first_of bytes ≡ Some fault
-  pub is_fault : fault ≢ Memory
+  pub first : is_first bytes fault
+
+-- and it is no want of memory
+abbrev pub ReadsFirstFault : (List ℕ → ScriptFault → Type 0) → Option (List ℕ) → Option (List ℕ) → ScriptFault → Type 0
+ReadsFirstFault is_first before after fault = ReadsFirst is_first before after fault × (fault ≢ Memory)
 
 abbrev pub ReadsFault : ℕ → Option (List ℕ) → Option (List ℕ) → ScriptFault → Type 0
-ReadsFault domains before after fault = ReadsFirst (first_fault domains) before after fault
+ReadsFault domains before after fault = ReadsFirstFault (IsFirst (first_fault domains)) before after fault
 
 -- the source tells its bytes, and they are spelled so
 abbrev pub Tells : (List ℕ → Type 0) → Option (List ℕ) → Type 0
@@ -63,16 +80,38 @@ TellsScript domains told script = Tells (Spells domains script) told
 abbrev pub TellsTable : Option (List ℕ) → List TableLine → Type 0
 TellsTable told lines = Tells (SpellsTable lines) told
 
--- the source tells its bytes, and those that are read have this first fault
-abbrev pub TellsFirst : (List ℕ → Option ScriptFault) → Option (List ℕ) → ScriptFault → Type 0
-TellsFirst first_of None fault = ⊥
-TellsFirst first_of (Some bytes) fault = first_of (take most_read bytes) ≡ Some fault
+-- the source tells its bytes, and those that are read have this fault
+abbrev pub TellsFirst : {F : Type 0} → (List ℕ → F → Type 0) → Option (List ℕ) → F → Type 0
+TellsFirst is_first None fault = ⊥
+TellsFirst is_first (Some bytes) fault = is_first (take most_read bytes) fault
 
 abbrev pub TellsFault : ℕ → Option (List ℕ) → ScriptFault → Type 0
-TellsFault domains told fault = TellsFirst (first_fault domains) told fault
+TellsFault domains told fault = TellsFirst (IsFirst (first_fault domains)) told fault
+
+-- the bytes that were read have this first fault of a replay's text
+abbrev pub ReadsReplayFault : Sizes → Option (List ℕ) → Option (List ℕ) → ReplayFault → Type 0
+ReadsReplayFault z before after fault = ReadsFirst (HasFault z.domains z.pools) before after fault
+
+-- the source tells its bytes, and they spell this replay
+abbrev pub TellsReplay : Sizes → Option (List ℕ) → Replayed → Type 0
+TellsReplay z told r = Tells (SpellsReplay z.domains z.pools r) told
+
+-- or those that are read have this first fault
+abbrev pub TellsReplayFault : Sizes → Option (List ℕ) → ReplayFault → Type 0
+TellsReplayFault z told fault = TellsFirst (HasFault z.domains z.pools) told fault
+
+-- some bytes spell this replay
+abbrev pub IsSpelledReplay : Sizes → Replayed → Type 0
+IsSpelledReplay z r = (bytes : List ℕ) × SpellsReplay z.domains z.pools r bytes
 
 -- why there is no script: its fault, or want of memory
 abbrev pub IsNoScript : ScriptFault → NoScript → Type 0
 IsNoScript fault (Refused f) = (f ≡ fault) × (f ≢ Memory)
 IsNoScript fault NoMemory = fault ≡ Memory
 IsNoScript fault ReadFault = ⊥
+
+-- why there is no replay: its fault, or want of memory
+abbrev pub IsNoReplay : ReplayFault → NoReplay → Type 0
+IsNoReplay fault (ReplayRefused f) = (f ≡ fault) × (f ≢ ReplayMemory)
+IsNoReplay fault NoReplayMemory = fault ≡ ReplayMemory
+IsNoReplay fault NoReplayRead = ⊥

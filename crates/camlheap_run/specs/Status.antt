@@ -4,7 +4,7 @@ use Rattle.heap_text.specs.declared.fault.ScriptFault.{ScriptFault}
 use Rattle.heap_text.specs.declared.fault.ScriptFault.TheVariants.{Syntax, Order, Range, TooLong, TooMany, Memory as NoMemory}
 use Rattle.heap_model.specs.Output.{line}
 use Rattle.camlheap_run.specs.declared.status.Status.{Status}
-use Rattle.camlheap_run.specs.declared.status.Status.TheVariants.{Done, Usage, Script, ReadFault, WriteFault, Memory}
+use Rattle.camlheap_run.specs.declared.status.Status.TheVariants.{Done, Usage, Script, Schedule, NotReplayable, ReadFault, WriteFault, Memory}
 
 -- the number with which the program ends
 abbrev pub exit_number : Status → ℕ
@@ -15,6 +15,8 @@ exit_number (Script fault) = 2
 exit_number ReadFault = 3
 exit_number (WriteFault ended) = 4
 exit_number Memory = 5
+exit_number (Schedule l) = 6
+exit_number (NotReplayable why) = 7
 
 -- what is said of a line of the script
 abbrev pub at_line : ℕ → List ℕ → List ℕ
@@ -32,8 +34,10 @@ fault_text NoMemory = codes "out of memory"
 -- the line of a status, with its line feed; a run that is done has none
 abbrev pub line_of : Status → List ℕ
 line_of (Done ended) = []
-line_of Usage = line (codes "usage: camlheap run|table [--domains N] [--minor W] [--pools P] | gen|load BASE N C")
+line_of Usage = line (codes "usage: camlheap run|replay|table [--domains N] [--minor W] [--pools P] | gen|load BASE N C")
 line_of (Script fault) = line (fault_text fault)
+line_of (Schedule l) = line (codes "schedule line " ++ decimal l)
+line_of (NotReplayable why) = line (codes "not replayable: " ++ decimal why)
 line_of ReadFault = line (codes "read fault")
 line_of (WriteFault ended) = line (codes "write fault")
 line_of Memory = line (codes "out of memory")

@@ -3,15 +3,25 @@ use Rattle.std.specs.Prelude.{ℕ, List, Option, Some}
 use Rattle.heap_text.specs.declared.fault.ScriptFault.{ScriptFault}
 use Rattle.heap_text.specs.Faults.{first_fault as script_fault}
 use Rattle.table_text.specs.Faults.{first_fault as table_fault}
+use Rattle.heap_model.specs.declared.state.Sizes.{Sizes}
+use Rattle.schedule_text.specs.declared.replay.ReplayFault.TheVariants.{Script}
+use Rattle.schedule_text.specs.Replays.{HasFault}
 use Rattle.command_line.specs.declared.job.Job.{Job}
-use Rattle.command_line.specs.declared.job.Job.TheVariants.{Run, Table}
+use Rattle.command_line.specs.declared.job.Job.TheVariants.{Run, Replay, Table}
+use Rattle.camlheap_run.specs.Reading.{IsFirst}
 
--- the words ask that a text is read, and this holds of what its grammar says the first fault of bytes is
-abbrev pub AsksToRead : Option Job → ((List ℕ → Option ScriptFault) → Type 0) → Type 0
-AsksToRead (Some (Run z)) Holds = Holds (script_fault z.domains)
-AsksToRead (Some (Table z)) Holds = Holds table_fault
+-- the words ask that a text is read, and this holds of which fault its grammar says is the first of bytes
+abbrev pub AsksToRead : Option Job → ((List ℕ → ScriptFault → Type 0) → Type 0) → Type 0
+AsksToRead (Some (Run z)) Holds = Holds (IsFirst (script_fault z.domains))
+AsksToRead (Some (Replay z)) Holds = Holds (λ bytes fault. HasFault z.domains z.pools bytes (Script fault))
+AsksToRead (Some (Table z)) Holds = Holds (IsFirst table_fault)
 AsksToRead _ Holds = ⊥
 
 -- the words ask that a text is read
 abbrev pub ReadsSource : Option Job → Type 0
-ReadsSource job = AsksToRead job (λ first_of. Unit {0})
+ReadsSource job = AsksToRead job (λ is_first. Unit {0})
+
+-- the words ask for a replay on a heap of these sizes, and this holds of them
+abbrev pub AsksToReplay : Option Job → (Sizes → Type 0) → Type 0
+AsksToReplay (Some (Replay z)) Holds = Holds z
+AsksToReplay _ Holds = ⊥

@@ -8,6 +8,7 @@ mod generating;
 mod load;
 mod putting;
 mod reading;
+mod replaying;
 mod report;
 mod run;
 mod source;

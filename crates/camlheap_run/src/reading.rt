@@ -1,14 +1,18 @@
-//! Reads the script, or the text of a table, that a source gives.
+//! Reads the script, the text of a replay, or the text of a table that a source gives.
 ghost use Rattle.std.specs.Prelude.{◌≡◌, ◌<◌, ◌≤◌, List, IfOk, IsErr, Err};
 ghost use Rattle.outer_io.specs.Faults.{Rose};
 ghost use Rattle.heap_text.specs.Script.{Scripted};
 ghost use Rattle.heap_text.specs.declared.fault.ScriptFault.{ScriptFault};
+ghost use Rattle.schedule_text.specs.declared.replay.ReplayFault.{ReplayFault as declared_fault};
+ghost use Rattle.schedule_text.specs.Replays.{Replayed};
 ghost use Rattle.table_text.specs.declared.line.TableLine.{TableLine};
 ghost use Rattle.table_text.specs.Faults.{first_fault as table_fault};
-ghost use Rattle.camlheap_run.specs.Reading.{AreRead, ReadsScript, ReadsTable, ReadsFault, ReadsFirst, IsNoScript, TellsScript, TellsTable, TellsFault, TellsFirst};
+ghost use Rattle.camlheap_run.specs.Reading.{AreRead, IsFirst, IsNoReplay, IsNoScript, ReadsFault, ReadsFirstFault, ReadsReplay, ReadsReplayFault, ReadsScript, ReadsTable, TellsFault, TellsFirst, TellsReplay, TellsReplayFault, TellsScript, TellsTable};
 
+use heap_model::state::Sizes;
 use heap_text::{Script, ScriptFault, read_script};
 use outer_io::Source;
+use schedule_text::{Replay, ReplayFault, read_replay};
 use std::alloc::Global;
 use table_text::{TableText, read_table};
 
@@ -92,17 +96,63 @@ pub(crate) fn script_of<S: Source>(
     }
 }
 
+/// Why a source gave no replay.
+#[derive(Clone, Copy, Debug, PartialEq, Eq)]
+pub(crate) enum NoReplay {
+    ReadFault,
+    Refused(ReplayFault),
+    Memory,
+}
+
+// Want of memory is no fault of the text.
+fn no_replay(fault: ReplayFault) -> NoReplay
+    ensures { IsNoReplay fault result }
+{
+    match fault {
+        ReplayFault::Memory => NoReplay::Memory,
+        _ => NoReplay::Refused(fault),
+    }
+}
+
+// Reads the source, and the replay that its bytes spell, on a heap of these sizes.
+pub(crate) fn replay_of<S: Source>(
+    alloc: Global,
+    sizes: &Sizes,
+    src: &mut S,
+) -> Result<Replay, NoReplay>
+    requires { (1 ≤ sizes.now.domains) × (sizes.now.domains ≤ 8) }
+    ensures later { S.faults src.old ≤ S.faults src.new }
+    ensures fault { result ≡ Err NoReplay.ReadFault → Rose (S.faults src.old) (S.faults src.new) }
+    ensures failed { S.faults src.old < S.faults src.new → result ≡ Err NoReplay.ReadFault }
+    ensures replay { IfOk result (ReadsReplay sizes.now (S.left src.old) (S.left src.new)) }
+    ensures refused { (f : declared_fault) → result ≡ Err (NoReplay.Refused f) → ReadsReplayFault sizes.now (S.left src.old) (S.left src.new) f }
+
+    // What spells a replay isn't refused, and what has a fault isn't read.
+    ensures only_faults { (r : Replayed) (f : declared_fault) → TellsReplay sizes.now (S.left src.old) r → result ≡ Err (NoReplay.Refused f) → ⊥ }
+    ensures only_replays { (f : declared_fault) → TellsReplayFault sizes.now (S.left src.old) f → IsErr result }
+{
+    let bytes = match read_bytes(alloc, src) {
+        Ok(bytes) => bytes,
+        Err(ReadStop::Fault) => return Err(NoReplay::ReadFault),
+        Err(ReadStop::Memory) => return Err(NoReplay::Memory),
+    };
+    match read_replay(alloc, sizes.domains, sizes.pools, &bytes) {
+        Ok(replay) => Ok(replay),
+        Err(fault) => Err(no_replay(fault)),
+    }
+}
+
 // Reads the source, and the text of a table that its bytes spell.
 pub(crate) fn table_of<S: Source>(alloc: Global, src: &mut S) -> Result<TableText, NoScript>
     ensures later { S.faults src.old ≤ S.faults src.new }
     ensures fault { result ≡ Err NoScript.ReadFault → Rose (S.faults src.old) (S.faults src.new) }
     ensures failed { S.faults src.old < S.faults src.new → result ≡ Err NoScript.ReadFault }
     ensures text { IfOk result (ReadsTable (S.left src.old) (S.left src.new)) }
-    ensures refused { (f : ScriptFault) → result ≡ Err (NoScript.Refused f) → ReadsFirst table_fault (S.left src.old) (S.left src.new) f }
+    ensures refused { (f : ScriptFault) → result ≡ Err (NoScript.Refused f) → ReadsFirstFault (IsFirst table_fault) (S.left src.old) (S.left src.new) f }
 
     // What spells a text isn't refused, and what has a fault isn't read.
     ensures only_faults { (lines : List TableLine) (f : ScriptFault) → TellsTable (S.left src.old) lines → result ≡ Err (NoScript.Refused f) → ⊥ }
-    ensures only_texts { (f : ScriptFault) → TellsFirst table_fault (S.left src.old) f → IsErr result }
+    ensures only_texts { (f : ScriptFault) → TellsFirst (IsFirst table_fault) (S.left src.old) f → IsErr result }
 {
     let bytes = match read_bytes(alloc, src) {
         Ok(bytes) => bytes,

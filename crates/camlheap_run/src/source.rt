@@ -1,23 +1,29 @@
-//! Runs the script, or the text of a table, that a source gives.
-ghost use Rattle.std.specs.Prelude.{◌≡◌, ◌<◌, ◌≤◌, List, Option};
+//! Runs the script, replays the script of a schedule, or runs the text of a table that a source gives.
+ghost use Rattle.std.specs.Prelude.{◌≡◌, ◌<◌, ◌≤◌, ℕ, List, Option};
 ghost use Rattle.heap_text.specs.Script.{Scripted};
 ghost use Rattle.heap_rule.specs.Ending.{EndedHeap};
 ghost use Rattle.heap_text.specs.declared.fault.ScriptFault.{ScriptFault};
+ghost use Rattle.schedule_text.specs.declared.replay.ReplayFault as replay_fault;
+ghost use Rattle.schedule_text.specs.declared.replay.ReplayFault.TheVariants.{NotReplayable as NotReplayableOf, Schedule as ScheduleOf, Script as ScriptOf};
+ghost use Rattle.schedule_text.specs.Replays.{HasFault, Replayed};
 ghost use Rattle.table_text.specs.declared.line.TableLine.{TableLine};
 ghost use Rattle.table_text.specs.Faults.{first_fault as table_fault};
 ghost use Rattle.outer_io.specs.Faults.{Rose};
-ghost use Rattle.camlheap_run.specs.Reading.{ReadsFault, ReadsFirst, TellsScript, TellsTable, TellsFault, TellsFirst};
+ghost use Rattle.camlheap_run.specs.Reading.{IsFirst, ReadsFault, ReadsFirstFault, ReadsReplayFault, TellsFault, TellsFirst, TellsReplay, TellsReplayFault, TellsScript, TellsTable};
 ghost use Rattle.camlheap_run.specs.Running.{AreRunSizes};
+ghost use Rattle.camlheap_run.specs.Replaying.{MayReplay, ReplaysToEnd, StopsReplaying, fault_status};
 ghost use Rattle.camlheap_run.specs.Tables.{MayHoldTable, TableRunsToEnd, TableStopsWriting};
 ghost use Rattle.camlheap_run.specs.Outcome.{RunsToEnd, StopsWriting, IsSourceAnswer, IsSilent, IsWriteFault, IsEither, IsDoneOrMemory};
 
 use crate::Status;
-use crate::reading::{NoScript, script_of, table_of};
+use crate::reading::{NoReplay, NoScript, replay_of, script_of, table_of};
+use crate::replaying::run_replay;
 use crate::report::Report;
 use crate::run::run;
 use crate::table::run_table;
 use heap_model::state::Sizes;
 use outer_io::{Gate, Sink, Source};
+use schedule_text::ReplayFault;
 use std::alloc::Global;
 use std::sync::Wait;
 use std::thread::Threads;
@@ -58,6 +64,55 @@ pub(crate) fn run_source<R: Threads + Wait + Sync, S: Source, K: Sink, G: Gate +
     }
 }
 
+// What a fault of a replay's text comes to.
+fn refused(fault: ReplayFault) -> Status
+    ensures { result ≡ fault_status fault }
+{
+    match fault {
+        ReplayFault::Schedule { line } => Status::Schedule { line },
+        ReplayFault::Script(fault) => Status::Script(fault),
+        ReplayFault::NotReplayable { why } => Status::NotReplayable { why },
+        ReplayFault::Memory => Status::Memory,
+    }
+}
+
+// Reads a schedule and a script, runs the script under the schedule, and writes its replies.
+pub(crate) fn run_replay_source<R: Wait, S: Source, K: Sink>(
+    rt: &R,
+    alloc: Global,
+    sizes: &Sizes,
+    src: &mut S,
+    out: &mut K,
+) -> Status
+    requires { MayReplay sizes.now }
+    ensures done { (ended : Option EndedHeap) → result ≡ Status.Done ended → ReplaysToEnd sizes.now ended (S.left src.old) (S.left src.new) (K.written out.old) (K.written out.new) }
+    ensures cut { (ended : Option EndedHeap) → result ≡ Status.WriteFault ended → StopsReplaying sizes.now ended (S.left src.old) (S.left src.new) (K.written out.old) (K.written out.new) }
+    ensures quiet { IsSilent result → out.new ≡ out.old }
+    ensures answers { IsSourceAnswer result }
+    ensures script { (f : ScriptFault) → result ≡ Status.Script f → ReadsFirstFault (λ bytes fault. HasFault sizes.now.domains sizes.now.pools bytes (ScriptOf fault)) (S.left src.old) (S.left src.new) f }
+    ensures schedule { (l : ℕ) → result ≡ Status.Schedule l → ReadsReplayFault sizes.now (S.left src.old) (S.left src.new) (ScheduleOf l) }
+    ensures not_replayable { (w : ℕ) → result ≡ Status.NotReplayable w → ReadsReplayFault sizes.now (S.left src.old) (S.left src.new) (NotReplayableOf w) }
+    ensures reads { S.faults src.old ≤ S.faults src.new }
+    ensures writes { K.faults out.old ≤ K.faults out.new }
+    ensures read_fault { result ≡ Status.ReadFault → Rose (S.faults src.old) (S.faults src.new) }
+    ensures write_fault { (ended : Option EndedHeap) → result ≡ Status.WriteFault ended → Rose (K.faults out.old) (K.faults out.new) }
+    ensures read_failed { S.faults src.old < S.faults src.new → result ≡ Status.ReadFault }
+    ensures write_failed { K.faults out.old < K.faults out.new → IsWriteFault result }
+    ensures complete { (r : Replayed) → TellsReplay sizes.now (S.left src.old) r
+        → ¬ (Rose (S.faults src.old) (S.faults src.new)) → ¬ (Rose (K.faults out.old) (K.faults out.new))
+        → IsDoneOrMemory result }
+    ensures refused { (f : replay_fault.ReplayFault) → TellsReplayFault sizes.now (S.left src.old) f
+        → ¬ (Rose (S.faults src.old) (S.faults src.new))
+        → IsEither result (fault_status f) Status.Memory }
+{
+    match replay_of(alloc, sizes, src) {
+        Ok(replay) => run_replay(rt, alloc, sizes, replay, out),
+        Err(NoReplay::ReadFault) => Status::ReadFault,
+        Err(NoReplay::Refused(fault)) => refused(fault),
+        Err(NoReplay::Memory) => Status::Memory,
+    }
+}
+
 // Reads the text of a table, runs it, and writes its replies.
 pub(crate) fn run_table_source<R: Wait, S: Source, K: Sink>(
     rt: &R,
@@ -71,7 +126,7 @@ pub(crate) fn run_table_source<R: Wait, S: Source, K: Sink>(
     ensures cut { (ended : Option EndedHeap) → result ≡ Status.WriteFault ended → TableStopsWriting sizes.now ended (S.left src.old) (S.left src.new) (K.written out.old) (K.written out.new) }
     ensures quiet { IsSilent result → out.new ≡ out.old }
     ensures answers { IsSourceAnswer result }
-    ensures script { (f : ScriptFault) → result ≡ Status.Script f → ReadsFirst table_fault (S.left src.old) (S.left src.new) f }
+    ensures script { (f : ScriptFault) → result ≡ Status.Script f → ReadsFirstFault (IsFirst table_fault) (S.left src.old) (S.left src.new) f }
     ensures reads { S.faults src.old ≤ S.faults src.new }
     ensures writes { K.faults out.old ≤ K.faults out.new }
     ensures read_fault { result ≡ Status.ReadFault → Rose (S.faults src.old) (S.faults src.new) }
@@ -81,7 +136,7 @@ pub(crate) fn run_table_source<R: Wait, S: Source, K: Sink>(
     ensures complete { (lines : List TableLine) → TellsTable (S.left src.old) lines
         → ¬ (Rose (S.faults src.old) (S.faults src.new)) → ¬ (Rose (K.faults out.old) (K.faults out.new))
         → IsDoneOrMemory result }
-    ensures refused { (f : ScriptFault) → TellsFirst table_fault (S.left src.old) f
+    ensures refused { (f : ScriptFault) → TellsFirst (IsFirst table_fault) (S.left src.old) f
         → ¬ (Rose (S.faults src.old) (S.faults src.new))
         → IsEither result (Status.Script f) Status.Memory }
 {

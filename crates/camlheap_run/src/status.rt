@@ -17,6 +17,12 @@ pub enum Status {
     /// The script, or the text of a table, has this fault first. Nothing was written. [`camlheap`](crate::camlheap) never answers
     /// `Script(ScriptFault::Memory)`: want of memory is `Memory`.
     Script(ScriptFault),
+    /// The schedule of a replay isn't one: this line, counted from 1, is the first that isn't as it must be. Nothing was
+    /// written.
+    Schedule { line: u32 },
+    /// The script can't be replayed. 1: it has a `major`. 2: it has none, and makes so many blocks that the pools might run
+    /// short. Nothing was written.
+    NotReplayable { why: u32 },
     /// A read failed. Nothing was written.
     ReadFault,
     /// A write failed. What was written is the front of what was to be written. `ended` is as in `Done`.
@@ -36,11 +42,13 @@ pub fn status_number(status: &Status) -> u8
         Status::Script(_) => 2,
         Status::ReadFault => 3,
         Status::WriteFault { .. } => 4,
+        Status::Schedule { .. } => 6,
+        Status::NotReplayable { .. } => 7,
     }
 }
 
 const USAGE: &[u8] =
-    b"usage: camlheap run|table [--domains N] [--minor W] [--pools P] | gen|load BASE N C\n";
+    b"usage: camlheap run|replay|table [--domains N] [--minor W] [--pools P] | gen|load BASE N C\n";
 
 // Puts what the fault line of a script says of a line: its number, and a text.
 fn put_line(out: &mut [u8; 128], number: u32, text: &[u8]) -> usize
@@ -74,6 +82,18 @@ fn put_fault(out: &mut [u8; 128], fault: &ScriptFault) -> usize
     }
 }
 
+// Puts a text, a number and a line feed.
+fn put_numbered(out: &mut [u8; 128], text: &[u8], number: u32) -> usize
+    requires { length text.now ≤ 32 }
+    ensures end { result ≤ 64 }
+    ensures front { take result out.new ≡ line (text.now ++ decimal number) }
+    ensures rest { drop result out.new ≡ drop result out.old }
+{
+    let at = put(out, 0, text);
+    let at = put_number(out, at, u64::from(number));
+    put(out, at, b"\n")
+}
+
 /// Puts the line for standard error, with its line feed, at the front of the buffer, and answers its length.
 /// There is none, of length 0, for `Done`. The rest of the buffer stays as it was.
 pub fn fault_line(status: &Status, out: &mut [u8; 128]) -> usize
@@ -85,6 +105,8 @@ pub fn fault_line(status: &Status, out: &mut [u8; 128]) -> usize
         Status::Done { .. } => 0,
         Status::Usage => put(out, 0, USAGE),
         Status::Script(fault) => put_fault(out, fault),
+        Status::Schedule { line } => put_numbered(out, b"schedule line ", *line),
+        Status::NotReplayable { why } => put_numbered(out, b"not replayable: ", *why),
         Status::ReadFault => put(out, 0, b"read fault\n"),
         Status::WriteFault { .. } => put(out, 0, b"write fault\n"),
         Status::Memory => put(out, 0, b"out of memory\n"),

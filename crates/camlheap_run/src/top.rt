@@ -1,24 +1,28 @@
 //! The top call, by what the words ask for.
-ghost use Rattle.std.specs.Prelude.{◌≡◌, ◌≢◌, ◌<◌, ◌≤◌, List, Option, None, Some, IsSome, map, string_bytes};
+ghost use Rattle.std.specs.Prelude.{◌≡◌, ◌≢◌, ◌<◌, ◌≤◌, ℕ, List, Option, None, Some, IsSome, map, string_bytes};
 ghost use Rattle.command_line.specs.Jobs.{asked_job};
 ghost use Rattle.command_line.specs.declared.job.Generated.{Generated};
 ghost use Rattle.heap_text.specs.Script.{Scripted};
 ghost use Rattle.heap_model.specs.declared.state.Sizes.{Sizes};
 ghost use Rattle.heap_rule.specs.Ending.{EndedHeap};
 ghost use Rattle.heap_text.specs.declared.fault.ScriptFault.{ScriptFault};
+ghost use Rattle.schedule_text.specs.declared.replay.ReplayFault as replay_fault;
+ghost use Rattle.schedule_text.specs.declared.replay.ReplayFault.TheVariants.{NotReplayable as NotReplayableOf, Schedule as ScheduleOf};
+ghost use Rattle.schedule_text.specs.Replays.{Replayed};
 ghost use Rattle.table_text.specs.declared.line.TableLine.{TableLine};
 ghost use Rattle.table_text.specs.Faults.{first_fault as table_fault};
 ghost use Rattle.outer_io.specs.Faults.{Rose};
 ghost use Rattle.camlheap_run.specs.Generating.{WritesScript, WritesFrontOfScript};
-ghost use Rattle.camlheap_run.specs.Words.{AsksToRead, ReadsSource};
-ghost use Rattle.camlheap_run.specs.Reading.{ReadsFirst, TellsScript, TellsTable, TellsFault, TellsFirst};
+ghost use Rattle.camlheap_run.specs.Words.{AsksToRead, AsksToReplay, ReadsSource};
+ghost use Rattle.camlheap_run.specs.Reading.{IsFirst, ReadsFirstFault, ReadsReplayFault, TellsFault, TellsFirst, TellsReplay, TellsReplayFault, TellsScript, TellsTable};
+ghost use Rattle.camlheap_run.specs.Replaying.{ReplaysToEnd, StopsReplaying, fault_status};
 ghost use Rattle.camlheap_run.specs.Tables.{TableRunsToEnd, TableStopsWriting};
 ghost use Rattle.camlheap_run.specs.Outcome.{RunsToEnd, StopsWriting, LoadsToEnd, StopsLoading, IsSilent, IsWriteFault, IsEither, IsDoneOrMemory};
 
 use crate::Status;
 use crate::generating::generate_script;
 use crate::load::load;
-use crate::source::{run_source, run_table_source};
+use crate::source::{run_replay_source, run_source, run_table_source};
 use command_line::{Job, read_words};
 use outer_io::{Gate, Sink, Source};
 use std::alloc::{AllocError, Global};
@@ -30,6 +34,9 @@ use std::thread::Threads;
 ///
 /// - `run` reads a script from the source, runs its sections on one shared heap, in threads, and writes the replies to the
 ///   sink: for each domain the line `domain d` and the lines of its replies.
+/// - `replay` reads a schedule and a script from the source, runs the script's sections on one shared heap, on this thread,
+///   with the turns and the complete collections of the schedule, and writes the replies as `run` does. They are the same each
+///   time: those of the scheduled history.
 /// - `table` reads a text of a table from the source, runs it line by line on a heap of one domain, on this thread, and
 ///   writes a line for each of its lines.
 /// - `gen` reads nothing and writes a generated script.
@@ -37,7 +44,8 @@ use std::thread::Threads;
 ///   `domain d commands R ints I sum S`, with the number of its commands, the number of replies `int v` among theirs, and
 ///   the sum of these `v` modulo 1,000,003, from 0 to 1,000,002.
 ///
-/// The refusals come in the order in which the work is done: the words, reading, the script, running, writing. A read or a
+/// The refusals come in the order in which the work is done: the words, reading, too long a text, the schedule, the script,
+/// whether it can be replayed, running, writing. A read or a
 /// write that failed isn't tried again. Each line is handed to the sink by itself. Want of memory may come at any time before
 /// the first byte is written.
 ///
@@ -56,6 +64,12 @@ pub fn camlheap<R: Threads + Wait + Sync, S: Source, K: Sink, G: Gate + Sync>(
         → RunsToEnd z ended (S.left src.old) (S.left src.new) (K.written out.old) (K.written out.new) }
     ensures cut { (z : Sizes) (ended : Option EndedHeap) → asked_job (map string_bytes words.now) ≡ Some (Job.Run z) → result ≡ Status.WriteFault ended
         → StopsWriting z ended (S.left src.old) (S.left src.new) (K.written out.old) (K.written out.new) }
+
+    // What was read and written by `replay`: the replies of the scheduled history, which are those of the heap's own.
+    ensures replay { (z : Sizes) (ended : Option EndedHeap) → asked_job (map string_bytes words.now) ≡ Some (Job.Replay z) → result ≡ Status.Done ended
+        → ReplaysToEnd z ended (S.left src.old) (S.left src.new) (K.written out.old) (K.written out.new) }
+    ensures replay_cut { (z : Sizes) (ended : Option EndedHeap) → asked_job (map string_bytes words.now) ≡ Some (Job.Replay z) → result ≡ Status.WriteFault ended
+        → StopsReplaying z ended (S.left src.old) (S.left src.new) (K.written out.old) (K.written out.new) }
 
     // What was read and written by `table`: the replies are those of the machine of the text, whose registers, bindings
     // and slots are those of the heap at a prefix of its history for each line.
@@ -84,7 +98,11 @@ pub fn camlheap<R: Threads + Wait + Sync, S: Source, K: Sink, G: Gate + Sync>(
     ensures usage { result ≡ Status.Usage → asked_job (map string_bytes words.now) ≡ None }
     ensures words { result ≢ Status.Usage → IsSome (asked_job (map string_bytes words.now)) }
     ensures script { (f : ScriptFault) → result ≡ Status.Script f
-        → AsksToRead (asked_job (map string_bytes words.now)) (λ first_of. ReadsFirst first_of (S.left src.old) (S.left src.new) f) }
+        → AsksToRead (asked_job (map string_bytes words.now)) (λ is_first. ReadsFirstFault is_first (S.left src.old) (S.left src.new) f) }
+    ensures schedule { (l : ℕ) → result ≡ Status.Schedule l
+        → AsksToReplay (asked_job (map string_bytes words.now)) (λ z. ReadsReplayFault z (S.left src.old) (S.left src.new) (ScheduleOf l)) }
+    ensures not_replayable { (w : ℕ) → result ≡ Status.NotReplayable w
+        → AsksToReplay (asked_job (map string_bytes words.now)) (λ z. ReadsReplayFault z (S.left src.old) (S.left src.new) (NotReplayableOf w)) }
     ensures reads { S.faults src.old ≤ S.faults src.new }
     ensures writes { K.faults out.old ≤ K.faults out.new }
     ensures read_fault { result ≡ Status.ReadFault → AsksToRead (asked_job (map string_bytes words.now)) (λ _. Rose (S.faults src.old) (S.faults src.new)) }
@@ -94,7 +112,7 @@ pub fn camlheap<R: Threads + Wait + Sync, S: Source, K: Sink, G: Gate + Sync>(
     ensures read_failed { S.faults src.old < S.faults src.new → result ≡ Status.ReadFault }
     ensures write_failed { K.faults out.old < K.faults out.new → IsWriteFault result }
 
-    // Where the source tells its bytes, they decide what `run` and `table` answer, unless a read or a write fails or memory runs out.
+    // Where the source tells its bytes, they decide what `run`, `replay` and `table` answer, unless a read or a write fails or memory runs out.
     ensures complete { (z : Sizes) (s : Scripted) → asked_job (map string_bytes words.now) ≡ Some (Job.Run z)
         → TellsScript z.domains (S.left src.old) s
         → ¬ (Rose (S.faults src.old) (S.faults src.new)) → ¬ (Rose (K.faults out.old) (K.faults out.new))
@@ -104,12 +122,21 @@ pub fn camlheap<R: Threads + Wait + Sync, S: Source, K: Sink, G: Gate + Sync>(
         → ¬ (Rose (S.faults src.old) (S.faults src.new))
         → IsEither result (Status.Script f) Status.Memory }
 
+    ensures replay_complete { (z : Sizes) (r : Replayed) → asked_job (map string_bytes words.now) ≡ Some (Job.Replay z)
+        → TellsReplay z (S.left src.old) r
+        → ¬ (Rose (S.faults src.old) (S.faults src.new)) → ¬ (Rose (K.faults out.old) (K.faults out.new))
+        → IsDoneOrMemory result }
+    ensures replay_refused { (z : Sizes) (f : replay_fault.ReplayFault) → asked_job (map string_bytes words.now) ≡ Some (Job.Replay z)
+        → TellsReplayFault z (S.left src.old) f
+        → ¬ (Rose (S.faults src.old) (S.faults src.new))
+        → IsEither result (fault_status f) Status.Memory }
+
     ensures table_complete { (z : Sizes) (lines : List TableLine) → asked_job (map string_bytes words.now) ≡ Some (Job.Table z)
         → TellsTable (S.left src.old) lines
         → ¬ (Rose (S.faults src.old) (S.faults src.new)) → ¬ (Rose (K.faults out.old) (K.faults out.new))
         → IsDoneOrMemory result }
     ensures table_refused { (z : Sizes) (f : ScriptFault) → asked_job (map string_bytes words.now) ≡ Some (Job.Table z)
-        → TellsFirst table_fault (S.left src.old) f
+        → TellsFirst (IsFirst table_fault) (S.left src.old) f
         → ¬ (Rose (S.faults src.old) (S.faults src.new))
         → IsEither result (Status.Script f) Status.Memory }
 
@@ -119,6 +146,7 @@ pub fn camlheap<R: Threads + Wait + Sync, S: Source, K: Sink, G: Gate + Sync>(
 {
     match read_words(alloc, words) {
         Ok(Some(Job::Run(sizes))) => run_source(rt, alloc, &sizes, src, out, gate),
+        Ok(Some(Job::Replay(sizes))) => run_replay_source(rt, alloc, &sizes, src, out),
         Ok(Some(Job::Table(sizes))) => run_table_source(rt, alloc, &sizes, src, out),
         Ok(Some(Job::Gen(generated))) => generate_script(alloc, &generated, out),
         Ok(Some(Job::Load(generated))) => load(rt, alloc, &generated, out, gate),

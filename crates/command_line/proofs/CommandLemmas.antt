@@ -79,10 +79,14 @@ enters_takes word s words e passes =
     both_hold _ _ simple (subst (λ (o : Option (Text × List Text)). (entered_passes (built camlheap_app) o && level_passes (built camlheap_app).top names nothing_held (word ∷ words) (is_some (entered (built camlheap_app) o))) ≡ true)
     (sym stop) (both_hold _ _ below top))
 
--- each of the four names is such a word
+-- each of the five names is such a word
 pub enters_run : Enters (codes "run") (built_options (codes "run"))
 unfolding walked
 enters_run = record { stops = refl; passes = refl; found = refl }
+
+pub enters_replay : Enters (codes "replay") (built_options (codes "replay"))
+unfolding walked
+enters_replay = record { stops = refl; passes = refl; found = refl }
 
 pub enters_table : Enters (codes "table") (built_options (codes "table"))
 unfolding walked

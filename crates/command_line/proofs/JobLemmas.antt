@@ -8,18 +8,19 @@ use Rattle.std.proofs.lemmas.Slice.Eq.{bytes_eq-Decides}
 use Rattle.heap_model.specs.declared.state.Sizes.{Sizes}
 use Rattle.heap_model.specs.Domains.{class_count, first_outside}
 use Rattle.command_line.specs.declared.job.Job.{Job}
-use Rattle.command_line.specs.declared.job.Job.TheVariants.{Run, Table, Gen, Load}
+use Rattle.command_line.specs.declared.job.Job.TheVariants.{Run, Replay, Table, Gen, Load}
 use Rattle.command_line.specs.declared.job.Generated.{Generated}
 use Rattle.command_line.specs.declared.options.Given.{Given}
 use Rattle.command_line.specs.Numbers.{option_number}
-use Rattle.command_line.specs.RunWords.{given_after, if_sizes, is_run, is_table, run_sizes, sizes_after, sizes_or, table_sizes}
-use Rattle.command_line.specs.Jobs.{AreTableSizes, IsGenerable, IsWithinRange, asked_job, generated_after, if_generable, is_generable, script_if, script_of}
+use Rattle.command_line.specs.RunWords.{given_after, if_sizes, is_replay, is_run, is_table, replay_sizes, run_sizes, sizes_after, sizes_or, table_sizes}
+use Rattle.command_line.specs.Jobs.{AreReplaySizes, AreTableSizes, IsGenerable, IsWithinRange, asked_job, generated_after, if_generable, is_generable, script_if, script_of}
 use Rattle.command_line.proofs.WalkLemmas.{some_of, some_map}
 use Rattle.command_line.proofs.TakesLemmas.{both_hold}
 
 -- the reading that gives what the words ask for
 abbrev pub Reads : List (List ℕ) → Job → Type 0
 Reads words (Run z) = run_sizes words ≡ Some z
+Reads words (Replay z) = replay_sizes words ≡ Some z
 Reads words (Table z) = table_sizes words ≡ Some z
 Reads words (Gen g) = generated_after (codes "gen") words ≡ Some g
 Reads words (Load g) = generated_after (codes "load") words ≡ Some g
@@ -33,11 +34,14 @@ pub asked_reads : (words : List (List ℕ)) (j : Job) → asked_job words ≡ So
 unfolding asked_job
 asked_reads words j e = elim (or_cases (option_map Run (run_sizes words)) _ j e) [
   | inl run ↦ let z = some_map Run (run_sizes words) j run in subst (Reads words) z.2 z.1
-  | inr later ↦ elim (or_cases (option_map Table (table_sizes words)) _ j later) [
-    | inl table ↦ let z = some_map Table (table_sizes words) j table in subst (Reads words) z.2 z.1
-    | inr script ↦ elim (or_cases (option_map Gen (generated_after (codes "gen") words)) _ j script) [
-      | inl gen ↦ let g = some_map Gen (generated_after (codes "gen") words) j gen in subst (Reads words) g.2 g.1
-      | inr load ↦ let g = some_map Load (generated_after (codes "load") words) j load in subst (Reads words) g.2 g.1
+  | inr later ↦ elim (or_cases (option_map Replay (replay_sizes words)) _ j later) [
+    | inl replay ↦ let z = some_map Replay (replay_sizes words) j replay in subst (Reads words) z.2 z.1
+    | inr more ↦ elim (or_cases (option_map Table (table_sizes words)) _ j more) [
+      | inl table ↦ let z = some_map Table (table_sizes words) j table in subst (Reads words) z.2 z.1
+      | inr script ↦ elim (or_cases (option_map Gen (generated_after (codes "gen") words)) _ j script) [
+        | inl gen ↦ let g = some_map Gen (generated_after (codes "gen") words) j gen in subst (Reads words) g.2 g.1
+        | inr load ↦ let g = some_map Load (generated_after (codes "load") words) j load in subst (Reads words) g.2 g.1
+      ]
     ]
   ]
 ]
@@ -85,6 +89,14 @@ small m n e = grind (arith, nat_tests)
 
 test_small : (m n : ℕ) → m ≤ n → nat_le m n ≡ true
 test_small m n e = grind (arith, nat_tests)
+
+pub replayable : (z : Sizes) → is_replay z ≡ true → AreReplaySizes z
+replayable z e =
+    let p = and_parts (is_none (first_outside z)) _ e in
+    record { limits = none_there (first_outside z) p.0; pools = small _ _ p.1 }
+
+pub passes_replay : (z : Sizes) → AreReplaySizes z → is_replay z ≡ true
+passes_replay z are = both_hold _ _ (ap is_none are.limits) (test_small _ _ are.pools)
 
 pub tabular : (z : Sizes) → is_table z ≡ true → AreTableSizes z
 tabular z e =
@@ -158,11 +170,15 @@ class_of command domains test words z gives = ap (λ (y : Sizes). y.classes) giv
 run_within : (words : List (List ℕ)) (z : Sizes) → run_sizes words ≡ Some z → IsWithinRange (Run z)
 run_within words z e = let g = gives_sizes (codes "run") 2 is_run words z e in (runnable z g.passes, class_of _ _ _ words z g)
 
+replay_within : (words : List (List ℕ)) (z : Sizes) → replay_sizes words ≡ Some z → IsWithinRange (Replay z)
+replay_within words z e = let g = gives_sizes (codes "replay") 2 is_replay words z e in (replayable z g.passes, class_of _ _ _ words z g)
+
 table_within : (words : List (List ℕ)) (z : Sizes) → table_sizes words ≡ Some z → IsWithinRange (Table z)
 table_within words z e = let g = gives_sizes (codes "table") 1 is_table words z e in (tabular z g.passes, class_of _ _ _ words z g)
 
 reads_within : (words : List (List ℕ)) (j : Job) → Reads words j → IsWithinRange j
 reads_within words (Run z) e = run_within words z e
+reads_within words (Replay z) e = replay_within words z e
 reads_within words (Table z) e = table_within words z e
 reads_within words (Gen g) e = generable g (numbers_of (codes "gen") words g e).test
 reads_within words (Load g) e = generable g (numbers_of (codes "load") words g e).test

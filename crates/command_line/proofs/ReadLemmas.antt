@@ -8,19 +8,19 @@ use Rattle.clap.specs.Takes.{takes}
 use Rattle.clap.specs.declared.parser.matches.ArgMatches.{ArgMatches}
 use Rattle.heap_model.specs.declared.state.Sizes.{Sizes}
 use Rattle.command_line.specs.declared.job.Job.{Job}
-use Rattle.command_line.specs.declared.job.Job.TheVariants.{Run, Table, Gen, Load}
+use Rattle.command_line.specs.declared.job.Job.TheVariants.{Run, Replay, Table, Gen, Load}
 use Rattle.command_line.specs.declared.job.Generated.{Generated}
 use Rattle.command_line.specs.declared.options.Setting.TheVariants.{Domains, Minor, Pools}
 use Rattle.command_line.specs.declared.options.Given.{Given}
 use Rattle.command_line.specs.Numbers.{option_number}
 use Rattle.command_line.specs.Options.{given_by, nothing_read}
 use Rattle.command_line.specs.Commands.{camlheap_app, given_in, job_at, script_in}
-use Rattle.command_line.specs.RunWords.{is_run, is_table, sizes_after, sizes_or}
+use Rattle.command_line.specs.RunWords.{is_replay, is_run, is_table, sizes_after, sizes_or}
 use Rattle.command_line.specs.Jobs.{asked_job, script_if}
 use Rattle.command_line.proofs.WalkLemmas.{built_options, run_rules, finds, number_plain}
 use Rattle.command_line.proofs.TakesLemmas.{options_take}
 use Rattle.command_line.proofs.ScriptLemmas.{ArePlain, built_script, finds_three, script_rows, takes_three}
-use Rattle.command_line.proofs.CommandLemmas.{Enters, enters, enters_gen, enters_load, enters_run, enters_table, enters_takes}
+use Rattle.command_line.proofs.CommandLemmas.{Enters, enters, enters_gen, enters_load, enters_replay, enters_run, enters_table, enters_takes}
 use Rattle.command_line.proofs.JobLemmas.{HasNumbers, Reads, asked_reads, chosen, gives_sizes, numbers_of}
 
 -- what a parse of these words finds
@@ -89,6 +89,7 @@ script_finds command with words g at reads h =
 
 reads_finds : (words : List Text) (j : Job) → Reads words j → Finds words j
 reads_finds words (Run z) e = sizes_find (codes "run") 2 is_run Run words z enters_run (λ rows. refl) e
+reads_finds words (Replay z) e = sizes_find (codes "replay") 2 is_replay Replay words z enters_replay (λ rows. refl) e
 reads_finds words (Table z) e = sizes_find (codes "table") 1 is_table Table words z enters_table (λ rows. refl) e
 reads_finds words (Gen g) e = script_finds (codes "gen") Gen words g enters_gen (λ rows. refl) (numbers_of (codes "gen") words g e)
 reads_finds words (Load g) e = script_finds (codes "load") Load words g enters_load (λ rows. refl) (numbers_of (codes "load") words g e)

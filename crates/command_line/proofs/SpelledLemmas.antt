@@ -15,14 +15,14 @@ use Rattle.command_line.specs.declared.options.Given.{Given}
 use Rattle.command_line.specs.declared.options.Read.{Read}
 use Rattle.command_line.specs.Numbers.{option_number}
 use Rattle.command_line.specs.Options.{given_at, with_number, with_text, with_name, with_option, with_word, setting_named, given_by, nothing_read}
-use Rattle.command_line.specs.RunWords.{given_after, if_sizes, is_run, is_table, sizes_after, sizes_or, table_sizes}
+use Rattle.command_line.specs.RunWords.{given_after, if_sizes, is_replay, is_run, is_table, replay_sizes, sizes_after, sizes_or, table_sizes}
 use Rattle.command_line.specs.declared.job.Job.{Job}
-use Rattle.command_line.specs.declared.job.Job.TheVariants.{Run, Table, Gen, Load}
+use Rattle.command_line.specs.declared.job.Job.TheVariants.{Run, Replay, Table, Gen, Load}
 use Rattle.command_line.specs.declared.job.Generated.{Generated}
-use Rattle.command_line.specs.Jobs.{AreTableSizes, IsGenerable, asked_job, generated_after, if_generable, script_if}
+use Rattle.command_line.specs.Jobs.{AreReplaySizes, AreTableSizes, IsGenerable, asked_job, generated_after, if_generable, script_if}
 use Rattle.command_line.specs.Spelled.{name_of, Choice, choice_words, Gives, SpellsOptions, AsksForSizes, AsksForScript, AsksFor}
 use Rattle.command_line.proofs.NumberLemmas.{number_read, number_again}
-use Rattle.command_line.proofs.JobLemmas.{Reads, asked_reads, chosen, generable, gives_sizes, numbers_of, passes_run, passes_table, passes_test, runnable, tabular}
+use Rattle.command_line.proofs.JobLemmas.{Reads, asked_reads, chosen, generable, gives_sizes, numbers_of, passes_replay, passes_run, passes_table, passes_test, replayable, runnable, tabular}
 use Rattle.command_line.proofs.WalkLemmas.{named_is, some_of, some_map, if_new}
 
 -- a name, and the text behind its `=` if there is one
@@ -222,6 +222,15 @@ spelled_sizes command domains test Fits words z exact a =
     ap (option_and_then (λ (g : Given). if_sizes test (sizes_or domains g))) (spelled_given command words a.given a.spells)
     ∙ (ap (λ (b : Bool). if b then Some (sizes_or domains a.given) else None) passes ∙ ap Some (sym a.sizes))
 
+-- the words of a replay ask for no run
+replay_first : (words : List (List ℕ)) (z : Sizes) → AsksForSizes (codes "replay") 2 AreReplaySizes words z → asked_job words ≡ Some (Replay z)
+unfolding asked_job
+replay_first words z a =
+    let rest : List (List ℕ) = flat_map choice_words a.spells.choices in
+    let sizes : replay_sizes (codes "replay" ∷ rest) ≡ Some z = ap replay_sizes (sym a.spells.words_are) ∙ spelled_sizes (codes "replay") 2 is_replay AreReplaySizes words z passes_replay a in
+    ap asked_job a.spells.words_are
+    ∙ ap (λ (o : Option Sizes). option_or (option_map Replay o) (option_or (option_map Table (table_sizes (codes "replay" ∷ rest))) (option_or (option_map Gen (generated_after (codes "gen") (codes "replay" ∷ rest))) (option_map Load (generated_after (codes "load") (codes "replay" ∷ rest)))))) sizes
+
 -- the words of a table ask for no run
 table_first : (words : List (List ℕ)) (z : Sizes) → AsksForSizes (codes "table") 1 AreTableSizes words z → asked_job words ≡ Some (Table z)
 unfolding asked_job
@@ -266,6 +275,7 @@ script_again g is =
 
 read_spelled : (words : List (List ℕ)) (j : Job) → Reads words j → AsksFor words j
 read_spelled words (Run z) e = sizes_spelled (codes "run") 2 is_run (λ y. first_outside y ≡ None) words z runnable e
+read_spelled words (Replay z) e = sizes_spelled (codes "replay") 2 is_replay AreReplaySizes words z replayable e
 read_spelled words (Table z) e = sizes_spelled (codes "table") 1 is_table AreTableSizes words z tabular e
 read_spelled words (Gen g) e = script_spelled (codes "gen") words g e
 read_spelled words (Load g) e = script_spelled (codes "load") words g e
@@ -276,8 +286,9 @@ asked words j e = read_spelled words j (asked_reads words j e)
 
 pub answered : (words : List (List ℕ)) (j : Job) → AsksFor words j → asked_job words ≡ Some j
 unfolding asked_job
-answered words (Run z) a = ap (λ (o : Option Sizes). option_or (option_map Run o) (option_or (option_map Table (table_sizes words)) (option_or (option_map Gen (generated_after (codes "gen") words)) (option_map Load (generated_after (codes "load") words)))))
+answered words (Run z) a = ap (λ (o : Option Sizes). option_or (option_map Run o) (option_or (option_map Replay (replay_sizes words)) (option_or (option_map Table (table_sizes words)) (option_or (option_map Gen (generated_after (codes "gen") words)) (option_map Load (generated_after (codes "load") words))))))
     (spelled_sizes (codes "run") 2 is_run (λ y. first_outside y ≡ None) words z passes_run a)
+answered words (Replay z) a = replay_first words z a
 answered words (Table z) a = table_first words z a
 answered words (Gen g) a = ap asked_job a.words_are ∙ ap (λ (o : Option Generated). option_or (option_map Gen o) None) (script_again g a.limits)
 answered words (Load g) a = ap asked_job a.words_are ∙ ap (option_map Load) (script_again g a.limits)

@@ -2,7 +2,7 @@
 use Rattle.std.specs.Prelude.{ℕ, true, List, Option, Some, None, option_map, option_and_then, codes, bytes_eq, if◌then◌else◌}
 use Rattle.clap.specs.Words.{App, Row, Rule, Text, first_of, new_app, new_rule, with_rule, with_subcommand}
 use Rattle.command_line.specs.declared.job.Job.{Job}
-use Rattle.command_line.specs.declared.job.Job.TheVariants.{Run, Table, Gen, Load}
+use Rattle.command_line.specs.declared.job.Job.TheVariants.{Run, Replay, Table, Gen, Load}
 use Rattle.command_line.specs.declared.job.Generated.{Generated}
 use Rattle.command_line.specs.declared.options.Given.{Given}
 use Rattle.command_line.specs.Numbers.{option_number}
@@ -31,8 +31,8 @@ plain_app a = record a { top = record a.top { no_binary_name = true; disable_hel
 
 abbrev pub camlheap_app : App
 camlheap_app =
-    with_subcommand (with_subcommand (with_subcommand (with_subcommand (plain_app (new_app (codes "camlheap"))) (options_app (codes "run")).top) (options_app (codes "table")).top)
-    (script_app (codes "gen")).top) (script_app (codes "load")).top
+    with_subcommand (with_subcommand (with_subcommand (with_subcommand (with_subcommand (plain_app (new_app (codes "camlheap"))) (options_app (codes "run")).top) (options_app (codes "replay")).top)
+    (options_app (codes "table")).top) (script_app (codes "gen")).top) (script_app (codes "load")).top
 
 -- the number that a parse found under a name
 abbrev pub number_in : List Row → Text → Option ℕ
@@ -48,6 +48,7 @@ script_in rows = script_if (number_in rows (codes "base")) (number_in rows (code
 abbrev pub job_at : Text × List Row → Option Job
 job_at entered =
     if bytes_eq entered.0 (codes "run") then Some (Run (sizes_or 2 (given_in entered.1)))
+    else (if bytes_eq entered.0 (codes "replay") then Some (Replay (sizes_or 2 (given_in entered.1)))
     else (if bytes_eq entered.0 (codes "table") then Some (Table (sizes_or 1 (given_in entered.1)))
     else (if bytes_eq entered.0 (codes "gen") then option_map Gen (script_in entered.1)
-    else (if bytes_eq entered.0 (codes "load") then option_map Load (script_in entered.1) else None)))
+    else (if bytes_eq entered.0 (codes "load") then option_map Load (script_in entered.1) else None))))

@@ -4,10 +4,10 @@ use Rattle.std.specs.Option.{option_or}
 use Rattle.heap_model.specs.declared.state.Sizes.{Sizes}
 use Rattle.heap_model.specs.Domains.{class_count, first_outside, reserve}
 use Rattle.command_line.specs.declared.job.Job.{Job}
-use Rattle.command_line.specs.declared.job.Job.TheVariants.{Run, Table, Gen, Load}
+use Rattle.command_line.specs.declared.job.Job.TheVariants.{Run, Replay, Table, Gen, Load}
 use Rattle.command_line.specs.declared.job.Generated.{Generated}
 use Rattle.command_line.specs.Numbers.{option_number}
-use Rattle.command_line.specs.RunWords.{run_sizes, sizes_or, table_sizes}
+use Rattle.command_line.specs.RunWords.{replay_sizes, run_sizes, sizes_or, table_sizes}
 
 -- a generated script that may be asked for: the first number is at most 1,000,000, there are 1 to 8 domains, and at most 200,000 commands in all
 pub record IsGenerable (g : Generated) : Type 0 where
@@ -40,12 +40,18 @@ generated_after command (word ∷ base ∷ domains ∷ commands ∷ []) =
     if bytes_eq word command then option_and_then if_generable (script_if (option_number base) (option_number domains) (option_number commands)) else None
 generated_after command (word ∷ base ∷ domains ∷ commands ∷ more ∷ words) = None
 
--- what the words ask for, where they are taken: a run, a text of a table, or a script that is written or loaded
+-- what the words ask for, where they are taken: a run, a replay, a text of a table, or a script that is written or loaded
 unfoldable pub asked_job : List (List ℕ) → Option Job
 asked_job words =
     option_or (option_map Run (run_sizes words))
+    (option_or (option_map Replay (replay_sizes words))
     (option_or (option_map Table (table_sizes words))
-    (option_or (option_map Gen (generated_after (codes "gen") words)) (option_map Load (generated_after (codes "load") words))))
+    (option_or (option_map Gen (generated_after (codes "gen") words)) (option_map Load (generated_after (codes "load") words)))))
+
+-- a heap on which a script may be replayed: twice the pools that are kept free, and two more, at least
+pub record AreReplaySizes (z : Sizes) : Type 0 where
+  pub limits : first_outside z ≡ None
+  pub pools : 2 * reserve z + 2 ≤ z.pools
 
 -- a heap on which a text of a table may run: one domain, and 32 pools beside those that are kept free and one for each class
 pub record AreTableSizes (z : Sizes) : Type 0 where
@@ -56,6 +62,7 @@ pub record AreTableSizes (z : Sizes) : Type 0 where
 -- what is asked for is within its limits: those of a heap that has all its classes, or those of a script
 abbrev pub IsWithinRange : Job → Type 0
 IsWithinRange (Run z) = (first_outside z ≡ None) × (z.classes ≡ class_count)
+IsWithinRange (Replay z) = AreReplaySizes z × (z.classes ≡ class_count)
 IsWithinRange (Table z) = AreTableSizes z × (z.classes ≡ class_count)
 IsWithinRange (Gen g) = IsGenerable g
 IsWithinRange (Load g) = IsGenerable g

@@ -1,4 +1,4 @@
--- The options of `run` and `table`, and what a list of words gives.
+-- The options of `run`, `replay` and `table`, and what a list of words gives.
 use Rattle.std.specs.Prelude.{ℕ, List, [], ◌∷◌, Option, Some, None, is_some, option_map, option_and_then, codes, bytes_eq, if◌then◌else◌}
 use Rattle.clap.specs.Lexer.{long_of}
 use Rattle.command_line.specs.declared.options.Setting.{Setting}

@@ -1,5 +1,5 @@
--- The words of a command with options: `run` or `table`.
-use Rattle.std.specs.Prelude.{ℕ, ◌+◌, ◌==◌, ◌&&◌, Bool, nat_le, List, [], ◌∷◌, Option, Some, None, is_none, option_and_then, unwrap_or, codes, bytes_eq, if◌then◌else◌}
+-- The words of a command with options: `run`, `replay` or `table`.
+use Rattle.std.specs.Prelude.{ℕ, ◌+◌, ◌*◌, ◌==◌, ◌&&◌, Bool, nat_le, List, [], ◌∷◌, Option, Some, None, is_none, option_and_then, unwrap_or, codes, bytes_eq, if◌then◌else◌}
 use Rattle.heap_model.specs.declared.state.Sizes.{Sizes}
 use Rattle.heap_model.specs.Domains.{sizes_of, class_count, first_outside, reserve}
 use Rattle.command_line.specs.declared.options.Given.{Given}
@@ -18,6 +18,10 @@ sizes_or domains g = sizes_of (unwrap_or g.domains domains) (unwrap_or g.pools 5
 abbrev pub is_run : Sizes → Bool
 is_run z = is_none (first_outside z)
 
+-- a replay may have those with twice the pools that are kept free, and two more, at least
+abbrev pub is_replay : Sizes → Bool
+is_replay z = is_none (first_outside z) && nat_le (2 * reserve z + 2) z.pools
+
 -- a text of a table may have those of one domain, with 32 pools beside those that are kept free and one for each class
 abbrev pub is_table : Sizes → Bool
 is_table z = is_none (first_outside z) && (z.domains == 1 && nat_le (reserve z + z.classes + 32) z.pools)
@@ -32,6 +36,10 @@ sizes_after command domains test words = option_and_then (λ g. if_sizes test (s
 -- the sizes that the words of a run ask for, where the words are taken: without the option it has 2 domains
 abbrev pub run_sizes : List (List ℕ) → Option Sizes
 run_sizes words = sizes_after (codes "run") 2 is_run words
+
+-- the sizes that the words of a replay ask for, where the words are taken
+abbrev pub replay_sizes : List (List ℕ) → Option Sizes
+replay_sizes words = sizes_after (codes "replay") 2 is_replay words
 
 -- the sizes that the words of a table ask for, where the words are taken
 abbrev pub table_sizes : List (List ℕ) → Option Sizes

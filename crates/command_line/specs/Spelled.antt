@@ -1,4 +1,4 @@
--- The words as they are spelled: `run` or `table` and options, each with its number, or `gen` or `load` and three numbers.
+-- The words as they are spelled: `run`, `replay` or `table` and options, each with its number, or `gen` or `load` and three numbers.
 use Rattle.std.specs.Prelude.{◌≡◌, ℕ, ◌<◌, ◌^◌, Bool, List, [], ◌∷◌, ◌++◌, None, codes, decimal, flat_map, if◌then◌else◌}
 use Rattle.heap_model.specs.declared.state.Sizes.{Sizes}
 use Rattle.heap_model.specs.Domains.{first_outside}
@@ -7,9 +7,9 @@ use Rattle.command_line.specs.declared.options.Setting.TheVariants.{Domains, Min
 use Rattle.command_line.specs.declared.options.Given.{Given}
 use Rattle.command_line.specs.Options.{given_at, with_number}
 use Rattle.command_line.specs.declared.job.Job.{Job}
-use Rattle.command_line.specs.declared.job.Job.TheVariants.{Run, Table, Gen, Load}
+use Rattle.command_line.specs.declared.job.Job.TheVariants.{Run, Replay, Table, Gen, Load}
 use Rattle.command_line.specs.declared.job.Generated.{Generated}
-use Rattle.command_line.specs.Jobs.{AreTableSizes, IsGenerable}
+use Rattle.command_line.specs.Jobs.{AreReplaySizes, AreTableSizes, IsGenerable}
 use Rattle.command_line.specs.RunWords.{sizes_or}
 
 -- the name of an option
@@ -56,6 +56,7 @@ pub record AsksForScript (command : List ℕ) (words : List (List ℕ)) (g : Gen
 -- the words are spelled so, and ask for this
 abbrev pub AsksFor : List (List ℕ) → Job → Type 0
 AsksFor words (Run z) = AsksForSizes (codes "run") 2 (λ y. first_outside y ≡ None) words z
+AsksFor words (Replay z) = AsksForSizes (codes "replay") 2 AreReplaySizes words z
 AsksFor words (Table z) = AsksForSizes (codes "table") 1 AreTableSizes words z
 AsksFor words (Gen g) = AsksForScript (codes "gen") words g
 AsksFor words (Load g) = AsksForScript (codes "load") words g

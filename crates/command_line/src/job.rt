@@ -2,7 +2,7 @@
 ghost use Rattle.std.specs.Prelude.{◌≡◌};
 ghost use Rattle.heap_model.specs.Domains.{class_count};
 ghost use Rattle.command_line.specs.Jobs.{is_generable, load_sizes};
-ghost use Rattle.command_line.specs.RunWords.{is_run as may_be_run, is_table as may_be_table};
+ghost use Rattle.command_line.specs.RunWords.{is_replay as may_be_replay, is_run as may_be_run, is_table as may_be_table};
 
 use crate::options::{Given, sizes};
 use heap_model::state::Sizes;
@@ -27,6 +27,8 @@ const TABLE_POOLS: u32 = 32;
 pub enum Job {
     /// A run of a script on a heap of these sizes.
     Run(Sizes),
+    /// A run of a script under a schedule, on a heap of these sizes.
+    Replay(Sizes),
     /// A run of a text of a table on a heap of these sizes, which has one domain.
     Table(Sizes),
     /// A script that is generated and written.
@@ -77,6 +79,14 @@ pub(crate) fn is_run(sizes: &Sizes) -> bool
     ensures { result ≡ may_be_run sizes.now }
 {
     sizes.first_outside().is_none()
+}
+
+// Whether a script may be replayed on a heap of these sizes.
+pub(crate) fn is_replay(sizes: &Sizes) -> bool
+    requires { sizes.now.classes ≡ class_count }
+    ensures { result ≡ may_be_replay sizes.now }
+{
+    is_run(sizes) && 2 * reserve(sizes.domains, sizes.minor_words) + 2 <= sizes.pools
 }
 
 // Whether a text of a table may be run on a heap of these sizes.

@@ -80,6 +80,7 @@ fn camlheap_command<'a>(alloc: Global) -> Result<Command<'a>, AllocError>
     ensures { IfOk result (λ c. app_of c ≡ camlheap_app) }
 {
     let run = options_command(alloc, "run")?;
+    let replay = options_command(alloc, "replay")?;
     let table = options_command(alloc, "table")?;
     let generate = script_command(alloc, "gen")?;
     let load = script_command(alloc, "load")?;
@@ -88,10 +89,11 @@ fn camlheap_command<'a>(alloc: Global) -> Result<Command<'a>, AllocError>
     let plain = without_flag.disable_help_subcommand(true);
     let asking = plain.subcommand_required(true);
     let one = asking.subcommand(run)?;
-    let two = one.subcommand(table)?;
-    let three = two.subcommand(generate)?;
-    let four = three.subcommand(load)?;
-    Ok(four)
+    let two = one.subcommand(replay)?;
+    let three = two.subcommand(table)?;
+    let four = three.subcommand(generate)?;
+    let five = four.subcommand(load)?;
+    Ok(five)
 }
 
 // The matches of the words. Words that the command takes fail for want of memory alone.
@@ -145,6 +147,7 @@ fn job_in(name: &str, matches: &ArgMatches<'_>) -> Option<Job>
 {
     match name {
         "run" => Some(Job::Run(sizes(given_found(matches), RUN_DOMAINS))),
+        "replay" => Some(Job::Replay(sizes(given_found(matches), RUN_DOMAINS))),
         "table" => Some(Job::Table(sizes(given_found(matches), TABLE_DOMAINS))),
         "gen" => Some(Job::Gen(script_found(matches)?)),
         "load" => Some(Job::Load(script_found(matches)?)),

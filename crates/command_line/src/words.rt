@@ -4,10 +4,10 @@ ghost use Rattle.command_line.specs.declared.job.Job.{Job};
 ghost use Rattle.command_line.specs.Jobs.{asked_job, generated_after, script_if, IsWithinRange};
 ghost use Rattle.command_line.specs.Numbers.{option_number};
 ghost use Rattle.command_line.specs.Options.{given_by, nothing_read, with_name, with_text, with_word};
-ghost use Rattle.command_line.specs.RunWords.{given_after, run_sizes, sizes_or, table_sizes};
+ghost use Rattle.command_line.specs.RunWords.{given_after, replay_sizes, run_sizes, sizes_or, table_sizes};
 ghost use Rattle.command_line.specs.Spelled.{AsksFor};
 
-use crate::job::{Generated, Job, RUN_DOMAINS, TABLE_DOMAINS, is_run, is_table};
+use crate::job::{Generated, Job, RUN_DOMAINS, TABLE_DOMAINS, is_replay, is_run, is_table};
 use crate::long::long_option;
 use crate::number::number;
 use crate::options::{Given, Read, Setting, named_setting, sizes};
@@ -93,6 +93,14 @@ fn run_asked(words: &[String]) -> Option<Sizes>
     if is_run(&sizes) { Some(sizes) } else { None }
 }
 
+// The sizes that the words of a replay ask for.
+fn replay_asked(words: &[String]) -> Option<Sizes>
+    ensures { result ≡ replay_sizes (map string_bytes words.now) }
+{
+    let sizes = sizes_asked(words, "replay", RUN_DOMAINS)?;
+    if is_replay(&sizes) { Some(sizes) } else { None }
+}
+
 // The sizes that the words of a table ask for.
 fn table_asked(words: &[String]) -> Option<Sizes>
     ensures { result ≡ table_sizes (map string_bytes words.now) }
@@ -137,6 +145,9 @@ fn asked(words: &[String]) -> Option<Job>
     if let Some(sizes) = run_asked(words) {
         return Some(Job::Run(sizes));
     }
+    if let Some(sizes) = replay_asked(words) {
+        return Some(Job::Replay(sizes));
+    }
     if let Some(sizes) = table_asked(words) {
         return Some(Job::Table(sizes));
     }
@@ -153,6 +164,8 @@ fn asked(words: &[String]) -> Option<Job>
 ///   limits of a heap: 1 to 8 domains, minor areas of 4096 to 65,536 words in whole pools of 4096,
 ///   and up to 2048 pools, among them those that are kept free for promotion and one more for each
 ///   class of each domain, and one. What isn't given is 2 domains, 32,768 words and 512 pools.
+/// - `replay`, followed by the same options. There are twice the pools that are kept free, and two more, at
+///   least.
 /// - `table`, followed by the same options, where N is 1, as it is without the option. There are 32 pools
 ///   at least beside those that are kept free and one for each class.
 /// - `gen BASE N C` or `load BASE N C`: a script whose integers count from BASE, which is 0 to

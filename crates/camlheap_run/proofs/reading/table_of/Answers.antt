@@ -1,4 +1,5 @@
 use Rattle.table_text.specs.Faults.{first_fault}
+use Rattle.camlheap_run.specs.Reading.{IsFirst}
 use Rattle.camlheap_run.proofs.ReadingLemmas.{not_refused, told_fault, told_table}
 use Rattle.camlheap_run.proofs.reading.table_of.Goals as goal
 
@@ -10,4 +11,4 @@ returns-clause-only_faults g c = λ s f told refused.
 pub returns-in-Ok-read_table-clause-only_texts : goal.returns-in-Ok-read_table-clause-only_texts
 returns-in-Ok-read_table-clause-only_texts g c = λ f told.
     let read = rw (← c.deref.ensures.value) at c.in-Ok.ensures.bytes in
-    let given = c.in-Ok-read_table.ensures.refused f (told_fault first_fault _ _ _ f read told) in cc given
+    let given = c.in-Ok-read_table.ensures.refused f (told_fault (IsFirst first_fault) _ _ _ f read told) in cc given

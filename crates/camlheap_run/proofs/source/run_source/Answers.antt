@@ -1,14 +1,15 @@
 use Rattle.std.proofs.Common.{◌≡◌, sym, ap, inl, ◌∙◌}
 use Rattle.camlheap_run.specs.declared.status.Status.TheVariants.{Script}
 use Rattle.heap_text.specs.Faults.{first_fault}
+use Rattle.camlheap_run.specs.Reading.{IsFirst}
 use Rattle.camlheap_run.proofs.ReadingLemmas.{told_fault}
 use Rattle.camlheap_run.proofs.source.run_source.Goals as goal
 
 pub returns-in-Err-Refused-clause-refused : goal.returns-in-Err-Refused-clause-refused
 returns-in-Err-Refused-clause-refused g c = λ f told sure.
     let reads = c.in-Err-Refused.ensures.refused c.in-Err-Refused.fault (cc c.in-Err-Refused.field-0-is) in
-    let first = told_fault (first_fault c.args.sizes.now.domains) _ _ reads.bytes f reads.are_read told in
-    let same : c.in-Err-Refused.fault ≡ f = cc (sym reads.first ∙ first) in
+    let first = told_fault (IsFirst (first_fault c.args.sizes.now.domains)) _ _ reads.0.bytes f reads.0.are_read told in
+    let same : c.in-Err-Refused.fault ≡ f = cc (sym reads.0.first ∙ first) in
     rw c.in-Err-Refused.field-0-is (inl (ap Script same))
 
 pub returns-in-Ok-clause-cut : goal.returns-in-Ok-clause-cut

@@ -12,6 +12,7 @@ returns c =
     let plain_is = ap app_of_fields fields ∙ ap plain_app c.new.ensures.app in
     let top = λ (a : App). a.top in
     let one_is = c.in_ok-one.ensures.shape c.in_ok-run.ensures.local ∙ ap₂ with_subcommand plain_is (ap top c.in_ok-run.ensures.shape) in
-    let two_is = c.in_ok-two.ensures.shape c.in_ok-table.ensures.local ∙ ap₂ with_subcommand one_is (ap top c.in_ok-table.ensures.shape) in
-    let three_is = c.in_ok-three.ensures.shape c.in_ok-generate.ensures.local ∙ ap₂ with_subcommand two_is (ap top c.in_ok-generate.ensures.shape) in
-    c.in_ok-four.ensures.shape c.in_ok-load.ensures.local ∙ ap₂ with_subcommand three_is (ap top c.in_ok-load.ensures.shape)
+    let two_is = c.in_ok-two.ensures.shape c.in_ok-replay.ensures.local ∙ ap₂ with_subcommand one_is (ap top c.in_ok-replay.ensures.shape) in
+    let three_is = c.in_ok-three.ensures.shape c.in_ok-table.ensures.local ∙ ap₂ with_subcommand two_is (ap top c.in_ok-table.ensures.shape) in
+    let four_is = c.in_ok-four.ensures.shape c.in_ok-generate.ensures.local ∙ ap₂ with_subcommand three_is (ap top c.in_ok-generate.ensures.shape) in
+    c.in_ok-five.ensures.shape c.in_ok-load.ensures.local ∙ ap₂ with_subcommand four_is (ap top c.in_ok-load.ensures.shape)

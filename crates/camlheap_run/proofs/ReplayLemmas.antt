@@ -1,0 +1,139 @@
+-- A heap whose runs a schedule has driven to their ends.
+use Rattle.std.proofs.Common.{◌≡◌, ◌≢◌, ℕ, zero, suc, ◌+◌, ◌<◌, ◌≤◌, true, List, [], ◌∷◌, ◌++◌, length, map, get_or, refl, sym, ap, ◌∙◌, subst, ⊎_elim, arith, Some, None}
+use Rattle.std.specs.Prelude.{Option, flat_map, slice_get, slice_index_or}
+use Rattle.std.specs.List.{AllByRecursion, list_all, range_with_len}
+use Rattle.std.specs.Io.KnownBytes.{Appends}
+use Rattle.std.proofs.lemmas.Option.{slice_get-get_or, slice_get_within}
+use Rattle.heap_model.specs.declared.command.Command.{Command}
+use Rattle.heap_model.specs.declared.entry.Entry.{Entry}
+use Rattle.heap_model.specs.declared.reply.Reply.{Reply}
+use Rattle.heap_model.specs.declared.state.Sizes.{Sizes}
+use Rattle.heap_model.specs.History.{Legal, replies}
+use Rattle.heap_model.specs.Output.{line, output, printed, section_text}
+use Rattle.heap_text.specs.declared.fault.ScriptFault.{ScriptFault}
+use Rattle.heap_text.specs.declared.fault.ScriptFault.TheVariants.{Memory, TooLong}
+use Rattle.heap_text.specs.Faults.{first_fault}
+use Rattle.heap_text.specs.Spelling.{heading_text}
+use Rattle.heap_text.proofs.AnswerLemmas.{answered}
+use Rattle.heap_text.proofs.OnlyLemmas.{no_fault}
+use Rattle.heap_rule.specs.declared.config.Config.{Config}
+use Rattle.heap_rule.specs.Limits.{sizes_in}
+use Rattle.heap_rule.specs.Opening.{opening_token, opening_tokens}
+use Rattle.heap_rule.specs.Token.{SharedHeap, IsIn}
+use Rattle.heap_rule.specs.Ending.{EndedHeap, AllBegin, Begins}
+use Rattle.domain_turns.specs.Runs.{RunView, IsRun}
+use Rattle.schedule_laws.specs.declared.items.Item.{Item}
+use Rattle.schedule_laws.specs.Scheduled.{scheduled}
+use Rattle.schedule_text.specs.declared.replay.ReplayFault.TheVariants.{Script as ScriptOf}
+use Rattle.schedule_text.specs.Replays.{HasFault, IsTooLong, WrongScript}
+use Rattle.replay_turns.specs.Ends.{MayBeHeld, MayGather}
+use Rattle.replay_run.specs.Replayed.{HasPlayed, IsUntouched, MayReplay, Replayed, commands_of}
+use Rattle.camlheap_run.specs.declared.begin.Begun.{Begun}
+use Rattle.camlheap_run.specs.declared.report.Report.TheVariants.{Replies}
+use Rattle.camlheap_run.specs.Running.{IsBegun, IsHere, IsOver, IsPastOf, opened, token_of}
+use Rattle.camlheap_run.specs.Writing.{AppendsFront, run_text, text_of}
+use Rattle.camlheap_run.proofs.BeginLemmas.{length-opened, opened_at}
+use Rattle.camlheap_run.proofs.RunLemmas.{AreTold, Told, all_from_each, begins_at, begun_here, each_from_all, length-begun, told_by}
+
+-- the run of each domain, as it begins
+first_at : (k : Config) (script : List (List Command)) (b : Begun) → IsBegun k script b → (d : ℕ) (r : RunView) → slice_get b.runs.items d ≡ Some r → opened script (opening_token b.heap.table k d) ≡ r
+first_at k script b begun d r at =
+    let many = length-begun k script b begun in
+    let within : d < length b.runs.items = slice_get_within b.runs.items d r at in
+    let own : slice_get b.runs.items d ≡ Some (opened script (opening_token b.heap.table k (0 + d))) = ap (λ (l : List RunView). slice_get l d) begun.runs ∙ opened_at b.heap k script 0 k.domains d (omega arith) in
+    let same : 0 + d ≡ d = omega arith in
+    let both : ◌≡◌ {A = Option RunView} (Some (opened script (opening_token b.heap.table k d))) (Some r) = ap (λ (n : ℕ). Some (opened script (opening_token b.heap.table k n))) (sym same) ∙ sym own ∙ at in cc
+
+-- runs that have begun may be replayed
+pub begun_may : (k : Config) (script : List (List Command)) (b : Begun) → IsBegun k script b → MayReplay b.heap b.runs.items
+begun_may k script b begun = record {
+  some = subst (λ (c : Config). 0 < c.domains) (sym begun.config) begun.some;
+  gathers = record {
+    count = length-begun k script b begun ∙ ap (λ (c : Config). c.domains) (sym begun.config);
+    each = λ d r at. subst (λ (q : RunView). MayBeHeld b.heap d q) (first_at k script b begun d r at) (record { here = (refl, sym begun.config); number = refl; listed = refl; collected = refl; left = refl; armed = λ zeroth. refl; unswept = λ zeroth. refl });
+  };
+  each = λ d r at. subst IsUntouched (first_at k script b begun d r at) (record { front = refl; asked = refl; next = refl });
+}
+
+-- and their commands are the sections
+sections_at : (script : List (List Command)) (runs : List RunView) → ((d : ℕ) (r : RunView) → slice_get runs d ≡ Some r → r.commands ≡ slice_index_or script d []) → length script ≡ length runs → commands_of runs ≡ script
+sections_at [] [] each many = refl
+sections_at [] (r ∷ runs) each many = cc
+sections_at (cs ∷ script) [] each many = cc
+sections_at (cs ∷ script) (r ∷ runs) each many =
+    ap (λ (c : List Command). c ∷ commands_of runs) (each 0 r refl) ∙ ap (λ (rest : List (List Command)). cs ∷ rest) (sections_at script runs (λ d q at. each (suc d) q at) (omega (arith, many)))
+
+pub begun_sections : (k : Config) (script : List (List Command)) (b : Begun) → IsBegun k script b → length script ≡ k.domains → commands_of b.runs.items ≡ script
+begun_sections k script b begun many =
+    sections_at script b.runs.items (λ d r at. sym (ap (λ (q : RunView). q.commands) (first_at k script b begun d r at))) (many ∙ sym (length-begun k script b begun))
+
+-- what is known once the heap has ended
+module _ (z : Sizes) (k : Config) (script : List (List Command)) (b : Begun) (items : List Item) (h : SharedHeap) (new : List RunView) (past : EndedHeap) (sizes : sizes_in k ≡ z) (begun : IsBegun k script b) (many : length script ≡ k.domains)
+    (replayed : Replayed b.heap.config b.runs.items items h new) where
+  pub all_played_here : AllByRecursion (IsHere h) new
+  all_played_here = all_from_each (IsHere h) new (λ d r at. (replayed.each d r at).here)
+
+  pub all_played_over : AllByRecursion IsOver new
+  all_played_over = all_from_each IsOver new (λ d r at. (replayed.each d r at).over)
+
+  pub played_count : length new ≡ k.domains
+  played_count = replayed.count ∙ length-begun k script b begun
+
+  config_sizes : sizes_in b.heap.config ≡ z
+  config_sizes = ap sizes_in begun.config ∙ sizes
+
+  end_sizes : sizes_in h.config ≡ z
+  end_sizes = replayed.sizes ∙ config_sizes
+
+  module _ (ended : IsPastOf h new past) where
+    past_legal : Legal z past.history
+    past_legal = subst (λ (y : Sizes). Legal y past.history) (ended.sizes ∙ end_sizes) ended.legal
+
+    one_told : (d : ℕ) → d < z.domains → (q : RunView) × (slice_get new d ≡ Some q) × Told z script past.history d q
+    one_told d below =
+        let first : RunView = opened script (opening_token b.heap.table k d) in
+        let domains : z.domains ≡ k.domains = ap (λ (y : Sizes). y.domains) (sym sizes) in
+        let within : d < length new = subst (λ n. d < n) (domains ∙ sym played_count) below in
+        let q : RunView = get_or new d first in
+        let at : slice_get new d ≡ Some q = slice_get-get_or new d first within in
+        let played = replayed.each d q at in (
+          q,
+          at,
+          told_by z script d q past.history played.number played.listed (played.made ∙ ap (λ (cs : List (List Command)). slice_index_or cs d []) (begun_sections k script b begun many)) (ap sizes_in played.here.1 ∙ end_sizes) played.over
+              (each_from_all IsRun new d q ended.faithful at) (begins_at past.history new d q ended.fronts at),
+        )
+
+    pub all_told : AreTold z script new past
+    all_told = record { sizes = ended.sizes ∙ end_sizes; legal = past_legal; many = played_count ∙ ap (λ (y : Sizes). y.domains) sizes; each = one_told }
+
+    -- it prints what the scheduled history prints
+    same_replies : (d : ℕ) → d < z.domains → replies z past.history d ≡ replies z (scheduled z script items) d
+    same_replies d below =
+        let domains : z.domains ≡ k.domains = ap (λ (y : Sizes). y.domains) (sym sizes) in
+        let answers = replayed.replies past.history (subst (λ (y : Sizes). Legal y past.history) (sym config_sizes) past_legal) (λ e r at. begins_at past.history new e r ended.fronts at) d (subst (λ n. d < n) (domains ∙ sym played_count) below) in
+        ap (λ (y : Sizes). replies y past.history d) (sym config_sizes) ∙ answers ∙ ap (λ (y : Sizes). replies y (scheduled y (commands_of b.runs.items) items) d) config_sizes
+        ∙ ap (λ (cs : List (List Command)). replies z (scheduled z cs items) d) (begun_sections k script b begun many)
+
+    pub same_output : output z past.history ≡ output z (scheduled z script items)
+    same_output = same_sections 0 z.domains (omega arith)
+      where
+        same_sections : (a n : ℕ) → a + n ≤ z.domains → flat_map (section_text z past.history) (range_with_len a n) ≡ flat_map (section_text z (scheduled z script items)) (range_with_len a n)
+        same_sections a zero few = refl
+        same_sections a (suc n) few =
+            ap (λ (rs : List Reply). (line (heading_text a) ++ printed rs) ++ flat_map (section_text z past.history) (range_with_len (a + 1) n)) (same_replies a (omega (arith, few)))
+            ∙ ap (λ (t : List ℕ). section_text z (scheduled z script items) a ++ t) (same_sections (a + 1) n (omega (arith, few)))
+
+-- the first fault of a script is no want of memory
+first_is_fault : (domains : ℕ) (bytes : List ℕ) (fault : ScriptFault) → domains < 4294967296 → first_fault domains bytes ≡ Some fault → fault ≢ Memory
+first_is_fault domains bytes fault small first =
+    ⊎_elim
+    (λ spelled. let clash : None ≡ Some fault = sym (no_fault domains spelled.0 bytes small spelled.1) ∙ first in cc)
+    (λ faulty. let same : Some faulty.0 ≡ Some fault = sym faulty.2 ∙ first in let is : faulty.0 ≡ fault = cc in subst (λ (f : ScriptFault). f ≢ Memory) is faulty.1)
+    (answered domains bytes small)
+
+pub script_fault_is : (domains pools : ℕ) (bytes : List ℕ) (fault : ScriptFault) → domains < 4294967296 → HasFault domains pools bytes (ScriptOf fault) → fault ≢ Memory
+script_fault_is domains pools bytes fault small has =
+    ⊎_elim
+    (λ (long : IsTooLong bytes fault). λ same. let clash : TooLong (length bytes) ≡ Memory = sym long.is ∙ same in cc)
+    (λ (wrong : WrongScript domains bytes fault). first_is_fault domains _ fault small wrong.first)
+    has

@@ -1,0 +1,15 @@
+use Rattle.std.proofs.Common.{subst, sym}
+use Rattle.heap_model.specs.declared.entry.Entry.{Entry}
+use Rattle.std.specs.Prelude.{◌≡◌, List, []}
+use Rattle.schedule_drive.specs.Following.{IsCalm}
+use Rattle.replay_turns.specs.Gathered.{GatheredView, IsGathered, MayShare, seen_in}
+use Rattle.replay_run.proofs.Gathering.{begins_calm, begins_fresh}
+use Rattle.replay_run.proofs.replay.replay_runs.Goals as goal
+
+pub drive-requires-clause-calm : goal.drive-requires-clause-calm
+drive-requires-clause-calm g c = subst (λ (v : GatheredView). IsCalm (seen_in v)) (sym c.in_ok-gathered.ensures) (begins_calm c.args.heap c.args.runs.items c.requires.may)
+
+pub drive-requires-clause-fresh : goal.drive-requires-clause-fresh
+drive-requires-clause-fresh g c =
+    subst (λ (v : GatheredView). (h : List Entry) → MayShare v h → h ≡ []) (sym c.in_ok-gathered.ensures)
+    (begins_fresh c.args.heap c.args.runs.items c.requires.may (subst IsGathered c.in_ok-gathered.ensures c.is_whole.ensures))
