@@ -17,8 +17,8 @@ use Rattle.heap_rule.specs.Token.{SharedHeap, Token}
 use Rattle.heap_rule.specs.Views.{opening_view}
 use Rattle.field_access.specs.Remembered.{ChangesRemembered}
 use Rattle.size_pools.specs.Taken.{GrowsBy}
-use Rattle.spawn_laws.specs.Hidden.{hidden, hidden_fields, scratch}
-use Rattle.domain_spawn.specs.Opening.{Began, Cleared, HandedUpto, Has, Keeps, MadeHidden, MetUpto, clearing, made_by, making, takings}
+use Rattle.spawn_laws.specs.Hidden.{hidden, hidden_fields, prelude, scratch}
+use Rattle.domain_spawn.specs.Opening.{Began, Cleared, HandedUpto, Has, IsOpened, Keeps, MadeHidden, MetUpto, clearing, made_by, making, takings}
 use Rattle.domain_spawn.proofs.Handing.{Made, began_did, get_within, keeps_registers, made_count, made_has, opening_began, prefix_trans}
 
 -- what a command of domain 0 leaves of its front
@@ -193,3 +193,7 @@ prelude_counts h first new others u c = (c.has (making ++ takings (length others
 -- as many as there were
 pub counted : (h : SharedHeap) (a b c all : List Token) (first : Token) (n : ℕ) → a ≡ opening_tokens h.table h.config 1 n → n + 1 ≡ h.config.domains → length b ≡ length a → length c ≡ length b → all ≡ insert c 0 first → length all ≡ h.config.domains
 counted h a b c all first n are more ba cb is = ap length is ∙ ((let x : ℕ = length c in let e : suc x ≡ x + 1 = omega arith in e) ∙ (ap (λ (m : ℕ). m + 1) (cb ∙ (ba ∙ (ap length are ∙ tokens_count h 1 n))) ∙ more))
+
+-- so a history that goes on from what such a domain has seen begins with the prelude
+pub begins_with_prelude : (h : SharedHeap) (d : ℕ) (t : Token) (later history : List Entry) → IsOpened h d t → IsPrefix t.view.seen.front later → IsPrefix later history → IsPrefix (prelude h.config.domains) history
+begins_with_prelude h d t later history o on last = prefix_trans (prelude h.config.domains) later history (prefix_trans (prelude h.config.domains) t.view.seen.front later (record { rest = o.behind; appends = o.front }) on) last
