@@ -1,2 +1,6 @@
 pub mod Making
 pub mod Owed
+pub mod Interleaved
+pub mod Handing
+pub mod Leveling
+pub mod Opens
