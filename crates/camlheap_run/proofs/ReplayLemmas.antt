@@ -12,7 +12,7 @@ use Rattle.heap_model.specs.declared.reply.Reply.{Reply}
 use Rattle.heap_model.specs.declared.state.Sizes.{Sizes}
 use Rattle.heap_model.specs.History.{Legal, replies}
 use Rattle.heap_model.specs.Output.{line, output, printed, section_text}
-use Rattle.heap_text.specs.declared.version.Version.TheVariants.{Two}
+use Rattle.heap_text.specs.declared.version.Version.TheVariants.{Three}
 use Rattle.heap_text.specs.declared.fault.ScriptFault.{ScriptFault}
 use Rattle.heap_text.specs.declared.fault.ScriptFault.TheVariants.{Memory, TooLong}
 use Rattle.heap_text.specs.declared.version.Version.{Version}
@@ -39,7 +39,9 @@ use Rattle.camlheap_run.specs.declared.begin.Begun.{Begun}
 use Rattle.camlheap_run.specs.declared.report.Report.TheVariants.{Replies}
 use Rattle.camlheap_run.specs.Running.{IsBegun, IsHere, IsOver, IsPastOf, opened}
 use Rattle.camlheap_run.specs.declared.status.Status.TheVariants.{Script}
-use Rattle.camlheap_run.specs.Reading.{IsSpelledReplay}
+use Rattle.camlheap_run.specs.Reading.{IsSpelled, IsSpelledReplay}
+use Rattle.camlheap_run.proofs.SectionLemmas.{older_script}
+use Rattle.heap_text.specs.Forms.{version_number}
 use Rattle.camlheap_run.specs.Replaying.{MayReplay as MayReplayOn, WritesFrontOfReplay, WritesReplay, fault_status}
 use Rattle.camlheap_run.specs.Writing.{AppendsFront, run_text}
 use Rattle.camlheap_run.proofs.BeginLemmas.{opened_at}
@@ -153,12 +155,12 @@ module _ (z : Sizes) (k : Config) (script : List (List Command)) (b : Begun) (it
     }
 
 -- the first fault of a script is no want of memory
-first_is_fault : (domains : ℕ) (bytes : List ℕ) (fault : ScriptFault) → domains < 4294967296 → first_fault Two domains bytes ≡ Some fault → fault ≢ Memory
+first_is_fault : (domains : ℕ) (bytes : List ℕ) (fault : ScriptFault) → domains < 4294967296 → first_fault Three domains bytes ≡ Some fault → fault ≢ Memory
 first_is_fault domains bytes fault small first =
     ⊎_elim
-    (λ spelled. let clash : None ≡ Some fault = sym (no_fault Two domains spelled.0 bytes small spelled.1) ∙ first in cc)
+    (λ spelled. let clash : None ≡ Some fault = sym (no_fault Three domains spelled.0 bytes small spelled.1) ∙ first in cc)
     (λ faulty. let same : Some faulty.0 ≡ Some fault = sym faulty.2 ∙ first in let is : faulty.0 ≡ fault = cc in subst (λ (f : ScriptFault). f ≢ Memory) is faulty.1)
-    (answered Two domains bytes small)
+    (answered Three domains bytes small)
 
 pub script_fault_is : (domains pools : ℕ) (bytes : List ℕ) (fault : ScriptFault) → domains < 4294967296 → HasFault domains pools bytes (ScriptOf fault) → fault ≢ Memory
 script_fault_is domains pools bytes fault small has =
@@ -169,7 +171,7 @@ script_fault_is domains pools bytes fault small has =
 
 -- a replay has a section for each domain
 pub many_sections : (z : Sizes) (k : Config) (r : ReplayedText) → IsSpelledReplay z r → sizes_in k ≡ z → length r.script.sections ≡ k.domains
-many_sections z k r spelled sizes = length-script Two z.domains r.script (drop spelled.1.place spelled.0) spelled.1.script ∙ ap (λ (y : Sizes). y.domains) (sym sizes)
+many_sections z k r spelled sizes = length-script Three z.domains r.script (drop spelled.1.place spelled.0) spelled.1.script ∙ ap (λ (y : Sizes). y.domains) (sym sizes)
 
 -- what the status says of the fault
 pub status_script : (fault : ReplayFault) (f : ScriptFault) → fault_status fault ≡ Script f → fault ≡ ScriptOf f
@@ -190,3 +192,10 @@ pub small_domains : (z : Sizes) → MayReplayOn z → z.domains < 4294967296
 small_domains z may =
     let few : z.domains ≤ 8 = small_by_test z.domains (and_parts (nat_le 1 z.domains) (nat_le z.domains 8) (first_fits (fits_domains z) _ may.0.limits)).1 in
     omega (arith, few)
+
+-- a script that can be replayed is one without spawns
+pub replayed_script : (z : Sizes) (k : Config) (r : ReplayedText) → IsSpelledReplay z r → sizes_in k ≡ z → IsSpelled k.domains r.script
+replayed_script z k r spelled sizes =
+    let no_spawns = spelled.1.can.no_spawns in
+    let other : version_number r.script.version ≢ 3 = grind (arith, nat_tests, no_spawns) in
+    subst (λ (d : ℕ). IsSpelled d r.script) (sym (ap (λ (y : Sizes). y.domains) sizes)) (older_script z.domains r.script (drop spelled.1.place spelled.0, spelled.1.script) other)

@@ -1,10 +1,10 @@
 -- Bytes spell one replay at most, or have one first fault.
-use Rattle.std.proofs.Common.{◌≡◌, ◌⊎◌, ℕ, ◌<◌, ◌^◌, false, List, drop, None, Some, Ok, Err, IfOk, IfErr, sym, ap, ◌∙◌, subst, ⊎_elim, arith}
+use Rattle.std.proofs.Common.{◌≡◌, ◌⊎◌, Bool, ℕ, ◌<◌, ◌^◌, false, List, drop, None, Some, Ok, Err, IfOk, IfErr, sym, ap, ◌∙◌, subst, ⊎_elim, arith}
 use Rattle.std.specs.Prelude.{Result, if◌then◌else◌, nat_lt, ◌*◌}
 use Rattle.std.proofs.lemmas.Bool.Decides.{nat_tests}
 use Rattle.heap_model.specs.declared.command.Command.{Command}
 use Rattle.heap_text.specs.declared.fault.ScriptFault.{ScriptFault}
-use Rattle.heap_text.specs.declared.version.Version.TheVariants.{Two}
+use Rattle.heap_text.specs.declared.version.Version.TheVariants.{Three}
 use Rattle.heap_text.specs.Faults.{first_fault}
 use Rattle.heap_text.specs.Script.{Scripted}
 use Rattle.heap_text.specs.Spelling.{Spells as SpellsScript}
@@ -12,7 +12,7 @@ use Rattle.heap_text.proofs.OnlyLemmas.{no_fault, one_script}
 use Rattle.schedule_laws.specs.declared.items.Item.{Item}
 use Rattle.schedule_text.specs.declared.replay.ReplayFault.{ReplayFault}
 use Rattle.schedule_text.specs.declared.replay.ReplayFault.TheVariants.{Schedule, Script, NotReplayable, Memory}
-use Rattle.schedule_text.specs.Replayable.{CanReplay, pools_of, why_not}
+use Rattle.schedule_text.specs.Replayable.{CanReplay, has_major, pools_of, why_not}
 use Rattle.schedule_text.specs.Replays.{CannotReplay, HasFault, IsFirstUnlessMemory, IsTooLong, IsUnlessNoMemory, Replayed, SpellsReplay, WrongSchedule, WrongScript}
 use Rattle.schedule_text.specs.Spelling.{Spells}
 use Rattle.schedule_text.proofs.OnlyLemmas.{no_other, one_schedule}
@@ -26,23 +26,25 @@ module _ (domains : ℕ) (bytes : List ℕ) (small : domains < 2 ^ 32) where
   same_items items more place other s t = ap (λ (r : List Item × ℕ). r.0) (one_schedule domains (items, place) (more, other) bytes small s t)
 
   -- and one script stands behind it
-  same_script : (items more : List Item) (place other : ℕ) (a b : Scripted) → Spells domains items place bytes → Spells domains more other bytes → SpellsScript Two domains a (drop place bytes) → SpellsScript Two domains b (drop other bytes) → a ≡ b
+  same_script : (items more : List Item) (place other : ℕ) (a b : Scripted) → Spells domains items place bytes → Spells domains more other bytes → SpellsScript Three domains a (drop place bytes) → SpellsScript Three domains b (drop other bytes) → a ≡ b
   same_script items more place other a b s t x y =
-      one_script Two domains a b (drop place bytes) small x (subst (λ n. SpellsScript Two domains b (drop n bytes)) (sym (one_place items more place other s t)) y)
+      one_script Three domains a b (drop place bytes) small x (subst (λ n. SpellsScript Three domains b (drop n bytes)) (sym (one_place items more place other s t)) y)
 
   -- it has no fault
-  no_script_fault : (items more : List Item) (place other : ℕ) (a : Scripted) (f : ScriptFault) → Spells domains items place bytes → Spells domains more other bytes → SpellsScript Two domains a (drop place bytes) → first_fault Two domains (drop other bytes) ≡ Some f → ⊥
+  no_script_fault : (items more : List Item) (place other : ℕ) (a : Scripted) (f : ScriptFault) → Spells domains items place bytes → Spells domains more other bytes → SpellsScript Three domains a (drop place bytes) → first_fault Three domains (drop other bytes) ≡ Some f → ⊥
   no_script_fault items more place other a f s t x first =
-      let none : first_fault Two domains (drop other bytes) ≡ None = ap (λ n. first_fault Two domains (drop n bytes)) (sym (one_place items more place other s t)) ∙ no_fault Two domains a (drop place bytes) small x in
+      let none : first_fault Three domains (drop other bytes) ≡ None = ap (λ n. first_fault Three domains (drop n bytes)) (sym (one_place items more place other s t)) ∙ no_fault Three domains a (drop place bytes) small x in
       let clash : None ≡ Some f = sym none ∙ first in cc
 
 -- a script that can be replayed has no reason why not
-can_why : (domains pools : ℕ) (sections : List (List Command)) (why : ℕ) → CanReplay domains pools sections → why_not domains pools sections ≡ Some why → ⊥
-can_why domains pools sections why can reason =
+can_why : (domains pools : ℕ) (script : Scripted) (why : ℕ) → CanReplay domains pools script → why_not domains pools script ≡ Some why → ⊥
+can_why domains pools script why can reason =
     let few = can.few in
-    let enough : nat_lt pools (2 * pools_of domains sections) ≡ false = grind (arith, nat_tests, few) in
-    let none : why_not domains pools sections ≡ None =
-    ap (λ b. if b then Some 1 else (if nat_lt pools (2 * pools_of domains sections) then Some 2 else None)) can.no_major ∙ ap (λ b. if b then Some 2 else None) enough in
+    let many : Bool = nat_lt pools (2 * pools_of domains script.sections) in
+    let enough : many ≡ false = grind (arith, nat_tests, few) in
+    let none : why_not domains pools script ≡ None =
+    ap (λ b. if b then Some 3 else (if has_major script.sections then Some 1 else (if many then Some 2 else None))) can.no_spawns
+    ∙ ap (λ b. if b then Some 1 else (if many then Some 2 else None)) can.no_major ∙ ap (λ b. if b then Some 2 else None) enough in
     let clash : None ≡ Some why = sym none ∙ reason in cc
 
 module _ (domains pools : ℕ) (bytes : List ℕ) (small : domains < 2 ^ 32) where
@@ -59,8 +61,8 @@ module _ (domains pools : ℕ) (bytes : List ℕ) (small : domains < 2 ^ 32) whe
       ⊎_elim (λ (long : IsTooLong bytes fault). let few = x.few in let many = long.many in omega (arith, few, many))
       (λ (w : WrongScript domains bytes fault). no_script_fault domains bytes small r.items w.items x.place w.place r.script fault x.schedule w.schedule x.script w.first) f
   replay_no_fault r (NotReplayable why) x f =
-      can_why domains pools r.script.sections why x.can
-      (ap (λ (s : Scripted). why_not domains pools s.sections) (same_script domains bytes small r.items f.items x.place f.place r.script f.script x.schedule f.schedule x.script f.spelled) ∙ f.reason)
+      can_why domains pools r.script why x.can
+      (ap (λ (s : Scripted). why_not domains pools s) (same_script domains bytes small r.items f.items x.place f.place r.script f.script x.schedule f.schedule x.script f.spelled) ∙ f.reason)
   replay_no_fault r Memory x f = absurd f
 
   -- a wrong schedule is no fault of a script
@@ -82,7 +84,7 @@ module _ (domains pools : ℕ) (bytes : List ℕ) (small : domains < 2 ^ 32) whe
       (λ (a : WrongScript domains bytes f). ⊎_elim
       (λ (b : IsTooLong bytes g). let few = a.few in let many = b.many in absurd (omega (arith, few, many)))
       (λ (b : WrongScript domains bytes g).
-      let same : Some f ≡ Some g = sym a.first ∙ ap (λ n. first_fault Two domains (drop n bytes)) (one_place domains bytes small a.items b.items a.place b.place a.schedule b.schedule) ∙ b.first in cc)
+      let same : Some f ≡ Some g = sym a.first ∙ ap (λ n. first_fault Three domains (drop n bytes)) (one_place domains bytes small a.items b.items a.place b.place a.schedule b.schedule) ∙ b.first in cc)
       y)
       x
 
@@ -98,7 +100,7 @@ module _ (domains pools : ℕ) (bytes : List ℕ) (small : domains < 2 ^ 32) whe
   one_fault (NotReplayable why) (Script g) x y = absurd (reason_or_script why g x y)
   one_fault (NotReplayable why) (NotReplayable other) x y =
       let same : Some why ≡ Some other =
-      sym x.reason ∙ ap (λ (s : Scripted). why_not domains pools s.sections) (same_script domains bytes small x.items y.items x.place y.place x.script y.script x.schedule y.schedule x.spelled y.spelled) ∙ y.reason in cc
+      sym x.reason ∙ ap (λ (s : Scripted). why_not domains pools s) (same_script domains bytes small x.items y.items x.place y.place x.script y.script x.schedule y.schedule x.spelled y.spelled) ∙ y.reason in cc
   one_fault Memory f x y = absurd x
   one_fault (Schedule k) Memory x y = absurd y
   one_fault (Script g) Memory x y = absurd y

@@ -1,10 +1,12 @@
 -- Which scripts can be replayed under a schedule.
-use Rattle.std.specs.Prelude.{◌≡◌, ℕ, ◌+◌, ◌*◌, ◌≤◌, nat_lt, Bool, true, false, List, sum_by, count_by, Option, None, Some, if◌then◌else◌}
+use Rattle.std.specs.Prelude.{◌≡◌, ℕ, ◌+◌, ◌*◌, ◌≤◌, ◌==◌, nat_lt, Bool, true, false, List, sum_by, count_by, Option, None, Some, if◌then◌else◌}
 use Rattle.std.specs.List.{list_any}
 use Rattle.heap_model.specs.declared.command.Command.{Command}
 use Rattle.heap_model.specs.declared.command.Command.TheVariants.{Major}
 use Rattle.heap_model.specs.Commands.{is_allocation}
 use Rattle.heap_model.specs.Domains.{class_count}
+use Rattle.heap_text.specs.Forms.{version_number}
+use Rattle.heap_text.specs.Script.{Scripted}
 
 -- whether a command asks for a collection that may go on beside running domains
 abbrev pub is_major : Command → Bool
@@ -23,11 +25,20 @@ allocations script = sum_by (count_by is_allocation) script
 abbrev pub pools_of : ℕ → List (List Command) → ℕ
 pools_of domains script = allocations script + 1 + class_count * domains
 
--- a script that can be replayed on a heap with so many domains and pools
-pub record CanReplay (domains pools : ℕ) (script : List (List Command)) : Type 0 where
-  pub no_major : has_major script ≡ false
-  pub few : 2 * pools_of domains script ≤ pools
+-- whether a script is of the version whose sections are spawned
+abbrev pub has_spawns : Scripted → Bool
+has_spawns script = version_number script.version == 3
 
--- why another one can't: 1 where it has a `major`, and else 2
-abbrev pub why_not : ℕ → ℕ → List (List Command) → Option ℕ
-why_not domains pools script = if has_major script then Some 1 else (if nat_lt pools (2 * pools_of domains script) then Some 2 else None)
+-- a script that can be replayed on a heap with so many domains and pools
+pub record CanReplay (domains pools : ℕ) (script : Scripted) : Type 0 where
+  pub no_spawns : has_spawns script ≡ false
+  pub no_major : has_major script.sections ≡ false
+  pub few : 2 * pools_of domains script.sections ≤ pools
+
+-- why another one can't: 3 where it is of version 3, and else 1 where it has a `major`, and else 2
+abbrev pub why_not : ℕ → ℕ → Scripted → Option ℕ
+why_not domains pools script =
+    if has_spawns script then Some 3
+    else if has_major script.sections then Some 1
+    else if nat_lt pools (2 * pools_of domains script.sections) then Some 2
+    else None

@@ -11,7 +11,8 @@ use heap_text::Script;
 /// Why a script can't be replayed under a schedule.
 #[derive(Clone, Copy, Debug, PartialEq, Eq)]
 pub struct NotReplayable {
-    /// 1: it has a `major`. 2: it has none, and makes so many blocks that the pools might run short.
+    /// 3: it is of version 3, whose sections are spawned. 1: it isn't, and has a `major`. 2: it has none, and
+    /// makes so many blocks that the pools might run short.
     pub why: u32,
 }
 
@@ -72,14 +73,17 @@ fn takes_too_many(blocks: usize, domains: u32, pools: u32) -> bool
     pools as usize / 2 < blocks.saturating_add(begun)
 }
 
-/// Whether a script can be replayed on a heap of so many domains and pools: it has no `major`, and
+/// Whether a script can be replayed on a heap of so many domains and pools: it is of version 1 or 2, has no `major`, and
 /// twice the pools that its blocks may take are no more than there are. Then no collection of the major
 /// heap begins that a schedule or a `full_major` doesn't ask for, and no allocation is answered `full`.
 pub fn replayable(script: &Script, domains: u32, pools: u32) -> Result<(), NotReplayable>
     requires { (1 ≤ domains) × (domains ≤ 8) }
-    ensures ok { (result ≡ Ok tt) ↔ CanReplay domains pools script.now.sections }
-    ensures refused { (k : ℕ) → (result ≡ Err (record { why = k })) ↔ (why_not domains pools script.now.sections ≡ Some k) }
+    ensures ok { (result ≡ Ok tt) ↔ CanReplay domains pools script.now }
+    ensures refused { (k : ℕ) → (result ≡ Err (record { why = k })) ↔ (why_not domains pools script.now ≡ Some k) }
 {
+    if script.version() == 3 {
+        return Err(NotReplayable { why: 3 });
+    }
     let tally = tally_all(script);
     if tally.major {
         return Err(NotReplayable { why: 1 });

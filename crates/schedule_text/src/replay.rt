@@ -1,7 +1,7 @@
 //! Reading the text of a replay.
 ghost use Rattle.std.specs.Prelude.{◌≤◌, ℕ, drop, length, IfOk, IfErr, Ok, Err};
 ghost use Rattle.heap_text.specs.Spelling.{Spells as SpellsScript};
-ghost use Rattle.heap_text.specs.declared.version.Version.TheVariants.{Two};
+ghost use Rattle.heap_text.specs.declared.version.Version.TheVariants.{Three};
 ghost use Rattle.heap_text.specs.Faults.{first_fault};
 ghost use Rattle.schedule_text.specs.Spelling.{Spells};
 ghost use Rattle.schedule_text.specs.Replays.{HasFault, IsFirstUnlessMemory, IsScriptFault, IsUnlessNoMemory, Replayed, SpellsReplay};
@@ -40,7 +40,8 @@ pub enum ReplayFault {
     /// There are too many bytes, or the script behind the schedule has this first fault. Its lines are counted
     /// from 1 again.
     Script(ScriptFault),
-    /// 1: the script has a `major`. 2: it has none, and makes so many blocks that the pools might run short.
+    /// 3: the script is of version 3. 1: it isn't, and has a `major`. 2: it has none, and makes so many blocks that the pools
+    /// might run short.
     NotReplayable { why: u32 },
     /// Memory ran out.
     Memory,
@@ -66,10 +67,10 @@ fn schedule_of(alloc: Global, domains: u32, bytes: &[u8]) -> Result<(Schedule, u
 // The script behind a schedule.
 fn script_of(alloc: Global, domains: u32, bytes: &[u8], place: usize) -> Result<Script, ReplayFault>
     requires inside { place ≤ length bytes.now }
-    ensures found { IfOk result (λ s. SpellsScript Two domains s (drop place bytes.now)) }
-    ensures fault { IfErr result (λ e. IsScriptFault e (first_fault Two domains (drop place bytes.now))) }
+    ensures found { IfOk result (λ s. SpellsScript Three domains s (drop place bytes.now)) }
+    ensures fault { IfErr result (λ e. IsScriptFault e (first_fault Three domains (drop place bytes.now))) }
 {
-    match read_script(alloc, Version::Two, domains, &bytes[place..]) {
+    match read_script(alloc, Version::Three, domains, &bytes[place..]) {
         Ok(script) => Ok(script),
         Err(ScriptFault::Memory) => Err(ReplayFault::Memory),
         Err(fault) => Err(ReplayFault::Script(fault)),

@@ -7,7 +7,7 @@ use Rattle.heap_rule.specs.Ending.{EndedHeap}
 use Rattle.replay_run.specs.Replayed.{Replayed}
 use Rattle.camlheap_run.specs.Reading.{IsSpelledReplay}
 use Rattle.camlheap_run.specs.Replaying.{WritesFrontOfReplay, WritesReplay}
-use Rattle.camlheap_run.proofs.ReplayLemmas.{all_played_here, all_played_over, begun_may, items_for, many_sections, played_count, writes_replay, writes_replay_front}
+use Rattle.camlheap_run.proofs.ReplayLemmas.{all_played_here, all_played_over, begun_may, items_for, many_sections, played_count, replayed_script, writes_replay, writes_replay_front}
 use Rattle.camlheap_run.proofs.replaying.run_replay.Goals as goal
 
 pub replay_runs-requires-clause-may : goal.replay_runs-requires-clause-may
@@ -57,3 +57,7 @@ returns-clause-cut g c = λ ended is.
     subst (λ r. WritesFrontOfReplay c.args.sizes.now r ended (g.K.Sink.written c.args.out.now) (g.K.Sink.written c.write_report-written.new.out)) c.replay.view_is
     (writes_replay_front c.args.sizes.now c.config_of.result c.replay.inside.script.sections c.in-Ok.begun c.replay.inside.schedule c.in-Ok-replay_runs.driven.0 c.in-Ok-replay_runs.driven.1.items c.config_of.ensures.sizes c.in-Ok.ensures
     (many_sections c.args.sizes.now c.config_of.result (record { items = c.replay.inside.schedule; script = c.replay.inside.script }) (subst (IsSpelledReplay c.args.sizes.now) (sym c.replay.view_is) c.requires.replay) c.config_of.ensures.sizes) replayed c.end.result c.end.ensures c.replay.inside.script.version c.deref.result.now ended _ _ c.deref.ensures.value last c.in-Err-written.ensures.bytes)
+
+pub begin-requires-clause-script : goal.begin-requires-clause-script
+begin-requires-clause-script g c =
+    replayed_script c.args.sizes.now c.config_of.result (record { items = c.replay.inside.schedule; script = c.replay.inside.script }) (subst (IsSpelledReplay c.args.sizes.now) (sym c.replay.view_is) c.requires.replay) c.config_of.ensures.sizes
