@@ -58,7 +58,7 @@ repeated long.heap 100000 "load 1 0 15"
 { echo "domain 0"; yes "int 0" | head -n 100000; } >long.out
 repeated slow.heap 200000 full_major
 printf 'heap 1\ndomain 1\n' >fault.heap
-usage="usage: camlheap run|table [--domains N] [--minor W] [--pools P] | gen|load BASE N C"
+usage="usage: camlheap run|replay|table [--domains N] [--minor W] [--pools P] | gen|load BASE N C"
 order="script line 2: number 1 out of range"
 run="./camlheap run --domains 1"
 

@@ -10,12 +10,16 @@ use Rattle.heap_text.specs.declared.fault.ScriptFault.TheVariants.{Syntax, Order
 use Rattle.heap_text.specs.Script.{Scripted}
 use Rattle.heap_text.specs.Spelling.{IsUnlessMemory, Spells}
 use Rattle.camlheap_run.specs.declared.reading.NoScript.{NoScript}
+use Rattle.camlheap_run.specs.declared.reading.NoReplay.{NoReplay}
+use Rattle.camlheap_run.specs.declared.reading.NoReplay.TheVariants.{Refused as ReplayRefused}
 use Rattle.camlheap_run.specs.declared.reading.NoScript.TheVariants.{Refused}
 use Rattle.heap_model.specs.declared.state.Sizes.{Sizes}
-use Rattle.schedule_text.specs.Replays.{Replayed, SpellsReplay}
+use Rattle.schedule_text.specs.declared.replay.ReplayFault.{ReplayFault}
+use Rattle.schedule_text.specs.declared.replay.ReplayFault.TheVariants.{Memory as ReplayMemory, NotReplayable as NotReplayableOf, Schedule as ScheduleOf, Script as ScriptOf}
+use Rattle.schedule_text.specs.Replays.{IsUnlessNoMemory, Replayed, SpellsReplay}
 use Rattle.table_text.specs.declared.line.TableLine.{TableLine}
 use Rattle.table_text.specs.Spelling.{Spells as SpellsTable}
-use Rattle.camlheap_run.specs.Reading.{AreRead, IsNoScript, most_read, Tells, TellsFirst, TellsReplay, TellsScript, TellsTable}
+use Rattle.camlheap_run.specs.Reading.{AreRead, IsNoReplay, IsNoScript, most_read, Tells, TellsFirst, TellsReplay, TellsScript, TellsTable}
 
 -- the first bytes of the source are those that were read
 front_is_read : (all bytes rest : List ℕ) → all ≡ bytes ++ rest → length bytes ≤ most_read → IsAtEnd (Some rest) ⊎ (length bytes ≡ most_read) → take most_read all ≡ bytes
@@ -63,3 +67,15 @@ pub not_refused : {A : Type 0} (s : A) (fault f : ScriptFault) (why : NoScript) 
 not_refused s fault f why none is given =
     let refused = subst (IsNoScript fault) is none in
     no_fault_but_memory s fault (λ same. refused.1 (refused.0 ∙ same)) given
+
+-- nor is what spells a replay
+replay_fault_but_memory : (r : Replayed) (fault : ReplayFault) → fault ≢ ReplayMemory → IsUnlessNoMemory (Err fault) (Ok r) → ⊥
+replay_fault_but_memory r ReplayMemory other given = other refl
+replay_fault_but_memory r (ScheduleOf line) other given = cc
+replay_fault_but_memory r (ScriptOf fault) other given = cc
+replay_fault_but_memory r (NotReplayableOf why) other given = cc
+
+pub replay_not_refused : (r : Replayed) (fault f : ReplayFault) (why : NoReplay) → IsNoReplay fault why → why ≡ ReplayRefused f → IsUnlessNoMemory (Err fault) (Ok r) → ⊥
+replay_not_refused r fault f why none is given =
+    let refused = subst (IsNoReplay fault) is none in
+    replay_fault_but_memory r fault (λ same. refused.1 (refused.0 ∙ same)) given

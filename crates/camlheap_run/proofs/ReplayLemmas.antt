@@ -1,39 +1,48 @@
 -- A heap whose runs a schedule has driven to their ends.
-use Rattle.std.proofs.Common.{◌≡◌, ◌≢◌, ℕ, zero, suc, ◌+◌, ◌<◌, ◌≤◌, true, List, [], ◌∷◌, ◌++◌, length, map, get_or, refl, sym, ap, ◌∙◌, subst, ⊎_elim, arith, Some, None}
-use Rattle.std.specs.Prelude.{Option, flat_map, slice_get, slice_index_or}
+use Rattle.std.proofs.Common.{◌≡◌, ◌≢◌, ℕ, zero, suc, ◌+◌, ◌<◌, ◌≤◌, Bool, true, false, List, [], ◌∷◌, ◌++◌, drop, length, get_or, refl, sym, ap, ◌∙◌, subst, ⊎_elim, arith, Some, None}
+use Rattle.std.specs.Prelude.{Option, flat_map, if◌then◌else◌, nat_le, not, slice_get, slice_index_or}
+use Rattle.std.proofs.lemmas.Bool.{and_parts}
+use Rattle.std.proofs.lemmas.Bool.Decides.{nat_tests}
+use Rattle.heap_model.specs.Domains.{fits_domains}
 use Rattle.std.specs.List.{AllByRecursion, list_all, range_with_len}
 use Rattle.std.specs.Io.KnownBytes.{Appends}
 use Rattle.std.proofs.lemmas.Option.{slice_get-get_or, slice_get_within}
 use Rattle.heap_model.specs.declared.command.Command.{Command}
-use Rattle.heap_model.specs.declared.entry.Entry.{Entry}
 use Rattle.heap_model.specs.declared.reply.Reply.{Reply}
 use Rattle.heap_model.specs.declared.state.Sizes.{Sizes}
 use Rattle.heap_model.specs.History.{Legal, replies}
 use Rattle.heap_model.specs.Output.{line, output, printed, section_text}
 use Rattle.heap_text.specs.declared.fault.ScriptFault.{ScriptFault}
 use Rattle.heap_text.specs.declared.fault.ScriptFault.TheVariants.{Memory, TooLong}
+use Rattle.heap_text.specs.declared.version.Version.{Version}
 use Rattle.heap_text.specs.Faults.{first_fault}
 use Rattle.heap_text.specs.Spelling.{heading_text}
 use Rattle.heap_text.proofs.AnswerLemmas.{answered}
 use Rattle.heap_text.proofs.OnlyLemmas.{no_fault}
+use Rattle.heap_text.proofs.SpellsLemmas.{length-script}
 use Rattle.heap_rule.specs.declared.config.Config.{Config}
 use Rattle.heap_rule.specs.Limits.{sizes_in}
-use Rattle.heap_rule.specs.Opening.{opening_token, opening_tokens}
-use Rattle.heap_rule.specs.Token.{SharedHeap, IsIn}
-use Rattle.heap_rule.specs.Ending.{EndedHeap, AllBegin, Begins}
+use Rattle.heap_rule.specs.Opening.{opening_token}
+use Rattle.heap_rule.specs.Token.{SharedHeap}
+use Rattle.heap_rule.specs.Ending.{EndedHeap}
 use Rattle.domain_turns.specs.Runs.{RunView, IsRun}
+use Rattle.schedule_drive.specs.Following.{is_for}
 use Rattle.schedule_laws.specs.declared.items.Item.{Item}
 use Rattle.schedule_laws.specs.Scheduled.{scheduled}
-use Rattle.schedule_text.specs.declared.replay.ReplayFault.TheVariants.{Script as ScriptOf}
-use Rattle.schedule_text.specs.Replays.{HasFault, IsTooLong, WrongScript}
-use Rattle.replay_turns.specs.Ends.{MayBeHeld, MayGather}
-use Rattle.replay_run.specs.Replayed.{HasPlayed, IsUntouched, MayReplay, Replayed, commands_of}
+use Rattle.schedule_text.specs.declared.replay.ReplayFault.{ReplayFault}
+use Rattle.schedule_text.specs.declared.replay.ReplayFault.TheVariants.{Memory as ReplayMemory, NotReplayable as NotReplayableOf, Schedule as ScheduleOf, Script as ScriptOf}
+use Rattle.schedule_text.specs.Replays.{HasFault, IsTooLong, Replayed as ReplayedText, WrongScript}
+use Rattle.replay_turns.specs.Ends.{MayBeHeld}
+use Rattle.replay_run.specs.Replayed.{IsUntouched, MayReplay, Replayed, commands_of}
 use Rattle.camlheap_run.specs.declared.begin.Begun.{Begun}
 use Rattle.camlheap_run.specs.declared.report.Report.TheVariants.{Replies}
-use Rattle.camlheap_run.specs.Running.{IsBegun, IsHere, IsOver, IsPastOf, opened, token_of}
-use Rattle.camlheap_run.specs.Writing.{AppendsFront, run_text, text_of}
-use Rattle.camlheap_run.proofs.BeginLemmas.{length-opened, opened_at}
-use Rattle.camlheap_run.proofs.RunLemmas.{AreTold, Told, all_from_each, begins_at, begun_here, each_from_all, length-begun, told_by}
+use Rattle.camlheap_run.specs.Running.{IsBegun, IsHere, IsOver, IsPastOf, opened}
+use Rattle.camlheap_run.specs.declared.status.Status.TheVariants.{Script}
+use Rattle.camlheap_run.specs.Reading.{IsSpelledReplay}
+use Rattle.camlheap_run.specs.Replaying.{MayReplay as MayReplayOn, WritesFrontOfReplay, WritesReplay, fault_status}
+use Rattle.camlheap_run.specs.Writing.{AppendsFront, run_text}
+use Rattle.camlheap_run.proofs.BeginLemmas.{opened_at}
+use Rattle.camlheap_run.proofs.RunLemmas.{AreTold, Told, all_from_each, begins_at, each_from_all, length-begun, printed_is, told_by, told_front, told_run}
 
 -- the run of each domain, as it begins
 first_at : (k : Config) (script : List (List Command)) (b : Begun) → IsBegun k script b → (d : ℕ) (r : RunView) → slice_get b.runs.items d ≡ Some r → opened script (opening_token b.heap.table k d) ≡ r
@@ -67,8 +76,12 @@ pub begun_sections : (k : Config) (script : List (List Command)) (b : Begun) →
 begun_sections k script b begun many =
     sections_at script b.runs.items (λ d r at. sym (ap (λ (q : RunView). q.commands) (first_at k script b begun d r at))) (many ∙ sym (length-begun k script b begun))
 
+-- the items are for these runs
+pub items_for : (k : Config) (script : List (List Command)) (b : Begun) (domains : ℕ) (items : List Item) → IsBegun k script b → k.domains ≡ domains → list_all (is_for domains) items ≡ true → list_all (is_for (length b.runs.items)) items ≡ true
+items_for k script b domains items begun same all = subst (λ n. list_all (is_for n) items ≡ true) (sym same ∙ sym (length-begun k script b begun)) all
+
 -- what is known once the heap has ended
-module _ (z : Sizes) (k : Config) (script : List (List Command)) (b : Begun) (items : List Item) (h : SharedHeap) (new : List RunView) (past : EndedHeap) (sizes : sizes_in k ≡ z) (begun : IsBegun k script b) (many : length script ≡ k.domains)
+module _ (z : Sizes) (k : Config) (script : List (List Command)) (b : Begun) (items : List Item) (h : SharedHeap) (new : List RunView) (sizes : sizes_in k ≡ z) (begun : IsBegun k script b) (many : length script ≡ k.domains)
     (replayed : Replayed b.heap.config b.runs.items items h new) where
   pub all_played_here : AllByRecursion (IsHere h) new
   all_played_here = all_from_each (IsHere h) new (λ d r at. (replayed.each d r at).here)
@@ -85,7 +98,7 @@ module _ (z : Sizes) (k : Config) (script : List (List Command)) (b : Begun) (it
   end_sizes : sizes_in h.config ≡ z
   end_sizes = replayed.sizes ∙ config_sizes
 
-  module _ (ended : IsPastOf h new past) where
+  module _ (past : EndedHeap) (ended : IsPastOf h new past) where
     past_legal : Legal z past.history
     past_legal = subst (λ (y : Sizes). Legal y past.history) (ended.sizes ∙ end_sizes) ended.legal
 
@@ -123,6 +136,21 @@ module _ (z : Sizes) (k : Config) (script : List (List Command)) (b : Begun) (it
             ap (λ (rs : List Reply). (line (heading_text a) ++ printed rs) ++ flat_map (section_text z past.history) (range_with_len (a + 1) n)) (same_replies a (omega (arith, few)))
             ∙ ap (λ (t : List ℕ). section_text z (scheduled z script items) a ++ t) (same_sections (a + 1) n (omega (arith, few)))
 
+    -- what was written
+    pub writes_replay : (version : Version) (shown : List RunView) (last : Option EndedHeap) (before after : Option (List ℕ)) → shown ≡ new → Some past ≡ last → Appends before after (flat_map (run_text Replies) shown)
+        → WritesReplay z (record { items = items; script = record { version = version; sections = script } }) last before after
+    writes_replay version shown last before after is same bytes = record {
+      writes = told_run Replies z script new shown past last before after all_told is same bytes;
+      scheduled = subst (λ (t : List ℕ). Appends before after t) (printed_is Replies z script new shown past all_told is ∙ same_output) bytes;
+    }
+
+    pub writes_replay_front : (version : Version) (shown : List RunView) (last : Option EndedHeap) (before after : Option (List ℕ)) → shown ≡ new → Some past ≡ last → AppendsFront before after (flat_map (run_text Replies) shown)
+        → WritesFrontOfReplay z (record { items = items; script = record { version = version; sections = script } }) last before after
+    writes_replay_front version shown last before after is same bytes = record {
+      writes = told_front Replies z script new shown past last before after all_told is same bytes;
+      scheduled = subst (λ (t : List ℕ). AppendsFront before after t) (printed_is Replies z script new shown past all_told is ∙ same_output) bytes;
+    }
+
 -- the first fault of a script is no want of memory
 first_is_fault : (domains : ℕ) (bytes : List ℕ) (fault : ScriptFault) → domains < 4294967296 → first_fault domains bytes ≡ Some fault → fault ≢ Memory
 first_is_fault domains bytes fault small first =
@@ -135,5 +163,29 @@ pub script_fault_is : (domains pools : ℕ) (bytes : List ℕ) (fault : ScriptFa
 script_fault_is domains pools bytes fault small has =
     ⊎_elim
     (λ (long : IsTooLong bytes fault). λ same. let clash : TooLong (length bytes) ≡ Memory = sym long.is ∙ same in cc)
-    (λ (wrong : WrongScript domains bytes fault). first_is_fault domains _ fault small wrong.first)
+    (λ (wrong : WrongScript domains bytes fault). first_is_fault domains (drop wrong.place bytes) fault small wrong.first)
     has
+
+-- a replay has a section for each domain
+pub many_sections : (z : Sizes) (k : Config) (r : ReplayedText) → IsSpelledReplay z r → sizes_in k ≡ z → length r.script.sections ≡ k.domains
+many_sections z k r spelled sizes = length-script z.domains r.script (drop spelled.1.place spelled.0) spelled.1.script ∙ ap (λ (y : Sizes). y.domains) (sym sizes)
+
+-- what the status says of the fault
+pub status_script : (fault : ReplayFault) (f : ScriptFault) → fault_status fault ≡ Script f → fault ≡ ScriptOf f
+status_script (ScheduleOf l) f is = cc
+status_script (ScriptOf g) f is = let same : g ≡ f = cc in ap ScriptOf same
+status_script (NotReplayableOf why) f is = cc
+status_script ReplayMemory f is = cc
+
+-- there are few domains
+first_fits : (b : Bool) (o : Option ℕ) → (if not b then Some 1 else o) ≡ None → b ≡ true
+first_fits true o is = refl
+first_fits false o is = cc
+
+small_by_test : (n : ℕ) → nat_le n 8 ≡ true → n ≤ 8
+small_by_test n is = grind (arith, nat_tests)
+
+pub small_domains : (z : Sizes) → MayReplayOn z → z.domains < 4294967296
+small_domains z may =
+    let few : z.domains ≤ 8 = small_by_test z.domains (and_parts (nat_le 1 z.domains) (nat_le z.domains 8) (first_fits (fits_domains z) _ may.0.limits)).1 in
+    omega (arith, few)

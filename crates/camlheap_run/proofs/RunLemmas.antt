@@ -26,7 +26,6 @@ use Rattle.thread_drive.specs.Driven.{Driven}
 use Rattle.camlheap_run.specs.declared.begin.Begun.{Begun}
 use Rattle.camlheap_run.specs.declared.report.Report.{Report}
 use Rattle.camlheap_run.specs.declared.report.Report.TheVariants.{Replies, Summary}
-use Rattle.camlheap_run.specs.Run.{IsRunOf}
 use Rattle.camlheap_run.specs.Running.{IsBegun, IsHere, IsOver, IsPastOf, opened, token_of}
 use Rattle.camlheap_run.specs.Writing.{AppendsFront, run_text, text_of}
 use Rattle.camlheap_run.specs.Outcome.{HasRun, WritesRun, WritesFrontOfRun}
@@ -226,7 +225,7 @@ has_run z script new past ended are is = record {
   run = record { legal = are.legal; each_command = λ d below. (are.each d below).2.made; each_ends = λ d below. (are.each d below).2.ends };
 }
 
-printed_is : (report : Report) (z : Sizes) (script : List (List Command)) (new shown : List RunView) (past : EndedHeap) → AreTold z script new past → shown ≡ new → flat_map (run_text report) shown ≡ text_of report z past.history
+pub printed_is : (report : Report) (z : Sizes) (script : List (List Command)) (new shown : List RunView) (past : EndedHeap) → AreTold z script new past → shown ≡ new → flat_map (run_text report) shown ≡ text_of report z past.history
 printed_is report z script new shown past are is = ap (flat_map (run_text report)) is ∙ sym (prints report z script new past are)
 
 pub told_run : (report : Report) (z : Sizes) (script : List (List Command)) (new shown : List RunView) (past : EndedHeap) (ended : Option EndedHeap) (before after : Option (List ℕ))

@@ -7,7 +7,7 @@ use Rattle.heap_model.specs.declared.state.Sizes.{Sizes}
 use Rattle.heap_model.specs.Output.{output, summary}
 use Rattle.heap_rule.specs.Ending.{EndedHeap}
 use Rattle.camlheap_run.specs.declared.status.Status.{Status}
-use Rattle.camlheap_run.specs.declared.status.Status.TheVariants.{Done, Usage, WriteFault, Memory}
+use Rattle.camlheap_run.specs.declared.status.Status.TheVariants.{Done, Usage, Schedule, NotReplayable, WriteFault, Memory}
 use Rattle.command_line.specs.declared.job.Generated.{Generated}
 use Rattle.command_line.specs.Jobs.{load_sizes}
 use Rattle.camlheap_run.specs.Generating.{script_of}
@@ -81,7 +81,14 @@ IsRunAnswer (WriteFault ended) = Unit {0}
 IsRunAnswer Memory = Unit {0}
 IsRunAnswer _ = ⊥
 
--- what a run of the script that is read answers: any status but that of words
+-- what a run of what is read answers: any status but those of words and of a replay's text
 abbrev pub IsSourceAnswer : Status → Type 0
 IsSourceAnswer Usage = ⊥
+IsSourceAnswer (Schedule line) = ⊥
+IsSourceAnswer (NotReplayable why) = ⊥
 IsSourceAnswer _ = Unit {0}
+
+-- what a replay of what is read answers: any status but that of words
+abbrev pub IsReplayAnswer : Status → Type 0
+IsReplayAnswer Usage = ⊥
+IsReplayAnswer _ = Unit {0}

@@ -13,7 +13,7 @@ ghost use Rattle.camlheap_run.specs.Reading.{IsFirst, ReadsFault, ReadsFirstFaul
 ghost use Rattle.camlheap_run.specs.Running.{AreRunSizes};
 ghost use Rattle.camlheap_run.specs.Replaying.{MayReplay, ReplaysToEnd, StopsReplaying, fault_status};
 ghost use Rattle.camlheap_run.specs.Tables.{MayHoldTable, TableRunsToEnd, TableStopsWriting};
-ghost use Rattle.camlheap_run.specs.Outcome.{RunsToEnd, StopsWriting, IsSourceAnswer, IsSilent, IsWriteFault, IsEither, IsDoneOrMemory};
+ghost use Rattle.camlheap_run.specs.Outcome.{RunsToEnd, StopsWriting, IsReplayAnswer, IsSourceAnswer, IsSilent, IsWriteFault, IsEither, IsDoneOrMemory};
 
 use crate::Status;
 use crate::reading::{NoReplay, NoScript, replay_of, script_of, table_of};
@@ -88,7 +88,7 @@ pub(crate) fn run_replay_source<R: Wait, S: Source, K: Sink>(
     ensures done { (ended : Option EndedHeap) → result ≡ Status.Done ended → ReplaysToEnd sizes.now ended (S.left src.old) (S.left src.new) (K.written out.old) (K.written out.new) }
     ensures cut { (ended : Option EndedHeap) → result ≡ Status.WriteFault ended → StopsReplaying sizes.now ended (S.left src.old) (S.left src.new) (K.written out.old) (K.written out.new) }
     ensures quiet { IsSilent result → out.new ≡ out.old }
-    ensures answers { IsSourceAnswer result }
+    ensures answers { IsReplayAnswer result }
     ensures script { (f : ScriptFault) → result ≡ Status.Script f → ReadsFirstFault (λ bytes fault. HasFault sizes.now.domains sizes.now.pools bytes (ScriptOf fault)) (S.left src.old) (S.left src.new) f }
     ensures schedule { (l : ℕ) → result ≡ Status.Schedule l → ReadsReplayFault sizes.now (S.left src.old) (S.left src.new) (ScheduleOf l) }
     ensures not_replayable { (w : ℕ) → result ≡ Status.NotReplayable w → ReadsReplayFault sizes.now (S.left src.old) (S.left src.new) (NotReplayableOf w) }

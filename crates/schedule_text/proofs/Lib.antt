@@ -3,4 +3,4 @@ mod LineLemmas
 mod TextLemmas
 mod OnlyLemmas
 mod ReadingLemmas
-mod ReplayLemmas
+pub mod ReplayLemmas

@@ -269,7 +269,7 @@ const OTHER_WORDS: [&str; 22] = [
 ];
 
 const USAGE: &str =
-    "usage: camlheap run|table [--domains N] [--minor W] [--pools P] | gen|load BASE N C\n";
+    "usage: camlheap run|replay|table [--domains N] [--minor W] [--pools P] | gen|load BASE N C\n";
 
 #[test]
 fn refused_words_and_scripts(rt: HostRuntime) -> Result<(), Fail> {

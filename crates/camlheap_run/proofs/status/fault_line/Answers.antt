@@ -17,3 +17,9 @@ returns-in-WriteFault-clause-text c = front_and_rest c.put-in-WriteFault.result 
 
 pub returns-in-Memory-clause-text : goal.returns-in-Memory-clause-text
 returns-in-Memory-clause-text c = front_and_rest c.put-in-Memory.result c.put-in-Memory.new.out c.args.out.now (line_of c.args.status.now) (search rules) c.put-in-Memory.ensures.rest
+
+pub returns-in-Schedule-clause-text : goal.returns-in-Schedule-clause-text
+returns-in-Schedule-clause-text c = front_and_rest c.put_numbered.result c.put_numbered.new.out c.args.out.now (line_of c.args.status.now) (search rules) c.put_numbered.ensures.rest
+
+pub returns-in-NotReplayable-clause-text : goal.returns-in-NotReplayable-clause-text
+returns-in-NotReplayable-clause-text c = front_and_rest c.put_numbered-in-NotReplayable.result c.put_numbered-in-NotReplayable.new.out c.args.out.now (line_of c.args.status.now) (search rules) c.put_numbered-in-NotReplayable.ensures.rest

@@ -1,8 +1,12 @@
-use Rattle.std.proofs.Common.{◌≡◌, subst, sym}
+use Rattle.std.proofs.Common.{◌≡◌, map, subst, sym, Some}
+use Rattle.std.specs.Prelude.{string_bytes}
 use Rattle.heap_model.specs.declared.state.Sizes.{Sizes}
 use Rattle.command_line.specs.declared.job.Generated.{Generated}
-use Rattle.camlheap_run.specs.Outcome.{LoadsToEnd, StopsLoading}
-use Rattle.camlheap_run.specs.Reading.{TellsScript}
+use Rattle.command_line.specs.declared.job.Job.TheVariants.{Replay}
+use Rattle.command_line.specs.Jobs.{asked_job}
+use Rattle.camlheap_run.specs.Outcome.{IsSourceAnswer, LoadsToEnd, StopsLoading}
+use Rattle.camlheap_run.specs.Reading.{ReadsFirstFault, TellsReplay, TellsScript}
+use Rattle.camlheap_run.specs.Words.{AsksToRead}
 use Rattle.camlheap_run.proofs.top.camlheap.Goals as goal
 
 pub returns-in-Ok-Some-Run-clause-complete : goal.returns-in-Ok-Some-Run-clause-complete
@@ -12,6 +16,34 @@ returns-in-Ok-Some-Run-clause-complete g c = λ z s asked told sure written.
     let inner = c.in-Ok-Some-Run.field-0-0-is in
     let same : c.in-Ok-Some-Run.sizes ≡ z = cc in
     c.run_source.ensures.complete s (subst (λ (y : Sizes). TellsScript y.domains (g.S.Source.left c.args.src.now) s) (sym same) told) sure written
+
+pub returns-in-Ok-Some-Replay-clause-script : goal.returns-in-Ok-Some-Replay-clause-script
+returns-in-Ok-Some-Replay-clause-script g c = λ f is.
+    let taken = c.in-Ok-Some-Replay.ensures.job in
+    let outer = c.in-Ok-Some-Replay.field-0-is in
+    let inner = c.in-Ok-Some-Replay.field-0-0-is in
+    let asked : asked_job (map string_bytes c.args.words.now) ≡ Some (Replay c.in-Ok-Some-Replay.sizes) = cc in
+    subst (λ j. AsksToRead j (λ is_first. ReadsFirstFault is_first (g.S.Source.left c.args.src.now) (g.S.Source.left c.run_replay_source.new.src) f)) (sym asked) (c.run_replay_source.ensures.script f is)
+
+pub returns-in-Ok-Some-Replay-clause-replay_complete : goal.returns-in-Ok-Some-Replay-clause-replay_complete
+returns-in-Ok-Some-Replay-clause-replay_complete g c = λ z r asked told sure written.
+    let taken = c.in-Ok-Some-Replay.ensures.job in
+    let outer = c.in-Ok-Some-Replay.field-0-is in
+    let inner = c.in-Ok-Some-Replay.field-0-0-is in
+    let same : c.in-Ok-Some-Replay.sizes ≡ z = cc in
+    c.run_replay_source.ensures.complete r (subst (λ (y : Sizes). TellsReplay y (g.S.Source.left c.args.src.now) r) (sym same) told) sure written
+
+pub returns-in-Ok-Some-Run-clause-schedule : goal.returns-in-Ok-Some-Run-clause-schedule
+returns-in-Ok-Some-Run-clause-schedule g c = λ l is. absurd (subst IsSourceAnswer is c.run_source.ensures.answers)
+
+pub returns-in-Ok-Some-Run-clause-not_replayable : goal.returns-in-Ok-Some-Run-clause-not_replayable
+returns-in-Ok-Some-Run-clause-not_replayable g c = λ w is. absurd (subst IsSourceAnswer is c.run_source.ensures.answers)
+
+pub returns-in-Ok-Some-Table-clause-schedule : goal.returns-in-Ok-Some-Table-clause-schedule
+returns-in-Ok-Some-Table-clause-schedule g c = λ l is. absurd (subst IsSourceAnswer is c.run_table_source.ensures.answers)
+
+pub returns-in-Ok-Some-Table-clause-not_replayable : goal.returns-in-Ok-Some-Table-clause-not_replayable
+returns-in-Ok-Some-Table-clause-not_replayable g c = λ w is. absurd (subst IsSourceAnswer is c.run_table_source.ensures.answers)
 
 pub returns-in-Ok-Some-Table-clause-table_complete : goal.returns-in-Ok-Some-Table-clause-table_complete
 returns-in-Ok-Some-Table-clause-table_complete g c = λ z lines asked told sure written. c.run_table_source.ensures.complete lines told sure written
