@@ -4,7 +4,33 @@ use crate::{beside, ephemerons, finalisers};
 use std::test::Fail;
 
 // Words, a script, and what its run prints.
-const REPLIES: [(&str, &str, &str); 25] = [
+const REPLIES: [(&str, &str, &str); 30] = [
+    (
+        "replay",
+        "schedule 1\nturn 1\nturn 1\nturn 0\nend\nheap 1\ndomain 0\nload 1 0 0\ndomain 1\nint 1 5\nstore 0 0 1\n",
+        "domain 0\nint 5\ndomain 1\nok\nok\n",
+    ),
+    (
+        "replay",
+        "schedule 1\nend\nheap 1\ndomain 0\nload 1 0 0\ndomain 1\nint 1 5\nstore 0 0 1\n",
+        "domain 0\nint 0\ndomain 1\nok\nok\n",
+    ),
+    (
+        "replay --domains 1",
+        "schedule 1\nturn 0\nturn 0\nturn 0\nturn 0\ncollect\nend\nheap 1\ndomain 0\nalloc 1 0 1\nephe 2 1\nset_key 2 0 1\ndrop 1\ncheck_key 2 0\n",
+        "domain 0\nblk 0:1\nblk 0:2\nok\nok\nno\n",
+    ),
+    (
+        "replay --domains 1",
+        "schedule 1\nturn 0\nturn 0\nturn 0\nturn 0\nend\nheap 1\ndomain 0\nalloc 1 0 1\nephe 2 1\nset_key 2 0 1\ndrop 1\ncheck_key 2 0\n",
+        "domain 0\nblk 0:1\nblk 0:2\nok\nok\nyes\n",
+    ),
+    // The full_major of domain 0 doesn't answer that of domain 1.
+    (
+        "replay",
+        "schedule 1\nturn 0\nend\nheap 1\ndomain 0\nfull_major\nalloc 1 0 1\ndomain 1\nfull_major\nint 1 1\n",
+        "domain 0\nlive 1 18\nblk 0:1\ndomain 1\nlive 2 21\nok\n",
+    ),
     (
         "table",
         "table 1\nkey 1\nkey 2\nput 1 10\nput 2 20\nput 1 11\nget 1\ncount\nforget 2\nfull_major\ncount\nget 1\ndel 1\nget 1\nget 2\n",
@@ -243,7 +269,45 @@ const REFUSED: [(&str, &str, &str); 20] = [
     ("table", "table 1\ncount", "script line 2: syntax\n"),
 ];
 
-const OTHER_WORDS: [&str; 22] = [
+// The words of a replay, its text, the status and the line of its first fault.
+const NOT_REPLAYED: [(&str, &str, u8, &str); 8] = [
+    ("replay", "schedule 1\n", 6, "schedule line 2\n"),
+    ("replay", "schedule 2\nend\n", 6, "schedule line 1\n"),
+    (
+        "replay",
+        "schedule 1\nturn 2\nend\n",
+        6,
+        "schedule line 2\n",
+    ),
+    (
+        "replay",
+        "schedule 1\nturn 0\nturn 00\nend\n",
+        6,
+        "schedule line 3\n",
+    ),
+    ("replay", "schedule 1\ncollect\nend", 6, "schedule line 3\n"),
+    (
+        "replay",
+        "schedule 1\nend\nheap 1\ndomain 0\nint 16 0\n",
+        2,
+        "script line 3: number 1 out of range\n",
+    ),
+    (
+        "replay",
+        "schedule 1\nend\nheap 1\ndomain 0\nmajor\n",
+        7,
+        "not replayable: 1\n",
+    ),
+    (
+        "replay --domains 1 --minor 4096 --pools 22",
+        "schedule 1\nend\nheap 1\ndomain 0\nalloc 1 0 1\nalloc 1 0 1\n",
+        7,
+        "not replayable: 2\n",
+    ),
+];
+
+const OTHER_WORDS: [&str; 23] = [
+    "replay --domains 1 --minor 4096 --pools 21",
     "",
     "run x",
     "run --domains 9",
@@ -280,6 +344,10 @@ fn refused_words_and_scripts(rt: HostRuntime) -> Result<(), Fail> {
     for (words, script, line) in &REFUSED {
         let given = run_plain(&rt, rt.alloc(), words, script)?;
         is_given(&rt, &given, 2, line, "");
+    }
+    for (words, text, status, line) in &NOT_REPLAYED {
+        let given = run_plain(&rt, rt.alloc(), words, text)?;
+        is_given(&rt, &given, *status, line, "");
     }
     Ok(())
 }
