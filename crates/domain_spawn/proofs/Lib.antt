@@ -1,1 +1,5 @@
 pub mod Making
+pub mod Interleaved
+pub mod Handing
+pub mod Leveling
+pub mod Opens

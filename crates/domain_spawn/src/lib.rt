@@ -4,7 +4,9 @@
 #![tactic(auto)]
 
 mod flags;
+mod opening;
 mod values;
 
 pub use flags::{begin, begun, done, finish};
+pub use opening::open_hidden;
 pub use values::{argument, put_result, take_result};

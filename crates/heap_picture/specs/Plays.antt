@@ -6,6 +6,7 @@ use Rattle.heap_model.specs.declared.state.State.{State}
 use Rattle.heap_model.specs.Domains.{opening, sizes_of}
 use Rattle.heap_model.specs.History.{commands, state_after, LegalFrom}
 use Rattle.heap_text.specs.declared.fault.ScriptFault.{ScriptFault}
+use Rattle.heap_text.specs.declared.version.Version.TheVariants.{Two}
 use Rattle.heap_text.specs.Faults.{IsFaultUnlessMemory}
 use Rattle.heap_text.specs.Script.{Scripted}
 use Rattle.heap_text.specs.Spelling.{Spells}
@@ -30,10 +31,10 @@ pub record IsDrawn (cs : List Command) (text : List ℕ) : Type 0 where
   pub legal : Plays start (played start cs) cs
   pub text_is : text ≡ picture_text (played start cs)
 
--- so drawn are the commands that the bytes spell
+-- so drawn are the commands that the bytes spell, in a version without spawns
 pub record IsPictureOf (bytes text : List ℕ) : Type 0 where
   pub script : Scripted
-  pub spelled : Spells 1 script bytes
+  pub spelled : Spells Two 1 script bytes
   pub drawn : IsDrawn (slice_index_or script.sections 0 []) text
 
 -- only what is told of a script needs a cause in its bytes

@@ -40,6 +40,7 @@ fn tell(rt: &HostRuntime, fault: ScriptFault) {
         }
         ScriptFault::TooLong { .. } => eprintln!(rt; "script: more than 16777216 bytes"),
         ScriptFault::TooMany { line } => eprintln!(rt; "script line {line}: too many commands"),
+        ScriptFault::Spawn { line } => eprintln!(rt; "script line {line}: spawn"),
         ScriptFault::Memory => eprintln!(rt; "out of memory"),
     };
 }

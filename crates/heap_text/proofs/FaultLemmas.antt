@@ -1,65 +1,42 @@
 -- No line of a script has a fault, so the first fault of a text that begins as a script stands behind it.
 use Rattle.heap_text.specs.declared.version.Version.{Version}
-use Rattle.heap_text.specs.declared.version.Version.TheVariants.{One, Two}
-use Rattle.std.proofs.Common.{◌≡◌, ◌≢◌, ℕ, ◌+◌, ◌<◌, ◌≤◌, ◌^◌, suc, ℤ, pos, List, [], ◌∷◌, ◌++◌, map, length, length-append, Bool, true, false, cond, refl, ap, sym, ◌∙◌, subst, arith, append_assoc, sum_by, None, Some}
-use Rattle.std.specs.Prelude.{option_map, count_by, ◌==◌, nat_lt}
+use Rattle.heap_text.specs.declared.version.Version.TheVariants.{One, Two, Three}
+use Rattle.std.proofs.Common.{◌≡◌, ◌≢◌, ℕ, ◌+◌, ◌<◌, ◌≤◌, ◌^◌, suc, ℤ, pos, List, [], ◌∷◌, ◌++◌, map, length, length-append, Bool, true, false, cond, refl, ap, sym, ◌∙◌, subst, arith, append_assoc, sum_by, fold, None, Some}
+use Rattle.std.specs.Prelude.{option_map, ◌&&◌, ◌==◌, nat_lt}
 use Rattle.std.specs.List.{list_all}
 use Rattle.std.specs.Ordering.{int_eq}
 use Rattle.std.proofs.lemmas.Bool.Decides.{nat_tests}
 use Rattle.std.proofs.lemmas.List.{append-nil}
-use Rattle.std.proofs.lemmas.List.Sums.{sum_by-append}
+use Rattle.std.proofs.lemmas.List.Sums.{fold-append}
 use Rattle.std.proofs.lemmas.Bool.{and_parts}
 use Rattle.heap_model.specs.declared.command.Command.{Command}
 use Rattle.heap_text.specs.declared.form.Word.{Word}
 use Rattle.heap_text.specs.declared.fault.ScriptFault.{ScriptFault}
 use Rattle.heap_text.specs.declared.fault.ScriptFault.TheVariants.{Range, Order, Syntax}
-use Rattle.heap_text.specs.Forms.{form, parts as taken_apart, is_writable, first_line}
+use Rattle.heap_text.specs.Forms.{form, made, parts as taken_apart, is_writable, first_line}
+use Rattle.heap_text.specs.Spawning.{Place, start, opened, called, place_in, may_begin, may_follow, follow, sections_follow}
 use Rattle.heap_text.specs.Spelling.{command_text, heading_text, section_lines, lines_from, script_lines, IsWritten}
-use Rattle.heap_text.specs.Faults.{heading, command, line_shape, is_heading, is_command, heading_lines, command_lines, first_out_of_range, fault_of_shape, line_fault, fault_from, or_else}
+use Rattle.heap_text.specs.Faults.{LineShape, heading, command, line_shape, behind_shape, place_of, first_out_of_range, order_fault, fault_of_shape, line_fault, fault_from, or_else}
 use Rattle.heap_text.proofs.ScriptLemmas.{total-cons}
-use Rattle.heap_text.proofs.LineLemmas.{ranges_alone}
+use Rattle.heap_text.proofs.PlaceLemmas.{places, places_in, headings_kept, commands_grow}
+use Rattle.heap_text.proofs.FormLemmas.{made-parts}
+use Rattle.heap_text.proofs.LineLemmas.{ranges_and_order, ranges_alone}
 use Rattle.heap_text.proofs.ShapeLemmas.{written, shape-command, shape-heading}
 
--- how a further line counts
-abbrev bit : Bool → ℕ
-bit true = 1
-bit false = 0
-
-zero_bit : (b : Bool) → 0 + cond b 1 0 ≡ bit b
-zero_bit true = refl
-zero_bit false = refl
-
-one_count : {A : Type 0} (test : A → Bool) (b : Bool) (l : A) → test l ≡ b → count_by test (l ∷ []) ≡ bit b
-one_count test b l e = ap (λ t. 0 + cond t 1 0) e ∙ zero_bit b
-
-count-push : {A : Type 0} (test : A → Bool) (b : Bool) (before : List A) (l : A) → test l ≡ b → count_by test (before ++ l ∷ []) ≡ count_by test before + bit b
-count-push test b before l e = sum_by-append (λ x. cond (test x) 1 0) before (l ∷ []) ∙ ap (λ n. count_by test before + n) (one_count test b l e)
-
--- what stands before a line: some lines, with so many headings and so many commands
-pub record Before (ver : Version) (before : List (List ℕ)) (h c : ℕ) : Type 0 where
+-- the lines before a line, of which there are some, leave it this place
+pub record Before (ver : Version) (before : List (List ℕ)) (p : Place) : Type 0 where
   pub some : 0 < length before
-  pub headings_are : heading_lines ver before ≡ h
-  pub commands_are : command_lines ver before ≡ c
+  pub place_is : place_of ver before ≡ p
 
-pub before_heading : (ver : Version) (before : List (List ℕ)) (h c : ℕ) (z : ℤ) (l : List ℕ) → Before ver before h c → line_shape ver l ≡ heading z → Before ver (before ++ l ∷ []) (h + 1) c
-before_heading ver before h c z l b e = record {
+pub before_more : (ver : Version) (before : List (List ℕ)) (p : Place) (s : LineShape) (l : List ℕ) → Before ver before p → line_shape ver l ≡ s → Before ver (before ++ l ∷ []) (behind_shape p s)
+before_more ver before p s l b e = record {
   some = omega (arith, length-append before (l ∷ []));
-  headings_are = omega (arith, count-push (λ x. is_heading (line_shape ver x)) true before l (ap is_heading e), b.headings_are);
-  commands_are = omega (arith, count-push (λ x. is_command (line_shape ver x)) false before l (ap is_command e), b.commands_are);
-}
-
-pub before_command : (ver : Version) (before : List (List ℕ)) (h c : ℕ) (w : Word) (zs : List ℤ) (l : List ℕ) → Before ver before h c → line_shape ver l ≡ command w zs → Before ver (before ++ l ∷ []) h (c + 1)
-before_command ver before h c w zs l b e = record {
-  some = omega (arith, length-append before (l ∷ []));
-  headings_are = omega (arith, count-push (λ x. is_heading (line_shape ver x)) false before l (ap is_heading e), b.headings_are);
-  commands_are = omega (arith, count-push (λ x. is_command (line_shape ver x)) true before l (ap is_command e), b.commands_are);
+  place_is = fold-append (λ p l. behind_shape p (line_shape ver l)) start before (l ∷ []) ∙ ap (λ q. behind_shape q (line_shape ver l)) b.place_is ∙ ap (behind_shape p) e;
 }
 
 -- the fault of a line below the first, by what stands before it
-pub line_fault_below : (ver : Version) (domains : ℕ) (before : List (List ℕ)) (h c : ℕ) (l : List ℕ) → Before ver before h c → line_fault ver domains before l ≡ fault_of_shape ver domains (length before + 1) h c (line_shape ver l)
-line_fault_below ver domains before h c l b =
-    ap (λ x. fault_of_shape ver domains (length before + 1) x (command_lines ver before) (line_shape ver l)) b.headings_are
-    ∙ ap (λ x. fault_of_shape ver domains (length before + 1) h x (line_shape ver l)) b.commands_are
+pub line_fault_below : (ver : Version) (domains : ℕ) (before : List (List ℕ)) (p : Place) (l : List ℕ) → Before ver before p → line_fault ver domains before l ≡ fault_of_shape ver domains (length before + 1) p (line_shape ver l)
+line_fault_below ver domains before p l b = ap (λ q. fault_of_shape ver domains (length before + 1) q (line_shape ver l)) b.place_is
 
 -- a line without a fault is passed over
 pub passed_over : (ver : Version) (domains : ℕ) (before : List (List ℕ)) (l : List ℕ) (parts : List (List ℕ)) → 0 < length parts → line_fault ver domains before l ≡ None
@@ -79,98 +56,99 @@ ended_wrong ver domains [] (b ∷ bs) some = refl
 ended_wrong ver domains (l ∷ before) (b ∷ bs) some = refl
 
 -- the next heading has no fault
-no_heading_fault : (ver : Version) (domains line h c : ℕ) → h < domains → fault_of_shape ver domains line h c (heading (pos h)) ≡ None
-no_heading_fault ver domains line h c small =
-    let inside : nat_lt h domains ≡ true = grind (arith, nat_tests) in
-    let next : int_eq (pos h) (pos h) ≡ true = grind (arith, nat_tests) in
-    ap (λ b. cond b (cond (int_eq (pos h) (pos h)) None (Some (Order line))) (Some (Range line 1))) inside ∙ ap (λ b. cond b None (Some (Order line))) next
+no_heading_fault : (ver : Version) (domains line : ℕ) (p : Place) → p.headings < domains → may_begin ver p ≡ true → fault_of_shape ver domains line p (heading (pos p.headings)) ≡ None
+no_heading_fault ver domains line p small may =
+    let inside : nat_lt p.headings domains ≡ true = grind (arith, nat_tests) in
+    let next : int_eq (pos p.headings) (pos p.headings) ≡ true = grind (arith, nat_tests) in
+    ap (λ b. cond b (cond (int_eq (pos p.headings) (pos p.headings)) (order_fault (may_begin ver p) line) (Some (Order line))) (Some (Range line 1))) inside
+    ∙ ap (λ b. cond b (order_fault (may_begin ver p) line) (Some (Order line))) next ∙ ap (λ b. order_fault b line) may
 
 -- a command of the grammar in its place has no fault
-no_command_fault : (ver : Version) (domains line h c : ℕ) (w : Word) (zs : List ℤ) → 0 < h → c < 200000 → first_out_of_range ver 1 (form w).operands zs ≡ None → fault_of_shape ver domains line h c (command w zs) ≡ None
-no_command_fault ver domains line h c w zs some room inside =
-    let begun : h ≢ 0 = omega arith in
-    ranges_alone ver domains line h c w zs begun room ∙ ap (option_map (Range line)) inside
+no_command_fault : (ver : Version) (domains line : ℕ) (p : Place) (w : Word) (zs : List ℤ) → 0 < p.headings → p.commands < 200000 → first_out_of_range ver domains 1 (form w).operands zs ≡ None → may_follow ver p (made w zs) ≡ true
+    → fault_of_shape ver domains line p (command w zs) ≡ None
+no_command_fault ver domains line p w zs some room inside may =
+    let begun : p.headings ≢ 0 = omega arith in
+    ranges_alone ver domains line p w zs begun room ∙ ap (λ o. or_else (option_map (Range line) o) (order_fault (may_follow ver p (made w zs)) line)) inside ∙ ap (λ b. order_fault b line) may
 
-before_same : (ver : Version) (before after : List (List ℕ)) (h c d : ℕ) → Before ver before h c → before ≡ after → c ≡ d → Before ver after h d
-before_same ver before after h c d b e n = record {
+before_same : (ver : Version) (before after : List (List ℕ)) (p q : Place) → Before ver before p → before ≡ after → p ≡ q → Before ver after q
+before_same ver before after p q b e n = record {
   some = omega (arith, ap length e, b.some);
-  headings_are = ap (heading_lines ver) (sym e) ∙ b.headings_are;
-  commands_are = ap (command_lines ver) (sym e) ∙ b.commands_are ∙ n;
+  place_is = ap (place_of ver) (sym e) ∙ b.place_is ∙ n;
 }
 
 -- what a walk over lines without faults leaves
-pub record Walked (ver : Version) (domains : ℕ) (before lines parts : List (List ℕ)) (h c : ℕ) : Type 0 where
+pub record Walked (ver : Version) (domains : ℕ) (before lines parts : List (List ℕ)) (p : Place) : Type 0 where
   pub faults : fault_from ver domains before (lines ++ parts) ≡ fault_from ver domains (before ++ lines) parts
-  pub counts : (Before ver) (before ++ lines) h c
+  pub leaves : (Before ver) (before ++ lines) p
 
-walked_none : (ver : Version) (domains : ℕ) (before parts : List (List ℕ)) (h c d : ℕ) → Before ver before h c → c ≡ d → Walked ver domains before [] parts h d
-walked_none ver domains before parts h c d b n = record {
+walked_none : (ver : Version) (domains : ℕ) (before parts : List (List ℕ)) (p : Place) → Before ver before p → Walked ver domains before [] parts p
+walked_none ver domains before parts p b = record {
   faults = ap (λ bs. fault_from ver domains bs parts) (sym (append-nil before));
-  counts = before_same ver before (before ++ []) h c d b (sym (append-nil before)) n;
+  leaves = before_same ver before (before ++ []) p p b (sym (append-nil before)) refl;
 }
 
-walked_more : (ver : Version) (domains : ℕ) (before : List (List ℕ)) (l : List ℕ) (lines parts : List (List ℕ)) (h c : ℕ) → 0 < length parts → line_fault ver domains before l ≡ None → Walked ver domains (before ++ l ∷ []) lines parts h c → Walked ver domains before (l ∷ lines) parts h c
-walked_more ver domains before l lines parts h c some e w = record {
+walked_more : (ver : Version) (domains : ℕ) (before : List (List ℕ)) (l : List ℕ) (lines parts : List (List ℕ)) (p : Place) → 0 < length parts → line_fault ver domains before l ≡ None → Walked ver domains (before ++ l ∷ []) lines parts p → Walked ver domains before (l ∷ lines) parts p
+walked_more ver domains before l lines parts p some e w = record {
   faults = passed_over ver domains before l (lines ++ parts) (omega (arith, length-append lines parts)) e ∙ w.faults ∙ ap (λ bs. fault_from ver domains bs parts) (append_assoc before (l ∷ []) lines);
-  counts = before_same ver ((before ++ l ∷ []) ++ lines) (before ++ l ∷ lines) h c c w.counts (append_assoc before (l ∷ []) lines) refl;
+  leaves = before_same ver ((before ++ l ∷ []) ++ lines) (before ++ l ∷ lines) p p w.leaves (append_assoc before (l ∷ []) lines) refl;
 }
 
-walked_both : (ver : Version) (domains : ℕ) (before front back parts : List (List ℕ)) (h k c d : ℕ) → Walked ver domains before front (back ++ parts) h c → Walked ver domains (before ++ front) back parts k d → Walked ver domains before (front ++ back) parts k d
-walked_both ver domains before front back parts h k c d v w = record {
+walked_both : (ver : Version) (domains : ℕ) (before front back parts : List (List ℕ)) (p q : Place) → Walked ver domains before front (back ++ parts) p → Walked ver domains (before ++ front) back parts q → Walked ver domains before (front ++ back) parts q
+walked_both ver domains before front back parts p q v w = record {
   faults = ap (fault_from ver domains before) (append_assoc front back parts) ∙ v.faults ∙ w.faults ∙ ap (λ bs. fault_from ver domains bs parts) (append_assoc before front back);
-  counts = before_same ver ((before ++ front) ++ back) (before ++ (front ++ back)) k d d w.counts (append_assoc before front back) refl;
+  leaves = before_same ver ((before ++ front) ++ back) (before ++ (front ++ back)) q q w.leaves (append_assoc before front back) refl;
 }
 
 -- the lines of commands
-over_commands : (ver : Version) (domains : ℕ) (before : List (List ℕ)) (h c : ℕ) (cs : List Command) (parts : List (List ℕ)) → Before ver before h c → 0 < h → c + length cs ≤ 200000 → 0 < length parts → list_all (is_writable ver) cs ≡ true
-    → Walked ver domains before (map command_text cs) parts h (c + length cs)
-over_commands ver domains before h c [] parts b some room more e = walked_none ver domains before parts h c (c + 0) b (omega arith)
-over_commands ver domains before h c (x ∷ cs) parts b some room more e =
-    let p = and_parts (is_writable ver x) (list_all (is_writable ver) cs) e in
-    let w = written ver x p.0 in
-    let said = shape-command ver x w in
-    let none = line_fault_below ver domains before h c (command_text x) b ∙ ap (fault_of_shape ver domains (length before + 1) h c) said ∙ no_command_fault ver domains (length before + 1) h c (taken_apart x).word (taken_apart x).numbers some (omega arith) w.inside in
-    let rest = over_commands ver domains (before ++ command_text x ∷ []) h (c + 1) cs parts (before_command ver before h c (taken_apart x).word (taken_apart x).numbers (command_text x) b said) some (omega arith) more p.1 in
-    let same : c + 1 + length cs ≡ c + suc (length cs) = omega arith in
-    walked_more ver domains before (command_text x) (map command_text cs) parts h (c + suc (length cs)) more none (subst (λ (d : ℕ). Walked ver domains (before ++ command_text x ∷ []) (map command_text cs) parts h d) same rest)
+over_commands : (ver : Version) (domains : ℕ) (before : List (List ℕ)) (p : Place) (cs : List Command) (parts : List (List ℕ)) → Before ver before p → 0 < p.headings → p.commands + length cs ≤ 200000 → 0 < length parts
+    → list_all (is_writable ver domains) cs ≡ true → follow ver p cs ≡ true → Walked ver domains before (map command_text cs) parts (fold called p cs)
+over_commands ver domains before p [] parts b some room more e f = walked_none ver domains before parts p b
+over_commands ver domains before p (x ∷ cs) parts b some room more e f =
+    let fit = and_parts (is_writable ver domains x) (list_all (is_writable ver domains) cs) e in
+    let order = and_parts (may_follow ver p x) (follow ver (called p x) cs) f in
+    let w = written ver domains x fit.0 in
+    let said = shape-command ver domains x w in
+    let is = made-parts ver domains x w.inside in
+    let none = line_fault_below ver domains before p (command_text x) b ∙ ap (fault_of_shape ver domains (length before + 1) p) said
+    ∙ no_command_fault ver domains (length before + 1) p (taken_apart x).word (taken_apart x).numbers some (omega arith) w.inside (ap (may_follow ver p) is ∙ order.0) in
+    let now = before_same ver (before ++ command_text x ∷ []) (before ++ command_text x ∷ []) _ (called p x) (before_more ver before p (command (taken_apart x).word (taken_apart x).numbers) (command_text x) b said) refl (ap (called p) is) in
+    walked_more ver domains before (command_text x) (map command_text cs) parts (fold called p (x ∷ cs)) more none
+    (over_commands ver domains (before ++ command_text x ∷ []) (called p x) cs parts now some (omega arith) more fit.1 order.1)
 
 -- the lines of a section
-over_section : (ver : Version) (domains : ℕ) (before : List (List ℕ)) (h c : ℕ) (cs : List Command) (parts : List (List ℕ)) → Before ver before h c → h < domains → domains < 2 ^ 32 → c + length cs ≤ 200000 → 0 < length parts → list_all (is_writable ver) cs ≡ true
-    → Walked ver domains before (section_lines h cs) parts (h + 1) (c + length cs)
-over_section ver domains before h c cs parts b inside small room more e =
-    let said = shape-heading ver h (omega arith) in
-    let none = line_fault_below ver domains before h c (heading_text h) b ∙ ap (fault_of_shape ver domains (length before + 1) h c) said ∙ no_heading_fault ver domains (length before + 1) h c inside in
-    walked_more ver domains before (heading_text h) (map command_text cs) parts (h + 1) (c + length cs) more none
-    (over_commands ver domains (before ++ heading_text h ∷ []) (h + 1) c cs parts (before_heading ver before h c (pos h) (heading_text h) b said) (omega arith) room more e)
+over_section : (ver : Version) (domains : ℕ) (before : List (List ℕ)) (p : Place) (cs : List Command) (parts : List (List ℕ)) → Before ver before p → p.headings < domains → domains < 2 ^ 32 → p.commands + length cs ≤ 200000 → 0 < length parts
+    → list_all (is_writable ver domains) cs ≡ true → may_begin ver p ≡ true → follow ver (opened p) cs ≡ true → Walked ver domains before (section_lines p.headings cs) parts (fold called (opened p) cs)
+over_section ver domains before p cs parts b inside small room more e may f =
+    let said = shape-heading ver p.headings (omega arith) in
+    let none = line_fault_below ver domains before p (heading_text p.headings) b ∙ ap (fault_of_shape ver domains (length before + 1) p) said ∙ no_heading_fault ver domains (length before + 1) p inside may in
+    walked_more ver domains before (heading_text p.headings) (map command_text cs) parts (fold called (opened p) cs) more none
+    (over_commands ver domains (before ++ heading_text p.headings ∷ []) (opened p) cs parts (before_more ver before p (heading (pos p.headings)) (heading_text p.headings) b said) (omega arith) room more e f)
 
 -- the lines of sections
-over_sections : (ver : Version) (domains : ℕ) (before : List (List ℕ)) (h c : ℕ) (sections : List (List Command)) (parts : List (List ℕ)) → Before ver before h c → h + length sections ≤ domains → domains < 2 ^ 32 → c + sum_by length sections ≤ 200000
-    → 0 < length parts → list_all (list_all (is_writable ver)) sections ≡ true → Walked ver domains before (lines_from h sections) parts (h + length sections) (c + sum_by length sections)
-over_sections ver domains before h c [] parts b few small room more e =
-    let same : h ≡ h + 0 = omega arith in
-    let counted : c ≡ c + 0 = omega arith in
-    subst (λ (k : ℕ). Walked ver domains before [] parts k (c + 0)) same (walked_none ver domains before parts h c (c + 0) b counted)
-over_sections ver domains before h c (cs ∷ sections) parts b few small room more e =
-    let p = and_parts (list_all (is_writable ver) cs) (list_all (list_all (is_writable ver)) sections) e in
+over_sections : (ver : Version) (domains : ℕ) (before : List (List ℕ)) (p : Place) (sections : List (List Command)) (parts : List (List ℕ)) → Before ver before p → p.headings + length sections ≤ domains → domains < 2 ^ 32
+    → p.commands + sum_by length sections ≤ 200000 → 0 < length parts → list_all (list_all (is_writable ver domains)) sections ≡ true → sections_follow ver p sections ≡ true → Walked ver domains before (lines_from p.headings sections) parts (places p sections)
+over_sections ver domains before p [] parts b few small room more e f = walked_none ver domains before parts p b
+over_sections ver domains before p (cs ∷ sections) parts b few small room more e f =
+    let fit = and_parts (list_all (is_writable ver domains) cs) (list_all (list_all (is_writable ver domains)) sections) e in
+    let first = and_parts (may_begin ver p) (follow ver (opened p) cs && sections_follow ver (fold called (opened p) cs) sections) f in
+    let second = and_parts (follow ver (opened p) cs) (sections_follow ver (fold called (opened p) cs) sections) first.1 in
     let total = total-cons cs sections in
-    let front = over_section ver domains before h c cs (lines_from (h + 1) sections ++ parts) b (omega arith) small (omega (arith, total)) (omega (arith, length-append (lines_from (h + 1) sections) parts)) p.0 in
-    let back = over_sections ver domains (before ++ section_lines h cs) (h + 1) (c + length cs) sections parts front.counts (omega arith) small (omega (arith, total)) more p.1 in
-    let walked = walked_both ver domains before (section_lines h cs) (lines_from (h + 1) sections) parts (h + 1) (h + 1 + length sections) (c + length cs) (c + length cs + sum_by length sections) front back in
-    let headings_same : h + 1 + length sections ≡ h + suc (length sections) = omega arith in
-    let commands_same : c + length cs + sum_by length sections ≡ c + sum_by length (cs ∷ sections) = omega (arith, total) in
-    subst (λ (k : ℕ). Walked ver domains before (lines_from h (cs ∷ sections)) parts k (c + sum_by length (cs ∷ sections))) headings_same
-    (subst (λ (d : ℕ). Walked ver domains before (lines_from h (cs ∷ sections)) parts (h + 1 + length sections) d) commands_same walked)
+    let next : Place = fold called (opened p) cs in
+    let headings_same : next.headings ≡ p.headings + 1 = headings_kept (opened p) cs in
+    let front = over_section ver domains before p cs (lines_from (p.headings + 1) sections ++ parts) b (omega arith) small (omega (arith, total)) (omega (arith, length-append (lines_from (p.headings + 1) sections) parts)) fit.0 first.0 second.0 in
+    let back = over_sections ver domains (before ++ section_lines p.headings cs) next sections parts front.leaves (omega (arith, headings_same)) small (omega (arith, total, commands_grow (opened p) cs)) more fit.1 second.1 in
+    walked_both ver domains before (section_lines p.headings cs) (lines_from (p.headings + 1) sections) parts next (places next sections) front
+    (subst (λ (k : ℕ). Walked ver domains (before ++ section_lines p.headings cs) (lines_from k sections) parts (places next sections)) headings_same back)
 
 -- the first line of a script
-before_first : (ver : Version) → Before ver (first_line ver ∷ []) 0 0
-before_first One = record { some = omega arith; headings_are = refl; commands_are = refl }
-before_first Two = record { some = omega arith; headings_are = refl; commands_are = refl }
+before_first : (ver : Version) → Before ver (first_line ver ∷ []) start
+before_first One = record { some = omega arith; place_is = refl }
+before_first Two = record { some = omega arith; place_is = refl }
+before_first Three = record { some = omega arith; place_is = refl }
 
 -- the first fault of what begins as a script
 pub faults_behind : (ver : Version) (domains : ℕ) (sections : List (List Command)) (parts : List (List ℕ)) → IsWritten ver domains sections → domains < 2 ^ 32 → 0 < length parts
-    → (fault_from ver domains (first_line ver ∷ []) (lines_from 0 sections ++ parts) ≡ fault_from ver domains (script_lines ver sections) parts) × Before ver (script_lines ver sections) (length sections) (sum_by length sections)
+    → (fault_from ver domains (first_line ver ∷ []) (lines_from 0 sections ++ parts) ≡ fault_from ver domains (script_lines ver sections) parts) × Before ver (script_lines ver sections) (place_in sections)
 faults_behind ver domains sections parts w small more =
-    let walked = over_sections ver domains (first_line ver ∷ []) 0 0 sections parts (before_first ver) (omega (arith, w.few_sections)) small (omega (arith, w.few_commands)) more w.writable in
-    let headings_same : 0 + length sections ≡ length sections = omega arith in
-    let commands_same : 0 + sum_by length sections ≡ sum_by length sections = omega arith in
-    (walked.faults, subst (λ (k : ℕ). Before ver (script_lines ver sections) k (sum_by length sections)) headings_same (subst (λ (d : ℕ). Before ver (script_lines ver sections) (0 + length sections) d) commands_same walked.counts))
+    let walked = over_sections ver domains (first_line ver ∷ []) start sections parts (before_first ver) (omega (arith, w.few_sections)) small (omega (arith, w.few_commands)) more w.writable w.in_order in
+    (walked.faults, subst (Before ver (script_lines ver sections)) (places_in sections) walked.leaves)

@@ -1,7 +1,7 @@
 -- The laws of the table, row by row: they hold whichever commands are built.
 use Rattle.heap_text.specs.declared.version.Version.{Version}
-use Rattle.heap_text.specs.declared.version.Version.TheVariants.{One, Two}
-use Rattle.std.proofs.Common.{◌≡◌, ℕ, ◌+◌, ◌≤◌, ◌^◌, min, ℤ, pos, negsuc, suc, List, [], ◌∷◌, ◌++◌, length, take, drop, append_assoc, Bool, true, false, cond, not, ◌&&◌, refl, ap, sym, ◌∙◌, arith, lit≤, ◌⊎◌, inl, inr, None, Some}
+use Rattle.heap_text.specs.declared.version.Version.TheVariants.{One, Two, Three}
+use Rattle.std.proofs.Common.{◌≡◌, ℕ, ◌+◌, ◌-◌, ◌≤◌, ◌^◌, min, ℤ, pos, negsuc, suc, List, [], ◌∷◌, ◌++◌, length, take, drop, append_assoc, Bool, true, false, cond, not, ◌&&◌, refl, ap, sym, ◌∙◌, arith, lit≤, ◌⊎◌, inl, inr, None, Some}
 use Rattle.std.specs.Prelude.{Option, is_some, find, nat_lt, unsigned_abs, slice_index_or, codes, bytes_eq, int_le, ◌==◌}
 use Rattle.std.proofs.lemmas.Bool.Decides.{nat_tests}
 use Rattle.std.proofs.lemmas.Int.{ints}
@@ -15,7 +15,7 @@ use Rattle.heap_text.specs.declared.form.Operand.TheVariants.{Register, Tag, Raw
 use Rattle.heap_text.specs.declared.form.Word.{Word}
 use Rattle.heap_text.specs.declared.form.Word.TheVariants as word
 use Rattle.heap_text.specs.Split.{first_text}
-use Rattle.heap_text.specs.Forms.{form, fits, least, greatest, most_fields, byte, short, wide, word_of, built_words, is_built, made, parts, all_fit}
+use Rattle.heap_text.specs.Forms.{form, fits, least, greatest, most_fields, last_register, byte, short, wide, word_of, built_words, is_built, made, parts, all_fit}
 use Rattle.heap_text.specs.Faults.{first_out_of_range}
 use Rattle.heap_text.proofs.DecimalLemmas.{is_free}
 use Rattle.heap_text.proofs.RangeLemmas.{least_wide, greatest_wide, passed}
@@ -40,14 +40,17 @@ found_if_built One word.Int = refl
 found_if_built One _ = refl
 found_if_built Two word.Int = refl
 found_if_built Two _ = refl
+found_if_built Three word.Int = refl
+found_if_built Three _ = refl
 
 pub word_found : (ver : Version) (w : Word) → is_built ver w ≡ true → word_of ver (form w).text ≡ Some w
 word_found ver w e = found_if_built ver w ∙ ap (λ b. cond b (Some w) None) e
 
--- a word of both versions
-built_in : (ver : Version) (w : Word) → is_built One w ≡ true → is_built Two w ≡ true → is_built ver w ≡ true
-built_in One w first second = first
-built_in Two w first second = second
+-- a word of all versions
+built_in : (ver : Version) (w : Word) → is_built One w ≡ true → is_built Two w ≡ true → is_built Three w ≡ true → is_built ver w ≡ true
+built_in One w first second third = first
+built_in Two w first second third = second
+built_in Three w first second third = third
 
 -- a command is made of the first of its numbers, as many as its row has
 made_of : (w : Word) (a b c d : ℤ) → made w (take (length (form w).operands) (a ∷ b ∷ c ∷ d ∷ [])) ≡ made w (a ∷ b ∷ c ∷ d ∷ [])
@@ -95,9 +98,9 @@ spaced_word bytes word e f n h = first_read bytes word 32 e f n h (λ rest. refl
 pub ended_word : (bytes word : List ℕ) → is_free 32 word ≡ true → is_free 10 word ≡ true → length (word ++ 10 ∷ []) ≤ length bytes → HasBytesAt bytes 0 (word ++ 10 ∷ []) → first_text bytes ≡ word
 ended_word bytes word e f n h = first_read bytes word 10 e f n h (λ rest. refl)
 
--- a word of both versions is found
-pub common_found : (ver : Version) (w : Word) → is_built One w ≡ true → is_built Two w ≡ true → word_of ver (form w).text ≡ Some w
-common_found ver w first second = word_found ver w (built_in ver w first second)
+-- a word of all versions is found
+pub common_found : (ver : Version) (w : Word) → is_built One w ≡ true → is_built Two w ≡ true → is_built Three w ≡ true → word_of ver (form w).text ≡ Some w
+common_found ver w first second third = word_found ver w (built_in ver w first second third)
 
 chosen_first : (b : Bool) (v w : Word) (o : Option Word) → cond b (Some v) o ≡ Some w → ((b ≡ true) × (v ≡ w)) ⊎ (o ≡ Some w)
 chosen_first true v w o e = inl (refl, cc)
@@ -177,17 +180,23 @@ held_between most high low (negsuc n) l h e = grind (arith, ints, nat_tests)
 fields_small : (ver : Version) → most_fields ver ≤ 65535
 fields_small One = lit≤ tt
 fields_small Two = lit≤ tt
+fields_small Three = lit≤ tt
 
-pub held_same : (ver : Version) (kind : Operand) (z : ℤ) → fits ver kind z ≡ true → held kind z ≡ z
-held_same ver Integer z e = refl
-held_same ver Register z e = held_between 255 15 (pos 0) z refl (omega arith) e
-held_same ver Tag z e = held_between 255 245 (pos 0) z refl (omega arith) e
-held_same ver RawTag z e = held_between 255 255 (pos 251) z refl (omega arith) e
-held_same ver FieldCount z e = held_between 65535 (most_fields ver) (pos 1) z refl (fields_small ver) e
-held_same ver KeyCount z e = held_between 65535 8 (pos 1) z refl (omega arith) e
-held_same ver Index z e = held_between 65535 1023 (pos 0) z refl (omega arith) e
-held_same ver FinaliserNumber z e = held_between 4294967295 65535 (pos 0) z refl (omega arith) e
-held_same ver Section z e = held_between 4294967295 7 (pos 0) z refl (omega arith) e
+registers_small : (ver : Version) → last_register ver ≤ 255
+registers_small One = lit≤ tt
+registers_small Two = lit≤ tt
+registers_small Three = lit≤ tt
+
+pub held_same : (ver : Version) (domains : ℕ) (kind : Operand) (z : ℤ) → fits ver domains kind z ≡ true → held kind z ≡ z
+held_same ver domains Integer z e = refl
+held_same ver domains Register z e = held_between 255 (last_register ver) (pos 0) z refl (registers_small ver) e
+held_same ver domains Tag z e = held_between 255 245 (pos 0) z refl (omega arith) e
+held_same ver domains RawTag z e = held_between 255 255 (pos 251) z refl (omega arith) e
+held_same ver domains FieldCount z e = held_between 65535 (most_fields ver) (pos 1) z refl (fields_small ver) e
+held_same ver domains KeyCount z e = held_between 65535 8 (pos 1) z refl (omega arith) e
+held_same ver domains Index z e = held_between 65535 1023 (pos 0) z refl (omega arith) e
+held_same ver domains FinaliserNumber z e = held_between 4294967295 65535 (pos 0) z refl (omega arith) e
+held_same ver domains Section z e = held_between 4294967295 (min 7 (domains - 1)) (pos 0) z refl (omega arith) e
 
 -- up to four numbers as their fields hold them
 abbrev pub all_held : List Operand → List ℤ → List ℤ
@@ -212,77 +221,84 @@ few_operands word.Int = lit≤ tt
 few_operands _ = lit≤ tt
 
 -- numbers in their ranges stay as they are
-pub all_held_same : (ver : Version) (kinds : List Operand) (zs : List ℤ) → length kinds ≤ 4 → length zs ≡ length kinds → first_out_of_range ver 1 kinds zs ≡ None → all_held kinds zs ≡ zs
-all_held_same ver [] [] few n e = refl
-all_held_same ver [] (x ∷ zs) few n e = absurd (omega arith)
-all_held_same ver (a ∷ kinds) [] few n e = absurd (omega arith)
-all_held_same ver (a ∷ []) (x ∷ []) few n e =
-    let p = passed (fits ver a x) None 1 e in
-    let first = held_same ver a x p.0 in
+pub all_held_same : (ver : Version) (domains : ℕ) (kinds : List Operand) (zs : List ℤ) → length kinds ≤ 4 → length zs ≡ length kinds → first_out_of_range ver domains 1 kinds zs ≡ None → all_held kinds zs ≡ zs
+all_held_same ver domains [] [] few n e = refl
+all_held_same ver domains [] (x ∷ zs) few n e = absurd (omega arith)
+all_held_same ver domains (a ∷ kinds) [] few n e = absurd (omega arith)
+all_held_same ver domains (a ∷ []) (x ∷ []) few n e =
+    let p = passed (fits ver domains a x) None 1 e in
+    let first = held_same ver domains a x p.0 in
     cc
-all_held_same ver (a ∷ []) (x ∷ y ∷ zs) few n e = absurd (omega arith)
-all_held_same ver (a ∷ b ∷ kinds) (x ∷ []) few n e = absurd (omega arith)
-all_held_same ver (a ∷ b ∷ []) (x ∷ y ∷ []) few n e =
-    let p = passed (fits ver a x) (first_out_of_range ver 2 (b ∷ []) (y ∷ [])) 1 e in
-    let q = passed (fits ver b y) None 2 p.1 in
-    let first = held_same ver a x p.0 in
-    let second = held_same ver b y q.0 in
+all_held_same ver domains (a ∷ []) (x ∷ y ∷ zs) few n e = absurd (omega arith)
+all_held_same ver domains (a ∷ b ∷ kinds) (x ∷ []) few n e = absurd (omega arith)
+all_held_same ver domains (a ∷ b ∷ []) (x ∷ y ∷ []) few n e =
+    let p = passed (fits ver domains a x) (first_out_of_range ver domains 2 (b ∷ []) (y ∷ [])) 1 e in
+    let q = passed (fits ver domains b y) None 2 p.1 in
+    let first = held_same ver domains a x p.0 in
+    let second = held_same ver domains b y q.0 in
     cc
-all_held_same ver (a ∷ b ∷ []) (x ∷ y ∷ z ∷ zs) few n e = absurd (omega arith)
-all_held_same ver (a ∷ b ∷ c ∷ kinds) (x ∷ y ∷ []) few n e = absurd (omega arith)
-all_held_same ver (a ∷ b ∷ c ∷ []) (x ∷ y ∷ z ∷ []) few n e =
-    let p = passed (fits ver a x) (first_out_of_range ver 2 (b ∷ c ∷ []) (y ∷ z ∷ [])) 1 e in
-    let q = passed (fits ver b y) (first_out_of_range ver 3 (c ∷ []) (z ∷ [])) 2 p.1 in
-    let r = passed (fits ver c z) None 3 q.1 in
-    let first = held_same ver a x p.0 in
-    let second = held_same ver b y q.0 in
-    let third = held_same ver c z r.0 in
+all_held_same ver domains (a ∷ b ∷ []) (x ∷ y ∷ z ∷ zs) few n e = absurd (omega arith)
+all_held_same ver domains (a ∷ b ∷ c ∷ kinds) (x ∷ y ∷ []) few n e = absurd (omega arith)
+all_held_same ver domains (a ∷ b ∷ c ∷ []) (x ∷ y ∷ z ∷ []) few n e =
+    let p = passed (fits ver domains a x) (first_out_of_range ver domains 2 (b ∷ c ∷ []) (y ∷ z ∷ [])) 1 e in
+    let q = passed (fits ver domains b y) (first_out_of_range ver domains 3 (c ∷ []) (z ∷ [])) 2 p.1 in
+    let r = passed (fits ver domains c z) None 3 q.1 in
+    let first = held_same ver domains a x p.0 in
+    let second = held_same ver domains b y q.0 in
+    let third = held_same ver domains c z r.0 in
     cc
-all_held_same ver (a ∷ b ∷ c ∷ []) (x ∷ y ∷ z ∷ v ∷ zs) few n e = absurd (omega arith)
-all_held_same ver (a ∷ b ∷ c ∷ d ∷ kinds) (x ∷ y ∷ z ∷ []) few n e = absurd (omega arith)
-all_held_same ver (a ∷ b ∷ c ∷ d ∷ []) (x ∷ y ∷ z ∷ v ∷ []) few n e =
-    let p = passed (fits ver a x) (first_out_of_range ver 2 (b ∷ c ∷ d ∷ []) (y ∷ z ∷ v ∷ [])) 1 e in
-    let q = passed (fits ver b y) (first_out_of_range ver 3 (c ∷ d ∷ []) (z ∷ v ∷ [])) 2 p.1 in
-    let r = passed (fits ver c z) (first_out_of_range ver 4 (d ∷ []) (v ∷ [])) 3 q.1 in
-    let t = passed (fits ver d v) None 4 r.1 in
-    let first = held_same ver a x p.0 in
-    let second = held_same ver b y q.0 in
-    let third = held_same ver c z r.0 in
-    let fourth = held_same ver d v t.0 in
+all_held_same ver domains (a ∷ b ∷ c ∷ []) (x ∷ y ∷ z ∷ v ∷ zs) few n e = absurd (omega arith)
+all_held_same ver domains (a ∷ b ∷ c ∷ d ∷ kinds) (x ∷ y ∷ z ∷ []) few n e = absurd (omega arith)
+all_held_same ver domains (a ∷ b ∷ c ∷ d ∷ []) (x ∷ y ∷ z ∷ v ∷ []) few n e =
+    let p = passed (fits ver domains a x) (first_out_of_range ver domains 2 (b ∷ c ∷ d ∷ []) (y ∷ z ∷ v ∷ [])) 1 e in
+    let q = passed (fits ver domains b y) (first_out_of_range ver domains 3 (c ∷ d ∷ []) (z ∷ v ∷ [])) 2 p.1 in
+    let r = passed (fits ver domains c z) (first_out_of_range ver domains 4 (d ∷ []) (v ∷ [])) 3 q.1 in
+    let t = passed (fits ver domains d v) None 4 r.1 in
+    let first = held_same ver domains a x p.0 in
+    let second = held_same ver domains b y q.0 in
+    let third = held_same ver domains c z r.0 in
+    let fourth = held_same ver domains d v t.0 in
     cc
-all_held_same ver (a ∷ b ∷ c ∷ d ∷ []) (x ∷ y ∷ z ∷ v ∷ w ∷ zs) few n e = absurd (omega arith)
-all_held_same ver (a ∷ b ∷ c ∷ d ∷ f ∷ kinds) (x ∷ y ∷ z ∷ v ∷ zs) few n e = absurd (omega arith)
+all_held_same ver domains (a ∷ b ∷ c ∷ d ∷ []) (x ∷ y ∷ z ∷ v ∷ w ∷ zs) few n e = absurd (omega arith)
+all_held_same ver domains (a ∷ b ∷ c ∷ d ∷ f ∷ kinds) (x ∷ y ∷ z ∷ v ∷ zs) few n e = absurd (omega arith)
 
 -- numbers in their ranges are those of the command that is made of them
-pub numbers_kept : (ver : Version) (w : Word) (zs : List ℤ) → length zs ≡ length (form w).operands → first_out_of_range ver 1 (form w).operands zs ≡ None → (parts (made w zs)).numbers ≡ zs
-numbers_kept ver w zs n e = numbers_made w zs ∙ all_held_same ver (form w).operands zs (few_operands w) n e
+pub numbers_kept : (ver : Version) (domains : ℕ) (w : Word) (zs : List ℤ) → length zs ≡ length (form w).operands → first_out_of_range ver domains 1 (form w).operands zs ≡ None → (parts (made w zs)).numbers ≡ zs
+numbers_kept ver domains w zs n e = numbers_made w zs ∙ all_held_same ver domains (form w).operands zs (few_operands w) n e
+
+-- a command is made of its numbers, where these are in their ranges
+pub made-parts : (ver : Version) (domains : ℕ) (c : Command) → first_out_of_range ver domains 1 (form (parts c).word).operands (parts c).numbers ≡ None → made (parts c).word (parts c).numbers ≡ c
+made-parts ver domains c e =
+    let w = (parts c).word in
+    let zs = (parts c).numbers in
+    sym (whole-parts (made w zs)) ∙ ap (λ v. whole v (parts (made w zs)).numbers) (word_made w zs) ∙ ap (whole w) (numbers_kept ver domains w zs (parts_counted c) e) ∙ whole-parts c
 
 -- numbers in their ranges fit 64 bits
 small_between : (low high z : ℤ) → int_le (negsuc 9223372036854775800) low ≡ true → int_le high (pos 9223372036854775800) ≡ true → (int_le low z && int_le z high) ≡ true → nat_lt (unsigned_abs z) (2 ^ 63) ≡ true
 small_between low high (pos n) l h e = grind (arith, ints, nat_tests)
 small_between low high (negsuc n) l h e = grind (arith, ints, nat_tests)
 
-small_if_fits : (ver : Version) (kind : Operand) (z : ℤ) → fits ver kind z ≡ true → nat_lt (unsigned_abs z) (2 ^ 63) ≡ true
-small_if_fits ver kind z e = small_between (least kind) (greatest ver kind) z (least_wide kind) (greatest_wide ver kind) e
+small_if_fits : (ver : Version) (domains : ℕ) (kind : Operand) (z : ℤ) → fits ver domains kind z ≡ true → nat_lt (unsigned_abs z) (2 ^ 63) ≡ true
+small_if_fits ver domains kind z e = small_between (least kind) (greatest ver domains kind) z (least_wide kind) (greatest_wide ver domains kind) e
 
-pub small_if_inside : (ver : Version) (which : ℕ) (kinds : List Operand) (zs : List ℤ) → length zs ≡ length kinds → first_out_of_range ver which kinds zs ≡ None → are_small zs ≡ true
-small_if_inside ver which kinds [] n e = refl
-small_if_inside ver which [] (z ∷ zs) n e = absurd (omega arith)
-small_if_inside ver which (kind ∷ kinds) (z ∷ zs) n e =
-    let p = passed (fits ver kind z) (first_out_of_range ver (which + 1) kinds zs) which e in
-    ap (λ b. b && are_small zs) (small_if_fits ver kind z p.0) ∙ small_if_inside ver (which + 1) kinds zs (omega arith) p.1
+pub small_if_inside : (ver : Version) (domains : ℕ) (which : ℕ) (kinds : List Operand) (zs : List ℤ) → length zs ≡ length kinds → first_out_of_range ver domains which kinds zs ≡ None → are_small zs ≡ true
+small_if_inside ver domains which kinds [] n e = refl
+small_if_inside ver domains which [] (z ∷ zs) n e = absurd (omega arith)
+small_if_inside ver domains which (kind ∷ kinds) (z ∷ zs) n e =
+    let p = passed (fits ver domains kind z) (first_out_of_range ver domains (which + 1) kinds zs) which e in
+    ap (λ b. b && are_small zs) (small_if_fits ver domains kind z p.0) ∙ small_if_inside ver domains (which + 1) kinds zs (omega arith) p.1
 
 -- the two ways to say that numbers are in their ranges
-pub inside_if_fit : (ver : Version) (which : ℕ) (kinds : List Operand) (zs : List ℤ) → all_fit ver kinds zs ≡ true → first_out_of_range ver which kinds zs ≡ None
-inside_if_fit ver which [] zs e = refl
-inside_if_fit ver which (kind ∷ kinds) [] e = refl
-inside_if_fit ver which (kind ∷ kinds) (z ∷ zs) e =
-    let p = both (fits ver kind z) (all_fit ver kinds zs) e in
-    ap (λ b. cond b (first_out_of_range ver (which + 1) kinds zs) (Some which)) p.0 ∙ inside_if_fit ver (which + 1) kinds zs p.1
+pub inside_if_fit : (ver : Version) (domains : ℕ) (which : ℕ) (kinds : List Operand) (zs : List ℤ) → all_fit ver domains kinds zs ≡ true → first_out_of_range ver domains which kinds zs ≡ None
+inside_if_fit ver domains which [] zs e = refl
+inside_if_fit ver domains which (kind ∷ kinds) [] e = refl
+inside_if_fit ver domains which (kind ∷ kinds) (z ∷ zs) e =
+    let p = both (fits ver domains kind z) (all_fit ver domains kinds zs) e in
+    ap (λ b. cond b (first_out_of_range ver domains (which + 1) kinds zs) (Some which)) p.0 ∙ inside_if_fit ver domains (which + 1) kinds zs p.1
 
-pub fit_if_inside : (ver : Version) (which : ℕ) (kinds : List Operand) (zs : List ℤ) → first_out_of_range ver which kinds zs ≡ None → all_fit ver kinds zs ≡ true
-fit_if_inside ver which [] zs e = refl
-fit_if_inside ver which (kind ∷ kinds) [] e = refl
-fit_if_inside ver which (kind ∷ kinds) (z ∷ zs) e =
-    let p = passed (fits ver kind z) (first_out_of_range ver (which + 1) kinds zs) which e in
-    ap (λ b. b && all_fit ver kinds zs) p.0 ∙ fit_if_inside ver (which + 1) kinds zs p.1
+pub fit_if_inside : (ver : Version) (domains : ℕ) (which : ℕ) (kinds : List Operand) (zs : List ℤ) → first_out_of_range ver domains which kinds zs ≡ None → all_fit ver domains kinds zs ≡ true
+fit_if_inside ver domains which [] zs e = refl
+fit_if_inside ver domains which (kind ∷ kinds) [] e = refl
+fit_if_inside ver domains which (kind ∷ kinds) (z ∷ zs) e =
+    let p = passed (fits ver domains kind z) (first_out_of_range ver domains (which + 1) kinds zs) which e in
+    ap (λ b. b && all_fit ver domains kinds zs) p.0 ∙ fit_if_inside ver domains (which + 1) kinds zs p.1

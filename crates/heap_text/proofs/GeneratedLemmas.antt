@@ -1,6 +1,7 @@
 -- The generator's script is within the limits of the format.
-use Rattle.heap_text.specs.declared.version.Version.TheVariants.{One}
-use Rattle.std.proofs.Common.{◌≡◌, ℕ, ◌+◌, ◌-◌, ◌*◌, ◌/◌, ◌%◌, ◌≤◌, ◌<◌, zero, suc, pos, List, [], ◌∷◌, ◌++◌, map, length, replicate, Bool, true, false, cond, ◌&&◌, refl, ap, sym, ◌∙◌, subst, arith, sum_by}
+use Rattle.heap_text.specs.declared.version.Version.{Version}
+use Rattle.heap_text.specs.declared.version.Version.TheVariants.{One, Two, Three}
+use Rattle.std.proofs.Common.{◌≡◌, ℕ, ◌+◌, ◌-◌, ◌*◌, ◌/◌, ◌%◌, ◌≤◌, ◌<◌, zero, suc, pos, List, [], ◌∷◌, ◌++◌, map, length, replicate, Bool, true, false, cond, ◌&&◌, refl, ap, sym, ◌∙◌, subst, arith, lit≤, sum_by}
 use Rattle.std.specs.Prelude.{◌==◌}
 use Rattle.std.specs.List.{list_all, range_with_len}
 use Rattle.std.proofs.Math.Nat.{suc-mul, mul-le-mul_right}
@@ -11,62 +12,64 @@ use Rattle.std.proofs.lemmas.Bool.Decides.{nat_tests}
 use Rattle.std.proofs.lemmas.Int.{ints}
 use Rattle.heap_model.specs.declared.command.Command.{Command}
 use Rattle.heap_model.specs.declared.command.Command.TheVariants.{PutInt, Alloc, Load, Store, Finalise, FinaliseLast}
-use Rattle.heap_text.specs.Forms.{is_writable}
+use Rattle.heap_text.specs.Forms.{version_number, is_writable}
+use Rattle.heap_text.specs.Spawning.{start}
 use Rattle.heap_text.specs.Generated.{chain_row, ephemeron_row, collection_row, row_of, command_at, section_of, generated}
 use Rattle.heap_text.specs.Spelling.{spelling, IsWritten, Spells}
 use Rattle.heap_text.proofs.ScriptLemmas.{total-cons}
+use Rattle.heap_text.proofs.PlaceLemmas.{first_in_order}
 use Rattle.heap_text.proofs.LengthLemmas.{length-spelling}
 
 -- one of two commands
-chosen : (t : Bool) (a b : Command) → is_writable One a ≡ true → is_writable One b ≡ true → is_writable One (cond t a b) ≡ true
-chosen true a b e f = e
-chosen false a b e f = f
+chosen : (run : ℕ) (t : Bool) (a b : Command) → is_writable One run a ≡ true → is_writable One run b ≡ true → is_writable One run (cond t a b) ≡ true
+chosen run true a b e f = e
+chosen run false a b e f = f
 
-chain_writable : (j : ℕ) → is_writable One (chain_row j) ≡ true
-chain_writable j = chosen (j % 20 == 0) _ _ refl refl
+chain_writable : (run : ℕ) (j : ℕ) → is_writable One run (chain_row j) ≡ true
+chain_writable run j = chosen run (j % 20 == 0) _ _ refl refl
 
-finalise_writable : (x : ℕ) → x ≤ 65535 → is_writable One (Finalise 1 x 7) ≡ true
-finalise_writable x h = grind (arith, ints, nat_tests)
+finalise_writable : (run : ℕ) (x : ℕ) → x ≤ 65535 → is_writable One run (Finalise 1 x 7) ≡ true
+finalise_writable run x h = grind (arith, ints, nat_tests)
 
-finalise_last_writable : (x : ℕ) → x ≤ 65535 → is_writable One (FinaliseLast 1 x) ≡ true
-finalise_last_writable x h = grind (arith, ints, nat_tests)
+finalise_last_writable : (run : ℕ) (x : ℕ) → x ≤ 65535 → is_writable One run (FinaliseLast 1 x) ≡ true
+finalise_last_writable run x h = grind (arith, ints, nat_tests)
 
-ephemeron_writable : (j : ℕ) → j ≤ 65535 → is_writable One (ephemeron_row j) ≡ true
-ephemeron_writable j h =
-    chosen (j % 8 == 0) _ _ refl
-    (chosen (j % 8 == 1) _ _ refl
-    (chosen (j % 8 == 2) _ _ refl
-    (chosen (j % 8 == 3) _ _ (finalise_last_writable j h)
-    (chosen (j % 8 == 4) _ _ refl
-    (chosen (j % 8 == 5) _ _ (finalise_writable j h)
-    (chosen (j % 8 == 6) _ _ refl refl))))))
+ephemeron_writable : (run : ℕ) (j : ℕ) → j ≤ 65535 → is_writable One run (ephemeron_row j) ≡ true
+ephemeron_writable run j h =
+    chosen run (j % 8 == 0) _ _ refl
+    (chosen run (j % 8 == 1) _ _ refl
+    (chosen run (j % 8 == 2) _ _ refl
+    (chosen run (j % 8 == 3) _ _ (finalise_last_writable run j h)
+    (chosen run (j % 8 == 4) _ _ refl
+    (chosen run (j % 8 == 5) _ _ (finalise_writable run j h)
+    (chosen run (j % 8 == 6) _ _ refl refl))))))
 
-collection_writable : (j : ℕ) → is_writable One (collection_row j) ≡ true
-collection_writable j = chosen (j % 50 == 24) _ _ refl (chosen (j % 50 == 49) _ _ refl refl)
+collection_writable : (run : ℕ) (j : ℕ) → is_writable One run (collection_row j) ≡ true
+collection_writable run j = chosen run (j % 50 == 24) _ _ refl (chosen run (j % 50 == 49) _ _ refl refl)
 
-alloc_writable : (tag fields : ℕ) → tag ≤ 245 → 1 ≤ fields → fields ≤ 126 → is_writable One (Alloc 1 tag fields) ≡ true
-alloc_writable tag fields t l h = grind (arith, ints, nat_tests)
+alloc_writable : (run : ℕ) (tag fields : ℕ) → tag ≤ 245 → 1 ≤ fields → fields ≤ 126 → is_writable One run (Alloc 1 tag fields) ≡ true
+alloc_writable run tag fields t l h = grind (arith, ints, nat_tests)
 
-int_writable : (v : ℕ) → v ≤ 4611686018427387903 → is_writable One (PutInt 2 (pos v)) ≡ true
-int_writable v h = grind (arith, ints, nat_tests)
+int_writable : (run : ℕ) (v : ℕ) → v ≤ 4611686018427387903 → is_writable One run (PutInt 2 (pos v)) ≡ true
+int_writable run v h = grind (arith, ints, nat_tests)
 
-store_writable : (d : ℕ) → d ≤ 1023 → is_writable One (Store 0 d 1) ≡ true
-store_writable d h = grind (arith, ints, nat_tests)
+store_writable : (run : ℕ) (d : ℕ) → d ≤ 1023 → is_writable One run (Store 0 d 1) ≡ true
+store_writable run d h = grind (arith, ints, nat_tests)
 
-load_writable : (d : ℕ) → d ≤ 1023 → is_writable One (Load 4 0 d) ≡ true
-load_writable d h = grind (arith, ints, nat_tests)
+load_writable : (run : ℕ) (d : ℕ) → d ≤ 1023 → is_writable One run (Load 4 0 d) ≡ true
+load_writable run d h = grind (arith, ints, nat_tests)
 
-row_writable : (base d j p : ℕ) → base ≤ 1000000 → d < 8 → j ≤ 20000 → is_writable One (row_of base d j p) ≡ true
-row_writable base d j p b n h =
-    chosen (p == 0) _ _ (alloc_writable (j % 246) (2 + (base + j) % 125) (omega arith) (omega arith) (omega arith))
-    (chosen (p == 1) _ _ (int_writable (base + 3 * j + d) (omega arith))
-    (chosen (p == 2) _ _ refl
-    (chosen (p == 3) _ _ (chain_writable j)
-    (chosen (p == 4) _ _ refl
-    (chosen (p == 5) _ _ (store_writable d (omega arith))
-    (chosen (p == 6) _ _ (load_writable d (omega arith))
-    (chosen (p == 7) _ _ refl
-    (chosen (p == 8) _ _ (ephemeron_writable j (omega arith)) (collection_writable j)))))))))
+row_writable : (run : ℕ) (base d j p : ℕ) → base ≤ 1000000 → d < 8 → j ≤ 20000 → is_writable One run (row_of base d j p) ≡ true
+row_writable run base d j p b n h =
+    chosen run (p == 0) _ _ (alloc_writable run (j % 246) (2 + (base + j) % 125) (omega arith) (omega arith) (omega arith))
+    (chosen run (p == 1) _ _ (int_writable run (base + 3 * j + d) (omega arith))
+    (chosen run (p == 2) _ _ refl
+    (chosen run (p == 3) _ _ (chain_writable run j)
+    (chosen run (p == 4) _ _ refl
+    (chosen run (p == 5) _ _ (store_writable run d (omega arith))
+    (chosen run (p == 6) _ _ (load_writable run d (omega arith))
+    (chosen run (p == 7) _ _ refl
+    (chosen run (p == 8) _ _ (ephemeron_writable run j (omega arith)) (collection_writable run j)))))))))
 
 -- a test that all numbers of a range pass
 all-range : (test : ℕ → Bool) (a n : ℕ) → ((k : ℕ) → k < a + n → test k ≡ true) → list_all test (range_with_len a n) ≡ true
@@ -74,10 +77,10 @@ all-range test a zero passes = refl
 all-range test a (suc n) passes =
     ap (λ b. b && list_all test (range_with_len (a + 1) n)) (passes a (omega arith)) ∙ all-range test (a + 1) n (λ k h. passes k (omega arith))
 
-section_writable : (base commands d : ℕ) → base ≤ 1000000 → d < 8 → commands ≤ 200000 → list_all (is_writable One) (section_of base commands d) ≡ true
-section_writable base commands d b n h =
-    list_all-map (is_writable One) (command_at base d) (range_with_len 0 commands)
-    ∙ all-range (λ k. is_writable One (command_at base d k)) 0 commands (λ k below. row_writable base d (k / 10) (k % 10) b n (omega arith))
+section_writable : (run : ℕ) (base commands d : ℕ) → base ≤ 1000000 → d < 8 → commands ≤ 200000 → list_all (is_writable One run) (section_of base commands d) ≡ true
+section_writable run base commands d b n h =
+    list_all-map (is_writable One run) (command_at base d) (range_with_len 0 commands)
+    ∙ all-range (λ k. is_writable One run (command_at base d k)) 0 commands (λ k below. row_writable run base d (k / 10) (k % 10) b n (omega arith))
 
 -- so many commands for each section
 total-sections : (base commands a n : ℕ) → sum_by length (map (section_of base commands) (range_with_len a n)) ≡ n * commands
@@ -111,8 +114,9 @@ all_written base domains commands b some few room =
     record {
       few_sections = omega (arith, length-map-range_with_len (section_of base commands) 0 domains);
       few_commands = omega (arith, total-sections base commands 0 domains);
-      writable = list_all-map (list_all (is_writable One)) (section_of base commands) (range_with_len 0 domains)
-          ∙ all-range (λ d. list_all (is_writable One) (section_of base commands d)) 0 domains (λ d below. section_writable base commands d b (omega arith) section);
+      writable = list_all-map (list_all (is_writable One domains)) (section_of base commands) (range_with_len 0 domains)
+          ∙ all-range (λ d. list_all (is_writable One domains) (section_of base commands d)) 0 domains (λ d below. section_writable domains base commands d b (omega arith) section);
+      in_order = first_in_order start (generated base domains commands);
     }
 
 pub generated_written : (base domains commands : ℕ) (script : List (List Command)) → base ≤ 1000000 → 1 ≤ domains → domains ≤ 8 → domains * commands ≤ 200000 → script ≡ generated base domains commands → IsWritten One domains script
@@ -124,10 +128,16 @@ none_empty domains sections e =
     let none : 0 ≡ domains - length sections = omega arith in
     sym (append-nil sections) ∙ ap (λ n. sections ++ replicate n []) none
 
-pub generated_spelled : (base domains commands : ℕ) (script : List (List Command)) → base ≤ 1000000 → 1 ≤ domains → domains ≤ 8 → domains * commands ≤ 200000 → script ≡ generated base domains commands → Spells domains (record { version = One; sections = script }) (spelling One script)
-generated_spelled base domains commands script b some few room e =
+oldest : (newest : Version) → 1 ≤ version_number newest
+oldest One = lit≤ tt
+oldest Two = lit≤ tt
+oldest Three = lit≤ tt
+
+pub generated_spelled : (newest : Version) (base domains commands : ℕ) (script : List (List Command)) → base ≤ 1000000 → 1 ≤ domains → domains ≤ 8 → domains * commands ≤ 200000 → script ≡ generated base domains commands → Spells newest domains (record { version = One; sections = script }) (spelling One script)
+generated_spelled newest base domains commands script b some few room e =
     let is_written = generated_written base domains commands script b some few room e in
     record {
+      is_read = oldest newest;
       written = script;
       is_written = is_written;
       bytes_are = refl;

@@ -3,6 +3,7 @@ pub mod ScriptLemmas
 pub mod NumberLemmas
 pub mod RangeLemmas
 pub mod DecimalLemmas
+pub mod PlaceLemmas
 pub mod TextLemmas
 pub mod FrontLemmas
 pub mod FormLemmas
@@ -16,3 +17,5 @@ pub mod AnswerLemmas
 pub mod LengthLemmas
 pub mod GeneratedLemmas
 pub mod LineLemmas
+pub mod HeadingLemmas
+pub mod SpawnRows

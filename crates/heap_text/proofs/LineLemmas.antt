@@ -8,13 +8,14 @@ use Rattle.heap_model.specs.declared.command.Command.{Command}
 use Rattle.heap_text.specs.declared.form.Operand.{Operand}
 use Rattle.heap_text.specs.declared.form.Word.{Word}
 use Rattle.heap_text.specs.declared.fault.ScriptFault.{ScriptFault}
-use Rattle.heap_text.specs.declared.fault.ScriptFault.TheVariants.{Range}
+use Rattle.heap_text.specs.declared.fault.ScriptFault.TheVariants.{Range, Spawn}
 use Rattle.heap_text.specs.Number.{clipped, counted_numbers}
 use Rattle.heap_text.specs.Split.{split_at_mark, first_text, texts_behind, numbers_behind}
 use Rattle.heap_text.specs.Forms.{form, made, word_of}
 use Rattle.heap_text.specs.Script.{with_command}
-use Rattle.heap_text.specs.Faults.{LineShape, heading, command, neither, heading_shape, command_shape, row_shape, shape_of_texts, line_shape, texts, first_out_of_range, fault_of_shape}
-use Rattle.heap_text.specs.Steps.{said_with, line_said, row_said, heading_said, fault_of_said, IsHeading, TakesSaid}
+use Rattle.heap_text.specs.Spawning.{Place, place_in, may_follow}
+use Rattle.heap_text.specs.Faults.{LineShape, heading, command, neither, heading_shape, command_shape, row_shape, shape_of_texts, line_shape, texts, first_out_of_range, or_else, order_fault, fault_of_shape}
+use Rattle.heap_text.specs.Steps.{said_with, line_said, row_said, heading_said, fault_of_said, IsHeading, Says, TakesSaid}
 use Rattle.heap_text.proofs.RangeLemmas.{first_out_of_range-clipped, map-clipped_kept}
 use Rattle.heap_text.proofs.TextLemmas.{counted_length}
 use Rattle.heap_text.proofs.NumberLemmas.{with_text, counted_in, left_with, texts_are}
@@ -25,10 +26,13 @@ chosen true b x y z e f = cc
 chosen false true x y z e f = cc
 chosen false false x y z e f = refl
 
--- a command with no fault but its ranges
-pub ranges_alone : (ver : Version) (domains line headings commands : ℕ) (w : Word) (zs : List ℤ) → headings ≢ 0 → commands < 200000 → fault_of_shape ver domains line headings commands (command w zs) ≡ option_map (Range line) (first_out_of_range ver 1 (form w).operands zs)
-ranges_alone ver domains line headings commands w zs some room =
-    chosen (headings == 0) (nat_le 200000 commands) _ _ _ (grind (arith, nat_tests)) (grind (arith, nat_tests))
+-- what is wrong with a command but for its place: the ranges, and then the order of spawns
+abbrev pub ranges_and_order : Version → ℕ → ℕ → Place → Word → List ℤ → Option ScriptFault
+ranges_and_order ver domains line p w zs = or_else (option_map (Range line) (first_out_of_range ver domains 1 (form w).operands zs)) (order_fault (may_follow ver p (made w zs)) line)
+
+pub ranges_alone : (ver : Version) (domains line : ℕ) (p : Place) (w : Word) (zs : List ℤ) → p.headings ≢ 0 → p.commands < 200000 → fault_of_shape ver domains line p (command w zs) ≡ ranges_and_order ver domains line p w zs
+ranges_alone ver domains line p w zs some room =
+    chosen (p.headings == 0) (nat_le 200000 p.commands) _ _ _ (grind (arith, nat_tests)) (grind (arith, nat_tests))
 
 -- what the numbers of a row, or of a heading, and the texts of a line say, with what is left
 abbrev Said : Type 0
@@ -68,37 +72,59 @@ row_found (Some p) ns left e =
     (p.0, ap (λ (q : List ℤ × List ℕ). Some (p.0, q.1)) (sym same), ap (λ (q : List ℤ × List ℕ). q.0) same)
 
 -- the first number of a command that is out of range
-pub range_read : (ver : Version) (domains line headings commands : ℕ) (w : Word) (bytes : List ℕ) (kinds : List Operand) (ns : List ℤ) (left : List ℕ) (which : ℕ) → kinds ≡ (form w).operands
-    → Some (ns, left) ≡ clipped_row (numbers_behind (length kinds) bytes) → headings ≢ 0 → commands < 200000 → Some which ≡ first_out_of_range ver 1 kinds ns
-    → fault_of_said ver domains line headings commands (row_said w bytes) ≡ Some (Range line which)
-range_read ver domains line headings commands w bytes kinds ns left which k e some room outside =
+pub range_read : (ver : Version) (domains line : ℕ) (p : Place) (w : Word) (bytes : List ℕ) (kinds : List Operand) (ns : List ℤ) (left : List ℕ) (which : ℕ) → kinds ≡ (form w).operands
+    → Some (ns, left) ≡ clipped_row (numbers_behind (length kinds) bytes) → p.headings ≢ 0 → p.commands < 200000 → Some which ≡ first_out_of_range ver domains 1 kinds ns
+    → fault_of_said ver domains line p (row_said w bytes) ≡ Some (Range line which)
+range_read ver domains line p w bytes kinds ns left which k e some room outside =
     let r = row_found (numbers_behind (length kinds) bytes) ns left e in
     let said = ap (λ x. rows w (numbers_behind (length x) bytes)) (sym k) ∙ ap (rows w) r.1 in
-    let found = outside ∙ ap (first_out_of_range ver 1 kinds) r.2 ∙ first_out_of_range-clipped ver 1 kinds r.0 ∙ ap (λ x. first_out_of_range ver 1 x r.0) k in
-    ap (fault_of_said ver domains line headings commands) said ∙ ranges_alone ver domains line headings commands w r.0 some room ∙ ap (option_map (Range line)) (sym found)
+    let found = outside ∙ ap (first_out_of_range ver domains 1 kinds) r.2 ∙ first_out_of_range-clipped ver domains 1 kinds r.0 ∙ ap (λ x. first_out_of_range ver domains 1 x r.0) k in
+    ap (fault_of_said ver domains line p) said ∙ ranges_alone ver domains line p w r.0 some room ∙ ap (λ o. or_else (option_map (Range line) o) (order_fault (may_follow ver p (made w r.0)) line)) (sym found)
+
+-- a command that is read
+pub command_read : (ver : Version) (domains : ℕ) (w : Word) (bytes : List ℕ) (kinds : List Operand) (all : List ℤ) (left : List ℕ) (old : List (List Command)) (c : Command) → kinds ≡ (form w).operands → length all ≡ 4
+    → Some (take (length kinds) all, left) ≡ clipped_row (numbers_behind (length kinds) bytes) → length old ≢ 0 → sum_by length old < 200000 → None ≡ first_out_of_range ver domains 1 kinds (take (length kinds) all)
+    → c ≡ made w all → Says ver domains (row_said w bytes) left old w c
+command_read ver domains w bytes kinds all left old c k four e some room outside is =
+    let r = row_found (numbers_behind (length kinds) bytes) (take (length kinds) all) left e in
+    let fits = sym (outside ∙ ap (first_out_of_range ver domains 1 kinds) r.2 ∙ first_out_of_range-clipped ver domains 1 kinds r.0 ∙ ap (λ x. first_out_of_range ver domains 1 x r.0) k) in
+    let counted : length r.0 ≡ length (form w).operands = row_length (length kinds) bytes r.0 left r.1 ∙ ap length k in
+    let kept = r.2 ∙ map-clipped_kept ver domains 1 (form w).operands r.0 counted fits in
+    record {
+      numbers = r.0;
+      is_said = ap (λ x. rows w (numbers_behind (length x) bytes)) (sym k) ∙ ap (rows w) r.1;
+      in_ranges = fits;
+      begun = omega arith;
+      room = room;
+      is = is ∙ sym (made_front w all four) ∙ ap (λ x. made w (take (length x) all)) (sym k) ∙ ap (made w) kept;
+    }
 
 -- a command that is added
-pub command_read : (ver : Version) (domains : ℕ) (w : Word) (bytes : List ℕ) (kinds : List Operand) (all : List ℤ) (left : List ℕ) (old new : List (List Command)) → kinds ≡ (form w).operands → length all ≡ 4
-    → Some (take (length kinds) all, left) ≡ clipped_row (numbers_behind (length kinds) bytes) → length old ≢ 0 → sum_by length old < 200000 → None ≡ first_out_of_range ver 1 kinds (take (length kinds) all)
-    → new ≡ with_command old (made w all) → TakesSaid ver domains (row_said w bytes) left old new
-command_read ver domains w bytes kinds all left old new k four e some room outside pushed =
-    let r = row_found (numbers_behind (length kinds) bytes) (take (length kinds) all) left e in
-    let fits = sym (outside ∙ ap (first_out_of_range ver 1 kinds) r.2 ∙ first_out_of_range-clipped ver 1 kinds r.0 ∙ ap (λ x. first_out_of_range ver 1 x r.0) k) in
-    let counted : length r.0 ≡ length (form w).operands = row_length (length kinds) bytes r.0 left r.1 ∙ ap length k in
-    let kept = r.2 ∙ map-clipped_kept ver 1 (form w).operands r.0 counted fits in
-    record {
-      shape = command w r.0;
-      is_said = ap (λ x. rows w (numbers_behind (length x) bytes)) (sym k) ∙ ap (rows w) r.1;
-      takes = inr (record {
-        word = w;
-        numbers = r.0;
-        is_command = refl;
-        in_ranges = fits;
-        begun = omega arith;
-        room = room;
-        sections = pushed ∙ ap (with_command old) (sym (made_front w all four) ∙ ap (λ x. made w (take (length x) all)) (sym k) ∙ ap (made w) kept);
-      });
-    }
+pub command_added : (ver : Version) (domains : ℕ) (said : Option (LineShape × List ℕ)) (left : List ℕ) (old new : List (List Command)) (w : Word) (c : Command) → Says ver domains said left old w c → may_follow ver (place_in old) c ≡ true
+    → new ≡ with_command old c → TakesSaid ver domains said left old new
+command_added ver domains said left old new w c s in_order pushed = record {
+  shape = command w s.numbers;
+  is_said = s.is_said;
+  takes = inr (record {
+    word = w;
+    numbers = s.numbers;
+    is_command = refl;
+    in_ranges = s.in_ranges;
+    begun = s.begun;
+    room = s.room;
+    in_order = ap (may_follow ver (place_in old)) (sym s.is) ∙ in_order;
+    sections = pushed ∙ ap (with_command old) s.is;
+  });
+}
+
+-- a command that is out of the order of spawns
+pub spawn_read : (ver : Version) (domains line : ℕ) (said : Option (LineShape × List ℕ)) (left : List ℕ) (old : List (List Command)) (w : Word) (c : Command) → Says ver domains said left old w c → may_follow ver (place_in old) c ≡ false
+    → fault_of_said ver domains line (place_in old) said ≡ Some (Spawn line)
+spawn_read ver domains line said left old w c s out =
+    let some : (place_in old).headings ≢ 0 = omega (arith, s.begun) in
+    ap (fault_of_said ver domains line (place_in old)) s.is_said ∙ ranges_alone ver domains line (place_in old) w s.numbers some s.room
+    ∙ ap (λ o. or_else (option_map (Range line) o) (order_fault (may_follow ver (place_in old) (made w s.numbers)) line)) s.in_ranges
+    ∙ ap (λ b. order_fault b line) (ap (may_follow ver (place_in old)) (sym s.is) ∙ out)
 
 -- the number of a heading
 heading_first : (zs : List ℤ) (left : List ℕ) → length zs ≡ 1 → IsHeading (said_with (heading_shape (Some zs)) left) (Some (slice_index_or (map clipped zs) 0 (pos 0), left))
@@ -194,7 +220,7 @@ pub said_line : (ver : Version) (bytes : List ℕ) (shape : LineShape) (left : L
 said_line ver bytes shape left e = said_in ver (split_at_mark 10 bytes) shape left e
 
 -- the fault of a line that has a line feed
-pub fault_with : (ver : Version) (domains line headings commands : ℕ) (s : LineShape) (left : List ℕ) → fault_of_said ver domains line headings commands (said_with s left) ≡ fault_of_shape ver domains line headings commands s
-fault_with ver domains line headings commands (heading z) left = refl
-fault_with ver domains line headings commands (command w zs) left = refl
-fault_with ver domains line headings commands neither left = refl
+pub fault_with : (ver : Version) (domains line : ℕ) (p : Place) (s : LineShape) (left : List ℕ) → fault_of_said ver domains line p (said_with s left) ≡ fault_of_shape ver domains line p s
+fault_with ver domains line p (heading z) left = refl
+fault_with ver domains line p (command w zs) left = refl
+fault_with ver domains line p neither left = refl

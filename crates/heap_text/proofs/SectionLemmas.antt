@@ -1,6 +1,6 @@
 -- The lines of a script: how they grow by a heading and by a command, and how the script's text is split into them.
 use Rattle.heap_text.specs.declared.version.Version.{Version}
-use Rattle.heap_text.specs.declared.version.Version.TheVariants.{One, Two}
+use Rattle.heap_text.specs.declared.version.Version.TheVariants.{One, Two, Three}
 use Rattle.std.proofs.Common.{◌≡◌, ℕ, ◌+◌, ◌<◌, ◌^◌, List, [], ◌∷◌, ◌++◌, map, length, length-append, true, ◌&&◌, refl, ap, sym, ◌∙◌, arith, append_assoc, sum_by}
 use Rattle.std.specs.Prelude.{flat_map, ◌==◌}
 use Rattle.std.specs.List.{list_all, slice_split}
@@ -11,10 +11,12 @@ use Rattle.heap_model.specs.declared.command.Command.{Command}
 use Rattle.heap_model.specs.Output.{line}
 use Rattle.heap_text.specs.Forms.{is_writable, first_line}
 use Rattle.heap_text.specs.Script.{with_command}
+use Rattle.heap_text.specs.Spawning.{start, place_in, may_begin, may_follow, sections_follow}
 use Rattle.heap_text.specs.Spelling.{command_text, heading_text, section_lines, lines_from, script_lines, spelling, IsWritten}
 use Rattle.heap_text.proofs.DecimalLemmas.{is_free}
 use Rattle.heap_text.proofs.TextLemmas.{split-free}
 use Rattle.heap_text.proofs.ScriptLemmas.{total-with_command, total-cons}
+use Rattle.heap_text.proofs.PlaceLemmas.{opened_in_order, called_in_order}
 use Rattle.heap_text.proofs.ShapeLemmas.{written, command_without_line_feed, heading_without_line_feed}
 
 -- the texts of commands, one more at the end
@@ -65,51 +67,52 @@ free_append (a ∷ ks) bs e f =
     let p = and_parts (is_free 10 a) (list_all (is_free 10) ks) e in
     ap (λ b. b && list_all (is_free 10) (ks ++ bs)) p.0 ∙ free_append ks bs p.1 f
 
-commands_free : (ver : Version) (cs : List Command) → list_all (is_writable ver) cs ≡ true → list_all (is_free 10) (map command_text cs) ≡ true
-commands_free ver [] e = refl
-commands_free ver (c ∷ cs) e =
-    let p = and_parts (is_writable ver c) (list_all (is_writable ver) cs) e in
-    ap (λ b. b && list_all (is_free 10) (map command_text cs)) (command_without_line_feed ver c (written ver c p.0)) ∙ commands_free ver cs p.1
+commands_free : (ver : Version) (domains : ℕ) (cs : List Command) → list_all (is_writable ver domains) cs ≡ true → list_all (is_free 10) (map command_text cs) ≡ true
+commands_free ver domains [] e = refl
+commands_free ver domains (c ∷ cs) e =
+    let p = and_parts (is_writable ver domains c) (list_all (is_writable ver domains) cs) e in
+    ap (λ b. b && list_all (is_free 10) (map command_text cs)) (command_without_line_feed ver domains c (written ver domains c p.0)) ∙ commands_free ver domains cs p.1
 
-lines_free : (ver : Version) (n : ℕ) (sections : List (List Command)) → n + length sections < 2 ^ 63 → list_all (list_all (is_writable ver)) sections ≡ true → list_all (is_free 10) (lines_from n sections) ≡ true
-lines_free ver n [] h e = refl
-lines_free ver n (cs ∷ sections) h e =
-    let p = and_parts (list_all (is_writable ver) cs) (list_all (list_all (is_writable ver)) sections) e in
+lines_free : (ver : Version) (domains : ℕ) (n : ℕ) (sections : List (List Command)) → n + length sections < 2 ^ 63 → list_all (list_all (is_writable ver domains)) sections ≡ true → list_all (is_free 10) (lines_from n sections) ≡ true
+lines_free ver domains n [] h e = refl
+lines_free ver domains n (cs ∷ sections) h e =
+    let p = and_parts (list_all (is_writable ver domains) cs) (list_all (list_all (is_writable ver domains)) sections) e in
     free_append (section_lines n cs) (lines_from (n + 1) sections)
-    (ap (λ b. b && list_all (is_free 10) (map command_text cs)) (heading_without_line_feed n (omega arith)) ∙ commands_free ver cs p.0)
-    (lines_free ver (n + 1) sections (omega arith) p.1)
+    (ap (λ b. b && list_all (is_free 10) (map command_text cs)) (heading_without_line_feed n (omega arith)) ∙ commands_free ver domains cs p.0)
+    (lines_free ver domains (n + 1) sections (omega arith) p.1)
 
 -- no line feed stands in the first line
 first_free : (ver : Version) → is_free 10 (first_line ver) ≡ true
 first_free One = refl
 first_free Two = refl
+first_free Three = refl
 
 -- the text of a script, and what stands behind it, is split into the script's lines and what stands behind them
 pub split_spelling : (ver : Version) (domains : ℕ) (sections : List (List Command)) (rest : List ℕ) → domains < 2 ^ 32 → IsWritten ver domains sections
     → slice_split (λ b. b == 10) (spelling ver sections ++ rest) ≡ script_lines ver sections ++ slice_split (λ b. b == 10) rest
-split_spelling ver domains sections rest small w = cut_lines (script_lines ver sections) rest (ap (λ b. b && list_all (is_free 10) (lines_from 0 sections)) (first_free ver) ∙ lines_free ver 0 sections (omega (arith, w.few_sections)) w.writable)
+split_spelling ver domains sections rest small w = cut_lines (script_lines ver sections) rest (ap (λ b. b && list_all (is_free 10) (lines_from 0 sections)) (first_free ver) ∙ lines_free ver domains 0 sections (omega (arith, w.few_sections)) w.writable)
 
 -- a section more, and a command more, are within the limits
-all-push : (ver : Version) (sections : List (List Command)) → list_all (list_all (is_writable ver)) sections ≡ true → list_all (list_all (is_writable ver)) (sections ++ [] ∷ []) ≡ true
-all-push ver [] e = refl
-all-push ver (cs ∷ sections) e =
-    let p = and_parts (list_all (is_writable ver) cs) (list_all (list_all (is_writable ver)) sections) e in
-    ap (λ b. b && list_all (list_all (is_writable ver)) (sections ++ [] ∷ [])) p.0 ∙ all-push ver sections p.1
+all-push : (ver : Version) (domains : ℕ) (sections : List (List Command)) → list_all (list_all (is_writable ver domains)) sections ≡ true → list_all (list_all (is_writable ver domains)) (sections ++ [] ∷ []) ≡ true
+all-push ver domains [] e = refl
+all-push ver domains (cs ∷ sections) e =
+    let p = and_parts (list_all (is_writable ver domains) cs) (list_all (list_all (is_writable ver domains)) sections) e in
+    ap (λ b. b && list_all (list_all (is_writable ver domains)) (sections ++ [] ∷ [])) p.0 ∙ all-push ver domains sections p.1
 
-one_more : (ver : Version) (cs : List Command) (c : Command) → list_all (is_writable ver) cs ≡ true → is_writable ver c ≡ true → list_all (is_writable ver) (cs ++ c ∷ []) ≡ true
-one_more ver [] c e f = ap (λ b. b && true) f
-one_more ver (x ∷ cs) c e f =
-    let p = and_parts (is_writable ver x) (list_all (is_writable ver) cs) e in
-    ap (λ b. b && list_all (is_writable ver) (cs ++ c ∷ [])) p.0 ∙ one_more ver cs c p.1 f
+one_more : (ver : Version) (domains : ℕ) (cs : List Command) (c : Command) → list_all (is_writable ver domains) cs ≡ true → is_writable ver domains c ≡ true → list_all (is_writable ver domains) (cs ++ c ∷ []) ≡ true
+one_more ver domains [] c e f = ap (λ b. b && true) f
+one_more ver domains (x ∷ cs) c e f =
+    let p = and_parts (is_writable ver domains x) (list_all (is_writable ver domains) cs) e in
+    ap (λ b. b && list_all (is_writable ver domains) (cs ++ c ∷ [])) p.0 ∙ one_more ver domains cs c p.1 f
 
-all-with_command : (ver : Version) (sections : List (List Command)) (c : Command) → list_all (list_all (is_writable ver)) sections ≡ true → is_writable ver c ≡ true → list_all (list_all (is_writable ver)) (with_command sections c) ≡ true
-all-with_command ver [] c e f = refl
-all-with_command ver (cs ∷ []) c e f =
-    let p = and_parts (list_all (is_writable ver) cs) true e in
-    ap (λ b. b && true) (one_more ver cs c p.0 f)
-all-with_command ver (cs ∷ next ∷ sections) c e f =
-    let p = and_parts (list_all (is_writable ver) cs) (list_all (list_all (is_writable ver)) (next ∷ sections)) e in
-    ap (λ b. b && list_all (list_all (is_writable ver)) (with_command (next ∷ sections) c)) p.0 ∙ all-with_command ver (next ∷ sections) c p.1 f
+all-with_command : (ver : Version) (domains : ℕ) (sections : List (List Command)) (c : Command) → list_all (list_all (is_writable ver domains)) sections ≡ true → is_writable ver domains c ≡ true → list_all (list_all (is_writable ver domains)) (with_command sections c) ≡ true
+all-with_command ver domains [] c e f = refl
+all-with_command ver domains (cs ∷ []) c e f =
+    let p = and_parts (list_all (is_writable ver domains) cs) true e in
+    ap (λ b. b && true) (one_more ver domains cs c p.0 f)
+all-with_command ver domains (cs ∷ next ∷ sections) c e f =
+    let p = and_parts (list_all (is_writable ver domains) cs) (list_all (list_all (is_writable ver domains)) (next ∷ sections)) e in
+    ap (λ b. b && list_all (list_all (is_writable ver domains)) (with_command (next ∷ sections) c)) p.0 ∙ all-with_command ver domains (next ∷ sections) c p.1 f
 
 length-with_command : (sections : List (List Command)) (c : Command) → length (with_command sections c) ≡ length sections
 length-with_command [] c = refl
@@ -126,27 +129,29 @@ pub record Grown (ver : Version) (domains : ℕ) (old new : List (List Command))
   pub lines : script_lines ver new ≡ script_lines ver old ++ text ∷ []
   pub spelled : spelling ver new ≡ spelling ver old ++ line text
 
-pub grown_by_heading : (ver : Version) (domains : ℕ) (old new : List (List Command)) (text : List ℕ) → IsWritten ver domains old → length old < domains → new ≡ old ++ [] ∷ [] → text ≡ heading_text (length old) → Grown ver domains old new text
-grown_by_heading ver domains old new text w room opened said =
+pub grown_by_heading : (ver : Version) (domains : ℕ) (old new : List (List Command)) (text : List ℕ) → IsWritten ver domains old → length old < domains → may_begin ver (place_in old) ≡ true → new ≡ old ++ [] ∷ [] → text ≡ heading_text (length old) → Grown ver domains old new text
+grown_by_heading ver domains old new text w room may opened said =
     let lines = ap (script_lines ver) opened ∙ lines-open ver old ∙ ap (λ t. script_lines ver old ++ t ∷ []) (sym said) in
     record {
       is_written = record {
         few_sections = omega (arith, ap length opened, length-append old ([] ∷ []));
         few_commands = omega (arith, ap (sum_by length) opened, total-push old, w.few_commands);
-        writable = ap (list_all (list_all (is_writable ver))) opened ∙ all-push ver old w.writable;
+        writable = ap (list_all (list_all (is_writable ver domains))) opened ∙ all-push ver domains old w.writable;
+        in_order = ap (sections_follow ver start) opened ∙ opened_in_order ver old w.in_order may;
       };
       lines = lines;
       spelled = spelling_grows ver old new text lines;
     }
 
-pub grown_by_command : (ver : Version) (domains : ℕ) (old new : List (List Command)) (c : Command) (text : List ℕ) → IsWritten ver domains old → 0 < length old → sum_by length old < 200000 → is_writable ver c ≡ true → new ≡ with_command old c → text ≡ command_text c → Grown ver domains old new text
-grown_by_command ver domains old new c text w some room fit pushed said =
+pub grown_by_command : (ver : Version) (domains : ℕ) (old new : List (List Command)) (c : Command) (text : List ℕ) → IsWritten ver domains old → 0 < length old → sum_by length old < 200000 → is_writable ver domains c ≡ true → may_follow ver (place_in old) c ≡ true → new ≡ with_command old c → text ≡ command_text c → Grown ver domains old new text
+grown_by_command ver domains old new c text w some room fit may pushed said =
     let lines = ap (script_lines ver) pushed ∙ lines-push ver old c some ∙ ap (λ t. script_lines ver old ++ t ∷ []) (sym said) in
     record {
       is_written = record {
         few_sections = omega (arith, ap length pushed, length-with_command old c, w.few_sections);
         few_commands = omega (arith, ap (sum_by length) pushed, total-with_command old c some);
-        writable = ap (list_all (list_all (is_writable ver))) pushed ∙ all-with_command ver old c w.writable fit;
+        writable = ap (list_all (list_all (is_writable ver domains))) pushed ∙ all-with_command ver domains old c w.writable fit;
+        in_order = ap (sections_follow ver start) pushed ∙ called_in_order ver old c some w.in_order may;
       };
       lines = lines;
       spelled = spelling_grows ver old new text lines;

@@ -26,26 +26,26 @@ row_said ver w zs built n small =
     ∙ ap (command_shape w) (counted-map (length (form w).operands) zs n small)
 
 -- a command of the grammar: its row, and its numbers are in their ranges
-pub record Written (ver : Version) (c : Command) : Type 0 where
+pub record Written (ver : Version) (domains : ℕ) (c : Command) : Type 0 where
   pub built : is_built ver (parts c).word ≡ true
-  pub inside : first_out_of_range ver 1 (form (parts c).word).operands (parts c).numbers ≡ None
+  pub inside : first_out_of_range ver domains 1 (form (parts c).word).operands (parts c).numbers ≡ None
   pub small : are_small (parts c).numbers ≡ true
 
-pub written : (ver : Version) (c : Command) → is_writable ver c ≡ true → Written ver c
-written ver c e =
-    let p = and_parts (is_built ver (parts c).word) (all_fit ver (form (parts c).word).operands (parts c).numbers) e in
-    let inside = inside_if_fit ver 1 (form (parts c).word).operands (parts c).numbers p.1 in
+pub written : (ver : Version) (domains : ℕ) (c : Command) → is_writable ver domains c ≡ true → Written ver domains c
+written ver domains c e =
+    let p = and_parts (is_built ver (parts c).word) (all_fit ver domains (form (parts c).word).operands (parts c).numbers) e in
+    let inside = inside_if_fit ver domains 1 (form (parts c).word).operands (parts c).numbers p.1 in
     record {
       built = p.0;
       inside = inside;
-      small = small_if_inside ver 1 (form (parts c).word).operands (parts c).numbers (parts_counted c) inside;
+      small = small_if_inside ver domains 1 (form (parts c).word).operands (parts c).numbers (parts_counted c) inside;
     }
 
-pub shape-command : (ver : Version) (c : Command) → Written ver c → line_shape ver (command_text c) ≡ command (parts c).word (parts c).numbers
-shape-command ver c w = row_said ver (parts c).word (parts c).numbers w.built (parts_counted c) w.small
+pub shape-command : (ver : Version) (domains : ℕ) (c : Command) → Written ver domains c → line_shape ver (command_text c) ≡ command (parts c).word (parts c).numbers
+shape-command ver domains c w = row_said ver (parts c).word (parts c).numbers w.built (parts_counted c) w.small
 
-pub command_without_line_feed : (ver : Version) (c : Command) → Written ver c → is_free 10 (command_text c) ≡ true
-command_without_line_feed ver c w = is_free-append 10 (form (parts c).word).text (spaced (parts c).numbers) (word_without_line_feed (parts c).word) (spaced_free (parts c).numbers w.small)
+pub command_without_line_feed : (ver : Version) (domains : ℕ) (c : Command) → Written ver domains c → is_free 10 (command_text c) ≡ true
+command_without_line_feed ver domains c w = is_free-append 10 (form (parts c).word).text (spaced (parts c).numbers) (word_without_line_feed (parts c).word) (spaced_free (parts c).numbers w.small)
 
 -- the heading's text is the word and one number
 heading_spaced : (n : ℕ) → heading_text n ≡ codes "domain" ++ spaced (pos n ∷ [])
@@ -116,27 +116,27 @@ pub heading_said : (ver : Version) (line : List ℕ) (n : ℕ) → n < 2 ^ 63 �
 heading_said ver line n h e = heading_of_texts ver line (texts line) n h refl e
 
 -- what is known of a line that says a command with numbers in their ranges
-pub record SaysCommand (ver : Version) (line : List ℕ) (c : Command) : Type 0 where
+pub record SaysCommand (ver : Version) (domains : ℕ) (line : List ℕ) (c : Command) : Type 0 where
   pub text : line ≡ command_text c
-  pub writable : is_writable ver c ≡ true
+  pub writable : is_writable ver domains c ≡ true
 
-command_of_texts : (ver : Version) (line : List ℕ) (ps : List (List ℕ)) (w : Word) (zs : List ℤ) → texts line ≡ ps → shape_of_texts ver ps ≡ command w zs → first_out_of_range ver 1 (form w).operands zs ≡ None → SaysCommand ver line (made w zs)
-command_of_texts ver line [] w zs same e inside = cc
-command_of_texts ver line (t ∷ ts) w zs same e inside =
+command_of_texts : (ver : Version) (domains : ℕ) (line : List ℕ) (ps : List (List ℕ)) (w : Word) (zs : List ℤ) → texts line ≡ ps → shape_of_texts ver ps ≡ command w zs → first_out_of_range ver domains 1 (form w).operands zs ≡ None → SaysCommand ver domains line (made w zs)
+command_of_texts ver domains line [] w zs same e inside = cc
+command_of_texts ver domains line (t ∷ ts) w zs same e inside =
     let p = command_by ver (bytes_eq t (codes "domain")) t ts w zs e in
     let row = word_read ver t w p.0 in
     let counted = counted_length (length (form w).operands) ts zs p.1 in
-    let numbers = counted_read (length (form w).operands) ts zs p.1 (small_if_inside ver 1 (form w).operands zs counted inside) in
+    let numbers = counted_read (length (form w).operands) ts zs p.1 (small_if_inside ver domains 1 (form w).operands zs counted inside) in
     let word = word_made w zs in
-    let kept = numbers_kept ver w zs counted inside in
+    let kept = numbers_kept ver domains w zs counted inside in
     let c = made w zs in
     record {
       text = row_read line (form w).text zs (same ∙ ap (λ x. x ∷ ts) row.0 ∙ ap (λ x. (form w).text ∷ x) numbers.0)
           ∙ ap (row_text w) (sym kept) ∙ ap (λ v. row_text v (parts c).numbers) (sym word);
-      writable = ap (λ v. is_built ver v && all_fit ver (form v).operands (parts c).numbers) word ∙ ap (λ ns. is_built ver w && all_fit ver (form w).operands ns) kept
-          ∙ ap (λ b. b && all_fit ver (form w).operands zs) row.1 ∙ fit_if_inside ver 1 (form w).operands zs inside;
+      writable = ap (λ v. is_built ver v && all_fit ver domains (form v).operands (parts c).numbers) word ∙ ap (λ ns. is_built ver w && all_fit ver domains (form w).operands ns) kept
+          ∙ ap (λ b. b && all_fit ver domains (form w).operands zs) row.1 ∙ fit_if_inside ver domains 1 (form w).operands zs inside;
     }
 
 -- a line that says a command is its text
-pub command_said : (ver : Version) (line : List ℕ) (w : Word) (zs : List ℤ) → line_shape ver line ≡ command w zs → first_out_of_range ver 1 (form w).operands zs ≡ None → SaysCommand ver line (made w zs)
-command_said ver line w zs e inside = command_of_texts ver line (texts line) w zs refl e inside
+pub command_said : (ver : Version) (domains : ℕ) (line : List ℕ) (w : Word) (zs : List ℤ) → line_shape ver line ≡ command w zs → first_out_of_range ver domains 1 (form w).operands zs ≡ None → SaysCommand ver domains line (made w zs)
+command_said ver domains line w zs e inside = command_of_texts ver domains line (texts line) w zs refl e inside

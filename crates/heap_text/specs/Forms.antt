@@ -1,27 +1,36 @@
 -- The table of commands: each command's word, the numbers of its line with their ranges, and how the command is made of them.
-use Rattle.std.specs.Prelude.{ℕ, ℤ, pos, unsigned_abs, Bool, true, ◌&&◌, is_some, min, List, [], ◌∷◌, map, slice_index_or, Option, find, codes, bytes_eq, int_le, neg_ℤ}
+use Rattle.std.specs.Prelude.{ℕ, ◌-◌, ℤ, pos, unsigned_abs, Bool, true, ◌&&◌, is_some, min, List, [], ◌∷◌, map, slice_index_or, Option, find, codes, bytes_eq, int_le, neg_ℤ}
 use Rattle.heap_model.specs.declared.command.Command.{Command}
 use Rattle.heap_model.specs.declared.command.Command.TheVariants.{PutInt, Copy, Forget, Alloc, AllocMaj, Load, Store, Raw, Cas, Ephe, SetKey, UnsetKey, GetKey, CheckKey, SetData, UnsetData, GetData, CheckData, Finalise, FinaliseLast, Poll, Minor, Major, FullMajor, Spawn, Argument, PutResult, Join}
 use Rattle.heap_text.specs.declared.form.Operand.{Operand}
 use Rattle.heap_text.specs.declared.form.Operand.TheVariants.{Register, Tag, RawTag, FieldCount, KeyCount, Index, FinaliserNumber, Integer, Section}
 use Rattle.heap_text.specs.declared.form.Word.{Word}
 use Rattle.heap_text.specs.declared.version.Version.{Version}
-use Rattle.heap_text.specs.declared.version.Version.TheVariants.{One, Two}
+use Rattle.heap_text.specs.declared.version.Version.TheVariants.{One, Two, Three}
 use Rattle.heap_text.specs.declared.form.Word.TheVariants as word
 
 -- the number of each version, and the first line of its scripts
 abbrev pub version_number : Version → ℕ
 version_number One = 1
 version_number Two = 2
+version_number Three = 3
 
 abbrev pub first_line : Version → List ℕ
 first_line One = codes "heap 1"
 first_line Two = codes "heap 2"
+first_line Three = codes "heap 3"
 
 -- the most fields that a block has in scripts of a version
 abbrev pub most_fields : Version → ℕ
 most_fields One = 126
 most_fields Two = 1022
+most_fields Three = 1022
+
+-- the greatest register that they name: spawn and join keep two for themselves
+abbrev pub last_register : Version → ℕ
+last_register One = 15
+last_register Two = 15
+last_register Three = 13
 
 -- the least number of each kind
 abbrev pub least : Operand → ℤ
@@ -31,21 +40,21 @@ least KeyCount = pos 1
 least Integer = neg_ℤ (pos 4611686018427387904)
 least _ = pos 0
 
--- the greatest number of each kind, in scripts of a version
-abbrev pub greatest : Version → Operand → ℤ
-greatest ver Register = pos 15
-greatest ver Tag = pos 245
-greatest ver RawTag = pos 255
-greatest ver FieldCount = pos (most_fields ver)
-greatest ver KeyCount = pos 8
-greatest ver Index = pos 1023
-greatest ver FinaliserNumber = pos 65535
-greatest ver Integer = pos 4611686018427387903
-greatest ver Section = pos 7
+-- the greatest number of each kind, in scripts of a version for a run with so many domains
+abbrev pub greatest : Version → ℕ → Operand → ℤ
+greatest ver domains Register = pos (last_register ver)
+greatest ver domains Tag = pos 245
+greatest ver domains RawTag = pos 255
+greatest ver domains FieldCount = pos (most_fields ver)
+greatest ver domains KeyCount = pos 8
+greatest ver domains Index = pos 1023
+greatest ver domains FinaliserNumber = pos 65535
+greatest ver domains Integer = pos 4611686018427387903
+greatest ver domains Section = pos (min 7 (domains - 1))
 
 -- whether a number is in the range of its kind
-abbrev pub fits : Version → Operand → ℤ → Bool
-fits ver kind z = int_le (least kind) z && int_le z (greatest ver kind)
+abbrev pub fits : Version → ℕ → Operand → ℤ → Bool
+fits ver domains kind z = int_le (least kind) z && int_le z (greatest ver domains kind)
 
 -- a row of the table
 pub record Form : Type 0 where
@@ -105,6 +114,7 @@ first_words = word.Int ∷ word.Move ∷ word.Drop ∷ word.Alloc ∷ word.Alloc
 abbrev pub built_words : Version → List Word
 built_words One = first_words
 built_words Two = word.Raw ∷ word.Cas ∷ first_words
+built_words Three = word.Raw ∷ word.Cas ∷ word.Spawn ∷ word.Argument ∷ word.Result ∷ word.Join ∷ first_words
 
 -- the row that a text is the word of, if it is one of the version
 abbrev pub word_of : Version → List ℕ → Option Word
@@ -158,12 +168,12 @@ abbrev pub is_built : Version → Word → Bool
 is_built ver w = is_some (word_of ver (form w).text)
 
 -- whether each number is in the range of its operand
-abbrev pub all_fit : Version → List Operand → List ℤ → Bool
-all_fit ver (kind ∷ kinds) (z ∷ zs) = fits ver kind z && all_fit ver kinds zs
-all_fit ver _ _ = true
+abbrev pub all_fit : Version → ℕ → List Operand → List ℤ → Bool
+all_fit ver domains (kind ∷ kinds) (z ∷ zs) = fits ver domains kind z && all_fit ver domains kinds zs
+all_fit ver domains _ _ = true
 
 -- whether a command is one of the grammar: its word is one of the version, and its numbers are in their ranges
-abbrev pub is_writable : Version → Command → Bool
-is_writable ver c =
+abbrev pub is_writable : Version → ℕ → Command → Bool
+is_writable ver domains c =
     let p = parts c in
-    is_built ver p.word && all_fit ver (form p.word).operands p.numbers
+    is_built ver p.word && all_fit ver domains (form p.word).operands p.numbers

@@ -1,6 +1,7 @@
 pub mod Number
 pub mod Forms
 pub mod Script
+pub mod Spawning
 pub mod Spelling
 pub mod Generated
 pub mod Faults

@@ -1,5 +1,5 @@
 -- A script: its version, and its sections.
-use Rattle.std.specs.Prelude.{List, [], ◌∷◌, ◌++◌}
+use Rattle.std.specs.Prelude.{ℕ, List, [], ◌∷◌, ◌++◌}
 use Rattle.heap_model.specs.declared.command.Command.{Command}
 use Rattle.heap_text.specs.declared.version.Version.{Version}
 
@@ -7,6 +7,11 @@ use Rattle.heap_text.specs.declared.version.Version.{Version}
 pub record Scripted : Type 0 where
   pub version : Version
   pub sections : List (List Command)
+
+-- a grammar as contracts see it: a version, and for how many domains a script is read
+pub record RunGrammar : Type 0 where
+  pub version : Version
+  pub domains : ℕ
 
 -- the sections with a command at the end of the last
 abbrev pub with_command : List (List Command) → Command → List (List Command)

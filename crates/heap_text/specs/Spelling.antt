@@ -9,7 +9,8 @@ use Rattle.heap_text.specs.declared.fault.ScriptFault.{ScriptFault}
 use Rattle.heap_text.specs.declared.fault.ScriptFault.TheVariants.{Memory}
 use Rattle.heap_text.specs.declared.version.Version.{Version}
 use Rattle.heap_text.specs.Script.{Scripted}
-use Rattle.heap_text.specs.Forms.{form, parts, first_line, is_writable}
+use Rattle.heap_text.specs.Forms.{form, parts, version_number, first_line, is_writable}
+use Rattle.heap_text.specs.Spawning.{start, sections_follow}
 
 -- a row with its numbers, as text: one space before each number
 abbrev pub row_text : Word → List ℤ → List ℕ
@@ -40,18 +41,20 @@ script_lines ver sections = first_line ver ∷ lines_from 0 sections
 abbrev pub spelling : Version → List (List Command) → List ℕ
 spelling ver sections = flat_map line (script_lines ver sections)
 
--- what has a spelling: a section for each of the first domains, with commands of the version's grammar
+-- what has a spelling: a section for each of the first domains, with commands of the version's grammar, and spawns and joins in order
 pub record IsWritten (ver : Version) (domains : ℕ) (sections : List (List Command)) : Type 0 where
   pub few_sections : length sections ≤ domains
   pub few_commands : sum_by length sections ≤ 200000
-  pub writable : list_all (list_all (is_writable ver)) sections ≡ true
+  pub writable : list_all (list_all (is_writable ver domains)) sections ≡ true
+  pub in_order : sections_follow ver start sections ≡ true
 
 -- a script as the run gets it: the sections that are written, and an empty one for each further domain
 abbrev pub with_empty : ℕ → List (List Command) → List (List Command)
 with_empty domains sections = sections ++ replicate (domains - length sections) []
 
--- the bytes spell this script for a run with so many domains
-pub record Spells (domains : ℕ) (script : Scripted) (bytes : List ℕ) : Type 0 where
+-- the bytes spell this script, whose version is at most the newest, for a run with so many domains
+pub record Spells (newest : Version) (domains : ℕ) (script : Scripted) (bytes : List ℕ) : Type 0 where
+  pub is_read : version_number script.version ≤ version_number newest
   pub written : List (List Command)
   pub is_written : IsWritten script.version domains written
   pub bytes_are : bytes ≡ spelling script.version written

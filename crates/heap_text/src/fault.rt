@@ -17,6 +17,10 @@ pub enum ScriptFault {
     TooLong { bytes: u64 },
     /// A command after as many as a script may have.
     TooMany { line: u32 },
+    /// A spawn of a section that isn't a later one or that was spawned before, a join of a section
+    /// that its own section hasn't spawned before it, or a section but the first that begins before
+    /// it is spawned.
+    Spawn { line: u32 },
     /// Memory ran out.
     Memory,
 }

@@ -1,5 +1,6 @@
 //! The generator of scripts.
 ghost use Rattle.std.specs.Prelude.{◌≡◌, ℕ, ◌≤◌, ◌<◌, ◌*◌, IfOk};
+ghost use Rattle.heap_text.specs.declared.version.Version.{Version as declared_version};
 ghost use Rattle.heap_text.specs.declared.version.Version.TheVariants.{One};
 ghost use Rattle.heap_text.specs.Generated.{chain_row, ephemeron_row, collection_row, command_at as command_of, section_of, generated};
 ghost use Rattle.heap_text.specs.Spelling.{spelling, Spells, IsWritten};
@@ -142,7 +143,7 @@ pub fn generate(alloc: Global, base: u32, domains: u32, commands: u32) -> Result
     // It is within the limits of the format.
     ensures written { IfOk result (λ s. IsWritten One domains s.sections) }
     // What it prints as is read as the same script.
-    ensures spelled { IfOk result (λ s. Spells domains s (spelling One s.sections)) }
+    ensures spelled { (newest : declared_version) → IfOk result (λ s. Spells newest domains s (spelling One s.sections)) }
 {
     let mut script = Script::new(alloc, Version::One);
     for domain in 0..domains {

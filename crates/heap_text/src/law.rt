@@ -2,6 +2,7 @@
 ghost use Rattle.std.specs.Prelude.{◌≡◌, ◌≢◌, ◌⊎◌, ℕ, ◌≤◌, ◌<◌, ◌^◌, List, length, take, map, pos, Some};
 ghost use Rattle.heap_text.specs.declared.fault.ScriptFault as declared_fault;
 ghost use Rattle.heap_text.specs.declared.fault.ScriptFault.TheVariants.{Memory};
+ghost use Rattle.heap_text.specs.declared.version.Version.{Version};
 ghost use Rattle.heap_text.specs.Script.{Scripted};
 ghost use Rattle.heap_text.specs.Spelling.{spelling, Spells};
 ghost use Rattle.heap_text.specs.Faults.{first_fault};
@@ -9,16 +10,16 @@ ghost use Rattle.heap_text.specs.Faults.{first_fault};
 /// A script that is printed gives its bytes again, up to the last section that is written, and no
 /// bytes are the spelling of two scripts. It does nothing when it runs.
 pub fn one_spelling()
-    ensures printed_again { (domains : ℕ) (script : Scripted) (bytes : List ℕ) → Spells domains script bytes
+    ensures printed_again { (newest : Version) (domains : ℕ) (script : Scripted) (bytes : List ℕ) → Spells newest domains script bytes
         → (written : ℕ) × (written ≤ length script.sections) × (bytes ≡ spelling script.version (take written script.sections)) }
-    ensures one_script { (domains : ℕ) (a b : Scripted) (bytes : List ℕ) → domains < 2 ^ 32
-        → Spells domains a bytes → Spells domains b bytes → a ≡ b }
+    ensures one_script { (newest : Version) (domains : ℕ) (a b : Scripted) (bytes : List ℕ) → domains < 2 ^ 32
+        → Spells newest domains a bytes → Spells newest domains b bytes → a ≡ b }
 {}
 
 /// All bytes are the spelling of a script, or have a first fault, which is no want of memory. So what a reader
 /// is to answer of bytes is said of all. It does nothing when it runs.
 pub fn spelled_or_faulty()
-    ensures { (domains : ℕ) (bytes : List ℕ) → domains < 2 ^ 32
-        → ((script : Scripted) × Spells domains script bytes)
-        ⊎ ((fault : declared_fault.ScriptFault) × (fault ≢ Memory) × (first_fault domains bytes ≡ Some fault)) }
+    ensures { (newest : Version) (domains : ℕ) (bytes : List ℕ) → domains < 2 ^ 32
+        → ((script : Scripted) × Spells newest domains script bytes)
+        ⊎ ((fault : declared_fault.ScriptFault) × (fault ≢ Memory) × (first_fault newest domains bytes ≡ Some fault)) }
 {}

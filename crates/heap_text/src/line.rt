@@ -1,29 +1,32 @@
 // Reading one line of a section.
-ghost use Rattle.std.specs.Prelude.{◌≡◌, ℕ, ℤ, List, ◌≤◌, ◌<◌, length, sum_by, drop, option_map, IfSome, IfOk, IfErr, OnOk};
-ghost use Rattle.heap_text.specs.declared.version.Version as declared_version;
-ghost use Rattle.heap_text.specs.Faults.{is_section as is_section_of, first_out_of_range as first_out_of_range_of, IsFaultUnlessMemory};
-ghost use Rattle.heap_text.specs.Steps.{heading_said, row_said, line_said, fault_of_said, IsHeading, TakesSaid};
+ghost use Rattle.std.specs.Prelude.{◌≡◌, ℤ, Bool, true, List, ℕ, ◌≤◌, ◌<◌, ◌^◌, length, drop, option_map, IfSome, IfOk, IfErr, OnOk};
+ghost use Rattle.heap_text.specs.Spawning.{place_in};
+ghost use Rattle.heap_text.specs.Faults.{first_out_of_range as first_out_of_range_of, IsFaultUnlessMemory};
+ghost use Rattle.heap_text.specs.Steps.{heading_said, row_said, line_said, fault_of_said, stands_anywhere as stands_anywhere_of, IsHeading, Says, TakesSaid, Knows};
 
 use crate::fault::ScriptFault;
 use crate::form::{Operand, Word};
+use crate::grammar::Grammar;
 use crate::number::row_at;
 use crate::script::Script;
-use crate::table::{common_word, fits, make, operands_of, search_word, text_of};
+use crate::spawns::Spawns;
+use crate::table::{common_word, make, operands_of, search_word, text_of};
 use crate::text::first_text;
-use crate::version::Version;
+use heap_model::command::Command;
 use std::alloc::Global;
 
 // The greatest count of commands of a script.
 const MAX_COMMANDS: u32 = 200_000;
 
 // The place of the first number outside the range of its operand, counted from 1.
-fn first_out_of_range(version: Version, kinds: &[Operand], numbers: &[i64]) -> Option<u32>
+#[inline(always)]
+fn first_out_of_range(grammar: &Grammar, kinds: &[Operand], numbers: &[i64]) -> Option<u32>
     requires few { length kinds.now ≤ 4 }
     requires counted { length numbers.now ≡ length kinds.now }
-    ensures { result ≡ first_out_of_range_of version 1 kinds.now numbers.now }
+    ensures { result ≡ first_out_of_range_of grammar.now.version grammar.now.domains 1 kinds.now numbers.now }
 {
     for (at, kind) in kinds.iter().enumerate() {
-        if !fits(version, *kind, numbers[at]) {
+        if !grammar.fits(*kind, numbers[at]) {
             return Some(at as u32 + 1);
         }
     }
@@ -40,60 +43,60 @@ fn heading_at(bytes: &[u8], at: usize) -> Option<(i64, usize)>
     Some((row.numbers[0], row.next))
 }
 
-// Whether a number is that of a section.
-fn is_section(domains: u32, number: i64) -> bool
-    ensures { result ≡ is_section_of domains number }
-{
-    0 <= number && number < i64::from(domains)
-}
-
 // Takes a heading, whose word ends at a place, and answers where the next line begins.
 fn take_heading(
     alloc: Global,
-    domains: u32,
+    grammar: &Grammar,
     line: u32,
     script: &mut Script,
+    spawns: &mut Spawns,
     bytes: &[u8],
     at: usize,
 ) -> Result<usize, ScriptFault>
-    ensures ok { (version : declared_version.Version) → IfOk result (λ next. TakesSaid version domains (heading_said (drop at bytes.now)) (drop next bytes.now) script.old.sections script.new.sections) }
+    requires domains { grammar.now.domains < 2 ^ 32 }
+    requires knows { Knows spawns.old.named spawns.old.own (place_in script.old.sections) }
+    ensures ok { IfOk result (λ next. TakesSaid grammar.now.version grammar.now.domains (heading_said (drop at bytes.now)) (drop next bytes.now) script.old.sections script.new.sections) }
     ensures further { IfOk result (λ next. at < next) }
     ensures within { IfOk result (λ next. next ≤ length bytes.now) }
     ensures version { OnOk result (script.new.version ≡ script.old.version) }
-    ensures fault { (version : declared_version.Version) → IfErr result (λ e. IsFaultUnlessMemory e (fault_of_said version domains line (length script.old.sections)
-        (sum_by length script.old.sections) (heading_said (drop at bytes.now)))) }
+    ensures knows { OnOk result (Knows spawns.new.named spawns.new.own (place_in script.new.sections)) }
+    ensures fault { IfErr result (λ e. IsFaultUnlessMemory e (fault_of_said grammar.now.version grammar.now.domains line (place_in script.old.sections) (heading_said (drop at bytes.now)))) }
 {
     let Some((number, next)) = heading_at(bytes, at) else {
         return Err(ScriptFault::Syntax { line });
     };
-    if !is_section(domains, number) {
+    if !grammar.is_section(number) {
         return Err(ScriptFault::Range { line, which: 1 });
     }
     if number.unsigned_abs() != script.sections() as u64 {
         return Err(ScriptFault::Order { line });
     }
+    if !spawns.may_begin(grammar.version(), script.sections()) {
+        return Err(ScriptFault::Spawn { line });
+    }
     match script.open_section(alloc) {
-        Ok(()) => Ok(next),
+        Ok(()) => {
+            spawns.open();
+            Ok(next)
+        }
         Err(_) => Err(ScriptFault::Memory),
     }
 }
 
-// Takes a command, the word of whose row ends at a place, and answers where the next line begins.
+// The command whose word ends at a place, and where the next line begins. The order of spawns isn't looked at.
 #[inline(always)]
-fn take_command(
-    version: Version,
+fn command_at(
+    grammar: &Grammar,
     line: u32,
-    script: &mut Script,
+    script: &Script,
     word: Word,
     bytes: &[u8],
     at: usize,
-) -> Result<usize, ScriptFault>
-    ensures ok { (domains : ℕ) → IfOk result (λ next. TakesSaid version domains (row_said word (drop at bytes.now)) (drop next bytes.now) script.old.sections script.new.sections) }
-    ensures further { IfOk result (λ next. at < next) }
-    ensures within { IfOk result (λ next. next ≤ length bytes.now) }
-    ensures version { OnOk result (script.new.version ≡ script.old.version) }
-    ensures fault { (domains : ℕ) → IfErr result (λ e. IsFaultUnlessMemory e (fault_of_said version domains line (length script.old.sections)
-        (sum_by length script.old.sections) (row_said word (drop at bytes.now)))) }
+) -> Result<(Command, usize), ScriptFault>
+    ensures says { IfOk result (λ p. Says grammar.now.version grammar.now.domains (row_said word (drop at bytes.now)) (drop p.1 bytes.now) script.now.sections word p.0) }
+    ensures further { IfOk result (λ p. at < p.1) }
+    ensures within { IfOk result (λ p. p.1 ≤ length bytes.now) }
+    ensures fault { IfErr result (λ e. IsFaultUnlessMemory e (fault_of_said grammar.now.version grammar.now.domains line (place_in script.now.sections) (row_said word (drop at bytes.now)))) }
 {
     let operands = operands_of(word);
     let Some(row) = row_at(bytes, at, operands.len()) else {
@@ -105,12 +108,79 @@ fn take_command(
     if MAX_COMMANDS <= script.commands() {
         return Err(ScriptFault::TooMany { line });
     }
-    match first_out_of_range(version, operands, &row.numbers[..operands.len()]) {
+    match first_out_of_range(grammar, operands, &row.numbers[..operands.len()]) {
         Some(which) => Err(ScriptFault::Range { line, which }),
-        None => match script.push(make(word, &row.numbers)) {
-            Ok(()) => Ok(row.next),
+        None => Ok((make(word, &row.numbers), row.next)),
+    }
+}
+
+// Takes a command that may stand anywhere, whose word ends at a place, and answers where the next line begins.
+#[inline(always)]
+fn take_command(
+    grammar: &Grammar,
+    line: u32,
+    script: &mut Script,
+    word: Word,
+    bytes: &[u8],
+    at: usize,
+) -> Result<usize, ScriptFault>
+    requires { stands_anywhere_of word ≡ true }
+    ensures ok { IfOk result (λ next. TakesSaid grammar.now.version grammar.now.domains (row_said word (drop at bytes.now)) (drop next bytes.now) script.old.sections script.new.sections) }
+    ensures further { IfOk result (λ next. at < next) }
+    ensures within { IfOk result (λ next. next ≤ length bytes.now) }
+    ensures version { OnOk result (script.new.version ≡ script.old.version) }
+    ensures knows { (named own : List Bool) → Knows named own (place_in script.old.sections) → OnOk result (Knows named own (place_in script.new.sections)) }
+    ensures fault { IfErr result (λ e. IsFaultUnlessMemory e (fault_of_said grammar.now.version grammar.now.domains line (place_in script.old.sections) (row_said word (drop at bytes.now)))) }
+{
+    match command_at(grammar, line, script, word, bytes, at) {
+        Ok((command, next)) => match script.push(command) {
+            Ok(()) => Ok(next),
             Err(_) => Err(ScriptFault::Memory),
         },
+        Err(fault) => Err(fault),
+    }
+}
+
+// Takes a command that may be a spawn or a join, whose word ends at a place, and answers where the next line begins.
+#[inline(never)]
+fn take_spawning(
+    grammar: &Grammar,
+    line: u32,
+    script: &mut Script,
+    spawns: &mut Spawns,
+    word: Word,
+    bytes: &[u8],
+    at: usize,
+) -> Result<usize, ScriptFault>
+    requires knows { Knows spawns.old.named spawns.old.own (place_in script.old.sections) }
+    ensures ok { IfOk result (λ next. TakesSaid grammar.now.version grammar.now.domains (row_said word (drop at bytes.now)) (drop next bytes.now) script.old.sections script.new.sections) }
+    ensures further { IfOk result (λ next. at < next) }
+    ensures within { IfOk result (λ next. next ≤ length bytes.now) }
+    ensures version { OnOk result (script.new.version ≡ script.old.version) }
+    ensures knows { OnOk result (Knows spawns.new.named spawns.new.own (place_in script.new.sections)) }
+    ensures fault { IfErr result (λ e. IsFaultUnlessMemory e (fault_of_said grammar.now.version grammar.now.domains line (place_in script.old.sections) (row_said word (drop at bytes.now)))) }
+{
+    let (command, next) = match command_at(grammar, line, script, word, bytes, at) {
+        Ok(found) => found,
+        Err(fault) => return Err(fault),
+    };
+    if !spawns.may_follow(grammar.version(), script.sections(), command) {
+        return Err(ScriptFault::Spawn { line });
+    }
+    spawns.call(command);
+    match script.push(command) {
+        Ok(()) => Ok(next),
+        Err(_) => Err(ScriptFault::Memory),
+    }
+}
+
+// Whether the commands of a row may stand anywhere in the order of spawns.
+fn stands_anywhere(word: Word) -> bool
+    ensures { result ≡ stands_anywhere_of word }
+{
+    match word {
+        Word::Spawn | Word::Join => false,
+        _ => true,
     }
 }
 
@@ -118,30 +188,37 @@ fn take_command(
 #[inline(never)]
 fn take_other(
     alloc: Global,
-    version: Version,
-    domains: u32,
+    grammar: &Grammar,
     line: u32,
     script: &mut Script,
+    spawns: &mut Spawns,
     bytes: &[u8],
     at: usize,
 ) -> Result<usize, ScriptFault>
-    requires { at ≤ length bytes.now }
-    ensures ok { IfOk result (λ next. TakesSaid version domains (line_said version (drop at bytes.now)) (drop next bytes.now) script.old.sections script.new.sections) }
+    requires within { at ≤ length bytes.now }
+    requires domains { grammar.now.domains < 2 ^ 32 }
+    requires knows { Knows spawns.old.named spawns.old.own (place_in script.old.sections) }
+    ensures ok { IfOk result (λ next. TakesSaid grammar.now.version grammar.now.domains (line_said grammar.now.version (drop at bytes.now)) (drop next bytes.now) script.old.sections script.new.sections) }
     ensures further { IfOk result (λ next. at < next) }
     ensures within { IfOk result (λ next. next ≤ length bytes.now) }
     ensures version { OnOk result (script.new.version ≡ script.old.version) }
-    ensures fault { IfErr result (λ e. IsFaultUnlessMemory e (fault_of_said version domains line (length script.old.sections)
-        (sum_by length script.old.sections) (line_said version (drop at bytes.now)))) }
+    ensures knows { OnOk result (Knows spawns.new.named spawns.new.own (place_in script.new.sections)) }
+    ensures fault { IfErr result (λ e. IsFaultUnlessMemory e (fault_of_said grammar.now.version grammar.now.domains line (place_in script.old.sections) (line_said grammar.now.version (drop at bytes.now)))) }
 {
     let text = first_text(&bytes[at..]);
     let end = at + text.len();
     if text == b"domain".as_slice() {
-        take_heading(alloc, domains, line, script, bytes, end)
-    } else {
-        match search_word(version, text) {
-            Some(word) => take_command(version, line, script, word, bytes, end),
-            None => Err(ScriptFault::Syntax { line }),
+        return take_heading(alloc, grammar, line, script, spawns, bytes, end);
+    }
+    match search_word(grammar.version(), text) {
+        Some(word) => {
+            if stands_anywhere(word) {
+                take_command(grammar, line, script, word, bytes, end)
+            } else {
+                take_spawning(grammar, line, script, spawns, word, bytes, end)
+            }
         }
+        None => Err(ScriptFault::Syntax { line }),
     }
 }
 
@@ -149,23 +226,25 @@ fn take_other(
 #[inline(always)]
 pub(crate) fn take_line(
     alloc: Global,
-    version: Version,
-    domains: u32,
+    grammar: &Grammar,
     line: u32,
     script: &mut Script,
+    spawns: &mut Spawns,
     bytes: &[u8],
     at: usize,
 ) -> Result<usize, ScriptFault>
-    requires { at ≤ length bytes.now }
-    ensures ok { IfOk result (λ next. TakesSaid version domains (line_said version (drop at bytes.now)) (drop next bytes.now) script.old.sections script.new.sections) }
+    requires within { at ≤ length bytes.now }
+    requires domains { grammar.now.domains < 2 ^ 32 }
+    requires knows { Knows spawns.old.named spawns.old.own (place_in script.old.sections) }
+    ensures ok { IfOk result (λ next. TakesSaid grammar.now.version grammar.now.domains (line_said grammar.now.version (drop at bytes.now)) (drop next bytes.now) script.old.sections script.new.sections) }
     ensures further { IfOk result (λ next. at < next) }
     ensures within { IfOk result (λ next. next ≤ length bytes.now) }
     ensures version { OnOk result (script.new.version ≡ script.old.version) }
-    ensures fault { IfErr result (λ e. IsFaultUnlessMemory e (fault_of_said version domains line (length script.old.sections)
-        (sum_by length script.old.sections) (line_said version (drop at bytes.now)))) }
+    ensures knows { OnOk result (Knows spawns.new.named spawns.new.own (place_in script.new.sections)) }
+    ensures fault { IfErr result (λ e. IsFaultUnlessMemory e (fault_of_said grammar.now.version grammar.now.domains line (place_in script.old.sections) (line_said grammar.now.version (drop at bytes.now)))) }
 {
     match common_word(&bytes[at..]) {
-        Some(word) => take_command(version, line, script, word, bytes, at + text_of(word).len()),
-        None => take_other(alloc, version, domains, line, script, bytes, at),
+        Some(word) => take_command(grammar, line, script, word, bytes, at + text_of(word).len()),
+        None => take_other(alloc, grammar, line, script, spawns, bytes, at),
     }
 }

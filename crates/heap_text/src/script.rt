@@ -1,7 +1,9 @@
 //! Scripts: a version, and a list of commands for each domain.
 ghost use Rattle.std.specs.Prelude.{◌≡◌, ◌≤◌, ◌<◌, ◌+◌, ◌++◌, ◌∷◌, [], length, map, slice_index_or, sum_by, IfOk, OnOk};
 ghost use Rattle.heap_text.specs.Forms.{version_number};
+ghost use Rattle.std.specs.List.{list_any};
 ghost use Rattle.heap_text.specs.Script.{with_command};
+ghost use Rattle.heap_text.specs.Spawning.{spawns, is_spawned as is_spawned_in};
 
 use crate::version::Version;
 use heap_model::command::Command;
@@ -16,6 +18,15 @@ pub struct Script {
     commands: u32,
 }
 
+// Whether one of these commands spawns section `d`.
+fn spawns_in(commands: &[Command], d: u32) -> bool
+    ensures { result ≡ list_any (spawns d) commands.now }
+{
+    commands.iter().any(
+        |command| matches!(*command, Command::Spawn { section, .. } if section == d),
+    )
+}
+
 impl Model for Script {
     ghost use Rattle.std.specs.Prelude.{◌≡◌, List, length, map, sum_by};
     ghost use Rattle.heap_text.specs.Script.{Scripted};
@@ -28,7 +39,7 @@ impl Model for Script {
 }
 
 impl Script {
-    /// The version of the script: 1 or 2.
+    /// The version of the script: 1 to 3.
     pub fn version(&self) -> u32
         ensures { result ≡ version_number self.now.version }
     {
@@ -48,6 +59,19 @@ impl Script {
         ensures { result.now ≡ slice_index_or self.now.sections i [] }
     {
         self.sections[i].as_slice()
+    }
+
+    /// Whether a spawn names section `d`. Such a section waits for its spawn before its first
+    /// command, and tells its end.
+    pub fn is_spawned(&self, d: u32) -> bool
+        ensures { result ≡ is_spawned_in self.now.sections d }
+    {
+        for at in 0..self.sections() {
+            if spawns_in(self.section(at), d) {
+                return true;
+            }
+        }
+        false
     }
 
     /// The commands of each domain, in the order of the domains.

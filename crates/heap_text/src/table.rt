@@ -1,8 +1,9 @@
 // The table of command forms, for the reader and the printer.
-ghost use Rattle.std.specs.Prelude.{◌≡◌, ◌≤◌, true, pos, length, IfSome};
-ghost use Rattle.heap_text.specs.declared.version.Version.TheVariants.{One, Two};
+ghost use Rattle.std.specs.Prelude.{◌≡◌, ◌≤◌, true, length, IfSome};
+ghost use Rattle.heap_text.specs.declared.version.Version.TheVariants.{One, Two, Three};
 ghost use Rattle.heap_text.specs.Split.{first_text};
-ghost use Rattle.heap_text.specs.Forms.{form, word_of, is_built, made, byte as byte_of, short as short_of, wide as wide_of, fits as fits_kind, least as least_of, greatest as greatest_of, most_fields as most_fields_of};
+ghost use Rattle.heap_text.specs.Forms.{form, word_of, is_built, made, byte as byte_of, short as short_of, wide as wide_of};
+ghost use Rattle.heap_text.specs.Steps.{stands_anywhere};
 
 use crate::form::{Operand, Word};
 use crate::version::Version;
@@ -39,6 +40,38 @@ const FIRST_WORDS: [Word; 22] = [
 const SECOND_WORDS: [Word; 24] = [
     Word::Raw,
     Word::Cas,
+    Word::Int,
+    Word::Move,
+    Word::Drop,
+    Word::Alloc,
+    Word::AllocMaj,
+    Word::Load,
+    Word::Store,
+    Word::Ephe,
+    Word::SetKey,
+    Word::UnsetKey,
+    Word::GetKey,
+    Word::CheckKey,
+    Word::SetData,
+    Word::UnsetData,
+    Word::GetData,
+    Word::CheckData,
+    Word::Finalise,
+    Word::FinaliseLast,
+    Word::Poll,
+    Word::Minor,
+    Word::Major,
+    Word::FullMajor,
+];
+
+// The words of the grammar of the third version.
+const THIRD_WORDS: [Word; 28] = [
+    Word::Raw,
+    Word::Cas,
+    Word::Spawn,
+    Word::Argument,
+    Word::Result,
+    Word::Join,
     Word::Int,
     Word::Move,
     Word::Drop,
@@ -152,6 +185,8 @@ pub(crate) fn common_word(bytes: &[u8]) -> Option<Word>
     ensures spelled { IfSome result (λ w. first_text bytes.now ≡ (form w).text) }
     ensures first { IfSome result (λ w. is_built One w ≡ true) }
     ensures second { IfSome result (λ w. is_built Two w ≡ true) }
+    ensures third { IfSome result (λ w. is_built Three w ≡ true) }
+    ensures anywhere { IfSome result (λ w. stands_anywhere w ≡ true) }
 {
     match bytes {
         [b'i', b'n', b't', b' ', ..] => Some(Word::Int),
@@ -208,6 +243,10 @@ pub(crate) fn search_word(version: Version, text: &[u8]) -> Option<Word>
             .copied()
             .find(|word| text_of(*word) == text),
         Version::Two => SECOND_WORDS
+            .iter()
+            .copied()
+            .find(|word| text_of(*word) == text),
+        Version::Three => THIRD_WORDS
             .iter()
             .copied()
             .find(|word| text_of(*word) == text),
@@ -336,48 +375,4 @@ fn wide(z: i64) -> u32
     ensures { result ≡ wide_of z }
 {
     z.unsigned_abs().min(4_294_967_295) as u32
-}
-
-fn least(kind: Operand) -> i64
-    ensures { result ≡ least_of kind }
-{
-    match kind {
-        Operand::RawTag => 251,
-        Operand::FieldCount | Operand::KeyCount => 1,
-        Operand::Integer => -4_611_686_018_427_387_904,
-        _ => 0,
-    }
-}
-
-// The most fields of a block.
-fn most_fields(version: Version) -> i64
-    ensures { result ≡ pos (most_fields_of version) }
-{
-    match version {
-        Version::One => 126,
-        Version::Two => 1022,
-    }
-}
-
-fn greatest(version: Version, kind: Operand) -> i64
-    ensures { result ≡ greatest_of version kind }
-{
-    match kind {
-        Operand::Register => 15,
-        Operand::Tag => 245,
-        Operand::RawTag => 255,
-        Operand::FieldCount => most_fields(version),
-        Operand::KeyCount => 8,
-        Operand::Index => 1023,
-        Operand::FinaliserNumber => 65_535,
-        Operand::Integer => 4_611_686_018_427_387_903,
-        Operand::Section => 7,
-    }
-}
-
-// Whether a number is in the range of its kind.
-pub(crate) fn fits(version: Version, kind: Operand, number: i64) -> bool
-    ensures { result ≡ fits_kind version kind number }
-{
-    least(kind) <= number && number <= greatest(version, kind)
 }

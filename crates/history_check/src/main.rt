@@ -17,7 +17,7 @@ mod words;
 
 use explain::{Explained, Watch, explain};
 use heap_model::entry::Entry;
-use heap_text::{Script, ScriptFault, read_script};
+use heap_text::{Script, ScriptFault, Version, read_script};
 use input::split_input;
 use std::alloc::Global;
 use std::io::{BufWriter, ErrorKind, Read, Write};
@@ -165,7 +165,7 @@ fn run(rt: &HostRuntime, asked: &Asked) -> Outcome
     let Some((script, output)) = split_input(&bytes) else {
         return Outcome::NoSeparator;
     };
-    match read_script(rt.alloc(), asked.sizes.domains, script) {
+    match read_script(rt.alloc(), Version::Two, asked.sizes.domains, script) {
         Ok(script) => judge(rt, asked, &script, output),
         Err(ScriptFault::Memory) => Outcome::Memory,
         Err(fault) => Outcome::Script(fault),
@@ -182,6 +182,7 @@ fn tell_fault(rt: &HostRuntime, fault: ScriptFault) -> io::Result<()> {
         }
         ScriptFault::TooLong { .. } => eprintln!(rt; "script: more than 16777216 bytes"),
         ScriptFault::TooMany { line } => eprintln!(rt; "script line {line}: too many commands"),
+        ScriptFault::Spawn { line } => eprintln!(rt; "script line {line}: spawn"),
         ScriptFault::Memory => eprintln!(rt; "out of memory"),
     }
 }

@@ -4,6 +4,7 @@ use Rattle.std.specs.Prelude.{Result, if◌then◌else◌, nat_lt, ◌*◌}
 use Rattle.std.proofs.lemmas.Bool.Decides.{nat_tests}
 use Rattle.heap_model.specs.declared.command.Command.{Command}
 use Rattle.heap_text.specs.declared.fault.ScriptFault.{ScriptFault}
+use Rattle.heap_text.specs.declared.version.Version.TheVariants.{Two}
 use Rattle.heap_text.specs.Faults.{first_fault}
 use Rattle.heap_text.specs.Script.{Scripted}
 use Rattle.heap_text.specs.Spelling.{Spells as SpellsScript}
@@ -25,14 +26,14 @@ module _ (domains : ℕ) (bytes : List ℕ) (small : domains < 2 ^ 32) where
   same_items items more place other s t = ap (λ (r : List Item × ℕ). r.0) (one_schedule domains (items, place) (more, other) bytes small s t)
 
   -- and one script stands behind it
-  same_script : (items more : List Item) (place other : ℕ) (a b : Scripted) → Spells domains items place bytes → Spells domains more other bytes → SpellsScript domains a (drop place bytes) → SpellsScript domains b (drop other bytes) → a ≡ b
+  same_script : (items more : List Item) (place other : ℕ) (a b : Scripted) → Spells domains items place bytes → Spells domains more other bytes → SpellsScript Two domains a (drop place bytes) → SpellsScript Two domains b (drop other bytes) → a ≡ b
   same_script items more place other a b s t x y =
-      one_script domains a b (drop place bytes) small x (subst (λ n. SpellsScript domains b (drop n bytes)) (sym (one_place items more place other s t)) y)
+      one_script Two domains a b (drop place bytes) small x (subst (λ n. SpellsScript Two domains b (drop n bytes)) (sym (one_place items more place other s t)) y)
 
   -- it has no fault
-  no_script_fault : (items more : List Item) (place other : ℕ) (a : Scripted) (f : ScriptFault) → Spells domains items place bytes → Spells domains more other bytes → SpellsScript domains a (drop place bytes) → first_fault domains (drop other bytes) ≡ Some f → ⊥
+  no_script_fault : (items more : List Item) (place other : ℕ) (a : Scripted) (f : ScriptFault) → Spells domains items place bytes → Spells domains more other bytes → SpellsScript Two domains a (drop place bytes) → first_fault Two domains (drop other bytes) ≡ Some f → ⊥
   no_script_fault items more place other a f s t x first =
-      let none : first_fault domains (drop other bytes) ≡ None = ap (λ n. first_fault domains (drop n bytes)) (sym (one_place items more place other s t)) ∙ no_fault domains a (drop place bytes) small x in
+      let none : first_fault Two domains (drop other bytes) ≡ None = ap (λ n. first_fault Two domains (drop n bytes)) (sym (one_place items more place other s t)) ∙ no_fault Two domains a (drop place bytes) small x in
       let clash : None ≡ Some f = sym none ∙ first in cc
 
 -- a script that can be replayed has no reason why not
@@ -81,7 +82,7 @@ module _ (domains pools : ℕ) (bytes : List ℕ) (small : domains < 2 ^ 32) whe
       (λ (a : WrongScript domains bytes f). ⊎_elim
       (λ (b : IsTooLong bytes g). let few = a.few in let many = b.many in absurd (omega (arith, few, many)))
       (λ (b : WrongScript domains bytes g).
-      let same : Some f ≡ Some g = sym a.first ∙ ap (λ n. first_fault domains (drop n bytes)) (one_place domains bytes small a.items b.items a.place b.place a.schedule b.schedule) ∙ b.first in cc)
+      let same : Some f ≡ Some g = sym a.first ∙ ap (λ n. first_fault Two domains (drop n bytes)) (one_place domains bytes small a.items b.items a.place b.place a.schedule b.schedule) ∙ b.first in cc)
       y)
       x
 

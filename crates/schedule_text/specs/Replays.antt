@@ -2,6 +2,7 @@
 use Rattle.std.specs.Prelude.{◌≡◌, ◌⊎◌, ℕ, ◌≤◌, ◌<◌, List, drop, length, Option, Some, Result, Err}
 use Rattle.heap_text.specs.declared.fault.ScriptFault.{ScriptFault}
 use Rattle.heap_text.specs.declared.fault.ScriptFault.TheVariants.{TooLong}
+use Rattle.heap_text.specs.declared.version.Version.TheVariants.{Two}
 use Rattle.heap_text.specs.Faults.{first_fault}
 use Rattle.heap_text.specs.Script.{Scripted}
 use Rattle.heap_text.specs.Spelling.{Spells as SpellsScript}
@@ -22,7 +23,7 @@ pub record SpellsReplay (domains pools : ℕ) (r : Replayed) (bytes : List ℕ) 
   pub few : length bytes ≤ 16777216
   pub place : ℕ
   pub schedule : Spells domains r.items place bytes
-  pub script : SpellsScript domains r.script (drop place bytes)
+  pub script : SpellsScript Two domains r.script (drop place bytes)
   pub can : CanReplay domains pools r.script.sections
 
 -- the first line that isn't one of a schedule
@@ -41,7 +42,7 @@ pub record WrongScript (domains : ℕ) (bytes : List ℕ) (fault : ScriptFault) 
   pub items : List Item
   pub place : ℕ
   pub schedule : Spells domains items place bytes
-  pub first : first_fault domains (drop place bytes) ≡ Some fault
+  pub first : first_fault Two domains (drop place bytes) ≡ Some fault
 
 -- why the script can't be replayed
 pub record CannotReplay (domains pools : ℕ) (bytes : List ℕ) (why : ℕ) : Type 0 where
@@ -50,7 +51,7 @@ pub record CannotReplay (domains pools : ℕ) (bytes : List ℕ) (why : ℕ) : T
   pub place : ℕ
   pub schedule : Spells domains items place bytes
   pub script : Scripted
-  pub spelled : SpellsScript domains script (drop place bytes)
+  pub spelled : SpellsScript Two domains script (drop place bytes)
   pub reason : why_not domains pools script.sections ≡ Some why
 
 -- the first fault of the bytes: there are too many, a line of the schedule is wrong, the script has a fault, or it can't be replayed

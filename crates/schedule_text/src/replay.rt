@@ -1,6 +1,7 @@
 //! Reading the text of a replay.
 ghost use Rattle.std.specs.Prelude.{◌≤◌, ℕ, drop, length, IfOk, IfErr, Ok, Err};
 ghost use Rattle.heap_text.specs.Spelling.{Spells as SpellsScript};
+ghost use Rattle.heap_text.specs.declared.version.Version.TheVariants.{Two};
 ghost use Rattle.heap_text.specs.Faults.{first_fault};
 ghost use Rattle.schedule_text.specs.Spelling.{Spells};
 ghost use Rattle.schedule_text.specs.Replays.{HasFault, IsFirstUnlessMemory, IsScriptFault, IsUnlessNoMemory, Replayed, SpellsReplay};
@@ -10,7 +11,7 @@ use crate::allowed::{NotReplayable, replayable};
 use crate::fault::ScheduleFault;
 use crate::reading::read_schedule;
 use crate::schedule::Schedule;
-use heap_text::{Script, ScriptFault, read_script};
+use heap_text::{Script, ScriptFault, Version, read_script};
 use std::alloc::Global;
 use std::marker::Model;
 
@@ -65,10 +66,10 @@ fn schedule_of(alloc: Global, domains: u32, bytes: &[u8]) -> Result<(Schedule, u
 // The script behind a schedule.
 fn script_of(alloc: Global, domains: u32, bytes: &[u8], place: usize) -> Result<Script, ReplayFault>
     requires inside { place ≤ length bytes.now }
-    ensures found { IfOk result (λ s. SpellsScript domains s (drop place bytes.now)) }
-    ensures fault { IfErr result (λ e. IsScriptFault e (first_fault domains (drop place bytes.now))) }
+    ensures found { IfOk result (λ s. SpellsScript Two domains s (drop place bytes.now)) }
+    ensures fault { IfErr result (λ e. IsScriptFault e (first_fault Two domains (drop place bytes.now))) }
 {
-    match read_script(alloc, domains, &bytes[place..]) {
+    match read_script(alloc, Version::Two, domains, &bytes[place..]) {
         Ok(script) => Ok(script),
         Err(ScriptFault::Memory) => Err(ReplayFault::Memory),
         Err(fault) => Err(ReplayFault::Script(fault)),

@@ -10,7 +10,7 @@ use Rattle.std.proofs.lemmas.List.Splits.{length-slice_split}
 use Rattle.std.proofs.lemmas.Slice.Eq.{bytes_eq-Decides}
 use Rattle.heap_model.specs.Output.{line}
 use Rattle.heap_text.specs.declared.fault.ScriptFault.{ScriptFault}
-use Rattle.heap_text.specs.declared.fault.ScriptFault.TheVariants.{Syntax, Order, Range, TooLong, TooMany, Memory}
+use Rattle.heap_text.specs.declared.fault.ScriptFault.TheVariants.{Syntax, Order, Range, TooLong, TooMany, Spawn, Memory}
 use Rattle.heap_text.specs.Split.{split_at_mark}
 use Rattle.heap_text.specs.Spelling.{IsUnlessMemory}
 use Rattle.heap_text.specs.Faults.{or_else, IsFaultUnlessMemory}
@@ -63,6 +63,7 @@ is_first (Order k) o e = e
 is_first (Range k i) o e = e
 is_first (TooLong k) o e = e
 is_first (TooMany k) o e = e
+is_first (Spawn k) o e = e
 
 -- a fault of the next line
 pub fault_read : (before : ℕ) (all : Option ScriptFault) (rest text tail : List ℕ) (f : ScriptFault) → all ≡ fault_from before (slice_split (λ b. b == 10) rest) → Some (text, tail) ≡ split_at_mark 10 rest
@@ -185,6 +186,7 @@ only_read bytes (Err (Order k)) found fault s w = absurd (no_other s bytes (Orde
 only_read bytes (Err (Range k i)) found fault s w = absurd (no_other s bytes (Range k i) w fault)
 only_read bytes (Err (TooLong k)) found fault s w = absurd (no_other s bytes (TooLong k) w fault)
 only_read bytes (Err (TooMany k)) found fault s w = absurd (no_other s bytes (TooMany k) w fault)
+only_read bytes (Err (Spawn k)) found fault s w = absurd (no_other s bytes (Spawn k) w fault)
 
 -- what has a fault is refused by it, unless memory ran out
 pub refused_by : (bytes : List ℕ) (result : Result (List TableLine) ScriptFault) → IfOk result (λ t. Spells t bytes) → IfErr result (λ e. IsFaultUnlessMemory e (first_fault bytes))
@@ -196,3 +198,4 @@ refused_by bytes (Err (Order k)) found fault e first = cc
 refused_by bytes (Err (Range k i)) found fault e first = cc
 refused_by bytes (Err (TooLong k)) found fault e first = cc
 refused_by bytes (Err (TooMany k)) found fault e first = cc
+refused_by bytes (Err (Spawn k)) found fault e first = cc

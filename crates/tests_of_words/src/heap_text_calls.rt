@@ -3,9 +3,10 @@ use crate::same::same;
 use heap_model::command::Command;
 use heap_model::label::Label;
 use heap_model::reply::Reply;
-use heap_text::ScriptFault::{Order, Range, Syntax, TooLong, TooMany};
+use heap_text::ScriptFault::{Order, Range, Spawn, Syntax, TooLong, TooMany};
 use heap_text::{
-    Line, Script, ScriptFault, generate, print_command, print_heading, print_reply, read_script,
+    Line, Script, ScriptFault, Version, generate, print_command, print_heading, print_reply,
+    read_script,
 };
 use std::alloc::{AllocError, Global};
 use std::test::Fail;
@@ -13,6 +14,7 @@ use std::test::Fail;
 // What the first sections of a script print as.
 fn printed(alloc: Global, script: &Script, written: usize) -> Result<Vec<u8>, AllocError> {
     let first: &[u8] = match script.version() {
+        3 => b"heap 3\n",
         2 => b"heap 2\n",
         _ => b"heap 1\n",
     };
@@ -40,7 +42,7 @@ fn many_lines(alloc: Global, copies: usize, last: &[u8]) -> Result<Vec<u8>, Allo
 }
 
 // Domains, sections that are written, and a script.
-const SCRIPTS: [(u32, usize, &[u8]); 12] = [
+const SCRIPTS: [(u32, usize, &[u8]); 13] = [
     (1, 0, b"heap 1\n"),
     (1, 1, b"heap 1\ndomain 0\n"),
     (2, 1, b"heap 1\ndomain 0\nint 0 0\n"),
@@ -69,12 +71,17 @@ const SCRIPTS: [(u32, usize, &[u8]); 12] = [
         3,
         b"heap 1\ndomain 0\ndomain 1\nint 15 -1\ndomain 2\nint 1 10\n",
     ),
+    (
+        3,
+        3,
+        b"heap 3\ndomain 0\nspawn 2 1\nspawn 1 13\ndomain 1\nargument 1\ndomain 2\nresult 2\n",
+    ),
 ];
 
 #[test]
 fn scripts_are_printed_back(rt: HostRuntime) -> Result<(), Fail> {
     for (domains, written, bytes) in &SCRIPTS {
-        let script = read_script(rt.alloc(), *domains, bytes)?;
+        let script = read_script(rt.alloc(), Version::Three, *domains, bytes)?;
         same(&rt, script.sections(), *domains as usize);
         let again = printed(rt.alloc(), &script, *written)?;
         same(&rt, again.as_slice(), *bytes);
@@ -86,6 +93,7 @@ fn scripts_are_printed_back(rt: HostRuntime) -> Result<(), Fail> {
 fn commands_are_read(rt: HostRuntime) -> Result<(), Fail> {
     let script = read_script(
         rt.alloc(),
+        Version::Three,
         1,
         b"heap 1\ndomain 0\nstore 1 1023 2\nint 3 -7\n",
     )?;
@@ -106,10 +114,22 @@ fn commands_are_read(rt: HostRuntime) -> Result<(), Fail> {
 }
 
 // Domains, bytes, and their first fault.
-const FAULTS: [(u32, &[u8], ScriptFault); 38] = [
+const FAULTS: [(u32, &[u8], ScriptFault); 42] = [
     (1, b"", Syntax { line: 1 }),
     (1, b"heap 1", Syntax { line: 1 }),
-    (1, b"heap 3\n", Syntax { line: 1 }),
+    (1, b"heap 4\n", Syntax { line: 1 }),
+    (2, b"heap 3\ndomain 0\ndomain 1\n", Spawn { line: 3 }),
+    (2, b"heap 3\ndomain 0\njoin 2 1\n", Spawn { line: 3 }),
+    (
+        2,
+        b"heap 3\ndomain 0\nspawn 2 1\n",
+        Range { line: 3, which: 1 },
+    ),
+    (
+        2,
+        b"heap 3\ndomain 0\nint 14 0\n",
+        Range { line: 3, which: 1 },
+    ),
     (1, b"heap 1\ndomain 0\nraw 1 252 3\n", Syntax { line: 3 }),
     (1, b"heap 1\ndomain 0\ncas 0 3 1 2\n", Syntax { line: 3 }),
     (
@@ -194,7 +214,7 @@ const FAULTS: [(u32, &[u8], ScriptFault); 38] = [
 #[test]
 fn first_faults(rt: HostRuntime) -> Result<(), Fail> {
     for (domains, bytes, fault) in &FAULTS {
-        let read = read_script(rt.alloc(), *domains, bytes);
+        let read = read_script(rt.alloc(), Version::Three, *domains, bytes);
         same(&rt, (read.err(), *bytes), (Some(*fault), *bytes));
     }
     Ok(())
@@ -210,11 +230,11 @@ fn too_many_commands(rt: HostRuntime) -> Result<(), Fail> {
     ];
     for (last, fault) in faults {
         let bytes = many_lines(rt.alloc(), 200_000, last)?;
-        let read = read_script(rt.alloc(), 2, bytes.as_slice());
+        let read = read_script(rt.alloc(), Version::Three, 2, bytes.as_slice());
         same(&rt, read.err(), Some(fault));
     }
     let bytes = many_lines(rt.alloc(), 200_000, b"")?;
-    let script = read_script(rt.alloc(), 1, bytes.as_slice())?;
+    let script = read_script(rt.alloc(), Version::Three, 1, bytes.as_slice())?;
     assert_eq!(rt; script.sections(), 1);
     same(&rt, script.section(0).len(), 200_000);
     Ok(())
@@ -279,7 +299,7 @@ fn too_many_bytes(rt: HostRuntime) -> Result<(), Fail> {
         (16_777_216, Syntax { line: 1 }),
     ] {
         let bytes = line_feeds(rt.alloc(), count)?;
-        let read = read_script(rt.alloc(), 1, bytes.as_slice());
+        let read = read_script(rt.alloc(), Version::Three, 1, bytes.as_slice());
         same(&rt, read.err(), Some(fault));
     }
     Ok(())

@@ -12,7 +12,7 @@ use std::sync::Wait;
 // How many traces share one thing at most.
 const MOST_TRACES: usize = 8;
 
-// One turn of each trace. It answers how far they came: nowhere only where none did anything.
+// One turn of each trace. It answers how far they came: nowhere only where none did anything, and none is held.
 #[inline(always)]
 fn turn_each<S, T: Trace<S>, G: Gate>(
     shared: &S,
@@ -28,6 +28,7 @@ fn turn_each<S, T: Trace<S>, G: Gate>(
 {
     let mut all = true;
     let mut some = false;
+    let mut held = false;
     for trace in traces.iter_mut() {
         let place = trace.number(shared) as usize;
         match turn_once(shared, gate, events, &mut told[place], trace) {
@@ -36,6 +37,10 @@ fn turn_each<S, T: Trace<S>, G: Gate>(
                 some = true;
             }
             Went::Nowhere => all = false,
+            Went::Held => {
+                all = false;
+                held = true;
+            }
             Went::Ended => (),
         }
     }
@@ -43,6 +48,8 @@ fn turn_each<S, T: Trace<S>, G: Gate>(
         Went::Ended
     } else if some {
         Went::On
+    } else if held {
+        Went::Held
     } else {
         Went::Nowhere
     }
@@ -69,6 +76,7 @@ pub(crate) fn rotate<S, T: Trace<S> + Drop, R: Wait, G: Gate>(
         match turn_each(shared, gate, events, &mut told, traces.as_mut_slice()) {
             Went::On => waiter.went_on(),
             Went::Nowhere => waiter.wait(rt, announced),
+            Went::Held => waiter.held(),
             Went::Ended => return,
         }
     }

@@ -8,6 +8,9 @@ pub enum Went {
     On,
     /// It waits for others, or for its next command.
     Nowhere,
+    /// It waits for a command of another trace. Nobody tells of a command, so it is turned again soon, and
+    /// its thread doesn't sleep meanwhile.
+    Held,
     /// The trace has ended.
     Ended,
 }

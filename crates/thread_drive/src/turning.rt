@@ -65,6 +65,7 @@ pub(crate) fn turn_to_end<S, T: Trace<S>, R: Wait, G: Gate>(
         match turn_once(shared, gate, events, &mut told, &mut trace) {
             Went::On => waiter.went_on(),
             Went::Nowhere => waiter.wait(rt, announced),
+            Went::Held => waiter.held(),
             Went::Ended => return trace,
         }
     }

@@ -45,6 +45,11 @@ impl<'a> Waiter<'a> {
         }
     }
 
+    // A turn was held: it spins, ever longer, and never sleeps.
+    pub(crate) fn held(&mut self) {
+        self.backoff.spin();
+    }
+
     // A turn did something.
     pub(crate) fn went_on(&mut self) {
         self.backoff.reset();

@@ -24,5 +24,5 @@ pub returns-clause-written : goal.returns-clause-written
 returns-clause-written c = generated_written c.args.base c.args.domains c.args.commands c.loop-domain.script.sections (omega arith) c.requires.domains.0 (omega arith) c.requires.commands (all_sections c)
 
 pub returns-clause-spelled : goal.returns-clause-spelled
-returns-clause-spelled c = subst (λ (t : Scripted). Spells c.args.domains t (spelling One c.loop-domain.script.sections)) (λ i. record { version = sym (ap (λ (t : Scripted). t.version) c.loop-domain.invariant) i; sections = c.loop-domain.script.sections })
-    (generated_spelled c.args.base c.args.domains c.args.commands c.loop-domain.script.sections (omega arith) c.requires.domains.0 (omega arith) c.requires.commands (all_sections c))
+returns-clause-spelled c = λ newest. subst (λ (t : Scripted). Spells newest c.args.domains t (spelling One c.loop-domain.script.sections)) (λ i. record { version = sym (ap (λ (t : Scripted). t.version) c.loop-domain.invariant) i; sections = c.loop-domain.script.sections })
+    (generated_spelled newest c.args.base c.args.domains c.args.commands c.loop-domain.script.sections (omega arith) c.requires.domains.0 (omega arith) c.requires.commands (all_sections c))

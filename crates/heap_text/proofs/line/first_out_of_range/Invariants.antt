@@ -4,4 +4,4 @@ use Rattle.heap_text.proofs.line.first_out_of_range.Given as goal
 
 -- the numbers so far are in their ranges
 abbrev pub invariant-loop-at : goal.invariant-loop-at
-invariant-loop-at l = first_out_of_range l.version 1 l.kinds l.numbers ≡ first_out_of_range l.version (l.at + 1) (drop l.at l.kinds) (drop l.at l.numbers)
+invariant-loop-at l = first_out_of_range l.grammar.version l.grammar.domains 1 l.kinds l.numbers ≡ first_out_of_range l.grammar.version l.grammar.domains (l.at + 1) (drop l.at l.kinds) (drop l.at l.numbers)

@@ -2,15 +2,18 @@ use Rattle.std.proofs.Common.{◌≡◌, ◌≤◌, ◌+◌, ◌-◌, ◌++◌, 
 use Rattle.heap_model.specs.Output.{line}
 use Rattle.heap_text.specs.Forms.{first_line}
 use Rattle.heap_text.specs.Spelling.{spelling, script_lines, IsWritten}
+use Rattle.heap_text.specs.Spawning.{place_in}
+use Rattle.heap_text.specs.Steps.{Knows}
 use Rattle.heap_text.proofs.read.read_sections.Given as goal
 
 -- what was read is spelled as the script so far
 abbrev pub invariant-lines : goal.invariant-lines
 invariant-lines l = record {
-  version : l.script.version ≡ l.version;
-  spelled : line (first_line l.version) ++ l.behind ≡ spelling l.version l.script.sections ++ drop l.at l.behind;
-  is_written : IsWritten l.version l.domains l.script.sections;
-  number : l.line ≡ length (script_lines l.version l.script.sections) + 1;
+  version : l.script.version ≡ l.grammar.version;
+  spelled : line (first_line l.grammar.version) ++ l.behind ≡ spelling l.grammar.version l.script.sections ++ drop l.at l.behind;
+  is_written : IsWritten l.grammar.version l.grammar.domains l.script.sections;
+  number : l.line ≡ length (script_lines l.grammar.version l.script.sections) + 1;
+  knows : Knows l.spawns.named l.spawns.own (place_in l.script.sections);
   few : l.line ≤ 2 + l.at;
   inside : l.at ≤ length l.behind;
 }
