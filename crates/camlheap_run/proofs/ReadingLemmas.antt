@@ -5,8 +5,9 @@ use Rattle.std.specs.declared.option.Option.{Option}
 use Rattle.std.proofs.Math.Seq.{take-append_seam}
 use Rattle.std.proofs.lemmas.List.{take_all}
 use Rattle.std.specs.Io.KnownBytes.{IsAtEnd}
+use Rattle.heap_text.specs.declared.version.Version.TheVariants.{Two}
 use Rattle.heap_text.specs.declared.fault.ScriptFault.{ScriptFault}
-use Rattle.heap_text.specs.declared.fault.ScriptFault.TheVariants.{Syntax, Order, Range, TooLong, TooMany, Memory}
+use Rattle.heap_text.specs.declared.fault.ScriptFault.TheVariants.{Syntax, Order, Range, TooLong, TooMany, Spawn, Memory}
 use Rattle.heap_text.specs.Script.{Scripted}
 use Rattle.heap_text.specs.Spelling.{IsUnlessMemory, Spells}
 use Rattle.camlheap_run.specs.declared.reading.NoScript.{NoScript}
@@ -45,8 +46,8 @@ told Spelled few None after bytes read tells = absurd tells
 told Spelled few (Some all) None bytes read tells = absurd read.consumed
 told Spelled few (Some all) (Some rest) bytes read tells = subst Spelled (all_is_read all bytes rest read (few all tells)) tells
 
-pub told_script : (domains : ℕ) (before after : Option (List ℕ)) (bytes : List ℕ) (s : Scripted) → AreRead before after bytes → TellsScript domains before s → Spells domains s bytes
-told_script domains before after bytes s read tells = told (Spells domains s) (λ all spells. spells.few_bytes) before after bytes read tells
+pub told_script : (domains : ℕ) (before after : Option (List ℕ)) (bytes : List ℕ) (s : Scripted) → AreRead before after bytes → TellsScript domains before s → Spells Two domains s bytes
+told_script domains before after bytes s read tells = told (Spells Two domains s) (λ all spells. spells.few_bytes) before after bytes read tells
 
 pub told_table : (before after : Option (List ℕ)) (bytes : List ℕ) (lines : List TableLine) → AreRead before after bytes → TellsTable before lines → SpellsTable lines bytes
 told_table before after bytes lines read tells = told (SpellsTable lines) (λ all spells. spells.few_bytes) before after bytes read tells
@@ -61,6 +62,7 @@ no_fault_but_memory s (Order line) other given = cc
 no_fault_but_memory s (Range line which) other given = cc
 no_fault_but_memory s (TooLong bytes) other given = cc
 no_fault_but_memory s (TooMany line) other given = cc
+no_fault_but_memory s (Spawn line) other given = cc
 
 -- what spells a script or a text isn't refused
 pub not_refused : {A : Type 0} (s : A) (fault f : ScriptFault) (why : NoScript) → IsNoScript fault why → why ≡ Refused f → IsUnlessMemory {A = A} (Err fault) (Ok s) → ⊥

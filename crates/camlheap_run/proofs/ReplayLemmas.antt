@@ -12,6 +12,7 @@ use Rattle.heap_model.specs.declared.reply.Reply.{Reply}
 use Rattle.heap_model.specs.declared.state.Sizes.{Sizes}
 use Rattle.heap_model.specs.History.{Legal, replies}
 use Rattle.heap_model.specs.Output.{line, output, printed, section_text}
+use Rattle.heap_text.specs.declared.version.Version.TheVariants.{Two}
 use Rattle.heap_text.specs.declared.fault.ScriptFault.{ScriptFault}
 use Rattle.heap_text.specs.declared.fault.ScriptFault.TheVariants.{Memory, TooLong}
 use Rattle.heap_text.specs.declared.version.Version.{Version}
@@ -152,12 +153,12 @@ module _ (z : Sizes) (k : Config) (script : List (List Command)) (b : Begun) (it
     }
 
 -- the first fault of a script is no want of memory
-first_is_fault : (domains : ℕ) (bytes : List ℕ) (fault : ScriptFault) → domains < 4294967296 → first_fault domains bytes ≡ Some fault → fault ≢ Memory
+first_is_fault : (domains : ℕ) (bytes : List ℕ) (fault : ScriptFault) → domains < 4294967296 → first_fault Two domains bytes ≡ Some fault → fault ≢ Memory
 first_is_fault domains bytes fault small first =
     ⊎_elim
-    (λ spelled. let clash : None ≡ Some fault = sym (no_fault domains spelled.0 bytes small spelled.1) ∙ first in cc)
+    (λ spelled. let clash : None ≡ Some fault = sym (no_fault Two domains spelled.0 bytes small spelled.1) ∙ first in cc)
     (λ faulty. let same : Some faulty.0 ≡ Some fault = sym faulty.2 ∙ first in let is : faulty.0 ≡ fault = cc in subst (λ (f : ScriptFault). f ≢ Memory) is faulty.1)
-    (answered domains bytes small)
+    (answered Two domains bytes small)
 
 pub script_fault_is : (domains pools : ℕ) (bytes : List ℕ) (fault : ScriptFault) → domains < 4294967296 → HasFault domains pools bytes (ScriptOf fault) → fault ≢ Memory
 script_fault_is domains pools bytes fault small has =
@@ -168,7 +169,7 @@ script_fault_is domains pools bytes fault small has =
 
 -- a replay has a section for each domain
 pub many_sections : (z : Sizes) (k : Config) (r : ReplayedText) → IsSpelledReplay z r → sizes_in k ≡ z → length r.script.sections ≡ k.domains
-many_sections z k r spelled sizes = length-script z.domains r.script (drop spelled.1.place spelled.0) spelled.1.script ∙ ap (λ (y : Sizes). y.domains) (sym sizes)
+many_sections z k r spelled sizes = length-script Two z.domains r.script (drop spelled.1.place spelled.0) spelled.1.script ∙ ap (λ (y : Sizes). y.domains) (sym sizes)
 
 -- what the status says of the fault
 pub status_script : (fault : ReplayFault) (f : ScriptFault) → fault_status fault ≡ Script f → fault ≡ ScriptOf f

@@ -20,9 +20,9 @@ use Rattle.domain_turns.proofs.Owing.{registrations_few}
 use Rattle.camlheap_run.specs.Reading.{IsSpelled}
 use Rattle.camlheap_run.specs.Running.{most_of}
 use Rattle.heap_text.specs.declared.version.Version.{Version}
-use Rattle.heap_text.specs.declared.version.Version.TheVariants.{One, Two}
+use Rattle.heap_text.specs.declared.version.Version.TheVariants.{One, Two, Three}
 use Rattle.heap_text.specs.Script.{Scripted}
-use Rattle.heap_text.specs.Forms.{form, parts, is_built, all_fit, is_writable, fits, most_fields}
+use Rattle.heap_text.specs.Forms.{form, parts, is_built, all_fit, is_writable, fits, version_number, last_register, most_fields}
 use Rattle.heap_text.proofs.ScriptLemmas.{total-cons}
 
 -- a number in a range that begins at 0 or later
@@ -32,10 +32,18 @@ in_range low high n fits = (grind (arith, ints, nat_tests), grind (arith, ints, 
 in_integers : (v : ℤ) → (int_le (neg_ℤ (pos 4611686018427387904)) v && int_le v (pos 4611686018427387903)) ≡ true → (neg_ℤ (pos (2 ^ 62)) ≤ℤ v) × (v <ℤ pos (2 ^ 62))
 in_integers v fits = (grind (arith, ints, nat_tests), grind (arith, ints, nat_tests))
 
-register_fits : (ver : Version) (n : ℕ) → fits ver Register (pos n) ≡ true → n < 16
-register_fits ver n w = let r = in_range 0 15 n w in omega (arith, r.1)
+last_few : (ver : Version) → last_register ver ≤ 15
+last_few One = omega arith
+last_few Two = omega arith
+last_few Three = omega arith
 
--- no version has these words
+register_fits : (ver : Version) (run n : ℕ) → fits ver run Register (pos n) ≡ true → n < 16
+register_fits ver run n w =
+    let r = in_range 0 (last_register ver) n w in
+    let few = last_few ver in
+    omega (arith, r.1, few)
+
+-- no version up to the second has these words
 abbrev is_later : Command → Bool
 is_later (Spawn section item) = true
 is_later (Argument dst) = true
@@ -46,98 +54,100 @@ is_later _ = false
 nothing_later : false ≡ true → ⊥
 nothing_later e = cc
 
-later_words : (ver : Version) (c : Command) → is_later c ≡ true → is_built ver (parts c).word ≡ true → ⊥
-later_words One (Spawn section item) later built = cc
-later_words Two (Spawn section item) later built = cc
-later_words One (Argument dst) later built = cc
-later_words Two (Argument dst) later built = cc
-later_words One (PutResult item) later built = cc
-later_words Two (PutResult item) later built = cc
-later_words One (Join dst section) later built = cc
-later_words Two (Join dst section) later built = cc
-later_words ver _ later built = nothing_later later
+later_words : (ver : Version) (c : Command) → version_number ver ≤ 2 → is_later c ≡ true → is_built ver (parts c).word ≡ true → ⊥
+later_words One (Spawn section item) old later built = cc
+later_words Two (Spawn section item) old later built = cc
+later_words One (Argument dst) old later built = cc
+later_words Two (Argument dst) old later built = cc
+later_words One (PutResult item) old later built = cc
+later_words Two (PutResult item) old later built = cc
+later_words One (Join dst section) old later built = cc
+later_words Two (Join dst section) old later built = cc
+later_words Three c old later built = absurd (omega arith)
+later_words ver _ old later built = nothing_later later
 
 few_fields : (ver : Version) → most_fields ver ≤ 1022
 few_fields One = omega arith
 few_fields Two = omega arith
+few_fields Three = omega arith
 
 -- a command of the grammar is one that runs on the shared heap, with its numbers in their ranges
-ranged_fits : (ver : Version) (c : Command) → is_built ver (parts c).word ≡ true → all_fit ver (form (parts c).word).operands (parts c).numbers ≡ true → FitsHeap c
-ranged_fits ver (PutInt dst value) built w =
-    let p = both (fits ver Register (pos dst)) (fits ver Integer value && true) w in
-    (register_fits ver dst p.0, in_integers value (both (fits ver Integer value) true p.1).0)
-ranged_fits ver (Copy dst src) built w =
-    let p = both (fits ver Register (pos dst)) (fits ver Register (pos src) && true) w in
-    (register_fits ver dst p.0, register_fits ver src (both (fits ver Register (pos src)) true p.1).0)
-ranged_fits ver (Forget dst) built w = register_fits ver dst (both (fits ver Register (pos dst)) true w).0
-ranged_fits ver (Alloc dst tag fields) built w =
-    let p = both (fits ver Register (pos dst)) (fits ver Tag (pos tag) && (fits ver FieldCount (pos fields) && true)) w in
-    let q = both (fits ver Tag (pos tag)) (fits ver FieldCount (pos fields) && true) p.1 in
+ranged_fits : (ver : Version) (run : ℕ) (c : Command) → version_number ver ≤ 2 → is_built ver (parts c).word ≡ true → all_fit ver run (form (parts c).word).operands (parts c).numbers ≡ true → FitsHeap c
+ranged_fits ver run (PutInt dst value) old built w =
+    let p = both (fits ver run Register (pos dst)) (fits ver run Integer value && true) w in
+    (register_fits ver run dst p.0, in_integers value (both (fits ver run Integer value) true p.1).0)
+ranged_fits ver run (Copy dst src) old built w =
+    let p = both (fits ver run Register (pos dst)) (fits ver run Register (pos src) && true) w in
+    (register_fits ver run dst p.0, register_fits ver run src (both (fits ver run Register (pos src)) true p.1).0)
+ranged_fits ver run (Forget dst) old built w = register_fits ver run dst (both (fits ver run Register (pos dst)) true w).0
+ranged_fits ver run (Alloc dst tag fields) old built w =
+    let p = both (fits ver run Register (pos dst)) (fits ver run Tag (pos tag) && (fits ver run FieldCount (pos fields) && true)) w in
+    let q = both (fits ver run Tag (pos tag)) (fits ver run FieldCount (pos fields) && true) p.1 in
     let b = in_range 0 245 tag q.0 in
-    let f = in_range 1 (most_fields ver) fields (both (fits ver FieldCount (pos fields)) true q.1).0 in (register_fits ver dst p.0, b.1, f.0, (let m = few_fields ver in omega (arith, m, f.1)))
-ranged_fits ver (AllocMaj dst tag fields) built w =
-    let p = both (fits ver Register (pos dst)) (fits ver Tag (pos tag) && (fits ver FieldCount (pos fields) && true)) w in
-    let q = both (fits ver Tag (pos tag)) (fits ver FieldCount (pos fields) && true) p.1 in
+    let f = in_range 1 (most_fields ver) fields (both (fits ver run FieldCount (pos fields)) true q.1).0 in (register_fits ver run dst p.0, b.1, f.0, (let m = few_fields ver in omega (arith, m, f.1)))
+ranged_fits ver run (AllocMaj dst tag fields) old built w =
+    let p = both (fits ver run Register (pos dst)) (fits ver run Tag (pos tag) && (fits ver run FieldCount (pos fields) && true)) w in
+    let q = both (fits ver run Tag (pos tag)) (fits ver run FieldCount (pos fields) && true) p.1 in
     let b = in_range 0 245 tag q.0 in
-    let f = in_range 1 (most_fields ver) fields (both (fits ver FieldCount (pos fields)) true q.1).0 in (register_fits ver dst p.0, b.1, f.0, (let m = few_fields ver in omega (arith, m, f.1)))
-ranged_fits ver (Load dst src index) built w =
-    let p = both (fits ver Register (pos dst)) (fits ver Register (pos src) && (fits ver Index (pos index) && true)) w in
-    (register_fits ver dst p.0, register_fits ver src (both (fits ver Register (pos src)) (fits ver Index (pos index) && true) p.1).0)
-ranged_fits ver (Store block index item) built w =
-    let p = both (fits ver Register (pos block)) (fits ver Index (pos index) && (fits ver Register (pos item) && true)) w in
-    let q = both (fits ver Index (pos index)) (fits ver Register (pos item) && true) p.1 in
-    (register_fits ver block p.0, register_fits ver item (both (fits ver Register (pos item)) true q.1).0)
-ranged_fits ver Poll built w = tt
-ranged_fits ver (Raw dst tag fields) built w =
-    let p = both (fits ver Register (pos dst)) (fits ver RawTag (pos tag) && (fits ver FieldCount (pos fields) && true)) w in
-    let q = both (fits ver RawTag (pos tag)) (fits ver FieldCount (pos fields) && true) p.1 in
+    let f = in_range 1 (most_fields ver) fields (both (fits ver run FieldCount (pos fields)) true q.1).0 in (register_fits ver run dst p.0, b.1, f.0, (let m = few_fields ver in omega (arith, m, f.1)))
+ranged_fits ver run (Load dst src index) old built w =
+    let p = both (fits ver run Register (pos dst)) (fits ver run Register (pos src) && (fits ver run Index (pos index) && true)) w in
+    (register_fits ver run dst p.0, register_fits ver run src (both (fits ver run Register (pos src)) (fits ver run Index (pos index) && true) p.1).0)
+ranged_fits ver run (Store block index item) old built w =
+    let p = both (fits ver run Register (pos block)) (fits ver run Index (pos index) && (fits ver run Register (pos item) && true)) w in
+    let q = both (fits ver run Index (pos index)) (fits ver run Register (pos item) && true) p.1 in
+    (register_fits ver run block p.0, register_fits ver run item (both (fits ver run Register (pos item)) true q.1).0)
+ranged_fits ver run Poll old built w = tt
+ranged_fits ver run (Raw dst tag fields) old built w =
+    let p = both (fits ver run Register (pos dst)) (fits ver run RawTag (pos tag) && (fits ver run FieldCount (pos fields) && true)) w in
+    let q = both (fits ver run RawTag (pos tag)) (fits ver run FieldCount (pos fields) && true) p.1 in
     let b = in_range 251 255 tag q.0 in
-    let f = in_range 1 (most_fields ver) fields (both (fits ver FieldCount (pos fields)) true q.1).0 in (register_fits ver dst p.0, b.0, (omega (arith, b.1)), f.0, (let m = few_fields ver in omega (arith, m, f.1)))
-ranged_fits ver (Cas block index expected item) built w =
-    let p = both (fits ver Register (pos block)) (fits ver Index (pos index) && (fits ver Register (pos expected) && (fits ver Register (pos item) && true))) w in
-    let q = both (fits ver Index (pos index)) (fits ver Register (pos expected) && (fits ver Register (pos item) && true)) p.1 in
-    let r = both (fits ver Register (pos expected)) (fits ver Register (pos item) && true) q.1 in
-    (register_fits ver block p.0, register_fits ver expected r.0, register_fits ver item (both (fits ver Register (pos item)) true r.1).0)
-ranged_fits ver (Ephe dst keys) built w =
-    let p = both (fits ver Register (pos dst)) (fits ver KeyCount (pos keys) && true) w in
-    let f = in_range 1 8 keys (both (fits ver KeyCount (pos keys)) true p.1).0 in (register_fits ver dst p.0, f.0, f.1)
-ranged_fits ver (SetKey ephe index item) built w =
-    let p = both (fits ver Register (pos ephe)) (fits ver Index (pos index) && (fits ver Register (pos item) && true)) w in
-    let q = both (fits ver Index (pos index)) (fits ver Register (pos item) && true) p.1 in
-    (register_fits ver ephe p.0, register_fits ver item (both (fits ver Register (pos item)) true q.1).0)
-ranged_fits ver (UnsetKey ephe index) built w = register_fits ver ephe (both (fits ver Register (pos ephe)) (fits ver Index (pos index) && true) w).0
-ranged_fits ver (GetKey dst ephe index) built w =
-    let p = both (fits ver Register (pos dst)) (fits ver Register (pos ephe) && (fits ver Index (pos index) && true)) w in
-    (register_fits ver dst p.0, register_fits ver ephe (both (fits ver Register (pos ephe)) (fits ver Index (pos index) && true) p.1).0)
-ranged_fits ver (CheckKey ephe index) built w = register_fits ver ephe (both (fits ver Register (pos ephe)) (fits ver Index (pos index) && true) w).0
-ranged_fits ver (SetData ephe item) built w =
-    let p = both (fits ver Register (pos ephe)) (fits ver Register (pos item) && true) w in
-    (register_fits ver ephe p.0, register_fits ver item (both (fits ver Register (pos item)) true p.1).0)
-ranged_fits ver (UnsetData ephe) built w = register_fits ver ephe (both (fits ver Register (pos ephe)) true w).0
-ranged_fits ver (GetData dst ephe) built w =
-    let p = both (fits ver Register (pos dst)) (fits ver Register (pos ephe) && true) w in
-    (register_fits ver dst p.0, register_fits ver ephe (both (fits ver Register (pos ephe)) true p.1).0)
-ranged_fits ver (CheckData ephe) built w = register_fits ver ephe (both (fits ver Register (pos ephe)) true w).0
-ranged_fits ver (Finalise item number dst) built w =
-    let p = both (fits ver Register (pos item)) (fits ver FinaliserNumber (pos number) && (fits ver Register (pos dst) && true)) w in
-    let q = both (fits ver FinaliserNumber (pos number)) (fits ver Register (pos dst) && true) p.1 in
-    (register_fits ver item p.0, register_fits ver dst (both (fits ver Register (pos dst)) true q.1).0)
-ranged_fits ver (FinaliseLast item number) built w = register_fits ver item (both (fits ver Register (pos item)) (fits ver FinaliserNumber (pos number) && true) w).0
-ranged_fits ver Minor built w = tt
-ranged_fits ver Major built w = tt
-ranged_fits ver FullMajor built w = tt
-ranged_fits ver (Spawn section item) built w = absurd (later_words ver (Spawn section item) refl built)
-ranged_fits ver (Argument dst) built w = absurd (later_words ver (Argument dst) refl built)
-ranged_fits ver (PutResult item) built w = absurd (later_words ver (PutResult item) refl built)
-ranged_fits ver (Join dst section) built w = absurd (later_words ver (Join dst section) refl built)
+    let f = in_range 1 (most_fields ver) fields (both (fits ver run FieldCount (pos fields)) true q.1).0 in (register_fits ver run dst p.0, b.0, (omega (arith, b.1)), f.0, (let m = few_fields ver in omega (arith, m, f.1)))
+ranged_fits ver run (Cas block index expected item) old built w =
+    let p = both (fits ver run Register (pos block)) (fits ver run Index (pos index) && (fits ver run Register (pos expected) && (fits ver run Register (pos item) && true))) w in
+    let q = both (fits ver run Index (pos index)) (fits ver run Register (pos expected) && (fits ver run Register (pos item) && true)) p.1 in
+    let r = both (fits ver run Register (pos expected)) (fits ver run Register (pos item) && true) q.1 in
+    (register_fits ver run block p.0, register_fits ver run expected r.0, register_fits ver run item (both (fits ver run Register (pos item)) true r.1).0)
+ranged_fits ver run (Ephe dst keys) old built w =
+    let p = both (fits ver run Register (pos dst)) (fits ver run KeyCount (pos keys) && true) w in
+    let f = in_range 1 8 keys (both (fits ver run KeyCount (pos keys)) true p.1).0 in (register_fits ver run dst p.0, f.0, f.1)
+ranged_fits ver run (SetKey ephe index item) old built w =
+    let p = both (fits ver run Register (pos ephe)) (fits ver run Index (pos index) && (fits ver run Register (pos item) && true)) w in
+    let q = both (fits ver run Index (pos index)) (fits ver run Register (pos item) && true) p.1 in
+    (register_fits ver run ephe p.0, register_fits ver run item (both (fits ver run Register (pos item)) true q.1).0)
+ranged_fits ver run (UnsetKey ephe index) old built w = register_fits ver run ephe (both (fits ver run Register (pos ephe)) (fits ver run Index (pos index) && true) w).0
+ranged_fits ver run (GetKey dst ephe index) old built w =
+    let p = both (fits ver run Register (pos dst)) (fits ver run Register (pos ephe) && (fits ver run Index (pos index) && true)) w in
+    (register_fits ver run dst p.0, register_fits ver run ephe (both (fits ver run Register (pos ephe)) (fits ver run Index (pos index) && true) p.1).0)
+ranged_fits ver run (CheckKey ephe index) old built w = register_fits ver run ephe (both (fits ver run Register (pos ephe)) (fits ver run Index (pos index) && true) w).0
+ranged_fits ver run (SetData ephe item) old built w =
+    let p = both (fits ver run Register (pos ephe)) (fits ver run Register (pos item) && true) w in
+    (register_fits ver run ephe p.0, register_fits ver run item (both (fits ver run Register (pos item)) true p.1).0)
+ranged_fits ver run (UnsetData ephe) old built w = register_fits ver run ephe (both (fits ver run Register (pos ephe)) true w).0
+ranged_fits ver run (GetData dst ephe) old built w =
+    let p = both (fits ver run Register (pos dst)) (fits ver run Register (pos ephe) && true) w in
+    (register_fits ver run dst p.0, register_fits ver run ephe (both (fits ver run Register (pos ephe)) true p.1).0)
+ranged_fits ver run (CheckData ephe) old built w = register_fits ver run ephe (both (fits ver run Register (pos ephe)) true w).0
+ranged_fits ver run (Finalise item number dst) old built w =
+    let p = both (fits ver run Register (pos item)) (fits ver run FinaliserNumber (pos number) && (fits ver run Register (pos dst) && true)) w in
+    let q = both (fits ver run FinaliserNumber (pos number)) (fits ver run Register (pos dst) && true) p.1 in
+    (register_fits ver run item p.0, register_fits ver run dst (both (fits ver run Register (pos dst)) true q.1).0)
+ranged_fits ver run (FinaliseLast item number) old built w = register_fits ver run item (both (fits ver run Register (pos item)) (fits ver run FinaliserNumber (pos number) && true) w).0
+ranged_fits ver run Minor old built w = tt
+ranged_fits ver run Major old built w = tt
+ranged_fits ver run FullMajor old built w = tt
+ranged_fits ver run (Spawn section item) old built w = absurd (later_words ver (Spawn section item) old refl built)
+ranged_fits ver run (Argument dst) old built w = absurd (later_words ver (Argument dst) old refl built)
+ranged_fits ver run (PutResult item) old built w = absurd (later_words ver (PutResult item) old refl built)
+ranged_fits ver run (Join dst section) old built w = absurd (later_words ver (Join dst section) old refl built)
 
-writable_fits : (ver : Version) (c : Command) → is_writable ver c ≡ true → FitsHeap c
-writable_fits ver c w = let t = both (is_built ver (parts c).word) (all_fit ver (form (parts c).word).operands (parts c).numbers) w in ranged_fits ver c t.0 t.1
+writable_fits : (ver : Version) (run : ℕ) (c : Command) → version_number ver ≤ 2 → is_writable ver run c ≡ true → FitsHeap c
+writable_fits ver run c old w = let t = both (is_built ver (parts c).word) (all_fit ver run (form (parts c).word).operands (parts c).numbers) w in ranged_fits ver run c old t.0 t.1
 
-all_writable_fit : (ver : Version) (cs : List Command) → list_all (is_writable ver) cs ≡ true → AllFit cs
-all_writable_fit ver [] w i c at = cc
-all_writable_fit ver (x ∷ xs) w zero c at = let is : x ≡ c = cc in subst FitsHeap is (writable_fits ver x (both (is_writable ver x) (list_all (is_writable ver) xs) w).0)
-all_writable_fit ver (x ∷ xs) w (suc i) c at = all_writable_fit ver xs (both (is_writable ver x) (list_all (is_writable ver) xs) w).1 i c at
+all_writable_fit : (ver : Version) (run : ℕ) (cs : List Command) → version_number ver ≤ 2 → list_all (is_writable ver run) cs ≡ true → AllFit cs
+all_writable_fit ver run [] old w i c at = cc
+all_writable_fit ver run (x ∷ xs) old w zero c at = let is : x ≡ c = cc in subst FitsHeap is (writable_fits ver run x old (both (is_writable ver run x) (list_all (is_writable ver run) xs) w).0)
+all_writable_fit ver run (x ∷ xs) old w (suc i) c at = all_writable_fit ver run xs old (both (is_writable ver run x) (list_all (is_writable ver run) xs) w).1 i c at
 
 -- a section that may be run: not too long, and of such commands
 pub record IsFine (cs : List Command) : Type 0 where
@@ -147,15 +157,15 @@ pub record IsFine (cs : List Command) : Type 0 where
 none_fit : AllFit []
 none_fit i c at = cc
 
-written_fine : (ver : Version) (sections : List (List Command)) (d : ℕ) → sum_by length sections ≤ 200000 → list_all (list_all (is_writable ver)) sections ≡ true → IsFine (slice_index_or sections d [])
-written_fine ver [] d few w = record { few = omega arith; fit = none_fit }
-written_fine ver (cs ∷ sections) zero few w = let total = total-cons cs sections in record {
+written_fine : (ver : Version) (run : ℕ) (sections : List (List Command)) (d : ℕ) → version_number ver ≤ 2 → sum_by length sections ≤ 200000 → list_all (list_all (is_writable ver run)) sections ≡ true → IsFine (slice_index_or sections d [])
+written_fine ver run [] d old few w = record { few = omega arith; fit = none_fit }
+written_fine ver run (cs ∷ sections) zero old few w = let total = total-cons cs sections in record {
   few = omega arith;
-  fit = all_writable_fit ver cs (both (list_all (is_writable ver) cs) (list_all (list_all (is_writable ver)) sections) w).0;
+  fit = all_writable_fit ver run cs old (both (list_all (is_writable ver run) cs) (list_all (list_all (is_writable ver run)) sections) w).0;
 }
-written_fine ver (cs ∷ sections) (suc d) few w =
+written_fine ver run (cs ∷ sections) (suc d) old few w =
     let total = total-cons cs sections in
-    written_fine ver sections d (omega arith) (both (list_all (is_writable ver) cs) (list_all (list_all (is_writable ver)) sections) w).1
+    written_fine ver run sections d old (omega arith) (both (list_all (is_writable ver run) cs) (list_all (list_all (is_writable ver run)) sections) w).1
 
 abbrev no_commands : List Command
 no_commands = []
@@ -175,7 +185,7 @@ pub spelled_fine : (domains : ℕ) (script : Scripted) → IsSpelled domains scr
 spelled_fine domains script spelled d =
     let s = spelled.1 in
     let at : slice_index_or script.sections d [] ≡ slice_index_or s.written d [] = ap (λ (l : List (List Command)). slice_index_or l d []) s.script_is ∙ written_at s.written (domains - length s.written) d in
-    subst IsFine (sym at) (written_fine script.version s.written d s.is_written.few_commands s.is_written.writable)
+    subst IsFine (sym at) (written_fine script.version domains s.written d s.is_read s.is_written.few_commands s.is_written.writable)
 
 -- a script has a section for each domain
 pub spelled_length : (domains : ℕ) (script : Scripted) → IsSpelled domains script → length script.sections ≡ domains

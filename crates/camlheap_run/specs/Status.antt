@@ -1,7 +1,7 @@
 -- The numbers and the lines of the statuses.
 use Rattle.std.specs.Prelude.{ℕ, List, [], ◌++◌, codes, decimal}
 use Rattle.heap_text.specs.declared.fault.ScriptFault.{ScriptFault}
-use Rattle.heap_text.specs.declared.fault.ScriptFault.TheVariants.{Syntax, Order, Range, TooLong, TooMany, Memory as NoMemory}
+use Rattle.heap_text.specs.declared.fault.ScriptFault.TheVariants.{Syntax, Order, Range, TooLong, TooMany, Spawn, Memory as NoMemory}
 use Rattle.heap_model.specs.Output.{line}
 use Rattle.camlheap_run.specs.declared.status.Status.{Status}
 use Rattle.camlheap_run.specs.declared.status.Status.TheVariants.{Done, Usage, Script, Schedule, NotReplayable, ReadFault, WriteFault, Memory}
@@ -29,6 +29,7 @@ fault_text (Order l) = at_line l (codes "section order")
 fault_text (Range l which) = at_line l (codes "number " ++ decimal which ++ codes " out of range")
 fault_text (TooLong bytes) = codes "script: more than 16777216 bytes"
 fault_text (TooMany l) = at_line l (codes "too many commands")
+fault_text (Spawn l) = at_line l (codes "spawn")
 fault_text NoMemory = codes "out of memory"
 
 -- the line of a status, with its line feed; a run that is done has none

@@ -10,7 +10,7 @@ ghost use Rattle.table_text.specs.Faults.{first_fault as table_fault};
 ghost use Rattle.camlheap_run.specs.Reading.{AreRead, IsFirst, IsNoReplay, IsNoScript, ReadsFault, ReadsFirstFault, ReadsReplay, ReadsReplayFault, ReadsScript, ReadsTable, TellsFault, TellsFirst, TellsReplay, TellsReplayFault, TellsScript, TellsTable};
 
 use heap_model::state::Sizes;
-use heap_text::{Script, ScriptFault, read_script};
+use heap_text::{Script, ScriptFault, Version, read_script};
 use outer_io::Source;
 use schedule_text::{Replay, ReplayFault, read_replay};
 use std::alloc::Global;
@@ -90,7 +90,7 @@ pub(crate) fn script_of<S: Source>(
         Err(ReadStop::Fault) => return Err(NoScript::ReadFault),
         Err(ReadStop::Memory) => return Err(NoScript::Memory),
     };
-    match read_script(alloc, domains, &bytes) {
+    match read_script(alloc, Version::Two, domains, &bytes) {
         Ok(script) => Ok(script),
         Err(fault) => Err(no_script(fault)),
     }

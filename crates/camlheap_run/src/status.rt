@@ -78,6 +78,7 @@ fn put_fault(out: &mut [u8; 128], fault: &ScriptFault) -> usize
         }
         ScriptFault::TooLong { .. } => put(out, 0, b"script: more than 16777216 bytes\n"),
         ScriptFault::TooMany { line } => put_line(out, *line, b": too many commands\n"),
+        ScriptFault::Spawn { line } => put_line(out, *line, b": spawn\n"),
         ScriptFault::Memory => put(out, 0, b"out of memory\n"),
     }
 }

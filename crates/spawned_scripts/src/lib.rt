@@ -1,6 +1,4 @@
-//! What the laws of spawns and joins ask of a script, and that each script of version 3 is so.
+//! What the laws of spawns and joins say of each script of version 3 that is read.
 #![tactic(auto)]
 
 pub mod law;
-
-pub use law::spawns_fit;

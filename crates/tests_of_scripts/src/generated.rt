@@ -4,7 +4,7 @@ ghost use Rattle.std.specs.Prelude.{◌≤◌};
 use crate::program::{Output, is_given, run_program, sink, source, words_in};
 use camlheap_run::{camlheap, status_number};
 use heap_model::command::Command;
-use heap_text::{Line, generate, print_command, read_script};
+use heap_text::{Line, Version, generate, print_command, read_script};
 use outer_io::{LengthSink, MemSink, MemSource, NoGate};
 use std::alloc::{AllocError, Global};
 use std::sync::Wait;
@@ -97,7 +97,7 @@ fn are_same(ones: &[Command], others: &[Command]) -> bool {
 fn a_written_script_is_the_generated_one(rt: HostRuntime) -> Result<(), Fail> {
     let alloc = rt.alloc();
     let given = run_unread(&rt, alloc, "gen 7 2 2000", sink(alloc, 4096, &[])?)?;
-    let read = read_script(alloc, 2, &given.written)?;
+    let read = read_script(alloc, Version::Two, 2, &given.written)?;
     let generated = generate(alloc, 7, 2, 2000)?;
     assert_eq!(rt; (read.sections(), generated.sections()), (2, 2));
     for domain in 0..read.sections().min(generated.sections()) {
