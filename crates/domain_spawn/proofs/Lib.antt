@@ -1,4 +1,5 @@
 pub mod Making
+pub mod Owed
 pub mod Interleaved
 pub mod Handing
 pub mod Leveling

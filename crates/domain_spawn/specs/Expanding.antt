@@ -1,5 +1,5 @@
 -- What a call leaves that makes a few commands of its domain, one behind the other.
-use Rattle.std.specs.Prelude.{◌≡◌, ℕ, Bool, true, false, List, [], ◌∷◌, ◌++◌, slice_index_or, ℤ, pos}
+use Rattle.std.specs.Prelude.{◌≡◌, ℕ, Bool, true, false, Option, Some, None, List, [], ◌∷◌, ◌++◌, slice_index_or, ℤ, pos}
 use Rattle.heap_model.specs.declared.command.Command.{Command}
 use Rattle.heap_model.specs.declared.command.Command.TheVariants.{PutInt, Store}
 use Rattle.heap_model.specs.declared.reply.Reply.{Reply}
@@ -16,7 +16,7 @@ use Rattle.spawn_laws.specs.Hidden.{hidden, scratch, argument_of}
 use Rattle.spawn_laws.specs.Expansion.{Step, steps_from, is_int, flag_load, IsExpansion, Make}
 use Rattle.spawn_laws.specs.Printed.{printed_of, printed_replies}
 
--- the domain runs on, and its part of the history has grown by entries of others and by these steps
+-- the domain runs on, its part of the history has grown by entries of others and by these steps, and it owes no finaliser
 pub record MakesSteps (h : SharedHeap) (old new : Token) (xs : List Step) : Type 0 where
   pub runs : Runs h new
   pub number : new.view.own.number ≡ old.view.own.number
@@ -24,8 +24,13 @@ pub record MakesSteps (h : SharedHeap) (old new : Token) (xs : List Step) : Type
   pub legal : Legal (sizes_in old.config) new.view.seen.front
   pub steps : steps_from (opening (sizes_in old.config)) new.view.seen.front old.view.own.number ≡ steps_from (opening (sizes_in old.config)) old.view.seen.front old.view.own.number ++ xs
   pub printed : printed_replies (sizes_in old.config) new.view.seen.front old.view.own.number ≡ printed_replies (sizes_in old.config) old.view.seen.front old.view.own.number ++ printed_of old.view.own.number xs
+  pub owes : (domain_at (state_of old.config new.view.seen.front) old.view.own.number).due ≡ 0
   pub heap : (new.table ≡ old.table) × (new.config ≡ old.config)
   pub stays : Stays old.view new.view
+
+-- what the domain owns is as before, but for its registers and the fields that it remembers
+pub record ChangesWords (old new : Token) : Type 0 where
+  pub own : new.view.own ≡ record old.view.own { registers = new.view.own.registers; remembered = new.view.own.remembered }
 
 -- what a domain's registers hold at its part of the history
 abbrev pub held_at : Token → List Value
@@ -41,11 +46,18 @@ pub record LooksAt (h : SharedHeap) (old new : Token) (section : ℕ) (until : �
   pub makes : MakesOne h old new (flag_load section) answer
   pub told : seen ≡ is_int until answer
 
--- the steps of a command
-pub record Expands (h : SharedHeap) (old new : Token) (c : Command) : Type 0 where
+-- what the last of some steps answered
+abbrev pub last_answer : List Step → Option Reply
+last_answer [] = None
+last_answer (x ∷ []) = Some x.answer
+last_answer (x ∷ y ∷ xs) = last_answer (y ∷ xs)
+
+-- the steps of a command, of which the last has this answer
+pub record Expands (h : SharedHeap) (old new : Token) (c : Command) (r : Reply) : Type 0 where
   pub steps : List Step
   pub makes : MakesSteps h old new steps
   pub is : IsExpansion old.view.own.number c steps
+  pub tells : last_answer steps ≡ Some r
 
 -- steps that make these commands
 pub record MakesAll (h : SharedHeap) (old new : Token) (cs : List Command) : Type 0 where

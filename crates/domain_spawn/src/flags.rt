@@ -8,7 +8,7 @@ ghost use Rattle.heap_rule.specs.Rule.{state_of};
 ghost use Rattle.heap_rule.specs.Running.{Runs, ChangesRegisters};
 ghost use Rattle.heap_rule.specs.Token.{Holds};
 ghost use Rattle.spawn_laws.specs.Expansion.{finish_commands, is_int};
-ghost use Rattle.domain_spawn.specs.Expanding.{LooksAt, Expands, MakesAll, PassesArgument};
+ghost use Rattle.domain_spawn.specs.Expanding.{ChangesWords, LooksAt, Expands, MakesAll, PassesArgument};
 
 use field_access::{load, put_int, store};
 use heap_model::reply::Reply;
@@ -68,6 +68,7 @@ pub fn finish(heap: &Heap, dom: &mut Domain)
     requires runs { Runs heap.now dom.old }
     requires room { 1 ≤ dom.old.view.own.remembered.room }
     ensures makes { MakesAll heap.now dom.old dom.new (finish_commands dom.old.view.own.number) }
+    ensures rest { ChangesWords dom.old dom.new }
 {
     let _limits = heap.config();
     let section = dom.number() as u16;
@@ -83,6 +84,7 @@ fn pass_argument(heap: &Heap, dom: &mut Domain, section: u16, item: u8)
     requires room { 2 ≤ dom.old.view.own.remembered.room }
     requires shows { Shows (value_at dom.old.view.own.registers item) (register_value (state_of heap.now.config dom.old.view.seen.front) dom.old.view.own.number item) }
     ensures makes { PassesArgument heap.now dom.old dom.new section item }
+    ensures rest { ChangesWords dom.old dom.new }
     ensures room { 1 ≤ dom.new.view.own.remembered.room }
 {
     if let Value::Nothing = dom.register(item) {
@@ -95,16 +97,17 @@ fn pass_argument(heap: &Heap, dom: &mut Domain, section: u16, item: u8)
 
 /// Begins a section: what register `item` holds becomes its argument, 0 where it holds nothing, and its
 /// flag becomes 1. The domain has room for two more fields to be remembered, and knows that its trace gave
-/// the register what it holds.
-pub fn begin(heap: &Heap, dom: &mut Domain, section: u32, item: u8)
+/// the register what it holds. Answers the reply of its last store.
+pub fn begin(heap: &Heap, dom: &mut Domain, section: u32, item: u8) -> Reply
     requires runs { Runs heap.now dom.old }
     requires section { section < 8 }
     requires item { item < 14 }
     requires room { 2 ≤ dom.old.view.own.remembered.room }
     requires shows { Shows (value_at dom.old.view.own.registers item) (register_value (state_of heap.now.config dom.old.view.seen.front) dom.old.view.own.number item) }
-    ensures makes { Expands heap.now dom.old dom.new (Spawn section item) }
+    ensures makes { Expands heap.now dom.old dom.new (Spawn section item) result }
+    ensures rest { ChangesWords dom.old dom.new }
 {
     pass_argument(heap, dom, section as u16, item);
     put_int(heap, dom, SCRATCH, 1);
-    store(heap, dom, HIDDEN, section as u16, SCRATCH);
+    store(heap, dom, HIDDEN, section as u16, SCRATCH)
 }

@@ -3,7 +3,7 @@ use Rattle.std.proofs.Common.{◌≡◌, ◌≢◌, ◌∙◌, ℕ, ◌/◌, ◌
 use Rattle.std.specs.Prelude.{slice_index_or}
 use Rattle.heap_model.specs.declared.command.Command.{Command}
 use Rattle.domain_turns.specs.declared.supply.Supply.{Supply}
-use Rattle.domain_turns.specs.declared.supply.Supply.TheVariants.{Listed, Open}
+use Rattle.domain_turns.specs.declared.supply.Supply.TheVariants.{Listed, Section, Open}
 use Rattle.mark_slices.specs.Decks.{DeckCounts}
 use Rattle.mark_slices.specs.Slices.{IsDeckOf}
 use Rattle.heap_model.specs.Domains.{class_count, opening_domain, no_domain}
@@ -16,14 +16,15 @@ use Rattle.heap_rule.specs.Pools.{prepared_at}
 use Rattle.heap_rule.specs.Token.{Token, SharedHeap}
 use Rattle.steps_finalisers.specs.Registering.{count_of}
 use Rattle.heap_rule.specs.Views.{no_collection}
-use Rattle.domain_turns.specs.Runs.{AllFit, CanBegin, EndsIn, HasLabels, HasReserved, IsBetween, IsRun, ephemerons_in, registrations_in, unturned}
+use Rattle.domain_turns.proofs.Supplying.{fits_as}
+use Rattle.domain_turns.specs.Runs.{AllFit, CanBegin, EndsIn, HasLabels, HasReserved, IsBetween, IsHandedIn, IsRun, ephemerons_in, registrations_in, unturned}
 
-nothing_prepared : (n class : ℕ) → ◌≡◌ {A = Option ℕ} (slice_index_or (replicate n None) class None) None
+pub nothing_prepared : (n class : ℕ) → ◌≡◌ {A = Option ℕ} (slice_index_or (replicate n None) class None) None
 nothing_prepared zero class = refl
 nothing_prepared (suc n) zero = refl
 nothing_prepared (suc n) (suc class) = nothing_prepared n class
 
-even_rest : (n : ℕ) → n % 2 ≡ 0 → IsEven n
+pub even_rest : (n : ℕ) → n % 2 ≡ 0 → IsEven n
 even_rest n rest = (n / 2, omega arith)
 
 begins_between : (t : Token) (cs : List Command) → CanBegin t cs → IsBetween None None false no_collection t
@@ -47,19 +48,19 @@ begins_replied t cs can = let none = can.none_listed in omega arith
 
 -- so each command of a list may, and each finaliser
 pub reserves_listed : (count commands replies : ℕ) → count + count ≤ replies → HasReserved Listed count commands replies
-reserves_listed count commands replies enough = record { answers = enough; one = λ other. absurd (other refl) }
+reserves_listed count commands replies enough = record { answers = enough; one = λ handed. absurd handed }
 
 -- the run of a domain that may begin, by what its supply asks
 begins_as : (t : Token) (cs : List Command) (hints : DeckCounts) (s : Supply) → CanBegin t cs → IsDeckOf t.config t.view hints → EndsIn s (commands t.view.seen.front t.view.own.number) [] → EndsIn s (replies (sizes_in t.config) t.view.seen.front t.view.own.number) []
-    → HasLabels s t.view.own.serial 0 cs → (s ≢ Listed → (length cs ≤ 1) × (registrations_in cs ≡ 0)) → IsRun (unturned t cs hints s)
-begins_as t cs hints s can deck made answered labels handed = record {
+    → HasLabels s t.view.own.serial 0 cs → s ≢ Section → (IsHandedIn s → (length cs ≤ 1) × (registrations_in cs ≡ 0)) → IsRun (unturned t cs hints s)
+begins_as t cs hints s can deck made answered labels other handed = record {
   inside = can.inside;
   made = made;
   answered = answered;
   replied = begins_replied t cs can;
   within = omega arith;
   few = can.few;
-  fit = can.fit;
+  fit = fits_as s cs other can.fit;
   room = can.room;
   enlists = begins_enlisted t cs can;
   idle = can.idle;
@@ -72,16 +73,20 @@ begins_as t cs hints s can deck made answered labels handed = record {
   done = λ ended. let clash : false ≡ true = ended in cc;
   over = λ ended. let clash : false ≡ true = ended in cc;
   shut = λ ended. let clash : false ≡ true = ended in cc;
-  one = λ other. let few = handed other in record { one = few.0; registers_none = few.1; none_listed = can.none_listed; answered = refl };
+  one = λ given. let few = handed given in record { one = few.0; registers_none = few.1; none_listed = can.none_listed; answered = refl };
+  section = λ section. absurd (other section);
+  as_ever = λ _. refl;
+  unasked = λ before. cc;
+  told = λ ended. let clash : false ≡ true = ended in cc;
 }
 
 -- all of its commands were listed
 pub begins_listed : (t : Token) (cs : List Command) (hints : DeckCounts) → CanBegin t cs → IsDeckOf t.config t.view hints → IsRun (unturned t cs hints Listed)
-begins_listed t cs hints can deck = begins_as t cs hints Listed can deck can.no_commands can.no_replies (let few = can.labels in omega arith) (λ other. absurd (other refl))
+begins_listed t cs hints can deck = begins_as t cs hints Listed can deck can.no_commands can.no_replies (let few = can.labels in omega arith) (λ e. cc) (λ given. absurd given)
 
 -- or they are handed in
 pub begins_open : (t : Token) (hints : DeckCounts) → CanBegin t [] → IsDeckOf t.config t.view hints → IsRun (unturned t [] hints Open)
-begins_open t hints can deck = begins_as t [] hints Open can deck ([], can.no_commands) ([], can.no_replies) (let few = can.labels in omega arith) (λ _. (omega arith, refl))
+begins_open t hints can deck = begins_as t [] hints Open can deck ([], can.no_commands) ([], can.no_replies) (let few = can.labels in omega arith) (λ e. cc) (λ _. (omega arith, refl))
 
 owes_none : (n d : ℕ) → (slice_index_or (replicate n opening_domain) d no_domain).due ≡ 0
 owes_none zero d = refl

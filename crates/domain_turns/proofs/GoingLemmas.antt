@@ -10,7 +10,7 @@ use Rattle.heap_rule.specs.declared.view.Own.{Own}
 use Rattle.heap_rule.specs.declared.view.DomainView.{DomainView}
 use Rattle.heap_rule.specs.Token.{SharedHeap}
 use Rattle.domain_turns.specs.declared.turned.Turned.{Turned}
-use Rattle.domain_turns.specs.declared.turned.Turned.TheVariants.{Did, Waiting, Hungry, Idle}
+use Rattle.domain_turns.specs.declared.turned.Turned.TheVariants.{Did, Waiting, Hungry, Held, Idle}
 use Rattle.domain_turns.specs.declared.turned.Turned.TheVariants.{Ended as Over}
 use Rattle.domain_turns.specs.declared.passing.LookOutcome.{LookOutcome}
 use Rattle.domain_turns.specs.declared.passing.LookOutcome.TheVariants.{Waits, Arrived, Answered, Runs}
@@ -22,9 +22,10 @@ use Rattle.size_pools.proofs.Seeking.{sought_view}
 use Rattle.domain_turns.proofs.Working.{works_keeps}
 use Rattle.domain_turns.specs.Runs.{RunView, CalmDid, Rests, CalmAnswers, RunAnswers, Stops, Resumes, GoesBy, IsAnswered, SeesAnswer, wanting, GoesOn, asking_end}
 use Rattle.heap_rule.specs.declared.config.Config.{Config}
-use Rattle.domain_turns.specs.Runs.CalmDid.{Finalises, Wishes, Refuses, Tries, Works, Ends}
+use Rattle.domain_turns.specs.Runs.CalmDid.{Finalises, Wishes, Refuses, Tries, Works, Ends, Sees, Makes, Tells, WishesToTell}
 use Rattle.domain_turns.proofs.LeavingLemmas.{passes_leaves}
 use Rattle.domain_turns.proofs.Moving.{front_prefix}
+use Rattle.domain_turns.proofs.SectionTurns.{StepsOn, held_steps, makes_steps, sees_steps, tells_steps}
 use Rattle.domain_turns.proofs.Turning.{stood}
 
 answered_front : (z : Sizes) (d : ℕ) (old new : List Entry) (e : Entry) (r : Applied) → Answers z d old new e r → IsPrefix old new
@@ -37,6 +38,10 @@ same_prefix old new is = record { rest = []; appends = is ∙ sym (append-nil ol
 asks : (spent : Bool) (old new : RunView) → GoesOn old new → GoesOn old (asking_end spent new)
 asks false old new g = g
 asks true old new g = record { commands = g.commands; supply = g.supply; number = g.number; front = g.front }
+
+-- some steps of a section
+stepped : (h : SharedHeap) (old new : RunView) → StepsOn h old new → GoesOn old new
+stepped h old new s = record { commands = s.commands; supply = s.supply; number = s.makes.number; front = s.makes.front }
 
 calm_did : (h : SharedHeap) (old new : RunView) → CalmDid h old new → GoesOn old new
 calm_did h old new (Finalises f) = record {
@@ -72,6 +77,15 @@ calm_did h old new (Works p) =
     } in
     subst (GoesOn old) (sym p.run) (asks p.spent old p.made g)
 calm_did h old new (Ends t) = record { commands = ap (λ (r : RunView). r.commands) t.run; supply = ap (λ (r : RunView). r.supply) t.run; number = ap (λ (x : DomainView). x.own.number) t.ended.view; front = answered_front _ _ _ _ _ _ t.ended.answers }
+calm_did h old new (Sees t) = stepped h old new (sees_steps h old new t)
+calm_did h old new (Makes c t) = stepped h old new (makes_steps h old new c t)
+calm_did h old new (Tells t) = stepped h old new (tells_steps h old new t)
+calm_did h old new (WishesToTell a) = record {
+  commands = ap (λ (r : RunView). r.commands) a.run;
+  supply = ap (λ (r : RunView). r.supply) a.run;
+  number = ap (λ (r : RunView). r.token.view.own.number) a.run;
+  front = same_prefix _ _ (ap (λ (r : RunView). r.token.view.seen.front) a.run);
+}
 
 rests : (old new : RunView) (n : ℕ) → Rests old new n → GoesOn old new
 rests old new n r = record {
@@ -96,6 +110,7 @@ run_goes h old new Did says = ⊎_elim
     (λ (c : CalmDid h (wanting old 0) new). wanted old new 0 (calm_did h (wanting old 0) new c)) says
 run_goes h old new (Waiting b) says = absurd says
 run_goes h old new Hungry says = record { commands = ap (λ (r : RunView). r.commands) says.run; supply = ap (λ (r : RunView). r.supply) says.run; number = ap (λ (r : RunView). r.token.view.own.number) says.run; front = same_prefix _ _ (ap (λ (r : RunView). r.token.view.seen.front) says.run) }
+run_goes h old new (Held section) says = wanted old new 0 (stepped h (wanting old 0) new (held_steps h (wanting old 0) new section says))
 run_goes h old new (Idle n) says = wanted old new 0 (rests (wanting old 0) new n says.0)
 run_goes h old new Over says = wanted old new 0 (rests (wanting old 0) new h.config.domains says)
 
@@ -107,6 +122,7 @@ calm_run h old start new w a is none says = by_answer a (subst (λ (n : ℕ). Ca
     by_answer Did c = inr c
     by_answer (Waiting b) c = c
     by_answer Hungry c = c
+    by_answer (Held section) c = c
     by_answer (Idle n) c = c
     by_answer Over c = c
 

@@ -5,6 +5,7 @@ pub mod Trying
 pub mod Pooling
 pub mod Working
 pub mod Taking
+pub mod Sectioning
 pub mod Supplying
 pub mod Moving
 pub mod LeavingLemmas
@@ -12,6 +13,9 @@ pub mod GoingLemmas
 pub mod ExactLemmas
 pub mod Looking
 pub mod Turning
+pub mod BeginningSection
+pub mod Opened
+pub mod SectionTurns
 pub mod StretchLemmas
 pub mod PassingLemmas
 pub mod Refused

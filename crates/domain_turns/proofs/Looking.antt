@@ -38,5 +38,5 @@ looked_between left asked collected progress t n b =
 pub looked_is_run : (h : SharedHeap) (r : RunView) (new : Token) (n : Note) → IsRun r → IsIn r.token h → IsIn new h → new.view ≡ noted r.token.view n → IsRun (record r { token = new })
 looked_is_run h r new n is was here view =
     let same : new ≡ noted_token r.token n = token_is h r.token new (noted r.token.view n) was here view in
-    moved_is_run r new r.left r.asked r.collected r.progress r.hints is (stays_same r.hints) (still_moves h r.token new _ was here view refl refl refl refl refl refl refl)
+    moved_is_run r new r.left r.asked r.collected r.progress r.hints is (stays_same r.hints) (still_moves h r.token new _ was here view refl refl refl refl refl refl refl) is.unasked
     (subst (λ (t : Token). IsBetween r.left r.asked r.collected r.progress t) (sym same) (looked_between r.left r.asked r.collected r.progress r.token n is.between))

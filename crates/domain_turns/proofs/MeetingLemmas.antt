@@ -51,7 +51,7 @@ between_seeing left asked collected progress t history inside begins b = record 
 pub seeing_is_run : (h : SharedHeap) (r : RunView) (history : List Entry) → IsIn r.token h → IsRun r → Begins history r.token.view → IsRun (run_seeing r history)
 seeing_is_run h r history here is begins =
     moved_is_run r (seeing r.token history) r.left r.asked r.collected r.progress r.hints is (stays_same r.hints)
-    (view_moves h r.token (seeing r.token history) (with_front r.token.view history) here here refl refl refl refl refl refl refl begins)
+    (view_moves h r.token (seeing r.token history) (with_front r.token.view history) here here refl refl refl refl refl refl refl begins) is.unasked
     (between_seeing r.left r.asked r.collected r.progress r.token history is.inside begins is.between)
 
 -- what a pass that doesn't wait came to

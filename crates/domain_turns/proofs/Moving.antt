@@ -1,5 +1,5 @@
 -- A run whose domain moved in the phases, and made no entry.
-use Rattle.std.proofs.Common.{◌≡◌, ◌∙◌, ℕ, ◌+◌, ◌<◌, ◌≤◌, Bool, true, false, List, [], ◌∷◌, ◌++◌, append-nil, refl, sym, ap, subst, Option, arith, drop, take, length}
+use Rattle.std.proofs.Common.{◌≡◌, ◌∙◌, ℕ, ◌+◌, ◌<◌, ◌≤◌, Bool, true, false, List, [], ◌∷◌, ◌++◌, append-nil, refl, sym, ap, subst, Option, None, arith, drop, take, length}
 use Rattle.std.specs.Prelude.{IsTrue, ◌||◌}
 use Rattle.std.specs.List.{list_any}
 use Rattle.heap_model.specs.declared.entry.Entry.{Entry}
@@ -21,7 +21,10 @@ use Rattle.domain_turns.specs.Pausing.{due_of}
 use Rattle.mark_slices.specs.Decks.{DeckCounts, StaysDeck}
 use Rattle.mark_slices.specs.Slices.{IsDeckOf}
 use Rattle.domain_turns.specs.Runs.{RunView, HasLabels, IsRun, IsBetween, ephemerons_in, registrations_in, is_end_of}
+use Rattle.domain_turns.specs.Sections.{IsInSection}
+use Rattle.domain_turns.specs.declared.place.Place.TheVariants.{Before}
 use Rattle.domain_turns.proofs.Owing.{due_on}
+use Rattle.domain_turns.proofs.Sectioning.{section_on}
 use Rattle.domain_turns.proofs.Supplying.{ends_as}
 use Rattle.remembered_set.specs.Bounded.{Bounded}
 
@@ -54,8 +57,8 @@ same_room a b is = let rooms : b.room ≡ a.room = ap (λ (l : Bounded ℕ). l.r
 pub deck_on : (r : RunView) (new : Token) (hints : DeckCounts) → new.view.own.number ≡ r.token.view.own.number → new.config ≡ r.token.config → StaysDeck r.hints hints → IsDeckOf r.token.config r.token.view r.hints → IsDeckOf new.config new.view hints
 deck_on r new hints number config stays is = record { number = stays.number ∙ (is.number ∙ sym number); domains = stays.domains ∙ (is.domains ∙ ap (λ (c : Config). c.domains) (sym config)) }
 
-pub moved_is_run : (r : RunView) (new : Token) (left : Option Kind) (asked : Option ℕ) (collected : Bool) (progress : Progress) (hints : DeckCounts) → IsRun r → StaysDeck r.hints hints → Moves r.token new → IsBetween left asked collected progress new → IsRun (record r { token = new; left = left; asked = asked; collected = collected; progress = progress; hints = hints })
-moved_is_run r new left asked collected progress hints is stays m between =
+pub moved_is_run : (r : RunView) (new : Token) (left : Option Kind) (asked : Option ℕ) (collected : Bool) (progress : Progress) (hints : DeckCounts) → IsRun r → StaysDeck r.hints hints → Moves r.token new → (r.place ≡ Before → asked ≡ None) → IsBetween left asked collected progress new → IsRun (record r { token = new; left = left; asked = asked; collected = collected; progress = progress; hints = hints })
+moved_is_run r new left asked collected progress hints is stays m unasked between =
     let d : ℕ = r.token.view.own.number in
     let k : Config = r.token.config in
     let old : List Entry = r.token.view.seen.front in
@@ -87,6 +90,11 @@ moved_is_run r new left asked collected progress hints is stays m between =
       over = λ ended. subst (λ (x : ℕ × List Entry). IsTrue (list_any (is_end_of x.0) x.1)) (λ i. (sym m.number i, sym m.front.appends i)) (any_append (is_end_of d) old rest (is.over ended));
       shut = is.shut;
       one = λ handed. let o = is.one handed in record { one = o.one; registers_none = o.registers_none; none_listed = m.listed ∙ o.none_listed; answered = o.answered };
+      section = λ section. subst (λ (w : Config × ℕ). IsInSection w.0 w.1 new.view.seen.front r.place r.commands r.next r.replies) (λ i. (sym m.config i, sym m.number i))
+          (section_on k d old new.view.seen.front r.place r.commands r.next r.replies m.front (is.section section));
+      as_ever = is.as_ever;
+      unasked = unasked;
+      told = is.told;
     }
 
 -- the whole token, by its view

@@ -1,23 +1,21 @@
 -- What a domain owes: finalisers that are to run before its next `full_major`, and how many it may still have to run.
-use Rattle.std.proofs.Common.{◌≡◌, ◌≢◌, ◌∙◌, ℕ, zero, suc, ◌+◌, ◌≤◌, Bool, true, false, List, [], ◌∷◌, ◌++◌, length, get_or, set, slice_get, Some, drop, refl, sym, ap, subst, arith, length-append}
+use Rattle.std.proofs.Common.{◌≡◌, ◌∙◌, ℕ, zero, suc, ◌+◌, ◌≤◌, true, List, [], ◌∷◌, ◌++◌, length, slice_get, Some, drop, refl, ap, arith, length-append}
 use Rattle.std.proofs.lemmas.List.{length-map}
 use Rattle.std.specs.Prelude.{remove}
 use Rattle.heap_model.specs.declared.command.Command as model
-use Rattle.heap_model.specs.declared.command.Command.TheVariants.{Finalise, FinaliseLast, Spawn, Argument, PutResult, Join, FullMajor}
+use Rattle.heap_model.specs.declared.command.Command.TheVariants.{Finalise, FinaliseLast}
 use Rattle.heap_model.specs.declared.entry.Entry.{Entry}
-use Rattle.heap_model.specs.declared.entry.Entry.TheVariants.{Command as CommandOf, Ran as RanEntry}
+use Rattle.heap_model.specs.declared.entry.Entry.TheVariants.{Ran as RanEntry}
 use Rattle.heap_model.specs.declared.reply.Applied.{Applied}
-use Rattle.heap_model.specs.declared.state.DomainState.{DomainState}
 use Rattle.heap_model.specs.declared.state.Pending.{Pending}
 use Rattle.heap_model.specs.declared.state.Pending.TheVariants.{Fin as FinPending, Last as LastPending}
 use Rattle.heap_model.specs.declared.state.Sizes.{Sizes}
 use Rattle.heap_model.specs.declared.state.State.{State}
-use Rattle.heap_model.specs.Commands.{FitsMode, command_outcome}
-use Rattle.heap_model.specs.Domains.{domain_at, no_domain, opening, with_domain}
-use Rattle.heap_model.specs.Entries.{Allowed, next, after_run, without_first}
+use Rattle.heap_model.specs.Domains.{domain_at, opening, with_domain}
+use Rattle.heap_model.specs.Entries.{next, after_run, without_first}
 use Rattle.heap_model.specs.Fronts.{Answers, IsFrontOf}
-use Rattle.heap_model.specs.History.{LegalFrom, state_after}
-use Rattle.heap_model.proofs.Commands.FrameLemmas.{frame_command, part_set}
+use Rattle.heap_model.specs.History.{state_after}
+use Rattle.heap_model.proofs.Commands.FrameLemmas.{part_set}
 use Rattle.heap_model.proofs.Histories.AnswerLemmas.{before_entry}
 use Rattle.heap_model.proofs.Histories.FreshLemmas.{fresh_stays}
 use Rattle.heap_model.proofs.Histories.HistoryLemmas.{state_after-push}
@@ -108,40 +106,6 @@ pub finalised_last_own : (v : Value) (number : ℕ) (old : Own) → own_finalise
 finalised_last_own (Ref a) number old = λ i. record old { used = none_more old.used i; serial = none_more old.serial i; finalisers = (own_finalised_last (Ref a) number old).finalisers }
 finalised_last_own (Int z) number old = λ i. record old { used = none_more old.used i; serial = none_more old.serial i }
 finalised_last_own Nothing number old = λ i. record old { used = none_more old.used i; serial = none_more old.serial i }
-
--- the last entry of a legal history was allowed
-last_allowed : (s : State) (h : List Entry) (e : Entry) → LegalFrom s (h ++ e ∷ []) → Allowed (state_after s h) e
-last_allowed s [] e legal = legal.0
-last_allowed s (x ∷ h) e legal = last_allowed (next s x) h e legal.1
-
--- each command but `full_major` stands where no finaliser waits
-unqueued_at : (s : State) (d : ℕ) (c : model.Command) → c ≢ FullMajor → FitsMode s d c → (domain_at s d).queue ≡ []
-unqueued_at s d FullMajor other fits = absurd (other refl)
-unqueued_at s d (Spawn section item) other fits = absurd fits
-unqueued_at s d (Argument dst) other fits = absurd fits
-unqueued_at s d (PutResult item) other fits = absurd fits
-unqueued_at s d (Join dst section) other fits = absurd fits
-unqueued_at s d c other fits = fits.1
-
--- after its own entry of a command a domain owes what its queue holds
-due_set : (xs : List DomainState) (d : ℕ) → (get_or (set xs d (record (get_or xs d no_domain) { fresh = false; due = length (get_or xs d no_domain).queue })) d no_domain).due ≡ length (get_or xs d no_domain).queue
-due_set [] d = refl
-due_set (x ∷ xs) zero = refl
-due_set (x ∷ xs) (suc d) = due_set xs d
-
--- so it owes none after another command than `full_major`
-pub command_due : (z : Sizes) (d : ℕ) (old new : List Entry) (c : model.Command) (full : Bool) (a : Applied) → Answers z d old new (CommandOf d c full) a → c ≢ FullMajor → due_at (state_after (opening z) new) d ≡ 0
-command_due z d old new c full a x other =
-    let before : List Entry = old ++ x.between in
-    let s : State = state_after (opening z) before in
-    let e : Entry = CommandOf d c full in
-    let t : State = (command_outcome s d c full).state in
-    let owed : DomainState = record (domain_at t d) { fresh = false; due = length (domain_at t d).queue } in
-    let here : state_after (opening z) new ≡ next s e = ap (state_after (opening z)) x.appends ∙ state_after-push (opening z) before e in
-    let allowed : Allowed s e = last_allowed (opening z) before e (subst (LegalFrom (opening z)) x.appends x.legal) in
-    let none : (domain_at s d).queue ≡ [] = unqueued_at s d c other allowed.fits in
-    let same : (domain_at (with_domain t d owed) d).queue ≡ (domain_at t d).queue = part_set (λ y. y.queue) t.domains d owed refl d in
-    ap (λ (u : State). due_at u d) here ∙ (due_set t.domains d ∙ ap (λ (q : List Pending). length q) (sym same ∙ ((frame_command s d c full).queue ∙ none)))
 
 -- others' entries leave it
 pub due_on : (k : Config) (x y : DomainView) → y.own.number ≡ x.own.number → IsFrontOf x.own.number y.seen.front x.seen.front → due_of k y ≡ due_of k x

@@ -121,17 +121,17 @@ between_of : (r : RunView) (known : Kind) → IsRun r → r.left ≡ Some known 
 between_of r known is left = subst (λ (l : Option Kind). IsBetween l r.asked r.collected r.progress r.token) left is.between
 
 pub arrived_is_run : (decider : Decider) (h : SharedHeap) (r : RunView) (new : Token) (last kind : Kind) (progress : Progress) (hints : DeckCounts) → StaysDeck r.hints hints → IsRun r → r.left ≡ Some last → IsIn r.token h → IsIn new h → Passes h.config decider r.token.view new.view last kind → KnowsProgress progress new.view → IsRun (record r { token = new; left = Some kind; progress = progress; hints = hints })
-arrived_is_run decider h r new last kind progress hints stays is left was here p knows = moved_is_run r new (Some kind) r.asked r.collected progress hints is stays (passes_moves decider h r.token new last kind was here p) (passes_between decider h r.token new last kind r.asked r.collected r.progress progress is.inside was here (between_of r last is left) p knows)
+arrived_is_run decider h r new last kind progress hints stays is left was here p knows = moved_is_run r new (Some kind) r.asked r.collected progress hints is stays (passes_moves decider h r.token new last kind was here p) is.unasked (passes_between decider h r.token new last kind r.asked r.collected r.progress progress is.inside was here (between_of r last is left) p knows)
 
 pub gives_is_run : (h : SharedHeap) (r : RunView) (new : Token) (collected : Bool) (progress : Progress) (hints : DeckCounts) → StaysDeck r.hints hints → IsRun r → IsIn r.token h → IsIn new h → GivesBack h.config r.token.view new.view → KnowsProgress progress new.view → IsRun (record r { token = new; left = Some Answer; collected = collected; progress = progress; hints = hints })
-gives_is_run h r new collected progress hints stays is was here g knows = moved_is_run r new (Some Answer) r.asked collected progress hints is stays (gives_moves h r.token new was here g) (gives_between h r.token new r.asked collected progress here is.between.quiet g knows)
+gives_is_run h r new collected progress hints stays is was here g knows = moved_is_run r new (Some Answer) r.asked collected progress hints is stays (gives_moves h r.token new was here g) is.unasked (gives_between h r.token new r.asked collected progress here is.between.quiet g knows)
 
 pub waits_is_run : (h : SharedHeap) (r : RunView) (new : Token) (last : Kind) (b : ℕ) (progress : Progress) (hints : DeckCounts) → StaysDeck r.hints hints → IsRun r → r.left ≡ Some last → IsIn r.token h → IsIn new h → new.view ≡ noted r.token.view (Barrier b) → KnowsProgress progress new.view → IsRun (record r { token = new; left = Some last; progress = progress; hints = hints })
-waits_is_run h r new last b progress hints stays is left was here says knows = moved_is_run r new (Some last) r.asked r.collected progress hints is stays (still_moves h r.token new _ was here says refl refl refl refl refl refl refl) (waits_between h r.token new last r.asked r.collected r.progress progress b was here (between_of r last is left) says knows)
+waits_is_run h r new last b progress hints stays is left was here says knows = moved_is_run r new (Some last) r.asked r.collected progress hints is stays (still_moves h r.token new _ was here says refl refl refl refl refl refl refl) is.unasked (waits_between h r.token new last r.asked r.collected r.progress progress b was here (between_of r last is left) says knows)
 
 -- and the domain runs again after a pause
 pub runs_is_run : (h : SharedHeap) (r : RunView) (new : Token) (progress : Progress) (hints : DeckCounts) → StaysDeck r.hints hints → IsRun r → IsIn r.token h → IsIn new h → PassedBarrier h.config r.token.view new.view → new.view.seen.stage ≡ In Run → IsEven r.token.view.own.arrivals → IsCollected h.config new.view → KnowsProgress progress new.view → IsRun (record r { token = new; left = None; progress = progress; hints = hints })
-runs_is_run h r new progress hints stays is was here p stage even c knows = moved_is_run r new None r.asked r.collected progress hints is stays (view_moves h r.token new _ was here p.view refl refl refl refl refl refl p.seen) record {
+runs_is_run h r new progress hints stays is was here p stage even c knows = moved_is_run r new None r.asked r.collected progress hints is stays (view_moves h r.token new _ was here p.view refl refl refl refl refl refl p.seen) is.unasked record {
   stands = stage;
   quiet = looked_quiet h.config r.token.view new.view p is.between.quiet;
   even = λ _. subst IsEven (sym (ap (λ (x : DomainView). x.own.arrivals) p.view)) even;

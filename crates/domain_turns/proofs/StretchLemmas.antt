@@ -1,5 +1,5 @@
 -- How a domain's front grows in a turn.
-use Rattle.std.proofs.Common.{◌≡◌, ◌∙◌, ℕ, ◌+◌, Bool, true, false, List, [], ◌∷◌, ◌++◌, refl, sym, ap, subst, ⊎_elim, slice_get, Some, None}
+use Rattle.std.proofs.Common.{◌≡◌, ◌∙◌, ℕ, ◌+◌, Bool, true, false, List, [], ◌∷◌, ◌++◌, refl, sym, ap, subst, append-nil, append_assoc, ⊎_elim, slice_get, Some, None}
 use Rattle.heap_model.specs.declared.command.Command as model
 use Rattle.heap_model.specs.declared.command.Command.TheVariants.{FullMajor, Poll}
 use Rattle.heap_model.specs.declared.entry.Entry.{Entry}
@@ -11,7 +11,10 @@ use Rattle.heap_model.specs.declared.state.Sizes.{Sizes}
 use Rattle.heap_model.specs.Domains.{opening}
 use Rattle.heap_model.specs.Entries.{reply as reply_to}
 use Rattle.heap_model.specs.Fronts.{Answers, IsFrontOf}
-use Rattle.heap_model.specs.History.{state_after}
+use Rattle.heap_model.specs.History.{Legal, state_after}
+use Rattle.spawn_laws.specs.Expansion.{Step, steps_from}
+use Rattle.spawn_laws.proofs.Growing.{steps_append, steps_others}
+use Rattle.domain_turns.proofs.SectionTurns.{StepsOn, held_steps, makes_steps, sees_steps, steps_takes, tells_steps}
 use Rattle.heap_model.proofs.Histories.FrontLemmas.{front_trans, front_whole}
 use Rattle.heap_rule.specs.declared.config.Config.{Config}
 use Rattle.heap_rule.specs.declared.view.DomainView.{DomainView}
@@ -21,12 +24,12 @@ use Rattle.heap_rule.specs.Token.{SharedHeap, IsIn}
 use Rattle.finaliser_queues.specs.Running.{reply_of}
 use Rattle.size_pools.proofs.Seeking.{sought_view}
 use Rattle.domain_turns.specs.declared.turned.Turned.{Turned}
-use Rattle.domain_turns.specs.declared.turned.Turned.TheVariants.{Did, Waiting, Hungry, Idle}
+use Rattle.domain_turns.specs.declared.turned.Turned.TheVariants.{Did, Waiting, Hungry, Held, Idle}
 use Rattle.domain_turns.specs.declared.turned.Turned.TheVariants.{Ended as Over}
 use Rattle.domain_turns.specs.Tries.{ephemerons_given, labels_given}
 use Rattle.domain_turns.specs.Runs.{RunView, Appended, CalmDid, EndsTrace, GoesBy, IsAnswered, MadeNone, Resumes, Rests, RunAnswers, RunsFinaliser, SeesAnswer, Starts, Stops, Stretches, Takes, TriesCommand, TurnAnswers, Waits, asking_end, wanting}
-use Rattle.domain_turns.specs.Runs.CalmDid.{Finalises, Wishes, Refuses, Tries, Works, Ends}
-use Rattle.domain_turns.specs.Runs.Stretches.{ByOthers, ByCommand, ByFinaliser, ByEnd}
+use Rattle.domain_turns.specs.Runs.CalmDid.{Finalises, Wishes, Refuses, Tries, Works, Ends, Sees, Makes, Tells, WishesToTell}
+use Rattle.domain_turns.specs.Runs.Stretches.{ByOthers, ByCommand, ByFinaliser, ByEnd, BySection}
 use Rattle.pause_phases.specs.declared.decider.Decider.TheVariants.{Wishes as ByWishes}
 use Rattle.domain_turns.proofs.LeavingLemmas.{passes_leaves}
 use Rattle.domain_turns.proofs.Taking.{arrived_takes, searched_takes, takes_more, takes_none, takes_on, takes_then, tried_takes}
@@ -128,6 +131,27 @@ ended h old start new s t =
       takes = takes_on 0 0 old.token.view start.token.view new.token.view s.takes (takes_none start.token.view new.token.view (ap (λ (x : DomainView). x.own.serial) t.ended.view) (ap (λ (x : DomainView). x.own.ephemerons) t.ended.view));
     })
 
+-- some steps of a section
+stepped : (h : SharedHeap) (old start new : RunView) → StartsFrom h old start → StepsOn h start new → Stretches (sizes_in h.config) old new
+stepped h old start new s on =
+    let d : ℕ = old.token.view.own.number in
+    let z = sizes_in h.config in
+    let m = on.makes in
+    let before : steps_from (opening z) start.token.view.seen.front d ≡ steps_from (opening z) old.token.view.seen.front d =
+    ap (λ (f : List Entry). steps_from (opening z) f d) s.front.appends ∙ (steps_append (opening z) old.token.view.seen.front s.front.rest d
+    ∙ (ap (λ (xs : List Step). steps_from (opening z) old.token.view.seen.front d ++ xs) (steps_others (state_after (opening z) old.token.view.seen.front) s.front.rest d s.front.others) ∙ append-nil (steps_from (opening z) old.token.view.seen.front d))) in
+    let grown : steps_from (opening z) new.token.view.seen.front d ≡ steps_from (opening z) start.token.view.seen.front d ++ on.steps =
+    subst (λ (w : Config × ℕ). steps_from (opening (sizes_in w.0)) new.token.view.seen.front w.1 ≡ steps_from (opening (sizes_in w.0)) start.token.view.seen.front w.1 ++ on.steps) (λ i. (s.config i, s.number i)) m.steps in
+    BySection (record {
+      sectioned = sym s.supply ∙ on.sectioned;
+      steps = on.steps;
+      ended = on.ended ∙ s.ended;
+      front = record { rest = s.front.rest ++ m.front.rest; appends = m.front.appends ∙ (ap (λ (f : List Entry). f ++ m.front.rest) s.front.appends ∙ append_assoc old.token.view.seen.front s.front.rest m.front.rest) };
+      legal = subst (λ (k : Config). Legal (sizes_in k) new.token.view.seen.front) s.config m.legal;
+      grows = grown ∙ ap (λ (xs : List Step). xs ++ on.steps) before;
+      takes = takes_on 0 0 old.token.view start.token.view new.token.view s.takes (steps_takes start.token new.token on.rest);
+    })
+
 calm : (h : SharedHeap) (old start new : RunView) → StartsFrom h old start → CalmDid h start new → Stretches (sizes_in h.config) old new
 calm h old start new s (Finalises f) = ran h old start new s f
 calm h old start new s (Wishes a) = ByOthers (still h old start new s (record {
@@ -160,6 +184,16 @@ calm h old start new s (Works p) =
     } in
     tried h old p.worked p.made new Poll worked p.tried (subst (Keeps p.made) (sym p.run) (asking_keeps p.spent p.made))
 calm h old start new s (Ends t) = ended h old start new s t
+calm h old start new s (Sees t) = stepped h old start new s (sees_steps h start new t)
+calm h old start new s (Makes c t) = stepped h old start new s (makes_steps h start new c t)
+calm h old start new s (Tells t) = stepped h old start new s (tells_steps h start new t)
+calm h old start new s (WishesToTell a) = ByOthers (still h old start new s (record {
+  next = ap (λ (r : RunView). r.next) a.run;
+  replies = ap (λ (r : RunView). r.replies) a.run;
+  ended = ap (λ (r : RunView). r.ended) a.run;
+  front = ap (λ (r : RunView). r.token.view.seen.front) a.run;
+  takes = takes_none _ _ (ap (λ (r : RunView). r.token.view.own.serial) a.run) (ap (λ (r : RunView). r.token.view.own.ephemerons) a.run);
+}))
 
 rests : (h : SharedHeap) (old start new : RunView) (n : ℕ) → StartsFrom h old start → Rests start new n → Stretches (sizes_in h.config) old new
 rests h old start new n s r = ByOthers (still h old start new s (record {
@@ -192,6 +226,7 @@ running h old start new Hungry s says = ByOthers (still h old start new s (recor
   front = ap (λ (r : RunView). r.token.view.seen.front) says.run;
   takes = takes_none _ _ (ap (λ (r : RunView). r.token.view.own.serial) says.run) (ap (λ (r : RunView). r.token.view.own.ephemerons) says.run);
 }))
+running h old start new (Held section) s says = stepped h old (wanting start 0) new (wanted h old start 0 s) (held_steps h (wanting start 0) new section says)
 running h old start new (Idle n) s says = rests h old (wanting start 0) new n (wanted h old start 0 s) says.0
 running h old start new Over s says = rests h old (wanting start 0) new h.config.domains (wanted h old start 0 s) says
 
@@ -275,5 +310,6 @@ turn_stretches h old new Did here says = ⊎_elim
     says
 turn_stretches h old new (Waiting b) here w = waits h old new b w
 turn_stretches h old new Hungry here t = running h old t.0 new Hungry (starts h old t.0 here t.1) t.2
+turn_stretches h old new (Held section) here t = running h old t.0 new (Held section) (starts h old t.0 here t.1) t.2
 turn_stretches h old new (Idle n) here t = running h old t.0 new (Idle n) (starts h old t.0 here t.1) t.2
 turn_stretches h old new Over here t = running h old t.0 new Over (starts h old t.0 here t.1) t.2

@@ -40,19 +40,18 @@ use Rattle.domain_turns.specs.Tries.{Enters, Stands, Tried, NeedsPause, ephemero
 use Rattle.command_counts.proofs.Few.{ephemerons_few, labels_few}
 use Rattle.heap_rule.specs.declared.phase.Kind.{Kind}
 use Rattle.heap_rule.specs.Phases.{IsEven}
-use Rattle.domain_turns.specs.Runs.{RunView, EndsIn, HasLabels, IsBetween, IsRun, HasEnded, Takes, ephemerons_in, registrations_in, is_end_of, served_since}
+use Rattle.domain_turns.specs.Runs.{RunView, EndsIn, HasLabels, IsBetween, IsRun, HasEnded, Takes, is_asked, ephemerons_in, registrations_in, is_end_of, served_since}
 use Rattle.domain_turns.proofs.Taking.{arrived_takes, tried_takes}
-use Rattle.domain_turns.proofs.Owing.{command_due, drop_registrations, ended_count, enlisted_count, ran_count, ran_fresh, registrations_few}
+use Rattle.domain_spawn.proofs.Owed.{command_due}
+use Rattle.domain_turns.proofs.Owing.{drop_registrations, ended_count, enlisted_count, ran_count, ran_fresh, registrations_few}
 use Rattle.domain_turns.proofs.PauseLemmas.{quiet_as}
+use Rattle.domain_turns.specs.Sections.{IsInSection, IsOrdinary, IsTold}
+use Rattle.domain_turns.specs.declared.place.Place.TheVariants.{Before}
+use Rattle.domain_turns.proofs.Sectioning.{section_answers, section_ended, section_ran, take_next}
 use Rattle.domain_turns.proofs.Supplying.{ends_as, ends_on, labels_after, labels_next, registers_none}
 use Rattle.domain_turns.specs.declared.supply.Supply.TheVariants.{Open}
 use Rattle.std.specs.List.{list_any}
 use Rattle.std.specs.Prelude.{cond, IsTrue, ◌||◌}
-
-take_next : (cs : List model.Command) (n : ℕ) (c : model.Command) → slice_get cs n ≡ Some c → take (suc n) cs ≡ take n cs ++ c ∷ []
-take_next [] n c at = cc
-take_next (x ∷ xs) zero c at = let is : x ≡ c = cc in ap (λ (y : model.Command). y ∷ []) is
-take_next (x ∷ xs) (suc n) c at = ap (λ (ys : List model.Command). x ∷ ys) (take_next xs n c at)
 
 drop_next : (cs : List model.Command) (n : ℕ) (c : model.Command) → slice_get cs n ≡ Some c → ephemerons_in (drop n cs) ≡ ephemerons_of c + ephemerons_in (drop (suc n) cs)
 drop_next [] n c at = cc
@@ -82,6 +81,10 @@ next_running r is c at = by r.ended refl where
   by : (b : Bool) → r.ended ≡ b → r.ended ≡ false
   by false e = e
   by true e = absurd (let done = is.done e in let below = inside r.commands r.next c at in let n : ℕ = r.next in omega arith)
+
+-- a run that has asked for a pause doesn't wait for its start
+pub asked_going : (r : RunView) → IsRun r → is_asked r.asked ≡ true → r.place ≢ Before
+asked_going r is wished before = let clash : false ≡ true = sym (ap is_asked (is.unasked before)) ∙ wished in cc
 
 -- the domain has room for an ephemeron that the next command makes
 pub next_room : (r : RunView) → IsRun r → (c : model.Command) → slice_get r.commands r.next ≡ Some c → ephemerons_of c ≤ r.token.view.own.ephemerons.room
@@ -162,9 +165,9 @@ record HasMade (old new : Token) (c : model.Command) (full : Bool) (reply : Repl
   answers : Answers (sizes_in old.config) old.view.own.number old.view.seen.front new.view.seen.front (CommandOf old.view.own.number c full) (Replied reply)
 
 -- the entry of the next command was made, and its reply kept
-made_is_run : (r : RunView) (new : Token) (c : model.Command) (full : Bool) (reply : Reply) (left : Option Kind) (progress : Progress) (due : ℕ) (hints : DeckCounts) → StaysDeck r.hints hints → IsRun r → r.ended ≡ false → slice_get r.commands r.next ≡ Some c → HasMade r.token new c full reply due → IsBetween left None false progress new
+made_is_run : (r : RunView) (new : Token) (c : model.Command) (full : Bool) (reply : Reply) (left : Option Kind) (progress : Progress) (due : ℕ) (hints : DeckCounts) → StaysDeck r.hints hints → IsRun r → r.ended ≡ false → slice_get r.commands r.next ≡ Some c → r.place ≢ Before → IsOrdinary c → HasMade r.token new c full reply due → IsBetween left None false progress new
     → IsRun (record r { token = new; next = r.next + 1; replies = r.replies ++ reply ∷ []; left = left; asked = None; collected = false; progress = progress; due = due; hints = hints })
-made_is_run r new c full reply left progress due hints stays is running at m between =
+made_is_run r new c full reply left progress due hints stays is running at going ordinary m between =
     let d : ℕ = r.token.view.own.number in
     let z = sizes_in r.token.config in
     let e : Entry = CommandOf d c full in
@@ -210,28 +213,33 @@ made_is_run r new c full reply left progress due hints stays is running at m bet
         none_listed = let none = o.none_listed in let registers = registers_none r.commands r.next c at o.registers_none in let few = m.listed in omega arith;
         answered = length-append r.replies (reply ∷ []) ∙ ap (λ (n : ℕ). n + 1) o.answered;
       };
+      section = λ section. subst (λ (w : Config × ℕ). IsInSection w.0 w.1 new.view.seen.front r.place r.commands (r.next + 1) (r.replies ++ reply ∷ [])) (λ i. (sym m.config i, sym m.number i))
+          (section_answers r.token.config d r.token.view.seen.front new.view.seen.front r.place r.commands r.next r.replies c full reply going ordinary at m.answers (is.section section));
+      as_ever = is.as_ever;
+      unasked = λ before. refl;
+      told = λ ended. let clash : false ≡ true = sym running ∙ ended in cc;
     }
 
 -- each of these is another than `full_major`, which always waits for a pause
 not_full : (k : Config) (own : Own) (served : Bool) (c : model.Command) → (NeedsPause k own served c → ⊥) → c ≢ FullMajor
 not_full k own served c ready is = ready (subst (λ (d : model.Command). NeedsPause k own served d) (sym is) tt)
 
-pub tried_is_run : (h : SharedHeap) (r : RunView) (new : Token) (c : model.Command) (reply : Reply) (own : Own) (served : Bool) → IsRun r → r.ended ≡ false → r.left ≡ None → slice_get r.commands r.next ≡ Some c → Tried h r.token new c r.collected reply → (NeedsPause h.config own served c → ⊥)
+pub tried_is_run : (h : SharedHeap) (r : RunView) (new : Token) (c : model.Command) (reply : Reply) (own : Own) (served : Bool) → IsRun r → r.ended ≡ false → r.left ≡ None → slice_get r.commands r.next ≡ Some c → r.place ≢ Before → IsOrdinary c → Tried h r.token new c r.collected reply → (NeedsPause h.config own served c → ⊥)
     → IsRun (record r { token = new; next = r.next + 1; replies = r.replies ++ reply ∷ []; asked = None; collected = false; due = 0 })
-tried_is_run h r new c reply own served is running left at t ready =
+tried_is_run h r new c reply own served is running left at going ordinary t ready =
     let st = stood h r.token new c r.collected reply t.stands in
     let number : new.view.own.number ≡ r.token.view.own.number = ap (λ (o : Own). o.number) t.own in
     let d : ℕ = r.token.view.own.number in
     let owes : due_of r.token.config new.view ≡ 0 = ap (λ (n : ℕ). due_at (state_of r.token.config new.view.seen.front) n) number
     ∙ command_due (sizes_in r.token.config) d r.token.view.seen.front new.view.seen.front c st.0 (Replied reply) st.1 (not_full h.config own served c ready) in
-    made_is_run r new c st.0 reply r.left r.progress 0 r.hints (stays_same r.hints) is running at
+    made_is_run r new c st.0 reply r.left r.progress 0 r.hints (stays_same r.hints) is running at going ordinary
     record { listed = subst (λ (o : Own). count_of o.finalisers ≤ registrations_of c + count_of r.token.view.own.finalisers) (sym t.own) (enlisted_count c r.token.view.own); owes = owes; config = t.heap.1; number = ap (λ (o : Own). o.number) t.own; takes = tried_takes h r.token new c r.collected reply t; idle = t.runs.idle; at_rest = t.runs.at_rest; answers = st.1 }
     (subst (λ (l : Option Kind). IsBetween l None false r.progress new) (sym left) (tried_between h r.token new c reply r.asked r.collected r.progress (subst (λ (l : Option Kind). IsBetween l r.asked r.collected r.progress r.token) left is.between) t))
 
 -- the same where a collection is answered by the reply of a `full_major`
-pub answered_is_run : (h : SharedHeap) (r : RunView) (new : Token) (reply : Reply) (progress : Progress) (hints : DeckCounts) → StaysDeck r.hints hints → IsRun r → r.ended ≡ false → slice_get r.commands r.next ≡ Some FullMajor → IsIn r.token h → IsIn new h → AnswersLive h.config r.token.view new.view reply → KnowsProgress progress new.view
+pub answered_is_run : (h : SharedHeap) (r : RunView) (new : Token) (reply : Reply) (progress : Progress) (hints : DeckCounts) → StaysDeck r.hints hints → IsRun r → r.ended ≡ false → slice_get r.commands r.next ≡ Some FullMajor → r.place ≢ Before → IsIn r.token h → IsIn new h → AnswersLive h.config r.token.view new.view reply → KnowsProgress progress new.view
     → IsRun (record r { token = new; next = r.next + 1; replies = r.replies ++ reply ∷ []; left = Some Answer; asked = None; collected = false; progress = progress; due = length new.view.own.finalisers.queue.items; hints = hints })
-answered_is_run h r new reply progress hints stays is running at was here a knows =
+answered_is_run h r new reply progress hints stays is running at going was here a knows =
     let passed = a.comes.passed.view in
     let own : new.view.own ≡ record a.begun.own { arrivals = a.begun.own.arrivals + 1; pending = forgotten a.begun.own.pending } = ap (λ (x : DomainView). x.own) a.view in
     let config : new.config ≡ r.token.config = here.1 ∙ sym was.1 in
@@ -240,7 +248,7 @@ answered_is_run h r new reply progress hints stays is running at was here a know
     let answers : Answers (sizes_in h.config) r.token.view.own.number r.token.view.seen.front new.view.seen.front entry (Replied reply) =
     subst (λ (f : List Entry). Answers (sizes_in h.config) r.token.view.own.number r.token.view.seen.front f entry (Replied reply)) (sym front)
     (answers_after (sizes_in h.config) r.token.view.own.number r.token.view.seen.front a.begun.seen.front a.front entry (Replied reply) a.comes.passed.seen (λ running. absurd (true≢false running)) a.answers) in
-    made_is_run r new FullMajor false reply (Some Answer) progress (length new.view.own.finalisers.queue.items) hints stays is running at
+    made_is_run r new FullMajor false reply (Some Answer) progress (length new.view.own.finalisers.queue.items) hints stays is running at going tt
     record {
       config = config;
       number = ap (λ (o : Own). o.number) own ∙ ap (λ (x : DomainView). x.own.number) passed;
@@ -261,8 +269,8 @@ any_last p (x ∷ xs) e is = any_more (p x) (list_any p (xs ++ e ∷ [])) (any_l
     any_more true b h = refl
     any_more false b h = h
 
-pub ended_is_run : (h : SharedHeap) (r : RunView) (new : Token) → IsRun r → r.supply ≢ Open → r.left ≡ None → length r.commands ≤ r.next → HasEnded h r.token new → IsRun (record r { token = new; ended = true; collected = false })
-ended_is_run h r new is shut left whole t =
+pub ended_is_run : (h : SharedHeap) (r : RunView) (new : Token) → IsRun r → r.supply ≢ Open → r.left ≡ None → length r.commands ≤ r.next → IsTold r.place → HasEnded h r.token new → IsRun (record r { token = new; ended = true; collected = false })
+ended_is_run h r new is shut left whole told t =
     let d : ℕ = r.token.view.own.number in
     let z = sizes_in r.token.config in
     let number = ap (λ (x : DomainView). x.own.number) t.view in
@@ -294,6 +302,11 @@ ended_is_run h r new is shut left whole t =
           (subst (λ (front : List Entry). IsTrue (list_any (is_end_of d) front)) (sym t.answers.appends) (any_last (is_end_of d) (r.token.view.seen.front ++ t.answers.between) (End d) (eq-eqb d d refl)));
       shut = λ _. shut;
       one = λ handed. let o = is.one handed in record { one = o.one; registers_none = o.registers_none; none_listed = let none = o.none_listed in let less = fewer in omega arith; answered = o.answered };
+      section = λ section. subst (λ (w : Config × ℕ). IsInSection w.0 w.1 new.view.seen.front r.place r.commands r.next r.replies) (λ i. (sym t.heap.1 i, sym number i))
+          (section_ended r.token.config d r.token.view.seen.front new.view.seen.front r.place r.commands r.next r.replies t.answers (is.section section));
+      as_ever = is.as_ever;
+      unasked = is.unasked;
+      told = λ _. told;
     }
 
 -- the run of a finaliser leaves the domain between two turns
@@ -358,6 +371,11 @@ ran_is_run h r new ran is running left was here goes f =
       over = λ ended. let clash : false ≡ true = sym running ∙ ended in cc;
       shut = λ ended. let clash : false ≡ true = sym running ∙ ended in cc;
       one = λ handed. absurd (let none = (is.one handed).none_listed in let some = less in omega arith);
+      section = λ section. subst (λ (w : Config × ℕ). IsInSection w.0 w.1 new.view.seen.front r.place r.commands r.next (r.replies ++ reply ∷ [])) (λ i. (sym config i, sym number i))
+          (section_ran k d r.token.view.seen.front new.view.seen.front r.place r.commands r.next r.replies reply answers (is.section section));
+      as_ever = is.as_ever;
+      unasked = is.unasked;
+      told = λ ended. let clash : false ≡ true = sym running ∙ ended in cc;
     }
 
 -- a view of a running domain by which nothing changed of how it stands between two turns
@@ -406,7 +424,7 @@ marked_is_run h r new hints stays is left was here learnt weak =
       progress = ap (λ (x : DomainView). x.seen.share.progress) v;
     } in
     let old : IsBetween None r.asked r.collected r.progress r.token = subst (λ (l : Option Kind). IsBetween l r.asked r.collected r.progress r.token) left is.between in
-    moved_is_run r new r.left r.asked r.collected r.progress hints is stays (still_moves h r.token new _ was here v refl refl refl refl refl refl refl)
+    moved_is_run r new r.left r.asked r.collected r.progress hints is stays (still_moves h r.token new _ was here v refl refl refl refl refl refl refl) is.unasked
     (subst (λ (l : Option Kind). IsBetween l r.asked r.collected r.progress new) (sym left) (stands_between r.token new r.asked r.collected r.progress (here.1 ∙ sym was.1) stands old))
 
 -- and so is one that has swept
@@ -438,7 +456,7 @@ swept_is_run h r new most count is left was here s =
       front = subst (λ (f : List Entry). IsFrontOf r.token.view.own.number f r.token.view.seen.front) (sym stands.front) (front_whole r.token.view.own.number r.token.view.seen.front);
     } in
     let old : IsBetween None r.asked r.collected r.progress r.token = subst (λ (l : Option Kind). IsBetween l r.asked r.collected r.progress r.token) left is.between in
-    moved_is_run r new r.left r.asked r.collected r.progress r.hints is (stays_same r.hints) moves
+    moved_is_run r new r.left r.asked r.collected r.progress r.hints is (stays_same r.hints) moves is.unasked
     (subst (λ (l : Option Kind). IsBetween l r.asked r.collected r.progress new) (sym left) (stands_between r.token new r.asked r.collected r.progress (here.1 ∙ sym was.1) stands old))
 
 -- who has found whether a collection goes on has learnt that

@@ -1,4 +1,5 @@
 pub mod Tries
+pub mod Sections
 pub mod Runs
 pub mod LookOutcomes
 pub mod Pausing

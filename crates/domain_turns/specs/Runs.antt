@@ -1,5 +1,5 @@
 -- A domain's trace on the shared heap, and what a turn does to it.
-use Rattle.std.specs.Prelude.{◌≡◌, ◌≢◌, ◌==◌, ◌&&◌, ℕ, ◌+◌, ◌*◌, ◌%◌, ◌^◌, ◌<◌, ◌≤◌, ◌⊎◌, ◌↔◌, nat_lt, nat_le, Option, None, Bool, true, false, List, [], ◌∷◌, ◌++◌, length, take, drop, replicate, slice_get, Some, IsTrue}
+use Rattle.std.specs.Prelude.{◌≡◌, ◌≢◌, ◌==◌, ◌&&◌, ℕ, ◌+◌, ◌*◌, ◌%◌, ◌^◌, ◌<◌, ◌≤◌, ◌⊎◌, ◌↔◌, nat_lt, nat_le, Option, None, Bool, true, false, List, [], ◌∷◌, ◌++◌, length, take, drop, replicate, pos, slice_get, Some, IsTrue}
 use Rattle.std.specs.List.{list_any}
 use Rattle.heap_model.specs.declared.command.Command as model
 use Rattle.heap_model.specs.declared.entry.Entry.{Entry}
@@ -12,7 +12,7 @@ use Rattle.heap_model.specs.Entries.{reply as reply_to}
 use Rattle.heap_model.specs.History.{IsPrefix, Legal, commands, replies, state_after}
 use Rattle.heap_model.specs.Fronts.{Answers, IsFrontOf, NoneOf}
 use Rattle.heap_model.specs.Domains.{class_count, domain_at, opening, reserve}
-use Rattle.heap_model.specs.declared.command.Command.TheVariants.{Minor, Major, FullMajor, Poll}
+use Rattle.heap_model.specs.declared.command.Command.TheVariants.{Minor, Major, FullMajor, Poll, Load, Join}
 use Rattle.heap_rule.specs.declared.config.Config.{Config}
 use Rattle.heap_rule.specs.declared.view.DomainView.{DomainView}
 use Rattle.heap_rule.specs.declared.phase.Kind.{Kind}
@@ -23,7 +23,7 @@ use Rattle.heap_rule.specs.declared.phase.Note.{Note}
 use Rattle.heap_rule.specs.declared.phase.Note.TheVariants.{Want, Asked, Barrier, Ended}
 use Rattle.heap_rule.specs.Phases.{IsEven, IsOdd, Comes}
 use Rattle.heap_rule.specs.Copies.{nothing_copied}
-use Rattle.heap_rule.specs.Running.{RemembersAll}
+use Rattle.heap_rule.specs.Running.{ChangesRegisters, RemembersAll}
 use Rattle.steps_pauses.specs.Pauses.{arrived_view, ended_own, IsModeOf}
 use Rattle.darkening_beside.specs.Aware.{Learnt, darkened_in, scanned_in, vain_in}
 use Rattle.steps_marking.specs.Arming.{knowing_armed}
@@ -42,10 +42,17 @@ use Rattle.pause_phases.specs.declared.decider.Decider.TheVariants.{Wishes as By
 use Rattle.safepoint.specs.Looks.{PassedBarrier, bit_of}
 use Rattle.safepoint.specs.declared.answer.Want as wish
 use Rattle.safepoint.specs.declared.answer.Want.TheVariants.{Finish, Full}
+use Rattle.safepoint.specs.declared.answer.Want.TheVariants.{Minor as Young}
+use Rattle.spawn_laws.specs.Hidden.{hidden, prelude, result_of}
+use Rattle.spawn_laws.specs.Expansion.{AreFitting, Step, finish_commands, steps_from}
+use Rattle.domain_spawn.specs.Expanding.{ChangesWords, Expands, LooksAt, MakesAll, MakesOne}
+use Rattle.domain_turns.specs.declared.place.Place.{Place}
+use Rattle.domain_turns.specs.declared.place.Place.TheVariants.{AsEver, Before, Within, Behind}
+use Rattle.domain_turns.specs.Sections.{AllFitIn, IsInSection, IsOrdinary, IsTold, awaited, awaited_flag}
 use Rattle.domain_turns.specs.declared.turned.Turned.{Turned}
 use Rattle.domain_turns.specs.declared.supply.Supply.{Supply}
-use Rattle.domain_turns.specs.declared.supply.Supply.TheVariants.{Listed, Open}
-use Rattle.domain_turns.specs.declared.turned.Turned.TheVariants.{Did, Waiting, Hungry, Idle}
+use Rattle.domain_turns.specs.declared.supply.Supply.TheVariants.{Listed, Open, Section}
+use Rattle.domain_turns.specs.declared.turned.Turned.TheVariants.{Did, Waiting, Hungry, Held, Idle}
 use Rattle.domain_turns.specs.declared.turned.Turned.TheVariants.{Ended as Over}
 use Rattle.heap_rule.specs.declared.view.Hunt.TheVariants.{Rests as AtRest}
 use Rattle.heap_rule.specs.Limits.{sizes_in}
@@ -55,7 +62,7 @@ use Rattle.heap_rule.specs.Token.{Token, SharedHeap, IsIn}
 use Rattle.domain_turns.specs.Pausing.{HasNothingPending, HasLeft, KnowsProgress, LeavesEven, LeavesOdd, GivesBack, AnswersLive, IsCollected, blocks_left, due_of}
 use Rattle.domain_turns.specs.Tries.{FitsHeap, IsFresh, NeedsPause, Refused, Tried, ephemerons_given, ephemerons_of, labels_given, labels_of, registrations_of, wish_of}
 
--- a run: the domain's token, its commands, the place of the next one, its replies, whether its trace has ended, where the domain has arrived from which kind of phase, how often it had arrived when it asked for a pause for the next command, whether the last pause since then was a complete collection that left so many blocks that they may use up the pools, how far, for domain 0, a collection has come, how many finalisers the domain owes before its next `full_major`, what its deck of hints has counted, and where its commands come from
+-- a run: the domain's token, its commands, the place of the next one, its replies, whether its trace has ended, where the domain has arrived from which kind of phase, how often it had arrived when it asked for a pause for the next command, whether the last pause since then was a complete collection that left so many blocks that they may use up the pools, how far, for domain 0, a collection has come, how many finalisers the domain owes before its next `full_major`, what its deck of hints has counted, where its commands come from, and how far it has come in its section
 pub record RunView : Type 0 where
   pub token : Token
   pub commands : List model.Command
@@ -69,6 +76,7 @@ pub record RunView : Type 0 where
   pub due : ℕ
   pub hints : DeckCounts
   pub supply : Supply
+  pub place : Place
 
 -- whether an entry is the end of domain d
 abbrev pub is_end_of : ℕ → Entry → Bool
@@ -94,14 +102,22 @@ abbrev pub labels_in : List model.Command → ℕ
 labels_in [] = 0
 labels_in (c ∷ cs) = labels_of c + labels_in cs
 
--- what a front has of a run: exactly this where all its commands were listed, and else this behind what came of earlier commands
+-- what a front has of a run: exactly this where all its commands were listed, and where they are handed in this behind what came of earlier commands. Of a section `IsInSection` says it
 abbrev pub EndsIn : {A : Type 0} → Supply → List A → List A → Type 0
 EndsIn Listed whole last = whole ≡ last
+EndsIn Section whole last = Unit {0}
 EndsIn _ whole last = (past : List _) × (whole ≡ past ++ last)
 
--- labels are left for the commands to come: by the number of commands where all were listed, and else by those that each gives out at most
+-- the commands are handed in one by one
+abbrev pub IsHandedIn : Supply → Type 0
+IsHandedIn Listed = ⊥
+IsHandedIn Section = ⊥
+IsHandedIn _ = Unit {0}
+
+-- labels are left for the commands to come: by the number of commands where all were given at once, and else by those that each gives out at most
 abbrev pub HasLabels : Supply → ℕ → ℕ → List model.Command → Type 0
 HasLabels Listed serial next cs = serial ≤ 4000000000 + next
+HasLabels Section serial next cs = serial ≤ 4000000000 + next
 HasLabels _ serial next cs = serial + labels_in (drop next cs) < 2 ^ 32
 
 -- a pause began and ended since the domain asked: it has arrived since
@@ -110,8 +126,11 @@ served_since None arrivals = false
 served_since (Some at) arrivals = nat_lt at arrivals
 
 -- a run before its first turn
+abbrev pub standing : Token → List model.Command → DeckCounts → Supply → Place → RunView
+standing t cs hints supply place = record { token = t; commands = cs; next = 0; replies = []; ended = false; left = None; asked = None; collected = false; progress = no_collection; due = 0; hints = hints; supply = supply; place = place }
+
 abbrev pub unturned : Token → List model.Command → DeckCounts → Supply → RunView
-unturned t cs hints supply = record { token = t; commands = cs; next = 0; replies = []; ended = false; left = None; asked = None; collected = false; progress = no_collection; due = 0; hints = hints; supply = supply }
+unturned t cs hints supply = standing t cs hints supply AsEver
 
 -- a domain that runs, without an entry so far, may begin these commands. It has room for the ephemerons that they make and the finalisers that they register, none is registered so far, and it is in the middle of no pause, and knows of no collection
 pub record CanBegin (t : Token) (cs : List model.Command) : Type 0 where
@@ -134,6 +153,36 @@ pub record CanBegin (t : Token) (cs : List model.Command) : Type 0 where
   pub no_copies : t.view.own.pending.items ≡ []
   pub unprepared : t.view.own.prepared ≡ replicate class_count None
   pub none_began : t.view.seen.share.progress ≡ no_collection
+
+-- a domain to which the hidden block was handed may begin the commands of its section. Behind the entries by which the block was made no entry of the domain stands in what it has seen. Else it is as for commands of its own, and they are those of a section
+pub record CanBeginSection (t : Token) (cs : List model.Command) : Type 0 where
+  pub inside : t.view.own.number < t.config.domains
+  pub few_domains : t.config.domains ≤ 8
+  pub acts : Acts t.config t.view
+  pub idle : t.view.seen.made ≡ []
+  pub at_rest : t.view.seen.hunt ≡ AtRest
+  pub behind : List Entry
+  pub begins : t.view.seen.front ≡ prelude t.config.domains ++ behind
+  pub others : NoneOf t.view.own.number behind
+  pub few : length cs ≤ 200000
+  pub fit : AllFitIn Section cs
+  pub fitting : AreFitting t.view.own.number cs
+  pub room : ephemerons_in cs ≤ t.view.own.ephemerons.room
+  pub enlists : registrations_in cs ≤ t.config.finals
+  pub none_listed : count_of t.view.own.finalisers ≡ 0
+  pub owes : due_of t.config t.view ≡ 0
+  pub labels : t.view.own.serial ≤ 4000000000
+  pub even : t.view.own.arrivals % 2 ≡ 0
+  pub remembers : RemembersAll t.view
+  pub quiet : t.view.seen.copying ≡ nothing_copied
+  pub no_copies : t.view.own.pending.items ≡ []
+  pub unprepared : t.view.own.prepared ≡ replicate class_count None
+  pub none_began : t.view.seen.share.progress ≡ no_collection
+
+-- where a section stands before its first turn: a spawn begins it, or it may go on at once
+abbrev pub first_place : Bool → Place
+first_place true = Before
+first_place false = AsEver
 
 -- the domain runs, or it has arrived
 abbrev pub StandsAt : Option Kind → Stage → Type 0
@@ -158,7 +207,7 @@ pub record HoldsOne (r : RunView) : Type 0 where
   pub none_listed : count_of r.token.view.own.finalisers ≡ 0
   pub answered : length r.replies ≡ r.next
 
--- what is true of a run between any two turns: the domain's commands in its front are those before the next, each once and in order, and the replies are those of its entries, with what came of earlier commands before them where commands are handed in. It has room for the ephemerons that the others make and for the finalisers that they register. Each finaliser that it has may still answer once
+-- what is true of a run between any two turns: the domain's commands in its front are those before the next, each once and in order, and the replies are those of its entries, with what came of earlier commands before them where commands are handed in, and by the rules of sections where they are one. It has room for the ephemerons that the others make and for the finalisers that they register. Each finaliser that it has may still answer once
 pub record IsRun (r : RunView) : Type 0 where
   pub inside : r.token.view.own.number < r.token.config.domains
   pub made : EndsIn r.supply (commands r.token.view.seen.front r.token.view.own.number) (take r.next r.commands)
@@ -166,7 +215,7 @@ pub record IsRun (r : RunView) : Type 0 where
   pub replied : length r.replies + (count_of r.token.view.own.finalisers + registrations_in (drop r.next r.commands)) ≤ r.next + registrations_in r.commands
   pub within : r.next ≤ length r.commands
   pub few : length r.commands ≤ 200000
-  pub fit : AllFit r.commands
+  pub fit : AllFitIn r.supply r.commands
   pub room : ephemerons_in (drop r.next r.commands) ≤ r.token.view.own.ephemerons.room
   pub enlists : count_of r.token.view.own.finalisers + registrations_in (drop r.next r.commands) ≤ r.token.config.finals
   pub idle : r.token.view.seen.made ≡ []
@@ -179,12 +228,16 @@ pub record IsRun (r : RunView) : Type 0 where
   pub done : r.ended ≡ true → r.next ≡ length r.commands
   pub over : r.ended ≡ true → IsTrue (list_any (is_end_of r.token.view.own.number) r.token.view.seen.front)
   pub shut : r.ended ≡ true → r.supply ≢ Open
-  pub one : r.supply ≢ Listed → HoldsOne r
+  pub one : IsHandedIn r.supply → HoldsOne r
+  pub section : r.supply ≡ Section → IsInSection r.token.config r.token.view.own.number r.token.view.seen.front r.place r.commands r.next r.replies
+  pub as_ever : r.supply ≢ Section → r.place ≡ AsEver
+  pub unasked : r.place ≡ Before → r.asked ≡ None
+  pub told : r.ended ≡ true → IsTold r.place
 
 -- the room that a run has reserved, for commands and for replies: each command answers once, and so does each finaliser that it registers. Where commands are handed in there is room for one
 pub record HasReserved (supply : Supply) (count commands replies : ℕ) : Type 0 where
   pub answers : count + count ≤ replies
-  pub one : supply ≢ Listed → (1 ≤ commands) × (2 ≤ replies)
+  pub one : IsHandedIn supply → (1 ≤ commands) × (2 ≤ replies)
 
 -- an open run whose last command is done may be given this one: it fits, registers no finaliser, and there are room and a label for what it makes
 pub record MaySubmit (r : RunView) (c : model.Command) : Type 0 where
@@ -198,6 +251,7 @@ pub record MaySubmit (r : RunView) (c : model.Command) : Type 0 where
 -- the first of the replies, where commands are handed in
 abbrev pub first_reply : Supply → List Reply → Option Reply
 first_reply Listed replies = None
+first_reply Section replies = None
 first_reply _ replies = slice_get replies 0
 
 -- the reply to the command that was handed in last, once it is done
@@ -206,7 +260,7 @@ answer_of r = first_reply r.supply r.replies
 
 -- no command was handed in, or the last one isn't done
 abbrev pub IsUnanswered : RunView → Type 0
-IsUnanswered r = (r.supply ≡ Listed) ⊎ ((r.commands ≡ []) ⊎ (r.next < length r.commands))
+IsUnanswered r = (r.supply ≡ Listed) ⊎ ((r.supply ≡ Section) ⊎ ((r.commands ≡ []) ⊎ (r.next < length r.commands)))
 
 -- this is the last reply of the domain in its front
 abbrev pub IsLastReply : RunView → Reply → Type 0
@@ -248,6 +302,7 @@ pub record TriesCommand (h : SharedHeap) (start : Token) (old new : RunView) (c 
 pub record EndsTrace (h : SharedHeap) (start : Token) (old new : RunView) : Type 0 where
   pub shut : old.supply ≢ Open
   pub past : length old.commands ≤ old.next
+  pub told : IsTold old.place
   pub unqueued : IsUnqueued start
   pub ended : HasEnded h start new.token
   pub run : new ≡ record old { token = new.token; ended = true; collected = false }
@@ -340,6 +395,77 @@ pub record Polls (h : SharedHeap) (old new : RunView) : Type 0 where
   pub view : made.token.view ≡ with_front worked.token.view made.token.view.seen.front
   pub run : new ≡ asking_end spent made
 
+-- a turn found that a spawn has begun the domain's section
+pub record SeesStart (h : SharedHeap) (start : Token) (old new : RunView) : Type 0 where
+  pub sectioned : old.supply ≡ Section
+  pub goes_on : old.ended ≡ false
+  pub was : old.place ≡ Before
+  pub unqueued : IsUnqueued start
+  pub looked : LooksAt h start new.token start.view.own.number (pos 1) true
+  pub rest : ChangesRegisters start new.token
+  pub run : new ≡ record old { token = new.token; collected = false; due = 0; place = Within }
+
+-- a turn found that it hasn't, or that the section that a join waits for hasn't told its end
+pub record HeldBack (h : SharedHeap) (start : Token) (old new : RunView) (section : ℕ) : Type 0 where
+  pub sectioned : old.supply ≡ Section
+  pub goes_on : old.ended ≡ false
+  pub waits : awaited old.place start.view.own.number (slice_get old.commands old.next) ≡ Some section
+  pub unqueued : IsUnqueued start
+  pub looked : LooksAt h start new.token section (awaited_flag old.place) false
+  pub rest : ChangesRegisters start new.token
+  pub run : new ≡ record old { token = new.token; collected = false; due = 0 }
+
+-- a turn made the rest of the steps of a join: its flag was found to be 2, and then the result was loaded
+pub record TakesResult (h : SharedHeap) (old new : Token) (dst section : ℕ) (reply : Reply) : Type 0 where
+  pub between : Token
+  pub looked : LooksAt h old between section (pos 2) true
+  pub takes : MakesOne h between new (Load dst hidden (result_of section)) reply
+
+-- the look of a join came to the result of the section, or to nothing
+abbrev pub TakeAnswers : SharedHeap → Token → Token → ℕ → ℕ → Option Reply → Type 0
+TakeAnswers h old new dst section None = LooksAt h old new section (pos 2) false
+TakeAnswers h old new dst section (Some reply) = TakesResult h old new dst section reply
+
+-- the steps of one of the four commands were made
+abbrev pub Completes : SharedHeap → Token → Token → model.Command → Reply → Type 0
+Completes h old new (Join dst section) reply = TakesResult h old new dst section reply
+Completes h old new c reply = Expands h old new c reply
+
+-- a turn made one of the four commands, and the reply of its last step was kept
+pub record MakesCommand (h : SharedHeap) (start : Token) (old new : RunView) (c : model.Command) : Type 0 where
+  pub sectioned : old.supply ≡ Section
+  pub goes_on : old.ended ≡ false
+  pub going : old.place ≢ Before
+  pub four : IsOrdinary c → ⊥
+  pub next : slice_get old.commands old.next ≡ Some c
+  pub unqueued : IsUnqueued start
+  pub ready : NeedsPause h.config start.view.own (served_since old.asked old.token.view.own.arrivals) c → ⊥
+  pub reply : Reply
+  pub completes : Completes h start new.token c reply
+  pub rest : ChangesWords start new.token
+  pub run : new ≡ record old { token = new.token; next = old.next + 1; replies = old.replies ++ reply ∷ []; asked = None; collected = false; due = 0 }
+
+-- a turn told the end of the domain's section, whose commands are all made
+pub record TellsEnd (h : SharedHeap) (start : Token) (old new : RunView) : Type 0 where
+  pub sectioned : old.supply ≡ Section
+  pub goes_on : old.ended ≡ false
+  pub was : old.place ≡ Within
+  pub past : length old.commands ≤ old.next
+  pub unqueued : IsUnqueued start
+  pub ready : start.view.own.remembered.room < 1 → ⊥
+  pub makes : MakesAll h start new.token (finish_commands start.view.own.number)
+  pub rest : ChangesWords start new.token
+  pub run : new ≡ record old { token = new.token; asked = None; collected = false; due = 0; place = Behind }
+
+-- or it asked for the pause that must come first: no more field can be remembered
+pub record AsksToTell (old new : RunView) : Type 0 where
+  pub sectioned : old.supply ≡ Section
+  pub was : old.place ≡ Within
+  pub past : length old.commands ≤ old.next
+  pub unqueued : IsUnqueued old.token
+  pub needs : old.token.view.own.remembered.room < 1
+  pub run : new ≡ record old { token = record old.token { view = noted old.token.view (Asked (bit_of Young)) }; asked = Some old.token.view.own.arrivals }
+
 -- what a running domain does in a turn that found no wish
 pub data CalmDid (h : SharedHeap) (old new : RunView) : Type 0 where
   Finalises : RunsFinaliser h old.token old new → CalmDid h old new
@@ -348,6 +474,10 @@ pub data CalmDid (h : SharedHeap) (old new : RunView) : Type 0 where
   Tries : (c : model.Command) → (c ≢ Poll) → TriesCommand h old.token old new c → CalmDid h old new
   Works : Polls h old new → CalmDid h old new
   Ends : EndsTrace h old.token old new → CalmDid h old new
+  Sees : SeesStart h old.token old new → CalmDid h old new
+  Makes : (c : model.Command) → MakesCommand h old.token old new c → CalmDid h old new
+  Tells : TellsEnd h old.token old new → CalmDid h old new
+  WishesToTell : AsksToTell old new → CalmDid h old new
 
 -- a trace that had ended, and n traces that a load found to have ended
 pub record Rests (old new : RunView) (n : ℕ) : Type 0 where
@@ -370,6 +500,7 @@ pub record Hungers (old new : RunView) : Type 0 where
 abbrev pub CalmAnswers : SharedHeap → RunView → RunView → Turned → Type 0
 CalmAnswers h old new Did = CalmDid h old new
 CalmAnswers h old new Hungry = Hungers old new
+CalmAnswers h old new (Held section) = HeldBack h old.token old new section
 CalmAnswers h old new a = RestAnswers h old new a
 
 -- the domain has looked at the want word, and nothing else has changed
@@ -467,6 +598,7 @@ abbrev pub TurnAnswers : SharedHeap → RunView → RunView → Turned → Type 
 TurnAnswers h old new (Waiting b) = Waits h old new b
 TurnAnswers h old new Did = GoesBy h ByWishes old new ⊎ (IsAnswered h old new ⊎ (SeesAnswer h old new ⊎ ((start : RunView) × Starts h old start × RunAnswers h start new Did)))
 TurnAnswers h old new Hungry = (start : RunView) × Starts h old start × RunAnswers h start new Hungry
+TurnAnswers h old new (Held section) = (start : RunView) × Starts h old start × RunAnswers h start new (Held section)
 TurnAnswers h old new (Idle n) = (start : RunView) × Starts h old start × RunAnswers h start new (Idle n)
 TurnAnswers h old new Over = (start : RunView) × Starts h old start × RunAnswers h start new Over
 
@@ -540,12 +672,23 @@ pub record MadeEnd (z : Sizes) (old new : RunView) : Type 0 where
   pub front : Appended z old.token.view.own.number old.token.view.seen.front new.token.view.seen.front (End old.token.view.own.number) Silent
   pub takes : Takes 0 0 old.token.view new.token.view
 
--- how the domain's front grew in a turn: by entries of others, and by one of the domain at most, which comes last; and what labels and room it took
+-- or some steps of a section
+pub record MadeSteps (z : Sizes) (old new : RunView) : Type 0 where
+  pub sectioned : old.supply ≡ Section
+  pub steps : List Step
+  pub ended : new.ended ≡ old.ended
+  pub front : IsPrefix old.token.view.seen.front new.token.view.seen.front
+  pub legal : Legal z new.token.view.seen.front
+  pub grows : steps_from (opening z) new.token.view.seen.front old.token.view.own.number ≡ steps_from (opening z) old.token.view.seen.front old.token.view.own.number ++ steps
+  pub takes : Takes 0 0 old.token.view new.token.view
+
+-- how the domain's front grew in a turn: by entries of others, and by one of the domain at most, which comes last, or by the steps of a section; and what labels and room it took
 pub data Stretches (z : Sizes) (old new : RunView) : Type 0 where
   ByOthers : MadeNone old new → Stretches z old new
   ByCommand : MadeNext z old new → Stretches z old new
   ByFinaliser : MadeRun z old new → Stretches z old new
   ByEnd : MadeEnd z old new → Stretches z old new
+  BySection : MadeSteps z old new → Stretches z old new
 
 -- the same domain's run of the same commands, from the same supply: what the domain saw of the history is a front part of what it sees now
 pub record GoesOn (old new : RunView) : Type 0 where

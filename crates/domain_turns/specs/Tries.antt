@@ -1,7 +1,7 @@
 -- What the try of a command leaves.
 use Rattle.std.specs.Prelude.{◌≡◌, ℕ, ◌+◌, ◌<◌, ◌≤◌, ◌⊎◌, List, Bool, true, false, Some, None}
 use Rattle.heap_model.specs.declared.command.Command.{Command}
-use Rattle.heap_model.specs.declared.command.Command.TheVariants.{PutInt, Copy, Forget, Alloc, AllocMaj, Load, Store, Ephe, SetKey, UnsetKey, GetKey, CheckKey, SetData, UnsetData, GetData, CheckData, Finalise, FinaliseLast, Poll, Minor, Major, FullMajor, Raw, Cas}
+use Rattle.heap_model.specs.declared.command.Command.TheVariants.{PutInt, Copy, Forget, Alloc, AllocMaj, Load, Store, Ephe, SetKey, UnsetKey, GetKey, CheckKey, SetData, UnsetData, GetData, CheckData, Finalise, FinaliseLast, Poll, Minor, Major, FullMajor, Raw, Cas, Spawn, PutResult}
 use Rattle.heap_model.specs.declared.entry.Entry.{Entry}
 use Rattle.heap_model.specs.declared.entry.Entry.TheVariants.{Command as CommandOf}
 use Rattle.heap_model.specs.declared.reply.Reply.{Reply}
@@ -101,7 +101,7 @@ IsPlainCall (GetData dst ephe) = Unit {0}
 IsPlainCall (CheckData ephe) = Unit {0}
 IsPlainCall _ = ⊥
 
--- a pause must come first: none has served a `minor` or a `major`, the minor area has no room for the young block, or the domain can't remember one word more. A `full_major` is answered in a pause
+-- a pause must come first: none has served a `minor` or a `major`, the minor area has no room for the young block, or the domain can't remember one word more, or two for a spawn. A `full_major` is answered in a pause
 abbrev pub NeedsPause : Config → Own → Bool → Command → Type 0
 NeedsPause k own served Minor = served ≡ false
 NeedsPause k own served Major = served ≡ false
@@ -112,6 +112,8 @@ NeedsPause k own served (Store block index item) = own.remembered.room < 1
 NeedsPause k own served (Cas block index expected item) = own.remembered.room < 1
 NeedsPause k own served (SetKey ephe index item) = own.remembered.room < 1
 NeedsPause k own served (SetData ephe item) = own.remembered.room < 1
+NeedsPause k own served (Spawn section item) = own.remembered.room < 2
+NeedsPause k own served (PutResult item) = own.remembered.room < 1
 NeedsPause k own served _ = ⊥
 
 -- and which is asked for: a collection of the major heap, a complete one, or one of young blocks

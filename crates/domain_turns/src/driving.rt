@@ -19,6 +19,7 @@ fn reached(turned: Turned) -> Went
 {
     match turned {
         Turned::Did => Went::On,
+        Turned::Held { .. } => Went::Held,
         Turned::Waiting(_) | Turned::Hungry | Turned::Idle { .. } => Went::Nowhere,
         Turned::Ended => Went::Ended,
     }

@@ -11,12 +11,15 @@ mod command;
 mod driving;
 mod meeting;
 mod passing;
+mod place;
 mod run;
+mod sections;
 mod showing;
 mod supply;
 mod turned;
 mod turns;
 
+pub use place::Place;
 pub use run::DomainRun;
 pub use showing::show;
 pub use supply::Supply;

@@ -1,13 +1,16 @@
 //! One domain's trace, and how far it has come.
-ghost use Rattle.std.specs.Prelude.{◌≡◌, ◌↔◌, ◌<◌, ◌≤◌, ◌∷◌, true, false, [], drop, length, slice_get, take, vec_capacity, IfOk, IfSome, None, Some};
+ghost use Rattle.std.specs.Prelude.{◌≡◌, ◌≢◌, ◌↔◌, ◌<◌, ◌≤◌, ◌∷◌, true, false, [], drop, length, slice_get, take, vec_capacity, IfOk, IfSome, None, Some};
 ghost use Rattle.heap_model.specs.declared.command.Command.TheVariants.{FullMajor};
 ghost use Rattle.heap_model.specs.History.{commands as commands_of, replies as replies_of};
 ghost use Rattle.heap_rule.specs.Limits.{sizes_in};
 ghost use Rattle.heap_rule.specs.declared.phase.Kind.TheVariants.{Run};
 ghost use Rattle.heap_rule.specs.declared.phase.Stage.TheVariants.{In};
 ghost use Rattle.mark_slices.specs.Slices.{IsDeckOf};
-ghost use Rattle.domain_turns.specs.Runs.{CanBegin, HasReserved, IsLastReply, IsRun, IsUnanswered, MaySubmit, answer_of, is_asked, unturned};
+ghost use Rattle.domain_turns.specs.Runs.{CanBegin, CanBeginSection, HasReserved, IsLastReply, IsRun, IsUnanswered, MaySubmit, answer_of, first_place, is_asked, standing, unturned};
+ghost use Rattle.domain_turns.specs.Sections.{IsInSection};
+ghost use Rattle.spawn_laws.specs.Printed.{printed_replies};
 
+use crate::place::Place;
 use crate::supply::Supply;
 use heap_model::command::Command;
 use heap_model::reply::Reply;
@@ -40,6 +43,8 @@ pub struct DomainRun {
     pub(crate) hints: Hints,
     // Where the commands come from. Those that are handed in one by one take the place of the one before.
     pub(crate) supply: Supply,
+    // How far it has come in its section.
+    pub(crate) place: Place,
 }
 
 impl Model for DomainRun {
@@ -48,9 +53,20 @@ impl Model for DomainRun {
 
     ghost Value = { RunView };
 
-    ghost view = { λ r. record { token = r.domain; commands = r.commands.items; next = r.next; replies = r.replies.items; ended = r.ended; left = r.left; asked = r.asked; collected = r.collected; progress = r.progress; due = r.due; hints = r.hints; supply = r.supply } };
+    ghost view = { λ r. record { token = r.domain; commands = r.commands.items; next = r.next; replies = r.replies.items; ended = r.ended; left = r.left; asked = r.asked; collected = r.collected; progress = r.progress; due = r.due; hints = r.hints; supply = r.supply; place = r.place } };
 
-    ghost invariant = { λ r. IsRun (record { token = r.domain; commands = r.commands.items; next = r.next; replies = r.replies.items; ended = r.ended; left = r.left; asked = r.asked; collected = r.collected; progress = r.progress; due = r.due; hints = r.hints; supply = r.supply }) × HasReserved r.supply (length r.commands.items) (vec_capacity r.commands) (vec_capacity r.replies) };
+    ghost invariant = { λ r. IsRun (record { token = r.domain; commands = r.commands.items; next = r.next; replies = r.replies.items; ended = r.ended; left = r.left; asked = r.asked; collected = r.collected; progress = r.progress; due = r.due; hints = r.hints; supply = r.supply; place = r.place }) × HasReserved r.supply (length r.commands.items) (vec_capacity r.commands) (vec_capacity r.replies) };
+}
+
+// Where a section stands before its first turn.
+fn first_place(spawned: bool) -> Place
+    ensures { result ≡ first_place spawned }
+{
+    if spawned {
+        Place::Before
+    } else {
+        Place::AsEver
+    }
 }
 
 impl DomainRun {
@@ -61,11 +77,12 @@ impl DomainRun {
         commands: Vec<Command>,
         replies: Vec<Reply>,
         supply: Supply,
+        place: Place,
     ) -> DomainRun
-        requires run { IsRun (unturned domain commands.items hints supply) }
+        requires run { IsRun (standing domain commands.items hints supply place) }
         requires unanswered { replies.items ≡ [] }
         requires reserved { HasReserved supply (length commands.items) (vec_capacity commands) (vec_capacity replies) }
-        ensures { result ≡ unturned domain commands.items hints supply }
+        ensures { result ≡ standing domain commands.items hints supply place }
     {
         DomainRun {
             domain,
@@ -80,6 +97,7 @@ impl DomainRun {
             due: 0,
             hints,
             supply,
+            place,
         }
     }
 
@@ -102,7 +120,32 @@ impl DomainRun {
         ensures { IfOk result (λ r. r ≡ unturned dom commands.items hints Supply.Listed) }
     {
         let replies = Vec::with_capacity(alloc, 2 * commands.len())?;
-        Ok(DomainRun::begin(dom, hints, commands, replies, Supply::Listed))
+        Ok(DomainRun::begin(dom, hints, commands, replies, Supply::Listed, Place::AsEver))
+    }
+
+    /// A run of a domain's section of a script with spawns, from its first command on. The hidden block was
+    /// handed to the domain, and behind the entries by which it was made no entry of the domain stands in
+    /// what it has seen of the history. `spawned` says whether a spawn begins the section: then the run
+    /// waits for that first, and tells its end last. The domain runs, in a heap of at most 8; there are at
+    /// most 200,000 commands, each of a kind that runs on the shared heap or one of the four of sections,
+    /// with their numbers in their ranges and their registers below 14, and no spawn or join names the
+    /// domain's own section. Else the conditions are those of [`make`](DomainRun::make). Fails for want of
+    /// memory alone, and then the domain is given up.
+    #[tactic(auto, using(crate::proofs::BeginningSection::reserves_section))]
+    pub fn make_spawning(
+        alloc: Global,
+        dom: Domain,
+        hints: Hints,
+        commands: Vec<Command>,
+        spawned: bool,
+    ) -> Result<DomainRun, AllocError>
+        requires begins { CanBeginSection dom commands.items }
+        requires deck { IsDeckOf dom.config dom.view hints }
+        ensures { IfOk result (λ r. r ≡ standing dom commands.items hints Supply.Section (first_place spawned)) }
+    {
+        let replies = Vec::with_capacity(alloc, 2 * commands.len())?;
+        let place = first_place(spawned);
+        Ok(DomainRun::begin(dom, hints, commands, replies, Supply::Section, place))
     }
 
     /// An open run of a domain: its commands are handed in one by one, by [`submit`](DomainRun::submit), and
@@ -116,7 +159,7 @@ impl DomainRun {
     {
         let commands = Vec::with_capacity(alloc, 1)?;
         let replies = Vec::with_capacity(alloc, 2)?;
-        Ok(DomainRun::begin(dom, hints, commands, replies, Supply::Open))
+        Ok(DomainRun::begin(dom, hints, commands, replies, Supply::Open, Place::AsEver))
     }
 
     /// Hands in the next command of an open run whose last command is done. It fits the shared heap, its
@@ -142,7 +185,7 @@ impl DomainRun {
         ensures of_history { IfSome result (IsLastReply self.now) }
     {
         match self.supply {
-            Supply::Listed => None,
+            Supply::Listed | Supply::Section => None,
             Supply::Open | Supply::Closed => self.replies.first().copied(),
         }
     }
@@ -163,21 +206,34 @@ impl DomainRun {
         self.supply
     }
 
+    /// How far the run has come in its section. One whose commands are no section of a script with spawns
+    /// is as ever.
+    pub fn place(&self) -> Place
+        ensures place { result ≡ self.now.place }
+        ensures as_ever { self.now.supply ≢ Supply.Section → self.now.place ≡ Place.AsEver }
+    {
+        self.place
+    }
+
     /// The place of the command that is next. Where all commands were listed, the domain's commands in its
-    /// part of the history are those before it, each once and in order. Of an open run it is 0 until the
-    /// command that was handed in last is done, and then 1.
+    /// part of the history are those before it, each once and in order. Of a section they have made their
+    /// steps, each behind those of the one before. Of an open run it is 0 until the command that was handed
+    /// in last is done, and then 1.
     pub fn next(&self) -> usize
         ensures next { result ≡ self.now.next }
         ensures made { self.now.supply ≡ Supply.Listed → commands_of self.now.token.view.seen.front self.now.token.view.own.number ≡ take self.now.next self.now.commands }
+        ensures section { self.now.supply ≡ Supply.Section → IsInSection self.now.token.config self.now.token.view.own.number self.now.token.view.seen.front self.now.place self.now.commands self.now.next self.now.replies }
     {
         self.next
     }
 
     /// The replies, in order. Where all commands were listed, they are those of the domain's entries in its
-    /// part of the history. Of an open run it is that of the command handed in last, once it is done.
+    /// part of the history, and of a section those that it prints. Of an open run it is that of the command
+    /// handed in last, once it is done.
     pub fn replies(&self) -> &[Reply]
         ensures replies { result.now ≡ self.now.replies }
         ensures of_history { self.now.supply ≡ Supply.Listed → self.now.replies ≡ replies_of (sizes_in self.now.token.config) self.now.token.view.seen.front self.now.token.view.own.number }
+        ensures printed { self.now.supply ≡ Supply.Section → self.now.replies ≡ printed_replies (sizes_in self.now.token.config) self.now.token.view.seen.front self.now.token.view.own.number }
     {
         &self.replies
     }

@@ -8,6 +8,9 @@ pub enum Turned {
     Did,
     /// The domain has arrived and others haven't: the barrier word, below the end of its turn.
     Waiting(u64),
+    /// The run looked at the flag of this section, and it isn't what the run waits for: that its own
+    /// section is begun, or, for a join, that the section has told its end.
+    Held { section: u32 },
     /// All commands that were handed in are done, no finaliser waits, no pause is wanted, and more commands
     /// may be handed in.
     Hungry,

@@ -6,19 +6,22 @@ ghost use Rattle.heap_rule.specs.declared.phase.Note.TheVariants as note;
 ghost use Rattle.heap_rule.specs.declared.phase.Kind.TheVariants.{Run};
 ghost use Rattle.steps_pauses.specs.Pauses.{arrived_view};
 ghost use Rattle.heap_rule.specs.Running.{Runs};
-ghost use Rattle.heap_rule.specs.Standing.{noted, with_front};
+ghost use Rattle.heap_rule.specs.Standing.{noted, with_front, ShowsRegisters};
 ghost use Rattle.heap_rule.specs.Token.{IsIn};
 ghost use Rattle.safepoint.specs.Looks.{bit_of};
 ghost use Rattle.heap_rule.specs.Limits.{sizes_in};
 ghost use Rattle.heap_model.specs.Domains.{domain_at};
 ghost use Rattle.heap_rule.specs.Rule.{state_of};
 ghost use Rattle.domain_turns.specs.Runs.{Stretches, HasEnded, EndsTrace, RunAnswers, TurnAnswers, RestAnswers, CalmAnswers, GoesOn, CalmDid, IsUnqueued, PassesOn, Polls, RunsFinaliser, TrialAnswers, WaitsForAnswer, is_asked, may_use_up, served_since, noted_token, WorksBeside};
+ghost use Rattle.domain_turns.specs.Sections.{IsOrdinary, IsTold};
 ghost use Rattle.domain_turns.specs.LookOutcomes.{PastAnswers};
 ghost use Rattle.domain_turns.specs.declared.turned.Turned as turned;
 
 use crate::command::{Attempt, try_command};
 use crate::passing::{LookOutcome, left_after, pass};
+use crate::place::Place;
 use crate::run::DomainRun;
+use crate::sections::{join, make_command, see_start, tell_end};
 use crate::supply::Supply;
 use crate::turned::Turned;
 use finaliser_queues::run_next;
@@ -43,7 +46,7 @@ fn end(heap: &Heap, dom: &mut Domain)
 
 // Whether a pause was begun and ended since the domain asked for one.
 #[inline(always)]
-fn is_served(run: &DomainRun) -> bool
+pub(crate) fn is_served(run: &DomainRun) -> bool
     ensures { result ≡ served_since run.now.asked run.now.token.view.own.arrivals }
 {
     match run.asked {
@@ -79,6 +82,8 @@ fn try_next(heap: &Heap, run: &mut DomainRun, command: &Command) -> Option<Want>
     requires running { run.old.ended ≡ false }
     requires left { run.old.left ≡ None }
     requires unqueued { IsUnqueued run.old.token }
+    requires going { run.old.place ≢ Place.Before }
+    requires ordinary { IsOrdinary command.now }
     requires next { slice_get run.old.commands run.old.next ≡ Some command.now }
     ensures here { IsIn run.new.token heap.now }
     ensures answer { TrialAnswers heap.now run.old run.new command.now result }
@@ -108,6 +113,7 @@ fn end_trace(heap: &Heap, run: &mut DomainRun)
     requires left { run.old.left ≡ None }
     requires unqueued { IsUnqueued run.old.token }
     requires whole { length run.old.commands ≤ run.old.next }
+    requires told { IsTold run.old.place }
     ensures here { IsIn run.new.token heap.now }
     ensures ends { EndsTrace heap.now run.old.token run.old run.new }
 {
@@ -123,6 +129,7 @@ fn find_wants(heap: &Heap, run: &mut DomainRun) -> u64
     requires left { run.old.left ≡ None }
     ensures here { IsIn run.new.token heap.now }
     ensures run { run.new ≡ record run.old { token = noted_token run.old.token (note.Want result) } }
+    ensures shows { ShowsRegisters heap.now.config run.new.token.view }
 {
     wants(heap, &mut run.domain).bits
 }
@@ -141,9 +148,10 @@ fn stop(heap: &Heap, run: &mut DomainRun)
 }
 
 // Asks for a pause.
-fn wish(heap: &Heap, run: &mut DomainRun, want: Want)
+pub(crate) fn wish(heap: &Heap, run: &mut DomainRun, want: Want)
     requires here { IsIn run.old.token heap.now }
     requires left { run.old.left ≡ None }
+    requires going { run.old.place ≢ Place.Before }
     ensures here { IsIn run.new.token heap.now }
     ensures run { run.new ≡ record run.old { token = noted_token run.old.token (note.Asked (bit_of want)); asked = Some run.old.token.view.own.arrivals } }
 {
@@ -188,6 +196,7 @@ fn poll(heap: &Heap, run: &mut DomainRun, command: &Command)
     requires left { run.old.left ≡ None }
     requires unqueued { IsUnqueued run.old.token }
     requires next { slice_get run.old.commands run.old.next ≡ Some command.now }
+    requires going { run.old.place ≢ Place.Before }
     requires is { command.now ≡ Poll }
     ensures here { IsIn run.new.token heap.now }
     ensures polls { Polls heap.now run.old run.new }
@@ -207,6 +216,8 @@ fn attempt(heap: &Heap, run: &mut DomainRun, command: &Command)
     requires running { run.old.ended ≡ false }
     requires left { run.old.left ≡ None }
     requires unqueued { IsUnqueued run.old.token }
+    requires going { run.old.place ≢ Place.Before }
+    requires ordinary { IsOrdinary command.now }
     requires next { slice_get run.old.commands run.old.next ≡ Some command.now }
     ensures here { IsIn run.new.token heap.now }
     ensures did { CalmDid heap.now run.old run.new }
@@ -238,12 +249,13 @@ fn rest(heap: &Heap, run: &mut DomainRun) -> Turned
 }
 
 // The turn of a run that has no command left, where no pause is wanted: its trace ends, unless more
-// commands may come.
+// commands may come, or it has the end of its section to tell.
 fn run_out(heap: &Heap, run: &mut DomainRun) -> Turned
     requires here { IsIn run.old.token heap.now }
     requires running { run.old.ended ≡ false }
     requires left { run.old.left ≡ None }
     requires unqueued { IsUnqueued run.old.token }
+    requires going { run.old.place ≢ Place.Before }
     requires whole { length run.old.commands ≤ run.old.next }
     ensures here { IsIn run.new.token heap.now }
     ensures answer { CalmAnswers heap.now run.old run.new result }
@@ -251,8 +263,39 @@ fn run_out(heap: &Heap, run: &mut DomainRun) -> Turned
     if run.supply == Supply::Open {
         return Turned::Hungry;
     }
+    if run.place == Place::Within {
+        tell_end(heap, run);
+        return Turned::Did;
+    }
     end_trace(heap, run);
     Turned::Did
+}
+
+// The turn of a run whose next command is this one, where no pause is wanted: the commands of sections
+// have turns of their own.
+#[inline(always)]
+fn take_command(heap: &Heap, run: &mut DomainRun, command: &Command) -> Turned
+    requires here { IsIn run.old.token heap.now }
+    requires running { run.old.ended ≡ false }
+    requires left { run.old.left ≡ None }
+    requires unqueued { IsUnqueued run.old.token }
+    requires going { run.old.place ≢ Place.Before }
+    requires next { slice_get run.old.commands run.old.next ≡ Some command.now }
+    requires shows { run.old.supply ≡ Supply.Section → ShowsRegisters heap.now.config run.old.token.view }
+    ensures here { IsIn run.new.token heap.now }
+    ensures answer { CalmAnswers heap.now run.old run.new result }
+{
+    match *command {
+        Command::Join { dst, section } => join(heap, run, dst, section),
+        Command::Spawn { .. } | Command::Argument { .. } | Command::PutResult { .. } => {
+            make_command(heap, run, command);
+            Turned::Did
+        }
+        _ => {
+            attempt(heap, run, command);
+            Turned::Did
+        }
+    }
 }
 
 // The turn of a run whose trace hasn't ended, where no pause is wanted. The finalisers that wait come
@@ -262,28 +305,31 @@ fn step_on(heap: &Heap, run: &mut DomainRun) -> Turned
     requires here { IsIn run.old.token heap.now }
     requires running { run.old.ended ≡ false }
     requires left { run.old.left ≡ None }
+    requires shows { run.old.supply ≡ Supply.Section → ShowsRegisters heap.now.config run.old.token.view }
     ensures here { IsIn run.new.token heap.now }
     ensures answer { CalmAnswers heap.now run.old run.new result }
 {
     if runs_finaliser(heap, run) {
         return Turned::Did;
     }
+    if run.place == Place::Before {
+        return see_start(heap, run);
+    }
     match run.commands.get(run.next).copied() {
-        Some(command) => {
-            attempt(heap, run, &command);
-            Turned::Did
-        }
+        Some(command) => take_command(heap, run, &command),
         None => run_out(heap, run),
     }
 }
 
 /// The turn of a running domain whatever the want word is: it runs a finaliser, tries its next command,
 /// asks for a pause, or ends its trace. It doesn't arrive, and never waits. Of what a turn answers it
-/// answers neither `Waiting` nor that a pause was found wanted.
+/// answers neither `Waiting` nor that a pause was found wanted. The domain of a section knows, by a look at
+/// the want word, that its registers hold what they hold in the state after what it has seen.
 #[inline(always)]
 pub fn go_on(heap: &Heap, run: &mut DomainRun) -> Turned
     requires here { IsIn run.old.token heap.now }
     requires left { run.old.left ≡ None }
+    requires shows { run.old.supply ≡ Supply.Section → ShowsRegisters heap.now.config run.old.token.view }
     ensures here { IsIn run.new.token heap.now }
     ensures answer { CalmAnswers heap.now run.old run.new result }
 {
@@ -474,6 +520,12 @@ fn turn_on(heap: &Heap, run: &mut DomainRun) -> Turned
 /// the end of the collection. Where none goes on it sweeps: it looks at 256 places of its own pools and
 /// frees the garbage there, or no own pool is left to be swept. From one collection to the next it looks
 /// at each place once.
+///
+/// A run of a section that a spawn begins looks first, once in a turn, whether it is begun, and a join
+/// looks so whether the section that it waits for has told its end: while it isn't so the turn answers
+/// `Held`. A spawn, an argument and a result are one turn with all their steps, and so is a join with its
+/// last look. Before a spawn it asks for a pause where it can't remember two words more, and before a
+/// result and before it tells its end where it can't remember one. Its end is told by a turn of its own.
 ///
 /// Of an open run the trace doesn't end: where all commands that were handed in are done the turn answers
 /// `Hungry`, and changes nothing.

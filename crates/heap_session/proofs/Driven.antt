@@ -1,5 +1,5 @@
 -- A turn of the run of a session.
-use Rattle.std.proofs.Common.{◌≡◌, ◌≢◌, ◌∙◌, ℕ, ◌+◌, ◌<◌, Bool, true, false, List, [], ◌∷◌, ◌++◌, append-nil, length, length-append, slice_get, Some, None, Option, refl, sym, ap, subst, arith}
+use Rattle.std.proofs.Common.{◌≡◌, ◌∙◌, ℕ, ◌+◌, ◌<◌, Bool, true, false, List, [], ◌∷◌, ◌++◌, append-nil, length, length-append, slice_get, Some, None, Option, refl, sym, ap, subst, arith}
 use Rattle.std.proofs.lemmas.Option.{slice_get_within}
 use Rattle.heap_model.specs.declared.command.Command as model
 use Rattle.heap_model.specs.declared.entry.Entry.{Entry}
@@ -16,9 +16,9 @@ use Rattle.heap_model.proofs.Histories.FrontLemmas.{front_trans, front_whole}
 use Rattle.heap_rule.specs.Limits.{sizes_in}
 use Rattle.heap_rule.specs.Token.{SharedHeap, IsIn}
 use Rattle.domain_turns.specs.declared.supply.Supply.{Supply}
-use Rattle.domain_turns.specs.declared.supply.Supply.TheVariants.{Listed, Open, Closed}
-use Rattle.domain_turns.specs.Runs.{RunView, Appended, GoesOn, IsRun, Stretches, Takes, answer_of, first_reply}
-use Rattle.domain_turns.specs.Runs.Stretches.{ByOthers, ByCommand, ByFinaliser, ByEnd}
+use Rattle.domain_turns.specs.declared.supply.Supply.TheVariants.{Section, Open, Closed}
+use Rattle.domain_turns.specs.Runs.{RunView, Appended, GoesOn, IsHandedIn, IsRun, Stretches, Takes, answer_of, first_reply}
+use Rattle.domain_turns.specs.Runs.Stretches.{ByOthers, ByCommand, ByFinaliser, ByEnd, BySection}
 use Rattle.domain_turns.proofs.StretchLemmas.{appended_after}
 use Rattle.domain_turns.proofs.Taking.{takes_none, takes_on}
 use Rattle.domain_turns.specs.Tries.{registrations_of}
@@ -40,11 +40,11 @@ still_goes r = record { commands = refl; supply = refl; number = refl; front = r
 still_alone : (h : SharedHeap) (old new : RunView) → IsAlone h old → IsIn new.token h → GoesOn old new → IsAlone h new
 still_alone h old new a here g = record { here = here; one = a.one; number = g.number ∙ a.number }
 
-open_handed : (s : Supply) → s ≡ Open → s ≢ Listed
-open_handed s is listed = let clash : Open ≡ Listed = sym is ∙ listed in cc
+open_handed : (s : Supply) → s ≡ Open → IsHandedIn s
+open_handed s is = subst IsHandedIn (sym is) tt
 
-closed_handed : (s : Supply) → s ≡ Closed → s ≢ Listed
-closed_handed s is listed = let clash : Closed ≡ Listed = sym is ∙ listed in cc
+closed_handed : (s : Supply) → s ≡ Closed → IsHandedIn s
+closed_handed s is = subst IsHandedIn (sym is) tt
 
 -- a turn of a run that has a command to make
 pub awaits_turn : (h : SharedHeap) (start : DomainView) (c : model.Command) (old new : RunView) → Awaits h start c old → IsIn new.token h → Stretches (sizes_in h.config) old new → GoesOn old new → IsRun new → AwaitAnswers h start c new (answer_of new)
@@ -92,6 +92,7 @@ awaits_turn h start c old new a here s g is = by s
         let next : new.next ≡ 0 = m.next ∙ a.next in
         absurd (omega (arith, count, kept, next))
     by (ByEnd m) = absurd (m.shut a.more)
+    by (BySection m) = absurd (let clash : Open ≡ Section = sym a.more ∙ m.sectioned in cc)
 
 -- a turn of one that gets no more
 pub closes_turn : (h : SharedHeap) (front : List Entry) (old new : RunView) → Closes h front old → IsIn new.token h → Stretches (sizes_in h.config) old new → GoesOn old new → IsRun new → CloseAnswers h front new new.ended
@@ -122,6 +123,7 @@ closes_turn h front old new a here s g is = by s
         let next : new.next ≡ old.next = m.next in
         let before : length old.replies ≡ old.next = a.answered in
         absurd (omega (arith, count, kept, next, before))
+    by (BySection m) = absurd (let clash : Closed ≡ Section = sym a.closed ∙ m.sectioned in cc)
     by (ByEnd m) =
         let last : Appended (sizes_in h.config) 0 old.token.view.seen.front new.token.view.seen.front (End 0) Silent =
         subst (λ (d : ℕ). Appended (sizes_in h.config) d old.token.view.seen.front new.token.view.seen.front (End d) Silent) a.alone.number m.front in

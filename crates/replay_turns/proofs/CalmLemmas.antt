@@ -2,10 +2,10 @@
 use Rattle.std.proofs.Common.{◌≡◌, ◌∙◌, ℕ, Bool, true, false, sym, ap, subst, ⊎_elim}
 use Rattle.heap_rule.specs.Token.{SharedHeap}
 use Rattle.domain_turns.specs.declared.turned.Turned.{Turned}
-use Rattle.domain_turns.specs.declared.turned.Turned.TheVariants.{Did, Waiting, Hungry, Idle}
+use Rattle.domain_turns.specs.declared.turned.Turned.TheVariants.{Did, Waiting, Hungry, Held, Idle}
 use Rattle.domain_turns.specs.declared.turned.Turned.TheVariants.{Ended as Over}
 use Rattle.domain_turns.specs.Runs.{RunView, CalmAnswers, CalmDid, Rests, WorksBeside, MarksBeside, SweepsBeside, asking_end}
-use Rattle.domain_turns.specs.Runs.CalmDid.{Finalises, Wishes, Refuses, Tries, Works, Ends}
+use Rattle.domain_turns.specs.Runs.CalmDid.{Finalises, Wishes, Refuses, Tries, Works, Ends, Sees, Makes, Tells, WishesToTell}
 
 -- it runs still, and what a replay keeps of it is as it was
 pub record KeepsRun (old new : RunView) : Type 0 where
@@ -39,6 +39,10 @@ keeps_did h old new (Works p) =
       collected = λ _. ap (λ (r : RunView). r.collected) t;
     }))
 keeps_did h old new (Ends t) = record { left = ap (λ (r : RunView). r.left) t.run; supply = ap (λ (r : RunView). r.supply) t.run; progress = ap (λ (r : RunView). r.progress) t.run; collected = λ _. ap (λ (r : RunView). r.collected) t.run }
+keeps_did h old new (Sees t) = record { left = ap (λ (r : RunView). r.left) t.run; supply = ap (λ (r : RunView). r.supply) t.run; progress = ap (λ (r : RunView). r.progress) t.run; collected = λ _. ap (λ (r : RunView). r.collected) t.run }
+keeps_did h old new (Makes c t) = record { left = ap (λ (r : RunView). r.left) t.run; supply = ap (λ (r : RunView). r.supply) t.run; progress = ap (λ (r : RunView). r.progress) t.run; collected = λ _. ap (λ (r : RunView). r.collected) t.run }
+keeps_did h old new (Tells t) = record { left = ap (λ (r : RunView). r.left) t.run; supply = ap (λ (r : RunView). r.supply) t.run; progress = ap (λ (r : RunView). r.progress) t.run; collected = λ _. ap (λ (r : RunView). r.collected) t.run }
+keeps_did h old new (WishesToTell a) = record { left = ap (λ (r : RunView). r.left) a.run; supply = ap (λ (r : RunView). r.supply) a.run; progress = ap (λ (r : RunView). r.progress) a.run; collected = λ e. ap (λ (r : RunView). r.collected) a.run ∙ e }
 
 keeps_rest : (old new : RunView) (n : ℕ) → Rests old new n → KeepsRun old new
 keeps_rest old new n r = record { left = ap (λ (x : RunView). x.left) r.run; supply = ap (λ (x : RunView). x.supply) r.run; progress = ap (λ (x : RunView). x.progress) r.run; collected = λ e. ap (λ (x : RunView). x.collected) r.run ∙ e }
@@ -47,5 +51,6 @@ pub calm_keeps : (h : SharedHeap) (old new : RunView) (a : Turned) → CalmAnswe
 calm_keeps h old new Did says = keeps_did h old new says
 calm_keeps h old new (Waiting b) says = absurd says
 calm_keeps h old new Hungry says = record { left = ap (λ (x : RunView). x.left) says.run; supply = ap (λ (x : RunView). x.supply) says.run; progress = ap (λ (x : RunView). x.progress) says.run; collected = λ e. ap (λ (x : RunView). x.collected) says.run ∙ e }
+calm_keeps h old new (Held section) says = record { left = ap (λ (x : RunView). x.left) says.run; supply = ap (λ (x : RunView). x.supply) says.run; progress = ap (λ (x : RunView). x.progress) says.run; collected = λ _. ap (λ (x : RunView). x.collected) says.run }
 calm_keeps h old new (Idle n) says = keeps_rest old new n says.0
 calm_keeps h old new Over says = keeps_rest old new h.config.domains says

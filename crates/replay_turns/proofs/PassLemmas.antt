@@ -22,7 +22,7 @@ use Rattle.safepoint.specs.Looks.{PassedBarrier}
 use Rattle.pause_phases.specs.declared.decider.Decider.TheVariants.{Caller}
 use Rattle.pause_phases.specs.Leading.{LeadsOn, next_kind}
 use Rattle.domain_turns.specs.declared.turned.Turned.{Turned}
-use Rattle.domain_turns.specs.declared.turned.Turned.TheVariants.{Did, Waiting, Hungry, Idle, Ended}
+use Rattle.domain_turns.specs.declared.turned.Turned.TheVariants.{Did, Waiting, Hungry, Held, Idle, Ended}
 use Rattle.domain_turns.specs.Pausing.{ComesToAnswer, KnowsProgress, LeavesEven, LeavesOdd}
 use Rattle.domain_turns.specs.Runs.{GoesBy, IsRun, PassesOn, Resumes, RunView, SeesAnswer, StandsAt, Waits}
 use Rattle.domain_turns.specs.Runs.{IsAnswered as RunIsAnswered}
@@ -328,5 +328,6 @@ module _ (h : SharedHeap) (complete : Bool) (r s : RunView) (is : IsRun r) (now 
   passed Did walk p = ⊎_elim (λ g. goes_by g walk) (λ more. ⊎_elim (λ a. answered a walk) (λ rest. ⊎_elim (λ a. sees a walk) (λ a. resumes a walk) rest) more) p
   passed (Waiting b) walk p = waits b p walk
   passed Hungry walk p = absurd p
+  passed (Held section) walk p = absurd p
   passed (Idle n) walk p = absurd p
   passed Ended walk p = absurd p

@@ -22,12 +22,12 @@ use Rattle.heap_rule.specs.Rule.{state_of}
 use Rattle.heap_rule.specs.Token.{SharedHeap, Token}
 use Rattle.finaliser_queues.specs.Running.{reply_of}
 use Rattle.size_pools.specs.Taken.{Sought}
-use Rattle.domain_turns.specs.declared.supply.Supply.TheVariants.{Listed, Open}
+use Rattle.domain_turns.specs.declared.supply.Supply.TheVariants.{Listed, Open, Section}
 use Rattle.domain_turns.specs.declared.turned.Turned.{Turned}
-use Rattle.domain_turns.specs.declared.turned.Turned.TheVariants.{Did, Waiting, Hungry, Idle}
+use Rattle.domain_turns.specs.declared.turned.Turned.TheVariants.{Did, Waiting, Hungry, Held, Idle}
 use Rattle.domain_turns.specs.declared.turned.Turned.TheVariants.{Ended as Over}
 use Rattle.domain_turns.specs.Runs.{RunView, Asks, AsksFull, CalmAnswers, CalmDid, EndsTrace, MarksBeside, Polls, RunsFinaliser, SweepsBeside, TriesCommand, WorksBeside, asking_end}
-use Rattle.domain_turns.specs.Runs.CalmDid.{Finalises, Wishes, Refuses, Tries, Works, Ends}
+use Rattle.domain_turns.specs.Runs.CalmDid.{Finalises, Wishes, Refuses, Tries, Works, Ends, Sees, Makes, Tells, WishesToTell}
 use Rattle.domain_turns.specs.Tries.{Enters, NeedsPause, Stands}
 use Rattle.schedule_drive.specs.declared.together.Stepped.{Stepped}
 use Rattle.schedule_drive.specs.declared.together.Stepped.TheVariants.{Ran, Made, Needs}
@@ -293,18 +293,27 @@ module _ (h : SharedHeap) (shares : List Entry → Type 0) (d : ℕ) (r s : RunV
     go Ran at = absurd (true≢false (sym over ∙ at.1))
     go (Needs complete) at = absurd (true≢false (sym over ∙ at.1))
 
-  did : CalmDid h r s → TurnedBy z shares d r s stepped
-  did (Finalises f) = finalises f
-  did (Wishes a) = asks a
-  did (Refuses a) = asks_full a
-  did (Tries c other t) = tries c t
-  did (Works p) = polls p
-  did (Ends e) = ends e
+  -- a section isn't replayed
+  other : r.supply ≡ Listed → r.supply ≡ Section → ⊥
+  other listed section = let e : Listed ≡ Section = sym listed ∙ section in cc
+
+  did : r.supply ≡ Listed → CalmDid h r s → TurnedBy z shares d r s stepped
+  did listed (Finalises f) = finalises f
+  did listed (Wishes a) = asks a
+  did listed (Refuses a) = asks_full a
+  did listed (Tries c another t) = tries c t
+  did listed (Works p) = polls p
+  did listed (Ends e) = ends e
+  did listed (Sees t) = absurd (other listed t.sectioned)
+  did listed (Makes c t) = absurd (other listed t.sectioned)
+  did listed (Tells t) = absurd (other listed t.sectioned)
+  did listed (WishesToTell a) = absurd (other listed a.sectioned)
 
   -- whatever the step answers
   pub turned : (a : Turned) → r.supply ≡ Listed → CalmAnswers h r s a → TurnedBy z shares d r s stepped
-  turned Did listed says = did says
+  turned Did listed says = did listed says
   turned (Waiting b) listed says = absurd says
   turned Hungry listed says = absurd (let e : Open ≡ Listed = sym says.more ∙ listed in cc)
+  turned (Held section) listed says = absurd (other listed says.sectioned)
   turned (Idle n) listed says = absurd (true≢false (sym says.0.over ∙ goes_on))
   turned Over listed says = absurd (true≢false (sym says.over ∙ goes_on))

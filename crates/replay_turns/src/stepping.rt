@@ -37,6 +37,7 @@ fn step_alone(heap: &Heap, runs: &mut [Option<DomainRun>], at: usize) -> Stepped
     requires inside { at < length runs.old }
     requires here { AllHere heap.now runs.old }
     requires running { (r : RunView) → HasRun runs.old at r → r.left ≡ None }
+    requires listed { (r : RunView) → HasRun runs.old at r → r.supply ≡ Listed }
     ensures steps { StepsAt heap.now runs.old runs.new at result }
 {
     let Some(run) = &mut runs[at] else {
@@ -54,6 +55,7 @@ pub(crate) fn step_at(heap: &Heap, runs: &mut [Option<DomainRun>], at: usize) ->
     requires inside { at < length runs.old }
     requires here { AllHere heap.now runs.old }
     requires running { (r : RunView) → HasRun runs.old at r → r.left ≡ None }
+    requires listed { (r : RunView) → HasRun runs.old at r → r.supply ≡ Listed }
     ensures steps { MetThen heap.now.config runs.old at (λ mid. StepsAt heap.now mid runs.new at result) }
 {
     meet_each(heap, runs, at);

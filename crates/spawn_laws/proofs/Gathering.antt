@@ -21,7 +21,7 @@ pub record HasMade (z : Sizes) (script : List (List Command)) (h : List Entry) (
   pub begins : front ≡ prelude z.domains ++ behind
   pub makes : IsSection d (is_spawned script d) (section_at script d) (steps_from (state_after (opening z) (prelude z.domains)) behind d)
 
-same_rest : (xs ys zs : List Entry) → xs ++ ys ≡ xs ++ zs → ys ≡ zs
+pub same_rest : (xs ys zs : List Entry) → xs ++ ys ≡ xs ++ zs → ys ≡ zs
 same_rest [] ys zs e = e
 same_rest (x ∷ xs) ys zs e = let later : xs ++ ys ≡ xs ++ zs = cc in same_rest xs ys zs later
 

@@ -16,14 +16,14 @@ printed_append : (d : ℕ) (xs ys : List Step) → printed_of d (xs ++ ys) ≡ p
 printed_append d xs ys = flat_map-append (λ (s : Step). cond (is_printed d s.command) (s.answer ∷ []) []) xs ys
 
 -- a step that prints, and one that doesn't
-prints_one : (d : ℕ) (x : Step) (c : Command) → x.command ≡ c → is_printed d c ≡ true → printed_of d (x ∷ []) ≡ x.answer ∷ []
+pub prints_one : (d : ℕ) (x : Step) (c : Command) → x.command ≡ c → is_printed d c ≡ true → printed_of d (x ∷ []) ≡ x.answer ∷ []
 prints_one d x c is shows = ap (λ (b : Bool). cond b (x.answer ∷ []) [] ++ []) (ap (is_printed d) is ∙ shows)
 
-prints_none : (d : ℕ) (x : Step) (xs : List Step) (c : Command) → x.command ≡ c → is_printed d c ≡ false → printed_of d xs ≡ [] → printed_of d (x ∷ xs) ≡ []
+pub prints_none : (d : ℕ) (x : Step) (xs : List Step) (c : Command) → x.command ≡ c → is_printed d c ≡ false → printed_of d xs ≡ [] → printed_of d (x ∷ xs) ≡ []
 prints_none d x xs c is silent rest = ap (λ (b : Bool). cond b (x.answer ∷ []) [] ++ printed_of d xs) (ap (is_printed d) is ∙ silent) ∙ rest
 
 -- which commands print
-below_scratch : (r : ℕ) (rs : List ℕ) → IsTrue (list_all (λ k. nat_lt k scratch) (r ∷ rs)) → nat_lt r scratch ≡ true
+pub below_scratch : (r : ℕ) (rs : List ℕ) → IsTrue (list_all (λ k. nat_lt k scratch) (r ∷ rs)) → nat_lt r scratch ≡ true
 below_scratch r rs all = (and_parts (nat_lt r scratch) (list_all (λ k. nat_lt k scratch) rs) all).0
 
 not_hidden : (r : ℕ) → nat_lt r scratch ≡ true → (r == hidden) ≡ false
@@ -32,7 +32,7 @@ not_hidden r h = grind (arith, nat_tests)
 store_printed : (d block index item : ℕ) → nat_lt block scratch ≡ true → nat_lt item scratch ≡ true → is_printed d (Store block index item) ≡ true
 store_printed d block index item a b = ap (λ (t : Bool). if t then is_hidden_store_printed d index else nat_lt item scratch) (not_hidden block a) ∙ b
 
-plain_printed : (d : ℕ) (c : Command) → IsTrue (is_plain c) → is_printed d c ≡ true
+pub plain_printed : (d : ℕ) (c : Command) → IsTrue (is_plain c) → is_printed d c ≡ true
 plain_printed d (PutInt dst value) all = below_scratch dst [] all
 plain_printed d (Forget dst) all = below_scratch dst [] all
 plain_printed d (AllocMaj dst tag fields) all = below_scratch dst [] all
@@ -128,7 +128,7 @@ join_prints d xs dst section below join = record {
       ∙ (λ i. waits_silent d section (pos 2) join.waits join.waited i ++ prints_one d join.last _ join.loads below i);
 }
 
-command_prints : (d : ℕ) (c : Command) (xs : List Step) → IsFitting d c → IsExpansion d c xs → PrintsLast d xs
+pub command_prints : (d : ℕ) (c : Command) (xs : List Step) → IsFitting d c → IsExpansion d c xs → PrintsLast d xs
 command_prints d (Spawn section item) xs fits is = spawn_prints d _ xs section item fits.2 fits.1 is.commands_are
 command_prints d (Argument dst) xs fits is = one_prints d xs _ is (below_scratch dst [] fits)
 command_prints d (PutResult item) xs fits is = one_prints d xs _ is (result_printed d item)
@@ -156,7 +156,7 @@ start_silent : (d : ℕ) (spawned : Bool) (xs : List Step) → cond spawned (IsS
 start_silent d true xs is = waits_silent d d (pos 1) xs is
 start_silent d false xs is = ap (printed_of d) is
 
-end_silent : (d : ℕ) → d < 8 → (spawned : Bool) (xs : List Step) → cond spawned (Make (finish_commands d) xs) (xs ≡ []) → printed_of d xs ≡ []
+pub end_silent : (d : ℕ) → d < 8 → (spawned : Bool) (xs : List Step) → cond spawned (Make (finish_commands d) xs) (xs ≡ []) → printed_of d xs ≡ []
 end_silent d lt true [] is = cc
 end_silent d lt true (x ∷ []) is = cc
 end_silent d lt true (x ∷ y ∷ []) is =

@@ -2,7 +2,7 @@ use Rattle.std.proofs.Common.{ℕ, pos, ◌∷◌, [], subst}
 use Rattle.heap_model.specs.declared.command.Command.TheVariants.{PutInt, Store}
 use Rattle.spawn_laws.specs.Hidden.{hidden, scratch}
 use Rattle.domain_spawn.specs.Expanding.{MakesAll}
-use Rattle.domain_spawn.proofs.Making.{made_flag}
+use Rattle.domain_spawn.proofs.Making.{made_flag, words_both, words_of_registers, words_of_remembered}
 use Rattle.domain_spawn.proofs.flags.finish.Goals as goal
 
 pub returns : goal.returns
@@ -10,4 +10,5 @@ returns c = record {
   makes =
       subst (λ (n : ℕ). MakesAll c.args.heap.now c.args.dom.now c.store.new.dom (PutInt scratch (pos 2) ∷ Store hidden n scratch ∷ [])) c.number-section.ensures.value
       (made_flag _ _ _ _ _ _ _ _ c.put_int.ensures.did c.put_int.ensures.rest c.store.ensures.did c.store.ensures.rest);
+  rest = words_both _ _ _ (words_of_registers _ _ c.put_int.ensures.rest) (words_of_remembered _ _ c.store.ensures.rest);
 }

@@ -1,4 +1,5 @@
-use Rattle.std.proofs.Common.{◌∙◌, ap, length, subst, Some, ℕ}
+use Rattle.std.proofs.Common.{◌≡◌, ◌∙◌, ap, length, subst, sym, Some, ℕ}
+use Rattle.domain_turns.specs.declared.supply.Supply.TheVariants.{Listed, Section}
 use Rattle.std.specs.Prelude.{slice_set}
 use Rattle.domain_turns.specs.Runs.{RunView}
 use Rattle.replay_turns.specs.Moves.{CameTo}
@@ -14,6 +15,9 @@ go_on-requires-clause-here c = c.requires.here.here c.args.at _ (has_run _ c.arg
 
 pub go_on-requires-clause-left : goal.go_on-requires-clause-left
 go_on-requires-clause-left c = c.requires.running _ (has_run _ c.args.at _ _ c.requires.inside c.in-Some.is)
+
+pub go_on-requires-clause-shows : goal.go_on-requires-clause-shows
+go_on-requires-clause-shows c = λ section. let clash : Listed ≡ Section = sym (c.requires.listed _ (has_run _ c.args.at _ _ c.requires.inside c.in-Some.is)) ∙ section in cc
 
 pub came_to-requires-clause-running : goal.came_to-requires-clause-running
 came_to-requires-clause-running c = (calm_keeps c.args.heap.now c.in-Some.run' c.go_on.new.run c.go_on.result c.go_on.ensures.answer).left ∙ c.requires.running _ (has_run _ c.args.at _ _ c.requires.inside c.in-Some.is)

@@ -1,17 +1,16 @@
-use Rattle.std.proofs.Common.{◌≡◌, ◌≢◌, ◌∙◌, ◌≤◌, List, [], ◌∷◌, ◌++◌, false, length, None, sym, ap, subst, arith}
+use Rattle.std.proofs.Common.{◌≡◌, ◌∙◌, ◌≤◌, List, [], ◌∷◌, ◌++◌, false, length, None, sym, ap, subst, arith}
 use Rattle.std.specs.Prelude.{vec_capacity}
 use Rattle.heap_model.specs.declared.command.Command as model
 use Rattle.heap_model.specs.declared.reply.Reply.{Reply}
-use Rattle.domain_turns.specs.declared.supply.Supply.TheVariants.{Listed, Open}
-use Rattle.domain_turns.specs.Runs.{IsRun, MaySubmit, RunView}
+use Rattle.domain_turns.specs.Runs.{IsHandedIn, IsRun, MaySubmit, RunView}
 use Rattle.domain_turns.proofs.Supplying.{submitted_is_run}
 use Rattle.domain_turns.proofs.run.DomainRun.submit.Goals as goal
 
 pub invariant_of-self : goal.invariant_of-self
 invariant_of-self c =
-    let r : RunView = record { token = c.self.inside.domain; commands = c.self.inside.commands.items; next = c.self.inside.next; replies = c.self.inside.replies.items; ended = c.self.inside.ended; left = c.self.inside.left; asked = c.self.inside.asked; collected = c.self.inside.collected; progress = c.self.inside.progress; due = c.self.inside.due; hints = c.self.inside.hints; supply = c.self.inside.supply } in
+    let r : RunView = record { token = c.self.inside.domain; commands = c.self.inside.commands.items; next = c.self.inside.next; replies = c.self.inside.replies.items; ended = c.self.inside.ended; left = c.self.inside.left; asked = c.self.inside.asked; collected = c.self.inside.collected; progress = c.self.inside.progress; due = c.self.inside.due; hints = c.self.inside.hints; supply = c.self.inside.supply; place = c.self.inside.place } in
     let may : MaySubmit r c.args.command = subst (λ (x : RunView). MaySubmit x c.args.command) (sym c.self.view_is) c.requires.may in
-    let handed : c.self.inside.supply ≢ Listed = λ listed. let clash : Open ≡ Listed = sym may.more ∙ listed in cc in
+    let handed : IsHandedIn c.self.inside.supply = subst IsHandedIn (sym may.more) tt in
     let commands : c.push_reserved.new.self.items ≡ c.args.command ∷ [] = c.push_reserved.ensures.items ∙ ap (λ (cs : List model.Command). cs ++ c.args.command ∷ []) c.clear.ensures.items in
     let replies : c.clear-2.new.self.items ≡ [] = c.clear-2.ensures.items in
     let one : length c.push_reserved.new.self.items ≡ 1 = ap (λ (cs : List model.Command). length cs) commands in

@@ -20,6 +20,9 @@ step_at-requires-clause-running g c = λ r there.
     let g0 : GatheredView = record { heap = c.self.inside.heap; runs = c.self.inside.runs.items; complete = c.self.inside.complete } in
     runs_run g0 run c.args.at r (subst (λ (rs : List (Option RunView)). HasRun rs c.args.at r) c.as_mut_slice.ensures.value there)
 
+pub step_at-requires-clause-listed : goal.step_at-requires-clause-listed
+step_at-requires-clause-listed g c = λ r there. (c.self.invariant.held c.args.at r (subst (λ (rs : List (Option RunView)). HasRun rs c.args.at r) c.as_mut_slice.ensures.value there)).listed
+
 pub invariant_of-self : goal.invariant_of-self
 invariant_of-self g c =
     let g0 : GatheredView = record { heap = c.self.inside.heap; runs = c.self.inside.runs.items; complete = c.self.inside.complete } in
