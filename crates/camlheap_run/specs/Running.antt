@@ -11,6 +11,7 @@ use Rattle.heap_rule.specs.Opening.{opening_tokens}
 use Rattle.heap_rule.specs.Token.{Token, SharedHeap, IsIn}
 use Rattle.heap_rule.specs.Ending.{EndedHeap, AllBegin}
 use Rattle.heap_rule.specs.Views.{no_collection}
+use Rattle.domain_turns.specs.declared.place.Place.TheVariants.{AsEver}
 use Rattle.domain_turns.specs.declared.supply.Supply.TheVariants.{Listed}
 use Rattle.domain_turns.specs.Runs.{RunView, IsRun, CanBegin}
 use Rattle.mark_slices.specs.Decks.{DeckCounts, uncounted}
@@ -36,7 +37,7 @@ deck_of t = uncounted t.view.own.number t.config.domains
 
 -- a domain's run of commands, before the first
 abbrev pub opened_with : Token → List Command → RunView
-opened_with t commands = record { token = t; commands = commands; next = 0; replies = []; ended = false; left = None; asked = None; collected = false; progress = no_collection; due = 0; hints = deck_of t; supply = Listed }
+opened_with t commands = record { token = t; commands = commands; next = 0; replies = []; ended = false; left = None; asked = None; collected = false; progress = no_collection; due = 0; hints = deck_of t; supply = Listed; place = AsEver }
 
 -- the run of its section
 abbrev pub opened : List (List Command) → Token → RunView
