@@ -20,6 +20,7 @@ use Rattle.domain_turns.specs.Pausing.{ComesToAnswer}
 use Rattle.heap_rule.specs.declared.view.Hunt.TheVariants.{Rests as AtRest}
 use Rattle.size_pools.proofs.Seeking.{sought_view}
 use Rattle.domain_turns.proofs.Working.{works_keeps}
+use Rattle.domain_turns.specs.Sections.{is_spawned_at}
 use Rattle.domain_turns.specs.Runs.{RunView, CalmDid, Rests, CalmAnswers, RunAnswers, Stops, Resumes, GoesBy, IsAnswered, SeesAnswer, wanting, GoesOn, asking_end}
 use Rattle.heap_rule.specs.declared.config.Config.{Config}
 use Rattle.domain_turns.specs.Runs.CalmDid.{Finalises, Wishes, Refuses, Tries, Works, Ends, Sees, Makes, Tells, WishesToTell}
@@ -37,22 +38,24 @@ same_prefix old new is = record { rest = []; appends = is ∙ sym (append-nil ol
 -- a wish changes nothing of it
 asks : (spent : Bool) (old new : RunView) → GoesOn old new → GoesOn old (asking_end spent new)
 asks false old new g = g
-asks true old new g = record { commands = g.commands; supply = g.supply; number = g.number; front = g.front }
+asks true old new g = record { commands = g.commands; supply = g.supply; spawned = g.spawned; number = g.number; front = g.front }
 
 -- some steps of a section
 stepped : (h : SharedHeap) (old new : RunView) → StepsOn h old new → GoesOn old new
-stepped h old new s = record { commands = s.commands; supply = s.supply; number = s.makes.number; front = s.makes.front }
+stepped h old new s = record { commands = s.commands; supply = s.supply; spawned = s.spawned; number = s.makes.number; front = s.makes.front }
 
 calm_did : (h : SharedHeap) (old new : RunView) → CalmDid h old new → GoesOn old new
 calm_did h old new (Finalises f) = record {
   commands = ap (λ (r : RunView). r.commands) f.run;
   supply = ap (λ (r : RunView). r.supply) f.run;
+  spawned = ap (λ (r : RunView). is_spawned_at r.place) f.run;
   number = ap (λ (x : DomainView). x.own.number) f.first.view;
   front = answered_front _ _ _ _ _ _ f.first.answers;
 }
 calm_did h old new (Wishes a) = record {
   commands = ap (λ (r : RunView). r.commands) a.run;
   supply = ap (λ (r : RunView). r.supply) a.run;
+  spawned = ap (λ (r : RunView). is_spawned_at r.place) a.run;
   number = ap (λ (r : RunView). r.token.view.own.number) a.run;
   front = same_prefix _ _ (ap (λ (r : RunView). r.token.view.seen.front) a.run);
 }
@@ -61,10 +64,11 @@ calm_did h old new (Refuses a) =
     let same : a.searched.view.seen.front ≡ old.token.view.seen.front = ap (λ (x : DomainView). x.seen.front) view in record {
       commands = ap (λ (r : RunView). r.commands) a.run;
       supply = ap (λ (r : RunView). r.supply) a.run;
+      spawned = ap (λ (r : RunView). is_spawned_at r.place) a.run;
       number = ap (λ (r : RunView). r.token.view.own.number) a.run ∙ ap (λ (x : DomainView). x.own.number) view;
       front = same_prefix _ _ (ap (λ (r : RunView). r.token.view.seen.front) a.run ∙ same);
     }
-calm_did h old new (Tries c other t) = record { commands = ap (λ (r : RunView). r.commands) t.run; supply = ap (λ (r : RunView). r.supply) t.run; number = ap (λ (o : Own). o.number) t.tried.own; front = answered_front _ _ _ _ _ _ (stood h old.token new.token c old.collected t.reply t.tried.stands).1 }
+calm_did h old new (Tries c other t) = record { commands = ap (λ (r : RunView). r.commands) t.run; supply = ap (λ (r : RunView). r.supply) t.run; spawned = ap (λ (r : RunView). is_spawned_at r.place) t.run; number = ap (λ (o : Own). o.number) t.tried.own; front = answered_front _ _ _ _ _ _ (stood h old.token new.token c old.collected t.reply t.tried.stands).1 }
 calm_did h old new (Works p) =
     let t = p.tried in
     let kept = works_keeps h old p.worked p.spent p.works in
@@ -72,17 +76,19 @@ calm_did h old new (Works p) =
     let g : GoesOn old p.made = record {
       commands = ap (λ (r : RunView). r.commands) t.run ∙ kept.commands;
       supply = ap (λ (r : RunView). r.supply) t.run ∙ kept.supply;
+      spawned = ap (λ (r : RunView). is_spawned_at r.place) t.run ∙ ap is_spawned_at kept.place;
       number = ap (λ (o : Own). o.number) t.tried.own ∙ kept.number;
       front = subst (λ (f : List Entry). IsPrefix f p.made.token.view.seen.front) seen (answered_front _ _ _ _ _ _ (stood h p.worked.token p.made.token Poll p.worked.collected t.reply t.tried.stands).1);
     } in
     subst (GoesOn old) (sym p.run) (asks p.spent old p.made g)
-calm_did h old new (Ends t) = record { commands = ap (λ (r : RunView). r.commands) t.run; supply = ap (λ (r : RunView). r.supply) t.run; number = ap (λ (x : DomainView). x.own.number) t.ended.view; front = answered_front _ _ _ _ _ _ t.ended.answers }
+calm_did h old new (Ends t) = record { commands = ap (λ (r : RunView). r.commands) t.run; supply = ap (λ (r : RunView). r.supply) t.run; spawned = ap (λ (r : RunView). is_spawned_at r.place) t.run; number = ap (λ (x : DomainView). x.own.number) t.ended.view; front = answered_front _ _ _ _ _ _ t.ended.answers }
 calm_did h old new (Sees t) = stepped h old new (sees_steps h old new t)
 calm_did h old new (Makes c t) = stepped h old new (makes_steps h old new c t)
 calm_did h old new (Tells t) = stepped h old new (tells_steps h old new t)
 calm_did h old new (WishesToTell a) = record {
   commands = ap (λ (r : RunView). r.commands) a.run;
   supply = ap (λ (r : RunView). r.supply) a.run;
+  spawned = ap (λ (r : RunView). is_spawned_at r.place) a.run;
   number = ap (λ (r : RunView). r.token.view.own.number) a.run;
   front = same_prefix _ _ (ap (λ (r : RunView). r.token.view.seen.front) a.run);
 }
@@ -91,25 +97,27 @@ rests : (old new : RunView) (n : ℕ) → Rests old new n → GoesOn old new
 rests old new n r = record {
   commands = ap (λ (r : RunView). r.commands) r.run;
   supply = ap (λ (r : RunView). r.supply) r.run;
+  spawned = ap (λ (r : RunView). is_spawned_at r.place) r.run;
   number = ap (λ (r : RunView). r.token.view.own.number) r.run;
   front = same_prefix _ _ (ap (λ (r : RunView). r.token.view.seen.front) r.run);
 }
 
 -- what a run has that has found a want word it had before
 wanted : (old new : RunView) (w : ℕ) → GoesOn (wanting old w) new → GoesOn old new
-wanted old new w g = record { commands = g.commands; supply = g.supply; number = g.number; front = g.front }
+wanted old new w g = record { commands = g.commands; supply = g.supply; spawned = g.spawned; number = g.number; front = g.front }
 
 pub run_goes : (h : SharedHeap) (old new : RunView) (a : Turned) → RunAnswers h old new a → GoesOn old new
 run_goes h old new Did says = ⊎_elim
     (λ (s : Stops old new). record {
       commands = ap (λ (r : RunView). r.commands) s.run;
       supply = ap (λ (r : RunView). r.supply) s.run;
+      spawned = ap (λ (r : RunView). is_spawned_at r.place) s.run;
       number = ap (λ (r : RunView). r.token.view.own.number) s.run;
       front = same_prefix _ _ (ap (λ (r : RunView). r.token.view.seen.front) s.run);
     })
     (λ (c : CalmDid h (wanting old 0) new). wanted old new 0 (calm_did h (wanting old 0) new c)) says
 run_goes h old new (Waiting b) says = absurd says
-run_goes h old new Hungry says = record { commands = ap (λ (r : RunView). r.commands) says.run; supply = ap (λ (r : RunView). r.supply) says.run; number = ap (λ (r : RunView). r.token.view.own.number) says.run; front = same_prefix _ _ (ap (λ (r : RunView). r.token.view.seen.front) says.run) }
+run_goes h old new Hungry says = record { commands = ap (λ (r : RunView). r.commands) says.run; supply = ap (λ (r : RunView). r.supply) says.run; spawned = ap (λ (r : RunView). is_spawned_at r.place) says.run; number = ap (λ (r : RunView). r.token.view.own.number) says.run; front = same_prefix _ _ (ap (λ (r : RunView). r.token.view.seen.front) says.run) }
 run_goes h old new (Held section) says = wanted old new 0 (stepped h (wanting old 0) new (held_steps h (wanting old 0) new section says))
 run_goes h old new (Idle n) says = wanted old new 0 (rests (wanting old 0) new n says.0)
 run_goes h old new Over says = wanted old new 0 (rests (wanting old 0) new h.config.domains says)
@@ -134,6 +142,7 @@ resumed_goes h old start new a r says =
     record {
       commands = g.commands ∙ ap (λ (x : RunView). x.commands) r.run;
       supply = g.supply ∙ ap (λ (x : RunView). x.supply) r.run;
+      spawned = g.spawned ∙ ap (λ (x : RunView). is_spawned_at x.place) r.run;
       number = g.number ∙ ap (λ x. x.own.number) r.passed.view;
       front = record { rest = p.rest ++ g.front.rest; appends = g.front.appends ∙ (ap (λ (xs : List Entry). xs ++ g.front.rest) p.appends ∙ append_assoc old.token.view.seen.front p.rest g.front.rest) };
     }
@@ -145,6 +154,7 @@ gone_goes decider h old new g =
     record {
       commands = ap (λ (r : RunView). r.commands) g.run;
       supply = ap (λ (r : RunView). r.supply) g.run;
+      spawned = ap (λ (r : RunView). is_spawned_at r.place) g.run;
       number = l.number;
       front = front_prefix _ _ _ l.front;
     }
@@ -160,6 +170,7 @@ seen_goes h old new s =
     let q = front_prefix _ _ _ g.seen in record {
       commands = ap (λ (r : RunView). r.commands) s.run;
       supply = ap (λ (r : RunView). r.supply) s.run;
+      spawned = ap (λ (r : RunView). is_spawned_at r.place) s.run;
       number = ap (λ (x : DomainView). x.own.number) g.view ∙ ap (λ (x : DomainView). x.own.number) g.comes.passed.view;
       front = record { rest = p.rest ++ q.rest; appends = q.appends ∙ (ap (λ (xs : List Entry). xs ++ q.rest) p.appends ∙ append_assoc old.token.view.seen.front p.rest q.rest) };
     }
@@ -171,6 +182,7 @@ answered_goes h old new s =
     let q = answered_front _ _ _ _ _ _ a.answers in record {
       commands = ap (λ (r : RunView). r.commands) s.run;
       supply = ap (λ (r : RunView). r.supply) s.run;
+      spawned = ap (λ (r : RunView). is_spawned_at r.place) s.run;
       number = ap (λ (x : DomainView). x.own.number) a.view ∙ ap (λ (x : DomainView). x.own.number) a.comes.passed.view;
       front = subst (IsPrefix old.token.view.seen.front) (sym (ap (λ (x : DomainView). x.seen.front) a.view))
           (record { rest = p.rest ++ q.rest; appends = q.appends ∙ (ap (λ (xs : List Entry). xs ++ q.rest) p.appends ∙ append_assoc old.token.view.seen.front p.rest q.rest) });
@@ -178,8 +190,8 @@ answered_goes h old new s =
 
 -- whatever a look at the barrier came to
 pub past_goes : (decider : Decider) (h : SharedHeap) (old new : RunView) (past : LookOutcome) → PastAnswers h decider old new past → GoesOn old new
-past_goes decider h old new (Waits b) w = record { commands = ap (λ (r : RunView). r.commands) w.run; supply = ap (λ (r : RunView). r.supply) w.run; number = ap (λ (r : RunView). r.token.view.own.number) w.run; front = same_prefix _ _ (ap (λ (r : RunView). r.token.view.seen.front) w.run) }
+past_goes decider h old new (Waits b) w = record { commands = ap (λ (r : RunView). r.commands) w.run; supply = ap (λ (r : RunView). r.supply) w.run; spawned = ap (λ (r : RunView). is_spawned_at r.place) w.run; number = ap (λ (r : RunView). r.token.view.own.number) w.run; front = same_prefix _ _ (ap (λ (r : RunView). r.token.view.seen.front) w.run) }
 past_goes decider h old new (Arrived kind) g = gone_goes decider h old new g
 past_goes decider h old new (Answered blocks None) g = seen_goes h old new g
 past_goes decider h old new (Answered blocks (Some reply)) g = answered_goes h old new g
-past_goes decider h old new Runs r = record { commands = ap (λ (x : RunView). x.commands) r.run; supply = ap (λ (x : RunView). x.supply) r.run; number = ap (λ (x : DomainView). x.own.number) r.passed.view; front = front_prefix _ _ _ r.passed.seen }
+past_goes decider h old new Runs r = record { commands = ap (λ (x : RunView). x.commands) r.run; supply = ap (λ (x : RunView). x.supply) r.run; spawned = ap (λ (x : RunView). is_spawned_at x.place) r.run; number = ap (λ (x : DomainView). x.own.number) r.passed.view; front = front_prefix _ _ _ r.passed.seen }

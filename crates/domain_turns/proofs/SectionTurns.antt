@@ -44,6 +44,7 @@ pub record StepsOn (h : SharedHeap) (old new : RunView) : Type 0 where
   pub rest : ChangesWords old.token new.token
   pub commands : new.commands ≡ old.commands
   pub supply : new.supply ≡ old.supply
+  pub spawned : is_spawned_at new.place ≡ is_spawned_at old.place
   pub ended : new.ended ≡ old.ended
 
 pub sees_steps : (h : SharedHeap) (old new : RunView) → SeesStart h old.token old new → StepsOn h old new
@@ -54,6 +55,7 @@ sees_steps h old new s = record {
   rest = words_of_registers _ _ s.rest;
   commands = ap (λ (r : RunView). r.commands) s.run;
   supply = ap (λ (r : RunView). r.supply) s.run;
+  spawned = ap (λ (r : RunView). is_spawned_at r.place) s.run ∙ sym (ap is_spawned_at s.was);
   ended = ap (λ (r : RunView). r.ended) s.run;
 }
 
@@ -65,6 +67,7 @@ held_steps h old new section s = record {
   rest = words_of_registers _ _ s.rest;
   commands = ap (λ (r : RunView). r.commands) s.run;
   supply = ap (λ (r : RunView). r.supply) s.run;
+  spawned = ap (λ (r : RunView). is_spawned_at r.place) s.run;
   ended = ap (λ (r : RunView). r.ended) s.run;
 }
 
@@ -76,6 +79,7 @@ tells_steps h old new s = record {
   rest = s.rest;
   commands = ap (λ (r : RunView). r.commands) s.run;
   supply = ap (λ (r : RunView). r.supply) s.run;
+  spawned = ap (λ (r : RunView). is_spawned_at r.place) s.run ∙ sym (ap is_spawned_at s.was);
   ended = ap (λ (r : RunView). r.ended) s.run;
 }
 
@@ -100,6 +104,7 @@ makes_steps h old new c s =
       rest = s.rest;
       commands = ap (λ (r : RunView). r.commands) s.run;
       supply = ap (λ (r : RunView). r.supply) s.run;
+      spawned = ap (λ (r : RunView). is_spawned_at r.place) s.run;
       ended = ap (λ (r : RunView). r.ended) s.run;
     }
 

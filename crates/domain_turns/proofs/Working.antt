@@ -9,6 +9,7 @@ use Rattle.domain_turns.proofs.Taking.{takes_more, takes_none}
 pub record KeepsOn (h : SharedHeap) (old new : RunView) : Type 0 where
   pub commands : new.commands ≡ old.commands
   pub supply : new.supply ≡ old.supply
+  pub place : new.place ≡ old.place
   pub next : new.next ≡ old.next
   pub replies : new.replies ≡ old.replies
   pub ended : new.ended ≡ old.ended
@@ -25,6 +26,7 @@ works_keeps h old new spent = ⊎_elim
     (λ (m : MarksBeside h old new spent). record {
       commands = ap (λ (r : RunView). r.commands) m.run;
       supply = ap (λ (r : RunView). r.supply) m.run;
+      place = ap (λ (r : RunView). r.place) m.run;
       next = ap (λ (r : RunView). r.next) m.run;
       replies = ap (λ (r : RunView). r.replies) m.run;
       ended = ap (λ (r : RunView). r.ended) m.run;
@@ -39,6 +41,7 @@ works_keeps h old new spent = ⊎_elim
     (λ (s : ((count : ℕ) × SweepsBeside h old new count) × (spent ≡ false)). record {
       commands = ap (λ (r : RunView). r.commands) s.0.1.run;
       supply = ap (λ (r : RunView). r.supply) s.0.1.run;
+      place = ap (λ (r : RunView). r.place) s.0.1.run;
       next = ap (λ (r : RunView). r.next) s.0.1.run;
       replies = ap (λ (r : RunView). r.replies) s.0.1.run;
       ended = ap (λ (r : RunView). r.ended) s.0.1.run;

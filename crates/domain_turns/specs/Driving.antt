@@ -6,13 +6,14 @@ use Rattle.domain_turns.specs.Runs.{RunView, GoesOn}
 
 -- a run that wasn't turned
 pub goes_nowhere : (r : RunView) → GoesOn r r
-goes_nowhere r = record { commands = refl; supply = refl; number = refl; front = record { rest = []; appends = sym (append-nil r.token.view.seen.front) } }
+goes_nowhere r = record { commands = refl; supply = refl; spawned = refl; number = refl; front = record { rest = []; appends = sym (append-nil r.token.view.seen.front) } }
 
 -- a run that went on twice
 pub goes_further : (a b c : RunView) → GoesOn a b → GoesOn b c → GoesOn a c
 goes_further a b c p q = record {
   commands = q.commands ∙ p.commands;
   supply = q.supply ∙ p.supply;
+  spawned = q.spawned ∙ p.spawned;
   number = q.number ∙ p.number;
   front = record {
     rest = p.front.rest ++ q.front.rest;

@@ -48,7 +48,7 @@ use Rattle.spawn_laws.specs.Expansion.{AreFitting, Step, finish_commands, steps_
 use Rattle.domain_spawn.specs.Expanding.{ChangesWords, Expands, LooksAt, MakesAll, MakesOne}
 use Rattle.domain_turns.specs.declared.place.Place.{Place}
 use Rattle.domain_turns.specs.declared.place.Place.TheVariants.{AsEver, Before, Within, Behind}
-use Rattle.domain_turns.specs.Sections.{AllFitIn, IsInSection, IsOrdinary, IsTold, awaited, awaited_flag}
+use Rattle.domain_turns.specs.Sections.{AllFitIn, IsInSection, IsOrdinary, IsTold, awaited, awaited_flag, is_spawned_at}
 use Rattle.domain_turns.specs.declared.turned.Turned.{Turned}
 use Rattle.domain_turns.specs.declared.supply.Supply.{Supply}
 use Rattle.domain_turns.specs.declared.supply.Supply.TheVariants.{Listed, Open, Section}
@@ -690,9 +690,10 @@ pub data Stretches (z : Sizes) (old new : RunView) : Type 0 where
   ByEnd : MadeEnd z old new → Stretches z old new
   BySection : MadeSteps z old new → Stretches z old new
 
--- the same domain's run of the same commands, from the same supply: what the domain saw of the history is a front part of what it sees now
+-- the same domain's run of the same commands, from the same supply, begun by a spawn or not: what the domain saw of the history is a front part of what it sees now
 pub record GoesOn (old new : RunView) : Type 0 where
   pub commands : new.commands ≡ old.commands
   pub supply : new.supply ≡ old.supply
+  pub spawned : is_spawned_at new.place ≡ is_spawned_at old.place
   pub number : new.token.view.own.number ≡ old.token.view.own.number
   pub front : IsPrefix old.token.view.seen.front new.token.view.seen.front

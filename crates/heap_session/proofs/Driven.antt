@@ -35,7 +35,7 @@ pub still_stretches : (z : Sizes) (r : RunView) → Stretches z r r
 still_stretches z r = ByOthers (record { next = refl; replies = refl; ended = refl; front = front_whole r.token.view.own.number r.token.view.seen.front; takes = takes_none r.token.view r.token.view refl refl })
 
 pub still_goes : (r : RunView) → GoesOn r r
-still_goes r = record { commands = refl; supply = refl; number = refl; front = record { rest = []; appends = sym (append-nil r.token.view.seen.front) } }
+still_goes r = record { commands = refl; supply = refl; spawned = refl; number = refl; front = record { rest = []; appends = sym (append-nil r.token.view.seen.front) } }
 
 still_alone : (h : SharedHeap) (old new : RunView) → IsAlone h old → IsIn new.token h → GoesOn old new → IsAlone h new
 still_alone h old new a here g = record { here = here; one = a.one; number = g.number ∙ a.number }
