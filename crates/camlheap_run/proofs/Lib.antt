@@ -5,6 +5,7 @@ pub mod BeginLemmas
 pub mod SumLemmas
 pub mod GeneratingLemmas
 pub mod RunLemmas
+pub mod SpawningLemmas
 pub mod WordLemmas
 pub mod StatusLemmas
 pub mod TableLemmas

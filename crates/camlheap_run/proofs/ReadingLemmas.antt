@@ -5,7 +5,7 @@ use Rattle.std.specs.declared.option.Option.{Option}
 use Rattle.std.proofs.Math.Seq.{take-append_seam}
 use Rattle.std.proofs.lemmas.List.{take_all}
 use Rattle.std.specs.Io.KnownBytes.{IsAtEnd}
-use Rattle.heap_text.specs.declared.version.Version.TheVariants.{Two}
+use Rattle.heap_text.specs.declared.version.Version.TheVariants.{Three}
 use Rattle.heap_text.specs.declared.fault.ScriptFault.{ScriptFault}
 use Rattle.heap_text.specs.declared.fault.ScriptFault.TheVariants.{Syntax, Order, Range, TooLong, TooMany, Spawn, Memory}
 use Rattle.heap_text.specs.Script.{Scripted}
@@ -46,8 +46,8 @@ told Spelled few None after bytes read tells = absurd tells
 told Spelled few (Some all) None bytes read tells = absurd read.consumed
 told Spelled few (Some all) (Some rest) bytes read tells = subst Spelled (all_is_read all bytes rest read (few all tells)) tells
 
-pub told_script : (domains : ℕ) (before after : Option (List ℕ)) (bytes : List ℕ) (s : Scripted) → AreRead before after bytes → TellsScript domains before s → Spells Two domains s bytes
-told_script domains before after bytes s read tells = told (Spells Two domains s) (λ all spells. spells.few_bytes) before after bytes read tells
+pub told_script : (domains : ℕ) (before after : Option (List ℕ)) (bytes : List ℕ) (s : Scripted) → AreRead before after bytes → TellsScript domains before s → Spells Three domains s bytes
+told_script domains before after bytes s read tells = told (Spells Three domains s) (λ all spells. spells.few_bytes) before after bytes read tells
 
 pub told_table : (before after : Option (List ℕ)) (bytes : List ℕ) (lines : List TableLine) → AreRead before after bytes → TellsTable before lines → SpellsTable lines bytes
 told_table before after bytes lines read tells = told (SpellsTable lines) (λ all spells. spells.few_bytes) before after bytes read tells

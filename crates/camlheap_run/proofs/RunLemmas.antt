@@ -22,11 +22,10 @@ use Rattle.heap_rule.specs.Ending.{EndedHeap, AllIn, AllBegin, Begins}
 use Rattle.domain_turns.specs.declared.supply.Supply.{Supply}
 use Rattle.domain_turns.specs.declared.supply.Supply.TheVariants.{Listed}
 use Rattle.domain_turns.specs.Runs.{RunView, EndsIn, GoesOn, IsRun, is_end_of}
-use Rattle.thread_drive.specs.Driven.{Driven}
 use Rattle.camlheap_run.specs.declared.begin.Begun.{Begun}
 use Rattle.camlheap_run.specs.declared.report.Report.{Report}
 use Rattle.camlheap_run.specs.declared.report.Report.TheVariants.{Replies, Summary}
-use Rattle.camlheap_run.specs.Running.{IsBegun, IsHere, IsOver, IsPastOf, opened, token_of}
+use Rattle.camlheap_run.specs.Running.{AreDriven, DrivesToEnd, IsBegun, IsHere, IsOver, IsPastOf, opened, token_of}
 use Rattle.camlheap_run.specs.Writing.{AppendsFront, run_text, text_of}
 use Rattle.camlheap_run.specs.Outcome.{HasRun, WritesRun, WritesFrontOfRun}
 use Rattle.camlheap_run.proofs.BeginLemmas.{length-opened, opened_at}
@@ -49,10 +48,6 @@ pub begins_at : (history : List Entry) (runs : List RunView) (i : ℕ) (r : RunV
 begins_at history [] i r all at = cc
 begins_at history (q ∷ runs) zero r all at = let is : q ≡ r = cc in subst (λ (x : RunView). Begins history x.token.view) is all.0
 begins_at history (q ∷ runs) (suc i) r all at = begins_at history runs i r all.1 at
-
--- the runs of a heap, driven to their ends
-abbrev pub AreDriven : SharedHeap → List RunView → List RunView → Type 0
-AreDriven h old new = Driven (λ (x : SharedHeap) (r : RunView). IsIn r.token x) GoesOn (λ (r : RunView). r.ended ≡ true) h old new
 
 pub all_here : (h : SharedHeap) (old new : List RunView) → AreDriven h old new → AllByRecursion (IsHere h) new
 all_here h old new driven = all_from_each (IsHere h) new driven.here
@@ -113,7 +108,7 @@ replies_of_front z history t begins =
     ap (λ (l : List Entry). replies_from (opening z) l d) begins.appends ∙ replies_from-append (opening z) front begins.rest d
     ∙ ap (λ (rs : List Reply). replies_from (opening z) front d ++ rs) (replies_from-others (state_after (opening z) front) begins.rest d begins.others) ∙ append-nil (replies_from (opening z) front d)
 
-ends_in : (history : List Entry) (t : Token) → Begins history t.view → IsTrue (list_any (is_end_of t.view.own.number) t.view.seen.front) → IsTrue (list_any (is_end_of t.view.own.number) history)
+pub ends_in : (history : List Entry) (t : Token) → Begins history t.view → IsTrue (list_any (is_end_of t.view.own.number) t.view.seen.front) → IsTrue (list_any (is_end_of t.view.own.number) history)
 ends_in history t begins over =
     subst (λ (l : List Entry). IsTrue (list_any (is_end_of t.view.own.number) l)) (sym begins.appends) (any_front (is_end_of t.view.own.number) t.view.seen.front begins.rest over)
 
@@ -174,7 +169,7 @@ ran_told z k script b new past ran = subst (λ (y : Sizes). AreTold y script new
     })
 
 -- the texts of a range of domains are those of their runs
-texts : (f : ℕ → List ℕ) (g : RunView → List ℕ) (runs : List RunView) (a n : ℕ) → length runs ≡ n → ((i : ℕ) (q : RunView) → slice_get runs i ≡ Some q → f (a + i) ≡ g q) → flat_map f (range_with_len a n) ≡ flat_map g runs
+pub texts : (f : ℕ → List ℕ) (g : RunView → List ℕ) (runs : List RunView) (a n : ℕ) → length runs ≡ n → ((i : ℕ) (q : RunView) → slice_get runs i ≡ Some q → f (a + i) ≡ g q) → flat_map f (range_with_len a n) ≡ flat_map g runs
 texts f g [] a zero long each = refl
 texts f g [] a (suc n) long each = absurd (omega arith)
 texts f g (q ∷ runs) a zero long each = absurd (omega arith)
@@ -251,3 +246,14 @@ writes_run report z k script b new shown past ended before after ran is last byt
 pub writes_front : (report : Report) (z : Sizes) (k : Config) (script : List (List Command)) (b : Begun) (new shown : List RunView) (past : EndedHeap) (ended : Option EndedHeap) (before after : Option (List ℕ))
     → Ran z k script b new past → shown ≡ new → Some past ≡ ended → AppendsFront before after (flat_map (run_text report) shown) → WritesFrontOfRun (text_of report) z script ended before after
 writes_front report z k script b new shown past ended before after ran is last bytes = told_front report z script new shown past ended before after (ran_told z k script b new past ran) is last bytes
+
+-- runs of a script that was begun so, once they are at their ends
+pub drives_run : (report : Report) (z : Sizes) (k : Config) (script : List (List Command)) (b : Begun) (ended : Option EndedHeap) (before after : Option (List ℕ)) → sizes_in k ≡ z → IsBegun k script b
+    → DrivesToEnd b report ended (Appends before after) → WritesRun (text_of report) z script ended before after
+drives_run report z k script b ended before after sizes begun d =
+    writes_run report z k script b d.new d.new d.past ended before after (record { sizes = sizes; begun = begun; driven = d.driven; ended = d.over }) refl d.is_past d.written
+
+pub drives_front : (report : Report) (z : Sizes) (k : Config) (script : List (List Command)) (b : Begun) (ended : Option EndedHeap) (before after : Option (List ℕ)) → sizes_in k ≡ z → IsBegun k script b
+    → DrivesToEnd b report ended (AppendsFront before after) → WritesFrontOfRun (text_of report) z script ended before after
+drives_front report z k script b ended before after sizes begun d =
+    writes_front report z k script b d.new d.new d.past ended before after (record { sizes = sizes; begun = begun; driven = d.driven; ended = d.over }) refl d.is_past d.written

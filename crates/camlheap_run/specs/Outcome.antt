@@ -4,7 +4,7 @@ use Rattle.std.specs.Io.KnownBytes.{Appends}
 use Rattle.heap_model.specs.declared.command.Command.{Command}
 use Rattle.heap_model.specs.declared.entry.Entry.{Entry}
 use Rattle.heap_model.specs.declared.state.Sizes.{Sizes}
-use Rattle.heap_model.specs.Output.{output, summary}
+use Rattle.heap_model.specs.Output.{summary}
 use Rattle.heap_rule.specs.Ending.{EndedHeap}
 use Rattle.camlheap_run.specs.declared.status.Status.{Status}
 use Rattle.camlheap_run.specs.declared.status.Status.TheVariants.{Done, Usage, Schedule, NotReplayable, WriteFault, Memory}
@@ -14,36 +14,53 @@ use Rattle.camlheap_run.specs.Generating.{script_of}
 use Rattle.heap_text.specs.Script.{Scripted}
 use Rattle.camlheap_run.specs.Reading.{ReadsScript}
 use Rattle.camlheap_run.specs.Writing.{AppendsFront}
-use Rattle.camlheap_run.specs.Run.{IsRunOf}
+use Rattle.camlheap_run.specs.Run.{IsRunOf, is_run_of, output_of}
 
--- the heap that has ended is one of these sizes, and its history is a run of this script
-pub record HasRun (z : Sizes) (script : List (List Command)) (ended : Option EndedHeap) : Type 0 where
+-- the heap that has ended is one of these sizes, and its history is a run of this script, as the relation has it
+pub record HasRunBy (IsOf : Sizes → List (List Command) → List Entry → Type 0) (z : Sizes) (script : List (List Command)) (ended : Option EndedHeap) : Type 0 where
   pub past : EndedHeap
   pub is_past : ended ≡ Some past
   pub sizes : past.sizes ≡ z
-  pub run : IsRunOf z script past.history
+  pub run : IsOf z script past.history
 
 -- such a run, and the text of its history was written
-pub record WritesRun (text : Sizes → List Entry → List ℕ) (z : Sizes) (script : List (List Command)) (ended : Option EndedHeap) (before after : Option (List ℕ)) : Type 0 where
-  pub ran : HasRun z script ended
+pub record WritesRunBy (IsOf : Sizes → List (List Command) → List Entry → Type 0) (text : Sizes → List Entry → List ℕ) (z : Sizes) (script : List (List Command)) (ended : Option EndedHeap) (before after : Option (List ℕ)) : Type 0 where
+  pub ran : HasRunBy IsOf z script ended
   pub written : Appends before after (text z ran.past.history)
 
 -- such a run, and a front part of the text of its history was written
-pub record WritesFrontOfRun (text : Sizes → List Entry → List ℕ) (z : Sizes) (script : List (List Command)) (ended : Option EndedHeap) (before after : Option (List ℕ)) : Type 0 where
-  pub ran : HasRun z script ended
+pub record WritesFrontOfRunBy (IsOf : Sizes → List (List Command) → List Entry → Type 0) (text : Sizes → List Entry → List ℕ) (z : Sizes) (script : List (List Command)) (ended : Option EndedHeap) (before after : Option (List ℕ)) : Type 0 where
+  pub ran : HasRunBy IsOf z script ended
   pub written : AppendsFront before after (text z ran.past.history)
+
+-- the same of a script without spawns
+abbrev pub HasRun : Sizes → List (List Command) → Option EndedHeap → Type 0
+HasRun z script ended = HasRunBy IsRunOf z script ended
+
+abbrev pub WritesRun : (Sizes → List Entry → List ℕ) → Sizes → List (List Command) → Option EndedHeap → Option (List ℕ) → Option (List ℕ) → Type 0
+WritesRun text z script ended before after = WritesRunBy IsRunOf text z script ended before after
+
+abbrev pub WritesFrontOfRun : (Sizes → List Entry → List ℕ) → Sizes → List (List Command) → Option EndedHeap → Option (List ℕ) → Option (List ℕ) → Type 0
+WritesFrontOfRun text z script ended before after = WritesFrontOfRunBy IsRunOf text z script ended before after
+
+-- and of a script of any version: what its run is and prints
+abbrev pub WritesScriptRun : Sizes → Scripted → Option EndedHeap → Option (List ℕ) → Option (List ℕ) → Type 0
+WritesScriptRun z script ended before after = WritesRunBy (is_run_of script.version) (output_of script.version) z script.sections ended before after
+
+abbrev pub WritesFrontOfScriptRun : Sizes → Scripted → Option EndedHeap → Option (List ℕ) → Option (List ℕ) → Type 0
+WritesFrontOfScriptRun z script ended before after = WritesFrontOfRunBy (is_run_of script.version) (output_of script.version) z script.sections ended before after
 
 -- Done: the source was read to its end, its bytes spell a script, a heap made a run of it, and what its history prints was written
 pub record RunsToEnd (z : Sizes) (ended : Option EndedHeap) (left_before left_after written_before written_after : Option (List ℕ)) : Type 0 where
   pub script : Scripted
   pub reads : ReadsScript z.domains left_before left_after script
-  pub writes : WritesRun output z script.sections ended written_before written_after
+  pub writes : WritesScriptRun z script ended written_before written_after
 
 -- WriteFault: the same, and a front part was written
 pub record StopsWriting (z : Sizes) (ended : Option EndedHeap) (left_before left_after written_before written_after : Option (List ℕ)) : Type 0 where
   pub script : Scripted
   pub reads : ReadsScript z.domains left_before left_after script
-  pub writes : WritesFrontOfRun output z script.sections ended written_before written_after
+  pub writes : WritesFrontOfScriptRun z script ended written_before written_after
 
 -- Done of a generated script: a heap made a run of it, and the summary of its history was written
 abbrev pub LoadsToEnd : Generated → Option EndedHeap → Option (List ℕ) → Option (List ℕ) → Type 0

@@ -1,7 +1,7 @@
 -- What is read of a source. Where the source tells its bytes, these are the bytes that it had left.
 use Rattle.std.specs.Prelude.{◌≡◌, ◌≢◌, ℕ, ◌≤◌, ◌⊎◌, List, length, take, Option, None, Some}
 use Rattle.std.specs.Io.KnownBytes.{Consumes, IsAtEnd}
-use Rattle.heap_text.specs.declared.version.Version.TheVariants.{Two}
+use Rattle.heap_text.specs.declared.version.Version.TheVariants.{Two, Three}
 use Rattle.heap_text.specs.Script.{Scripted}
 use Rattle.heap_text.specs.declared.fault.ScriptFault.{ScriptFault}
 use Rattle.heap_text.specs.declared.fault.ScriptFault.TheVariants.{Memory}
@@ -37,7 +37,7 @@ pub record ReadsAll (Spelled : List ℕ → Type 0) (before after : Option (List
 
 -- they spell this script
 abbrev pub ReadsScript : ℕ → Option (List ℕ) → Option (List ℕ) → Scripted → Type 0
-ReadsScript domains before after script = ReadsAll (Spells Two domains script) before after
+ReadsScript domains before after script = ReadsAll (Spells Three domains script) before after
 
 -- they spell this text of a table
 abbrev pub ReadsTable : Option (List ℕ) → Option (List ℕ) → List TableLine → Type 0
@@ -48,6 +48,10 @@ abbrev pub ReadsReplay : Sizes → Option (List ℕ) → Option (List ℕ) → R
 ReadsReplay z before after r = ReadsAll (SpellsReplay z.domains z.pools r) before after
 
 -- some bytes spell this script
+abbrev pub IsSpelledScript : ℕ → Scripted → Type 0
+IsSpelledScript domains script = (bytes : List ℕ) × Spells Three domains script bytes
+
+-- and it is one without spawns
 abbrev pub IsSpelled : ℕ → Scripted → Type 0
 IsSpelled domains script = (bytes : List ℕ) × Spells Two domains script bytes
 
@@ -66,7 +70,7 @@ abbrev pub ReadsFirstFault : (List ℕ → ScriptFault → Type 0) → Option (L
 ReadsFirstFault is_first before after fault = ReadsFirst is_first before after fault × (fault ≢ Memory)
 
 abbrev pub ReadsFault : ℕ → Option (List ℕ) → Option (List ℕ) → ScriptFault → Type 0
-ReadsFault domains before after fault = ReadsFirstFault (IsFirst (first_fault Two domains)) before after fault
+ReadsFault domains before after fault = ReadsFirstFault (IsFirst (first_fault Three domains)) before after fault
 
 -- the source tells its bytes, and they are spelled so
 abbrev pub Tells : (List ℕ → Type 0) → Option (List ℕ) → Type 0
@@ -75,7 +79,7 @@ Tells Spelled (Some bytes) = Spelled bytes
 
 -- they spell this script
 abbrev pub TellsScript : ℕ → Option (List ℕ) → Scripted → Type 0
-TellsScript domains told script = Tells (Spells Two domains script) told
+TellsScript domains told script = Tells (Spells Three domains script) told
 
 -- they spell this text of a table
 abbrev pub TellsTable : Option (List ℕ) → List TableLine → Type 0
@@ -87,7 +91,7 @@ TellsFirst is_first None fault = ⊥
 TellsFirst is_first (Some bytes) fault = is_first (take most_read bytes) fault
 
 abbrev pub TellsFault : ℕ → Option (List ℕ) → ScriptFault → Type 0
-TellsFault domains told fault = TellsFirst (IsFirst (first_fault Two domains)) told fault
+TellsFault domains told fault = TellsFirst (IsFirst (first_fault Three domains)) told fault
 
 -- the bytes that were read have this first fault of a replay's text
 abbrev pub ReadsReplayFault : Sizes → Option (List ℕ) → Option (List ℕ) → ReplayFault → Type 0

@@ -1,5 +1,5 @@
 -- The runs of a script's sections on one heap, from its start to its end.
-use Rattle.std.specs.Prelude.{◌≡◌, ℕ, ◌<◌, ◌≤◌, max, true, false, List, [], ◌∷◌, map, slice_index_or, vec_capacity, None}
+use Rattle.std.specs.Prelude.{◌≡◌, ℕ, ◌<◌, ◌≤◌, max, Bool, true, false, List, [], ◌∷◌, length, flat_map, map, slice_get, slice_index_or, vec_capacity, Option, None, Some}
 use Rattle.std.specs.List.{AllByRecursion}
 use Rattle.heap_model.specs.declared.command.Command.{Command}
 use Rattle.heap_model.specs.declared.state.Sizes.{Sizes}
@@ -10,10 +10,13 @@ use Rattle.heap_rule.specs.Limits.{sizes_in}
 use Rattle.heap_rule.specs.Opening.{opening_tokens}
 use Rattle.heap_rule.specs.Token.{Token, SharedHeap, IsIn}
 use Rattle.heap_rule.specs.Ending.{EndedHeap, AllBegin}
-use Rattle.heap_rule.specs.Views.{no_collection}
-use Rattle.domain_turns.specs.declared.place.Place.TheVariants.{AsEver}
-use Rattle.domain_turns.specs.declared.supply.Supply.TheVariants.{Listed}
-use Rattle.domain_turns.specs.Runs.{RunView, IsRun, CanBegin}
+use Rattle.domain_turns.specs.declared.supply.Supply.TheVariants.{Listed, Section}
+use Rattle.domain_turns.specs.Runs.{RunView, GoesOn, IsRun, CanBegin, CanBeginSection, first_place, standing, unturned}
+use Rattle.thread_drive.specs.Driven.{Driven}
+use Rattle.heap_text.specs.Spawning.{is_spawned}
+use Rattle.domain_spawn.specs.Opening.{IsOpened}
+use Rattle.camlheap_run.specs.declared.report.Report.{Report}
+use Rattle.camlheap_run.specs.Writing.{run_text}
 use Rattle.mark_slices.specs.Decks.{DeckCounts, uncounted}
 use Rattle.camlheap_run.specs.declared.begin.Begun.{Begun}
 
@@ -37,7 +40,7 @@ deck_of t = uncounted t.view.own.number t.config.domains
 
 -- a domain's run of commands, before the first
 abbrev pub opened_with : Token → List Command → RunView
-opened_with t commands = record { token = t; commands = commands; next = 0; replies = []; ended = false; left = None; asked = None; collected = false; progress = no_collection; due = 0; hints = deck_of t; supply = Listed; place = AsEver }
+opened_with t commands = unturned t commands (deck_of t) Listed
 
 -- the run of its section
 abbrev pub opened : List (List Command) → Token → RunView
@@ -62,6 +65,44 @@ pub record IsBegun (k : Config) (script : List (List Command)) (b : Begun) : Typ
   pub empty : b.room.items ≡ []
   pub room : k.domains ≤ vec_capacity b.room
 
+-- no section has more commands than a script may have
+abbrev pub AreShort : List (List Command) → Type 0
+AreShort script = (d : ℕ) → length (slice_index_or script d []) ≤ 200000
+
+-- a domain's run of its section of a script with spawns, before its first turn
+abbrev pub sectioned_with : Token → List Command → Bool → RunView
+sectioned_with t commands spawned = standing t commands (deck_of t) Section (first_place spawned)
+
+-- the runs of domains, each of the section at its place, which a spawn begins where its number is marked
+abbrev pub sectioned_each : List Bool → List Token → List (List Command) → List RunView
+sectioned_each marks (t ∷ ts) (cs ∷ sections) = sectioned_with t cs (slice_index_or marks t.view.own.number false) ∷ sectioned_each marks ts sections
+sectioned_each marks _ _ = []
+
+-- each of these domains may begin the section at its place
+abbrev pub MayBeginSections : List Token → List (List Command) → Type 0
+MayBeginSections [] sections = Unit {0}
+MayBeginSections (t ∷ ts) [] = ⊥
+MayBeginSections (t ∷ ts) (cs ∷ sections) = CanBeginSection t cs × MayBeginSections ts sections
+
+-- the run of a domain to which the hidden block was handed, before its first turn: that of its section, begun by a spawn where one names it
+pub record BeginsSection (h : SharedHeap) (script : List (List Command)) (d : ℕ) (r : RunView) : Type 0 where
+  pub token : Token
+  pub opened : IsOpened h d token
+  pub run : r ≡ sectioned_with token (slice_index_or script d []) (is_spawned script d)
+
+-- a heap of this size was started, and the hidden block made; there is a run of its section for each domain in order, and room for the domains when they come back
+pub record IsSectioned (k : Config) (script : List (List Command)) (b : Begun) : Type 0 where
+  pub config : b.heap.config ≡ k
+  pub some : 0 < k.domains
+  pub count : length b.runs.items ≡ k.domains
+  pub each : (d : ℕ) (r : RunView) → slice_get b.runs.items d ≡ Some r → BeginsSection b.heap script d r
+  pub empty : b.room.items ≡ []
+  pub room : k.domains ≤ vec_capacity b.room
+
+-- the runs of a heap, driven to their ends
+abbrev pub AreDriven : SharedHeap → List RunView → List RunView → Type 0
+AreDriven h old new = Driven (λ (x : SharedHeap) (r : RunView). IsIn r.token x) GoesOn (λ (r : RunView). r.ended ≡ true) h old new
+
 abbrev pub token_of : RunView → Token
 token_of r = r.token
 
@@ -79,3 +120,12 @@ pub record IsPastOf (h : SharedHeap) (runs : List RunView) (past : EndedHeap) : 
   pub legal : Legal past.sizes past.history
   pub fronts : AllBegin past.history (map token_of runs)
   pub faithful : AllByRecursion IsRun runs
+
+-- the runs of a heap were driven to their ends, what a report says of them was written, and the heap has ended
+pub record DrivesToEnd (b : Begun) (report : Report) (ended : Option EndedHeap) (Wrote : List ℕ → Type 0) : Type 0 where
+  pub new : List RunView
+  pub past : EndedHeap
+  pub is_past : Some past ≡ ended
+  pub driven : AreDriven b.heap b.runs.items new
+  pub over : IsPastOf b.heap new past
+  pub written : Wrote (flat_map (run_text report) new)

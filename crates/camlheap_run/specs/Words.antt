@@ -1,6 +1,6 @@
 -- What the words of the command line ask for.
 use Rattle.std.specs.Prelude.{ℕ, List, Option, Some}
-use Rattle.heap_text.specs.declared.version.Version.TheVariants.{Two}
+use Rattle.heap_text.specs.declared.version.Version.TheVariants.{Three}
 use Rattle.heap_text.specs.declared.fault.ScriptFault.{ScriptFault}
 use Rattle.heap_text.specs.Faults.{first_fault as script_fault}
 use Rattle.table_text.specs.Faults.{first_fault as table_fault}
@@ -13,7 +13,7 @@ use Rattle.camlheap_run.specs.Reading.{IsFirst}
 
 -- the words ask that a text is read, and this holds of which fault its grammar says is the first of bytes
 abbrev pub AsksToRead : Option Job → ((List ℕ → ScriptFault → Type 0) → Type 0) → Type 0
-AsksToRead (Some (Run z)) Holds = Holds (IsFirst (script_fault Two z.domains))
+AsksToRead (Some (Run z)) Holds = Holds (IsFirst (script_fault Three z.domains))
 AsksToRead (Some (Replay z)) Holds = Holds (λ bytes fault. HasFault z.domains z.pools bytes (Script fault))
 AsksToRead (Some (Table z)) Holds = Holds (IsFirst table_fault)
 AsksToRead _ Holds = ⊥

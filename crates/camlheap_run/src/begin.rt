@@ -2,7 +2,7 @@
 ghost use Rattle.std.specs.Prelude.{◌≡◌, ◌≤◌, None, map, IfOk};
 ghost use Rattle.heap_rule.specs.Limits.{first_outside, sizes_in};
 ghost use Rattle.camlheap_run.specs.Reading.{IsSpelled};
-ghost use Rattle.camlheap_run.specs.Running.{AreRunSizes, IsBegun, MayBegin, deck_of, most_of, opened_each};
+ghost use Rattle.camlheap_run.specs.Running.{AreRunSizes, AreShort, IsBegun, MayBegin, deck_of, most_of, opened_each};
 ghost use Rattle.domain_turns.specs.Runs.{ephemerons_in, registrations_in};
 
 use domain_turns::DomainRun;
@@ -69,7 +69,7 @@ fn most_needs(script: &Script) -> Needs
 // most, and for as many registrations of finalisers, of both kinds together.
 pub(crate) fn config_of(sizes: &Sizes, script: &Script) -> Config
     requires sizes { AreRunSizes sizes.now }
-    requires script { IsSpelled sizes.now.domains script.now }
+    requires short { AreShort script.now.sections }
     ensures sizes { sizes_in result ≡ sizes.now }
     ensures limits { first_outside result ≡ None }
     ensures ephemerons { result.ephes ≡ most_of ephemerons_in script.now.sections }

@@ -11,6 +11,7 @@ mod reading;
 mod replaying;
 mod report;
 mod run;
+mod sectioning;
 mod source;
 mod status;
 mod summary;

@@ -90,7 +90,7 @@ pub(crate) fn script_of<S: Source>(
         Err(ReadStop::Fault) => return Err(NoScript::ReadFault),
         Err(ReadStop::Memory) => return Err(NoScript::Memory),
     };
-    match read_script(alloc, Version::Two, domains, &bytes) {
+    match read_script(alloc, Version::Three, domains, &bytes) {
         Ok(script) => Ok(script),
         Err(fault) => Err(no_script(fault)),
     }

@@ -1,16 +1,23 @@
 //! Runs a script, and writes a report of it.
-ghost use Rattle.std.specs.Prelude.{◌≡◌, ◌<◌, ◌≤◌, Option};
+ghost use Rattle.std.specs.Prelude.{◌≡◌, ◌<◌, ◌≤◌, ℕ, [], length, slice_get, vec_capacity, Option, Some};
+ghost use Rattle.std.specs.Io.KnownBytes.{Appends};
 ghost use Rattle.heap_rule.specs.Ending.{EndedHeap};
+ghost use Rattle.heap_rule.specs.Token.{IsIn};
+ghost use Rattle.domain_turns.specs.Runs.{RunView};
 ghost use Rattle.outer_io.specs.Faults.{Rose};
-ghost use Rattle.camlheap_run.specs.Reading.{IsSpelled};
-ghost use Rattle.camlheap_run.specs.Running.{AreRunSizes};
-ghost use Rattle.camlheap_run.specs.Writing.{text_of};
-ghost use Rattle.camlheap_run.specs.Outcome.{WritesRun, WritesFrontOfRun, IsWriteFault, IsRunAnswer};
+ghost use Rattle.spawn_laws.specs.Printed.{spawning_output};
+ghost use Rattle.spawned_scripts.specs.Reads.{IsRead};
+ghost use Rattle.camlheap_run.specs.Reading.{IsSpelled, IsSpelledScript};
+ghost use Rattle.camlheap_run.specs.Run.{IsSpawningRunOf};
+ghost use Rattle.camlheap_run.specs.Running.{AreRunSizes, DrivesToEnd};
+ghost use Rattle.camlheap_run.specs.Writing.{AppendsFront, text_of};
+ghost use Rattle.camlheap_run.specs.Outcome.{WritesRun, WritesFrontOfRun, WritesRunBy, WritesFrontOfRunBy, WritesScriptRun, WritesFrontOfScriptRun, IsWriteFault, IsRunAnswer};
 
 use crate::Status;
 use crate::begin::{Begun, begin, config_of};
 use crate::end::end;
 use crate::report::{Report, write_report};
+use crate::sectioning::begin_sections;
 use heap_model::state::Sizes;
 use heap_text::Script;
 use outer_io::{Failed, Gate, Sink};
@@ -18,6 +25,36 @@ use std::alloc::{AllocError, Global};
 use std::sync::Wait;
 use std::thread::Threads;
 use thread_drive::drive;
+
+// Drives the runs of a heap to their ends, in threads, writes the report, and ends the heap. No memory is taken.
+fn run_begun<R: Threads + Wait + Sync, K: Sink, G: Gate + Sync>(
+    rt: &R,
+    begun: Begun,
+    report: Report,
+    out: &mut K,
+    gate: &G,
+) -> Status
+    requires here { (i : ℕ) (r : RunView) → slice_get begun.runs.items i ≡ Some r → IsIn r.token begun.heap }
+    requires some { 0 < length begun.runs.items }
+    requires empty { begun.room.items ≡ [] }
+    requires room { length begun.runs.items ≤ vec_capacity begun.room }
+    ensures later { K.faults out.old ≤ K.faults out.new }
+    ensures done { (ended : Option EndedHeap) → result ≡ Status.Done ended → DrivesToEnd begun report ended (Appends (K.written out.old) (K.written out.new)) }
+    ensures cut { (ended : Option EndedHeap) → result ≡ Status.WriteFault ended → DrivesToEnd begun report ended (AppendsFront (K.written out.old) (K.written out.new)) }
+    ensures fault { (ended : Option EndedHeap) → result ≡ Status.WriteFault ended → Rose (K.faults out.old) (K.faults out.new) }
+    ensures failed { K.faults out.old < K.faults out.new → IsWriteFault result }
+    ensures enough { result ≡ Status.Memory → ⊥ }
+    ensures answers { IsRunAnswer result }
+{
+    let Begun { heap, runs, room } = begun;
+    let runs = drive(rt, &heap, runs, gate);
+    let written = write_report(out, report, &runs);
+    let ended = Some(end(heap, runs, room));
+    match written {
+        Ok(()) => Status::Done { ended },
+        Err(Failed) => Status::WriteFault { ended },
+    }
+}
 
 // Runs the sections of a script on one heap, in threads, and then writes the report. All memory is taken before the first
 // command.
@@ -40,15 +77,59 @@ pub(crate) fn run<R: Threads + Wait + Sync, K: Sink, G: Gate + Sync>(
     ensures quiet { result ≡ Status.Memory → out.new ≡ out.old }
     ensures answers { IsRunAnswer result }
 {
-    let Begun { heap, runs, room } = match begin(alloc, config_of(sizes, &script), script) {
-        Ok(begun) => begun,
-        Err(AllocError) => return Status::Memory,
-    };
-    let runs = drive(rt, &heap, runs, gate);
-    let written = write_report(out, report, &runs);
-    let ended = Some(end(heap, runs, room));
-    match written {
-        Ok(()) => Status::Done { ended },
-        Err(Failed) => Status::WriteFault { ended },
+    match begin(alloc, config_of(sizes, &script), script) {
+        Ok(begun) => run_begun(rt, begun, report, out, gate),
+        Err(AllocError) => Status::Memory,
+    }
+}
+
+// The same with the sections of a script with spawns, and their replies.
+fn run_sections<R: Threads + Wait + Sync, K: Sink, G: Gate + Sync>(
+    rt: &R,
+    alloc: Global,
+    sizes: &Sizes,
+    script: Script,
+    out: &mut K,
+    gate: &G,
+) -> Status
+    requires limits { AreRunSizes sizes.now }
+    requires script { IsRead sizes.now.domains script }
+    ensures later { K.faults out.old ≤ K.faults out.new }
+    ensures done { (ended : Option EndedHeap) → result ≡ Status.Done ended → WritesRunBy IsSpawningRunOf spawning_output sizes.now script.sections ended (K.written out.old) (K.written out.new) }
+    ensures cut { (ended : Option EndedHeap) → result ≡ Status.WriteFault ended → WritesFrontOfRunBy IsSpawningRunOf spawning_output sizes.now script.sections ended (K.written out.old) (K.written out.new) }
+    ensures fault { (ended : Option EndedHeap) → result ≡ Status.WriteFault ended → Rose (K.faults out.old) (K.faults out.new) }
+    ensures failed { K.faults out.old < K.faults out.new → IsWriteFault result }
+    ensures quiet { result ≡ Status.Memory → out.new ≡ out.old }
+    ensures answers { IsRunAnswer result }
+{
+    match begin_sections(alloc, config_of(sizes, &script), script) {
+        Ok(begun) => run_begun(rt, begun, Report::Replies, out, gate),
+        Err(AllocError) => Status::Memory,
+    }
+}
+
+// Runs a script of any version, and writes its replies.
+pub(crate) fn run_script<R: Threads + Wait + Sync, K: Sink, G: Gate + Sync>(
+    rt: &R,
+    alloc: Global,
+    sizes: &Sizes,
+    script: Script,
+    out: &mut K,
+    gate: &G,
+) -> Status
+    requires limits { AreRunSizes sizes.now }
+    requires script { IsSpelledScript sizes.now.domains script }
+    ensures later { K.faults out.old ≤ K.faults out.new }
+    ensures done { (ended : Option EndedHeap) → result ≡ Status.Done ended → WritesScriptRun sizes.now script ended (K.written out.old) (K.written out.new) }
+    ensures cut { (ended : Option EndedHeap) → result ≡ Status.WriteFault ended → WritesFrontOfScriptRun sizes.now script ended (K.written out.old) (K.written out.new) }
+    ensures fault { (ended : Option EndedHeap) → result ≡ Status.WriteFault ended → Rose (K.faults out.old) (K.faults out.new) }
+    ensures failed { K.faults out.old < K.faults out.new → IsWriteFault result }
+    ensures quiet { result ≡ Status.Memory → out.new ≡ out.old }
+    ensures answers { IsRunAnswer result }
+{
+    if script.version() == 3 {
+        run_sections(rt, alloc, sizes, script, out, gate)
+    } else {
+        run(rt, alloc, sizes, script, Report::Replies, out, gate)
     }
 }

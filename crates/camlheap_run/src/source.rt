@@ -18,8 +18,7 @@ ghost use Rattle.camlheap_run.specs.Outcome.{RunsToEnd, StopsWriting, IsReplayAn
 use crate::Status;
 use crate::reading::{NoReplay, NoScript, replay_of, script_of, table_of};
 use crate::replaying::run_replay;
-use crate::report::Report;
-use crate::run::run;
+use crate::run::run_script;
 use crate::table::run_table;
 use heap_model::state::Sizes;
 use outer_io::{Gate, Sink, Source};
@@ -57,7 +56,7 @@ pub(crate) fn run_source<R: Threads + Wait + Sync, S: Source, K: Sink, G: Gate +
         → IsEither result (Status.Script f) Status.Memory }
 {
     match script_of(alloc, sizes.domains, src) {
-        Ok(script) => run(rt, alloc, sizes, script, Report::Replies, out, gate),
+        Ok(script) => run_script(rt, alloc, sizes, script, out, gate),
         Err(NoScript::ReadFault) => Status::ReadFault,
         Err(NoScript::Refused(fault)) => Status::Script(fault),
         Err(NoScript::Memory) => Status::Memory,

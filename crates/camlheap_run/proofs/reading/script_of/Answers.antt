@@ -1,4 +1,4 @@
-use Rattle.heap_text.specs.declared.version.Version.TheVariants.{Two}
+use Rattle.heap_text.specs.declared.version.Version.TheVariants.{Three}
 use Rattle.heap_text.specs.Faults.{first_fault}
 use Rattle.camlheap_run.specs.Reading.{IsFirst}
 use Rattle.camlheap_run.proofs.ReadingLemmas.{not_refused, told_fault, told_script}
@@ -12,4 +12,4 @@ returns-clause-only_faults g c = λ s f told refused.
 pub returns-in-Ok-read_script-clause-only_scripts : goal.returns-in-Ok-read_script-clause-only_scripts
 returns-in-Ok-read_script-clause-only_scripts g c = λ f told.
     let read = rw (← c.deref.ensures.value) at c.in-Ok.ensures.bytes in
-    let given = c.in-Ok-read_script.ensures.refused f (told_fault (IsFirst (first_fault Two c.args.domains)) _ _ _ f read told) in cc given
+    let given = c.in-Ok-read_script.ensures.refused f (told_fault (IsFirst (first_fault Three c.args.domains)) _ _ _ f read told) in cc given
