@@ -201,29 +201,24 @@ fn runs_of(
 // So often a domain arrives in no test.
 const MOST: u64 = 1_000_000;
 
-// The domains of two runs, once all traces have ended. They run.
-fn both_ended(heap: &Heap, first: DomainRun, second: DomainRun) -> Result<(Domain, Domain), Fail>
-    requires first { IsIn first.token heap.now }
-    requires second { IsIn second.token heap.now }
-    ensures first { IfOk result (λ t. IsIn t.0 heap.now × (t.0.view.seen.stage ≡ In Run)) }
-    ensures second { IfOk result (λ t. IsIn t.1 heap.now × (t.1.view.seen.stage ≡ In Run)) }
-    ensures at_rest { IfOk result (λ t. t.0.view.seen.hunt ≡ Rests) }
+// The domain of a run whose trace has ended, as all others have. It runs.
+fn behind_its_end(heap: &Heap, run: DomainRun) -> Result<Domain, Fail>
+    requires here { IsIn run.token heap.now }
+    ensures here { IfOk result (λ t. IsIn t heap.now) }
+    ensures runs { IfOk result (λ t. t.view.seen.stage ≡ In Run) }
+    ensures at_rest { IfOk result (λ t. t.view.seen.hunt ≡ Rests) }
 {
-    let mut first = first;
-    let mut second = second;
-    for _ in 0..1_000_000u32 {
-        if first.domain().arrivals() >= MOST || second.domain().arrivals() >= MOST {
-            break;
-        }
-        let one = turn(heap, &mut first);
-        let other = turn(heap, &mut second);
-        if let (Turned::Ended, Turned::Ended) = (one, other) {
-            first.is_faithful();
-            second.is_faithful();
-            return Ok((first.into_domain(), second.into_domain()));
-        }
+    let mut run = run;
+    if run.domain().arrivals() >= MOST {
+        return Err(Fail::from("too many pauses"));
     }
-    Err(Fail::from("a trace goes on"))
+    match turn(heap, &mut run) {
+        Turned::Ended => {
+            run.is_faithful();
+            Ok(run.into_domain())
+        }
+        _ => Err(Fail::from("a trace goes on")),
+    }
 }
 
 /// A heap with a run for each of its domains.
@@ -274,18 +269,41 @@ impl Play {
         }
     }
 
-    /// The heap and its two domains, turned to the ends of their traces. The domains run.
-    pub(crate) fn into_both_ended(self) -> Result<(Heap, Domain, Domain), Fail>
-        ensures first { IfOk result (λ r. IsIn r.1 r.0 × (r.1.view.seen.stage ≡ In Run)) }
-        ensures second { IfOk result (λ r. IsIn r.2 r.0 × (r.2.view.seen.stage ≡ In Run)) }
+    // A turn of each domain. Whether all traces have ended.
+    fn has_ended_all(&mut self) -> bool {
+        let mut ended = true;
+        for domain in 0..self.runs.len() {
+            ended = self.turn(domain) == Some(Turned::Ended) && ended;
+        }
+        ended
+    }
+
+    // Turns all domains to the ends of their traces. False where one goes on for too long.
+    fn end_all(&mut self) -> bool {
+        for _ in 0..1_000_000u32 {
+            if self.has_ended_all() {
+                return true;
+            }
+        }
+        false
+    }
+
+    /// The heap and one of its domains, all turned to the ends of their traces. The domain runs.
+    pub(crate) fn into_ended(mut self, domain: usize) -> Result<(Heap, Domain), Fail>
+        ensures here { IfOk result (λ r. IsIn r.1 r.0) }
+        ensures runs { IfOk result (λ r. r.1.view.seen.stage ≡ In Run) }
         ensures at_rest { IfOk result (λ r. r.1.view.seen.hunt ≡ Rests) }
     {
+        if domain >= self.runs.len() || !self.end_all() {
+            return Err(Fail::from("no such domain, or a trace goes on"));
+        }
         let Play { heap, mut runs } = self;
-        let (Some(second), Some(first)) = (runs.pop(), runs.pop()) else {
-            return Err(Fail::from("no two runs"));
-        };
-        let (first, second) = both_ended(&heap, first, second)?;
-        Ok((heap, first, second))
+        if domain >= runs.len() {
+            return Err(Fail::from("no such domain"));
+        }
+        let run = runs.swap_remove(domain);
+        let domain = behind_its_end(&heap, run)?;
+        Ok((heap, domain))
     }
 
     /// The runs, driven to their ends in threads.

@@ -69,7 +69,7 @@ impl Marker {
 // The second of two domains, which have had these commands, and the deck of the first.
 fn second_marker(alloc: Global, sections: &[Section]) -> Result<(Hints, Marker), Fail> {
     let play = Play::start(alloc, TWO_DOMAINS, sections)?;
-    let (heap, _, domain) = play.into_both_ended()?;
+    let (heap, domain) = play.into_ended(1)?;
     let (first, hints) = two_decks(alloc)?;
     Ok((
         first,
@@ -199,7 +199,7 @@ impl Sweeper {
     // The first of two domains, behind these commands.
     fn behind(alloc: Global, sections: &[Section]) -> Result<Sweeper, Fail> {
         let play = Play::start(alloc, TWO_DOMAINS, sections)?;
-        let (heap, domain, _) = play.into_both_ended()?;
+        let (heap, domain) = play.into_ended(0)?;
         Ok(Sweeper { heap, domain })
     }
 
