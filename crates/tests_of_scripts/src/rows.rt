@@ -4,7 +4,7 @@ use crate::{beside, ephemerons, finalisers};
 use std::test::Fail;
 
 // Words, a script, and what its run prints.
-const REPLIES: [(&str, &str, &str); 30] = [
+const REPLIES: [(&str, &str, &str); 33] = [
     (
         "replay",
         "schedule 1\nturn 1\nturn 1\nturn 0\nend\nheap 1\ndomain 0\nload 1 0 0\ndomain 1\nint 1 5\nstore 0 0 1\n",
@@ -105,6 +105,22 @@ const REPLIES: [(&str, &str, &str); 30] = [
         "domain 0\nblk 0:1\nblk 0:2\nok\nok\nok\nok\nok\nint 9\nlive 2 21\n",
     ),
     (
+        "run",
+        "heap 3\ndomain 0\nint 1 5\nspawn 1 1\njoin 2 1\nload 3 2 0\ndomain 1\nargument 1\nalloc 2 0 1\nstore 2 0 1\nresult 2\n",
+        "domain 0\nok\nok\nblk 1:1\nint 5\ndomain 1\nint 5\nblk 1:1\nok\nok\n",
+    ),
+    (
+        "run --domains 1",
+        "heap 3\ndomain 0\nalloc 1 0 1\nfull_major\n",
+        "domain 0\nblk 0:2\nlive 3 47\n",
+    ),
+    // A chain of sections, with pauses while the others are held. The last ends without a result.
+    (
+        "run --domains 3",
+        "heap 3\ndomain 0\nint 1 3\nspawn 1 1\nminor\njoin 1 1\ndomain 1\nargument 1\nspawn 2 1\nfull_major\njoin 2 2\nresult 1\ndomain 2\nargument 1\nmajor\n",
+        "domain 0\nok\nok\nok\nint 3\ndomain 1\nint 3\nok\nlive 2 44\nint 0\nok\ndomain 2\nint 3\nok\n",
+    ),
+    (
         "run --domains 1",
         "heap 2\ndomain 0\nraw 1 252 3\nint 2 5\nstore 1 0 2\nstore 1 1 1\nload 3 1 0\nfull_major\n",
         "domain 0\nblk 0:1\nok\nok\ntype\nint 5\nlive 2 23\n",
@@ -177,7 +193,22 @@ fn scripts_of_one_domain(rt: HostRuntime) -> Result<(), Fail> {
 }
 
 // Words, a script, and the line of its first fault.
-const REFUSED: [(&str, &str, &str); 20] = [
+const REFUSED: [(&str, &str, &str); 23] = [
+    (
+        "run",
+        "heap 3\ndomain 0\ndomain 1\n",
+        "script line 3: spawn\n",
+    ),
+    (
+        "run",
+        "heap 3\ndomain 0\nspawn 0 1\n",
+        "script line 3: spawn\n",
+    ),
+    (
+        "run",
+        "heap 3\ndomain 0\nint 14 0\n",
+        "script line 3: number 1 out of range\n",
+    ),
     (
         "run --domains 1",
         "heap 1\ndomain 0\nint 1 4611686018427387903\nint 1 -4611686018427387904\nint 1 4611686018427387904\n",
