@@ -2,7 +2,7 @@
 # Runs texts of tables by the program. First random texts, whose outputs the machine of bench/tables/machine.py judges. Then a text of as
 # many fresh keys as a text has lines for, of which five are held at a time, on the least heap: it must have no line `full`. Last it counts
 # instructions by valgrind: what `get` costs by how many bindings there are, and what a command costs that a session is handed beside one
-# of a script. COUNT says how many random texts there are, 2000 without it. It ends with 1 where an output is wrong. CAMLHEAP names
+# of a script. COUNT says how many random texts there are, 2000 without it. It ends with 1 where an output is wrong. PROGRAM names
 # another program than the proved one.
 set -euo pipefail
 shopt -s inherit_errexit
@@ -10,8 +10,8 @@ export LC_ALL=C
 top=$(cd "$(dirname "${BASH_SOURCE[0]}")/.." && pwd)
 work=$(mktemp -d)
 trap 'rm -rf "$work"' EXIT
-if [ -n "${CAMLHEAP:-}" ]; then
-    program=$CAMLHEAP
+if [ -n "${PROGRAM:-}" ]; then
+    program=$PROGRAM
 else
     "$top/camlheap" table <"$top/examples/bindings.table" >/dev/null
     cp "$top/crates/camlheap/out/camlheap" "$work/camlheap"

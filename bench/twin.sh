@@ -232,6 +232,8 @@ compare() {
 same() {
     local example words domains pools seed
     for example in "$top"/examples/*.heap; do
+        # The twin has no sections that spawn.
+        [ "$(head -n 1 "$example")" != 'heap 3' ] || continue
         # One with several right outputs isn't compared.
         if [ ! -e "${example%.heap}.expected" ]; then continue; fi
         words=(run --domains "$(grep -c '^domain ' "$example")")

@@ -94,7 +94,7 @@ fn known(script: &Script, output: &str) -> Option<i32> {
         return Some(NONE_FOUND);
     };
     let sections = script::read(script.text.as_bytes(), script.domains as u32).expect("a script without a fault");
-    match (Question { sections, lines }).verdict(MOST_STATES) {
+    match Question::of_commands(sections, lines).verdict(MOST_STATES) {
         Verdict::Legal => Some(LEGAL),
         Verdict::NoneFound => Some(NONE_FOUND),
         Verdict::GaveUp => None,

@@ -50,11 +50,7 @@ fn judged(script: &str, output: &str, domains: usize) -> Verdict {
     let commands =
         script::read(script.as_bytes(), domains as u32).expect("a script without a fault");
     match sections(output, domains) {
-        Some(lines) => Question {
-            sections: commands,
-            lines,
-        }
-        .verdict(MOST_STATES),
+        Some(lines) => Question::of_commands(commands, lines).verdict(MOST_STATES),
         None => Verdict::NoneFound,
     }
 }

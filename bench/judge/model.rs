@@ -384,6 +384,73 @@ impl State {
     }
 }
 
+/// The block by which sections begin each other, wait and pass values: a flag, an argument and a result for each of eight.
+const HIDDEN: u8 = 15;
+const ARGUMENTS: usize = 8;
+const RESULTS: usize = 16;
+
+#[allow(dead_code)]
+impl State {
+    /// The state of so many domains of which each has the hidden block.
+    pub fn with_hidden(domains: usize) -> State {
+        let mut state = State::opening(domains);
+        state.create(0, HIDDEN, Node::with_fields(false, 24));
+        let hidden = state.held(0, HIDDEN);
+        for domain in &mut state.domains {
+            domain.registers[HIDDEN as usize] = hidden;
+        }
+        state
+    }
+
+    fn slot(&self, domain: usize, slot: usize) -> Value {
+        self.field(domain, HIDDEN, slot as u16)
+            .map_or(Value::Nothing, |found| found.1)
+    }
+
+    fn set_slot(&mut self, domain: usize, slot: usize, value: Value) {
+        if let Value::Block(hidden) = self.held(domain, HIDDEN) {
+            self.set_field(hidden, slot as u16, value);
+        }
+    }
+
+    /// Whether a section's flag is this number.
+    pub fn flag_is(&self, domain: usize, section: usize, number: i64) -> bool {
+        self.slot(domain, section) == Value::Int(number)
+    }
+
+    pub fn spawn(&mut self, domain: usize, section: usize, item: u8) -> String {
+        let argument = match self.held(domain, item) {
+            Value::Nothing => Value::Int(0),
+            held => held,
+        };
+        self.set_slot(domain, ARGUMENTS + section, argument);
+        self.set_slot(domain, section, Value::Int(1));
+        "ok".into()
+    }
+
+    pub fn take_argument(&mut self, domain: usize, dst: u8) -> String {
+        self.put(domain, dst, self.slot(domain, ARGUMENTS + domain))
+    }
+
+    pub fn put_result(&mut self, domain: usize, item: u8) -> String {
+        match self.held(domain, item) {
+            Value::Nothing => "type".into(),
+            held => {
+                self.set_slot(domain, RESULTS + domain, held);
+                "ok".into()
+            }
+        }
+    }
+
+    pub fn take_result(&mut self, domain: usize, dst: u8, section: usize) -> String {
+        self.put(domain, dst, self.slot(domain, RESULTS + section))
+    }
+
+    pub fn tell_end(&mut self, domain: usize) {
+        self.set_slot(domain, domain, Value::Int(2));
+    }
+}
+
 fn done() -> Made {
     Ok("ok".into())
 }

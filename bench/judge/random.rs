@@ -125,7 +125,8 @@ pub const OF_OCAML: Kind = Kind {
     lengths: &[60, 25, 14],
 };
 
-fn command(dice: &mut Dice, kind: &Kind) -> String {
+/// A command.
+pub fn command(dice: &mut Dice, kind: &Kind) -> String {
     let word = dice.one_of(kind.words);
     let register = |dice: &mut Dice| dice.below(5);
     let index = |dice: &mut Dice| dice.one_of(&[0, 0, 0, 1, 1, 2, 1021]);

@@ -4,8 +4,24 @@ use crate::model::{State, Value};
 use crate::script::Command;
 use std::collections::HashSet;
 
+/// A command, or one of those by which sections begin each other, wait and pass values.
+#[derive(Clone, Copy)]
+#[allow(dead_code)]
+#[rustfmt::skip]
+pub enum Step {
+    Make(Command),
+    Spawn { section: usize, item: u8 },
+    Argument { dst: u8 },
+    PutResult { item: u8 },
+    Join { dst: u8, section: usize },
+    /// A section that is spawned waits for it, and tells its end. Neither prints anything.
+    Begin,
+    Finish,
+}
+
 pub struct Question {
-    pub sections: Vec<Vec<Command>>,
+    pub opening: State,
+    pub sections: Vec<Vec<Step>>,
     /// The lines of each domain, without its heading.
     pub lines: Vec<Vec<String>>,
 }
@@ -18,7 +34,19 @@ pub enum Verdict {
 }
 
 impl Question {
-    fn next(&self, state: &State, domain: usize) -> (Option<Command>, Option<&str>) {
+    /// Whether these commands may print these lines.
+    pub fn of_commands(sections: Vec<Vec<Command>>, lines: Vec<Vec<String>>) -> Question {
+        Question {
+            opening: State::opening(sections.len()),
+            sections: sections
+                .into_iter()
+                .map(|commands| commands.into_iter().map(Step::Make).collect())
+                .collect(),
+            lines,
+        }
+    }
+
+    fn next(&self, state: &State, domain: usize) -> (Option<Step>, Option<&str>) {
         let at = &state.domains[domain];
         (
             self.sections[domain].get(at.commands).copied(),
@@ -30,20 +58,43 @@ impl Question {
         state.domains.iter().all(|domain| domain.ended)
     }
 
+    /// The state behind a domain's next entries, where they are of a step that prints nothing and may be made.
+    fn silent_step(&self, state: &State, domain: usize, step: Step) -> Option<State> {
+        let may = match step {
+            Step::Begin => state.flag_is(domain, domain, 1),
+            Step::Finish => true,
+            _ => false,
+        };
+        (may && state.domains[domain].queue.is_empty()).then(|| {
+            let mut next = state.clone();
+            if matches!(step, Step::Finish) {
+                next.tell_end(domain);
+            }
+            next.domains[domain].commands += 1;
+            next.domains[domain].due = 0;
+            next
+        })
+    }
+
     /// The state behind a domain's next entry, where it prints the domain's next line.
     fn step(&self, state: &State, domain: usize) -> Option<State> {
         let at = &state.domains[domain];
-        let (command, line) = self.next(state, domain);
+        let (step, line) = self.next(state, domain);
+        if let Some(step @ (Step::Begin | Step::Finish)) = step
+            && at.queue.is_empty()
+        {
+            return self.silent_step(state, domain, step);
+        }
         let mut next = state.clone();
         let Some(line) = line else {
-            let may_end = !at.ended && at.queue.is_empty() && command.is_none();
+            let may_end = !at.ended && at.queue.is_empty() && step.is_none();
             return may_end.then(|| {
                 next.end(domain);
                 next
             });
         };
         let is_full_major =
-            matches!(command, Some(Command::FullMajor)) && line.starts_with("live ");
+            matches!(step, Some(Step::Make(Command::FullMajor))) && line.starts_with("live ");
         let printed = if is_full_major && at.due == 0 {
             next.collect();
             next.domains[domain].commands += 1;
@@ -54,10 +105,7 @@ impl Question {
         } else {
             next.domains[domain].commands += 1;
             next.domains[domain].due = 0;
-            next.make(
-                domain,
-                command.filter(|command| !matches!(command, Command::FullMajor))?,
-            )
+            made(&mut next, domain, step?)?
         };
         next.domains[domain].lines += 1;
         (printed == line).then_some(next)
@@ -67,15 +115,17 @@ impl Question {
     fn is_own(&self, state: &State, domain: usize) -> bool {
         let at = &state.domains[domain];
         let holds_block = |register: u8| matches!(at.registers[register as usize], Value::Block(_));
-        let (command, line) = self.next(state, domain);
+        let (step, line) = self.next(state, domain);
         at.queue.is_empty()
-            && match command {
-                Some(Command::Poll | Command::Minor | Command::Major) => line == Some("ok"),
-                Some(
+            && match step {
+                Some(Step::Make(Command::Poll | Command::Minor | Command::Major)) => {
+                    line == Some("ok")
+                }
+                Some(Step::Make(
                     Command::Int { dst, .. } | Command::Move { dst, .. } | Command::Drop { dst },
-                ) => !holds_block(dst),
-                Some(_) => line == Some("type") || line == Some("bounds"),
-                None => false,
+                )) => !holds_block(dst),
+                Some(Step::Make(_)) => line == Some("type") || line == Some("bounds"),
+                _ => false,
             }
     }
 
@@ -96,7 +146,7 @@ impl Question {
 
     /// Looks through no more than so many states.
     pub fn verdict(&self, limit: usize) -> Verdict {
-        let mut stack = vec![State::opening(self.sections.len())];
+        let mut stack = vec![self.opening.clone()];
         let mut seen = HashSet::new();
         let mut cut_short = false;
         while let Some(state) = stack.pop() {
@@ -118,6 +168,20 @@ impl Question {
             Verdict::GaveUp
         } else {
             Verdict::NoneFound
+        }
+    }
+}
+
+/// What a step that isn't silent prints, where it may be made and is no `full_major`.
+fn made(state: &mut State, domain: usize, step: Step) -> Option<String> {
+    match step {
+        Step::Make(Command::FullMajor) | Step::Begin | Step::Finish => None,
+        Step::Make(command) => Some(state.make(domain, command)),
+        Step::Spawn { section, item } => Some(state.spawn(domain, section, item)),
+        Step::Argument { dst } => Some(state.take_argument(domain, dst)),
+        Step::PutResult { item } => Some(state.put_result(domain, item)),
+        Step::Join { dst, section } => {
+            (state.flag_is(domain, section, 2)).then(|| state.take_result(domain, dst, section))
         }
     }
 }

@@ -16,7 +16,7 @@ use Rattle.std.proofs.lemmas.Bool.{le-leb, lt-leb}
 use Rattle.pause_phases.specs.declared.decider.Decider.{Decider}
 use Rattle.domain_turns.specs.Pausing.{LeavesOdd, blocks_left}
 use Rattle.domain_turns.specs.Runs.{CalmDid, EndsTrace, IsAnswered, Polls, RunView, RunsFinaliser, SeesAnswer, Stops, TriesCommand, WorksBeside, asking_end, is_asked, may_use_up, served_since}
-use Rattle.domain_turns.specs.Runs.CalmDid.{Finalises, Wishes, Refuses, Tries, Works, Ends}
+use Rattle.domain_turns.specs.Runs.CalmDid.{Finalises, Wishes, Refuses, Tries, Works, Ends, Sees, Makes, Tells, WishesToTell}
 use Rattle.domain_turns.specs.Tries.{HasPool, Stands}
 
 -- the domain's queue of finalisers
@@ -38,6 +38,10 @@ waiting_finalisers_come_first h old new first rest waits (Refuses a) = let e : f
 waiting_finalisers_come_first h old new first rest waits (Tries c other t) = let e : first ∷ rest ≡ [] = sym waits ∙ t.unqueued in cc
 waiting_finalisers_come_first h old new first rest waits (Works p) = let e : first ∷ rest ≡ [] = sym waits ∙ (sym (work_keeps_queue h old p.worked p.spent p.works) ∙ p.tried.unqueued) in cc
 waiting_finalisers_come_first h old new first rest waits (Ends e) = let clash : first ∷ rest ≡ [] = sym waits ∙ e.unqueued in cc
+waiting_finalisers_come_first h old new first rest waits (Sees t) = let clash : first ∷ rest ≡ [] = sym waits ∙ t.unqueued in cc
+waiting_finalisers_come_first h old new first rest waits (Makes c t) = let clash : first ∷ rest ≡ [] = sym waits ∙ t.unqueued in cc
+waiting_finalisers_come_first h old new first rest waits (Tells t) = let clash : first ∷ rest ≡ [] = sym waits ∙ t.unqueued in cc
+waiting_finalisers_come_first h old new first rest waits (WishesToTell a) = let clash : first ∷ rest ≡ [] = sym waits ∙ a.unqueued in cc
 
 -- a `minor` isn't made before a pause has served it
 pub minor_waits_for_its_pause : (h : SharedHeap) (start : Token) (old new : RunView) → TriesCommand h start old new Minor → served_since old.asked old.token.view.own.arrivals ≡ false → ⊥

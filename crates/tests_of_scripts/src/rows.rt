@@ -29,7 +29,7 @@ const REPLIES: [(&str, &str, &str); 33] = [
     (
         "replay",
         "schedule 1\nturn 0\nend\nheap 1\ndomain 0\nfull_major\nalloc 1 0 1\ndomain 1\nfull_major\nint 1 1\n",
-        "domain 0\nlive 1 18\nblk 0:1\ndomain 1\nlive 1 18\nok\n",
+        "domain 0\nlive 1 18\nblk 0:1\ndomain 1\nlive 2 21\nok\n",
     ),
     (
         "table",

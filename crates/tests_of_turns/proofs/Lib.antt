@@ -1,2 +1,3 @@
 pub mod FreshDomains
 pub mod Resting
+pub mod SectionLemmas

@@ -10,4 +10,6 @@ mod scenes;
 #[cfg(test)]
 mod slices;
 #[cfg(test)]
+mod spawns;
+#[cfg(test)]
 mod traces;
