@@ -301,7 +301,7 @@ const REFUSED: [(&str, &str, &str); 23] = [
 ];
 
 // The words of a replay, its text, the status and the line of its first fault.
-const NOT_REPLAYED: [(&str, &str, u8, &str); 8] = [
+const NOT_REPLAYED: [(&str, &str, u8, &str); 9] = [
     ("replay", "schedule 1\n", 6, "schedule line 2\n"),
     ("replay", "schedule 2\nend\n", 6, "schedule line 1\n"),
     (
@@ -328,6 +328,13 @@ const NOT_REPLAYED: [(&str, &str, u8, &str); 8] = [
         "schedule 1\nend\nheap 1\ndomain 0\nmajor\n",
         7,
         "not replayable: 1\n",
+    ),
+    // The version is looked at first.
+    (
+        "replay",
+        "schedule 1\nend\nheap 3\ndomain 0\nmajor\n",
+        7,
+        "not replayable: 3\n",
     ),
     (
         "replay --domains 1 --minor 4096 --pools 22",
