@@ -34,7 +34,7 @@ use Rattle.schedule_text.specs.declared.replay.ReplayFault.{ReplayFault}
 use Rattle.schedule_text.specs.declared.replay.ReplayFault.TheVariants.{Memory as ReplayMemory, NotReplayable as NotReplayableOf, Schedule as ScheduleOf, Script as ScriptOf}
 use Rattle.schedule_text.specs.Replays.{HasFault, IsTooLong, Replayed as ReplayedText, WrongScript}
 use Rattle.replay_turns.specs.Ends.{MayBeHeld}
-use Rattle.replay_run.specs.Replayed.{IsUntouched, MayReplay, Replayed, commands_of}
+use Rattle.replay_turns.specs.Replayed.{IsUntouched, MayReplay, Replayed, commands_of}
 use Rattle.camlheap_run.specs.declared.begin.Begun.{Begun}
 use Rattle.camlheap_run.specs.declared.report.Report.TheVariants.{Replies}
 use Rattle.camlheap_run.specs.Running.{IsBegun, IsHere, IsOver, IsPastOf, opened}

@@ -12,7 +12,7 @@ use crate::end::end;
 use crate::report::{Report, write_report};
 use heap_model::state::Sizes;
 use outer_io::{Failed, Sink};
-use replay_run::replay_runs;
+use replay_turns::replay_runs;
 use schedule_text::Replay;
 use std::alloc::{AllocError, Global};
 use std::sync::Wait;

@@ -12,3 +12,4 @@ pub mod TurnLemmas
 pub mod Joining
 pub mod Turning
 pub mod EndLemmas
+mod Gathering

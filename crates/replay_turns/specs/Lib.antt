@@ -3,3 +3,4 @@ pub mod Gathered
 pub mod Leveled
 pub mod Moves
 pub mod Ends
+pub mod Replayed

@@ -8,7 +8,9 @@ mod gathered;
 mod halting;
 mod meeting;
 mod passing;
+mod replay;
 mod stepping;
 mod together;
 
 pub use gathered::Gathered;
+pub use replay::replay_runs;

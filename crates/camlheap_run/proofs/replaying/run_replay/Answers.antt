@@ -4,7 +4,7 @@ use Rattle.std.specs.List.{list_all}
 use Rattle.schedule_drive.specs.Following.{is_for}
 use Rattle.heap_model.specs.declared.state.Sizes.{Sizes}
 use Rattle.heap_rule.specs.Ending.{EndedHeap}
-use Rattle.replay_run.specs.Replayed.{Replayed}
+use Rattle.replay_turns.specs.Replayed.{Replayed}
 use Rattle.camlheap_run.specs.Reading.{IsSpelledReplay}
 use Rattle.camlheap_run.specs.Replaying.{WritesFrontOfReplay, WritesReplay}
 use Rattle.camlheap_run.proofs.ReplayLemmas.{all_played_here, all_played_over, begun_may, items_for, many_sections, played_count, replayed_script, writes_replay, writes_replay_front}

@@ -5,11 +5,11 @@ ghost use Rattle.heap_model.specs.declared.entry.Entry.{Entry};
 ghost use Rattle.domain_turns.specs.Runs.{RunView};
 ghost use Rattle.schedule_drive.specs.Following.{IsCalm, is_for};
 ghost use Rattle.replay_turns.specs.Gathered.{MayShare, seen_in};
-ghost use Rattle.replay_run.specs.Replayed.{IsUntouched, MayReplay, Replayed};
+ghost use Rattle.replay_turns.specs.Replayed.{IsUntouched, MayReplay, Replayed};
 
+use crate::Gathered;
 use domain_turns::DomainRun;
 use heap_rule::Heap;
-use replay_turns::Gathered;
 use schedule_drive::replay;
 use schedule_laws::Item;
 use std::alloc::{AllocError, Global};

@@ -18,7 +18,7 @@ use Rattle.schedule_drive.specs.Following.{IsCalm}
 use Rattle.replay_turns.specs.Ends.{TakenApart}
 use Rattle.replay_turns.specs.Gathered.{GatheredView, HasRun, IsGathered, MayShare, asked_for, is_running, one_run, run_at, seen_in}
 use Rattle.replay_turns.proofs.EndLemmas.{nothing_shared}
-use Rattle.replay_run.specs.Replayed.{IsUntouched, MayReplay, Replayed, commands_of}
+use Rattle.replay_turns.specs.Replayed.{IsUntouched, MayReplay, Replayed, commands_of}
 
 -- what a list has at a place, of what another has there
 read_at : {A B : Type 0} (f : A → B) (xs : List A) (d : ℕ) (x : A) (e : B) → slice_get xs d ≡ Some x → get_or (map f xs) d e ≡ f x

@@ -3,8 +3,8 @@ use Rattle.heap_model.specs.declared.entry.Entry.{Entry}
 use Rattle.std.specs.Prelude.{◌≡◌, List, []}
 use Rattle.schedule_drive.specs.Following.{IsCalm}
 use Rattle.replay_turns.specs.Gathered.{GatheredView, IsGathered, MayShare, seen_in}
-use Rattle.replay_run.proofs.Gathering.{begins_calm, begins_fresh}
-use Rattle.replay_run.proofs.replay.replay_runs.Goals as goal
+use Rattle.replay_turns.proofs.Gathering.{begins_calm, begins_fresh}
+use Rattle.replay_turns.proofs.replay.replay_runs.Goals as goal
 
 pub drive-requires-clause-calm : goal.drive-requires-clause-calm
 drive-requires-clause-calm g c = subst (λ (v : GatheredView). IsCalm (seen_in v)) (sym c.in_ok-gathered.ensures) (begins_calm c.args.heap c.args.runs.items c.requires.may)

@@ -1,5 +1,5 @@
-use Rattle.replay_run.proofs.Gathering.{all_run, taken}
-use Rattle.replay_run.proofs.replay.drive.Goals as goal
+use Rattle.replay_turns.proofs.Gathering.{all_run, taken}
+use Rattle.replay_turns.proofs.replay.drive.Goals as goal
 
 pub apart-requires-clause-running : goal.apart-requires-clause-running
 apart-requires-clause-running g c = all_run c.replay.new.runs c.replay.ensures.calm.run
