@@ -1,9 +1,11 @@
 #!/usr/bin/env python3
 """Runs the gate from nothing, samples each process of the prover every second, and prints the gate's CPU seconds crate by crate as a
-table in Markdown, and when the library or program of each crate was proved. `bench/gate.py FILE` writes what the gate says into FILE and
-ends with the gate's status."""
+table in Markdown, when the library or program of each crate was proved, and the longest chain of crates of which each stands on the one
+before. `bench/gate.py FILE` writes what the gate says into FILE and ends with the gate's status. `bench/gate.py alone CRATE..` proves
+these crates one after another, each alone with four jobs, over the libraries that the last gate left, and prints how long each took."""
 import os
 import re
+import shutil
 import subprocess
 import sys
 import time
@@ -76,10 +78,70 @@ def table(found, refused, begun):
     return lines
 
 
+def standing_on(top):
+    """Returns for each crate of the repository what its line of crates.txt names."""
+    found = {}
+    for line in text_of(f"{top}/crates.txt").splitlines():
+        name, _, below = line.partition("#")[0].partition(":")
+        if name.strip():
+            found[name.strip()] = below.replace(",", " ").split()
+    return found
+
+
+def longest_chain(top, seconds):
+    """Returns what the longest chain takes, and its crates, the lowest first. The last may be one of tests."""
+    uses, found = standing_on(top), {}
+
+    def chain(crate):
+        if crate not in found:
+            below = max((chain(it) for it in uses[crate] if it in uses), default=(0, []))
+            found[crate] = (below[0] + seconds.get(crate, 0), [*below[1], crate])
+        return found[crate]
+
+    return max(chain(it) for it in uses)
+
+
+def alone(top, crates):
+    """Proves each of the crates alone, and prints the seconds that each took."""
+    uses, kit, total = standing_on(top), os.path.dirname(os.path.dirname(os.path.realpath(shutil.which("rt")))), 0
+    for crate in crates:
+        below = []
+        for it in uses[crate]:
+            below += [other for other in [it, *all_below(uses, it)] if other in uses and other not in below]
+        folder = lambda it: f"{top}/crates/{it}/out/rlib"
+        words = [f"{kit}/bin/rattle", "check", "--crate-name", crate]
+        words += ["src/main.rt" if os.path.exists(f"{top}/crates/{crate}/src/main.rt") else "src/lib.rt"]
+        words += ["--extern", f"std={kit}/rlibs/std.rlib", "-L", f"dependency={kit}/rlibs"]
+        for it in uses[crate]:
+            words += ["--extern", f"{it}={folder(it) if it in uses else kit + '/rlibs'}/{it}.rlib"]
+        for it in below:
+            words += ["-L", f"dependency={folder(it)}"]
+        words += ["--antt-project", f"{kit}/rattle/logic/antt-project.json", "--logic-built", f"{kit}/logic_built", "--links", f"{crate}="]
+        words += ["--jobs", "4", *(["--test"] if crate.startswith("tests_of_") else [])]
+        begun = time.time()
+        said = subprocess.run(words, cwd=f"{top}/crates/{crate}", stdout=subprocess.PIPE, stderr=subprocess.STDOUT, text=True)
+        if said.returncode:
+            sys.exit(said.stdout)
+        total += time.time() - begun
+        print(f"{crate} {time.time() - begun:.0f} s", flush=True)
+    print(f"in all {total:.0f} s")
+
+
+def all_below(uses, crate):
+    """Returns all that a crate of the repository stands on."""
+    found = []
+    for it in uses.get(crate, []):
+        found += [other for other in [it, *all_below(uses, it)] if other not in found]
+    return found
+
+
 def main():
-    if len(sys.argv) != 2:
-        sys.exit("usage: bench/gate.py FILE")
     top = subprocess.check_output(["git", "rev-parse", "--show-toplevel"], text=True).strip()
+    if sys.argv[1:2] == ["alone"]:
+        alone(top, sys.argv[2:])
+        return
+    if len(sys.argv) != 2:
+        sys.exit("usage: bench/gate.py FILE | alone CRATE..")
     begun, found, edits_seen = time.time(), {}, set()
     with open(sys.argv[1], "w", encoding="utf-8") as said:
         gate = subprocess.Popen(["rt", "ci", "--anew"], cwd=top, stdout=said, stderr=subprocess.STDOUT)
@@ -93,6 +155,12 @@ def main():
     used = os.times()
     commit = subprocess.check_output(["git", "-C", top, "rev-parse", "--short=12", "HEAD"], text=True).strip()
     print(*table(found, refused, begun), sep="\n")
+    proofs = {}
+    for it in found.values():
+        if it.what == COLUMNS[it.crate.startswith("tests_of_")]:
+            proofs[it.crate] = proofs.get(it.crate, 0) + it.seconds
+    seconds, chain = longest_chain(top, proofs)
+    print(f"\nlongest chain, {seconds:.0f} CPU s: {' '.join(chain)}")
     print(f"\n{text.strip().splitlines()[-1]}; commit {commit}; {time.time() - begun:.0f} s on {os.cpu_count()} processors, ")
     print(f"{used.children_user + used.children_system:.0f} CPU s in all, by the system's own count.")
     sys.exit(gate.returncode)
