@@ -1,4 +1,5 @@
 pub mod WritingLemmas
+pub mod PageLemmas
 pub mod ReadingLemmas
 pub mod SectionLemmas
 pub mod BeginLemmas

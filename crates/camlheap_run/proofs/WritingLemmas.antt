@@ -45,6 +45,13 @@ pub front_is_written : {T E : Type 0} → (a b : Option (List ℕ)) (result : Re
 front_is_written a b (Ok x) text failed part = cc
 front_is_written a b (Err e) text failed part = part
 
+-- the texts of a list whose items are written part by part: what is written, the text of the next part, and the texts behind it
+pub text_by_parts : {A : Type 0} (f : A → List ℕ) (all left part rest : List A) (done text : List ℕ) → done ++ flat_map f left ≡ flat_map f all → left ≡ part ++ rest → text ≡ flat_map f part
+    → flat_map f all ≡ done ++ (text ++ flat_map f rest)
+text_by_parts {A} f all left part rest done text whole parts is =
+    sym whole ∙ ap (λ (xs : List A). done ++ flat_map f xs) parts ∙ ap (λ (l : List ℕ). done ++ l) (flat_map-append f part rest)
+    ∙ ap (λ (l : List ℕ). done ++ (l ++ flat_map f rest)) (sym is)
+
 -- the texts of the parts of a list, up to one and from there on
 pub text_at : {A : Type 0} (f : A → List ℕ) (xs : List A) (i : ℕ) (x : A) → i < length xs → flat_map f xs ≡ flat_map f (take i xs) ++ (f (get_or xs i x) ++ flat_map f (drop (i + 1) xs))
 text_at {A} f xs i x below =

@@ -6,6 +6,7 @@ mod begin;
 mod end;
 mod generating;
 mod load;
+mod page;
 mod putting;
 mod reading;
 mod replaying;

@@ -1,12 +1,13 @@
-//! Hands text to a sink, line by line.
+//! Hands text to a sink.
 ghost use Rattle.std.specs.Prelude.{◌++◌, length};
-ghost use Rattle.heap_model.specs.Output.{line, reply_text, printed};
+ghost use Rattle.heap_model.specs.Output.{line, printed};
 ghost use Rattle.heap_text.specs.Spelling.{heading_text};
 ghost use Rattle.outer_io.specs.Faults.{HasCause};
 ghost use Rattle.camlheap_run.specs.Writing.{Writes};
 
+use crate::page::{LINES, Page, put_lines};
 use heap_model::reply::Reply;
-use heap_text::{Line, print_heading, print_reply};
+use heap_text::{Line, print_heading};
 use outer_io::{Failed, Sink};
 
 // Hands a text to the sink, and again what a write leaves of it.
@@ -33,23 +34,15 @@ pub(crate) fn write_heading<K: Sink>(out: &mut K, domain: u32) -> Result<(), Fai
     write_all(out, &text[..length])
 }
 
-// Writes the line of a reply.
-fn write_reply<K: Sink>(out: &mut K, reply: &Reply) -> Result<(), Failed>
-    ensures cause { HasCause (K.faults out.old) (K.faults out.new) result }
-    ensures bytes { Writes (K.written out.old) (K.written out.new) result (line (reply_text reply.now)) }
-{
-    let mut text: Line = [0; 64];
-    let length = print_reply(reply, &mut text);
-    write_all(out, &text[..length])
-}
-
-// Writes the lines of replies, in order.
+// Writes the lines of replies, in order: as many at once as a page has room for.
 fn write_replies<K: Sink>(out: &mut K, replies: &[Reply]) -> Result<(), Failed>
     ensures cause { HasCause (K.faults out.old) (K.faults out.new) result }
     ensures bytes { Writes (K.written out.old) (K.written out.new) result (printed replies.now) }
 {
-    'replies: for reply in replies {
-        write_reply(out, reply)?;
+    let mut page: Page = [0; 4096];
+    'pages: for some in replies.chunks(LINES) {
+        let length = put_lines(&mut page, some);
+        write_all(out, &page[..length])?;
     }
     Ok(())
 }

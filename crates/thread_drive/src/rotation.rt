@@ -1,9 +1,10 @@
 //! The traces that the caller turns: one turn of each, again and again.
-ghost use Rattle.std.specs.Prelude.{◌≡◌, vec_capacity};
+ghost use Rattle.std.specs.Prelude.{◌≡◌, length, vec_capacity};
 ghost use Rattle.thread_drive.specs.Driven.{AllAre, AllFollow};
 
+use crate::taking::{put_back, take_out};
 use crate::trace::{Trace, Went};
-use crate::turning::turn_once;
+use crate::turning::{turn_once, turn_to_end};
 use crate::waiting::Waiter;
 use crossbeam_utils::sync::EventCount;
 use outer_io::Gate;
@@ -55,7 +56,27 @@ fn turn_each<S, T: Trace<S>, G: Gate>(
     }
 }
 
-// Turns these traces in rotation until all have ended. It waits only where none of them went on, so that it never waits for one that it turns itself.
+// Turns the only trace of a list until it has ended.
+fn turn_only<S, T: Trace<S> + Drop, R: Wait, G: Gate>(
+    rt: &R,
+    shared: &S,
+    gate: &G,
+    events: &EventCount,
+    traces: &mut Vec<T>,
+)
+    requires one { length traces.old.items ≡ 1 }
+    requires here { AllAre (T.shares shared.now) traces.old.items }
+    ensures here { AllAre (T.shares shared.now) traces.new.items }
+    ensures follow { AllFollow T.follows traces.old.items traces.new.items }
+    ensures over { AllAre T.is_over traces.new.items }
+    ensures capacity { vec_capacity traces.new ≡ vec_capacity traces.old }
+{
+    let trace = take_out(traces, 0);
+    let trace = turn_to_end(rt, shared, gate, events, trace);
+    put_back(traces, 0, trace);
+}
+
+// Turns these traces until all have ended, in rotation where there are several. It waits only where none of them went on, so that it never waits for one that it turns itself.
 pub(crate) fn rotate<S, T: Trace<S> + Drop, R: Wait, G: Gate>(
     rt: &R,
     shared: &S,
@@ -69,6 +90,10 @@ pub(crate) fn rotate<S, T: Trace<S> + Drop, R: Wait, G: Gate>(
     ensures over { AllAre T.is_over traces.new.items }
     ensures capacity { vec_capacity traces.new ≡ vec_capacity traces.old }
 {
+    if traces.len() == 1 {
+        turn_only(rt, shared, gate, events, traces);
+        return;
+    }
     let mut waiter = Waiter::new(events);
     let mut told = [0; MOST_TRACES];
     'turns: for _ in rt.forever() {
