@@ -1,6 +1,6 @@
-//! Replays random scripts under random schedules, three times each, and compares each output with that of a plain simulation of the
-//! scheduled history over the object graph of bench/judge. `bench/schedules.sh` builds and runs it. What it says rests on this program
-//! alone, which isn't proved.
+//! Replays random scripts under random schedules, three times each, and compares each output with those of two plain simulations of the
+//! scheduled history: one on the proved slow heap, by the program `slow_schedules`, which also says whether an entry isn't legal, and one
+//! over the object graph of bench/judge, which isn't proved. `bench/schedules.sh` builds and runs it.
 
 #[allow(dead_code)]
 #[path = "../judge/collector.rs"]
@@ -19,6 +19,7 @@ use random::Dice;
 use std::fmt::Write as _;
 use std::io::Write as _;
 use std::process::{Command, ExitCode, Stdio};
+use std::time::{Duration, Instant};
 
 const RUNS: usize = 3;
 
@@ -130,10 +131,10 @@ impl Simulation {
     }
 }
 
-/// What the program prints for an input, and its status.
-fn replayed(program: &str, input: &str, domains: usize) -> std::io::Result<(String, Option<i32>)> {
+/// What a program prints for an input behind these words, and its status.
+fn printed(program: &str, words: &[&str], input: &str) -> std::io::Result<(String, Option<i32>)> {
     let mut run = Command::new(program)
-        .args(["replay", "--domains", &domains.to_string()])
+        .args(words)
         .stdin(Stdio::piped())
         .stdout(Stdio::piped())
         .spawn()?;
@@ -145,29 +146,64 @@ fn replayed(program: &str, input: &str, domains: usize) -> std::io::Result<(Stri
     Ok((String::from_utf8_lossy(&done.stdout).into_owned(), done.status.code()))
 }
 
-/// Whether each run of a random script under a random schedule prints what the simulation does.
-fn is_right(program: &str, seed: u64) -> bool {
+/// The programs: `camlheap`, and the one that plays a schedule on the slow heap.
+struct Programs {
+    camlheap: String,
+    slow: String,
+}
+
+/// What was found of one script and its schedule.
+struct Found {
+    /// Each run prints what the simulation on the slow heap does.
+    as_slow: bool,
+    /// Both simulations print the same.
+    both: bool,
+    /// How long the slow heap took.
+    took: Duration,
+}
+
+/// Replays a random script under a random schedule.
+fn replayed(programs: &Programs, seed: u64) -> Found {
     let mut dice = Dice::new(seed);
     let domains = 1 + seed as usize % random::WHOLE.lengths.len();
     let text = without_major(&random::script_for(&mut dice, &random::of_length(&[60; 8]), domains));
     let items = items(&mut dice, domains);
     let sections = script::read(text.as_bytes(), domains as u32).expect("a script without a fault");
-    let wanted = (Simulation::begin(sections).output(&items), Some(0));
+    let over_graph = (Simulation::begin(sections).output(&items), Some(0));
     let input = schedule_of(&items) + &text;
-    let right = (0..RUNS).all(|_| replayed(program, &input, domains).expect("the program runs") == wanted);
-    if !right {
-        println!("another output than\n{}for {domains} domains and\n{input}", wanted.0);
+    let (count, begun) = (domains.to_string(), Instant::now());
+    let slow = printed(&programs.slow, &[&count], &input).expect("the slow heap's program runs");
+    let took = begun.elapsed();
+    let words = ["replay", "--domains", &count];
+    let as_slow = slow.1 == Some(0)
+        && (0..RUNS).all(|_| printed(&programs.camlheap, &words, &input).expect("the program runs") == slow);
+    let both = slow == over_graph;
+    if !as_slow || !both {
+        println!("on the slow heap, with status {:?}:\n{}over the graph:\n{}", slow.1, slow.0, over_graph.0);
+        println!("for {domains} domains and\n{input}");
     }
-    right
+    Found { as_slow, both, took }
 }
 
 fn main() -> ExitCode {
     let words: Vec<String> = std::env::args().collect();
-    let (Some(program), Some(count)) = (words.get(1), words.get(2).and_then(|word| word.parse::<u64>().ok())) else {
-        eprintln!("usage: schedules PROGRAM COUNT");
+    let [_, camlheap, slow, count] = &words[..] else {
+        eprintln!("usage: schedules CAMLHEAP SLOW_SCHEDULES COUNT");
         return ExitCode::from(1);
     };
-    let wrong = (1..=count).filter(|seed| !is_right(program, *seed)).count();
-    println!("{count} scripts with a schedule each, replayed {RUNS} times: {wrong} with another output than the definition's");
-    ExitCode::from(u8::from(wrong > 0))
+    let programs = Programs {
+        camlheap: camlheap.clone(),
+        slow: slow.clone(),
+    };
+    let count: u64 = count.parse().expect("a number of scripts");
+    let (mut wrong, mut apart, mut slowest) = (0, 0, Duration::ZERO);
+    for seed in 1..=count {
+        let found = replayed(&programs, seed);
+        wrong += u64::from(!found.as_slow);
+        apart += u64::from(!found.both);
+        slowest = slowest.max(found.took);
+    }
+    println!("{count} scripts with a schedule each, replayed {RUNS} times: {wrong} with another output than the scheduled history's on the slow heap");
+    println!("{apart} for which the simulation over the graph prints another one; the slow heap took {slowest:.1?} at most");
+    ExitCode::from(u8::from(wrong + apart > 0))
 }

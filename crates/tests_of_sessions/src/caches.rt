@@ -49,14 +49,14 @@ fn insert_two(rt: &impl Wait, cache: &mut Cache, register: u8) -> bool
         && cache.insert(rt, 6, 0) == Inserted::Stored
 }
 
-// 1,000 entries of fresh keys, ten of which are alive at a time, on the least heap, with room for 160 ephemerons.
+// 10,000 entries of fresh keys, ten of which are alive at a time, on the least heap, with room for 160 ephemerons.
 #[test]
 fn a_table_uses_its_cells_again(rt: HostRuntime) -> Result<(), Fail> {
     let session = Session::make(rt.alloc(), 4096, 20, 160)?;
     let Ok(mut cache) = Cache::make(&rt, session, 40) else {
         return Err(Fail::from("no room for the table"));
     };
-    for pair in 0..500u32 {
+    for pair in 0..5_000u32 {
         if pair % 10 == 0 {
             cache.collect(&rt);
         }
