@@ -1,5 +1,5 @@
 //! A page on which the lines of replies are gathered before a sink gets them.
-ghost use Rattle.std.specs.Prelude.{◌≡◌, ◌+◌, ◌*◌, ◌≤◌, ◌++◌, length, take, drop};
+ghost use Rattle.std.specs.Prelude.{◌≡◌, ◌+◌, ◌≤◌, ◌++◌, length, take};
 ghost use Rattle.heap_model.specs.Output.{line, printed, reply_text};
 
 use heap_model::reply::Reply;
