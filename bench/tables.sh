@@ -2,8 +2,8 @@
 # Runs texts of tables by the program. First random texts, whose outputs the machine of bench/tables/machine.py judges. Then a text of as
 # many fresh keys as a text has lines for, of which five are held at a time, on the least heap: it must have no line `full`. Last it counts
 # instructions by valgrind: what `get` costs by how many bindings there are, and what a command costs that a session is handed beside one
-# of a script. COUNT says how many random texts there are, 2000 without it. It ends with 1 where an output is wrong. PROGRAM names
-# another program than the proved one.
+# of a script. bench/bindings.sh counts `get` among more bindings than a text has lines for. COUNT says how many random texts there are,
+# 2000 without it. It ends with 1 where an output is wrong. PROGRAM names another program than the proved one.
 set -euo pipefail
 shopt -s inherit_errexit
 export LC_ALL=C
@@ -81,3 +81,5 @@ for lines in 1000 9000; do
 done
 echo "a register emptied by a session: $(difference "$work/session_9000" "$work/session_1000" 8000 table) instructions, with the line read and its reply written"
 echo "by a script: $(difference "$work/script_9000" "$work/script_1000" 8000 run --domains 1) instructions"
+
+"$top/bench/bindings.sh"
