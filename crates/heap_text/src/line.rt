@@ -211,35 +211,23 @@ fn row_command(
     }
 }
 
-// The first of two rows that the line is one of, as `row_command` says.
-#[inline(always)]
-fn either_command(
-    grammar: &Grammar,
-    script: &Script,
-    words: (Word, Word),
-    bytes: &[u8],
-    at: usize,
-) -> Option<(Command, usize)>
-    requires within { at ≤ length bytes.now }
-    requires first { is_built One words.0 ≡ true }
-    requires second { is_built One words.1 ≡ true }
-    requires begun { 0 < length script.now.sections }
-    requires room { sum_by length script.now.sections < 200000 }
-    ensures takes { IfSome result (λ p. TakesSaid grammar.now.version grammar.now.domains (line_said grammar.now.version (drop at bytes.now)) (drop p.1 bytes.now) script.now.sections (with_command script.now.sections p.0)) }
-    ensures further { IfSome result (λ p. at < p.1) }
-    ensures within { IfSome result (λ p. p.1 ≤ length bytes.now) }
-    ensures knows { (named own : List Bool) → Knows named own (place_in script.now.sections) → IfSome result (λ p. Knows named own (place_in (with_command script.now.sections p.0))) }
-{
-    match row_command(grammar, script, words.0, bytes, at) {
-        Some(found) => Some(found),
-        None => row_command(grammar, script, words.1, bytes, at),
-    }
+// What `row_command` finds for the first of some words for which it finds anything.
+macro_rules! first_command {
+    ($grammar:expr, $script:expr, $bytes:expr, $at:expr; $word:ident) => {
+        row_command($grammar, $script, Word::$word, $bytes, $at)
+    };
+    ($grammar:expr, $script:expr, $bytes:expr, $at:expr; $word:ident, $($others:ident),+) => {
+        match row_command($grammar, $script, Word::$word, $bytes, $at) {
+            Some(found) => Some(found),
+            None => first_command!($grammar, $script, $bytes, $at; $($others),+),
+        }
+    };
 }
 
-// The command of the line that begins at a place, and where the next line begins, if its word is a common one and nothing
-// is wrong with it. Each such word has its own part here, for which the compiler knows the row.
+// The command of the line that begins at a place, and where the next line begins, if its word is one of the first version
+// and nothing is wrong with it. Each word has its own part here, so that the compiler knows its row.
 #[inline(always)]
-fn common_command(
+fn good_command(
     grammar: &Grammar,
     script: &Script,
     bytes: &[u8],
@@ -257,24 +245,18 @@ fn common_command(
         return None;
     }
     match bytes[at] {
-        b'a' => either_command(grammar, script, (Word::Alloc, Word::AllocMaj), bytes, at),
-        b'c' => either_command(
-            grammar,
-            script,
-            (Word::CheckKey, Word::CheckData),
-            bytes,
-            at,
-        ),
-        b'd' => row_command(grammar, script, Word::Drop, bytes, at),
-        b'g' => either_command(grammar, script, (Word::GetKey, Word::GetData), bytes, at),
-        b'i' => row_command(grammar, script, Word::Int, bytes, at),
-        b'l' => row_command(grammar, script, Word::Load, bytes, at),
-        b'm' => row_command(grammar, script, Word::Move, bytes, at),
-        b'p' => row_command(grammar, script, Word::Poll, bytes, at),
-        b's' => match row_command(grammar, script, Word::Store, bytes, at) {
-            Some(found) => Some(found),
-            None => either_command(grammar, script, (Word::SetKey, Word::SetData), bytes, at),
-        },
+        b'a' => first_command!(grammar, script, bytes, at; Alloc, AllocMaj),
+        b'c' => first_command!(grammar, script, bytes, at; CheckKey, CheckData),
+        b'd' => first_command!(grammar, script, bytes, at; Drop),
+        b'e' => first_command!(grammar, script, bytes, at; Ephe),
+        b'f' => first_command!(grammar, script, bytes, at; Finalise, FinaliseLast, FullMajor),
+        b'g' => first_command!(grammar, script, bytes, at; GetKey, GetData),
+        b'i' => first_command!(grammar, script, bytes, at; Int),
+        b'l' => first_command!(grammar, script, bytes, at; Load),
+        b'm' => first_command!(grammar, script, bytes, at; Move, Minor, Major),
+        b'p' => first_command!(grammar, script, bytes, at; Poll),
+        b's' => first_command!(grammar, script, bytes, at; Store, SetKey, SetData),
+        b'u' => first_command!(grammar, script, bytes, at; UnsetKey, UnsetData),
         _ => None,
     }
 }
@@ -300,7 +282,7 @@ pub(crate) fn take_line(
     ensures knows { OnOk result (Knows spawns.new.named spawns.new.own (place_in script.new.sections)) }
     ensures fault { IfErr result (λ e. IsFaultUnlessMemory e (fault_of_said grammar.now.version grammar.now.domains line (place_in script.old.sections) (line_said grammar.now.version (drop at bytes.now)))) }
 {
-    match common_command(grammar, script, bytes, at) {
+    match good_command(grammar, script, bytes, at) {
         Some((command, next)) => match script.push(command) {
             Ok(()) => Ok(next),
             Err(_) => Err(ScriptFault::Memory),
