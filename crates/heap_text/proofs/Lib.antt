@@ -20,3 +20,4 @@ pub mod LineLemmas
 pub mod HeadingLemmas
 pub mod SpawnRows
 pub mod CommonLemmas
+pub mod DigitLemmas

@@ -224,10 +224,10 @@ macro_rules! first_command {
     };
 }
 
-// The command of the line that begins at a place, and where the next line begins, if its word is one of the first version
-// and nothing is wrong with it. Each word has its own part here, so that the compiler knows its row.
+// The command of the line that begins at a place, and where the next line begins, if its word is a common one and nothing
+// is wrong with it. Each word has its own part here, so that the compiler knows its row.
 #[inline(always)]
-fn good_command(
+fn common_command(
     grammar: &Grammar,
     script: &Script,
     bytes: &[u8],
@@ -248,16 +248,71 @@ fn good_command(
         b'a' => first_command!(grammar, script, bytes, at; Alloc, AllocMaj),
         b'c' => first_command!(grammar, script, bytes, at; CheckKey, CheckData),
         b'd' => first_command!(grammar, script, bytes, at; Drop),
-        b'e' => first_command!(grammar, script, bytes, at; Ephe),
-        b'f' => first_command!(grammar, script, bytes, at; Finalise, FinaliseLast, FullMajor),
         b'g' => first_command!(grammar, script, bytes, at; GetKey, GetData),
         b'i' => first_command!(grammar, script, bytes, at; Int),
         b'l' => first_command!(grammar, script, bytes, at; Load),
-        b'm' => first_command!(grammar, script, bytes, at; Move, Minor, Major),
+        b'm' => first_command!(grammar, script, bytes, at; Move),
         b'p' => first_command!(grammar, script, bytes, at; Poll),
         b's' => first_command!(grammar, script, bytes, at; Store, SetKey, SetData),
+        _ => None,
+    }
+}
+
+// The same, if its word is one of the other words of the first version.
+#[inline(always)]
+fn rare_command(
+    grammar: &Grammar,
+    script: &Script,
+    bytes: &[u8],
+    at: usize,
+) -> Option<(Command, usize)>
+    requires within { at ≤ length bytes.now }
+    ensures takes { IfSome result (λ p. TakesSaid grammar.now.version grammar.now.domains (line_said grammar.now.version (drop at bytes.now)) (drop p.1 bytes.now) script.now.sections (with_command script.now.sections p.0)) }
+    ensures further { IfSome result (λ p. at < p.1) }
+    ensures within { IfSome result (λ p. p.1 ≤ length bytes.now) }
+    ensures begun { IfSome result (λ p. 0 < length script.now.sections) }
+    ensures room { IfSome result (λ p. sum_by length script.now.sections < 200000) }
+    ensures knows { (named own : List Bool) → Knows named own (place_in script.now.sections) → IfSome result (λ p. Knows named own (place_in (with_command script.now.sections p.0))) }
+{
+    if bytes.len() <= at || script.sections() == 0 || MAX_COMMANDS <= script.commands() {
+        return None;
+    }
+    match bytes[at] {
+        b'e' => first_command!(grammar, script, bytes, at; Ephe),
+        b'f' => first_command!(grammar, script, bytes, at; Finalise, FinaliseLast, FullMajor),
+        b'm' => first_command!(grammar, script, bytes, at; Minor, Major),
         b'u' => first_command!(grammar, script, bytes, at; UnsetKey, UnsetData),
         _ => None,
+    }
+}
+
+// The same of a line whose word isn't a common one.
+#[inline(never)]
+fn take_rare(
+    alloc: Global,
+    grammar: &Grammar,
+    line: u32,
+    script: &mut Script,
+    spawns: &mut Spawns,
+    bytes: &[u8],
+    at: usize,
+) -> Result<usize, ScriptFault>
+    requires within { at ≤ length bytes.now }
+    requires domains { grammar.now.domains < 2 ^ 32 }
+    requires knows { Knows spawns.old.named spawns.old.own (place_in script.old.sections) }
+    ensures ok { IfOk result (λ next. TakesSaid grammar.now.version grammar.now.domains (line_said grammar.now.version (drop at bytes.now)) (drop next bytes.now) script.old.sections script.new.sections) }
+    ensures further { IfOk result (λ next. at < next) }
+    ensures within { IfOk result (λ next. next ≤ length bytes.now) }
+    ensures version { OnOk result (script.new.version ≡ script.old.version) }
+    ensures knows { OnOk result (Knows spawns.new.named spawns.new.own (place_in script.new.sections)) }
+    ensures fault { IfErr result (λ e. IsFaultUnlessMemory e (fault_of_said grammar.now.version grammar.now.domains line (place_in script.old.sections) (line_said grammar.now.version (drop at bytes.now)))) }
+{
+    match rare_command(grammar, script, bytes, at) {
+        Some((command, next)) => match script.push(command) {
+            Ok(()) => Ok(next),
+            Err(_) => Err(ScriptFault::Memory),
+        },
+        None => take_other(alloc, grammar, line, script, spawns, bytes, at),
     }
 }
 
@@ -282,11 +337,11 @@ pub(crate) fn take_line(
     ensures knows { OnOk result (Knows spawns.new.named spawns.new.own (place_in script.new.sections)) }
     ensures fault { IfErr result (λ e. IsFaultUnlessMemory e (fault_of_said grammar.now.version grammar.now.domains line (place_in script.old.sections) (line_said grammar.now.version (drop at bytes.now)))) }
 {
-    match good_command(grammar, script, bytes, at) {
+    match common_command(grammar, script, bytes, at) {
         Some((command, next)) => match script.push(command) {
             Ok(()) => Ok(next),
             Err(_) => Err(ScriptFault::Memory),
         },
-        None => take_other(alloc, grammar, line, script, spawns, bytes, at),
+        None => take_rare(alloc, grammar, line, script, spawns, bytes, at),
     }
 }

@@ -86,6 +86,24 @@ fn negative_at(bytes: &[u8], at: usize) -> Option<(i64, usize)>
     }
 }
 
+// The digit at a place, where no other stands behind it.
+#[inline(always)]
+#[tactic(auto, using(crate::proofs::DigitLemmas::lone_read, crate::proofs::DigitLemmas::lone_within))]
+fn lone_digit(bytes: &[u8], at: usize) -> Option<u8>
+    ensures value { IfSome result (λ d. read_whole (at + length (first_text (drop at bytes.now))) (Some (pos d, at + 1))
+        ≡ option_map clipped (number (first_text (drop at bytes.now)))) }
+    ensures within { IfSome result (λ d. at + 1 ≤ at + length (first_text (drop at bytes.now))) }
+{
+    if bytes.len() <= at || bytes.len() <= at + 1 {
+        return None;
+    }
+    if bytes[at].is_ascii_digit() && !bytes[at + 1].is_ascii_digit() {
+        Some(bytes[at] - b'0')
+    } else {
+        None
+    }
+}
+
 // The number at a place, and where it ends. It is that of the text there, if it ends where the text does.
 #[inline(always)]
 fn number_at(bytes: &[u8], at: usize) -> Option<(i64, usize)>
@@ -94,6 +112,9 @@ fn number_at(bytes: &[u8], at: usize) -> Option<(i64, usize)>
     ensures some { IfSome result (λ p. at < p.1) }
     ensures within { IfSome result (λ p. p.1 ≤ at + length (first_text (drop at bytes.now))) }
 {
+    if let Some(digit) = lone_digit(bytes, at) {
+        return Some((i64::from(digit), at + 1));
+    }
     match natural_at(bytes, at) {
         Some((magnitude, end)) => Some((clip(magnitude), end)),
         None => negative_at(bytes, at),
