@@ -1,7 +1,7 @@
 -- No line of a script has a fault, so the first fault of a text that begins as a script stands behind it.
 use Rattle.heap_text.specs.declared.version.Version.{Version}
 use Rattle.heap_text.specs.declared.version.Version.TheVariants.{One, Two, Three}
-use Rattle.std.proofs.Common.{◌≡◌, ◌≢◌, ℕ, ◌+◌, ◌<◌, ◌≤◌, ◌^◌, suc, ℤ, pos, List, [], ◌∷◌, ◌++◌, map, length, length-append, Bool, true, false, cond, refl, ap, sym, ◌∙◌, subst, arith, append_assoc, sum_by, fold, None, Some}
+use Rattle.std.proofs.Common.{◌≡◌, ◌≢◌, ℕ, ◌+◌, ◌<◌, ◌≤◌, ◌^◌, ℤ, pos, List, [], ◌∷◌, ◌++◌, map, length, length-append, true, false, cond, refl, ap, sym, ◌∙◌, subst, arith, append_assoc, sum_by, fold, None, Some}
 use Rattle.std.specs.Prelude.{option_map, ◌&&◌, ◌==◌, nat_lt}
 use Rattle.std.specs.List.{list_all}
 use Rattle.std.specs.Ordering.{int_eq}
@@ -20,7 +20,7 @@ use Rattle.heap_text.specs.Faults.{LineShape, heading, command, line_shape, behi
 use Rattle.heap_text.proofs.ScriptLemmas.{total-cons}
 use Rattle.heap_text.proofs.PlaceLemmas.{places, places_in, headings_kept, commands_grow}
 use Rattle.heap_text.proofs.FormLemmas.{made-parts}
-use Rattle.heap_text.proofs.LineLemmas.{ranges_and_order, ranges_alone}
+use Rattle.heap_text.proofs.LineLemmas.{ranges_alone}
 use Rattle.heap_text.proofs.ShapeLemmas.{written, shape-command, shape-heading}
 
 -- the lines before a line, of which there are some, leave it this place

@@ -1,12 +1,11 @@
 -- The laws of the table, row by row: they hold whichever commands are built.
 use Rattle.heap_text.specs.declared.version.Version.{Version}
 use Rattle.heap_text.specs.declared.version.Version.TheVariants.{One, Two, Three}
-use Rattle.std.proofs.Common.{◌≡◌, ℕ, ◌+◌, ◌-◌, ◌≤◌, ◌^◌, min, ℤ, pos, negsuc, suc, List, [], ◌∷◌, ◌++◌, length, take, drop, append_assoc, Bool, true, false, cond, not, ◌&&◌, refl, ap, sym, ◌∙◌, arith, lit≤, ◌⊎◌, inl, inr, None, Some}
+use Rattle.std.proofs.Common.{◌≡◌, ℕ, ◌+◌, ◌-◌, ◌≤◌, ◌^◌, min, ℤ, pos, negsuc, List, [], ◌∷◌, ◌++◌, length, take, Bool, true, false, cond, not, ◌&&◌, refl, ap, sym, ◌∙◌, arith, lit≤, ◌⊎◌, inl, inr, None, Some}
 use Rattle.std.specs.Prelude.{Option, is_some, find, nat_lt, unsigned_abs, slice_index_or, codes, bytes_eq, int_le, ◌==◌}
 use Rattle.std.proofs.lemmas.Bool.Decides.{nat_tests}
 use Rattle.std.proofs.lemmas.Int.{ints}
-use Rattle.std.proofs.lemmas.Slice.Eq.{bytes_eq-Decides, HasBytesAt}
-use Rattle.std.proofs.Math.Seq.{drop-cons}
+use Rattle.std.proofs.lemmas.Slice.Eq.{bytes_eq-Decides}
 use Rattle.std.proofs.lemmas.Bool.{and_parts as both}
 use Rattle.heap_model.specs.declared.command.Command.{Command}
 use Rattle.heap_model.specs.declared.command.Command.TheVariants.{PutInt, Copy, Forget, Alloc, AllocMaj, Load, Store, Raw, Cas, Ephe, SetKey, UnsetKey, GetKey, CheckKey, SetData, UnsetData, GetData, CheckData, Finalise, FinaliseLast, Poll, Minor, Major, FullMajor, Spawn, Argument, PutResult, Join}
@@ -46,11 +45,16 @@ found_if_built Three _ = refl
 pub word_found : (ver : Version) (w : Word) → is_built ver w ≡ true → word_of ver (form w).text ≡ Some w
 word_found ver w e = found_if_built ver w ∙ ap (λ b. cond b (Some w) None) e
 
--- a word of all versions
-built_in : (ver : Version) (w : Word) → is_built One w ≡ true → is_built Two w ≡ true → is_built Three w ≡ true → is_built ver w ≡ true
-built_in One w first second third = first
-built_in Two w first second third = second
-built_in Three w first second third = third
+-- a word of the first version is one of each version
+built_in : (ver : Version) (w : Word) → is_built One w ≡ true → is_built ver w ≡ true
+built_in One w first = first
+built_in Two word.Spawn first = first
+built_in Two word.Argument first = first
+built_in Two word.Result first = first
+built_in Two word.Join first = first
+built_in Two _ first = refl
+built_in Three word.Int first = refl
+built_in Three _ first = refl
 
 -- a command is made of the first of its numbers, as many as its row has
 made_of : (w : Word) (a b c d : ℤ) → made w (take (length (form w).operands) (a ∷ b ∷ c ∷ d ∷ [])) ≡ made w (a ∷ b ∷ c ∷ d ∷ [])
@@ -65,42 +69,22 @@ made_front w (a ∷ b ∷ c ∷ []) n = absurd (omega arith)
 made_front w (a ∷ b ∷ c ∷ d ∷ []) n = made_of w a b c d
 made_front w (a ∷ b ∷ c ∷ d ∷ e ∷ zs) n = absurd (omega arith)
 
--- bytes that begin with a word without a mark, and a mark behind it, were read one by one
-begun_with : (bytes word : List ℕ) (i : ℕ) → i + length word ≤ length bytes → HasBytesAt bytes i word → drop i bytes ≡ word ++ drop (i + length word) bytes
-begun_with bytes [] i n h =
-    let same : i ≡ i + 0 = omega arith in
-    ap (λ k. drop k bytes) same
-begun_with bytes (b ∷ word) i n h =
-    let same : suc i + length word ≡ i + suc (length word) = omega arith in
-    drop-cons bytes i 0 (omega arith) ∙ (λ k. h.0 k ∷ (begun_with bytes word (suc i) (omega arith) h.1 ∙ ap (λ j. word ++ drop j bytes) same) k)
-
 first_by : (a b : Bool) (c : ℕ) (bs : List ℕ) → not a ≡ true → not b ≡ true → cond a [] (cond b [] (c ∷ bs)) ≡ c ∷ bs
 first_by true b c bs e f = cc
 first_by false true c bs e f = cc
 first_by false false c bs e f = refl
 
-first_free : (word rest : List ℕ) → is_free 32 word ≡ true → is_free 10 word ≡ true → first_text rest ≡ [] → first_text (word ++ rest) ≡ word
+-- a text is a word where no mark stands in the word, and one stands behind it
+pub first_free : (word rest : List ℕ) → is_free 32 word ≡ true → is_free 10 word ≡ true → first_text rest ≡ [] → first_text (word ++ rest) ≡ word
 first_free [] rest e f ends = ends
 first_free (b ∷ word) rest e f ends =
     let p = both (not (b == 32)) (is_free 32 word) e in
     let q = both (not (b == 10)) (is_free 10 word) f in
     first_by (b == 32) (b == 10) b (first_text (word ++ rest)) p.0 q.0 ∙ ap (λ x. b ∷ x) (first_free word rest p.1 q.1 ends)
 
-first_read : (bytes word : List ℕ) (mark : ℕ) → is_free 32 word ≡ true → is_free 10 word ≡ true → length (word ++ mark ∷ []) ≤ length bytes → HasBytesAt bytes 0 (word ++ mark ∷ []) → ((rest : List ℕ) → first_text (mark ∷ rest) ≡ []) → first_text bytes ≡ word
-first_read bytes word mark e f n h ends =
-    let none : 0 + length (word ++ mark ∷ []) ≡ length (word ++ mark ∷ []) = omega arith in
-    ap first_text (begun_with bytes (word ++ mark ∷ []) 0 (omega (arith, n)) h ∙ ap (λ k. (word ++ mark ∷ []) ++ drop k bytes) none ∙ append_assoc word (mark ∷ []) (drop (length (word ++ mark ∷ [])) bytes))
-    ∙ first_free word (mark ∷ drop (length (word ++ mark ∷ [])) bytes) e f (ends (drop (length (word ++ mark ∷ [])) bytes))
-
-pub spaced_word : (bytes word : List ℕ) → is_free 32 word ≡ true → is_free 10 word ≡ true → length (word ++ 32 ∷ []) ≤ length bytes → HasBytesAt bytes 0 (word ++ 32 ∷ []) → first_text bytes ≡ word
-spaced_word bytes word e f n h = first_read bytes word 32 e f n h (λ rest. refl)
-
-pub ended_word : (bytes word : List ℕ) → is_free 32 word ≡ true → is_free 10 word ≡ true → length (word ++ 10 ∷ []) ≤ length bytes → HasBytesAt bytes 0 (word ++ 10 ∷ []) → first_text bytes ≡ word
-ended_word bytes word e f n h = first_read bytes word 10 e f n h (λ rest. refl)
-
--- a word of all versions is found
-pub common_found : (ver : Version) (w : Word) → is_built One w ≡ true → is_built Two w ≡ true → is_built Three w ≡ true → word_of ver (form w).text ≡ Some w
-common_found ver w first second third = word_found ver w (built_in ver w first second third)
+-- a word of the first version is found in each version
+pub first_found : (ver : Version) (w : Word) → is_built One w ≡ true → word_of ver (form w).text ≡ Some w
+first_found ver w first = word_found ver w (built_in ver w first)
 
 chosen_first : (b : Bool) (v w : Word) (o : Option Word) → cond b (Some v) o ≡ Some w → ((b ≡ true) × (v ≡ w)) ⊎ (o ≡ Some w)
 chosen_first true v w o e = inl (refl, cc)

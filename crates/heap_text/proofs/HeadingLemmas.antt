@@ -1,6 +1,6 @@
 -- What is wrong with a heading whose number was read, and when it is taken.
-use Rattle.std.proofs.Common.{◌≡◌, ◌≢◌, ℕ, ◌<◌, ◌^◌, ◌++◌, ◌∷◌, [], ℤ, pos, negsuc, List, length, Bool, true, false, cond, refl, ap, sym, ◌∙◌, subst, arith, inl, Some}
-use Rattle.std.specs.Prelude.{Option, unsigned_abs, ◌==◌}
+use Rattle.std.proofs.Common.{◌≡◌, ◌≢◌, ℕ, ◌<◌, ◌^◌, ◌++◌, ◌∷◌, [], ℤ, pos, negsuc, List, length, Bool, true, false, cond, refl, ap, sym, ◌∙◌, arith, inl, Some}
+use Rattle.std.specs.Prelude.{Option, unsigned_abs}
 use Rattle.std.specs.Ordering.{int_eq}
 use Rattle.std.proofs.lemmas.Int.{ints}
 use Rattle.std.proofs.lemmas.Bool.Decides.{nat_tests, Decides-int_eq}

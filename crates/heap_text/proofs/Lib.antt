@@ -19,3 +19,5 @@ pub mod GeneratedLemmas
 pub mod LineLemmas
 pub mod HeadingLemmas
 pub mod SpawnRows
+pub mod CommonLemmas
+pub mod DigitLemmas

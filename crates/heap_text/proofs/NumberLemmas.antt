@@ -86,6 +86,16 @@ left_with left o = option_map (λ zs. (zs, left)) o
 abbrev pub counted_in : ℕ → List (List ℕ) × List ℕ → Numbers
 counted_in count p = left_with p.1 (counted_numbers count p.0)
 
+-- a text ends where numbers, or the end of the line, are found behind it
+ended_by : (t u : Bool) (count b : ℕ) (bs : List ℕ) (found : List ℤ × List ℕ) → (b == 10) ≡ t → (b == 32) ≡ u → numbers_behind count (b ∷ bs) ≡ Some found → first_text (b ∷ bs) ≡ []
+ended_by t true count b bs found e f read = first_by t true b bs e f
+ended_by true false count b bs found e f read = first_by true false b bs e f
+ended_by false false count b bs found e f read = cc (ap (option_and_then (counted_in count)) (behind_by false false b bs e f))
+
+pub text_ended : (count : ℕ) (bytes : List ℕ) (found : List ℤ × List ℕ) → numbers_behind count bytes ≡ Some found → first_text bytes ≡ []
+text_ended count [] found read = refl
+text_ended count (b ∷ bs) found read = ended_by (b == 10) (b == 32) count b bs found refl refl read
+
 counted_by : (count : ℕ) (ts : List (List ℕ)) (v : Bool) → (length ts == count) ≡ v → counted_numbers count ts ≡ cond v (numbers ts) None
 counted_by count ts v e = ap (λ x. cond x (numbers ts) None) e
 

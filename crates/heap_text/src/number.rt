@@ -1,8 +1,8 @@
 // Numbers in decimal, of any count of digits.
-ghost use Rattle.std.specs.Prelude.{◌≡◌, ℕ, ℤ, List, ◌≤◌, ◌<◌, ◌+◌, ◌^◌, ◌-◌, pos, neg_ℤ, min, length, map, take, drop, Some, None, option_map, IfSome, ◌==◌, if◌then◌else◌};
+ghost use Rattle.std.specs.Prelude.{◌≡◌, ℕ, ℤ, List, ◌≤◌, ◌<◌, ◌+◌, ◌^◌, ◌-◌, pos, neg_ℤ, min, length, map, take, drop, false, Some, None, option_map, IfSome, ◌==◌, if◌then◌else◌};
 ghost use Rattle.std.specs.Str.{all_ascii_digits};
 ghost use Rattle.decimals.specs.Natural.{value_on, natural};
-ghost use Rattle.heap_text.specs.Split.{first_text, read_whole, numbers_behind};
+ghost use Rattle.heap_text.specs.Split.{begins_with, first_text, read_whole, numbers_behind};
 ghost use Rattle.heap_text.specs.Number.{number, clipped};
 
 use crate::text::behind;
@@ -29,6 +29,7 @@ fn negative(n: u64) -> i64
 
 // The number that a first digit and those behind it are, and where they end. One that is too large for 64 bits is the
 // greatest of them.
+#[inline(always)]
 fn digits_on(bytes: &[u8], at: usize, first: u8) -> (u64, usize)
     requires { at ≤ length bytes.now }
     ensures value { read_whole (at + length (first_text (drop at bytes.now))) (Some result)
@@ -48,9 +49,11 @@ fn digits_on(bytes: &[u8], at: usize, first: u8) -> (u64, usize)
 }
 
 // The number without a sign at a place, and where it ends. It is that of the text there, if it ends where the text does.
+#[inline(always)]
 fn natural_at(bytes: &[u8], at: usize) -> Option<(u64, usize)>
     ensures value { read_whole (at + length (first_text (drop at bytes.now))) result
         ≡ option_map (λ n. min n (2 ^ 64 - 1)) (natural (first_text (drop at bytes.now))) }
+    ensures unsigned { IfSome result (λ p. begins_with 45 (drop at bytes.now) ≡ false) }
     ensures some { IfSome result (λ p. at < p.1) }
     ensures within { IfSome result (λ p. p.1 ≤ at + length (first_text (drop at bytes.now))) }
 {
@@ -65,6 +68,42 @@ fn natural_at(bytes: &[u8], at: usize) -> Option<(u64, usize)>
     }
 }
 
+// The number with a sign at a place, and where it ends. It is that of the text there, if it ends where the text does.
+#[inline(never)]
+fn negative_at(bytes: &[u8], at: usize) -> Option<(i64, usize)>
+    requires { natural (first_text (drop at bytes.now)) ≡ None }
+    ensures value { read_whole (at + length (first_text (drop at bytes.now))) result
+        ≡ option_map clipped (number (first_text (drop at bytes.now))) }
+    ensures some { IfSome result (λ p. at < p.1) }
+    ensures within { IfSome result (λ p. p.1 ≤ at + length (first_text (drop at bytes.now))) }
+{
+    match behind(bytes, at, b'-') {
+        None => None,
+        Some(digits) => match natural_at(bytes, digits) {
+            None | Some((0, _)) => None,
+            Some((magnitude, end)) => Some((negative(magnitude), end)),
+        },
+    }
+}
+
+// The digit at a place, where no other stands behind it.
+#[inline(always)]
+#[tactic(auto, using(crate::proofs::DigitLemmas::lone_read, crate::proofs::DigitLemmas::lone_within))]
+fn lone_digit(bytes: &[u8], at: usize) -> Option<u8>
+    ensures value { IfSome result (λ d. read_whole (at + length (first_text (drop at bytes.now))) (Some (pos d, at + 1))
+        ≡ option_map clipped (number (first_text (drop at bytes.now)))) }
+    ensures within { IfSome result (λ d. at + 1 ≤ at + length (first_text (drop at bytes.now))) }
+{
+    if bytes.len() <= at || bytes.len() <= at + 1 {
+        return None;
+    }
+    if bytes[at].is_ascii_digit() && !bytes[at + 1].is_ascii_digit() {
+        Some(bytes[at] - b'0')
+    } else {
+        None
+    }
+}
+
 // The number at a place, and where it ends. It is that of the text there, if it ends where the text does.
 #[inline(always)]
 fn number_at(bytes: &[u8], at: usize) -> Option<(i64, usize)>
@@ -73,15 +112,12 @@ fn number_at(bytes: &[u8], at: usize) -> Option<(i64, usize)>
     ensures some { IfSome result (λ p. at < p.1) }
     ensures within { IfSome result (λ p. p.1 ≤ at + length (first_text (drop at bytes.now))) }
 {
-    match behind(bytes, at, b'-') {
-        None => match natural_at(bytes, at) {
-            None => None,
-            Some((magnitude, end)) => Some((clip(magnitude), end)),
-        },
-        Some(digits) => match natural_at(bytes, digits) {
-            None | Some((0, _)) => None,
-            Some((magnitude, end)) => Some((negative(magnitude), end)),
-        },
+    if let Some(digit) = lone_digit(bytes, at) {
+        return Some((i64::from(digit), at + 1));
+    }
+    match natural_at(bytes, at) {
+        Some((magnitude, end)) => Some((clip(magnitude), end)),
+        None => negative_at(bytes, at),
     }
 }
 

@@ -1,9 +1,6 @@
 // The table of command forms, for the reader and the printer.
-ghost use Rattle.std.specs.Prelude.{◌≡◌, ◌≤◌, true, length, IfSome};
-ghost use Rattle.heap_text.specs.declared.version.Version.TheVariants.{One, Two, Three};
-ghost use Rattle.heap_text.specs.Split.{first_text};
-ghost use Rattle.heap_text.specs.Forms.{form, word_of, is_built, made, byte as byte_of, short as short_of, wide as wide_of};
-ghost use Rattle.heap_text.specs.Steps.{stands_anywhere};
+ghost use Rattle.std.specs.Prelude.{◌≡◌, ◌≤◌, length};
+ghost use Rattle.heap_text.specs.Forms.{form, word_of, made, byte as byte_of, short as short_of, wide as wide_of};
 
 use crate::form::{Operand, Word};
 use crate::version::Version;
@@ -175,60 +172,6 @@ pub(crate) fn operands_of(word: Word) -> &'static [Operand]
         Word::Argument => &[Operand::Register],
         Word::Result => &[Operand::Register],
         Word::Join => &[Operand::Register, Operand::Section],
-    }
-}
-
-// The row of each version whose word, and a mark behind it, these bytes begin with. A row that isn't named here is found by
-// `search_word`.
-#[tactic(auto, using(crate::proofs::FormLemmas::spaced_word, crate::proofs::FormLemmas::ended_word))]
-pub(crate) fn common_word(bytes: &[u8]) -> Option<Word>
-    ensures spelled { IfSome result (λ w. first_text bytes.now ≡ (form w).text) }
-    ensures first { IfSome result (λ w. is_built One w ≡ true) }
-    ensures second { IfSome result (λ w. is_built Two w ≡ true) }
-    ensures third { IfSome result (λ w. is_built Three w ≡ true) }
-    ensures anywhere { IfSome result (λ w. stands_anywhere w ≡ true) }
-{
-    match bytes {
-        [b'i', b'n', b't', b' ', ..] => Some(Word::Int),
-        [b'm', b'o', b'v', b'e', b' ', ..] => Some(Word::Move),
-        [b'd', b'r', b'o', b'p', b' ', ..] => Some(Word::Drop),
-        [b'l', b'o', b'a', b'd', b' ', ..] => Some(Word::Load),
-        [b'p', b'o', b'l', b'l', b'\n', ..] => Some(Word::Poll),
-        [b'a', b'l', b'l', b'o', b'c', b' ', ..] => Some(Word::Alloc),
-        [b's', b't', b'o', b'r', b'e', b' ', ..] => Some(Word::Store),
-        [b's', b'e', b't', b'_', b'k', b'e', b'y', b' ', ..] => Some(Word::SetKey),
-        [b'g', b'e', b't', b'_', b'k', b'e', b'y', b' ', ..] => Some(Word::GetKey),
-        [b'a', b'l', b'l', b'o', b'c', b'm', b'a', b'j', b' ', ..] => Some(Word::AllocMaj),
-        [b's', b'e', b't', b'_', b'd', b'a', b't', b'a', b' ', ..] => Some(Word::SetData),
-        [b'g', b'e', b't', b'_', b'd', b'a', b't', b'a', b' ', ..] => Some(Word::GetData),
-        [
-            b'c',
-            b'h',
-            b'e',
-            b'c',
-            b'k',
-            b'_',
-            b'k',
-            b'e',
-            b'y',
-            b' ',
-            ..
-        ] => Some(Word::CheckKey),
-        [
-            b'c',
-            b'h',
-            b'e',
-            b'c',
-            b'k',
-            b'_',
-            b'd',
-            b'a',
-            b't',
-            b'a',
-            b' ',
-            ..
-        ] => Some(Word::CheckData),
-        _ => None,
     }
 }
 

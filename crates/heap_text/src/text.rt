@@ -1,5 +1,5 @@
 // The texts of a line: what stands before a space or a line feed.
-ghost use Rattle.std.specs.Prelude.{◌≡◌, ◌+◌, drop, Some, None, if◌then◌else◌};
+ghost use Rattle.std.specs.Prelude.{◌≡◌, ◌≤◌, ◌+◌, length, take, drop, bytes_eq, Some, None, if◌then◌else◌};
 ghost use Rattle.heap_text.specs.Split.{begins_with, first_text as first_text_of};
 
 // The text that begins these bytes.
@@ -24,4 +24,21 @@ pub(crate) fn behind(bytes: &[u8], at: usize, byte: u8) -> Option<usize>
     } else {
         None
     }
+}
+
+// Whether a text stands at a place.
+#[inline(always)]
+pub(crate) fn stands_at(bytes: &[u8], at: usize, text: &[u8]) -> bool
+    requires { at ≤ length bytes.now }
+    ensures { result ≡ bytes_eq (take (length text.now) (drop at bytes.now)) text.now }
+{
+    if bytes.len() - at < text.len() {
+        return false;
+    }
+    for (place, byte) in text.iter().enumerate() {
+        if bytes[at + place] != *byte {
+            return false;
+        }
+    }
+    true
 }

@@ -27,25 +27,15 @@ row_found : (ver : Version) (at : ℕ) (bytes text : List ℕ) (w : Word) → te
 row_found ver at bytes text w first other found =
     ap (row_said w) (drop_on at (length text) bytes) ∙ sym (row_line ver (drop at bytes) text w (first_is at bytes text first) other found)
 
-pub returns-then-stands_anywhere-clause-ok : goal.returns-then-stands_anywhere-clause-ok
-returns-then-stands_anywhere-clause-ok c =
+pub returns-in-Some-clause-ok : goal.returns-in-Some-clause-ok
+returns-in-Some-clause-ok c =
     subst (λ (s : Option (LineShape × List ℕ)). IfOk c.take_command.result (λ next. TakesSaid c.args.grammar.now.version c.args.grammar.now.domains s (drop next c.args.bytes.now) c.args.script.now.sections c.take_command.new.script.sections))
     (row_found c.args.grammar.now.version c.args.at c.args.bytes.now c.first_text-text.result.now c.in-Some.word c.first_text-text.ensures (sym (c.if-eq.ensures ∙ ap (bytes_eq c.first_text-text.result.now) c.as_slice.ensures)) (ap (λ v. word_of v c.first_text-text.result.now) (sym c.version.ensures) ∙ sym c.search_word.ensures ∙ c.in-Some.is)) c.take_command.ensures.ok
 
-pub returns-then-stands_anywhere-clause-fault : goal.returns-then-stands_anywhere-clause-fault
-returns-then-stands_anywhere-clause-fault c =
+pub returns-in-Some-clause-fault : goal.returns-in-Some-clause-fault
+returns-in-Some-clause-fault c =
     subst (λ (s : Option (LineShape × List ℕ)). IfErr c.take_command.result (λ e. IsFaultUnlessMemory e (fault_of_said c.args.grammar.now.version c.args.grammar.now.domains c.args.line (place_in c.args.script.now.sections) s)))
     (row_found c.args.grammar.now.version c.args.at c.args.bytes.now c.first_text-text.result.now c.in-Some.word c.first_text-text.ensures (sym (c.if-eq.ensures ∙ ap (bytes_eq c.first_text-text.result.now) c.as_slice.ensures)) (ap (λ v. word_of v c.first_text-text.result.now) (sym c.version.ensures) ∙ sym c.search_word.ensures ∙ c.in-Some.is)) c.take_command.ensures.fault
-
-pub returns-else-stands_anywhere-clause-ok : goal.returns-else-stands_anywhere-clause-ok
-returns-else-stands_anywhere-clause-ok c =
-    subst (λ (s : Option (LineShape × List ℕ)). IfOk c.take_spawning.result (λ next. TakesSaid c.args.grammar.now.version c.args.grammar.now.domains s (drop next c.args.bytes.now) c.args.script.now.sections c.take_spawning.new.script.sections))
-    (row_found c.args.grammar.now.version c.args.at c.args.bytes.now c.first_text-text.result.now c.in-Some.word c.first_text-text.ensures (sym (c.if-eq.ensures ∙ ap (bytes_eq c.first_text-text.result.now) c.as_slice.ensures)) (ap (λ v. word_of v c.first_text-text.result.now) (sym c.version.ensures) ∙ sym c.search_word.ensures ∙ c.in-Some.is)) c.take_spawning.ensures.ok
-
-pub returns-else-stands_anywhere-clause-fault : goal.returns-else-stands_anywhere-clause-fault
-returns-else-stands_anywhere-clause-fault c =
-    subst (λ (s : Option (LineShape × List ℕ)). IfErr c.take_spawning.result (λ e. IsFaultUnlessMemory e (fault_of_said c.args.grammar.now.version c.args.grammar.now.domains c.args.line (place_in c.args.script.now.sections) s)))
-    (row_found c.args.grammar.now.version c.args.at c.args.bytes.now c.first_text-text.result.now c.in-Some.word c.first_text-text.ensures (sym (c.if-eq.ensures ∙ ap (bytes_eq c.first_text-text.result.now) c.as_slice.ensures)) (ap (λ v. word_of v c.first_text-text.result.now) (sym c.version.ensures) ∙ sym c.search_word.ensures ∙ c.in-Some.is)) c.take_spawning.ensures.fault
 
 pub returns-then-eq-clause-ok : goal.returns-then-eq-clause-ok
 returns-then-eq-clause-ok c =
