@@ -1,8 +1,8 @@
 //! Commands, replies and headings as lines of text.
-ghost use Rattle.std.specs.Prelude.{◌≡◌, ◌≤◌, ◌+◌, ◌*◌, ◌++◌, ◌∷◌, [], pos, map, length, take, drop};
+ghost use Rattle.std.specs.Prelude.{◌≡◌, ◌≤◌, ◌+◌, ◌*◌, ◌++◌, pos, map, length, take, drop, option_to_list, IfSome};
 ghost use Rattle.heap_model.specs.Output.{reply_text, label_text, line};
 ghost use Rattle.heap_text.specs.Spelling.{row_text, command_text, heading_text};
-ghost use Rattle.heap_text.specs.Forms.{form};
+ghost use Rattle.heap_text.specs.Forms.{form, parts};
 
 use crate::form::Word;
 use crate::front::{Line, end_line, put, put_number};
@@ -114,63 +114,94 @@ fn put_row(out: &mut Line, word: Word, numbers: &[u32]) -> usize
     at
 }
 
-#[tactic(auto, using(crate::proofs::FrontLemmas::same_further))]
-fn put_int(out: &mut Line, dst: u8, value: i64) -> usize
-    ensures end { result ≤ 63 }
-    ensures front { take result out.new ≡ row_text Word.Int (pos dst ∷ value ∷ []) }
-    ensures rest { drop result out.new ≡ drop result out.old }
-{
-    let at = put_row(out, Word::Int, &[u32::from(dst)]);
-    put_number(out, at, b" ", value)
+// A command taken apart: its word, the first of four numbers, none of which is negative, and an integer behind them, if it
+// has one.
+#[derive(Clone, Copy)]
+struct Row {
+    word: Word,
+    numbers: [u32; 4],
+    count: usize,
+    integer: Option<i64>,
 }
 
 // A row by its word's name and its numbers.
 macro_rules! row {
-    ($out:expr, $word:ident $(, $number:expr)*) => {
-        put_row($out, Word::$word, &[$(u32::from($number)),*])
+    ($word:ident) => { row!($word; 0; 0, 0, 0, 0) };
+    ($word:ident, $a:expr) => { row!($word; 1; u32::from($a), 0, 0, 0) };
+    ($word:ident, $a:expr, $b:expr) => { row!($word; 2; u32::from($a), u32::from($b), 0, 0) };
+    ($word:ident, $a:expr, $b:expr, $c:expr) => { row!($word; 3; u32::from($a), u32::from($b), u32::from($c), 0) };
+    ($word:ident, $a:expr, $b:expr, $c:expr, $d:expr) => { row!($word; 4; u32::from($a), u32::from($b), u32::from($c), u32::from($d)) };
+    ($word:ident; $count:expr; $($number:expr),*) => {
+        Row {
+            word: Word::$word,
+            numbers: [$($number),*],
+            count: $count,
+            integer: None,
+        }
     };
 }
 
-// Puts the text of a command, by the row of its variant, at the front of the line, and answers where it ends. What lies
-// behind it stays as it was.
-fn put_command(out: &mut Line, command: &Command) -> usize
-    ensures end { result ≤ 63 }
-    ensures front { take result out.new ≡ command_text command.now }
-    ensures rest { drop result out.new ≡ drop result out.old }
+// A command, taken apart.
+fn row_of(command: &Command) -> Row
+    ensures word { result.word ≡ (parts command.now).word }
+    ensures numbers { map pos (take result.count result.numbers) ++ option_to_list result.integer ≡ (parts command.now).numbers }
+    ensures count { result.count ≤ length result.numbers }
+    ensures few { result.count ≤ 4 }
+    ensures alone { IfSome result.integer (λ z. result.count ≤ 1) }
 {
     match *command {
-        Command::PutInt { dst, value } => put_int(out, dst, value),
-        Command::Copy { dst, src } => row!(out, Move, dst, src),
-        Command::Forget { dst } => row!(out, Drop, dst),
-        Command::Alloc { dst, tag, fields } => row!(out, Alloc, dst, tag, fields),
-        Command::AllocMaj { dst, tag, fields } => row!(out, AllocMaj, dst, tag, fields),
-        Command::Load { dst, src, index } => row!(out, Load, dst, src, index),
-        Command::Store { block, index, item } => row!(out, Store, block, index, item),
-        Command::Raw { dst, tag, fields } => row!(out, Raw, dst, tag, fields),
+        Command::PutInt { dst, value } => Row {
+            word: Word::Int,
+            numbers: [u32::from(dst), 0, 0, 0],
+            count: 1,
+            integer: Some(value),
+        },
+        Command::Copy { dst, src } => row!(Move, dst, src),
+        Command::Forget { dst } => row!(Drop, dst),
+        Command::Alloc { dst, tag, fields } => row!(Alloc, dst, tag, fields),
+        Command::AllocMaj { dst, tag, fields } => row!(AllocMaj, dst, tag, fields),
+        Command::Load { dst, src, index } => row!(Load, dst, src, index),
+        Command::Store { block, index, item } => row!(Store, block, index, item),
+        Command::Raw { dst, tag, fields } => row!(Raw, dst, tag, fields),
         Command::Cas {
             block,
             index,
             expected,
             item,
-        } => row!(out, Cas, block, index, expected, item),
-        Command::Ephe { dst, keys } => row!(out, Ephe, dst, keys),
-        Command::SetKey { ephe, index, item } => row!(out, SetKey, ephe, index, item),
-        Command::UnsetKey { ephe, index } => row!(out, UnsetKey, ephe, index),
-        Command::GetKey { dst, ephe, index } => row!(out, GetKey, dst, ephe, index),
-        Command::CheckKey { ephe, index } => row!(out, CheckKey, ephe, index),
-        Command::SetData { ephe, item } => row!(out, SetData, ephe, item),
-        Command::UnsetData { ephe } => row!(out, UnsetData, ephe),
-        Command::GetData { dst, ephe } => row!(out, GetData, dst, ephe),
-        Command::CheckData { ephe } => row!(out, CheckData, ephe),
-        Command::Finalise { item, number, dst } => row!(out, Finalise, item, number, dst),
-        Command::FinaliseLast { item, number } => row!(out, FinaliseLast, item, number),
-        Command::Poll => row!(out, Poll),
-        Command::Minor => row!(out, Minor),
-        Command::Major => row!(out, Major),
-        Command::FullMajor => row!(out, FullMajor),
-        Command::Spawn { section, item } => row!(out, Spawn, section, item),
-        Command::Argument { dst } => row!(out, Argument, dst),
-        Command::PutResult { item } => row!(out, Result, item),
-        Command::Join { dst, section } => row!(out, Join, dst, section),
+        } => row!(Cas, block, index, expected, item),
+        Command::Ephe { dst, keys } => row!(Ephe, dst, keys),
+        Command::SetKey { ephe, index, item } => row!(SetKey, ephe, index, item),
+        Command::UnsetKey { ephe, index } => row!(UnsetKey, ephe, index),
+        Command::GetKey { dst, ephe, index } => row!(GetKey, dst, ephe, index),
+        Command::CheckKey { ephe, index } => row!(CheckKey, ephe, index),
+        Command::SetData { ephe, item } => row!(SetData, ephe, item),
+        Command::UnsetData { ephe } => row!(UnsetData, ephe),
+        Command::GetData { dst, ephe } => row!(GetData, dst, ephe),
+        Command::CheckData { ephe } => row!(CheckData, ephe),
+        Command::Finalise { item, number, dst } => row!(Finalise, item, number, dst),
+        Command::FinaliseLast { item, number } => row!(FinaliseLast, item, number),
+        Command::Poll => row!(Poll),
+        Command::Minor => row!(Minor),
+        Command::Major => row!(Major),
+        Command::FullMajor => row!(FullMajor),
+        Command::Spawn { section, item } => row!(Spawn, section, item),
+        Command::Argument { dst } => row!(Argument, dst),
+        Command::PutResult { item } => row!(Result, item),
+        Command::Join { dst, section } => row!(Join, dst, section),
+    }
+}
+
+// Puts the text of a command at the front of the line, and answers where it ends. What lies behind it stays as it was.
+#[tactic(auto, using(crate::proofs::FrontLemmas::same_further))]
+fn put_command(out: &mut Line, command: &Command) -> usize
+    ensures end { result ≤ 63 }
+    ensures front { take result out.new ≡ command_text command.now }
+    ensures rest { drop result out.new ≡ drop result out.old }
+{
+    let row = row_of(command);
+    let end = put_row(out, row.word, &row.numbers[..row.count]);
+    match row.integer {
+        Some(value) => put_number(out, end, b" ", value),
+        None => end,
     }
 }
