@@ -1,26 +1,33 @@
 #!/usr/bin/env bash
-# Runs each example RUNS times (200 without it) and counts its outputs: first as it is, then where the system refuses
-# every thread, then where it refuses all but one. Ends with 1 where an output is none of those that stand beside it.
+# Runs each example, or those that its words name, RUNS times (200 without it) and counts its outputs: first as it is,
+# then where the system refuses every thread, then where it refuses all but one. Ends with 1 where an output is none of
+# those that stand beside it, or a run wasn't counted.
 #
 # An example is NAME.heap, NAME.replay or NAME.table, here or in a folder, and its words are those in NAME.args. Else a script is run, and a
 # schedule with a script replayed, with a domain for each section, and a text of `table` has that word alone. One with words alone reads
-# nothing.
+# nothing. PROGRAM names another program to be run.
 set -u
 runs=${RUNS:-200}
 top=$(cd "$(dirname "${BASH_SOURCE[0]}")/.." && pwd) || exit 1
 examples=$top/examples
 work=$(mktemp -d) || exit 1
 trap 'rm -rf "$work"' EXIT
-"$top/camlheap" run --domains 1 <"$examples/chain.heap" >/dev/null || exit 1
-cp "$top/crates/camlheap/out/camlheap" "$work/camlheap" && chmod 755 "$work" || exit 1
+if [ -z "${PROGRAM:-}" ]; then
+    "$top/camlheap" run --domains 1 <"$examples/chain.heap" >/dev/null || exit 1
+    PROGRAM=$top/crates/camlheap/out/camlheap
+fi
+cp "$PROGRAM" "$work/camlheap" && chmod 755 "$work" || exit 1
 
 . "$examples/limited.sh"
 
-# The names of all examples.
-names() {
+# The names of all examples, those in a folder with it.
+all_names() {
     find "$examples" \( -name '*.heap' -o -name '*.replay' -o -name '*.table' -o -name '*.args' \) -printf '%P\n' |
         sed 's/\.[a-z]*$//' | sort -u
 }
+
+names=("$@")
+[ $# -gt 0 ] || mapfile -t names < <(all_names)
 
 # Runs the example $1 once, under the limit $2 if there is one, and prints the name of the file that has its output.
 outcome() {
@@ -45,10 +52,15 @@ outcome() {
 }
 
 for limit in "" 1 2; do
-    for name in $(names); do
+    for name in "${names[@]}"; do
         for _ in $(seq "$runs"); do
             outcome "$name" "$limit"
-        done | sort | uniq -c | sed "s/^/limit ${limit:-none}, $name:/"
+        done | sort | uniq -c | sed "s|^|limit ${limit:-none}, $name:|"
     done
 done | tee "$work/counts"
+counted=$(awk -F': *' '{ sum += $2 } END { print sum + 0 }' "$work/counts")
+if [ "$counted" != $((3 * runs * ${#names[@]})) ]; then
+    echo "check.sh: only $counted runs were counted" >&2
+    exit 1
+fi
 ! grep -q ':.*\(wrong\|status\)' "$work/counts"
