@@ -37,14 +37,14 @@ def text_of(path):
         return ""
 
 
-def sample(found, edits_seen):
-    """Adds the provers that run now to those found, by process number and start."""
+def sample(found, edits_seen, gate):
+    """Adds the provers of the gate that run now to those found, by process number and start."""
     for pid in filter(str.isdigit, os.listdir("/proc")):
         words = text_of(f"/proc/{pid}/cmdline").split("\0")
         if not words[0].endswith("/rattle") or "--crate-name" not in words:
             continue
         numbers = text_of(f"/proc/{pid}/stat").rpartition(")")[2].split()
-        if len(numbers) < 20:
+        if len(numbers) < 20 or numbers[1] != str(gate):
             continue
         key = (pid, numbers[19])
         if key not in found:
@@ -146,7 +146,7 @@ def main():
     with open(sys.argv[1], "w", encoding="utf-8") as said:
         gate = subprocess.Popen(["rt", "ci", "--anew"], cwd=top, stdout=said, stderr=subprocess.STDOUT)
         while gate.poll() is None:
-            sample(found, edits_seen)
+            sample(found, edits_seen, gate.pid)
             time.sleep(1)
     text = text_of(sys.argv[1])
     refused = {}
