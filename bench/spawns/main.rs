@@ -21,7 +21,7 @@ use search::{Question, Step, Verdict};
 use std::io::Write;
 use std::process::{Command, ExitCode, Stdio};
 
-const MOST_STATES: usize = 100_000;
+const MOST_STATES: usize = 1_000_000;
 /// Of each so many outputs one is judged with a changed line too.
 const SPOILT_EVERY: u64 = 10;
 /// A run that takes more seconds hangs.
