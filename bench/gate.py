@@ -2,13 +2,16 @@
 """Runs the gate from nothing, samples each process of the prover every second, and prints the gate's CPU seconds crate by crate as a
 table in Markdown, when the library or program of each crate was proved, and the longest chain of crates of which each stands on the one
 before. `bench/gate.py FILE` writes what the gate says into FILE and ends with the gate's status. `bench/gate.py alone CRATE..` proves
-these crates one after another, each alone with four jobs, over the libraries that the last gate left, and prints how long each took."""
+these crates one after another, each alone with four jobs, over what `tools/prove.py` keeps, and prints how long each took."""
 import os
 import re
-import shutil
 import subprocess
 import sys
 import time
+
+sys.dont_write_bytecode = True
+sys.path.insert(0, os.path.join(os.path.dirname(os.path.dirname(os.path.abspath(__file__))), "tools"))
+import prove
 
 TICKS = os.sysconf("SC_CLK_TCK")
 COLUMNS = ["proof", "tests", "first edit or seed", "other edits"]
@@ -78,61 +81,47 @@ def table(found, refused, begun):
     return lines
 
 
-def standing_on(top):
-    """Returns for each crate of the repository what its line of crates.txt names."""
-    found = {}
-    for line in text_of(f"{top}/crates.txt").splitlines():
-        name, _, below = line.partition("#")[0].partition(":")
-        if name.strip():
-            found[name.strip()] = below.replace(",", " ").split()
-    return found
-
-
-def longest_chain(top, seconds):
+def longest_chain(crates, seconds):
     """Returns what the longest chain takes, and its crates, the lowest first. The last may be one of tests."""
-    uses, found = standing_on(top), {}
+    found = {}
 
     def chain(crate):
         if crate not in found:
-            below = max((chain(it) for it in uses[crate] if it in uses), default=(0, []))
-            found[crate] = (below[0] + seconds.get(crate, 0), [*below[1], crate])
+            below = max((chain(it) for it in crate.deps), key=lambda it: it[0], default=(0, []))
+            found[crate] = (below[0] + seconds.get(crate.name, 0), [*below[1], crate.name])
         return found[crate]
 
-    return max(chain(it) for it in uses)
+    return max((chain(it) for it in crates), key=lambda it: it[0])
 
 
-def alone(top, crates):
+def alone(top, names):
     """Proves each of the crates alone, and prints the seconds that each took."""
-    uses, kit, total = standing_on(top), os.path.dirname(os.path.dirname(os.path.realpath(shutil.which("rt")))), 0
-    for crate in crates:
-        below = []
-        for it in uses[crate]:
-            below += [other for other in [it, *all_below(uses, it)] if other in uses and other not in below]
-        folder = lambda it: f"{top}/crates/{it}/out/rlib"
-        words = [f"{kit}/bin/rattle", "check", "--crate-name", crate]
-        words += ["src/main.rt" if os.path.exists(f"{top}/crates/{crate}/src/main.rt") else "src/lib.rt"]
-        words += ["--extern", f"std={kit}/rlibs/std.rlib", "-L", f"dependency={kit}/rlibs"]
-        for it in uses[crate]:
-            words += ["--extern", f"{it}={folder(it) if it in uses else kit + '/rlibs'}/{it}.rlib"]
-        for it in below:
-            words += ["-L", f"dependency={folder(it)}"]
-        words += ["--antt-project", f"{kit}/rattle/logic/antt-project.json", "--logic-built", f"{kit}/logic_built", "--links", f"{crate}="]
-        words += ["--jobs", "4", *(["--test"] if crate.startswith("tests_of_") else [])]
+    prover, total = prove.Prover(), 0
+    crates = prove.repository(top, prover.kit)
+    for name in names:
+        words = [*prover.words(crates[name], prove.JOBS), *(["--test"] if name.startswith("tests_of_") else [])]
         begun = time.time()
-        said = subprocess.run(words, cwd=f"{top}/crates/{crate}", stdout=subprocess.PIPE, stderr=subprocess.STDOUT, text=True)
+        said = subprocess.run([prover.rattle, "check", *words], cwd=crates[name].folder, stdout=subprocess.PIPE, stderr=subprocess.STDOUT, text=True)
         if said.returncode:
             sys.exit(said.stdout)
         total += time.time() - begun
-        print(f"{crate} {time.time() - begun:.0f} s", flush=True)
+        print(f"{name} {time.time() - begun:.0f} s", flush=True)
     print(f"in all {total:.0f} s")
 
 
-def all_below(uses, crate):
-    """Returns all that a crate of the repository stands on."""
-    found = []
-    for it in uses.get(crate, []):
-        found += [other for other in [it, *all_below(uses, it)] if other not in found]
-    return found
+def gate_from_nothing(top, said):
+    """Starts the gate. A kit whose gate keeps what it proved has a flag for one from nothing; another refuses the flag at once, and keeps nothing."""
+    start = lambda *flags: subprocess.Popen(["rt", "ci", *flags], cwd=top, stdout=said, stderr=subprocess.STDOUT)
+    gate = start("--anew")
+    try:
+        is_refused = gate.wait(5) == 2
+    except subprocess.TimeoutExpired:
+        is_refused = False
+    if not is_refused:
+        return gate
+    said.seek(0)
+    said.truncate()
+    return start()
 
 
 def main():
@@ -144,7 +133,7 @@ def main():
         sys.exit("usage: bench/gate.py FILE | alone CRATE..")
     begun, found, edits_seen = time.time(), {}, set()
     with open(sys.argv[1], "w", encoding="utf-8") as said:
-        gate = subprocess.Popen(["rt", "ci", "--anew"], cwd=top, stdout=said, stderr=subprocess.STDOUT)
+        gate = gate_from_nothing(top, said)
         while gate.poll() is None:
             sample(found, edits_seen, gate.pid)
             time.sleep(1)
@@ -159,7 +148,7 @@ def main():
     for it in found.values():
         if it.what == COLUMNS[it.crate.startswith("tests_of_")]:
             proofs[it.crate] = proofs.get(it.crate, 0) + it.seconds
-    seconds, chain = longest_chain(top, proofs)
+    seconds, chain = longest_chain(prove.repository(top, prove.Prover().kit).values(), proofs)
     print(f"\nlongest chain, {seconds:.0f} CPU s: {' '.join(chain)}")
     print(f"\n{text.strip().splitlines()[-1]}; commit {commit}; {time.time() - begun:.0f} s on {os.cpu_count()} processors, ")
     print(f"{used.children_user + used.children_system:.0f} CPU s in all, by the system's own count.")

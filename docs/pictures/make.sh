@@ -14,7 +14,7 @@ fi
 
 if [ ! -x "$program" ] || [ -n "$(find "$crate"/../{heap_picture,slow_heap,heap_text,heap_model,decimals}/{src,specs,proofs} -type f -newer "$program" -print -quit)" ]; then
     echo "make.sh: building the proved program heap_picture; the first time takes some minutes" >&2
-    (cd "$crate" && rt run) <"$crate/stdin" >/dev/null
+    "$here/../../tools/prove.py" heap_picture "$program" >&2
 fi
 
 # Turns the text of a picture into an SVG file, without what changes with the version of dot alone.
