@@ -13,3 +13,4 @@ pub mod Progressing
 pub mod Pooling
 pub mod BesideGraphs
 pub mod Beside
+pub mod Ending

@@ -10,3 +10,4 @@ pub mod Cover
 pub mod Pools
 pub mod Progress
 pub mod Beside
+pub mod Ending

@@ -1,5 +1,5 @@
 -- Two domains at one seat agree, and see one history.
-use Rattle.std.proofs.Common.{not, ◌≡◌, ◌≢◌, ℕ, ◌<◌, length-set, List, [], ◌∷◌, ◌++◌, Option, Some, None, set, sym, refl, ap, ◌∙◌, subst}
+use Rattle.std.proofs.Common.{not, ◌≡◌, ◌≢◌, ℕ, ◌+◌, ◌<◌, ◌≤◌, length-set, List, [], ◌∷◌, ◌++◌, Option, Some, None, set, sym, refl, ap, ◌∙◌, subst}
 use Rattle.atomic_table.specs.Table.{Me, keeps, Allows, Splits}
 use Rattle.heap_model.specs.declared.entry.Entry.{Entry}
 use Rattle.heap_model.specs.Fronts.{is_control}
@@ -14,7 +14,7 @@ use Rattle.heap_rule.specs.Limits.{sizes_in}
 use Rattle.heap_rule.specs.Rule.{Account, Rule, Good}
 use Rattle.heap_rule.specs.Standing.{with_front}
 use Rattle.heap_rule.specs.Views.{AllDomains, Distinct, IsSeated, Knows, one, joined, cut_left, cut_right}
-use Rattle.heap_rule.specs.Meeting.{FirstAgree, Levelled, SameCopies, FirstSameCopies, Trails, all_seeing}
+use Rattle.heap_rule.specs.Meeting.{FirstAgree, FirstInOnePause, Levelled, SameCopies, FirstSameCopies, Trails, all_seeing}
 use Rattle.heap_rule.proofs.Keeps.{Words, unmoved, whole_still}
 use Rattle.heap_rule.proofs.Lists.{views_set, domains_with}
 use Rattle.heap_rule.proofs.PauseFacts.{agree}
@@ -24,6 +24,17 @@ first_agree : (k : Config) (s : Words) (r : Rule k s) (xs : List DomainView) →
 first_agree k s r [] g = tt
 first_agree k s r (x ∷ []) g = tt
 first_agree k s r (x ∷ y ∷ zs) g = agree r.account.pause x.own.number y.own.number x.own.arrivals y.own.arrivals x.seen.stage y.seen.stage g.0.staged.stage g.1.0.staged.stage
+
+-- a domain has arrived as often as the number of the phase, or once more
+near : (k : Config) (s : Words) (r : Rule k s) (id : ℕ) (x : DomainView) → IsSeated k r.account.log r.seat id x → Good k r.account s.words x → (r.account.pause.phase ≤ x.own.arrivals) × (x.own.arrivals ≤ r.account.pause.phase + 1)
+near k s r id x y g =
+    let each = r.whole.phases.each x.own.number y.inside in
+    (subst (λ n. r.account.pause.phase ≤ n) (sym g.staged.arrivals) each.0, subst (λ n. n ≤ r.account.pause.phase + 1) (sym g.staged.arrivals) each.1)
+
+in_one_pause : (k : Config) (s : Words) (r : Rule k s) (id : ℕ) (xs : List DomainView) → AllDomains (IsSeated k r.account.log r.seat id) xs → AllDomains (Good k r.account s.words) xs → FirstInOnePause xs
+in_one_pause k s r id [] a g = tt
+in_one_pause k s r id (x ∷ []) a g = tt
+in_one_pause k s r id (x ∷ y ∷ zs) a g = record { pause = r.account.pause; first = g.0.staged; second = g.1.0.staged; first_near = near k s r id x a.0 g.0; second_near = near k s r id y a.1.0 g.1.0 }
 
 -- a head forwards to one copy
 same_copies : (k : Config) (live : Live) (x y : DomainView) → Owes k live x → Owes k live y → SameCopies x y
@@ -126,6 +137,7 @@ levels k slots id word v same s r _ at _ =
         legal = subst (λ (c : Config). Legal (sizes_in c) r.account.log) (sym same) r.whole.legal;
         fronts = domains_with (IsSeated k r.account.log r.seat id) (Good k r.account s.words) (Trails r.account.log) v.domains (λ x y g. record { begins = y.front; calls = g.still.1; led = y.led }) mine.domains (r.good id v at);
         agree = first_agree k s r v.domains (r.good id v at);
+        one_pause = in_one_pause k s r id v.domains mine.domains (r.good id v at);
         copies = first_copies k s r v.domains (r.good id v at);
       },
     )

@@ -1,5 +1,5 @@
 -- Two domains at one seat.
-use Rattle.std.specs.Prelude.{◌≡◌, ℕ, List, [], ◌∷◌}
+use Rattle.std.specs.Prelude.{◌≡◌, ℕ, ◌+◌, ◌≤◌, List, [], ◌∷◌}
 use Rattle.atomic_table.specs.Table.{Me, Step}
 use Rattle.heap_model.specs.declared.entry.Entry.{Entry}
 use Rattle.heap_model.specs.Fronts.{AreCalls, AreNotControls, unseen}
@@ -12,7 +12,7 @@ use Rattle.heap_rule.specs.declared.phase.Stage.TheVariants.{In}
 use Rattle.heap_rule.specs.Copies.{HasCopy}
 use Rattle.heap_rule.specs.Ending.{Begins}
 use Rattle.heap_rule.specs.Limits.{sizes_in}
-use Rattle.heap_rule.specs.Phases.{Agree}
+use Rattle.heap_rule.specs.Phases.{Agree, Pause, Staged}
 use Rattle.heap_rule.specs.Standing.{with_front}
 use Rattle.heap_rule.specs.Token.{Token}
 use Rattle.heap_rule.specs.Views.{AllDomains}
@@ -22,6 +22,20 @@ abbrev pub FirstAgree : List DomainView → Type 0
 FirstAgree [] = Unit {0}
 FirstAgree (x ∷ []) = Unit {0}
 FirstAgree (x ∷ y ∷ zs) = Agree x.seen.stage y.seen.stage
+
+-- Two domains stand in one pause: each has arrived as often as the number of its phase or once more, and what each knows of the kinds of the phases is so
+pub record InOnePause (x y : DomainView) : Type 0 where
+  pub pause : Pause
+  pub first : Staged pause x
+  pub second : Staged pause y
+  pub first_near : (pause.phase ≤ x.own.arrivals) × (x.own.arrivals ≤ pause.phase + 1)
+  pub second_near : (pause.phase ≤ y.own.arrivals) × (y.own.arrivals ≤ pause.phase + 1)
+
+-- so do the first two of these domains
+abbrev pub FirstInOnePause : List DomainView → Type 0
+FirstInOnePause [] = Unit {0}
+FirstInOnePause (x ∷ []) = Unit {0}
+FirstInOnePause (x ∷ y ∷ zs) = InOnePause x y
 
 -- where both know of a copy of one young block, it is the same copy
 abbrev pub SameCopies : DomainView → DomainView → Type 0
@@ -51,6 +65,7 @@ pub record Levelled (m m' : Me (Unit {0}) View) : Type 0 where
   pub legal : Legal (sizes_in m.0.config) history
   pub fronts : AllDomains (Trails history) m.0.domains
   pub agree : FirstAgree m.0.domains
+  pub one_pause : FirstInOnePause m.0.domains
   pub copies : FirstSameCopies m.0.domains
 
 abbrev pub levelled : Step (Unit {0}) → Me (Unit {0}) View → ℕ → Me (Unit {0}) View → Type 0

@@ -7,7 +7,7 @@ ghost use Rattle.heap_rule.specs.Limits.{sizes_in, first_outside};
 ghost use Rattle.heap_rule.specs.Opening.{opening_token, opening_tokens};
 ghost use Rattle.heap_rule.specs.Ending.{AllIn, AllBegin};
 ghost use Rattle.heap_rule.specs.Views.{first_view};
-ghost use Rattle.heap_rule.specs.Meeting.{Met, SameCopies};
+ghost use Rattle.heap_rule.specs.Meeting.{InOnePause, Met, SameCopies};
 ghost use Rattle.heap_rule.specs.Phases.{Agree};
 ghost use Rattle.heap_rule.specs.Token.{IsIn};
 
@@ -161,14 +161,16 @@ impl Heap {
 }
 
 impl Heap {
-    /// Brings two domains together for a moment. Both then see the whole history so far, in which neither
-    /// has made an entry that it hadn't seen, and are else as they were. Each acts where the
-    /// other may: while one is in a phase of a pause the other doesn't run, and two that are in even
-    /// phases, and haven't arrived there, are in phases of one kind. While they copy young blocks, no
-    /// block has two copies: where both know of one, it is the same.
+    /// Brings two domains together for a moment. Both then see one history, which begins with what each
+    /// had seen and in which neither has made an entry that it hadn't seen, and are else as they were. Each
+    /// acts where the other may: while one is in a phase of a pause the other doesn't run, and two that are
+    /// in even phases, and haven't arrived there, are in phases of one kind. Both have arrived as often as
+    /// the number of one phase or once more, and know the same kinds of phases. While they copy young
+    /// blocks, no block has two copies: where both know of one, it is the same.
     pub fn meet(&self, a: Domain, b: Domain) -> (Domain, Domain)
         requires here { IsIn a self.now × IsIn b self.now }
         ensures agree { Agree a.view.seen.stage b.view.seen.stage }
+        ensures one_pause { InOnePause a.view b.view }
         ensures copies { SameCopies a.view a.view × SameCopies a.view b.view × SameCopies b.view b.view }
         ensures met { Met self.now.config a b result.0 result.1 }
     {

@@ -1,7 +1,7 @@
 //! The meanings of the three colour numbers.
 ghost use Rattle.std.specs.Prelude.{◌≡◌};
 ghost use Rattle.heap_words.specs.ColourWords.{colours_word, IsPermutation, rotated};
-ghost use Rattle.heap_words.specs.Unpacked.{Unpacks};
+ghost use Rattle.heap_words.specs.Unpacked.{IsWordOf, ReadsAs, Unpacks};
 
 /// Which of the numbers 0, 1 and 2 in a head means marked, unmarked and garbage.
 ///
@@ -51,5 +51,19 @@ pub fn unpack_colours(word: u64) -> Option<Colours>
         })
     } else {
         None
+    }
+}
+
+/// The colours whose word this is, where some have it: of a word that is known to be theirs nothing
+/// is tested.
+#[inline(always)]
+pub fn read_colours(word: u64) -> Colours
+    requires known { IsWordOf IsPermutation colours_word word }
+    ensures reads { ReadsAs IsPermutation colours_word word result }
+{
+    Colours {
+        marked: (word % 4) as u8,
+        unmarked: (word / 4 % 4) as u8,
+        garbage: (word / 16 % 4) as u8,
     }
 }

@@ -2,7 +2,7 @@
 ghost use Rattle.std.specs.Prelude.{◌≡◌, ◌%◌, MatchOption};
 ghost use Rattle.heap_words.specs.Heads.{IsPackableHead, head_word};
 ghost use Rattle.heap_words.specs.Marks.{AreMarksOf, HasNoMarks};
-ghost use Rattle.heap_words.specs.Unpacked.{Unpacks};
+ghost use Rattle.heap_words.specs.Unpacked.{IsWordOf, ReadsAs, Unpacks};
 
 /// What the first word of a block says.
 ///
@@ -77,6 +77,30 @@ pub fn unpack_head(word: u64) -> Option<Head>
         EPHEMERON => unpack_ephemeron(word),
         FORWARD => unpack_forward(word),
         _ => None,
+    }
+}
+
+/// The head whose word this is, where one has it: of a word that is known to be a head's nothing is
+/// tested but its kind.
+#[inline(always)]
+pub fn read_head(word: u64) -> Head
+    requires known { IsWordOf IsPackableHead head_word word }
+    ensures reads { ReadsAs IsPackableHead head_word word result }
+{
+    match word % 8 {
+        PLAIN => Head::Plain {
+            size: (word / 65536 % 65536) as u16,
+            tag: (word / 256 % 256) as u8,
+            colour: (word / 8 % 4) as u8,
+            scanned: word / 32 % 2 == 1,
+        },
+        EPHEMERON => Head::Ephe {
+            keys: (word / 65536 % 65536) as u16,
+            colour: (word / 8 % 4) as u8,
+            scanned: word / 32 % 2 == 1,
+        },
+        FORWARD => Head::Forward((word >> 32) as u32),
+        _ => Head::Free,
     }
 }
 

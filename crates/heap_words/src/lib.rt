@@ -1,6 +1,7 @@
 //! The words of the heap: values, block heads, colours and labels, each packed into 64 bits.
 //!
-//! A word is read back by the matching `unpack` call, which answers `None` where nothing packs to it.
+//! A word is read back by the matching `unpack` call, which answers `None` where nothing packs to it, or by the
+//! matching `read` call, which tests nothing, where it is known that something packs to it.
 #![tactic(auto)]
 
 mod colours;
@@ -8,7 +9,7 @@ mod head;
 mod label;
 mod value;
 
-pub use colours::{Colours, pack_colours, rotate, unpack_colours};
-pub use head::{Head, pack_head, unpack_head};
-pub use label::{pack_label, unpack_label};
-pub use value::{Value, pack_value, unpack_value};
+pub use colours::{Colours, pack_colours, read_colours, rotate, unpack_colours};
+pub use head::{Head, pack_head, read_head, unpack_head};
+pub use label::{pack_label, read_label, unpack_label};
+pub use value::{Value, pack_value, read_value, unpack_value};

@@ -1,6 +1,6 @@
 //! What a register, a field or an ephemeron's data holds, as one word.
 ghost use Rattle.std.specs.Prelude.{◌≡◌, ◌≤◌, ◌<◌, ℕ, ◌%◌, ◌^◌, ◌/◌, IsNone, ◌↔◌};
-ghost use Rattle.heap_words.specs.Unpacked.{Unpacks};
+ghost use Rattle.heap_words.specs.Unpacked.{IsWordOf, ReadsAs, Unpacks};
 ghost use Rattle.heap_words.specs.Values.{IsPackable, value_word};
 
 /// A value of the heap: an integer of 63 bits, the address of a block, or nothing.
@@ -45,5 +45,20 @@ pub fn unpack_value(word: u64) -> Option<Value>
         Some(Value::Ref((word / 2) as u32))
     } else {
         None
+    }
+}
+
+/// The value whose word this is, where one has it.
+#[inline(always)]
+pub fn read_value(word: u64) -> Value
+    requires known { IsWordOf IsPackable value_word word }
+    ensures reads { ReadsAs IsPackable value_word word result }
+{
+    if word % 2 == 1 {
+        Value::Int(word.cast_signed() >> 1)
+    } else if word == 0 {
+        Value::Nothing
+    } else {
+        Value::Ref((word / 2) as u32)
     }
 }

@@ -1,5 +1,5 @@
 //! The marked blocks of one own pool.
-ghost use Rattle.std.specs.Prelude.{◌≡◌, ◌<◌, ◌+◌, Some, []};
+ghost use Rattle.std.specs.Prelude.{◌≡◌, ◌<◌, ◌+◌, Some, [], false};
 ghost use Rattle.heap_model.specs.Domains.{class_count};
 ghost use Rattle.heap_words.specs.ColourWords.{IsPermutation};
 ghost use Rattle.heap_rule.specs.Pools.{blocks_of};
@@ -42,6 +42,7 @@ fn mark_place(
     ensures walked { Walked (behind pool class slot) result dom.old.view dom.new.view }
     ensures own { dom.new.view.seen.share.own_pool ≡ dom.old.view.seen.share.own_pool }
     ensures noted { Noted heap.now.config dom.new.view.seen.share.marked trail.new.items }
+    ensures kept { result ≡ false → trail.new.items ≡ trail.old.items }
 {
     let _limits = heap.config();
     let at = place_address(pool, class, slot);
@@ -75,8 +76,10 @@ pub(crate) fn mark_pool(
 {
     let mut darkened = false;
     for slot in 0..class_blocks(class) {
-        darkened |= mark_place(heap, dom, pool, class, slot, colours, trail);
-        darkened |= follow_all(heap, dom, colours, trail);
+        if mark_place(heap, dom, pool, class, slot, colours, trail) {
+            follow_all(heap, dom, colours, trail);
+            darkened = true;
+        }
     }
     darkened
 }

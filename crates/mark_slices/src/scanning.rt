@@ -1,5 +1,5 @@
 //! The scan of a marked block.
-ghost use Rattle.std.specs.Prelude.{◌≡◌, ◌+◌, ◌*◌, ◌≤◌, ℕ, Some};
+ghost use Rattle.std.specs.Prelude.{◌≡◌, ◌+◌, ◌*◌, ◌≤◌, ℕ, Some, false};
 ghost use Rattle.heap_words.specs.ColourWords.{IsPermutation};
 ghost use Rattle.heap_rule.specs.declared.phase.Kind.TheVariants.{Mark};
 ghost use Rattle.heap_rule.specs.declared.phase.Stage.TheVariants.{In};
@@ -30,6 +30,7 @@ fn scan_field(heap: &Heap, dom: &mut Domain, at: u32, colours: Colours, trail: &
     ensures here { IsIn dom.new heap.now }
     ensures scanned { dom.new.view ≡ with_share dom.old.view (scanning dom.old.view.seen.share dom.new.view.seen.share (field_on dom.old.view.seen.share.scan) result) }
     ensures noted { Noted heap.now.config dom.new.view.seen.share.marked trail.new.items }
+    ensures kept { result ≡ false → trail.new.items ≡ trail.old.items }
 {
     let _limits = heap.config();
     let word = scan_load(heap, dom, at);
@@ -63,6 +64,7 @@ fn scan_fields(
     ensures here { IsIn dom.new heap.now }
     ensures scanned { dom.new.view ≡ with_share dom.old.view (scanning dom.old.view.seen.share dom.new.view.seen.share (fields_to size dom.old.view.seen.share.scan) result) }
     ensures noted { Noted heap.now.config dom.new.view.seen.share.marked trail.new.items }
+    ensures kept { result ≡ false → trail.new.items ≡ trail.old.items }
 {
     let _limits = heap.config();
     let mut darkened = false;
@@ -94,6 +96,7 @@ pub(crate) fn scan_block(
     ensures here { IsIn dom.new heap.now }
     ensures scanned { ScannedAt site at result dom.old.view dom.new.view }
     ensures noted { Noted heap.now.config dom.new.view.seen.share.marked trail.new.items }
+    ensures kept { result ≡ false → trail.new.items ≡ trail.old.items }
 {
     let _limits = heap.config();
     let darkened = scan_fields(heap, dom, at, block.fields, colours, trail);

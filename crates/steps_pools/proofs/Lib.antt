@@ -1,3 +1,4 @@
+pub mod Sizes
 pub mod Plain
 pub mod DrawSteps
 pub mod WalkSteps

@@ -7,7 +7,7 @@ ghost use Rattle.steps_pools.specs.Takes.{OwnerLoadMay, OwnerTold, PlaceMay, Pla
 ghost use Rattle.heap_rule.specs.Token.{IsIn};
 
 use heap_rule::{Change, Domain, Heap, Own, Spot, Writing, raw_load};
-use size_classes::{POOL_WORDS, heap_classes};
+use size_classes::POOL_WORDS;
 use std::marker::Brand;
 
 /// The owner word of a domain's pool of a class.
@@ -17,23 +17,23 @@ pub fn owner_word(domain: u32, class: u32) -> u64
     16 * u64::from(domain) + u64::from(class) + 1
 }
 
-/// The words of a block of a class.
+/// The words of a block of a class. Walks through pools ask for it at each place, so it is no look into the
+/// table of classes.
 pub fn class_size(class: u32) -> u32
     requires { class < class_count }
     ensures value { result ≡ size_of class }
     ensures some { (4 ≤ result) × (result ≤ 4096) }
 {
-    let classes = heap_classes();
-    classes.words_of(class as usize) as u32
+    4 << class
 }
 
-/// The blocks of a pool of a class.
+/// The blocks of a pool of a class. It is no division, for walks through pools ask for it at each place.
 pub fn class_blocks(class: u32) -> u32
     requires { class < class_count }
     ensures value { result ≡ blocks_of class }
     ensures few { (0 < result) × (result ≤ 1024) }
 {
-    POOL_WORDS / class_size(class)
+    1024 >> class
 }
 
 /// The address of a place of a pool.

@@ -19,6 +19,7 @@ returns-in_default c =
       here = c.scan_load-word.ensures.here;
       scanned = subst (λ (u : DomainView). u ≡ with_share x (scanning x.seen.share u.seen.share (field_on x.seen.share.scan) false)) (sym e) refl;
       noted = subst (λ (l : List ℕ). Noted c.args.heap.now.config l c.args.trail.now.items) (sym (ap (λ (u : DomainView). u.seen.share.marked) e)) c.requires.noted;
+      kept = λ _. refl;
     }
 
 pub returns-then-won-clause-noted : goal.returns-then-won-clause-noted

@@ -1,4 +1,4 @@
-use Rattle.std.proofs.Common.{◌≡◌}
+use Rattle.std.proofs.Common.{◌≡◌, false}
 use Rattle.heap_rule.specs.Token.{IsIn}
 use Rattle.steps_marking.specs.Looks.{with_share}
 use Rattle.mark_slices.specs.Shares.{Noted, fields_to, scanning}
@@ -9,4 +9,5 @@ invariant-loop-i l = record {
   here : IsIn l.dom l.heap;
   view : l.dom.view ≡ with_share l.fn.dom.view (scanning l.fn.dom.view.seen.share l.dom.view.seen.share (fields_to l.i l.fn.dom.view.seen.share.scan) l.darkened);
   noted : Noted l.heap.config l.dom.view.seen.share.marked l.trail.items;
+  kept : l.darkened ≡ false → l.trail.items ≡ l.fn.trail.items;
 }
