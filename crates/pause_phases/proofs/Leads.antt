@@ -5,6 +5,7 @@ use Rattle.heap_model.specs.Fronts.{AreNotControls, IsFrontOf, unseen}
 use Rattle.heap_model.specs.History.{Legal}
 use Rattle.heap_rule.specs.declared.config.Config.{Config}
 use Rattle.heap_rule.specs.declared.phase.Kind.{Kind}
+use Rattle.heap_rule.specs.declared.phase.Kind.TheVariants.{Mark}
 use Rattle.heap_rule.specs.declared.phase.Note.{Note}
 use Rattle.heap_rule.specs.declared.phase.Progress.{Progress}
 use Rattle.heap_rule.specs.declared.phase.Stage.TheVariants.{Leads, Led}
@@ -14,13 +15,20 @@ use Rattle.heap_rule.specs.Views.{fresh_share}
 use Rattle.steps_pauses.specs.Pauses.{EndsWith, arrived_view, entry_of, kind_in, progress_after}
 use Rattle.safepoint.specs.Looks.{LedTo, cleared}
 use Rattle.pause_phases.specs.declared.decider.Decider.{Decider}
-use Rattle.pause_phases.specs.Leading.{LeadsOn, Opens, noted_before}
+use Rattle.pause_phases.specs.Leading.{LeadsOn, Named, Opens, noted_before, set_back_for}
 
 -- the domain with another front, other notes, and the next kind named
 abbrev led_with : DomainView → Kind → List Entry → List Note → Progress → DomainView
 led_with x kind front notes p = record x { seen = record x.seen { front = front; notes = notes; stage = Led kind; share = record fresh_share { progress = p } } }
 
-module _ (k : Config) (who : Decider) (x y z v : DomainView) (last kind : Kind) (stage : x.seen.stage ≡ Leads last) (o : Opens k who x y last kind) (l : LedTo k kind y z) (is : v ≡ arrived_view z) where
+module _ (k : Config) (who : Decider) (x y z v : DomainView) (last kind : Kind) (stage : x.seen.stage ≡ Leads last) (o : Opens k who x y last kind) (n : Named k kind y z) (is : v ≡ arrived_view z) where
+  l : LedTo k kind y n.named
+  l = n.led
+
+  -- what is known of the changed word is void again
+  arrives : v ≡ arrived_view n.named
+  arrives = is ∙ ap arrived_view n.view
+
   last_is : kind_in y.seen.stage ≡ last
   last_is = ap (λ (w : DomainView). kind_in w.seen.stage) o.view ∙ ap kind_in stage
 
@@ -31,14 +39,14 @@ module _ (k : Config) (who : Decider) (x y z v : DomainView) (last kind : Kind) 
   same_number = ap (λ (w : DomainView). w.own.number) o.view
 
   -- the front is not changed by the arrival
-  front_is : v.seen.front ≡ z.seen.front
-  front_is = ap (λ (w : DomainView). w.seen.front) is
+  front_is : v.seen.front ≡ n.named.seen.front
+  front_is = ap (λ (w : DomainView). w.seen.front) arrives
 
   before : y.seen.notes ≡ x.seen.notes ++ noted_before last kind x.seen.share.progress o.findings
   before = ap (λ (w : DomainView). w.seen.notes) o.view
 
   named : v.seen.notes ≡ y.seen.notes ++ cleared kind
-  named = ap (λ (w : DomainView). w.seen.notes) is ∙ ap (λ (w : DomainView). w.seen.notes) l.view
+  named = ap (λ (w : DomainView). w.seen.notes) arrives ∙ ap (λ (w : DomainView). w.seen.notes) l.view
 
   progress_now : progress_after (kind_in y.seen.stage) kind y.seen.share.progress ≡ progress_after last kind x.seen.share.progress
   progress_now = ap (λ (n : Kind). progress_after n kind y.seen.share.progress) last_is ∙ ap (progress_after last kind) o.progress_is
@@ -62,10 +70,10 @@ module _ (k : Config) (who : Decider) (x y z v : DomainView) (last kind : Kind) 
   view_is : v ≡ arrived_view (led_with x kind v.seen.front v.seen.notes (progress_after last kind x.seen.share.progress))
   view_is =
       let p : Progress = progress_after (kind_in y.seen.stage) kind y.seen.share.progress in
-      is ∙ (ap arrived_view l.view
-      ∙ (ap (λ (w : DomainView). arrived_view (led_with w kind z.seen.front (y.seen.notes ++ cleared kind) p)) o.view
+      arrives ∙ (ap arrived_view l.view
+      ∙ (ap (λ (w : DomainView). arrived_view (led_with w kind n.named.seen.front (y.seen.notes ++ cleared kind) p)) o.view
       ∙ (ap (λ (f : List Entry). arrived_view (led_with x kind f (y.seen.notes ++ cleared kind) p)) (sym front_is)
-      ∙ (ap (λ (n : List Note). arrived_view (led_with x kind v.seen.front n p)) (sym named)
+      ∙ (ap (λ (notes : List Note). arrived_view (led_with x kind v.seen.front notes p)) (sym named)
       ∙ ap (λ (q : Progress). arrived_view (led_with x kind v.seen.front v.seen.notes q)) progress_now))))
 
   pub leads_on : LeadsOn k who x v last kind
@@ -73,9 +81,16 @@ module _ (k : Config) (who : Decider) (x y z v : DomainView) (last kind : Kind) 
     follows = o.follows;
     findings = o.findings;
     chosen = o.chosen;
-    notes = named ∙ (ap (λ (n : List Note). n ++ cleared kind) before ∙ append_assoc x.seen.notes (noted_before last kind x.seen.share.progress o.findings) (cleared kind));
+    notes = named ∙ (ap (λ (notes : List Note). notes ++ cleared kind) before ∙ append_assoc x.seen.notes (noted_before last kind x.seen.share.progress o.findings) (cleared kind));
     seen = subst (λ (p : ℕ × List Entry × List Entry). IsFrontOf p.0 p.1 p.2) (λ i. (same_number i, sym front_is i, same_front i)) l.seen;
     stays = λ none. front_is ∙ (l.stays (entry_now ∙ none) ∙ same_front);
     made = ends;
     view = view_is;
   }
+
+-- whoever has named a phase in which blocks are marked has set the changed word back
+pub set_back_before : (k : Config) (next : Kind) (x y : DomainView) → Named k next x y → y.seen.stage ≡ Led Mark → y.seen.share.changed ≡ Some 0
+set_back_before k next x y n is =
+    let stage : Led next ≡ Led Mark = sym (ap (λ (w : DomainView). w.seen.stage) n.view ∙ ap (λ (w : DomainView). w.seen.stage) n.led.view) ∙ is in
+    let kind : next ≡ Mark = let e = stage in cc in
+    ap (λ (w : DomainView). w.seen.share.changed) n.view ∙ ap set_back_for kind

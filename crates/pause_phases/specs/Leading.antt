@@ -1,5 +1,5 @@
 -- How domain 0 leads through a collection of the major heap.
-use Rattle.std.specs.Prelude.{◌≡◌, ℕ, ◌*◌, ◌==◌, ◌||◌, nat_lt, if◌then◌else◌, Bool, List, [], ◌∷◌, ◌++◌, Some, None}
+use Rattle.std.specs.Prelude.{◌≡◌, ℕ, ◌*◌, ◌==◌, ◌||◌, nat_lt, if◌then◌else◌, Bool, List, [], ◌∷◌, ◌++◌, Option, Some, None}
 use Rattle.heap_model.specs.declared.entry.Entry.{Entry}
 use Rattle.heap_model.specs.Fronts.{IsFrontOf}
 use Rattle.heap_rule.specs.declared.config.Config.{Config}
@@ -15,7 +15,7 @@ use Rattle.heap_rule.specs.Views.{fresh_share}
 use Rattle.steps_pauses.specs.Pauses.{EndsWith, MayFollow, arrived_view, entry_of, progress_after}
 use Rattle.steps_pools.specs.Listings.{HasList}
 use Rattle.safepoint.specs.declared.answer.Want.TheVariants.{Cycle, Finish, Full}
-use Rattle.safepoint.specs.Looks.{cleared, is_wanted}
+use Rattle.safepoint.specs.Looks.{LedTo, cleared, is_wanted}
 use Rattle.steps_marking.specs.Looks.{with_share}
 use Rattle.pause_phases.specs.declared.decider.Decider.{Decider}
 use Rattle.pause_phases.specs.declared.decider.Decider.TheVariants.{Wishes, Caller}
@@ -88,6 +88,17 @@ CountsCleared x y = y ≡ with_share x (record x.seen.share { blocks = Some 0; w
 -- the domain with other notes, and with what it knows of the list of free pools and of the phase as another has it
 abbrev pub opened_view : DomainView → DomainView → List Note → DomainView
 opened_view x y notes = record x { seen = record x.seen { notes = notes; listing = y.seen.listing; share = y.seen.share } }
+
+-- what domain 0 knows of the changed word behind naming a kind: where blocks are marked next it has set it back
+abbrev pub set_back_for : Kind → Option ℕ
+set_back_for Mark = Some 0
+set_back_for _ = None
+
+-- domain 0 has named the next kind, and before blocks are marked it has set the changed word back
+pub record Named (k : Config) (next : Kind) (x y : DomainView) : Type 0 where
+  pub named : DomainView
+  pub led : LedTo k next x named
+  pub view : y ≡ with_share named (record named.seen.share { changed = set_back_for next })
 
 -- domain 0 has found which kind comes next, or was told, and done what is asked of it before it names that kind
 pub record Opens (k : Config) (decider : Decider) (x y : DomainView) (last kind : Kind) : Type 0 where

@@ -9,8 +9,7 @@ ghost use Rattle.heap_rule.specs.Token.{IsIn};
 ghost use Rattle.heap_rule.specs.Views.{voided};
 ghost use Rattle.steps_pauses.specs.Pauses.{MayFollow, kind_in};
 ghost use Rattle.steps_pools.specs.Listings.{HasList};
-ghost use Rattle.safepoint.specs.Looks.{LedTo};
-ghost use Rattle.pause_phases.specs.Leading.{LeadsOn};
+ghost use Rattle.pause_phases.specs.Leading.{LeadsOn, Named};
 
 use crate::decider::Decider;
 use crate::opening::open;
@@ -29,7 +28,7 @@ fn name(heap: &Heap, dom: &mut Domain, next: Kind)
     requires list { next ≡ Run → HasList heap.now.config dom.old.view }
     requires set_back { next ≡ Promote → last_note dom.old.view.seen.notes ≡ Some SetBack }
     ensures here { IsIn dom.new heap.now }
-    ensures led { LedTo heap.now.config next dom.old.view dom.new.view }
+    ensures named { Named heap.now.config next dom.old.view dom.new.view }
 {
     lead(heap, dom, next);
     match next {

@@ -45,8 +45,8 @@ has_some (x ∷ xs) zero r at = cc
 has_some (x ∷ xs) (suc d) r at = has_some xs d r at
 
 -- runs that were gathered
-pub gathered : (h : SharedHeap) (runs : List RunView) (slots : List (Option RunView)) → MayGather h runs → AllByRecursion IsRun runs → slots ≡ map Some runs → IsGathered (record { heap = h; runs = slots; complete = false })
-gathered h runs slots may are is = subst (λ (s : List (Option RunView)). IsGathered (record { heap = h; runs = s; complete = false })) (sym is) record {
+pub gathered : (h : SharedHeap) (runs : List RunView) (slots : List (Option RunView)) → MayGather h runs → AllByRecursion IsRun runs → slots ≡ map Some runs → IsGathered (record { heap = h; runs = slots; complete = false; steps = 1152921504606846976 })
+gathered h runs slots may are is = subst (λ (s : List (Option RunView)). IsGathered (record { heap = h; runs = s; complete = false; steps = 1152921504606846976 })) (sym is) record {
   count = length-map runs Some ∙ may.count;
   filled = λ d below. let f = filled_at runs d (subst (λ (n : ℕ). d < n) (length-map runs Some) below) in (f.0, get_map Some runs d f.0 f.1);
   held = λ d r at.

@@ -26,7 +26,7 @@ read_at f xs d x e was = get_or_from_slice_get (map f xs) d (f x) e (slice_get-m
 
 -- where the runs stand, as they were gathered
 abbrev gathered : SharedHeap → List RunView → GatheredView
-gathered h runs = record { heap = h; runs = map Some runs; complete = false }
+gathered h runs = record { heap = h; runs = map Some runs; complete = false; steps = 1152921504606846976 }
 
 none_asked_for : (cs : List Command) → asked_for cs None ≡ false
 none_asked_for [] = refl

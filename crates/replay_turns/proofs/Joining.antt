@@ -1,9 +1,11 @@
 -- The runs of a heap after the calls on one of them.
-use Rattle.std.proofs.Common.{true≢false, ◌≡◌, ◌≢◌, ◌∙◌, ◌<◌, ◌+◌, ◌*◌, ◌%◌, ◌==◌, ◌++◌, inl, inr, if◌then◌else◌, ℕ, suc, Bool, true, false, List, [], ◌∷◌, Option, Some, None, length, length-set, map, arith, refl, sym, ap, subst}
+use Rattle.std.proofs.Common.{true≢false, ◌≡◌, ◌≢◌, ◌∙◌, ◌<◌, ◌≤◌, ◌+◌, ◌*◌, ◌%◌, ◌==◌, ◌++◌, inl, inr, if◌then◌else◌, ℕ, suc, Bool, true, false, List, [], ◌∷◌, Option, Some, None, length, length-set, map, arith, refl, sym, ap, subst}
 use Rattle.std.specs.Prelude.{slice_get, slice_set}
 use Rattle.std.proofs.lemmas.List.{length-map}
 use mathlib.Core.Logic.{dite}
 use native.Mathlib.Decide.{ℕ_discrete}
+use Rattle.heap_model.specs.declared.command.Command.{Command}
+use Rattle.heap_model.specs.declared.command.Command.TheVariants.{Finalise, FinaliseLast}
 use Rattle.heap_model.specs.declared.entry.Entry.{Entry}
 use Rattle.heap_rule.specs.declared.phase.Kind.{Kind}
 use Rattle.heap_rule.specs.declared.phase.Kind.TheVariants.{Run}
@@ -11,14 +13,15 @@ use Rattle.heap_rule.specs.declared.phase.Stage.TheVariants.{In}
 use Rattle.heap_rule.specs.Limits.{sizes_in}
 use Rattle.heap_rule.specs.Phases.{IsEven}
 use Rattle.heap_rule.specs.Token.{IsIn}
-use Rattle.domain_turns.specs.Runs.{RunView, IsRun, StandsAt, run_seeing}
-use Rattle.schedule_drive.specs.Together.{OneRun, Lead, Rests, Leads, Has, AllHave, LeadStep, Passed, SharesOn, Turned, Unqueued, all_halted, halted}
+use Rattle.domain_turns.specs.Runs.{RunView, IsRun, StandsAt, registrations_in, run_seeing}
+use Rattle.domain_turns.specs.Tries.{registrations_of}
+use Rattle.schedule_drive.specs.Together.{AllRuns, OneRun, Lead, Rests, Leads, Has, AllHave, LeadStep, Passed, SharesOn, SomeGone, Stands, Turned, Unqueued, all_halted, halted}
 use Rattle.replay_turns.specs.Walk.{IsWalk}
-use Rattle.replay_turns.specs.Gathered.{GatheredView, HasRun, IsGathered, IsHeld, MayShare, PassedBy, Steps, Walk, is_even, is_running, lead_by, lead_in, lead_of, one_run, run_at, seen_in}
+use Rattle.replay_turns.specs.Gathered.{GatheredView, GoneAt, HasRun, IsGathered, IsHeld, MayShare, PassedBy, Steps, Walk, is_even, is_running, lead_by, lead_in, lead_of, one_run, run_at, seen_in}
 use Rattle.replay_turns.specs.Leveled.{AllHere, Leveled}
 use Rattle.replay_turns.specs.Moves.{Becomes, HaltsUpto, PassesAt, StepsAt, forgetting, halted_run}
 use Rattle.schedule_drive.specs.declared.together.Stepped.{Stepped}
-use Rattle.heap_model.specs.Domains.{domain_at, opening}
+use Rattle.heap_model.specs.Domains.{IsWithinLimits, domain_at, opening}
 use Rattle.heap_rule.specs.declared.phase.Progress.{Progress}
 use Rattle.heap_rule.specs.Rule.{state_of}
 use Rattle.steps_queue_looks.proofs.Queues.{queue_of_front}
@@ -169,6 +172,11 @@ module _ (g : GatheredView) (all : IsGathered g) (mid : List (Option RunView)) (
         (subst (λ (rs : List (Option RunView)). MayShare (record g { runs = rs }) h) b.runs ms) in
         (r.token.view.seen.front, met_shares r.token.view.seen.front both.0, both.1)
 
+-- the domain of a run that is seen to run hasn't arrived
+runs_again : (o : Option Kind) → is_running o ≡ true → o ≡ None
+runs_again None e = refl
+runs_again (Some kind) e = absurd (true≢false (sym e))
+
 -- the run at a place passed on in a pause
 module _ (g : GatheredView) (all : IsGathered g) (mid : List (Option RunView)) (at : ℕ) (l : Leveled g.heap.config g.runs mid at (length g.runs)) (new : List (Option RunView)) (p : PassesAt g.heap g.complete mid new at) where
   abbrev held_run : IsHeld (record g { runs = mid }) at p.run
@@ -222,15 +230,16 @@ module _ (g : GatheredView) (all : IsGathered g) (mid : List (Option RunView)) (
           (λ away. inr (away, same_lead away, pass_by.silent away));
       own = pass_by.own;
       tells = pass_by.tells;
+      served = λ complete back. p.served complete (runs_again p.passed.left back);
       on = after_shares g all mid at (length g.runs) l p.run (forgetting p.passed) new p.becomes (pass_held supply same) refl (pass_by.control ++ pass_by.own) pass_by.steps;
-      view = λ i. record { sizes = sizes_in g.heap.config; runs = after_runs g all mid at (length g.runs) l p.run (forgetting p.passed) new p.becomes (pass_held supply same) refl i; lead = lead_by g.complete new };
+      view = λ i. record { sizes = sizes_in g.heap.config; runs = after_runs g all mid at (length g.runs) l p.run (forgetting p.passed) new p.becomes (pass_held supply same) refl i; lead = lead_by g.complete new; complete = g.complete };
     }
 
 -- all arrived
 module _ (g : GatheredView) (all : IsGathered g) (mid : List (Option RunView)) (l : Leveled g.heap.config g.runs mid 0 (length g.runs)) (new : List (Option RunView)) (complete : Bool)
     (u : HaltsUpto g.heap mid new (length mid)) (runs : (d : ℕ) (r : RunView) → HasRun mid d r → r.left ≡ None) (some : 0 < g.heap.config.domains) where
   abbrev pub halted_view : GatheredView
-  halted_view = record { heap = g.heap; runs = new; complete = complete }
+  halted_view = record { heap = g.heap; runs = new; complete = complete; steps = g.steps }
 
   from : (d : ℕ) (s : RunView) → HasRun new d s → (r : RunView) × HasRun mid d r × (s ≡ halted_run r) × IsIn s.token g.heap × IsRun s
   from d s is = u.halted d s (subst (λ (n : ℕ). d < n) u.count (inside new d (Some s) is)) is
@@ -285,7 +294,7 @@ module _ (g : GatheredView) (all : IsGathered g) (mid : List (Option RunView)) (
   odd_next n e = let j : ℕ = e.0 in let is : n ≡ j * 2 = e.1 in let one : (n + 1) % 2 ≡ 1 = omega arith in ap (λ (m : ℕ). m == 0) one
 
   pub halted_seen : seen_in halted_view ≡ all_halted complete (seen_in g)
-  halted_seen = λ i. record { sizes = sizes_in g.heap.config; runs = same_runs i; lead = same_lead i }
+  halted_seen = λ i. record { sizes = sizes_in g.heap.config; runs = same_runs i; lead = same_lead i; complete = complete }
     where
       same_runs : map run_at new ≡ map halted (map run_at g.runs)
       same_runs = same_lists (map halted (map run_at mid)) (map run_at new) (length-map new run_at ∙ (u.count ∙ (sym (length-map mid run_at) ∙ sym (length-map (map run_at mid) halted))))
@@ -364,5 +373,63 @@ module _ (g : GatheredView) (all : IsGathered g) (mid : List (Option RunView)) (
       own = t.own;
       on = after_shares g all mid at (length g.runs) l p.run p.made new p.becomes made_held refl t.own t.steps;
       tells = t.tells;
-      view = λ i. record { sizes = sizes_in g.heap.config; runs = after_runs g all mid at (length g.runs) l p.run p.made new p.becomes made_held refl i; lead = lead_same i };
+      view = λ i. record { sizes = sizes_in g.heap.config; runs = after_runs g all mid at (length g.runs) l p.run p.made new p.becomes made_held refl i; lead = lead_same i; complete = g.complete };
     }
+
+-- how many steps are left matters to nothing else
+pub resteps : (g : GatheredView) (n : ℕ) → IsGathered g → IsGathered (record g { steps = n })
+resteps g n all = record {
+  count = all.count;
+  filled = all.filled;
+  held = λ d r is. let i = all.held d r is in record { is = i.is; here = i.here; number = i.number; listed = i.listed; collected = i.collected; walk = i.walk };
+}
+
+pub repassed : (g : GatheredView) (n : ℕ) (new : List Entry → Type 0) (w : AllRuns) (d : ℕ) → Passed (MayShare (record g { steps = n })) new (seen_in g) w d → Passed (MayShare g) new (seen_in g) w d
+repassed g n new w d p = record {
+  run = p.run;
+  was = p.was;
+  becomes = p.becomes;
+  control = p.control;
+  controls = p.controls;
+  own = p.own;
+  tells = p.tells;
+  on = λ k is. let from = p.on k is in (from.0, record { legal = from.1.legal; trails = from.1.trails }, from.2);
+  served = p.served;
+  view = p.view;
+}
+
+-- a domain that is seen to have arrived
+pub gone_there : (g : GatheredView) → IsGathered g → SomeGone (seen_in g) → (d : ℕ) × (d < length g.runs) × GoneAt g.runs d
+gone_there g all some = (some.0, subst (λ (n : ℕ). some.0 < n) (length-map g.runs run_at) some.1, gone_run g some.0 some.2)
+
+-- a command registers one finaliser at most
+one_at_most : (c : Command) → registrations_of c ≤ 1
+one_at_most (Finalise item number dst) = omega arith
+one_at_most (FinaliseLast item number) = omega arith
+one_at_most _ = omega arith
+
+few_registered : (cs : List Command) → registrations_in cs ≤ length cs
+few_registered [] = omega arith
+few_registered (c ∷ cs) = let one = one_at_most c in let rest = few_registered cs in omega (arith, one, rest)
+
+-- so few finalisers wait
+few_wait : (r : RunView) → IsRun r → length r.token.view.own.finalisers.queue.items < 4294967296
+few_wait r is =
+    let replied = is.replied in
+    let within = is.within in
+    let few = is.few in
+    let registered = few_registered r.commands in
+    omega (arith, replied, within, few, registered)
+
+-- what is always true of the runs as they are seen
+pub stands_of : (g : GatheredView) → IsGathered g → IsWithinLimits (sizes_in g.heap.config) → Stands (seen_in g)
+stands_of g all limits = record {
+  limits = limits;
+  count = length-map g.runs run_at ∙ all.count;
+  rests = λ x at back.
+      let f = map_filled g.runs 0 x all.filled at in
+      lead_at g.complete g.runs f.0 f.1 ∙ ap (lead_in g.complete f.0.token.view.own.arrivals) (runs_again f.0.left (sym (ap (λ (o : OneRun). o.runs) f.2) ∙ back));
+  few = λ d x at.
+      let f = map_filled g.runs d x all.filled at in
+      subst (λ (n : ℕ). n < 4294967296) (sym (ap (λ (o : OneRun). o.waiting) f.2)) (few_wait f.0 (all.held d f.0 f.1).is);
+}

@@ -1,5 +1,5 @@
 -- One step in a pause of one domain.
-use Rattle.std.proofs.Common.{◌≡◌, ◌≢◌, ◌∙◌, ◌++◌, ◌∷◌, ◌+◌, ◌*◌, ◌%◌, ℕ, zero, suc, Bool, List, [], Option, Some, None, true, false, if◌then◌else◌, add-one, ap, drop, refl, slice_get, sym, subst, inl, inr, ⊎_elim, arith}
+use Rattle.std.proofs.Common.{length, ◌≡◌, ◌≢◌, ◌∙◌, ◌++◌, ◌∷◌, ◌+◌, ◌*◌, ◌%◌, ℕ, zero, suc, Bool, List, [], Option, Some, None, true, false, if◌then◌else◌, add-one, ap, drop, refl, slice_get, sym, subst, inl, inr, ⊎_elim, arith}
 use Rattle.std.proofs.lemmas.Bool.{eq-eqb, ne_eqb}
 use Rattle.heap_model.specs.declared.command.Command as model
 use Rattle.heap_model.specs.declared.command.Command.TheVariants.{FullMajor}
@@ -167,7 +167,7 @@ module _ (h : SharedHeap) (complete : Bool) (r s : RunView) (is : IsRun r) (now 
     leads = λ _. lead_as (lead_of complete r) (lead_of complete r) (lead_of complete s) (lead_of complete r) [] refl (ap (lead_of complete) w.run) (lead_stays (lead_of complete r));
     silent = λ _. refl;
     own = [];
-    tells = inr record { made = refl; run = ap one_run w.run ∙ ap (λ (o : Option Kind). record (one_run r) { runs = is_running o }) (sym (ap (λ (z : RunView). z.left) w.run)) };
+    tells = inr record { made = refl; run = ap one_run w.run ∙ λ i. record (one_run r) { runs = is_running (sym (ap (λ (z : RunView). z.left) w.run) i); waiting = sym (ap (λ (z : RunView). length z.token.view.own.finalisers.queue.items) w.run) i } };
     steps = steps_none d y.seen.front x.seen.front (grown_same d y.seen.front x.seen.front (ap (λ (z : RunView). z.token.view.seen.front) w.run));
     walk = λ first. walk_same (walk first) (same_progress number (knows_on x y r.progress number (ap (λ (z : RunView). z.token.view.seen.share.progress) w.run) is.between.knows) first) (λ kind at. sym (ap (λ (z : RunView). z.left) w.run) ∙ at);
   }
@@ -184,7 +184,7 @@ module _ (h : SharedHeap) (complete : Bool) (r s : RunView) (is : IsRun r) (now 
     left_is = ap (λ (z : RunView). z.left) g.run
 
     isnt : IsntAnswered (one_run r) (one_run s) []
-    isnt = record { made = refl; run = ap one_run g.run ∙ ap (λ (o : Option Kind). record (one_run r) { runs = is_running o }) (sym left_is) }
+    isnt = record { made = refl; run = ap one_run g.run ∙ ap (λ (o : Option Kind). record (one_run r) { runs = is_running o; waiting = length y.own.finalisers.queue.items }) (sym left_is) }
 
     lead_was : lead_of complete r ≡ lead_in complete x.own.arrivals (Some g.last)
     lead_was = ap (lead_in complete x.own.arrivals) g.arrived
@@ -285,7 +285,7 @@ module _ (h : SharedHeap) (complete : Bool) (r s : RunView) (is : IsRun r) (now 
           next = drop_next r.commands r.next FullMajor a.waited.next;
           asked = ap (λ (cs : List model.Command). asked_for cs r.asked) (drop_next r.commands r.next FullMajor a.waited.next) ∙ a.waited.wished;
           made = refl;
-          run = ap one_run a.run ∙ λ i. record { commands = r.commands; left = drop (r.next + 1) r.commands; replies = sym (ap (λ (z : RunView). z.replies) a.run) i; asked = unasked (drop (r.next + 1) r.commands) i; runs = is_running (sym a.arrived i); ended = r.ended };
+          run = ap one_run a.run ∙ λ i. record { commands = r.commands; left = drop (r.next + 1) r.commands; replies = sym (ap (λ (z : RunView). z.replies) a.run) i; asked = unasked (drop (r.next + 1) r.commands) i; waiting = length y.own.finalisers.queue.items; runs = is_running (sym a.arrived i); ended = r.ended };
         };
         steps = steps_one d y.seen.front mid x.seen.front e (grown_twice d mid b.seen.front x.seen.front grew (passed_front h.config x b a.answers.comes.passed)) (ap (λ (v : DomainView). v.seen.front) view ∙ ends);
         walk = answer_walk a.last a.arrived b a.answers.comes left_is number kept walk;
@@ -303,7 +303,7 @@ module _ (h : SharedHeap) (complete : Bool) (r s : RunView) (is : IsRun r) (now 
         leads = answer_leads a.last a.arrived b a.gives.comes left_is number kept;
         silent = λ _. refl;
         own = [];
-        tells = inr record { made = refl; run = ap one_run a.run ∙ ap (λ (o : Option Kind). record (one_run r) { runs = is_running o }) (sym left_is) };
+        tells = inr record { made = refl; run = ap one_run a.run ∙ ap (λ (o : Option Kind). record (one_run r) { runs = is_running o; waiting = length y.own.finalisers.queue.items }) (sym left_is) };
         steps = steps_none d y.seen.front x.seen.front (grown_twice d y.seen.front b.seen.front x.seen.front behind (passed_front h.config x b a.gives.comes.passed));
         walk = answer_walk a.last a.arrived b a.gives.comes left_is number kept walk;
       }
@@ -318,7 +318,7 @@ module _ (h : SharedHeap) (complete : Bool) (r s : RunView) (is : IsRun r) (now 
         leads = λ first. lead_as (lead_of complete r) Rests (lead_of complete s) Rests [] (ap (lead_in complete x.own.arrivals) a.arrived.1 ∙ (lead_even complete x.own.arrivals a.arrived.0 a.even ∙ ap (lead_named complete) (sym (a.arrived.2.0 first)))) (ap (lead_in complete y.own.arrivals) left_is) refl;
         silent = λ _. refl;
         own = [];
-        tells = inr record { made = refl; run = ap one_run a.run ∙ ap (λ (o : Option Kind). record (one_run r) { runs = is_running o }) (sym left_is) };
+        tells = inr record { made = refl; run = ap one_run a.run ∙ ap (λ (o : Option Kind). record (one_run r) { runs = is_running o; waiting = length y.own.finalisers.queue.items }) (sym left_is) };
         steps = steps_none d y.seen.front x.seen.front (passed_front h.config x y a.passed);
         walk = λ first. walk_same (walk first) (same_progress number (knows_on x y r.progress number kept is.between.knows) first) (λ kind at. absurd (let none : ◌≡◌ {A = Option Kind} None (Some kind) = sym left_is ∙ at in cc));
       }

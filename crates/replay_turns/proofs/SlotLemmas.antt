@@ -1,5 +1,5 @@
 -- The runs at their places.
-use Rattle.std.proofs.Common.{◌≡◌, ◌<◌, ℕ, zero, suc, List, [], ◌∷◌, length, Option, Some, None, sym, ap, arith, ◌∙◌}
+use Rattle.std.proofs.Common.{◌≡◌, ◌<◌, ℕ, zero, suc, List, [], ◌∷◌, drop, length, Option, Some, None, sym, ap, arith, ◌∙◌}
 use Rattle.std.specs.Prelude.{slice_get, slice_index_or}
 use Rattle.domain_turns.specs.Runs.{RunView}
 use Rattle.replay_turns.specs.Gathered.{HasRun}
@@ -27,3 +27,16 @@ never_none runs at d r there none =
 -- one run at a place
 pub one_there : (runs : List (Option RunView)) (at : ℕ) (r s : RunView) → HasRun runs at r → HasRun runs at s → r ≡ s
 one_there runs at r s a b = let same : ◌≡◌ {A = Option (Option RunView)} (Some (Some r)) (Some (Some s)) = sym a ∙ b in cc
+
+-- what an index finds there
+pub slot_at : (runs : List (Option RunView)) (at : ℕ) (r : RunView) → HasRun runs at r → (o : Option RunView) → o ≡ slice_index_or runs at o → o ≡ Some r
+slot_at [] at r there o is = cc
+slot_at (x ∷ runs) zero r there o is = let same : x ≡ Some r = cc in is ∙ same
+slot_at (x ∷ runs) (suc at) r there o is = slot_at runs at r there o is
+
+-- what begins the rest of a list stands at its place
+pub at_first : {A : Type 0} (xs : List A) (n : ℕ) (x : A) (rest : List A) → drop n xs ≡ x ∷ rest → slice_get xs n ≡ Some x
+at_first [] zero x rest is = cc
+at_first [] (suc n) x rest is = cc
+at_first (y ∷ ys) zero x rest is = cc
+at_first (y ∷ ys) (suc n) x rest is = at_first ys n x rest is

@@ -1,6 +1,7 @@
 -- One step of a running domain.
-use Rattle.std.proofs.Common.{◌≡◌, ◌≢◌, ◌∙◌, ◌++◌, ◌∷◌, ◌+◌, ◌≤◌, ℕ, zero, suc, Bool, true, false, true≢false, IsTrue, List, [], Some, None, not, ap, arith, drop, inl, inr, length, length-append, refl, slice_get, sym, subst, ⊎_elim}
+use Rattle.std.proofs.Common.{◌≡◌, ◌≢◌, ◌∙◌, ◌++◌, ◌∷◌, ◌+◌, ◌<◌, ◌≤◌, ℕ, zero, suc, Bool, true, false, true≢false, IsTrue, List, [], Some, None, not, ap, arith, drop, inl, inr, length, length-append, refl, slice_get, sym, subst, ⊎_elim}
 use Rattle.std.specs.List.{list_all}
+use Rattle.std.specs.Prelude.{remove}
 use Rattle.heap_model.specs.declared.command.Command as model
 use Rattle.heap_model.specs.declared.command.Command.TheVariants.{PutInt, Copy, Forget, Alloc, AllocMaj, Load, Store, Ephe, SetKey, UnsetKey, GetKey, CheckKey, SetData, UnsetData, GetData, CheckData, Finalise, FinaliseLast, Poll, Minor, Major, FullMajor, Raw, Cas}
 use Rattle.heap_model.specs.declared.entry.Entry.{Entry}
@@ -119,11 +120,16 @@ empty_list (x ∷ xs) none = absurd (omega (arith, none))
 one_more : {A : Type 0} (xs : List A) (x : A) → length (xs ++ x ∷ []) ≡ length xs → ⊥
 one_more xs x same = let all = length-append xs (x ∷ []) in omega (arith, all, same)
 
+-- the first is taken
+one_fewer : {A : Type 0} (xs : List A) (x : A) → slice_get xs 0 ≡ Some x → length (remove xs 0) < length xs
+one_fewer [] x at = cc
+one_fewer (y ∷ ys) x at = omega arith
+
 more : (n : ℕ) → n + 1 ≡ n → ⊥
 more n same = omega (arith, same)
 
 module _ (h : SharedHeap) (shares : List Entry → Type 0) (d : ℕ) (r s : RunView) (stepped : Stepped) (mine : d ≡ r.token.view.own.number) (goes_on : r.ended ≡ false) (fresh : r.collected ≡ false)
-    (came : CameTo h.config s r.next (length r.replies) stepped)
+    (came : CameTo h.config s r.next (length r.replies) stepped) (once : stepped ≡ Needs false → (one_run r).asked ≡ false)
     (unqueued : length (domain_at (state_of h.config s.token.view.seen.front) s.token.view.own.number).queue ≡ 0 → Unqueued (sizes_in h.config) shares d) where
   abbrev z : Sizes
   z = sizes_in h.config
@@ -136,18 +142,18 @@ module _ (h : SharedHeap) (shares : List Entry → Type 0) (d : ℕ) (r s : RunV
 
   -- what a step may have come to that made no entry: it came to the need of a pause
   no_entry : (command : model.Command) → slice_get r.commands r.next ≡ Some command → s.commands ≡ r.commands → s.next ≡ r.next → s.replies ≡ r.replies → s.ended ≡ r.ended → y.own.number ≡ x.own.number → y.seen.front ≡ x.seen.front
-      → one_run s ≡ record (one_run r) { asked = true } → (command ≡ FullMajor → length y.own.finalisers.queue.items ≡ 0) → TurnedBy z shares d r s stepped
-  no_entry command next commands same replies ended number front run empty = go stepped came where
+      → one_run s ≡ record (one_run r) { asked = true; waiting = length y.own.finalisers.queue.items } → (command ≡ FullMajor → length y.own.finalisers.queue.items ≡ 0) → TurnedBy z shares d r s stepped
+  no_entry command next commands same replies ended number front run empty = go stepped came once where
     steps : Steps d x.seen.front y.seen.front []
     steps = steps_none d y.seen.front x.seen.front (grown_same d y.seen.front x.seen.front front)
 
     named : slice_get s.commands s.next ≡ Some FullMajor → slice_get r.commands r.next ≡ Some FullMajor
     named at = (λ i. slice_get (sym commands i) (sym same i)) ∙ at
 
-    go : (c : Stepped) → CameTo h.config s r.next (length r.replies) c → TurnedBy z shares d r s c
-    go Made at = ⊎_elim (λ (e : s.next ≢ r.next). absurd (e same)) (λ (e : s.ended ≡ true). absurd (true≢false (sym e ∙ (ended ∙ goes_on)))) at
-    go Ran at = absurd (at.2 (ap length replies))
-    go (Needs true) at =
+    go : (c : Stepped) → CameTo h.config s r.next (length r.replies) c → (c ≡ Needs false → (one_run r).asked ≡ false) → TurnedBy z shares d r s c
+    go Made at one = ⊎_elim (λ (e : s.next ≢ r.next). absurd (e same)) (λ (e : s.ended ≡ true). absurd (true≢false (sym e ∙ (ended ∙ goes_on)))) at
+    go Ran at one = absurd (at.2 (ap length replies))
+    go (Needs true) at one =
         let full : slice_get r.commands r.next ≡ Some FullMajor = named (at.3 refl) in
         let is : command ≡ FullMajor = (let e : Some command ≡ Some FullMajor = sym next ∙ full in cc) in record {
           own = [];
@@ -155,14 +161,14 @@ module _ (h : SharedHeap) (shares : List Entry → Type 0) (d : ℕ) (r s : RunV
           tells = record { others = drop (r.next + 1) r.commands; next = drop_next r.commands r.next FullMajor full; unqueued = unqueued (at.5 ∙ empty is); made = refl; run = run };
           number = number;
         }
-    go (Needs false) at = record { own = []; steps = steps; tells = (refl, run); number = number }
+    go (Needs false) at one = record { own = []; steps = steps; tells = (refl, run, one refl); number = number }
 
   asked_now : (command : model.Command) (at : ℕ) → slice_get r.commands r.next ≡ Some command → asked_for (drop r.next r.commands) (Some at) ≡ true
   asked_now command at next = ap (λ (cs : List model.Command). asked_for cs (Some at)) (drop_next r.commands r.next command next)
 
   -- the command was made
   made_next : (command : model.Command) (reply : Reply) → slice_get r.commands r.next ≡ Some command → command ≢ FullMajor → Answers z x.own.number x.seen.front y.seen.front (CommandOf x.own.number command false) (Replied reply)
-      → s.next ≡ r.next + 1 → y.own.number ≡ x.own.number → one_run s ≡ record (one_run r) { left = drop (r.next + 1) r.commands; replies = s.replies; asked = false } → TurnedBy z shares d r s stepped
+      → s.next ≡ r.next + 1 → y.own.number ≡ x.own.number → one_run s ≡ record (one_run r) { left = drop (r.next + 1) r.commands; replies = s.replies; asked = false; waiting = length y.own.finalisers.queue.items } → TurnedBy z shares d r s stepped
   made_next command reply next short answers later number run = go stepped came where
     go : (c : Stepped) → CameTo h.config s r.next (length r.replies) c → TurnedBy z shares d r s c
     go Made at = record {
@@ -180,9 +186,9 @@ module _ (h : SharedHeap) (shares : List Entry → Type 0) (d : ℕ) (r s : RunV
 
   -- the run behind a command, but for what a replay doesn't see
   behind_command : (reply : Reply) → (v : RunView) → one_run s ≡ one_run v → v.replies ≡ r.replies ++ reply ∷ [] → s.replies ≡ v.replies
-      → one_run v ≡ record { commands = r.commands; left = drop (r.next + 1) r.commands; replies = r.replies ++ reply ∷ []; asked = asked_for (drop (r.next + 1) r.commands) None; runs = is_running r.left; ended = r.ended }
-      → one_run s ≡ record (one_run r) { left = drop (r.next + 1) r.commands; replies = s.replies; asked = false }
-  behind_command reply v same replies kept is = same ∙ (is ∙ λ i. record { commands = r.commands; left = drop (r.next + 1) r.commands; replies = sym (kept ∙ replies) i; asked = unasked (drop (r.next + 1) r.commands) i; runs = is_running r.left; ended = r.ended })
+      → one_run v ≡ record { commands = r.commands; left = drop (r.next + 1) r.commands; replies = r.replies ++ reply ∷ []; asked = asked_for (drop (r.next + 1) r.commands) None; waiting = length v.token.view.own.finalisers.queue.items; runs = is_running r.left; ended = r.ended }
+      → one_run s ≡ record (one_run r) { left = drop (r.next + 1) r.commands; replies = s.replies; asked = false; waiting = length y.own.finalisers.queue.items }
+  behind_command reply v same replies kept is = same ∙ (is ∙ λ i. record { commands = r.commands; left = drop (r.next + 1) r.commands; replies = sym (kept ∙ replies) i; asked = unasked (drop (r.next + 1) r.commands) i; waiting = sym (ap (λ (o : OneRun). o.waiting) same) i; runs = is_running r.left; ended = r.ended })
 
   tries : (c : model.Command) → TriesCommand h r.token r s c → TurnedBy z shares d r s stepped
   tries c t =
@@ -234,6 +240,10 @@ module _ (h : SharedHeap) (shares : List Entry → Type 0) (d : ℕ) (r s : RunV
 
   finalises : RunsFinaliser h r.token r s → TurnedBy z shares d r s stepped
   finalises f = go stepped came where
+    -- one finaliser fewer waits
+    fewer_wait : length y.own.finalisers.queue.items < length x.own.finalisers.queue.items
+    fewer_wait = subst (λ (n : ℕ). n < length x.own.finalisers.queue.items) (sym (ap (λ (v : DomainView). length v.own.finalisers.queue.items) f.first.view)) (one_fewer x.own.finalisers.queue.items f.first.first f.first.is_first)
+
     same : s.next ≡ r.next
     same = ap (λ (v : RunView). v.next) f.run
 
@@ -245,7 +255,7 @@ module _ (h : SharedHeap) (shares : List Entry → Type 0) (d : ℕ) (r s : RunV
     go Ran at = record {
       own = RanOf d ∷ [];
       steps = subst (λ (n : ℕ). Steps n x.seen.front y.seen.front (RanOf n ∷ [])) (sym mine) (answer_steps z x.own.number y.seen.front x.seen.front (RanOf x.own.number) (Replied (reply_of f.ran)) refl f.first.answers);
-      tells = (refl, ap one_run f.run ∙ ap (λ (l : List Reply). record (one_run r) { replies = l }) (sym (ap (λ (v : RunView). v.replies) f.run)));
+      tells = (refl, ap one_run f.run ∙ ap (λ (l : List Reply). record (one_run r) { replies = l; waiting = length y.own.finalisers.queue.items }) (sym (ap (λ (v : RunView). v.replies) f.run)), fewer_wait);
       number = ap (λ (v : DomainView). v.own.number) f.first.view;
     }
     go (Needs complete) at = absurd (one_more r.replies (reply_of f.ran) (ap length (sym (ap (λ (v : RunView). v.replies) f.run)) ∙ at.2))
@@ -253,7 +263,7 @@ module _ (h : SharedHeap) (shares : List Entry → Type 0) (d : ℕ) (r s : RunV
   asks : Asks h r.token r s → TurnedBy z shares d r s stepped
   asks a = no_entry a.command a.next (ap (λ (v : RunView). v.commands) a.run) (ap (λ (v : RunView). v.next) a.run) (ap (λ (v : RunView). v.replies) a.run) (ap (λ (v : RunView). v.ended) a.run)
       (ap (λ (v : RunView). v.token.view.own.number) a.run) (ap (λ (v : RunView). v.token.view.seen.front) a.run)
-      (ap one_run a.run ∙ λ i. record (one_run r) { asked = asked_now a.command x.own.arrivals a.next i })
+      (ap one_run a.run ∙ λ i. record (one_run r) { asked = asked_now a.command x.own.arrivals a.next i; waiting = sym (ap (λ (v : RunView). length v.token.view.own.finalisers.queue.items) a.run) i })
       (λ _. ap (λ (v : RunView). length v.token.view.own.finalisers.queue.items) a.run ∙ ap length a.unqueued)
 
   -- a search leaves the front and the number
@@ -268,7 +278,7 @@ module _ (h : SharedHeap) (shares : List Entry → Type 0) (d : ℕ) (r s : RunV
       let kept = searched_on h.config x a.searched.view a.refused.view in
       no_entry a.command a.next (ap (λ (v : RunView). v.commands) a.run) (ap (λ (v : RunView). v.next) a.run) (ap (λ (v : RunView). v.replies) a.run) (ap (λ (v : RunView). v.ended) a.run)
       (ap (λ (v : RunView). v.token.view.own.number) a.run ∙ kept.1) (ap (λ (v : RunView). v.token.view.seen.front) a.run ∙ kept.0)
-      (ap one_run a.run ∙ λ i. record (one_run r) { asked = asked_now a.command x.own.arrivals a.next i })
+      (ap one_run a.run ∙ λ i. record (one_run r) { asked = asked_now a.command x.own.arrivals a.next i; waiting = sym (ap (λ (v : RunView). length v.token.view.own.finalisers.queue.items) a.run) i })
       (λ is. absurd (is_short h.config x.own _ a.command a.ready is))
 
   ends : EndsTrace h r.token r s → TurnedBy z shares d r s stepped
@@ -287,7 +297,7 @@ module _ (h : SharedHeap) (shares : List Entry → Type 0) (d : ℕ) (r s : RunV
       own = EndOf d ∷ [];
       steps = subst (λ (n : ℕ). Steps n x.seen.front y.seen.front (EndOf n ∷ [])) (sym mine)
           (answer_steps z x.own.number y.seen.front x.seen.front (EndOf x.own.number) Silent refl (subst (λ (k : Config). Answers (sizes_in k) x.own.number x.seen.front y.seen.front (EndOf x.own.number) Silent) config e.ended.answers));
-      tells = inr record { none = none; made = refl; run = ap one_run e.run ∙ λ i. record { commands = r.commands; left = drop r.next r.commands; replies = r.replies; asked = ap (λ (cs : List model.Command). asked_for cs r.asked) none i; runs = is_running r.left; ended = true } };
+      tells = inr record { none = none; made = refl; run = ap one_run e.run ∙ λ i. record { commands = r.commands; left = drop r.next r.commands; replies = r.replies; asked = ap (λ (cs : List model.Command). asked_for cs r.asked) none i; waiting = length y.own.finalisers.queue.items; runs = is_running r.left; ended = true } };
       number = ap (λ (v : DomainView). v.own.number) e.ended.view;
     }
     go Ran at = absurd (true≢false (sym over ∙ at.1))

@@ -26,7 +26,7 @@ module _ (g : GatheredView) (all : IsGathered g) (mid : List (Option RunView)) (
   held = met_held g all mid at (length g.runs) l at p.run p.becomes.was
 
   by : (shares : List Entry → Type 0) → (length (domain_at (state_of g.heap.config p.made.token.view.seen.front) p.made.token.view.own.number).queue ≡ 0 → Unqueued (sizes_in g.heap.config) shares at) → TurnedBy (sizes_in g.heap.config) shares at p.run p.made stepped
-  by shares none = turned g.heap shares at p.run p.made stepped (sym held.number) goes_on held.collected p.came none p.answer held.listed p.calm
+  by shares none = turned g.heap shares at p.run p.made stepped (sym held.number) goes_on held.collected p.came p.once none p.answer held.listed p.calm
 
   number : p.made.token.view.own.number ≡ p.run.token.view.own.number
   number = (by (λ h. ⊥) (λ _ h ms. absurd ms)).number

@@ -14,11 +14,12 @@ use Rattle.domain_turns.specs.Runs.{RunView, IsRun, is_asked}
 use Rattle.replay_turns.specs.Walk.{IsWalk}
 use Rattle.schedule_drive.specs.Together.{AllRuns, OneRun, Lead, Rests, Leads, Answers, LeadStep, IsAnswered, IsntAnswered}
 
--- the runs, each at the place of its domain, and whether a complete collection is made in the pause that domain 0 leads
+-- the runs, each at the place of its domain, whether a complete collection is made in the pause that domain 0 leads, and how many steps in pauses are left
 pub record GatheredView : Type 0 where
   pub heap : SharedHeap
   pub runs : List (Option RunView)
   pub complete : Bool
+  pub steps : ℕ
 
 -- whether a domain hasn't arrived
 abbrev pub is_running : Option Kind → Bool
@@ -32,11 +33,11 @@ asked_for (c ∷ cs) asked = is_asked asked
 
 -- a run as a replay sees it
 abbrev pub one_run : RunView → OneRun
-one_run r = record { commands = r.commands; left = drop r.next r.commands; replies = r.replies; asked = asked_for (drop r.next r.commands) r.asked; runs = is_running r.left; ended = r.ended }
+one_run r = record { commands = r.commands; left = drop r.next r.commands; replies = r.replies; asked = asked_for (drop r.next r.commands) r.asked; waiting = length r.token.view.own.finalisers.queue.items; runs = is_running r.left; ended = r.ended }
 
 -- where none is there
 abbrev pub run_at : Option RunView → OneRun
-run_at None = record { commands = []; left = []; replies = []; asked = false; runs = true; ended = true }
+run_at None = record { commands = []; left = []; replies = []; asked = false; waiting = 0; runs = true; ended = true }
 run_at (Some r) = one_run r
 
 -- whether a number is even
@@ -60,11 +61,15 @@ lead_by complete _ = Rests
 
 -- all of it
 abbrev pub seen_in : GatheredView → AllRuns
-seen_in g = record { sizes = sizes_in g.heap.config; runs = map run_at g.runs; lead = lead_by g.complete g.runs }
+seen_in g = record { sizes = sizes_in g.heap.config; runs = map run_at g.runs; lead = lead_by g.complete g.runs; complete = g.complete }
 
 -- the run of domain d
 abbrev pub HasRun : List (Option RunView) → ℕ → RunView → Type 0
 HasRun runs d r = slice_get runs d ≡ Some (Some r)
+
+-- the domain at a place has arrived
+abbrev pub GoneAt : List (Option RunView) → ℕ → Type 0
+GoneAt runs d = (r : RunView) → HasRun runs d r → r.left ≢ None
 
 -- a history that all may share: it is legal, and behind the front of each domain it has no entry of that domain, none of the collector while the domain runs, and behind domain 0's none by which a collection begins, goes on or ends
 pub record MayShare (g : GatheredView) (h : List Entry) : Type 0 where

@@ -1,5 +1,5 @@
 -- What the calls on one run leave of the runs of a heap.
-use Rattle.std.specs.Prelude.{◌≡◌, ◌≢◌, ◌⊎◌, ◌<◌, ℕ, Bool, true, false, List, length, slice_get, slice_set, Option, Some}
+use Rattle.std.specs.Prelude.{◌≡◌, ◌≢◌, ◌⊎◌, ◌<◌, ℕ, Bool, true, false, List, length, slice_get, slice_set, Option, Some, None}
 use Rattle.heap_model.specs.declared.command.Command.TheVariants.{FullMajor}
 use Rattle.heap_model.specs.Domains.{domain_at}
 use Rattle.heap_rule.specs.declared.config.Config.{Config}
@@ -12,7 +12,8 @@ use Rattle.domain_turns.specs.declared.turned.Turned as turned
 use Rattle.domain_turns.specs.Runs.{RunView, CalmAnswers, GoesOn, IsRun, PassesOn}
 use Rattle.schedule_drive.specs.declared.together.Stepped.{Stepped}
 use Rattle.schedule_drive.specs.declared.together.Stepped.TheVariants.{Ran, Made, Needs}
-use Rattle.replay_turns.specs.Gathered.{HasRun}
+use Rattle.schedule_drive.specs.Together.{IsServed}
+use Rattle.replay_turns.specs.Gathered.{HasRun, one_run}
 use Rattle.replay_turns.specs.Leveled.{Leveled}
 
 -- the run at a place has become another, which is of the heap too, and the others are as they were
@@ -32,7 +33,7 @@ pub record MetThen (k : Config) (old : List (Option RunView)) (at : ℕ) (Then :
   pub leveled : Leveled k old mid at (length old)
   pub moved : Then mid
 
--- the domain at a place made a step in a pause that domain 0 leads as it is told
+-- the domain at a place made a step in a pause that domain 0 leads as it is told. Where a complete collection was made it comes back only once its `full_major` is answered
 pub record PassesAt (h : SharedHeap) (complete : Bool) (old new : List (Option RunView)) (at : ℕ) : Type 0 where
   pub run : RunView
   pub passed : RunView
@@ -40,6 +41,7 @@ pub record PassesAt (h : SharedHeap) (complete : Bool) (old new : List (Option R
   pub passes : PassesOn h (Caller complete) run passed answer
   pub is_passed : IsRun passed
   pub goes_on : GoesOn run passed
+  pub served : complete ≡ true → passed.left ≡ None → IsServed (one_run passed)
   pub becomes : Becomes h old new at run (forgetting passed)
 
 -- the run of a domain that has arrived
@@ -65,11 +67,12 @@ CameTo k s next count Ran = (s.next ≡ next) × (s.ended ≡ false) × (length 
 CameTo k s next count (Needs complete) = (s.next ≡ next) × (s.ended ≡ false) × (length s.replies ≡ count) × ((complete ≡ true) → slice_get s.commands s.next ≡ Some FullMajor) × ((complete ≡ false) → slice_get s.commands s.next ≡ Some FullMajor → ⊥)
     × (length (domain_at (state_of k s.token.view.seen.front) s.token.view.own.number).queue ≡ length s.token.view.own.finalisers.queue.items)
 
--- the domain at a place made a step, while it runs
+-- the domain at a place made a step, while it runs. No command asks twice for a pause without a complete collection
 pub record StepsAt (h : SharedHeap) (old new : List (Option RunView)) (at : ℕ) (stepped : Stepped) : Type 0 where
   pub run : RunView
   pub made : RunView
   pub answer : turned.Turned
   pub calm : CalmAnswers h run made answer
   pub came : CameTo h.config made run.next (length run.replies) stepped
+  pub once : stepped ≡ Needs false → (one_run run).asked ≡ false
   pub becomes : Becomes h old new at run made

@@ -42,23 +42,28 @@ fn runs_of(slots: Vec<Option<DomainRun>>, room: Vec<DomainRun>) -> Vec<DomainRun
 }
 
 /// The runs of all domains of one heap, which their holder drives in any order. Contracts see them, the heap,
-/// and whether a complete collection is made in the pause that domain 0 leads.
+/// whether a complete collection is made in the pause that domain 0 leads, and how many steps in pauses are left.
 #[derive(Drop)]
 pub struct Gathered {
     pub(crate) heap: Heap,
     // The run of each domain, at its place. All are there between any two calls.
     pub(crate) runs: Vec<Option<DomainRun>>,
     pub(crate) complete: bool,
+    // How many steps in pauses are left: where none is, the next one waits.
+    pub(crate) steps: u64,
 }
+
+// More than a replay takes.
+const MOST_STEPS: u64 = 1 << 60;
 
 impl Model for Gathered {
     ghost use Rattle.replay_turns.specs.Gathered.{GatheredView, IsGathered};
 
     ghost Value = { GatheredView };
 
-    ghost view = { λ g. record { heap = g.heap; runs = g.runs.items; complete = g.complete } };
+    ghost view = { λ g. record { heap = g.heap; runs = g.runs.items; complete = g.complete; steps = g.steps } };
 
-    ghost invariant = { λ g. IsGathered (record { heap = g.heap; runs = g.runs.items; complete = g.complete }) };
+    ghost invariant = { λ g. IsGathered (record { heap = g.heap; runs = g.runs.items; complete = g.complete; steps = g.steps }) };
 }
 
 impl Gathered {
@@ -68,13 +73,14 @@ impl Gathered {
     /// its runs are given up.
     pub fn gather(alloc: Global, heap: Heap, runs: Vec<DomainRun>) -> Result<Gathered, AllocError>
         requires may { MayGather heap runs.items }
-        ensures { IfOk result (λ g. g ≡ record { heap = heap; runs = map Some runs.items; complete = false }) }
+        ensures { IfOk result (λ g. g ≡ record { heap = heap; runs = map Some runs.items; complete = false; steps = 1152921504606846976 }) }
     {
         let slots = slots_of(alloc, runs)?;
         Ok(Gathered {
             heap,
             runs: slots,
             complete: false,
+            steps: MOST_STEPS,
         })
     }
 
@@ -92,6 +98,7 @@ impl Gathered {
             heap,
             runs,
             complete: _,
+            steps: _,
         } = self;
         let mut runs = runs;
         let _limits = heap.config();

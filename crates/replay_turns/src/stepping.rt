@@ -3,7 +3,8 @@ ghost use Rattle.std.specs.Prelude.{◌≡◌, ◌≢◌, ◌<◌, false, length
 ghost use Rattle.domain_turns.specs.declared.supply.Supply.TheVariants.{Listed};
 ghost use Rattle.domain_turns.specs.Runs.{RunView};
 ghost use Rattle.heap_rule.specs.Token.{IsIn};
-ghost use Rattle.replay_turns.specs.Gathered.{HasRun};
+ghost use Rattle.replay_turns.specs.Gathered.{HasRun, one_run};
+ghost use Rattle.schedule_drive.specs.declared.together.Stepped.TheVariants.{Needs};
 ghost use Rattle.replay_turns.specs.Leveled.{AllHere};
 ghost use Rattle.replay_turns.specs.Moves.{CameTo, MetThen, StepsAt};
 
@@ -11,6 +12,7 @@ use crate::meeting::meet_each;
 use domain_turns::{DomainRun, go_on};
 use heap_rule::Heap;
 use schedule_drive::Stepped;
+use std::sync::Wait;
 
 // What a step came to, after which the domain runs: the place of the next command and the number of replies before it
 // are known.
@@ -32,8 +34,28 @@ fn came_to(heap: &Heap, run: &mut DomainRun, next: usize, count: usize) -> Stepp
     }
 }
 
+// Waits without end where a command asks again for a pause without a complete collection.
+fn asks_once<R: Wait>(rt: &R, asked: bool, stepped: Stepped)
+    ensures { stepped ≡ Needs false → asked ≡ false }
+{
+    match stepped {
+        Stepped::Needs { complete: false } if asked => {
+            'ever: for _ in rt.forever() {}
+            unreachable!()
+        }
+        _ => (),
+    }
+}
+
+// Whether a run has asked for a pause for its next command.
+fn has_asked(run: &DomainRun) -> bool
+    ensures { result ≡ (one_run run.now).asked }
+{
+    run.commands_left() > 0 && run.has_asked()
+}
+
 // One step of the domain at this place, which runs and hasn't ended.
-fn step_alone(heap: &Heap, runs: &mut [Option<DomainRun>], at: usize) -> Stepped
+fn step_alone<R: Wait>(rt: &R, heap: &Heap, runs: &mut [Option<DomainRun>], at: usize) -> Stepped
     requires inside { at < length runs.old }
     requires here { AllHere heap.now runs.old }
     requires running { (r : RunView) → HasRun runs.old at r → r.left ≡ None }
@@ -45,13 +67,21 @@ fn step_alone(heap: &Heap, runs: &mut [Option<DomainRun>], at: usize) -> Stepped
     };
     let next = run.next();
     let count = run.replies().len();
+    let asked = has_asked(run);
     go_on(heap, run);
     run.is_faithful();
-    came_to(heap, run, next, count)
+    let stepped = came_to(heap, run, next, count);
+    asks_once(rt, asked, stepped);
+    stepped
 }
 
 // The same once the domain has met each other one.
-pub(crate) fn step_at(heap: &Heap, runs: &mut [Option<DomainRun>], at: usize) -> Stepped
+pub(crate) fn step_at<R: Wait>(
+    rt: &R,
+    heap: &Heap,
+    runs: &mut [Option<DomainRun>],
+    at: usize,
+) -> Stepped
     requires inside { at < length runs.old }
     requires here { AllHere heap.now runs.old }
     requires running { (r : RunView) → HasRun runs.old at r → r.left ≡ None }
@@ -59,5 +89,5 @@ pub(crate) fn step_at(heap: &Heap, runs: &mut [Option<DomainRun>], at: usize) ->
     ensures steps { MetThen heap.now.config runs.old at (λ mid. StepsAt heap.now mid runs.new at result) }
 {
     meet_each(heap, runs, at);
-    step_alone(heap, runs, at)
+    step_alone(rt, heap, runs, at)
 }

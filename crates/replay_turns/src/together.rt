@@ -3,7 +3,7 @@ ghost use Rattle.replay_turns.specs.Gathered.{MayShare, seen_in};
 
 use crate::gathered::Gathered;
 use crate::halting::halt_all;
-use crate::passing::pass_at;
+use crate::passing::{gone, pass_at, spend};
 use crate::stepping::step_at;
 use schedule_drive::{Stepped, TogetherRuns};
 use std::sync::Wait;
@@ -12,6 +12,8 @@ impl TogetherRuns for Gathered {
     ghost seen = { λ g. seen_in g };
 
     ghost shares = { λ g h. MayShare g h };
+
+    ghost pace = { λ g. g.steps };
 
     fn stands(&self) {
         let _limits = self.heap.config();
@@ -33,13 +35,8 @@ impl TogetherRuns for Gathered {
         self.run(at).running()
     }
 
-    fn has_asked(&self, at: usize) -> bool {
-        let run = self.run(at);
-        run.commands_left() > 0 && run.has_asked()
-    }
-
-    fn turn<R: Wait>(&mut self, _rt: &R, at: usize) -> Stepped {
-        step_at(&self.heap, self.runs.as_mut_slice(), at)
+    fn turn<R: Wait>(&mut self, rt: &R, at: usize) -> Stepped {
+        step_at(rt, &self.heap, self.runs.as_mut_slice(), at)
     }
 
     fn halt_all<R: Wait>(&mut self, rt: &R, complete: bool) {
@@ -48,7 +45,9 @@ impl TogetherRuns for Gathered {
         self.complete = complete;
     }
 
-    fn pass_on<R: Wait>(&mut self, rt: &R, at: usize) {
+    fn pass_next<R: Wait>(&mut self, rt: &R) {
+        let at = gone(self.runs.as_slice());
+        self.steps = spend(rt, self.steps);
         pass_at(rt, &self.heap, self.runs.as_mut_slice(), at, self.complete);
     }
 }

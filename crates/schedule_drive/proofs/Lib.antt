@@ -2,5 +2,6 @@ mod Listing
 mod Walking
 mod Passing
 mod Agreeing
+mod Ending
 mod Turns
 mod Rounds

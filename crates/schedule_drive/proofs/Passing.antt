@@ -1,9 +1,9 @@
 -- A pause, step by step.
-use Rattle.std.proofs.Common.{◌≡◌, ◌⊎◌, ℕ, zero, suc, ◌<◌, Bool, true, false, ◌&&◌, List, length, [], ◌∷◌, ◌++◌, map, get_or, set, slice_get, refl, sym, ap, ◌∙◌, subst, inl, inr, ⊎_elim, append_assoc, append-nil, Some, arith}
+use Rattle.std.proofs.Common.{◌≡◌, ◌⊎◌, ℕ, zero, suc, ◌<◌, Bool, true, false, ◌&&◌, List, length, [], ◌∷◌, ◌++◌, map, get_or, set, slice_get, refl, sym, ap, ◌∙◌, subst, inl, inr, ⊎_elim, append_assoc, append-nil, Option, None, Some, option_map, arith}
 use Rattle.std.specs.List.{list_all}
 use Rattle.std.proofs.lemmas.Bool.{cases_eq, false≢true}
-use Rattle.std.proofs.lemmas.List.{get_or-set_other, length-set, map-set}
-use Rattle.std.proofs.lemmas.Option.{slice_get-get_or}
+use Rattle.std.proofs.lemmas.List.{get_or-set_other, map-set}
+use Rattle.std.proofs.lemmas.Option.{slice_get-get_or, slice_get-map, slice_get_within}
 use Rattle.std.proofs.lemmas.List.Folds.{list_all-append}
 use Rattle.std.proofs.lemmas.Simd.{map-map}
 use Rattle.heap_model.specs.declared.command.Command.{Command}
@@ -16,9 +16,9 @@ use Rattle.heap_model.specs.declared.state.State.{State}
 use Rattle.heap_model.specs.Domains.{opening}
 use Rattle.heap_model.specs.History.{Legal, LegalFrom, state_after}
 use Rattle.schedule_laws.proofs.Collecting.{legal_parts}
-use Rattle.schedule_drive.specs.Together.{AllHave, AllRuns, Controls, Grows, IsAnswered, IsShared, IsntAnswered, Lead, Leads, OneRun, Passed, Rests, SharesOn, Stands, all_halted, halted, is_quiet}
-use Rattle.schedule_drive.specs.Pausing.{Answered, AsksAlone, NotYet, PassedOne, Paused, Walked, WalkedFrom, all_commands, askeds, endeds, lefts}
-use Rattle.schedule_drive.proofs.Listing.{kept_at, read_at}
+use Rattle.schedule_drive.specs.Together.{AllHave, AllRuns, Controls, Grows, IsAnswered, IsServed, IsntAnswered, Lead, Leads, OneRun, Passed, Rests, SharesOn, Stands, all_halted, halted, is_quiet}
+use Rattle.schedule_drive.specs.Pausing.{Answered, AsksAlone, NotYet, Paused, Walked, WalkedFrom, all_commands, askeds, endeds, lefts}
+use Rattle.schedule_drive.proofs.Listing.{filled_else, filled_here, kept_at, read_at}
 use Rattle.schedule_drive.proofs.Walking.{answer_walks, control_walks, open_none, quiet_walks}
 
 -- a shared history that grew by these parts, as the start of the pause and what was made since
@@ -73,6 +73,11 @@ nothing_grows z h g legal begun grows =
     (list_all-append is_quiet (grows.before ++ []) grows.after ∙ ap (λ k. list_all is_quiet k && list_all is_quiet grows.after) (append-nil grows.before)
     ∙ ap (λ b. b && list_all is_quiet grows.after) grows.quiet_before ∙ grows.quiet_after) behind
 
+-- a run whose domain has arrived doesn't run
+halted_rests : (o : Option OneRun) (x : OneRun) → option_map halted o ≡ Some x → x.runs ≡ false
+halted_rests None x is = cc
+halted_rests (Some y) x is = let same : halted y ≡ x = cc in ap (λ (r : OneRun). r.runs) (sym same)
+
 -- the pause begins
 pub pause_begins : (shares_old shares_new : List Entry → Type 0) (v w : AllRuns) (complete : Bool) → SharesOn shares_old shares_new [] → w ≡ all_halted complete v → ((g : List Entry) → shares_new g → Legal w.sizes g) → Paused complete shares_old shares_new v w
 pause_begins shares_old shares_new v w complete on is legal =
@@ -81,6 +86,9 @@ pause_begins shares_old shares_new v w complete on is legal =
       sizes = same;
       commands = ap all_commands is ∙ map-map (λ (x : OneRun). x.commands) halted v.runs;
       ended = ap endeds is ∙ map-map (λ (x : OneRun). x.ended) halted v.runs;
+      complete_is = ap (λ (u : AllRuns). u.complete) is;
+      served = λ yes d x at back others next.
+          absurd (false≢true (sym (halted_rests (slice_get v.runs d) x (sym (slice_get-map halted v.runs d) ∙ ap (λ (u : AllRuns). slice_get u.runs d) (sym is) ∙ at)) ∙ back));
       told = λ d alone. (
         [],
         inl (record { none = refl; left = ap lefts is ∙ map-map (λ (x : OneRun). x.left) halted v.runs; asked = ap askeds is ∙ map-map (λ (x : OneRun). x.asked) halted v.runs }),
@@ -98,20 +106,6 @@ pause_begins shares_old shares_new v w complete on is legal =
             },
       );
     }
-
--- it goes on where a domain makes no step
-pub pause_stays : (shares shares_old shares_new : List Entry → Type 0) (v u w : AllRuns) (complete : Bool) → Paused complete shares shares_old v u → w ≡ u → ((g : List Entry) → shares_new g → shares_old g) → Paused complete shares shares_new v w
-pause_stays shares shares_old shares_new v u w complete p is on = record {
-  sizes = ap (λ (r : AllRuns). r.sizes) is ∙ p.sizes;
-  commands = ap all_commands is ∙ p.commands;
-  ended = ap endeds is ∙ p.ended;
-  told = λ d alone.
-      let t = p.told d alone in (
-        t.0,
-        subst (λ r. NotYet v r t.0 ⊎ Answered d v r t.0) (sym is) t.1,
-        λ g new. subst (λ (r : AllRuns). WalkedFrom v.sizes complete r.lead shares t.0 g) (sym is) (t.2 g (on g new)),
-      );
-}
 
 -- one that was taken back is
 pub set_false : (bs : List Bool) (d : ℕ) → get_or (set bs d false) d false ≡ false
@@ -170,6 +164,9 @@ module _ (v u w : AllRuns) (d e : ℕ) (answered own : List Entry) (alone : Asks
       (λ (a : Answered d v u answered). absurd (asker_waits v u d e answered alone asked a))
       how
 
+some_is : (y z : OneRun) → Some y ≡ Some z → y ≡ z
+some_is y z is = cc
+
 -- the entry of the step
 own_is : (e : ℕ) (x y : OneRun) (own : List Entry) → IsAnswered e x y own ⊎ IsntAnswered x y own → (own ≡ []) ⊎ (own ≡ CommandOf e FullMajor false ∷ [])
 own_is e x y own tells = ⊎_elim (λ (a : IsAnswered e x y own). inr a.made) (λ (n : IsntAnswered x y own). inl n.made) tells
@@ -187,6 +184,14 @@ pause_passes shares shares_old shares_new v u w complete e p step legal =
       sizes = sizes;
       commands = ap (λ rs. map (λ (r : OneRun). r.commands) rs) runs ∙ kept_at (λ (r : OneRun). r.commands) u.runs e x y step.was commands ∙ p.commands;
       ended = ap (λ rs. map (λ (r : OneRun). r.ended) rs) runs ∙ kept_at (λ (r : OneRun). r.ended) u.runs e x y step.was ended ∙ p.ended;
+      complete_is = ap (λ (r : AllRuns). r.complete) step.view ∙ p.complete_is;
+      served = λ yes d z at back.
+          ⊎_elim
+          (λ (same : d ≡ e).
+          let is : y ≡ z = some_is y z (sym (filled_here u.runs e y (slice_get_within u.runs e x step.was)) ∙ ap (λ k. slice_get (set u.runs e y) k) (sym same) ∙ ap (λ rs. slice_get rs d) (sym runs) ∙ at) in
+          subst IsServed is (step.served (p.complete_is ∙ yes) (ap (λ (r : OneRun). r.runs) is ∙ back)))
+          (λ other. p.served yes d z (sym (filled_else u.runs e d y other) ∙ ap (λ rs. slice_get rs d) (sym runs) ∙ at) back)
+          (cases_eq d e);
       told = λ d alone.
           let t = p.told d alone in (
             t.0 ++ step.own,
@@ -197,25 +202,9 @@ pause_passes shares shares_old shares_new v u w complete e p step legal =
           );
     }
 
--- the pause goes on, by a step of domain e or by none
-pub pause_goes : (shares shares_old shares_new : List Entry → Type 0) (v u w : AllRuns) (complete : Bool) (e : ℕ) → Paused complete shares shares_old v u → PassedOne shares_old shares_new u w e → ((g : List Entry) → shares_new g → IsShared w g) → Paused complete shares shares_new v w
-pause_goes shares shares_old shares_new v u w complete e p step shared =
-    ⊎_elim
-    (λ passed. pause_passes shares shares_old shares_new v u w complete e p passed (λ g new. (shared g new).legal))
-    (λ stays. pause_stays shares shares_old shares_new v u w complete p stays.0 stays.1)
-    step
-
--- and as many runs stay
-pub same_count : (shares_old shares_new : List Entry → Type 0) (u w : AllRuns) (e : ℕ) → PassedOne shares_old shares_new u w e → length w.runs ≡ length u.runs
-same_count shares_old shares_new u w e step =
-    ⊎_elim
-    (λ (passed : Passed shares_old shares_new u w e). ap (λ (r : AllRuns). length r.runs) passed.view ∙ length-set u.runs e passed.becomes)
-    (λ stays. ap (λ (r : AllRuns). length r.runs) stays.0)
-    step
-
 -- a run of a trace without commands
 pub no_run : OneRun
-no_run = record { commands = []; left = []; replies = []; asked = false; runs = false; ended = false }
+no_run = record { commands = []; left = []; replies = []; asked = false; waiting = 0; runs = false; ended = false }
 
 -- there is one
 pub some_run : (v : AllRuns) → Stands v → 0 < length v.runs

@@ -28,7 +28,9 @@ use Rattle.schedule_laws.proofs.Sealing.{many_same}
 use Rattle.schedule_drive.specs.Together.{AllHave, AllRuns, Has, IsShared, OneRun, Rests, Stands}
 use Rattle.schedule_drive.specs.Pausing.{Answered, NotYet, Paused, Walked, lefts}
 use Rattle.schedule_drive.specs.Following.{Agrees, AllFollow, Follows, IsCalm, IsPlayed}
+use Rattle.schedule_drive.specs.Ending.{turns_at}
 use Rattle.schedule_drive.proofs.Agreeing.{agrees_collection}
+use Rattle.schedule_drive.proofs.Ending.{turns_by}
 use Rattle.schedule_drive.proofs.Turns.{ended_is}
 
 -- a fold over numbers, one by one
@@ -150,6 +152,12 @@ module _ (shares_old shares_new : List Entry → Type 0) (v w : AllRuns) (calm :
         run = run;
         none = λ d. ⊎_elim (λ (n : NotYet v w t.0). ap (λ (bs : List Bool). get_or bs d false) n.asked ∙ calm.none d) (λ a. absurd (not_asked 0 t.0 a)) t.1;
       }
+
+  -- and no trace with more or fewer turns
+  pub collected_stays : (d : ℕ) → turns_at w d ≡ turns_at v d
+  collected_stays d =
+      let t = paused.told 0 (λ e other. calm.none e) in
+      ⊎_elim (λ (n : NotYet v w t.0). turns_by v w d paused.ended n.left) (λ a. absurd (not_asked 0 t.0 a)) t.1
 
   -- and is that of the schedule
   pub one_collected : (p : Played) → Stands v → ((h : List Entry) → shares_old h → IsShared v h) → ((h : List Entry) → shares_new h → IsShared w h) → (d : ℕ) → d < length v.runs → Has (λ (x : OneRun). x.ended) false v d

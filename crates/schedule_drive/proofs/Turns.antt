@@ -1,5 +1,5 @@
 -- A turn, from what its calls tell.
-use Rattle.std.proofs.Common.{◌≡◌, ◌≢◌, ℕ, ◌<◌, ◌≤◌, Bool, true, false, List, [], ◌∷◌, ◌++◌, map, length, get_or, set, slice_get, Some, refl, sym, ap, ◌∙◌, subst, ⊎_elim, append-nil}
+use Rattle.std.proofs.Common.{◌≡◌, ◌≢◌, ℕ, ◌<◌, ◌≤◌, Bool, true, false, List, [], ◌∷◌, ◌++◌, map, length, get_or, set, slice_get, Some, refl, sym, ap, ◌∙◌, subst, inr, ⊎_elim, append-nil, ◌+◌, arith}
 use Rattle.std.proofs.lemmas.Bool.{cases_eq, false≢true}
 use Rattle.std.proofs.lemmas.List.{get_or-set_other, get_or-set_same, get_or_past, length-map, length-set, map-set}
 use Rattle.std.proofs.lemmas.Option.{slice_get-get_or, slice_get_cases, slice_get_within}
@@ -22,8 +22,10 @@ use Rattle.schedule_drive.specs.Together.{AllHave, AllRuns, AsksComplete, Grows,
 use Rattle.schedule_drive.specs.declared.together.Stepped.TheVariants.{Ran, Made, Needs}
 use Rattle.schedule_drive.specs.Pausing.{Answered, AsksAlone, NotYet, Paused, Walked, askeds, endeds, lefts}
 use Rattle.schedule_drive.specs.Following.{Advances, Agrees, AllFollow, AllMidst, Follows, IsCalm, IsCalmBut, Waits, turn_rest}
+use Rattle.schedule_drive.specs.Ending.{Nears, rank_at, turns_at, waiting_at}
 use Rattle.schedule_drive.proofs.Listing.{kept_at, read_at}
 use Rattle.schedule_drive.proofs.Passing.{no_run, set_false}
+use Rattle.schedule_drive.proofs.Ending.{answered_elsewhere, answered_falls, asks_few, rank_asks, rank_by, rank_falls, rank_stays, waiting_now, waiting_read, turns_by, turns_elsewhere, turns_end, turns_next, turns_stay}
 use Rattle.schedule_drive.proofs.Agreeing.{agrees_collection, agrees_step, grown_none, grown_step, next_command, next_end, next_full, rest_next, rest_ran, short_step}
 
 -- the queue of a domain is the same in both
@@ -197,7 +199,7 @@ module _ (shares_old shares_new : List Entry → Type 0) (v w : AllRuns) (d : �
   sizes_of = ap (λ (r : AllRuns). r.sizes) view
 
   -- a finaliser ran
-  ran_on : SharesOn shares_old shares_new (RanOf d ∷ []) → y ≡ record x { replies = y.replies } → Advances shares_old shares_new v w d false
+  ran_on : SharesOn shares_old shares_new (RanOf d ∷ []) → y ≡ record x { replies = y.replies; waiting = y.waiting } → Advances shares_old shares_new v w d false
   ran_on on run = record {
     sizes = sizes_of;
     count = count_same;
@@ -205,12 +207,16 @@ module _ (shares_old shares_new : List Entry → Type 0) (v w : AllRuns) (d : �
     calm = still_calm (ap (λ (r : OneRun). r.runs) run);
     over = λ made. absurd (false≢true made);
     goes_on = λ none. still_going (ap (λ (r : OneRun). r.ended) run);
+    waits = λ none. let is : turns_at w d ≡ turns_at v d = turns_stay v w d x y was view (ap (λ (r : OneRun). r.ended) run) (ap (λ (r : OneRun). r.left) run) in omega (arith, is);
+    rank = λ none. let is = rank_stays v w d x y was view (ap (λ (r : OneRun). r.ended) run) (ap (λ (r : OneRun). r.left) run) (ap (λ (r : OneRun). r.asked) run) in omega (arith, is);
+    falls = λ made. absurd (false≢true made);
+    others = turns_elsewhere v w d x y was view;
     stays = λ p midst none. turn_ran shares_old shares_new v w p d x y was view shared midst on (ap (λ (r : OneRun). r.left) run);
     turns = λ p midst made. absurd (false≢true made);
   }
 
   -- a pause was asked for
-  asked_on : SharesOn shares_old shares_new [] → y ≡ record x { asked = true } → Advances shares_old shares_new v w d false
+  asked_on : SharesOn shares_old shares_new [] → y ≡ record x { asked = true; waiting = y.waiting } → Advances shares_old shares_new v w d false
   asked_on on run = record {
     sizes = sizes_of;
     count = count_same;
@@ -218,6 +224,10 @@ module _ (shares_old shares_new : List Entry → Type 0) (v w : AllRuns) (d : �
     calm = still_calm (ap (λ (r : OneRun). r.runs) run);
     over = λ made. absurd (false≢true made);
     goes_on = λ none. still_going (ap (λ (r : OneRun). r.ended) run);
+    waits = λ none. let is : turns_at w d ≡ turns_at v d = turns_stay v w d x y was view (ap (λ (r : OneRun). r.ended) run) (ap (λ (r : OneRun). r.left) run) in omega (arith, is);
+    rank = λ none. rank_asks v w d x y was view (ap (λ (r : OneRun). r.ended) run) (ap (λ (r : OneRun). r.left) run) (ap (λ (r : OneRun). r.asked) run);
+    falls = λ made. absurd (false≢true made);
+    others = turns_elsewhere v w d x y was view;
     stays = λ p midst none. turn_asks shares_old shares_new v w p d x y was view shared midst on (ap (λ (r : OneRun). r.left) run);
     turns = λ p midst made. absurd (false≢true made);
   }
@@ -231,6 +241,10 @@ module _ (shares_old shares_new : List Entry → Type 0) (v w : AllRuns) (d : �
     calm = still_calm (ap (λ (r : OneRun). r.runs) made.run);
     over = λ yes. now_calm (ap (λ (r : OneRun). r.runs) made.run) (ap (λ (r : OneRun). r.asked) made.run);
     goes_on = λ none. absurd (false≢true (sym none));
+    waits = λ none. absurd (false≢true (sym none));
+    rank = λ none. absurd (false≢true (sym none));
+    falls = λ yes. let is : turns_at v d ≡ turns_at w d + 1 = turns_next v w d x y was view made.command made.others (going x was) (ap (λ (r : OneRun). r.ended) made.run) made.next (ap (λ (r : OneRun). r.left) made.run) in omega (arith, is);
+    others = turns_elsewhere v w d x y was view;
     stays = λ p midst none. absurd (false≢true (sym none));
     turns = λ p midst yes. turn_next shares_old shares_new v w p d x y was view shared midst own on made;
   }
@@ -244,6 +258,10 @@ module _ (shares_old shares_new : List Entry → Type 0) (v w : AllRuns) (d : �
     calm = still_calm (ap (λ (r : OneRun). r.runs) made.run);
     over = λ yes. now_calm (ap (λ (r : OneRun). r.runs) made.run) (ap (λ (r : OneRun). r.asked) made.run);
     goes_on = λ none. absurd (false≢true (sym none));
+    waits = λ none. absurd (false≢true (sym none));
+    rank = λ none. absurd (false≢true (sym none));
+    falls = λ yes. let is : turns_at v d ≡ turns_at w d + 1 = turns_end v w d x y was view (going x was) made.none (ap (λ (r : OneRun). r.ended) made.run) in omega (arith, is);
+    others = turns_elsewhere v w d x y was view;
     stays = λ p midst none. absurd (false≢true (sym none));
     turns = λ p midst yes. turn_end shares_old shares_new v w p d x y was view shared midst own on made;
   }
@@ -262,10 +280,10 @@ pub counts : (v w : AllRuns) → endeds w ≡ endeds v → length w.runs ≡ len
 counts v w same = sym (length-map w.runs (λ (r : OneRun). r.ended)) ∙ ap length same ∙ length-map v.runs (λ (r : OneRun). r.ended)
 
 -- a pause is over
-module _ (shares_old shares_new : List Entry → Type 0) (v w : AllRuns) (d : ℕ) (calm : IsCalmBut v d) (over : w.lead ≡ Rests) (run : AllHave (λ (r : OneRun). r.runs) true w) (shared : (g : List Entry) → shares_new g → IsShared w g) where
+module _ (shares_old shares_new : List Entry → Type 0) (v w : AllRuns) (d : ℕ) (inside : d < length v.runs) (going : Has (λ (r : OneRun). r.ended) false v d) (calm : IsCalmBut v d) (over : w.lead ≡ Rests) (run : AllHave (λ (r : OneRun). r.runs) true w) (shared : (g : List Entry) → shares_new g → IsShared w g) where
   -- in which no collection was made
-  pub paused_on : Has (λ (r : OneRun). r.ended) false v d → Paused false shares_old shares_new v w → Advances shares_old shares_new v w d false
-  paused_on going p =
+  pub paused_on : Paused false shares_old shares_new v w → Advances shares_old shares_new v w d false
+  paused_on p =
       let t = p.told d calm.alone in
       record {
         sizes = p.sizes;
@@ -277,6 +295,17 @@ module _ (shares_old shares_new : List Entry → Type 0) (v w : AllRuns) (d : �
         };
         over = λ made. absurd (false≢true made);
         goes_on = λ none. has_same v w (λ (r : OneRun). r.ended) false d p.ended going;
+        waits = λ none. ⊎_elim
+            (λ (n : NotYet v w t.0). let is = turns_by v w d p.ended n.left in omega (arith, is))
+            (λ (a : Answered d v w t.0). let is = answered_falls v w d t.0 p.ended a inside going in omega (arith, is)) t.1;
+        rank = λ none. ⊎_elim
+            (λ (n : NotYet v w t.0). let is = rank_by v w d p.ended n.left n.asked in omega (arith, is))
+            (λ (a : Answered d v w t.0).
+            let is = answered_falls v w d t.0 p.ended a inside going in
+            let one = asks_few (get_or (askeds w) d false) in
+            omega (arith, is, one)) t.1;
+        falls = λ made. absurd (false≢true made);
+        others = λ e other. ⊎_elim (λ (n : NotYet v w t.0). turns_by v w e p.ended n.left) (λ (a : Answered d v w t.0). answered_elsewhere v w d t.0 p.ended a e other) t.1;
         stays = λ q midst none g new.
             let from = t.2 g new in
             let m = midst from.start from.was in
@@ -292,12 +321,17 @@ module _ (shares_old shares_new : List Entry → Type 0) (v w : AllRuns) (d : �
       }
 
   -- in which the `full_major` was answered
-  pub answered_on : Waits v shares_old d → Paused true shares_old shares_new v w → Has (λ (r : OneRun). r.asked) false w d → Advances shares_old shares_new v w d true
-  answered_on waits p has =
+  pub answered_on : Waits v shares_old d → Paused true shares_old shares_new v w → Advances shares_old shares_new v w d true
+  answered_on waits p =
       let t = p.told d calm.alone in
       let a : Answered d v w t.0 =
       ⊎_elim
-      (λ (n : NotYet v w t.0). absurd (false≢true (sym (has_at (λ (r : OneRun). r.asked) false w d has) ∙ ap (λ (bs : List Bool). get_or bs d false) n.asked ∙ waits.asked)))
+      (λ (n : NotYet v w t.0).
+      let x : OneRun = get_or w.runs d no_run in
+      let was : slice_get w.runs d ≡ Some x = slice_get-get_or w.runs d no_run (subst (λ k. d < k) (sym (counts v w p.ended)) inside) in
+      let left : x.left ≡ FullMajor ∷ waits.others = sym (read_at (λ (r : OneRun). r.left) w.runs d x [] was) ∙ ap (λ (cs : List (List CommandType)). get_or cs d []) n.left ∙ waits.next in
+      let asked : x.asked ≡ false = p.served refl d x was (run d x was) waits.others left in
+      absurd (false≢true (sym asked ∙ sym (read_at (λ (r : OneRun). r.asked) w.runs d x false was) ∙ ap (λ (bs : List Bool). get_or bs d false) n.asked ∙ waits.asked)))
       (λ (a : Answered d v w t.0). a)
       t.1 in
       record {
@@ -307,6 +341,10 @@ module _ (shares_old shares_new : List Entry → Type 0) (v w : AllRuns) (d : �
         calm = record { run = run; alone = alone_set v w d false a.none calm.alone };
         over = λ made. record { run = run; none = none_asked v w d a.none calm.alone };
         goes_on = λ none. absurd (false≢true (sym none));
+        waits = λ none. absurd (false≢true (sym none));
+        rank = λ none. absurd (false≢true (sym none));
+        falls = λ made. let is = answered_falls v w d t.0 p.ended a inside going in omega (arith, is);
+        others = answered_elsewhere v w d t.0 p.ended a;
         stays = λ q midst none. absurd (false≢true (sym none));
         turns = λ q midst made g new.
             let from = t.2 g new in
@@ -326,6 +364,12 @@ module _ (shares_old shares_new : List Entry → Type 0) (v w : AllRuns) (d : �
             (record { agrees = subst (λ z. Agrees z then g) (sym p.sizes) (subst (λ k. Agrees v.sizes then k) (sym from.is) after); left = a.left ∙ ap (λ (cs : List (List CommandType)). set cs d a.others) m.follows.left });
       }
 
+-- whatever the pause was for
+pub pause_advances : (shares_old shares_new : List Entry → Type 0) (v w : AllRuns) (d : ℕ) (inside : d < length v.runs) (going : Has (λ (r : OneRun). r.ended) false v d) (calm : IsCalmBut v d) (over : w.lead ≡ Rests) (run : AllHave (λ (r : OneRun). r.runs) true w)
+    (shared : (g : List Entry) → shares_new g → IsShared w g) (complete : Bool) → (complete ≡ true → Waits v shares_old d) → Paused complete shares_old shares_new v w → Advances shares_old shares_new v w d complete
+pause_advances shares_old shares_new v w d inside going calm over run shared true waits p = answered_on shares_old shares_new v w d inside going calm over run shared (waits refl) p
+pause_advances shares_old shares_new v w d inside going calm over run shared false waits p = paused_on shares_old shares_new v w d inside going calm over run shared p
+
 -- one after another
 pub advances_then : (shares_old shares_mid shares_new : List Entry → Type 0) (v u w : AllRuns) (d : ℕ) (made : Bool) → Advances shares_old shares_mid v u d false → Advances shares_mid shares_new u w d made → Advances shares_old shares_new v w d made
 advances_then shares_old shares_mid shares_new v u w d made first second = record {
@@ -335,6 +379,10 @@ advances_then shares_old shares_mid shares_new v u w d made first second = recor
   calm = second.calm;
   over = second.over;
   goes_on = second.goes_on;
+  waits = λ none. let a = first.waits refl in let b = second.waits none in omega (arith, a, b);
+  rank = λ none. let a = first.rank refl in let b = second.rank none in omega (arith, a, b);
+  falls = λ yes. let a = first.waits refl in let b = second.falls yes in omega (arith, a, b);
+  others = λ e other. second.others e other ∙ first.others e other;
   stays = λ p midst none. second.stays p (first.stays p midst refl) none;
   turns = λ p midst yes. second.turns p (first.stays p midst refl) yes;
 }
@@ -352,6 +400,21 @@ module _ (shares_old shares_new : List Entry → Type 0) (v w : AllRuns) (d : �
   pub turned_needs : (complete : Bool) → Turned shares_old shares_new v w d (Needs complete) → Advances shares_old shares_new v w d false
   turned_needs true t = asked_on shares_old shares_new v w d t.run t.becomes t.was t.view calm going shared (subst (λ k. SharesOn shares_old shares_new k) t.tells.made t.on) t.tells.run
   turned_needs false t = asked_on shares_old shares_new v w d t.run t.becomes t.was t.view calm going shared (subst (λ k. SharesOn shares_old shares_new k) t.tells.0 t.on) t.tells.1
+
+  -- it comes nearer to its end
+  pub ran_nears : Turned shares_old shares_new v w d Ran → Nears v w d
+  ran_nears t =
+      let x : OneRun = t.run in
+      let y : OneRun = t.becomes in
+      let run = t.tells.1 in
+      let less : waiting_at w d < waiting_at v d = subst (λ n. n < waiting_at v d) (sym (waiting_now v w d x y t.was t.view)) (subst (λ n. y.waiting < n) (sym (waiting_read v d x t.was)) t.tells.2) in
+      inr (rank_stays v w d x y t.was t.view (ap (λ (r : OneRun). r.ended) run) (ap (λ (r : OneRun). r.left) run) (ap (λ (r : OneRun). r.asked) run), less)
+
+  pub asks_nears : (complete : Bool) → Turned shares_old shares_new v w d (Needs complete) → complete ≡ false → rank_at w d < rank_at v d
+  asks_nears true t is = absurd (false≢true (sym is))
+  asks_nears false t is =
+      let run = t.tells.1 in
+      rank_falls v w d t.run t.becomes t.was t.view (ap (λ (r : OneRun). r.ended) run) (ap (λ (r : OneRun). r.left) run) t.tells.2 (ap (λ (r : OneRun). r.asked) run)
 
   pub turned_waits : (complete : Bool) → Turned shares_old shares_new v w d (Needs complete) → complete ≡ true → Waits w shares_new d
   turned_waits true t is = waits_now shares_old shares_new v w d t.run t.becomes t.was t.view calm going shared t.own t.tells

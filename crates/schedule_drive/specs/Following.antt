@@ -1,5 +1,5 @@
 -- How the histories that the runs may share follow the scheduled one.
-use Rattle.std.specs.Prelude.{◌≡◌, ℕ, Bool, true, false, List, [], ◌∷◌, length, nat_lt, replicate, slice_index_or}
+use Rattle.std.specs.Prelude.{◌≡◌, ◌≢◌, ◌≤◌, ◌+◌, ℕ, Bool, true, false, List, [], ◌∷◌, length, nat_lt, replicate, slice_index_or}
 use Rattle.heap_model.specs.declared.command.Command.{Command}
 use Rattle.heap_model.specs.declared.command.Command.TheVariants.{FullMajor}
 use Rattle.heap_model.specs.declared.entry.Entry.{Entry}
@@ -13,6 +13,7 @@ use Rattle.schedule_laws.specs.declared.items.Item.TheVariants.{Collect, Turn}
 use Rattle.schedule_laws.specs.Sameness.{IsSameBut}
 use Rattle.schedule_laws.specs.Scheduled.{Played, take_turn, with_entries, with_next}
 use Rattle.schedule_drive.specs.Together.{AllHave, AllRuns, Has, Unqueued}
+use Rattle.schedule_drive.specs.Ending.{rank_at, turns_at}
 use Rattle.schedule_drive.specs.Pausing.{AsksAlone, all_commands, askeds, lefts}
 
 -- a history agrees with the scheduled one so far: no collection goes on, the states are the same but for garbage, and each domain has the same replies in both
@@ -79,5 +80,9 @@ pub record Advances (shares_old shares_new : List Entry → Type 0) (old new : A
   pub calm : IsCalmBut new d
   pub over : made ≡ true → IsCalm new
   pub goes_on : made ≡ false → Has (λ x. x.ended) false new d
+  pub waits : made ≡ false → turns_at new d ≤ turns_at old d
+  pub rank : made ≡ false → rank_at new d ≤ rank_at old d
+  pub falls : made ≡ true → turns_at new d + 1 ≤ turns_at old d
+  pub others : (e : ℕ) → e ≢ d → turns_at new e ≡ turns_at old e
   pub stays : (p : Played) → AllMidst old shares_old p d → made ≡ false → AllMidst new shares_new p d
   pub turns : (p : Played) → AllMidst old shares_old p d → made ≡ true → AllFollow new shares_new (take_turn p d)

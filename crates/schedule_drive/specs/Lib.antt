@@ -1,3 +1,4 @@
 pub mod Together
 pub mod Pausing
+pub mod Ending
 pub mod Following

@@ -1,5 +1,5 @@
 -- A pause of all runs: how far its collection has come, and what it leaves of the runs.
-use Rattle.std.specs.Prelude.{◌≡◌, ◌≢◌, ◌⊎◌, ℕ, Bool, true, false, List, [], ◌∷◌, ◌++◌, map, slice_index_or, slice_set}
+use Rattle.std.specs.Prelude.{◌≡◌, ◌≢◌, ◌⊎◌, ℕ, Bool, true, false, List, [], ◌∷◌, ◌++◌, map, slice_get, slice_index_or, slice_set, Some}
 use Rattle.std.specs.List.{list_all}
 use Rattle.heap_model.specs.declared.command.Command.{Command}
 use Rattle.heap_model.specs.declared.command.Command.TheVariants.{FullMajor}
@@ -10,7 +10,7 @@ use Rattle.heap_model.specs.declared.state.Sizes.{Sizes}
 use Rattle.heap_model.specs.Domains.{opening}
 use Rattle.heap_model.specs.History.{state_after}
 use Rattle.schedule_laws.specs.Sameness.{IsCollection, is_answer, is_queue, is_taking}
-use Rattle.schedule_drive.specs.Together.{AllRuns, Answers, Lead, Leads, Passed, Rests}
+use Rattle.schedule_drive.specs.Together.{AllRuns, Answers, IsServed, Lead, Leads, OneRun, Rests}
 
 -- the commands of each run that are left
 abbrev pub lefts : AllRuns → List (List Command)
@@ -86,13 +86,11 @@ pub record Answered (d : ℕ) (old new : AllRuns) (answered : List Entry) : Type
   pub left : lefts new ≡ slice_set (lefts old) d others
   pub none : askeds new ≡ slice_set (askeds old) d false
 
--- a pause has come so far: nothing else changes of the runs. It is said for the domain that alone has asked for it
+-- a pause has come so far: nothing else changes of the runs. It is said for the domain that alone has asked for it. Where a complete collection is made each domain that has come back was answered
 pub record Paused (complete : Bool) (shares_old shares_new : List Entry → Type 0) (old new : AllRuns) : Type 0 where
   pub sizes : new.sizes ≡ old.sizes
   pub commands : all_commands new ≡ all_commands old
   pub ended : endeds new ≡ endeds old
+  pub complete_is : new.complete ≡ complete
+  pub served : complete ≡ true → (d : ℕ) (x : OneRun) → slice_get new.runs d ≡ Some x → x.runs ≡ true → IsServed x
   pub told : (d : ℕ) → AsksAlone old d → (answered : List Entry) × (NotYet old new answered ⊎ Answered d old new answered) × ((g : List Entry) → shares_new g → WalkedFrom old.sizes complete new.lead shares_old answered g)
-
--- a step of domain d in a pause, or none, where it runs
-abbrev pub PassedOne : (List Entry → Type 0) → (List Entry → Type 0) → AllRuns → AllRuns → ℕ → Type 0
-PassedOne shares_old shares_new old new d = Passed shares_old shares_new old new d ⊎ ((new ≡ old) × ((g : List Entry) → shares_new g → shares_old g))

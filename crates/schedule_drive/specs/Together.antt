@@ -1,5 +1,5 @@
 -- The runs of one heap, which share its history, and what each call on them tells.
-use Rattle.std.specs.Prelude.{◌≡◌, ◌≢◌, ◌⊎◌, ℕ, Bool, true, false, not, ◌||◌, List, [], ◌∷◌, ◌++◌, length, map, slice_get, slice_set, Some}
+use Rattle.std.specs.Prelude.{◌≡◌, ◌≢◌, ◌⊎◌, ◌<◌, ℕ, Bool, true, false, not, ◌||◌, List, [], ◌∷◌, ◌++◌, length, map, slice_get, slice_set, Some}
 use Rattle.std.specs.List.{list_all}
 use Rattle.heap_model.specs.declared.command.Command.{Command}
 use Rattle.heap_model.specs.declared.command.Command.TheVariants.{FullMajor}
@@ -19,20 +19,22 @@ pub data Lead : Type 0 where
   Leads : Bool → Lead
   Answers : Lead
 
--- One run: all its commands, those that are left, the replies so far, whether it has asked for a pause for its next command, whether its domain runs and hasn't arrived, and whether its trace has ended
+-- One run: all its commands, those that are left, the replies so far, whether it has asked for a pause for its next command, how many finalisers wait in its domain's queue, whether its domain runs and hasn't arrived, and whether its trace has ended
 pub record OneRun : Type 0 where
   pub commands : List Command
   pub left : List Command
   pub replies : List Reply
   pub asked : Bool
+  pub waiting : ℕ
   pub runs : Bool
   pub ended : Bool
 
--- the runs of one heap: that of domain d has the place d
+-- the runs of one heap: that of domain d has the place d. In the last pause a complete collection is made or isn't
 pub record AllRuns : Type 0 where
   pub sizes : Sizes
   pub runs : List OneRun
   pub lead : Lead
+  pub complete : Bool
 
 -- what is true of them in each history that they may share
 pub record IsShared (v : AllRuns) (h : List Entry) : Type 0 where
@@ -45,10 +47,15 @@ pub record Stands (v : AllRuns) : Type 0 where
   pub limits : IsWithinLimits v.sizes
   pub count : length v.runs ≡ v.sizes.domains
   pub rests : (x : OneRun) → slice_get v.runs 0 ≡ Some x → x.runs ≡ true → v.lead ≡ Rests
+  pub few : (d : ℕ) (x : OneRun) → slice_get v.runs d ≡ Some x → x.waiting < 4294967296
 
 -- what the run at a place has of this kind
 abbrev pub Has : (OneRun → Bool) → Bool → AllRuns → ℕ → Type 0
 Has kind is v d = (x : OneRun) → slice_get v.runs d ≡ Some x → kind x ≡ is
+
+-- some domain has arrived
+abbrev pub SomeGone : AllRuns → Type 0
+SomeGone v = (d : ℕ) × (d < length v.runs) × Has (λ x. x.runs) false v d
 
 -- and what each run has
 abbrev pub AllHave : (OneRun → Bool) → Bool → AllRuns → Type 0
@@ -81,13 +88,13 @@ pub record MakesNext (d : ℕ) (x y : OneRun) (own : List Entry) : Type 0 where
   pub next : x.left ≡ command ∷ others
   pub short : command ≢ FullMajor
   pub made : own ≡ CommandOf d command false ∷ []
-  pub run : y ≡ record x { left = others; replies = y.replies; asked = false }
+  pub run : y ≡ record x { left = others; replies = y.replies; asked = false; waiting = y.waiting }
 
 -- the end of the trace was made
 pub record MakesEnd (d : ℕ) (x y : OneRun) (own : List Entry) : Type 0 where
   pub none : x.left ≡ []
   pub made : own ≡ End d ∷ []
-  pub run : y ≡ record x { asked = false; ended = true }
+  pub run : y ≡ record x { asked = false; waiting = y.waiting; ended = true }
 
 -- the next command is a `full_major`, and no finaliser waits before it
 pub record AsksComplete (z : Sizes) (shares : List Entry → Type 0) (d : ℕ) (x y : OneRun) (own : List Entry) : Type 0 where
@@ -95,14 +102,14 @@ pub record AsksComplete (z : Sizes) (shares : List Entry → Type 0) (d : ℕ) (
   pub next : x.left ≡ FullMajor ∷ others
   pub unqueued : Unqueued z shares d
   pub made : own ≡ []
-  pub run : y ≡ record x { asked = true }
+  pub run : y ≡ record x { asked = true; waiting = y.waiting }
 
--- what a turn of run d tells, by what it came to
+-- what a turn of run d tells, by what it came to. Each finaliser that waits runs once, and no command asks twice for a pause without a complete collection
 abbrev pub TurnTells : Sizes → (List Entry → Type 0) → ℕ → OneRun → OneRun → List Entry → Stepped → Type 0
-TurnTells z shares d x y own Ran = (own ≡ RanOf d ∷ []) × (y ≡ record x { replies = y.replies })
+TurnTells z shares d x y own Ran = (own ≡ RanOf d ∷ []) × (y ≡ record x { replies = y.replies; waiting = y.waiting }) × (y.waiting < x.waiting)
 TurnTells z shares d x y own Made = MakesNext d x y own ⊎ MakesEnd d x y own
 TurnTells z shares d x y own (Needs true) = AsksComplete z shares d x y own
-TurnTells z shares d x y own (Needs false) = (own ≡ []) × (y ≡ record x { asked = true })
+TurnTells z shares d x y own (Needs false) = (own ≡ []) × (y ≡ record x { asked = true; waiting = y.waiting }) × (x.asked ≡ false)
 
 -- a turn of run d: nothing else changes
 pub record Turned (shares_old shares_new : List Entry → Type 0) (old new : AllRuns) (d : ℕ) (stepped : Stepped) : Type 0 where
@@ -120,7 +127,7 @@ halted x = record x { runs = false }
 
 -- all domains have arrived, and domain 0 leads a pause in which a complete collection is made or isn't
 abbrev pub all_halted : Bool → AllRuns → AllRuns
-all_halted complete v = record v { runs = map halted v.runs; lead = Leads complete }
+all_halted complete v = record v { runs = map halted v.runs; lead = Leads complete; complete = complete }
 
 -- which control entry domain 0 makes as it leads on
 abbrev pub LeadStep : Lead → Lead → List Entry → Type 0
@@ -143,14 +150,18 @@ pub record IsAnswered (d : ℕ) (x y : OneRun) (own : List Entry) : Type 0 where
   pub next : x.left ≡ FullMajor ∷ others
   pub asked : x.asked ≡ true
   pub made : own ≡ CommandOf d FullMajor false ∷ []
-  pub run : y ≡ record x { left = others; replies = y.replies; asked = false }
+  pub run : y ≡ record x { left = others; replies = y.replies; asked = false; waiting = y.waiting }
 
 -- or none was
 pub record IsntAnswered (x y : OneRun) (own : List Entry) : Type 0 where
   pub made : own ≡ []
-  pub run : y ≡ record x { runs = y.runs }
+  pub run : y ≡ record x { runs = y.runs; waiting = y.waiting }
 
--- a step of domain d, which has arrived, in the pause: nothing else changes
+-- it waits for no answer of a `full_major`
+abbrev pub IsServed : OneRun → Type 0
+IsServed x = (others : List Command) → x.left ≡ FullMajor ∷ others → x.asked ≡ false
+
+-- a step of domain d, which has arrived, in the pause: nothing else changes. Where a complete collection was made it comes back only once its `full_major` is answered
 pub record Passed (shares_old shares_new : List Entry → Type 0) (old new : AllRuns) (d : ℕ) : Type 0 where
   pub run : OneRun
   pub was : slice_get old.runs d ≡ Some run
@@ -160,4 +171,9 @@ pub record Passed (shares_old shares_new : List Entry → Type 0) (old new : All
   pub own : List Entry
   pub tells : IsAnswered d run becomes own ⊎ IsntAnswered run becomes own
   pub on : SharesOn shares_old shares_new (control ++ own)
+  pub served : old.complete ≡ true → becomes.runs ≡ true → IsServed becomes
   pub view : new ≡ record old { runs = slice_set old.runs d becomes; lead = new.lead }
+
+-- of some domain
+abbrev pub PassedSome : (List Entry → Type 0) → (List Entry → Type 0) → AllRuns → AllRuns → Type 0
+PassedSome shares_old shares_new old new = (d : ℕ) × Passed shares_old shares_new old new d

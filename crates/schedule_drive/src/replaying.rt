@@ -1,17 +1,18 @@
 //! The loop: the items of a schedule, and then rounds until all traces have ended.
-ghost use Rattle.std.specs.Prelude.{◌<◌, ◌≡◌, ◌≤◌, ℕ, List, [], false, fold, length, max, true};
+ghost use Rattle.std.specs.Prelude.{◌<◌, ◌≡◌, ◌≤◌, ◌+◌, ℕ, List, [], false, fold, length, max, true};
 ghost use Rattle.std.specs.List.{list_all, range_with_len};
 ghost use Rattle.heap_model.specs.declared.entry.Entry.{Entry};
 ghost use Rattle.heap_model.specs.History.{replies};
 ghost use Rattle.schedule_laws.specs.Scheduled.{Played, rounds_of, scheduled, take_item, take_round, take_rounds};
 ghost use Rattle.schedule_laws.specs.declared.items.Item.TheVariants.{Collect as CollectItem};
+ghost use Rattle.schedule_drive.specs.Ending.{AllWithin, NoneMore};
 ghost use Rattle.schedule_drive.specs.Following.{AllFollow, IsCalm, IsPlayed, is_for};
 ghost use Rattle.schedule_drive.specs.Pausing.{all_commands, lefts};
 ghost use Rattle.schedule_drive.specs.Together.{AllHave, Has};
 
 use crate::pausing::pause;
 use crate::together::TogetherRuns;
-use crate::turning::{take_turn, wait_if};
+use crate::turning::take_turn;
 use schedule_laws::Item;
 use std::sync::Wait;
 
@@ -35,6 +36,7 @@ fn collect<T: TogetherRuns, R: Wait>(rt: &R, runs: &mut T)
     ensures count { length (T.seen runs.new).runs ≡ length (T.seen runs.old).runs }
     ensures commands { all_commands (T.seen runs.new) ≡ all_commands (T.seen runs.old) }
     ensures calm { IsCalm (T.seen runs.new) }
+    ensures none { NoneMore (T.seen runs.old) (T.seen runs.new) }
     ensures taken { (p : Played) → AllFollow (T.seen runs.old) (T.shares runs.old) p → AllFollow (T.seen runs.new) (T.shares runs.new) (take_item p CollectItem) }
 {
     runs.stands();
@@ -53,6 +55,7 @@ fn take_item<T: TogetherRuns, R: Wait>(rt: &R, runs: &mut T, item: Item)
     ensures count { length (T.seen runs.new).runs ≡ length (T.seen runs.old).runs }
     ensures commands { all_commands (T.seen runs.new) ≡ all_commands (T.seen runs.old) }
     ensures calm { IsCalm (T.seen runs.new) }
+    ensures none { NoneMore (T.seen runs.old) (T.seen runs.new) }
     ensures taken { (p : Played) → AllFollow (T.seen runs.old) (T.shares runs.old) p → AllFollow (T.seen runs.new) (T.shares runs.new) (take_item p item) }
 {
     match item {
@@ -69,6 +72,7 @@ fn take_items<T: TogetherRuns, R: Wait>(rt: &R, runs: &mut T, items: &[Item])
     ensures count { length (T.seen runs.new).runs ≡ length (T.seen runs.old).runs }
     ensures commands { all_commands (T.seen runs.new) ≡ all_commands (T.seen runs.old) }
     ensures calm { IsCalm (T.seen runs.new) }
+    ensures none { NoneMore (T.seen runs.old) (T.seen runs.new) }
     ensures taken { (p : Played) → AllFollow (T.seen runs.old) (T.shares runs.old) p → AllFollow (T.seen runs.new) (T.shares runs.new) (fold take_item p items.now) }
 {
     for item in items {
@@ -83,6 +87,7 @@ fn take_round<T: TogetherRuns, R: Wait>(rt: &R, runs: &mut T)
     ensures count { length (T.seen runs.new).runs ≡ length (T.seen runs.old).runs }
     ensures commands { all_commands (T.seen runs.new) ≡ all_commands (T.seen runs.old) }
     ensures calm { IsCalm (T.seen runs.new) }
+    ensures fewer { (n : ℕ) → AllWithin (n + 1) (T.seen runs.old) → AllWithin n (T.seen runs.new) }
     ensures taken { (p : Played) → IsPlayed (T.seen runs.old).sizes p → AllFollow (T.seen runs.old) (T.shares runs.old) p → AllFollow (T.seen runs.new) (T.shares runs.new) (take_round p) }
 {
     runs.stands();
@@ -97,6 +102,7 @@ fn take_rounds<T: TogetherRuns, R: Wait>(rt: &R, runs: &mut T, rounds: usize)
     ensures sizes { (T.seen runs.new).sizes ≡ (T.seen runs.old).sizes }
     ensures commands { all_commands (T.seen runs.new) ≡ all_commands (T.seen runs.old) }
     ensures calm { IsCalm (T.seen runs.new) }
+    ensures ended { AllWithin rounds (T.seen runs.old) → AllHave (λ x. x.ended) true (T.seen runs.new) }
     ensures taken { (p : Played) → IsPlayed (T.seen runs.old).sizes p → AllFollow (T.seen runs.old) (T.shares runs.old) p → AllFollow (T.seen runs.new) (T.shares runs.new) (take_rounds rounds p) }
 {
     'rounds: for _ in 0..rounds {
@@ -128,7 +134,8 @@ fn rounds_of<T: TogetherRuns>(runs: &T) -> usize
 /// In each history that the runs may share then, each domain has the replies that it has in the scheduled history. That
 /// is a function of the numbers of the heap, the commands and the items, so a run prints the same each time.
 ///
-/// As with [`TogetherRuns::turn`], this call may wait without end.
+/// It waits for nothing itself: each turn brings its trace nearer to its end, and each step of a pause the pause. Only the
+/// calls on the runs may wait.
 pub fn replay<T: TogetherRuns, R: Wait>(rt: &R, runs: &mut T, items: &[Item])
     requires calm { IsCalm (T.seen runs.old) }
     requires fresh { (h : List Entry) → T.shares runs.old h → h ≡ [] }
@@ -142,5 +149,4 @@ pub fn replay<T: TogetherRuns, R: Wait>(rt: &R, runs: &mut T, items: &[Item])
     let rounds = rounds_of(runs);
     take_items(rt, runs, items);
     take_rounds(rt, runs, rounds);
-    wait_if(rt, !all_ended(runs));
 }

@@ -1,7 +1,7 @@
 //! What a replay needs of the runs of a heap.
-ghost use Rattle.std.specs.Prelude.{◌<◌, ◌≡◌, ◌≤◌, List, [], Some, false, length, slice_get, true};
+ghost use Rattle.std.specs.Prelude.{◌<◌, ◌≡◌, ◌≤◌, ℕ, List, [], Some, false, length, slice_get, true};
 ghost use Rattle.heap_model.specs.declared.entry.Entry.{Entry};
-ghost use Rattle.schedule_drive.specs.Together.{AllHave, AllRuns, Has, IsShared, OneRun, Passed, SharesOn, Stands, Turned, all_halted};
+ghost use Rattle.schedule_drive.specs.Together.{AllHave, AllRuns, Has, IsShared, OneRun, PassedSome, SharesOn, SomeGone, Stands, Turned, all_halted};
 
 use std::sync::Wait;
 
@@ -25,6 +25,9 @@ pub trait TogetherRuns {
 
     /// The histories that they may share.
     ghost shares: { Self → List Entry → Type 0 };
+
+    /// How many steps are left of a pause, at most.
+    ghost pace: { Self → ℕ };
 
     /// Nothing changes. The numbers are within their limits, and there is a run for each domain. Each history that
     /// they may share is legal, and the replies of a run are those of its domain there.
@@ -52,11 +55,6 @@ pub trait TogetherRuns {
         requires { at < length (seen self.now).runs }
         ensures { Has (λ x. x.runs) result (seen self.now) at };
 
-    /// Whether a run has asked for a pause for its next command.
-    fn has_asked(&self, at: usize) -> bool
-        requires { at < length (seen self.now).runs }
-        ensures { Has (λ x. x.asked) result (seen self.now) at };
-
     /// One turn of a run, while all domains run.
     fn turn<R: Wait>(&mut self, rt: &R, at: usize) -> Stepped
         requires inside { at < length (seen self.old).runs }
@@ -70,9 +68,9 @@ pub trait TogetherRuns {
         ensures on { SharesOn (shares self.old) (shares self.new) [] }
         ensures seen { seen self.new ≡ all_halted complete (seen self.old) };
 
-    /// One step in the pause of a domain that has arrived.
-    fn pass_on<R: Wait>(&mut self, rt: &R, at: usize)
-        requires inside { at < length (seen self.old).runs }
-        requires gone { Has (λ x. x.runs) false (seen self.old) at }
-        ensures passed { Passed (shares self.old) (shares self.new) (seen self.old) (seen self.new) at };
+    /// One step in a pause, of some domain that has arrived. Fewer steps are left of the pause then.
+    fn pass_next<R: Wait>(&mut self, rt: &R)
+        requires gone { SomeGone (seen self.old) }
+        ensures passed { PassedSome (shares self.old) (shares self.new) (seen self.old) (seen self.new) }
+        ensures nearer { pace self.new < pace self.old };
 }

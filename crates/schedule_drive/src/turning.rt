@@ -1,6 +1,7 @@
 //! Turns: each ends with the next command of its run, or with the end of the trace.
 ghost use Rattle.std.specs.Prelude.{◌<◌, ◌≡◌, false, length, true};
 ghost use Rattle.schedule_laws.specs.Scheduled.{Played, take_turn};
+ghost use Rattle.schedule_drive.specs.Ending.{Nears, TakesOne};
 ghost use Rattle.schedule_drive.specs.Following.{Advances, AllFollow, IsCalm, IsCalmBut, Waits};
 ghost use Rattle.schedule_drive.specs.Pausing.{all_commands};
 ghost use Rattle.schedule_drive.specs.Together.{Has};
@@ -9,18 +10,7 @@ use crate::pausing::pause;
 use crate::together::{Stepped, TogetherRuns};
 use std::sync::Wait;
 
-// Waits without end where this is so.
-pub(crate) fn wait_if<R: Wait>(rt: &R, is: bool)
-    ensures { is ≡ false }
-{
-    if is {
-        'ever: for _ in rt.forever() {}
-        unreachable!()
-    }
-}
-
-// The pause that a run has asked for. Where its next command is a `full_major` it is answered then, and a run for which it
-// isn't waits without end.
+// The pause that a run has asked for. Where its next command is a `full_major` it is answered then.
 fn pause_for<T: TogetherRuns, R: Wait>(rt: &R, runs: &mut T, at: usize, complete: bool)
     requires inside { at < length (T.seen runs.old).runs }
     requires calm { IsCalmBut (T.seen runs.old) at }
@@ -30,9 +20,6 @@ fn pause_for<T: TogetherRuns, R: Wait>(rt: &R, runs: &mut T, at: usize, complete
 {
     pause(rt, runs, complete);
     runs.stands();
-    if complete {
-        wait_if(rt, runs.has_asked(at));
-    }
 }
 
 // One step of a turn, with the pause that it asks for. Answers whether the next command or the end was made.
@@ -41,6 +28,7 @@ fn step_on<T: TogetherRuns, R: Wait>(rt: &R, runs: &mut T, at: usize) -> bool
     requires calm { IsCalmBut (T.seen runs.old) at }
     requires goes_on { Has (λ x. x.ended) false (T.seen runs.old) at }
     ensures advances { Advances (T.shares runs.old) (T.shares runs.new) (T.seen runs.old) (T.seen runs.new) at result }
+    ensures nears { result ≡ false → Nears (T.seen runs.old) (T.seen runs.new) at }
 {
     let stepped = runs.turn(rt, at);
     runs.stands();
@@ -62,16 +50,17 @@ pub(crate) fn take_turn<T: TogetherRuns, R: Wait>(rt: &R, runs: &mut T, at: usiz
     ensures count { length (T.seen runs.new).runs ≡ length (T.seen runs.old).runs }
     ensures commands { all_commands (T.seen runs.new) ≡ all_commands (T.seen runs.old) }
     ensures calm { IsCalm (T.seen runs.new) }
+    ensures one { TakesOne (T.seen runs.old) (T.seen runs.new) at }
     ensures taken { (p : Played) → AllFollow (T.seen runs.old) (T.shares runs.old) p → AllFollow (T.seen runs.new) (T.shares runs.new) (take_turn p at) }
 {
     runs.stands();
     if runs.has_ended(at) {
         return;
     }
-    'turns: for _ in rt.forever() {
+    'turns: loop {
         if step_on(rt, runs, at) {
             return;
         }
+        runs.stands();
     }
-    unreachable!()
 }

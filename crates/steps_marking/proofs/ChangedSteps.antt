@@ -90,7 +90,7 @@ module _ (k : Config) (s : Words) (r : Rule k s) (id : ℕ) (hist : List Entry) 
 
   module _ (may : ForgetMay x) where
     abbrev forgets : Share
-    forgets = record x.seen.share { changed = None }
+    forgets = record x.seen.share { changed = Some 0 }
 
     abbrev ws : List ℕ
     ws = set s.words 3 0
@@ -157,7 +157,7 @@ module _ (k : Config) (s : Words) (r : Rule k s) (id : ℕ) (hist : List Entry) 
         colours = t.colours;
       };
       leading = record {
-        changed = λ v e. cc;
+        changed = λ v e. (may.leads, subst IsLeading (sym may.stage) tt, cc);
         found_blocks = λ v e. let u = l.found_blocks v e in (u.0, get_or-set_other s.words 3 9 0 0 (λ e. omega arith) ∙ u.1);
         found_words = λ v e. let u = l.found_words v e in (u.0, get_or-set_other s.words 3 10 0 0 (λ e. omega arith) ∙ u.1);
         rotated = l.rotated;
@@ -168,7 +168,7 @@ module _ (k : Config) (s : Words) (r : Rule k s) (id : ℕ) (hist : List Entry) 
         unswept = l.unswept;
         under_way = l.under_way;
       };
-      knows = inl (ap (λ (z : Share). record z { changed = None }) (idle (Led Mark) may.stage tt));
+      knows = inl (ap (λ (z : Share). record z { changed = Some 0 }) (idle (Led Mark) may.stage tt));
       adds = record { blocks = λ e _. a.blocks e start.waits; words = λ e _. a.words e start.waits; own = λ e _. a.own e start.waits };
       looks = let u = good.sharing.looks in record { at_own = u.at_own; cleans = u.cleans; emptied_is = u.emptied_is };
       running = let u = running x good in record { knows = u.knows; owes = u.owes };

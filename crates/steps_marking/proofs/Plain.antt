@@ -50,7 +50,7 @@ pub find_closes : (k : Config) (x : DomainView) (found : ℕ) → Closes k x fou
 find_closes k x found = leaves_closes k x found FindTold (λ y t. ap (λ (z : DomainView). z.own) t) (λ y t. front_same x y (ap (λ (z : DomainView). z.seen.front) t))
 
 pub forget_closes : (k : Config) (x : DomainView) → Closes k x 0 ForgetTold CanLeave Leaves
-forget_closes k x = share_closes k x 0 ForgetTold (λ y t. (record x.seen.share { changed = None }, t))
+forget_closes k x = share_closes k x 0 ForgetTold (λ y t. (record x.seen.share { changed = Some 0 }, t))
 
 pub armed_closes : (k : Config) (x : DomainView) (found : ℕ) → Closes k x found ArmedTold CanLeave Leaves
 armed_closes k x found = share_closes k x found ArmedTold (λ y t. (record x.seen.share { armed = Some t.armed }, t.view))

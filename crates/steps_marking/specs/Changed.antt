@@ -1,5 +1,5 @@
 -- What domain 0 asks and is told of the changed word in an odd phase.
-use Rattle.std.specs.Prelude.{◌≡◌, ℕ, Some, None}
+use Rattle.std.specs.Prelude.{◌≡◌, ℕ, Some}
 use Rattle.heap_rule.specs.declared.phase.Kind.{Kind}
 use Rattle.heap_rule.specs.declared.phase.Kind.TheVariants.{Mark}
 use Rattle.heap_rule.specs.declared.phase.Note.TheVariants.{Changed}
@@ -23,6 +23,6 @@ pub record ForgetMay (x : DomainView) : Type 0 where
   pub leads : x.own.number ≡ 0
   pub stage : x.seen.stage ≡ Led Mark
 
--- what it knew of the changed word is void
+-- it knows that the changed word is 0
 abbrev pub ForgetTold : DomainView → ℕ → DomainView → Type 0
-ForgetTold x new y = y ≡ with_share x (record x.seen.share { changed = None })
+ForgetTold x new y = y ≡ with_share x (record x.seen.share { changed = Some 0 })

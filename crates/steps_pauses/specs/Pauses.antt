@@ -111,6 +111,8 @@ pub record ArriveMay (k : Config) (x : DomainView) : Type 0 where
   pub unprepared : x.seen.stage ≡ In Promote → (c : ℕ) → c < class_count → prepared_at x.own.prepared c ≡ None
   pub emptied : x.seen.stage ≡ In Reset → x.own.used ≡ 0
   pub done : HasDone k x
+  -- where it has named a phase in which blocks are marked, it has set the changed word back
+  pub set_back : x.seen.stage ≡ Led Mark → x.seen.share.changed ≡ Some 0
   -- it owes no darkening
   pub paid_reads : x.seen.share.weak ≡ None
 

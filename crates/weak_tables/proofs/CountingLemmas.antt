@@ -66,7 +66,7 @@ chain_of_all g (cs ∷ css) zero = let sum = length-append (chain_bindings g cs)
 chain_of_all g (cs ∷ css) (suc i) = let sum = length-append (chain_bindings g cs) (bindings g css) in let rest = chain_of_all g css i in omega (arith, sum, rest)
 
 module _ (z : Sizes) (limits : IsWithinLimits z) (root : Label) (chains : List (List Cell)) (tr i : ℕ) (few : tr < 8) (first : List Entry) where
-  pub counting_begins : (now : List Entry) (r : Reply) → Legal z first → i < bucket_count → held_in z first tr ≡ Block root → IsTable (graph_of z first) root chains → Performed z first now (Load 9 tr i) r → Counting z first now root chains i r 0
+  pub counting_begins : (now : List Entry) (r : Reply) → Legal z first → i < bucket_count → held_in z first tr ≡ Block root → IsTable (graph_of z first) root chains → Performed z first now (Load 9 tr i) r → Counting z first now root chains i r 0 0
   counting_begins now r legal below holds table p =
       let t = search_begins z limits root chains root 0 i first now r tr below table holds p in
       let reads = reads_on z first first now _ root chains (reads_from z first root chains legal table) t.0 in record {
@@ -79,10 +79,11 @@ module _ (z : Sizes) (limits : IsWithinLimits z) (root : Label) (chains : List (
         shows = t.1;
         low = omega arith;
         high = omega arith;
+        passed_is = refl;
       }
 
-  pub counting_ends : (now : List Entry) (at : Reply) (count : ℕ) → Counting z first now root chains i at count → (IsBlock at → ⊥) → Counted z first now root chains i count
-  counting_ends now at count x none =
+  pub counting_ends : (now : List Entry) (at : Reply) (count many : ℕ) → Counting z first now root chains i at count many → (IsBlock at → ⊥) → Counted z first now root chains i count
+  counting_ends now at count many x none =
       let ends : x.rest ≡ [] = shown_none x.rest (λ is. none (subst IsBlock (sym x.shows) is)) in
       let whole : x.done ≡ get_or chains i [] = sym (x.walking.split ∙ (ap (λ (cs : List Cell). x.done ++ cs) ends ∙ append-nil x.done)) in record {
         reads = x.reads;
@@ -92,7 +93,7 @@ module _ (z : Sizes) (limits : IsWithinLimits z) (root : Label) (chains : List (
         high = subst (λ (cs : List Cell). count ≤ length (chain_bindings (graph_of z first) cs)) whole x.high;
       }
 
-  module _ (table : IsTable (graph_of z first) root chains) (now f g : List Entry) (at r s : Reply) (count : ℕ) (x : Counting z first now root chains i at count) (block : IsBlock at) (p : Performed z now f (Load 8 9 0) r) (q : Performed z f g (CheckKey 8 0) s) where
+  module _ (table : IsTable (graph_of z first) root chains) (now f g : List Entry) (at r s : Reply) (count many : ℕ) (x : Counting z first now root chains i at count many) (block : IsBlock at) (p : Performed z now f (Load 8 9 0) r) (q : Performed z f g (CheckKey 8 0) s) where
     cell : (c : Cell) × (cs : List Cell) × (x.rest ≡ c ∷ cs)
     cell = shown_block x.rest (subst IsBlock x.shows block)
 
@@ -149,7 +150,7 @@ module _ (z : Sizes) (limits : IsWithinLimits z) (root : Label) (chains : List (
         let sum : length (chain_bindings g0 (get_or chains i [])) ≡ length (chain_bindings g0 (x.done ++ cell.0 ∷ [])) + length (chain_bindings g0 cell.1) = ap length split ∙ length-append (chain_bindings g0 (x.done ++ cell.0 ∷ [])) (chain_bindings g0 cell.1) in
         omega (arith, all, sum, high)
 
-    pub counting_round : (h : List Entry) (u : Reply) → Performed z g h (Load 9 9 1) u → Counting z first h root chains i u (count + one_of s)
+    pub counting_round : (h : List Entry) (u : Reply) → Performed z g h (Load 9 9 1) u → Counting z first h root chains i u (count + one_of s) (many + 1)
     counting_round h u w =
         let t = walk_next z limits root chains i g h u x.done cell.0 cell.1 walking_g w in
         let nine : get_or (set (registers_of z g) 9 (head_of cell.1)) 9 Nothing ≡ head_of cell.1 = get_or-set_same (registers_of z g) 9 _ Nothing (let all = sixteen z limits g in omega (arith, all)) in
@@ -168,6 +169,7 @@ module _ (z : Sizes) (limits : IsWithinLimits z) (root : Label) (chains : List (
           shows = t.1;
           low = omega (arith, low_done, low_more, low_all, sum_g, before, here);
           high = high;
+          passed_is = length-append x.done (cell.0 ∷ []) ∙ ap (λ (n : ℕ). n + 1) x.passed_is;
         }
       where
         links_at : (h : List Entry) → (s : Walking z h root chains i x.done (cell.0 ∷ cell.1)) → Links (graph_of z h) (get_or s.table.fields i Nothing) (x.done ++ cell.0 ∷ cell.1)

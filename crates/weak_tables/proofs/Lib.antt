@@ -1,3 +1,4 @@
+pub mod CellCounts
 pub mod TidyLemmas
 pub mod RegisteredLemmas
 pub mod SearchLemmas

@@ -1,5 +1,5 @@
 -- A search, command by command: what its calls leave.
-use Rattle.std.proofs.Common.{◌≡◌, ◌≢◌, ◌⊎◌, inl, inr, ℕ, ◌<◌, ◌%◌, Bool, true, false, IsTrue, is_some, List, [], ◌∷◌, ◌++◌, length, get_or, set, Option, Some, None, refl, ap, sym, ◌∙◌, subst, arith, append-nil, append_assoc, get_or-set_same, get_or-set_other}
+use Rattle.std.proofs.Common.{◌≡◌, ◌≢◌, ◌⊎◌, inl, inr, ℕ, ◌<◌, ◌%◌, Bool, true, false, IsTrue, is_some, List, [], ◌∷◌, ◌++◌, length, get_or, set, Option, Some, None, refl, ap, sym, ◌∙◌, subst, arith, append-nil, append_assoc, length-append, ◌+◌, get_or-set_same, get_or-set_other}
 use Rattle.std.specs.List.{list_all}
 use Rattle.std.proofs.lemmas.Grind.{flat_map-append}
 use Rattle.heap_model.specs.declared.label.Label.{Label}
@@ -125,7 +125,7 @@ module _ (z : Sizes) (limits : IsWithinLimits z) (root : Label) (chains : List (
   abbrev i : ℕ
   i = k.serial % bucket_count
 
-  pub midst_begins : (now : List Entry) (r : Reply) → Legal z first → i < bucket_count → held_in z first tr ≡ Block root → Performed z first now (Load 9 tr i) r → Midst z first now root chains k r false
+  pub midst_begins : (now : List Entry) (r : Reply) → Legal z first → i < bucket_count → held_in z first tr ≡ Block root → Performed z first now (Load 9 tr i) r → Midst z first now root chains k r false 0
   midst_begins now r legal below holds p =
       let t = search_begins z limits root chains k kr i first now r tr below table holds p in
       let nine : get_or (set (registers_of z first) 9 (head_of (get_or chains i []))) 9 Nothing ≡ head_of (get_or chains i []) = get_or-set_same (registers_of z first) 9 _ Nothing (let all = sixteen z limits first in omega (arith, all)) in record {
@@ -136,10 +136,11 @@ module _ (z : Sizes) (limits : IsWithinLimits z) (root : Label) (chains : List (
         searching = search_begun z limits root chains k kr i first now _ below table t.0 nine;
         shows = t.1;
         spare_is = refl;
+        passed_is = refl;
       }
 
   -- where no cell is left
-  module _ (now : List Entry) (r : Reply) (spare : Bool) (m : Midst z first now root chains k r spare) (none : IsBlock r → ⊥) where
+  module _ (now : List Entry) (r : Reply) (spare : Bool) (many : ℕ) (m : Midst z first now root chains k r spare many) (none : IsBlock r → ⊥) where
     ends : m.rest ≡ []
     ends = shown_none m.rest (λ is. none (subst IsBlock (sym m.shows) is))
 
@@ -178,7 +179,7 @@ module _ (z : Sizes) (limits : IsWithinLimits z) (root : Label) (chains : List (
         go false x = (missed, subst (λ (cells : List Cell). IsTrue (list_all (has_key (graph_of z first)) cells)) (sym chain_is) x)
 
   -- the two commands of a round
-  module _ (now f g : List Entry) (at r s : Reply) (spare : Bool) (m : Midst z first now root chains k at spare) (block : IsBlock at) (held : held_in z first kr ≡ Block k) (p : Performed z now f (Load 10 9 0) r) (q : Performed z f g (GetKey 10 10 0) s) where
+  module _ (now f g : List Entry) (at r s : Reply) (spare : Bool) (many : ℕ) (m : Midst z first now root chains k at spare many) (block : IsBlock at) (held : held_in z first kr ≡ Block k) (p : Performed z now f (Load 10 9 0) r) (q : Performed z f g (GetKey 10 10 0) s) where
     cell : (c : Cell) × (cs : List Cell) × (m.rest ≡ c ∷ cs)
     cell = shown_block m.rest (subst IsBlock m.shows block)
 
@@ -328,7 +329,7 @@ module _ (z : Sizes) (limits : IsWithinLimits z) (root : Label) (chains : List (
     passed h b (inr (none, empty, is, (u, w))) other = subst (Passed h) (sym is) (noted h u w empty)
 
     -- and the next cell is next
-    pub midst_next : (h : List Entry) (b : Bool) → KeepsSpare z g h s spare b → (s ≡ reply.Block k → ⊥) → (l : List Entry) (u : Reply) → Performed z h l (Load 9 9 1) u → Midst z first l root chains k u b
+    pub midst_next : (h : List Entry) (b : Bool) → KeepsSpare z g h s spare b → (s ≡ reply.Block k → ⊥) → (l : List Entry) (u : Reply) → Performed z h l (Load 9 9 1) u → Midst z first l root chains k u b (many + 1)
     midst_next h b kept other l u w =
         let x = passed h b kept other in
         let t = search_next z limits root chains k kr i h l u m.done cell.0 cell.1 x.2 w in
@@ -341,6 +342,7 @@ module _ (z : Sizes) (limits : IsWithinLimits z) (root : Label) (chains : List (
           searching = search_passes z limits root chains k kr i h l u m.done cell.0 cell.1 x.2 _ key_h x.3 t.0 nine;
           shows = t.1;
           spare_is = later b x.4 t.0 (set_other z limits first h l 9 _ t.0.registers_are 8 (λ e. absurd (omega arith)));
+          passed_is = length-append m.done (cell.0 ∷ []) ∙ ap (λ (n : ℕ). n + 1) m.passed_is;
         }
       where
         later : (b : Bool) → SpareOf z first h (m.done ++ cell.0 ∷ []) b → After z h l [] (set (registers_of z h) 9 (head_of cell.1)) → held_in z l 8 ≡ held_in z h 8 → SpareOf z first l (m.done ++ cell.0 ∷ []) b

@@ -41,8 +41,8 @@ KeepsSpare z old new found spare result =
     ((new ≡ old) × (result ≡ spare) × ((spare ≡ true) ⊎ (found ≢ reply.Empty)))
     ⊎ ((spare ≡ false) × (found ≡ reply.Empty) × (result ≡ true) × ((r : Reply) × Performed z old new (Load 8 9 0) r))
 
--- in the midst of a search: the last reply shows what leads to the cells that are left
-pub record Midst (z : Sizes) (first now : List Entry) (root : Label) (chains : List (List Cell)) (k : Label) (at : Reply) (spare : Bool) : Type 0 where
+-- in the midst of a search, which has passed so many cells: the last reply shows what leads to those that are left
+pub record Midst (z : Sizes) (first now : List Entry) (root : Label) (chains : List (List Cell)) (k : Label) (at : Reply) (spare : Bool) (passed : ℕ) : Type 0 where
   pub reads : Reads z first now root chains
   pub keeps : KeepsOthers z first now
   pub done : List Cell
@@ -50,6 +50,7 @@ pub record Midst (z : Sizes) (first now : List Entry) (root : Label) (chains : L
   pub searching : Searching z now root chains k (k.serial % bucket_count) done rest
   pub shows : at ≡ shown (head_of rest)
   pub spare_is : SpareOf z first now done spare
+  pub passed_is : length done ≡ passed
 
 -- a search has found an ephemeron of the key's bucket, with the key or without one: register 8 holds it
 pub record Found (z : Sizes) (first now : List Entry) (root : Label) (chains : List (List Cell)) (k : Label) (key : Option Label) : Type 0 where
@@ -149,8 +150,8 @@ abbrev pub Placed : Sizes → List Entry → List Entry → Label → List (List
 Placed z old new root chains k full true = Ready z old new root chains k full
 Placed z old new root chains k full false = Refused z old new root chains
 
--- in the midst of a bucket's count: so many of the cells that were passed had a key when they were looked at
-pub record Counting (z : Sizes) (first now : List Entry) (root : Label) (chains : List (List Cell)) (i : ℕ) (at : Reply) (count : ℕ) : Type 0 where
+-- in the midst of a bucket's count, which has passed so many cells: so many of them had a key when they were looked at
+pub record Counting (z : Sizes) (first now : List Entry) (root : Label) (chains : List (List Cell)) (i : ℕ) (at : Reply) (count passed : ℕ) : Type 0 where
   pub reads : Reads z first now root chains
   pub keeps : KeepsOthers z first now
   pub declines : Declines z first now chains
@@ -160,6 +161,7 @@ pub record Counting (z : Sizes) (first now : List Entry) (root : Label) (chains 
   pub shows : at ≡ shown (head_of rest)
   pub low : length (chain_bindings (graph_of z now) done) ≤ count
   pub high : count ≤ length (chain_bindings (graph_of z first) done)
+  pub passed_is : length done ≡ passed
 
 -- a bucket was counted
 pub record Counted (z : Sizes) (old new : List Entry) (root : Label) (chains : List (List Cell)) (i count : ℕ) : Type 0 where

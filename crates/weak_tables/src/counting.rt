@@ -16,7 +16,7 @@ use heap_model::command::Command;
 use heap_model::reply::Reply;
 use std::sync::Wait;
 
-// Counts the full keys in a bucket, each as it is looked at.
+// Counts the full keys in a bucket, each as it is looked at. It has fewer cells than labels were given out.
 fn count_bucket<M: Machine, R: Wait>(m: &mut M, rt: &R, table: u8, index: u16) -> u32
     requires few { (table < 8) × (index < 64) }
     requires table { HoldsTable (M.sizes m.old) (M.front m.old) table }
@@ -39,7 +39,7 @@ fn count_bucket<M: Machine, R: Wait>(m: &mut M, rt: &R, table: u8, index: u16) -
             index,
         },
     );
-    'cells: for _ in rt.forever() {
+    'cells: for _ in 0..u32::MAX {
         if !is_block(&at) {
             return count;
         }

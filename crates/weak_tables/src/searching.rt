@@ -60,7 +60,7 @@ fn keep_spare<M: Machine, R: Wait>(m: &mut M, rt: &R, found: &Reply, spare: bool
 }
 
 // Looks for the ephemeron of a key, which a register holds, and for one without a key. Where one is met, register 8 holds
-// it, the key's before another. Registers 9 and 10 are used between.
+// it, the key's before another. Registers 9 and 10 are used between. A bucket has fewer cells than labels were given out.
 pub(crate) fn search<M: Machine, R: Wait>(
     m: &mut M,
     rt: &R,
@@ -89,7 +89,7 @@ pub(crate) fn search<M: Machine, R: Wait>(
             index: bucket_of(label),
         },
     );
-    'cells: for _ in rt.forever() {
+    'cells: for _ in 0..u32::MAX {
         if !is_block(&at) {
             return after_all(spare);
         }

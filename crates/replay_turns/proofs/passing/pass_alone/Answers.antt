@@ -22,6 +22,7 @@ returns g c = record {
     passes = c.pass_on.ensures.answer;
     is_passed = c.is_faithful.ensures;
     goes_on = c.pass_on.ensures.goes_on;
+    served = c.is_served.ensures;
     becomes = record {
       was = has_run _ c.args.at _ _ c.requires.inside c.in-Some.is;
       here = c.pass_on.ensures.here;

@@ -1,9 +1,10 @@
-use Rattle.std.proofs.Common.{◌≡◌, ◌∙◌, ap, sym, subst, fold, refl}
+use Rattle.std.proofs.Common.{◌≡◌, ◌∙◌, ap, sym, subst, fold, refl, arith}
 use Rattle.heap_model.specs.declared.state.Sizes.{Sizes}
 use Rattle.heap_model.specs.History.{replies}
 use Rattle.schedule_laws.specs.Scheduled.{Played, begun, take_item, take_rounds}
 use Rattle.schedule_drive.specs.Following.{IsPlayed}
 use Rattle.schedule_drive.specs.Pausing.{lefts}
+use Rattle.schedule_drive.proofs.Ending.{within_rounds}
 use Rattle.schedule_drive.proofs.Rounds.{begins, items_played}
 use Rattle.schedule_drive.proofs.replaying.replay.Goals as goal
 
@@ -19,3 +20,11 @@ returns-clause-replies g c h here d =
     let sizes : (g.T.TogetherRuns.seen c.take_rounds.new.runs).sizes ≡ z = c.take_rounds.ensures.sizes ∙ c.take_items.ensures.sizes in
     ap (λ (y : Sizes). replies y h d) (sym sizes) ∙ sym (follow.agrees.replies d) ∙ ap (λ (y : Sizes). replies y all.history d) sizes
     ∙ ap (λ n. replies z (take_rounds n through).history d) c.rounds_of-rounds.ensures
+
+pub returns-clause-ended : goal.returns-clause-ended
+returns-clause-ended g c =
+    c.take_rounds.ensures.ended (λ d.
+    let few = within_rounds (g.T.TogetherRuns.seen c.args.runs.now) d in
+    let none = c.take_items.ensures.none d in
+    let rounds = c.rounds_of-rounds.ensures in
+    omega (arith, few, none, rounds))

@@ -1,6 +1,7 @@
 use Rattle.std.proofs.Common.{subst, sym}
 use Rattle.schedule_laws.specs.Scheduled.{take_item}
 use Rattle.schedule_drive.specs.Following.{AllFollow}
+use Rattle.schedule_drive.proofs.Ending.{takes_none_more}
 use Rattle.schedule_drive.proofs.replaying.take_item.Goals as goal
 
 pub returns-in-Turn-clause-taken : goal.returns-in-Turn-clause-taken
@@ -10,3 +11,6 @@ returns-in-Turn-clause-taken g c p follow =
 pub returns-in-Collect-clause-taken : goal.returns-in-Collect-clause-taken
 returns-in-Collect-clause-taken g c p follow =
     subst (λ i. AllFollow (g.T.TogetherRuns.seen c.collect.new.runs) (g.T.TogetherRuns.shares c.collect.new.runs) (take_item p i)) (sym c.in-Collect.is) (c.collect.ensures.taken p follow)
+
+pub returns-in-Turn-clause-none : goal.returns-in-Turn-clause-none
+returns-in-Turn-clause-none g c d = takes_none_more (g.T.TogetherRuns.seen c.args.runs.now) (g.T.TogetherRuns.seen c.take_turn.new.runs) _ c.take_turn.ensures.one d

@@ -1,4 +1,4 @@
-use Rattle.std.proofs.Common.{◌≡◌, ◌∙◌, fold, rules, subst, sym, take, take_all}
+use Rattle.std.proofs.Common.{◌≡◌, ◌∙◌, fold, rules, subst, sym, take, take_all, arith}
 use Rattle.std.proofs.lemmas.List.Sums.{fold_more}
 use Rattle.schedule_laws.specs.Scheduled.{take_item}
 use Rattle.schedule_drive.specs.Following.{AllFollow}
@@ -10,6 +10,7 @@ loop-item-preserved g c = record {
   count = c.take_item.ensures.count ∙ c.loop-item.invariant.count;
   commands = c.take_item.ensures.commands ∙ c.loop-item.invariant.commands;
   calm = c.take_item.ensures.calm;
+  none = λ d. let a = c.loop-item.invariant.none d in let b = c.take_item.ensures.none d in omega (arith, a, b);
   taken = λ p follow.
       subst (λ q. AllFollow (g.T.TogetherRuns.seen c.take_item.new.runs) (g.T.TogetherRuns.shares c.take_item.new.runs) q) (sym (fold_more take_item p c.args.items.now c.loop-item.item-index _ (search rules)))
       (c.take_item.ensures.taken (fold take_item p (take c.loop-item.item-index c.args.items.now)) (c.loop-item.invariant.taken p follow));

@@ -1,6 +1,7 @@
 use Rattle.std.proofs.Common.{◌≡◌, fold, length, take}
 use Rattle.schedule_laws.specs.Scheduled.{Played, take_item}
 use Rattle.schedule_drive.specs.Pausing.{all_commands}
+use Rattle.schedule_drive.specs.Ending.{NoneMore}
 use Rattle.schedule_drive.specs.Following.{AllFollow, IsCalm}
 use Rattle.schedule_drive.proofs.replaying.take_items.Given as goal
 
@@ -10,5 +11,6 @@ invariant-loop-item g l = record {
   count : length (g.T.TogetherRuns.seen l.runs).runs ≡ length (g.T.TogetherRuns.seen l.fn.runs).runs;
   commands : all_commands (g.T.TogetherRuns.seen l.runs) ≡ all_commands (g.T.TogetherRuns.seen l.fn.runs);
   calm : IsCalm (g.T.TogetherRuns.seen l.runs);
+  none : NoneMore (g.T.TogetherRuns.seen l.fn.runs) (g.T.TogetherRuns.seen l.runs);
   taken : (p : Played) → AllFollow (g.T.TogetherRuns.seen l.fn.runs) (g.T.TogetherRuns.shares l.fn.runs) p → AllFollow (g.T.TogetherRuns.seen l.runs) (g.T.TogetherRuns.shares l.runs) (fold take_item p (take l.item-index l.items));
 }

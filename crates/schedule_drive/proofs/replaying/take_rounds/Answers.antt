@@ -1,7 +1,8 @@
-use Rattle.std.proofs.Common.{◌≡◌, ◌∙◌, rules, subst, sym}
+use Rattle.std.proofs.Common.{◌≡◌, ◌∙◌, ◌+◌, rules, subst, sym, refl, arith}
 use Rattle.std.specs.List.{range_with_len}
 use Rattle.schedule_laws.specs.Scheduled.{take_round, take_rounds}
 use Rattle.schedule_drive.specs.Following.{AllFollow, IsPlayed}
+use Rattle.schedule_drive.proofs.Ending.{all_over}
 use Rattle.schedule_drive.proofs.Rounds.{one_more_number, rounds_played}
 use Rattle.schedule_drive.proofs.replaying.take_rounds.Goals as goal
 
@@ -10,6 +11,7 @@ rounds-preserved g c = record {
   sizes = c.take_round.ensures.sizes ∙ c.rounds.invariant.sizes;
   commands = c.take_round.ensures.commands ∙ c.rounds.invariant.commands;
   calm = c.take_round.ensures.calm;
+  within = λ n few. c.take_round.ensures.fewer n (c.rounds.invariant.within (n + 1) (λ d. let one = few d in omega (arith, one)));
   taken = λ p played follow.
       subst (λ q. AllFollow (g.T.TogetherRuns.seen c.take_round.new.runs) (g.T.TogetherRuns.shares c.take_round.new.runs) q) (sym (one_more_number (λ q n. take_round q) p c.rounds.counter))
       (c.take_round.ensures.taken (take_rounds c.rounds.counter p)
@@ -21,3 +23,17 @@ pub returns-clause-taken : goal.returns-clause-taken
 returns-clause-taken g c p played follow =
     let all : c.rounds.counter ≡ c.args.rounds = search rules in
     subst (λ n. AllFollow (g.T.TogetherRuns.seen c.rounds.runs) (g.T.TogetherRuns.shares c.rounds.runs) (take_rounds n p)) all (c.rounds.invariant.taken p played follow)
+
+pub rounds-init : goal.rounds-init
+rounds-init g c = record {
+  sizes = refl;
+  commands = refl;
+  calm = c.requires.calm;
+  within = λ n few d. let one = few d in omega (arith, one);
+  taken = λ p played follow. follow;
+}
+
+pub returns-clause-ended : goal.returns-clause-ended
+returns-clause-ended g c few =
+    let all : c.rounds.counter ≡ c.args.rounds = search rules in
+    all_over (g.T.TogetherRuns.seen c.rounds.runs) (c.rounds.invariant.within 0 (λ d. let one = few d in omega (arith, one, all)))

@@ -1,5 +1,5 @@
-use Rattle.std.proofs.Common.{refl}
-use Rattle.schedule_drive.proofs.Turns.{advances_then, turned_made, turned_needs, turned_ran, turned_waits}
+use Rattle.std.proofs.Common.{refl, inl, arith}
+use Rattle.schedule_drive.proofs.Turns.{advances_then, asks_nears, ran_nears, turned_made, turned_needs, turned_ran, turned_waits}
 use Rattle.schedule_drive.proofs.turning.step_on.Goals as goal
 
 pub pause_for-requires-clause-calm : goal.pause_for-requires-clause-calm
@@ -16,13 +16,23 @@ pub pause_for-requires-clause-waits : goal.pause_for-requires-clause-waits
 pause_for-requires-clause-waits g c =
     turned_waits (g.T.TogetherRuns.shares c.args.runs.now) (g.T.TogetherRuns.shares c.turn-stepped.new.self) _ _ c.args.at c.requires.calm c.requires.goes_on c.stands.ensures.shared c.in-Needs.complete c.in-Needs.ensures.turned
 
-pub returns-in-Ran : goal.returns-in-Ran
-returns-in-Ran g c = record { advances = turned_ran (g.T.TogetherRuns.shares c.args.runs.now) (g.T.TogetherRuns.shares c.turn-stepped.new.self) _ _ c.args.at c.requires.calm c.requires.goes_on c.stands.ensures.shared c.in-Ran.ensures.turned }
+pub returns-in-Ran-clause-advances : goal.returns-in-Ran-clause-advances
+returns-in-Ran-clause-advances g c = turned_ran (g.T.TogetherRuns.shares c.args.runs.now) (g.T.TogetherRuns.shares c.turn-stepped.new.self) _ _ c.args.at c.requires.calm c.requires.goes_on c.stands.ensures.shared c.in-Ran.ensures.turned
 
-pub returns-in-Made : goal.returns-in-Made
-returns-in-Made g c = record { advances = turned_made (g.T.TogetherRuns.shares c.args.runs.now) (g.T.TogetherRuns.shares c.turn-stepped.new.self) _ _ c.args.at c.requires.calm c.requires.goes_on c.stands.ensures.shared c.in-Made.ensures.turned }
+pub returns-in-Made-clause-advances : goal.returns-in-Made-clause-advances
+returns-in-Made-clause-advances g c = turned_made (g.T.TogetherRuns.shares c.args.runs.now) (g.T.TogetherRuns.shares c.turn-stepped.new.self) _ _ c.args.at c.requires.calm c.requires.goes_on c.stands.ensures.shared c.in-Made.ensures.turned
 
-pub returns-in-Needs : goal.returns-in-Needs
-returns-in-Needs g c =
+pub returns-in-Needs-clause-advances : goal.returns-in-Needs-clause-advances
+returns-in-Needs-clause-advances g c =
     let first = turned_needs (g.T.TogetherRuns.shares c.args.runs.now) (g.T.TogetherRuns.shares c.turn-stepped.new.self) _ _ c.args.at c.requires.calm c.requires.goes_on c.stands.ensures.shared c.in-Needs.complete c.in-Needs.ensures.turned in
-    record { advances = advances_then (g.T.TogetherRuns.shares c.args.runs.now) (g.T.TogetherRuns.shares c.turn-stepped.new.self) (g.T.TogetherRuns.shares c.pause_for.new.runs) _ _ _ c.args.at c.in-Needs.complete first c.pause_for.ensures.advances }
+    advances_then (g.T.TogetherRuns.shares c.args.runs.now) (g.T.TogetherRuns.shares c.turn-stepped.new.self) (g.T.TogetherRuns.shares c.pause_for.new.runs) _ _ _ c.args.at c.in-Needs.complete first c.pause_for.ensures.advances
+
+pub returns-in-Ran-clause-nears : goal.returns-in-Ran-clause-nears
+returns-in-Ran-clause-nears g c none =
+    ran_nears (g.T.TogetherRuns.shares c.args.runs.now) (g.T.TogetherRuns.shares c.turn-stepped.new.self) _ _ c.args.at c.requires.calm c.requires.goes_on c.stands.ensures.shared c.in-Ran.ensures.turned
+
+pub returns-in-Needs-clause-nears : goal.returns-in-Needs-clause-nears
+returns-in-Needs-clause-nears g c none =
+    let asks = asks_nears (g.T.TogetherRuns.shares c.args.runs.now) (g.T.TogetherRuns.shares c.turn-stepped.new.self) _ _ c.args.at c.requires.calm c.requires.goes_on c.stands.ensures.shared c.in-Needs.complete c.in-Needs.ensures.turned none in
+    let rank = c.pause_for.ensures.advances.rank none in
+    inl (omega (arith, asks, rank))

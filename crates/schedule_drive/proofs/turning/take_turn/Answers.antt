@@ -1,6 +1,7 @@
-use Rattle.std.proofs.Common.{refl, subst}
+use Rattle.std.proofs.Common.{refl, subst, ◌∙◌, true, arith}
 use Rattle.schedule_drive.specs.Together.{Has}
-use Rattle.schedule_drive.proofs.Turns.{calm_but, no_turn, turn_begins}
+use Rattle.schedule_drive.proofs.Ending.{ended_none, nearer, waiting_few}
+use Rattle.schedule_drive.proofs.Turns.{calm_but, has_at, no_turn, turn_begins}
 use Rattle.schedule_drive.proofs.turning.take_turn.Goals as goal
 
 pub returns-then-has_ended-clause-taken : goal.returns-then-has_ended-clause-taken
@@ -17,8 +18,49 @@ turns-init g c =
       commands = refl;
       calm = calm_but (g.T.TogetherRuns.seen c.args.runs.now) c.args.at c.requires.calm;
       goes_on = going;
+      waits = omega arith;
+      others = λ e other. refl;
       midst = λ p follow. turn_begins (g.T.TogetherRuns.shares c.args.runs.now) (g.T.TogetherRuns.seen c.args.runs.now) p c.args.at c.requires.inside c.stands.ensures.shared follow going;
     }
 
 pub returns-then-step_on-clause-taken : goal.returns-then-step_on-clause-taken
 returns-then-step_on-clause-taken g c p follow = c.step_on.ensures.advances.turns p (c.turns.invariant.midst p follow) c.if-step_on.true
+
+pub returns-then-has_ended-clause-one : goal.returns-then-has_ended-clause-one
+returns-then-has_ended-clause-one g c =
+    let v = g.T.TogetherRuns.seen c.args.runs.now in
+    let none = ended_none v c.args.at (has_at (λ x. x.ended) true v c.args.at (subst (λ b. Has (λ x. x.ended) b v c.args.at) c.if-has_ended.true c.has_ended.ensures)) in
+    record {
+      fewer = λ n few. omega (arith, none);
+      others = λ e other. refl;
+    }
+
+pub turns-preserved : goal.turns-preserved
+turns-preserved g c =
+    let a = c.step_on.ensures.advances in
+    let was = c.turns.invariant in
+    record {
+      sizes = a.sizes ∙ was.sizes;
+      count = a.count ∙ was.count;
+      commands = a.commands ∙ was.commands;
+      calm = a.calm;
+      goes_on = a.goes_on c.if-step_on.false;
+      waits = let one = a.waits c.if-step_on.false in let two = was.waits in omega (arith, one, two);
+      others = λ e other. a.others e other ∙ was.others e other;
+      midst = λ p follow. a.stays p (was.midst p follow) c.if-step_on.false;
+    }
+
+pub returns-then-step_on-clause-one : goal.returns-then-step_on-clause-one
+returns-then-step_on-clause-one g c =
+    let a = c.step_on.ensures.advances in
+    let was = c.turns.invariant in
+    record {
+      fewer = λ n few. let one = a.falls c.if-step_on.true in let two = was.waits in omega (arith, one, two, few);
+      others = λ e other. a.others e other ∙ was.others e other;
+    }
+
+pub turns-smaller : goal.turns-smaller
+turns-smaller g c =
+    let v = g.T.TogetherRuns.seen c.turns.runs in
+    let w = g.T.TogetherRuns.seen c.step_on.new.runs in
+    nearer v w c.args.at (c.step_on.ensures.nears c.if-step_on.false) (waiting_few w c.args.at c.stands-in-turns.ensures.stands)

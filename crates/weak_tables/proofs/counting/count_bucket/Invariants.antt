@@ -15,5 +15,5 @@ invariant-cells g l = record {
   given : refusals (g.M.Machine.front l.m) ≡ refusals (g.M.Machine.front l.fn.m);
   written : writings (g.M.Machine.front l.m) ≡ writings (g.M.Machine.front l.fn.m);
   counting : (root : Label) (chains : List (List Cell)) → held_in (g.M.Machine.sizes l.fn.m) (g.M.Machine.front l.fn.m) l.table ≡ Block root → IsTable (graph_of (g.M.Machine.sizes l.fn.m) (g.M.Machine.front l.fn.m)) root chains
-      → Counting (g.M.Machine.sizes l.fn.m) (g.M.Machine.front l.fn.m) (g.M.Machine.front l.m) root chains l.index l.at l.count;
+      → Counting (g.M.Machine.sizes l.fn.m) (g.M.Machine.front l.fn.m) (g.M.Machine.front l.m) root chains l.index l.at l.count l.counter;
 }

@@ -15,5 +15,5 @@ invariant-cells g l = record {
   given : refusals (g.M.Machine.front l.m) ≡ refusals (g.M.Machine.front l.fn.m);
   written : writings (g.M.Machine.front l.m) ≡ writings (g.M.Machine.front l.fn.m);
   midst : (root : Label) (chains : List (List Cell)) → held_in (g.M.Machine.sizes l.fn.m) (g.M.Machine.front l.fn.m) l.table ≡ Block root → IsTable (graph_of (g.M.Machine.sizes l.fn.m) (g.M.Machine.front l.fn.m)) root chains
-      → Midst (g.M.Machine.sizes l.fn.m) (g.M.Machine.front l.fn.m) (g.M.Machine.front l.m) root chains l.label l.at l.spare;
+      → Midst (g.M.Machine.sizes l.fn.m) (g.M.Machine.front l.fn.m) (g.M.Machine.front l.m) root chains l.label l.at l.spare l.counter;
 }

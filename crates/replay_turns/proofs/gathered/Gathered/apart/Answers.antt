@@ -11,12 +11,12 @@ use Rattle.replay_turns.proofs.gathered.Gathered.apart.Goals as goal
 
 pub meet_each-requires-clause-here : goal.meet_each-requires-clause-here
 meet_each-requires-clause-here c =
-    let g0 : GatheredView = record { heap = c.self.inside.heap; runs = c.self.inside.runs.items; complete = c.self.inside.complete } in
+    let g0 : GatheredView = record { heap = c.self.inside.heap; runs = c.self.inside.runs.items; complete = c.self.inside.complete; steps = c.self.inside.steps } in
     subst (AllHere c.self.inside.heap) (sym c.as_mut_slice.ensures.value) (all_here g0 c.self.invariant)
 
 pub runs_of-runs-requires-clause-filled : goal.runs_of-runs-requires-clause-filled
 runs_of-runs-requires-clause-filled c =
-    let g0 : GatheredView = record { heap = c.self.inside.heap; runs = c.self.inside.runs.items; complete = c.self.inside.complete } in
+    let g0 : GatheredView = record { heap = c.self.inside.heap; runs = c.self.inside.runs.items; complete = c.self.inside.complete; steps = c.self.inside.steps } in
     let new = c.meet_each.new.runs in
     let l = subst (λ (rs : List (Option RunView)). Leveled c.self.inside.heap.config rs new 0 (length rs)) c.as_mut_slice.ensures.value c.meet_each.ensures.leveled in
     let same = with_items_is c.self.inside.runs new (c.meet_each.auto.runs ∙ (ap length c.as_mut_slice.ensures.value ∙ sym c.self.inside.runs.ok.0)) in
@@ -24,7 +24,7 @@ runs_of-runs-requires-clause-filled c =
 
 pub returns-clause-apart : goal.returns-clause-apart
 returns-clause-apart c =
-    let g0 : GatheredView = record { heap = c.self.inside.heap; runs = c.self.inside.runs.items; complete = c.self.inside.complete } in
+    let g0 : GatheredView = record { heap = c.self.inside.heap; runs = c.self.inside.runs.items; complete = c.self.inside.complete; steps = c.self.inside.steps } in
     let new = c.meet_each.new.runs in
     let l = subst (λ (rs : List (Option RunView)). Leveled c.self.inside.heap.config rs new 0 (length rs)) c.as_mut_slice.ensures.value c.meet_each.ensures.leveled in
     let same = with_items_is c.self.inside.runs new (c.meet_each.auto.runs ∙ (ap length c.as_mut_slice.ensures.value ∙ sym c.self.inside.runs.ok.0)) in

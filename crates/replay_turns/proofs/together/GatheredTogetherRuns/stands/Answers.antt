@@ -1,7 +1,15 @@
 use Rattle.std.proofs.Common.{subst}
-use Rattle.replay_turns.specs.Gathered.{IsGathered}
+use Rattle.heap_model.specs.Domains.{IsWithinLimits}
+use Rattle.heap_rule.specs.Limits.{sizes_in}
+use Rattle.replay_turns.specs.Gathered.{GatheredView, IsGathered}
+use Rattle.replay_turns.proofs.Joining.{stands_of}
 use Rattle.replay_turns.proofs.Sharing.{shared_is}
 use Rattle.replay_turns.proofs.together.GatheredTogetherRuns.stands.Goals as goal
 
 pub returns-clause-shared : goal.returns-clause-shared
 returns-clause-shared c = λ h ms. shared_is c.args.self.now (subst IsGathered c.self.view_is c.self.invariant) h ms
+
+pub returns-clause-stands : goal.returns-clause-stands
+returns-clause-stands c =
+    let limits = subst (λ (v : GatheredView). IsWithinLimits (sizes_in v.heap.config)) c.self.view_is c.config-limits.ensures.limits in
+    stands_of c.args.self.now (subst IsGathered c.self.view_is c.self.invariant) limits

@@ -11,13 +11,13 @@ use Rattle.replay_turns.proofs.together.GatheredTogetherRuns.turn.Goals as goal
 
 pub step_at-requires-clause-here : goal.step_at-requires-clause-here
 step_at-requires-clause-here g c =
-    let g0 : GatheredView = record { heap = c.self.inside.heap; runs = c.self.inside.runs.items; complete = c.self.inside.complete } in
+    let g0 : GatheredView = record { heap = c.self.inside.heap; runs = c.self.inside.runs.items; complete = c.self.inside.complete; steps = c.self.inside.steps } in
     subst (AllHere c.self.inside.heap) (sym c.as_mut_slice.ensures.value) (all_here g0 c.self.invariant)
 
 pub step_at-requires-clause-running : goal.step_at-requires-clause-running
 step_at-requires-clause-running g c = λ r there.
     let run = subst (λ (v : GatheredView). AllHave (λ x. x.runs) true (seen_in v)) (sym c.self.view_is) c.requires.run in
-    let g0 : GatheredView = record { heap = c.self.inside.heap; runs = c.self.inside.runs.items; complete = c.self.inside.complete } in
+    let g0 : GatheredView = record { heap = c.self.inside.heap; runs = c.self.inside.runs.items; complete = c.self.inside.complete; steps = c.self.inside.steps } in
     runs_run g0 run c.args.at r (subst (λ (rs : List (Option RunView)). HasRun rs c.args.at r) c.as_mut_slice.ensures.value there)
 
 pub step_at-requires-clause-listed : goal.step_at-requires-clause-listed
@@ -25,7 +25,7 @@ step_at-requires-clause-listed g c = λ r there. (c.self.invariant.held c.args.a
 
 pub invariant_of-self : goal.invariant_of-self
 invariant_of-self g c =
-    let g0 : GatheredView = record { heap = c.self.inside.heap; runs = c.self.inside.runs.items; complete = c.self.inside.complete } in
+    let g0 : GatheredView = record { heap = c.self.inside.heap; runs = c.self.inside.runs.items; complete = c.self.inside.complete; steps = c.self.inside.steps } in
     let new = c.step_at.new.runs in
     let run = subst (λ (v : GatheredView). AllHave (λ x. x.runs) true (seen_in v)) (sym c.self.view_is) c.requires.run in
     let going = subst (λ (v : GatheredView). Has (λ x. x.ended) false (seen_in v) c.args.at) (sym c.self.view_is) c.requires.goes_on in
@@ -35,7 +35,7 @@ invariant_of-self g c =
 
 pub returns : goal.returns
 returns g c =
-    let g0 : GatheredView = record { heap = c.self.inside.heap; runs = c.self.inside.runs.items; complete = c.self.inside.complete } in
+    let g0 : GatheredView = record { heap = c.self.inside.heap; runs = c.self.inside.runs.items; complete = c.self.inside.complete; steps = c.self.inside.steps } in
     let new = c.step_at.new.runs in
     let run = subst (λ (v : GatheredView). AllHave (λ x. x.runs) true (seen_in v)) (sym c.self.view_is) c.requires.run in
     let going = subst (λ (v : GatheredView). Has (λ x. x.ended) false (seen_in v) c.args.at) (sym c.self.view_is) c.requires.goes_on in

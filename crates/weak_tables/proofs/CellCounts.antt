@@ -1,0 +1,52 @@
+-- A bucket has fewer cells than labels were given out: each cell has two blocks.
+use Rattle.std.proofs.Common.{◌≡◌, ℕ, zero, suc, ◌+◌, ◌≤◌, Bool, false, cond, IsTrue, Option, None, Some, subst, ⊎_elim, List, [], ◌∷◌, ◌++◌, length, get_or, flat_map, ap, ◌∙◌, arith, length-append}
+use Rattle.std.proofs.lemmas.List.{length-map}
+use Rattle.heap_model.specs.declared.label.Label.{Label}
+use Rattle.heap_model.specs.declared.entry.Entry.{Entry}
+use Rattle.heap_model.specs.declared.state.Sizes.{Sizes}
+use Rattle.heap_model.specs.Domains.{domain_at}
+use Rattle.heap_model.specs.declared.graph.Node.{Node}
+use Rattle.heap_model.specs.Graph.{Graph, has_label, labels, node_at, same_label}
+use Rattle.heap_model.specs.History.{Legal}
+use Rattle.heap_model.proofs.Reach.LabelListLemmas.{length_within}
+use Rattle.heap_model.proofs.Reach.ReachLemmas.{or_left, or_right, true_or_false}
+use Rattle.table_laws.specs.Structures.{Cell, IsTable, cell_labels, table_labels}
+use Rattle.table_laws.specs.Thinning.{state_of}
+use Rattle.table_laws.proofs.GrowLemmas.{table_there}
+use Rattle.table_laws.proofs.SizeLemmas.{blocks_counted}
+
+label_there : (g : Graph) (l : Label) (n : Node) → node_at g l ≡ Some n → IsTrue (has_label (labels g) l)
+label_there [] l n at = cc
+label_there (e ∷ g) l n at = ⊎_elim
+    (λ (here : IsTrue (same_label e.0 l)). or_left (same_label e.0 l) _ here)
+    (λ (other : same_label e.0 l ≡ false). or_right (same_label e.0 l) _ (label_there g l n (subst (λ (b : Bool). cond b (Some e.1) (node_at g l) ≡ Some n) other at)))
+    (true_or_false (same_label e.0 l))
+
+-- each cell has two blocks
+two_each : (cells : List Cell) → length cells + length cells ≤ length (cell_labels cells)
+two_each [] = omega arith
+two_each (c ∷ cells) = let rest = two_each cells in omega (arith, rest)
+
+in_chain : (css : List (List Cell)) (i : ℕ) → length (get_or css i []) + length (get_or css i []) ≤ length (flat_map cell_labels css)
+in_chain [] i = omega arith
+in_chain (cells ∷ css) zero =
+    let here = two_each cells in
+    let both : length (flat_map cell_labels (cells ∷ css)) ≡ length (cell_labels cells) + length (flat_map cell_labels css) = length-append (cell_labels cells) (flat_map cell_labels css) in
+    omega (arith, here, both)
+in_chain (cells ∷ css) (suc i) =
+    let rest = in_chain css i in
+    let both : length (flat_map cell_labels (cells ∷ css)) ≡ length (cell_labels cells) + length (flat_map cell_labels css) = length-append (cell_labels cells) (flat_map cell_labels css) in
+    omega (arith, rest, both)
+
+-- those of a bucket that were passed
+pub passed_few : (z : Sizes) (h : List Entry) (root : Label) (chains : List (List Cell)) (i : ℕ) (done rest : List Cell) → z.domains ≡ 1 → Legal z h → IsTable (state_of z h).graph root chains → get_or chains i [] ≡ done ++ rest
+    → length done + length done ≤ (domain_at (state_of z h) 0).serial
+passed_few z h root chains i done rest one legal table split =
+    let g = (state_of z h).graph in
+    let two = in_chain chains i in
+    let within : length (table_labels root chains) ≤ length (labels g) =
+    length_within (table_labels root chains) (labels g) table.once (λ l here. let there = table_there g root chains l table here in label_there g l there.0 there.1) in
+    let count : length (labels g) ≡ length g = length-map g _ in
+    let most = blocks_counted z h one legal in
+    let parts : length (get_or chains i []) ≡ length done + length rest = ap length split ∙ length-append done rest in
+    omega (arith, two, within, count, most, parts)
