@@ -1,16 +1,16 @@
 -- What the clauses of leading, of arriving and of the barrier refuse.
-use Rattle.std.proofs.Common.{◌≡◌, ◌∙◌, ℕ, ◌*◌, ◌<◌, ◌≤◌, true, false, if◌then◌else◌, Bool, Some, refl, sym, ap, inl, inr, arith}
+use Rattle.std.proofs.Common.{◌≡◌, ◌∙◌, ℕ, ◌*◌, ◌<◌, ◌≤◌, true, false, if◌then◌else◌, Bool, Some, None, refl, sym, ap, inl, inr, arith}
 use Rattle.std.proofs.lemmas.Option.{same_Some}
 use Rattle.heap_rule.specs.declared.config.Config.{Config}
 use Rattle.heap_rule.specs.declared.phase.Kind.{Kind}
 use Rattle.heap_rule.specs.declared.phase.Kind.TheVariants.{Answer, Decide, Lasts, Mark, Reset, Roots, Rounds, Run, Sweep}
-use Rattle.heap_rule.specs.declared.phase.Stage.TheVariants.{In}
+use Rattle.heap_rule.specs.declared.phase.Stage.TheVariants.{In, Led}
 use Rattle.heap_rule.specs.declared.view.DomainView.{DomainView}
 use Rattle.heap_rule.specs.declared.view.Share.{Share}
 use Rattle.steps_pauses.specs.Pauses.{ArriveMay, MayFollow}
 use Rattle.pause_phases.specs.declared.decider.Decider.TheVariants.{Caller}
 use Rattle.pause_phases.specs.Leading.{LeadsOn}
-use Rattle.safepoint.specs.Looks.{LookAnswers}
+use Rattle.safepoint.specs.Looks.{LedTo, LookAnswers}
 use Rattle.safepoint.specs.declared.answer.Look.TheVariants.{NotAll}
 
 -- marking isn't left while something was changed
@@ -43,6 +43,13 @@ no_arrival_from_sweep_leaves_a_pool k x may stage left = let done = may.done.swe
 -- nor at all while it owes the darkening of what a weak read has brought
 pub no_arrival_owes_a_darkening : (k : Config) (x : DomainView) (r : ℕ) → ArriveMay k x → x.seen.share.weak ≡ Some r → ⊥
 no_arrival_owes_a_darkening k x r may owes = let e = sym owes ∙ may.paid_reads in cc
+
+-- domain 0 doesn't leave a kind in which blocks are marked while the changed word may still be set from before
+pub no_marking_begins_uncleared : (k : Config) (x y : DomainView) → LedTo k Mark x y → ArriveMay k y → ⊥
+no_marking_begins_uncleared k x y led may =
+    let named : y.seen.stage ≡ Led Mark = ap (λ (w : DomainView). w.seen.stage) led.view in
+    let unknown : y.seen.share.changed ≡ None = ap (λ (w : DomainView). w.seen.share.changed) led.view in
+    let e : None ≡ Some 0 = sym unknown ∙ may.set_back named in cc
 
 -- where the caller of a pause wants no collection none begins, and where it wants one one does
 pub no_collection_begins_unasked : (k : Config) (x y : DomainView) (kind : Kind) → LeadsOn k (Caller false) x y Reset kind → x.seen.share.progress.armed ≡ false → kind ≡ Run

@@ -1,0 +1,84 @@
+-- With each kind that domain 0 names fewer phases are left of a pause, whoever decides.
+use Rattle.std.proofs.Common.{◌≡◌, ◌∙◌, ℕ, ◌+◌, ◌*◌, ◌<◌, ◌≤◌, ◌==◌, Bool, true, false, not, if◌then◌else◌, refl, sym, ap, subst, arith}
+use Rattle.std.proofs.lemmas.Bool.{false≢true}
+use Rattle.heap_rule.specs.declared.config.Config.{Config}
+use Rattle.heap_rule.specs.declared.phase.Kind.{Kind}
+use Rattle.heap_rule.specs.declared.phase.Kind.TheVariants.{Run, Promote, Reset, Roots, Mark, Rounds, Decide, Queued, Clean, Lasts, Sweep, Answer}
+use Rattle.heap_rule.specs.declared.phase.Progress.{Progress}
+use Rattle.steps_pauses.specs.Pauses.{progress_after}
+use Rattle.pause_phases.specs.declared.decider.Decider.{Decider}
+use Rattle.pause_phases.specs.Leading.{Findings, begins, completes, finishes, next_kind}
+use Rattle.cycle_laws.proofs.Ending.{Fewer}
+use Rattle.pause_laws.specs.Walk.{any_left, any_named, more_of}
+
+more_few : (all : ℕ) (whole unswept : Bool) → more_of all whole unswept ≤ 12 + all * 4
+more_few all true false = omega arith
+more_few all true true = omega arith
+more_few all false true = omega arith
+more_few all false false = omega arith
+
+fewer_few : (b : Bool) (was now : ℕ) → Fewer b was now → now ≤ was
+fewer_few true was now less = omega (arith, less)
+fewer_few false was now less = less
+
+-- what domain 0 keeps
+abbrev keeping : Bool → Bool → Bool → Bool → Progress
+keeping cut whole unswept armed = record { cut = cut; whole = whole; unswept = unswept; armed = armed }
+
+-- a kind that is named after another
+abbrev Nearer : ℕ → ℕ → ℕ → Kind → Kind → Progress → Type 0
+Nearer all was now last next p = any_named all next (progress_after last next p) now < any_left all last p was
+
+module _ (all was now : ℕ) (few : was ≤ all) where
+  behind_reset : now ≤ was → (cut whole unswept armed finish begin : Bool) → Nearer all was now Reset (if armed then (if finish then Mark else Run) else (if begin then (if unswept then Sweep else Roots) else Run)) (keeping cut whole unswept armed)
+  behind_reset less cut whole unswept true true begin = let m = more_few all false unswept in omega (arith, less, few, m)
+  behind_reset less cut whole unswept true false begin = omega arith
+  behind_reset less cut whole true false finish true = let m = more_few all whole true in omega (arith, m)
+  behind_reset less cut whole false false finish true = omega arith
+  behind_reset less cut whole unswept false finish false = omega arith
+
+  behind_roots : now ≤ was → (cut whole unswept armed complete : Bool) → Nearer all was now Roots (if complete then Mark else Run) (keeping cut whole unswept armed)
+  behind_roots less cut whole unswept armed true = omega (arith, less, few)
+  behind_roots less cut whole unswept armed false = omega arith
+
+  behind_mark : (b cut whole unswept armed : Bool) → Fewer (not b) was now → Nearer all was now Mark (if b then Rounds else Mark) (keeping cut whole unswept armed)
+  behind_mark true true whole unswept armed less = omega (arith, less)
+  behind_mark true false whole unswept armed less = omega (arith, less)
+  behind_mark false true whole unswept armed less = omega (arith, less)
+  behind_mark false false whole unswept armed less = omega (arith, less)
+
+  behind_rounds : (b cut whole unswept armed : Bool) → Fewer (not b) was now → Nearer all was now Rounds (if b then (if cut then Clean else Decide) else Mark) (keeping cut whole unswept armed)
+  behind_rounds true true whole unswept armed less = omega (arith, less)
+  behind_rounds true false whole unswept armed less = omega (arith, less)
+  behind_rounds false true whole unswept armed less = omega (arith, less)
+  behind_rounds false false whole unswept armed less = omega (arith, less)
+
+  behind_queued : now ≤ was → (cut whole unswept armed : Bool) → Nearer all was now Queued Mark (keeping cut whole unswept armed)
+  behind_queued less cut whole unswept armed = omega (arith, less, few)
+
+  behind_lasts : (cut whole unswept armed complete : Bool) → Nearer all was now Lasts (if complete then Sweep else Run) (keeping cut whole unswept armed)
+  behind_lasts cut whole unswept armed true = omega arith
+  behind_lasts cut whole unswept armed false = omega arith
+
+  behind_sweep : (cut whole unswept armed begin : Bool) → Nearer all was now Sweep (if unswept then (if begin then Roots else Run) else (if whole then Answer else Roots)) (keeping cut whole unswept armed)
+  behind_sweep cut true true armed true = omega arith
+  behind_sweep cut false true armed true = omega arith
+  behind_sweep cut whole true armed false = omega arith
+  behind_sweep cut true false armed begin = omega arith
+  behind_sweep cut false false armed begin = omega arith
+
+  -- whatever it finds
+  pub any_nearer : (k : Config) (decider : Decider) (f : Findings) (kind : Kind) (cut whole unswept armed : Bool) → Fewer (not (f.changed == 0)) was now
+      → Nearer all was now kind (next_kind k decider kind (keeping cut whole unswept armed) f) (keeping cut whole unswept armed)
+  any_nearer k decider f Run cut whole unswept armed less = omega arith
+  any_nearer k decider f Promote cut whole unswept armed less = omega arith
+  any_nearer k decider f Reset cut whole unswept armed less = behind_reset (fewer_few (not (f.changed == 0)) was now less) cut whole unswept armed (finishes decider f.wants) (begins k decider f.wants f.free)
+  any_nearer k decider f Roots cut whole unswept armed less = behind_roots (fewer_few (not (f.changed == 0)) was now less) cut whole unswept armed (completes decider f.wants)
+  any_nearer k decider f Mark cut whole unswept armed less = behind_mark (f.changed == 0) cut whole unswept armed less
+  any_nearer k decider f Rounds cut whole unswept armed less = behind_rounds (f.changed == 0) cut whole unswept armed less
+  any_nearer k decider f Decide cut whole unswept armed less = omega arith
+  any_nearer k decider f Queued cut whole unswept armed less = behind_queued (fewer_few (not (f.changed == 0)) was now less) cut whole unswept armed
+  any_nearer k decider f Clean cut whole unswept armed less = omega arith
+  any_nearer k decider f Lasts cut whole unswept armed less = behind_lasts cut whole unswept armed (completes decider f.wants)
+  any_nearer k decider f Sweep cut whole unswept armed less = behind_sweep cut whole unswept armed (begins k decider f.wants f.free)
+  any_nearer k decider f Answer cut whole unswept armed less = omega arith

@@ -1,0 +1,3 @@
+pub mod Ties
+pub mod Walk
+pub mod Blocks

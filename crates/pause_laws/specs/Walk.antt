@@ -1,0 +1,48 @@
+-- How many phases are left of a pause in which domain 0 leads a complete collection for its caller.
+use Rattle.std.specs.Prelude.{◌≡◌, ℕ, ◌+◌, ◌*◌, ◌≤◌, Bool, true, false, if◌then◌else◌}
+use Rattle.cycle_laws.specs.Ending.{Answering, Cleaning, Deciding, First, Freeing, Halted, Leaving, Marking, Place, Promoting, Queueing, Resetting, Rooting, Rounding, Running, Second, Turn, pause_left}
+use Rattle.heap_rule.specs.declared.phase.Kind.{Kind}
+use Rattle.heap_rule.specs.declared.phase.Kind.TheVariants.{Run, Promote, Reset, Roots, Mark, Rounds, Decide, Queued, Clean, Lasts, Sweep, Answer}
+use Rattle.heap_rule.specs.declared.phase.Progress.{Progress}
+
+-- the place of a kind that was gone through, by whether the cut is made
+abbrev pub marking_place : Bool → Turn → Place
+marking_place false turn = First turn
+marking_place true turn = Second turn
+
+abbrev pub place_of : Bool → Kind → Place
+place_of cut Run = Halted
+place_of cut Promote = Promoting
+place_of cut Reset = Resetting
+place_of cut Roots = Rooting
+place_of cut Mark = marking_place cut Marking
+place_of cut Rounds = marking_place cut Rounding
+place_of cut Decide = Deciding
+place_of cut Queued = Queueing
+place_of cut Clean = Cleaning
+place_of cut Lasts = Leaving
+place_of cut Sweep = Freeing
+place_of cut Answer = Answering
+
+-- and of one that is named
+abbrev pub place_named : Bool → Kind → Place
+place_named cut Run = Running
+place_named cut kind = place_of cut kind
+
+-- whether another cycle may follow in the pause once the one that goes on has been freed: it began in an earlier pause, or garbage of the last one is freed first
+abbrev pub more_of : ℕ → Bool → Bool → ℕ
+more_of all true false = 0
+more_of all true true = 12 + all * 4
+more_of all false unswept = 12 + all * 4
+
+-- how many phases are left at most of any pause, behind a phase of this kind, by what domain 0 keeps, whoever decides
+abbrev pub any_left : ℕ → Kind → Progress → ℕ → ℕ
+any_left all Run p unmarked = 26 + all * 8
+any_left all Promote p unmarked = 25 + all * 8
+any_left all Reset p unmarked = 24 + all * 8
+any_left all kind p unmarked = pause_left all (place_of p.cut kind) unmarked + more_of all p.whole p.unswept
+
+-- and where the kind is named
+abbrev pub any_named : ℕ → Kind → Progress → ℕ → ℕ
+any_named all Run p unmarked = 0
+any_named all kind p unmarked = any_left all kind p unmarked
