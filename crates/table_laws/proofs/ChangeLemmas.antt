@@ -10,7 +10,7 @@ use Rattle.heap_model.specs.Graph.{Graph, same_label, has_label, node_at, with_n
 use Rattle.heap_model.proofs.Graphs.GraphLemmas.{same_label_refl, node_at-with_node_other, node_at-append_old}
 use Rattle.heap_model.proofs.Reach.ReachLemmas.{or_left, or_right, and_left, and_right, and_both, has-append_left, has-append_right}
 use Rattle.table_laws.specs.Structures.{Cell, is_weak, binding_of, chain_bindings, bindings, Links, cell_labels, table_labels, IsTable, IsWeakArray, Apart}
-use Rattle.table_laws.specs.Thinning.{ThinnedBy, Thin, Changes}
+use Rattle.table_laws.specs.Thinning.{EmptiedBy, LosesSome, ThinnedBy, Thin, Changes}
 use Rattle.table_laws.proofs.BindingLemmas.{thinned_same, thinned_append, thinned_bucket, thinned_flat}
 
 -- a label that a list lacks is neither its first nor in the rest
@@ -21,13 +21,61 @@ not_first x ls l none = go (same_label x l) (has_label ls l) none
     go true b e = cc
     go false b e = (refl, e)
 
+-- keys of which some are emptied, and then some more
+pub emptied_same : (P : Label → Type 0) (keys : List (Option Label)) → EmptiedBy P keys keys
+emptied_same P [] = refl
+emptied_same P (key ∷ keys) = (key, keys, refl, inl refl, emptied_same P keys)
+
+pub loses_emptied : (P : Label → Type 0) (keys now : List (Option Label)) → LosesSome P keys now → EmptiedBy P keys now
+loses_emptied P [] now loses = absurd loses
+loses_emptied P (key ∷ keys) now (k, rest, is, inl (none, full, more)) = (k, rest, is, inr (none, full), more)
+loses_emptied P (key ∷ keys) now (k, rest, is, inr (same, more)) = (k, rest, is, inl same, loses_emptied P keys rest more)
+
+-- a place that was emptied, or is now
+key_twice : (P : Label → Type 0) (key now later : Option Label) → (now ≡ key) ⊎ ((now ≡ None) × ((k : Label) × (key ≡ Some k) × P k)) → (later ≡ now) ⊎ ((later ≡ None) × ((k : Label) × (now ≡ Some k) × P k)) → (later ≡ key) ⊎ ((later ≡ None) × ((k : Label) × (key ≡ Some k) × P k))
+key_twice P key now later (inl same) (inl again) = inl (again ∙ same)
+key_twice P key now later (inl same) (inr (none, (k, full, gone))) = inr (none, (k, sym same ∙ full, gone))
+key_twice P key now later (inr (none, gone)) (inl again) = inr (again ∙ none, gone)
+key_twice P key now later (inr (none, gone)) (inr (last, (k, full, more))) = inr (last, gone)
+
+pub emptied_twice : (P : Label → Type 0) (keys now later : List (Option Label)) → EmptiedBy P keys now → EmptiedBy P now later → EmptiedBy P keys later
+emptied_twice P [] now later first second = subst (λ (ks : List (Option Label)). EmptiedBy P ks later) first second
+emptied_twice P (key ∷ keys) now later (k, rest, is, head, more) second =
+    let t = subst (λ (ks : List (Option Label)). EmptiedBy P ks later) is second in
+    (t.0, t.1, t.2, key_twice P key k t.0 head t.3, emptied_twice P keys rest t.1 more t.4)
+
+pub loses_twice : (P : Label → Type 0) (keys now later : List (Option Label)) → LosesSome P keys now → EmptiedBy P now later → LosesSome P keys later
+loses_twice P [] now later first second = absurd first
+loses_twice P (key ∷ keys) now later (k, rest, is, head) second =
+    go (λ others more after. loses_twice P keys rest others more after) head (subst (λ (ks : List (Option Label)). EmptiedBy P ks later) is second)
+  where
+    none_stays : (later k : Option Label) → k ≡ None → (later ≡ k) ⊎ ((later ≡ None) × ((l : Label) × (k ≡ Some l) × P l)) → later ≡ None
+    none_stays later k none (inl same) = same ∙ none
+    none_stays later k none (inr (empty, gone)) = empty
+
+    go : ((others : List (Option Label)) → LosesSome P keys rest → EmptiedBy P rest others → LosesSome P keys others) → ((k ≡ None) × ((l : Label) × (key ≡ Some l) × P l) × EmptiedBy P keys rest) ⊎ ((k ≡ key) × LosesSome P keys rest) → EmptiedBy P (k ∷ rest) later → LosesSome P (key ∷ keys) later
+    go on (inl (none, gone, more)) (j, others, at, place, after) = (j, others, at, inl (none_stays j k none place, gone, emptied_twice P keys rest others more after))
+    go on (inr (same, more)) (j, others, at, inl again, after) = (j, others, at, inr (again ∙ same, on others more after))
+    go on (inr (same, more)) (j, others, at, inr (empty, (l, full, gone)), after) = (j, others, at, inl (empty, (l, sym same ∙ full, gone), emptied_twice P keys rest others (loses_emptied P keys rest more) after))
+
+-- under a weaker condition
+pub emptied_more : (P Q : Label → Type 0) → ((k : Label) → P k → Q k) → (keys now : List (Option Label)) → EmptiedBy P keys now → EmptiedBy Q keys now
+emptied_more P Q more [] now e = e
+emptied_more P Q more (key ∷ keys) now (k, rest, is, inl same, others) = (k, rest, is, inl same, emptied_more P Q more keys rest others)
+emptied_more P Q more (key ∷ keys) now (k, rest, is, inr (none, (l, full, gone)), others) = (k, rest, is, inr (none, (l, full, more l gone)), emptied_more P Q more keys rest others)
+
+pub loses_more : (P Q : Label → Type 0) → ((k : Label) → P k → Q k) → (keys now : List (Option Label)) → LosesSome P keys now → LosesSome Q keys now
+loses_more P Q more [] now loses = loses
+loses_more P Q more (key ∷ keys) now (k, rest, is, inl (none, (l, full, gone), others)) = (k, rest, is, inl (none, (l, full, more l gone), emptied_more P Q more keys rest others))
+loses_more P Q more (key ∷ keys) now (k, rest, is, inr (same, others)) = (k, rest, is, inr (same, loses_more P Q more keys rest others))
+
 module _ (P : Label → Type 0) where
   pub thin_same : (n : Node) → Thin P n (Some n)
   thin_same (Plain tag fields) = refl
   thin_same (Raw tag fields) = refl
-  thin_same (Ephe [] datum) = tt
+  thin_same (Ephe [] datum) = inl refl
   thin_same (Ephe (key ∷ []) datum) = inl refl
-  thin_same (Ephe (key ∷ other ∷ keys) datum) = tt
+  thin_same (Ephe (key ∷ other ∷ keys) datum) = inl refl
 
   pub thin_is : (n : Node) (o : Option Node) → o ≡ Some n → Thin P n o
   thin_is n o e = subst (Thin P n) (sym e) (thin_same n)
@@ -141,11 +189,27 @@ module _ (P : Label → Type 0) where
 pub thin_twice : (P : Label → Type 0) (n : Node) (o left : Option Node) → Thin P n o → ((m : Node) → o ≡ Some m → Thin P m left) → Thin P n left
 thin_twice P (Plain tag fields) o left t more = more (Plain tag fields) t
 thin_twice P (Raw tag fields) o left t more = more (Raw tag fields) t
-thin_twice P (Ephe [] datum) o left t more = tt
+thin_twice P (Ephe [] datum) o left (inl same) more = more (Ephe [] datum) same
+thin_twice P (Ephe [] datum) o left (inr lost) more = absurd lost.1
 thin_twice P (Ephe (key ∷ []) datum) o left (inl same) more = more (Ephe (key ∷ []) datum) same
 thin_twice P (Ephe (key ∷ []) datum) o left (inr (k, is, gone, empty)) more =
     ⊎_elim (λ still. inr (k, is, gone, still)) (λ again. absurd (let clash : ◌≡◌ {A = Option Label} None (Some again.0) = again.1 in cc)) (more (Ephe (None ∷ []) Nothing) empty)
-thin_twice P (Ephe (key ∷ other ∷ keys) datum) o left t more = tt
+thin_twice P (Ephe (key ∷ other ∷ keys) datum) o left (inl same) more = more (Ephe (key ∷ other ∷ keys) datum) same
+thin_twice P (Ephe (key ∷ other ∷ keys) datum) o left (inr (now, loses, is)) more = inr (again now loses (more (Ephe now Nothing) is))
+  where
+    whole : List (Option Label)
+    whole = key ∷ other ∷ keys
+
+    Left : Type 0
+    Left = (later : List (Option Label)) × LosesSome P whole later × (left ≡ Some (Ephe later Nothing))
+
+    again : (now : List (Option Label)) → LosesSome P whole now → Thin P (Ephe now Nothing) left → Left
+    again [] loses (inl still) = ([], loses, still)
+    again [] loses (inr lost) = absurd lost.1
+    again (j ∷ []) loses (inl still) = (j ∷ [], loses, still)
+    again (j ∷ []) (k, rest, is, head) (inr (l, full, gone, empty)) = (None ∷ [], loses_twice P whole (j ∷ []) (None ∷ []) (k, rest, is, head) (None, [], refl, inr (refl, (l, full, gone)), refl), empty)
+    again (j ∷ i ∷ js) loses (inl still) = (j ∷ i ∷ js, loses, still)
+    again (j ∷ i ∷ js) loses (inr (later, more, empty)) = (later, loses_twice P whole (j ∷ i ∷ js) later loses (loses_emptied P (j ∷ i ∷ js) later more), empty)
 
 pub changes_twice : (P : Label → Type 0) (own : List Label) (f g h : Graph) → Changes P own f g → Changes P own g h → Changes P own f h
 changes_twice P own f g h a b l n at other = thin_twice P n (node_at g l) (node_at h l) (a l n at other) (λ m here. b l m here other)
@@ -165,10 +229,12 @@ changes_on P own more f g h a b fresh l n at other = thin_twice P n (node_at g l
 pub thin_more : (P Q : Label → Type 0) → ((k : Label) → P k → Q k) → (n : Node) (o : Option Node) → Thin P n o → Thin Q n o
 thin_more P Q more (Plain tag fields) o t = t
 thin_more P Q more (Raw tag fields) o t = t
-thin_more P Q more (Ephe [] datum) o t = tt
+thin_more P Q more (Ephe [] datum) o (inl same) = inl same
+thin_more P Q more (Ephe [] datum) o (inr lost) = absurd lost.1
 thin_more P Q more (Ephe (key ∷ []) datum) o (inl same) = inl same
 thin_more P Q more (Ephe (key ∷ []) datum) o (inr (k, is, gone, empty)) = inr (k, is, more k gone, empty)
-thin_more P Q more (Ephe (key ∷ other ∷ keys) datum) o t = tt
+thin_more P Q more (Ephe (key ∷ other ∷ keys) datum) o (inl same) = inl same
+thin_more P Q more (Ephe (key ∷ other ∷ keys) datum) o (inr (now, loses, is)) = inr (now, loses_more P Q more (key ∷ other ∷ keys) now loses, is)
 
 pub changes_more : (P Q : Label → Type 0) (own more_own : List Label) (g h : Graph) → ((k : Label) → P k → Q k) → ((l : Label) → IsTrue (has_label own l) → IsTrue (has_label more_own l))
     → Changes P own g h → Changes Q more_own g h
@@ -188,10 +254,12 @@ changes_append P own g h e changes l n at other = go (node_at h l) refl
     lost : (n : Node) → Thin P n None → (o : Option Node) → Thin P n o
     lost (Plain tag fields) t o = let clash : ◌≡◌ {A = Option Node} None (Some (Plain tag fields)) = t in cc
     lost (Raw tag fields) t o = let clash : ◌≡◌ {A = Option Node} None (Some (Raw tag fields)) = t in cc
-    lost (Ephe [] datum) t o = tt
+    lost (Ephe [] datum) (inl same) o = let clash : ◌≡◌ {A = Option Node} None (Some (Ephe [] datum)) = same in cc
+    lost (Ephe [] datum) (inr loses) o = absurd loses.1
     lost (Ephe (key ∷ []) datum) (inl same) o = let clash : ◌≡◌ {A = Option Node} None (Some (Ephe (key ∷ []) datum)) = same in cc
     lost (Ephe (key ∷ []) datum) (inr (k, is, gone, empty)) o = let clash : ◌≡◌ {A = Option Node} None (Some (Ephe (None ∷ []) Nothing)) = empty in cc
-    lost (Ephe (key ∷ other ∷ keys) datum) t o = tt
+    lost (Ephe (key ∷ other ∷ keys) datum) (inl same) o = let clash : ◌≡◌ {A = Option Node} None (Some (Ephe (key ∷ other ∷ keys) datum)) = same in cc
+    lost (Ephe (key ∷ other ∷ keys) datum) (inr (now, loses, empty)) o = let clash : ◌≡◌ {A = Option Node} None (Some (Ephe now Nothing)) = empty in cc
 
     go : (o : Option Node) → node_at h l ≡ o → Thin P n (node_at (h ++ e ∷ []) l)
     go None here = lost n (subst (Thin P n) here (changes l n at other)) (node_at (h ++ e ∷ []) l)

@@ -1,5 +1,5 @@
 -- What the collector's entries take: keys outside reach, which no register holds, with their data.
-use Rattle.std.proofs.Common.{◌≡◌, inr, ℕ, zero, suc, Bool, true, false, not, IsTrue, List, [], ◌∷◌, ◌++◌, length, get_or, set, slice_get, flat_map, filter_map, Option, Some, None, refl, ap, sym, ◌∙◌, subst, arith, append_assoc, append-nil}
+use Rattle.std.proofs.Common.{◌≡◌, inl, inr, ℕ, zero, suc, Bool, true, false, not, IsTrue, List, [], ◌∷◌, ◌++◌, length, get_or, set, slice_get, flat_map, filter_map, Option, Some, None, refl, ap, sym, ◌∙◌, subst, arith, append_assoc, append-nil}
 use Rattle.heap_model.specs.declared.label.Label.{Label}
 use Rattle.heap_model.specs.declared.entry.Entry.{Entry}
 use Rattle.heap_model.specs.declared.entry.Entry.TheVariants.{Command as CommandOf, End, Cut, Queue, Seal, Wipe, Last as LastOf, Collected, Done, Ran}
@@ -18,8 +18,8 @@ use Rattle.heap_model.proofs.Graphs.GraphLemmas.{same_label_refl, node_at-with_n
 use Rattle.heap_model.proofs.Commands.FrameLemmas.{keeps_next, label_cases}
 use Rattle.heap_model.proofs.Histories.HistoryLemmas.{state_after-push}
 use Rattle.heap_model.proofs.Reach.ReachLemmas.{or_left, or_right, and_left, and_right, is_false, has-append_left, has-append_right, reachable_more, reachable_roots}
-use Rattle.table_laws.specs.Thinning.{is_collector, AllCollector, state_of, IsOutside, IsUnheld, Went, Thin, Changes}
-use Rattle.table_laws.proofs.ChangeLemmas.{thin_is, changes_same, changes_twice, changes_more}
+use Rattle.table_laws.specs.Thinning.{is_collector, AllCollector, state_of, IsOutside, IsUnheld, Went, EmptiedBy, LosesSome, Thin, Changes}
+use Rattle.table_laws.proofs.ChangeLemmas.{emptied_same, loses_emptied, thin_is, changes_same, changes_twice, changes_more}
 
 -- what is gone is outside reach
 gone_outside : (s : State) (k : Label) → IsTrue (is_gone s (queues s) k) → IsOutside s k
@@ -32,41 +32,47 @@ gone_outside s k gone = go (has_label (reach s) k) refl
         let clash : true ≡ false = sym settled ∙ none in cc)
     go false e = refl
 
--- one key, emptied at one place or more
-set_one : (xs : List (Option Label)) (p : ℕ) (key k : Option Label) (x : Option Label) → slice_get (x ∷ []) p ≡ Some k → length xs ≡ 1 → set xs p None ≡ None ∷ []
-set_one [] p key k x at one = cc
-set_one (y ∷ []) zero key k x at one = refl
-set_one (y ∷ z ∷ xs) zero key k x at one = absurd (omega arith)
-set_one xs (suc p) key k x at one = cc
-
-wiped_one : (places : List ℕ) (keys : List (Option Label)) → length (wiped_keys places keys) ≡ length keys
-wiped_one [] keys = refl
-wiped_one (p ∷ ps) keys = len (wiped_keys ps keys) p ∙ wiped_one ps keys
-  where
-    len : (xs : List (Option Label)) (p : ℕ) → length (set xs p None) ≡ length xs
-    len [] p = refl
-    len (x ∷ xs) zero = refl
-    len (x ∷ xs) (suc p) = ap suc (len xs p)
+-- a place of which P holds is emptied too
+set_loses : (P : Label → Type 0) (keys now : List (Option Label)) (p : ℕ) (k : Label) → EmptiedBy P keys now → slice_get keys p ≡ Some (Some k) → P k → LosesSome P keys (set now p None)
+set_loses P [] now p k e at gone = cc
+set_loses P (key ∷ keys) now zero k (j, rest, is, head, more) at gone =
+    (None, rest, ap (λ (ks : List (Option Label)). set ks 0 None) is, inl (refl, (k, (let full : key ≡ Some k = cc in full), gone), more))
+set_loses P (key ∷ keys) now (suc p) k (j, rest, is, inl same, more) at gone =
+    (j, set rest p None, ap (λ (ks : List (Option Label)). set ks (suc p) None) is, inr (same, set_loses P keys rest p k more at gone))
+set_loses P (key ∷ keys) now (suc p) k (j, rest, is, inr (none, full), more) at gone =
+    (j, set rest p None, ap (λ (ks : List (Option Label)). set ks (suc p) None) is, inl (none, full, loses_emptied P keys (set rest p None) (set_loses P keys rest p k more at gone)))
 
 key_there : (test : Label → Bool) (o : Option (Option Label)) → IsTrue (is_some_and (is_some_and test) o) → (k : Label) × (o ≡ Some (Some k)) × IsTrue (test k)
 key_there test None h = cc
 key_there test (Some None) h = cc
 key_there test (Some (Some k)) h = (k, refl, h)
 
-single : (key k : Option Label) (p : ℕ) → slice_get (key ∷ []) p ≡ Some k → key ≡ k
-single key k zero at = cc
-single key k (suc p) at = cc
+-- the places that are wiped, one after the other
+wiped_emptied : (s : State) (places : List ℕ) (keys : List (Option Label)) (datum : Value) → IsTrue (has_gone_keys s places (Some (Ephe keys datum))) → EmptiedBy (IsOutside s) keys (wiped_keys places keys)
+wiped_emptied s [] keys datum gone = emptied_same (IsOutside s) keys
+wiped_emptied s (p ∷ ps) keys datum gone =
+    let t = key_there (is_gone s (queues s)) (slice_get keys p) (and_left _ _ gone) in
+    loses_emptied (IsOutside s) keys _ (set_loses (IsOutside s) keys (wiped_keys ps keys) p t.0 (wiped_emptied s ps keys datum (and_right _ _ gone)) t.1 (gone_outside s t.0 t.2))
+
+wiped_loses : (s : State) (places : List ℕ) (keys : List (Option Label)) (datum : Value) → IsTrue (is_rising places) → IsTrue (has_gone_keys s places (Some (Ephe keys datum))) → LosesSome (IsOutside s) keys (wiped_keys places keys)
+wiped_loses s [] keys datum rising gone = cc
+wiped_loses s (p ∷ ps) keys datum rising gone =
+    let t = key_there (is_gone s (queues s)) (slice_get keys p) (and_left _ _ gone) in
+    set_loses (IsOutside s) keys (wiped_keys ps keys) p t.0 (wiped_emptied s ps keys datum (and_right _ _ gone)) t.1 (gone_outside s t.0 t.2)
+
+-- one key that is lost
+one_lost : (P : Label → Type 0) (key : Option Label) (now : List (Option Label)) → LosesSome P (key ∷ []) now → (k : Label) × (key ≡ Some k) × P k × (now ≡ None ∷ [])
+one_lost P key now (j, rest, is, inl (none, (k, full, gone), more)) = (k, full, gone, is ∙ (ap (λ (o : Option Label). o ∷ rest) none ∙ ap (λ (ks : List (Option Label)). None ∷ ks) more))
+one_lost P key now (j, rest, is, inr (same, loses)) = absurd loses
 
 wiped_thin : (s : State) (places : List ℕ) (n : Node) → IsTrue (is_rising places) → IsTrue (has_gone_keys s places (Some n)) → Thin (IsOutside s) n (wiped places (Some n))
 wiped_thin s places (Plain tag fields) rising gone = cc
 wiped_thin s places (Raw tag fields) rising gone = cc
-wiped_thin s places (Ephe [] datum) rising gone = tt
-wiped_thin s places (Ephe (key ∷ other ∷ keys) datum) rising gone = tt
-wiped_thin s [] (Ephe (key ∷ []) datum) rising gone = cc
-wiped_thin s (p ∷ ps) (Ephe (key ∷ []) datum) rising gone =
-    let t = key_there (is_gone s (queues s)) (slice_get (key ∷ []) p) (and_left _ _ gone) in
-    let emptied : set (wiped_keys ps (key ∷ [])) p None ≡ None ∷ [] = set_one (wiped_keys ps (key ∷ [])) p key (Some t.0) key t.1 (wiped_one ps (key ∷ [])) in
-    inr (t.0, single key (Some t.0) p t.1, gone_outside s t.0 t.2, ap (λ (ks : List (Option Label)). Some (Ephe ks Nothing)) emptied)
+wiped_thin s places (Ephe [] datum) rising gone = absurd (wiped_loses s places [] datum rising gone)
+wiped_thin s places (Ephe (key ∷ other ∷ keys) datum) rising gone = inr (wiped_keys places (key ∷ other ∷ keys), wiped_loses s places (key ∷ other ∷ keys) datum rising gone, refl)
+wiped_thin s places (Ephe (key ∷ []) datum) rising gone =
+    let lost = one_lost (IsOutside s) key (wiped_keys places (key ∷ [])) (wiped_loses s places (key ∷ []) datum rising gone) in
+    inr (lost.0, lost.1, lost.2, ap (λ (ks : List (Option Label)). Some (Ephe ks Nothing)) lost.3)
 
 -- after a Wipe
 wipe_thins : (s : State) (l : Label) (places : List ℕ) (o : Option Node) → node_at s.graph l ≡ o → IsTrue (is_rising places) → IsTrue (has_gone_keys s places o)

@@ -56,12 +56,17 @@ abbrev pub EmptiedBy : (Label → Type 0) → List (Option Label) → List (Opti
 EmptiedBy P [] left = left ≡ []
 EmptiedBy P (key ∷ keys) left = (now : Option Label) × (rest : List (Option Label)) × (left ≡ now ∷ rest) × ((now ≡ key) ⊎ ((now ≡ None) × ((k : Label) × (key ≡ Some k) × P k))) × EmptiedBy P keys rest
 
--- what is left of a block: a plain or raw block is as it was, and an ephemeron of one key may have lost it, and its datum, if P holds of the key
+-- and one at least is emptied
+abbrev pub LosesSome : (Label → Type 0) → List (Option Label) → List (Option Label) → Type 0
+LosesSome P [] left = ⊥
+LosesSome P (key ∷ keys) left = (now : Option Label) × (rest : List (Option Label)) × (left ≡ now ∷ rest) × (((now ≡ None) × ((k : Label) × (key ≡ Some k) × P k) × EmptiedBy P keys rest) ⊎ ((now ≡ key) × LosesSome P keys rest))
+
+-- What is left of a block: a plain or raw block is as it was. An ephemeron is as it was, or has lost some keys of which P holds, no other, and its datum; said of its one key where it has one
 abbrev pub Thin : (Label → Type 0) → Node → Option Node → Type 0
 Thin P (Plain tag fields) left = left ≡ Some (Plain tag fields)
 Thin P (Raw tag fields) left = left ≡ Some (Raw tag fields)
 Thin P (Ephe (key ∷ []) datum) left = (left ≡ Some (Ephe (key ∷ []) datum)) ⊎ ((k : Label) × (key ≡ Some k) × P k × (left ≡ Some (Ephe (None ∷ []) Nothing)))
-Thin P (Ephe _ datum) left = Unit {0}
+Thin P (Ephe keys datum) left = (left ≡ Some (Ephe keys datum)) ⊎ ((now : List (Option Label)) × LosesSome P keys now × (left ≡ Some (Ephe now Nothing)))
 
 -- all blocks but those with these labels
 abbrev pub Changes : (Label → Type 0) → List Label → Graph → Graph → Type 0

@@ -1,21 +1,25 @@
 -- What the clauses of the calls refuse: where a clause holds a wrong outcome doesn't, whatever body met it.
-use Rattle.std.proofs.Common.{◌≡◌, ◌≢◌, ⊎_elim, ℕ, Bool, true, false, cond, IsTrue, List, [], ◌∷◌, ◌++◌, length, Option, Some, None, refl, ap, sym, ◌∙◌, append-nil}
+use Rattle.std.proofs.Common.{◌≡◌, ◌≢◌, ⊎_elim, inl, inr, ℕ, zero, suc, slice_get, subst, Bool, true, false, cond, IsTrue, List, [], ◌∷◌, ◌++◌, length, Option, Some, None, refl, ap, sym, ◌∙◌, append-nil}
 use Rattle.heap_model.specs.declared.label.Label.{Label}
 use Rattle.heap_model.specs.declared.command.Command.{Command}
 use Rattle.heap_model.specs.declared.entry.Entry.{Entry}
 use Rattle.heap_model.specs.declared.entry.Entry.TheVariants.{Command as CommandOf}
 use Rattle.heap_model.specs.declared.graph.Value.{Value}
+use Rattle.heap_model.specs.declared.graph.Value.TheVariants.{Nothing}
+use Rattle.heap_model.specs.declared.graph.Node.{Node}
+use Rattle.heap_model.specs.declared.graph.Node.TheVariants.{Ephe}
 use Rattle.heap_model.specs.declared.reply.Reply.{Reply}
 use Rattle.heap_model.specs.declared.state.Sizes.{Sizes}
-use Rattle.heap_model.specs.Graph.{same_label, has_no_repeats}
+use Rattle.heap_model.specs.Graph.{has_label, node_at, same_label, has_no_repeats}
 use Rattle.heap_model.specs.Commands.{shown}
 use Rattle.heap_model.specs.History.{IsPrefix, commands}
 use Rattle.heap_model.proofs.Graphs.GraphLemmas.{same_label-true, same_label-false}
 use Rattle.heap_model.proofs.Histories.HistoryLemmas.{commands-append, commands-push, commands-others}
 use Rattle.table_laws.specs.Structures.{Binding, Cell, bindings, datum_at, without, keys_of, is_bucket_full, IsTable}
-use Rattle.table_laws.specs.Thinning.{WasOutside}
+use Rattle.table_laws.specs.Thinning.{EmptiedBy, Thin, WasOutside}
 use Rattle.table_laws.specs.Performing.{Performed}
-use Rattle.table_laws.specs.Stages.{graph_of}
+use Rattle.table_laws.specs.Stages.{Goes, graph_of}
+use Rattle.table_laws.proofs.ChangeLemmas.{emptied_same, loses_emptied}
 use Rattle.table_laws.proofs.BindingLemmas.{thinned_datum}
 use Rattle.table_laws.proofs.LawLemmas.{differ_law}
 use Rattle.table_laws.proofs.StepLemmas.{collector_none}
@@ -70,6 +74,30 @@ no_neighbour_is_unlinked z old new root chains k j x other reached = thinned_dat
 pub no_emptied_cell_counts : (z : Sizes) (old new : List Entry) (root : Label) (chains : List (List Cell)) (count : ℕ) → Counts z old new root chains count
     → ((front : List Entry) → IsPrefix old front → IsPrefix front new → bindings (graph_of z front) chains ≡ []) → count ≡ 0
 no_emptied_cell_counts z old new root chains count x none = sym x.number ∙ ap length (none x.front x.before.grows x.behind.grows)
+
+-- what is left of an ephemeron that is nobody's own
+thin_keys : (P : Label → Type 0) (keys : List (Option Label)) (datum : Value) (left : Option Node) → Thin P (Ephe keys datum) left → (now : List (Option Label)) × (after : Value) × (left ≡ Some (Ephe now after)) × EmptiedBy P keys now
+thin_keys P [] datum left (inl same) = ([], datum, same, refl)
+thin_keys P [] datum left (inr lost) = absurd lost.1
+thin_keys P (key ∷ []) datum left (inl same) = (key ∷ [], datum, same, emptied_same P (key ∷ []))
+thin_keys P (key ∷ []) datum left (inr (k, full, gone, empty)) = (None ∷ [], Nothing, empty, (None, [], refl, inr (refl, (k, full, gone)), refl))
+thin_keys P (key ∷ other ∷ keys) datum left (inl same) = (key ∷ other ∷ keys, datum, same, emptied_same P (key ∷ other ∷ keys))
+thin_keys P (key ∷ other ∷ keys) datum left (inr (now, loses, empty)) = (now, Nothing, empty, loses_emptied P (key ∷ other ∷ keys) now loses)
+
+-- a key of which P doesn't hold stays
+key_stays : (P : Label → Type 0) (keys now : List (Option Label)) (i : ℕ) (k : Label) → EmptiedBy P keys now → slice_get keys i ≡ Some (Some k) → (P k → ⊥) → slice_get now i ≡ Some (Some k)
+key_stays P [] now i k e at stays = cc
+key_stays P (key ∷ keys) now zero k (j, rest, is, inl same, more) at stays = ap (λ (ks : List (Option Label)). slice_get ks 0) is ∙ (ap Some same ∙ at)
+key_stays P (key ∷ keys) now zero k (j, rest, is, inr (none, (l, full, gone)), more) at stays = absurd (stays (let same : l ≡ k = cc in subst P same gone))
+key_stays P (key ∷ keys) now (suc i) k (j, rest, is, head, more) at stays = ap (λ (ks : List (Option Label)). slice_get ks (suc i)) is ∙ key_stays P keys rest i k more at stays
+
+-- no call empties a key of an ephemeron that isn't its structure's, however many keys that has, while the key is reached
+pub no_key_of_another_goes : (z : Sizes) (old now : List Entry) (own : List Label) (l : Label) (keys : List (Option Label)) (datum : Value) (i : ℕ) (k : Label) → Goes z old now own → has_label own l ≡ false
+    → node_at (graph_of z old) l ≡ Some (Ephe keys datum) → slice_get keys i ≡ Some (Some k) → (WasOutside z old now k → ⊥)
+    → (left : List (Option Label)) × (after : Value) × (node_at (graph_of z now) l ≡ Some (Ephe left after)) × (slice_get left i ≡ Some (Some k))
+no_key_of_another_goes z old now own l keys datum i k goes other at full reached =
+    let left = thin_keys (WasOutside z old now) keys datum (node_at (graph_of z now) l) (goes.changes l (Ephe keys datum) at other) in
+    (left.0, left.1, left.2, key_stays (WasOutside z old now) keys left.0 i k left.3 full reached)
 
 -- a command is made once
 pub no_command_is_made_twice : (z : Sizes) (old new : List Entry) (c : Command) (r : Reply) → Performed z old new c r → commands new 0 ≡ commands old 0 ++ c ∷ []
