@@ -18,4 +18,5 @@ pub mod Wiping
 pub mod Sealing
 pub mod Reaching
 pub mod Collecting
+pub mod Resizing
 mod Rows

@@ -1,2 +1,3 @@
 pub mod Scheduled
 pub mod Sameness
+pub mod Sizes

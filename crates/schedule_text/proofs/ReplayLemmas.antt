@@ -47,13 +47,13 @@ can_why domains pools script why can reason =
     ∙ ap (λ b. if b then Some 1 else (if many then Some 2 else None)) can.no_major ∙ ap (λ b. if b then Some 2 else None) enough in
     let clash : None ≡ Some why = sym none ∙ reason in cc
 
-module _ (domains pools : ℕ) (bytes : List ℕ) (small : domains < 2 ^ 32) where
-  -- what is spelled so is spelled as one replay
-  pub one_replay : (r s : Replayed) → SpellsReplay domains pools r bytes → SpellsReplay domains pools s bytes → r ≡ s
-  one_replay r s x y =
-      ap (λ items. record { items = items; script = r.script }) (same_items domains bytes small r.items s.items x.place y.place x.schedule y.schedule)
-      ∙ ap (λ script. record { items = s.items; script = script }) (same_script domains bytes small r.items s.items x.place y.place r.script s.script x.schedule y.schedule x.script y.script)
+-- what is spelled so is spelled as one replay, whatever the pools
+pub same_replay : (domains pools others : ℕ) (r s : Replayed) (bytes : List ℕ) → domains < 2 ^ 32 → SpellsReplay domains pools r bytes → SpellsReplay domains others s bytes → r ≡ s
+same_replay domains pools others r s bytes small x y =
+    ap (λ items. record { items = items; script = r.script }) (same_items domains bytes small r.items s.items x.place y.place x.schedule y.schedule)
+    ∙ ap (λ script. record { items = s.items; script = script }) (same_script domains bytes small r.items s.items x.place y.place r.script s.script x.schedule y.schedule x.script y.script)
 
+module _ (domains pools : ℕ) (bytes : List ℕ) (small : domains < 2 ^ 32) where
   -- and has no fault
   pub replay_no_fault : (r : Replayed) (e : ReplayFault) → SpellsReplay domains pools r bytes → HasFault domains pools bytes e → ⊥
   replay_no_fault r (Schedule k) x f = no_other domains r.items x.place bytes k small x.schedule f.wrong
@@ -108,7 +108,7 @@ module _ (domains pools : ℕ) (bytes : List ℕ) (small : domains < 2 ^ 32) whe
 
   -- what was read and what was refused
   pub only_replay : (result : Result Replayed ReplayFault) → IfOk result (λ r. SpellsReplay domains pools r bytes) → IfErr result (IsFirstUnlessMemory domains pools bytes) → (r : Replayed) → SpellsReplay domains pools r bytes → IsUnlessNoMemory result (Ok r)
-  only_replay (Ok s) found fault r x = ap Ok (one_replay s r found x)
+  only_replay (Ok s) found fault r x = ap Ok (same_replay domains pools pools s r bytes small found x)
   only_replay (Err (Schedule k)) found fault r x = absurd (replay_no_fault r (Schedule k) x fault)
   only_replay (Err (Script f)) found fault r x = absurd (replay_no_fault r (Script f) x fault)
   only_replay (Err (NotReplayable why)) found fault r x = absurd (replay_no_fault r (NotReplayable why) x fault)

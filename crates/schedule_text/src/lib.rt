@@ -3,6 +3,7 @@
 
 mod allowed;
 mod fault;
+pub mod law;
 mod reading;
 mod replay;
 mod schedule;
