@@ -1,12 +1,12 @@
 -- A place of the walk, and those behind it.
-use Rattle.std.proofs.Common.{◌≡◌, ℕ, ◌⊎◌, Bool, false, true≢false, ◌∷◌, Some, None, ⊎_elim, inr, List, sym, refl, ap, subst, ◌∙◌}
+use Rattle.std.proofs.Common.{◌≡◌, ◌≢◌, ℕ, ◌⊎◌, Bool, false, true≢false, ◌∷◌, Some, None, ⊎_elim, inr, inl, List, sym, refl, ap, subst, ◌∙◌}
 use Rattle.heap_model.specs.Fronts.{Shape, PlainShape, RawShape, EpheShape}
 use Rattle.heap_words.specs.declared.colours.Colours.{Colours}
 use Rattle.heap_words.specs.declared.head.Head.{Head}
 use Rattle.heap_words.specs.declared.head.Head.TheVariants.{Free, Plain, Ephe}
 use Rattle.heap_words.specs.ColourWords.{IsPermutation}
 use Rattle.heap_words.proofs.WordLemmas.{head_word-injective}
-use Rattle.heap_rule.specs.declared.phase.Kind.TheVariants.{Mark}
+use Rattle.heap_rule.specs.declared.phase.Kind.TheVariants.{Mark, Rounds}
 use Rattle.heap_rule.specs.declared.phase.Stage.TheVariants.{In}
 use Rattle.heap_rule.specs.declared.config.Config.{Config}
 use Rattle.heap_rule.specs.declared.view.DomainView.{DomainView}
@@ -17,7 +17,8 @@ use Rattle.steps_marking.proofs.Colouring.{words_same}
 use Rattle.steps_marking.specs.Looks.{with_share}
 use Rattle.steps_marking.specs.Marking.{Anywhere, GreyTold, IsGrey, IsScanned, IsUnmarked, LiesAt, MarkTold, Next, ScannedMay, ScannedTold, Site, begun, behind, fields_in, places_seen_on, walk_on}
 use Rattle.darkening_beside.specs.Heads.{IsScanOf}
-use Rattle.mark_slices.specs.Shares.{Begun, Marks, Noted, ScannedAt, Walked, fields_to, scanning}
+use Rattle.mark_slices.specs.Shares.{Begun, Followed, Marks, Noted, ScannedAt, Scans, ScansBlocks, Walked, fields_to, scanning}
+use Rattle.mark_slices.proofs.Fields.{scanning_kind}
 use Rattle.darkening_beside.proofs.Exchanges.{not_both, one_head, one_meaning}
 
 -- the fields of a grey block are as many, whatever its shape is said to be
@@ -60,6 +61,13 @@ begins_of x y colours c at word fields new s same q =
     carried : fields_in (subst (λ (d : Colours). IsGrey d word) (sym same) s.grey).block.shape ≡ fields_in s.grey.block.shape
     carried = refl
 
+-- who walks through its pools scans blocks, and isn't in Rounds
+pub walker_scans : (x : DomainView) (colours : Colours) → Marks colours x → Scans colours x
+walker_scans x colours m = record { stage = inl m.stage; known = m.known; idle = m.idle }
+
+pub no_round : (x : DomainView) (colours : Colours) → Marks colours x → x.seen.stage ≢ In Rounds
+no_round x colours m rounds = let e : In Mark ≡ In Rounds = sym m.stage ∙ rounds in cc
+
 -- at the next place of the walk
 pub mark_begins : (x y : DomainView) (colours : Colours) (at pool class slot word fields new : ℕ) → IsPermutation colours → Marks colours x → MarkTold at pool class slot x word y → IsScanOf colours word fields new → y ≡ with_share x (record x.seen.share { scan = Reads at 0 fields word })
 mark_begins x y colours at pool class slot word fields new p m t s =
@@ -71,7 +79,7 @@ mark_begins x y colours at pool class slot word fields new p m t s =
     t.told
 
 -- and anywhere
-pub grey_begins : (x y : DomainView) (colours : Colours) (at word fields new : ℕ) → IsPermutation colours → Marks colours x → GreyTold at x word y → IsScanOf colours word fields new → y ≡ with_share x (record x.seen.share { scan = Reads at 0 fields word })
+pub grey_begins : (x y : DomainView) (colours : Colours) (at word fields new : ℕ) → IsPermutation colours → Scans colours x → GreyTold at x word y → IsScanOf colours word fields new → y ≡ with_share x (record x.seen.share { scan = Reads at 0 fields word })
 grey_begins x y colours at word fields new p m t s =
     let same : t.colours ≡ colours = one_meaning x.seen.share.colours colours t.colours m.known t.known in
     ⊎_elim
@@ -86,9 +94,12 @@ lies_still (Next pool class slot) y v at own next l = record { own = own ∙ l.o
 
 -- its fields are scanned, and its head may be stored
 module _ (y v : DomainView) (at fields new : ℕ) (won : Bool) (site : Site) (e : v ≡ with_share y (scanning y.seen.share v.seen.share (fields_to fields y.seen.share.scan) won)) where
-  pub block_may : (colours : Colours) → y.seen.stage ≡ In Mark → y.seen.share.colours ≡ Some colours → Begun colours at fields new y → LiesAt site y at → ScannedMay v at new site
-  block_may colours stage known b l = record {
-    stage = ap (λ (u : DomainView). u.seen.stage) e ∙ stage;
+  pub block_may : (colours : Colours) → ScansBlocks y.seen.stage → (y.seen.stage ≡ In Rounds → site ≡ Anywhere) → y.seen.share.colours ≡ Some colours → Begun colours at fields new y → LiesAt site y at → ScannedMay v at new site
+  block_may colours phase anywhere known b l = let n = scanning_kind y.seen.stage phase in record {
+    kind = n.0;
+    stage = ap (λ (u : DomainView). u.seen.stage) e ∙ n.1;
+    changing = n.2;
+    anywhere = λ (r : n.0 ≡ Rounds). anywhere (n.1 ∙ ap In r);
     size = fields;
     word = b.word;
     scan = ap (λ (u : DomainView). u.seen.share.scan) e ∙ ap (fields_to fields) b.scan;
@@ -104,10 +115,10 @@ module _ (y v : DomainView) (at fields new : ℕ) (won : Bool) (site : Site) (e 
   block_done z told = subst (ScannedAt site at won y) (sym (told ∙ ap (λ (u : DomainView). with_share u (record u.seen.share { scan = Idle; places_seen = places_seen_on site at u.seen.share.places_seen; walk = walk_on site u.seen.share.walk })) e)) refl
 
 -- the block was grey, and is scanned
-module _ (x y : DomainView) (colours : Colours) (at word fields new : ℕ) (m : Marks colours x) (s : IsScanOf colours word fields new) (e : y ≡ with_share x (record x.seen.share { scan = Reads at 0 fields word })) where
-  pub ready : (k : Config) (site : Site) (items : List ℕ) → LiesAt site x at → Noted k x.seen.share.marked items → (y.seen.stage ≡ In Mark) × (y.seen.share.colours ≡ Some colours) × Begun colours at fields new y × LiesAt site y at × Noted k y.seen.share.marked items
+module _ (x y : DomainView) (colours : Colours) (at word fields new : ℕ) (m : Scans colours x) (s : IsScanOf colours word fields new) (e : y ≡ with_share x (record x.seen.share { scan = Reads at 0 fields word })) where
+  pub ready : (k : Config) (site : Site) (items : List ℕ) → LiesAt site x at → Noted k x.seen.share.marked items → ScansBlocks y.seen.stage × (y.seen.share.colours ≡ Some colours) × Begun colours at fields new y × LiesAt site y at × Noted k y.seen.share.marked items
   ready k site items l n = (
-    ap (λ (u : DomainView). u.seen.stage) e ∙ m.stage,
+    subst ScansBlocks (sym (ap (λ (u : DomainView). u.seen.stage) e)) m.stage,
     ap (λ (u : DomainView). u.seen.share.colours) e ∙ m.known,
     record { word = word; scan = ap (λ (u : DomainView). u.seen.share.scan) e; grey = s },
     lies_still site x y at (ap (λ (u : DomainView). u.seen.share.own_pool) e) (ap (λ (u : DomainView). u.seen.share.walk) e) l,
@@ -121,6 +132,9 @@ module _ (x y : DomainView) (colours : Colours) (at word fields new : ℕ) (m : 
 
     pub site_walked : Walked (walk_on site x.seen.share.walk) won x z
     site_walked = subst (Walked (walk_on site x.seen.share.walk) won x) (sym scanned_view) record { view = refl }
+
+    pub site_followed : site ≡ Anywhere → Followed won x z
+    site_followed anywhere = subst (λ (t : Site). z ≡ with_share x (record (scanning x.seen.share z.seen.share x.seen.share.scan won) { places_seen = places_seen_on t at x.seen.share.places_seen; walk = walk_on t x.seen.share.walk })) anywhere scanned_view
 
     pub own_pool_stays : z.seen.share.own_pool ≡ x.seen.share.own_pool
     own_pool_stays = ap (λ (u : DomainView). u.seen.share.own_pool) scanned_view

@@ -6,7 +6,7 @@ use Rattle.heap_words.specs.declared.colours.Colours.{Colours}
 use Rattle.heap_words.specs.declared.value.Value.TheVariants.{Ref}
 use Rattle.heap_rule.specs.declared.config.Config.{Config}
 use Rattle.heap_rule.specs.declared.phase.Kind.{Kind}
-use Rattle.heap_rule.specs.declared.phase.Kind.TheVariants.{Mark, Queued, Roots}
+use Rattle.heap_rule.specs.declared.phase.Kind.TheVariants.{Mark, Queued, Roots, Rounds}
 use Rattle.heap_rule.specs.declared.phase.Stage.{Stage}
 use Rattle.heap_rule.specs.declared.phase.Stage.TheVariants.{In}
 use Rattle.heap_rule.specs.declared.view.DomainView.{DomainView}
@@ -112,7 +112,21 @@ ScannedAt site at won x y = y ≡ with_share x (record (scanning x.seen.share y.
 abbrev pub Noted : Config → List ℕ → List ℕ → Type 0
 Noted k marked items = (i a : ℕ) → slice_get items i ≡ Some a → (1 ≤ a) × (a ≤ k.pools * 4096) × IsTrue (seen_by marked a)
 
--- a domain in a phase in which blocks are marked knows the colours, and is at no block
+-- blocks are scanned in a phase
+abbrev pub ScansBlocks : Stage → Type 0
+ScansBlocks stage = (stage ≡ In Mark) ⊎ (stage ≡ In Rounds)
+
+-- a domain in such a phase knows the colours, and is at no block
+pub record Scans (colours : Colours) (x : DomainView) : Type 0 where
+  pub stage : ScansBlocks x.seen.stage
+  pub known : x.seen.share.colours ≡ Some colours
+  pub idle : x.seen.share.scan ≡ Idle
+
+-- it has scanned blocks, wherever they lie. Where it has darkened one it owes a store of the changed word
+abbrev pub Followed : Bool → DomainView → DomainView → Type 0
+Followed won x y = y ≡ with_share x (scanning x.seen.share y.seen.share x.seen.share.scan won)
+
+-- a domain in the phase in which it walks through its own pools knows the colours, and is at no block
 pub record Marks (colours : Colours) (x : DomainView) : Type 0 where
   pub stage : x.seen.stage ≡ In Mark
   pub known : x.seen.share.colours ≡ Some colours

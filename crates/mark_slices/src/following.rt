@@ -1,12 +1,14 @@
 //! The scan of blocks that the domain has darkened itself.
-ghost use Rattle.std.specs.Prelude.{◌≡◌, ◌*◌, ◌≤◌, IsTrue, []};
+ghost use Rattle.std.specs.Prelude.{◌≡◌, ◌*◌, ◌≤◌, IsTrue, [], true};
 ghost use Rattle.heap_words.specs.ColourWords.{IsPermutation};
 ghost use Rattle.heap_rule.specs.Cycles.{seen_by};
 ghost use Rattle.heap_rule.specs.Token.{IsIn};
-ghost use Rattle.mark_slices.specs.Shares.{Marks, Noted, Walked};
+ghost use Rattle.mark_slices.specs.Shares.{Followed, Noted, Scans};
 
+use crate::hints::Hints;
 use crate::scanning::scan_block;
 use crate::trail::Trail;
+use crate::waiting::Waiting;
 use darkening_beside::scan_of;
 use heap_rule::{Domain, Heap};
 use heap_words::Colours;
@@ -16,14 +18,13 @@ use steps_marking::grey_load;
 // marked a block.
 fn follow(heap: &Heap, dom: &mut Domain, at: u32, colours: Colours, trail: &mut Trail) -> bool
     requires here { IsIn dom.old heap.now }
-    requires marks { Marks colours dom.old.view }
+    requires scans { Scans colours dom.old.view }
     requires meanings { IsPermutation colours }
     requires inside { (1 ≤ at) × (at ≤ heap.now.config.pools * 4096) }
     requires marked { IsTrue (seen_by dom.old.view.seen.share.marked at) }
     requires noted { Noted heap.now.config dom.old.view.seen.share.marked trail.old.items }
     ensures here { IsIn dom.new heap.now }
-    ensures walked { Walked dom.old.view.seen.share.walk result dom.old.view dom.new.view }
-    ensures own { dom.new.view.seen.share.own_pool ≡ dom.old.view.seen.share.own_pool }
+    ensures followed { Followed result dom.old.view dom.new.view }
     ensures noted { Noted heap.now.config dom.new.view.seen.share.marked trail.new.items }
 {
     let word = grey_load(heap, dom, at);
@@ -37,16 +38,21 @@ fn follow(heap: &Heap, dom: &mut Domain, at: u32, colours: Colours, trail: &mut 
 const POOL_BLOCKS: u32 = 1024;
 
 // The same for all blocks that are noted, those too that are noted meanwhile, the last one first. Then
-// none is noted. The domain marks each block at most once, so it never comes to more than the pools
-// have room for.
-pub(crate) fn follow_all(heap: &Heap, dom: &mut Domain, colours: Colours, trail: &mut Trail) -> bool
+// none is noted. What waits for such a block is woken. The domain marks each block at most once, so it
+// never comes to more than the pools have room for.
+pub(crate) fn follow_all(
+    heap: &Heap,
+    dom: &mut Domain,
+    colours: Colours,
+    trail: &mut Trail,
+    waiting: &mut Waiting,
+) -> bool
     requires here { IsIn dom.old heap.now }
-    requires marks { Marks colours dom.old.view }
+    requires scans { Scans colours dom.old.view }
     requires meanings { IsPermutation colours }
     requires noted { Noted heap.now.config dom.old.view.seen.share.marked trail.old.items }
     ensures here { IsIn dom.new heap.now }
-    ensures walked { Walked dom.old.view.seen.share.walk result dom.old.view dom.new.view }
-    ensures own { dom.new.view.seen.share.own_pool ≡ dom.old.view.seen.share.own_pool }
+    ensures followed { Followed result dom.old.view dom.new.view }
     ensures none { trail.new.items ≡ [] }
 {
     let mut darkened = false;
@@ -54,8 +60,31 @@ pub(crate) fn follow_all(heap: &Heap, dom: &mut Domain, colours: Colours, trail:
         let Some(at) = trail.pop() else {
             return darkened;
         };
+        waiting.wake(at);
         darkened |= follow(heap, dom, at, colours, trail);
     }
     trail.clear();
     darkened
+}
+
+/// Scans a block of the pools that the domain has marked itself in a phase in which blocks are scanned,
+/// and then what it marks so, wherever it lies, and wakes the ephemerons that wait for a block that it
+/// marks so. The domain owes a store of the changed word already, since it has marked the block. What it
+/// knows of blocks is all that changes. It remembers as many as 4096 blocks that are to be scanned: what
+/// it can't remember a later walk finds.
+pub fn scan_marked(heap: &Heap, dom: &mut Domain, at: u32, colours: Colours, hints: &mut Hints)
+    requires here { IsIn dom.old heap.now }
+    requires scans { Scans colours dom.old.view }
+    requires meanings { IsPermutation colours }
+    requires inside { (1 ≤ at) × (at ≤ heap.now.config.pools * 4096) }
+    requires marked { IsTrue (seen_by dom.old.view.seen.share.marked at) }
+    requires owes { dom.old.view.seen.share.owes ≡ true }
+    ensures here { IsIn dom.new heap.now }
+    ensures followed { Followed true dom.old.view dom.new.view }
+    ensures hints { hints.new ≡ hints.old }
+{
+    hints.trail.clear();
+    if follow(heap, dom, at, colours, &mut hints.trail) {
+        follow_all(heap, dom, colours, &mut hints.trail, &mut hints.waiting);
+    }
 }

@@ -36,7 +36,7 @@ pub struct Hints {
     is_dry: bool,
     early: u64,
     pub(crate) trail: Trail,
-    waiting: Waiting,
+    pub(crate) waiting: Waiting,
 }
 
 impl Model for Hints {

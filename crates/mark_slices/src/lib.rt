@@ -25,6 +25,7 @@ mod workers;
 
 pub use darkening::darken;
 pub use deck::Deck;
+pub use following::scan_marked;
 pub use hints::Hints;
 pub use queue::mark_queue;
 pub use roots::start_roots;

@@ -10,6 +10,7 @@ ghost use Rattle.mark_slices.specs.Shares.{Marks, Noted, Walked};
 use crate::following::follow_all;
 use crate::scanning::scan_block;
 use crate::trail::Trail;
+use crate::waiting::Waiting;
 use darkening_beside::scan_of;
 use heap_rule::{Domain, Heap};
 use heap_words::Colours;
@@ -61,6 +62,7 @@ pub(crate) fn mark_pool(
     class: u32,
     colours: Colours,
     trail: &mut Trail,
+    waiting: &mut Waiting,
 ) -> bool
     requires here { IsIn dom.old heap.now }
     requires marks { Marks colours dom.old.view }
@@ -77,7 +79,7 @@ pub(crate) fn mark_pool(
     let mut darkened = false;
     for slot in 0..class_blocks(class) {
         if mark_place(heap, dom, pool, class, slot, colours, trail) {
-            follow_all(heap, dom, colours, trail);
+            follow_all(heap, dom, colours, trail, waiting);
             darkened = true;
         }
     }

@@ -13,6 +13,7 @@ ghost use Rattle.mark_slices.specs.Shares.{IsNotOf, IsOfClass, Marks, Walked, Al
 use crate::hints::Hints;
 use crate::places::mark_pool;
 use crate::trail::Trail;
+use crate::waiting::Waiting;
 use heap_rule::{Domain, Heap};
 use heap_words::Colours;
 use size_classes::CLASS_COUNT;
@@ -35,7 +36,14 @@ fn class_of(word: u64, domain: u32) -> Option<u32>
 
 // Looks at the next pool of the walk, and if it is an own one scans its grey blocks. Answers whether
 // the domain has marked a block.
-fn visit_pool(heap: &Heap, dom: &mut Domain, pool: u32, colours: Colours, trail: &mut Trail) -> bool
+fn visit_pool(
+    heap: &Heap,
+    dom: &mut Domain,
+    pool: u32,
+    colours: Colours,
+    trail: &mut Trail,
+    waiting: &mut Waiting,
+) -> bool
     requires here { IsIn dom.old heap.now }
     requires marks { Marks colours dom.old.view }
     requires meanings { IsPermutation colours }
@@ -49,13 +57,13 @@ fn visit_pool(heap: &Heap, dom: &mut Domain, pool: u32, colours: Colours, trail:
     let pools = heap.config().pools;
     let word = own_load(heap, dom, OWNERS + pools + pool, pool);
     match class_of(word, dom.number()) {
-        Some(class) => mark_pool(heap, dom, pool, class, colours, trail),
+        Some(class) => mark_pool(heap, dom, pool, class, colours, trail, waiting),
         None => false,
     }
 }
 
 // The same for all pools, and then the store of the changed word, where the domain has marked a block.
-fn walk_pools(heap: &Heap, dom: &mut Domain, trail: &mut Trail)
+fn walk_pools(heap: &Heap, dom: &mut Domain, trail: &mut Trail, waiting: &mut Waiting)
     requires here { IsIn dom.old heap.now }
     requires stage { dom.old.view.seen.stage ≡ In Mark }
     requires begins { dom.old.view.seen.share.walk ≡ record { pool = 0; slot = 0 } }
@@ -65,11 +73,12 @@ fn walk_pools(heap: &Heap, dom: &mut Domain, trail: &mut Trail)
     ensures walked { AllWalked heap.now.config dom.old.view dom.new.view }
 {
     trail.clear();
+    waiting.start(0);
     let pools = heap.config().pools;
     let colours = colours_now(heap, dom);
     let mut darkened = false;
     for pool in 0..pools {
-        darkened |= visit_pool(heap, dom, pool, colours, trail);
+        darkened |= visit_pool(heap, dom, pool, colours, trail, waiting);
     }
     if darkened {
         changed_store(heap, dom);
@@ -101,5 +110,5 @@ pub fn mark_round(heap: &Heap, dom: &mut Domain, hints: &mut Hints)
     ensures takes { TakesOwn hints.old hints.new }
 {
     hints.clear();
-    walk_pools(heap, dom, &mut hints.trail);
+    walk_pools(heap, dom, &mut hints.trail, &mut hints.waiting);
 }

@@ -1,15 +1,15 @@
 //! The scan of a marked block.
 ghost use Rattle.std.specs.Prelude.{◌≡◌, ◌+◌, ◌*◌, ◌≤◌, ℕ, Some, false};
 ghost use Rattle.heap_words.specs.ColourWords.{IsPermutation};
-ghost use Rattle.heap_rule.specs.declared.phase.Kind.TheVariants.{Mark};
+ghost use Rattle.heap_rule.specs.declared.phase.Kind.TheVariants.{Rounds};
 ghost use Rattle.heap_rule.specs.declared.phase.Stage.TheVariants.{In};
 ghost use Rattle.heap_rule.specs.declared.view.Scan.TheVariants.{Reads};
 ghost use Rattle.heap_rule.specs.Layout.{heap_words};
 ghost use Rattle.heap_rule.specs.Standing.{IsInHeap};
 ghost use Rattle.heap_rule.specs.Token.{IsIn};
 ghost use Rattle.steps_marking.specs.Looks.{with_share};
-ghost use Rattle.steps_marking.specs.Marking.{LiesAt, ScanMay, Site};
-ghost use Rattle.mark_slices.specs.Shares.{Begun, Noted, ScannedAt, field_on, fields_to, scanning};
+ghost use Rattle.steps_marking.specs.Marking.{Anywhere, LiesAt, ScanMay, Site};
+ghost use Rattle.mark_slices.specs.Shares.{Begun, Noted, ScannedAt, ScansBlocks, field_on, fields_to, scanning};
 
 use crate::darkening::darken;
 use crate::trail::Trail;
@@ -22,6 +22,7 @@ use steps_marking::{scan_load, scanned_store};
 // this domain has marked it.
 fn scan_field(heap: &Heap, dom: &mut Domain, at: u32, colours: Colours, trail: &mut Trail) -> bool
     requires here { IsIn dom.old heap.now }
+    requires stage { ScansBlocks dom.old.view.seen.stage }
     requires known { dom.old.view.seen.share.colours ≡ Some colours }
     requires meanings { IsPermutation colours }
     requires inside { IsInHeap heap.now.config at }
@@ -55,7 +56,7 @@ fn scan_fields(
     trail: &mut Trail,
 ) -> bool
     requires here { IsIn dom.old heap.now }
-    requires stage { dom.old.view.seen.stage ≡ In Mark }
+    requires stage { ScansBlocks dom.old.view.seen.stage }
     requires known { dom.old.view.seen.share.colours ≡ Some colours }
     requires meanings { IsPermutation colours }
     requires inside { block + size + 1 ≤ heap_words heap.now.config }
@@ -74,8 +75,8 @@ fn scan_fields(
     darkened
 }
 
-// Scans a block of a pool whose scan has begun, and then says in its head that it is scanned. Answers
-// whether this domain has marked a block.
+// Scans a block of a pool whose scan has begun, and then says in its head that it is scanned. Only in Mark
+// may it lie at the next place of a walk. Answers whether this domain has marked a block.
 pub(crate) fn scan_block(
     heap: &Heap,
     dom: &mut Domain,
@@ -86,12 +87,13 @@ pub(crate) fn scan_block(
 ) -> bool
     ghost site: { Site }
     requires here { IsIn dom.old heap.now }
-    requires stage { dom.old.view.seen.stage ≡ In Mark }
+    requires stage { ScansBlocks dom.old.view.seen.stage }
     requires known { dom.old.view.seen.share.colours ≡ Some colours }
     requires meanings { IsPermutation colours }
     requires inside { (1 ≤ at) × (at ≤ heap.now.config.pools * 4096) }
     requires begun { Begun colours at block.fields block.scanned dom.old.view }
     requires lies { LiesAt site dom.old.view at }
+    requires anywhere { dom.old.view.seen.stage ≡ In Rounds → site ≡ Anywhere }
     requires noted { Noted heap.now.config dom.old.view.seen.share.marked trail.old.items }
     ensures here { IsIn dom.new heap.now }
     ensures scanned { ScannedAt site at result dom.old.view dom.new.view }

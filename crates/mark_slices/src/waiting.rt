@@ -2,30 +2,46 @@
 use std::alloc::{AllocError, Global};
 use std::mem;
 
+// A thing waits for a block, or was woken: the block, and the next thing of its row, or of those that
+// were woken.
+#[derive(Clone, Copy)]
+struct Waiter {
+    address: u32,
+    behind: Option<u32>,
+}
+
+impl Waiter {
+    // One that waits for nothing.
+    const NONE: Waiter = Waiter {
+        address: 0,
+        behind: None,
+    };
+}
+
 // Which things of a list, by their places there, wait for which blocks, and which were woken. `make`
 // takes all the memory.
 //
-// Things wait in rows. A block has one row, which may be that of others too: all that wait in it are
-// woken together, and some may have to wait again. No contract says what waits here: a thing that is
-// woken too early or not at all costs time alone.
+// Things wait in rows. A block has one row, which may be that of others too. No contract says what waits
+// here: a thing that is woken too early or not at all costs time alone.
 #[derive(Drop)]
 pub(crate) struct Waiting {
     // The thing that is looked at.
     looked_at: usize,
+    // How many things there are, and as many rows.
+    count: usize,
     // The first thing of each row.
     rows: Vec<Option<u32>>,
-    // For each thing the next one of its row, or of those that were woken.
-    behind: Vec<Option<u32>>,
+    // Each thing, once it has waited.
+    waiters: Vec<Waiter>,
     // The first of those that were woken.
     woken: Option<u32>,
 }
 
-// Makes a list as long as it is to be, or as there is room for. Takes no memory.
-fn lay_out(list: &mut Vec<Option<u32>>, count: usize) {
-    list.clear();
-    for _ in 0..count {
+// Makes a list as long as it is to be at least, or as there is room for. Takes no memory.
+fn lengthen<T: Copy>(list: &mut Vec<T>, count: usize, item: T) {
+    for _ in list.len()..count {
         if list.len() < list.capacity() {
-            list.push_reserved(None);
+            list.push_reserved(item);
         }
     }
 }
@@ -49,19 +65,24 @@ impl Waiting {
     // Nothing waits. There is room for so many things. Fails for want of memory alone.
     pub(crate) fn make(alloc: Global, room: u32) -> Result<Waiting, AllocError> {
         let rows = Vec::with_capacity(alloc, room as usize)?;
-        let behind = Vec::with_capacity(alloc, room as usize)?;
+        let waiters = Vec::with_capacity(alloc, room as usize)?;
         Ok(Waiting {
             looked_at: 0,
+            count: 0,
             rows,
-            behind,
+            waiters,
             woken: None,
         })
     }
 
     // None of so many things waits or is woken.
     pub(crate) fn start(&mut self, count: usize) {
-        lay_out(&mut self.rows, count);
-        lay_out(&mut self.behind, count);
+        for row in 0..self.rows.len().min(count) {
+            self.rows[row] = None;
+        }
+        lengthen(&mut self.rows, count, None);
+        lengthen(&mut self.waiters, count, Waiter::NONE);
+        self.count = self.rows.len().min(count);
         self.woken = None;
     }
 
@@ -72,28 +93,52 @@ impl Waiting {
 
     // The thing that is looked at waits until this block is marked.
     pub(crate) fn wait_for(&mut self, address: u32) {
-        let row = row_of(self.rows.len(), address);
-        let first = exchange(&mut self.rows, row, u32::try_from(self.looked_at).ok());
-        exchange(&mut self.behind, self.looked_at, first);
+        if self.looked_at < self.waiters.len() {
+            let row = row_of(self.count, address);
+            let behind = exchange(&mut self.rows, row, u32::try_from(self.looked_at).ok());
+            self.waiters[self.looked_at] = Waiter { address, behind };
+        }
+    }
+
+    // Puts a thing that was taken from a row where it belongs once this block is marked: to those that
+    // were woken, or back into the row. Answers what was behind it in the row.
+    fn sort(&mut self, thing: u32, row: usize, address: u32) -> Option<u32> {
+        let place = thing as usize;
+        if place >= self.waiters.len() {
+            return None;
+        }
+        let waiter = self.waiters[place];
+        self.waiters[place].behind = if waiter.address == address {
+            mem::replace(&mut self.woken, Some(thing))
+        } else {
+            exchange(&mut self.rows, row, Some(thing))
+        };
+        waiter.behind
     }
 
     // What waits for this block is woken.
     pub(crate) fn wake(&mut self, address: u32) {
-        let row = row_of(self.rows.len(), address);
+        if self.count == 0 {
+            return;
+        }
+        let row = row_of(self.count, address);
         let mut next = exchange(&mut self.rows, row, None);
-        for _ in 0..self.behind.len() {
+        for _ in 0..self.waiters.len() {
             let Some(thing) = next else {
                 return;
             };
-            next = exchange(&mut self.behind, thing as usize, self.woken);
-            self.woken = Some(thing);
+            next = self.sort(thing, row, address);
         }
     }
 
     // Takes a thing that was woken, which is looked at next.
     pub(crate) fn next_woken(&mut self) -> Option<usize> {
         let place = self.woken? as usize;
-        self.woken = exchange(&mut self.behind, place, None);
+        self.woken = if place < self.waiters.len() {
+            self.waiters[place].behind
+        } else {
+            None
+        };
         self.looked_at = place;
         Some(place)
     }

@@ -32,7 +32,7 @@ use Rattle.heap_rule.specs.declared.view.Scan.TheVariants.{Idle, Reads}
 use Rattle.heap_rule.specs.declared.view.Share.{Share}
 use Rattle.heap_rule.specs.Layout.{before_heap, heap_words, at_address}
 use Rattle.heap_rule.specs.Places.{Debt, HasValue, Live, Place, Stands, WordStands, colour_in, head_of, values_of}
-use Rattle.heap_rule.specs.Cycles.{Cycling, Facts, HasNoCycle, IsCollecting, Knowing, Refers, Scanned, Scans, cycle_of, seen_by}
+use Rattle.heap_rule.specs.Cycles.{Cycling, Facts, IsCollecting, Knowing, Refers, Scanned, Scans, cycle_of, seen_by}
 use Rattle.heap_rule.specs.Raw.{MayStep, MayStore}
 use Rattle.heap_rule.specs.Rule.{Rule, state_of}
 use Rattle.heap_rule.specs.Views.{one}
@@ -46,7 +46,7 @@ use Rattle.steps_marking.proofs.Colouring.{words_same, Recolourable}
 use Rattle.steps_marking.proofs.Learning.{at_other, at_same, bare, held, kind_here, knows_more, known, looks_same, looks_still, queue_still, shifts_more, whole_in}
 use Rattle.steps_marking.proofs.Recolouring.{Recolours, known_still, recolours}
 use Rattle.heap_rule.specs.declared.phase.Stage.TheVariants.{In}
-use Rattle.steps_marking.proofs.WalkSteps.{own_place, seen_next, next_is, next_other, next_walked}
+use Rattle.steps_marking.proofs.WalkSteps.{changing_cycle, own_place, seen_next, next_is, next_other, next_walked}
 use Rattle.steps_marking.proofs.Layouts.{labelled}
 use Rattle.heap_rule.specs.Pools.{owned, blocks_of, IsBefore, place_in}
 use Rattle.std.proofs.lemmas.Option.{none-some, same_Some}
@@ -111,8 +111,8 @@ module _ (k : Config) (s : Words) (r : Rule k s) (id : ℕ) (hist : List Entry) 
   kn : Knowing k live r.account.tenancy.holder now.graph m s.words d x.own.registers sh
   kn = known k s r id hist x at
 
-  in_mark : x.seen.stage ≡ In Mark → IsCollecting x.seen.stage
-  in_mark is = subst IsCollecting (sym is) (λ none. none)
+  in_mark : (kind : Kind) → x.seen.stage ≡ In kind → IsChanging kind → IsCollecting x.seen.stage
+  in_mark kind is changing = subst IsCollecting (sym is) (changing_cycle kind changing)
 
   -- the next field
   module _ (a : ℕ) (may : ScanMay x a) where
@@ -123,7 +123,7 @@ module _ (k : Config) (s : Words) (r : Rule k s) (id : ℕ) (hist : List Entry) 
     field = got_there f.fields may.done (let n : ℕ = length f.fields in let e : n ≡ may.size = f.size_is in let h = may.more in omega arith)
 
     not_clean : c.kind ≡ Clean → ⊥
-    not_clean e = let clash : Mark ≡ Clean = sym (kind_here k s r id hist x at Mark may.stage) ∙ e in cc
+    not_clean e = subst IsChanging (sym (kind_here k s r id hist x at may.kind may.stage) ∙ e) may.changing
 
     stands : WordStands live (at_address k s.words (may.block + 2 + may.done)) field.0
     stands =
@@ -133,21 +133,21 @@ module _ (k : Config) (s : Words) (r : Rule k s) (id : ℕ) (hist : List Entry) 
         (λ (e : (f.fields ≡ []) × (fields_of (node_at now.graph f.place.label) ≡ [])). absurd (let none : length f.fields ≡ 0 = ap (λ (z : List Value). length z) e.0 in let n : ℕ = length f.fields in let z : n ≡ 0 = none in let y : n ≡ may.size = f.size_is in let h = may.more in omega arith))
         f.node in
         let is : found.node ≡ Plain f.tag f.fields = same_Some found.node (Plain f.tag f.fields) (sym found.there ∙ plain) in
-        found_value k c.paint live now.graph s.words may.block f.place found (whole_in k s r id hist x at not_clean f.place.label) may.done field.0 (subst (λ (o : Option Debt). HasValue o may.done) (sym (bare k s r id hist x at (in_mark may.stage) may.block f.place f.lives).no_debt) tt) (ap (λ (n : Node). slice_get (values_of n) may.done) is ∙ field.1)
+        found_value k c.paint live now.graph s.words may.block f.place found (whole_in k s r id hist x at not_clean f.place.label) may.done field.0 (subst (λ (o : Option Debt). HasValue o may.done) (sym (bare k s r id hist x at (in_mark may.kind may.stage may.changing) may.block f.place f.lives).no_debt) tt) (ap (λ (n : Node). slice_get (values_of n) may.done) is ∙ field.1)
 
     share' : Share
     share' = record sh { scan = scanned_on sh.scan stands.value }
 
     scan_rule : Rule k record { words = s.words; homes = s.homes; views = set s.views id (one k hist (with_share x share')) }
     unfolding share'
-    scan_rule = knows_more k s r id hist x at (in_mark may.stage) (held share') refl refl record {
+    scan_rule = knows_more k s r id hist x at (in_mark may.kind may.stage may.changing) (held share') refl refl record {
       found_head = kn.found_head;
       scan = subst (λ (z : Scan). Scans live now.graph m (scanned_on z stands.value)) (sym may.scan) (read_on live now.graph m may.block may.done may.size may.head f field.0 field.1 stands.value stands.stands);
       walked = kn.walked;
       own_pool = kn.own_pool;
       rooted = kn.rooted;
       marked = kn.marked;
-      looking = looks_still k s r id hist x at (in_mark may.stage) m (held share') (λ _. refl) refl (λ b e. absurd (none-some b (sym (no_ephemeron sh.scan may.block may.done may.size may.head stands.value may.scan) ∙ e)));
+      looking = looks_still k s r id hist x at (in_mark may.kind may.stage may.changing) m (held share') (λ _. refl) refl (λ b e. absurd (none-some b (sym (no_ephemeron sh.scan may.block may.done may.size may.head stands.value may.scan) ∙ e)));
     }
 
     scan_told : ScanTold k x (at_address k s.words a) (with_share x share')
@@ -184,10 +184,13 @@ module _ (k : Config) (s : Words) (r : Rule k s) (id : ℕ) (hist : List Entry) 
         g.node
 
     waits : c.shares.arrived d ≡ false
-    waits = waits_in k s r id hist x at Mark may.stage
+    waits = waits_in k s r id hist x at may.kind may.stage
 
-    kind_is : c.kind ≡ Mark
-    kind_is = kind_here k s r id hist x at Mark may.stage
+    kind_is : c.kind ≡ may.kind
+    kind_is = kind_here k s r id hist x at may.kind may.stage
+
+    unclean : c.kind ≡ Clean → ⊥
+    unclean e = subst IsChanging (sym kind_is ∙ e) may.changing
 
     abbrev scanned_words : List ℕ
     scanned_words = set s.words (before_heap k + a) new
@@ -203,10 +206,10 @@ module _ (k : Config) (s : Words) (r : Rule k s) (id : ℕ) (hist : List Entry) 
     is_scanned = ap (λ (b : Bool). b || m.scanned p.label) (same_label_refl p.label)
 
     -- where the place is the next of the walk, no block is grey there any more
-    scanned_facts : (t : Site) (lies : LiesAt t x a) → Facts Mark k now live r.account.tenancy c s.words
+    mark_facts : (t : Site) (lies : LiesAt t x a) → Facts Mark k now live r.account.tenancy c s.words
         → Facts Mark k now live r.account.tenancy (record c { paint = record c.paint { marks = m' }; shares = record c.shares { seen = seen_on t lies } }) scanned_words
-    scanned_facts Anywhere lies f = (darkening_steps.mark_scans c.pass k.domains now (cycle_of k live r.account.tenancy.holder c) f.0 p.label fields_marked, f.1)
-    scanned_facts (Next pool class slot) lies f =
+    mark_facts Anywhere lies f = (darkening_steps.mark_scans c.pass k.domains now (cycle_of k live r.account.tenancy.holder c) f.0 p.label fields_marked, f.1)
+    mark_facts (Next pool class slot) lies f =
         let c1 : Cycling = record c { paint = record c.paint { marks = m' } } in (
           darkening_steps.mark_looks c.pass k.domains now (cycle_of k live r.account.tenancy.holder c1) (darkening_steps.mark_scans c.pass k.domains now (cycle_of k live r.account.tenancy.holder c) f.0 p.label fields_marked) d a
               (own_place k s r id hist x at a pool class slot lies)
@@ -214,6 +217,26 @@ module _ (k : Config) (s : Words) (r : Rule k s) (id : ℕ) (hist : List Entry) 
               subst (λ (z : Label). IsTrue (m'.scanned z)) (ap (λ (z : Place). z.label) same ∙ u.label) is_scanned),
           f.1,
         )
+
+    rounds_facts : (t : Site) (lies : LiesAt t x a) → t ≡ Anywhere → Facts Rounds k now live r.account.tenancy c s.words
+        → Facts Rounds k now live r.account.tenancy (record c { paint = record c.paint { marks = m' }; shares = record c.shares { seen = seen_on t lies } }) scanned_words
+    rounds_facts Anywhere lies is f = (darkening_steps.rounds_scans c.pass k.domains now (cycle_of k live r.account.tenancy.holder c) f.0 p.label fields_marked, f.1)
+    rounds_facts (Next pool class slot) lies is f = cc
+
+    scanned_facts : (kind : Kind) → IsChanging kind → (t : Site) (lies : LiesAt t x a) → (kind ≡ Rounds → t ≡ Anywhere) → Facts kind k now live r.account.tenancy c s.words
+        → Facts kind k now live r.account.tenancy (record c { paint = record c.paint { marks = m' }; shares = record c.shares { seen = seen_on t lies } }) scanned_words
+    scanned_facts Run n t lies is f = absurd n
+    scanned_facts Promote n t lies is f = absurd n
+    scanned_facts Reset n t lies is f = absurd n
+    scanned_facts Roots n t lies is f = absurd n
+    scanned_facts Mark n t lies is f = mark_facts t lies f
+    scanned_facts Rounds n t lies is f = rounds_facts t lies (is refl) f
+    scanned_facts Decide n t lies is f = absurd n
+    scanned_facts Queued n t lies is f = absurd n
+    scanned_facts Clean n t lies is f = absurd n
+    scanned_facts Lasts n t lies is f = absurd n
+    scanned_facts Sweep n t lies is f = absurd n
+    scanned_facts Answer n t lies is f = absurd n
 
     seen_others : (t : Site) (lies : LiesAt t x a) (z : ℕ) → z ≢ d → seen_on t lies z ≡ c.shares.seen z
     seen_others Anywhere lies z other = refl
@@ -227,51 +250,37 @@ module _ (k : Config) (s : Words) (r : Rule k s) (id : ℕ) (hist : List Entry) 
     walked_on Anywhere lies = kn.walked
     walked_on (Next pool class slot) lies = next_walked k s r id hist x at a pool class slot lies
 
-    recoloured : Recolours k s r id hist x at (in_mark may.stage) a p new m' c.shares.owes (seen_on site may.lies) (held done) sh.waiting
+    recoloured : Recolours k s r id hist x at (in_mark may.kind may.stage may.changing) a p new m' c.shares.owes (seen_on site may.lies) (held done) sh.waiting
     recoloured =
         let cs : Colours = c.paint.colours in
         let is : m.marked p.label ≡ true = g.marked in
-        let n = known_still k s r id hist x at (in_mark may.stage) a p new m' g.lives g.marked (λ l h. h) in record {
+        let n = known_still k s r id hist x at (in_mark may.kind may.stage may.changing) a p new m' g.lives g.marked (λ l h. h) in record {
           lives = g.lives;
           here = record {
             scanned = true;
             packs = may.marks ∙ (ap (λ (z : Colours). head_word (head_of None may.shape z.marked true)) means ∙ (ap (λ (z : Shape). head_word (head_of None z cs.marked true)) (sym same.shape)
                 ∙ (sym (ap (λ (b : Bool). head_word (head_of None p.shape (cond b cs.marked cs.unmarked) true)) is)
-                ∙ sym (ap (λ (o : Option ℕ). head_word (head_of o p.shape (colour_in (record c.paint { marks = m' }) p.label) true)) (bare k s r id hist x at (in_mark may.stage) a p g.lives).no_forward))));
+                ∙ sym (ap (λ (o : Option ℕ). head_word (head_of o p.shape (colour_in (record c.paint { marks = m' }) p.label) true)) (bare k s r id hist x at (in_mark may.kind may.stage may.changing) a p g.lives).no_forward))));
             tells = λ _ _. is_scanned;
           };
           elsewhere = λ l differ. (refl, ap (λ (b : Bool). b || m.scanned l) (same_label-false p.label l differ));
           marked = g.marked;
           more = λ l h. h;
-          still = λ e. absurd (let clash : Mark ≡ Clean = sym kind_is ∙ e in cc);
+          still = λ e. absurd (unclean e);
           facts = subst (λ (kind : Kind). Facts kind k now live r.account.tenancy (record c { paint = record c.paint { marks = m' }; shares = record c.shares { seen = seen_on site may.lies } }) scanned_words) (sym kind_is)
-              (scanned_facts site may.lies (subst (λ (kind : Kind). Facts kind k now live r.account.tenancy c s.words) kind_is r.whole.cycle.facts));
+              (scanned_facts may.kind may.changing site may.lies may.anywhere (subst (λ (kind : Kind). Facts kind k now live r.account.tenancy c s.words) kind_is r.whole.cycle.facts));
           others = λ z other. (refl, seen_others site may.lies z other);
           owes_is = (my_good k s r id hist x at).sharing.telling.owes waits;
           seen_is = seen_here site may.lies;
-          knows = record { found_head = n.found_head; scan = tt; walked = walked_on site may.lies; own_pool = n.own_pool; rooted = n.rooted; marked = n.marked; looking = looks_still k s r id hist x at (in_mark may.stage) m' (held done) (λ e. absurd (let clash : Mark ≡ Clean = sym kind_is ∙ e in cc)) refl (λ b e. absurd (none-some b e)) };
-          queued = queue_still k s r id hist x at (in_mark may.stage) m' (λ l h. h);
+          knows = record { found_head = n.found_head; scan = tt; walked = walked_on site may.lies; own_pool = n.own_pool; rooted = n.rooted; marked = n.marked; looking = looks_still k s r id hist x at (in_mark may.kind may.stage may.changing) m' (held done) (λ e. absurd (unclean e)) refl (λ b e. absurd (none-some b e)) };
+          queued = queue_still k s r id hist x at (in_mark may.kind may.stage may.changing) m' (λ l h. h);
         }
 
     scanned_rule : Rule k record { words = scanned_words; homes = s.homes; views = set s.views id (one k hist (with_share x done)) }
-    scanned_rule = recolours k s r id hist x at (in_mark may.stage) a p new m' c.shares.owes (seen_on site may.lies) (held done) sh.waiting recoloured
+    scanned_rule = recolours k s r id hist x at (in_mark may.kind may.stage may.changing) a p new m' c.shares.owes (seen_on site may.lies) (held done) sh.waiting recoloured
 
   -- the changed word
   module _ (may : ChangedMay x) where
-    changing : (kind : Kind) → IsChanging kind → HasNoCycle kind → ⊥
-    changing Run n none = n
-    changing Promote n none = n
-    changing Reset n none = n
-    changing Roots n none = n
-    changing Mark n none = none
-    changing Rounds n none = none
-    changing Decide n none = n
-    changing Queued n none = n
-    changing Clean n none = n
-    changing Lasts n none = n
-    changing Sweep n none = n
-    changing Answer n none = n
-
     abbrev words1 : List ℕ
     words1 = set s.words 3 1
 
@@ -298,7 +307,7 @@ module _ (k : Config) (s : Words) (r : Rule k s) (id : ℕ) (hist : List Entry) 
     stored_rule : Rule k record { words = words1; homes = s.homes; views = set s.views id (one k hist (with_share x paid)) }
     stored_rule =
         let kind_is : c.kind ≡ may.kind = kind_here k s r id hist x at may.kind may.stage in
-        let collecting : IsCollecting x.seen.stage = subst IsCollecting (sym may.stage) (changing may.kind may.changing) in
+        let collecting : IsCollecting x.seen.stage = subst IsCollecting (sym may.stage) (changing_cycle may.kind may.changing) in
         let other : (i : ℕ) → i ≢ 3 → get_or words1 i 0 ≡ get_or s.words i 0 = (λ i differ. get_or-set_other s.words 3 i 1 0 differ) in
         let spot : 3 < length s.words = (let w : ℕ = heap_words k in let b : ℕ = before_heap k in let e : length s.words ≡ 1 + b + w = r.whole.wide in let o : 10 ≤ b = omega arith in omega arith) in
         let u : Untouched s.words words1 = (length-set s.words 3 1, λ i low not_ended. other i (λ e. omega arith)) in

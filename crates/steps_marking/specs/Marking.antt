@@ -201,9 +201,11 @@ pub record MarkTold (at pool class slot : ℕ) (x : DomainView) (found : ℕ) (y
   pub told : (((found ≡ 0) ⊎ (IsUnmarked colours found ⊎ IsScanned colours found)) × (y ≡ with_share x (record x.seen.share { places_seen = at ∷ x.seen.share.places_seen; walk = behind pool class slot })))
       ⊎ ((grey : IsGrey colours found) × (y ≡ with_share x (begun at grey.block.shape found x.seen.share)))
 
--- in Mark, a load of the head of a block that is known to be marked
+-- in Mark and in Rounds, a load of the head of a block that is known to be marked
 pub record GreyMay (x : DomainView) (at : ℕ) : Type 0 where
-  pub stage : x.seen.stage ≡ In Mark
+  pub kind : Kind
+  pub stage : x.seen.stage ≡ In kind
+  pub changing : IsChanging kind
   pub marked : IsTrue (seen_by x.seen.share.marked at)
   pub colours : Colours
   pub known : x.seen.share.colours ≡ Some colours
@@ -214,9 +216,11 @@ pub record GreyTold (at : ℕ) (x : DomainView) (found : ℕ) (y : DomainView) :
   pub known : x.seen.share.colours ≡ Some colours
   pub told : (IsScanned colours found × (y ≡ x)) ⊎ ((grey : IsGrey colours found) × (y ≡ with_share x (begun at grey.block.shape found x.seen.share)))
 
--- in Mark, a load of the next field of the block that is scanned
+-- in Mark and in Rounds, a load of the next field of the block that is scanned
 pub record ScanMay (x : DomainView) (at : ℕ) : Type 0 where
-  pub stage : x.seen.stage ≡ In Mark
+  pub kind : Kind
+  pub stage : x.seen.stage ≡ In kind
+  pub changing : IsChanging kind
   pub block : ℕ
   pub done : ℕ
   pub size : ℕ
@@ -256,9 +260,12 @@ abbrev pub walk_on : Site → Spot → Spot
 walk_on Anywhere walk = walk
 walk_on (Next pool class slot) walk = behind pool class slot
 
--- in Mark, the head of the block that is scanned gets the scanned mark, where all its fields are done
+-- in Mark and in Rounds, the head of the block that is scanned gets the scanned mark, where all its fields are done. There is a walk in Mark alone
 pub record ScannedMay (x : DomainView) (at new : ℕ) (site : Site) : Type 0 where
-  pub stage : x.seen.stage ≡ In Mark
+  pub kind : Kind
+  pub stage : x.seen.stage ≡ In kind
+  pub changing : IsChanging kind
+  pub anywhere : kind ≡ Rounds → site ≡ Anywhere
   pub size : ℕ
   pub word : ℕ
   pub scan : x.seen.share.scan ≡ Reads at size size word

@@ -7,9 +7,9 @@ use crate::looking::Looking;
 use heap_rule::{CHANGED, Domain, Heap, Leaving, raw_load, raw_store};
 use std::marker::Brand;
 
-/// A load of the next field of the block that the domain scans, in Mark. Where it refers to a block
-/// that block is to be marked next, and else the field is done. `at` is the field's address. Answers
-/// the value's word.
+/// A load of the next field of the block that the domain scans, in Mark or in Rounds. Where it refers to a
+/// block that block is to be marked next, and else the field is done. `at` is the field's address.
+/// Answers the value's word.
 pub fn scan_load(heap: &Heap, dom: &mut Domain, at: u32) -> u64
     requires here { IsIn dom.old heap.now }
     requires inside { IsInHeap heap.now.config at }
@@ -21,10 +21,10 @@ pub fn scan_load(heap: &Heap, dom: &mut Domain, at: u32) -> u64
     raw_load::<Brand, Leaving>(heap, dom, index, &Leaving, &[])
 }
 
-/// A store of the head of the block that the domain scans, in Mark, where all its fields are done:
-/// by `new` the block is marked and scanned. Whoever scans it too writes the same head. Where the
-/// block lies at the next place of the walk, the domain has seen the place then, and the walk goes
-/// on. `at` is the block's address.
+/// A store of the head of the block that the domain scans, in Mark or in Rounds, where all its fields are
+/// done: by `new` the block is marked and scanned. Whoever scans it too writes the same head. Where the
+/// block lies at the next place of the walk, which there is in Mark alone, the domain has seen the place
+/// then, and the walk goes on. `at` is the block's address.
 pub fn scanned_store(heap: &Heap, dom: &mut Domain, at: u32, new: u64)
     ghost site: { Site }
     requires here { IsIn dom.old heap.now }

@@ -46,8 +46,8 @@ pub fn mark_load(heap: &Heap, dom: &mut Domain, at: u32, pool: u32, class: u32, 
     raw_load::<Brand, Looking>(heap, dom, index, &writing, &[])
 }
 
-/// A load of the head of a block that the domain knows to be marked, in Mark, whosever pool it lies
-/// in. Where it is grey its scan begins. `at` is the block's address. Answers the head's word.
+/// A load of the head of a block that the domain knows to be marked, in Mark or in Rounds, whosever pool
+/// it lies in. Where it is grey its scan begins. `at` is the block's address. Answers the head's word.
 pub fn grey_load(heap: &Heap, dom: &mut Domain, at: u32) -> u64
     requires here { IsIn dom.old heap.now }
     requires inside { IsInHeap heap.now.config at }

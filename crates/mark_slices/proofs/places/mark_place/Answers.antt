@@ -1,7 +1,10 @@
-use Rattle.std.proofs.Common.{ℕ, List, ◌+◌, ◌*◌, ◌<◌, ◌≤◌, arith, sym, subst}
+use Rattle.std.proofs.Common.{◌≡◌, ◌∙◌, ℕ, List, ◌+◌, ◌*◌, ◌<◌, ◌≤◌, arith, sym, ap, subst}
+use Rattle.heap_rule.specs.declared.phase.Kind.TheVariants.{Rounds}
+use Rattle.heap_rule.specs.declared.phase.Stage.TheVariants.{In}
+use Rattle.heap_rule.specs.declared.view.DomainView.{DomainView}
 use Rattle.steps_marking.specs.Marking.{LiesAt, Site}
 use Rattle.mark_slices.specs.Shares.{Noted}
-use Rattle.mark_slices.proofs.Visits.{mark_begins, mark_stays, ready}
+use Rattle.mark_slices.proofs.Visits.{mark_begins, mark_stays, no_round, ready, walker_scans}
 use Rattle.mark_slices.proofs.places.mark_place.Goals as goal
 
 pub returns-in_default-clause-noted : goal.returns-in_default-clause-noted
@@ -21,5 +24,5 @@ scan_block-requires g c =
     let high : at ≤ n * 4096 + 4096 = c.place_address-at.ensures.inside.1 in
     let e = mark_begins x y c.args.colours at n c.args.class c.args.slot c.mark_load-word.result b.fields b.scanned q.1.0 q.0 c.mark_load-word.ensures.told c.in-Some.ensures in
     let l : LiesAt g.site x at = subst (λ (s : Site). LiesAt s x at) (sym q.1.1.1.1.1.1.1.0) record { own = q.1.1.1.1.1.0; inside = q.1.1.1.1.0; begins = c.place_address-at.ensures.value; next = q.1.1.1.1.1.1.0 } in
-    let r = ready x y c.args.colours at c.mark_load-word.result b.fields b.scanned q.0 c.in-Some.ensures e k g.site c.args.trail.now.items l q.1.1.1.1.1.1.1.1 in
-    (c.mark_load-word.ensures.here, (r.0, (r.1, (q.1.0, ((omega arith, omega arith), (r.2, (r.3, r.4)))))))
+    let r = ready x y c.args.colours at c.mark_load-word.result b.fields b.scanned (walker_scans x c.args.colours q.0) c.in-Some.ensures e k g.site c.args.trail.now.items l q.1.1.1.1.1.1.1.1 in
+    (c.mark_load-word.ensures.here, (r.0, (r.1, (q.1.0, ((omega arith, omega arith), (r.2, (r.3, (λ (i : y.seen.stage ≡ In Rounds). absurd (no_round x c.args.colours q.0 (sym (ap (λ (u : DomainView). u.seen.stage) e) ∙ i)), r.4))))))))

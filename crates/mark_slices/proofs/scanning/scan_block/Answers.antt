@@ -14,7 +14,7 @@ scanned_store-requires g c =
       c.scan_fields-darkened.ensures.here,
       (
         (low, omega arith),
-        block_may c.args.dom.now.view c.scan_fields-darkened.new.dom.view a c.args.block.fields c.args.block.scanned c.scan_fields-darkened.result g.site c.scan_fields-darkened.ensures.scanned c.args.colours q.0 q.1.0 q.1.1.1.1.0 q.1.1.1.1.1.0,
+        block_may c.args.dom.now.view c.scan_fields-darkened.new.dom.view a c.args.block.fields c.args.block.scanned c.scan_fields-darkened.result g.site c.scan_fields-darkened.ensures.scanned c.args.colours q.0 q.1.1.1.1.1.1.0 q.1.0 q.1.1.1.1.0 q.1.1.1.1.1.0,
       ),
     )
 
