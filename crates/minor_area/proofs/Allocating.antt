@@ -12,7 +12,7 @@ use Rattle.heap_model.specs.Fronts.{Answers, Shape, PlainShape, RawShape}
 use Rattle.heap_rule.specs.declared.change.Change.{Change}
 use Rattle.heap_rule.specs.declared.view.DomainView.{DomainView}
 use Rattle.heap_rule.specs.declared.view.Own.{Own}
-use Rattle.steps_young.specs.Inits.{IsOpen, InitMay, AllocMay, AllocEntry, AllocTold, fields_of}
+use Rattle.steps_young.specs.Inits.{IsOpen, AllocMay, AllocEntry, AllocTold, fields_of}
 use Rattle.heap_rule.specs.declared.config.Config.{Config}
 use Rattle.heap_rule.specs.Limits.{sizes_in}
 use Rattle.heap_rule.specs.Standing.{Acts, IsInHeap}
@@ -80,31 +80,28 @@ head_as : (h : SharedHeap) (old : Token) (mid : DomainView) (e : Entry) (at new 
     → e ≡ own_entry old c → Runs h old
     → mid ≡ record old.view { seen = record old.view.seen { made = label_word old.view.own.number (old.view.own.serial + 1) ∷ replicate n 1 } } → at ≡ next_address h.config old.view → place ≡ dst → dst < 16 → IsPackableShape shape → n ≤ 1022
     → old.view.own.serial + 1 < 2 ^ 32 → old.view.own.used + class_words (n + 2) ≤ h.config.minor_words → IsOpen h.config old.view → IsNewHead old.view.seen.share.colours old.view.seen.share.armed false shape new
-    → InitMay h.config mid at new (Set Register place (record { value = Ref at; number = 0; more = 0 }) ∷ []) e
+    → AllocEntry h.config mid at new (Set Register place (record { value = Ref at; number = 0; more = 0 }) ∷ []) e
 head_as h old mid e at new dst place n c shape enters entry runs view is same few packable fits serial room open_is head =
-    subst (λ (z : DomainView × ℕ × Entry). InitMay h.config z.0 at new (Set Register z.1 (record { value = Ref at; number = 0; more = 0 }) ∷ []) z.2) (λ i. (sym view i, sym same i, sym entry i)) record {
-      behind = λ other. absurd (other is);
-      head = λ _. enters _ _ (record {
-        own = refl;
-        acts = let a : Acts h.config old.view = subst (λ (k : Config). Acts k old.view) runs.here.1 runs.acts in record { goes_on = a.goes_on; runs = a.runs; paid = a.paid; unqueued = a.unqueued };
-        word = is;
-        packable = packable;
-        few_fields = fits;
-        head = head;
-        made = refl;
-        room = room;
-        opened = record { free = open_is.free; found = open_is.found; enough = open_is.enough };
-        serial = serial;
-        goes = few;
-        written = refl;
-        fits = (few, tt);
-      });
-    }
+    subst (λ (z : DomainView × ℕ × Entry). AllocEntry h.config z.0 at new (Set Register z.1 (record { value = Ref at; number = 0; more = 0 }) ∷ []) z.2) (λ i. (sym view i, sym same i, sym entry i)) (enters _ _ (record {
+      own = refl;
+      acts = let a : Acts h.config old.view = subst (λ (k : Config). Acts k old.view) runs.here.1 runs.acts in record { goes_on = a.goes_on; runs = a.runs; paid = a.paid; unqueued = a.unqueued };
+      word = is;
+      packable = packable;
+      few_fields = fits;
+      head = head;
+      made = refl;
+      room = room;
+      opened = record { free = open_is.free; found = open_is.found; enough = open_is.enough };
+      serial = serial;
+      goes = few;
+      written = refl;
+      fits = (few, tt);
+    }))
 
 pub head_may : (h : SharedHeap) (old : Token) (mid : DomainView) (e : Entry) (at new dst place tag n : ℕ) → e ≡ own_entry old (young_command dst tag n) → Runs h old
     → mid ≡ record old.view { seen = record old.view.seen { made = label_word old.view.own.number (old.view.own.serial + 1) ∷ replicate n 1 } } → at ≡ next_address h.config old.view → place ≡ dst → dst < 16 → IsBlockTag tag → 1 ≤ n → n ≤ 1022
     → old.view.own.serial + 1 < 2 ^ 32 → old.view.own.used + class_words (n + 2) ≤ h.config.minor_words → IsOpen h.config old.view → IsNewHead old.view.seen.share.colours old.view.seen.share.armed false (tagged n tag) new
-    → InitMay h.config mid at new (Set Register place (record { value = Ref at; number = 0; more = 0 }) ∷ []) e
+    → AllocEntry h.config mid at new (Set Register place (record { value = Ref at; number = 0; more = 0 }) ∷ []) e
 head_may h old mid e at new dst place tag n entry runs view is same few kind some fits serial room open_is head = ⊎_elim
     (λ (low : tag ≤ 245). head_as h old mid e at new dst place n (Alloc dst tag n) (PlainShape n tag) (λ x changes m. m) (entry ∙ ap (own_entry old) (plain_command dst tag n low)) runs view is same few (some, fits, (omega arith)) fits serial room open_is
     (subst (λ (z : Shape). IsNewHead old.view.seen.share.colours old.view.seen.share.armed false z new) (plain_shape n tag low) head))

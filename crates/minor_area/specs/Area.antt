@@ -49,7 +49,7 @@ pub record IsShut (k : Config) (x y : DomainView) : Type 0 where
   pub found : y.seen.free ≡ free ∷ x.seen.free
   pub few : free < reserve (sizes_in k)
 
--- it was looked once, and as many were found
+-- it was looked once, and as many are listed. Of these the reserve is free
 pub record IsOpened (k : Config) (x y : DomainView) : Type 0 where
   pub free : ℕ
   pub found : y.seen.free ≡ free ∷ x.seen.free

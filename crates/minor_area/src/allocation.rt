@@ -8,13 +8,12 @@ ghost use Rattle.heap_rule.specs.Places.{class_words};
 ghost use Rattle.steps_young.specs.Inits.{IsOpen};
 ghost use Rattle.heap_rule.specs.declared.phase.Kind.TheVariants.{Run};
 ghost use Rattle.heap_rule.specs.declared.phase.Stage.TheVariants.{In};
-ghost use Rattle.heap_rule.specs.declared.view.Hunt.TheVariants.{Rests};
 ghost use Rattle.heap_rule.specs.Token.{next_address};
 ghost use Rattle.heap_rule.specs.Running.{Runs, Did, own_entry};
 ghost use Rattle.heap_rule.specs.Token.{Holds, IsIn};
 ghost use Rattle.steps_marking.specs.Arming.{knowing_armed};
 ghost use Rattle.steps_marking.specs.Looks.{knowing_colours};
-ghost use Rattle.minor_area.specs.Area.{IsBlockTag, young_command, IsNewColour, Grows, HasRoom, IsOpened, FoundFree, Needs};
+ghost use Rattle.minor_area.specs.Area.{IsBlockTag, young_command, IsNewColour, Grows, HasRoom, IsOpened, Needs};
 
 use crate::Need;
 use heap_model::label::Label;
@@ -22,8 +21,8 @@ use heap_rule::{Change, Domain, Heap, Item, Part};
 use heap_words::{Head, Value, pack_head, pack_label, pack_value};
 use size_classes::reserve;
 use steps_marking::{armed_now, colours_now};
-use steps_pools::{draw_limit, free_load, listed_load};
-use steps_young::{init_store, word_store, words_of_class};
+use steps_pools::young_look;
+use steps_young::{head_store, word_store, words_of_class};
 
 // The colour of a new block of a minor area. While a cycle goes on beside running domains it is
 // marked, as all blocks of minor areas then are, and otherwise unmarked.
@@ -42,27 +41,37 @@ fn new_colour(heap: &Heap, dom: &mut Domain) -> u8
     }
 }
 
+// A young block that is to be made: so many fields, and the words of its size class.
+#[derive(Clone, Copy)]
+struct NewBlock {
+    tag: u8,
+    fields: u16,
+    words: u32,
+}
+
 // Writes a block for which there is room, in its area and in the pools: its label, its fields, each
 // the integer 0, and its head last, which has the colour of a new block, by what the domain knows.
 #[tactic(auto, unfolding(heap_rule::specs::Places::class_words))]
-fn write_block(heap: &Heap, dom: &mut Domain, dst: u8, tag: u8, fields: u16, colour: u8) -> Label
+fn write_block(heap: &Heap, dom: &mut Domain, dst: u8, block: NewBlock, colour: u8) -> Label
     ghost entry: { Entry }
-    requires entry { entry ≡ own_entry dom.old (young_command dst tag fields) }
+    requires entry { entry ≡ own_entry dom.old (young_command dst block.tag block.fields) }
     requires runs { Runs heap.now dom.old }
     requires dst { dst < 16 }
-    requires tag { IsBlockTag tag }
-    requires fields { (1 ≤ fields) × (fields ≤ 1022) }
+    requires tag { IsBlockTag block.tag }
+    requires fields { (1 ≤ block.fields) × (block.fields ≤ 1022) }
+    requires words { block.words ≡ class_words (block.fields + 2) }
     requires serial { dom.old.view.own.serial + 1 < 2 ^ 32 }
-    requires room { dom.old.view.own.used + class_words (fields + 2) ≤ heap.now.config.minor_words }
+    requires room { dom.old.view.own.used + class_words (block.fields + 2) ≤ heap.now.config.minor_words }
     requires opened { IsOpen heap.now.config dom.old.view }
     requires colour { IsNewColour dom.old.view colour }
-    ensures did { Did heap.now dom.old dom.new (young_command dst tag fields) (Block result) }
-    ensures grows { Grows dom.old dom.new (class_words (fields + 2)) }
+    ensures did { Did heap.now dom.old dom.new (young_command dst block.tag block.fields) (Block result) }
+    ensures grows { Grows dom.old dom.new (class_words (block.fields + 2)) }
     ensures free { dom.new.view.seen.free ≡ dom.old.view.seen.free }
     ensures registers { dom.new.view.own.registers ≡ slice_set dom.old.view.own.registers dst (Ref (next_address heap.now.config dom.old.view)) }
     ensures holds { Holds heap.now.config dom.new.view.own.registers }
 {
     let _limits = heap.config();
+    let NewBlock { tag, fields, words } = block;
     let label = Label {
         domain: dom.number(),
         serial: dom.labels_made() + 1,
@@ -87,23 +96,8 @@ fn write_block(heap: &Heap, dom: &mut Domain, dst: u8, tag: u8, fields: u16, col
             more: 0,
         },
     };
-    init_store(heap, dom, at, pack_head(head), &[holds]);
+    head_store(heap, dom, at, words, pack_head(head), &[holds]);
     label
-}
-
-// How many pools are free.
-fn find_free(heap: &Heap, dom: &mut Domain) -> u32
-    requires here { IsIn dom.old heap.now }
-    requires at_rest { dom.old.view.seen.hunt ≡ Rests }
-    requires runs { dom.old.view.seen.stage ≡ In Run }
-    ensures here { IsIn dom.new heap.now }
-    ensures found { FoundFree dom.old.view result dom.new.view }
-{
-    let _limits = heap.config();
-    let listed = listed_load(heap, dom) as u32;
-    let limit = draw_limit(heap, listed);
-    let cursor = free_load(heap, dom, listed);
-    listed - cursor.min(u64::from(limit)) as u32
 }
 
 /// Allocates a block of `fields` fields, each the integer 0, in the domain's minor area, and puts it
@@ -137,13 +131,15 @@ pub fn alloc_young(
 {
     let config = heap.config();
     let used = dom.area_used();
-    if words_of_class(usize::from(fields) + 2) > config.minor_words - used {
+    let words = words_of_class(usize::from(fields) + 2);
+    if words > config.minor_words - used {
         return Err(Need::AreaFull { used });
     }
-    let free = find_free(heap, dom);
+    let free = young_look(heap, dom) as u32;
     if free < reserve(config.domains, config.minor_words) {
         return Err(Need::Closed { free });
     }
     let colour = new_colour(heap, dom);
-    Ok(write_block(heap, dom, dst, tag, fields, colour))
+    let block = NewBlock { tag, fields, words };
+    Ok(write_block(heap, dom, dst, block, colour))
 }

@@ -1,12 +1,16 @@
 -- What the clauses of allocation and of taking pools refuse.
-use Rattle.std.proofs.Common.{◌≡◌, ◌∙◌, ℕ, suc, ◌+◌, ◌<◌, ◌≤◌, List, ◌∷◌, ◌++◌, length, sym, ap, arith}
+use Rattle.std.proofs.Common.{◌≡◌, ◌∙◌, ◌⊎◌, ⊎_elim, ℕ, suc, ◌+◌, ◌<◌, ◌≤◌, List, ◌∷◌, ◌++◌, length, get_or, Some, sym, ap, arith}
+use Rattle.std.proofs.Math.Seq.{get_or-append_seam}
+use Rattle.std.proofs.lemmas.List.{get_or_append_left}
 use Rattle.heap_rule.specs.declared.config.Config.{Config}
 use Rattle.heap_rule.specs.declared.view.DomainView.{DomainView}
+use Rattle.heap_rule.specs.declared.view.Hunt.{Hunt}
+use Rattle.heap_rule.specs.declared.view.Spare.{Spare}
 use Rattle.heap_rule.specs.Token.{Token, SharedHeap}
 use Rattle.heap_model.specs.Domains.{reserve}
 use Rattle.heap_rule.specs.Limits.{sizes_in}
 use Rattle.minor_area.specs.Area.{HasRoom, IsClosed, IsFull}
-use Rattle.size_pools.specs.Taken.{Unreserved}
+use Rattle.size_pools.specs.Taken.{FoundOwn, FoundSwept, HasPlace, KnowsNone, SweptFirst, Unreserved}
 use Rattle.domain_turns.specs.Tries.{HasNoPool}
 use Rattle.refusals.proofs.Finalisers.{lengths}
 
@@ -39,3 +43,47 @@ no_refusal_without_a_look k words x y none same =
     let all : m ≡ suc (length (none.reserved.found.0 ++ x.seen.free)) = ap (λ (l : List ℕ). length l) (sym same ∙ found) in
     let sum : length (none.reserved.found.0 ++ x.seen.free) ≡ n + m = lengths none.reserved.found.0 x.seen.free in
     omega (arith, all, sum)
+
+-- it isn't looked how many pools are free while a place of an own pool of the class is known to be free
+pub no_look_while_a_place_is_free : (k : Config) (class : ℕ) (x y : DomainView) (z : Spare) → x.seen.spare ≡ Some z → z.class ≡ class → HasPlace k class x y → y.seen.free ≡ x.seen.free
+no_look_while_a_place_is_free k class x y z is same has = ⊎_elim
+    (λ (own : FoundOwn k class x y). own.unseen)
+    (λ (other : (KnowsNone class x × Unreserved k x y) ⊎ FoundSwept k class x y). ⊎_elim
+    (λ (drew : KnowsNone class x × Unreserved k x y). absurd (drew.0 z is same))
+    (λ (swept : FoundSwept k class x y). absurd (swept.known z is same))
+    other)
+    has
+
+-- so own pools aren't swept before that place is taken
+pub no_sweep_while_a_place_is_free : (k : Config) (class : ℕ) (x y : DomainView) (hunt : Hunt) (z : Spare) → x.seen.spare ≡ Some z → z.class ≡ class → HasPlace k class x y → SweptFirst k x y hunt → ⊥
+no_sweep_while_a_place_is_free k class x y hunt z is same has first =
+    let few = first.scarce in
+    let n : ℕ = length (few.later ++ few.free ∷ few.earlier) in
+    let a : ℕ = length few.later in
+    let b : ℕ = length few.earlier in
+    let m : ℕ = length x.seen.free in
+    let some : n ≡ a + suc b = lengths few.later (few.free ∷ few.earlier) in
+    let all : m ≡ n + m = ap (λ (l : List ℕ). length l) (sym (no_look_while_a_place_is_free k class x y z is same has) ∙ few.found) ∙ lengths (few.later ++ few.free ∷ few.earlier) x.seen.free in
+    omega (arith, some, all)
+
+-- nor while each look of the call, which stand before those of earlier calls, finds more pools free than the reserve
+pub no_sweep_while_pools_are_free : (k : Config) (x y : DomainView) (hunt : Hunt) → SweptFirst k x y hunt → ((i : ℕ) → i + length x.seen.free < length y.seen.free → reserve (sizes_in k) < get_or y.seen.free i 0) → ⊥
+no_sweep_while_pools_are_free k x y hunt first many =
+    let few = first.scarce in
+    let new : List ℕ = few.later ++ few.free ∷ few.earlier in
+    let n : ℕ = length new in
+    let a : ℕ = length few.later in
+    let b : ℕ = length few.earlier in
+    let m : ℕ = length x.seen.free in
+    let y_long : ℕ = length y.seen.free in
+    let some : n ≡ a + suc b = lengths few.later (few.free ∷ few.earlier) in
+    let all : y_long ≡ n + m = ap (λ (l : List ℕ). length l) few.found ∙ lengths new x.seen.free in
+    let among : a < n = omega (arith, some) in
+    let at : get_or y.seen.free a 0 ≡ few.free = ap (λ (l : List ℕ). get_or l a 0) few.found ∙ (get_or_append_left new x.seen.free 0 a among ∙ get_or-append_seam few.later few.free few.earlier 0) in
+    let reserved : ℕ = reserve (sizes_in k) in
+    let found : ℕ = get_or y.seen.free a 0 in
+    let more : reserved < found = many a (omega (arith, some, all)) in
+    let free : ℕ = few.free in
+    let less : free ≤ reserved = few.few in
+    let same : found ≡ free = at in
+    omega (arith, more, less, same)

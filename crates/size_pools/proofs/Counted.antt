@@ -13,7 +13,7 @@ use Rattle.steps_pools.specs.Takes.{LeavesSpare, NoneFree}
 use Rattle.sweeper.specs.Pruning.{Shortens}
 use Rattle.sweeper.specs.Sweeping.{SweptAll, with_sweep}
 use Rattle.sweeper.specs.Walks.{IsWalk}
-use Rattle.size_pools.specs.Taken.{CountedFree, FoundOwn, HasPlace, Hunted, KnowsNone, Reserved, Searched, Sought, SweptFirst, Taken, Took, Unreserved}
+use Rattle.size_pools.specs.Taken.{CountedFree, FoundFew, FoundOwn, HasPlace, Hunted, KnowsNone, Reserved, Searched, Sought, SweptFirst, Taken, Took, Unreserved}
 
 -- nothing was looked at before
 pub counted_later : (free : ℕ) (x v y : DomainView) → v.seen.free ≡ x.seen.free → CountedFree free v y → CountedFree free x y
@@ -58,11 +58,15 @@ module _ (k : Config) (class : ℕ) (x v w y : DomainView) (before : ℕ) (h : H
   counted_swept : CountedFree before x w
   counted_swept = (none.found.0, ap (λ (z : DomainView). z.seen.free) s.view ∙ none.found.1)
 
+  -- that look stands behind those of the next one
+  few_found : (later : List ℕ) → y.seen.free ≡ later ++ w.seen.free → FoundFew k x y
+  few_found later on = record { free = before; later = later; earlier = counted_swept.0; found = on ∙ (ap (λ (l : List ℕ). later ++ l) counted_swept.1 ∙ sym (append_assoc later (before ∷ counted_swept.0) x.seen.free)); few = none.few }
+
   -- whatever the next one found
-  swept_first : (hunt : Hunt) → Hunted w y hunt → (free : ℕ) × CountedFree free x y → SweptFirst k x y hunt
-  swept_first hunt next counted = record {
+  swept_first : (hunt : Hunt) → Hunted w y hunt → FoundFew k x y → SweptFirst k x y hunt
+  swept_first hunt next few = record {
     left = left_first;
-    counted = counted;
+    scarce = few;
     view = next ∙ (ap (λ (z : DomainView). hunting_free z y.own.looked hunt y.seen.free) s.view ∙ (ap (λ (z : DomainView). hunting_free (with_sweep z w) y.own.looked hunt y.seen.free) h ∙ (λ i. hunting_free (with_sweep x (sym next i)) y.own.looked hunt y.seen.free)));
     shortens = let t : Shortens (hunting_free x v.own.looked Rests v.seen.free) w = subst (λ (z : DomainView). Shortens z w) h s.shortens in
         subst (Shortens x) (sym next) (let u : Shortens x (hunting_free w y.own.looked hunt y.seen.free) = record { among = t.among; room = t.room; no_less = t.no_less } in u);
@@ -78,7 +82,7 @@ module _ (k : Config) (class : ℕ) (x v w y : DomainView) (before : ℕ) (h : H
   counted_own o = (counted_swept.0, o.unseen ∙ counted_swept.1)
 
   -- a place was found
-  module _ (a : ℕ) (t : Took k class a w y) (place : FoundOwn k class w y ⊎ Unreserved k w y) where
+  module _ (a : ℕ) (t : Took k class a w y) (place : FoundOwn k class w y ⊎ (KnowsNone class w × Unreserved k w y)) where
     pub taken_swept : Taken k class a x y
     taken_swept = record {
       pool = t.pool;
@@ -87,21 +91,22 @@ module _ (k : Config) (class : ℕ) (x v w y : DomainView) (before : ℕ) (h : H
       below = t.below;
       address = t.address;
       view = inr (swept_first (Fills t.pool class t.slot []) t.view (⊎_elim
-          (λ (o : FoundOwn k class w y). (before, counted_own o))
-          (λ (u : Unreserved k w y). (u.free, counted_again u.free before x w y counted_swept u.found))
+          (λ (o : FoundOwn k class w y). few_found [] o.unseen)
+          (λ (u : KnowsNone class w × Unreserved k w y). few_found (u.1.free ∷ u.1.found.0) u.1.found.1)
           place));
       next = t.next;
     }
 
-    pub place_swept : HasPlace k class x y
-    place_swept = ⊎_elim
+    pub place_swept : KnowsNone class x → HasPlace k class x y
+    place_swept known = ⊎_elim
         (λ (o : FoundOwn k class w y). inr (inr (record {
+          known = known;
           left = left_first;
           done = subst (λ (q : Swept). k.pools ≤ q.spot.pool) (sym (ap (λ (z : DomainView). z.own.swept) t.view)) s.done;
           free = before;
           reserved = record { found = counted_own o; few = none.few };
         })))
-        (λ (u : Unreserved k w y). inr (inl (unreserved_again k before x w y counted_swept u)))
+        (λ (u : KnowsNone class w × Unreserved k w y). inr (inl (known, unreserved_again k before x w y counted_swept u.1)))
         place
 
   -- or none was
@@ -110,7 +115,7 @@ module _ (k : Config) (class : ℕ) (x v w y : DomainView) (before : ℕ) (h : H
     reserved_swept = reserved_again k free before x w y counted_swept r
 
     pub sought_swept : Hunted w y Rests → Sought k x y Rests
-    sought_swept next = inr (swept_first Rests next (free, counted_again free before x w y counted_swept r.found))
+    sought_swept next = inr (swept_first Rests next (few_found (free ∷ r.found.0) r.found.1))
 
 -- two facts of a call's answer give a third
 pub both_ok : {T E : Type 0} {P Q R : T → Type 0} (r : Result T E) → ((x : T) → P x → Q x → R x) → IfOk r P → IfOk r Q → IfOk r R

@@ -68,7 +68,7 @@ some_pool : (p q : ℕ) → ◌≡◌ {A = Option ℕ} (Some p) (Some q) → p �
 some_pool p q e = cc
 
 -- the cursor was below the limit at a load, and at the add that drew the pool
-pub drew_pool : (k : Config) (x v1 v2 y : DomainView) (count found place class : ℕ) → ListedTold k x count v1 → CursorTold k count (Asks count) v1 found v2 → found < limit_of k count → Drew k place class v2 y → DrewPool k place class x y
+pub drew_pool : (k : Config) (x v1 v2 y : DomainView) (count found place class : ℕ) → ListedTold k x count v1 → CursorTold k count v1 found v2 → found < limit_of k count → Drew k place class v2 y → DrewPool k place class x y
 drew_pool k x v1 v2 y count found place class listed told below d =
     let e2 = told.below below in
     let h1 : Hunted x v1 (Counts count) = hunted_of x v1 x.own.looked (Counts count) listed.view in

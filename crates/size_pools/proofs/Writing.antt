@@ -36,7 +36,7 @@ use Rattle.heap_rule.specs.Token.{Token, SharedHeap, IsIn}
 use Rattle.heap_rule.proofs.Calls.{acting_did}
 use Rattle.heap_rule.proofs.Classes.{slot_inside, size_is}
 use Rattle.size_pools.specs.NewMarks.{AreNewMarks}
-use Rattle.size_pools.specs.Taken.{FoundOwn, FoundSwept, Grows, GrowsBy, HasPlace, IsBusy, IsRoom, MaySweep, PutsPlace, Searched, Sought, Taken, Unreserved}
+use Rattle.size_pools.specs.Taken.{FoundOwn, FoundSwept, Grows, GrowsBy, HasPlace, IsBusy, IsRoom, KnowsNone, MaySweep, PutsPlace, Searched, Sought, Taken, Unreserved}
 use Rattle.size_classes.specs.Table.{IsLeastFor}
 use Rattle.size_classes.specs.declared.TheConstants.{SIZES}
 use Rattle.steps_pools.proofs.Plain.{major_rest}
@@ -216,9 +216,9 @@ taken_puts k class a n dst old mid new least t registers = record {
 pub has_still : (k : Config) (class : ℕ) (x y z : DomainView) → HasPlace k class x y → z.seen.free ≡ y.seen.free → z.own.swept ≡ y.own.swept → HasPlace k class x z
 has_still k class x y z has same next = ⊎_elim
     (λ (o : FoundOwn k class x y). inl (record { left = o.left; unseen = same ∙ o.unseen }))
-    (λ (u : Unreserved k x y ⊎ FoundSwept k x y). inr (⊎_elim
-    (λ (u : Unreserved k x y). inl (record { free = u.free; found = (u.found.0, same ∙ u.found.1); more = u.more }))
-    (λ (f : FoundSwept k x y). inr (record { left = f.left; done = subst (λ (s : Swept). k.pools ≤ s.spot.pool) (sym next) f.done; free = f.free; reserved = record { found = (f.reserved.found.0, same ∙ f.reserved.found.1); few = f.reserved.few } }))
+    (λ (u : (KnowsNone class x × Unreserved k x y) ⊎ FoundSwept k class x y). inr (⊎_elim
+    (λ (u : KnowsNone class x × Unreserved k x y). inl (u.0, record { free = u.1.free; found = (u.1.found.0, same ∙ u.1.found.1); more = u.1.more }))
+    (λ (f : FoundSwept k class x y). inr (record { known = f.known; left = f.left; done = subst (λ (s : Swept). k.pools ≤ s.spot.pool) (sym next) f.done; free = f.free; reserved = record { found = (f.reserved.found.0, same ∙ f.reserved.found.1); few = f.reserved.few } }))
     u))
     has
 

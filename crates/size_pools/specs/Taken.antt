@@ -49,25 +49,34 @@ pub record FoundOwn (k : Config) (class : ℕ) (x y : DomainView) : Type 0 where
   pub left : (spot_at x.own.looked class).pool < k.pools
   pub unseen : y.seen.free ≡ x.seen.free
 
--- no more pools were found free than the reserve, own pools were left to be swept, and after all of these were swept a place was found
-pub record FoundSwept (k : Config) (x y : DomainView) : Type 0 where
+-- no place of an own pool of the class was known to be free, no more pools were found free than the reserve, own pools were left to be swept, and after all of these were swept a place was found
+pub record FoundSwept (k : Config) (class : ℕ) (x y : DomainView) : Type 0 where
+  pub known : KnowsNone class x
   pub left : x.own.swept.spot.pool < k.pools
   pub done : k.pools ≤ y.own.swept.spot.pool
   pub free : ℕ
   pub reserved : Reserved k free x y
 
--- where a free place may come from: a place of an own pool was found, more pools were found free than the reserve, or a place was found after a sweep
+-- where a free place may come from: a place of an own pool was found. Else no such place of the class was known to be free, and more pools were found free than the reserve, or a place was found after a sweep
 abbrev pub HasPlace : Config → ℕ → DomainView → DomainView → Type 0
-HasPlace k class x y = FoundOwn k class x y ⊎ Unreserved k x y ⊎ FoundSwept k x y
+HasPlace k class x y = FoundOwn k class x y ⊎ (KnowsNone class x × Unreserved k x y) ⊎ FoundSwept k class x y
 
 -- all but what the domain knows of pools and what a sweep changes is as before
 abbrev pub Searched : DomainView → DomainView → Hunt → Type 0
 Searched x y hunt = y ≡ hunting_free (with_sweep x y) y.own.looked hunt y.seen.free
 
--- It was looked at how many pools are free. Own pools were left to be swept, and all of these were swept, each place once, before the search ended. What is listed was listed before, and there is room for as many more as are no longer
+-- one of the looks between found no more pools free than the reserve. Later looks stand before it
+pub record FoundFew (k : Config) (x y : DomainView) : Type 0 where
+  pub free : ℕ
+  pub later : List ℕ
+  pub earlier : List ℕ
+  pub found : y.seen.free ≡ later ++ free ∷ earlier ++ x.seen.free
+  pub few : free ≤ reserve (sizes_in k)
+
+-- A look found no more pools free than the reserve. Own pools were left to be swept, and all of these were swept, each place once, before the search ended. What is listed was listed before, and there is room for as many more as are no longer
 pub record SweptFirst (k : Config) (x y : DomainView) (hunt : Hunt) : Type 0 where
   pub left : x.own.swept.spot.pool < k.pools
-  pub counted : (free : ℕ) × CountedFree free x y
+  pub scarce : FoundFew k x y
   pub view : Searched x y hunt
   pub shortens : Shortens x y
   pub places : List Spot

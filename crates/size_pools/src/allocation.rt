@@ -95,9 +95,10 @@ fn write_block(heap: &Heap, dom: &mut Domain, at: u32, dst: u8, tag: u8, fields:
 /// 4,294,967,295 labels were made, and no finaliser waits in the domain's queue.
 ///
 /// `NoPool` exactly where no own pool of the block's class has a free block, no own pool is left to be
-/// swept, and the number of pools that were free at the last look of this call is at most the reserve of promotion. Then
-/// no entry stands, and nothing changes but the places that were looked at and what a sweep of own pools
-/// changes.
+/// swept, and the number of pools that were free at the last look of this call is at most the reserve of
+/// promotion. Then no entry stands, and nothing changes but the places that were looked at and what a
+/// sweep of own pools changes. Own pools are swept only where a look of this call found no more pools
+/// free than the reserve, and it is looked only where no own pool of the class has a free block.
 pub fn alloc_major(
     heap: &Heap,
     dom: &mut Domain,

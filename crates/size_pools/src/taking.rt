@@ -24,7 +24,7 @@ fn find_or_draw(heap: &Heap, dom: &mut Domain, class: u32) -> Result<u32, NoPool
     requires runs { dom.old.view.seen.stage ≡ In Run }
     ensures here { IsIn dom.new heap.now }
     ensures took { IfOk result (λ a. Took heap.now.config class a dom.old.view dom.new.view) }
-    ensures has_place { OnOk result (FoundOwn heap.now.config class dom.old.view dom.new.view ⊎ Unreserved heap.now.config dom.old.view dom.new.view) }
+    ensures has_place { OnOk result (FoundOwn heap.now.config class dom.old.view dom.new.view ⊎ (KnowsNone class dom.old.view × Unreserved heap.now.config dom.old.view dom.new.view)) }
     ensures reserved { IfErr result (λ n. Reserved heap.now.config n.free dom.old.view dom.new.view) }
     ensures none_free { OnErr result (NoneFree heap.now.config dom.new.view class) }
     ensures known { OnErr result (KnowsNone class dom.old.view) }
@@ -44,8 +44,9 @@ fn find_or_draw(heap: &Heap, dom: &mut Domain, class: u32) -> Result<u32, NoPool
 /// `NoPool` exactly where no own pool of the class has a free block, no own pool is left to be swept,
 /// and the number of pools that were free at the last look of this call is at most the reserve of
 /// promotion. So it doesn't come where a place of the class is known to be free, as one is to domain 0
-/// when the heap starts. It is looked how many pools are free only where no own pool of the class has a
-/// free block.
+/// when the heap starts. There it isn't looked how many pools are free, and nothing is swept: it is
+/// looked only where no own pool of the class has a free block, and swept only where a look of this call
+/// found no more pools free than the reserve.
 pub fn take(heap: &Heap, dom: &mut Domain, class: u32) -> Result<u32, NoPool>
     requires here { IsIn dom.old heap.now }
     requires class { class < class_count }

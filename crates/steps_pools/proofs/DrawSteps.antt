@@ -111,7 +111,7 @@ module _ (k : Config) (s : Words) (r : Rule k s) (id : ℕ) (hist : List Entry) 
   BoundsFree n c f = (n ≤ f + c) × (n ≤ f + limit_of k n) × (f ≤ n)
 
   -- where the cursor is below the limit, and where it is past it
-  pub below_bounds : (n c : ℕ) → c < limit_of k n → BoundsFree n c (n - c)
+  below_bounds : (n c : ℕ) → c < limit_of k n → BoundsFree n c (n - c)
   below_bounds n c below = let l : ℕ = limit_of k n in let p : c < l = below in (omega arith, (let a : n ≤ n - c + l = omega arith in a), omega arith)
 
   pub past_bounds : (n c : ℕ) → limit_of k n ≤ c → BoundsFree n c (n - limit_of k n)
@@ -192,9 +192,9 @@ module _ (k : Config) (s : Words) (r : Rule k s) (id : ℕ) (hist : List Entry) 
   pub listed_rule : HasNoDraw x → Rule k record { words = s.words; homes = s.homes; views = set s.views id (one k hist (with_hunt x (Counts (listed s.words)))) }
   listed_rule free = knows x.own.looked (Counts (listed s.words)) (next_hunter (Counts (listed s.words)) refl free)
 
-  -- as many are free as the load of the cursor found, and the domain takes no more
-  pub rests_rule : x.seen.stage ≡ In Run → (n f : ℕ) → x.seen.hunt ≡ Counts n → BoundsFree n (cursor s.words) f → Rule k record { words = s.words; homes = s.homes; views = set s.views id (one k hist (found_free x f Rests)) }
-  rests_rule runs n f is bounds = holds_again k s r id hist x at x.own.looked Rests (f ∷ x.seen.free) s.words t record {
+  -- no more pools are free than a look found, and the domain takes none
+  looked_rule : x.seen.stage ≡ In Run → HasNoDraw x → (f : ℕ) → BoundsFree (listed s.words) (cursor s.words) f → Rule k record { words = s.words; homes = s.homes; views = set s.views id (one k hist (found_free x f Rests)) }
+  looked_rule runs none f bounds = holds_again k s r id hist x at x.own.looked Rests (f ∷ x.seen.free) s.words t record {
     takes = takes;
     known_free = λ stays. absurd (stays runs);
     wide = refl;
@@ -216,10 +216,22 @@ module _ (k : Config) (s : Words) (r : Rule k s) (id : ℕ) (hist : List Entry) 
     grid = r.whole.grid;
     drawers = r.whole.drawers;
     makings = λ z p. p;
-    hunter = hunter_on k t s.words x x.own.looked Rests (f ∷ x.seen.free) tt (ap drawn_in is) hunter.taken
-        (λ g e. subst (BoundsFree (listed s.words) (cursor s.words)) (same_Some f g e) (subst (λ (m : ℕ). BoundsFree m (cursor s.words) f) (sym (subst (Hunts k t s.words me) is hunter.hunt)) bounds)) hunter;
+    hunter = hunter_on k t s.words x x.own.looked Rests (f ∷ x.seen.free) tt none hunter.taken
+        (λ g e. subst (BoundsFree (listed s.words) (cursor s.words)) (same_Some f g e) bounds) hunter;
     hunters = λ z _ g. g.hunter;
   }
+
+  -- as many are free as the load of the cursor found
+  pub rests_rule : x.seen.stage ≡ In Run → (n f : ℕ) → x.seen.hunt ≡ Counts n → BoundsFree n (cursor s.words) f → Rule k record { words = s.words; homes = s.homes; views = set s.views id (one k hist (found_free x f Rests)) }
+  rests_rule runs n f is bounds = looked_rule runs (ap drawn_in is) f (subst (λ (m : ℕ). BoundsFree m (cursor s.words) f) (sym (subst (Hunts k t s.words me) is hunter.hunt)) bounds)
+
+  -- no more are free than are listed
+  pub young_rule : x.seen.stage ≡ In Run → HasNoDraw x → Rule k record { words = s.words; homes = s.homes; views = set s.views id (one k hist (found_free x (listed s.words) Rests)) }
+  young_rule runs none =
+      let n : ℕ = listed s.words in
+      let c : ℕ = cursor s.words in
+      let l : ℕ = limit_of k n in
+      looked_rule runs none n ((let a : n ≤ n + c = omega arith in a), (let a : n ≤ n + l = omega arith in a), (let a : n ≤ n = omega arith in a))
 
   asking_small : (d : ℕ) → over me 1 t.asking d ≤ 1
   asking_small d = dite (ℕ_discrete d me)

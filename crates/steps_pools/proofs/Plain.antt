@@ -31,8 +31,8 @@ use Rattle.heap_model.specs.declared.reply.Applied.TheVariants.{Replied}
 use Rattle.heap_model.specs.declared.reply.Reply.TheVariants.{Block}
 
 -- loads and adds of the cursor leave the token's own data
-pub cursor_own : (k : Config) (count : ℕ) (hunt : Hunt) (x : DomainView) (found : ℕ) (y : DomainView) → CursorTold k count hunt x found y → y.own ≡ x.own
-cursor_own k count hunt x found y told = dite (dec_le (limit_of k count) found)
+pub cursor_own : (k : Config) (count : ℕ) (x : DomainView) (found : ℕ) (y : DomainView) → CursorTold k count x found y → y.own ≡ x.own
+cursor_own k count x found y told = dite (dec_le (limit_of k count) found)
     (λ past. ap (λ (z : DomainView). z.own) (told.past past))
     (λ not_past. ap (λ (z : DomainView). z.own) (told.below (lt_of_not-le not_past)))
 
@@ -42,8 +42,8 @@ cursor_add_own k count class x found y told = dite (dec_le (limit_of k count) fo
     (λ not_past. ap (λ (z : DomainView). z.own) (told.below (lt_of_not-le not_past)).view)
 
 -- and the front
-pub cursor_front : (k : Config) (count : ℕ) (hunt : Hunt) (x : DomainView) (found : ℕ) (y : DomainView) → CursorTold k count hunt x found y → IsFrontOf x.own.number y.seen.front x.seen.front
-cursor_front k count hunt x found y told = dite (dec_le (limit_of k count) found)
+pub cursor_front : (k : Config) (count : ℕ) (x : DomainView) (found : ℕ) (y : DomainView) → CursorTold k count x found y → IsFrontOf x.own.number y.seen.front x.seen.front
+cursor_front k count x found y told = dite (dec_le (limit_of k count) found)
     (λ past. front_same x y (ap (λ (z : DomainView). z.seen.front) (told.past past)))
     (λ not_past. front_same x y (ap (λ (z : DomainView). z.seen.front) (told.below (lt_of_not-le not_past))))
 

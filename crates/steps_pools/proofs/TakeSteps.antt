@@ -17,9 +17,9 @@ use Rattle.heap_rule.specs.Views.{one, Tells}
 use Rattle.heap_rule.specs.Raw.{MayStep, MayStore}
 use Rattle.heap_rule.specs.Rule.{Rule}
 use Rattle.heap_rule.specs.Pools.{Takes, owned, owner_word, Hunts, drawn_in, place_in, blocks_of, limit_of}
-use Rattle.steps_pools.specs.Takes.{with_hunt, found_free, looked_to, HasNoDraw, ListedTold, CursorTold, CursorAddTold, CopyDrawMay, CopyDrawTold, ListMay, ListTold, ClearMay, ClearTold, OwnedTold, FillTold, cleared_more, OwnerMay, OwnerLoadMay, OwnerTold, PlaceMay, PlaceTold, FillMay, filled, NoneFree}
+use Rattle.steps_pools.specs.Takes.{with_hunt, found_free, looked_to, HasNoDraw, ListedTold, CursorTold, YoungMay, YoungTold, CursorAddTold, CopyDrawMay, CopyDrawTold, ListMay, ListTold, ClearMay, ClearTold, OwnedTold, FillTold, cleared_more, OwnerMay, OwnerLoadMay, OwnerTold, PlaceMay, PlaceTold, FillMay, filled, NoneFree}
 use Rattle.heap_rule.proofs.Keeps.{unmoved, looks, mine, my_good}
-use Rattle.steps_pools.proofs.DrawSteps.{hunter, leaves_spare, listed_rule, asks_rule, rests_rule, below_bounds, past_bounds, add_whole, add_late_rule, add_draws_rule, add_place_inside, add_pool_inside, copy_whole, copy_draws_rule, copy_place_inside, copy_pool_inside}
+use Rattle.steps_pools.proofs.DrawSteps.{hunter, leaves_spare, listed_rule, asks_rule, rests_rule, young_rule, past_bounds, add_whole, add_late_rule, add_draws_rule, add_place_inside, add_pool_inside, copy_whole, copy_draws_rule, copy_place_inside, copy_pool_inside}
 use Rattle.steps_pools.proofs.Rooms.{all_used, pool_left}
 use Rattle.steps_pools.proofs.WalkSteps.{walks_rule, passes_rule, takes_rule, full_rule, last_rule, clears_rule, owns_rule, fills_rule}
 use Rattle.std.proofs.Math.Nat.{not-le_of_lt}
@@ -35,26 +35,24 @@ listeds k slots id hist x runs free s r _ at _ =
 pub listed_may : (k : Config) (x : DomainView) (runs : x.seen.stage ≡ In Run) → HasNoDraw x → MayStep k x 6 (λ n. n) (ListedTold k)
 listed_may k x runs free fits slots id h = listeds k slots id h x runs free
 
-cursors : (k : Config) (slots id : ℕ) (hist : List Entry) (x : DomainView) (runs : x.seen.stage ≡ In Run) (count : ℕ) → x.seen.hunt ≡ Counts count → Allows (Rule k) slots id (one k hist x, []) 7 (λ n. n) (Tells (CursorTold k count (Asks count)) (one k hist x, []))
+cursors : (k : Config) (slots id : ℕ) (hist : List Entry) (x : DomainView) (runs : x.seen.stage ≡ In Run) (count : ℕ) → x.seen.hunt ≡ Counts count → Allows (Rule k) slots id (one k hist x, []) 7 (λ n. n) (Tells (CursorTold k count) (one k hist x, []))
 cursors k slots id hist x runs count hunt s r _ at _ = dite (dec_le (limit_of k count) (cursor s.words))
     (λ past. let y : DomainView = found_free x (count - limit_of k count) Rests in
     (one k hist y, keeps, tt, unmoved k s 7 (set s.views id (one k hist y)) (rests_rule k s r id hist x at (inl runs) runs count (count - limit_of k count) hunt (past_bounds k s r id hist x at (inl runs) count (cursor s.words) past)), (record { below = λ b. absurd (not-le_of_lt b past); past = λ p. refl }, refl)))
     (λ not_past. let below : cursor s.words < limit_of k count = lt_of_not-le not_past in let y : DomainView = found_free x (count - cursor s.words) (Asks count) in
     (one k hist y, keeps, tt, unmoved k s 7 (set s.views id (one k hist y)) (asks_rule k s r id hist x at (inl runs) runs count hunt below), (record { below = λ b. refl; past = λ p. absurd (not_past p) }, refl)))
 
-pub cursor_may : (k : Config) (x : DomainView) (runs : x.seen.stage ≡ In Run) (count : ℕ) → x.seen.hunt ≡ Counts count → MayStep k x 7 (λ n. n) (CursorTold k count (Asks count))
+pub cursor_may : (k : Config) (x : DomainView) (runs : x.seen.stage ≡ In Run) (count : ℕ) → x.seen.hunt ≡ Counts count → MayStep k x 7 (λ n. n) (CursorTold k count)
 cursor_may k x runs count hunt fits slots id h = cursors k slots id h x runs count hunt
 
--- a domain that takes no pool looks how many are free
-looks_free : (k : Config) (slots id : ℕ) (hist : List Entry) (x : DomainView) (runs : x.seen.stage ≡ In Run) (count : ℕ) → x.seen.hunt ≡ Counts count → Allows (Rule k) slots id (one k hist x, []) 7 (λ n. n) (Tells (CursorTold k count Rests) (one k hist x, []))
-looks_free k slots id hist x runs count hunt s r _ at _ = dite (dec_le (limit_of k count) (cursor s.words))
-    (λ past. let y : DomainView = found_free x (count - limit_of k count) Rests in
-    (one k hist y, keeps, tt, unmoved k s 7 (set s.views id (one k hist y)) (rests_rule k s r id hist x at (inl runs) runs count (count - limit_of k count) hunt (past_bounds k s r id hist x at (inl runs) count (cursor s.words) past)), (record { below = λ b. absurd (not-le_of_lt b past); past = λ p. refl }, refl)))
-    (λ not_past. let below : cursor s.words < limit_of k count = lt_of_not-le not_past in let y : DomainView = found_free x (count - cursor s.words) Rests in
-    (one k hist y, keeps, tt, unmoved k s 7 (set s.views id (one k hist y)) (rests_rule k s r id hist x at (inl runs) runs count (count - cursor s.words) hunt (below_bounds k s r id hist x at (inl runs) count (cursor s.words) below)), (record { below = λ b. refl; past = λ p. absurd (not_past p) }, refl)))
+-- a domain that is to make a young block looks how many are listed
+youngs : (k : Config) (slots id : ℕ) (hist : List Entry) (x : DomainView) → YoungMay k x → Allows (Rule k) slots id (one k hist x, []) 6 (λ n. n) (Tells (YoungTold k) (one k hist x, []))
+youngs k slots id hist x may s r _ at _ =
+    let y : DomainView = found_free x (listed s.words) Rests in
+    (one k hist y, keeps, tt, unmoved k s 6 (set s.views id (one k hist y)) (young_rule k s r id hist x at (inl may.acts.runs) may.acts.runs may.at_rest), (record { few = r.whole.pools.few; view = refl }, refl))
 
-pub free_may : (k : Config) (x : DomainView) (runs : x.seen.stage ≡ In Run) (count : ℕ) → x.seen.hunt ≡ Counts count → MayStep k x 7 (λ n. n) (CursorTold k count Rests)
-free_may k x runs count hunt fits slots id h = looks_free k slots id h x runs count hunt
+pub young_may : (k : Config) (x : DomainView) → YoungMay k x → MayStep k x 6 (λ n. n) (YoungTold k)
+young_may k x may fits slots id h = youngs k slots id h x may
 
 cursor_adds : (k : Config) (slots id : ℕ) (hist : List Entry) (x : DomainView) (runs : x.seen.stage ≡ In Run) (count class : ℕ) → x.seen.hunt ≡ Asks count → class < class_count → NoneFree k x class → Allows (Rule k) slots id (one k hist x, []) 7 (λ n. (n + 1) % 2 ^ 64) (Tells (CursorAddTold k count class) (one k hist x, []))
 cursor_adds k slots id hist x runs count class hunt few none_free s r _ at _ =

@@ -13,14 +13,14 @@ use Rattle.heap_rule.specs.declared.change.Change.{Change}
 use Rattle.heap_rule.specs.declared.config.Config.{Config}
 use Rattle.heap_rule.specs.declared.view.DomainView.{DomainView}
 use Rattle.heap_rule.specs.declared.view.Hunt.{Hunt}
-use Rattle.heap_rule.specs.declared.view.Hunt.TheVariants.{Rests, Counts, Draws, Walks, Fills}
+use Rattle.heap_rule.specs.declared.view.Hunt.TheVariants.{Rests, Counts, Asks, Draws, Walks, Fills}
 use Rattle.heap_rule.specs.declared.view.Spare.{Spare}
 use Rattle.heap_rule.specs.declared.view.Spot.{Spot}
 use Rattle.heap_rule.specs.declared.phase.Kind.TheVariants.{Promote}
 use Rattle.heap_rule.specs.declared.phase.Stage.TheVariants.{In}
 use Rattle.heap_rule.specs.Copies.{known}
 use Rattle.heap_rule.specs.Limits.{sizes_in}
-use Rattle.heap_rule.specs.Places.{Place, IsNewHead}
+use Rattle.heap_rule.specs.Places.{Place, IsNewHead, class_words}
 use Rattle.heap_rule.specs.Changes.{changed, FitChanges}
 use Rattle.heap_rule.specs.Pools.{size_of, blocks_of, place_in, owner_word, owned, limit_of, drawn_in, prepared_at, spot_at, hunting_free, hunting}
 use Rattle.heap_rule.specs.Token.{next_label}
@@ -57,9 +57,23 @@ pub record ListedTold (k : Config) (x : DomainView) (found : ℕ) (y : DomainVie
 abbrev pub found_free : DomainView → ℕ → Hunt → DomainView
 found_free x free hunt = hunting_free x x.own.looked hunt (free ∷ x.seen.free)
 
--- a load of the cursor tells how many pools are free: those behind it, or those of the reserve where it is past the limit. Where it is below the limit, the domain goes on so
-pub record CursorTold (k : Config) (count : ℕ) (hunt : Hunt) (x : DomainView) (found : ℕ) (y : DomainView) : Type 0 where
-  pub below : found < limit_of k count → y ≡ found_free x (count - found) hunt
+-- the domain runs commands, is to make a young block with fields, for which its minor area has room, and draws no pool
+pub record YoungMay (k : Config) (x : DomainView) : Type 0 where
+  pub acts : Acts k x
+  pub idle : x.seen.made ≡ []
+  pub at_rest : HasNoDraw x
+  pub fields : ℕ
+  pub some : 1 ≤ fields
+  pub room : x.own.used + class_words (fields + 2) ≤ k.minor_words
+
+-- a look at how many pools are listed. No more are free, and of these those of the reserve are, as far as they are listed
+pub record YoungTold (k : Config) (x : DomainView) (found : ℕ) (y : DomainView) : Type 0 where
+  pub few : found ≤ k.pools
+  pub view : y ≡ found_free x found Rests
+
+-- a load of the cursor tells how many pools are free: those behind it, or those of the reserve where it is past the limit. Where it is below the limit, the domain asks for one
+pub record CursorTold (k : Config) (count : ℕ) (x : DomainView) (found : ℕ) (y : DomainView) : Type 0 where
+  pub below : found < limit_of k count → y ≡ found_free x (count - found) (Asks count)
   pub past : limit_of k count ≤ found → y ≡ found_free x (count - limit_of k count) Rests
 
 -- the pool at the place that the cursor named is drawn

@@ -12,8 +12,8 @@ pub use listing::{
     owner_look,
 };
 pub use taking::{
-    clear_store, copy_draw, cursor_add, cursor_load, draw_limit, ephe_store, fill_store, free_load,
-    head_store, list_load, listed_load, owner_store,
+    clear_store, copy_draw, cursor_add, cursor_load, draw_limit, ephe_store, fill_store,
+    head_store, list_load, listed_load, owner_store, young_look,
 };
 pub use walking::{
     class_blocks, class_size, owner_load, owner_word, place_address, place_behind, place_load,

@@ -4,11 +4,11 @@ ghost use Rattle.heap_model.specs.Domains.{class_count, reserve as reserve_of};
 ghost use Rattle.heap_model.specs.declared.entry.Entry.{Entry};
 ghost use Rattle.heap_rule.specs.declared.phase.Kind.TheVariants.{Run};
 ghost use Rattle.heap_rule.specs.declared.phase.Stage.TheVariants.{In};
-ghost use Rattle.heap_rule.specs.declared.view.Hunt.TheVariants.{Rests, Counts, Asks};
+ghost use Rattle.heap_rule.specs.declared.view.Hunt.TheVariants.{Counts, Asks};
 ghost use Rattle.heap_rule.specs.Limits.{sizes_in};
 ghost use Rattle.heap_rule.specs.Pools.{Takes, limit_of};
 ghost use Rattle.heap_rule.specs.Standing.{IsInHeap};
-ghost use Rattle.steps_pools.specs.Takes.{HasNoDraw, NoneFree, ListedTold, CursorTold, CursorAddTold, CopyDrawMay, CopyDrawTold, ListMay, ListTold, ClearMay, ClearTold, OwnerMay, OwnedTold, FillMay, FillTold, MajorEntry, MajorTold};
+ghost use Rattle.steps_pools.specs.Takes.{HasNoDraw, NoneFree, ListedTold, CursorTold, YoungMay, YoungTold, CursorAddTold, CopyDrawMay, CopyDrawTold, ListMay, ListTold, ClearMay, ClearTold, OwnerMay, OwnedTold, FillMay, FillTold, MajorEntry, MajorTold};
 ghost use Rattle.heap_rule.specs.Token.{IsIn};
 ghost use Rattle.steps_pools.specs.Ephemerons.{EpheEntry, EpheTold};
 
@@ -129,20 +129,20 @@ pub fn cursor_load(heap: &Heap, dom: &mut Domain, count: u32, class: u32) -> u64
     requires none_free { NoneFree heap.now.config dom.old.view class }
     requires runs { dom.old.view.seen.stage ≡ In Run }
     ensures here { IsIn dom.new heap.now }
-    ensures told { CursorTold heap.now.config count (Asks count) dom.old.view result dom.new.view }
+    ensures told { CursorTold heap.now.config count dom.old.view result dom.new.view }
 {
     raw_load::<Brand, Asking>(heap, dom, CURSOR, &Asking { count, class }, &[])
 }
 
-/// A load of the cursor by a domain that takes no pool, for the number of free ones. Answers the cursor.
-pub fn free_load(heap: &Heap, dom: &mut Domain, count: u32) -> u64
+/// A load of the number of listed pools by a domain that is to make a young block. Running domains draw
+/// no pool of the reserve, so those are free as far as they are listed. Answers the number.
+pub fn young_look(heap: &Heap, dom: &mut Domain) -> u64
     requires here { IsIn dom.old heap.now }
-    requires counts { dom.old.view.seen.hunt ≡ Counts count }
-    requires runs { dom.old.view.seen.stage ≡ In Run }
+    requires may { YoungMay heap.now.config dom.old.view }
     ensures here { IsIn dom.new heap.now }
-    ensures told { CursorTold heap.now.config count Rests dom.old.view result dom.new.view }
+    ensures told { YoungTold heap.now.config dom.old.view result dom.new.view }
 {
-    raw_load::<Brand, Asking>(heap, dom, CURSOR, &Asking { count, class: 0 }, &[])
+    raw_load::<Brand, Leaving>(heap, dom, LISTED, &Leaving, &[])
 }
 
 /// An add of 1 to the cursor. Where it was below the limit the pool at that place of the list is

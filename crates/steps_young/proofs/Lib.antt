@@ -1,4 +1,3 @@
 pub mod Plain
 pub mod MakeSteps
 pub mod ClassSizes
-pub mod Sizing

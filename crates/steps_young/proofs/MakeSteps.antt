@@ -49,7 +49,7 @@ use Rattle.heap_rule.specs.Raw.{MayStore}
 use Rattle.heap_rule.specs.Token.{next_address, next_label}
 use Rattle.heap_rule.specs.Rule.{state_of, AllFound, Stood, Area, Good, Rule}
 use Rattle.heap_rule.proofs.Lots.{Beside, area_beside, grid_beside, hunter_beside, garbage_beside, place_low}
-use Rattle.steps_young.specs.Inits.{fields_of, HasFields, WordMay, WordTold, AllocMay, AllocEntry, AllocTold}
+use Rattle.steps_young.specs.Inits.{fields_of, WordMay, WordTold, AllocMay, AllocEntry, AllocTold}
 use Rattle.heap_rule.proofs.Lists.{got_end, got_below}
 use Rattle.heap_rule.proofs.Sizes.{area_below, area_inside}
 use Rattle.heap_rule.proofs.ChangeLemmas.{changed_only, registers_of}
@@ -598,20 +598,11 @@ alloc_fits k x a new changes (CommandOf j (NewRaw dst tag n) false) may = may.fi
 alloc_fits k x a new changes _ may = absurd may
 
 -- what the store of a head asks of its numbers
-pub record AllocFacts (k : Config) (x : DomainView) (new : ℕ) (e : Entry) : Type 0 where
-  pub shape : Shape
-  pub counted : HasFields shape (fields_of e)
-  pub head : IsHeadOf shape new
-  pub few : fields_of e ≤ 1022
+pub record AllocFacts (k : Config) (x : DomainView) (e : Entry) : Type 0 where
   pub room : x.own.used + class_words (fields_of e + 2) ≤ k.minor_words
   pub serial : x.own.serial + 1 < 2 ^ 32
 
-head_facts : (k : Config) (x : DomainView) (a new : ℕ) (changes : List Change) (d dst n : ℕ) (shape : Shape) → AllocMay k x a new changes d dst n shape → IsHeadOf shape new
-head_facts k x a new changes d dst n shape may = let h = may.head in record { colour = new_colour h.beside h.colours; scanned = false; fits = may.packable; packable = packable_head shape (new_colour h.beside h.colours) false h.fits may.packable; packs = h.packs }
-
-pub alloc_facts : (k : Config) (x : DomainView) (a new : ℕ) (changes : List Change) (e : Entry) → AllocEntry k x a new changes e → AllocFacts k x new e
-alloc_facts k x a new changes (CommandOf j (Alloc dst tag n) false) may =
-    record { shape = PlainShape n tag; counted = refl; head = head_facts k x a new changes j dst n (PlainShape n tag) may; few = may.few_fields; room = may.room; serial = may.serial }
-alloc_facts k x a new changes (CommandOf j (NewRaw dst tag n) false) may =
-    record { shape = RawShape n tag; counted = refl; head = head_facts k x a new changes j dst n (RawShape n tag) may; few = may.few_fields; room = may.room; serial = may.serial }
+pub alloc_facts : (k : Config) (x : DomainView) (a new : ℕ) (changes : List Change) (e : Entry) → AllocEntry k x a new changes e → AllocFacts k x e
+alloc_facts k x a new changes (CommandOf j (Alloc dst tag n) false) may = record { room = may.room; serial = may.serial }
+alloc_facts k x a new changes (CommandOf j (NewRaw dst tag n) false) may = record { room = may.room; serial = may.serial }
 alloc_facts k x a new changes _ may = absurd may

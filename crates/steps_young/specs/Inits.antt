@@ -1,14 +1,12 @@
 -- Stores of the words of a new block in the own minor area: its label and its fields first, and its head last.
-use Rattle.std.specs.Prelude.{◌≡◌, ◌≢◌, ℕ, ◌+◌, ◌^◌, ◌<◌, ◌≤◌, false, List, [], ◌∷◌, ◌++◌, length, replicate, slice_set, Some}
+use Rattle.std.specs.Prelude.{◌≡◌, ℕ, ◌+◌, ◌^◌, ◌<◌, ◌≤◌, false, List, [], ◌∷◌, ◌++◌, length, replicate, slice_set, Some}
 use Rattle.heap_model.specs.declared.command.Command.TheVariants.{Alloc, Raw as NewRaw}
 use Rattle.heap_model.specs.declared.entry.Entry.{Entry}
 use Rattle.heap_model.specs.declared.entry.Entry.TheVariants.{Command}
 use Rattle.heap_model.specs.declared.reply.Reply.TheVariants.{Block}
 use Rattle.heap_model.specs.declared.reply.Applied.TheVariants.{Replied}
 use Rattle.heap_model.specs.Domains.{reserve}
-use Rattle.heap_model.specs.Fronts.{Shape, PlainShape, RawShape, EpheShape, Answers}
-use Rattle.heap_words.specs.declared.head.Head.{Head}
-use Rattle.heap_words.specs.declared.head.Head.TheVariants.{Plain as PlainHead}
+use Rattle.heap_model.specs.Fronts.{Shape, PlainShape, RawShape, Answers}
 use Rattle.heap_words.specs.declared.value.Value.TheVariants.{Ref, Nothing}
 use Rattle.heap_words.specs.Labels.{label_word}
 use Rattle.heap_rule.specs.Pools.{last_found}
@@ -29,17 +27,6 @@ pub record IsOpen (k : Config) (x : DomainView) : Type 0 where
   pub free : ℕ
   pub found : last_found x ≡ Some free
   pub enough : reserve (sizes_in k) ≤ free
-
--- a block with so many fields, plain or raw, has this shape
-abbrev pub HasFields : Shape → ℕ → Type 0
-HasFields (PlainShape size tag) n = size ≡ n
-HasFields (RawShape size tag) n = size ≡ n
-HasFields (EpheShape keys) n = ⊥
-
--- the fields of the head of a block with fields
-abbrev pub head_size : Head → ℕ
-head_size (PlainHead size tag colour scanned) = size
-head_size _ = 0
 
 -- a word behind the head: the next one of the block that the domain makes
 pub record WordMay (k : Config) (x : DomainView) (at : ℕ) (changes : List Change) : Type 0 where
@@ -89,16 +76,6 @@ pub record AllocTold (k : Config) (e : Entry) (changes : List Change) (x y : Dom
     seen = record x.seen { front = y.seen.front; made = [] };
   }
   pub holds : Holds k y.own.registers
-
--- an init store asks one or the other, by its word
-pub record InitMay (k : Config) (x : DomainView) (at new : ℕ) (changes : List Change) (e : Entry) : Type 0 where
-  pub behind : at ≢ next_address k x → WordMay k x at changes
-  pub head : at ≡ next_address k x → AllocEntry k x at new changes e
-
--- and it tells one or the other
-pub record InitTold (k : Config) (at new : ℕ) (e : Entry) (changes : List Change) (x y : DomainView) : Type 0 where
-  pub behind : at ≢ next_address k x → WordTold new x y
-  pub head : at ≡ next_address k x → AllocTold k e changes x y
 
 -- a block of so many class words and its label can be counted
 abbrev pub CanCount : ℕ → List Change → Own → Type 0

@@ -4,4 +4,4 @@
 
 mod making;
 
-pub use making::{init_store, word_store, words_of_class};
+pub use making::{head_store, word_store, words_of_class};

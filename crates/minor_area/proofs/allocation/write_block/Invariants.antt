@@ -3,8 +3,8 @@ use Rattle.heap_rule.specs.Token.{IsIn}
 use Rattle.heap_words.specs.Labels.{label_word}
 use Rattle.minor_area.proofs.allocation.write_block.Given as goal
 
-abbrev pub ghost-init_store : goal.ghost-init_store
-ghost-init_store g a = g.entry
+abbrev pub ghost-head_store : goal.ghost-head_store
+ghost-head_store g a = g.entry
 
 abbrev pub invariant-loop-i : goal.invariant-loop-i
 invariant-loop-i g l = record {

@@ -16,7 +16,7 @@ pub returns-in-Err-clause-has_place : goal.returns-in-Err-clause-has_place
 returns-in-Err-clause-has_place c =
     let left = subst (λ (q : Swept × Config). q.0.spot.pool < q.1.pools) (λ i. (c.swept.ensures.value i, c.config.ensures.value i)) c.if-swept-config.true in
     both_ok c.find_or_draw-in-Err.result
-    (λ a t place. place_swept c.args.heap.now.config c.args.class c.args.dom.now.view c.find_or_draw.new.dom.view c.sweep_own.new.dom.view c.find_or_draw-in-Err.new.dom.view c.in-Err.field-0.free c.in-Err.ensures.same c.in-Err.ensures.reserved left c.sweep_own.ensures.swept a t place)
+    (λ a t place. place_swept c.args.heap.now.config c.args.class c.args.dom.now.view c.find_or_draw.new.dom.view c.sweep_own.new.dom.view c.find_or_draw-in-Err.new.dom.view c.in-Err.field-0.free c.in-Err.ensures.same c.in-Err.ensures.reserved left c.sweep_own.ensures.swept a t place c.in-Err.ensures.known)
     c.find_or_draw-in-Err.ensures.took c.find_or_draw-in-Err.ensures.has_place
 
 pub returns-in-Err-clause-reserved : goal.returns-in-Err-clause-reserved

@@ -1,4 +1,3 @@
-use Rattle.heap_rule.specs.declared.view.Hunt.TheVariants.{Asks}
 use Rattle.heap_rule.proofs.Closes.{leaves_closes}
 use Rattle.steps_pools.specs.Takes.{CursorTold}
 use Rattle.steps_pools.proofs.Plain.{cursor_own, cursor_front}
@@ -9,4 +8,4 @@ pub raw_load-requires-clause-may : goal.raw_load-requires-clause-may
 raw_load-requires-clause-may c = cursor_may c.args.heap.now.config c.args.dom.now.view c.requires.runs c.args.count c.requires.counts
 
 pub raw_load-requires-clause-closes : goal.raw_load-requires-clause-closes
-raw_load-requires-clause-closes c = λ found. leaves_closes c.args.heap.now.config c.args.dom.now.view found (CursorTold c.args.heap.now.config c.args.count (Asks c.args.count)) (cursor_own c.args.heap.now.config c.args.count (Asks c.args.count) c.args.dom.now.view found) (cursor_front c.args.heap.now.config c.args.count (Asks c.args.count) c.args.dom.now.view found)
+raw_load-requires-clause-closes c = λ found. leaves_closes c.args.heap.now.config c.args.dom.now.view found (CursorTold c.args.heap.now.config c.args.count) (cursor_own c.args.heap.now.config c.args.count c.args.dom.now.view found) (cursor_front c.args.heap.now.config c.args.count c.args.dom.now.view found)

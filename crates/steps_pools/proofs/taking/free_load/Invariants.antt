@@ -1,6 +1,0 @@
-use Rattle.heap_rule.specs.declared.view.Hunt.TheVariants.{Rests}
-use Rattle.steps_pools.specs.Takes.{CursorTold}
-use Rattle.steps_pools.proofs.taking.free_load.Given as goal
-
-abbrev pub ghosts-raw_load : goal.ghosts-raw_load
-ghosts-raw_load a = record { tells = CursorTold a.heap.now.config a.writing.now.count Rests }
