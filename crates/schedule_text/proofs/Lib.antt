@@ -4,3 +4,4 @@ mod TextLemmas
 mod OnlyLemmas
 mod ReadingLemmas
 pub mod ReplayLemmas
+mod AnswerLemmas
