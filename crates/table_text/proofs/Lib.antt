@@ -4,3 +4,4 @@ pub mod ShapeLemmas
 pub mod LineLemmas
 pub mod ReadLemmas
 pub mod WritableLemmas
+mod AnswerLemmas
