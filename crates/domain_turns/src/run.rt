@@ -306,4 +306,13 @@ impl DomainRun {
     {
         self.domain
     }
+
+    /// The same, and its hints.
+    pub fn into_parts(self) -> (Domain, Hints)
+        requires { self.ended ≡ true }
+        ensures token { result.0 ≡ self.token }
+        ensures hints { result.1 ≡ self.hints }
+    {
+        (self.domain, self.hints)
+    }
 }

@@ -99,7 +99,7 @@ fn mark_datum(heap: &Heap, dom: &mut Domain, at: u32, colours: Colours, hints: &
         return false;
     };
     hints.wake(address);
-    darken(heap, dom, address, colours)
+    darken(heap, dom, address, colours).is_some()
 }
 
 // Looks at a listed ephemeron, and marks what its datum refers to where it is to be marked: the

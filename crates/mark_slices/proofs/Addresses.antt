@@ -1,5 +1,6 @@
 -- Looks at addresses at which grey blocks may begin.
 use Rattle.std.proofs.Common.{◌≡◌, ℕ, ◌+◌, ◌-◌, ◌*◌, ◌/◌, ◌%◌, ◌<◌, ◌≤◌, ◌≢◌, ◌⊎◌, arith, inl, inr, ⊎_elim, sym, refl, ap, subst, ◌∙◌}
+use Rattle.std.proofs.lemmas.Bool.{cases_lt}
 use Rattle.std.proofs.lemmas.Nat.{div-mul-add, mod-mul-add}
 use Rattle.heap_model.specs.Domains.{class_count}
 use Rattle.heap_words.specs.declared.colours.Colours.{Colours}
@@ -11,7 +12,7 @@ use Rattle.heap_rule.specs.Pools.{blocks_of, owned, owner_word, size_of}
 use Rattle.heap_rule.specs.Standing.{IsInHeap}
 use Rattle.heap_rule.proofs.Classes.{size_least, slot_inside}
 use Rattle.steps_marking.specs.Marking.{IsGrey, IsScanned, IsUnmarked}
-use Rattle.steps_marking_beside.specs.Marking.{Begins, PlaceMay, PlaceTold, PoolTold, learning}
+use Rattle.steps_marking_beside.specs.Marking.{Begins, PlaceMay, PlaceTold, PoolMay, PoolTold, learning}
 use Rattle.darkening_beside.proofs.Exchanges.{one_meaning}
 use Rattle.mark_slices.specs.Slices.{BeginsHere, BeginsNowhere, LookedAtHint, Slices}
 use Rattle.mark_slices.proofs.Visits.{not_passed}
@@ -91,7 +92,7 @@ vain_looked colours x y at p e = subst (LookedAtHint colours at x 0) (sym e) rec
   owes = refl;
   scanned = refl;
   darkened = refl;
-  told = inl ((λ g. not_passed colours 0 p g (inl refl)), refl);
+  told = inl record { none = λ g. not_passed colours 0 p g (inl refl); known = inl refl; vain = refl };
 }
 
 -- a look at the head
@@ -108,7 +109,7 @@ place_looked colours x y z at pool class word p s e told =
       owes = refl;
       scanned = refl;
       darkened = refl;
-      told = inl ((λ g. not_passed colours word p g (subst (λ (c : Colours). (word ≡ 0) ⊎ (IsUnmarked c word ⊎ IsScanned c word)) same q.0)), refl);
+      told = inl record { none = λ g. not_passed colours word p g (subst (λ (c : Colours). (word ≡ 0) ⊎ (IsUnmarked c word ⊎ IsScanned c word)) same q.0); known = inl refl; vain = refl };
     })
     (λ (q : IsGrey t.colours word × (z ≡ learning v (Shaped at word))).
     subst (LookedAtHint colours at x word) (sym q.1) record {
@@ -118,6 +119,15 @@ place_looked colours x y z at pool class word p s e told =
       owes = refl;
       scanned = refl;
       darkened = refl;
-      told = inr (subst (λ (c : Colours). IsGrey c word) same q.0, inl refl, refl);
+      told = inr record { grey = subst (λ (c : Colours). IsGrey c word) same q.0; known = inl refl; vain = refl };
     })
     t.told
+
+-- the owner of the pool in which the address lies may be looked at
+pub pool_may : (k : Config) (colours : Colours) (x : DomainView) (at word pool : ℕ) → Slices colours x → pool < k.pools → word ≡ 11 + k.pools + pool → (at ≤ k.pools * 4096 → (pool * 4096 < at) × (at ≤ pool * 4096 + 4096)) → PoolMay k x at word pool
+pool_may k colours x at word pool s below is inside = record {
+  beside = record { runs = s.runs; armed = s.armed };
+  inside = below;
+  lies = ⊎_elim (λ (behind : k.pools * 4096 < at). inr behind) (λ (low : at ≤ k.pools * 4096). inl (inside low)) (cases_lt (k.pools * 4096) at);
+  word_is = is;
+}

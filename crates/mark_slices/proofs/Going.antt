@@ -16,7 +16,7 @@ use Rattle.steps_marking_beside.specs.Marking.{FoundSince, IsNoScan, ReadTold, S
 use Rattle.darkening_beside.specs.Aware.{Learnt, aware_as, darkened_in, scanned_in, tells_darkening, tells_scan, tells_vain, vain_in}
 use Rattle.darkening_beside.specs.Heads.{IsScanOf}
 use Rattle.mark_slices.specs.Decks.{AllMissed, DeckCounts, HasMissed, Rises, StaysDeck, last_count, missed_at}
-use Rattle.mark_slices.specs.Slices.{LookedAtHint, Slices, Tries, Went}
+use Rattle.mark_slices.specs.Slices.{FoundGrey, FoundNone, LookedAtHint, Slices, Tries, Went}
 
 pub learnt_on : (x y z : DomainView) → Learnt x y → Learnt y z → Learnt x z
 learnt_on x y z a b = record { view = b.view ∙ ap (λ (v : DomainView). aware_as v z) a.view; grows = λ f k. b.grows f (a.grows f k) }
@@ -132,8 +132,8 @@ after_look colours at word scans vains x y z l m k v w =
 -- and the head of a grey block is known
 pub head_known : (colours : Colours) (at word : ℕ) (x y : DomainView) → LookedAtHint colours at x word y → IsGrey colours word → FoundSince y.seen.share.known at word
 head_known colours at word x y k is = ⊎_elim
-    (λ (v : (IsGrey colours word → ⊥) × (vain_in y.seen.share.known ≡ vain_in x.seen.share.known + 1)). absurd (v.0 is))
-    (λ (v : IsGrey colours word × FoundSince y.seen.share.known at word × (vain_in y.seen.share.known ≡ vain_in x.seen.share.known)). v.1)
+    (λ (v : FoundNone colours at x word y). absurd (v.none is))
+    (λ (v : FoundGrey colours at x word y). v.known)
     k.told
 
 pub still_slices : (colours : Colours) (at word : ℕ) (x y : DomainView) → Slices colours x → LookedAtHint colours at x word y → Slices colours y
@@ -142,14 +142,14 @@ still_slices colours at word x y s k = record { runs = ap (λ (v : DomainView). 
 pub looked_on : (colours : Colours) (at word : ℕ) (won : Bool) (x y z : DomainView) (l m : DeckCounts) → LookedAtHint colours at x word y → MatchBool won (IsGrey colours word) (IsGrey colours word → ⊥) → Went (cond won 1 0) 0 0 y z l m → Went (cond won 1 0) (cond won 0 1) 0 x z l m
 looked_on colours at word true x y z l m k is w = after_look colours at word 1 0 x y z l m k
     (⊎_elim
-    (λ (v : (IsGrey colours word → ⊥) × (vain_in y.seen.share.known ≡ vain_in x.seen.share.known + 1)). absurd (v.0 is))
-    (λ (v : IsGrey colours word × FoundSince y.seen.share.known at word × (vain_in y.seen.share.known ≡ vain_in x.seen.share.known)). let e = v.2 in omega (arith, e))
+    (λ (v : FoundNone colours at x word y). absurd (v.none is))
+    (λ (v : FoundGrey colours at x word y). let e = v.vain in omega (arith, e))
     k.told)
     w
 looked_on colours at word false x y z l m k is w = after_look colours at word 0 1 x y z l m k
     (⊎_elim
-    (λ (v : (IsGrey colours word → ⊥) × (vain_in y.seen.share.known ≡ vain_in x.seen.share.known + 1)). v.1)
-    (λ (v : IsGrey colours word × FoundSince y.seen.share.known at word × (vain_in y.seen.share.known ≡ vain_in x.seen.share.known)). absurd (is v.0))
+    (λ (v : FoundNone colours at x word y). v.vain)
+    (λ (v : FoundGrey colours at x word y). absurd (is v.grey))
     k.told)
     w
 

@@ -5,6 +5,5 @@ pub mod Visits
 pub mod Notes
 pub mod Addresses
 pub mod Going
-pub mod Parts
 pub mod OwnPools
 pub mod Taking

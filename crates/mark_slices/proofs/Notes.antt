@@ -1,8 +1,10 @@
 -- Blocks that are noted.
-use Rattle.std.proofs.Common.{◌≡◌, ◌∙◌, ℕ, zero, suc, ◌+◌, ◌*◌, ◌≤◌, ◌==◌, eq-eqb, IsTrue, List, [], ◌∷◌, ◌++◌, drop, slice_get, Some, ⊎_elim, arith, refl, ap, sym, subst, length}
+use Rattle.std.specs.Prelude.{IfSome, is_some, true}
+use Rattle.std.proofs.Common.{◌≡◌, ◌∙◌, ℕ, zero, suc, ◌+◌, ◌*◌, ◌≤◌, ◌==◌, eq-eqb, IsTrue, List, [], ◌∷◌, ◌++◌, drop, slice_get, Option, None, Some, ⊎_elim, arith, refl, ap, sym, subst, length}
 use Rattle.heap_model.proofs.Reach.ReachLemmas.{or_left, or_right}
 use Rattle.heap_rule.specs.declared.config.Config.{Config}
 use Rattle.heap_rule.specs.Cycles.{seen_by}
+use Rattle.heap_rule.specs.Places.{IsOldAt}
 use Rattle.heap_rule.proofs.Lists.{got_end}
 use Rattle.mark_slices.specs.Shares.{Noted}
 use Rattle.mark_slices.specs.Trails.{newer, renewed}
@@ -50,3 +52,8 @@ noted_less k marked items a n = λ i b got. n i b (got_more items i got)
     got_more [] i e = cc
     got_more (x ∷ xs) zero e = e
     got_more (x ∷ xs) (suc i) e = got_more xs i e
+
+-- a block of which there is a hint lies in a pool
+pub darkened_lies : (k : Config) (a : ℕ) (hint : Option ℕ) → is_some hint ≡ true → IfSome hint (λ h. (h ≡ a) × IsOldAt k a) → a ≤ k.pools * 4096
+darkened_lies k a None e h = cc
+darkened_lies k a (Some n) e h = h.1

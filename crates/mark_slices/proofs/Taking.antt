@@ -1,5 +1,5 @@
 -- What a deck counts while its own hints are taken.
-use Rattle.std.proofs.Common.{◌≡◌, ◌≢◌, ◌∙◌, ℕ, Bool, refl, sym, ap}
+use Rattle.std.proofs.Common.{◌≡◌, ◌∙◌, Bool, refl, ap}
 use Rattle.mark_slices.specs.Decks.{DeckCounts, Missed, TakesOwn, Took, missed_at}
 
 -- a deck with these counts of misses and of hints that were taken

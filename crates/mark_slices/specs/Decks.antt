@@ -1,5 +1,5 @@
 -- What a deck of hints counts.
-use Rattle.std.specs.Prelude.{◌≡◌, ◌≢◌, ℕ, ◌+◌, ◌<◌, ◌≤◌, ◌⊎◌, Bool, true, false, List, replicate, slice_index}
+use Rattle.std.specs.Prelude.{◌≡◌, ◌≢◌, ℕ, ◌+◌, ◌<◌, ◌≤◌, ◌⊎◌, Bool, false, List, replicate, slice_index}
 
 -- its domain's number, how many domains there are, how often each was found without a hint, how many hints were taken, how many were noted or let go, whether the domain has found no hint of its own since it last noted or took one, and how often it asked another domain for a hint before it had found none of its own
 pub record DeckCounts : Type 0 where
@@ -77,6 +77,10 @@ HasNoted before after l m = (l.pushes + after ≤ m.pushes + before) ⊎ (last_c
 -- and no more was noted
 abbrev pub NotesNoMore : ℕ → ℕ → DeckCounts → DeckCounts → Type 0
 NotesNoMore before after l m = m.pushes + before ≤ l.pushes + after
+
+-- no more than so many were noted
+abbrev pub NotesAtMost : ℕ → DeckCounts → DeckCounts → Type 0
+NotesAtMost most l m = m.pushes ≤ l.pushes + most
 
 -- nothing was counted but hints that were noted
 abbrev pub NotesAlone : DeckCounts → DeckCounts → Type 0

@@ -7,6 +7,8 @@ use Rattle.heap_rule.specs.declared.config.Config.{Config}
 use Rattle.heap_rule.specs.declared.phase.Kind.TheVariants.{Run}
 use Rattle.heap_rule.specs.declared.phase.Stage.TheVariants.{In}
 use Rattle.heap_rule.specs.declared.view.DomainView.{DomainView}
+use Rattle.heap_rule.specs.declared.view.Known.TheVariants.{Vain}
+use Rattle.heap_rule.specs.Beside.{IsKnown}
 use Rattle.heap_rule.specs.Places.{IsHeadOf}
 use Rattle.heap_rule.specs.Pools.{blocks_of, owned, owner_word, place_in}
 use Rattle.steps_marking.specs.Marking.{IsGrey, fields_in}
@@ -36,7 +38,19 @@ pub record BeginsHere (word at pool class slot : ℕ) : Type 0 where
   pub inside : slot < blocks_of class
   pub begins : at ≡ place_in pool class slot
 
--- the domain has looked at an address: in vain, or it knows the head of the grey block that begins there
+-- the domain has looked at an address, and has found there no grey block
+pub record FoundNone (colours : Colours) (at : ℕ) (x : DomainView) (word : ℕ) (y : DomainView) : Type 0 where
+  pub none : IsGrey colours word → ⊥
+  pub known : IsKnown y.seen.share.known (Vain at)
+  pub vain : vain_in y.seen.share.known ≡ vain_in x.seen.share.known + 1
+
+-- or it knows the head of the grey block that begins there
+pub record FoundGrey (colours : Colours) (at : ℕ) (x : DomainView) (word : ℕ) (y : DomainView) : Type 0 where
+  pub grey : IsGrey colours word
+  pub known : FoundSince y.seen.share.known at word
+  pub vain : vain_in y.seen.share.known ≡ vain_in x.seen.share.known
+
+-- the domain has looked at the address of a hint
 pub record LookedAtHint (colours : Colours) (at : ℕ) (x : DomainView) (word : ℕ) (y : DomainView) : Type 0 where
   pub learnt : Learnt x y
   pub colours_stay : y.seen.share.colours ≡ x.seen.share.colours
@@ -44,8 +58,7 @@ pub record LookedAtHint (colours : Colours) (at : ℕ) (x : DomainView) (word : 
   pub owes : y.seen.share.weak ≡ x.seen.share.weak
   pub scanned : scanned_in y.seen.share.known ≡ scanned_in x.seen.share.known
   pub darkened : darkened_in y.seen.share.known ≡ darkened_in x.seen.share.known
-  pub told : ((IsGrey colours word → ⊥) × (vain_in y.seen.share.known ≡ vain_in x.seen.share.known + 1))
-      ⊎ (IsGrey colours word × FoundSince y.seen.share.known at word × (vain_in y.seen.share.known ≡ vain_in x.seen.share.known))
+  pub told : FoundNone colours at x word y ⊎ FoundGrey colours at x word y
 
 -- the head is that of a block with so many fields
 pub record IsSized (head fields : ℕ) : Type 0 where

@@ -9,8 +9,9 @@ ghost use Rattle.steps_marking.specs.Marking.{IsGrey};
 ghost use Rattle.steps_marking_beside.specs.Marking.{Field, FoundSince, StillFound};
 ghost use Rattle.mark_slices.specs.Slices.{IsSized, Scanning, Slices, Went};
 
+use crate::darkening::darken_running;
 use crate::deck::Deck;
-use darkening_beside::{darken_beside, scan_of};
+use darkening_beside::scan_of;
 use heap_rule::{Domain, Heap, Reading, read_as};
 use heap_words::{Colours, Value};
 use size_classes::POOL_WORDS;
@@ -47,8 +48,8 @@ fn darken_field<K: Deck>(
     if address > limits.pools * POOL_WORDS {
         return;
     }
-    if darken_beside(heap, dom, address, colours) {
-        deck.push(address);
+    if let Some(hint) = darken_running(heap, dom, address, colours) {
+        deck.push(hint);
     }
 }
 

@@ -1,8 +1,9 @@
-//! The hints of a domain: the addresses of blocks that it is to scan next.
+//! The hints of a domain: of blocks that it is to scan next.
 ghost use Rattle.std.specs.Prelude.{◌≡◌, ◌<◌, ◌≤◌, ◌+◌, ℕ, true, false, length, IfOk, vec_len, slice_index_or};
 ghost use Rattle.crossbeam_deque.specs.Handles.{worker_flavor};
 ghost use Rattle.mark_slices.specs.Decks.{uncounted, Missed, NotesOn, TakesOwn, Took};
 
+use crate::darkening::Hint;
 use crate::deck::Deck;
 use crate::trail::Trail;
 use crate::waiting::Waiting;
@@ -195,18 +196,18 @@ impl Hints {
 impl Deck for Hints {
     ghost counts = { λ h. h };
 
-    fn push(&mut self, address: u32) {
+    fn push(&mut self, hint: Hint) {
         self.pushes = self.pushes.saturating_add(1);
         self.is_dry = false;
         if self.noted < HINTS_ROOM {
             self.noted += 1;
-            push_hint(&mut self.own, address);
+            push_hint(&mut self.own, hint);
         }
     }
 
-    fn own(&mut self) -> Option<u32> {
+    fn own(&mut self) -> Option<Hint> {
         let hint = pop_hint(&mut self.own);
-        if holds_none(&mut self.own) {
+        if holds_none(&self.own) {
             self.noted = 0;
         }
         self.is_dry = hint.is_none();
@@ -214,9 +215,9 @@ impl Deck for Hints {
         hint
     }
 
-    fn steal(&mut self, from: u32) -> Option<u32> {
+    fn steal(&mut self, from: u32) -> Option<Hint> {
         let place = if from < self.number { from } else { from - 1 };
-        let hint = steal_hint(&mut self.others[place as usize]);
+        let hint = steal_hint(&self.others[place as usize]);
         if !self.is_dry {
             self.early = self.early.saturating_add(1);
         }

@@ -23,7 +23,7 @@ mod trail;
 mod waiting;
 mod workers;
 
-pub use darkening::darken;
+pub use darkening::{Hint, darken};
 pub use deck::Deck;
 pub use following::scan_marked;
 pub use hints::Hints;

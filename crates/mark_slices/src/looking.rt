@@ -9,6 +9,7 @@ ghost use Rattle.steps_marking.specs.Marking.{IsGrey};
 ghost use Rattle.steps_marking_beside.specs.Marking.{Begins};
 ghost use Rattle.mark_slices.specs.Slices.{BeginsHere, BeginsNowhere, IsOwner, LookedAtHint, Slices};
 
+use crate::darkening::Hint;
 use heap_rule::{Domain, Heap};
 use size_classes::POOL_WORDS;
 use steps_marking_beside::{beside_owner_load, beside_place_load};
@@ -59,18 +60,17 @@ fn place_at(owner: u64, at: u32, pool: u32) -> Option<Here>
     }
 }
 
-// Looks at the address of a block of the pools, which the domain has noted some time. Answers the
-// block's head, 0 where no block begins there.
-pub(crate) fn look(heap: &Heap, dom: &mut Domain, at: u32) -> u64
+// Looks at the address of a hint. Answers the head of the block there, 0 where none begins there.
+pub(crate) fn look(heap: &Heap, dom: &mut Domain, hint: Hint) -> u64
     ghost colours: { Colours }
     requires here { IsIn dom.old heap.now }
     requires slices { Slices colours dom.old.view }
     requires meanings { IsPermutation colours }
-    requires low { 1 ≤ at }
     ensures here { IsIn dom.new heap.now }
-    ensures looked { LookedAtHint colours at dom.old.view result dom.new.view }
-    ensures inside { IsGrey colours result → at ≤ heap.now.config.pools * 4096 }
+    ensures looked { LookedAtHint colours hint dom.old.view result dom.new.view }
+    ensures inside { IsGrey colours result → hint ≤ heap.now.config.pools * 4096 }
 {
+    let at = hint.address();
     let pools = heap.config().pools;
     let pool = pool_of(at, pools);
     let owner = beside_owner_load(heap, dom, at, OWNERS + pools + pool, pool);
@@ -80,11 +80,13 @@ pub(crate) fn look(heap: &Heap, dom: &mut Domain, at: u32) -> u64
     beside_place_load(heap, dom, at, pool, place.class, place.slot)
 }
 
-// The pool in which the address lies, the first where it lies in none.
+// The pool in which the address lies, the first where it lies behind all pools.
 fn pool_of(at: u32, pools: u32) -> u32
     requires low { 1 ≤ at }
     requires some { (1 ≤ pools) × (pools ≤ 2048) }
     ensures below { result < pools }
+    ensures inside { at ≤ pools * 4096 → (result * 4096 < at) × (at ≤ result * 4096 + 4096) }
+    ensures behind { pools * 4096 < at → result ≡ 0 }
 {
     if at <= pools * POOL_WORDS {
         (at - 1) / POOL_WORDS

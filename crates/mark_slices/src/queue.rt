@@ -1,25 +1,24 @@
 //! What the queue of a domain keeps alive is marked.
-ghost use Rattle.std.specs.Prelude.{◌≡◌, ◌+◌, ◌<◌, ◌≤◌, Some, MatchOption, length};
+ghost use Rattle.std.specs.Prelude.{◌≡◌, ◌+◌, ◌<◌, Some, MatchOption, length};
 ghost use Rattle.heap_words.specs.ColourWords.{IsPermutation};
-ghost use Rattle.heap_rule.specs.Places.{IsOldAt};
 ghost use Rattle.heap_rule.specs.Token.{IsIn};
 ghost use Rattle.steps_marking.specs.Looks.{HeldInside};
 ghost use Rattle.steps_marking.specs.Marking.{OfQueue, Reason};
 ghost use Rattle.mark_slices.specs.Shares.{AllQueueRooted, MarksRoots, QueueRooted};
 
-use crate::darkening::darken;
+use crate::darkening::{Hint, darken};
 use heap_rule::{Domain, Heap, Waiting};
 use heap_words::Colours;
 use steps_marking::colours_now;
 
-// Marks the block that a place of the queue keeps alive, if it keeps one. Answers its address where this
+// Marks the block that a place of the queue keeps alive, if it keeps one. Answers its hint where this
 // domain has marked it.
 pub(crate) fn mark_queued(
     heap: &Heap,
     dom: &mut Domain,
     place: usize,
     colours: Colours,
-) -> Option<u32>
+) -> Option<Hint>
     ghost reason: { Reason }
     requires here { IsIn dom.old heap.now }
     requires phase { MarksRoots dom.old.view.seen.stage }
@@ -30,16 +29,12 @@ pub(crate) fn mark_queued(
     requires names { reason ≡ OfQueue place }
     ensures here { IsIn dom.new heap.now }
     ensures rooted { QueueRooted place dom.old.view dom.new.view }
-    ensures marked { MatchOption result (dom.new.view.seen.share.darkenings ≡ dom.old.view.seen.share.darkenings) (λ address. (1 ≤ address) × IsOldAt heap.now.config address × (dom.new.view.seen.share.darkenings ≡ dom.old.view.seen.share.darkenings + 1)) }
+    ensures marked { MatchOption result (dom.new.view.seen.share.darkenings ≡ dom.old.view.seen.share.darkenings) (λ _. dom.new.view.seen.share.darkenings ≡ dom.old.view.seen.share.darkenings + 1) }
 {
     let Waiting::Fin { address, .. } = dom.queue_at(place) else {
         return None;
     };
-    if darken(heap, dom, address, colours) {
-        Some(address)
-    } else {
-        None
-    }
+    darken(heap, dom, address, colours)
 }
 
 /// Each block that the domain's queue of finalisers keeps alive is marked, in a phase in which roots

@@ -1,12 +1,12 @@
 //! What the roots of a domain refer to is marked.
-ghost use Rattle.std.specs.Prelude.{◌≡◌, ◌<◌, Some};
+ghost use Rattle.std.specs.Prelude.{◌≡◌, ◌+◌, ◌<◌, Some, length};
 ghost use Rattle.heap_words.specs.ColourWords.{IsPermutation};
 ghost use Rattle.heap_rule.specs.declared.phase.Kind.TheVariants.{Roots};
 ghost use Rattle.heap_rule.specs.declared.phase.Stage.TheVariants.{In};
 ghost use Rattle.heap_rule.specs.Token.{IsIn};
 ghost use Rattle.steps_marking.specs.Marking.{Reason, Register};
 ghost use Rattle.steps_marking.specs.Looks.{HeldInside};
-ghost use Rattle.mark_slices.specs.Decks.{HasNoted, NotesAlone, NotesNoMore, NotesOn};
+ghost use Rattle.mark_slices.specs.Decks.{HasNoted, NotesAlone, NotesAtMost, NotesNoMore, NotesOn};
 ghost use Rattle.mark_slices.specs.Shares.{Rooted, AllRooted, AllQueueRooted};
 
 use crate::darkening::darken;
@@ -33,11 +33,12 @@ fn mark_root(heap: &Heap, dom: &mut Domain, register: u8, colours: Colours, hint
     ensures noted { HasNoted dom.old.view.seen.share.darkenings dom.new.view.seen.share.darkenings hints.old hints.new }
     ensures no_more { NotesNoMore dom.old.view.seen.share.darkenings dom.new.view.seen.share.darkenings hints.old hints.new }
     ensures alone { NotesAlone hints.old hints.new }
+    ensures few { NotesAtMost 1 hints.old hints.new }
 {
     let _limits = heap.config();
     if let Value::Ref(at) = dom.register(register) {
-        if darken(heap, dom, at, colours) {
-            hints.push(at);
+        if let Some(hint) = darken(heap, dom, at, colours) {
+            hints.push(hint);
         }
     }
 }
@@ -55,11 +56,12 @@ fn mark_waiting(heap: &Heap, dom: &mut Domain, colours: Colours, hints: &mut Hin
     ensures noted { HasNoted dom.old.view.seen.share.darkenings dom.new.view.seen.share.darkenings hints.old hints.new }
     ensures no_more { NotesNoMore dom.old.view.seen.share.darkenings dom.new.view.seen.share.darkenings hints.old hints.new }
     ensures alone { NotesAlone hints.old hints.new }
+    ensures few { NotesAtMost (length dom.old.view.own.finalisers.queue.items) hints.old hints.new }
 {
     let _limits = heap.config();
     for place in 0..dom.queued() {
-        if let Some(at) = mark_queued(heap, dom, place, colours) {
-            hints.push(at);
+        if let Some(hint) = mark_queued(heap, dom, place, colours) {
+            hints.push(hint);
         }
     }
 }
@@ -69,7 +71,8 @@ fn mark_waiting(heap: &Heap, dom: &mut Domain, colours: Colours, hints: &mut Hin
 /// the domain is done with all these registers and places of the queue, as is asked of it where it
 /// arrives. What it knows of the colours, of the queue and of blocks is all that has changed.
 ///
-/// Each block that it has marked itself is noted in `hints`, and nothing else.
+/// The hint of each block that it has marked itself is noted in `hints`, and nothing else: at most one
+/// for each register and one for each place of its queue.
 ///
 /// There are no other roots: a program of commands has no stack ("Retrofitting Parallelism
 /// onto OCaml", section 3.2).
@@ -82,6 +85,7 @@ pub fn start_roots(heap: &Heap, dom: &mut Domain, hints: &mut Hints)
     ensures noted { HasNoted dom.old.view.seen.share.darkenings dom.new.view.seen.share.darkenings hints.old hints.new }
     ensures no_more { NotesNoMore dom.old.view.seen.share.darkenings dom.new.view.seen.share.darkenings hints.old hints.new }
     ensures alone { NotesAlone hints.old hints.new }
+    ensures few { NotesAtMost (16 + length dom.old.view.own.finalisers.queue.items) hints.old hints.new }
 {
     let colours = colours_now(heap, dom);
     for register in 0..16 {

@@ -38,7 +38,7 @@ fn scan_field(heap: &Heap, dom: &mut Domain, at: u32, colours: Colours, trail: &
     let Value::Ref(address) = read_as(Reading::AsValue, word) else {
         return false;
     };
-    let won = darken(heap, dom, address, colours);
+    let won = darken(heap, dom, address, colours).is_some();
     if won {
         trail.push(address);
     }

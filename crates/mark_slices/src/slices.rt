@@ -7,10 +7,11 @@ ghost use Rattle.heap_rule.specs.declared.phase.Stage.TheVariants.{In};
 ghost use Rattle.heap_rule.specs.Token.{IsIn};
 ghost use Rattle.darkening_beside.specs.Aware.{Learnt, darkened_in, scanned_in, vain_in};
 ghost use Rattle.mark_slices.specs.declared.slices.Why.TheVariants.{Enough, NoneFound, Stale};
-ghost use Rattle.mark_slices.specs.Decks.{AllMissed, HasMissed, HasNoted, HasTaken, IsPooled, NotesNoMore, NotesOn};
+ghost use Rattle.mark_slices.specs.Decks.{AllMissed, HasMissed, HasNoted, HasTaken, NotesNoMore, NotesOn};
 ghost use Rattle.mark_slices.specs.Slices.{IsDeckOf, Slices, Tries, Went};
 ghost use Rattle.mark_slices.specs.Ends.{EndsSlice, HasLooked};
 
+use crate::darkening::Hint;
 use crate::deck::Deck;
 use crate::greys::scan_word;
 use crate::looking::look;
@@ -47,44 +48,44 @@ struct Next {
 }
 
 // Takes a hint of the first of some domains that has one.
-fn steal_among<K: Deck>(deck: &mut K, first: u32, end: u32) -> Option<u32>
+fn steal_among<K: Deck>(deck: &mut K, first: u32, end: u32) -> Option<Hint>
     requires others { (d : ℕ) → first ≤ d → d < end → (d ≢ (K.counts deck.old).number) × (d < (K.counts deck.old).domains) }
     requires dry { (K.counts deck.old).is_dry ≡ true }
-    ensures took { IfSome result (λ at. IsPooled at × Tries 1 (K.counts deck.old) (K.counts deck.new)) }
+    ensures took { IfSome result (λ _. Tries 1 (K.counts deck.old) (K.counts deck.new)) }
     ensures none { IfNone result (Tries 0 (K.counts deck.old) (K.counts deck.new) × ((d : ℕ) → first ≤ d → d < end → HasMissed (K.counts deck.old) (K.counts deck.new) d)) }
     ensures dry { IfNone result ((K.counts deck.new).is_dry ≡ true) }
 {
     for from in first..end {
-        if let Some(at) = deck.steal(from) {
-            return Some(at);
+        if let Some(hint) = deck.steal(from) {
+            return Some(hint);
         }
     }
     None
 }
 
 // Takes a hint of the domain's own, or else of the next other domain that has one.
-fn next_hint<K: Deck>(deck: &mut K, number: u32, domains: u32) -> Option<u32>
+fn next_hint<K: Deck>(deck: &mut K, number: u32, domains: u32) -> Option<Hint>
     requires number { number ≡ (K.counts deck.old).number }
     requires domains { domains ≡ (K.counts deck.old).domains }
     requires inside { number < domains }
-    ensures took { IfSome result (λ at. IsPooled at × Tries 1 (K.counts deck.old) (K.counts deck.new)) }
+    ensures took { IfSome result (λ _. Tries 1 (K.counts deck.old) (K.counts deck.new)) }
     ensures none { IfNone result (Tries 0 (K.counts deck.old) (K.counts deck.new) × AllMissed (K.counts deck.old) (K.counts deck.new)) }
 {
-    if let Some(at) = deck.own() {
-        return Some(at);
+    if let Some(hint) = deck.own() {
+        return Some(hint);
     }
-    if let Some(at) = steal_among(deck, number + 1, domains) {
-        return Some(at);
+    if let Some(hint) = steal_among(deck, number + 1, domains) {
+        return Some(hint);
     }
     steal_among(deck, 0, number)
 }
 
-// Looks at a hint, and scans the block that begins there if it is grey. Answers whether it has scanned
+// Looks at the address of a hint, and scans the block that begins there if it is grey. Answers whether it has scanned
 // one.
 fn scan_hint<K: Deck>(
     heap: &Heap,
     dom: &mut Domain,
-    at: u32,
+    hint: Hint,
     colours: Colours,
     deck: &mut K,
 ) -> bool
@@ -93,12 +94,12 @@ fn scan_hint<K: Deck>(
     requires here { IsIn dom.old heap.now }
     requires slices { Slices colours dom.old.view }
     requires meanings { IsPermutation colours }
-    requires low { 1 ≤ at }
     ensures here { IsIn dom.new heap.now }
     ensures went { Went (cond result 1 0) (cond result 0 1) 0 dom.old.view dom.new.view (K.counts deck.old) (K.counts deck.new) }
 {
     let _limits = heap.config();
-    let word = look(heap, dom, at);
+    let at = hint.address();
+    let word = look(heap, dom, hint);
     scan_word(heap, dom, at, word, colours, deck)
 }
 
@@ -121,13 +122,13 @@ fn scan_next<K: Deck>(
     let domains = heap.config().domains;
     let number = dom.number();
     for let_go in 0..left {
-        let Some(at) = next_hint(deck, number, domains) else {
+        let Some(hint) = next_hint(deck, number, domains) else {
             return Next {
                 let_go,
                 end: Some(Why::NoneFound),
             };
         };
-        if scan_hint(heap, dom, at, colours, deck) {
+        if scan_hint(heap, dom, hint, colours, deck) {
             return Next { let_go, end: None };
         }
     }
@@ -141,7 +142,8 @@ fn scan_next<K: Deck>(
 /// first and then one of each other domain in turn, from the next one on, and scans each grey block that
 /// begins at one: what its fields refer to in the pools is darkened, noted where this domain has
 /// darkened it, and then the block's head says that it is scanned. A hint at which no grey block begins
-/// is let go. It ends when it has scanned `most` blocks, when no domain has a hint any more, or at the
+/// is let go. A hint is made by a darkening alone, and the look at its address uses it up: so what is
+/// noted are the blocks that were darkened, and each hint that is taken is looked at. It ends when it has scanned `most` blocks, when no domain has a hint any more, or at the
 /// 8192nd hint that it lets go. What it knows of the colours and of blocks is all that has changed.
 ///
 /// Blocks of which no hint tells stay grey until a walk finds them ("Retrofitting Parallelism onto

@@ -1,5 +1,5 @@
 -- What the conditions of steps refuse: where such a condition holds, the body that is named didn't come there.
-use Rattle.std.proofs.Common.{◌≡◌, ◌≢◌, ◌∙◌, ℕ, ◌+◌, ◌<◌, ◌≤◌, Bool, true, false, Some, [], List, length, sym, ⊎_elim, arith}
+use Rattle.std.proofs.Common.{◌≡◌, ◌≢◌, ◌∙◌, ℕ, ◌+◌, ◌*◌, ◌<◌, ◌≤◌, Bool, true, false, Some, [], List, length, sym, ⊎_elim, arith}
 use Rattle.heap_words.specs.declared.value.Value.TheVariants.{Ref}
 use Rattle.heap_rule.specs.declared.change.Change.{Change}
 use Rattle.heap_rule.specs.declared.config.Config.{Config}
@@ -16,7 +16,7 @@ use Rattle.heap_rule.specs.Pools.{blocks_of, spot_at}
 use Rattle.heap_rule.specs.Standing.{Acts}
 use Rattle.steps_fields.specs.Stores.{FieldStoreMay}
 use Rattle.steps_exchange.specs.Exchanges.{ExchangeMay}
-use Rattle.steps_marking_beside.specs.Marking.{ScannedMay}
+use Rattle.steps_marking_beside.specs.Marking.{PoolMay, ScannedMay}
 use Rattle.steps_marking.specs.Marking.{fields_in}
 use Rattle.steps_sweep.specs.Freeing.{FreeMay}
 use Rattle.steps_sweep.specs.Returning.{ReturnMay}
@@ -81,6 +81,15 @@ no_last_is_decided_with_the_others x at i marked r m stage = let e : In Decide �
 pub no_pool_is_drawn_before_a_look : (k : Config) (x : DomainView) (class : ℕ) → CopyDrawMay k x class → (spot_at x.own.looked class).pool < k.pools → ⊥
 no_pool_is_drawn_before_a_look k x class m left = let none = m.none_free in omega (arith, none, left)
 
--- where a slice has scanned nothing, and looked at nothing in vain, it has taken no hint. The premise is the clause `taken` of `slice`
+-- where a slice has scanned nothing, and looked at nothing in vain, it has taken no hint. The premise is the clause `taken` of `slice`. A look takes its hint by value, so each hint that is taken is looked at
 pub no_hint_is_taken_without_a_look : (taken_before taken_after vain_before vain_after count : ℕ) → taken_after + vain_before ≤ taken_before + count + vain_after → count ≡ 0 → vain_after ≡ vain_before → taken_before < taken_after → ⊥
 no_hint_is_taken_without_a_look taken_before taken_after vain_before vain_after count says none same more = omega (arith, says, none, same, more)
+
+-- a look at an address is one into the pool in which it lies, so what it finds in vain is no block there
+pub no_look_goes_to_another_pool : (k : Config) (x : DomainView) (at word pool other : ℕ) → PoolMay k x at word pool → other < k.pools → other * 4096 < at → at ≤ other * 4096 + 4096 → pool ≢ other → ⊥
+no_look_goes_to_another_pool k x at word pool other m inside above below away =
+    let n : ℕ = k.pools in
+    let few : other < n = inside in ⊎_elim
+    (λ (here : (pool * 4096 < at) × (at ≤ pool * 4096 + 4096)). let low = here.0 in let high = here.1 in away (omega (arith, low, high, above, below)))
+    (λ (behind : n * 4096 < at). omega (arith, behind, below, few))
+    m.lies

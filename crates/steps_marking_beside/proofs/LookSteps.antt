@@ -49,7 +49,7 @@ module _ (k : Config) (s : Words) (r : Rule k s) (id : ℕ) (hist : List Entry) 
   abbrev After : DomainView → Type 0
   After y = Rule k record { words = s.words; homes = s.homes; views = set s.views id (one k hist y) }
 
-  module _ (a word pool : ℕ) (may : PoolMay k x word pool) where
+  module _ (a word pool : ℕ) (may : PoolMay k x a word pool) where
     is_owner : owner_of k s.words pool ≡ owner_word (r.account.tenancy.holder pool)
     is_owner = r.whole.pools.owners pool may.inside
 
@@ -130,7 +130,7 @@ module _ (k : Config) (s : Words) (r : Rule k s) (id : ℕ) (hist : List Entry) 
         (λ (is : IsTrue (r.account.tenancy.garbage (place_in pool class slot))). absurd (true≢false (sym is ∙ no_garbage k s r id hist x at may.knows.beside.runs may.knows.beside.armed (place_in pool class slot)))) v) t)
         (r.whole.grid.places pool h.0 class slot h.1 may.inside)
 
-pub pool_may : (k : Config) (x : DomainView) (a word pool : ℕ) → PoolMay k x word pool → MayStep k x word (λ n. n) (PoolTold a pool)
+pub pool_may : (k : Config) (x : DomainView) (a word pool : ℕ) → PoolMay k x a word pool → MayStep k x word (λ n. n) (PoolTold a pool)
 pool_may k x a word pool may fits slots id hist s r _ at _ =
     let o = owner_cases k s r id hist x at a word pool may (r.account.tenancy.holder pool) refl in
     (one k hist o.0, keeps, tt, unmoved k s word (set s.views id (one k hist o.0)) o.1, (subst (λ (n : ℕ). PoolTold a pool x (get_or s.words n 0) o.0) (sym may.word_is) o.2, refl))

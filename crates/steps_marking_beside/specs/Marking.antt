@@ -1,5 +1,5 @@
 -- What the steps of marking beside running domains ask and tell.
-use Rattle.std.specs.Prelude.{◌≡◌, ◌≢◌, ℕ, ◌+◌, ◌*◌, ◌<◌, ◌⊎◌, nat_le, if◌then◌else◌, true, false, List, [], ◌∷◌, Option, Some, None}
+use Rattle.std.specs.Prelude.{◌≡◌, ◌≢◌, ℕ, ◌+◌, ◌*◌, ◌<◌, ◌≤◌, ◌⊎◌, nat_le, if◌then◌else◌, true, false, List, [], ◌∷◌, Option, Some, None}
 use Rattle.heap_model.specs.Domains.{class_count}
 use Rattle.heap_model.specs.Fronts.{Shape}
 use Rattle.heap_words.specs.declared.colours.Colours.{Colours}
@@ -35,10 +35,15 @@ pub record KnowsColours (x : DomainView) : Type 0 where
 abbrev pub learning : DomainView → Known → DomainView
 learning x fact = with_share x (record x.seen.share { known = fact ∷ x.seen.share.known })
 
--- a load of the owner of a pool, for the sake of an address that may be a block's
-pub record PoolMay (k : Config) (x : DomainView) (word pool : ℕ) : Type 0 where
+-- the address lies in the pool, or behind all pools
+abbrev pub LiesIn : Config → ℕ → ℕ → Type 0
+LiesIn k at pool = ((pool * 4096 < at) × (at ≤ pool * 4096 + 4096)) ⊎ (k.pools * 4096 < at)
+
+-- a load of the owner of the pool in which an address lies that may be a block's
+pub record PoolMay (k : Config) (x : DomainView) (at word pool : ℕ) : Type 0 where
   pub beside : IsBeside x
   pub inside : pool < k.pools
+  pub lies : LiesIn k at pool
   pub word_is : word ≡ 11 + k.pools + pool
 
 -- a block of the class may begin at the address, in the pool

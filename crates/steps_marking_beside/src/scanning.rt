@@ -8,11 +8,11 @@ use std::marker::Brand;
 use steps_marking::Looking;
 
 /// A load of the owner of a pool by a running domain, which wants to know whether a block begins at
-/// the address `at` in it. `word` is the index of the owner's word. Answers the word. Where nobody has
-/// the pool, or its blocks begin elsewhere, the look was in vain.
+/// the address `at` in it, which lies there, or behind all pools. `word` is the index of the owner's
+/// word. Answers the word. Where nobody has the pool, or its blocks begin elsewhere, the look was in vain.
 pub fn beside_owner_load(heap: &Heap, dom: &mut Domain, at: u32, word: u32, pool: u32) -> u64
     requires here { IsIn dom.old heap.now }
-    requires may { PoolMay heap.now.config dom.old.view word pool }
+    requires may { PoolMay heap.now.config dom.old.view at word pool }
     ensures here { IsIn dom.new heap.now }
     ensures told { PoolTold at pool dom.old.view result dom.new.view }
 {

@@ -201,12 +201,12 @@ fn runs_of(
 // So often a domain arrives in no test.
 const MOST: u64 = 1_000_000;
 
-// The domain of a run whose trace has ended, as all others have. It runs.
-fn behind_its_end(heap: &Heap, run: DomainRun) -> Result<Domain, Fail>
+// The domain of a run whose trace has ended, as all others have, and its hints. It runs.
+fn behind_its_end(heap: &Heap, run: DomainRun) -> Result<(Domain, Hints), Fail>
     requires here { IsIn run.token heap.now }
-    ensures here { IfOk result (λ t. IsIn t heap.now) }
-    ensures runs { IfOk result (λ t. t.view.seen.stage ≡ In Run) }
-    ensures at_rest { IfOk result (λ t. t.view.seen.hunt ≡ Rests) }
+    ensures here { IfOk result (λ t. IsIn t.0 heap.now) }
+    ensures runs { IfOk result (λ t. t.0.view.seen.stage ≡ In Run) }
+    ensures at_rest { IfOk result (λ t. t.0.view.seen.hunt ≡ Rests) }
 {
     let mut run = run;
     if run.domain().arrivals() >= MOST {
@@ -215,7 +215,7 @@ fn behind_its_end(heap: &Heap, run: DomainRun) -> Result<Domain, Fail>
     match turn(heap, &mut run) {
         Turned::Ended => {
             run.is_faithful();
-            Ok(run.into_domain())
+            Ok(run.into_parts())
         }
         _ => Err(Fail::from("a trace goes on")),
     }
@@ -288,8 +288,8 @@ impl Play {
         false
     }
 
-    /// The heap and one of its domains, all turned to the ends of their traces. The domain runs.
-    pub(crate) fn into_ended(mut self, domain: usize) -> Result<(Heap, Domain), Fail>
+    /// The heap and one of its domains, with its hints, all turned to the ends of their traces. The domain runs.
+    pub(crate) fn into_ended(mut self, domain: usize) -> Result<(Heap, Domain, Hints), Fail>
         ensures here { IfOk result (λ r. IsIn r.1 r.0) }
         ensures runs { IfOk result (λ r. r.1.view.seen.stage ≡ In Run) }
         ensures at_rest { IfOk result (λ r. r.1.view.seen.hunt ≡ Rests) }
@@ -302,8 +302,8 @@ impl Play {
             return Err(Fail::from("no such domain"));
         }
         let run = runs.swap_remove(domain);
-        let domain = behind_its_end(&heap, run)?;
-        Ok((heap, domain))
+        let (domain, hints) = behind_its_end(&heap, run)?;
+        Ok((heap, domain, hints))
     }
 
     /// The runs, driven to their ends in threads.

@@ -3,13 +3,12 @@ ghost use Rattle.heap_rule.specs.declared.phase.Kind.TheVariants.{Run};
 ghost use Rattle.heap_rule.specs.declared.phase.Stage.TheVariants.{In};
 ghost use Rattle.heap_rule.specs.declared.view.Hunt.TheVariants.{Rests};
 ghost use Rattle.heap_rule.specs.Token.{IsIn};
-ghost use Rattle.mark_slices.specs.Decks.{IsPooled};
 ghost use Rattle.std.specs.Prelude.{◌≡◌};
 
 use crate::fixtures::{CHAINED, Play, Section, TWO_DOMAINS, are_of, same};
 use heap_model::command::Command;
 use heap_rule::{Domain, Heap};
-use mark_slices::{Deck, Hints, Scanned, Why, slice};
+use mark_slices::{Deck, Hint, Hints, Scanned, Why, slice};
 use std::alloc::Global;
 use std::test::Fail;
 use std::thread::join;
@@ -36,11 +35,17 @@ struct Marker {
 }
 
 impl Marker {
-    // Notes a hint of its own.
-    fn note(&mut self, address: u32)
-        requires { IsPooled address }
-    {
-        self.hints.push(address);
+    // Takes a hint of its own, or else of the other of two domains.
+    fn take(&mut self) -> Option<Hint> {
+        if self.hints.number() != 1 || self.hints.domains() != 2 {
+            return None;
+        }
+        let own = self.hints.own();
+        if own.is_some() {
+            own
+        } else {
+            self.hints.steal(0)
+        }
     }
 
     // A slice of at most so many blocks, where a collection goes on.
@@ -66,19 +71,15 @@ impl Marker {
     }
 }
 
-// The second of two domains, which have had these commands, and the deck of the first.
-fn second_marker(alloc: Global, sections: &[Section]) -> Result<(Hints, Marker), Fail> {
+// The second of two domains, which have had these commands.
+fn second_marker(alloc: Global, sections: &[Section]) -> Result<Marker, Fail> {
     let play = Play::start(alloc, TWO_DOMAINS, sections)?;
-    let (heap, domain) = play.into_ended(1)?;
-    let (first, hints) = two_decks(alloc)?;
-    Ok((
-        first,
-        Marker {
-            heap,
-            domain,
-            hints,
-        },
-    ))
+    let (heap, domain, hints) = play.into_ended(1)?;
+    Ok(Marker {
+        heap,
+        domain,
+        hints,
+    })
 }
 
 // A chain of 300 blocks hangs from the shared block alone, and a collection begins.
@@ -103,8 +104,8 @@ const CHAIN: [Section; 2] = [
     &[],
 ];
 
-// Commands, and what slices of 256 blocks answer behind them, for a domain that has a hint of the shared block. The second
-// goes on with what the first has noted. Where no collection goes on there is no slice.
+// Commands, and what slices of 256 blocks answer behind them. One domain has marked the shared block, as its root, and has
+// the hint of it. The second slice goes on with what the first has noted. Where no collection goes on there is no slice.
 const SLICES: [(&[Section], &[Option<Scanned>]); 2] = [
     (
         &CHAIN,
@@ -138,8 +139,7 @@ fn slices_so(marker: &mut Marker, slices: &[Option<Scanned>]) -> bool {
 #[test]
 fn slices_scan_256_blocks(rt: HostRuntime) -> Result<(), Fail> {
     for (sections, slices) in &SLICES {
-        let (_, mut marker) = second_marker(rt.alloc(), sections)?;
-        marker.note(1);
+        let mut marker = second_marker(rt.alloc(), sections)?;
         let right = slices_so(&mut marker, slices);
         same(&rt, right, true);
     }
@@ -149,11 +149,14 @@ fn slices_scan_256_blocks(rt: HostRuntime) -> Result<(), Fail> {
 // The hint is the first domain's, and the second, in another thread, scans what hangs from it.
 #[test]
 fn another_thread_takes_a_hint(rt: HostRuntime) -> Result<(), Fail> {
-    let (mut first, second) = second_marker(rt.alloc(), &CHAIN)?;
+    let mut second = second_marker(rt.alloc(), &CHAIN)?;
+    let hint = second.take().ok_or("no hint")?;
+    let (mut first, hints) = two_decks(rt.alloc())?;
+    second.hints = hints;
     let (mut first, scanned) = join(
         &rt,
         move || {
-            first.push(1);
+            first.push(hint);
             first
         },
         move || second.first_sliced(64),
@@ -162,26 +165,64 @@ fn another_thread_takes_a_hint(rt: HostRuntime) -> Result<(), Fail> {
         count: 64,
         why: Why::Enough,
     };
-    same(&rt, (scanned, first.own()), (Some(wanted), None));
+    same(&rt, scanned, Some(wanted));
+    same(&rt, first.own().is_none(), true);
     Ok(())
 }
 
-// A collection of no garbage begins.
-const MAJOR: [Section; 2] = [&[(1, &[Command::Major])], &[]];
+// Register 1 holds a new block of the major heap.
+const BLOCK: Command = Command::AllocMaj {
+    dst: 1,
+    tag: 0,
+    fields: 1,
+};
 
-// No block begins at these addresses, or none that is grey: in the shared block, in a pool that nobody has, and in none.
+// Three blocks hang from the shared block, each at a higher address than the one before, and a collection begins.
+const THREE: [Section; 2] = [
+    &[(
+        1,
+        &[
+            BLOCK,
+            Command::Store {
+                block: 0,
+                index: 0,
+                item: 1,
+            },
+            BLOCK,
+            Command::Store {
+                block: 0,
+                index: 1,
+                item: 1,
+            },
+            BLOCK,
+            Command::Store {
+                block: 0,
+                index: 2,
+                item: 1,
+            },
+            Command::Forget { dst: 1 },
+            Command::Major,
+        ],
+    )],
+    &[],
+];
+
+// The hints of the blocks that one slice has darkened are taken in the order of the fields. Then none is left.
 #[test]
-fn a_slice_lets_8192_hints_go(rt: HostRuntime) -> Result<(), Fail> {
-    let (mut first, mut second) = second_marker(rt.alloc(), &MAJOR)?;
-    for _ in 0..2000u32 {
-        for address in [2, 8193, 8_388_608] {
-            first.push(address);
-            second.note(address);
-        }
+fn hints_are_taken_in_order(rt: HostRuntime) -> Result<(), Fail> {
+    let mut marker = second_marker(rt.alloc(), &THREE)?;
+    let wanted = Scanned {
+        count: 1,
+        why: Why::Enough,
+    };
+    same(&rt, marker.sliced(1), Some(wanted));
+    let mut before = 0;
+    for _ in 0..3u32 {
+        let address = marker.take().ok_or("no hint")?.address();
+        same(&rt, before < address, true);
+        before = address;
     }
-    for why in [Why::Stale, Why::NoneFound] {
-        same(&rt, second.sliced(256), Some(Scanned { count: 0, why }));
-    }
+    same(&rt, marker.take().is_none(), true);
     Ok(())
 }
 
@@ -199,7 +240,7 @@ impl Sweeper {
     // The first of two domains, behind these commands.
     fn behind(alloc: Global, sections: &[Section]) -> Result<Sweeper, Fail> {
         let play = Play::start(alloc, TWO_DOMAINS, sections)?;
-        let (heap, domain) = play.into_ended(0)?;
+        let (heap, domain, _) = play.into_ended(0)?;
         Ok(Sweeper { heap, domain })
     }
 

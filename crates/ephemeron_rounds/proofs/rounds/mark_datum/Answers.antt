@@ -1,4 +1,6 @@
-use Rattle.std.proofs.Common.{arith}
+use Rattle.std.specs.Prelude.{is_some}
+use Rattle.std.proofs.Common.{Bool, arith, subst, sym}
+use Rattle.ephemeron_rounds.specs.Looking.{Through}
 use Rattle.ephemeron_rounds.proofs.Keys.{datum_darkened, datum_darkens, datum_inside, datum_passed}
 use Rattle.ephemeron_rounds.proofs.rounds.mark_datum.Goals as goal
 
@@ -23,5 +25,6 @@ returns-in_default-clause-through c = datum_passed c.args.heap.now.config c.args
 
 pub returns-clause-through : goal.returns-clause-through
 returns-clause-through c =
-    datum_darkened c.args.heap.now.config c.args.dom.now.view c.datum_load-word.new.dom.view c.args.at c.requires.done.0 c.datum_load-word.result c.read_as.result c.requires.done.1 c.datum_load-word.ensures.told c.read_as.ensures c.in-Ref.address c.in-Ref.is
-    c.darken.new.dom.view c.darken.result c.args.colours c.requires.darkening c.darken.ensures.darkened
+    let through = datum_darkened c.args.heap.now.config c.args.dom.now.view c.datum_load-word.new.dom.view c.args.at c.requires.done.0 c.datum_load-word.result c.read_as.result c.requires.done.1 c.datum_load-word.ensures.told c.read_as.ensures c.in-Ref.address c.in-Ref.is
+    c.darken.new.dom.view (is_some c.darken.result) c.args.colours c.requires.darkening c.darken.ensures.darkened in
+    subst (λ (won : Bool). Through c.args.at won c.args.dom.now.view c.darken.new.dom.view) (sym c.is_some.ensures) through

@@ -4,5 +4,5 @@ use Rattle.mark_slices.proofs.greys.darken_field.Given as goal
 abbrev pub ghost-beside_read : goal.ghost-beside_read
 ghost-beside_read g a = OfScan g.why.head
 
-abbrev pub ghost-darken_beside : goal.ghost-darken_beside
-ghost-darken_beside g a = g.why.reason
+abbrev pub ghost-darken_running : goal.ghost-darken_running
+ghost-darken_running g a = g.why.reason

@@ -1,8 +1,8 @@
-use Rattle.std.proofs.Common.{◌≡◌, ◌+◌, ◌≤◌, Bool, cond, Some, ap, ◌∙◌}
+use Rattle.std.proofs.Common.{◌≡◌, Some}
 use Rattle.heap_rule.specs.declared.view.DomainView.{DomainView}
 use Rattle.heap_rule.specs.declared.view.Held.TheVariants.{Queue}
 use Rattle.heap_rule.specs.Finalisers.{held_at}
-use Rattle.mark_slices.proofs.Queues.{held_here, queue_darkens}
+use Rattle.mark_slices.proofs.Queues.{counts_won, held_here, queue_darkens}
 use Rattle.mark_slices.proofs.queue.mark_queued.Goals as goal
 
 pub darken-requires : goal.darken-requires
@@ -12,9 +12,5 @@ darken-requires g c =
     let held : held_at x.own.finalisers (Queue c.args.place) ≡ Some c.in-Fin.address = held_here x.own.finalisers c.args.place c.in-Fin.address c.in-Fin.number c.in-Fin.register c.queue_at.result c.queue_at.ensures c.in-Fin.is in
     (c.requires.0, (q.1.1.1.1.0 (Queue c.args.place) c.in-Fin.address held, (q.1.1.0, queue_darkens x c.args.colours c.args.place c.in-Fin.address g.reason q.0 q.1.0 q.1.1.1.1.1 held)))
 
-pub returns-then-darken-clause-marked : goal.returns-then-darken-clause-marked
-returns-then-darken-clause-marked g c =
-    let x : DomainView = c.args.dom.now.view in
-    let won = c.if-darken.true in
-    let low : 1 ≤ c.in-Fin.address = (c.requires.1.1.1.1.1.0 (Queue c.args.place) c.in-Fin.address (held_here x.own.finalisers c.args.place c.in-Fin.address c.in-Fin.number c.in-Fin.register c.queue_at.result c.queue_at.ensures c.in-Fin.is)).0 in
-    (low, c.darken.ensures.lies won, ap (λ (v : DomainView). v.seen.share.darkenings) c.darken.ensures.darkened ∙ ap (λ (b : Bool). x.seen.share.darkenings + cond b 1 0) won)
+pub returns-clause-marked : goal.returns-clause-marked
+returns-clause-marked g c = counts_won c.args.dom.now.view c.darken.new.dom.view g.reason c.in-Fin.address c.darken.result c.darken.ensures.darkened

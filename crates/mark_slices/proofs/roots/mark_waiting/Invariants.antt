@@ -3,7 +3,7 @@ use Rattle.heap_rule.specs.declared.view.Held.TheVariants.{Queue}
 use Rattle.heap_rule.specs.Finalisers.{held_at}
 use Rattle.heap_rule.specs.Token.{IsIn}
 use Rattle.steps_marking.specs.Marking.{OfQueue}
-use Rattle.mark_slices.specs.Decks.{HasNoted, NotesAlone, NotesNoMore, NotesOn}
+use Rattle.mark_slices.specs.Decks.{HasNoted, NotesAlone, NotesAtMost, NotesNoMore, NotesOn}
 use Rattle.mark_slices.specs.Shares.{IsQueueRoot, with_queue}
 use Rattle.mark_slices.proofs.roots.mark_waiting.Given as goal
 
@@ -20,4 +20,5 @@ invariant-loop-place l = record {
   noted : HasNoted l.fn.dom.view.seen.share.darkenings l.dom.view.seen.share.darkenings l.fn.hints l.hints;
   no_more : NotesNoMore l.fn.dom.view.seen.share.darkenings l.dom.view.seen.share.darkenings l.fn.hints l.hints;
   alone : NotesAlone l.fn.hints l.hints;
+  few : NotesAtMost l.place l.fn.hints l.hints;
 }

@@ -3,7 +3,7 @@ use Rattle.heap_words.specs.declared.value.Value.TheVariants.{Ref}
 use Rattle.heap_rule.specs.Changes.{value_at}
 use Rattle.heap_rule.specs.Token.{IsIn}
 use Rattle.steps_marking.specs.Marking.{Register}
-use Rattle.mark_slices.specs.Decks.{HasNoted, NotesAlone, NotesNoMore, NotesOn}
+use Rattle.mark_slices.specs.Decks.{HasNoted, NotesAlone, NotesAtMost, NotesNoMore, NotesOn}
 use Rattle.mark_slices.specs.Shares.{IsRoot, with_roots}
 use Rattle.mark_slices.proofs.roots.start_roots.Given as goal
 
@@ -18,6 +18,7 @@ invariant-loop-register l = record {
   noted : HasNoted l.fn.dom.view.seen.share.darkenings l.dom.view.seen.share.darkenings l.fn.hints l.hints;
   no_more : NotesNoMore l.fn.dom.view.seen.share.darkenings l.dom.view.seen.share.darkenings l.fn.hints l.hints;
   alone : NotesAlone l.fn.hints l.hints;
+  few : NotesAtMost l.register l.fn.hints l.hints;
   known : l.dom.view.seen.share.colours ≡ Some l.colours;
   done : (r a : ℕ) → r < l.register → value_at l.fn.dom.view.own.registers r ≡ Ref a → IsRoot l.dom.view r;
 }

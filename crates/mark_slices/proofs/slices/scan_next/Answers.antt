@@ -22,7 +22,7 @@ returns-then-scan_hint-clause-scanned g c =
     let y : DomainView = c.loop-let_go.dom.view in
     let z : DomainView = c.scan_hint.new.dom.view in
     let gone : ℕ = c.loop-let_go.let_go in
-    let took = took_one gone x y l m n c.loop-let_go.invariant.went c.in-Some.ensures.took.1 in (
+    let took = took_one gone x y l m n c.loop-let_go.invariant.went c.in-Some.ensures.took in (
       c.loop-let_go-test.true,
       subst (λ (won : Bool). Went (cond won 1 0) (cond won gone (gone + 1)) (gone + 1) x z l o) c.if-scan_hint.true (next_on c.scan_hint.result gone x y z l n o took c.scan_hint.ensures.went),
     )
@@ -37,7 +37,7 @@ loop-let_go-preserved g c =
     let y : DomainView = c.loop-let_go.dom.view in
     let z : DomainView = c.scan_hint.new.dom.view in
     let gone : ℕ = c.loop-let_go.let_go in
-    let took = took_one gone x y l m n c.loop-let_go.invariant.went c.in-Some.ensures.took.1 in record {
+    let took = took_one gone x y l m n c.loop-let_go.invariant.went c.in-Some.ensures.took in record {
       here = c.scan_hint.ensures.here;
       went = subst (λ (won : Bool). Went (cond won 1 0) (cond won gone (gone + 1)) (gone + 1) x z l o) c.if-scan_hint.false (next_on c.scan_hint.result gone x y z l n o took c.scan_hint.ensures.went);
     }
