@@ -1,11 +1,13 @@
 -- A look at an ephemeron: its keys and its datum.
-use Rattle.std.proofs.Common.{◌≡◌, ℕ, ◌+◌, ◌<◌, ◌≤◌, ◌⊎◌, Bool, true, false, MatchBool, cond, ◌∷◌, ⊎_elim, sym, refl, ap, subst, ◌∙◌}
+use Rattle.std.proofs.Common.{◌≡◌, ℕ, ◌+◌, ◌<◌, ◌≤◌, ◌⊎◌, Bool, true, false, MatchBool, cond, ◌∷◌, ◌==◌, eq-eqb, IsTrue, inr, ⊎_elim, sym, refl, ap, subst, ◌∙◌}
 use Rattle.heap_words.specs.declared.colours.Colours.{Colours}
 use Rattle.heap_words.specs.declared.value.Value.{Value}
 use Rattle.heap_words.specs.declared.value.Value.TheVariants.{Int, Ref, Nothing}
 use Rattle.heap_words.specs.ColourWords.{IsPermutation}
 use Rattle.heap_words.specs.Values.{IsPackable, value_word}
 use Rattle.heap_words.proofs.WordLemmas.{value_word-injective}
+use Rattle.heap_model.proofs.Reach.ReachLemmas.{or_left}
+use Rattle.heap_rule.specs.Cycles.{seen_by}
 use Rattle.heap_rule.specs.declared.config.Config.{Config}
 use Rattle.heap_rule.specs.declared.phase.Kind.TheVariants.{Rounds}
 use Rattle.heap_rule.specs.declared.phase.Stage.{Stage}
@@ -17,7 +19,7 @@ use Rattle.heap_rule.specs.Token.{IsAddress}
 use Rattle.steps_marking.specs.Looks.{with_share}
 use Rattle.steps_marking.specs.Marking.{IsMarked, IsUnmarked, OfDatum, seen_through}
 use Rattle.steps_ephemeron_looks.specs.Rounding.{DatumTold, EphemeronTold, IsMarkedEphemeron, place_seen, KeyLookMay, KeyLookTold, KeyMay, KeyTold, datum_on, key_on}
-use Rattle.mark_slices.specs.Shares.{Darkens, darkened, owes_after}
+use Rattle.mark_slices.specs.Shares.{Darkens, Followed, Scans, darkened, owes_after, scanning}
 use Rattle.darkening_beside.proofs.Exchanges.{not_both, one_meaning}
 use Rattle.ephemeron_rounds.specs.Looking.{Darkening, Through, after_key, after_keys, ended_at, key_past}
 
@@ -144,3 +146,18 @@ module _ (k : Config) (x y : DomainView) (at word : ℕ) (colours : Colours) (d 
       (λ (u : Unmarked colours). subst (Through at false x) (sym (u.1 ∙ ap (λ (s : Scan). with_share x (record (ended_at at x.seen.share) { scan = s })) idle)) record { view = refl })
       (λ (b : Begins colours). absurd (other b.0 b.1))
       told
+
+-- the domain has marked the block of a datum, which it scans next
+module _ (x y : DomainView) (at : ℕ) (t : Through at true x y) where
+  pub datum_scans : (colours : Colours) → Darkening colours x → Scans colours y
+  datum_scans colours d = record { stage = inr (ap (λ (u : DomainView). u.seen.stage) t.view ∙ d.stage); known = ap (λ (u : DomainView). u.seen.share.colours) t.view ∙ d.known; idle = ap (λ (u : DomainView). u.seen.share.scan) t.view }
+
+  pub datum_owes : y.seen.share.owes ≡ true
+  datum_owes = ap (λ (u : DomainView). u.seen.share.owes) t.view
+
+  pub datum_scanned : (z : DomainView) → Followed true y z → Through at true x z
+  datum_scanned z f = record { view = f ∙ ap (λ (u : DomainView). with_share u (scanning u.seen.share z.seen.share u.seen.share.scan true)) t.view }
+
+-- and knows to be marked
+pub datum_marked : (x y : DomainView) (a : ℕ) (won : Bool) → y ≡ darkened OfDatum a won x → IsTrue (seen_by y.seen.share.marked a)
+datum_marked x y a won e = subst (λ (u : DomainView). IsTrue (seen_by u.seen.share.marked a)) (sym e) (or_left (a == a) (seen_by x.seen.share.marked a) (eq-eqb a a refl))

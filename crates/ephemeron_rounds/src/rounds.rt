@@ -15,7 +15,7 @@ ghost use Rattle.ephemeron_rounds.specs.Looking.{AllLooked, Darkening, LookedAtE
 use crate::heads::{is_marked, marked_keys};
 use heap_rule::{Domain, Heap, Reading, read_as};
 use heap_words::{Colours, Value};
-use mark_slices::{Hints, darken};
+use mark_slices::{Hints, darken, scan_marked};
 use steps_ephemeron_looks::{datum_load, ephemeron_load, key_load, key_look};
 use steps_marking::{changed_store, colours_now};
 
@@ -99,7 +99,11 @@ fn mark_datum(heap: &Heap, dom: &mut Domain, at: u32, colours: Colours, hints: &
         return false;
     };
     hints.wake(address);
-    darken(heap, dom, address, colours).is_some()
+    let won = darken(heap, dom, address, colours).is_some();
+    if won {
+        scan_marked(heap, dom, address, colours, hints);
+    }
+    won
 }
 
 // Looks at a listed ephemeron, and marks what its datum refers to where it is to be marked: the
