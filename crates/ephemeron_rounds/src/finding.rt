@@ -13,7 +13,7 @@ ghost use Rattle.ephemeron_rounds.specs.Naming.{LooksInto, NamesRegisters};
 
 use heap_model::reply::Reply;
 use heap_rule::{Domain, Heap};
-use heap_words::{Head, Value, unpack_head};
+use heap_words::{Head, Value, read_head};
 use steps_ephemeron_commands::ephe_head_load;
 use steps_fields::tick;
 
@@ -22,10 +22,9 @@ fn key_count(head: u64) -> Option<u16>
     requires { (s : Shape) × IsHeadOf s head }
     ensures { (s : Shape) → IsHeadOf s head → result ≡ keys_of s }
 {
-    match unpack_head(head) {
-        Some(Head::Ephe { keys, .. }) => Some(keys),
-        Some(Head::Plain { .. }) => None,
-        Some(Head::Free) | Some(Head::Forward(_)) | None => unreachable!(),
+    match read_head(head) {
+        Head::Ephe { keys, .. } => Some(keys),
+        Head::Plain { .. } | Head::Free | Head::Forward(_) => None,
     }
 }
 

@@ -22,7 +22,7 @@ use darkening_beside::darken_beside;
 use field_access::shown_register;
 use heap_model::reply::Reply;
 use heap_rule::{Change, Domain, Heap};
-use heap_words::{Value, unpack_value};
+use heap_words::{Value, read_value};
 use size_classes::POOL_WORDS;
 use steps_ephemeron_commands::weak_load;
 use steps_marking::{armed_now, colours_now};
@@ -86,10 +86,9 @@ fn tells_full(word: u64) -> Reply
     requires { (v : words.Value) × IsPackable v × (word ≡ value_word v) }
     ensures { (v : words.Value) (held : model.Value) → IsPackable v → word ≡ value_word v → Shows v held → result ≡ full_reply held }
 {
-    match unpack_value(word) {
-        Some(Value::Nothing) => Reply::No,
-        Some(_) => Reply::Yes,
-        None => unreachable!(),
+    match read_value(word) {
+        Value::Nothing => Reply::No,
+        _ => Reply::Yes,
     }
 }
 

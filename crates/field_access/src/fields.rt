@@ -26,7 +26,7 @@ use darkening_beside::overwrite_barrier;
 use heap_model::label::Label;
 use heap_model::reply::Reply;
 use heap_rule::{Change, Domain, Heap};
-use heap_words::{Head, Value, pack_value, unpack_head, unpack_label};
+use heap_words::{Head, Value, pack_value, read_head, read_label};
 use size_classes::POOL_WORDS;
 use steps_fields::{field_load, field_store, head_load, label_load, tick};
 
@@ -35,10 +35,9 @@ pub fn field_count(head: u64) -> Option<u16>
     requires { (s : Shape) × IsHeadOf s head }
     ensures { (s : Shape) → IsHeadOf s head → result ≡ size_of s }
 {
-    match unpack_head(head) {
-        Some(Head::Plain { size, .. }) => Some(size),
-        Some(Head::Ephe { .. }) => None,
-        Some(Head::Free) | Some(Head::Forward(_)) | None => unreachable!(),
+    match read_head(head) {
+        Head::Plain { size, .. } => Some(size),
+        Head::Ephe { .. } | Head::Free | Head::Forward(_) => None,
     }
 }
 
@@ -51,13 +50,12 @@ pub fn fields_for(head: u64, value: Value) -> Option<u16>
     requires { (s : Shape) × IsHeadOf s head }
     ensures { (s : Shape) → IsHeadOf s head → result ≡ fields_for s value }
 {
-    match unpack_head(head) {
-        Some(Head::Plain { size, tag, .. }) => match value {
+    match read_head(head) {
+        Head::Plain { size, tag, .. } => match value {
             Value::Ref(_) if FIRST_RAW <= tag => None,
             _ => Some(size),
         },
-        Some(Head::Ephe { .. }) => None,
-        Some(Head::Free) | Some(Head::Forward(_)) | None => unreachable!(),
+        Head::Ephe { .. } | Head::Free | Head::Forward(_) => None,
     }
 }
 
@@ -66,9 +64,7 @@ fn label_of_word(word: u64) -> Label
     requires { (l : labels.Label) × IsPackableLabel (l.domain, l.serial) × (label_word l.domain l.serial ≡ word) }
     ensures { (l : labels.Label) → IsPackableLabel (l.domain, l.serial) → label_word l.domain l.serial ≡ word → result ≡ l }
 {
-    let Some((domain, serial)) = unpack_label(word) else {
-        unreachable!()
-    };
+    let (domain, serial) = read_label(word);
     Label { domain, serial }
 }
 

@@ -5,7 +5,7 @@ ghost use Rattle.heap_rule.specs.Places.{extent};
 ghost use Rattle.heap_words.specs.Unpacked.{Unpacks};
 ghost use Rattle.promote_claim.specs.Heads.{IsForward, forward_word, IsHeadFor};
 
-use heap_words::{Head, unpack_head};
+use heap_words::{Head, read_head, unpack_head};
 
 // The copy to which the head forwards.
 pub(crate) fn copy_of(word: u64) -> Option<u32>
@@ -22,9 +22,9 @@ pub(crate) fn words_of(word: u64) -> u32
     requires { (shape : Shape) × IsHeadFor shape word }
     ensures { (shape : Shape) → IsHeadFor shape word → result ≡ extent shape }
 {
-    match unpack_head(word) {
-        Some(Head::Plain { size, .. }) => u32::from(size) + 2,
-        Some(Head::Ephe { keys, .. }) => u32::from(keys) + 3,
-        _ => unreachable!(),
+    match read_head(word) {
+        Head::Ephe { keys, .. } => u32::from(keys) + 3,
+        Head::Plain { size, .. } => u32::from(size) + 2,
+        Head::Free | Head::Forward(_) => unreachable!(),
     }
 }

@@ -7,7 +7,7 @@ ghost use Rattle.steps_marking.specs.Looks.{HeldInside, knowing_colours};
 
 use crate::looking::colours_load;
 use heap_rule::{Domain, Heap};
-use heap_words::{Colours, unpack_colours};
+use heap_words::{Colours, read_colours};
 
 /// Which colours mean marked, unmarked and garbage, by a load of this call. They mean it for as long
 /// as the domain hasn't arrived. The call also says that the addresses in the domain's lists of
@@ -20,8 +20,5 @@ pub fn colours_now(heap: &Heap, dom: &mut Domain) -> Colours
     ensures knows { dom.new.view ≡ knowing_colours dom.old.view result }
     ensures inside { HeldInside heap.now.config dom.old.view.own.finalisers }
 {
-    let Some(colours) = unpack_colours(colours_load(heap, dom)) else {
-        unreachable!()
-    };
-    colours
+    read_colours(colours_load(heap, dom))
 }

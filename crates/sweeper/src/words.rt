@@ -3,7 +3,7 @@ ghost use Rattle.std.specs.Prelude.{◌≡◌, ◌≤◌};
 ghost use Rattle.heap_model.specs.Fronts.{Shape};
 ghost use Rattle.heap_rule.specs.Places.{extent, IsHeadOf};
 
-use heap_words::{Head, unpack_head};
+use heap_words::{Head, read_head};
 
 // The words of the block whose head this is, its head and its label among them.
 pub(crate) fn words_of(word: u64) -> u64
@@ -11,9 +11,9 @@ pub(crate) fn words_of(word: u64) -> u64
     ensures words { (shape : Shape) → IsHeadOf shape word → result ≡ extent shape }
     ensures few { result ≤ 1024 }
 {
-    match unpack_head(word) {
-        Some(Head::Plain { size, .. }) => u64::from(size) + 2,
-        Some(Head::Ephe { keys, .. }) => u64::from(keys) + 3,
-        _ => unreachable!(),
+    match read_head(word) {
+        Head::Plain { size, .. } => u64::from(size) + 2,
+        Head::Ephe { keys, .. } => u64::from(keys) + 3,
+        Head::Free | Head::Forward(_) => unreachable!(),
     }
 }
