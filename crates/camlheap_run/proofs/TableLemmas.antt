@@ -23,7 +23,7 @@ use Rattle.camlheap_run.specs.Writing.{AppendsFront}
 use Rattle.camlheap_run.proofs.SectionLemmas.{rooms_fit}
 
 -- the heap that is started is one of the sizes asked for
-pub table_sizes_are : (z : Sizes) (n : ℕ) → MayHoldTable z → sizes_in (alone z.minor_words z.pools n) ≡ z
+pub table_sizes_are : (z : Sizes) (n : ℕ) → MayHoldTable z → sizes_in (alone z.minor_words z.pools 0 n) ≡ z
 table_sizes_are z n may =
     let same : sizes_of z.domains z.pools z.minor_words z.classes ≡ z = refl in
     ap (λ (d : ℕ). sizes_of d z.pools z.minor_words class_count) (sym may.0.one) ∙ (ap (λ (c : ℕ). sizes_of z.domains z.pools z.minor_words c) (sym may.1) ∙ same)
@@ -39,10 +39,10 @@ pub opened_room : (z : Sizes) (ls : List TableLine) (o : Opened) → IsOpened z 
 opened_room z ls o opened = ap (λ (s : SessionView). s.room) opened.session
 
 -- and within the limits
-pub table_fits : (z : Sizes) (n : ℕ) → MayHoldTable z → n ≤ 200000 → first_outside (alone z.minor_words z.pools n) ≡ None
+pub table_fits : (z : Sizes) (n : ℕ) → MayHoldTable z → n ≤ 200000 → first_outside (alone z.minor_words z.pools 0 n) ≡ None
 table_fits z n may few =
     let none : 0 ≤ 200000 = omega arith in
-    rooms_fit (alone z.minor_words z.pools n) (ap outside_sizes (table_sizes_are z n may) ∙ may.0.limits) none few
+    rooms_fit (alone z.minor_words z.pools 0 n) (ap outside_sizes (table_sizes_are z n may) ∙ may.0.limits) none few
 
 line_rooms : (l : TableLine) → rooms_of l ≤ 1
 line_rooms (Key r) = omega arith

@@ -25,7 +25,7 @@ ephemerons_for lines = 16 + length lines
 
 -- a session of such a heap that has made no command, and room for a reply to each line
 pub record IsOpened (z : Sizes) (lines : List TableLine) (o : Opened) : Type 0 where
-  pub session : o.session ≡ record { config = alone z.minor_words z.pools (ephemerons_for lines); front = []; labels = 0; room = ephemerons_for lines }
+  pub session : o.session ≡ record { config = alone z.minor_words z.pools 0 (ephemerons_for lines); front = []; labels = 0; room = ephemerons_for lines; finals = 0; ran = [] }
   pub empty : o.room.items ≡ []
   pub capacity : length lines ≤ vec_capacity o.room
 

@@ -9,7 +9,7 @@ use crate::Status;
 use crate::answering::write_answers;
 use heap_model::state::Sizes;
 use heap_rule::StartFault;
-use heap_session::Session;
+use heap_session::TableSession;
 use outer_io::{Failed, Sink};
 use std::alloc::{AllocError, Global};
 use std::sync::Wait;
@@ -23,7 +23,7 @@ const SLOTS: u32 = 16;
 /// A session that has made no command, and room for the replies.
 #[derive(Drop)]
 pub(crate) struct Opened {
-    pub(crate) session: Session,
+    pub(crate) session: TableSession,
     pub(crate) room: Vec<LineReply>,
 }
 
@@ -35,7 +35,7 @@ fn open(alloc: Global, sizes: &Sizes, text: &TableText) -> Result<Opened, AllocE
 {
     let room = Vec::with_capacity(alloc, text.len())?;
     let ephemerons = SLOTS + text.len() as u32;
-    match Session::make(alloc, sizes.minor_words, sizes.pools, ephemerons) {
+    match TableSession::make(alloc, sizes.minor_words, sizes.pools, ephemerons) {
         Ok(session) => Ok(Opened { session, room }),
         Err(StartFault::Memory) => Err(AllocError),
         Err(StartFault::Config(_)) => unreachable!(),

@@ -25,6 +25,7 @@ use Rattle.heap_rule.specs.Views.{opening_view}
 use Rattle.heap_rule.proofs.Acting.{looked_acts}
 use Rattle.heap_rule.proofs.Calls.{stays_trans}
 use Rattle.spawn_laws.specs.Hidden.{hidden}
+use Rattle.domain_spawn.proofs.Making.{prefix_trans}
 use Rattle.domain_spawn.specs.Opening.{Began, Grew, HandedAt, HandedOver, HandedUpto, Has, Keeps, made_by, making, taking, takings}
 use Rattle.domain_spawn.proofs.Interleaved.{has_more, has_push, made_append, made_none, takings_more}
 
@@ -45,9 +46,6 @@ grew_has d p old new g has = subst (Has p) (sym g.appends) (has_more p old g.res
 
 pub grew_prefix : (d : ℕ) (old new : List Entry) → Grew d old new → IsPrefix old new
 grew_prefix d old new g = record { rest = g.rest; appends = g.appends }
-
-pub prefix_trans : (a b c : List Entry) → IsPrefix a b → IsPrefix b c → IsPrefix a c
-prefix_trans a b c p q = record { rest = p.rest ++ q.rest; appends = q.appends ∙ (ap (λ (h : List Entry). h ++ q.rest) p.appends ∙ append_assoc a p.rest q.rest) }
 
 -- a domain goes on from what it owned
 pub keeps_registers : (x y z : Own) → Keeps x y → z ≡ record y { registers = z.registers } → Keeps x z

@@ -19,38 +19,8 @@ use Rattle.heap_rule.specs.Token.{SharedHeap, Token}
 use Rattle.spawn_laws.specs.Hidden.{prelude}
 use Rattle.domain_spawn.specs.Opening.{Began, Grew, Has, IsOpened, MetAt, MetUpto, clearing, made_by, making, takings}
 use Rattle.domain_spawn.proofs.Interleaved.{has_all, made_append, made_none, taken_once}
+use Rattle.domain_spawn.proofs.Ended.{none_of_ended, none_there}
 use Rattle.domain_spawn.proofs.Handing.{began_seeing, get_within, grew_count, saw, set_else, set_is}
-
--- a domain makes an entry only while its trace hasn't ended, and a number that is no domain's has
-maker_runs : (s : State) (e : Entry) (d : ℕ) → Allowed s e → is_entry_of d e ≡ true → (domain_at s d).ended ≡ false
-maker_runs s (CommandOf k c full) d allowed own = subst (λ j. (domain_at s j).ended ≡ false) (eqb-true k d own) allowed.running
-maker_runs s (End k) d allowed own = subst (λ j. (domain_at s j).ended ≡ false) (eqb-true k d own) allowed.running
-maker_runs s (Ran k) d allowed own = subst (λ j. (domain_at s j).ended ≡ false) (eqb-true k d own) allowed.running
-maker_runs s Cut d allowed own = cc
-maker_runs s (Queue k places) d allowed own = cc
-maker_runs s Seal d allowed own = cc
-maker_runs s (Wipe l keys) d allowed own = cc
-maker_runs s (Last k place) d allowed own = cc
-maker_runs s Collected d allowed own = cc
-maker_runs s Done d allowed own = cc
-
-not_own : (s : State) (e : Entry) (d : ℕ) → Allowed s e → (domain_at s d).ended ≡ true → is_entry_of d e ≡ false
-not_own s e d allowed over = go (is_entry_of d e) refl where
-  go : (b : Bool) → is_entry_of d e ≡ b → b ≡ false
-  go true own = absurd (true≢false (sym over ∙ maker_runs s e d allowed own))
-  go false own = refl
-
-none_of_ended : (s : State) (h : List Entry) (d : ℕ) → (domain_at s d).ended ≡ true → LegalFrom s h → NoneOf d h
-none_of_ended s [] d over legal = refl
-none_of_ended s (e ∷ h) d over legal =
-    let other : is_entry_of d e ≡ false = not_own s e d legal.0 over in
-    rw other (none_of_ended (next s e) h d ((keeps_next s e d other).ended ∙ over) legal.1)
-
-none_there : (n d : ℕ) → n ≤ d → (get_or (replicate n opening_domain) d no_domain).ended ≡ true
-none_there zero zero above = refl
-none_there zero (suc d) above = refl
-none_there (suc n) zero above = absurd (omega (arith, above))
-none_there (suc n) (suc d) above = none_there n d (omega (arith, above))
 
 -- a front that grew twice
 all_both : (p : Entry → Bool) (xs ys : List Entry) → list_all p xs ≡ true → list_all p ys ≡ true → list_all p (xs ++ ys) ≡ true

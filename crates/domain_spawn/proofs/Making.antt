@@ -30,8 +30,8 @@ use Rattle.spawn_laws.proofs.Growing.{steps_answer, printed_answer}
 use Rattle.domain_spawn.specs.Expanding.{ChangesWords, MakesSteps, MakesOne, MakesAll, PassesArgument, Expands, argument_commands, last_answer}
 use Rattle.domain_spawn.proofs.Owed.{command_due}
 
-prefix_after : (a b c : List Entry) → IsPrefix a b → IsPrefix b c → IsPrefix a c
-prefix_after a b c x y = record { rest = x.rest ++ y.rest; appends = y.appends ∙ (ap (λ (h : List Entry). h ++ y.rest) x.appends ∙ append_assoc a x.rest y.rest) }
+pub prefix_trans : (a b c : List Entry) → IsPrefix a b → IsPrefix b c → IsPrefix a c
+prefix_trans a b c x y = record { rest = x.rest ++ y.rest; appends = y.appends ∙ (ap (λ (h : List Entry). h ++ y.rest) x.appends ∙ append_assoc a x.rest y.rest) }
 
 -- a call that makes an entry
 pub made_one : (h : SharedHeap) (old new : Token) (c : Command) (r : Reply) → Did h old new c r → c ≢ FullMajor → new.view.own.number ≡ old.view.own.number → MakesOne h old new c r
@@ -74,7 +74,7 @@ made_both h a b c xs ys x y =
     record {
       runs = y.runs;
       number = y.number ∙ x.number;
-      front = prefix_after a.view.seen.front b.view.seen.front c.view.seen.front x.front y.front;
+      front = prefix_trans a.view.seen.front b.view.seen.front c.view.seen.front x.front y.front;
       legal = subst (λ (m : Config × ℕ). Legal (sizes_in m.0) c.view.seen.front) heads y.legal;
       steps = steps ∙ (ap (λ (zs : List Step). zs ++ ys) x.steps ∙ append_assoc (steps_from (opening (sizes_in k)) a.view.seen.front d) xs ys);
       printed = printed ∙ (ap (λ (rs : List Reply). rs ++ printed_of d ys) x.printed ∙ (append_assoc (printed_replies (sizes_in k) a.view.seen.front d) (printed_of d xs) (printed_of d ys)

@@ -19,7 +19,8 @@ use Rattle.field_access.specs.Remembered.{ChangesRemembered}
 use Rattle.size_pools.specs.Taken.{GrowsBy}
 use Rattle.spawn_laws.specs.Hidden.{hidden, hidden_fields, prelude, scratch}
 use Rattle.domain_spawn.specs.Opening.{Began, Cleared, HandedUpto, Has, IsOpened, Keeps, MadeHidden, MetUpto, clearing, made_by, making, takings}
-use Rattle.domain_spawn.proofs.Handing.{Made, began_did, get_within, keeps_registers, made_count, made_has, opening_began, prefix_trans}
+use Rattle.domain_spawn.proofs.Handing.{Made, began_did, get_within, keeps_registers, made_count, made_has, opening_began}
+use Rattle.domain_spawn.proofs.Making.{prefix_trans}
 
 -- what a command of domain 0 leaves of its front
 module _ (h : SharedHeap) (t u : Token) (c : Command) (r : Reply) (b : Began h 0 t) (did : Did h t u c r) (short : is_full_major (CommandOf t.view.own.number c false) ≡ false) where

@@ -1,13 +1,13 @@
 -- How a domain stands before its first command.
-use Rattle.std.proofs.Common.{◌≡◌, ◌≢◌, ◌∙◌, ℕ, ◌/◌, ◌+◌, ◌%◌, ◌<◌, ◌≤◌, zero, suc, true, false, length, List, [], Option, None, replicate, ap, refl, sym, arith}
+use Rattle.std.proofs.Common.{◌≡◌, ◌≢◌, ◌∙◌, ℕ, ◌/◌, ◌+◌, ◌%◌, ◌<◌, ◌≤◌, zero, suc, true, false, length, List, [], append-nil, Option, None, replicate, ap, refl, sym, arith}
 use Rattle.std.specs.Prelude.{slice_index_or}
 use Rattle.heap_model.specs.declared.command.Command.{Command}
 use Rattle.domain_turns.specs.declared.supply.Supply.{Supply}
-use Rattle.domain_turns.specs.declared.supply.Supply.TheVariants.{Listed, Section, Open}
+use Rattle.domain_turns.specs.declared.supply.Supply.TheVariants.{Listed, Section, Open, Closed}
 use Rattle.mark_slices.specs.Decks.{DeckCounts}
 use Rattle.mark_slices.specs.Slices.{IsDeckOf}
 use Rattle.heap_model.specs.Domains.{class_count, opening_domain, no_domain}
-use Rattle.heap_model.specs.History.{commands, replies}
+use Rattle.heap_model.specs.History.{commands}
 use Rattle.heap_rule.specs.Limits.{sizes_in}
 use Rattle.heap_rule.specs.declared.config.Config.{Config}
 use Rattle.heap_rule.specs.Opening.{opening_token}
@@ -16,8 +16,12 @@ use Rattle.heap_rule.specs.Pools.{prepared_at}
 use Rattle.heap_rule.specs.Token.{Token, SharedHeap}
 use Rattle.steps_finalisers.specs.Registering.{count_of}
 use Rattle.heap_rule.specs.Views.{no_collection}
-use Rattle.domain_turns.proofs.Supplying.{fits_as}
-use Rattle.domain_turns.specs.Runs.{AllFit, CanBegin, EndsIn, HasLabels, HasReserved, IsBetween, IsHandedIn, IsRun, ephemerons_in, registrations_in, unturned}
+use Rattle.heap_model.specs.declared.reply.Reply.{Reply}
+use Rattle.domain_turns.specs.declared.place.Place.{Place}
+use Rattle.domain_turns.specs.declared.place.Place.TheVariants.{AsEver}
+use Rattle.domain_turns.specs.Sections.{AllFitIn, IsInSection}
+use Rattle.domain_turns.specs.Kept.{answers, finalised}
+use Rattle.domain_turns.specs.Runs.{AllFit, AreKept, CanBegin, EndsIn, HasLabels, IsBetween, IsHandedIn, StandsReady, IsRun, ephemerons_in, most_ran, registrations_in, standing, unturned}
 
 pub nothing_prepared : (n class : ℕ) → ◌≡◌ {A = Option ℕ} (slice_index_or (replicate n None) class None) None
 nothing_prepared zero class = refl
@@ -27,66 +31,66 @@ nothing_prepared (suc n) (suc class) = nothing_prepared n class
 pub even_rest : (n : ℕ) → n % 2 ≡ 0 → IsEven n
 even_rest n rest = (n / 2, omega arith)
 
-begins_between : (t : Token) (cs : List Command) → CanBegin t cs → IsBetween None None false no_collection t
-begins_between t cs can = record {
-  stands = can.acts.runs;
-  quiet = record { quiet = can.quiet; no_copies = can.no_copies; unprepared = λ class _. ap (λ l. prepared_at l class) can.unprepared ∙ nothing_prepared class_count class; paid = can.acts.paid };
-  even = λ _. even_rest t.view.own.arrivals can.even;
-  remembers = λ _. can.remembers;
+begins_between : (t : Token) (cs : List Command) → StandsReady t cs → IsBetween None None false no_collection t
+begins_between t cs ready = record {
+  stands = ready.acts.runs;
+  quiet = record { quiet = ready.quiet; no_copies = ready.no_copies; unprepared = λ class _. ap (λ l. prepared_at l class) ready.unprepared ∙ nothing_prepared class_count class; paid = ready.acts.paid };
+  even = λ _. even_rest t.view.own.arrivals ready.even;
+  remembers = λ _. ready.remembers;
   emptied = λ _ served. cc;
   has_left = λ known left. cc;
   fresh = λ e. cc;
-  knows = λ _. sym can.none_began;
+  knows = λ _. sym ready.none_began;
 }
 
--- no finaliser is registered so far, and each that the commands register may answer once
-begins_enlisted : (t : Token) (cs : List Command) → CanBegin t cs → count_of t.view.own.finalisers + registrations_in cs ≤ t.config.finals
-begins_enlisted t cs can = let none = can.none_listed in let few = can.enlists in omega arith
+-- each finaliser that the commands register may answer once
+begins_replied : (t : Token) (cs : List Command) (s : Supply) → StandsReady t cs → 0 + 0 + (count_of t.view.own.finalisers + registrations_in cs) ≤ 0 + most_ran s (registrations_in cs) t.config.finals
+begins_replied t cs Listed ready = let none = ready.none_listed in omega arith
+begins_replied t cs Section ready = let none = ready.none_listed in omega arith
+begins_replied t cs Open ready = let none = ready.none_listed in let few = ready.enlists in omega arith
+begins_replied t cs Closed ready = let none = ready.none_listed in let few = ready.enlists in omega arith
 
-begins_replied : (t : Token) (cs : List Command) → CanBegin t cs → 0 + (count_of t.view.own.finalisers + registrations_in cs) ≤ 0 + registrations_in cs
-begins_replied t cs can = let none = can.none_listed in omega arith
-
--- so each command of a list may, and each finaliser
-pub reserves_listed : (count commands replies : ℕ) → count + count ≤ replies → HasReserved Listed count commands replies
-reserves_listed count commands replies enough = record { answers = enough; one = λ handed. absurd handed }
-
--- the run of a domain that may begin, by what its supply asks
-begins_as : (t : Token) (cs : List Command) (hints : DeckCounts) (s : Supply) → CanBegin t cs → IsDeckOf t.config t.view hints → EndsIn s (commands t.view.seen.front t.view.own.number) [] → EndsIn s (replies (sizes_in t.config) t.view.seen.front t.view.own.number) []
-    → HasLabels s t.view.own.serial 0 cs → s ≢ Section → (IsHandedIn s → (length cs ≤ 1) × (registrations_in cs ≡ 0)) → IsRun (unturned t cs hints s)
-begins_as t cs hints s can deck made answered labels other handed = record {
-  inside = can.inside;
+-- the run of a domain that is ready, by what its supply asks
+pub ready_is_run : (t : Token) (cs : List Command) (hints : DeckCounts) (s : Supply) (place : Place) → StandsReady t cs → IsDeckOf t.config t.view hints → AllFitIn s cs → EndsIn s (commands t.view.seen.front t.view.own.number) [] → AreKept s (sizes_in t.config) t.view.seen.front t.view.own.number [] []
+    → HasLabels s t.view.own.serial 0 cs → (IsHandedIn s → length cs ≤ 1) → (s ≡ Section → IsInSection t.config t.view.own.number t.view.seen.front place cs 0 []) → (s ≢ Section → place ≡ AsEver) → IsRun (standing t cs hints s place)
+ready_is_run t cs hints s place ready deck fit made answered labels handed section as_ever = record {
+  inside = ready.inside;
   made = made;
   answered = answered;
-  replied = begins_replied t cs can;
+  replied = begins_replied t cs s ready;
   within = omega arith;
-  few = can.few;
-  fit = fits_as s cs other can.fit;
-  room = can.room;
-  enlists = begins_enlisted t cs can;
-  idle = can.idle;
-  at_rest = can.at_rest;
-  goes_on = λ _. can.acts.goes_on;
-  owes = λ _. can.owes;
-  between = begins_between t cs can;
+  few = ready.few;
+  fit = fit;
+  room = ready.room;
+  enlists = let none = ready.none_listed in let few = ready.enlists in omega arith;
+  idle = ready.idle;
+  at_rest = ready.at_rest;
+  goes_on = λ _. ready.acts.goes_on;
+  owes = λ _. ready.owes;
+  between = begins_between t cs ready;
   labels = labels;
   deck = deck;
   done = λ ended. let clash : false ≡ true = ended in cc;
   over = λ ended. let clash : false ≡ true = ended in cc;
   shut = λ ended. let clash : false ≡ true = ended in cc;
-  one = λ given. let few = handed given in record { one = few.0; registers_none = few.1; none_listed = can.none_listed; answered = refl };
-  section = λ section. absurd (other section);
-  as_ever = λ _. refl;
-  unasked = λ before. cc;
+  one = λ given. record { one = handed given; answered = refl };
+  section = section;
+  as_ever = as_ever;
+  unasked = λ before. refl;
   told = λ ended. let clash : false ≡ true = ended in cc;
+  spares = refl;
 }
 
 -- all of its commands were listed
 pub begins_listed : (t : Token) (cs : List Command) (hints : DeckCounts) → CanBegin t cs → IsDeckOf t.config t.view hints → IsRun (unturned t cs hints Listed)
-begins_listed t cs hints can deck = begins_as t cs hints Listed can deck can.no_commands can.no_replies (let few = can.labels in omega arith) (λ e. cc) (λ given. absurd given)
+begins_listed t cs hints can deck = ready_is_run t cs hints Listed AsEver can.ready deck can.fit can.no_commands (can.no_replies, refl) (let few = can.ready.labels in omega arith) (λ given. absurd given) (λ section. cc) (λ _. refl)
 
 -- or they are handed in
 pub begins_open : (t : Token) (hints : DeckCounts) → CanBegin t [] → IsDeckOf t.config t.view hints → IsRun (unturned t [] hints Open)
-begins_open t hints can deck = begins_as t [] hints Open can deck ([], can.no_commands) ([], can.no_replies) (let few = can.labels in omega arith) (λ e. cc) (λ _. (omega arith, refl))
+begins_open t hints can deck =
+    let said : List Reply = answers (sizes_in t.config) t.view.seen.front t.view.own.number in
+    let ran : List Reply = finalised (sizes_in t.config) t.view.seen.front t.view.own.number in
+    ready_is_run t [] hints Open AsEver can.ready deck can.fit ([], can.no_commands) ((said, sym (append-nil said)), (ran, sym (append-nil ran))) (let few = can.ready.labels in omega arith) (λ _. omega arith) (λ section. cc) (λ _. refl)
 
 owes_none : (n d : ℕ) → (slice_index_or (replicate n opening_domain) d no_domain).due ≡ 0
 owes_none zero d = refl
@@ -101,23 +105,25 @@ not_ended (suc n) (suc d) h = not_ended n d (omega arith)
 -- a domain of a heap that has just started may begin commands that fit, and for whose ephemerons and finalisers there is room
 pub opening_begins : (h : SharedHeap) (k : Config) (d : ℕ) (cs : List Command) → d < k.domains → length cs ≤ 200000 → AllFit cs → ephemerons_in cs ≤ k.ephes → registrations_in cs ≤ k.finals → CanBegin (opening_token h.table k d) cs
 opening_begins h k d cs inside few fit room enlists = record {
-  inside = inside;
-  acts = record { goes_on = not_ended k.domains d inside; runs = refl; unqueued = refl; paid = refl };
-  idle = refl;
-  at_rest = refl;
+  ready = record {
+    inside = inside;
+    acts = record { goes_on = not_ended k.domains d inside; runs = refl; unqueued = refl; paid = refl };
+    idle = refl;
+    at_rest = refl;
+    few = few;
+    room = room;
+    enlists = enlists;
+    none_listed = refl;
+    owes = owes_none k.domains d;
+    labels = omega arith;
+    even = refl;
+    remembers = refl;
+    quiet = refl;
+    no_copies = refl;
+    unprepared = refl;
+    none_began = refl;
+  };
   no_commands = refl;
   no_replies = refl;
-  few = few;
   fit = fit;
-  room = room;
-  enlists = enlists;
-  none_listed = refl;
-  owes = owes_none k.domains d;
-  labels = omega arith;
-  even = refl;
-  remembers = refl;
-  quiet = refl;
-  no_copies = refl;
-  unprepared = refl;
-  none_began = refl;
 }

@@ -1,5 +1,5 @@
 -- How a domain stands before the first command of its section.
-use Rattle.std.proofs.Common.{◌≡◌, ◌∙◌, ℕ, ◌+◌, ◌≤◌, Bool, true, false, cond, ◌==◌, ◌&&◌, List, [], ◌∷◌, ◌++◌, map, slice_get, refl, sym, ap, subst, arith}
+use Rattle.std.proofs.Common.{◌≡◌, ◌∙◌, ℕ, Bool, true, false, cond, ◌==◌, ◌&&◌, List, [], ◌∷◌, ◌++◌, map, slice_get, refl, sym, ap, subst, arith}
 use Rattle.std.specs.List.{range_with_len}
 use Rattle.std.specs.Prelude.{◌-◌}
 use Rattle.heap_model.specs.declared.command.Command.{Command}
@@ -11,11 +11,9 @@ use Rattle.heap_model.specs.Domains.{opening}
 use Rattle.heap_model.specs.Entries.{next, reply}
 use Rattle.heap_model.specs.History.{reply_list, state_after}
 use Rattle.heap_rule.specs.Limits.{sizes_in}
-use Rattle.heap_rule.specs.Pools.{prepared_at}
 use Rattle.heap_rule.specs.Token.{Token}
 use Rattle.mark_slices.specs.Decks.{DeckCounts}
 use Rattle.mark_slices.specs.Slices.{IsDeckOf}
-use Rattle.heap_model.specs.Domains.{class_count}
 use Rattle.spawn_laws.specs.Hidden.{prelude}
 use Rattle.spawn_laws.specs.Expansion.{Step, steps_from}
 use Rattle.spawn_laws.specs.Printed.{is_printed_entry, printed_replies, printed_replies_from}
@@ -24,8 +22,8 @@ use Rattle.spawn_laws.proofs.Growing.{printed_append, printed_others, steps_othe
 use Rattle.spawn_laws.proofs.Progressing.{opens}
 use Rattle.domain_turns.specs.declared.supply.Supply.TheVariants.{Section}
 use Rattle.domain_turns.specs.Sections.{IsInSection, is_spawned_at, place_in}
-use Rattle.domain_turns.specs.Runs.{CanBeginSection, HasReserved, IsRun, first_place, standing}
-use Rattle.domain_turns.proofs.Beginning.{even_rest, nothing_prepared}
+use Rattle.domain_turns.specs.Runs.{CanBeginSection, IsRun, first_place, standing}
+use Rattle.domain_turns.proofs.Beginning.{ready_is_run}
 
 -- entries that print nothing
 abbrev AllSilent : ℕ → List Entry → Type 0
@@ -65,7 +63,7 @@ begins_within t cs spawned can =
       printed = ap (λ (h : List Entry). printed_replies z h d) can.begins ∙ (printed_append (opening z) p can.behind d
           ∙ (λ i. silent_replies d (opening z) p (prelude_silent d t.config.domains) i ++ printed_others first can.behind d can.others i));
       fitting = can.fitting;
-      inside = let lt = can.inside in let few = can.few_domains in omega arith;
+      inside = let lt = can.ready.inside in let few = can.few_domains in omega arith;
     }
   where
     by : (b : Bool) → IsSoFar t.view.own.number (is_spawned_at (first_place b)) (place_in (first_place b)) [] (slice_get cs 0) []
@@ -74,42 +72,4 @@ begins_within t cs spawned can =
 
 -- a domain that may begin its section is a run of it
 pub begins_section : (t : Token) (cs : List Command) (hints : DeckCounts) (spawned : Bool) → CanBeginSection t cs → IsDeckOf t.config t.view hints → IsRun (standing t cs hints Section (first_place spawned))
-begins_section t cs hints spawned can deck = record {
-  inside = can.inside;
-  made = tt;
-  answered = tt;
-  replied = let none = can.none_listed in omega arith;
-  within = omega arith;
-  few = can.few;
-  fit = can.fit;
-  room = can.room;
-  enlists = let none = can.none_listed in let few = can.enlists in omega arith;
-  idle = can.idle;
-  at_rest = can.at_rest;
-  goes_on = λ _. can.acts.goes_on;
-  owes = λ _. can.owes;
-  between = record {
-    stands = can.acts.runs;
-    quiet = record { quiet = can.quiet; no_copies = can.no_copies; unprepared = λ class _. ap (λ l. prepared_at l class) can.unprepared ∙ nothing_prepared class_count class; paid = can.acts.paid };
-    even = λ _. even_rest t.view.own.arrivals can.even;
-    remembers = λ _. can.remembers;
-    emptied = λ _ served. cc;
-    has_left = λ known left. cc;
-    fresh = λ e. cc;
-    knows = λ _. sym can.none_began;
-  };
-  labels = let few = can.labels in omega arith;
-  deck = deck;
-  done = λ ended. let clash : false ≡ true = ended in cc;
-  over = λ ended. let clash : false ≡ true = ended in cc;
-  shut = λ ended. let clash : false ≡ true = ended in cc;
-  one = λ handed. absurd handed;
-  section = λ _. begins_within t cs spawned can;
-  as_ever = λ other. absurd (other refl);
-  unasked = λ before. refl;
-  told = λ ended. let clash : false ≡ true = ended in cc;
-}
-
--- each command of a section answers once, and each finaliser
-pub reserves_section : (count commands replies : ℕ) → count + count ≤ replies → HasReserved Section count commands replies
-reserves_section count commands replies enough = record { answers = enough; one = λ handed. absurd handed }
+begins_section t cs hints spawned can deck = ready_is_run t cs hints Section (first_place spawned) can.ready deck can.fit tt refl (let few = can.ready.labels in omega arith) (λ handed. absurd handed) (λ _. begins_within t cs spawned can) (λ other. absurd (other refl))

@@ -15,7 +15,7 @@ use Rattle.size_pools.proofs.Seeking.{sought_view}
 use Rattle.domain_turns.proofs.Turning.{inside}
 use Rattle.domain_turns.proofs.Working.{works_keeps}
 use Rattle.domain_turns.specs.declared.supply.Supply.TheVariants.{Open, Section}
-use Rattle.domain_turns.specs.Runs.{RunView, CalmDid, RunAnswers, TurnAnswers, Starts, Stops, Resumes, GoesBy, IsAnswered, IsUnqueued, SeesAnswer, wanting, asking_end}
+use Rattle.domain_turns.specs.Runs.{RunView, CalmDid, RunAnswers, TurnAnswers, Starts, Stops, Resumes, GoesBy, IsAnswered, IsUnqueued, SeesAnswer, wanting, asking_end, ran_with, said_with}
 use Rattle.domain_turns.specs.Pausing.{ComesToAnswer}
 use Rattle.domain_turns.specs.Tries.{wish_of}
 use Rattle.heap_rule.specs.declared.config.Config.{Config}
@@ -30,6 +30,7 @@ use Rattle.domain_turns.specs.declared.place.Place.{Place}
 use Rattle.domain_turns.specs.declared.place.Place.TheVariants.{Before, Within, Behind}
 use Rattle.domain_turns.specs.Sections.{awaited}
 use Rattle.domain_turns.proofs.SectionTurns.{makes_steps}
+use Rattle.domain_turns.proofs.Kept.{keeps_one}
 use Rattle.domain_turns.specs.Runs.CalmDid.{Finalises, Wishes, Refuses, Tries, Works, Ends, Sees, Makes, Tells, WishesToTell}
 use Rattle.pause_phases.specs.declared.decider.Decider.TheVariants.{Wishes as ByWishes}
 use Rattle.domain_turns.proofs.LeavingLemmas.{passes_leaves}
@@ -82,6 +83,7 @@ record StaysThere (old new : RunView) : Type 0 where
   goes_on : new.ended ≡ false
   next : new.next ≡ old.next
   replies : new.replies ≡ old.replies
+  ran : new.ran ≡ old.ran
   place : new.place ≡ old.place
 
 -- it looked at the flag of this section
@@ -141,7 +143,11 @@ run_sign h old new Did says = ⊎_elim
     replied r are s = let longer = length-append old.replies (r ∷ []) in let same : length new.replies ≡ length old.replies = ap (λ (rs : List Reply). length rs) s.replies in let grown : length new.replies ≡ length (old.replies ++ r ∷ []) = ap (λ (rs : List Reply). length rs) are in omega arith
 
     moved : CalmDid h (wanting old 0) new → StaysThere old new → ⊥
-    moved (Finalises f) s = replied (reply_of f.ran) (ap (λ (r : RunView). r.replies) f.run) s
+    moved (Finalises f) s =
+        let more = keeps_one old.supply old.replies old.ran (reply_of f.ran) in
+        let grown : length new.replies + length new.ran ≡ length (said_with old.supply old.replies (reply_of f.ran)) + length (ran_with old.supply old.ran (reply_of f.ran)) = ap (λ (r : RunView). length r.replies + length r.ran) f.run in
+        let same : length new.replies + length new.ran ≡ length old.replies + length old.ran = λ i. length (s.replies i) + length (s.ran i) in
+        omega (arith, more, grown, same)
     moved (Wishes a) s = wished (Asked (bit_of (wish_of a.command))) _ (ap notes a.run) (λ w. w) s
     moved (Refuses a) s = wished (Asked (bit_of Full)) _ (ap notes a.run) (λ w. w) s
     moved (Tries c other t) s = replied t.reply (ap (λ (r : RunView). r.replies) t.run) s
@@ -182,6 +188,7 @@ run_sign h old new (Held section) says =
         goes_on = ap (λ (r : RunView). r.ended) says.run ∙ says.goes_on;
         next = ap (λ (r : RunView). r.next) says.run;
         replies = ap (λ (r : RunView). r.replies) says.run;
+        ran = ap (λ (r : RunView). r.ran) says.run;
         place = ap (λ (r : RunView). r.place) says.run;
       };
       waits = says.waits;
@@ -214,10 +221,11 @@ starts_there h old start new s = ⊎_elim
     (λ (t : Resumes h old start).
     let next : start.next ≡ old.next = ap (λ (r : RunView). r.next) t.run in
     let replies : start.replies ≡ old.replies = ap (λ (r : RunView). r.replies) t.run in
+    let ran : start.ran ≡ old.ran = ap (λ (r : RunView). r.ran) t.run in
     let place : start.place ≡ old.place = ap (λ (r : RunView). r.place) t.run in
     let same : arrivals start ≡ arrivals old = ap (λ (x : DomainView). x.own.arrivals) t.passed.view in (
-      λ there. record { left = (there.left.0 ∙ same, there.left.1); goes_on = there.goes_on; next = there.next ∙ next; replies = there.replies ∙ replies; place = there.place ∙ place },
-      λ there. record { left = (there.left.0 ∙ sym same, there.left.1); goes_on = there.goes_on; next = there.next ∙ sym next; replies = there.replies ∙ sym replies; place = there.place ∙ sym place },
+      λ there. record { left = (there.left.0 ∙ same, there.left.1); goes_on = there.goes_on; next = there.next ∙ next; replies = there.replies ∙ replies; ran = there.ran ∙ ran; place = there.place ∙ place },
+      λ there. record { left = (there.left.0 ∙ sym same, there.left.1); goes_on = there.goes_on; next = there.next ∙ sym next; replies = there.replies ∙ sym replies; ran = there.ran ∙ sym ran; place = there.place ∙ sym place },
     ))
     s
 

@@ -7,6 +7,8 @@ pub mod Working
 pub mod Taking
 pub mod Sectioning
 pub mod Supplying
+pub mod Kept
+pub mod Handed
 pub mod Moving
 pub mod LeavingLemmas
 pub mod GoingLemmas

@@ -4,9 +4,9 @@ use Rattle.std.specs.Prelude.{IsTrue, ◌||◌}
 use Rattle.std.specs.List.{list_any}
 use Rattle.heap_model.specs.declared.entry.Entry.{Entry}
 use Rattle.heap_model.specs.Domains.{opening}
-use Rattle.heap_model.specs.History.{IsPrefix, state_after, commands, replies}
+use Rattle.heap_model.specs.History.{IsPrefix, state_after, commands}
 use Rattle.heap_model.specs.Fronts.{IsFrontOf}
-use Rattle.heap_model.proofs.Histories.HistoryLemmas.{commands-append, commands-others, replies_from-append, replies_from-others}
+use Rattle.heap_model.proofs.Histories.HistoryLemmas.{commands-append, commands-others}
 use Rattle.heap_model.proofs.Histories.FrontLemmas.{front_whole, keeps_front}
 use Rattle.heap_rule.specs.declared.config.Config.{Config}
 use Rattle.heap_rule.specs.declared.phase.Kind.{Kind}
@@ -20,7 +20,8 @@ use Rattle.heap_rule.specs.declared.phase.Progress.{Progress}
 use Rattle.domain_turns.specs.Pausing.{due_of}
 use Rattle.mark_slices.specs.Decks.{DeckCounts, StaysDeck}
 use Rattle.mark_slices.specs.Slices.{IsDeckOf}
-use Rattle.domain_turns.specs.Runs.{RunView, HasLabels, IsRun, IsBetween, ephemerons_in, registrations_in, is_end_of}
+use Rattle.domain_turns.proofs.Kept.{kept_front}
+use Rattle.domain_turns.specs.Runs.{RunView, AreKept, HasLabels, IsRun, IsBetween, ephemerons_in, registrations_in, is_end_of, most_ran}
 use Rattle.domain_turns.specs.Sections.{IsInSection}
 use Rattle.domain_turns.specs.declared.place.Place.TheVariants.{Before}
 use Rattle.domain_turns.proofs.Owing.{due_on}
@@ -65,14 +66,11 @@ moved_is_run r new left asked collected progress hints is stays m unasked betwee
     let rest : List Entry = m.front.rest in
     let made : commands new.view.seen.front d ≡ commands old d =
     ap (λ (h : List Entry). commands h d) m.front.appends ∙ commands-append old rest d ∙ ap (λ t. commands old d ++ t) (commands-others rest d m.front.others) ∙ append-nil (commands old d) in
-    let answered : replies (sizes_in k) new.view.seen.front d ≡ replies (sizes_in k) old d =
-    ap (λ (h : List Entry). replies (sizes_in k) h d) m.front.appends ∙ replies_from-append (opening (sizes_in k)) old rest d
-    ∙ ap (λ t. replies (sizes_in k) old d ++ t) (replies_from-others (state_after (opening (sizes_in k)) old) rest d m.front.others) ∙ append-nil (replies (sizes_in k) old d) in
     record {
       inside = subst (λ (z : ℕ × Config). z.0 < z.1.domains) (λ i. (sym m.number i, sym m.config i)) is.inside;
       made = ends_as r.supply (commands old d) (commands new.view.seen.front new.view.own.number) (take r.next r.commands) (ap (commands new.view.seen.front) m.number ∙ made) is.made;
-      answered = ends_as r.supply (replies (sizes_in k) old d) (replies (sizes_in new.config) new.view.seen.front new.view.own.number) r.replies (ap (λ (n : ℕ). replies (sizes_in new.config) new.view.seen.front n) m.number ∙ ap (λ (c : Config). replies (sizes_in c) new.view.seen.front d) m.config ∙ answered) is.answered;
-      replied = subst (λ (n : ℕ). length r.replies + (n + registrations_in (drop r.next r.commands)) ≤ r.next + registrations_in r.commands) (sym m.listed) is.replied;
+      answered = subst (λ (w : Config × ℕ). AreKept r.supply (sizes_in w.0) new.view.seen.front w.1 r.replies r.ran) (λ i. (sym m.config i, sym m.number i)) (kept_front r.supply (sizes_in k) d new.view.seen.front old r.replies r.ran m.front is.answered);
+      replied = subst (λ (n : ℕ). length r.replies + length r.ran + (n + registrations_in (drop r.next r.commands)) ≤ r.next + most_ran r.supply (registrations_in r.commands) r.spare) (sym m.listed) is.replied;
       within = is.within;
       few = is.few;
       fit = is.fit;
@@ -89,12 +87,13 @@ moved_is_run r new left asked collected progress hints is stays m unasked betwee
       done = is.done;
       over = λ ended. subst (λ (x : ℕ × List Entry). IsTrue (list_any (is_end_of x.0) x.1)) (λ i. (sym m.number i, sym m.front.appends i)) (any_append (is_end_of d) old rest (is.over ended));
       shut = is.shut;
-      one = λ handed. let o = is.one handed in record { one = o.one; registers_none = o.registers_none; none_listed = m.listed ∙ o.none_listed; answered = o.answered };
+      one = λ handed. let o = is.one handed in record { one = o.one; answered = o.answered };
       section = λ section. subst (λ (w : Config × ℕ). IsInSection w.0 w.1 new.view.seen.front r.place r.commands r.next r.replies) (λ i. (sym m.config i, sym m.number i))
           (section_on k d old new.view.seen.front r.place r.commands r.next r.replies m.front (is.section section));
       as_ever = is.as_ever;
       unasked = unasked;
       told = is.told;
+      spares = is.spares ∙ ap (λ (c : Config). c.finals) (sym m.config);
     }
 
 -- the whole token, by its view

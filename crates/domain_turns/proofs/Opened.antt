@@ -61,26 +61,28 @@ opened_begins h d t cs o inside few_domains few fit fitting room enlists =
     let front : IsFrontOf d t.view.seen.front (prelude h.config.domains) = record { rest = o.behind; appends = o.front; others = o.others } in
     let owes : due_at (state_after (opening z) t.view.seen.front) d ≡ 0 = due_front (opening z) d t.view.seen.front (prelude h.config.domains) front ∙ prelude_owes z d (omega (arith, inside)) few_domains in
     record {
-      inside = subst (λ (w : ℕ × Config). w.0 < w.1.domains) (λ i. (sym keeps.number i, sym config i)) inside;
+      ready = record {
+        inside = subst (λ (w : ℕ × Config). w.0 < w.1.domains) (λ i. (sym keeps.number i, sym config i)) inside;
+        acts = runs.acts;
+        idle = runs.idle;
+        at_rest = runs.at_rest;
+        few = few;
+        room = let more = keeps.ephemerons in omega (arith, room, more);
+        enlists = subst (λ (k : Config). registrations_in cs ≤ k.finals) (sym config) enlists;
+        none_listed = ap (λ (f : Finalisers). count_of f) keeps.finalisers;
+        owes = subst (λ (w : Config × ℕ). due_at (state_after (opening (sizes_in w.0)) t.view.seen.front) w.1 ≡ 0) (λ i. (sym config i, sym keeps.number i)) owes;
+        labels = let one = keeps.serial in omega (arith, one);
+        even = subst (λ (n : ℕ). n % 2 ≡ 0) (sym keeps.arrivals) refl;
+        remembers = runs.remembers;
+        quiet = stays.copying;
+        no_copies = ap (λ p. p.items) keeps.pending;
+        unprepared = keeps.prepared;
+        none_began = stays.progress;
+      };
       few_domains = subst (λ (k : Config). k.domains ≤ 8) (sym config) few_domains;
-      acts = runs.acts;
-      idle = runs.idle;
-      at_rest = runs.at_rest;
       behind = o.behind;
       begins = subst (λ (k : Config). t.view.seen.front ≡ prelude k.domains ++ o.behind) (sym config) o.front;
       others = subst (λ (n : ℕ). NoneOf n o.behind) (sym keeps.number) o.others;
-      few = few;
       fit = fit;
       fitting = subst (λ (n : ℕ). AreFitting n cs) (sym keeps.number) fitting;
-      room = let more = keeps.ephemerons in omega (arith, room, more);
-      enlists = subst (λ (k : Config). registrations_in cs ≤ k.finals) (sym config) enlists;
-      none_listed = ap (λ (f : Finalisers). count_of f) keeps.finalisers;
-      owes = subst (λ (w : Config × ℕ). due_at (state_after (opening (sizes_in w.0)) t.view.seen.front) w.1 ≡ 0) (λ i. (sym config i, sym keeps.number i)) owes;
-      labels = let one = keeps.serial in omega (arith, one);
-      even = subst (λ (n : ℕ). n % 2 ≡ 0) (sym keeps.arrivals) refl;
-      remembers = runs.remembers;
-      quiet = stays.copying;
-      no_copies = ap (λ p. p.items) keeps.pending;
-      unprepared = keeps.prepared;
-      none_began = stays.progress;
     }

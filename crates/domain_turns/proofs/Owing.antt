@@ -46,14 +46,15 @@ drop_registrations [] n c at = cc
 drop_registrations (x ∷ xs) zero c at = let is : x ≡ c = cc in ap (λ (y : model.Command). registrations_of y + registrations_in xs) is
 drop_registrations (x ∷ xs) (suc n) c at = drop_registrations xs n c at
 
-one_at_most : (c : model.Command) → registrations_of c ≤ 1
-one_at_most (Finalise item number dst) = omega arith
-one_at_most (FinaliseLast item number) = omega arith
-one_at_most c = omega arith
+-- a command registers one at most
+pub one_registration : (c : model.Command) → registrations_of c ≤ 1
+one_registration (Finalise item number dst) = omega arith
+one_registration (FinaliseLast item number) = omega arith
+one_registration c = omega arith
 
 pub registrations_few : (cs : List model.Command) → registrations_in cs ≤ length cs
 registrations_few [] = omega arith
-registrations_few (c ∷ cs) = let one = one_at_most c in let rest = registrations_few cs in omega arith
+registrations_few (c ∷ cs) = let one = one_registration c in let rest = registrations_few cs in omega arith
 
 -- a command adds as many as it registers at most
 pub enlisted_count : (c : model.Command) (old : Own) → count_of (enlisted_by c old) ≤ registrations_of c + count_of old.finalisers

@@ -20,7 +20,7 @@ lengths (x ∷ l) m =
     let all : suc a ≡ suc b + n = omega (arith, before) in all
 
 -- asking for the end of the collection changes neither what the domain knows of the phase, nor what it owns, nor its deck
-asked_share : (spent : Bool) (r : RunView) → (asking_end spent r).token.view.seen.share ≡ r.token.view.seen.share
+pub asked_share : (spent : Bool) (r : RunView) → (asking_end spent r).token.view.seen.share ≡ r.token.view.seen.share
 asked_share true r = refl
 asked_share false r = refl
 
@@ -28,7 +28,7 @@ asked_own : (spent : Bool) (r : RunView) → (asking_end spent r).token.view.own
 asked_own true r = refl
 asked_own false r = refl
 
-asked_hints : (spent : Bool) (r : RunView) → (asking_end spent r).hints ≡ r.hints
+pub asked_hints : (spent : Bool) (r : RunView) → (asking_end spent r).hints ≡ r.hints
 asked_hints true r = refl
 asked_hints false r = refl
 

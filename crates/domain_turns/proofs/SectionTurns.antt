@@ -28,7 +28,7 @@ use Rattle.domain_turns.specs.declared.supply.Supply.{Supply}
 use Rattle.domain_turns.specs.declared.supply.Supply.TheVariants.{Closed, Listed, Open, Section}
 use Rattle.domain_turns.specs.Sections.{IsInSection, IsOrdinary, IsSingle, awaited, awaited_flag, is_spawned_at, place_in, words_for}
 use Rattle.domain_turns.specs.Tries.{NeedsPause}
-use Rattle.domain_turns.specs.Runs.{Completes, HasLabels, IsBetween, IsHandedIn, HeldBack, IsRun, MakesCommand, RunView, SeesStart, Takes, TakesResult, TellsEnd, ephemerons_in, registrations_in, served_since}
+use Rattle.domain_turns.specs.Runs.{AreKept, Completes, HasLabels, IsBetween, IsHandedIn, HeldBack, IsRun, MakesCommand, RunView, SeesStart, Takes, TakesResult, TellsEnd, ephemerons_in, registrations_in, served_since, most_ran}
 use Rattle.domain_turns.proofs.LeavingLemmas.{knows_on}
 use Rattle.domain_turns.proofs.Moving.{deck_on}
 use Rattle.domain_turns.proofs.PauseLemmas.{quiet_as}
@@ -161,8 +161,8 @@ stepped_is_run h r new xs n rs place asked is sectioned running left m rest furt
     record {
       inside = subst (λ (z : ℕ × Config). z.0 < z.1.domains) (λ i. (sym number i, sym config i)) is.inside;
       made = ends_section r.supply _ _ sectioned;
-      answered = ends_section r.supply _ _ sectioned;
-      replied = let before = is.replied in let r1 = further.registrations in let m1 = further.more in omega arith;
+      answered = subst (λ (s : Supply). AreKept s (sizes_in new.config) new.view.seen.front new.view.own.number rs r.ran) (sym sectioned) (subst (λ (s : Supply). AreKept s (sizes_in k) r.token.view.seen.front d r.replies r.ran) sectioned is.answered);
+      replied = subst (λ (s : Supply). length rs + length r.ran + (held_now + left_now) ≤ n + most_ran s total r.spare) (sym sectioned) (let before : length r.replies + length r.ran + (held + left_then) ≤ r.next + total = subst (λ (s : Supply). length r.replies + length r.ran + (held + left_then) ≤ r.next + most_ran s total r.spare) sectioned is.replied in let r1 = further.registrations in let m1 = further.more in omega arith);
       within = further.within;
       few = is.few;
       fit = is.fit;
@@ -192,6 +192,7 @@ stepped_is_run h r new xs n rs place asked is sectioned running left m rest furt
       as_ever = λ other. absurd (other sectioned);
       unasked = unasked;
       told = λ ended. let clash : false ≡ true = sym running ∙ ended in cc;
+      spares = is.spares ∙ ap (λ (c : Config). c.finals) (sym config);
     }
 
 -- the last of some steps

@@ -1,5 +1,5 @@
 -- How a domain's front grows in a turn.
-use Rattle.std.proofs.Common.{◌≡◌, ◌∙◌, ℕ, ◌+◌, Bool, true, false, List, [], ◌∷◌, ◌++◌, refl, sym, ap, subst, append-nil, append_assoc, ⊎_elim, slice_get, Some, None}
+use Rattle.std.proofs.Common.{◌≡◌, ◌∙◌, ℕ, ◌+◌, Bool, true, false, arith, List, [], ◌∷◌, ◌++◌, refl, sym, ap, subst, append-nil, append_assoc, ⊎_elim, slice_get, Some, None}
 use Rattle.heap_model.specs.declared.command.Command as model
 use Rattle.heap_model.specs.declared.command.Command.TheVariants.{FullMajor, Poll}
 use Rattle.heap_model.specs.declared.entry.Entry.{Entry}
@@ -27,13 +27,16 @@ use Rattle.domain_turns.specs.declared.turned.Turned.{Turned}
 use Rattle.domain_turns.specs.declared.turned.Turned.TheVariants.{Did, Waiting, Hungry, Held, Idle}
 use Rattle.domain_turns.specs.declared.turned.Turned.TheVariants.{Ended as Over}
 use Rattle.domain_turns.specs.Tries.{ephemerons_given, labels_given}
-use Rattle.domain_turns.specs.Runs.{RunView, Appended, CalmDid, EndsTrace, GoesBy, IsAnswered, MadeNone, Resumes, Rests, RunAnswers, RunsFinaliser, SeesAnswer, Starts, Stops, Stretches, Takes, TriesCommand, TurnAnswers, Waits, asking_end, wanting}
+use Rattle.domain_turns.specs.Runs.{RunView, Appended, CalmDid, EndsTrace, GoesBy, IsAnswered, MadeNone, Resumes, Rests, RunAnswers, RunsFinaliser, SeesAnswer, Starts, Stops, Stretches, Takes, TriesCommand, TurnAnswers, Waits, asking_end, ran_with, said_with, wanting}
 use Rattle.domain_turns.specs.Runs.CalmDid.{Finalises, Wishes, Refuses, Tries, Works, Ends, Sees, Makes, Tells, WishesToTell}
 use Rattle.domain_turns.specs.Runs.Stretches.{ByOthers, ByCommand, ByFinaliser, ByEnd, BySection}
 use Rattle.pause_phases.specs.declared.decider.Decider.TheVariants.{Wishes as ByWishes}
 use Rattle.domain_turns.proofs.LeavingLemmas.{passes_leaves}
 use Rattle.domain_turns.proofs.Taking.{arrived_takes, searched_takes, takes_more, takes_none, takes_on, takes_then, tried_takes}
-use Rattle.domain_turns.proofs.Turning.{stood}
+use Rattle.domain_turns.proofs.Owing.{ran_count}
+use Rattle.domain_turns.proofs.Turning.{stood, tried_count}
+use Rattle.steps_finalisers.specs.Registering.{count_of}
+use Rattle.heap_rule.specs.declared.view.Finalisers.{Finalisers}
 use Rattle.domain_turns.proofs.Working.{works_keeps}
 
 -- an entry behind a front that had grown by entries of others alone
@@ -57,33 +60,39 @@ record StartsFrom (h : SharedHeap) (old start : RunView) : Type 0 where
   supply : start.supply ≡ old.supply
   next : start.next ≡ old.next
   replies : start.replies ≡ old.replies
+  ran : start.ran ≡ old.ran
   ended : start.ended ≡ old.ended
   number : start.token.view.own.number ≡ old.token.view.own.number
   config : start.token.config ≡ h.config
   front : IsFrontOf old.token.view.own.number start.token.view.seen.front old.token.view.seen.front
+  listed : count_of start.token.view.own.finalisers ≡ count_of old.token.view.own.finalisers
   takes : Takes 0 0 old.token.view start.token.view
 
 -- what a run that is made of another has of it
 record Keeps (made new : RunView) : Type 0 where
   next : new.next ≡ made.next
   replies : new.replies ≡ made.replies
+  ran : new.ran ≡ made.ran
   ended : new.ended ≡ made.ended
   front : new.token.view.seen.front ≡ made.token.view.seen.front
+  listed : count_of new.token.view.own.finalisers ≡ count_of made.token.view.own.finalisers
   takes : Takes 0 0 made.token.view new.token.view
 
 keeps_all : (r : RunView) → Keeps r r
-keeps_all r = record { next = refl; replies = refl; ended = refl; front = refl; takes = takes_none r.token.view r.token.view refl refl }
+keeps_all r = record { next = refl; replies = refl; ran = refl; ended = refl; front = refl; listed = refl; takes = takes_none r.token.view r.token.view refl refl }
 
 asking_keeps : (spent : Bool) (made : RunView) → Keeps made (asking_end spent made)
 asking_keeps false made = keeps_all made
-asking_keeps true made = record { next = refl; replies = refl; ended = refl; front = refl; takes = takes_none _ _ refl refl }
+asking_keeps true made = record { next = refl; replies = refl; ran = refl; ended = refl; front = refl; listed = refl; takes = takes_none _ _ refl refl }
 
 still : (h : SharedHeap) (old start new : RunView) → StartsFrom h old start → Keeps start new → MadeNone old new
 still h old start new s k = record {
   next = k.next ∙ s.next;
   replies = k.replies ∙ s.replies;
+  ran = k.ran ∙ s.ran;
   ended = k.ended ∙ s.ended;
   front = subst (λ (f : List Entry). IsFrontOf old.token.view.own.number f old.token.view.seen.front) (sym k.front) s.front;
+  listed = k.listed ∙ s.listed;
   takes = takes_on 0 0 old.token.view start.token.view new.token.view s.takes k.takes;
 }
 
@@ -100,8 +109,10 @@ tried h old start made new c s t k =
       here = subst (λ (w : List model.Command × ℕ). slice_get w.0 w.1 ≡ Some c) (λ i. (s.commands i, s.next i)) t.next;
       next = k.next ∙ (ap (λ (r : RunView). r.next) t.run ∙ ap (λ (n : ℕ). n + 1) s.next);
       replies = k.replies ∙ (ap (λ (r : RunView). r.replies) t.run ∙ ap (λ (rs : List Reply). rs ++ t.reply ∷ []) s.replies);
+      ran = k.ran ∙ (ap (λ (r : RunView). r.ran) t.run ∙ s.ran);
       ended = k.ended ∙ (ap (λ (r : RunView). r.ended) t.run ∙ s.ended);
       front = appended (sizes_in h.config) old.token.view.own.number old.token.view.seen.front start.token.view.seen.front new.token.view.seen.front (CommandOf old.token.view.own.number c st.0) (Replied t.reply) s.front here;
+      listed = let after = k.listed in let grew = tried_count h start.token made.token c start.collected t.reply t.tried in let before = s.listed in omega (arith, after, grew, before);
       takes = takes_on (labels_given c t.reply) (ephemerons_given c t.reply) old.token.view start.token.view new.token.view s.takes (takes_then (labels_given c t.reply) (ephemerons_given c t.reply) start.token.view made.token.view new.token.view (tried_takes h start.token made.token c start.collected t.reply t.tried) k.takes);
     })
 
@@ -112,9 +123,11 @@ ran h old start new s f =
     ByFinaliser (record {
       reply = reply_of f.ran;
       next = ap (λ (r : RunView). r.next) f.run ∙ s.next;
-      replies = ap (λ (r : RunView). r.replies) f.run ∙ ap (λ (rs : List Reply). rs ++ reply_of f.ran ∷ []) s.replies;
+      replies = ap (λ (r : RunView). r.replies) f.run ∙ (λ i. said_with (s.supply i) (s.replies i) (reply_of f.ran));
+      ran = ap (λ (r : RunView). r.ran) f.run ∙ (λ i. ran_with (s.supply i) (s.ran i) (reply_of f.ran));
       ended = ap (λ (r : RunView). r.ended) f.run ∙ s.ended;
       front = appended (sizes_in h.config) old.token.view.own.number old.token.view.seen.front start.token.view.seen.front new.token.view.seen.front (RanOf old.token.view.own.number) (Replied (reply_of f.ran)) s.front here;
+      listed = ap (λ (x : DomainView). count_of x.own.finalisers + 1) f.first.view ∙ (ran_count f.first.first start.token.view.own f.first.is_first ∙ s.listed);
       takes = takes_on 0 0 old.token.view start.token.view new.token.view s.takes (takes_none start.token.view new.token.view (ap (λ (x : DomainView). x.own.serial) f.first.view) (ap (λ (x : DomainView). x.own.ephemerons) f.first.view));
     })
 
@@ -126,6 +139,7 @@ ended h old start new s t =
       shut = λ more. t.shut (s.supply ∙ more);
       next = ap (λ (r : RunView). r.next) t.run ∙ s.next;
       replies = ap (λ (r : RunView). r.replies) t.run ∙ s.replies;
+      ran = ap (λ (r : RunView). r.ran) t.run ∙ s.ran;
       ended = ap (λ (r : RunView). r.ended) t.run;
       front = appended (sizes_in h.config) old.token.view.own.number old.token.view.seen.front start.token.view.seen.front new.token.view.seen.front (End old.token.view.own.number) Silent s.front here;
       takes = takes_on 0 0 old.token.view start.token.view new.token.view s.takes (takes_none start.token.view new.token.view (ap (λ (x : DomainView). x.own.serial) t.ended.view) (ap (λ (x : DomainView). x.own.ephemerons) t.ended.view));
@@ -157,15 +171,19 @@ calm h old start new s (Finalises f) = ran h old start new s f
 calm h old start new s (Wishes a) = ByOthers (still h old start new s (record {
   next = ap (λ (r : RunView). r.next) a.run;
   replies = ap (λ (r : RunView). r.replies) a.run;
+  ran = ap (λ (r : RunView). r.ran) a.run;
   ended = ap (λ (r : RunView). r.ended) a.run;
   front = ap (λ (r : RunView). r.token.view.seen.front) a.run;
+  listed = ap (λ (r : RunView). count_of r.token.view.own.finalisers) a.run;
   takes = takes_none _ _ (ap (λ (r : RunView). r.token.view.own.serial) a.run) (ap (λ (r : RunView). r.token.view.own.ephemerons) a.run);
 }))
 calm h old start new s (Refuses a) = ByOthers (still h old start new s (record {
   next = ap (λ (r : RunView). r.next) a.run;
   replies = ap (λ (r : RunView). r.replies) a.run;
+  ran = ap (λ (r : RunView). r.ran) a.run;
   ended = ap (λ (r : RunView). r.ended) a.run;
   front = ap (λ (r : RunView). r.token.view.seen.front) a.run ∙ ap (λ (x : DomainView). x.seen.front) (sought_view h.config start.token.view a.searched.view AtRest a.refused.view);
+  listed = ap (λ (r : RunView). count_of r.token.view.own.finalisers) a.run ∙ ap (λ (x : DomainView). count_of x.own.finalisers) (sought_view h.config start.token.view a.searched.view AtRest a.refused.view);
   takes = takes_then 0 0 start.token.view a.searched.view new.token.view (searched_takes h.config start.token.view a.searched.view a.refused.view) (takes_none _ _ (ap (λ (r : RunView). r.token.view.own.serial) a.run) (ap (λ (r : RunView). r.token.view.own.ephemerons) a.run));
 }))
 calm h old start new s (Tries c other t) = tried h old start new new c s t (keeps_all new)
@@ -176,10 +194,12 @@ calm h old start new s (Works p) =
       supply = kept.supply ∙ s.supply;
       next = kept.next ∙ s.next;
       replies = kept.replies ∙ s.replies;
+      ran = kept.ran ∙ s.ran;
       ended = kept.ended ∙ s.ended;
       number = kept.number ∙ s.number;
       config = kept.config;
       front = subst (λ (f : List Entry). IsFrontOf old.token.view.own.number f old.token.view.seen.front) (sym kept.front) s.front;
+      listed = ap (λ (fs : Finalisers). count_of fs) kept.waiting ∙ s.listed;
       takes = takes_on 0 0 old.token.view start.token.view p.worked.token.view s.takes kept.takes;
     } in
     tried h old p.worked p.made new Poll worked p.tried (subst (Keeps p.made) (sym p.run) (asking_keeps p.spent p.made))
@@ -190,8 +210,10 @@ calm h old start new s (Tells t) = stepped h old start new s (tells_steps h star
 calm h old start new s (WishesToTell a) = ByOthers (still h old start new s (record {
   next = ap (λ (r : RunView). r.next) a.run;
   replies = ap (λ (r : RunView). r.replies) a.run;
+  ran = ap (λ (r : RunView). r.ran) a.run;
   ended = ap (λ (r : RunView). r.ended) a.run;
   front = ap (λ (r : RunView). r.token.view.seen.front) a.run;
+  listed = ap (λ (r : RunView). count_of r.token.view.own.finalisers) a.run;
   takes = takes_none _ _ (ap (λ (r : RunView). r.token.view.own.serial) a.run) (ap (λ (r : RunView). r.token.view.own.ephemerons) a.run);
 }))
 
@@ -199,22 +221,26 @@ rests : (h : SharedHeap) (old start new : RunView) (n : ℕ) → StartsFrom h ol
 rests h old start new n s r = ByOthers (still h old start new s (record {
   next = ap (λ (x : RunView). x.next) r.run;
   replies = ap (λ (x : RunView). x.replies) r.run;
+  ran = ap (λ (x : RunView). x.ran) r.run;
   ended = ap (λ (x : RunView). x.ended) r.run;
   front = ap (λ (x : RunView). x.token.view.seen.front) r.run;
+  listed = ap (λ (x : RunView). count_of x.token.view.own.finalisers) r.run;
   takes = takes_none _ _ (ap (λ (x : RunView). x.token.view.own.serial) r.run) (ap (λ (x : RunView). x.token.view.own.ephemerons) r.run);
 }))
 
 -- who has found a want word has what it had before
 wanted : (h : SharedHeap) (old start : RunView) (w : ℕ) → StartsFrom h old start → StartsFrom h old (wanting start w)
-wanted h old start w s = record { commands = s.commands; supply = s.supply; next = s.next; replies = s.replies; ended = s.ended; number = s.number; config = s.config; front = s.front; takes = takes_on 0 0 old.token.view start.token.view (wanting start w).token.view s.takes (takes_none start.token.view (wanting start w).token.view refl refl) }
+wanted h old start w s = record { commands = s.commands; supply = s.supply; next = s.next; replies = s.replies; ran = s.ran; ended = s.ended; number = s.number; config = s.config; front = s.front; listed = s.listed; takes = takes_on 0 0 old.token.view start.token.view (wanting start w).token.view s.takes (takes_none start.token.view (wanting start w).token.view refl refl) }
 
 running : (h : SharedHeap) (old start new : RunView) (a : Turned) → StartsFrom h old start → RunAnswers h start new a → Stretches (sizes_in h.config) old new
 running h old start new Did s says = ⊎_elim
     (λ (t : Stops start new). ByOthers (still h old start new s (record {
       next = ap (λ (r : RunView). r.next) t.run;
       replies = ap (λ (r : RunView). r.replies) t.run;
+      ran = ap (λ (r : RunView). r.ran) t.run;
       ended = ap (λ (r : RunView). r.ended) t.run;
       front = ap (λ (r : RunView). r.token.view.seen.front) t.run;
+      listed = ap (λ (r : RunView). count_of r.token.view.own.finalisers) t.run;
       takes = takes_none _ _ (ap (λ (r : RunView). r.token.view.own.serial) t.run) (ap (λ (r : RunView). r.token.view.own.ephemerons) t.run);
     })))
     (λ (c : CalmDid h (wanting start 0) new). calm h old (wanting start 0) new (wanted h old start 0 s) c) says
@@ -222,8 +248,10 @@ running h old start new (Waiting b) s says = absurd says
 running h old start new Hungry s says = ByOthers (still h old start new s (record {
   next = ap (λ (r : RunView). r.next) says.run;
   replies = ap (λ (r : RunView). r.replies) says.run;
+  ran = ap (λ (r : RunView). r.ran) says.run;
   ended = ap (λ (r : RunView). r.ended) says.run;
   front = ap (λ (r : RunView). r.token.view.seen.front) says.run;
+  listed = ap (λ (r : RunView). count_of r.token.view.own.finalisers) says.run;
   takes = takes_none _ _ (ap (λ (r : RunView). r.token.view.own.serial) says.run) (ap (λ (r : RunView). r.token.view.own.ephemerons) says.run);
 }))
 running h old start new (Held section) s says = stepped h old (wanting start 0) new (wanted h old start 0 s) (held_steps h (wanting start 0) new section says)
@@ -233,16 +261,18 @@ running h old start new Over s says = rests h old (wanting start 0) new h.config
 -- a turn starts with the run as it was, or once a look has found that the domain runs again
 starts : (h : SharedHeap) (old start : RunView) → IsIn old.token h → Starts h old start → StartsFrom h old start
 starts h old start here = ⊎_elim
-    (λ (t : (old.left ≡ None) × (start ≡ old)). subst (StartsFrom h old) (sym t.1) (record { commands = refl; supply = refl; next = refl; replies = refl; ended = refl; number = refl; config = here.1; front = front_whole old.token.view.own.number old.token.view.seen.front; takes = takes_none old.token.view old.token.view refl refl }))
+    (λ (t : (old.left ≡ None) × (start ≡ old)). subst (StartsFrom h old) (sym t.1) (record { commands = refl; supply = refl; next = refl; replies = refl; ran = refl; ended = refl; number = refl; config = here.1; front = front_whole old.token.view.own.number old.token.view.seen.front; listed = refl; takes = takes_none old.token.view old.token.view refl refl }))
     (λ (t : Resumes h old start). record {
       commands = ap (λ (r : RunView). r.commands) t.run;
       supply = ap (λ (r : RunView). r.supply) t.run;
       next = ap (λ (r : RunView). r.next) t.run;
       replies = ap (λ (r : RunView). r.replies) t.run;
+      ran = ap (λ (r : RunView). r.ran) t.run;
       ended = ap (λ (r : RunView). r.ended) t.run;
       number = ap (λ (x : DomainView). x.own.number) t.passed.view;
       config = ap (λ (r : RunView). r.token.config) t.run ∙ here.1;
       front = t.passed.seen;
+      listed = ap (λ (x : DomainView). count_of x.own.finalisers) t.passed.view;
       takes = takes_none _ _ (ap (λ (x : DomainView). x.own.serial) t.passed.view) (ap (λ (x : DomainView). x.own.ephemerons) t.passed.view);
     })
 
@@ -252,8 +282,10 @@ gone h old new g =
     ByOthers (record {
       next = ap (λ (r : RunView). r.next) g.run;
       replies = ap (λ (r : RunView). r.replies) g.run;
+      ran = ap (λ (r : RunView). r.ran) g.run;
       ended = ap (λ (r : RunView). r.ended) g.run;
       front = l.front;
+      listed = l.listed;
       takes = takes_more old.token.view new.token.view l.serial l.room;
     })
 
@@ -271,8 +303,10 @@ answered h old new s =
       here = s.waited.next;
       next = ap (λ (r : RunView). r.next) s.run;
       replies = ap (λ (r : RunView). r.replies) s.run;
+      ran = ap (λ (r : RunView). r.ran) s.run;
       ended = ap (λ (r : RunView). r.ended) s.run;
       front = appended (sizes_in h.config) d old.token.view.seen.front a.begun.seen.front new.token.view.seen.front (CommandOf d FullMajor false) (Replied s.reply) a.comes.passed.seen here;
+      listed = let same : count_of new.token.view.own.finalisers ≡ count_of old.token.view.own.finalisers = ap (λ (x : DomainView). count_of x.own.finalisers) a.view ∙ ap (λ (x : DomainView). count_of x.own.finalisers) a.comes.passed.view in omega (arith, same);
       takes = arrived_takes old.token.view a.begun new.token.view a.front a.view (ap (λ (x : DomainView). x.own.serial) a.comes.passed.view) (ap (λ (x : DomainView). x.own.ephemerons) a.comes.passed.view);
     })
 
@@ -284,8 +318,10 @@ seen h old new s =
     ByOthers (record {
       next = ap (λ (r : RunView). r.next) s.run;
       replies = ap (λ (r : RunView). r.replies) s.run;
+      ran = ap (λ (r : RunView). r.ran) s.run;
       ended = ap (λ (r : RunView). r.ended) s.run;
       front = front_trans old.token.view.own.number new.token.view.seen.front g.begun.seen.front old.token.view.seen.front later g.comes.passed.seen;
+      listed = ap (λ (x : DomainView). count_of x.own.finalisers) g.view ∙ ap (λ (x : DomainView). count_of x.own.finalisers) g.comes.passed.view;
       takes = arrived_takes old.token.view g.begun new.token.view new.token.view.seen.front g.view (ap (λ (x : DomainView). x.own.serial) g.comes.passed.view) (ap (λ (x : DomainView). x.own.ephemerons) g.comes.passed.view);
     })
 
@@ -293,8 +329,10 @@ waits : (h : SharedHeap) (old new : RunView) (b : ℕ) → Waits h old new b →
 waits h old new b w = ByOthers (record {
   next = ap (λ (r : RunView). r.next) w.run;
   replies = ap (λ (r : RunView). r.replies) w.run;
+  ran = ap (λ (r : RunView). r.ran) w.run;
   ended = ap (λ (r : RunView). r.ended) w.run;
   front = subst (λ (f : List Entry). IsFrontOf old.token.view.own.number f old.token.view.seen.front) (sym (ap (λ (r : RunView). r.token.view.seen.front) w.run)) (front_whole old.token.view.own.number old.token.view.seen.front);
+  listed = ap (λ (r : RunView). count_of r.token.view.own.finalisers) w.run;
   takes = takes_none _ _ (ap (λ (r : RunView). r.token.view.own.serial) w.run) (ap (λ (r : RunView). r.token.view.own.ephemerons) w.run);
 })
 

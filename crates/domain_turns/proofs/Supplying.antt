@@ -5,13 +5,14 @@ use Rattle.command_counts.proofs.Few.{one_label}
 use Rattle.domain_turns.specs.declared.supply.Supply.{Supply}
 use Rattle.domain_turns.specs.declared.supply.Supply.TheVariants.{Listed, Section, Open, Closed}
 use Rattle.heap_model.specs.declared.reply.Reply.{Reply}
-use Rattle.heap_model.specs.History.{commands, replies}
+use Rattle.heap_model.specs.History.{commands}
 use Rattle.heap_rule.specs.Limits.{sizes_in}
 use Rattle.steps_finalisers.specs.Registering.{count_of}
 use Rattle.heap_model.specs.declared.command.Command.TheVariants.{Spawn, Argument, PutResult, Join}
 use Rattle.domain_turns.specs.Sections.{AllFitIn, FitsIn, IsOrdinary}
+use Rattle.domain_turns.specs.Kept.{answers, finalised}
 use Rattle.domain_turns.specs.Tries.{FitsHeap, labels_of, registrations_of}
-use Rattle.domain_turns.specs.Runs.{RunView, AllFit, EndsIn, HasLabels, HoldsOne, IsHandedIn, IsRun, MaySubmit, labels_in, registrations_in}
+use Rattle.domain_turns.specs.Runs.{RunView, AllFit, AreKept, EndsIn, HasLabels, HoldsOne, IsHandedIn, IsRun, MaySubmit, labels_in, most_ran, registrations_in}
 
 pub ends_on : {A : Type 0} (s : Supply) (whole last more : List A) → EndsIn s whole last → EndsIn s (whole ++ more) (last ++ more)
 ends_on Listed whole last more is = ap (λ l. l ++ more) is
@@ -44,12 +45,6 @@ labels_after Listed serial later next cs c at made is = let one = one_label c in
 labels_after Section serial later next cs c at made is = let one = one_label c in omega arith
 labels_after Open serial later next cs c at made is = subst (λ (n : ℕ). later + labels_in (drop n cs) < 2 ^ 32) (sym (add-one next)) (let all = drop_labels cs next c at in let rest : ℕ = labels_in (drop (suc next) cs) in omega arith)
 labels_after Closed serial later next cs c at made is = subst (λ (n : ℕ). later + labels_in (drop n cs) < 2 ^ 32) (sym (add-one next)) (let all = drop_labels cs next c at in let rest : ℕ = labels_in (drop (suc next) cs) in omega arith)
-
--- where no command of a list registers a finaliser, this one doesn't
-pub registers_none : (cs : List model.Command) (n : ℕ) (c : model.Command) → slice_get cs n ≡ Some c → registrations_in cs ≡ 0 → registrations_of c ≡ 0
-registers_none [] n c at none = cc
-registers_none (x ∷ xs) zero c at none = let is : x ≡ c = cc in subst (λ (y : model.Command). registrations_of y ≡ 0) is (let rest : ℕ = registrations_in xs in omega arith)
-registers_none (x ∷ xs) (suc n) c at none = registers_none xs n c at (let first : ℕ = registrations_of x in omega arith)
 
 fits_one : (c : model.Command) → FitsHeap c → AllFitIn Open (c ∷ [])
 fits_one c fits zero d at = let is : c ≡ d = cc in subst FitsHeap is fits
@@ -112,8 +107,8 @@ closed_is_run r is more done =
     record {
       inside = is.inside;
       made = ends_closed r.supply _ _ more is.made;
-      answered = ends_closed r.supply _ _ more is.answered;
-      replied = is.replied;
+      answered = let kept = subst (λ (s : Supply). AreKept s (sizes_in r.token.config) r.token.view.seen.front r.token.view.own.number r.replies r.ran) more is.answered in (kept.0, kept.1);
+      replied = let all : length r.replies + length r.ran + (count_of r.token.view.own.finalisers + registrations_in (drop r.next r.commands)) ≤ r.next + most_ran Open (registrations_in r.commands) r.spare = subst (λ (s : Supply). length r.replies + length r.ran + (count_of r.token.view.own.finalisers + registrations_in (drop r.next r.commands)) ≤ r.next + most_ran s (registrations_in r.commands) r.spare) more is.replied in all;
       within = is.within;
       few = is.few;
       fit = subst (λ (s : Supply). AllFitIn s r.commands) more is.fit;
@@ -129,35 +124,37 @@ closed_is_run r is more done =
       done = λ _. done;
       over = is.over;
       shut = λ ended. absurd (is.shut ended more);
-      one = λ _. record { one = one.one; registers_none = one.registers_none; none_listed = one.none_listed; answered = one.answered };
+      one = λ _. record { one = one.one; answered = one.answered };
       section = λ section. let clash : Closed ≡ Section = section in cc;
       as_ever = λ _. is.as_ever (λ section. let clash : Open ≡ Section = sym more ∙ section in cc);
       unasked = is.unasked;
       told = is.told;
+      spares = is.spares;
     }
 
 -- an open run has its next command
-pub submitted_is_run : (r : RunView) (c : model.Command) → IsRun r → MaySubmit r c → IsRun (record r { commands = c ∷ []; next = 0; replies = []; asked = None; collected = false })
+pub submitted_is_run : (r : RunView) (c : model.Command) → IsRun r → MaySubmit r c → IsRun (record r { commands = c ∷ []; next = 0; replies = []; ran = []; asked = None; collected = false })
 submitted_is_run r c is may =
     let handed : IsHandedIn r.supply = subst IsHandedIn (sym may.more) tt in
     let other : r.supply ≢ Section = λ section. let clash : Open ≡ Section = sym may.more ∙ section in cc in
-    let one = is.one handed in
-    let none : count_of r.token.view.own.finalisers ≡ 0 = one.none_listed in
-    let registers : registrations_of c ≡ 0 = may.registers_none in
+    let count : ℕ = count_of r.token.view.own.finalisers in
+    let listed : count + registrations_of c ≤ r.token.config.finals = may.enlists in
+    let spares : r.spare ≡ r.token.config.finals = is.spares in
     let b = is.between in
     let here : List model.Command = commands r.token.view.seen.front r.token.view.own.number in
-    let said : List Reply = replies (sizes_in r.token.config) r.token.view.seen.front r.token.view.own.number in
+    let said : List Reply = answers (sizes_in r.token.config) r.token.view.seen.front r.token.view.own.number in
+    let ran : List Reply = finalised (sizes_in r.token.config) r.token.view.seen.front r.token.view.own.number in
     let never : r.ended ≡ true → ⊥ = λ ended. is.shut ended may.more in
     record {
       inside = is.inside;
       made = subst (λ (s : Supply). EndsIn s here []) (sym may.more) (here, sym (append-nil here));
-      answered = subst (λ (s : Supply). EndsIn s said []) (sym may.more) (said, sym (append-nil said));
-      replied = omega (arith, none, registers);
+      answered = subst (λ (s : Supply). AreKept s (sizes_in r.token.config) r.token.view.seen.front r.token.view.own.number [] []) (sym may.more) ((said, sym (append-nil said)), (ran, sym (append-nil ran)));
+      replied = subst (λ (s : Supply). 0 + 0 + (count + (registrations_of c + 0)) ≤ 0 + most_ran s (registrations_of c + 0) r.spare) (sym may.more) (let all : 0 + 0 + (count + (registrations_of c + 0)) ≤ 0 + r.spare = omega (arith, listed, spares) in all);
       within = omega arith;
       few = omega arith;
       fit = subst (λ (s : Supply). AllFitIn s (c ∷ [])) (sym may.more) (fits_one c may.fits);
       room = let room = may.room in omega arith;
-      enlists = omega (arith, none, registers);
+      enlists = omega (arith, listed);
       idle = is.idle;
       at_rest = is.at_rest;
       goes_on = is.goes_on;
@@ -177,9 +174,10 @@ submitted_is_run r c is may =
       done = λ ended. absurd (never ended);
       over = λ ended. absurd (never ended);
       shut = is.shut;
-      one = λ _. record { one = omega arith; registers_none = omega (arith, registers); none_listed = none; answered = refl };
+      one = λ _. record { one = omega arith; answered = refl };
       section = λ section. absurd (other section);
       as_ever = is.as_ever;
       unasked = λ before. refl;
       told = λ ended. absurd (never ended);
+      spares = is.spares;
     }

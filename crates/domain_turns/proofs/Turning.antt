@@ -1,12 +1,13 @@
 -- A turn keeps what is true of a run.
-use Rattle.std.proofs.Common.{true≢false, ◌≡◌, ◌≢◌, ◌∙◌, ℕ, zero, suc, ◌+◌, ◌^◌, ◌<◌, ◌≤◌, Bool, true, false, List, [], ◌∷◌, ◌++◌, length, take, drop, slice_get, Some, None, Option, refl, sym, ap, subst, arith, length-append, append-nil, eq-eqb, add-one, ⊎_elim}
+use Rattle.std.proofs.Common.{true≢false, ◌≡◌, ◌≢◌, ◌∙◌, ℕ, zero, suc, ◌+◌, ◌^◌, ◌<◌, ◌≤◌, Bool, true, false, List, [], ◌∷◌, ◌++◌, length, take, drop, slice_get, Some, None, Option, refl, sym, ap, subst, arith, length-append, append-nil, eq-eqb, add-one, ⊎_elim, inl, inr, ◌⊎◌}
 use Rattle.heap_model.specs.declared.command.Command as model
 use Rattle.heap_model.specs.declared.entry.Entry.{Entry}
 use Rattle.heap_model.specs.declared.entry.Entry.TheVariants.{Command as CommandOf, End, Ran as RanEntry}
 use Rattle.heap_model.specs.declared.reply.Reply.{Reply}
 use Rattle.heap_model.specs.declared.reply.Applied.TheVariants.{Replied, Silent}
-use Rattle.heap_model.specs.History.{commands, command_of, replies}
-use Rattle.heap_model.proofs.Histories.AnswerLemmas.{commands_after, replies_after}
+use Rattle.heap_model.specs.History.{commands, command_of}
+use Rattle.heap_model.proofs.Histories.AnswerLemmas.{commands_after}
+use Rattle.heap_model.proofs.Reach.ReachLemmas.{or_right}
 use Rattle.heap_rule.specs.declared.config.Config.{Config}
 use Rattle.heap_rule.specs.Limits.{sizes_in}
 use Rattle.heap_rule.specs.Token.{Token, SharedHeap, IsIn}
@@ -17,8 +18,10 @@ use Rattle.heap_model.proofs.Histories.AnswerLemmas.{acts_after}
 use Rattle.heap_model.proofs.Histories.FrontLemmas.{answers_after, front_whole}
 use Rattle.heap_rule.specs.declared.view.Hunt.TheVariants.{Rests}
 use Rattle.heap_rule.specs.declared.phase.Kind.TheVariants.{Answer}
+use Rattle.heap_rule.specs.declared.phase.Note.{Note}
+use Rattle.heap_rule.specs.Standing.{noted}
 use Rattle.heap_rule.specs.Rule.{state_of}
-use Rattle.darkening_beside.specs.Aware.{Learnt, aware_as}
+use Rattle.darkening_beside.specs.Aware.{Learnt}
 use Rattle.steps_marking.specs.Arming.{knowing_armed}
 use Rattle.mark_slices.specs.Decks.{DeckCounts, StaysDeck}
 use Rattle.steps_pauses.specs.Pauses.{forgotten}
@@ -40,7 +43,8 @@ use Rattle.domain_turns.specs.Tries.{Enters, Stands, Tried, NeedsPause, ephemero
 use Rattle.command_counts.proofs.Few.{ephemerons_few, labels_few}
 use Rattle.heap_rule.specs.declared.phase.Kind.{Kind}
 use Rattle.heap_rule.specs.Phases.{IsEven}
-use Rattle.domain_turns.specs.Runs.{RunView, EndsIn, HasLabels, IsBetween, IsRun, HasEnded, Takes, is_asked, ephemerons_in, registrations_in, is_end_of, served_since}
+use Rattle.domain_turns.specs.Runs.{RunView, AreKept, EndsIn, HasLabels, IsBetween, IsHandedIn, IsRun, HasEnded, Takes, is_asked, ephemerons_in, most_ran, ran_with, said_with, registrations_in, is_end_of, served_since}
+use Rattle.domain_turns.proofs.Kept.{keeps_one, kept_answer, kept_end, kept_ran, said_apart}
 use Rattle.domain_turns.proofs.Taking.{arrived_takes, tried_takes}
 use Rattle.domain_spawn.proofs.Owed.{command_due}
 use Rattle.domain_turns.proofs.Owing.{drop_registrations, ended_count, enlisted_count, ran_count, ran_fresh, registrations_few}
@@ -48,10 +52,11 @@ use Rattle.domain_turns.proofs.PauseLemmas.{quiet_as}
 use Rattle.domain_turns.specs.Sections.{IsInSection, IsOrdinary, IsTold}
 use Rattle.domain_turns.specs.declared.place.Place.TheVariants.{Before}
 use Rattle.domain_turns.proofs.Sectioning.{section_answers, section_ended, section_ran, take_next}
-use Rattle.domain_turns.proofs.Supplying.{ends_as, ends_on, labels_after, labels_next, registers_none}
-use Rattle.domain_turns.specs.declared.supply.Supply.TheVariants.{Open}
+use Rattle.domain_turns.proofs.Supplying.{ends_as, ends_on, labels_after, labels_next}
+use Rattle.domain_turns.specs.declared.supply.Supply.{Supply}
+use Rattle.domain_turns.specs.declared.supply.Supply.TheVariants.{Listed, Section, Open, Closed}
 use Rattle.std.specs.List.{list_any}
-use Rattle.std.specs.Prelude.{cond, IsTrue, ◌||◌}
+use Rattle.std.specs.Prelude.{cond, IsTrue}
 
 drop_next : (cs : List model.Command) (n : ℕ) (c : model.Command) → slice_get cs n ≡ Some c → ephemerons_in (drop n cs) ≡ ephemerons_of c + ephemerons_in (drop (suc n) cs)
 drop_next [] n c at = cc
@@ -107,24 +112,62 @@ next_enlists r is c at =
 pub next_labels : (r : RunView) → IsRun r → (c : model.Command) → slice_get r.commands r.next ≡ Some c → r.token.view.own.serial + labels_of c < 2 ^ 32
 next_labels r is c at = labels_next r.supply r.token.view.own.serial r.next r.commands c at (let below = inside r.commands r.next c at in let few = is.few in omega arith) is.labels
 
+-- how many replies of finalisers a run may keep, by where its commands come from
+pub most_apart : (s : Supply) (registered spare : ℕ) → IsHandedIn s → most_ran s registered spare ≡ spare
+most_apart Listed registered spare handed = absurd handed
+most_apart Section registered spare handed = absurd handed
+most_apart Open registered spare handed = refl
+most_apart Closed registered spare handed = refl
+
+most_listed : (s : Supply) (registered spare : ℕ) → (IsHandedIn s → ⊥) → most_ran s registered spare ≡ registered
+most_listed Listed registered spare other = refl
+most_listed Section registered spare other = refl
+most_listed Open registered spare other = absurd (other tt)
+most_listed Closed registered spare other = absurd (other tt)
+
+handed_or : (s : Supply) → IsHandedIn s ⊎ (IsHandedIn s → ⊥)
+handed_or Listed = inr (λ e. e)
+handed_or Section = inr (λ e. e)
+handed_or Open = inl tt
+handed_or Closed = inl tt
+
 -- another reply fits: that of the next command, and that of each finaliser
 pub next_replies : (r : RunView) → IsRun r → (c : model.Command) → slice_get r.commands r.next ≡ Some c → length r.replies < length r.commands + length r.commands
 next_replies r is c at =
-    let below = inside r.commands r.next c at in
-    let few = registrations_few r.commands in
-    let replied = is.replied in
-    let count : ℕ = count_of r.token.view.own.finalisers in
-    let rest : ℕ = registrations_in (drop r.next r.commands) in
-    omega arith
+    let below : r.next < length r.commands = inside r.commands r.next c at in
+    let few : registrations_in r.commands ≤ length r.commands = registrations_few r.commands in
+    let count : ℕ = count_of r.token.view.own.finalisers + registrations_in (drop r.next r.commands) in
+    let replied : length r.replies + length r.ran + count ≤ r.next + most_ran r.supply (registrations_in r.commands) r.spare = is.replied in
+    ⊎_elim
+    (λ (handed : IsHandedIn r.supply). let kept = (is.one handed).answered in omega (arith, below, kept))
+    (λ (other : IsHandedIn r.supply → ⊥). let most = most_listed r.supply (registrations_in r.commands) r.spare other in omega (arith, below, few, replied, most))
+    (handed_or r.supply)
 
-pub ran_replies : (r : RunView) → IsRun r → (n : ℕ) → n + 1 ≡ count_of r.token.view.own.finalisers → length r.replies < length r.commands + length r.commands
-ran_replies r is n some =
+pub ran_replies : (r : RunView) → IsRun r → (n : ℕ) → n + 1 ≡ count_of r.token.view.own.finalisers → (IsHandedIn r.supply → ⊥) → length r.replies < length r.commands + length r.commands
+ran_replies r is n some other =
     let within = is.within in
     let few = registrations_few r.commands in
     let replied = is.replied in
     let count : ℕ = count_of r.token.view.own.finalisers in
     let rest : ℕ = registrations_in (drop r.next r.commands) in
+    let most = most_listed r.supply (registrations_in r.commands) r.spare other in
     omega arith
+
+-- where commands are handed in the replies of finalisers fit with those that are registered
+pub apart_few : (r : RunView) → IsRun r → IsHandedIn r.supply → length r.ran + (count_of r.token.view.own.finalisers + registrations_in (drop r.next r.commands)) ≤ r.spare
+apart_few r is handed =
+    let replied = is.replied in
+    let count : ℕ = count_of r.token.view.own.finalisers in
+    let rest : ℕ = registrations_in (drop r.next r.commands) in
+    let kept = (is.one handed).answered in
+    let most = most_apart r.supply (registrations_in r.commands) r.spare handed in
+    omega arith
+
+pub ran_apart : (r : RunView) → IsRun r → (n : ℕ) → n + 1 ≡ count_of r.token.view.own.finalisers → IsHandedIn r.supply → length r.ran < r.spare
+ran_apart r is n some handed =
+    let few = apart_few r is handed in
+    let rest : ℕ = registrations_in (drop r.next r.commands) in
+    omega (arith, few, some)
 
 -- after the try of a command the domain runs on
 tried_between : (h : SharedHeap) (old new : Token) (c : model.Command) (reply : Reply) (asked : Option ℕ) (collected : Bool) (progress : Progress) → IsBetween None asked collected progress old → Tried h old new c collected reply → IsBetween None None false progress new
@@ -158,7 +201,7 @@ record HasMade (old new : Token) (c : model.Command) (full : Bool) (reply : Repl
   config : new.config ≡ old.config
   number : new.view.own.number ≡ old.view.own.number
   takes : Takes (labels_given c reply) (ephemerons_given c reply) old.view new.view
-  listed : count_of new.view.own.finalisers ≤ registrations_of c + count_of old.view.own.finalisers
+  listed : count_of new.view.own.finalisers ≤ count_of old.view.own.finalisers + registrations_of c
   owes : due_of old.config new.view ≡ due
   idle : new.view.seen.made ≡ []
   at_rest : new.view.seen.hunt ≡ Rests
@@ -175,21 +218,18 @@ made_is_run r new c full reply left progress due hints stays is running at going
     ends_as r.supply (commands r.token.view.seen.front d ++ c ∷ []) (commands new.view.seen.front d) (take r.next r.commands ++ c ∷ [])
     (commands_after z d r.token.view.seen.front new.view.seen.front e (Replied reply) m.answers ∙ ap (λ (cs : List model.Command). commands r.token.view.seen.front d ++ cs) (own d c full))
     (ends_on r.supply (commands r.token.view.seen.front d) (take r.next r.commands) (c ∷ []) is.made) in
-    let answered : EndsIn r.supply (replies z new.view.seen.front d) (r.replies ++ reply ∷ []) =
-    ends_as r.supply (replies z r.token.view.seen.front d ++ reply ∷ []) (replies z new.view.seen.front d) (r.replies ++ reply ∷ [])
-    (replies_after z d r.token.view.seen.front new.view.seen.front e (Replied reply) (eq-eqb d d refl) m.answers) (ends_on r.supply (replies z r.token.view.seen.front d) r.replies (reply ∷ []) is.answered) in
     let left_over : ℕ = registrations_in (drop (suc r.next) r.commands) in
     let all = drop_registrations r.commands r.next c at in
     let listed = m.listed in
-    let more : length (r.replies ++ reply ∷ []) + (count_of new.view.own.finalisers + left_over) ≤ suc r.next + registrations_in r.commands =
-    let one = length-append r.replies (reply ∷ []) in let before = is.replied in omega arith in
+    let more : length (r.replies ++ reply ∷ []) + length r.ran + (count_of new.view.own.finalisers + left_over) ≤ suc r.next + most_ran r.supply (registrations_in r.commands) r.spare =
+    let one = length-append r.replies (reply ∷ []) in let before = is.replied in let most : ℕ = most_ran r.supply (registrations_in r.commands) r.spare in omega arith in
     let enough : count_of new.view.own.finalisers + left_over ≤ r.token.config.finals = let before = is.enlists in omega arith in
     record {
       inside = subst (λ (z : ℕ × Config). z.0 < z.1.domains) (λ i. (sym m.number i, sym m.config i)) is.inside;
       made = ends_as r.supply (commands new.view.seen.front d) (commands new.view.seen.front new.view.own.number) (take (r.next + 1) r.commands) (ap (commands new.view.seen.front) m.number)
           (subst (λ (l : List model.Command). EndsIn r.supply (commands new.view.seen.front d) l) (sym (take_next r.commands r.next c at) ∙ ap (λ (n : ℕ). take n r.commands) (sym (add-one r.next))) made);
-      answered = ends_as r.supply (replies z new.view.seen.front d) (replies (sizes_in new.config) new.view.seen.front new.view.own.number) (r.replies ++ reply ∷ []) (ap (λ (n : ℕ). replies (sizes_in new.config) new.view.seen.front n) m.number ∙ ap (λ (k : Config). replies (sizes_in k) new.view.seen.front d) m.config) answered;
-      replied = subst (λ (n : ℕ). length (r.replies ++ reply ∷ []) + (count_of new.view.own.finalisers + registrations_in (drop n r.commands)) ≤ n + registrations_in r.commands) (sym (add-one r.next)) more;
+      answered = subst (λ (w : Config × ℕ). AreKept r.supply (sizes_in w.0) new.view.seen.front w.1 (r.replies ++ reply ∷ []) r.ran) (λ i. (sym m.config i, sym m.number i)) (kept_answer z d r.token.view.seen.front new.view.seen.front c full reply m.answers r.supply r.replies r.ran is.answered);
+      replied = subst (λ (n : ℕ). length (r.replies ++ reply ∷ []) + length r.ran + (count_of new.view.own.finalisers + registrations_in (drop n r.commands)) ≤ n + most_ran r.supply (registrations_in r.commands) r.spare) (sym (add-one r.next)) more;
       within = let below = inside r.commands r.next c at in omega arith;
       few = is.few;
       fit = is.fit;
@@ -207,22 +247,24 @@ made_is_run r new c full reply left progress due hints stays is running at going
       done = λ ended. let clash : false ≡ true = sym running ∙ ended in cc;
       over = λ ended. let clash : false ≡ true = sym running ∙ ended in cc;
       shut = λ ended. let clash : false ≡ true = sym running ∙ ended in cc;
-      one = λ handed. let o = is.one handed in record {
-        one = o.one;
-        registers_none = o.registers_none;
-        none_listed = let none = o.none_listed in let registers = registers_none r.commands r.next c at o.registers_none in let few = m.listed in omega arith;
-        answered = length-append r.replies (reply ∷ []) ∙ ap (λ (n : ℕ). n + 1) o.answered;
-      };
+      one = λ handed. let o = is.one handed in record { one = o.one; answered = let kept = length-append r.replies (reply ∷ []) in let before = o.answered in omega (arith, kept, before) };
       section = λ section. subst (λ (w : Config × ℕ). IsInSection w.0 w.1 new.view.seen.front r.place r.commands (r.next + 1) (r.replies ++ reply ∷ [])) (λ i. (sym m.config i, sym m.number i))
           (section_answers r.token.config d r.token.view.seen.front new.view.seen.front r.place r.commands r.next r.replies c full reply going ordinary at m.answers (is.section section));
       as_ever = is.as_ever;
       unasked = λ before. refl;
       told = λ ended. let clash : false ≡ true = sym running ∙ ended in cc;
+      spares = is.spares ∙ ap (λ (k : Config). k.finals) (sym m.config);
     }
 
 -- each of these is another than `full_major`, which always waits for a pause
-not_full : (k : Config) (own : Own) (served : Bool) (c : model.Command) → (NeedsPause k own served c → ⊥) → c ≢ FullMajor
+pub not_full : (k : Config) (own : Own) (served : Bool) (c : model.Command) → (NeedsPause k own served c → ⊥) → c ≢ FullMajor
 not_full k own served c ready is = ready (subst (λ (d : model.Command). NeedsPause k own served d) (sym is) tt)
+
+-- a command that was tried may have registered one
+pub tried_count : (h : SharedHeap) (old new : Token) (c : model.Command) (collected : Bool) (reply : Reply) → Tried h old new c collected reply → count_of new.view.own.finalisers ≤ count_of old.view.own.finalisers + registrations_of c
+tried_count h old new c collected reply t =
+    let few : count_of new.view.own.finalisers ≤ registrations_of c + count_of old.view.own.finalisers = subst (λ (o : Own). count_of o.finalisers ≤ registrations_of c + count_of old.view.own.finalisers) (sym t.own) (enlisted_count c old.view.own) in
+    omega (arith, few)
 
 pub tried_is_run : (h : SharedHeap) (r : RunView) (new : Token) (c : model.Command) (reply : Reply) (own : Own) (served : Bool) → IsRun r → r.ended ≡ false → r.left ≡ None → slice_get r.commands r.next ≡ Some c → r.place ≢ Before → IsOrdinary c → Tried h r.token new c r.collected reply → (NeedsPause h.config own served c → ⊥)
     → IsRun (record r { token = new; next = r.next + 1; replies = r.replies ++ reply ∷ []; asked = None; collected = false; due = 0 })
@@ -233,7 +275,7 @@ tried_is_run h r new c reply own served is running left at going ordinary t read
     let owes : due_of r.token.config new.view ≡ 0 = ap (λ (n : ℕ). due_at (state_of r.token.config new.view.seen.front) n) number
     ∙ command_due (sizes_in r.token.config) d r.token.view.seen.front new.view.seen.front c st.0 (Replied reply) st.1 (not_full h.config own served c ready) in
     made_is_run r new c st.0 reply r.left r.progress 0 r.hints (stays_same r.hints) is running at going ordinary
-    record { listed = subst (λ (o : Own). count_of o.finalisers ≤ registrations_of c + count_of r.token.view.own.finalisers) (sym t.own) (enlisted_count c r.token.view.own); owes = owes; config = t.heap.1; number = ap (λ (o : Own). o.number) t.own; takes = tried_takes h r.token new c r.collected reply t; idle = t.runs.idle; at_rest = t.runs.at_rest; answers = st.1 }
+    record { listed = tried_count h r.token new c r.collected reply t; owes = owes; config = t.heap.1; number = ap (λ (o : Own). o.number) t.own; takes = tried_takes h r.token new c r.collected reply t; idle = t.runs.idle; at_rest = t.runs.at_rest; answers = st.1 }
     (subst (λ (l : Option Kind). IsBetween l None false r.progress new) (sym left) (tried_between h r.token new c reply r.asked r.collected r.progress (subst (λ (l : Option Kind). IsBetween l r.asked r.collected r.progress r.token) left is.between) t))
 
 -- the same where a collection is answered by the reply of a `full_major`
@@ -263,11 +305,7 @@ answered_is_run h r new reply progress hints stays is running at going was here 
 
 any_last : (p : Entry → Bool) (xs : List Entry) (e : Entry) → p e ≡ true → IsTrue (list_any p (xs ++ e ∷ []))
 any_last p [] e is = rw is refl
-any_last p (x ∷ xs) e is = any_more (p x) (list_any p (xs ++ e ∷ [])) (any_last p xs e is)
-  where
-    any_more : (a b : Bool) → IsTrue b → IsTrue (a || b)
-    any_more true b h = refl
-    any_more false b h = h
+any_last p (x ∷ xs) e is = or_right (p x) (list_any p (xs ++ e ∷ [])) (any_last p xs e is)
 
 pub ended_is_run : (h : SharedHeap) (r : RunView) (new : Token) → IsRun r → r.supply ≢ Open → r.left ≡ None → length r.commands ≤ r.next → IsTold r.place → HasEnded h r.token new → IsRun (record r { token = new; ended = true; collected = false })
 ended_is_run h r new is shut left whole told t =
@@ -277,14 +315,12 @@ ended_is_run h r new is shut left whole told t =
     let serial : new.view.own.serial ≡ r.token.view.own.serial = ap (λ (x : DomainView). x.own.serial) t.view in
     let made : commands new.view.seen.front d ≡ commands r.token.view.seen.front d =
     commands_after z d r.token.view.seen.front new.view.seen.front (End d) Silent t.answers ∙ append-nil (commands r.token.view.seen.front d) in
-    let answered : replies z new.view.seen.front d ≡ replies z r.token.view.seen.front d =
-    replies_after z d r.token.view.seen.front new.view.seen.front (End d) Silent (eq-eqb d d refl) t.answers ∙ append-nil (replies z r.token.view.seen.front d) in
     let fewer : count_of new.view.own.finalisers ≤ count_of r.token.view.own.finalisers = subst (λ (x : DomainView). count_of x.own.finalisers ≤ count_of r.token.view.own.finalisers) (sym t.view) (ended_count r.token.view.own) in
     record {
       inside = subst (λ (z : ℕ × Config). z.0 < z.1.domains) (λ i. (sym number i, sym t.heap.1 i)) is.inside;
       made = ends_as r.supply (commands r.token.view.seen.front d) (commands new.view.seen.front new.view.own.number) (take r.next r.commands) (ap (commands new.view.seen.front) number ∙ made) is.made;
-      answered = ends_as r.supply (replies z r.token.view.seen.front d) (replies (sizes_in new.config) new.view.seen.front new.view.own.number) r.replies (ap (λ (n : ℕ). replies (sizes_in new.config) new.view.seen.front n) number ∙ ap (λ (k : Config). replies (sizes_in k) new.view.seen.front d) t.heap.1 ∙ answered) is.answered;
-      replied = let less : count_of new.view.own.finalisers ≤ count_of r.token.view.own.finalisers = fewer in let before = is.replied in let rest : ℕ = registrations_in (drop r.next r.commands) in let total : ℕ = registrations_in r.commands in let n : ℕ = r.next in omega arith;
+      answered = subst (λ (w : Config × ℕ). AreKept r.supply (sizes_in w.0) new.view.seen.front w.1 r.replies r.ran) (λ i. (sym t.heap.1 i, sym number i)) (kept_end r.supply z d r.token.view.seen.front new.view.seen.front r.replies r.ran t.answers is.answered);
+      replied = let less : count_of new.view.own.finalisers ≤ count_of r.token.view.own.finalisers = fewer in let before = is.replied in let rest : ℕ = registrations_in (drop r.next r.commands) in let total : ℕ = most_ran r.supply (registrations_in r.commands) r.spare in let n : ℕ = r.next in omega arith;
       within = is.within;
       few = is.few;
       fit = is.fit;
@@ -301,12 +337,13 @@ ended_is_run h r new is shut left whole told t =
       over = λ ended. subst (λ (n : ℕ). IsTrue (list_any (is_end_of n) new.view.seen.front)) (sym number)
           (subst (λ (front : List Entry). IsTrue (list_any (is_end_of d) front)) (sym t.answers.appends) (any_last (is_end_of d) (r.token.view.seen.front ++ t.answers.between) (End d) (eq-eqb d d refl)));
       shut = λ _. shut;
-      one = λ handed. let o = is.one handed in record { one = o.one; registers_none = o.registers_none; none_listed = let none = o.none_listed in let less = fewer in omega arith; answered = o.answered };
+      one = λ handed. let o = is.one handed in record { one = o.one; answered = o.answered };
       section = λ section. subst (λ (w : Config × ℕ). IsInSection w.0 w.1 new.view.seen.front r.place r.commands r.next r.replies) (λ i. (sym t.heap.1 i, sym number i))
           (section_ended r.token.config d r.token.view.seen.front new.view.seen.front r.place r.commands r.next r.replies t.answers (is.section section));
       as_ever = is.as_ever;
       unasked = is.unasked;
       told = λ _. told;
+      spares = is.spares ∙ ap (λ (k : Config). k.finals) (sym t.heap.1);
     }
 
 -- the run of a finaliser leaves the domain between two turns
@@ -328,7 +365,7 @@ ran_between h old new ran asked collected progress config same is f =
 
 -- a finaliser has run, and its reply was kept
 pub ran_is_run : (h : SharedHeap) (r : RunView) (new : Token) (ran : Ran) → IsRun r → r.ended ≡ false → r.left ≡ None → IsIn r.token h → IsIn new h → (domain_at (state_of new.config new.view.seen.front) new.view.own.number).ended ≡ false → RanFirst h.config ran r.token.view new.view
-    → IsRun (record r { token = new; replies = r.replies ++ reply_of ran ∷ []; due = length new.view.own.finalisers.queue.items })
+    → IsRun (record r { token = new; replies = said_with r.supply r.replies (reply_of ran); ran = ran_with r.supply r.ran (reply_of ran); due = length new.view.own.finalisers.queue.items })
 ran_is_run h r new ran is running left was here goes f =
     let d : ℕ = r.token.view.own.number in
     let k : Config = r.token.config in
@@ -341,19 +378,18 @@ ran_is_run h r new ran is running left was here goes f =
     subst (λ (c : Config). Answers (sizes_in c) d r.token.view.seen.front new.view.seen.front (RanEntry d) (Replied reply)) (sym was.1) f.answers in
     let made : commands new.view.seen.front d ≡ commands r.token.view.seen.front d =
     commands_after z d r.token.view.seen.front new.view.seen.front (RanEntry d) (Replied reply) answers ∙ append-nil (commands r.token.view.seen.front d) in
-    let answered : EndsIn r.supply (replies z new.view.seen.front d) (r.replies ++ reply ∷ []) =
-    ends_as r.supply (replies z r.token.view.seen.front d ++ reply ∷ []) (replies z new.view.seen.front d) (r.replies ++ reply ∷ [])
-    (replies_after z d r.token.view.seen.front new.view.seen.front (RanEntry d) (Replied reply) (eq-eqb d d refl) answers) (ends_on r.supply (replies z r.token.view.seen.front d) r.replies (reply ∷ []) is.answered) in
+    let said : List Reply = said_with r.supply r.replies reply in
+    let apart : List Reply = ran_with r.supply r.ran reply in
     let count : ℕ = count_of new.view.own.finalisers in
     let rest : ℕ = registrations_in (drop r.next r.commands) in
     let less : count + 1 ≡ count_of r.token.view.own.finalisers = ap (λ (x : DomainView). count_of x.own.finalisers + 1) f.view ∙ ran_count f.first r.token.view.own f.is_first in
-    let more : length (r.replies ++ reply ∷ []) + (count + rest) ≤ r.next + registrations_in r.commands =
-    let one = length-append r.replies (reply ∷ []) in let before = is.replied in let total : ℕ = registrations_in r.commands in let n : ℕ = r.next in omega arith in
+    let more : length said + length apart + (count + rest) ≤ r.next + most_ran r.supply (registrations_in r.commands) r.spare =
+    let one = keeps_one r.supply r.replies r.ran reply in let before = is.replied in let total : ℕ = most_ran r.supply (registrations_in r.commands) r.spare in let n : ℕ = r.next in omega arith in
     let enough : count + rest ≤ k.finals = let before = is.enlists in omega arith in
     record {
       inside = subst (λ (z : ℕ × Config). z.0 < z.1.domains) (λ i. (sym number i, sym config i)) is.inside;
       made = ends_as r.supply (commands r.token.view.seen.front d) (commands new.view.seen.front new.view.own.number) (take r.next r.commands) (ap (commands new.view.seen.front) number ∙ made) is.made;
-      answered = ends_as r.supply (replies z new.view.seen.front d) (replies (sizes_in new.config) new.view.seen.front new.view.own.number) (r.replies ++ reply ∷ []) (ap (λ (n : ℕ). replies (sizes_in new.config) new.view.seen.front n) number ∙ ap (λ (c : Config). replies (sizes_in c) new.view.seen.front d) config) answered;
+      answered = subst (λ (w : Config × ℕ). AreKept r.supply (sizes_in w.0) new.view.seen.front w.1 said apart) (λ i. (sym config i, sym number i)) (kept_ran z d r.token.view.seen.front new.view.seen.front reply answers r.supply r.replies r.ran is.answered);
       replied = more;
       within = is.within;
       few = is.few;
@@ -370,12 +406,14 @@ ran_is_run h r new ran is running left was here goes f =
       done = λ ended. let clash : false ≡ true = sym running ∙ ended in cc;
       over = λ ended. let clash : false ≡ true = sym running ∙ ended in cc;
       shut = λ ended. let clash : false ≡ true = sym running ∙ ended in cc;
-      one = λ handed. absurd (let none = (is.one handed).none_listed in let some = less in omega arith);
-      section = λ section. subst (λ (w : Config × ℕ). IsInSection w.0 w.1 new.view.seen.front r.place r.commands r.next (r.replies ++ reply ∷ [])) (λ i. (sym config i, sym number i))
-          (section_ran k d r.token.view.seen.front new.view.seen.front r.place r.commands r.next r.replies reply answers (is.section section));
+      one = λ handed. let o = is.one handed in record { one = o.one; answered = ap (λ (rs : List Reply). length rs) (said_apart r.supply r.replies reply handed) ∙ o.answered };
+      section = λ section. subst (λ (w : Config × ℕ). IsInSection w.0 w.1 new.view.seen.front r.place r.commands r.next said) (λ i. (sym config i, sym number i))
+          (subst (λ (s : Supply). IsInSection k d new.view.seen.front r.place r.commands r.next (said_with s r.replies reply)) (sym section)
+          (section_ran k d r.token.view.seen.front new.view.seen.front r.place r.commands r.next r.replies reply answers (is.section section)));
       as_ever = is.as_ever;
       unasked = is.unasked;
       told = λ ended. let clash : false ≡ true = sym running ∙ ended in cc;
+      spares = is.spares ∙ ap (λ (k : Config). k.finals) (sym config);
     }
 
 -- a view of a running domain by which nothing changed of how it stands between two turns
@@ -404,6 +442,27 @@ stands_between old new asked collected progress config s is = record {
   fresh = λ e. subst (λ (z : Config × (ℕ × List Entry)). (domain_at (state_of z.0 z.1.1) z.1.0).fresh ≡ true) (λ i. (sym config i, (sym s.number i, sym s.front i))) (is.fresh e);
   knows = knows_on old.view new.view progress s.number s.progress is.knows;
 }
+
+-- a running domain that has noted something is where it was
+pub noted_is_run : (h : SharedHeap) (r : RunView) (new : Token) (n : Note) → IsRun r → r.left ≡ None → IsIn r.token h → IsIn new h → new.view ≡ noted r.token.view n → IsRun (record r { token = new })
+noted_is_run h r new n is left was here v =
+    let stands : StandsStill r.token.view new.view = record {
+      stage = ap (λ (x : DomainView). x.seen.stage) v;
+      copying = ap (λ (x : DomainView). x.seen.copying) v;
+      weak = ap (λ (x : DomainView). x.seen.share.weak) v;
+      pending = ap (λ (x : DomainView). x.own.pending) v;
+      prepared = ap (λ (x : DomainView). x.own.prepared) v;
+      arrivals = ap (λ (x : DomainView). x.own.arrivals) v;
+      seen = ap (λ (x : DomainView). x.seen.remembered) v;
+      remembered = ap (λ (x : DomainView). x.own.remembered) v;
+      used = ap (λ (x : DomainView). x.own.used) v;
+      number = ap (λ (x : DomainView). x.own.number) v;
+      front = ap (λ (x : DomainView). x.seen.front) v;
+      progress = ap (λ (x : DomainView). x.seen.share.progress) v;
+    } in
+    let old : IsBetween None r.asked r.collected r.progress r.token = subst (λ (l : Option Kind). IsBetween l r.asked r.collected r.progress r.token) left is.between in
+    moved_is_run r new r.left r.asked r.collected r.progress r.hints is (stays_same r.hints) (still_moves h r.token new _ was here v refl refl refl refl refl refl refl) is.unasked
+    (subst (λ (l : Option Kind). IsBetween l r.asked r.collected r.progress new) (sym left) (stands_between r.token new r.asked r.collected r.progress (here.1 ∙ sym was.1) stands old))
 
 -- a domain that has marked beside the others is where it was
 pub marked_is_run : (h : SharedHeap) (r : RunView) (new : Token) (hints : DeckCounts) → StaysDeck r.hints hints → IsRun r → r.left ≡ None → IsIn r.token h → IsIn new h → Learnt r.token.view new.view → new.view.seen.share.weak ≡ r.token.view.seen.share.weak → IsRun (record r { token = new; hints = hints })
@@ -462,6 +521,3 @@ swept_is_run h r new most count is left was here s =
 -- who has found whether a collection goes on has learnt that
 pub armed_learns : (x y : DomainView) (armed : Bool) → y ≡ knowing_armed x armed → Learnt x y
 armed_learns x y armed is = subst (Learnt x) (sym is) (record { view = refl; grows = λ f known. known })
-
-pub learns_on : (x y z : DomainView) → Learnt x y → Learnt y z → Learnt x z
-learns_on x y z a b = record { view = b.view ∙ ap (λ (v : DomainView). aware_as v z) a.view; grows = λ f known. b.grows f (a.grows f known) }

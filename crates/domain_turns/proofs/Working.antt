@@ -12,6 +12,7 @@ pub record KeepsOn (h : SharedHeap) (old new : RunView) : Type 0 where
   pub place : new.place ≡ old.place
   pub next : new.next ≡ old.next
   pub replies : new.replies ≡ old.replies
+  pub ran : new.ran ≡ old.ran
   pub ended : new.ended ≡ old.ended
   pub config : new.token.config ≡ h.config
   pub waiting : new.token.view.own.finalisers ≡ old.token.view.own.finalisers
@@ -29,6 +30,7 @@ works_keeps h old new spent = ⊎_elim
       place = ap (λ (r : RunView). r.place) m.run;
       next = ap (λ (r : RunView). r.next) m.run;
       replies = ap (λ (r : RunView). r.replies) m.run;
+      ran = ap (λ (r : RunView). r.ran) m.run;
       ended = ap (λ (r : RunView). r.ended) m.run;
       config = m.here.1;
       waiting = ap (λ (x : DomainView). x.own.finalisers) m.learnt.view;
@@ -44,6 +46,7 @@ works_keeps h old new spent = ⊎_elim
       place = ap (λ (r : RunView). r.place) s.0.1.run;
       next = ap (λ (r : RunView). r.next) s.0.1.run;
       replies = ap (λ (r : RunView). r.replies) s.0.1.run;
+      ran = ap (λ (r : RunView). r.ran) s.0.1.run;
       ended = ap (λ (r : RunView). r.ended) s.0.1.run;
       config = s.0.1.here.1;
       waiting = ap (λ (x : DomainView). x.own.finalisers) s.0.1.swept.view;

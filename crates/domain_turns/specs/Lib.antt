@@ -4,3 +4,5 @@ pub mod Runs
 pub mod LookOutcomes
 pub mod Pausing
 pub mod Driving
+pub mod Kept
+pub mod Handed

@@ -60,9 +60,10 @@ use Rattle.heap_rule.specs.Meeting.{Trails, seeing}
 use Rattle.heap_rule.specs.Standing.{noted, Acts, with_front}
 use Rattle.heap_rule.specs.Token.{Token, SharedHeap, IsIn}
 use Rattle.domain_turns.specs.Pausing.{HasNothingPending, HasLeft, KnowsProgress, LeavesEven, LeavesOdd, GivesBack, AnswersLive, IsCollected, blocks_left, due_of}
+use Rattle.domain_turns.specs.Kept.{answers, finalised}
 use Rattle.domain_turns.specs.Tries.{FitsHeap, IsFresh, NeedsPause, Refused, Tried, ephemerons_given, ephemerons_of, labels_given, labels_of, registrations_of, wish_of}
 
--- a run: the domain's token, its commands, the place of the next one, its replies, whether its trace has ended, where the domain has arrived from which kind of phase, how often it had arrived when it asked for a pause for the next command, whether the last pause since then was a complete collection that left so many blocks that they may use up the pools, how far, for domain 0, a collection has come, how many finalisers the domain owes before its next `full_major`, what its deck of hints has counted, where its commands come from, and how far it has come in its section
+-- a run: the domain's token, its commands, the place of the next one, its replies, whether its trace has ended, where the domain has arrived from which kind of phase, how often it had arrived when it asked for a pause for the next command, whether the last pause since then was a complete collection that left so many blocks that they may use up the pools, how far, for domain 0, a collection has come, how many finalisers the domain owes before its next `full_major`, what its deck of hints has counted, where its commands come from, how far it has come in its section, how many finalisers the domain has room for, and, where commands are handed in, the replies of those that have run since the last one was
 pub record RunView : Type 0 where
   pub token : Token
   pub commands : List model.Command
@@ -77,6 +78,8 @@ pub record RunView : Type 0 where
   pub hints : DeckCounts
   pub supply : Supply
   pub place : Place
+  pub spare : ℕ
+  pub ran : List Reply
 
 -- whether an entry is the end of domain d
 abbrev pub is_end_of : ℕ → Entry → Bool
@@ -108,6 +111,23 @@ EndsIn Listed whole last = whole ≡ last
 EndsIn Section whole last = Unit {0}
 EndsIn _ whole last = (past : List _) × (whole ≡ past ++ last)
 
+-- and what it has of its replies: these where all commands were listed, and where they are handed in that of the last command and, apart from it, those of the finalisers that have run since it was handed in
+abbrev pub AreKept : Supply → Sizes → List Entry → ℕ → List Reply → List Reply → Type 0
+AreKept Listed z front d said ran = (replies z front d ≡ said) × (ran ≡ [])
+AreKept Section z front d said ran = ran ≡ []
+AreKept s z front d said ran = EndsIn s (answers z front d) said × EndsIn s (finalised z front d) ran
+
+-- one more reply of a finaliser: among those of the commands, and apart from them where these are handed in
+abbrev pub said_with : Supply → List Reply → Reply → List Reply
+said_with Listed said reply = said ++ reply ∷ []
+said_with Section said reply = said ++ reply ∷ []
+said_with _ said reply = said
+
+abbrev pub ran_with : Supply → List Reply → Reply → List Reply
+ran_with Listed ran reply = ran
+ran_with Section ran reply = ran
+ran_with _ ran reply = ran ++ reply ∷ []
+
 -- the commands are handed in one by one
 abbrev pub IsHandedIn : Supply → Type 0
 IsHandedIn Listed = ⊥
@@ -127,21 +147,18 @@ served_since (Some at) arrivals = nat_lt at arrivals
 
 -- a run before its first turn
 abbrev pub standing : Token → List model.Command → DeckCounts → Supply → Place → RunView
-standing t cs hints supply place = record { token = t; commands = cs; next = 0; replies = []; ended = false; left = None; asked = None; collected = false; progress = no_collection; due = 0; hints = hints; supply = supply; place = place }
+standing t cs hints supply place = record { token = t; commands = cs; next = 0; replies = []; ended = false; left = None; asked = None; collected = false; progress = no_collection; due = 0; hints = hints; supply = supply; place = place; spare = t.config.finals; ran = [] }
 
 abbrev pub unturned : Token → List model.Command → DeckCounts → Supply → RunView
 unturned t cs hints supply = standing t cs hints supply AsEver
 
--- a domain that runs, without an entry so far, may begin these commands. It has room for the ephemerons that they make and the finalisers that they register, none is registered so far, and it is in the middle of no pause, and knows of no collection
-pub record CanBegin (t : Token) (cs : List model.Command) : Type 0 where
+-- a domain is ready for these commands: it runs, in the middle of no pause, and knows of no collection. It has room for the ephemerons that they make and the finalisers that they register, and none is registered so far
+pub record StandsReady (t : Token) (cs : List model.Command) : Type 0 where
   pub inside : t.view.own.number < t.config.domains
   pub acts : Acts t.config t.view
   pub idle : t.view.seen.made ≡ []
   pub at_rest : t.view.seen.hunt ≡ AtRest
-  pub no_commands : commands t.view.seen.front t.view.own.number ≡ []
-  pub no_replies : replies (sizes_in t.config) t.view.seen.front t.view.own.number ≡ []
   pub few : length cs ≤ 200000
-  pub fit : AllFit cs
   pub room : ephemerons_in cs ≤ t.view.own.ephemerons.room
   pub enlists : registrations_in cs ≤ t.config.finals
   pub none_listed : count_of t.view.own.finalisers ≡ 0
@@ -154,30 +171,22 @@ pub record CanBegin (t : Token) (cs : List model.Command) : Type 0 where
   pub unprepared : t.view.own.prepared ≡ replicate class_count None
   pub none_began : t.view.seen.share.progress ≡ no_collection
 
--- a domain to which the hidden block was handed may begin the commands of its section. Behind the entries by which the block was made no entry of the domain stands in what it has seen. Else it is as for commands of its own, and they are those of a section
+-- a domain without an entry so far may begin these commands
+pub record CanBegin (t : Token) (cs : List model.Command) : Type 0 where
+  pub ready : StandsReady t cs
+  pub no_commands : commands t.view.seen.front t.view.own.number ≡ []
+  pub no_replies : replies (sizes_in t.config) t.view.seen.front t.view.own.number ≡ []
+  pub fit : AllFit cs
+
+-- a domain to which the hidden block was handed may begin the commands of its section. Behind the entries by which the block was made no entry of the domain stands in what it has seen
 pub record CanBeginSection (t : Token) (cs : List model.Command) : Type 0 where
-  pub inside : t.view.own.number < t.config.domains
+  pub ready : StandsReady t cs
   pub few_domains : t.config.domains ≤ 8
-  pub acts : Acts t.config t.view
-  pub idle : t.view.seen.made ≡ []
-  pub at_rest : t.view.seen.hunt ≡ AtRest
   pub behind : List Entry
   pub begins : t.view.seen.front ≡ prelude t.config.domains ++ behind
   pub others : NoneOf t.view.own.number behind
-  pub few : length cs ≤ 200000
   pub fit : AllFitIn Section cs
   pub fitting : AreFitting t.view.own.number cs
-  pub room : ephemerons_in cs ≤ t.view.own.ephemerons.room
-  pub enlists : registrations_in cs ≤ t.config.finals
-  pub none_listed : count_of t.view.own.finalisers ≡ 0
-  pub owes : due_of t.config t.view ≡ 0
-  pub labels : t.view.own.serial ≤ 4000000000
-  pub even : t.view.own.arrivals % 2 ≡ 0
-  pub remembers : RemembersAll t.view
-  pub quiet : t.view.seen.copying ≡ nothing_copied
-  pub no_copies : t.view.own.pending.items ≡ []
-  pub unprepared : t.view.own.prepared ≡ replicate class_count None
-  pub none_began : t.view.seen.share.progress ≡ no_collection
 
 -- where a section stands before its first turn: a spawn begins it, or it may go on at once
 abbrev pub first_place : Bool → Place
@@ -200,19 +209,23 @@ pub record IsBetween (left : Option Kind) (asked : Option ℕ) (collected : Bool
   pub fresh : collected ≡ true → IsFresh t.config t.view
   pub knows : KnowsProgress progress t.view
 
--- what else is true of a run whose commands are handed in: it holds one at most, which registers no finaliser, none is registered, and the reply of the command is kept once it is done
+-- what else is true of a run whose commands are handed in: it holds one at most, whose reply is kept once it is done
 pub record HoldsOne (r : RunView) : Type 0 where
   pub one : length r.commands ≤ 1
-  pub registers_none : registrations_in r.commands ≡ 0
-  pub none_listed : count_of r.token.view.own.finalisers ≡ 0
   pub answered : length r.replies ≡ r.next
+
+-- how many replies of finalisers a run keeps at most: one of each that its commands register, and where they are handed in one of each for which the domain has room
+abbrev pub most_ran : Supply → ℕ → ℕ → ℕ
+most_ran Listed registered finals = registered
+most_ran Section registered finals = registered
+most_ran _ registered finals = finals
 
 -- what is true of a run between any two turns: the domain's commands in its front are those before the next, each once and in order, and the replies are those of its entries, with what came of earlier commands before them where commands are handed in, and by the rules of sections where they are one. It has room for the ephemerons that the others make and for the finalisers that they register. Each finaliser that it has may still answer once
 pub record IsRun (r : RunView) : Type 0 where
   pub inside : r.token.view.own.number < r.token.config.domains
   pub made : EndsIn r.supply (commands r.token.view.seen.front r.token.view.own.number) (take r.next r.commands)
-  pub answered : EndsIn r.supply (replies (sizes_in r.token.config) r.token.view.seen.front r.token.view.own.number) r.replies
-  pub replied : length r.replies + (count_of r.token.view.own.finalisers + registrations_in (drop r.next r.commands)) ≤ r.next + registrations_in r.commands
+  pub answered : AreKept r.supply (sizes_in r.token.config) r.token.view.seen.front r.token.view.own.number r.replies r.ran
+  pub replied : length r.replies + length r.ran + (count_of r.token.view.own.finalisers + registrations_in (drop r.next r.commands)) ≤ r.next + most_ran r.supply (registrations_in r.commands) r.spare
   pub within : r.next ≤ length r.commands
   pub few : length r.commands ≤ 200000
   pub fit : AllFitIn r.supply r.commands
@@ -233,18 +246,20 @@ pub record IsRun (r : RunView) : Type 0 where
   pub as_ever : r.supply ≢ Section → r.place ≡ AsEver
   pub unasked : r.place ≡ Before → r.asked ≡ None
   pub told : r.ended ≡ true → IsTold r.place
+  pub spares : r.spare ≡ r.token.config.finals
 
--- the room that a run has reserved, for commands and for replies: each command answers once, and so does each finaliser that it registers. Where commands are handed in there is room for one
-pub record HasReserved (supply : Supply) (count commands replies : ℕ) : Type 0 where
+-- the room that a run has reserved, for commands and for replies: each command answers once, and so does each finaliser that it registers. Where commands are handed in there is room for one, and for the replies of as many finalisers as the domain has room for
+pub record HasReserved (supply : Supply) (count spare commands replies ran : ℕ) : Type 0 where
   pub answers : count + count ≤ replies
   pub one : IsHandedIn supply → (1 ≤ commands) × (2 ≤ replies)
+  pub apart : IsHandedIn supply → spare ≤ ran
 
--- an open run whose last command is done may be given this one: it fits, registers no finaliser, and there are room and a label for what it makes
+-- an open run whose last command is done may be given this one: it fits, and there are room and a label for what it makes, and room for what it registers
 pub record MaySubmit (r : RunView) (c : model.Command) : Type 0 where
   pub more : r.supply ≡ Open
   pub done : r.next ≡ length r.commands
   pub fits : FitsHeap c
-  pub registers_none : registrations_of c ≡ 0
+  pub enlists : count_of r.token.view.own.finalisers + registrations_of c ≤ r.token.config.finals
   pub room : ephemerons_of c ≤ r.token.view.own.ephemerons.room
   pub labels : r.token.view.own.serial + labels_of c < 2 ^ 32
 
@@ -262,9 +277,13 @@ answer_of r = first_reply r.supply r.replies
 abbrev pub IsUnanswered : RunView → Type 0
 IsUnanswered r = (r.supply ≡ Listed) ⊎ ((r.supply ≡ Section) ⊎ ((r.commands ≡ []) ⊎ (r.next < length r.commands)))
 
--- this is the last reply of the domain in its front
+-- this is the last reply to a command of the domain in its front
 abbrev pub IsLastReply : RunView → Reply → Type 0
-IsLastReply r a = (past : List Reply) × (replies (sizes_in r.token.config) r.token.view.seen.front r.token.view.own.number ≡ past ++ a ∷ [])
+IsLastReply r a = (past : List Reply) × (answers (sizes_in r.token.config) r.token.view.seen.front r.token.view.own.number ≡ past ++ a ∷ [])
+
+-- and these are the last replies of finalisers of the domain
+abbrev pub AreLastRan : RunView → List Reply → Type 0
+AreLastRan r rs = (past : List Reply) × (finalised (sizes_in r.token.config) r.token.view.seen.front r.token.view.own.number ≡ past ++ rs)
 
 -- the domain after the end of its trace, with this front: its registers hold nothing, and it has forgotten what was registered
 abbrev pub left_with : DomainView → List Entry → DomainView
@@ -286,7 +305,7 @@ pub record RunsFinaliser (h : SharedHeap) (start : Token) (old new : RunView) : 
   pub ran : Ran
   pub first : RanFirst h.config ran start.view new.token.view
   pub here : IsIn new.token h
-  pub run : new ≡ record old { token = new.token; replies = old.replies ++ reply_of ran ∷ []; due = length new.token.view.own.finalisers.queue.items }
+  pub run : new ≡ record old { token = new.token; replies = said_with old.supply old.replies (reply_of ran); ran = ran_with old.supply old.ran (reply_of ran); due = length new.token.view.own.finalisers.queue.items }
 
 -- a turn tried the command where no finaliser waited, and its reply was kept. No pause had to come first, and a `minor` or a `major` finds the minor area empty
 pub record TriesCommand (h : SharedHeap) (start : Token) (old new : RunView) (c : model.Command) : Type 0 where
@@ -634,15 +653,17 @@ pub record Takes (labels ephemerons : ℕ) (x y : DomainView) : Type 0 where
   pub labels_are : y.own.serial ≡ x.own.serial + labels
   pub room : x.own.ephemerons.room ≤ y.own.ephemerons.room + ephemerons
 
--- a turn made no entry of the domain
+-- a turn made no entry of the domain, which has as many finalisers registered as before
 pub record MadeNone (old new : RunView) : Type 0 where
   pub next : new.next ≡ old.next
   pub replies : new.replies ≡ old.replies
+  pub ran : new.ran ≡ old.ran
   pub ended : new.ended ≡ old.ended
   pub front : IsFrontOf old.token.view.own.number new.token.view.seen.front old.token.view.seen.front
+  pub listed : count_of new.token.view.own.finalisers ≡ count_of old.token.view.own.finalisers
   pub takes : Takes 0 0 old.token.view new.token.view
 
--- or the entry of its next command, whose reply was kept
+-- or the entry of its next command, whose reply was kept. Only that may register one more
 pub record MadeNext (z : Sizes) (old new : RunView) : Type 0 where
   pub command : model.Command
   pub full : Bool
@@ -650,17 +671,21 @@ pub record MadeNext (z : Sizes) (old new : RunView) : Type 0 where
   pub here : slice_get old.commands old.next ≡ Some command
   pub next : new.next ≡ old.next + 1
   pub replies : new.replies ≡ old.replies ++ reply ∷ []
+  pub ran : new.ran ≡ old.ran
   pub ended : new.ended ≡ old.ended
   pub front : Appended z old.token.view.own.number old.token.view.seen.front new.token.view.seen.front (CommandOf old.token.view.own.number command full) (Replied reply)
+  pub listed : count_of new.token.view.own.finalisers ≤ count_of old.token.view.own.finalisers + registrations_of command
   pub takes : Takes (labels_given command reply) (ephemerons_given command reply) old.token.view new.token.view
 
--- or that of a finaliser, whose reply was kept
+-- or that of a finaliser, which is registered no more, and whose reply was kept
 pub record MadeRun (z : Sizes) (old new : RunView) : Type 0 where
   pub reply : Reply
   pub next : new.next ≡ old.next
-  pub replies : new.replies ≡ old.replies ++ reply ∷ []
+  pub replies : new.replies ≡ said_with old.supply old.replies reply
+  pub ran : new.ran ≡ ran_with old.supply old.ran reply
   pub ended : new.ended ≡ old.ended
   pub front : Appended z old.token.view.own.number old.token.view.seen.front new.token.view.seen.front (RanOf old.token.view.own.number) (Replied reply)
+  pub listed : count_of new.token.view.own.finalisers + 1 ≡ count_of old.token.view.own.finalisers
   pub takes : Takes 0 0 old.token.view new.token.view
 
 -- or that of its end
@@ -668,6 +693,7 @@ pub record MadeEnd (z : Sizes) (old new : RunView) : Type 0 where
   pub shut : old.supply ≢ Open
   pub next : new.next ≡ old.next
   pub replies : new.replies ≡ old.replies
+  pub ran : new.ran ≡ old.ran
   pub ended : new.ended ≡ true
   pub front : Appended z old.token.view.own.number old.token.view.seen.front new.token.view.seen.front (End old.token.view.own.number) Silent
   pub takes : Takes 0 0 old.token.view new.token.view

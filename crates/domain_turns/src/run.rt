@@ -1,12 +1,13 @@
 //! One domain's trace, and how far it has come.
-ghost use Rattle.std.specs.Prelude.{◌≡◌, ◌≢◌, ◌↔◌, ◌<◌, ◌≤◌, ◌∷◌, true, false, [], drop, length, slice_get, take, vec_capacity, IfOk, IfSome, None, Some};
+ghost use Rattle.std.specs.Prelude.{◌≡◌, ◌≢◌, ◌↔◌, ◌+◌, ◌<◌, ◌≤◌, ◌∷◌, true, false, [], drop, length, slice_get, take, vec_capacity, IfOk, IfSome, None, Some};
 ghost use Rattle.heap_model.specs.declared.command.Command.TheVariants.{FullMajor};
 ghost use Rattle.heap_model.specs.History.{commands as commands_of, replies as replies_of};
 ghost use Rattle.heap_rule.specs.Limits.{sizes_in};
 ghost use Rattle.heap_rule.specs.declared.phase.Kind.TheVariants.{Run};
 ghost use Rattle.heap_rule.specs.declared.phase.Stage.TheVariants.{In};
 ghost use Rattle.mark_slices.specs.Slices.{IsDeckOf};
-ghost use Rattle.domain_turns.specs.Runs.{CanBegin, CanBeginSection, HasReserved, IsLastReply, IsRun, IsUnanswered, MaySubmit, answer_of, first_place, is_asked, standing, unturned};
+ghost use Rattle.domain_turns.specs.Runs.{AreLastRan, CanBegin, CanBeginSection, IsHandedIn, IsLastReply, IsRun, IsUnanswered, MaySubmit, answer_of, first_place, is_asked, standing, unturned};
+ghost use Rattle.steps_finalisers.specs.Registering.{count_of};
 ghost use Rattle.domain_turns.specs.Sections.{IsInSection};
 ghost use Rattle.spawn_laws.specs.Printed.{printed_replies};
 
@@ -45,6 +46,11 @@ pub struct DomainRun {
     pub(crate) supply: Supply,
     // How far it has come in its section.
     pub(crate) place: Place,
+    // How many finalisers the domain has room for.
+    pub(crate) spare: usize,
+    // The replies of the finalisers that have run since the last command was handed in. Where all commands
+    // were listed they stand among `replies`.
+    pub(crate) ran: Vec<Reply>,
 }
 
 impl Model for DomainRun {
@@ -53,9 +59,9 @@ impl Model for DomainRun {
 
     ghost Value = { RunView };
 
-    ghost view = { λ r. record { token = r.domain; commands = r.commands.items; next = r.next; replies = r.replies.items; ended = r.ended; left = r.left; asked = r.asked; collected = r.collected; progress = r.progress; due = r.due; hints = r.hints; supply = r.supply; place = r.place } };
+    ghost view = { λ r. record { token = r.domain; commands = r.commands.items; next = r.next; replies = r.replies.items; ended = r.ended; left = r.left; asked = r.asked; collected = r.collected; progress = r.progress; due = r.due; hints = r.hints; supply = r.supply; place = r.place; spare = r.spare; ran = r.ran.items } };
 
-    ghost invariant = { λ r. IsRun (record { token = r.domain; commands = r.commands.items; next = r.next; replies = r.replies.items; ended = r.ended; left = r.left; asked = r.asked; collected = r.collected; progress = r.progress; due = r.due; hints = r.hints; supply = r.supply; place = r.place }) × HasReserved r.supply (length r.commands.items) (vec_capacity r.commands) (vec_capacity r.replies) };
+    ghost invariant = { λ r. IsRun (record { token = r.domain; commands = r.commands.items; next = r.next; replies = r.replies.items; ended = r.ended; left = r.left; asked = r.asked; collected = r.collected; progress = r.progress; due = r.due; hints = r.hints; supply = r.supply; place = r.place; spare = r.spare; ran = r.ran.items }) × HasReserved r.supply (length r.commands.items) r.spare (vec_capacity r.commands) (vec_capacity r.replies) (vec_capacity r.ran) };
 }
 
 // Where a section stands before its first turn.
@@ -69,22 +75,55 @@ fn first_place(spawned: bool) -> Place
     }
 }
 
+// Room for so many replies of commands, and for so many of finalisers apart from these.
+#[derive(Clone, Copy)]
+struct RepliesRoom {
+    said: usize,
+    ran: usize,
+}
+
+// The room for the replies of a run that begins with so many commands, whose domain has room for `spare`
+// finalisers.
+fn room_for_replies(supply: Supply, count: usize, spare: usize) -> RepliesRoom
+    requires few { count ≤ 200000 }
+    requires one { IsHandedIn supply → count ≤ 1 }
+    ensures answers { count + count ≤ result.said }
+    ensures apart { IsHandedIn supply → (2 ≤ result.said) × (spare ≤ result.ran) }
+{
+    match supply {
+        Supply::Listed | Supply::Section => RepliesRoom {
+            said: 2 * count,
+            ran: 0,
+        },
+        Supply::Open | Supply::Closed => RepliesRoom {
+            said: 2,
+            ran: spare,
+        },
+    }
+}
+
 impl DomainRun {
-    // A run before its first turn, whose lists have the room that it reserves.
+    // A run before its first turn. The room for its replies is taken here: for one of each command and of
+    // each finaliser that it registers, or, where commands are handed in, for that of the last command and
+    // for those of as many finalisers as the domain has room for.
     fn begin(
+        alloc: Global,
         domain: Domain,
         hints: Hints,
         commands: Vec<Command>,
-        replies: Vec<Reply>,
         supply: Supply,
         place: Place,
-    ) -> DomainRun
+    ) -> Result<DomainRun, AllocError>
         requires run { IsRun (standing domain commands.items hints supply place) }
-        requires unanswered { replies.items ≡ [] }
-        requires reserved { HasReserved supply (length commands.items) (vec_capacity commands) (vec_capacity replies) }
-        ensures { result ≡ standing domain commands.items hints supply place }
+        requires none_listed { count_of domain.view.own.finalisers ≡ 0 }
+        requires one { IsHandedIn supply → 1 ≤ vec_capacity commands }
+        ensures { IfOk result (λ r. r ≡ standing domain commands.items hints supply place) }
     {
-        DomainRun {
+        let spare = domain.finals_room();
+        let kept = room_for_replies(supply, commands.len(), spare);
+        let replies = Vec::with_capacity(alloc, kept.said)?;
+        let ran = Vec::with_capacity(alloc, kept.ran)?;
+        Ok(DomainRun {
             domain,
             commands,
             next: 0,
@@ -98,7 +137,9 @@ impl DomainRun {
             hints,
             supply,
             place,
-        }
+            spare,
+            ran,
+        })
     }
 
     /// A run of a domain from its first command on. The domain runs and no entry of it stands in the
@@ -108,7 +149,6 @@ impl DomainRun {
     /// labels were made. The hints are the domain's, among those of all domains. No collection has begun so
     /// far. The room for the replies is reserved here: each command answers once, and so does each
     /// finaliser that it registers. Fails for want of memory alone, and then the domain is given up.
-    #[tactic(auto, using(crate::proofs::Beginning::reserves_listed))]
     pub fn make(
         alloc: Global,
         dom: Domain,
@@ -119,8 +159,7 @@ impl DomainRun {
         requires deck { IsDeckOf dom.config dom.view hints }
         ensures { IfOk result (λ r. r ≡ unturned dom commands.items hints Supply.Listed) }
     {
-        let replies = Vec::with_capacity(alloc, 2 * commands.len())?;
-        Ok(DomainRun::begin(dom, hints, commands, replies, Supply::Listed, Place::AsEver))
+        DomainRun::begin(alloc, dom, hints, commands, Supply::Listed, Place::AsEver)
     }
 
     /// A run of a domain's section of a script with spawns, from its first command on. The hidden block was
@@ -131,7 +170,6 @@ impl DomainRun {
     /// with their numbers in their ranges and their registers below 14, and no spawn or join names the
     /// domain's own section. Else the conditions are those of [`make`](DomainRun::make). Fails for want of
     /// memory alone, and then the domain is given up.
-    #[tactic(auto, using(crate::proofs::BeginningSection::reserves_section))]
     pub fn make_spawning(
         alloc: Global,
         dom: Domain,
@@ -143,42 +181,44 @@ impl DomainRun {
         requires deck { IsDeckOf dom.config dom.view hints }
         ensures { IfOk result (λ r. r ≡ standing dom commands.items hints Supply.Section (first_place spawned)) }
     {
-        let replies = Vec::with_capacity(alloc, 2 * commands.len())?;
         let place = first_place(spawned);
-        Ok(DomainRun::begin(dom, hints, commands, replies, Supply::Section, place))
+        DomainRun::begin(alloc, dom, hints, commands, Supply::Section, place)
     }
 
     /// An open run of a domain: its commands are handed in one by one, by [`submit`](DomainRun::submit), and
     /// its trace ends only after [`close`](DomainRun::close). The domain and its hints are as for
-    /// [`make`](DomainRun::make), with no command. Of the replies it keeps the last alone. The room for a
-    /// command and its reply is reserved here. Fails for want of memory alone, and then the domain is given up.
+    /// [`make`](DomainRun::make), with no command. Of the replies to its commands it keeps the last alone, and
+    /// apart from it those of the finalisers that have run since that command was handed in. The room for all
+    /// these is reserved here. Fails for want of memory alone, and then the domain is given up.
     pub fn make_open(alloc: Global, dom: Domain, hints: Hints) -> Result<DomainRun, AllocError>
         requires begins { CanBegin dom [] }
         requires deck { IsDeckOf dom.config dom.view hints }
         ensures { IfOk result (λ r. r ≡ unturned dom [] hints Supply.Open) }
     {
         let commands = Vec::with_capacity(alloc, 1)?;
-        let replies = Vec::with_capacity(alloc, 2)?;
-        Ok(DomainRun::begin(dom, hints, commands, replies, Supply::Open, Place::AsEver))
+        DomainRun::begin(alloc, dom, hints, commands, Supply::Open, Place::AsEver)
     }
 
     /// Hands in the next command of an open run whose last command is done. It fits the shared heap, its
-    /// registers and numbers are in their ranges, it registers no finaliser, and there are room for an
-    /// ephemeron that it makes and a label for a block. The reply to the command before is forgotten.
+    /// registers and numbers are in their ranges, and there are room for an ephemeron that it makes and for
+    /// a finaliser that it registers, and a label for a block. The reply to the command before is forgotten,
+    /// and so are those of the finalisers that have run since that one was handed in.
     pub fn submit(&mut self, command: Command)
         requires may { MaySubmit self.old command }
-        ensures { self.new ≡ record self.old { commands = command ∷ []; next = 0; replies = []; asked = None; collected = false } }
+        ensures { self.new ≡ record self.old { commands = command ∷ []; next = 0; replies = []; ran = []; asked = None; collected = false } }
     {
         self.commands.clear();
         self.commands.push_reserved(command);
         self.replies.clear();
+        self.ran.clear();
         self.next = 0;
         self.asked = None;
         self.collected = false;
     }
 
-    /// The reply to the command that was handed in last: the last reply of the domain in its part of the
-    /// history. None exactly where that command isn't done yet or none was handed in.
+    /// The reply to the command that was handed in last: the last reply to a command of the domain in its part
+    /// of the history, whatever finalisers ran before it or since. None exactly where that command isn't done
+    /// yet or none was handed in.
     pub fn answer(&self) -> Option<Reply>
         ensures answer { result ≡ answer_of self.now }
         ensures none { (result ≡ None) ↔ IsUnanswered self.now }
@@ -188,6 +228,19 @@ impl DomainRun {
             Supply::Listed | Supply::Section => None,
             Supply::Open | Supply::Closed => self.replies.first().copied(),
         }
+    }
+
+    /// The replies of the finalisers that have run since the last command was handed in, in order: those that
+    /// ran before it was done and those since. They are the last replies of finalisers of the domain in its
+    /// part of the history. Of a run whose commands were all listed there is none: there they stand among
+    /// [`replies`](DomainRun::replies).
+    pub fn ran(&self) -> &[Reply]
+        ensures ran { result.now ≡ self.now.ran }
+        ensures of_history { IsHandedIn self.now.supply → AreLastRan self.now result.now }
+        ensures none { (IsHandedIn self.now.supply → ⊥) → result.now ≡ [] }
+        ensures few { IsHandedIn self.now.supply → length result.now + count_of self.now.token.view.own.finalisers ≤ self.now.token.config.finals }
+    {
+        &self.ran
     }
 
     /// No command comes any more. The last one that was handed in is done.

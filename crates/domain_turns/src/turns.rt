@@ -1,5 +1,5 @@
 //! Turns.
-ghost use Rattle.std.specs.Prelude.{◌≡◌, ◌≢◌, ◌≤◌, ◌<◌, ◌^◌, ◌&&◌, true, false, length, slice_get, Some, None};
+ghost use Rattle.std.specs.Prelude.{◌≡◌, ◌≢◌, ◌≤◌, ◌<◌, ◌^◌, ◌&&◌, true, false, length, slice_get, vec_capacity, vec_len, Some, None};
 ghost use Rattle.heap_model.specs.declared.command.Command.TheVariants.{Poll};
 ghost use Rattle.safepoint.specs.declared.answer.Want.TheVariants.{Finish, Full};
 ghost use Rattle.heap_rule.specs.declared.phase.Note.TheVariants as note;
@@ -12,7 +12,7 @@ ghost use Rattle.safepoint.specs.Looks.{bit_of};
 ghost use Rattle.heap_rule.specs.Limits.{sizes_in};
 ghost use Rattle.heap_model.specs.Domains.{domain_at};
 ghost use Rattle.heap_rule.specs.Rule.{state_of};
-ghost use Rattle.domain_turns.specs.Runs.{Stretches, HasEnded, EndsTrace, RunAnswers, TurnAnswers, RestAnswers, CalmAnswers, GoesOn, CalmDid, IsUnqueued, PassesOn, Polls, RunsFinaliser, TrialAnswers, WaitsForAnswer, is_asked, may_use_up, served_since, noted_token, WorksBeside};
+ghost use Rattle.domain_turns.specs.Runs.{Stretches, HasEnded, EndsTrace, RunAnswers, TurnAnswers, RestAnswers, CalmAnswers, GoesOn, CalmDid, IsHandedIn, IsUnqueued, PassesOn, Polls, RunsFinaliser, TrialAnswers, WaitsForAnswer, is_asked, may_use_up, served_since, noted_token, ran_with, said_with, WorksBeside};
 ghost use Rattle.domain_turns.specs.Sections.{IsOrdinary, IsTold};
 ghost use Rattle.domain_turns.specs.LookOutcomes.{PastAnswers};
 ghost use Rattle.domain_turns.specs.declared.turned.Turned as turned;
@@ -26,6 +26,7 @@ use crate::supply::Supply;
 use crate::turned::Turned;
 use finaliser_queues::run_next;
 use heap_model::command::Command;
+use heap_model::reply::Reply;
 use heap_rule::{Domain, Heap, Kind};
 use mark_slices::{Why, slice};
 use pause_phases::Decider;
@@ -55,6 +56,21 @@ pub(crate) fn is_served(run: &DomainRun) -> bool
     }
 }
 
+// Keeps the reply of a finaliser: where commands are handed in, apart from theirs.
+#[inline(always)]
+fn keep_ran(supply: Supply, replies: &mut Vec<Reply>, ran: &mut Vec<Reply>, reply: Reply)
+    requires among { (IsHandedIn supply → ⊥) → vec_len replies.old < vec_capacity replies.old }
+    requires apart { IsHandedIn supply → vec_len ran.old < vec_capacity ran.old }
+    ensures replies { replies.new.items ≡ said_with supply replies.old.items reply }
+    ensures ran { ran.new.items ≡ ran_with supply ran.old.items reply }
+    ensures room { (vec_capacity replies.new ≡ vec_capacity replies.old) × (vec_capacity ran.new ≡ vec_capacity ran.old) }
+{
+    match supply {
+        Supply::Listed | Supply::Section => replies.push_reserved(reply),
+        Supply::Open | Supply::Closed => ran.push_reserved(reply),
+    }
+}
+
 // Runs the finaliser that has waited longest in the domain's queue, and keeps its reply. Answers whether
 // one waited.
 #[inline(always)]
@@ -70,7 +86,7 @@ fn runs_finaliser(heap: &Heap, run: &mut DomainRun) -> bool
     let Some(ran) = run_next(heap, &mut run.domain) else {
         return false;
     };
-    run.replies.push_reserved(ran.reply());
+    keep_ran(run.supply, &mut run.replies, &mut run.ran, ran.reply());
     run.due = run.domain.queued();
     true
 }

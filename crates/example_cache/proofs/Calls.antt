@@ -250,9 +250,9 @@ table_made z y old new a l same is made = ⊎_elim
 
 -- a command that spares the table may be made where its label is left
 pub may_spare : (s : SessionView) (c : Command) → SparesTable c → labels_of c ≤ 4294967295 - s.labels → MayPerform s c
-may_spare s (Alloc dst tag fields) spares few = record { fits = (let below = spares.0 in omega (arith, below), spares.1, spares.2, spares.3); registers_none = refl; room = omega arith; labels = few }
-may_spare s (Forget dst) spares few = record { fits = omega (arith, spares); registers_none = refl; room = omega arith; labels = few }
-may_spare s FullMajor spares few = record { fits = tt; registers_none = refl; room = omega arith; labels = few }
+may_spare s (Alloc dst tag fields) spares few = record { fits = (let below = spares.0 in omega (arith, below), spares.1, spares.2, spares.3); enlists = omega arith; room = omega arith; labels = few }
+may_spare s (Forget dst) spares few = record { fits = omega (arith, spares); enlists = omega arith; room = omega arith; labels = few }
+may_spare s FullMajor spares few = record { fits = tt; enlists = omega arith; room = omega arith; labels = few }
 may_spare s c spares few = absurd spares
 
 -- a cache that has fewer entries than it may have

@@ -11,7 +11,7 @@ ghost use Rattle.example_cache.specs.Caching.{Counts, ForgetAnswers, GetAnswers,
 
 use heap_model::command::Command;
 use heap_model::reply::Reply;
-use heap_session::Session;
+use heap_session::TableSession;
 use std::marker::Model;
 use std::sync::Wait;
 use weak_tables::counting::table_count;
@@ -39,7 +39,7 @@ pub enum Inserted {
 /// registers 0 to 6, and so is what the cache has of it, or an integer. An entry stays while its key can be reached.
 #[derive(Drop)]
 pub struct Cache {
-    session: Session,
+    session: TableSession,
     most: u32,
 }
 
@@ -83,7 +83,7 @@ fn inserted_of(reply: &Reply) -> Inserted
 
 impl Cache {
     /// An empty cache of at most so many entries. Hands the heap back where it has no room for the table.
-    pub fn make<R: Wait>(rt: &R, session: Session, most: u32) -> Result<Cache, Session>
+    pub fn make<R: Wait>(rt: &R, session: TableSession, most: u32) -> Result<Cache, TableSession>
         ensures most { IfOk result (λ c. c.most ≡ most) }
         ensures empty { IfOk result (λ c. (k : labels.Label) → Holds c k None) }
     {

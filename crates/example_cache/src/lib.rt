@@ -2,7 +2,7 @@
 //! the program holds in a register. An entry stays as long as its key does, and goes once the key is gone.
 //!
 //! ```text
-//! let mut cache = Cache::make(rt, Session::make(alloc, 4096, 64, 100)?, 100)?;
+//! let mut cache = Cache::make(rt, TableSession::make(alloc, 4096, 64, 100)?, 100)?;
 //! cache.new_key(rt, 1);
 //! cache.insert(rt, 1, 0);
 //! cache.let_go(rt, 1);

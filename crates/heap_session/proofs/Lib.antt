@@ -1,3 +1,4 @@
 pub mod Collectors
+pub mod Labels
 pub mod Driven
 pub mod Refused

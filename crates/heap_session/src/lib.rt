@@ -2,13 +2,13 @@
 //! chooses the next one by it.
 //!
 //! ```text
-//! let mut session = Session::make(alloc, 4096, 64, 16)?;
+//! let mut session = Session::make(alloc, 4096, 64, 8, 16)?;
 //! session.perform(rt, Command::Alloc { dst: 1, tag: 0, fields: 2 });
 //! let live = session.perform(rt, Command::FullMajor);
 //! let ended = session.stop(rt);
 //! ```
 //!
-//! The calls of `weak_tables` on weak arrays and tables take a session.
+//! The calls of `weak_tables` on weak arrays and tables take a [`TableSession`], which registers no finaliser.
 #![tactic(auto)]
 
 mod closing;
@@ -18,3 +18,4 @@ mod tables;
 mod turning;
 
 pub use session::Session;
+pub use tables::TableSession;

@@ -17,7 +17,6 @@ fn await_turn(heap: &Heap, run: &mut DomainRun) -> Option<Reply>
     ensures answers { (start : DomainView) (c : model.Command) → Awaits heap.now start c run.old → AwaitAnswers heap.now start c run.new result }
 {
     turn_below(heap, run);
-    run.is_faithful();
     run.answer()
 }
 

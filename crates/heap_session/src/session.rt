@@ -1,15 +1,15 @@
 //! A heap of one domain, and the commands that are handed in to it.
-ghost use Rattle.std.specs.Prelude.{◌≡◌, ◌↔◌, ◌+◌, ◌<◌, ◌≤◌, ℕ, [], IfOk, Some, Err};
+ghost use Rattle.std.specs.Prelude.{◌≡◌, ◌↔◌, ◌+◌, ◌++◌, ◌∷◌, ◌<◌, ◌≤◌, ℕ, [], length, IfOk, Some, Err};
 ghost use Rattle.command_counts.specs.Counts.{ephemerons_given, labels_given};
+ghost use Rattle.domain_turns.specs.Handed.{PerformedOn};
+ghost use Rattle.domain_turns.specs.Tries.{registrations_of};
 ghost use Rattle.heap_model.specs.Commands.{shown};
-ghost use Rattle.heap_model.specs.Domains.{IsWithinLimits, domain_at, opening, register as register_value};
-ghost use Rattle.heap_model.specs.Registrations.{all_registered};
-ghost use Rattle.heap_model.specs.History.{Legal};
+ghost use Rattle.heap_model.specs.Domains.{IsWithinLimits, domain_at, register as register_value};
+ghost use Rattle.heap_model.specs.History.{Legal, commands, replies};
 ghost use Rattle.heap_rule.specs.Limits.{first_outside, sizes_in};
 ghost use Rattle.heap_rule.specs.Rule.{state_of};
 ghost use Rattle.heap_session.specs.Sessions.{MayPerform, alone};
-ghost use Rattle.heap_session.specs.Stopping.{StopsAfter};
-ghost use Rattle.table_laws.specs.Performing.{Performed};
+ghost use Rattle.heap_session.specs.Stopping.{EndsAfter, StopsAfter};
 
 use crate::closing::turn_to_end;
 use crate::performing::await_answer;
@@ -22,9 +22,9 @@ use std::alloc::Global;
 use std::marker::Model;
 use std::sync::Wait;
 
-/// A heap of one domain whose commands are handed in one by one. It registers no finaliser. All memory is
-/// taken when it is made. Contracts see its numbers, the history so far, how many labels were given out, and
-/// how many more ephemerons fit.
+/// A heap of one domain whose commands are handed in one by one. All memory is taken when it is made. Contracts
+/// see its numbers, the history so far, how many labels were given out, how many more ephemerons and finalisers
+/// fit, and the replies of the finalisers that ran before the last command.
 #[derive(Drop)]
 pub struct Session {
     heap: Heap,
@@ -34,37 +34,39 @@ pub struct Session {
 }
 
 impl Model for Session {
-    ghost use Rattle.std.specs.Prelude.{◌≡◌, ◌≤◌, [], vec_capacity};
+    ghost use Rattle.std.specs.Prelude.{◌≡◌, ◌≤◌, ◌-◌, [], vec_capacity};
     ghost use Rattle.heap_session.specs.Driving.{Rests};
     ghost use Rattle.heap_session.specs.Sessions.{SessionView};
+    ghost use Rattle.steps_finalisers.specs.Registering.{count_of};
 
     ghost Value = { SessionView };
 
-    ghost view = { λ s. record { config = s.heap.config; front = s.run.token.view.seen.front; labels = s.run.token.view.own.serial; room = s.run.token.view.own.ephemerons.room } };
+    ghost view = { λ s. record { config = s.heap.config; front = s.run.token.view.seen.front; labels = s.run.token.view.own.serial; room = s.run.token.view.own.ephemerons.room; finals = s.heap.config.finals - count_of s.run.token.view.own.finalisers; ran = s.run.ran } };
 
     ghost invariant = { λ s. Rests s.heap s.run × (s.room.items ≡ []) × (1 ≤ vec_capacity s.room) };
 }
 
 impl Session {
     /// A heap of one domain with so many words in its minor area (a multiple of 4096), so many pools, and
-    /// room for so many ephemerons that aren't garbage. Register 0 holds the shared block and the others
-    /// nothing.
+    /// room for so many finalisers and for so many ephemerons that aren't garbage. Register 0 holds the shared
+    /// block and the others nothing.
     ///
     /// `Config(k)` names the first of the heap's numbers outside its limit, as in [`Config`].
     pub fn make(
         alloc: Global,
         minor_words: u32,
         pools: u32,
+        finals: u32,
         ephes: u32,
     ) -> Result<Session, StartFault>
-        ensures outside { (k : ℕ) → (result ≡ Err (StartFault.Config k)) ↔ (first_outside (alone minor_words pools ephes) ≡ Some k) }
-        ensures session { IfOk result (λ s. s ≡ record { config = alone minor_words pools ephes; front = []; labels = 0; room = ephes }) }
+        ensures outside { (k : ℕ) → (result ≡ Err (StartFault.Config k)) ↔ (first_outside (alone minor_words pools finals ephes) ≡ Some k) }
+        ensures session { IfOk result (λ s. s ≡ record { config = alone minor_words pools finals ephes; front = []; labels = 0; room = ephes; finals = finals; ran = [] }) }
     {
         let config = Config {
             domains: 1,
             minor_words,
             pools,
-            finals: 0,
+            finals,
             ephes,
         };
         let (heap, mut room) = Heap::start(alloc, config)?;
@@ -81,6 +83,14 @@ impl Session {
         self.run.domain().ephes_room()
     }
 
+    /// How many more finalisers can be registered. One that was registered takes room until it has run.
+    pub fn finals_room(&self) -> usize
+        ensures { result ≡ self.now.finals }
+    {
+        let _config = self.heap.config();
+        self.run.domain().finals_room()
+    }
+
     /// How many labels are left for blocks: 4,294,967,295 less those that were given out.
     pub fn labels_left(&self) -> u32
         ensures { result + self.now.labels ≡ 4294967295 }
@@ -88,36 +98,50 @@ impl Session {
         u32::MAX - self.run.domain().labels_made()
     }
 
-    /// There is one domain, the numbers are within their limits, the history so far is legal for them and registers no
-    /// finaliser, and so many labels were given out as it says.
+    /// The replies of the finalisers that ran before the last command, since the one before that: `fin` and
+    /// `last` lines in the order in which they ran.
+    pub fn ran(&self) -> &[Reply]
+        ensures { result.now ≡ self.now.ran }
+    {
+        self.run.ran()
+    }
+
+    /// There is one domain, the numbers are within their limits, the history so far is legal for them, so many labels
+    /// were given out as it says, and no more finalisers fit than the numbers say.
     pub fn is_legal(&self)
         ensures alone { self.now.config.domains ≡ 1 }
         ensures limits { IsWithinLimits (sizes_in self.now.config) }
         ensures legal { Legal (sizes_in self.now.config) self.now.front }
-        ensures unregistered { all_registered 0 (opening (sizes_in self.now.config)) self.now.front ≡ [] }
         ensures labels { self.now.labels ≡ (domain_at (state_of self.now.config self.now.front) 0).serial }
+        ensures finals { self.now.finals ≤ self.now.config.finals }
     {
         let _config = self.heap.config();
     }
 
     /// Makes a command, and answers its reply. The command fits the shared heap, its registers are below 16
-    /// and its numbers in their ranges, it registers no finaliser, and there are room for an ephemeron that
-    /// it makes and a label for a block.
+    /// and its numbers in their ranges, and there are room for an ephemeron that it makes and for a finaliser
+    /// that it registers, and a label for a block.
     ///
-    /// The history grows by entries of the collector and then by this command, and the reply is that of the
-    /// state before it. A label is given out exactly where the command allocates and isn't answered `full`. Room
-    /// is taken for the ephemeron that it makes, and there is more only where ephemerons were swept. A pause that the command needs is gone through by this thread; one in which a
-    /// `full_major` is answered ends with the next command. A domain that has arrived 2^60 times isn't turned
-    /// any more, and then this call doesn't return.
+    /// The history grows by entries of the collector and by runs of the finalisers that waited, and then by this
+    /// command, and the reply is that of the state before it. [`ran`](Session::ran) has the replies of these
+    /// finalisers. A label is given out exactly where the command allocates and isn't answered `full`. Room
+    /// is taken for the ephemeron that it makes, and there is more only where ephemerons were swept. Room is
+    /// taken for the finaliser that it registers, and there is more for each that ran. A pause that the command
+    /// needs is gone through by this thread; one in which a `full_major` is answered ends with the next command.
+    /// A domain that has arrived 2^60 times isn't turned any more, and then this call doesn't return.
     pub fn perform<R: Wait>(&mut self, rt: &R, command: Command) -> Reply
         requires may { MayPerform self.old command }
         ensures config { self.new.config ≡ self.old.config }
         ensures labels { self.new.labels ≡ self.old.labels + labels_given command result }
         ensures room { self.old.room ≤ self.new.room + ephemerons_given command result }
-        ensures performed { Performed (sizes_in self.old.config) self.old.front self.new.front command result }
+        ensures finals { self.old.finals + length self.new.ran ≤ self.new.finals + registrations_of command }
+        ensures performed { PerformedOn (sizes_in self.old.config) 0 self.old.front self.new.front command self.new.ran result }
+        ensures commands { commands self.new.front 0 ≡ commands self.old.front 0 ++ command ∷ [] }
+        ensures replies { replies (sizes_in self.old.config) self.new.front 0 ≡ replies (sizes_in self.old.config) self.old.front 0 ++ (self.new.ran ++ result ∷ []) }
     {
         let _limits = self.heap.config();
         let _left = self.labels_left();
+        self.run.is_faithful();
         self.run.submit(command);
         await_answer(rt, &self.heap, &mut self.run)
     }
@@ -132,12 +156,14 @@ impl Session {
         show(&self.heap, &mut self.run, r)
     }
 
-    /// Ends the domain's trace and the heap. The history of the ended heap is the one so far, then entries of
-    /// the collector, the end of the trace, and maybe more of the collector's. As with
-    /// [`perform`](Session::perform), a domain that has arrived 2^60 times isn't turned any more.
+    /// Ends the domain's trace and the heap. The finalisers that wait run before that, and what else is registered
+    /// never runs. The history of the ended heap is the one so far, then entries of the collector and these runs,
+    /// the end of the trace, and maybe more of the collector's. Where there is no room for finalisers none runs.
+    /// As with [`perform`](Session::perform), a domain that has arrived 2^60 times isn't turned any more.
     pub fn stop<R: Wait>(self, rt: &R) -> Ended
         ensures sizes { result.sizes ≡ sizes_in self.config }
-        ensures stops { StopsAfter (sizes_in self.config) self.front result.history }
+        ensures ends { EndsAfter (sizes_in self.config) self.front result.history }
+        ensures stops { self.config.finals ≡ 0 → StopsAfter (sizes_in self.config) self.front result.history }
     {
         let Session { heap, run, room } = self;
         let _limits = heap.config();

@@ -10,6 +10,7 @@ use Rattle.darkening_beside.specs.Aware.{scanned_in, vain_in}
 use Rattle.pause_phases.specs.declared.decider.Decider.{Decider}
 use Rattle.pause_phases.specs.Sharing.{HintsIn}
 use Rattle.mark_slices.specs.Decks.{DeckCounts, NotesAlone, NotesNoMore, NotesOn, Rises, TakesOwn, last_count}
+use Rattle.domain_turns.proofs.Refused.{asked_hints, asked_share}
 use Rattle.domain_turns.specs.Runs.{GoesBy, IsAnswered, MarksBeside, MayGoOn, Polls, Resumes, RunView, SeesAnswer, SweepsBeside, Waits, asking_end}
 
 -- a domain that waits lets no hint go, and takes and notes none
@@ -80,15 +81,6 @@ no_end_is_asked_for_early h old new m enough = enough (m.ends.0 refl)
 
 pub no_poll_stops_early : (h : SharedHeap) (old new : RunView) → MarksBeside h old new false → MayGoOn old.token.view new.token.view → ⊥
 no_poll_stops_early h old new m may = let e : false ≡ true = m.ends.1 may in cc
-
--- what follows the marking in a poll leaves what the domain knows of blocks, and its hints
-asked_share : (spent : Bool) (r : RunView) → (asking_end spent r).token.view.seen.share ≡ r.token.view.seen.share
-asked_share true r = refl
-asked_share false r = refl
-
-asked_hints : (spent : Bool) (r : RunView) → (asking_end spent r).hints ≡ r.hints
-asked_hints true r = refl
-asked_hints false r = refl
 
 -- how often the domain has looked at a hint
 abbrev looks_of : Share → ℕ

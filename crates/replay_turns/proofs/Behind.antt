@@ -69,9 +69,6 @@ trails_on new mid x t u =
 pub trails_whole : (x : DomainView) → Trails x.seen.front x
 trails_whole x = record { begins = front_whole x.own.number x.seen.front; calls = λ _. unseen_whole is_call x.seen.front x.seen.front refl; led = λ _. unseen_whole (λ e. not (is_control e)) x.seen.front x.seen.front refl }
 
--- parts of parts
-pub prefix_on : (a b c : List Entry) → IsPrefix a b → IsPrefix b c → IsPrefix a c
-prefix_on a b c p q = record { rest = p.rest ++ q.rest; appends = q.appends ∙ (ap (λ (h : List Entry). h ++ q.rest) p.appends ∙ append_assoc a p.rest q.rest) }
-
+-- a part of itself
 pub prefix_same : (a : List Entry) → IsPrefix a a
 prefix_same a = record { rest = []; appends = sym (append-nil a) }

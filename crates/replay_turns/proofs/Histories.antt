@@ -15,36 +15,11 @@ use Rattle.heap_model.proofs.Commands.FrameLemmas.{inside_running, keeps_next}
 use Rattle.heap_model.proofs.Graphs.GraphLemmas.{and_parts}
 use Rattle.heap_model.proofs.Histories.FrontLemmas.{none_cons}
 use Rattle.heap_model.proofs.Histories.HistoryLemmas.{replies_from-append, replies_from-others, state_after-append}
+use Rattle.domain_spawn.proofs.Ended.{none_of_ended, none_there}
 use Rattle.domain_turns.specs.Runs.{is_end_of}
 use Rattle.schedule_drive.specs.Together.{is_quiet}
 
--- a domain makes an entry only while its trace hasn't ended
-maker_runs : (s : State) (e : Entry) (d : ℕ) → Allowed s e → is_entry_of d e ≡ true → (domain_at s d).ended ≡ false
-maker_runs s (CommandOf k c full) d allowed own = subst (λ j. (domain_at s j).ended ≡ false) (eqb-true k d own) allowed.running
-maker_runs s (End k) d allowed own = subst (λ j. (domain_at s j).ended ≡ false) (eqb-true k d own) allowed.running
-maker_runs s (Ran k) d allowed own = subst (λ j. (domain_at s j).ended ≡ false) (eqb-true k d own) allowed.running
-maker_runs s Cut d allowed own = cc
-maker_runs s (Queue k places) d allowed own = cc
-maker_runs s Seal d allowed own = cc
-maker_runs s (Wipe l keys) d allowed own = cc
-maker_runs s (LastOf k place) d allowed own = cc
-maker_runs s Collected d allowed own = cc
-maker_runs s Done d allowed own = cc
-
-not_own : (s : State) (e : Entry) (d : ℕ) → Allowed s e → (domain_at s d).ended ≡ true → is_entry_of d e ≡ false
-not_own s e d allowed over = go (is_entry_of d e) refl where
-  go : (b : Bool) → is_entry_of d e ≡ b → b ≡ false
-  go true own = absurd (true≢false (sym over ∙ maker_runs s e d allowed own))
-  go false own = refl
-
--- once its trace has ended it makes none
-pub none_of_ended : (s : State) (h : List Entry) (d : ℕ) → (domain_at s d).ended ≡ true → LegalFrom s h → NoneOf d h
-none_of_ended s [] d over legal = refl
-none_of_ended s (e ∷ h) d over legal =
-    let other : is_entry_of d e ≡ false = not_own s e d legal.0 over in
-    rw other (none_of_ended (next s e) h d ((keeps_next s e d other).ended ∙ over) legal.1)
-
--- and entries of others leave that as it is
+-- entries of others leave it as it is whether a trace has ended
 pub ended_others : (s : State) (h : List Entry) (d : ℕ) → NoneOf d h → (domain_at (state_after s h) d).ended ≡ (domain_at s d).ended
 ended_others s [] d none = refl
 ended_others s (e ∷ h) d none = let parts = none_cons d e h none in ended_others (next s e) h d parts.1 ∙ (keeps_next s e d parts.0).ended
@@ -75,13 +50,7 @@ ended_from s (e ∷ h) d legal some = go (is_end_of d e) refl some (ended_from (
 pub ended_in : (z : Sizes) (h : List Entry) (d : ℕ) → Legal z h → IsTrue (list_any (is_end_of d) h) → (domain_at (state_after (opening z) h) d).ended ≡ true
 ended_in z h d legal some = ended_from (opening z) h d legal some
 
--- a number that is no domain's
-none_there : (n d : ℕ) → n ≤ d → (get_or (replicate n opening_domain) d no_domain).ended ≡ true
-none_there zero zero above = refl
-none_there zero (suc d) above = refl
-none_there (suc n) zero above = absurd (omega (arith, above))
-none_there (suc n) (suc d) above = none_there n d (omega (arith, above))
-
+-- a number that is no domain's makes no entry
 pub none_beyond : (z : Sizes) (h : List Entry) (d : ℕ) → z.domains ≤ d → Legal z h → NoneOf d h
 none_beyond z h d above legal = none_of_ended (opening z) h d (none_there z.domains d above) legal
 

@@ -15,7 +15,8 @@ use Rattle.domain_turns.proofs.Moving.{front_prefix}
 use Rattle.replay_turns.specs.Gathered.{HasRun}
 use Rattle.replay_turns.specs.Leveled.{AllHere, Leveled, MetTwo, SawMore, Under}
 use Rattle.replay_turns.specs.Moves.{HaltsAt, HaltsUpto, halted_run}
-use Rattle.replay_turns.proofs.Behind.{behind_join, prefix_on, prefix_same, trails_on, trails_whole}
+use Rattle.domain_spawn.proofs.Making.{prefix_trans}
+use Rattle.replay_turns.proofs.Behind.{behind_join, prefix_same, trails_on, trails_whole}
 use Rattle.replay_turns.proofs.Places.{set_else, set_here}
 use Rattle.replay_turns.proofs.SlotLemmas.{inside, one_there}
 
@@ -102,7 +103,7 @@ level_meets h old mid new at other apart l m = record {
         let u = l.above d r m.one (let b = below in let c = nor in omega arith) (sym (m.others d no nor) ∙ there) m.was_one in
         let rise = front_prefix m.one.token.view.own.number history m.one.token.view.seen.front m.met.first.begins in
         let whole : Under r.token.view (run_seeing m.one history).token.view = record {
-          part = prefix_on r.token.view.seen.front m.one.token.view.seen.front history u.part rise;
+          part = prefix_trans r.token.view.seen.front m.one.token.view.seen.front history u.part rise;
           calls = λ runs. behind_join is_call r.token.view.seen.front m.one.token.view.seen.front history u.part.rest rise.rest u.part.appends rise.appends (u.calls runs) (m.met.first.calls runs);
         } in
         subst (λ (x : RunView). Under r.token.view x.token.view) (sym (front top tops)) whole))

@@ -27,6 +27,7 @@ use Rattle.domain_turns.specs.declared.supply.Supply.TheVariants.{Listed, Open, 
 use Rattle.domain_turns.specs.declared.turned.Turned.{Turned}
 use Rattle.domain_turns.specs.declared.turned.Turned.TheVariants.{Did, Waiting, Hungry, Held, Idle}
 use Rattle.domain_turns.specs.declared.turned.Turned.TheVariants.{Ended as Over}
+use Rattle.domain_turns.proofs.Turning.{not_full as is_short}
 use Rattle.domain_turns.specs.Runs.{RunView, Asks, AsksFull, CalmAnswers, CalmDid, EndsTrace, MarksBeside, Polls, RunsFinaliser, SweepsBeside, TriesCommand, WorksBeside, asking_end}
 use Rattle.domain_turns.specs.Runs.CalmDid.{Finalises, Wishes, Refuses, Tries, Works, Ends, Sees, Makes, Tells, WishesToTell}
 use Rattle.domain_turns.specs.Tries.{Enters, NeedsPause, Stands}
@@ -179,10 +180,6 @@ module _ (h : SharedHeap) (shares : List Entry → Type 0) (d : ℕ) (r s : RunV
     }
     go Ran at = absurd (more r.next (sym later ∙ at.0))
     go (Needs complete) at = absurd (more r.next (sym later ∙ at.0))
-
-  -- it is none that needs a pause
-  is_short : (k : Config) (own : Own) (served : Bool) (c : model.Command) → (NeedsPause k own served c → ⊥) → c ≢ FullMajor
-  is_short k own served c ready is = ready (subst (NeedsPause k own served) (sym is) tt)
 
   -- the run behind a command, but for what a replay doesn't see
   behind_command : (reply : Reply) → (v : RunView) → one_run s ≡ one_run v → v.replies ≡ r.replies ++ reply ∷ [] → s.replies ≡ v.replies

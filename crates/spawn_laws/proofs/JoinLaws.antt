@@ -21,6 +21,7 @@ use Rattle.heap_model.proofs.Histories.ShapeAfterLemmas.{shaped-history}
 use Rattle.spawn_laws.specs.Hidden.{hidden, scratch, flag_of, result_of, prelude}
 use Rattle.spawn_laws.specs.Expansion.{Step, step_of, steps_from, is_int, flag_load, is_spawned, section_at, IsScriptRun, IsFittingScript}
 use Rattle.spawn_laws.specs.Joined.{last_result, IsSpawnedIn, IsJoined, JoinLaw}
+use Rattle.spawn_laws.proofs.Growing.{steps_append}
 use Rattle.spawn_laws.proofs.Slots.{load_answers, store_answers}
 use Rattle.spawn_laws.proofs.Phases.{Phase, opening_phase, Runs, runs_section}
 use Rattle.spawn_laws.proofs.Beginning.{begun, kept_begun, slot_begun}
@@ -31,11 +32,7 @@ pub legal_parts : (s : State) (h k : List Entry) → LegalFrom s (h ++ k) → Le
 legal_parts s [] k legal = (tt, legal)
 legal_parts s (e ∷ h) k legal = let later = legal_parts (next s e) h k legal.1 in ((legal.0, later.0), later.1)
 
--- a domain's steps in two lists, and its commands
-steps_append : (s : State) (h k : List Entry) (d : ℕ) → steps_from s (h ++ k) d ≡ steps_from s h d ++ steps_from (state_after s h) k d
-steps_append s [] k d = refl
-steps_append s (e ∷ h) k d = ap (λ (t : List Step). step_of s d e ++ t) (steps_append (next s e) h k d) ∙ sym (append_assoc (step_of s d e) (steps_from (next s e) h d) (steps_from (state_after (next s e) h) k d))
-
+-- a domain's steps have its commands
 command_step : (s : State) (d : ℕ) (e : Entry) → command_of d e ≡ map (λ x. x.command) (step_of s d e)
 command_step s d (CommandOf k c full) = go (k == d)
   where

@@ -4,8 +4,8 @@ pub mod Slots
 pub mod Phases
 pub mod Beginning
 pub mod Joining
-pub mod JoinLaws
 pub mod Growing
+pub mod JoinLaws
 pub mod Rows
 pub mod Printing
 pub mod Progressing

@@ -5,7 +5,7 @@ use crate::same::same;
 use example_cache::{Cache, Inserted};
 use heap_model::label::Label;
 use heap_model::reply::Reply;
-use heap_session::Session;
+use heap_session::TableSession;
 use std::sync::Wait;
 use std::test::Fail;
 
@@ -17,7 +17,7 @@ const SHARED: Reply = Reply::Block(Label {
 
 #[test]
 fn entries_go_with_their_keys(rt: HostRuntime) -> Result<(), Fail> {
-    let session = Session::make(rt.alloc(), 4096, 20, 4)?;
+    let session = TableSession::make(rt.alloc(), 4096, 20, 4)?;
     let Ok(mut cache) = Cache::make(&rt, session, 2) else {
         return Err(Fail::from("no room for the table"));
     };
@@ -52,7 +52,7 @@ fn insert_two(rt: &impl Wait, cache: &mut Cache, register: u8) -> bool
 // 10,000 entries of fresh keys, ten of which are alive at a time, on the least heap, with room for 160 ephemerons.
 #[test]
 fn a_table_uses_its_cells_again(rt: HostRuntime) -> Result<(), Fail> {
-    let session = Session::make(rt.alloc(), 4096, 20, 160)?;
+    let session = TableSession::make(rt.alloc(), 4096, 20, 160)?;
     let Ok(mut cache) = Cache::make(&rt, session, 40) else {
         return Err(Fail::from("no room for the table"));
     };

@@ -1,6 +1,5 @@
 //! A heap that a program drives: each call of a session once, with the replies that the model gives.
-ghost use Rattle.std.specs.Prelude.{◌≡◌};
-ghost use Rattle.domain_turns.specs.Tries.{FitsHeap, registrations_of};
+ghost use Rattle.domain_turns.specs.Tries.{FitsHeap};
 
 use crate::same::same;
 use heap_model::command::Command;
@@ -13,9 +12,8 @@ use std::test::Fail;
 // Makes a command, where there are room and a label for what it makes.
 fn made(rt: &impl Wait, session: &mut Session, command: Command) -> Option<Reply>
     requires fits { FitsHeap command }
-    requires registers_none { registrations_of command ≡ 0 }
 {
-    if session.ephes_room() < 1 || session.labels_left() < 1 {
+    if session.ephes_room() < 1 || session.finals_room() < 1 || session.labels_left() < 1 {
         return None;
     }
     Some(session.perform(rt, command))
@@ -27,7 +25,7 @@ const fn block(serial: u32) -> Reply {
 
 #[test]
 fn a_program_drives_a_heap(rt: HostRuntime) -> Result<(), Fail> {
-    let mut session = Session::make(rt.alloc(), 4096, 20, 2)?;
+    let mut session = Session::make(rt.alloc(), 4096, 20, 1, 2)?;
     let alloc = Command::Alloc {
         dst: 1,
         tag: 0,
@@ -55,6 +53,51 @@ fn a_program_drives_a_heap(rt: HostRuntime) -> Result<(), Fail> {
     same(&rt, made(&rt, &mut session, check), Some(Reply::No));
     same(&rt, session.labels_left(), u32::MAX - 2);
     session.is_legal();
+    session.stop(&rt).is_legal();
+    Ok(())
+}
+
+// Three handles, each with a finaliser that puts its block into register 5, are let go. Their finalisers run
+// before the next command, the newest first, and their replies are told apart from the command's.
+#[test]
+fn finalisers_run_between_commands(rt: HostRuntime) -> Result<(), Fail> {
+    let mut session = Session::make(rt.alloc(), 4096, 20, 4, 2)?;
+    for number in 0..3u32 {
+        let alloc = Command::Alloc {
+            dst: 1,
+            tag: 0,
+            fields: 1,
+        };
+        same(&rt, made(&rt, &mut session, alloc), Some(block(number + 1)));
+        let finalise = Command::Finalise {
+            item: 1,
+            number,
+            dst: 5,
+        };
+        same(&rt, made(&rt, &mut session, finalise), Some(Reply::Done));
+    }
+    same(&rt, session.finals_room(), 1);
+    let forget = Command::Forget { dst: 1 };
+    same(&rt, made(&rt, &mut session, forget), Some(Reply::Done));
+    made(&rt, &mut session, Command::FullMajor);
+    same(&rt, session.ran().len(), 0);
+    let polled = made(&rt, &mut session, Command::Poll);
+    same(&rt, polled, Some(Reply::Done));
+    let ran = session.ran();
+    same(&rt, ran.len(), 3);
+    for turn in 0..3u32 {
+        let number = 2 - turn;
+        let fin = Reply::Fin {
+            number,
+            label: Label {
+                domain: 0,
+                serial: number + 1,
+            },
+        };
+        same(&rt, ran.get(turn as usize).copied(), Some(fin));
+    }
+    same(&rt, session.finals_room(), 4);
+    same(&rt, session.show(5), block(1));
     session.stop(&rt).is_legal();
     Ok(())
 }

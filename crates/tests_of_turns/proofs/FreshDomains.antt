@@ -19,7 +19,7 @@ is_fresh : (h : SharedHeap) (d : ℕ) → d < h.config.domains → IsFresh h (op
 is_fresh h d inside =
     let may : CanBegin (opening_token h.table h.config d) [] = opening_begins h h.config d [] inside (omega arith) none_fits (omega arith) (omega arith) in
     record {
-      runs = record { here = (refl, refl); acts = may.acts; idle = refl; at_rest = refl; remembers = refl };
+      runs = record { here = (refl, refl); acts = may.ready.acts; idle = refl; at_rest = refl; remembers = refl };
       begins = may;
       unlabelled = refl;
       nowhere = refl;
@@ -49,23 +49,8 @@ none_made cs all = none_made_in cs (recursion_from_All MakesNoEphemeron cs all)
 -- a domain that may begin no commands may begin others that fit
 pub begins : (t : Token) (cs : List Command) → CanBegin t [] → length cs ≤ 200000 → AllFit cs → ephemerons_in cs ≡ 0 → registrations_in cs ≤ t.config.finals → CanBegin t cs
 begins t cs b few fit none enlists = record {
-  inside = b.inside;
-  acts = b.acts;
-  idle = b.idle;
-  at_rest = b.at_rest;
+  ready = record b.ready { few = few; room = omega (arith, none); enlists = enlists };
   no_commands = b.no_commands;
   no_replies = b.no_replies;
-  few = few;
   fit = fit;
-  room = omega (arith, none);
-  enlists = enlists;
-  none_listed = b.none_listed;
-  owes = b.owes;
-  labels = b.labels;
-  even = b.even;
-  remembers = b.remembers;
-  quiet = b.quiet;
-  no_copies = b.no_copies;
-  unprepared = b.unprepared;
-  none_began = b.none_began;
 }

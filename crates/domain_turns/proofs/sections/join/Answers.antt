@@ -17,7 +17,7 @@ use Rattle.domain_turns.proofs.sections.join.Goals as goal
 
 pub take-requires-clause-dst : goal.take-requires-clause-dst
 take-requires-clause-dst c =
-    let r : RunView = record { token = c.run.inside.domain; commands = c.run.inside.commands.items; next = c.run.inside.next; replies = c.run.inside.replies.items; ended = c.run.inside.ended; left = c.run.inside.left; asked = c.run.inside.asked; collected = c.run.inside.collected; progress = c.run.inside.progress; due = c.run.inside.due; hints = c.run.inside.hints; supply = c.run.inside.supply; place = c.run.inside.place } in
+    let r : RunView = record { token = c.run.inside.domain; commands = c.run.inside.commands.items; next = c.run.inside.next; replies = c.run.inside.replies.items; ended = c.run.inside.ended; left = c.run.inside.left; asked = c.run.inside.asked; collected = c.run.inside.collected; progress = c.run.inside.progress; due = c.run.inside.due; hints = c.run.inside.hints; supply = c.run.inside.supply; place = c.run.inside.place; spare = c.run.inside.spare; ran = c.run.inside.ran.items } in
     let at : slice_get r.commands r.next ≡ Some (Join c.args.dst c.args.section) = subst (λ (x : RunView). slice_get x.commands x.next ≡ Some (Join c.args.dst c.args.section)) (sym c.run.view_is) c.requires.next in
     let sectioned : r.supply ≡ Section = sectioned_by r.supply (Join c.args.dst c.args.section) (λ e. e) (c.run.invariant.0.fit r.next (Join c.args.dst c.args.section) at) in
     let fits = subst (λ (s : Supply). FitsIn s (Join c.args.dst c.args.section)) sectioned (c.run.invariant.0.fit r.next (Join c.args.dst c.args.section) at) in
@@ -25,7 +25,7 @@ take-requires-clause-dst c =
 
 pub take-requires-clause-section : goal.take-requires-clause-section
 take-requires-clause-section c =
-    let r : RunView = record { token = c.run.inside.domain; commands = c.run.inside.commands.items; next = c.run.inside.next; replies = c.run.inside.replies.items; ended = c.run.inside.ended; left = c.run.inside.left; asked = c.run.inside.asked; collected = c.run.inside.collected; progress = c.run.inside.progress; due = c.run.inside.due; hints = c.run.inside.hints; supply = c.run.inside.supply; place = c.run.inside.place } in
+    let r : RunView = record { token = c.run.inside.domain; commands = c.run.inside.commands.items; next = c.run.inside.next; replies = c.run.inside.replies.items; ended = c.run.inside.ended; left = c.run.inside.left; asked = c.run.inside.asked; collected = c.run.inside.collected; progress = c.run.inside.progress; due = c.run.inside.due; hints = c.run.inside.hints; supply = c.run.inside.supply; place = c.run.inside.place; spare = c.run.inside.spare; ran = c.run.inside.ran.items } in
     let at : slice_get r.commands r.next ≡ Some (Join c.args.dst c.args.section) = subst (λ (x : RunView). slice_get x.commands x.next ≡ Some (Join c.args.dst c.args.section)) (sym c.run.view_is) c.requires.next in
     let sectioned : r.supply ≡ Section = sectioned_by r.supply (Join c.args.dst c.args.section) (λ e. e) (c.run.invariant.0.fit r.next (Join c.args.dst c.args.section) at) in
     let fits = subst (λ (s : Supply). FitsIn s (Join c.args.dst c.args.section)) sectioned (c.run.invariant.0.fit r.next (Join c.args.dst c.args.section) at) in
@@ -33,7 +33,7 @@ take-requires-clause-section c =
 
 pub push_reserved-requires : goal.push_reserved-requires
 push_reserved-requires c =
-    let r : RunView = record { token = c.run.inside.domain; commands = c.run.inside.commands.items; next = c.run.inside.next; replies = c.run.inside.replies.items; ended = c.run.inside.ended; left = c.run.inside.left; asked = c.run.inside.asked; collected = c.run.inside.collected; progress = c.run.inside.progress; due = c.run.inside.due; hints = c.run.inside.hints; supply = c.run.inside.supply; place = c.run.inside.place } in
+    let r : RunView = record { token = c.run.inside.domain; commands = c.run.inside.commands.items; next = c.run.inside.next; replies = c.run.inside.replies.items; ended = c.run.inside.ended; left = c.run.inside.left; asked = c.run.inside.asked; collected = c.run.inside.collected; progress = c.run.inside.progress; due = c.run.inside.due; hints = c.run.inside.hints; supply = c.run.inside.supply; place = c.run.inside.place; spare = c.run.inside.spare; ran = c.run.inside.ran.items } in
     let at : slice_get r.commands r.next ≡ Some (Join c.args.dst c.args.section) = subst (λ (x : RunView). slice_get x.commands x.next ≡ Some (Join c.args.dst c.args.section)) (sym c.run.view_is) c.requires.next in
     let few : length r.replies < length r.commands + length r.commands = next_replies r c.run.invariant.0 (Join c.args.dst c.args.section) at in
     let room : length r.commands + length r.commands ≤ vec_capacity c.run.inside.replies = c.run.invariant.1.answers in
@@ -41,7 +41,7 @@ push_reserved-requires c =
 
 pub invariant_of-run : goal.invariant_of-run
 invariant_of-run c =
-    let r : RunView = record { token = c.run.inside.domain; commands = c.run.inside.commands.items; next = c.run.inside.next; replies = c.run.inside.replies.items; ended = c.run.inside.ended; left = c.run.inside.left; asked = c.run.inside.asked; collected = c.run.inside.collected; progress = c.run.inside.progress; due = c.run.inside.due; hints = c.run.inside.hints; supply = c.run.inside.supply; place = c.run.inside.place } in
+    let r : RunView = record { token = c.run.inside.domain; commands = c.run.inside.commands.items; next = c.run.inside.next; replies = c.run.inside.replies.items; ended = c.run.inside.ended; left = c.run.inside.left; asked = c.run.inside.asked; collected = c.run.inside.collected; progress = c.run.inside.progress; due = c.run.inside.due; hints = c.run.inside.hints; supply = c.run.inside.supply; place = c.run.inside.place; spare = c.run.inside.spare; ran = c.run.inside.ran.items } in
     let running : r.ended ≡ false = subst (λ (x : RunView). x.ended ≡ false) (sym c.run.view_is) c.requires.running in
     let left : r.left ≡ None = subst (λ (x : RunView). x.left ≡ None) (sym c.run.view_is) c.requires.left in
     let going : r.place ≢ Before = subst (λ (x : RunView). x.place ≢ Before) (sym c.run.view_is) c.requires.going in
@@ -54,7 +54,7 @@ invariant_of-run c =
 
 pub invariant_of-run-2 : goal.invariant_of-run-2
 invariant_of-run-2 c =
-    let r : RunView = record { token = c.run.inside.domain; commands = c.run.inside.commands.items; next = c.run.inside.next; replies = c.run.inside.replies.items; ended = c.run.inside.ended; left = c.run.inside.left; asked = c.run.inside.asked; collected = c.run.inside.collected; progress = c.run.inside.progress; due = c.run.inside.due; hints = c.run.inside.hints; supply = c.run.inside.supply; place = c.run.inside.place } in
+    let r : RunView = record { token = c.run.inside.domain; commands = c.run.inside.commands.items; next = c.run.inside.next; replies = c.run.inside.replies.items; ended = c.run.inside.ended; left = c.run.inside.left; asked = c.run.inside.asked; collected = c.run.inside.collected; progress = c.run.inside.progress; due = c.run.inside.due; hints = c.run.inside.hints; supply = c.run.inside.supply; place = c.run.inside.place; spare = c.run.inside.spare; ran = c.run.inside.ran.items } in
     let running : r.ended ≡ false = subst (λ (x : RunView). x.ended ≡ false) (sym c.run.view_is) c.requires.running in
     let left : r.left ≡ None = subst (λ (x : RunView). x.left ≡ None) (sym c.run.view_is) c.requires.left in
     let going : r.place ≢ Before = subst (λ (x : RunView). x.place ≢ Before) (sym c.run.view_is) c.requires.going in
@@ -62,12 +62,12 @@ invariant_of-run-2 c =
     let sectioned : r.supply ≡ Section = sectioned_by r.supply (Join c.args.dst c.args.section) (λ e. e) (c.run.invariant.0.fit r.next (Join c.args.dst c.args.section) at) in
     let taken = subst (TakeAnswers c.args.heap.now r.token c.take.new.dom c.args.dst c.args.section) c.in-Some.is c.take.ensures.taken in
     let is = joined_is_run c.args.heap.now r c.take.new.dom c.run.invariant.0 sectioned running left c.args.dst c.args.section c.in-Some.reply at going taken (words_of_registers _ _ c.take.ensures.rest) in
-    let room : HasReserved r.supply (length r.commands) (vec_capacity c.run.inside.commands) (vec_capacity c.push_reserved.new.self) = subst (λ n. HasReserved r.supply (length r.commands) (vec_capacity c.run.inside.commands) n) (sym c.push_reserved.ensures.capacity) c.run.invariant.1 in
+    let room : HasReserved r.supply (length r.commands) r.spare (vec_capacity c.run.inside.commands) (vec_capacity c.push_reserved.new.self) (vec_capacity c.run.inside.ran) = subst (λ n. HasReserved r.supply (length r.commands) r.spare (vec_capacity c.run.inside.commands) n (vec_capacity c.run.inside.ran)) (sym c.push_reserved.ensures.capacity) c.run.invariant.1 in
     (subst (λ (rs : List Reply). IsRun (record r { token = c.take.new.dom; next = r.next + 1; replies = rs; asked = None; collected = false; due = 0 })) (sym c.push_reserved.ensures.items) is, room)
 
 pub returns-in_default-clause-answer : goal.returns-in_default-clause-answer
 returns-in_default-clause-answer c =
-    let r : RunView = record { token = c.run.inside.domain; commands = c.run.inside.commands.items; next = c.run.inside.next; replies = c.run.inside.replies.items; ended = c.run.inside.ended; left = c.run.inside.left; asked = c.run.inside.asked; collected = c.run.inside.collected; progress = c.run.inside.progress; due = c.run.inside.due; hints = c.run.inside.hints; supply = c.run.inside.supply; place = c.run.inside.place } in
+    let r : RunView = record { token = c.run.inside.domain; commands = c.run.inside.commands.items; next = c.run.inside.next; replies = c.run.inside.replies.items; ended = c.run.inside.ended; left = c.run.inside.left; asked = c.run.inside.asked; collected = c.run.inside.collected; progress = c.run.inside.progress; due = c.run.inside.due; hints = c.run.inside.hints; supply = c.run.inside.supply; place = c.run.inside.place; spare = c.run.inside.spare; ran = c.run.inside.ran.items } in
     let going : r.place ≢ Before = subst (λ (x : RunView). x.place ≢ Before) (sym c.run.view_is) c.requires.going in
     let at : slice_get r.commands r.next ≡ Some (Join c.args.dst c.args.section) = subst (λ (x : RunView). slice_get x.commands x.next ≡ Some (Join c.args.dst c.args.section)) (sym c.run.view_is) c.requires.next in
     let sectioned : r.supply ≡ Section = sectioned_by r.supply (Join c.args.dst c.args.section) (λ e. e) (c.run.invariant.0.fit r.next (Join c.args.dst c.args.section) at) in
@@ -86,7 +86,7 @@ returns-in_default-clause-answer c =
 
 pub returns-clause-answer : goal.returns-clause-answer
 returns-clause-answer c =
-    let r : RunView = record { token = c.run.inside.domain; commands = c.run.inside.commands.items; next = c.run.inside.next; replies = c.run.inside.replies.items; ended = c.run.inside.ended; left = c.run.inside.left; asked = c.run.inside.asked; collected = c.run.inside.collected; progress = c.run.inside.progress; due = c.run.inside.due; hints = c.run.inside.hints; supply = c.run.inside.supply; place = c.run.inside.place } in
+    let r : RunView = record { token = c.run.inside.domain; commands = c.run.inside.commands.items; next = c.run.inside.next; replies = c.run.inside.replies.items; ended = c.run.inside.ended; left = c.run.inside.left; asked = c.run.inside.asked; collected = c.run.inside.collected; progress = c.run.inside.progress; due = c.run.inside.due; hints = c.run.inside.hints; supply = c.run.inside.supply; place = c.run.inside.place; spare = c.run.inside.spare; ran = c.run.inside.ran.items } in
     let going : r.place ≢ Before = subst (λ (x : RunView). x.place ≢ Before) (sym c.run.view_is) c.requires.going in
     let at : slice_get r.commands r.next ≡ Some (Join c.args.dst c.args.section) = subst (λ (x : RunView). slice_get x.commands x.next ≡ Some (Join c.args.dst c.args.section)) (sym c.run.view_is) c.requires.next in
     let sectioned : r.supply ≡ Section = sectioned_by r.supply (Join c.args.dst c.args.section) (λ e. e) (c.run.invariant.0.fit r.next (Join c.args.dst c.args.section) at) in

@@ -15,21 +15,21 @@ use Rattle.domain_turns.proofs.sections.make_command.Goals as goal
 
 pub expand-reply-requires-clause-fits : goal.expand-reply-requires-clause-fits
 expand-reply-requires-clause-fits c =
-    let r : RunView = record { token = c.run.inside.domain; commands = c.run.inside.commands.items; next = c.run.inside.next; replies = c.run.inside.replies.items; ended = c.run.inside.ended; left = c.run.inside.left; asked = c.run.inside.asked; collected = c.run.inside.collected; progress = c.run.inside.progress; due = c.run.inside.due; hints = c.run.inside.hints; supply = c.run.inside.supply; place = c.run.inside.place } in
+    let r : RunView = record { token = c.run.inside.domain; commands = c.run.inside.commands.items; next = c.run.inside.next; replies = c.run.inside.replies.items; ended = c.run.inside.ended; left = c.run.inside.left; asked = c.run.inside.asked; collected = c.run.inside.collected; progress = c.run.inside.progress; due = c.run.inside.due; hints = c.run.inside.hints; supply = c.run.inside.supply; place = c.run.inside.place; spare = c.run.inside.spare; ran = c.run.inside.ran.items } in
     let at : slice_get r.commands r.next ≡ Some c.args.command.now = subst (λ (x : RunView). slice_get x.commands x.next ≡ Some c.args.command.now) (sym c.run.view_is) c.requires.next in
     let sectioned : r.supply ≡ Section = sectioned_by r.supply c.args.command.now (single_four c.args.command.now c.requires.single) (c.run.invariant.0.fit r.next c.args.command.now at) in
     subst (λ (s : Supply). FitsIn s c.args.command.now) sectioned (c.run.invariant.0.fit r.next c.args.command.now at)
 
 pub expand-reply-requires-clause-shows : goal.expand-reply-requires-clause-shows
 expand-reply-requires-clause-shows c =
-    let r : RunView = record { token = c.run.inside.domain; commands = c.run.inside.commands.items; next = c.run.inside.next; replies = c.run.inside.replies.items; ended = c.run.inside.ended; left = c.run.inside.left; asked = c.run.inside.asked; collected = c.run.inside.collected; progress = c.run.inside.progress; due = c.run.inside.due; hints = c.run.inside.hints; supply = c.run.inside.supply; place = c.run.inside.place } in
+    let r : RunView = record { token = c.run.inside.domain; commands = c.run.inside.commands.items; next = c.run.inside.next; replies = c.run.inside.replies.items; ended = c.run.inside.ended; left = c.run.inside.left; asked = c.run.inside.asked; collected = c.run.inside.collected; progress = c.run.inside.progress; due = c.run.inside.due; hints = c.run.inside.hints; supply = c.run.inside.supply; place = c.run.inside.place; spare = c.run.inside.spare; ran = c.run.inside.ran.items } in
     let at : slice_get r.commands r.next ≡ Some c.args.command.now = subst (λ (x : RunView). slice_get x.commands x.next ≡ Some c.args.command.now) (sym c.run.view_is) c.requires.next in
     let sectioned : r.supply ≡ Section = sectioned_by r.supply c.args.command.now (single_four c.args.command.now c.requires.single) (c.run.invariant.0.fit r.next c.args.command.now at) in
     subst (λ (x : RunView). ShowsRegisters c.args.heap.now.config x.token.view) (sym c.run.view_is) (c.requires.shows (subst (λ (x : RunView). x.supply ≡ Section) c.run.view_is sectioned))
 
 pub push_reserved-requires : goal.push_reserved-requires
 push_reserved-requires c =
-    let r : RunView = record { token = c.run.inside.domain; commands = c.run.inside.commands.items; next = c.run.inside.next; replies = c.run.inside.replies.items; ended = c.run.inside.ended; left = c.run.inside.left; asked = c.run.inside.asked; collected = c.run.inside.collected; progress = c.run.inside.progress; due = c.run.inside.due; hints = c.run.inside.hints; supply = c.run.inside.supply; place = c.run.inside.place } in
+    let r : RunView = record { token = c.run.inside.domain; commands = c.run.inside.commands.items; next = c.run.inside.next; replies = c.run.inside.replies.items; ended = c.run.inside.ended; left = c.run.inside.left; asked = c.run.inside.asked; collected = c.run.inside.collected; progress = c.run.inside.progress; due = c.run.inside.due; hints = c.run.inside.hints; supply = c.run.inside.supply; place = c.run.inside.place; spare = c.run.inside.spare; ran = c.run.inside.ran.items } in
     let at : slice_get r.commands r.next ≡ Some c.args.command.now = subst (λ (x : RunView). slice_get x.commands x.next ≡ Some c.args.command.now) (sym c.run.view_is) c.requires.next in
     let few : length r.replies < length r.commands + length r.commands = next_replies r c.run.invariant.0 c.args.command.now at in
     let room : length r.commands + length r.commands ≤ vec_capacity c.run.inside.replies = c.run.invariant.1.answers in
@@ -37,19 +37,19 @@ push_reserved-requires c =
 
 pub invariant_of-run : goal.invariant_of-run
 invariant_of-run c =
-    let r : RunView = record { token = c.run.inside.domain; commands = c.run.inside.commands.items; next = c.run.inside.next; replies = c.run.inside.replies.items; ended = c.run.inside.ended; left = c.run.inside.left; asked = c.run.inside.asked; collected = c.run.inside.collected; progress = c.run.inside.progress; due = c.run.inside.due; hints = c.run.inside.hints; supply = c.run.inside.supply; place = c.run.inside.place } in
+    let r : RunView = record { token = c.run.inside.domain; commands = c.run.inside.commands.items; next = c.run.inside.next; replies = c.run.inside.replies.items; ended = c.run.inside.ended; left = c.run.inside.left; asked = c.run.inside.asked; collected = c.run.inside.collected; progress = c.run.inside.progress; due = c.run.inside.due; hints = c.run.inside.hints; supply = c.run.inside.supply; place = c.run.inside.place; spare = c.run.inside.spare; ran = c.run.inside.ran.items } in
     let running : r.ended ≡ false = subst (λ (x : RunView). x.ended ≡ false) (sym c.run.view_is) c.requires.running in
     let left : r.left ≡ None = subst (λ (x : RunView). x.left ≡ None) (sym c.run.view_is) c.requires.left in
     let going : r.place ≢ Before = subst (λ (x : RunView). x.place ≢ Before) (sym c.run.view_is) c.requires.going in
     let at : slice_get r.commands r.next ≡ Some c.args.command.now = subst (λ (x : RunView). slice_get x.commands x.next ≡ Some c.args.command.now) (sym c.run.view_is) c.requires.next in
     let sectioned : r.supply ≡ Section = sectioned_by r.supply c.args.command.now (single_four c.args.command.now c.requires.single) (c.run.invariant.0.fit r.next c.args.command.now at) in
     let is = expanded_is_run c.args.heap.now r c.expand-reply.new.dom c.run.invariant.0 sectioned running left c.args.command.now c.expand-reply.result at going (single_join c.args.command.now c.requires.single) c.expand-reply.ensures.expands c.expand-reply.ensures.rest in
-    let room : HasReserved r.supply (length r.commands) (vec_capacity c.run.inside.commands) (vec_capacity c.push_reserved.new.self) = subst (λ n. HasReserved r.supply (length r.commands) (vec_capacity c.run.inside.commands) n) (sym c.push_reserved.ensures.capacity) c.run.invariant.1 in
+    let room : HasReserved r.supply (length r.commands) r.spare (vec_capacity c.run.inside.commands) (vec_capacity c.push_reserved.new.self) (vec_capacity c.run.inside.ran) = subst (λ n. HasReserved r.supply (length r.commands) r.spare (vec_capacity c.run.inside.commands) n (vec_capacity c.run.inside.ran)) (sym c.push_reserved.ensures.capacity) c.run.invariant.1 in
     (subst (λ (rs : List Reply). IsRun (record r { token = c.expand-reply.new.dom; next = r.next + 1; replies = rs; asked = None; collected = false; due = 0 })) (sym c.push_reserved.ensures.items) is, room)
 
 pub returns-clause-did : goal.returns-clause-did
 returns-clause-did c =
-    let r : RunView = record { token = c.run.inside.domain; commands = c.run.inside.commands.items; next = c.run.inside.next; replies = c.run.inside.replies.items; ended = c.run.inside.ended; left = c.run.inside.left; asked = c.run.inside.asked; collected = c.run.inside.collected; progress = c.run.inside.progress; due = c.run.inside.due; hints = c.run.inside.hints; supply = c.run.inside.supply; place = c.run.inside.place } in
+    let r : RunView = record { token = c.run.inside.domain; commands = c.run.inside.commands.items; next = c.run.inside.next; replies = c.run.inside.replies.items; ended = c.run.inside.ended; left = c.run.inside.left; asked = c.run.inside.asked; collected = c.run.inside.collected; progress = c.run.inside.progress; due = c.run.inside.due; hints = c.run.inside.hints; supply = c.run.inside.supply; place = c.run.inside.place; spare = c.run.inside.spare; ran = c.run.inside.ran.items } in
     let going : r.place ≢ Before = subst (λ (x : RunView). x.place ≢ Before) (sym c.run.view_is) c.requires.going in
     let at : slice_get r.commands r.next ≡ Some c.args.command.now = subst (λ (x : RunView). slice_get x.commands x.next ≡ Some c.args.command.now) (sym c.run.view_is) c.requires.next in
     let sectioned : r.supply ≡ Section = sectioned_by r.supply c.args.command.now (single_four c.args.command.now c.requires.single) (c.run.invariant.0.fit r.next c.args.command.now at) in

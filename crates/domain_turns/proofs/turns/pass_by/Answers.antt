@@ -14,7 +14,7 @@ use Rattle.domain_turns.proofs.turns.pass_by.Goals as goal
 
 pub push_reserved-requires : goal.push_reserved-requires
 push_reserved-requires c =
-    let r : RunView = record { token = c.run.inside.domain; commands = c.run.inside.commands.items; next = c.run.inside.next; replies = c.run.inside.replies.items; ended = c.run.inside.ended; left = c.run.inside.left; asked = c.run.inside.asked; collected = c.run.inside.collected; progress = c.run.inside.progress; due = c.run.inside.due; hints = c.run.inside.hints; supply = c.run.inside.supply; place = c.run.inside.place } in
+    let r : RunView = record { token = c.run.inside.domain; commands = c.run.inside.commands.items; next = c.run.inside.next; replies = c.run.inside.replies.items; ended = c.run.inside.ended; left = c.run.inside.left; asked = c.run.inside.asked; collected = c.run.inside.collected; progress = c.run.inside.progress; due = c.run.inside.due; hints = c.run.inside.hints; supply = c.run.inside.supply; place = c.run.inside.place; spare = c.run.inside.spare; ran = c.run.inside.ran.items } in
     let here : IsIn r.token c.args.heap.now = subst (λ (x : RunView). IsIn x.token c.args.heap.now) (sym c.run.view_is) c.requires.here in
     let says = subst (λ (p : LookOutcome). PassAnswers c.args.heap.now.config c.args.decider r.token.view c.pass-past.new.dom.view c.args.last c.waits_for_answer-live.result p) (c.in-Answered.is ∙ ap (Answered c.in-Answered.blocks) c.in-Some.is) c.pass-past.ensures.answer in
     let at : slice_get r.commands r.next ≡ Some FullMajor = subst (λ (x : RunView). slice_get x.commands x.next ≡ Some FullMajor) (sym c.run.view_is) (c.waits_for_answer-live.ensures.yes says.0).next in
@@ -24,7 +24,7 @@ push_reserved-requires c =
 
 pub invariant_of-run-in-Waits : goal.invariant_of-run-in-Waits
 invariant_of-run-in-Waits c =
-    let r : RunView = record { token = c.run.inside.domain; commands = c.run.inside.commands.items; next = c.run.inside.next; replies = c.run.inside.replies.items; ended = c.run.inside.ended; left = c.run.inside.left; asked = c.run.inside.asked; collected = c.run.inside.collected; progress = c.run.inside.progress; due = c.run.inside.due; hints = c.run.inside.hints; supply = c.run.inside.supply; place = c.run.inside.place } in
+    let r : RunView = record { token = c.run.inside.domain; commands = c.run.inside.commands.items; next = c.run.inside.next; replies = c.run.inside.replies.items; ended = c.run.inside.ended; left = c.run.inside.left; asked = c.run.inside.asked; collected = c.run.inside.collected; progress = c.run.inside.progress; due = c.run.inside.due; hints = c.run.inside.hints; supply = c.run.inside.supply; place = c.run.inside.place; spare = c.run.inside.spare; ran = c.run.inside.ran.items } in
     let here : IsIn r.token c.args.heap.now = subst (λ (x : RunView). IsIn x.token c.args.heap.now) (sym c.run.view_is) c.requires.here in
     let left : r.left ≡ Some c.args.last = subst (λ (x : RunView). x.left ≡ Some c.args.last) (sym c.run.view_is) c.requires.left in
     let says : (p : LookOutcome) → c.pass-past.result ≡ p → PassAnswers c.args.heap.now.config c.args.decider r.token.view c.pass-past.new.dom.view c.args.last c.waits_for_answer-live.result p =
@@ -42,7 +42,7 @@ invariant_of-run-in-Waits c =
 
 pub invariant_of-run-in_default : goal.invariant_of-run-in_default
 invariant_of-run-in_default c =
-    let r : RunView = record { token = c.run.inside.domain; commands = c.run.inside.commands.items; next = c.run.inside.next; replies = c.run.inside.replies.items; ended = c.run.inside.ended; left = c.run.inside.left; asked = c.run.inside.asked; collected = c.run.inside.collected; progress = c.run.inside.progress; due = c.run.inside.due; hints = c.run.inside.hints; supply = c.run.inside.supply; place = c.run.inside.place } in
+    let r : RunView = record { token = c.run.inside.domain; commands = c.run.inside.commands.items; next = c.run.inside.next; replies = c.run.inside.replies.items; ended = c.run.inside.ended; left = c.run.inside.left; asked = c.run.inside.asked; collected = c.run.inside.collected; progress = c.run.inside.progress; due = c.run.inside.due; hints = c.run.inside.hints; supply = c.run.inside.supply; place = c.run.inside.place; spare = c.run.inside.spare; ran = c.run.inside.ran.items } in
     let here : IsIn r.token c.args.heap.now = subst (λ (x : RunView). IsIn x.token c.args.heap.now) (sym c.run.view_is) c.requires.here in
     let left : r.left ≡ Some c.args.last = subst (λ (x : RunView). x.left ≡ Some c.args.last) (sym c.run.view_is) c.requires.left in
     let none : c.in-Answered.reply ≡ None = c.in_default.is in
@@ -55,7 +55,7 @@ invariant_of-run-in_default c =
 
 pub invariant_of-run : goal.invariant_of-run
 invariant_of-run c =
-    let r : RunView = record { token = c.run.inside.domain; commands = c.run.inside.commands.items; next = c.run.inside.next; replies = c.run.inside.replies.items; ended = c.run.inside.ended; left = c.run.inside.left; asked = c.run.inside.asked; collected = c.run.inside.collected; progress = c.run.inside.progress; due = c.run.inside.due; hints = c.run.inside.hints; supply = c.run.inside.supply; place = c.run.inside.place } in
+    let r : RunView = record { token = c.run.inside.domain; commands = c.run.inside.commands.items; next = c.run.inside.next; replies = c.run.inside.replies.items; ended = c.run.inside.ended; left = c.run.inside.left; asked = c.run.inside.asked; collected = c.run.inside.collected; progress = c.run.inside.progress; due = c.run.inside.due; hints = c.run.inside.hints; supply = c.run.inside.supply; place = c.run.inside.place; spare = c.run.inside.spare; ran = c.run.inside.ran.items } in
     let here : IsIn r.token c.args.heap.now = subst (λ (x : RunView). IsIn x.token c.args.heap.now) (sym c.run.view_is) c.requires.here in
     let left : r.left ≡ Some c.args.last = subst (λ (x : RunView). x.left ≡ Some c.args.last) (sym c.run.view_is) c.requires.left in
     let says = subst (λ (p : LookOutcome). PassAnswers c.args.heap.now.config c.args.decider r.token.view c.pass-past.new.dom.view c.args.last c.waits_for_answer-live.result p) (c.in-Answered.is ∙ ap (Answered c.in-Answered.blocks) c.in-Some.is) c.pass-past.ensures.answer in
@@ -63,7 +63,7 @@ invariant_of-run c =
     let wished : is_asked r.asked ≡ true = subst (λ (x : RunView). is_asked x.asked ≡ true) (sym c.run.view_is) (c.waits_for_answer-live.ensures.yes says.0).wished in
     let is = answered_is_run c.args.heap.now r c.pass-past.new.dom c.in-Some.reply c.pass-past.new.progress c.pass-past.new.hints c.pass-past.ensures.deck c.run.invariant.0 (next_running r c.run.invariant.0 FullMajor at) at (asked_going r c.run.invariant.0 wished) here c.pass-past.ensures.here says.1 c.pass-past.ensures.knows in
     let gone = c.left_after-run-inside.ensures ∙ ap (λ (p : LookOutcome). left_after p c.args.last) c.in-Answered.is in
-    let room : HasReserved r.supply (length r.commands) (vec_capacity c.run.inside.commands) (vec_capacity c.push_reserved.new.self) = subst (λ n. HasReserved r.supply (length r.commands) (vec_capacity c.run.inside.commands) n) (sym c.push_reserved.ensures.capacity) c.run.invariant.1 in (
+    let room : HasReserved r.supply (length r.commands) r.spare (vec_capacity c.run.inside.commands) (vec_capacity c.push_reserved.new.self) (vec_capacity c.run.inside.ran) = subst (λ n. HasReserved r.supply (length r.commands) r.spare (vec_capacity c.run.inside.commands) n (vec_capacity c.run.inside.ran)) (sym c.push_reserved.ensures.capacity) c.run.invariant.1 in (
       subst (λ (z : Option Kind × (List Reply × ℕ)). IsRun (record r { token = c.pass-past.new.dom; next = r.next + 1; replies = z.1.0; left = z.0; asked = None; collected = false; progress = c.pass-past.new.progress; due = z.1.1; hints = c.pass-past.new.hints })) (λ i. (sym gone i, (sym c.push_reserved.ensures.items i, sym c.queued-run-inside.ensures i))) is,
       room,
     )

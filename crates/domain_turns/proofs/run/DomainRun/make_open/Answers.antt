@@ -1,4 +1,4 @@
-use Rattle.std.proofs.Common.{◌≡◌, List, length, sym, ap, subst, arith}
+use Rattle.std.proofs.Common.{List, sym, subst}
 use Rattle.heap_model.specs.declared.command.Command.{Command}
 use Rattle.domain_turns.specs.declared.supply.Supply.TheVariants.{Open}
 use Rattle.domain_turns.specs.Runs.{IsRun, unturned}
@@ -7,8 +7,3 @@ use Rattle.domain_turns.proofs.run.DomainRun.make_open.Goals as goal
 
 pub begin-requires-clause-run : goal.begin-requires-clause-run
 begin-requires-clause-run c = subst (λ (cs : List Command). IsRun (unturned c.args.dom cs c.args.hints Open)) (sym c.in_ok-commands.ensures.items) (begins_open c.args.dom c.args.hints c.requires.begins c.requires.deck)
-
-pub begin-requires-clause-reserved : goal.begin-requires-clause-reserved
-begin-requires-clause-reserved c =
-    let none : length c.in_ok-commands.commands.items ≡ 0 = ap (λ (cs : List Command). length cs) c.in_ok-commands.ensures.items in
-    record { answers = omega (arith, none); one = λ handed. (omega (arith, c.in_ok-commands.ensures.exact), omega (arith, c.in_ok-replies.ensures.exact)) }
