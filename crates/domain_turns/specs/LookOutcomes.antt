@@ -27,7 +27,7 @@ PassAnswers k decider x y known live Runs = PassedBarrier k x y × (y.seen.stage
 
 -- what becomes of the domain's hints: where it goes through no phase they stay as they are
 abbrev pub PassHints : DomainView → LookOutcome → DeckCounts → DeckCounts → Type 0
-PassHints x (Arrived kind) l m = PassesHints x.own.arrivals kind l m
+PassHints x (Arrived kind) l m = PassesHints x kind l m
 PassHints x past l m = m ≡ l
 
 -- the kind of the last even phase that it then knows of

@@ -562,8 +562,8 @@ pub record Passes (k : Config) (decider : Decider) (x y : DomainView) (last kind
   pub share : (IsEven x.own.arrivals × (begun.seen.stage ≡ In kind) × Comes x.own.number last kind × IsModeOf kind (state_of k begun.seen.front).mode × LeavesEven k kind begun y) ⊎ (IsOdd x.own.arrivals × (begun.seen.stage ≡ Leads last) × LeavesOdd k decider begun y last kind)
 
 -- what becomes of the hints of a domain that goes through a phase: in an odd one they stay as they are
-abbrev pub PassesHints : ℕ → Kind → DeckCounts → DeckCounts → Type 0
-PassesHints arrivals kind l m = (IsEven arrivals × HintsIn kind l m) ⊎ (IsOdd arrivals × (m ≡ l))
+abbrev pub PassesHints : DomainView → Kind → DeckCounts → DeckCounts → Type 0
+PassesHints x kind l m = (IsEven x.own.arrivals × HintsIn kind (length x.own.finalisers.queue.items) l m) ⊎ (IsOdd x.own.arrivals × (m ≡ l))
 
 -- the domain had arrived, and went through the phase that had begun since
 pub record GoesBy (h : SharedHeap) (decider : Decider) (old new : RunView) : Type 0 where
@@ -571,7 +571,7 @@ pub record GoesBy (h : SharedHeap) (decider : Decider) (old new : RunView) : Typ
   pub arrived : old.left ≡ Some last
   pub kind : Kind
   pub passes : Passes h.config decider old.token.view new.token.view last kind
-  pub hints : PassesHints old.token.view.own.arrivals kind old.hints new.hints
+  pub hints : PassesHints old.token.view kind old.hints new.hints
   pub run : new ≡ record old { token = record old.token { view = new.token.view }; left = Some kind; progress = new.progress; hints = new.hints }
 
 -- whether the domain has asked for a pause for the next command

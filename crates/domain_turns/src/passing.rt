@@ -1,5 +1,5 @@
 //! What a domain does that has arrived.
-ghost use Rattle.std.specs.Prelude.{◌≡◌, ◌<◌, ◌^◌, [], false, true};
+ghost use Rattle.std.specs.Prelude.{◌≡◌, ◌<◌, ◌^◌, [], false, length, true};
 ghost use Rattle.heap_model.specs.Domains.{domain_at};
 ghost use Rattle.heap_model.specs.declared.entry.Entry.{Entry};
 ghost use Rattle.heap_rule.specs.declared.phase.Kind.TheVariants.{Run, Promote, Reset, Answer};
@@ -111,7 +111,7 @@ fn leave_even(heap: &Heap, dom: &mut Domain, kind: Kind, hints: &mut Hints)
     ensures here { IsIn dom.new heap.now }
     ensures leaves { LeavesEven heap.now.config kind dom.old.view dom.new.view }
     ensures deck { StaysDeck hints.old hints.new }
-    ensures hints { HintsIn kind hints.old hints.new }
+    ensures hints { HintsIn kind (length dom.old.view.own.finalisers.queue.items) hints.old hints.new }
 {
     match kind {
         Kind::Run | Kind::Answer => unreachable!(),

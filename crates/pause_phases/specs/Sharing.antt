@@ -1,5 +1,5 @@
 -- A domain's share of a phase of a collection of the major heap.
-use Rattle.std.specs.Prelude.{◌≡◌, ◌≢◌, ◌≤◌, List, ◌++◌}
+use Rattle.std.specs.Prelude.{◌≡◌, ◌≢◌, ◌+◌, ◌≤◌, ℕ, List, ◌++◌}
 use Rattle.heap_model.specs.Fronts.{IsFrontOf}
 use Rattle.heap_model.specs.History.{Legal}
 use Rattle.control_entries.specs.Led.{IsLed}
@@ -14,7 +14,7 @@ use Rattle.heap_rule.specs.Limits.{sizes_in}
 use Rattle.heap_rule.specs.Sweeping.{nothing_swept}
 use Rattle.steps_finalisers.specs.Registering.{count_of}
 use Rattle.steps_pauses.specs.Pauses.{HasDone, arrived_view}
-use Rattle.mark_slices.specs.Decks.{DeckCounts, NotesAlone, NotesOn, TakesOwn}
+use Rattle.mark_slices.specs.Decks.{DeckCounts, NotesAlone, NotesAtMost, NotesOn, TakesOwn}
 use Rattle.sweeper.specs.Sweeping.{LooksAgain}
 use Rattle.finaliser_queues.specs.Deciding.{Splits, as_waiting, as_waiting_last}
 
@@ -26,11 +26,11 @@ IsShared Reset = ⊥
 IsShared Answer = ⊥
 IsShared _ = Unit {0}
 
--- what a share makes of the counts of the domain's hints: in Roots hints are noted and none is taken, in Mark its own hints are taken and none is noted, and in each other phase they stay as they are
-abbrev pub HintsIn : Kind → DeckCounts → DeckCounts → Type 0
-HintsIn Roots l m = NotesOn l m × NotesAlone l m
-HintsIn Mark l m = NotesOn l m × TakesOwn l m
-HintsIn _ l m = m ≡ l
+-- what a share makes of the counts of the domain's hints, where so many finalisers wait in its queue as the share begins: in Roots none is taken, and no more are noted than one for each register and one for each place of the queue; in Mark its own hints are taken and none is noted; and in each other phase they stay as they are
+abbrev pub HintsIn : Kind → ℕ → DeckCounts → DeckCounts → Type 0
+HintsIn Roots queued l m = NotesOn l m × NotesAlone l m × NotesAtMost (16 + queued) l m
+HintsIn Mark queued l m = NotesOn l m × TakesOwn l m
+HintsIn _ queued l m = m ≡ l
 
 -- the domain with what a share changes of what it owns, and with a front, as another has it
 abbrev pub with_shared : DomainView → DomainView → DomainView

@@ -1,5 +1,5 @@
 //! What a domain does in the even phases of a collection of the major heap.
-ghost use Rattle.std.specs.Prelude.{◌≡◌, ◌<◌, ◌^◌, [], None};
+ghost use Rattle.std.specs.Prelude.{◌≡◌, ◌<◌, ◌^◌, [], None, length};
 ghost use Rattle.heap_rule.specs.declared.phase.Kind.TheVariants.{Answer, Lasts, Sweep};
 ghost use Rattle.heap_rule.specs.declared.phase.Stage.TheVariants.{In};
 ghost use Rattle.heap_rule.specs.declared.view.Hunt.TheVariants.{Rests};
@@ -55,7 +55,7 @@ fn work(heap: &Heap, dom: &mut Domain, kind: Kind, hints: &mut Hints)
     ensures here { IsIn dom.new heap.now }
     ensures works { Works heap.now.config kind dom.old.view dom.new.view }
     ensures notes { NotesOn hints.old hints.new }
-    ensures hints { HintsIn kind hints.old hints.new }
+    ensures hints { HintsIn kind (length dom.old.view.own.finalisers.queue.items) hints.old hints.new }
 {
     match kind {
         Kind::Roots => start_roots(heap, dom, hints),
@@ -86,7 +86,8 @@ fn work(heap: &Heap, dom: &mut Domain, kind: Kind, hints: &mut Hints)
 /// fewer; what it has swept; and, where registrations are decided, its lists of finalisers, of which none
 /// is lost and none comes up. Its front stays but where registrations are decided and where keys are
 /// emptied, and grows there by no entry of its own; where it is domain 0, by none by which a collection
-/// begins, goes on or ends. In each phase but Roots and Mark it leaves its hints alone.
+/// begins, goes on or ends. In each phase but Roots and Mark it leaves its hints alone, and in Roots it
+/// notes at most one for each register and one for each place of its queue.
 pub fn share(heap: &Heap, dom: &mut Domain, kind: Kind, hints: &mut Hints)
     requires here { IsIn dom.old heap.now }
     requires phase { IsShared kind }
@@ -98,7 +99,7 @@ pub fn share(heap: &Heap, dom: &mut Domain, kind: Kind, hints: &mut Hints)
     ensures here { IsIn dom.new heap.now }
     ensures shares { SharesIn heap.now.config kind dom.old.view dom.new.view }
     ensures notes { NotesOn hints.old hints.new }
-    ensures hints { HintsIn kind hints.old hints.new }
+    ensures hints { HintsIn kind (length dom.old.view.own.finalisers.queue.items) hints.old hints.new }
 {
     work(heap, dom, kind, hints);
     arrive(heap, dom);

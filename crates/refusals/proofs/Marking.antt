@@ -29,7 +29,7 @@ no_newly_queued_block_is_left x y i a m holds left = left (m.queued i a holds)
 pub a_round_pays_the_changed_word : (k : Config) (x y : DomainView) → AllWalked k x y → y.seen.share.owes ≡ true → ⊥
 a_round_pays_the_changed_word k x y w owes = let e : true ≡ false = sym owes ∙ w.told in cc
 
--- of the blocks that were darkened none is kept from the hints, while their count goes on
+-- of the blocks that were darkened none is kept from the hints, while their count goes on: there is one hint of each, and nothing else can be noted
 pub each_darkened_block_is_noted : (before after : ℕ) (l m : DeckCounts) → before < after → m.pushes < last_count → m.pushes ≤ l.pushes → HasNoted before after l m → ⊥
 each_darkened_block_is_noted before after l m darkened goes_on none n =
     let a : ℕ = l.pushes in

@@ -1,6 +1,8 @@
-use Rattle.std.proofs.Common.{inl, ap, subst}
+use Rattle.std.proofs.Common.{ℕ, length, inl, ap, subst}
 use Rattle.heap_rule.specs.declared.phase.Kind.{Kind}
+use Rattle.heap_rule.specs.declared.view.DomainView.{DomainView}
 use Rattle.heap_rule.specs.Phases.{Comes}
+use Rattle.pause_phases.specs.Sharing.{HintsIn}
 use Rattle.steps_pauses.specs.Pauses.{kind_in}
 use Rattle.safepoint.specs.Looks.{LookAnswers}
 use Rattle.safepoint.specs.declared.answer.Look.TheVariants.{Next}
@@ -26,7 +28,10 @@ returns-in-Next-Answer-clause-answer c =
     answers_pass c.args.decider _ _ _ _ c.args.last c.args.live c.answer-blocks.result.0 c.answer-blocks.result.1 (comes_to _ c.args.last _ _ c.requires.inside c.requires.left a.0 a.1 a.2 (ap kind_in c.requires.gone) a.3 a.4) c.answer-blocks.ensures.answers
 
 pub returns-in-Next-clause-hints : goal.returns-in-Next-clause-hints
-returns-in-Next-clause-hints c = inl (c.in-Next.ensures.answer.2, c.leave_even.ensures.hints)
+returns-in-Next-clause-hints c =
+    let a = c.in-Next.ensures.answer in
+    let queue = λ (x : DomainView). length x.own.finalisers.queue.items in
+    inl (a.2, subst (λ (queued : ℕ). HintsIn c.in-Next.kind queued c.args.hints.now c.leave_even.new.hints) (ap queue a.0.view) c.leave_even.ensures.hints)
 
 pub returns-in-Next-clause-answer : goal.returns-in-Next-clause-answer
 returns-in-Next-clause-answer c =
