@@ -165,7 +165,7 @@ impl Hints {
         self.waiting.wait_for(address);
     }
 
-    /// Wakes the ephemerons that wait until this block is marked, and maybe others.
+    /// Wakes the ephemerons that wait until this block is marked.
     pub fn wake(&mut self, address: u32)
         ensures { self.new ≡ self.old }
     {

@@ -1,5 +1,6 @@
 //! A domain's share of the phases in which the blocks of the major heap are marked: it marks what its
-//! registers refer to and what its queue of finalisers keeps alive, and scans the marked blocks of its own pools.
+//! registers refer to and what its queue of finalisers keeps alive, and scans the marked blocks of its own
+//! pools, and those that it marks itself, as soon as it has marked them.
 //!
 //! A running domain marks in slices, by hints of blocks to scan that pass between domains.
 //!

@@ -117,10 +117,16 @@ impl Waiting {
     }
 
     // What waits for this block is woken.
+    #[inline(always)]
     pub(crate) fn wake(&mut self, address: u32) {
-        if self.count == 0 {
-            return;
+        if self.count > 0 {
+            self.wake_row(address);
         }
+    }
+
+    // The same where something may wait.
+    #[inline(never)]
+    fn wake_row(&mut self, address: u32) {
         let row = row_of(self.count, address);
         let mut next = exchange(&mut self.rows, row, None);
         for _ in 0..self.waiters.len() {
