@@ -3,7 +3,8 @@ use Rattle.std.proofs.Common.{◌≡◌, ℕ, ◌+◌, ◌*◌, ◌^◌, ◌<◌
 use Rattle.heap_model.specs.Domains.{IsWithinLimits}
 use Rattle.heap_model.specs.Fronts.{Shape, PlainShape, RawShape, EpheShape}
 use Rattle.heap_words.specs.declared.head.Head.TheVariants.{Forward}
-use Rattle.heap_words.specs.Unpacked.{Unpacks}
+use Rattle.heap_words.specs.Heads.{IsPackableHead, head_word}
+use Rattle.heap_words.specs.Unpacked.{IsWordOf, Unpacks}
 use Rattle.heap_words.proofs.WordLemmas.{head_word-injective}
 use Rattle.heap_rule.specs.declared.config.Config.{Config}
 use Rattle.heap_rule.specs.declared.view.Copied.{Copied}
@@ -183,6 +184,13 @@ module _ (k : Config) (at : ℕ) (x : DomainView) (word : ℕ) (y : DomainView) 
   head_grown w = ⊎_elim
       (λ (t : StaysThere k at told.place x word y). grown_with k x y (met_of at told.place ∷ x.seen.copying.met) x.seen.copying.copied t.view told.more (λ a c has. has) told.fit w)
       (λ (t : Forwards k at told.place x word y). grown_with k x y (met_of t.copy told.place ∷ met_of at told.place ∷ x.seen.copying.met) (record { copy = t.copy; source = at } ∷ x.seen.copying.copied) t.view told.more (λ a c has. inr has) told.fit w)
+      told.told
+
+  -- it is the word of a head
+  pub head_known : IsWordOf IsPackableHead head_word word
+  head_known = ⊎_elim
+      (λ (t : StaysThere k at told.place x word y). (head_of None told.place.shape t.head.colour t.head.scanned, t.head.packable, sym t.head.packs))
+      (λ (t : Forwards k at told.place x word y). (Forward t.copy, (t.inside.0, old_small k t.copy limits t.old), sym t.word))
       told.told
 
   -- where the head forwards, the copy was met

@@ -4,7 +4,9 @@ use mathlib.Core.Logic.{dite}
 use native.Mathlib.Decide.{ℕ_discrete}
 use Rattle.heap_model.specs.Domains.{class_count, IsWithinLimits}
 use Rattle.heap_words.specs.Labels.{label_word}
-use Rattle.heap_words.specs.Unpacked.{Unpacks}
+use Rattle.heap_words.specs.declared.head.Head.TheVariants.{Forward}
+use Rattle.heap_words.specs.Heads.{IsPackableHead, head_word}
+use Rattle.heap_words.specs.Unpacked.{IsWordOf, Unpacks}
 use Rattle.heap_rule.specs.declared.config.Config.{Config}
 use Rattle.heap_rule.specs.declared.view.Copied.{Copied}
 use Rattle.heap_rule.specs.declared.view.Copying.{Copying}
@@ -84,6 +86,10 @@ module _ (k : Config) (young word class copy : ℕ) (x p y : DomainView) (few : 
           same = met_at l.copy (ap (λ (v : DomainView). Knows v l.copy) l.view ∙ known_here (met_of l.copy told.place) y.seen.copying.met);
           made = inl items;
         }
+
+    -- the lost claim's head forwards
+    pub lost_known : found ≢ word → IsWordOf IsPackableHead head_word found
+    lost_known miss = let l = told.lost miss in (Forward l.copy, (l.inside.0, old_small k l.copy limits l.old), sym l.word)
 
     -- the lost claim's copy is that to which the head forwards
     pub lost_leads : found ≢ word → Unpacks IsForward forward_word found None → ⊥

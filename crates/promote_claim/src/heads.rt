@@ -2,17 +2,19 @@
 ghost use Rattle.std.specs.Prelude.{◌≡◌, ℕ};
 ghost use Rattle.heap_model.specs.Fronts.{Shape};
 ghost use Rattle.heap_rule.specs.Places.{extent};
-ghost use Rattle.heap_words.specs.Unpacked.{Unpacks};
+ghost use Rattle.heap_words.specs.Heads.{IsPackableHead, head_word};
+ghost use Rattle.heap_words.specs.Unpacked.{IsWordOf, Unpacks};
 ghost use Rattle.promote_claim.specs.Heads.{IsForward, forward_word, IsHeadFor};
 
-use heap_words::{Head, read_head, unpack_head};
+use heap_words::{Head, read_head};
 
 // The copy to which the head forwards.
 pub(crate) fn copy_of(word: u64) -> Option<u32>
+    requires { IsWordOf IsPackableHead head_word word }
     ensures { Unpacks IsForward forward_word word result }
 {
-    match unpack_head(word) {
-        Some(Head::Forward(copy)) => Some(copy),
+    match read_head(word) {
+        Head::Forward(copy) => Some(copy),
         _ => None,
     }
 }

@@ -3,7 +3,7 @@ use Rattle.heap_words.specs.Unpacked.{Unpacks}
 use Rattle.promote_claim.specs.Heads.{IsForward, forward_word}
 use Rattle.promote_claim.proofs.Meeting.{head_for, old_small, met_inside}
 use Rattle.promote_claim.proofs.Preparing.{place_old}
-use Rattle.promote_claim.proofs.Racing.{claim_won, claim_lost, lost_leads}
+use Rattle.promote_claim.proofs.Racing.{claim_won, claim_lost, lost_known, lost_leads}
 use Rattle.promote_claim.proofs.claiming.claim_as.Goals as goal
 use Rattle.heap_rule.specs.Places.{HasClass}
 
@@ -30,6 +30,12 @@ pub returns-then-won-clause-claimed : goal.returns-then-won-clause-claimed
 returns-then-won-clause-claimed c =
     claim_won c.args.heap.now.config c.args.young c.args.word c.class_for-class.result c.prepare-copy.result c.args.dom.now.view c.prepare-copy.new.dom.view c.write_copy.new.dom.view c.class_for-class.ensures.class c.requires.met c.requires.young
     c.prepare-copy.ensures.prepared c.write_copy.ensures.written c.claim_exchange-found.new.dom.view c.claim_exchange-found.result.0 c.claim_exchange-found.ensures.told c.requires.works c.config-limits.ensures.limits (c.claim_exchange-found.ensures.won.0 c.if-won.true)
+
+pub copy_of-requires : goal.copy_of-requires
+copy_of-requires c =
+    lost_known c.args.heap.now.config c.args.young c.args.word c.class_for-class.result c.prepare-copy.result c.args.dom.now.view c.prepare-copy.new.dom.view c.write_copy.new.dom.view c.class_for-class.ensures.class c.requires.met c.requires.young
+    c.prepare-copy.ensures.prepared c.write_copy.ensures.written c.claim_exchange-found.new.dom.view c.claim_exchange-found.result.0 c.claim_exchange-found.ensures.told c.requires.works c.config-limits.ensures.limits
+    (λ e. true≢false (sym (c.claim_exchange-found.ensures.won.1 e) ∙ c.if-won.false))
 
 pub unreachable-requires : goal.unreachable-requires
 unreachable-requires c =

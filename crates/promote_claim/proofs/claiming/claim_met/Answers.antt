@@ -2,11 +2,14 @@ use Rattle.std.proofs.Common.{ℕ, ◌∙◌, Option, ap, subst}
 use Rattle.heap_words.specs.Unpacked.{Unpacks}
 use Rattle.heap_rule.specs.declared.view.DomainView.{DomainView}
 use Rattle.promote_claim.specs.Heads.{IsForward, forward_word}
-use Rattle.promote_claim.proofs.Meeting.{grown_armed, head_may_armed, head_grown, head_claimed, head_items, met_with, claimed_after}
+use Rattle.promote_claim.proofs.Meeting.{grown_armed, head_may_armed, head_grown, head_claimed, head_items, head_known, met_with, claimed_after}
 use Rattle.promote_claim.proofs.claiming.claim_met.Goals as goal
 
 pub young_head_load-word-requires-clause-may : goal.young_head_load-word-requires-clause-may
 young_head_load-word-requires-clause-may c = let a = c.armed_now-armed in head_may_armed c.args.heap.now.config c.args.dom.now.view a.new.dom.view a.result c.args.young a.ensures.knows c.requires.met
+
+pub copy_of-requires : goal.copy_of-requires
+copy_of-requires c = let a = c.armed_now-armed in let h = c.young_head_load-word in head_known c.args.heap.now.config c.args.young a.new.dom.view h.result h.new.dom.view h.ensures.told c.config-limits.ensures.limits
 
 pub returns-in-Some-clause-claimed : goal.returns-in-Some-clause-claimed
 returns-in-Some-clause-claimed c = let k = c.args.heap.now.config in let x = c.args.dom.now.view in let a = c.armed_now-armed in let h = c.young_head_load-word in let g = grown_armed k x a.new.dom.view a.result a.ensures.knows c.requires.works in
