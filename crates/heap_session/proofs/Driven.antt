@@ -30,7 +30,7 @@ use Rattle.heap_rule.specs.declared.view.DomainView.{DomainView}
 
 -- no turn at all
 pub still_stretches : (z : Sizes) (r : RunView) → Stretches z r r
-still_stretches z r = ByOthers (record { next = refl; replies = refl; ended = refl; front = front_whole r.token.view.own.number r.token.view.seen.front; takes = takes_none r.token.view r.token.view refl refl })
+still_stretches z r = ByOthers (record { next = refl; replies = refl; ran = refl; ended = refl; front = front_whole r.token.view.own.number r.token.view.seen.front; listed = refl; takes = takes_none r.token.view r.token.view refl refl })
 
 pub still_goes : (r : RunView) → GoesOn r r
 still_goes r = record { commands = refl; supply = refl; spawned = refl; number = refl; front = record { rest = []; appends = sym (append-nil r.token.view.seen.front) } }

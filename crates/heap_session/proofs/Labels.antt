@@ -1,7 +1,6 @@
 -- How many labels a domain has given out once its command is made.
 use Rattle.std.proofs.Common.{◌≡◌, ◌∙◌, ℕ, ◌+◌, Bool, true, false, IsTrue, not, List, [], ◌∷◌, ◌++◌, append-nil, refl, sym, ap, subst}
 use Rattle.std.specs.Prelude.{◌==◌, ◌||◌}
-use Rattle.std.proofs.Common.{eqb-true}
 use Rattle.heap_model.specs.declared.command.Command as model
 use Rattle.heap_model.specs.declared.entry.Entry.{Entry}
 use Rattle.heap_model.specs.declared.entry.Entry.TheVariants.{Command, End, Cut, Queue, Seal, Wipe, Last, Collected, Done, Ran}
@@ -18,7 +17,7 @@ use Rattle.heap_model.proofs.Commands.FrameLemmas.{keeps_next, part_set}
 use Rattle.heap_model.proofs.Graphs.GraphLemmas.{and_parts}
 use Rattle.heap_model.proofs.Histories.HistoryLemmas.{state_after-append}
 use Rattle.command_counts.specs.Counts.{labels_given}
-use Rattle.domain_turns.specs.Handed.{Finalised, OnlyRuns, PerformedOn}
+use Rattle.domain_turns.specs.Handed.{OnlyRuns, PerformedOn}
 use Rattle.domain_turns.specs.Kept.{is_run_of}
 use Rattle.table_laws.proofs.LabelLemmas.{performed_labels}
 

@@ -1,4 +1,5 @@
 pub mod Collectors
+pub mod Plain
 pub mod Labels
 pub mod Driven
 pub mod Refused

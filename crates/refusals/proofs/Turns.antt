@@ -15,9 +15,14 @@ use Rattle.heap_rule.specs.Limits.{sizes_in}
 use Rattle.std.proofs.lemmas.Bool.{le-leb, lt-leb}
 use Rattle.pause_phases.specs.declared.decider.Decider.{Decider}
 use Rattle.domain_turns.specs.Pausing.{LeavesOdd, blocks_left}
-use Rattle.domain_turns.specs.Runs.{CalmDid, EndsTrace, IsAnswered, Polls, RunView, RunsFinaliser, SeesAnswer, Stops, TriesCommand, WorksBeside, asking_end, is_asked, may_use_up, served_since}
+use Rattle.domain_turns.specs.Runs.{CalmDid, EndsTrace, IsAnswered, IsHandedIn, Polls, RunView, RunsFinaliser, SeesAnswer, Stops, TriesCommand, WorksBeside, answer_of, asking_end, first_reply, is_asked, may_use_up, ran_with, served_since}
 use Rattle.domain_turns.specs.Runs.CalmDid.{Finalises, Wishes, Refuses, Tries, Works, Ends, Sees, Makes, Tells, WishesToTell}
+use Rattle.domain_turns.specs.declared.supply.Supply.{Supply}
+use Rattle.domain_turns.specs.declared.supply.Supply.TheVariants.{Listed, Section, Open, Closed}
 use Rattle.domain_turns.specs.Tries.{HasPool, Stands}
+use Rattle.domain_turns.proofs.Kept.{said_apart}
+use Rattle.finaliser_queues.specs.Running.{reply_of}
+use Rattle.heap_model.specs.declared.command.Command as model
 
 -- the domain's queue of finalisers
 abbrev queue_of : RunView → List Waiting
@@ -94,3 +99,24 @@ domain_0_alone_leads k who x y before kind other l = ⊎_elim (λ a. absurd (oth
 -- a domain isn't answered that has asked for no pause
 pub nobody_is_answered_unasked : (h : SharedHeap) (old new : RunView) → IsAnswered h old new → old.asked ≡ None → ⊥
 nobody_is_answered_unasked h old new a none = let e : false ≡ true = sym (ap is_asked none) ∙ a.waited.wished in cc
+
+-- where commands are handed in the reply of a finaliser isn't taken for the command's: a body that keeps it among them is refused
+pub a_finaliser_answers_no_command : (h : SharedHeap) (start : Token) (old new : RunView) → IsHandedIn old.supply → RunsFinaliser h start old new → answer_of new ≡ answer_of old
+a_finaliser_answers_no_command h start old new handed f = ap answer_of f.run ∙ ap (λ (rs : List Reply). first_reply old.supply rs) (said_apart old.supply old.replies (reply_of f.ran) handed)
+
+-- nor is it dropped
+pub a_finaliser_is_told : (h : SharedHeap) (start : Token) (old new : RunView) → IsHandedIn old.supply → (f : RunsFinaliser h start old new) → new.ran ≡ old.ran ++ reply_of f.ran ∷ []
+a_finaliser_is_told h start old new handed f = ap (λ (r : RunView). r.ran) f.run ∙ apart old.supply handed
+  where
+    apart : (s : Supply) → IsHandedIn s → ran_with s old.ran (reply_of f.ran) ≡ old.ran ++ reply_of f.ran ∷ []
+    apart Listed handed = absurd handed
+    apart Section handed = absurd handed
+    apart Open handed = refl
+    apart Closed handed = refl
+
+-- and a command doesn't tell one again
+pub a_command_tells_no_finaliser : (h : SharedHeap) (start : Token) (old new : RunView) (c : model.Command) → TriesCommand h start old new c → new.ran ≡ old.ran
+a_command_tells_no_finaliser h start old new c t = ap (λ (r : RunView). r.ran) t.run
+
+pub a_full_major_tells_no_finaliser : (h : SharedHeap) (old new : RunView) → IsAnswered h old new → new.ran ≡ old.ran
+a_full_major_tells_no_finaliser h old new a = ap (λ (r : RunView). r.ran) a.run

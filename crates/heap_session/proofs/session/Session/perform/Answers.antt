@@ -20,19 +20,21 @@ submit-requires g c =
     let count : ℕ = count_of r.token.view.own.finalisers in
     let v : SessionView = record { config = c.self.inside.heap.config; front = r.token.view.seen.front; labels = r.token.view.own.serial; room = r.token.view.own.ephemerons.room; finals = c.self.inside.heap.config.finals - count; ran = r.ran } in
     let may : MayPerform v c.args.command = subst (λ (x : SessionView). MayPerform x c.args.command) (sym c.self.view_is) c.requires.may in
-    record { may = record {
-      more = rests.more;
-      done = rests.done;
-      fits = may.fits;
-      enlists =
-          let listed = is.enlists in
-          let fits = may.enlists in
-          let left : ℕ = registrations_in (drop r.next r.commands) in
-          let same : r.token.config.finals ≡ c.self.inside.heap.config.finals = ap (λ (k : Config). k.finals) rests.alone.here.1 in
-          omega (arith, listed, fits, same);
-      room = may.room;
-      labels = let few = may.labels in let same : r.token.view.own.serial ≡ c.args.self.now.labels = ap (λ (x : SessionView). x.labels) c.self.view_is in let left = c.labels_left-left.ensures in omega (arith, few, same, left);
-    } }
+    record {
+      may = record {
+        more = rests.more;
+        done = rests.done;
+        fits = may.fits;
+        enlists =
+            let listed = is.enlists in
+            let fits = may.enlists in
+            let left : ℕ = registrations_in (drop r.next r.commands) in
+            let same : r.token.config.finals ≡ c.self.inside.heap.config.finals = ap (λ (k : Config). k.finals) rests.alone.here.1 in
+            omega (arith, listed, fits, same);
+        room = may.room;
+        labels = let few = may.labels in let same : r.token.view.own.serial ≡ c.args.self.now.labels = ap (λ (x : SessionView). x.labels) c.self.view_is in let left = c.labels_left-left.ensures in omega (arith, few, same, left);
+      };
+    }
 
 pub returns-clause-performed : goal.returns-clause-performed
 returns-clause-performed g c =
