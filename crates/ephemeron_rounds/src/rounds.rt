@@ -80,8 +80,9 @@ fn keys_are_marked(
     true
 }
 
-// Marks the block that the datum of an ephemeron refers to, if it refers to one. All full keys of the
-// ephemeron are marked. Answers whether this domain has marked the block.
+// Marks the block that the datum of an ephemeron refers to, if it refers to one, and where this domain
+// has marked it what it leads to. All full keys of the ephemeron are marked. Answers whether this domain
+// has marked the block.
 fn mark_datum(heap: &Heap, dom: &mut Domain, at: u32, colours: Colours, hints: &mut Hints) -> bool
     requires here { IsIn dom.old heap.now }
     requires darkening { Darkening colours dom.old.view }
@@ -98,9 +99,9 @@ fn mark_datum(heap: &Heap, dom: &mut Domain, at: u32, colours: Colours, hints: &
     let Value::Ref(address) = read_as(Reading::AsValue, word) else {
         return false;
     };
-    hints.wake(address);
     let won = darken(heap, dom, address, colours).is_some();
     if won {
+        hints.wake(address);
         scan_marked(heap, dom, address, colours, hints);
     }
     won
@@ -178,15 +179,17 @@ fn look_again(heap: &Heap, dom: &mut Domain, colours: Colours, hints: &mut Hints
 
 /// A domain's share of a phase in which the data of ephemerons are marked: it looks at each listed
 /// ephemeron, and where the ephemeron and all its full keys are marked, it marks what the datum refers
-/// to. Where that marks a block it looks again at those that waited for it, since the block may be a key
-/// of another ephemeron, or one itself. Where it has marked a block it stores so in the changed word.
+/// to. Where that marks a block it scans the block at once, and what it marks by that, wherever it lies.
+/// Then it looks again at the ephemerons that waited for a block that it has marked, since the block may
+/// be a key of one, or one itself. Where it has marked a block it stores so in the changed word.
 /// Afterwards it has been at each listed ephemeron and still owes no store of the changed word, as is
 /// asked of it where it arrives. What it knows of the colours and of blocks is all that has changed.
 /// Which ephemerons wait for which blocks it keeps beside the hints; one that isn't looked at again for
 /// want of a note costs a further phase.
 ///
-/// A datum that was marked is scanned when blocks are marked again ("Retrofitting Parallelism onto
-/// OCaml", section 3.2.3).
+/// The scan of a datum might be left to the next phase in which blocks are marked ("Retrofitting
+/// Parallelism onto OCaml", section 3.2.3). As it is done here, a chain of ephemerons of one domain whose
+/// data lead to the next key through fields is marked in one phase.
 pub fn round(heap: &Heap, dom: &mut Domain, hints: &mut Hints)
     requires here { IsIn dom.old heap.now }
     requires stage { dom.old.view.seen.stage ≡ In Rounds }

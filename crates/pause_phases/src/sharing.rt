@@ -73,7 +73,7 @@ fn work(heap: &Heap, dom: &mut Domain, kind: Kind, hints: &mut Hints)
 /// The domain does its share of an even phase of a collection of the major heap, and arrives. It has
 /// done nothing in the phase before. In Roots it marks what its registers refer to and what its queue of
 /// finalisers keeps alive, in Mark what the marked blocks of its own pools refer to, and in Rounds the
-/// data of its marked ephemerons whose full keys are all marked. In Decide it queues those of its
+/// data of its marked ephemerons whose full keys are all marked, and what these lead to. In Decide it queues those of its
 /// registrations of `finalise` whose blocks aren't marked, the newest first, behind all that waits
 /// already; a block that is registered so lives on until its function has been called (OCaml manual,
 /// module `Gc`). So in Queued it marks what its queue keeps alive. In Clean it empties the keys that

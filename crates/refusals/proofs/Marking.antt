@@ -1,14 +1,19 @@
 -- What the clauses of marking, sweeping and of the rounds of ephemerons refuse.
-use Rattle.std.proofs.Common.{◌≡◌, ◌∙◌, ℕ, ◌+◌, ◌<◌, ◌≤◌, true, false, Some, IsTrue, sym, ⊎_elim, arith}
+use Rattle.std.proofs.Common.{◌≡◌, ◌≢◌, ◌∙◌, ℕ, ◌+◌, ◌<◌, ◌≤◌, true, false, Some, IsTrue, sym, ap, ⊎_elim, arith}
+use Rattle.heap_words.specs.declared.colours.Colours.{Colours}
 use Rattle.heap_words.specs.declared.value.Value.TheVariants.{Ref}
 use Rattle.heap_rule.specs.declared.config.Config.{Config}
+use Rattle.heap_rule.specs.declared.phase.Kind.TheVariants.{Mark, Rounds}
+use Rattle.heap_rule.specs.declared.phase.Stage.TheVariants.{In}
 use Rattle.heap_rule.specs.declared.view.DomainView.{DomainView}
 use Rattle.heap_rule.specs.declared.view.Held.TheVariants.{Queue}
+use Rattle.heap_rule.specs.declared.view.Scan.TheVariants.{Reads}
 use Rattle.heap_rule.specs.Changes.{value_at}
 use Rattle.heap_rule.specs.Cycles.{seen_by}
 use Rattle.heap_rule.specs.Finalisers.{held_at}
+use Rattle.steps_marking.specs.Marking.{Next, ScannedMay, Site}
 use Rattle.mark_slices.specs.Decks.{AllMissed, DeckCounts, HasNoted, last_count, missed_at}
-use Rattle.mark_slices.specs.Shares.{AllQueueRooted, AllRooted, AllWalked, IsQueueRoot, IsRoot}
+use Rattle.mark_slices.specs.Shares.{AllQueueRooted, AllRooted, AllWalked, Followed, IsQueueRoot, IsRoot, Scans}
 use Rattle.ephemeron_rounds.specs.Emptied.{AllCleaned}
 use Rattle.ephemeron_rounds.specs.Looking.{AllLooked}
 use Rattle.sweeper.specs.Counting.{CountedLive}
@@ -28,6 +33,29 @@ no_newly_queued_block_is_left x y i a m holds left = left (m.queued i a holds)
 -- a round of marking goes to the last pool, and leaves no store of the changed word owed
 pub a_round_pays_the_changed_word : (k : Config) (x y : DomainView) → AllWalked k x y → y.seen.share.owes ≡ true → ⊥
 a_round_pays_the_changed_word k x y w owes = let e : true ≡ false = sym owes ∙ w.told in cc
+
+-- no head says that its block is scanned while a field of it is left
+pub no_field_is_left_unscanned : (x : DomainView) (at new block done size word : ℕ) (site : Site) → ScannedMay x at new site → x.seen.share.scan ≡ Reads block done size word → done < size → ⊥
+no_field_is_left_unscanned x at new block done size word site m reads left = let e : Reads at m.size m.size m.word ≡ Reads block done size word = sym m.scan ∙ reads in
+    let n : ℕ = m.size in
+    let a : n ≡ done = cc in
+    let b : n ≡ size = cc in
+    omega (arith, a, b, left)
+
+-- and none of those that are scanned in Rounds lies at the next place of a walk
+pub no_walk_goes_on_in_rounds : (x : DomainView) (at new pool class slot : ℕ) → ScannedMay x at new (Next pool class slot) → x.seen.stage ≢ In Rounds
+no_walk_goes_on_in_rounds x at new pool class slot m rounds =
+    let e : In m.kind ≡ In Rounds = sym m.stage ∙ rounds in
+    let is : m.kind ≡ Rounds = cc in
+    let none = m.anywhere is in cc
+
+-- blocks are scanned in no phase but Mark and Rounds
+pub no_scan_in_other_phases : (x : DomainView) (colours : Colours) → Scans colours x → x.seen.stage ≢ In Mark → x.seen.stage ≢ In Rounds → ⊥
+no_scan_in_other_phases x colours s other another = ⊎_elim other another s.stage
+
+-- what is scanned behind a datum leaves the store of the changed word owed
+pub a_scan_still_owes_the_changed_word : (x y : DomainView) → Followed true x y → y.seen.share.owes ≡ false → ⊥
+a_scan_still_owes_the_changed_word x y f paid = let e : true ≡ false = sym (ap (λ (u : DomainView). u.seen.share.owes) f) ∙ paid in cc
 
 -- of the blocks that were darkened none is kept from the hints, while their count goes on: there is one hint of each, and nothing else can be noted
 pub each_darkened_block_is_noted : (before after : ℕ) (l m : DeckCounts) → before < after → m.pushes < last_count → m.pushes ≤ l.pushes → HasNoted before after l m → ⊥
