@@ -40,7 +40,7 @@ use Rattle.heap_rule.specs.Limits.{sizes_in}
 use Rattle.heap_rule.specs.Layout.{heap_words, before_heap, base_of, at_address, table_words, listed}
 use Rattle.size_classes.specs.declared.TheConstants.{SIZES}
 use Rattle.heap_rule.specs.Ephemerons.{IsEpheAt}
-use Rattle.heap_rule.specs.Places.{values_of, without_keys, IsHead, IsHeadOf, new_colour, Place, Live, extent, least_size, class_words, HasClass, span, Stands, Found, Fits, Placed, Spread, Settled, More}
+use Rattle.heap_rule.specs.Places.{values_of, without_keys, IsHead, Place, Live, extent, least_size, class_words, HasClass, span, Stands, Found, Fits, Placed, Spread, Settled, More}
 use Rattle.heap_rule.specs.Copies.{Recalls}
 use Rattle.heap_rule.specs.Room.{Opened}
 use Rattle.heap_rule.specs.Changes.{value_at, changed, FitChanges}
@@ -65,7 +65,7 @@ use Rattle.heap_rule.proofs.BesideLemmas.{Endures}
 use Rattle.cycle_laws.specs.Beside.{Snapshot, WriteBarrier, owed_after}
 use Rattle.cycle_laws.specs.Cover.{is_new as is_new_label}
 use Rattle.cycle_laws.specs.Marks.{Marks}
-use Rattle.heap_rule.proofs.HeadLemmas.{head_at, new_head, packable_head}
+use Rattle.heap_rule.proofs.HeadLemmas.{head_at, new_head}
 use Rattle.heap_rule.proofs.FullnessLemmas.{full_young, full_stays, homeless, new_kept}
 use Rattle.heap_rule.specs.Fullness.{Fullness}
 use Rattle.cycle_laws.specs.Fullness.{kept_labels}
