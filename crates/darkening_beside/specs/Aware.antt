@@ -67,6 +67,13 @@ pub record DarkensBeside (k : Config) (colours : Colours) (at : ℕ) (reason : R
   pub old : IsOldAt k at
   pub reason_is : Warrants x at reason
 
+-- a running domain, which knows that a cycle goes on, has a reason to darken the block of the pools at an address
+pub record OughtToDarken (k : Config) (at : ℕ) (reason : Reason) (x : DomainView) : Type 0 where
+  pub runs : x.seen.stage ≡ In Run
+  pub armed : x.seen.share.armed ≡ Some true
+  pub old : IsOldAt k at
+  pub reason_is : Warrants x at reason
+
 -- which register holds the block that is stored into, and why the block is darkened to which its field refers
 pub record Overwriting : Type 0 where
   pub register : ℕ

@@ -6,11 +6,12 @@ ghost use Rattle.heap_rule.specs.Beside.{IsKnown};
 ghost use Rattle.heap_rule.specs.Standing.{IsInHeap};
 ghost use Rattle.heap_rule.specs.Token.{IsIn};
 ghost use Rattle.steps_marking_beside.specs.Marking.{Reason, StillFound, weak_on};
-ghost use Rattle.darkening_beside.specs.Aware.{CountsDarkening, DarkensBeside, Learnt};
+ghost use Rattle.darkening_beside.specs.Aware.{CountsDarkening, DarkensBeside, Learnt, OughtToDarken};
 
 use crate::heads::darkened_head;
 use heap_rule::{Domain, Heap};
 use heap_words::Colours;
+use steps_marking::colours_now;
 use steps_marking_beside::{beside_darken, beside_target_load};
 
 /// Marks the block of the pools at `at`, while a cycle goes on beside running domains: a field may have
@@ -39,4 +40,22 @@ pub fn darken_beside(heap: &Heap, dom: &mut Domain, at: u32, colours: Colours) -
         return false;
     };
     beside_darken(heap, dom, at, word, new) == word
+}
+
+/// The same by a domain that doesn't know the colours yet, and doesn't ask whether it has darkened the
+/// block itself. It stands out of line, since mostly no cycle goes on where a command is made.
+#[inline(never)]
+pub fn darken_now(heap: &Heap, dom: &mut Domain, at: u32)
+    ghost reason: { Reason }
+    requires here { IsIn dom.old heap.now }
+    requires inside { IsInHeap heap.now.config at }
+    requires ought { OughtToDarken heap.now.config at reason dom.old.view }
+    ensures here { IsIn dom.new heap.now }
+    ensures learnt { Learnt dom.old.view dom.new.view }
+    ensures marked { IsKnown dom.new.view.seen.share.known (Marked at) }
+    ensures owes { dom.new.view.seen.share.weak ≡ weak_on reason dom.old.view.seen.share.weak }
+{
+    let _limits = heap.config();
+    let colours = colours_now(heap, dom);
+    darken_beside(heap, dom, at, colours);
 }

@@ -8,6 +8,6 @@ mod darkening;
 mod heads;
 mod overwriting;
 
-pub use darkening::darken_beside;
+pub use darkening::{darken_beside, darken_now};
 pub use heads::{ToScan, darkened_head, scan_of};
 pub use overwriting::overwrite_barrier;

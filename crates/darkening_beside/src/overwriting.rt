@@ -9,11 +9,11 @@ ghost use Rattle.heap_rule.specs.declared.phase.Stage.TheVariants.{In};
 ghost use Rattle.steps_marking_beside.specs.Marking.{Field};
 ghost use Rattle.darkening_beside.specs.Aware.{Learnt, Overwriting};
 
-use crate::darkening::darken_beside;
+use crate::darkening::darken_now;
 use heap_rule::{Domain, Heap, Reading, read_as};
 use heap_words::Value;
 use size_classes::POOL_WORDS;
-use steps_marking::{armed_now, colours_now};
+use steps_marking::armed_now;
 use steps_marking_beside::beside_read;
 
 // The same, with the reason why the block is darkened to which the field refers.
@@ -36,8 +36,7 @@ fn darken_overwritten(heap: &Heap, dom: &mut Domain, block: u32, field: u32)
     let word = beside_read(heap, dom, block + 2 + field, block, field);
     match read_as(Reading::AsValue, word) {
         Value::Ref(address) if address <= limits.pools * POOL_WORDS => {
-            let colours = colours_now(heap, dom);
-            darken_beside(heap, dom, address, colours);
+            darken_now(heap, dom, address);
         }
         _ => {}
     }

@@ -65,6 +65,7 @@ pub fn refuse(heap: &Heap, dom: &mut Domain) -> Reply
 
 // The address of the ephemeron that a command looks into, which has the key that it names. Else the
 // command's reply.
+#[inline(always)]
 pub fn find(heap: &Heap, dom: &mut Domain, ephe: u8, key: Option<u16>) -> Result<u32, Reply>
     ghost command: { Command }
     requires runs { Runs heap.now dom.old }

@@ -18,14 +18,14 @@ ghost use Rattle.steps_ephemeron_commands.specs.Loads.{IsLook, full_reply, targe
 ghost use Rattle.ephemeron_rounds.specs.Naming.{LooksInto};
 
 use crate::finding::{find, word_at};
-use darkening_beside::darken_beside;
+use darkening_beside::darken_now;
 use field_access::shown_register;
 use heap_model::reply::Reply;
 use heap_rule::{Change, Domain, Heap};
 use heap_words::{Value, read_value};
 use size_classes::POOL_WORDS;
 use steps_ephemeron_commands::weak_load;
-use steps_marking::{armed_now, colours_now};
+use steps_marking::armed_now;
 
 // Marks what a weak read has brought into a register, where a cycle goes on beside running domains and
 // it is a block of the pools: the marking may not have come to it, and doesn't follow it from the
@@ -45,14 +45,14 @@ fn darken_read(heap: &Heap, dom: &mut Domain, r: u8, armed: bool)
     let pools = heap.config().pools * POOL_WORDS;
     match dom.register(r) {
         Value::Ref(address) if armed && address <= pools => {
-            let colours = colours_now(heap, dom);
-            darken_beside(heap, dom, address, colours);
+            darken_now(heap, dom, address);
         }
         _ => {}
     }
 }
 
 // A load of the word that a command names into the register that it names.
+#[inline(always)]
 fn get(heap: &Heap, dom: &mut Domain, dst: u8, ephe: u8, key: Option<u16>) -> Reply
     ghost command: { Command }
     requires runs { Runs heap.now dom.old }

@@ -13,14 +13,14 @@ ghost use Rattle.steps_exchange.specs.Exchanges.{ExpectedMarked};
 ghost use Rattle.field_access.specs.Remembered.{ChangesRemembered, SetsYoung, field_of, one_more};
 
 use crate::fields::{fields_for, must_remember};
-use darkening_beside::darken_beside;
+use darkening_beside::darken_now;
 use heap_model::reply::Reply;
 use heap_rule::{Domain, Heap};
 use heap_words::{Value, pack_value};
 use size_classes::POOL_WORDS;
 use steps_exchange::field_exchange;
 use steps_fields::{head_load, tick};
-use steps_marking::{armed_now, colours_now};
+use steps_marking::armed_now;
 
 // Marks what a compare-and-set expects in a field, where a cycle goes on beside running domains and it
 // is a block of the pools: where the exchange is made, the field no longer refers to it.
@@ -40,10 +40,7 @@ fn darken_expected(heap: &Heap, dom: &mut Domain, r: u8)
     }
     let pools = heap.config().pools * POOL_WORDS;
     match dom.register(r) {
-        Value::Ref(address) if address <= pools => {
-            let colours = colours_now(heap, dom);
-            darken_beside(heap, dom, address, colours);
-        }
+        Value::Ref(address) if address <= pools => darken_now(heap, dom, address),
         _ => {}
     }
 }

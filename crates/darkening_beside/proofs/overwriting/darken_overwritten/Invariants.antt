@@ -4,5 +4,5 @@ use Rattle.darkening_beside.proofs.overwriting.darken_overwritten.Given as goal
 abbrev pub ghost-beside_read : goal.ghost-beside_read
 ghost-beside_read g a = OfRegister g.why.register
 
-abbrev pub ghost-darken_beside : goal.ghost-darken_beside
-ghost-darken_beside g a = g.why.reason
+abbrev pub ghost-darken_now : goal.ghost-darken_now
+ghost-darken_now g a = g.why.reason

@@ -1,4 +1,4 @@
 use Rattle.ephemeron_rounds.proofs.looking.darken_read.Given as goal
 
-abbrev pub ghost-darken_beside : goal.ghost-darken_beside
-ghost-darken_beside g a = g.reason
+abbrev pub ghost-darken_now : goal.ghost-darken_now
+ghost-darken_now g a = g.reason

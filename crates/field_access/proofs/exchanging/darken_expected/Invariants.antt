@@ -1,4 +1,4 @@
 use Rattle.field_access.proofs.exchanging.darken_expected.Given as goal
 
-abbrev pub ghost-darken_beside : goal.ghost-darken_beside
-ghost-darken_beside g a = g.reason
+abbrev pub ghost-darken_now : goal.ghost-darken_now
+ghost-darken_now g a = g.reason
