@@ -1,6 +1,5 @@
 -- The run of a session, between two turns.
-use Rattle.std.specs.Prelude.{◌≡◌, ◌≤◌, ◌+◌, Bool, true, false, List, [], ◌∷◌, ◌++◌, length, Option, Some, None}
-use Rattle.heap_model.specs.declared.command.Command as model
+use Rattle.std.specs.Prelude.{◌≡◌, Bool, true, false, List, [], ◌∷◌, ◌++◌, length}
 use Rattle.heap_model.specs.declared.entry.Entry.{Entry}
 use Rattle.heap_model.specs.declared.entry.Entry.TheVariants.{End}
 use Rattle.heap_model.specs.declared.reply.Reply.{Reply}
@@ -10,12 +9,9 @@ use Rattle.heap_rule.specs.Token.{SharedHeap, IsIn}
 use Rattle.heap_model.specs.Domains.{domain_at}
 use Rattle.heap_rule.specs.declared.view.DomainView.{DomainView}
 use Rattle.heap_rule.specs.Rule.{state_of}
-use Rattle.command_counts.specs.Counts.{ephemerons_given, labels_given}
 use Rattle.domain_turns.specs.declared.supply.Supply.TheVariants.{Open, Closed}
-use Rattle.domain_turns.specs.Handed.{Finalised, PerformedOn}
-use Rattle.domain_turns.specs.Runs.{RunView, Takes}
-use Rattle.domain_turns.specs.Tries.{registrations_of}
-use Rattle.steps_finalisers.specs.Registering.{count_of}
+use Rattle.domain_turns.specs.Handed.{Finalised}
+use Rattle.domain_turns.specs.Runs.{RunView}
 
 -- the run of the one domain of a heap
 pub record IsAlone (h : SharedHeap) (r : RunView) : Type 0 where
@@ -34,31 +30,6 @@ pub record Rests (h : SharedHeap) (r : RunView) : Type 0 where
   pub done : r.next ≡ length r.commands
   pub legal : Legal (sizes_in h.config) r.token.view.seen.front
   pub given : HasGivenOut h r.token.view
-
--- it has this command to make. Since it was handed in the front has grown by entries of others and by runs of finalisers, whose replies the run keeps, and no label or room was taken
-pub record Awaits (h : SharedHeap) (start : DomainView) (c : model.Command) (r : RunView) : Type 0 where
-  pub alone : IsAlone h r
-  pub more : r.supply ≡ Open
-  pub commands : r.commands ≡ c ∷ []
-  pub next : r.next ≡ 0
-  pub replies : r.replies ≡ []
-  pub finalised : Finalised (sizes_in h.config) 0 start.seen.front r.token.view.seen.front r.ran
-  pub listed : count_of r.token.view.own.finalisers + length r.ran ≡ count_of start.own.finalisers
-  pub takes : Takes 0 0 start r.token.view
-
--- it has made it, with this reply
-pub record Answered (h : SharedHeap) (start : DomainView) (c : model.Command) (reply : Reply) (r : RunView) : Type 0 where
-  pub alone : IsAlone h r
-  pub more : r.supply ≡ Open
-  pub done : r.next ≡ length r.commands
-  pub performed : PerformedOn (sizes_in h.config) 0 start.seen.front r.token.view.seen.front c r.ran reply
-  pub listed : count_of r.token.view.own.finalisers + length r.ran ≤ count_of start.own.finalisers + registrations_of c
-  pub takes : Takes (labels_given c reply) (ephemerons_given c reply) start r.token.view
-
--- by the reply, if there is one
-abbrev pub AwaitAnswers : SharedHeap → DomainView → model.Command → RunView → Option Reply → Type 0
-AwaitAnswers h start c r None = Awaits h start c r
-AwaitAnswers h start c r (Some reply) = Answered h start c reply r
 
 -- it gets no more command, and the front has grown by entries of others and by runs of finalisers since
 pub record Closes (h : SharedHeap) (start : List Entry) (r : RunView) : Type 0 where

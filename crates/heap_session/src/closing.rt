@@ -4,9 +4,9 @@ ghost use Rattle.heap_model.specs.declared.entry.Entry.{Entry};
 ghost use Rattle.heap_rule.specs.Token.{IsIn};
 ghost use Rattle.heap_session.specs.Driving.{Closes, CloseAnswers, Over};
 
-use crate::turning::turn_below;
 use domain_turns::DomainRun;
 use heap_rule::Heap;
+use open_runs::turn_below;
 use std::sync::Wait;
 
 // One turn of a run that gets no more command. Answers whether its trace has ended.

@@ -15,7 +15,6 @@ mod closing;
 mod performing;
 mod session;
 mod tables;
-mod turning;
 
 pub use session::Session;
 pub use tables::TableSession;

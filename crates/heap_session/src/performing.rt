@@ -2,23 +2,13 @@
 ghost use Rattle.heap_model.specs.declared.command.Command as model;
 ghost use Rattle.heap_rule.specs.declared.view.DomainView.{DomainView};
 ghost use Rattle.heap_rule.specs.Token.{IsIn};
-ghost use Rattle.heap_session.specs.Driving.{Awaits, Answered, AwaitAnswers};
+ghost use Rattle.open_runs.specs.Driving.{Awaits, Answered};
 
-use crate::turning::turn_below;
 use domain_turns::DomainRun;
 use heap_model::reply::Reply;
 use heap_rule::Heap;
+use open_runs::await_turn;
 use std::sync::Wait;
-
-// One turn of a run that has a command to make. Answers its reply, once it is made.
-fn await_turn(heap: &Heap, run: &mut DomainRun) -> Option<Reply>
-    requires here { IsIn run.old.token heap.now }
-    ensures here { IsIn run.new.token heap.now }
-    ensures answers { (start : DomainView) (c : model.Command) → Awaits heap.now start c run.old → AwaitAnswers heap.now start c run.new result }
-{
-    turn_below(heap, run);
-    run.answer()
-}
 
 // Turns a run that has a command to make until it is made, and answers the reply.
 pub(crate) fn await_answer<R: Wait>(rt: &R, heap: &Heap, run: &mut DomainRun) -> Reply
@@ -27,7 +17,8 @@ pub(crate) fn await_answer<R: Wait>(rt: &R, heap: &Heap, run: &mut DomainRun) ->
     ensures answered { (start : DomainView) (c : model.Command) → Awaits heap.now start c run.old → Answered heap.now start c result run.new }
 {
     'turns: for _ in rt.forever() {
-        if let Some(reply) = await_turn(heap, run) {
+        let (_came, reply) = await_turn(heap, run);
+        if let Some(reply) = reply {
             return reply;
         }
     }

@@ -1,5 +1,5 @@
 -- Histories: domains that have ended, entries that are quiet, and what entries of others leave.
-use Rattle.std.proofs.Common.{◌≡◌, ◌∙◌, ◌++◌, ◌∷◌, ◌||◌, ◌≤◌, ℕ, zero, suc, Bool, true, false, true≢false, IsTrue, List, [], not, ap, arith, append-nil, eqb-true, eq-eqb, get_or, get_or-set_same, refl, replicate, sym, subst}
+use Rattle.std.proofs.Common.{◌≡◌, ◌∙◌, ◌++◌, ◌∷◌, ◌||◌, ◌≤◌, ℕ, Bool, true, false, true≢false, IsTrue, List, [], not, ap, append-nil, eqb-true, eq-eqb, get_or-set_same, refl, sym, subst}
 use Rattle.std.specs.List.{list_all, list_any}
 use Rattle.heap_model.specs.declared.entry.Entry.{Entry}
 use Rattle.heap_model.specs.declared.entry.Entry.TheVariants.{Command as CommandOf, End, Cut, Queue, Seal, Wipe, Last as LastOf, Collected, Done, Ran}
@@ -7,7 +7,7 @@ use Rattle.heap_model.specs.declared.reply.Reply.{Reply}
 use Rattle.heap_model.specs.declared.state.DomainState.{DomainState}
 use Rattle.heap_model.specs.declared.state.Sizes.{Sizes}
 use Rattle.heap_model.specs.declared.state.State.{State}
-use Rattle.heap_model.specs.Domains.{domain_at, no_domain, opening, opening_domain}
+use Rattle.heap_model.specs.Domains.{domain_at, no_domain, opening}
 use Rattle.heap_model.specs.Entries.{Allowed, ended, next}
 use Rattle.heap_model.specs.Fronts.{AreNotControls, IsFrontOf, NoneOf, is_control}
 use Rattle.heap_model.specs.History.{Legal, LegalFrom, is_entry_of, replies, state_after}

@@ -18,7 +18,7 @@ use Rattle.heap_rule.specs.Meeting.{Trails}
 use Rattle.heap_rule.specs.Standing.{with_front}
 use Rattle.domain_turns.specs.declared.supply.Supply.{Supply}
 use Rattle.domain_turns.specs.declared.supply.Supply.TheVariants.{Listed}
-use Rattle.domain_turns.specs.Runs.{EndsIn, RunView, is_end_of}
+use Rattle.domain_turns.specs.Runs.{AreKept, RunView, is_end_of}
 use Rattle.schedule_laws.proofs.Collecting.{legal_parts}
 use Rattle.schedule_drive.specs.Together.{Grows, IsShared, OneRun}
 use Rattle.replay_turns.specs.Gathered.{GatheredView, HasRun, IsGathered, IsHeld, MayShare, Steps, one_run, run_at, seen_in}
@@ -194,8 +194,8 @@ module _ (g : GatheredView) (mid : List (Option RunView)) (r0 : RunView)
   )
 
 -- what they say of themselves is true in each history that they may share
-listed_is : (supply : Supply) (whole last : List Reply) → supply ≡ Listed → EndsIn supply whole last → whole ≡ last
-listed_is supply whole last is ends = subst (λ (s : Supply). EndsIn s whole last) is ends
+listed_is : (supply : Supply) (z : Sizes) (front : List Entry) (d : ℕ) (said ran : List Reply) → supply ≡ Listed → AreKept supply z front d said ran → replies z front d ≡ said
+listed_is supply z front d said ran is kept = let listed : (replies z front d ≡ said) × (ran ≡ []) = subst (λ (s : Supply). AreKept s z front d said ran) is kept in listed.0
 
 map_run : (runs : List (Option RunView)) (d : ℕ) (x : OneRun) (r : RunView) → HasRun runs d r → slice_get (map run_at runs) d ≡ Some x → x ≡ one_run r
 map_run [] d x r is at = cc
@@ -223,7 +223,7 @@ module _ (g : GatheredView) (all : IsGathered g) (h : List Entry) (ms : MayShare
 
     replies_are : r.replies ≡ replies of_heap h d
     replies_are =
-        sym (listed_is r.supply (replies (sizes_in r.token.config) r.token.view.seen.front r.token.view.own.number) r.replies held.listed held.is.answered)
+        sym (listed_is r.supply (sizes_in r.token.config) r.token.view.seen.front r.token.view.own.number r.replies r.ran held.listed held.is.answered)
         ∙ ((λ i. replies (sizes_in (config i)) r.token.view.seen.front (held.number i)) ∙ sym (replies_front of_heap d h r.token.view.seen.front front))
 
     ended_is : r.ended ≡ (domain_at (state_after (opening of_heap) h) d).ended

@@ -24,13 +24,14 @@ use Rattle.heap_rule.specs.Token.{SharedHeap, Token}
 use Rattle.finaliser_queues.specs.Running.{reply_of}
 use Rattle.size_pools.specs.Taken.{Sought}
 use Rattle.domain_turns.specs.declared.supply.Supply.TheVariants.{Listed, Open, Section}
+use Rattle.domain_turns.specs.declared.supply.Supply.{Supply}
 use Rattle.domain_turns.specs.declared.turned.Turned.{Turned}
 use Rattle.domain_turns.specs.declared.turned.Turned.TheVariants.{Did, Waiting, Hungry, Held, Idle}
 use Rattle.domain_turns.specs.declared.turned.Turned.TheVariants.{Ended as Over}
 use Rattle.domain_turns.proofs.Turning.{not_full as is_short}
-use Rattle.domain_turns.specs.Runs.{RunView, Asks, AsksFull, CalmAnswers, CalmDid, EndsTrace, MarksBeside, Polls, RunsFinaliser, SweepsBeside, TriesCommand, WorksBeside, asking_end}
+use Rattle.domain_turns.specs.Runs.{RunView, Asks, AsksFull, CalmAnswers, CalmDid, EndsTrace, MarksBeside, Polls, RunsFinaliser, SweepsBeside, TriesCommand, WorksBeside, asking_end, said_with}
 use Rattle.domain_turns.specs.Runs.CalmDid.{Finalises, Wishes, Refuses, Tries, Works, Ends, Sees, Makes, Tells, WishesToTell}
-use Rattle.domain_turns.specs.Tries.{Enters, NeedsPause, Stands}
+use Rattle.domain_turns.specs.Tries.{Enters, Stands}
 use Rattle.schedule_drive.specs.declared.together.Stepped.{Stepped}
 use Rattle.schedule_drive.specs.declared.together.Stepped.TheVariants.{Ran, Made, Needs}
 use Rattle.schedule_drive.specs.Together.{OneRun, TurnTells, Unqueued}
@@ -235,8 +236,11 @@ module _ (h : SharedHeap) (shares : List Entry → Type 0) (d : ℕ) (r s : RunV
       (ap (λ (v : RunView). v.token.view.own.number) p.run ∙ (asking_number p.spent p.made ∙ (ap (λ (o : Own). o.number) t.tried.own ∙ kept.1)))
       (behind_command t.reply p.made one (ap (λ (v : RunView). v.replies) t.run) (ap (λ (o : OneRun). o.replies) one) (ap one_run t.run))
 
-  finalises : RunsFinaliser h r.token r s → TurnedBy z shares d r s stepped
-  finalises f = go stepped came where
+  finalises : r.supply ≡ Listed → RunsFinaliser h r.token r s → TurnedBy z shares d r s stepped
+  finalises listed f = go stepped came where
+    kept : s.replies ≡ r.replies ++ reply_of f.ran ∷ []
+    kept = ap (λ (v : RunView). v.replies) f.run ∙ ap (λ (t : Supply). said_with t r.replies (reply_of f.ran)) listed
+
     -- one finaliser fewer waits
     fewer_wait : length y.own.finalisers.queue.items < length x.own.finalisers.queue.items
     fewer_wait = subst (λ (n : ℕ). n < length x.own.finalisers.queue.items) (sym (ap (λ (v : DomainView). length v.own.finalisers.queue.items) f.first.view)) (one_fewer x.own.finalisers.queue.items f.first.first f.first.is_first)
@@ -255,7 +259,7 @@ module _ (h : SharedHeap) (shares : List Entry → Type 0) (d : ℕ) (r s : RunV
       tells = (refl, ap one_run f.run ∙ ap (λ (l : List Reply). record (one_run r) { replies = l; waiting = length y.own.finalisers.queue.items }) (sym (ap (λ (v : RunView). v.replies) f.run)), fewer_wait);
       number = ap (λ (v : DomainView). v.own.number) f.first.view;
     }
-    go (Needs complete) at = absurd (one_more r.replies (reply_of f.ran) (ap length (sym (ap (λ (v : RunView). v.replies) f.run)) ∙ at.2))
+    go (Needs complete) at = absurd (one_more r.replies (reply_of f.ran) (ap length (sym kept) ∙ at.2))
 
   asks : Asks h r.token r s → TurnedBy z shares d r s stepped
   asks a = no_entry a.command a.next (ap (λ (v : RunView). v.commands) a.run) (ap (λ (v : RunView). v.next) a.run) (ap (λ (v : RunView). v.replies) a.run) (ap (λ (v : RunView). v.ended) a.run)
@@ -305,7 +309,7 @@ module _ (h : SharedHeap) (shares : List Entry → Type 0) (d : ℕ) (r s : RunV
   other listed section = let e : Listed ≡ Section = sym listed ∙ section in cc
 
   did : r.supply ≡ Listed → CalmDid h r s → TurnedBy z shares d r s stepped
-  did listed (Finalises f) = finalises f
+  did listed (Finalises f) = finalises listed f
   did listed (Wishes a) = asks a
   did listed (Refuses a) = asks_full a
   did listed (Tries c another t) = tries c t

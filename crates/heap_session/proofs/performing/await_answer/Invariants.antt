@@ -1,7 +1,7 @@
 use Rattle.heap_model.specs.declared.command.Command as model
 use Rattle.heap_rule.specs.declared.view.DomainView.{DomainView}
 use Rattle.heap_rule.specs.Token.{IsIn}
-use Rattle.heap_session.specs.Driving.{Awaits}
+use Rattle.open_runs.specs.Driving.{Awaits}
 use Rattle.heap_session.proofs.performing.await_answer.Given as goal
 
 abbrev pub invariant-turns : goal.invariant-turns

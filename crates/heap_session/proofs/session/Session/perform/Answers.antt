@@ -9,7 +9,7 @@ use Rattle.domain_turns.specs.Runs.{registrations_in}
 use Rattle.domain_turns.specs.Tries.{registrations_of}
 use Rattle.domain_turns.proofs.Handed.{performed_commands, performed_replies}
 use Rattle.heap_session.specs.Sessions.{MayPerform, SessionView}
-use Rattle.heap_session.proofs.Driven.{rests_again, submitted}
+use Rattle.heap_session.proofs.Driven.{performed, rests_again, submitted}
 use Rattle.heap_session.proofs.session.Session.perform.Goals as goal
 
 pub submit-requires : goal.submit-requires
@@ -41,7 +41,7 @@ returns-clause-performed g c =
     let start = c.self.inside.run.token.view in
     let awaits = submitted c.self.inside.heap c.self.inside.run c.submit.new.self c.args.command c.self.invariant.0 c.submit.ensures in
     subst (λ (v : SessionView). PerformedOn (sizes_in v.config) 0 v.front c.await_answer.new.run.token.view.seen.front c.args.command c.await_answer.new.run.ran c.await_answer.result) c.self.view_is
-    (c.await_answer.ensures.answered start c.args.command awaits).performed
+    (performed c.self.inside.heap c.self.inside.run c.await_answer.new.run c.args.command c.await_answer.result c.self.invariant.0 (c.await_answer.ensures.answered start c.args.command awaits))
 
 pub returns-clause-commands : goal.returns-clause-commands
 returns-clause-commands g c =
@@ -49,7 +49,7 @@ returns-clause-commands g c =
     let z = sizes_in c.self.inside.heap.config in
     let awaits = submitted c.self.inside.heap c.self.inside.run c.submit.new.self c.args.command c.self.invariant.0 c.submit.ensures in
     subst (λ (v : SessionView). commands c.await_answer.new.run.token.view.seen.front 0 ≡ commands v.front 0 ++ c.args.command ∷ []) c.self.view_is
-    (performed_commands z 0 start.seen.front c.await_answer.new.run.token.view.seen.front c.args.command c.await_answer.new.run.ran c.await_answer.result (c.await_answer.ensures.answered start c.args.command awaits).performed)
+    (performed_commands z 0 start.seen.front c.await_answer.new.run.token.view.seen.front c.args.command c.await_answer.new.run.ran c.await_answer.result (performed c.self.inside.heap c.self.inside.run c.await_answer.new.run c.args.command c.await_answer.result c.self.invariant.0 (c.await_answer.ensures.answered start c.args.command awaits)))
 
 pub returns-clause-replies : goal.returns-clause-replies
 returns-clause-replies g c =
@@ -57,7 +57,7 @@ returns-clause-replies g c =
     let z = sizes_in c.self.inside.heap.config in
     let awaits = submitted c.self.inside.heap c.self.inside.run c.submit.new.self c.args.command c.self.invariant.0 c.submit.ensures in
     subst (λ (v : SessionView). replies (sizes_in v.config) c.await_answer.new.run.token.view.seen.front 0 ≡ replies (sizes_in v.config) v.front 0 ++ (c.await_answer.new.run.ran ++ c.await_answer.result ∷ [])) c.self.view_is
-    (performed_replies z 0 start.seen.front c.await_answer.new.run.token.view.seen.front c.args.command c.await_answer.new.run.ran c.await_answer.result (c.await_answer.ensures.answered start c.args.command awaits).performed)
+    (performed_replies z 0 start.seen.front c.await_answer.new.run.token.view.seen.front c.args.command c.await_answer.new.run.ran c.await_answer.result (performed c.self.inside.heap c.self.inside.run c.await_answer.new.run c.args.command c.await_answer.result c.self.invariant.0 (c.await_answer.ensures.answered start c.args.command awaits)))
 
 pub returns-clause-labels : goal.returns-clause-labels
 returns-clause-labels g c =
@@ -87,4 +87,4 @@ pub invariant_of-self : goal.invariant_of-self
 invariant_of-self g c =
     let start = c.self.inside.run.token.view in
     let awaits = submitted c.self.inside.heap c.self.inside.run c.submit.new.self c.args.command c.self.invariant.0 c.submit.ensures in
-    (rests_again c.self.inside.heap start c.args.command c.await_answer.result c.await_answer.new.run c.config-limits.ensures.limits c.self.invariant.0.given (c.await_answer.ensures.answered start c.args.command awaits), c.self.invariant.1, c.self.invariant.2)
+    (rests_again c.self.inside.heap c.self.inside.run c.await_answer.new.run c.args.command c.await_answer.result c.config-limits.ensures.limits c.self.invariant.0 (c.await_answer.ensures.answered start c.args.command awaits), c.self.invariant.1, c.self.invariant.2)
