@@ -1,12 +1,16 @@
 -- What the clauses of leading, of arriving and of the barrier refuse.
-use Rattle.std.proofs.Common.{◌≡◌, ◌∙◌, ℕ, ◌*◌, ◌<◌, ◌≤◌, true, false, if◌then◌else◌, Bool, Some, None, refl, sym, ap, inl, inr, arith}
+use Rattle.std.proofs.Common.{◌≡◌, ◌∙◌, ℕ, ◌*◌, ◌<◌, ◌≤◌, true, false, if◌then◌else◌, Bool, List, Some, None, refl, sym, ap, inl, inr, subst, arith}
 use Rattle.std.proofs.lemmas.Option.{same_Some}
+use Rattle.heap_model.specs.declared.entry.Entry.{Entry}
+use Rattle.heap_model.specs.Fronts.{IsFrontOf}
 use Rattle.heap_rule.specs.declared.config.Config.{Config}
 use Rattle.heap_rule.specs.declared.phase.Kind.{Kind}
 use Rattle.heap_rule.specs.declared.phase.Kind.TheVariants.{Answer, Decide, Lasts, Mark, Reset, Roots, Rounds, Run, Sweep}
 use Rattle.heap_rule.specs.declared.phase.Stage.TheVariants.{In, Led}
 use Rattle.heap_rule.specs.declared.view.DomainView.{DomainView}
 use Rattle.heap_rule.specs.declared.view.Share.{Share}
+use Rattle.heap_rule.specs.Meeting.{Met}
+use Rattle.heap_rule.specs.Token.{Token}
 use Rattle.steps_pauses.specs.Pauses.{ArriveMay, MayFollow}
 use Rattle.pause_phases.specs.declared.decider.Decider.TheVariants.{Caller}
 use Rattle.pause_phases.specs.Leading.{LeadsOn}
@@ -61,3 +65,13 @@ a_wanted_collection_begins k x y kind l armed owed = l.chosen ∙ λ i. if armed
 -- and it isn't left to running domains
 pub a_wanted_collection_is_complete : (k : Config) (x y : DomainView) (kind : Kind) → LeadsOn k (Caller true) x y Lasts kind → kind ≡ Sweep
 a_wanted_collection_is_complete k x y kind l = l.chosen
+
+-- of two domains that meet neither is left behind: both see one history, which begins with what each had seen
+pub neither_is_left_behind : (k : Config) (a b x y : Token) → Met k a b x y → (x.view.seen.front ≡ y.view.seen.front) × IsFrontOf a.view.own.number x.view.seen.front a.view.seen.front × IsFrontOf b.view.own.number y.view.seen.front b.view.seen.front
+neither_is_left_behind k a b x y met =
+    let first : x.view.seen.front ≡ met.history = ap (λ (t : Token). t.view.seen.front) met.first_is in
+    let second : y.view.seen.front ≡ met.history = ap (λ (t : Token). t.view.seen.front) met.second_is in (
+      first ∙ sym second,
+      subst (λ (h : List Entry). IsFrontOf a.view.own.number h a.view.seen.front) (sym first) met.first.begins,
+      subst (λ (h : List Entry). IsFrontOf b.view.own.number h b.view.seen.front) (sym second) met.second.begins,
+    )
