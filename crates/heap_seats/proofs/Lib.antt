@@ -1,0 +1,6 @@
+mod Growing
+mod Idling
+mod Closed
+mod Stopped
+mod Opening
+mod Seated

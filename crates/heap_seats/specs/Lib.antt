@@ -1,0 +1,3 @@
+pub mod Idling
+pub mod Seating
+pub mod Stopping

@@ -1,0 +1,40 @@
+//! A run that has no command to make.
+ghost use Rattle.heap_rule.specs.Token.{IsIn};
+ghost use Rattle.heap_seats.specs.Idling.{IsIdleIn, StaysIdle, same_idle, still_idle, stays_on};
+
+use domain_turns::DomainRun;
+use heap_rule::Heap;
+use open_runs::{Came, turn_below};
+use rest_pool::Restful;
+
+/// The run of a seat that rests. It takes part in the pauses of the others, and runs its finalisers.
+#[derive(Drop)]
+pub struct Idle {
+    pub(crate) run: DomainRun,
+}
+
+// One turn of a run that has no command to make.
+pub(crate) fn attend(heap: &Heap, run: &mut DomainRun) -> Came
+    requires here { IsIdleIn heap.now run.old }
+    ensures here { IsIdleIn heap.now run.new }
+    ensures stays { StaysIdle run.old run.new }
+{
+    run.is_faithful();
+    turn_below(heap, run)
+}
+
+impl Restful<Heap> for Idle {
+    ghost shares = { λ h i. IsIdleIn h i.run };
+
+    ghost follows = { λ a b. StaysIdle a.run b.run };
+
+    fn attend(&mut self, shared: &Heap) -> bool {
+        attend(shared, &mut self.run) == Came::On
+    }
+
+    ghost follows_itself = { λ t. still_idle t.run };
+
+    ghost follows_on = { λ t u v. stays_on t.run u.run v.run };
+
+    ghost share_alike = { λ s z t u. same_idle s z t.run u.run };
+}
