@@ -1,5 +1,5 @@
 -- Seats as their owners see them.
-use Rattle.std.specs.Prelude.{◌≡◌, ℕ, zero, suc, ◌+◌, ◌-◌, ◌≤◌, List, [], ◌∷◌, ◌++◌, length, Option, Some, None}
+use Rattle.std.specs.Prelude.{◌≡◌, ℕ, zero, suc, ◌+◌, ◌-◌, List, [], ◌∷◌, ◌++◌, length, Option, Some, None}
 use Rattle.std.specs.List.{AllByRecursion}
 use Rattle.atomic_table.specs.Seated.{TableId}
 use Rattle.heap_model.specs.declared.command.Command as model
@@ -12,7 +12,7 @@ use Rattle.mark_slices.specs.Decks.{DeckCounts, uncounted}
 use Rattle.domain_turns.specs.declared.supply.Supply.TheVariants.{Open}
 use Rattle.domain_turns.specs.Runs.{RunView, CanBegin, unturned}
 use Rattle.domain_turns.specs.Handed.{Finalised}
-use Rattle.domain_turns.specs.Tries.{FitsHeap, ephemerons_of, labels_of, registrations_of}
+use Rattle.open_runs.specs.Refusing.{Takes}
 use Rattle.rest_pool.specs.Keeping.{KeeperView}
 use Rattle.heap_seats.specs.declared.idle.Idle.{Idle}
 use Rattle.heap_seats.specs.Idling.{KeepsHeap, finals_of}
@@ -70,11 +70,8 @@ abbrev pub AllSeatsOf : SeatsView → List SeatView → Type 0
 AllSeatsOf s xs = AllByRecursion (IsSeatOf s) xs
 
 -- a seat may make this command: it fits the shared heap, and there are room for the ephemeron that it makes and the finaliser that it registers, and a label for a block
-pub record MayPerform (s : SeatView) (c : model.Command) : Type 0 where
-  pub fits : FitsHeap c
-  pub enlists : registrations_of c ≤ s.finals
-  pub room : ephemerons_of c ≤ s.room
-  pub labels : labels_of c ≤ 4294967295 - s.labels
+abbrev pub MayPerform : SeatView → model.Command → Type 0
+MayPerform s c = Takes s.room s.finals (4294967295 - s.labels) c
 
 -- a seat has made no command since: what the domain has seen has grown by entries of others and by runs of its finalisers. The seat tells their replies behind those that it had, and has room for so many finalisers more
 pub record GoesAlong (old new : SeatView) : Type 0 where

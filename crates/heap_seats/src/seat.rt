@@ -1,5 +1,5 @@
 //! A seat, and a seat that rests.
-ghost use Rattle.std.specs.Prelude.{◌≡◌, ◌+◌, ◌<◌, ◌≤◌, ◌++◌, ◌∷◌, [], false, length};
+ghost use Rattle.std.specs.Prelude.{◌≡◌, ◌↔◌, ◌+◌, ◌-◌, ◌<◌, ◌≤◌, ◌++◌, ◌∷◌, [], length, None};
 ghost use Rattle.command_counts.specs.Counts.{ephemerons_given, labels_given};
 ghost use Rattle.heap_model.specs.Commands.{shown};
 ghost use Rattle.heap_model.specs.Domains.{register as register_value};
@@ -8,6 +8,7 @@ ghost use Rattle.domain_turns.specs.Tries.{registrations_of};
 ghost use Rattle.heap_model.specs.History.{commands as commands_of, replies as replies_of};
 ghost use Rattle.heap_rule.specs.Limits.{sizes_in};
 ghost use Rattle.heap_rule.specs.Rule.{state_of};
+ghost use Rattle.open_runs.specs.Refusing.{IsRefused};
 ghost use Rattle.heap_seats.specs.Seating.{GoesAlong, IsSeatOf, MayPerform};
 
 use crate::idle::Idle;
@@ -16,6 +17,7 @@ use crate::seats::Seats;
 use domain_turns::{DomainRun, show};
 use heap_model::command::Command;
 use heap_model::reply::Reply;
+use open_runs::{Refusal, refuses};
 use rest_pool::Keeper;
 use std::marker::Model;
 use std::sync::Wait;
@@ -30,6 +32,7 @@ pub struct Seat {
 }
 
 impl Model for Seat {
+    ghost use Rattle.open_runs.specs.Refusing.{IsRefused};
     ghost use Rattle.heap_seats.specs.Seating.{IsSeat, SeatView, seat_with};
 
     ghost Value = { SeatView };
@@ -47,6 +50,7 @@ pub struct Resting {
 }
 
 impl Model for Resting {
+    ghost use Rattle.open_runs.specs.Refusing.{IsRefused};
     ghost use Rattle.heap_seats.specs.Seating.{IsResting, SeatView, seat_of};
 
     ghost Value = { SeatView };
@@ -91,6 +95,20 @@ impl Seat {
         ensures { result + self.now.labels ≡ 4294967295 }
     {
         u32::MAX - self.run.domain().labels_made()
+    }
+
+    /// Why [`perform`](Seat::perform) doesn't take a command: the first that is missing of what it asks. None exactly
+    /// where it takes it.
+    pub fn refuses(&self, command: &Command) -> Option<Refusal>
+        ensures none { (result ≡ None) ↔ MayPerform self.now command.now }
+        ensures why { IsRefused self.now.room self.now.finals (4294967295 - self.now.labels) command.now result }
+    {
+        refuses(
+            command,
+            self.ephes_room(),
+            self.finals_room(),
+            self.labels_left(),
+        )
     }
 
     /// Makes a command, and answers its reply. The command fits the shared heap, its registers are below 16 and its

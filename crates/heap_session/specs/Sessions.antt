@@ -1,10 +1,10 @@
 -- A session as its callers see it.
-use Rattle.std.specs.Prelude.{ℕ, ◌-◌, ◌≤◌, List}
+use Rattle.std.specs.Prelude.{ℕ, ◌-◌, List}
 use Rattle.heap_model.specs.declared.command.Command.{Command}
 use Rattle.heap_model.specs.declared.entry.Entry.{Entry}
 use Rattle.heap_model.specs.declared.reply.Reply.{Reply}
 use Rattle.heap_rule.specs.declared.config.Config.{Config}
-use Rattle.domain_turns.specs.Tries.{FitsHeap, ephemerons_of, labels_of, registrations_of}
+use Rattle.open_runs.specs.Refusing.{Takes}
 
 -- a session: the numbers of its heap, the history so far, how many labels were given out, how many more ephemerons and how many more finalisers fit, and the replies of the finalisers that ran before its last command
 pub record SessionView : Type 0 where
@@ -20,8 +20,5 @@ abbrev pub alone : ℕ → ℕ → ℕ → ℕ → Config
 alone minor_words pools finals ephes = record { domains = 1; minor_words = minor_words; pools = pools; finals = finals; ephes = ephes }
 
 -- a session may make this command: it fits the shared heap, and there are room for the ephemeron that it makes and the finaliser that it registers, and a label for a block
-pub record MayPerform (s : SessionView) (c : Command) : Type 0 where
-  pub fits : FitsHeap c
-  pub enlists : registrations_of c ≤ s.finals
-  pub room : ephemerons_of c ≤ s.room
-  pub labels : labels_of c ≤ 4294967295 - s.labels
+abbrev pub MayPerform : SessionView → Command → Type 0
+MayPerform s c = Takes s.room s.finals (4294967295 - s.labels) c

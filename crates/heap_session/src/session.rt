@@ -1,5 +1,5 @@
 //! A heap of one domain, and the commands that are handed in to it.
-ghost use Rattle.std.specs.Prelude.{◌≡◌, ◌↔◌, ◌+◌, ◌++◌, ◌∷◌, ◌<◌, ◌≤◌, ℕ, [], length, IfOk, Some, Err};
+ghost use Rattle.std.specs.Prelude.{◌≡◌, ◌↔◌, ◌+◌, ◌-◌, ◌++◌, ◌∷◌, ◌<◌, ◌≤◌, ℕ, [], length, IfOk, None, Some, Err};
 ghost use Rattle.command_counts.specs.Counts.{ephemerons_given, labels_given};
 ghost use Rattle.domain_turns.specs.Handed.{PerformedOn};
 ghost use Rattle.domain_turns.specs.Tries.{registrations_of};
@@ -9,6 +9,7 @@ ghost use Rattle.heap_model.specs.History.{Legal, commands, replies};
 ghost use Rattle.heap_rule.specs.Limits.{first_outside, sizes_in};
 ghost use Rattle.heap_rule.specs.Rule.{state_of};
 ghost use Rattle.heap_session.specs.Sessions.{MayPerform, alone};
+ghost use Rattle.open_runs.specs.Refusing.{IsRefused};
 ghost use Rattle.heap_session.specs.Stopping.{EndsAfter, StopsAfter};
 
 use crate::closing::turn_to_end;
@@ -18,6 +19,7 @@ use heap_model::command::Command;
 use heap_model::reply::Reply;
 use heap_rule::{Config, Domain, Ended, Heap, StartFault};
 use mark_slices::Hints;
+use open_runs::{Refusal, refuses};
 use std::alloc::Global;
 use std::marker::Model;
 use std::sync::Wait;
@@ -104,6 +106,20 @@ impl Session {
         ensures { result.now ≡ self.now.ran }
     {
         self.run.ran()
+    }
+
+    /// Why [`perform`](Session::perform) doesn't take a command: the first that is missing of what it asks. None exactly
+    /// where it takes it.
+    pub fn refuses(&self, command: &Command) -> Option<Refusal>
+        ensures none { (result ≡ None) ↔ MayPerform self.now command.now }
+        ensures why { IsRefused self.now.room self.now.finals (4294967295 - self.now.labels) command.now result }
+    {
+        refuses(
+            command,
+            self.ephes_room(),
+            self.finals_room(),
+            self.labels_left(),
+        )
     }
 
     /// There is one domain, the numbers are within their limits, the history so far is legal for them, so many labels

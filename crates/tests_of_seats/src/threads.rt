@@ -1,5 +1,4 @@
 //! Two threads with a seat each; one rests while the other asks for collections.
-ghost use Rattle.std.specs.Prelude.{◌≡◌};
 ghost use Rattle.heap_seats.specs.Seating.{IsSeatOf};
 
 use heap_model::command::Command;
@@ -10,9 +9,11 @@ use std::sync::Wait;
 use std::test::Fail;
 use std::thread::{Threads, join};
 
-// Makes a command, where there are a label and room for it.
-fn made(rt: &impl Wait, seats: &Seats, seat: &mut Seat, command: Command) -> Option<Reply> {
-    if seat.labels_left() < 1 || seat.ephes_room() < 1 {
+// Makes a command, where the seat takes it.
+fn made(rt: &impl Wait, seats: &Seats, seat: &mut Seat, command: Command) -> Option<Reply>
+    requires here { IsSeatOf seats.now seat.old }
+{
+    if seat.refuses(&command).is_some() {
         return None;
     }
     Some(seat.perform(rt, seats, command))
@@ -23,8 +24,26 @@ fn builds(rt: &impl Wait, seats: &Seats, resting: Resting, rounds: u32) -> (Rest
     let mut seat = resting.resume(rt, seats);
     let mut lives = 0;
     for round in 0..rounds {
-        made(rt, seats, &mut seat, Command::Alloc { dst: 1, tag: 0, fields: 2 });
-        made(rt, seats, &mut seat, Command::Store { block: 1, index: 0, item: 2 });
+        made(
+            rt,
+            seats,
+            &mut seat,
+            Command::Alloc {
+                dst: 1,
+                tag: 0,
+                fields: 2,
+            },
+        );
+        made(
+            rt,
+            seats,
+            &mut seat,
+            Command::Store {
+                block: 1,
+                index: 0,
+                item: 2,
+            },
+        );
         made(rt, seats, &mut seat, Command::Copy { dst: 2, src: 1 });
         if round % 1000 == 999 {
             made(rt, seats, &mut seat, Command::Forget { dst: 2 });

@@ -1,19 +1,16 @@
 //! A heap that a program drives: each call of a session once, with the replies that the model gives.
-ghost use Rattle.domain_turns.specs.Tries.{FitsHeap};
-
 use crate::same::same;
 use heap_model::command::Command;
 use heap_model::label::Label;
 use heap_model::reply::Reply;
 use heap_session::Session;
+use open_runs::Refusal;
 use std::sync::Wait;
 use std::test::Fail;
 
-// Makes a command, where there are room and a label for what it makes.
-fn made(rt: &impl Wait, session: &mut Session, command: Command) -> Option<Reply>
-    requires fits { FitsHeap command }
-{
-    if session.ephes_room() < 1 || session.finals_room() < 1 || session.labels_left() < 1 {
+// Makes a command, where the session takes it.
+fn made(rt: &impl Wait, session: &mut Session, command: Command) -> Option<Reply> {
+    if session.refuses(&command).is_some() {
         return None;
     }
     Some(session.perform(rt, command))
@@ -77,6 +74,8 @@ fn finalisers_run_between_commands(rt: HostRuntime) -> Result<(), Fail> {
         same(&rt, made(&rt, &mut session, finalise), Some(Reply::Done));
     }
     same(&rt, session.finals_room(), 1);
+    let outside = Command::Forget { dst: 16 };
+    same(&rt, session.refuses(&outside), Some(Refusal::Shape));
     let forget = Command::Forget { dst: 1 };
     same(&rt, made(&rt, &mut session, forget), Some(Reply::Done));
     made(&rt, &mut session, Command::FullMajor);
