@@ -19,7 +19,6 @@ mod idle;
 mod performing;
 mod seat;
 mod seats;
-mod waiting;
 
 pub use idle::Idle;
 pub use seat::{Resting, Seat};

@@ -7,7 +7,6 @@ ghost use Rattle.open_runs.specs.Driving.{Awaits, Answered};
 ghost use Rattle.heap_seats.specs.Idling.{IsIdleIn, KeepsHeap, StaysIdle};
 
 use crate::idle::{Idle, attend};
-use crate::waiting::Waiter;
 use crossbeam_utils::sync::{EventCount, Key};
 use domain_turns::DomainRun;
 use heap_model::reply::Reply;
@@ -15,6 +14,7 @@ use heap_rule::Heap;
 use open_runs::{Came, await_turn};
 use rest_pool::{Keeper, Pool};
 use std::sync::Wait;
+use thread_drive::Waiter;
 
 // What a seat does behind a turn: where that came on, it tells the others. Else it takes a domain along that rests, and
 // waits where that comes nowhere either.

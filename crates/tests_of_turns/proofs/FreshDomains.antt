@@ -49,7 +49,24 @@ none_made cs all = none_made_in cs (recursion_from_All MakesNoEphemeron cs all)
 -- a domain that may begin no commands may begin others that fit
 pub begins : (t : Token) (cs : List Command) → CanBegin t [] → length cs ≤ 200000 → AllFit cs → ephemerons_in cs ≡ 0 → registrations_in cs ≤ t.config.finals → CanBegin t cs
 begins t cs b few fit none enlists = record {
-  ready = record b.ready { few = few; room = omega (arith, none); enlists = enlists };
+  ready = record {
+    inside = b.ready.inside;
+    acts = b.ready.acts;
+    idle = b.ready.idle;
+    at_rest = b.ready.at_rest;
+    few = few;
+    room = omega (arith, none);
+    enlists = enlists;
+    none_listed = b.ready.none_listed;
+    owes = b.ready.owes;
+    labels = b.ready.labels;
+    even = b.ready.even;
+    remembers = b.ready.remembers;
+    quiet = b.ready.quiet;
+    no_copies = b.ready.no_copies;
+    unprepared = b.ready.unprepared;
+    none_began = b.ready.none_began;
+  };
   no_commands = b.no_commands;
   no_replies = b.no_replies;
   fit = fit;

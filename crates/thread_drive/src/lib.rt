@@ -12,3 +12,4 @@ mod waiting;
 pub use alone::drive_alone;
 pub use driving::drive;
 pub use trace::{Trace, Went};
+pub use waiting::Waiter;

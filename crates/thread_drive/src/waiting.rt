@@ -7,16 +7,18 @@ use std::sync::Wait;
 // time for some microseconds. It never yields, since on a busy machine a yield gives a whole time slice away.
 const SPINS: u32 = 7;
 
-// What a thread waits by: it spins at first, and then sleeps until another thread tells of an event.
+/// What a thread waits by that has nothing to do: it spins at first, and then sleeps until another thread tells of an
+/// event. It says nothing of what is waited for: whoever waits looks again after each call.
 #[derive(Drop)]
-pub(crate) struct Waiter<'a> {
+pub struct Waiter<'a> {
     events: &'a EventCount,
     backoff: Backoff,
     spins: u32,
 }
 
 impl<'a> Waiter<'a> {
-    pub(crate) fn new(events: &'a EventCount) -> Waiter<'a> {
+    /// One that hasn't waited so far.
+    pub fn new(events: &'a EventCount) -> Waiter<'a> {
         Waiter {
             events,
             backoff: Backoff::new(),
@@ -24,9 +26,9 @@ impl<'a> Waiter<'a> {
         }
     }
 
-    // Announces a sleep once spinning is no use. That comes before the turn that finds nothing to do, so
-    // that whatever another thread does after this turn's look ends the sleep.
-    pub(crate) fn announced(&self) -> Option<Key<'a>> {
+    /// Announces a sleep once spinning is no use. That comes before the turn that finds nothing to do, so
+    /// that whatever another thread does after this turn's look ends the sleep.
+    pub fn announced(&self) -> Option<Key<'a>> {
         if self.spins < SPINS {
             None
         } else {
@@ -34,8 +36,8 @@ impl<'a> Waiter<'a> {
         }
     }
 
-    // Sleeps until the next event, where that was announced, and else spins.
-    pub(crate) fn wait<R: Wait>(&mut self, rt: &R, announced: Option<Key<'_>>) {
+    /// Sleeps until the next event, where that was announced, and else spins.
+    pub fn wait<R: Wait>(&mut self, rt: &R, announced: Option<Key<'_>>) {
         match announced {
             Some(key) => key.wait(rt),
             None => {
@@ -45,13 +47,13 @@ impl<'a> Waiter<'a> {
         }
     }
 
-    // A turn was held: it spins, ever longer, and never sleeps.
-    pub(crate) fn held(&mut self) {
+    /// A turn was held: it spins, ever longer, and never sleeps.
+    pub fn held(&mut self) {
         self.backoff.spin();
     }
 
-    // A turn did something.
-    pub(crate) fn went_on(&mut self) {
+    /// A turn did something.
+    pub fn went_on(&mut self) {
         self.backoff.reset();
         self.spins = 0;
     }
