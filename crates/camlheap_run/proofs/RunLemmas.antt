@@ -21,7 +21,7 @@ use Rattle.heap_rule.specs.Token.{Token, SharedHeap, IsIn}
 use Rattle.heap_rule.specs.Ending.{EndedHeap, AllIn, AllBegin, Begins}
 use Rattle.domain_turns.specs.declared.supply.Supply.{Supply}
 use Rattle.domain_turns.specs.declared.supply.Supply.TheVariants.{Listed}
-use Rattle.domain_turns.specs.Runs.{RunView, EndsIn, GoesOn, IsRun, is_end_of}
+use Rattle.domain_turns.specs.Runs.{AreKept, RunView, EndsIn, GoesOn, IsRun, is_end_of}
 use Rattle.camlheap_run.specs.declared.begin.Begun.{Begun}
 use Rattle.camlheap_run.specs.declared.report.Report.{Report}
 use Rattle.camlheap_run.specs.declared.report.Report.TheVariants.{Replies, Summary}
@@ -116,6 +116,10 @@ ends_in history t begins over =
 whole_of : {A : Type 0} (s : Supply) (whole last : List A) → s ≡ Listed → EndsIn s whole last → whole ≡ last
 whole_of s whole last listed ends = subst (λ (t : Supply). EndsIn t whole last) listed ends
 
+-- where all commands were listed the replies are those of the domain
+all_kept : (s : Supply) (z : Sizes) (front : List Entry) (d : ℕ) (said ran : List Reply) → s ≡ Listed → AreKept s z front d said ran → replies z front d ≡ said
+all_kept s z front d said ran listed kept = let both : (replies z front d ≡ said) × (ran ≡ []) = subst (λ (t : Supply). AreKept t z front d said ran) listed kept in both.0
+
 -- the run of domain d, which has ended with all commands of its section
 pub told_by : (z : Sizes) (script : List (List Command)) (d : ℕ) (q : RunView) (history : List Entry) → q.token.view.own.number ≡ d → q.supply ≡ Listed → q.commands ≡ slice_index_or script d [] → sizes_in q.token.config ≡ z → q.ended ≡ true → IsRun q
     → Begins history q.token.view → Told z script history d q
@@ -128,7 +132,7 @@ told_by z script d q history number listed section sized ended run begins =
       counted = ap length all ∙ sym (run.done ended);
       ends = subst (λ (m : ℕ). IsTrue (list_any (is_end_of m) history)) number (ends_in history q.token begins (run.over ended));
       answered = ap (λ (m : ℕ). replies z history m) (sym number) ∙ ap (λ (y : Sizes). replies y history q.token.view.own.number) (sym sized)
-          ∙ replies_of_front (sizes_in q.token.config) history q.token begins ∙ whole_of q.supply (replies (sizes_in q.token.config) q.token.view.seen.front q.token.view.own.number) q.replies listed run.answered;
+          ∙ replies_of_front (sizes_in q.token.config) history q.token begins ∙ all_kept q.supply (sizes_in q.token.config) q.token.view.seen.front q.token.view.own.number q.replies q.ran listed run.answered;
     }
 
 told : (h : SharedHeap) (k : Config) (script : List (List Command)) (d : ℕ) (old q : RunView) (history : List Entry) → old ≡ opened script (opening_token h.table k d) → h.config ≡ k → IsIn q.token h → GoesOn old q → q.ended ≡ true → IsRun q
