@@ -8,7 +8,7 @@ use Rattle.heap_rule.specs.declared.phase.Progress.{Progress}
 use Rattle.steps_pauses.specs.Pauses.{cut_in}
 use Rattle.pause_phases.specs.declared.decider.Decider.TheVariants.{Caller}
 use Rattle.pause_phases.specs.Leading.{Findings, next_kind}
-use Rattle.cycle_laws.specs.Ending.{GoesOn, Marking, Rooting, Rounding, Answering, leads_to, pause_left}
+use Rattle.cycle_laws.specs.Ending.{Answering, GoesOn, Marking, Place, Rooting, Rounding, leads_to, pause_left}
 use Rattle.cycle_laws.proofs.Ending.{Fewer, nearer}
 use Rattle.pause_laws.specs.Walk.{marking_place, place_named, place_of}
 
