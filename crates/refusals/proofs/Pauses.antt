@@ -53,7 +53,7 @@ pub no_marking_begins_uncleared : (k : Config) (x y : DomainView) → LedTo k Ma
 no_marking_begins_uncleared k x y led may =
     let named : y.seen.stage ≡ Led Mark = ap (λ (w : DomainView). w.seen.stage) led.view in
     let unknown : y.seen.share.changed ≡ None = ap (λ (w : DomainView). w.seen.share.changed) led.view in
-    let e : None ≡ Some 0 = sym unknown ∙ may.set_back named in cc
+    let e = sym unknown ∙ may.set_back named in cc
 
 -- where the caller of a pause wants no collection none begins, and where it wants one one does
 pub no_collection_begins_unasked : (k : Config) (x y : DomainView) (kind : Kind) → LeadsOn k (Caller false) x y Reset kind → x.seen.share.progress.armed ≡ false → kind ≡ Run
