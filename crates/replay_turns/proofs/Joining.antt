@@ -13,7 +13,9 @@ use Rattle.heap_rule.specs.declared.phase.Stage.TheVariants.{In}
 use Rattle.heap_rule.specs.Limits.{sizes_in}
 use Rattle.heap_rule.specs.Phases.{IsEven}
 use Rattle.heap_rule.specs.Token.{IsIn}
-use Rattle.domain_turns.specs.Runs.{RunView, IsRun, StandsAt, registrations_in, run_seeing}
+use Rattle.domain_turns.specs.declared.supply.Supply.{Supply}
+use Rattle.domain_turns.specs.declared.supply.Supply.TheVariants.{Listed}
+use Rattle.domain_turns.specs.Runs.{RunView, IsRun, StandsAt, most_ran, registrations_in, run_seeing}
 use Rattle.domain_turns.specs.Tries.{registrations_of}
 use Rattle.schedule_drive.specs.Together.{AllRuns, OneRun, Lead, Rests, Leads, Has, AllHave, LeadStep, Passed, SharesOn, SomeGone, Stands, Turned, Unqueued, all_halted, halted}
 use Rattle.replay_turns.specs.Walk.{IsWalk}
@@ -413,13 +415,14 @@ few_registered [] = omega arith
 few_registered (c ∷ cs) = let one = one_at_most c in let rest = few_registered cs in omega (arith, one, rest)
 
 -- so few finalisers wait
-few_wait : (r : RunView) → IsRun r → length r.token.view.own.finalisers.queue.items < 4294967296
-few_wait r is =
+few_wait : (r : RunView) → r.supply ≡ Listed → IsRun r → length r.token.view.own.finalisers.queue.items < 4294967296
+few_wait r listed is =
+    let most : most_ran r.supply (registrations_in r.commands) r.spare ≡ registrations_in r.commands = ap (λ (s : Supply). most_ran s (registrations_in r.commands) r.spare) listed in
     let replied = is.replied in
     let within = is.within in
     let few = is.few in
     let registered = few_registered r.commands in
-    omega (arith, replied, within, few, registered)
+    omega (arith, most, replied, within, few, registered)
 
 -- what is always true of the runs as they are seen
 pub stands_of : (g : GatheredView) → IsGathered g → IsWithinLimits (sizes_in g.heap.config) → Stands (seen_in g)
@@ -431,5 +434,5 @@ stands_of g all limits = record {
       lead_at g.complete g.runs f.0 f.1 ∙ ap (lead_in g.complete f.0.token.view.own.arrivals) (runs_again f.0.left (sym (ap (λ (o : OneRun). o.runs) f.2) ∙ back));
   few = λ d x at.
       let f = map_filled g.runs d x all.filled at in
-      subst (λ (n : ℕ). n < 4294967296) (sym (ap (λ (o : OneRun). o.waiting) f.2)) (few_wait f.0 (all.held d f.0 f.1).is);
+      subst (λ (n : ℕ). n < 4294967296) (sym (ap (λ (o : OneRun). o.waiting) f.2)) (few_wait f.0 (all.held d f.0 f.1).listed (all.held d f.0 f.1).is);
 }
