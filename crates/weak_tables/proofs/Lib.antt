@@ -9,3 +9,4 @@ pub mod MakingLemmas
 pub mod CountingLemmas
 pub mod RefusedBodies
 pub mod FoundLemmas
+pub mod SmallLemmas

@@ -1,12 +1,14 @@
 -- Laws of the calls on a table, in the words in which a user would ask for them.
-use Rattle.std.specs.Prelude.{◌≡◌, ◌≢◌, ℕ, List, Some}
+use Rattle.std.specs.Prelude.{◌≡◌, ◌≢◌, ℕ, ◌+◌, ◌≤◌, List, [], length, slice_index_or, Some}
 use Rattle.heap_model.specs.declared.label.Label.{Label}
 use Rattle.heap_model.specs.declared.entry.Entry.{Entry}
 use Rattle.heap_model.specs.declared.graph.Value.{Value}
 use Rattle.heap_model.specs.declared.reply.Reply.{Reply}
 use Rattle.heap_model.specs.declared.state.Sizes.{Sizes}
+use Rattle.heap_model.specs.Graph.{Graph}
 use Rattle.heap_model.specs.Commands.{shown}
-use Rattle.table_laws.specs.Structures.{Cell, bindings, datum_at}
+use Rattle.heap_model.specs.History.{IsPrefix}
+use Rattle.table_laws.specs.Structures.{Cell, bindings, chain_bindings, datum_at, IsTable}
 use Rattle.table_laws.specs.Thinning.{WasOutside}
 use Rattle.table_laws.specs.Stages.{graph_of}
 use Rattle.weak_tables.specs.Tables.{Puts, Gets, Takes}
@@ -31,3 +33,15 @@ TakesKeepOthers = (z : Sizes) (old new : List Entry) (root : Label) (chains : Li
 abbrev pub BindingsAreFound : Type 0
 BindingsAreFound = (z : Sizes) (root : Label) (calls : List TableCall) (first put last now : List Entry) (before after : List (List Cell)) (k : Label) (v : Value) (dst : ℕ) (r : Reply)
     → (x : Puts z first put root before k v) → CallsRun z root calls put x.grown last after → AllSpare k calls → Gets z last now root after k dst r → (WasOutside z put now k → ⊥) → r ≡ shown v
+
+-- how many cells a bucket has, and how many keys are bound in it
+abbrev pub cells_in : List (List Cell) → ℕ → ℕ
+cells_in chains i = length (slice_index_or chains i [])
+
+abbrev pub bound_in : Graph → List (List Cell) → ℕ → ℕ
+bound_in g chains i = length (chain_bindings g (slice_index_or chains i []))
+
+-- a bucket that has at most one cell more than the most keys that are bound in it at a time stays so, whatever calls and other commands come
+abbrev pub BucketsStaySmall : Type 0
+BucketsStaySmall = (z : Sizes) (root : Label) (calls : List TableCall) (old new : List Entry) (chains last : List (List Cell)) (i most : ℕ) → IsTable (graph_of z old) root chains → CallsRun z root calls old chains new last
+    → ((front : List Entry) (now : List (List Cell)) → IsPrefix old front → IsPrefix front new → IsTable (graph_of z front) root now → bound_in (graph_of z front) now i ≤ most) → cells_in chains i ≤ most + 1 → cells_in last i ≤ most + 1
