@@ -102,16 +102,22 @@ abbrev pub all_made : List TableLine → ℕ
 all_made [] = 0
 all_made (l ∷ ls) = made_by l + all_made ls
 
--- when the last of these lines may be answered `full`: it makes a block, and with the 19 labels that were made before the first line, the shared block's among them, so many may be kept that the pools are used up
-pub record MayBeRefused (z : Sizes) (lines : List TableLine) (l : TableLine) : Type 0 where
+-- a line that binds the key in a register finds one there
+abbrev pub HasItsKey : TableState → TableLine → Type 0
+HasItsKey s (Put r v) = (k : Label) × (key_in s r ≡ Some k)
+HasItsKey s _ = Unit {0}
+
+-- when the last of these lines may be answered `full` in a state: it makes a block, it has the key that it binds, and with the 19 labels that were made before the first line, the shared block's among them, so many may be kept that the pools are used up
+pub record MayBeRefused (z : Sizes) (lines : List TableLine) (l : TableLine) (s : TableState) : Type 0 where
   pub allocates : made_by l ≡ 0 → ⊥
+  pub key : HasItsKey s l
   pub kept : z.pools ≤ 19 + all_made lines + reserve z + z.classes
 
 -- a line, the last of these, is answered and leaves this state. `full` changes nothing
 pub record LineStep (z : Sizes) (lines : List TableLine) (l : TableLine) (s : TableState) (a : LineReply) (t : TableState) : Type 0 where
   pub left : TableState
   pub goes : MayGo s left
-  pub does : Effect left l a t ⊎ ((a ≡ reply.Full) × (t ≡ left) × MayBeRefused z lines l)
+  pub does : Effect left l a t ⊎ ((a ≡ reply.Full) × (t ≡ left) × MayBeRefused z lines l left)
 
 -- the machine from a state on, over all lines behind those before: each line's reply, and the state after it
 abbrev pub MachineRuns : Sizes → List TableLine → TableState → List TableLine → List LineReply → List TableState → Type 0

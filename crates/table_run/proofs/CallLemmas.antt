@@ -30,7 +30,7 @@ use Rattle.table_machine.specs.declared.reply.LineReply.{LineReply}
 use Rattle.table_machine.specs.declared.reply.LineReply.TheVariants as reply
 use Rattle.table_machine.specs.Machine.{Effect, LineStep, TableState, MayGo, IsLost, key_in, WithKey, Shows}
 use Rattle.table_run.specs.Standing.{Places, Shown, Stands}
-use Rattle.table_run.specs.Running.{LineDone, full_in, said}
+use Rattle.table_run.specs.Running.{LineDone, MakesNew, full_in, said}
 use Rattle.table_run.proofs.MachineLemmas.{may_same, datum_int, place_holds}
 use Rattle.table_run.proofs.RegisterLemmas.{register_at}
 use Rattle.table_run.proofs.StandLemmas.{outside_lost, others_clean, keeps_high, left_with, frame_goes, frame_same, line_ends}
@@ -44,10 +44,10 @@ pub held_key : (z : Sizes) (p : Places) (s : TableState) (old : List Entry) → 
 held_key z p s old x r low high = ap label_of (x.shown.registers r low high) ∙ label_key (key_in s r)
 
 -- a call that did nothing
-pub nothing_done : (z : Sizes) (p : Places) (s : TableState) (old new : List Entry) → Stands z p s old → (lines : List TableLine) (l : TableLine) (a : LineReply) → Effect s l a s → refusals new ≡ refusals old + full_in a → new ≡ old → LineDone z p lines l s old a new
-nothing_done z p s old new x lines l a effect refused same =
+pub nothing_done : (z : Sizes) (p : Places) (s : TableState) (old new : List Entry) → Stands z p s old → (lines : List TableLine) (l : TableLine) (a : LineReply) → Effect s l a s → MakesNew z old l a s → refusals new ≡ refusals old + full_in a → new ≡ old → LineDone z p lines l s old a new
+nothing_done z p s old new x lines l a effect fresh refused same =
     subst (λ (h : List Entry). LineDone z p lines l s old a h) (sym same)
-    (line_ends z p lines l s old a s old (record { left = s; goes = may_same s; does = inl effect }) (record { rest = []; appends = sym (end old) }) (sym (ap refusals same) ∙ refused) x)
+    (line_ends z p lines l s old a s old (record { left = s; goes = may_same s; does = inl effect }) fresh (record { rest = []; appends = sym (end old) }) (sym (ap refusals same) ∙ refused) x)
   where
     end : (h : List Entry) → h ++ [] ≡ h
     end [] = refl
@@ -76,8 +76,8 @@ module _ (z : Sizes) (limits : IsWithinLimits z) (p : Places) (s : TableState) (
       end (e ∷ h) = ap (λ (t : List Entry). e ∷ t) (end h)
 
   -- a line whose effect is what the machine shows of what is left
-  pub read_line : (lines : List TableLine) (l : TableLine) (a : LineReply) → Effect left l a left → refusals new ≡ refusals old + full_in a → ((r : ℕ) → 8 ≤ r → held_in z new r ≡ Nothing) → LineDone z p lines l s old a new
-  read_line lines l a effect refused others = line_ends z p lines l s old a left new (record { left = left; goes = read_goes; does = inl effect }) goes.grows refused (read_stands others)
+  pub read_line : (lines : List TableLine) (l : TableLine) (a : LineReply) → Effect left l a left → MakesNew z old l a left → refusals new ≡ refusals old + full_in a → ((r : ℕ) → 8 ≤ r → held_in z new r ≡ Nothing) → LineDone z p lines l s old a new
+  read_line lines l a effect fresh refused others = line_ends z p lines l s old a left new (record { left = left; goes = read_goes; does = inl effect }) fresh goes.grows refused (read_stands others)
 
   -- a key that a register holds isn't taken from a front of the call on
   pub not_taken : (r : ℕ) (k : Label) (front : List Entry) → key_in s r ≡ Some k → IsPrefix old front → WasOutside z front new k → ⊥
@@ -93,12 +93,12 @@ get_found z limits p s old new x lines r k rep key g quiet refused =
     let datum : datum_at (bindings (graph_of z new) x.shown.chains) k ≡ g.found = thinned_datum (WasOutside z g.front new) k (not_taken z limits p s old new x goes quiet r k g.front key g.since) _ _ g.rest.thinned ∙ g.bound in
     let shows : Shows (datum_at t.bindings k) (said rep) =
     subst (λ (o : Option Value). Shows o (said rep)) (sym datum) (subst (λ (a : Reply). Shows g.found (said a)) (sym g.answers) (shows_found g.found (λ v is. datum_int k t.bindings v stands.ints (datum ∙ is)))) in
-    read_line z limits p s old new x goes quiet lines (line.Get r) (said rep) (subst (λ (o : Option Label). WithKey o t (said rep) t (λ j. Shows (datum_at t.bindings j) (said rep) × (t ≡ t))) (sym key) (shows, refl)) refused stands.others
+    read_line z limits p s old new x goes quiet lines (line.Get r) (said rep) (subst (λ (o : Option Label). WithKey o t (said rep) t (λ j. Shows (datum_at t.bindings j) (said rep) × (t ≡ t))) (sym key) (shows, refl)) tt refused stands.others
 
 pub get_line : (z : Sizes) (limits : IsWithinLimits z) (p : Places) (s : TableState) (old new : List Entry) (x : Stands z p s old) (lines : List TableLine) (r : ℕ) (rep : Reply) → (o : Option Label) → key_in s r ≡ o → GetAnswers z old new p.table x.shown.chains 0 o rep
     → writings new ≤ writings old → refusals new ≡ refusals old + full_in (said rep) → LineDone z p lines (line.Get r) s old (said rep) new
 get_line z limits p s old new x lines r rep None key (bad, same) quiet refused =
-    nothing_done z p s old new x lines (line.Get r) (said rep) (subst (λ (o : Option Label). WithKey o s (said rep) s (λ j. Shows (datum_at s.bindings j) (said rep) × (s ≡ s))) (sym key) (ap said bad, refl)) refused same
+    nothing_done z p s old new x lines (line.Get r) (said rep) (subst (λ (o : Option Label). WithKey o s (said rep) s (λ j. Shows (datum_at s.bindings j) (said rep) × (s ≡ s))) (sym key) (ap said bad, refl)) tt refused same
 get_line z limits p s old new x lines r rep (Some k) key g quiet refused = get_found z limits p s old new x lines r k rep key g quiet refused
 
 -- the reply of a call, and of a line
@@ -148,7 +148,7 @@ count_line z limits p s old new x lines n c quiet none =
     record {
       after = t;
       front = front;
-      runs = record { step = step; grows = c.before.grows; shown = seen; refused = omega (arith, r1, r2, none) };
+      runs = record { step = step; fresh = tt; grows = c.before.grows; shown = seen; refused = omega (arith, r1, r2, none) };
       until = c.behind.grows;
       given = omega (arith, r1, r2, none);
       left = left z limits p s old new x goes few;

@@ -1,6 +1,7 @@
 pub mod RegisterLemmas
 pub mod MachineLemmas
 pub mod RefusalLemmas
+pub mod FreshLemmas
 pub mod SettledLemmas
 pub mod StandLemmas
 pub mod LineLemmas

@@ -21,6 +21,7 @@ use Rattle.table_machine.specs.declared.reply.LineReply.TheVariants as reply
 use Rattle.table_machine.specs.Machine.{TableState, MayGo, Holds, with_key, MayBeRefused}
 use Rattle.table_run.specs.Standing.{Places, Stands, IsKnown, key_node}
 use Rattle.table_run.specs.Running.{LineDone}
+use Rattle.table_run.proofs.FreshLemmas.{full_makes_none}
 use Rattle.table_run.proofs.MachineLemmas.{known_before}
 use Rattle.table_run.proofs.StandLemmas.{went_lost, left_with, frame_goes, frame_key, frame_stands, frame_same, line_ends}
 
@@ -93,7 +94,7 @@ module _ (z : Sizes) (limits : IsWithinLimits z) (p : Places) (s : TableState) (
   pub forget_line : (lines : List TableLine) (r : ℕ) → 1 ≤ r → r ≤ 5 → After z old new [] (set (registers_of z old) r Nothing) → refusals new ≡ refusals old → LineDone z p lines (line.Forget r) s old reply.Done new
   forget_line lines r low high after none =
       line_ends z p lines (line.Forget r) s old reply.Done (with_key (after_with _ after s.registers) r None) new
-      (record { left = after_with _ after s.registers; goes = after_goes _ after; does = inl (refl, refl) }) after.grows (omega arith)
+      (record { left = after_with _ after s.registers; goes = after_goes _ after; does = inl (refl, refl) }) tt after.grows (omega arith)
       (stands_set r low high None after (λ k is. cc))
 
   -- `key R`
@@ -109,11 +110,11 @@ module _ (z : Sizes) (limits : IsWithinLimits z) (p : Places) (s : TableState) (
         goes = after_goes _ after;
         does = inl (refl, (l, record { lost = λ held. unknown (inl held); unbound = lacks (keys_of left.bindings) l (λ bound. unknown (before (inr (inl bound)))); unset = λ held. unknown (before (inr (inr held))) }, refl));
       })
-      after.grows (omega arith)
+      (λ done. (l, get_or-set_same s.registers (r - 1) (Some l) None (let five = x.five in omega arith), fresh)) after.grows (omega arith)
       (stands_set r low high (Some l) after (λ k is. let same : l ≡ k = cc in subst (λ (m : Label). node_at (graph_of z new) m ≡ Some key_node) same made))
 
   -- a line whose one command is answered `full`
-  pub full_line : (lines : List TableLine) (l : TableLine) → After z old new [] (registers_of z old) → MayBeRefused z lines l → refusals new ≡ refusals old + 1 → LineDone z p lines l s old reply.Full new
+  pub full_line : (lines : List TableLine) (l : TableLine) → (after : After z old new [] (registers_of z old)) → MayBeRefused z lines l (after_with (registers_of z old) after s.registers) → refusals new ≡ refusals old + 1 → LineDone z p lines l s old reply.Full new
   full_line lines l after may one =
       let left = after_with _ after s.registers in
-      line_ends z p lines l s old reply.Full left new (record { left = left; goes = after_goes _ after; does = inr (refl, refl, may) }) after.grows one (stands_reading after)
+      line_ends z p lines l s old reply.Full left new (record { left = left; goes = after_goes _ after; does = inr (refl, refl, may) }) (full_makes_none z old l left) after.grows one (stands_reading after)

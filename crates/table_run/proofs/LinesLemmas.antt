@@ -28,7 +28,7 @@ use Rattle.weak_tables.proofs.SlotLemmas.{past_end, emptied_stays}
 use Rattle.table_text.specs.declared.line.TableLine.{TableLine}
 use Rattle.table_text.specs.declared.line.TableLine.TheVariants as line
 use Rattle.table_machine.specs.declared.reply.LineReply.TheVariants as reply
-use Rattle.table_machine.specs.Machine.{AllGone, TableState, MayGo, MayBeRefused, WithKey, Deletes, Binds, ReadsSlot, key_in, with_key, made_by, all_made}
+use Rattle.table_machine.specs.Machine.{AllGone, TableState, HasItsKey, MayGo, MayBeRefused, WithKey, Deletes, Binds, ReadsSlot, key_in, with_key, made_by, all_made}
 use Rattle.table_run.specs.Standing.{Places, Stands, IsStanding}
 use Rattle.table_run.specs.Running.{LineDone, HasGiven, full_in, said}
 use Rattle.table_run.proofs.LineLemmas.{after_with, after_goes, after_key, stands_zero, stands_reading, stands_set, forget_line, key_line, full_line}
@@ -52,11 +52,11 @@ made-append (x ∷ a) l = let rest = made-append a l in omega (arith, rest)
 
 -- `full` comes only where it may
 pub may_refuse : (z : Sizes) (limits : IsWithinLimits z) (old new : List Entry) (left_old left_new : ℕ) (before : List TableLine) (l : TableLine) → z.domains ≡ 1 → Legal z new → IsPrefix old new → refusals old < refusals new → (domain_at (state_of z new) 0).serial + left_new ≡ 4294967295
-    → left_old ≤ left_new + made_by l → HasGiven left_old before → (made_by l ≡ 0 → ⊥) → MayBeRefused z (before ++ l ∷ []) l
-may_refuse z limits old new left_old left_new before l one legal grows more serial labels given some =
+    → left_old ≤ left_new + made_by l → HasGiven left_old before → (made_by l ≡ 0 → ⊥) → (s : TableState) → HasItsKey s l → MayBeRefused z (before ++ l ∷ []) l s
+may_refuse z limits old new left_old left_new before l one legal grows more serial labels given some s key =
     let used = used_up z limits old new one legal grows more in
     let sum = made-append before l in
-    record { allocates = some; kept = omega (arith, used, sum, serial, labels, given) }
+    record { allocates = some; key = key; kept = omega (arith, used, sum, serial, labels, given) }
 
 module _ (z : Sizes) (limits : IsWithinLimits z) (old new : List Entry) where
   -- `key R`
@@ -76,7 +76,7 @@ module _ (z : Sizes) (limits : IsWithinLimits z) (old new : List Entry) where
       let count : refusals new ≡ refusals old + 1 = performed_refusals z old new (Alloc r 0 1) rep q ∙ ap (λ (a : Reply). refusals old + full_of a) full in
       ⊎_elim
       (λ no. full_line z limits p s old new x (before ++ line.Key r ∷ []) (line.Key r) no.0
-      (may_refuse z limits old new left_old left_new before (line.Key r) one no.0.legal no.0.grows (omega (arith, count)) serial labels given_few (λ none. absurd (omega (arith, none)))) count)
+      (may_refuse z limits old new left_old left_new before (line.Key r) one no.0.legal no.0.grows (omega (arith, count)) serial labels given_few (λ none. absurd (omega (arith, none))) (after_with z limits p s old new x _ no.0 s.registers) tt) count)
       (λ made. absurd (let clash : given.Block made.0 ≡ given.Full = sym made.2 ∙ full in cc))
       (alloc_step z limits old new rep r 0 1 q)
 
@@ -103,7 +103,7 @@ module _ (z : Sizes) (limits : IsWithinLimits z) (old new : List Entry) where
   taken : (r : ℕ) (rep : Reply) → writings new ≡ writings old → refusals new ≡ refusals old + full_of rep → (p : Places) (s : TableState) (lines : List TableLine) (x : Stands z p s old) (o : Option Label) → key_in s r ≡ o
       → TakeAnswers z old new p.table x.shown.chains o rep → LineDone z p lines (line.Del r) s old (said rep) new
   taken r rep quiet count p s lines x None key (bad, same) =
-      nothing_done z p s old new x lines (line.Del r) (said rep) (subst (λ (o : Option Label). WithKey o s (said rep) s (λ j. Deletes j s (said rep) s (datum_at s.bindings j))) (sym key) (ap said bad, refl))
+      nothing_done z p s old new x lines (line.Del r) (said rep) (subst (λ (o : Option Label). WithKey o s (said rep) s (λ j. Deletes j s (said rep) s (datum_at s.bindings j))) (sym key) (ap said bad, refl)) tt
       (count ∙ ap (λ (n : ℕ). refusals old + n) (sym (said_full rep))) same
   taken r rep quiet count p s lines x (Some k) key (inl (done, t)) =
       let none : refusals new ≡ refusals old = (let e : refusals new ≡ refusals old + 0 = count ∙ ap (λ (a : Reply). refusals old + full_of a) done in omega (arith, e)) in
@@ -114,7 +114,7 @@ module _ (z : Sizes) (limits : IsWithinLimits z) (old new : List Entry) where
       let goes = leaves.reads.goes in
       let t = left z limits p s old new x goes few in
       read_line z limits p s old new x goes few lines (line.Del r) (said rep)
-      (subst (λ (o : Option Label). WithKey o t (said rep) t (λ j. Deletes j t (said rep) t (datum_at t.bindings j))) (sym key) (subst (λ (o : Option Value). Deletes k t (said rep) t o) (sym none) (ap said empty, refl)))
+      (subst (λ (o : Option Label). WithKey o t (said rep) t (λ j. Deletes j t (said rep) t (datum_at t.bindings j))) (sym key) (subst (λ (o : Option Value). Deletes k t (said rep) t o) (sym none) (ap said empty, refl))) tt
       (count ∙ ap (λ (n : ℕ). refusals old + n) (sym (said_full rep))) (others_clean z old new x.others (keeps_high z old new keeps) leaves.clean)
 
   pub deleted : (r : ℕ) (rep : Reply) → 1 ≤ r → r ≤ 5 → writings new ≡ writings old → refusals new ≡ refusals old + full_of rep
@@ -132,7 +132,7 @@ module _ (z : Sizes) (limits : IsWithinLimits z) (old new : List Entry) where
       let goes = spares.reads.goes in
       let t = left z limits p s old new x goes few in
       read_line z limits p s old new x goes few lines (line.SetWeak i r) (said rep)
-      (subst (λ (o : Option Label). WithKey o t (said rep) t (λ k. (said rep ≡ reply.Done) × (t ≡ record t { slots = set t.slots i (Some k) }))) (sym key) (ap said bad, refl))
+      (subst (λ (o : Option Label). WithKey o t (said rep) t (λ k. (said rep ≡ reply.Done) × (t ≡ record t { slots = set t.slots i (Some k) }))) (sym key) (ap said bad, refl)) tt
       (count ∙ ap (λ (n : ℕ). refusals old + n) (sym (said_full rep))) (others_clean z old new x.others (keeps_high z old new spares.keeps) clean)
   slot_taken i r rep below quiet count p s lines x (Some e) (Some k) at key (done, t) =
       let none : refusals new ≡ refusals old = (let e : refusals new ≡ refusals old + 0 = count ∙ ap (λ (a : Reply). refusals old + full_of a) done in omega (arith, e)) in
@@ -166,7 +166,7 @@ module _ (z : Sizes) (limits : IsWithinLimits z) (mid new : List Entry) where
       → LineDone z p (before ++ line.Put r w ∷ []) (line.Put r w) s mid (said rep) new
   bound r w rep quiet count p s before x left_old left_new one serial labels given_few None key (bad, same) =
       nothing_done z p s mid new x _ (line.Put r w) (said rep)
-      (subst (λ (o : Option Label). WithKey o s (said rep) s (λ k. (said rep ≡ reply.Done) × (s.registers ≡ s.registers) × (s.slots ≡ s.slots) × Binds k (Int w) s.bindings s.bindings)) (sym key) (ap said bad, refl))
+      (subst (λ (o : Option Label). WithKey o s (said rep) s (λ k. (said rep ≡ reply.Done) × (s.registers ≡ s.registers) × (s.slots ≡ s.slots) × Binds k (Int w) s.bindings s.bindings)) (sym key) (ap said bad, refl)) tt
       (count ∙ ap (λ (n : ℕ). refusals mid + n) (sym (said_full rep))) same
   bound r w rep quiet count p s before x left_old left_new one serial labels given_few (Some k) key (inl (done, g)) =
       let none : refusals new ≡ refusals mid = (let e : refusals new ≡ refusals mid + 0 = count ∙ ap (λ (a : Reply). refusals mid + full_of a) done in omega (arith, e)) in
@@ -182,9 +182,9 @@ module _ (z : Sizes) (limits : IsWithinLimits z) (mid new : List Entry) where
       (record {
         left = t;
         goes = read_goes z limits p s mid new x goes few;
-        does = inr (refl, refl, may_refuse z limits mid new left_old left_new before (line.Put r w) one goes.legal goes.grows (omega (arith, more)) serial labels given_few (λ none. absurd (omega (arith, none))));
+        does = inr (refl, refl, may_refuse z limits mid new left_old left_new before (line.Put r w) one goes.legal goes.grows (omega (arith, more)) serial labels given_few (λ none. absurd (omega (arith, none))) t (k, key));
       })
-      goes.grows more (read_stands z limits p s mid new x goes few (others_clean z mid new x.others (keeps_high z mid new refused.keeps) clean)))
+      tt goes.grows more (read_stands z limits p s mid new x goes few (others_clean z mid new x.others (keeps_high z mid new refused.keeps) clean)))
 
 -- `put R V`
 pub put_made : (z : Sizes) (limits : IsWithinLimits z) (old mid new : List Entry) (r : ℕ) (w : ℤ) (a rep : Reply) → 1 ≤ r → r ≤ 5 → Performed z old mid (PutInt 0 w) a → writings new ≡ writings mid → refusals new ≡ refusals mid + full_of rep
@@ -224,7 +224,7 @@ module _ (z : Sizes) (limits : IsWithinLimits z) (mid new : List Entry) (p : Pla
   copied lines none =
       line_ends z p lines (line.GetWeak d i) s mid (said (shown (key_value key))) (with_key here d key) new
       (record { left = here; goes = after_goes z limits p s mid new x _ after; does = inl (subst (λ (o : Option (Option Label)). ReadsSlot here (said (shown (key_value key))) (with_key here d key) d o) (sym still) reads) })
-      after.grows (none ∙ full_none key (refusals mid))
+      tt after.grows (none ∙ full_none key (refusals mid))
       (stands_set z limits p s mid new x d low high key after (λ k is. after_key z limits p s mid new x _ after k (inr (inr (i, slot ∙ ap Some is)))))
     where
       full_none : (o : Option Label) (n : ℕ) → n ≡ n + full_in (said (shown (key_value o)))
@@ -273,4 +273,4 @@ gone z limits old mid new a b one quiet q w p s lines x =
     let last : Stands z p u new = stands_reading z limits p t mid new y second.0 in
     let all_gone : AllGone u = left_held z limits mid new b one quiet w (forget_open z limits old mid a q) p t u y zero last refl second.1 in
     line_later z p lines line.FullMajor s t old mid reply.Done new (after_goes z limits p s old mid x _ first.0) first.0.grows (omega (arith, none))
-    (line_ends z p lines line.FullMajor t mid reply.Done u new (record { left = u; goes = after_goes z limits p t mid new y _ second.0; does = inl (refl, refl, all_gone) }) second.0.grows (omega (arith, count, given_none)) last)
+    (line_ends z p lines line.FullMajor t mid reply.Done u new (record { left = u; goes = after_goes z limits p t mid new y _ second.0; does = inl (refl, refl, all_gone) }) tt second.0.grows (omega (arith, count, given_none)) last)

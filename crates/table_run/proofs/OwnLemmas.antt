@@ -183,7 +183,7 @@ module _ (z : Sizes) (limits : IsWithinLimits z) (p : Places) (s : TableState) (
       let known : (j : Label) → IsKnown after j → IsKnown s j =
       λ j known. ⊎_elim (λ held. inl held) (λ more. ⊎_elim (λ bound. key_before t.goes k j rest thin (subst (λ (bs : List Binding). IsTrue (has_label (keys_of bs) j)) m.others bound)) (λ slot. slot_before t.goes m.left m.thinned j slot) more) known in
       line_ends z p lines (line.Del r) s old reply.Done after new
-      (record { left = mid; goes = record { registers = refl; bindings = m.thinned; slots = emptied_t t.goes }; does = inl effect }) t.goes.grows (omega (arith, none))
+      (record { left = mid; goes = record { registers = refl; bindings = m.thinned; slots = emptied_t t.goes }; does = inl effect }) tt t.goes.grows (omega (arith, none))
       (stands_of t.goes.grows (without k m.left) _ chains t.table (array_t t.goes) (sym m.others) refl x.apart (λ j is. key_t t.goes j (known j is)) (subst AreInts (sym m.others) (ints_t t.goes k rest thin)) (t.tidy x.tidy) (bare_t t.goes))
 
   -- `put R V`
@@ -204,7 +204,7 @@ module _ (z : Sizes) (limits : IsWithinLimits z) (p : Places) (s : TableState) (
       let apart : Apart (p.array ∷ p.slots) (table_labels p.table g.grown) =
       λ l mine. lacks (table_labels p.table g.grown) l (λ h. ⊎_elim (λ before. not_both (table_labels p.table chains) l before (x.apart l mine)) (λ fresh. array_there (graph_of z old) l x.shown.array mine fresh) (g.labels l h)) in
       line_ends z p lines (line.Put r w) s old reply.Done after new
-      (record { left = mid; goes = record { registers = refl; bindings = m.thinned; slots = emptied_t g.goes }; does = inl effect }) g.goes.grows (omega (arith, none))
+      (record { left = mid; goes = record { registers = refl; bindings = m.thinned; slots = emptied_t g.goes }; does = inl effect }) tt g.goes.grows (omega (arith, none))
       (stands_of g.goes.grows all _ g.grown g.table (array_t g.goes) refl refl apart (λ j is. key_t g.goes j (known j is))
       (ints_with k all w (differ_law (graph_of z new) p.table g.grown g.table) (ints_t g.goes k (without k all) thin) g.bound) (g.tidy x.tidy) (bare_t g.goes))
     where
@@ -243,7 +243,7 @@ module _ (z : Sizes) (limits : IsWithinLimits z) (p : Places) (s : TableState) (
       (λ more. ⊎_elim (λ bound. known_before s mid j goes (inr (inl bound)))
       (λ slot. ⊎_elim (λ same. (let is : k ≡ j = cc in inl (subst (Holds s.registers) is held))) (λ before. known_before s mid j goes (inr (inr before))) (holds_set m.0 i (Some k) j slot)) more) known in
       line_ends z p lines (line.SetWeak i r) s old reply.Done after new
-      (record { left = mid; goes = goes; does = inl effect }) g.goes.grows (omega (arith, none))
+      (record { left = mid; goes = goes; does = inl effect }) tt g.goes.grows (omega (arith, none))
       (stands_of g.goes.grows bs (set m.0 i (Some k)) chains table g.array refl (sym m.2) x.apart
       (λ j is. (let before = known j is in g.goes.changes j key_node (x.keys j before) (array_without (graph_of z old) j (x.keys j before) p.array p.slots x.shown.array)))
       (thinned_ints (IsLost s) _ _ thin x.ints) (λ l mine. has_kept IsTidy tidy_lasts P own (graph_of z old) (graph_of z new) g.goes.changes l (apart l mine) (x.tidy l mine)) (g.bare x.bare))

@@ -23,7 +23,8 @@ use Rattle.table_text.specs.declared.line.TableLine.{TableLine}
 use Rattle.table_machine.specs.declared.reply.LineReply.{LineReply}
 use Rattle.table_machine.specs.Machine.{LineStep, TableState, MayGo, IsLost, Holds}
 use Rattle.table_run.specs.Standing.{Places, Stands, IsKnown, key_node, AreInts}
-use Rattle.table_run.specs.Running.{LineDone, full_in}
+use Rattle.table_run.specs.Running.{LineDone, MakesNew, full_in}
+use Rattle.table_run.proofs.FreshLemmas.{makes_before}
 use Rattle.table_run.proofs.MachineLemmas.{may_same, may_twice, known_before, thinned_ints, holds_place}
 use Rattle.table_run.proofs.RegisterLemmas.{register_at}
 
@@ -117,12 +118,12 @@ prefix_self : (h : List Entry) → IsPrefix h h
 prefix_self h = record { rest = []; appends = sym (append-nil h) }
 
 -- a line that is over with the last front of its call
-pub line_ends : (z : Sizes) (p : Places) (lines : List TableLine) (l : TableLine) (s : TableState) (old : List Entry) (a : LineReply) (t : TableState) (new : List Entry) → LineStep z lines l s a t → IsPrefix old new → refusals new ≡ refusals old + full_in a → Stands z p t new
+pub line_ends : (z : Sizes) (p : Places) (lines : List TableLine) (l : TableLine) (s : TableState) (old : List Entry) (a : LineReply) (t : TableState) (new : List Entry) → LineStep z lines l s a t → MakesNew z old l a t → IsPrefix old new → refusals new ≡ refusals old + full_in a → Stands z p t new
     → LineDone z p lines l s old a new
-line_ends z p lines l s old a t new step grows refused x = record {
+line_ends z p lines l s old a t new step fresh grows refused x = record {
   after = t;
   front = new;
-  runs = record { step = step; grows = grows; shown = x.shown; refused = refused };
+  runs = record { step = step; fresh = fresh; grows = grows; shown = x.shown; refused = refused };
   until = prefix_self new;
   given = refl;
   left = t;
@@ -138,6 +139,7 @@ line_later z p lines l s t old mid a new goes grows none x = record {
   front = x.front;
   runs = record {
     step = record { left = x.runs.step.left; goes = may_twice s t x.runs.step.left goes x.runs.step.goes; does = x.runs.step.does };
+    fresh = makes_before z old mid l a x.after grows x.runs.fresh;
     grows = prefix_trans old mid x.front grows x.runs.grows;
     shown = x.runs.shown;
     refused = x.runs.refused ∙ ap (λ (n : ℕ). n + full_in a) none;

@@ -1,16 +1,19 @@
 -- A text of a table, run line by line: each line is a step of the machine, and the history has a prefix for it.
-use Rattle.std.specs.Prelude.{◌≡◌, ℕ, ◌+◌, ◌≤◌, List, [], ◌∷◌, ◌++◌}
+use Rattle.std.specs.Prelude.{◌≡◌, ℕ, ◌+◌, ◌≤◌, List, [], ◌∷◌, ◌++◌, Some, None}
+use Rattle.heap_model.specs.declared.label.Label.{Label}
 use Rattle.heap_model.specs.declared.entry.Entry.{Entry}
 use Rattle.heap_model.specs.declared.reply.Reply.{Reply}
 use Rattle.heap_model.specs.declared.reply.Reply.TheVariants as given
 use Rattle.heap_model.specs.declared.state.Sizes.{Sizes}
+use Rattle.heap_model.specs.Graph.{node_at}
 use Rattle.heap_model.specs.History.{IsPrefix}
 use Rattle.table_laws.specs.Performing.{refusals}
+use Rattle.table_laws.specs.Stages.{graph_of}
 use Rattle.table_text.specs.declared.line.TableLine.{TableLine}
-use Rattle.table_text.specs.declared.line.TableLine.TheVariants.{Put}
+use Rattle.table_text.specs.declared.line.TableLine.TheVariants.{Key, Put}
 use Rattle.table_machine.specs.declared.reply.LineReply.{LineReply}
 use Rattle.table_machine.specs.declared.reply.LineReply.TheVariants as reply
-use Rattle.table_machine.specs.Machine.{LineStep, TableState, MayGo, all_made, opened}
+use Rattle.table_machine.specs.Machine.{LineStep, TableState, MayGo, key_in, all_made, opened}
 use Rattle.table_run.specs.Standing.{Places, Shown, Stands}
 
 -- 1 for the reply `full`
@@ -27,9 +30,15 @@ said given.Empty = reply.Empty
 said given.Full = reply.Full
 said _ = reply.Done
 
--- a line, the last of these, from a state at one prefix of the history to a state at the next: a step of the machine, and one command of the line was answered `full` exactly where the reply is
+-- the key that a line has made was the label of no block at this front, nor before, since no block ever goes
+abbrev pub MakesNew : Sizes → List Entry → TableLine → LineReply → TableState → Type 0
+MakesNew z old (Key r) a t = a ≡ reply.Done → (k : Label) × (key_in t r ≡ Some k) × (node_at (graph_of z old) k ≡ None)
+MakesNew z old _ a t = Unit {0}
+
+-- a line, the last of these, from a state at one prefix of the history to a state at the next: a step of the machine, whose new key is new to the heap, and one command of the line was answered `full` exactly where the reply is
 pub record LineRuns (z : Sizes) (p : Places) (lines : List TableLine) (l : TableLine) (s : TableState) (old : List Entry) (a : LineReply) (t : TableState) (new : List Entry) : Type 0 where
   pub step : LineStep z lines l s a t
+  pub fresh : MakesNew z old l a t
   pub grows : IsPrefix old new
   pub shown : Shown z p t new
   pub refused : refusals new ≡ refusals old + full_in a

@@ -1,5 +1,5 @@
 -- A bucket has fewer cells than labels were given out: each cell has two blocks.
-use Rattle.std.proofs.Common.{◌≡◌, ℕ, zero, suc, ◌+◌, ◌≤◌, Bool, false, cond, IsTrue, Option, None, Some, subst, ⊎_elim, List, [], ◌∷◌, ◌++◌, length, get_or, flat_map, ap, ◌∙◌, arith, length-append}
+use Rattle.std.proofs.Common.{◌≡◌, ℕ, zero, suc, ◌+◌, ◌≤◌, Bool, false, cond, IsTrue, Some, subst, ⊎_elim, List, [], ◌∷◌, ◌++◌, length, get_or, flat_map, ap, ◌∙◌, arith, length-append}
 use Rattle.std.proofs.lemmas.List.{length-map}
 use Rattle.heap_model.specs.declared.label.Label.{Label}
 use Rattle.heap_model.specs.declared.entry.Entry.{Entry}

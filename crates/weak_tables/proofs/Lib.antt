@@ -8,3 +8,5 @@ pub mod SlotLemmas
 pub mod MakingLemmas
 pub mod CountingLemmas
 pub mod RefusedBodies
+pub mod FoundLemmas
+pub mod SmallLemmas

@@ -3,3 +3,5 @@ pub mod Held
 pub mod Walks
 pub mod Tables
 pub mod Arrays
+pub mod Calls
+pub mod Laws

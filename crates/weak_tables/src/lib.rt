@@ -4,6 +4,7 @@
 pub mod arrays;
 pub mod counting;
 pub mod find;
+pub mod laws;
 pub mod machine;
 pub mod making;
 pub mod putting;

@@ -1,0 +1,81 @@
+-- A label that no block has was the label of none before: the key that a line makes is none of an earlier state's.
+use Rattle.std.proofs.Common.{◌≡◌, ℕ, Bool, true, false, cond, ◌||◌, IsTrue, List, [], ◌∷◌, Option, Some, None, refl, ap, sym, ◌∙◌, subst}
+use Rattle.heap_model.specs.declared.label.Label.{Label}
+use Rattle.heap_model.specs.declared.entry.Entry.{Entry}
+use Rattle.heap_model.specs.declared.graph.Node.{Node}
+use Rattle.heap_model.specs.declared.state.Sizes.{Sizes}
+use Rattle.heap_model.specs.declared.state.State.{State}
+use Rattle.heap_model.specs.Graph.{Graph, same_label, has_label, labels, node_at}
+use Rattle.heap_model.specs.Domains.{opening}
+use Rattle.heap_model.specs.Entries.{next}
+use Rattle.heap_model.specs.History.{IsPrefix, state_after}
+use Rattle.heap_model.proofs.Graphs.GraphStepLemmas.{labels_stay_law}
+use Rattle.heap_model.proofs.Histories.HistoryLemmas.{state_after-append}
+use Rattle.heap_model.proofs.Histories.NumberLemmas.{node_at-no_label}
+use Rattle.table_laws.specs.Thinning.{state_of}
+use Rattle.table_laws.specs.Stages.{graph_of}
+use Rattle.table_text.specs.declared.line.TableLine.{TableLine}
+use Rattle.table_text.specs.declared.line.TableLine.TheVariants.{Key, Forget, Put, Get, Del, SetWeak, GetWeak, Count, FullMajor}
+use Rattle.table_machine.specs.declared.reply.LineReply.{LineReply}
+use Rattle.table_machine.specs.declared.reply.LineReply.TheVariants as reply
+use Rattle.table_machine.specs.Machine.{TableState, key_in}
+use Rattle.table_run.specs.Standing.{Places}
+use Rattle.table_run.specs.Running.{LineRuns, MakesNew}
+
+-- no entry removes a label
+labels_go_on : (s : State) (h : List Entry) (l : Label) → IsTrue (has_label (labels s.graph) l) → IsTrue (has_label (labels (state_after s h).graph) l)
+labels_go_on s [] l there = there
+labels_go_on s (e ∷ h) l there = labels_go_on (next s e) h l (labels_stay_law s e l there)
+
+no_label : (g : Graph) (l : Label) → node_at g l ≡ None → has_label (labels g) l ≡ false
+no_label [] l e = refl
+no_label (x ∷ g) l e = go (same_label x.0 l) (no_label g l) e
+  where
+    go : (b : Bool) → (node_at g l ≡ None → has_label (labels g) l ≡ false) → cond b (Some x.1) (node_at g l) ≡ None → (b || has_label (labels g) l) ≡ false
+    go true rest e = cc
+    go false rest e = rest e
+
+-- what is no block's label at one front was none's at an earlier one
+pub unmade_before : (z : Sizes) (old new : List Entry) (l : Label) → IsPrefix old new → node_at (graph_of z new) l ≡ None → node_at (graph_of z old) l ≡ None
+unmade_before z old new l grows none = node_at-no_label (graph_of z old) l (go (has_label (labels (graph_of z old)) l) refl)
+  where
+    there : state_of z new ≡ state_after (state_of z old) grows.rest
+    there = ap (state_of z) grows.appends ∙ state_after-append (opening z) old grows.rest
+
+    go : (b : Bool) → has_label (labels (graph_of z old)) l ≡ b → b ≡ false
+    go true e = absurd
+        (let later : IsTrue (has_label (labels (graph_of z new)) l) = subst (λ (s : State). IsTrue (has_label (labels s.graph) l)) (sym there) (labels_go_on (state_of z old) grows.rest l e) in
+        let clash : true ≡ false = sym later ∙ no_label (graph_of z new) l none in cc)
+    go false e = refl
+
+pub makes_before : (z : Sizes) (old new : List Entry) (l : TableLine) (a : LineReply) (t : TableState) → IsPrefix old new → MakesNew z new l a t → MakesNew z old l a t
+makes_before z old new (Key r) a t grows made = λ done. let m = made done in (m.0, m.1, unmade_before z old new m.0 grows m.2)
+makes_before z old new (Forget r) a t grows made = tt
+makes_before z old new (Put r v) a t grows made = tt
+makes_before z old new (Get r) a t grows made = tt
+makes_before z old new (Del r) a t grows made = tt
+makes_before z old new (SetWeak i r) a t grows made = tt
+makes_before z old new (GetWeak d i) a t grows made = tt
+makes_before z old new Count a t grows made = tt
+makes_before z old new FullMajor a t grows made = tt
+
+-- a line that is answered `full` makes none
+pub full_makes_none : (z : Sizes) (old : List Entry) (l : TableLine) (t : TableState) → MakesNew z old l reply.Full t
+full_makes_none z old (Key r) t = λ done. cc
+full_makes_none z old (Forget r) t = tt
+full_makes_none z old (Put r v) t = tt
+full_makes_none z old (Get r) t = tt
+full_makes_none z old (Del r) t = tt
+full_makes_none z old (SetWeak i r) t = tt
+full_makes_none z old (GetWeak d i) t = tt
+full_makes_none z old Count t = tt
+full_makes_none z old FullMajor t = tt
+
+-- a key that was lost doesn't come again: no block that was there at the line's old front, or before, is the key that it makes
+pub no_lost_key_comes_again : (z : Sizes) (p : Places) (lines : List TableLine) (r : ℕ) (s : TableState) (old : List Entry) (t : TableState) (new : List Entry) (h : List Entry) (k : Label) (n : Node) → LineRuns z p lines (Key r) s old reply.Done t new
+    → IsPrefix h old → node_at (graph_of z h) k ≡ Some n → key_in t r ≡ Some k → ⊥
+no_lost_key_comes_again z p lines r s old t new h k n x grows there is =
+    let m = x.fresh refl in
+    let same : m.0 ≡ k = (let both : Some m.0 ≡ Some k = sym m.1 ∙ is in cc) in
+    let none : node_at (graph_of z h) k ≡ None = subst (λ (l : Label). node_at (graph_of z h) l ≡ None) same (unmade_before z h old m.0 grows m.2) in
+    let clash : ◌≡◌ {A = Option Node} None (Some n) = sym none ∙ there in cc
