@@ -5,7 +5,7 @@ ghost use Rattle.heap_rule.specs.Changes.{FitChanges, changed};
 ghost use Rattle.heap_rule.specs.Reads.{Reads};
 
 use crate::view::Own;
-use heap_words::{Value, read_value};
+use heap_words::{Value, unpack_value};
 
 /// A list of the token. Changes write the registers alone: each other list is written by the steps
 /// that it belongs to.
@@ -95,6 +95,11 @@ pub fn read_as(reading: Reading, word: u64) -> Value
 {
     match reading {
         Reading::Unread => Value::Nothing,
-        Reading::AsValue => read_value(word),
+        Reading::AsValue => {
+            let Some(value) = unpack_value(word) else {
+                unreachable!()
+            };
+            value
+        }
     }
 }
