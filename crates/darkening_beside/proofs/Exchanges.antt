@@ -1,11 +1,12 @@
 -- The exchange of an unmarked block's head.
-use Rattle.std.proofs.Common.{◌≡◌, ℕ, Bool, true, false, cond, nat_le, if◌then◌else◌, Some, None, Option, ⊎_elim, inl, inr, sym, refl, ap, subst, ◌∙◌}
+use Rattle.std.proofs.Common.{◌≡◌, ◌⊎◌, ℕ, Bool, true, false, cond, nat_le, if◌then◌else◌, Some, None, Option, ⊎_elim, inl, inr, sym, refl, ap, subst, ◌∙◌}
 use Rattle.heap_model.specs.Fronts.{Shape, PlainShape, RawShape, EpheShape}
 use Rattle.heap_words.specs.declared.colours.Colours.{Colours}
 use Rattle.heap_words.specs.declared.head.Head.{Head}
 use Rattle.heap_words.specs.declared.head.Head.TheVariants.{Free, Plain, Ephe, Forward}
 use Rattle.heap_words.specs.ColourWords.{IsPermutation}
 use Rattle.heap_words.specs.Heads.{IsPackableHead, head_word}
+use Rattle.heap_words.specs.Unpacked.{IsWordOf}
 use Rattle.heap_words.proofs.WordLemmas.{head_word-injective}
 use Rattle.heap_rule.specs.declared.view.DomainView.{DomainView}
 use Rattle.heap_rule.specs.declared.view.Known.{Known}
@@ -35,6 +36,12 @@ colour_is (EpheShape keys) colour scanned = refl
 
 pub one_colour : (word : ℕ) (s t : Shape) (a : IsHeadOf s word) (b : IsHeadOf t word) → a.colour ≡ b.colour
 one_colour word s t a b = sym (colour_is s a.colour a.scanned) ∙ ap colour_of (one_head word s t a b) ∙ colour_is t b.colour b.scanned
+
+-- the word of a block's head is a head's
+pub block_word : (colours : Colours) (word : ℕ) → IsUnmarked colours word ⊎ IsMarked colours word → IsWordOf IsPackableHead head_word word
+block_word colours word block = ⊎_elim
+    (λ (u : IsUnmarked colours word). (head_of None u.shape u.head.colour u.head.scanned, u.head.packable, sym u.head.packs))
+    (λ (m : IsMarked colours word). (head_of None m.shape m.head.colour m.head.scanned, m.head.packable, sym m.head.packs)) block
 
 pub not_both : (colours : Colours) (word : ℕ) → IsPermutation colours → IsUnmarked colours word → IsMarked colours word → ⊥
 not_both colours word p u m = p.marked_differs (sym m.colour ∙ one_colour word m.shape u.shape m.head u.head ∙ u.colour)

@@ -1,36 +1,36 @@
 //! What the word of a head says of its block's marks.
-ghost use Rattle.std.specs.Prelude.{◌≡◌, nat_le, cond, MatchOption};
+ghost use Rattle.std.specs.Prelude.{◌≡◌, ◌⊎◌, nat_le, cond, MatchOption};
 ghost use Rattle.heap_words.specs.ColourWords.{IsPermutation};
-ghost use Rattle.steps_marking.specs.Marking.{IsGrey, IsUnmarked};
+ghost use Rattle.steps_marking.specs.Marking.{IsGrey, IsMarked, IsUnmarked};
 ghost use Rattle.darkening_beside.specs.Heads.{IsDarkened, IsScanOf};
 
-use heap_words::{Colours, Head, pack_head, unpack_head};
+use heap_words::{Colours, Head, pack_head, read_head, unpack_head};
 
 // The least tag of a raw block.
 const FIRST_RAW: u8 = 251;
 
 /// The head by which an unmarked block is marked, and scanned at once where it is a raw one, whose
-/// fields refer to nothing. `None` where the word isn't the head of an unmarked block.
+/// fields refer to nothing. The word is the head of an unmarked block or of a marked one: `None` where
+/// it is that of a marked one.
 pub fn darkened_head(word: u64, colours: Colours) -> Option<u64>
-    requires { IsPermutation colours }
-    ensures { MatchOption result (IsUnmarked colours word → ⊥) (IsDarkened colours word) }
+    requires meanings { IsPermutation colours }
+    requires block { IsUnmarked colours word ⊎ IsMarked colours word }
+    ensures darkened { MatchOption result (IsUnmarked colours word → ⊥) (IsDarkened colours word) }
 {
     let marked = colours.marked;
-    match unpack_head(word) {
-        Some(
-            Head::Plain {
-                size,
-                tag,
-                colour,
-                ..
-            },
-        ) if colour == colours.unmarked => Some(pack_head(Head::Plain {
+    match read_head(word) {
+        Head::Plain {
+            size,
+            tag,
+            colour,
+            ..
+        } if colour == colours.unmarked => Some(pack_head(Head::Plain {
             size,
             tag,
             colour: marked,
             scanned: FIRST_RAW <= tag,
         })),
-        Some(Head::Ephe { keys, colour, .. }) if colour == colours.unmarked => {
+        Head::Ephe { keys, colour, .. } if colour == colours.unmarked => {
             Some(pack_head(Head::Ephe {
                 keys,
                 colour: marked,

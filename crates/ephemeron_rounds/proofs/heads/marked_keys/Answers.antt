@@ -3,8 +3,8 @@ use Rattle.heap_model.specs.Fronts.{EpheShape}
 use Rattle.darkening_beside.proofs.Exchanges.{read_ephemeron}
 use Rattle.ephemeron_rounds.proofs.heads.marked_keys.Goals as goal
 
-pub returns-in-Some-Ephe : goal.returns-in-Some-Ephe
-returns-in-Some-Ephe c = let h = c.in-Some-Ephe in record {
-  block = record { shape = EpheShape h.keys; head = read_ephemeron c.args.word h.field-0 h.keys h.colour h.field-0-2 h.ensures.found h.field-0-is; colour = c.if-colour-colours.true };
+pub returns-in-Ephe : goal.returns-in-Ephe
+returns-in-Ephe c = let h = c.in-Ephe in record {
+  block = record { shape = EpheShape h.keys; head = read_ephemeron c.args.word c.read_head.result h.keys h.colour h.scanned c.read_head.ensures.reads.found h.is; colour = c.if-colour-colours.true };
   shape = ap EpheShape (sym c.from.ensures);
 }
