@@ -1,10 +1,12 @@
 //! Two threads with a seat each; one rests while the other asks for collections.
+ghost use Rattle.std.specs.Prelude.{◌≡◌, IfOk};
 ghost use Rattle.heap_seats.specs.Seating.{IsSeatOf};
 
 use heap_model::command::Command;
 use heap_model::reply::Reply;
-use heap_rule::Config;
+use heap_rule::{Config, StartFault};
 use heap_seats::{Resting, Seat, Seats};
+use std::alloc::Global;
 use std::sync::Wait;
 use std::test::Fail;
 use std::thread::{Threads, join};
@@ -12,6 +14,7 @@ use std::thread::{Threads, join};
 // Makes a command, where the seat takes it.
 fn made(rt: &impl Wait, seats: &Seats, seat: &mut Seat, command: Command) -> Option<Reply>
     requires here { IsSeatOf seats.now seat.old }
+    ensures here { IsSeatOf seats.now seat.new }
 {
     if seat.refuses(&command).is_some() {
         return None;
@@ -20,7 +23,10 @@ fn made(rt: &impl Wait, seats: &Seats, seat: &mut Seat, command: Command) -> Opt
 }
 
 // Builds and forgets lists, with a full_major every so often, and rests in the end.
-fn builds(rt: &impl Wait, seats: &Seats, resting: Resting, rounds: u32) -> (Resting, u32) {
+fn builds(rt: &impl Wait, seats: &Seats, resting: Resting, rounds: u32) -> (Resting, u32)
+    requires here { IsSeatOf seats.now resting }
+    ensures here { IsSeatOf seats.now result.0 }
+{
     let mut seat = resting.resume(rt, seats);
     let mut lives = 0;
     for round in 0..rounds {
@@ -57,7 +63,10 @@ fn builds(rt: &impl Wait, seats: &Seats, resting: Resting, rounds: u32) -> (Rest
 }
 
 // Rests for most of the time.
-fn dozes(rt: &impl Wait, seats: &Seats, resting: Resting, rounds: u32) -> (Resting, u32) {
+fn dozes(rt: &impl Wait, seats: &Seats, resting: Resting, rounds: u32) -> (Resting, u32)
+    requires here { IsSeatOf seats.now resting }
+    ensures here { IsSeatOf seats.now result.0 }
+{
     let mut resting = resting;
     let mut done = 0;
     for _ in 0..rounds {
@@ -70,6 +79,22 @@ fn dozes(rt: &impl Wait, seats: &Seats, resting: Resting, rounds: u32) -> (Resti
     (resting, done)
 }
 
+// A heap of two domains, and its seats.
+fn two_seats(
+    rt: &impl Wait,
+    alloc: Global,
+    config: Config,
+) -> Result<(Seats, Resting, Resting), StartFault>
+    requires two { config.domains ≡ 2 }
+    ensures first { IfOk result (λ r. IsSeatOf r.0 r.1) }
+    ensures second { IfOk result (λ r. IsSeatOf r.0 r.2) }
+{
+    let (seats, mut all) = Seats::make(rt, alloc, config)?;
+    let second = all.remove(1);
+    let first = all.remove(0);
+    Ok((seats, first, second))
+}
+
 #[test]
 fn one_builds_while_another_dozes(rt: HostRuntime) -> Result<(), Fail> {
     let config = Config {
@@ -80,14 +105,18 @@ fn one_builds_while_another_dozes(rt: HostRuntime) -> Result<(), Fail> {
         ephes: 4,
     };
     let alloc = rt.alloc();
-    let (seats, mut all) = Seats::make(&rt, alloc, config)?;
-    let second = all.remove(1);
-    let first = all.remove(0);
+    let (seats, first, second) = two_seats(&rt, alloc, config)?;
     let shared = &seats;
     let ((first, lives), (second, done)) = join(
         &rt,
-        || builds(&rt, shared, first, 2_000),
-        || dozes(&rt, shared, second, 100),
+        || -> (Resting, u32)
+            requires { IsSeatOf shared.now first }
+            ensures { IsSeatOf shared.entry.now result.0 }
+        { builds(&rt, shared, first, 2_000) },
+        || -> (Resting, u32)
+            requires { IsSeatOf shared.now second }
+            ensures { IsSeatOf shared.entry.now result.0 }
+        { dozes(&rt, shared, second, 100) },
     );
     assert!(&rt; lives == 2 && done == 100);
     let mut back = Vec::with_capacity(alloc, 2)?;
