@@ -1,0 +1,5 @@
+pub mod Places
+pub mod Owed
+pub mod Queuing
+pub mod Clearing
+pub mod Completing

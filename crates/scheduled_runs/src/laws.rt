@@ -1,0 +1,7 @@
+//! Laws of scheduled histories. Each function's contract is one law, and it does nothing else.
+ghost use Rattle.scheduled_runs.specs.Runs.{CompleteIsLegal};
+
+/// Wherever no collection is under way, the complete collection of a schedule may be made, and a `full_major` answered in it.
+pub fn complete_is_legal()
+    ensures { CompleteIsLegal }
+{}
