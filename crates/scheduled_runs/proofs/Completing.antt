@@ -468,3 +468,12 @@ module _ (z : Sizes) (h : List Entry) (legal : Legal z h) (calm : (state_after (
 
 pub complete_law : CompleteIsLegal
 complete_law z h answered legal calm may = legal_append (opening z) h (complete (state_after (opening z) h) answered) legal (complete_legal z h legal calm answered may)
+
+-- and leaves none under way
+pub complete_open : (s : State) (answered : List Entry) → (state_after s (complete s answered)).mode ≡ Open
+complete_open s answered =
+    let queues_made : List Entry = all_queued (next s Cut) in
+    let sealed : State = next (state_after (next s Cut) queues_made) Seal in
+    let wipes : List Entry = all_wiped sealed in
+    let lasts : List Entry = all_lasts (state_after sealed wipes) in
+    ap (λ (v : State). v.mode) (state_after-append s (Cut ∷ queues_made ++ Seal ∷ wipes ++ lasts ++ Collected ∷ answered) (Done ∷ []))

@@ -3,3 +3,4 @@ pub mod Owed
 pub mod Queuing
 pub mod Clearing
 pub mod Completing
+pub mod Turns
