@@ -1,5 +1,5 @@
 -- Behind the seal a schedule's collection takes only what it may: each label stands once among those in order, so no key is wiped twice, and what was registered last goes first.
-use Rattle.std.proofs.Common.{◌≡◌, ◌≢◌, ℕ, zero, suc, ◌+◌, ◌≤◌, ◌<◌, Bool, true, false, cond, not, ◌&&◌, IsTrue, List, [], ◌∷◌, ◌++◌, map, length, get_or-set_same, refl, sym, ap, ◌∙◌, subst, ⊎_elim, arith, Some, None}
+use Rattle.std.proofs.Common.{◌≡◌, ◌≢◌, ℕ, zero, suc, ◌+◌, ◌≤◌, ◌<◌, Bool, true, false, cond, not, ◌&&◌, IsTrue, List, [], ◌∷◌, map, length, get_or-set_same, refl, sym, ap, ◌∙◌, subst, ⊎_elim, arith, Some, None}
 use Rattle.std.specs.Prelude.{Option, filter, flat_map, remove, reverse, slice_get}
 use Rattle.std.specs.List.{list_all, range_with_len}
 use Rattle.heap_model.specs.declared.label.Label.{Label}
@@ -121,13 +121,16 @@ module _ (s : State) (sealing : s.mode ≡ Sealed) (lows : (d : ℕ) → (domain
   Wiped t l ls ps = LegalFrom t (wiping l ps) × Unwiped (state_after t (wiping l ps)) ls
 
   wiped_one : (t : State) (l : Label) (ls : List Label) (p : ℕ) (ps : List ℕ) → Unwiped t (l ∷ ls) → IsTrue (has_no_repeats (l ∷ ls)) → WipeAllowed t l (p ∷ ps) → Wiped t l ls (p ∷ ps)
-  wiped_one t l ls p ps un once allowed = ((allowed, tt), record {
-    mode = taken_leaves (λ (v : State). v.mode) (λ v d x. refl) (λ v k n. refl) (λ v ks. refl) t (Wipe l (p ∷ ps) ∷ []) refl ∙ un.mode;
-    since = takings s t (Wipe l (p ∷ ps) ∷ []) un.since refl (allowed, tt);
-    still = λ m n h at. nodes_stay_law t (Wipe l (p ∷ ps)) m n
-        (λ (e : Some l ≡ Some m). let same : m ≡ l = cc in not_true (has_label ls l) (and_left (not (has_label ls l)) (has_no_repeats ls) once) (subst (λ k. IsTrue (has_label ls k)) same h))
-        (un.still m n (or_right (same_label l m) (has_label ls m) h) at);
-  })
+  wiped_one t l ls p ps un once allowed = (
+    (allowed, tt),
+    record {
+      mode = taken_leaves (λ (v : State). v.mode) (λ v d x. refl) (λ v k n. refl) (λ v ks. refl) t (Wipe l (p ∷ ps) ∷ []) refl ∙ un.mode;
+      since = takings s t (Wipe l (p ∷ ps) ∷ []) un.since refl (allowed, tt);
+      still = λ m n h at. nodes_stay_law t (Wipe l (p ∷ ps)) m n
+          (λ (e : Some l ≡ Some m). let same : m ≡ l = cc in not_true (has_label ls l) (and_left (not (has_label ls l)) (has_no_repeats ls) once) (subst (λ k. IsTrue (has_label ls k)) same h))
+          (un.still m n (or_right (same_label l m) (has_label ls m) h) at);
+    },
+  )
 
   wipe_one : (t : State) (l : Label) (ls : List Label) (o : Option Node) → node_at s.graph l ≡ o → Unwiped t (l ∷ ls) → IsTrue (has_no_repeats (l ∷ ls)) → IsTrue (has_label (l ∷ ls) l) → Wiped t l ls (gone_keys s o)
   wipe_one t l ls None at un once own = (tt, unwiped_rest t l ls un)

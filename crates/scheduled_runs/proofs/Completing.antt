@@ -1,14 +1,13 @@
 -- What a schedule's collection leaves is complete, so it may be collected, answered and ended.
-use Rattle.std.proofs.Common.{◌≡◌, ℕ, zero, suc, Bool, true, false, cond, not, ◌&&◌, ◌||◌, IsTrue, List, [], ◌∷◌, ◌++◌, map, length, filter_map, get_or, set, option_to_list, refl, sym, ap, ◌∙◌, subst, ⊎_elim, append_assoc, Some, None}
+use Rattle.std.proofs.Common.{◌≡◌, ℕ, zero, suc, Bool, true, false, cond, not, ◌&&◌, ◌||◌, IsTrue, List, [], ◌∷◌, ◌++◌, map, length, filter_map, get_or, option_to_list, refl, sym, ap, ◌∙◌, subst, ⊎_elim, Some, None}
 use Rattle.std.specs.Prelude.{Option, flat_map, option_map, slice_get, slice_index_or}
 use Rattle.std.specs.List.{cons_option, list_all, list_any}
 use Rattle.std.specs.Option.{option_map_or}
 use Rattle.std.proofs.lemmas.Bool.{and_parts}
 use Rattle.std.proofs.lemmas.List.Folds.{list_all-append}
-use Rattle.heap_model.specs.declared.command.Command.TheVariants.{FullMajor}
 use Rattle.heap_model.specs.declared.label.Label.{Label}
 use Rattle.heap_model.specs.declared.entry.Entry.{Entry}
-use Rattle.heap_model.specs.declared.entry.Entry.TheVariants.{Command as CommandOf, Cut, Queue, Seal, Wipe, Last, Collected, Done}
+use Rattle.heap_model.specs.declared.entry.Entry.TheVariants.{Cut, Seal, Wipe, Last, Collected, Done}
 use Rattle.heap_model.specs.declared.graph.Node.{Node}
 use Rattle.heap_model.specs.declared.graph.Node.TheVariants.{Plain, Raw, Ephe}
 use Rattle.heap_model.specs.declared.graph.Value.TheVariants.{Nothing as NoValue}
@@ -21,23 +20,22 @@ use Rattle.heap_model.specs.declared.state.State.{State}
 use Rattle.heap_model.specs.Graph.{Graph, has_label, label_of, labels, node_at}
 use Rattle.heap_model.specs.Domains.{domain_at, is_reachable_with, no_domain, opening, pending_label, queues, reach, roots, settled_reach, settled_roots, waiting, with_domain}
 use Rattle.heap_model.specs.Reach.{IsClosedGraph, IsClosedUnder, IsLeastClosed, edges_of, key_holds, reachable}
-use Rattle.heap_model.specs.Entries.{CollectedAllowed, DoneAllowed, at_places, ephe_holds, freshened, full_keys, has_gone_keys, has_keys, has_live_keys, is_gone, is_let_go, is_sealed, is_some_and, keys_are_live, keys_at, left_reach, next, opened, queued_last, with_finals_open, with_last_queued, with_lasts_open, with_queued, with_wiped, wiped}
+use Rattle.heap_model.specs.Entries.{CollectedAllowed, DoneAllowed, at_places, ephe_holds, freshened, full_keys, has_keys, has_live_keys, is_gone, is_let_go, is_sealed, is_some_and, keys_are_live, keys_at, left_reach, next, opened, queued_last, with_finals_open, with_last_queued, with_lasts_open, with_queued, with_wiped, wiped}
 use Rattle.heap_model.specs.History.{Legal, LegalFrom, state_after}
-use Rattle.heap_model.specs.WellFormed.{IsWellFormed, names_of}
+use Rattle.heap_model.specs.WellFormed.{IsWellFormed}
 use Rattle.heap_model.proofs.Collections.CollectionLemmas.{all_has}
-use Rattle.heap_model.proofs.Collections.CutLemmas.{holds_after, is_collecting, last_keeps_settled_reach, part_same, pending_labels, queues_mapped}
+use Rattle.heap_model.proofs.Collections.CutLemmas.{holds_after, is_collecting, part_same, pending_labels}
 use Rattle.heap_model.proofs.Collections.MarkLemmas.{all_labels, done_marked}
-use Rattle.heap_model.proofs.Collections.WipeLemmas.{wipe_keeps_settled_reach}
 use Rattle.heap_model.proofs.Commands.FrameLemmas.{part_map}
 use Rattle.heap_model.proofs.Graphs.ListLemmas.{flat_map-map}
 use Rattle.heap_model.proofs.Histories.HistoryLemmas.{legal_append, state_after-append}
 use Rattle.heap_model.proofs.Histories.WellFormedLemmas.{closed_graph, queues_named, reach_after, wf_after, wf_opening}
-use Rattle.heap_model.proofs.Reach.ReachLemmas.{Within, all_keys, has-append_cases, has-append_left, has-append_right, never_not, not_true, reachable_least, reachable_more, true_or_false}
-use Rattle.schedule_laws.specs.Sameness.{AllAlive, is_queue, is_taking}
+use Rattle.heap_model.proofs.Reach.ReachLemmas.{Within, all_keys, has-append_cases, has-append_left, has-append_right, never_not, not_true, reachable_least, reachable_more}
+use Rattle.schedule_laws.specs.Sameness.{AllAlive, is_taking}
 use Rattle.schedule_laws.specs.Scheduled.{all_lasts, all_queued, all_wiped, complete, labels_in_order}
 use Rattle.schedule_laws.proofs.Alive.{all_both}
 use Rattle.schedule_laws.proofs.Holding.{in_finals, in_queue, in_registers}
-use Rattle.schedule_laws.proofs.Keeping.{queued_keeps, queued_leaves, taken_keeps, taken_leaves}
+use Rattle.schedule_laws.proofs.Keeping.{queued_keeps, taken_keeps, taken_leaves}
 use Rattle.schedule_laws.proofs.Labelled.{labels_ordered}
 use Rattle.schedule_laws.proofs.Lasting.{all_is_taking, all_lasts_from, all_lasts_graph}
 use Rattle.schedule_laws.proofs.Queued.{others_of}
@@ -48,7 +46,7 @@ use Rattle.schedule_laws.proofs.Wiped.{all_emptied, emptied_node, is_gone_key}
 use Rattle.schedule_laws.proofs.Wiping.{all_wiped_domains, all_wiped_is_taking, all_wiped_nodes, cleaned}
 use Rattle.scheduled_runs.specs.Runs.{CompleteIsLegal, MayAnswer, Nothing, One}
 use Rattle.scheduled_runs.proofs.Clearing.{lasts_legal, may_go, wipes_legal}
-use Rattle.scheduled_runs.proofs.Queuing.{all_parts_pass, all_queued_legal, cut, cut_least, during, lives, others_fail, queued, queued_roots, seal_allowed, waiting_lives}
+use Rattle.scheduled_runs.proofs.Queuing.{all_parts_pass, all_queued_legal, cut, during, lives, others_fail, queued, seal_allowed, waiting_lives}
 
 -- what holds of each domain
 each_passes : (test : DomainState → Bool) (xs : List DomainState) → ((d : ℕ) → test (get_or xs d no_domain) ≡ true) → list_all test xs ≡ true
@@ -435,11 +433,14 @@ module _ (z : Sizes) (h : List Entry) (legal : Legal z h) (calm : (state_after (
 
   answer_legal : (answered : List Entry) → MayAnswer start answered → LegalFrom collected answered
   answer_legal _ Nothing = tt
-  answer_legal _ (One d running owed) = (record {
-    running = kept_part (λ (x : DomainState). x.ended) (λ x ns. refl) (λ x n. refl) (λ x. refl) (λ x. refl) (λ x. refl) d ∙ running;
-    fits = (refl, kept_part (λ (x : DomainState). x.due) (λ x ns. refl) (λ x n. refl) (λ x. refl) (λ x. refl) (λ x. refl) d ∙ owed);
-    full_fits = tt;
-  }, tt)
+  answer_legal _ (One d running owed) = (
+    record {
+      running = kept_part (λ (x : DomainState). x.ended) (λ x ns. refl) (λ x n. refl) (λ x. refl) (λ x. refl) (λ x. refl) d ∙ running;
+      fits = (refl, kept_part (λ (x : DomainState). x.due) (λ x ns. refl) (λ x n. refl) (λ x. refl) (λ x. refl) (λ x. refl) d ∙ owed);
+      full_fits = tt;
+    },
+    tt,
+  )
 
   answered_done : (answered : List Entry) → MayAnswer start answered → DoneAllowed (state_after collected answered)
   answered_done _ Nothing = record {

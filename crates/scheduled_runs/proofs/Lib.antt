@@ -4,3 +4,6 @@ pub mod Queuing
 pub mod Clearing
 pub mod Completing
 pub mod Turns
+pub mod Sections
+pub mod Rounds
+mod Rows

@@ -1,5 +1,5 @@
 -- What a schedule's collection queues may be queued, and behind it the collection may be sealed.
-use Rattle.std.proofs.Common.{◌≡◌, ◌≢◌, ℕ, zero, suc, ◌+◌, ◌≤◌, ◌<◌, Bool, true, false, not, ◌&&◌, IsTrue, List, [], ◌∷◌, ◌++◌, map, length, filter_map, get_or, refl, sym, ap, ◌∙◌, subst, ⊎_elim, arith, Some, None}
+use Rattle.std.proofs.Common.{◌≡◌, ℕ, zero, suc, ◌+◌, ◌≤◌, Bool, true, false, not, ◌&&◌, IsTrue, List, [], ◌∷◌, ◌++◌, map, length, filter_map, get_or, refl, sym, ap, ◌∙◌, subst, ⊎_elim, arith, Some, None}
 use Rattle.std.specs.Prelude.{Option, cond, drop, flat_map, nat_lt, reverse, slice_get, slice_index_or}
 use Rattle.std.specs.List.{list_all, range_with_len}
 use Rattle.std.proofs.Math.Seq.{drop-append_seam}
@@ -19,20 +19,18 @@ use Rattle.heap_model.specs.Graph.{Graph, has_label}
 use Rattle.heap_model.specs.Domains.{domain_at, is_reachable_with, no_domain, opening, pending_label, queues, roots, waiting}
 use Rattle.heap_model.specs.Reach.{IsClosedUnder, IsLeastClosed, reachable}
 use Rattle.heap_model.specs.Entries.{QueueAllowed, SealAllowed, is_some_and, next, queued_after, queued_beyond, queued_final, with_finals_open, with_queued}
-use Rattle.heap_model.specs.History.{Legal, LegalFrom, state_after}
+use Rattle.heap_model.specs.History.{LegalFrom, state_after}
 use Rattle.heap_model.specs.WellFormed.{IsWellFormed}
 use Rattle.heap_model.proofs.Collections.CollectionLemmas.{all_has}
 use Rattle.heap_model.proofs.Collections.CutLemmas.{part_same, queues_mapped}
 use Rattle.heap_model.proofs.Collections.MarkLemmas.{seal_marked}
 use Rattle.heap_model.proofs.Graphs.ListLemmas.{set_cases}
 use Rattle.heap_model.proofs.Histories.HistoryLemmas.{legal_append, state_after-append}
-use Rattle.heap_model.proofs.Histories.WellFormedLemmas.{closed_graph, mapped_domain, wf_after, wf_opening}
-use Rattle.heap_model.proofs.Reach.ReachLemmas.{has-append_cases, reach_law, reachable_roots}
-use Rattle.schedule_laws.specs.Sameness.{is_queue}
-use Rattle.schedule_laws.specs.Scheduled.{all_queued, dead_finals, places_where, queuing}
+use Rattle.heap_model.proofs.Histories.WellFormedLemmas.{closed_graph, wf_after, wf_opening}
+use Rattle.heap_model.proofs.Reach.ReachLemmas.{reach_law}
+use Rattle.schedule_laws.specs.Scheduled.{all_queued, dead_finals, queuing}
 use Rattle.schedule_laws.proofs.Holding.{in_finals, in_registers}
-use Rattle.schedule_laws.proofs.Keeping.{domains_stay, queued_leaves}
-use Rattle.schedule_laws.proofs.Placing.{next_place}
+use Rattle.schedule_laws.proofs.Keeping.{queued_leaves}
 use Rattle.schedule_laws.proofs.Queued.{dead_of, others_of}
 use Rattle.schedule_laws.proofs.Queueing.{all_is_queue, all_queued_from}
 use Rattle.schedule_laws.proofs.Queues.{During, at_cut, dead_in, queues_during}

@@ -1,12 +1,12 @@
 -- Each turn, each complete collection and each round of a schedule makes only what may be made.
-use Rattle.std.proofs.Common.{◌≡◌, ◌≢◌, ℕ, zero, suc, ◌<◌, Bool, true, false, cond, ◌&&◌, List, [], ◌∷◌, ◌++◌, length, length-set, get_or-set_same, replicate, fold, refl, sym, ap, ◌∙◌, subst, ⊎_elim, arith}
+use Rattle.std.proofs.Common.{◌≡◌, ℕ, zero, suc, ◌<◌, Bool, true, false, List, [], ◌∷◌, length, length-set, get_or-set_same, replicate, fold, refl, sym, ap, ◌∙◌, subst, ⊎_elim, arith}
 use Rattle.std.specs.Prelude.{if◌then◌else◌, slice_index_or, slice_set}
 use Rattle.std.specs.List.{list_all, range_with_len}
 use Rattle.std.proofs.lemmas.Bool.{and_parts}
 use Rattle.heap_model.specs.declared.command.Command.{Command}
 use Rattle.heap_model.specs.declared.command.Command.TheVariants.{FullMajor, Spawn, Argument, PutResult, Join}
 use Rattle.heap_model.specs.declared.entry.Entry.{Entry}
-use Rattle.heap_model.specs.declared.entry.Entry.TheVariants.{Command as CommandOf, End, Ran}
+use Rattle.heap_model.specs.declared.entry.Entry.TheVariants.{Command as CommandOf, Ran}
 use Rattle.heap_model.specs.declared.graph.Value.TheVariants.{Block}
 use Rattle.heap_model.specs.declared.state.Mode.TheVariants.{Open}
 use Rattle.heap_model.specs.declared.state.Pending.{Pending}
@@ -15,7 +15,6 @@ use Rattle.heap_model.specs.declared.state.DomainState.{DomainState}
 use Rattle.heap_model.specs.declared.state.Sizes.{Sizes}
 use Rattle.heap_model.specs.declared.state.State.{State}
 use Rattle.heap_model.specs.Domains.{domain_at, no_domain, opening, with_domain}
-use Rattle.heap_model.specs.Commands.{CommandAllowed}
 use Rattle.heap_model.specs.Entries.{after_run, next, without_first}
 use Rattle.heap_model.specs.History.{Legal, LegalFrom, state_after}
 use Rattle.heap_model.proofs.Commands.FrameLemmas.{frame_command, inside_running}
@@ -23,7 +22,7 @@ use Rattle.heap_model.proofs.Graphs.ListLemmas.{set_cases}
 use Rattle.heap_model.proofs.Histories.HistoryLemmas.{legal_append, state_after-append}
 use Rattle.schedule_laws.specs.declared.items.Item.{Item}
 use Rattle.schedule_laws.specs.declared.items.Item.TheVariants.{Turn, Collect}
-use Rattle.schedule_laws.specs.Scheduled.{Played, all_ended, begun, behind, complete, domains_of, left_of, next_entries, played, rounds_of, take_item, take_round, take_rounds, take_turn, turn_on, with_entries, with_next}
+use Rattle.schedule_laws.specs.Scheduled.{Played, all_ended, begun, behind, complete, domains_of, left_of, next_entries, played, rounds_of, take_item, take_round, take_turn, turn_on, with_entries, with_next}
 use Rattle.scheduled_runs.specs.Runs.{IsPlainScript, MayAnswer, Nothing, One, ScheduledIsLegal, is_one_entry}
 use Rattle.scheduled_runs.proofs.Completing.{complete_legal, complete_open}
 use Rattle.scheduled_runs.proofs.Owed.{none_owed}

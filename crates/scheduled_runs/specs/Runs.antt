@@ -4,7 +4,7 @@ use Rattle.std.specs.List.{list_all}
 use Rattle.heap_model.specs.declared.command.Command.{Command}
 use Rattle.heap_model.specs.declared.command.Command.TheVariants.{FullMajor, Spawn, Argument, PutResult, Join}
 use Rattle.heap_model.specs.declared.entry.Entry.{Entry}
-use Rattle.heap_model.specs.declared.entry.Entry.TheVariants.{Command as CommandOf}
+use Rattle.heap_model.specs.declared.entry.Entry.TheVariants.{Command as CommandOf, End}
 use Rattle.heap_model.specs.declared.state.Mode.TheVariants.{Open}
 use Rattle.heap_model.specs.declared.state.Sizes.{Sizes}
 use Rattle.heap_model.specs.declared.state.State.{State}
@@ -39,9 +39,16 @@ CompleteIsLegal = (z : Sizes) (h answered : List Entry) → Legal z h → (state
 abbrev pub ScheduledIsLegal : Type 0
 ScheduledIsLegal = (z : Sizes) (script : List (List Command)) (items : List Item) → IsPlainScript script → Legal z (scheduled z script items)
 
+-- the end of domain d stands in a history
+pub record EndsIn (d : ℕ) (h : List Entry) : Type 0 where
+  pub before : List Entry
+  pub after : List Entry
+  pub is : h ≡ before ++ End d ∷ after
+
 -- in it each domain makes the commands of its section, each once and in order, and ends
 pub record MakesEach (z : Sizes) (script : List (List Command)) (h : List Entry) : Type 0 where
   pub commands_are : (d : ℕ) → d < z.domains → commands h d ≡ slice_index_or script d []
+  pub ends : (d : ℕ) → d < z.domains → EndsIn d h
   pub ended : (d : ℕ) → d < z.domains → (domain_at (state_after (opening z) h) d).ended ≡ true
 
 abbrev pub ScheduledMakesEachCommand : Type 0
