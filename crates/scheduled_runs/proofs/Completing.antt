@@ -4,7 +4,7 @@ use Rattle.std.specs.Prelude.{Option, flat_map, option_map, slice_get, slice_ind
 use Rattle.std.specs.List.{cons_option, list_all, list_any}
 use Rattle.std.specs.Option.{option_map_or}
 use Rattle.std.proofs.lemmas.Bool.{and_parts}
-use Rattle.std.proofs.lemmas.List.Folds.{list_all-append}
+use Rattle.std.proofs.lemmas.List.Folds.{list_all-append, list_all-map}
 use Rattle.heap_model.specs.declared.label.Label.{Label}
 use Rattle.heap_model.specs.declared.entry.Entry.{Entry}
 use Rattle.heap_model.specs.declared.entry.Entry.TheVariants.{Cut, Seal, Wipe, Last, Collected, Done}
@@ -56,10 +56,6 @@ each_passes test (x ∷ xs) each = ap (λ b. b && list_all test xs) (each zero) 
 all_by : {A : Type 0} (p q : A → Bool) → ((x : A) → p x ≡ true → q x ≡ true) → (xs : List A) → list_all p xs ≡ true → list_all q xs ≡ true
 all_by p q by [] all = refl
 all_by p q by (x ∷ xs) all = let parts = and_parts (p x) (list_all p xs) all in ap (λ b. b && list_all q xs) (by x parts.0) ∙ all_by p q by xs parts.1
-
-mapped_labels : {A : Type 0} (f : A → Label) (test : Label → Bool) (xs : List A) → list_all (λ x. test (f x)) xs ≡ true → list_all test (map f xs) ≡ true
-mapped_labels f test [] all = refl
-mapped_labels f test (x ∷ xs) all = let parts = and_parts (test (f x)) (list_all (λ y. test (f y)) xs) all in ap (λ b. b && list_all test (map f xs)) parts.0 ∙ mapped_labels f test xs parts.1
 
 -- an ephemeron that has lost all keys that are gone holds live ones alone
 module _ (gone alive : Label → Bool) (kept : (l : Label) → gone l ≡ false → alive l ≡ true) where
@@ -347,6 +343,9 @@ module _ (z : Sizes) (h : List Entry) (legal : Legal z h) (calm : (state_after (
   gone_dead : (l : Label) → gone_in sealed l ≡ true → IsTrue (not (alive l))
   gone_dead l e = never_not (alive l) (λ a. not_true (has_label (settled_reach sealed (queues sealed)) l) e (subst (λ ls. IsTrue (has_label ls l)) since_seal.settled (alive_settled l a)))
 
+  end_reach : reach taken_all ≡ reach sealed
+  end_reach = ap reach (sym both_state) ∙ taken_reached sealed (wipes ++ lasts) both_taking both_legal
+
   -- each key of a block that is reached is live
   labelled : (l : Label) → IsTrue (alive l) → IsTrue (has_label (labels sealed.graph) l)
   labelled l a =
@@ -354,9 +353,6 @@ module _ (z : Sizes) (h : List Entry) (legal : Legal z h) (calm : (state_after (
       let closed : IsClosedGraph sealed.graph (roots sealed (queues sealed)) = closed_graph sealed wf (queues sealed) (queues_named sealed.graph sealed.domains (λ k. (wf.domains k).queue)) in
       let was : IsTrue (has_label (reach sealed) l) = subst (λ ls. IsTrue (has_label ls l)) end_reach a in
       reachable_least sealed.graph (has_label (labels sealed.graph)) (λ x m b c. closed.edges_have_nodes (has_label (labels sealed.graph)) x m c) (roots sealed (queues sealed)) closed.roots_have_nodes l was
-    where
-      end_reach : reach taken_all ≡ reach sealed
-      end_reach = ap reach (sym both_state) ∙ taken_reached sealed (wipes ++ lasts) both_taking both_legal
 
   end_graph : taken_all.graph ≡ clean.graph
   end_graph = all_lasts_graph (may_go clean) clean
@@ -365,7 +361,7 @@ module _ (z : Sizes) (h : List Entry) (legal : Legal z h) (calm : (state_after (
   end_node l a =
       let ordered : IsTrue (has_label (labels_in_order sealed) l) =
       subst (λ (s : State). (m : Label) → IsTrue (has_label (labels s.graph) m) → IsTrue (has_label (labels_in_order s) m)) seal_state (labels_ordered z until_seal legal_seal) l (labelled l a) in
-      let was : IsTrue (has_label (reach sealed) l) = subst (λ ls. IsTrue (has_label ls l)) (ap reach (sym both_state) ∙ taken_reached sealed (wipes ++ lasts) both_taking both_legal) a in
+      let was : IsTrue (has_label (reach sealed) l) = subst (λ ls. IsTrue (has_label ls l)) end_reach a in
       ap (λ g. node_at g l) end_graph ∙ all_wiped_nodes sealed l was ordered ∙ mapped (node_at sealed.graph l)
     where
       mapped : (o : Option Node) → cleaned sealed o ≡ option_map (emptied_node (gone_in sealed)) o
@@ -417,7 +413,7 @@ module _ (z : Sizes) (h : List Entry) (legal : Legal z h) (calm : (state_after (
   done_allowed : DoneAllowed taken_all
   done_allowed = done_marked taken_all alive (ap is_sealed end_mode)
       (record { roots = end_least.holds_roots; waiting = waiting_alive; closed = end_least.closed })
-      (all_has alive (flat_map in_lasts taken_all.domains) (all_parts_pass in_lasts alive taken_all.domains (λ d. mapped_labels (λ (f : LastFinaliser). f.label) alive (domain_at taken_all d).lasts (lasts_alive d))))
+      (all_has alive (flat_map in_lasts taken_all.domains) (all_parts_pass in_lasts alive taken_all.domains (λ d. list_all-map alive (λ (f : LastFinaliser). f.label) (domain_at taken_all d).lasts ∙ lasts_alive d)))
       (λ x k a has. live_keys_of (node_at taken_all.graph x) k (keys_live x a) has)
       (λ l a. gone_dead l (all_has (gone_in sealed) taken_all.taken (taken_gone sealed clean lasts since_clean lasts_taking lasts_are (taken_gone sealed sealed wipes (at_seal sealed seal_lows) (all_wiped_is_taking sealed) wipes_are refl)) l a))
 

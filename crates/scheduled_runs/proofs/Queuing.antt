@@ -5,7 +5,7 @@ use Rattle.std.specs.List.{list_all, range_with_len}
 use Rattle.std.proofs.Math.Seq.{drop-append_seam}
 use Rattle.std.proofs.lemmas.Bool.{and_parts}
 use Rattle.std.proofs.lemmas.List.{reverse-append}
-use Rattle.std.proofs.lemmas.List.Folds.{list_all-append}
+use Rattle.std.proofs.lemmas.List.Folds.{list_all-append, list_all-map}
 use Rattle.heap_model.specs.declared.label.Label.{Label}
 use Rattle.heap_model.specs.declared.entry.Entry.{Entry}
 use Rattle.heap_model.specs.declared.entry.Entry.TheVariants.{Cut, Queue}
@@ -60,10 +60,6 @@ all_reversed test (x ∷ xs) all =
     let parts = and_parts (test x) (list_all test xs) all in
     ap (list_all test) (reverse-append (x ∷ []) xs) ∙ list_all-append test (reverse xs) (x ∷ []) ∙ ap (λ b. b && list_all test (x ∷ [])) (all_reversed test xs parts.1) ∙ ap (λ b. b && true) parts.0
 
-all_mapped : {A B : Type 0} (f : A → B) (test : B → Bool) (xs : List A) → list_all (λ x. test (f x)) xs ≡ true → list_all test (map f xs) ≡ true
-all_mapped f test [] all = refl
-all_mapped f test (x ∷ xs) all = let parts = and_parts (test (f x)) (list_all (λ y. test (f y)) xs) all in ap (λ b. b && list_all test (map f xs)) parts.0 ∙ all_mapped f test xs parts.1
-
 -- what holds of all domains' parts
 pub all_parts_pass : {A : Type 0} (parts : DomainState → List A) (test : A → Bool) (xs : List DomainState) → ((d : ℕ) → list_all test (parts (get_or xs d no_domain)) ≡ true) → list_all test (flat_map parts xs) ≡ true
 all_parts_pass parts test [] each = refl
@@ -83,7 +79,7 @@ beyond_pass test (y ∷ ys) (x ∷ xs) gone grown all =
     let rest : List Label = queued_beyond (map (λ v. v.queue) ys) (map (λ v. v.queue) xs) in
     let own : queued_after y.queue (Some x.queue) ≡ map (λ f. f.label) (gone 0) =
     ap (λ q. filter_map pending_label (drop (length x.queue) q)) (grown 0) ∙ ap (filter_map pending_label) (drop-append_seam x.queue (map queued_final (gone 0))) ∙ queued_labels (gone 0) in
-    list_all-append test (queued_after y.queue (Some x.queue)) rest ∙ ap (λ b. b && list_all test rest) (ap (list_all test) own ∙ all_mapped (λ f. f.label) test (gone 0) (all 0))
+    list_all-append test (queued_after y.queue (Some x.queue)) rest ∙ ap (λ b. b && list_all test rest) (ap (list_all test) own ∙ list_all-map test (λ (f : Finaliser). f.label) (gone 0) ∙ all 0)
     ∙ beyond_pass test ys xs (λ d. gone (suc d)) (λ d. grown (suc d)) (λ d. all (suc d))
 
 -- what is dead depends on the blocks, the registers and the queues at the cut
