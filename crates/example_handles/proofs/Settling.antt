@@ -1,12 +1,10 @@
 -- How resources are closed, one after the other.
-use Rattle.std.proofs.Common.{◌≡◌, ◌≢◌, ◌∙◌, ℕ, zero, suc, ◌+◌, ◌<◌, Bool, true, false, List, [], ◌∷◌, ◌++◌, length, refl, sym, ap, subst, true≢false, eqb-true, inl, inr, ⊎_elim}
-use Rattle.std.specs.Prelude.{◌⊎◌, ◌==◌, ◌||◌, Option, Some, None, get_or, option_map, set, slice_get, take}
-use Rattle.std.proofs.lemmas.List.Folds.{list_any_more}
-use Rattle.heap_model.proofs.Commands.FrameLemmas.{not_same}
+use Rattle.std.proofs.Common.{◌≡◌, ◌≢◌, ◌∙◌, ℕ, zero, suc, Bool, true, false, List, [], ◌∷◌, ◌++◌, length, refl, sym, ap, true≢false, inl, inr, ⊎_elim}
+use Rattle.std.specs.Prelude.{◌⊎◌, ◌||◌, Option, Some, None, option_map, slice_get}
 use Rattle.heap_model.specs.declared.reply.Reply.{Reply}
 use Rattle.example_handles.specs.declared.resource.Resource.{Resource}
 use Rattle.example_handles.specs.declared.resource.Resource.TheVariants.{Open, ClosedByOwner, ClosedByFinaliser}
-use Rattle.example_handles.specs.Resources.{Closes, Settled, closed_if, is_last, is_open, names}
+use Rattle.example_handles.specs.Resources.{Settled, closed_if, is_open, names}
 
 -- what isn't asked to close, or isn't open, stays
 pub stays : (o : Option Resource) (b : Bool) (closed : Resource) → (b ≡ true → is_open o ≡ false) → o ≡ option_map (closed_if b closed) o
@@ -15,34 +13,6 @@ stays (Some r) false closed shut = refl
 stays (Some Open) true closed shut = absurd (true≢false (shut refl))
 stays (Some ClosedByOwner) true closed shut = refl
 stays (Some ClosedByFinaliser) true closed shut = refl
-
-set_here : (xs : List Resource) (n : ℕ) (x y : Resource) → slice_get xs n ≡ Some x → slice_get (set xs n y) n ≡ Some y
-set_here [] n x y is = cc
-set_here (z ∷ xs) zero x y is = refl
-set_here (z ∷ xs) (suc n) x y is = set_here xs n x y is
-
-set_other : (xs : List Resource) (n k : ℕ) (y : Resource) → n ≢ k → slice_get (set xs n y) k ≡ slice_get xs k
-set_other [] n k y other = refl
-set_other (z ∷ xs) zero zero y other = absurd (other refl)
-set_other (z ∷ xs) zero (suc k) y other = refl
-set_other (z ∷ xs) (suc n) zero y other = refl
-set_other (z ∷ xs) (suc n) (suc k) y other = set_other xs n k y (λ e. other (ap suc e))
-
--- one open resource is closed
-pub closes_set : (xs : List Resource) (n : ℕ) (closed : Resource) → slice_get xs n ≡ Some Open → Closes xs n closed (set xs n closed)
-closes_set xs n closed is k = go (n == k) refl
-  where
-    go : (b : Bool) → (n == k) ≡ b → slice_get (set xs n closed) k ≡ option_map (closed_if (n == k) closed) (slice_get xs k)
-    go true e =
-        subst (λ (j : ℕ). slice_get (set xs n closed) j ≡ option_map (closed_if true closed) (slice_get xs j)) (eqb-true n k e) (set_here xs n Open closed is ∙ ap (option_map (closed_if true closed)) (sym is))
-        ∙ ap (λ (b : Bool). option_map (closed_if b closed) (slice_get xs k)) (sym e)
-    go false e =
-        set_other xs n k closed (λ same. not_same n k e (sym same))
-        ∙ (stays (slice_get xs k) false closed (λ f. cc) ∙ ap (λ (b : Bool). option_map (closed_if b closed) (slice_get xs k)) (sym e))
-
--- one that isn't stays
-pub closes_none : (xs : List Resource) (n : ℕ) (closed : Resource) → is_open (slice_get xs n) ≡ false → Closes xs n closed xs
-closes_none xs n closed shut k = stays (slice_get xs k) (n == k) closed (λ e. subst (λ (j : ℕ). is_open (slice_get xs j) ≡ false) (eqb-true n k e) shut)
 
 -- by two finalisers, one after the other
 twice : (a b : Bool) (o : Option Resource) → option_map (closed_if a ClosedByFinaliser) (option_map (closed_if b ClosedByFinaliser) o) ≡ option_map (closed_if (b || a) ClosedByFinaliser) o
@@ -57,14 +27,6 @@ twice false true (Some ClosedByFinaliser) = refl
 
 pub settled_none : (xs : List Resource) → Settled xs [] xs
 settled_none xs k = stays (slice_get xs k) false ClosedByFinaliser (λ e. cc)
-
--- and one reply more
-pub settled_more : (xs ys zs : List Resource) (ran : List Reply) (i : ℕ) (d : Reply) → i < length ran → Settled xs (take i ran) ys
-    → ((k : ℕ) → slice_get zs k ≡ option_map (closed_if (is_last k (get_or ran i d)) ClosedByFinaliser) (slice_get ys k)) → Settled xs (take (i + 1) ran) zs
-settled_more xs ys zs ran i d within before one k =
-    one k ∙ (ap (option_map (closed_if (is_last k (get_or ran i d)) ClosedByFinaliser)) (before k)
-    ∙ (twice (is_last k (get_or ran i d)) (names (take i ran) k) (slice_get xs k)
-    ∙ ap (λ (b : Bool). option_map (closed_if b ClosedByFinaliser) (slice_get xs k)) (sym (list_any_more (is_last k) ran i d within))))
 
 -- replies that came before close nothing more
 same_closing : (o : Option Resource) (a b : Bool) → (a ≡ true → o ≢ Some Open) → option_map (closed_if b ClosedByFinaliser) o ≡ option_map (closed_if (a || b) ClosedByFinaliser) o

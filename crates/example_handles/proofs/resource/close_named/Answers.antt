@@ -1,4 +1,4 @@
-use Rattle.example_handles.proofs.Settling.{settled_more, settled_none, stays}
+use Rattle.example_handles.proofs.Settling.{settled_none}
 use Rattle.example_handles.proofs.resource.close_named.Goals as goal
 
 pub replies-init : goal.replies-init
