@@ -16,8 +16,31 @@ use rest_pool::{Keeper, Pool};
 use std::sync::Wait;
 use thread_drive::Waiter;
 
-// What a seat does behind a turn: where that came on, it tells the others. Else it takes a domain along that rests, and
-// waits where that comes nowhere either.
+// How many things rest at most.
+const MOST_RESTING: u32 = 8;
+
+// Takes domains along that rest, until one came on. Answers whether one did. It looks at as many as there may be: with
+// one alone a thread could sleep while another one that rests has something to do.
+fn help_any<R: Wait>(
+    rt: &R,
+    heap: &Heap,
+    pool: &Pool<Heap, Idle>,
+    keeper: &mut Keeper<Idle>,
+) -> bool
+    requires pool { keeper.old.pool ≡ pool.now }
+    requires keeps { KeepsHeap heap.now keeper.old.rests }
+    ensures same { keeper.new ≡ keeper.old }
+{
+    'resting: for _ in 0..MOST_RESTING {
+        if pool.help(rt, heap, keeper) {
+            return true;
+        }
+    }
+    false
+}
+
+// What a seat does behind a turn: where that came on, it tells the others. Else it takes domains along that rest, and
+// waits where none of them comes on either.
 pub(crate) fn go_along<R: Wait>(
     rt: &R,
     heap: &Heap,
@@ -32,7 +55,7 @@ pub(crate) fn go_along<R: Wait>(
     requires keeps { KeepsHeap heap.now keeper.old.rests }
     ensures same { keeper.new ≡ keeper.old }
 {
-    if came == Came::On || pool.help(rt, heap, keeper) {
+    if came == Came::On || help_any(rt, heap, pool, keeper) {
         events.notify_all();
         waiter.went_on();
     } else {
