@@ -8,7 +8,7 @@ use Rattle.heap_model.specs.declared.state.Pending.{Pending}
 use Rattle.heap_model.specs.declared.state.Pending.TheVariants.{Last as LastPending}
 use Rattle.heap_model.specs.declared.graph.Value.TheVariants.{Block}
 use Rattle.heap_model.specs.Domains.{IsWithinLimits, domain_at, opening, register}
-use Rattle.heap_model.specs.History.{IsPrefix, commands}
+use Rattle.heap_model.specs.History.{IsPrefix, Legal, commands}
 use Rattle.heap_model.specs.Registrations.{all_registered}
 use Rattle.heap_rule.specs.Limits.{sizes_in}
 use Rattle.heap_rule.specs.Rule.{state_of}
@@ -108,9 +108,13 @@ pub record Collects (old new : HandlesView) : Type 0 where
   pub made_are : commands new.session.front 0 ≡ commands old.session.front 0 ++ FullMajor ∷ Poll ∷ []
   pub settles : Settles old new
 
--- the resources are those that one more collection leaves
-abbrev pub StopLeaves : HandlesView → List Resource → Type 0
-StopLeaves old resources = (new : HandlesView) × Collects old new × (resources ≡ new.resources)
+-- the resources are those that one more collection leaves, in a legal history
+pub record StopLeaves (old : HandlesView) (resources : List Resource) : Type 0 where
+  pub new : HandlesView
+  pub collects : Collects old new
+  pub kept : IsHandles new
+  pub legal : Legal (sizes_in new.session.config) new.session.front
+  pub resources_are : resources ≡ new.resources
 
 -- what a session performed
 pub record Performs (old new : SessionView) (c : Command) (r : Reply) : Type 0 where

@@ -50,6 +50,7 @@ impl Handles {
         most: u32,
     ) -> Result<Handles, StartFault>
         ensures outside { (k : ℕ) → (result ≡ Err (StartFault.Config k)) ↔ (first_outside (alone minor_words pools most 0) ≡ Some k) }
+        ensures config { IfOk result (λ h. h.session.config ≡ alone minor_words pools most 0) }
         ensures none { IfOk result (λ h. h.resources ≡ []) }
         ensures most { IfOk result (λ h. h.most ≡ most) }
         ensures start { IfOk result (λ h. h.session.front ≡ []) }
@@ -129,6 +130,8 @@ impl Handles {
     {
         let mut handles = self;
         handles.collect(rt);
+        handles.is_kept();
+        handles.session.is_legal();
         let Handles {
             session,
             resources,

@@ -6,7 +6,7 @@ pub fn complete_is_legal()
     ensures { CompleteIsLegal }
 {}
 
-/// The scheduled history of a script is legal, whatever the schedule.
+/// The scheduled history of a script that neither spawns nor joins is legal, whatever the schedule.
 pub fn scheduled_is_legal()
     ensures { ScheduledIsLegal }
 {}
