@@ -5,7 +5,7 @@ use Rattle.heap_model.specs.declared.state.Sizes.{Sizes}
 use Rattle.heap_model.specs.Domains.{class_count}
 use Rattle.heap_model.specs.History.{Legal}
 use Rattle.heap_rule.specs.Ending.{EndedHeap}
-use Rattle.heap_session.specs.Sessions.{alone}
+use Rattle.heap_session.specs.Sessions.{alone, fresh}
 use Rattle.table_text.specs.declared.line.TableLine.{TableLine}
 use Rattle.table_machine.specs.declared.reply.LineReply.{LineReply}
 use Rattle.table_machine.specs.Texts.{replies_text}
@@ -25,7 +25,7 @@ ephemerons_for lines = 16 + length lines
 
 -- a session of such a heap that has made no command, and room for a reply to each line
 pub record IsOpened (z : Sizes) (lines : List TableLine) (o : Opened) : Type 0 where
-  pub session : o.session ≡ record { config = alone z.minor_words z.pools 0 (ephemerons_for lines); front = []; labels = 0; room = ephemerons_for lines; finals = 0; ran = [] }
+  pub session : o.session ≡ fresh (alone z.minor_words z.pools 0 (ephemerons_for lines))
   pub empty : o.room.items ≡ []
   pub capacity : length lines ≤ vec_capacity o.room
 

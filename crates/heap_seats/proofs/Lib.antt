@@ -4,3 +4,4 @@ mod Closed
 mod Stopped
 mod Opening
 mod Seated
+pub mod Refused

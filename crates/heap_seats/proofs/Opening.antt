@@ -8,6 +8,7 @@ use Rattle.heap_rule.specs.Opening.{opening_token, opening_tokens}
 use Rattle.heap_rule.specs.Token.{SharedHeap}
 use Rattle.mark_slices.specs.Decks.{DeckCounts, uncounted}
 use Rattle.domain_turns.proofs.Beginning.{opening_begins}
+use Rattle.open_runs.specs.Counting.{no_stats}
 use Rattle.heap_seats.specs.Idling.{IsIdleIn}
 use Rattle.heap_seats.specs.Seating.{MayOpen, SeatsView, deck_of, fresh_seats, opened, seat_with}
 
@@ -31,7 +32,7 @@ seats_are s k from (suc n) same =
     let rest = seats_are s k (from + 1) n same in
     let none : k.finals - 0 ≡ k.finals = omega arith in
     let left : k.finals - 0 ≡ s.heap.config.finals = none ∙ ap (λ (c : Config). c.finals) (sym same) in
-    (λ i. record { heap = record { table = s.heap.table; config = sym same i }; pool = s.pool; number = from; front = []; labels = 0; room = (sym same i).ephes; finals = left i; ran = [] } ∷ rest i)
+    (λ i. record { heap = record { table = s.heap.table; config = sym same i }; pool = s.pool; number = from; front = []; labels = 0; room = (sym same i).ephes; finals = left i; stats = no_stats; ran = [] } ∷ rest i)
 
 pub idle_each : (s : SharedHeap) (k : Config) (from n : ℕ) → s.config ≡ k → AllByRecursion (IsIdleIn s) (map opened (opening_tokens s.table k from n))
 idle_each s k from zero same = tt

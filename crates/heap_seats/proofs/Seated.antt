@@ -14,6 +14,7 @@ use Rattle.domain_turns.specs.Tries.{registrations_of}
 use Rattle.domain_turns.proofs.Handed.{finalised_commands, finalised_replies, performed_commands, performed_replies}
 use Rattle.rest_pool.specs.Keeping.{KeeperView}
 use Rattle.heap_seats.specs.declared.idle.Idle.{Idle}
+use Rattle.open_runs.specs.Counting.{stats_of}
 use Rattle.open_runs.specs.Driving.{Answered}
 use Rattle.heap_seats.specs.Idling.{IsIdleIn, KeepsHeap, StaysIdle, finals_of}
 use Rattle.heap_seats.specs.Seating.{GoesAlong, IsResting, IsSeat, IsSeatOf, SeatView, SeatsView, heap_of, seat_of, seat_with}
@@ -39,21 +40,21 @@ sits heap pool r k x s seat is seats of =
 
 -- what is the same of a run further on
 pub seat_after : (h : SharedHeap) (pool : TableId) (r n : RunView) → IsIn r.token h → IsIn n.token h → n.token.view.own.number ≡ r.token.view.own.number
-    → seat_with pool n ≡ record (seat_with pool r) { front = n.token.view.seen.front; labels = n.token.view.own.serial; room = n.token.view.own.ephemerons.room; finals = finals_of n; ran = n.ran }
+    → seat_with pool n ≡ record (seat_with pool r) { front = n.token.view.seen.front; labels = n.token.view.own.serial; room = n.token.view.own.ephemerons.room; finals = finals_of n; stats = stats_of n.token.view.own; ran = n.ran }
 seat_after h pool r n was is number =
     let table = is.0 ∙ sym was.0 in
     let config = is.1 ∙ sym was.1 in
-    (λ i. record { heap = record { table = table i; config = config i }; pool = pool; number = number i; front = n.token.view.seen.front; labels = n.token.view.own.serial; room = n.token.view.own.ephemerons.room; finals = finals_of n; ran = n.ran })
+    (λ i. record { heap = record { table = table i; config = config i }; pool = pool; number = number i; front = n.token.view.seen.front; labels = n.token.view.own.serial; room = n.token.view.own.ephemerons.room; finals = finals_of n; stats = stats_of n.token.view.own; ran = n.ran })
 
 -- and where it made no entry
 pub idle_after : (h : SharedHeap) (pool : TableId) (r n : RunView) → IsIn r.token h → IsIn n.token h → StaysIdle r n
-    → seat_with pool n ≡ record (seat_with pool r) { front = n.token.view.seen.front; room = n.token.view.own.ephemerons.room; finals = finals_of n; ran = n.ran }
+    → seat_with pool n ≡ record (seat_with pool r) { front = n.token.view.seen.front; room = n.token.view.own.ephemerons.room; finals = finals_of n; stats = stats_of n.token.view.own; ran = n.ran }
 idle_after h pool r n was is stays =
     let table = is.0 ∙ sym was.0 in
     let config = is.1 ∙ sym was.1 in
     let number = stays.number in
     let labels : n.token.view.own.serial ≡ r.token.view.own.serial = let more = stays.takes.labels_are in omega (arith, more) in
-    (λ i. record { heap = record { table = table i; config = config i }; pool = pool; number = number i; front = n.token.view.seen.front; labels = labels i; room = n.token.view.own.ephemerons.room; finals = finals_of n; ran = n.ran })
+    (λ i. record { heap = record { table = table i; config = config i }; pool = pool; number = number i; front = n.token.view.seen.front; labels = labels i; room = n.token.view.own.ephemerons.room; finals = finals_of n; stats = stats_of n.token.view.own; ran = n.ran })
 
 -- it keeps runs of its heap, and waits
 pub seat_again : (h : SharedHeap) (n : RunView) (k : KeeperView Idle) → IsIdleIn h n → KeepsHeap h k.rests → IsSeat n k

@@ -12,7 +12,9 @@ use Rattle.mark_slices.specs.Decks.{DeckCounts, uncounted}
 use Rattle.domain_turns.specs.declared.supply.Supply.TheVariants.{Open}
 use Rattle.domain_turns.specs.Runs.{RunView, CanBegin, unturned}
 use Rattle.domain_turns.specs.Handed.{Finalised}
+use Rattle.open_runs.specs.Counting.{no_stats, stats_of}
 use Rattle.open_runs.specs.Refusing.{Takes}
+use Rattle.open_runs.specs.declared.counting.Stats.{Stats}
 use Rattle.rest_pool.specs.Keeping.{KeeperView}
 use Rattle.heap_seats.specs.declared.idle.Idle.{Idle}
 use Rattle.heap_seats.specs.Idling.{KeepsHeap, finals_of}
@@ -22,7 +24,7 @@ pub record SeatsView : Type 0 where
   pub heap : SharedHeap
   pub pool : TableId
 
--- a seat: its heap, the pool, the domain's number, what the domain has seen of the history, how many labels were given out, how many more ephemerons and finalisers fit, and the replies of the finalisers that have run since the last command was handed in
+-- a seat: its heap, the pool, the domain's number, what the domain has seen of the history, how many labels were given out, how many more ephemerons and finalisers fit, what the domain counts, and the replies of the finalisers that have run since the last command was handed in
 pub record SeatView : Type 0 where
   pub heap : SharedHeap
   pub pool : TableId
@@ -31,6 +33,7 @@ pub record SeatView : Type 0 where
   pub labels : ℕ
   pub room : ℕ
   pub finals : ℕ
+  pub stats : Stats
   pub ran : List Reply
 
 -- the heap of a run
@@ -38,14 +41,14 @@ abbrev pub heap_of : RunView → SharedHeap
 heap_of r = record { table = r.token.table; config = r.token.config }
 
 abbrev pub seat_with : TableId → RunView → SeatView
-seat_with pool r = record { heap = heap_of r; pool = pool; number = r.token.view.own.number; front = r.token.view.seen.front; labels = r.token.view.own.serial; room = r.token.view.own.ephemerons.room; finals = finals_of r; ran = r.ran }
+seat_with pool r = record { heap = heap_of r; pool = pool; number = r.token.view.own.number; front = r.token.view.seen.front; labels = r.token.view.own.serial; room = r.token.view.own.ephemerons.room; finals = finals_of r; stats = stats_of r.token.view.own; ran = r.ran }
 
 -- the seat of a run, and one of no heap
 abbrev pub no_table : TableId
 no_table = record { words = 0; slots = 0; views_name = 0; atom = 0; block = 0; offset = 0; slot_names = [] }
 
 abbrev pub no_seat : TableId → SeatView
-no_seat pool = record { heap = record { table = no_table; config = record { domains = 0; minor_words = 0; pools = 0; finals = 0; ephes = 0 } }; pool = pool; number = 0; front = []; labels = 0; room = 0; finals = 0; ran = [] }
+no_seat pool = record { heap = record { table = no_table; config = record { domains = 0; minor_words = 0; pools = 0; finals = 0; ephes = 0 } }; pool = pool; number = 0; front = []; labels = 0; room = 0; finals = 0; stats = no_stats; ran = [] }
 
 abbrev pub seat_of : TableId → Option Idle → SeatView
 seat_of pool None = no_seat pool
@@ -85,7 +88,7 @@ pub record GoesAlong (old new : SeatView) : Type 0 where
 -- the seats of a heap that has just started, from this number on
 abbrev pub fresh_seats : SeatsView → ℕ → ℕ → List SeatView
 fresh_seats s from zero = []
-fresh_seats s from (suc n) = record { heap = s.heap; pool = s.pool; number = from; front = []; labels = 0; room = s.heap.config.ephes; finals = s.heap.config.finals; ran = [] } ∷ fresh_seats s (from + 1) n
+fresh_seats s from (suc n) = record { heap = s.heap; pool = s.pool; number = from; front = []; labels = 0; room = s.heap.config.ephes; finals = s.heap.config.finals; stats = no_stats; ran = [] } ∷ fresh_seats s (from + 1) n
 
 -- the hints of a domain, before its first command
 abbrev pub deck_of : Token → DeckCounts

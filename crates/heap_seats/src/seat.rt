@@ -17,14 +17,14 @@ use crate::seats::Seats;
 use domain_turns::{DomainRun, show};
 use heap_model::command::Command;
 use heap_model::reply::Reply;
-use open_runs::{Refusal, refuses};
+use open_runs::{Refusal, Stats, refuses, stats};
 use rest_pool::Keeper;
 use std::marker::Model;
 use std::sync::Wait;
 
 /// A domain of a heap, on which its owner makes commands. It may move between threads. Contracts see the heap, the
 /// domain's number, what the domain has seen of the history so far, how many labels were given out, how many more
-/// ephemerons and finalisers fit, and the replies of the finalisers that have run since the last command was handed in.
+/// ephemerons and finalisers fit, what the domain counts, and the replies of the finalisers that have run since the last command was handed in.
 #[derive(Drop)]
 pub struct Seat {
     pub(crate) run: DomainRun,
@@ -97,6 +97,17 @@ impl Seat {
         u32::MAX - self.run.domain().labels_made()
     }
 
+    /// What the domain counts: labels, words of its minor area, remembered fields, ephemerons, finalisers and arrivals.
+    pub fn stats(&self) -> Stats
+        ensures stats { result ≡ self.now.stats }
+        ensures labels { result.labels ≡ self.now.labels }
+        ensures young { result.young_words ≤ self.now.heap.config.minor_words }
+        ensures finals { result.registered + result.waiting + self.now.finals ≡ self.now.heap.config.finals }
+    {
+        let _room = self.run.domain().finals_room();
+        stats(&self.run)
+    }
+
     /// Why [`perform`](Seat::perform) doesn't take a command: the first that is missing of what it asks. None exactly
     /// where it takes it.
     pub fn refuses(&self, command: &Command) -> Option<Refusal>
@@ -122,7 +133,7 @@ impl Seat {
     pub fn perform<R: Wait>(&mut self, rt: &R, seats: &Seats, command: Command) -> Reply
         requires here { IsSeatOf seats.now self.old }
         requires may { MayPerform self.old command }
-        ensures same { self.new ≡ record self.old { front = self.new.front; labels = self.new.labels; room = self.new.room; finals = self.new.finals; ran = self.new.ran } }
+        ensures same { self.new ≡ record self.old { front = self.new.front; labels = self.new.labels; room = self.new.room; finals = self.new.finals; stats = self.new.stats; ran = self.new.ran } }
         ensures performed { PerformedOn (sizes_in self.old.heap.config) self.old.number self.old.front self.new.front command self.new.ran result }
         ensures commands { commands_of self.new.front self.old.number ≡ commands_of self.old.front self.old.number ++ command ∷ [] }
         ensures replies { replies_of (sizes_in self.old.heap.config) self.new.front self.old.number ≡ replies_of (sizes_in self.old.heap.config) self.old.front self.old.number ++ (self.new.ran ++ result ∷ []) }
@@ -157,7 +168,7 @@ impl Seat {
     /// command. A thread that works long without one calls it now and then.
     pub fn attend<R: Wait>(&mut self, rt: &R, seats: &Seats)
         requires here { IsSeatOf seats.now self.old }
-        ensures same { self.new ≡ record self.old { front = self.new.front; room = self.new.room; finals = self.new.finals; ran = self.new.ran } }
+        ensures same { self.new ≡ record self.old { front = self.new.front; room = self.new.room; finals = self.new.finals; stats = self.new.stats; ran = self.new.ran } }
         ensures along { GoesAlong self.old self.new }
         ensures room { self.old.room ≤ self.new.room }
     {
@@ -187,7 +198,7 @@ impl Resting {
     /// The seat, which has made no command meanwhile. Finalisers of its domain may have run.
     pub fn resume<R: Wait>(self, rt: &R, seats: &Seats) -> Seat
         requires here { IsSeatOf seats.now self }
-        ensures same { result ≡ record self { front = result.front; room = result.room; finals = result.finals; ran = result.ran } }
+        ensures same { result ≡ record self { front = result.front; room = result.room; finals = result.finals; stats = result.stats; ran = result.ran } }
         ensures along { GoesAlong self result }
         ensures room { self.room ≤ result.room }
     {

@@ -1,23 +1,30 @@
 -- A session as its callers see it.
-use Rattle.std.specs.Prelude.{ℕ, ◌-◌, List}
+use Rattle.std.specs.Prelude.{ℕ, ◌-◌, List, []}
 use Rattle.heap_model.specs.declared.command.Command.{Command}
 use Rattle.heap_model.specs.declared.entry.Entry.{Entry}
 use Rattle.heap_model.specs.declared.reply.Reply.{Reply}
 use Rattle.heap_rule.specs.declared.config.Config.{Config}
+use Rattle.open_runs.specs.Counting.{no_stats}
 use Rattle.open_runs.specs.Refusing.{Takes}
+use Rattle.open_runs.specs.declared.counting.Stats.{Stats}
 
--- a session: the numbers of its heap, the history so far, how many labels were given out, how many more ephemerons and how many more finalisers fit, and the replies of the finalisers that ran before its last command
+-- a session: the numbers of its heap, the history so far, how many labels were given out, how many more ephemerons and how many more finalisers fit, what the domain counts, and the replies of the finalisers that ran before its last command
 pub record SessionView : Type 0 where
   pub config : Config
   pub front : List Entry
   pub labels : ℕ
   pub room : ℕ
   pub finals : ℕ
+  pub stats : Stats
   pub ran : List Reply
 
 -- the numbers of a heap of one domain
 abbrev pub alone : ℕ → ℕ → ℕ → ℕ → Config
 alone minor_words pools finals ephes = record { domains = 1; minor_words = minor_words; pools = pools; finals = finals; ephes = ephes }
+
+-- a session before its first command
+abbrev pub fresh : Config → SessionView
+fresh c = record { config = c; front = []; labels = 0; room = c.ephes; finals = c.finals; stats = no_stats; ran = [] }
 
 -- a session may make this command: it fits the shared heap, and there are room for the ephemeron that it makes and the finaliser that it registers, and a label for a block
 abbrev pub MayPerform : SessionView → Command → Type 0

@@ -8,7 +8,7 @@ ghost use Rattle.heap_model.specs.Domains.{IsWithinLimits, domain_at, register a
 ghost use Rattle.heap_model.specs.History.{Legal, commands, replies};
 ghost use Rattle.heap_rule.specs.Limits.{first_outside, sizes_in};
 ghost use Rattle.heap_rule.specs.Rule.{state_of};
-ghost use Rattle.heap_session.specs.Sessions.{MayPerform, alone};
+ghost use Rattle.heap_session.specs.Sessions.{MayPerform, alone, fresh};
 ghost use Rattle.open_runs.specs.Refusing.{IsRefused};
 ghost use Rattle.heap_session.specs.Stopping.{EndsAfter, StopsAfter};
 
@@ -19,14 +19,14 @@ use heap_model::command::Command;
 use heap_model::reply::Reply;
 use heap_rule::{Config, Domain, Ended, Heap, StartFault};
 use mark_slices::Hints;
-use open_runs::{Refusal, refuses};
+use open_runs::{Refusal, Stats, refuses, stats};
 use std::alloc::Global;
 use std::marker::Model;
 use std::sync::Wait;
 
 /// A heap of one domain whose commands are handed in one by one. All memory is taken when it is made. Contracts
 /// see its numbers, the history so far, how many labels were given out, how many more ephemerons and finalisers
-/// fit, and the replies of the finalisers that ran before the last command.
+/// fit, what the domain counts, and the replies of the finalisers that ran before the last command.
 #[derive(Drop)]
 pub struct Session {
     heap: Heap,
@@ -39,11 +39,12 @@ impl Model for Session {
     ghost use Rattle.std.specs.Prelude.{◌≡◌, ◌≤◌, ◌-◌, [], vec_capacity};
     ghost use Rattle.heap_session.specs.Driving.{Rests};
     ghost use Rattle.heap_session.specs.Sessions.{SessionView};
+    ghost use Rattle.open_runs.specs.Counting.{stats_of};
     ghost use Rattle.steps_finalisers.specs.Registering.{count_of};
 
     ghost Value = { SessionView };
 
-    ghost view = { λ s. record { config = s.heap.config; front = s.run.token.view.seen.front; labels = s.run.token.view.own.serial; room = s.run.token.view.own.ephemerons.room; finals = s.heap.config.finals - count_of s.run.token.view.own.finalisers; ran = s.run.ran } };
+    ghost view = { λ s. record { config = s.heap.config; front = s.run.token.view.seen.front; labels = s.run.token.view.own.serial; room = s.run.token.view.own.ephemerons.room; finals = s.heap.config.finals - count_of s.run.token.view.own.finalisers; stats = stats_of s.run.token.view.own; ran = s.run.ran } };
 
     ghost invariant = { λ s. Rests s.heap s.run × (s.room.items ≡ []) × (1 ≤ vec_capacity s.room) };
 }
@@ -62,7 +63,7 @@ impl Session {
         ephes: u32,
     ) -> Result<Session, StartFault>
         ensures outside { (k : ℕ) → (result ≡ Err (StartFault.Config k)) ↔ (first_outside (alone minor_words pools finals ephes) ≡ Some k) }
-        ensures session { IfOk result (λ s. s ≡ record { config = alone minor_words pools finals ephes; front = []; labels = 0; room = ephes; finals = finals; ran = [] }) }
+        ensures session { IfOk result (λ s. s ≡ fresh (alone minor_words pools finals ephes)) }
     {
         let config = Config {
             domains: 1,
@@ -106,6 +107,18 @@ impl Session {
         ensures { result.now ≡ self.now.ran }
     {
         self.run.ran()
+    }
+
+    /// What the domain counts: labels, words of its minor area, remembered fields, ephemerons, finalisers and arrivals.
+    pub fn stats(&self) -> Stats
+        ensures stats { result ≡ self.now.stats }
+        ensures labels { result.labels ≡ self.now.labels }
+        ensures young { result.young_words ≤ self.now.config.minor_words }
+        ensures finals { result.registered + result.waiting + self.now.finals ≡ self.now.config.finals }
+    {
+        let _config = self.heap.config();
+        let _room = self.run.domain().finals_room();
+        stats(&self.run)
     }
 
     /// Why [`perform`](Session::perform) doesn't take a command: the first that is missing of what it asks. None exactly

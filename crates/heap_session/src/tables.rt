@@ -7,7 +7,7 @@ ghost use Rattle.heap_model.specs.Registrations.{all_registered};
 ghost use Rattle.heap_model.specs.History.{Legal};
 ghost use Rattle.heap_rule.specs.Limits.{first_outside, sizes_in};
 ghost use Rattle.heap_rule.specs.Rule.{state_of};
-ghost use Rattle.heap_session.specs.Sessions.{MayPerform, alone};
+ghost use Rattle.heap_session.specs.Sessions.{MayPerform, alone, fresh};
 ghost use Rattle.heap_session.specs.Stopping.{StopsAfter};
 ghost use Rattle.table_laws.specs.Performing.{Performed};
 
@@ -50,7 +50,7 @@ impl TableSession {
         ephes: u32,
     ) -> Result<TableSession, StartFault>
         ensures outside { (k : ℕ) → (result ≡ Err (StartFault.Config k)) ↔ (first_outside (alone minor_words pools 0 ephes) ≡ Some k) }
-        ensures session { IfOk result (λ s. s ≡ record { config = alone minor_words pools 0 ephes; front = []; labels = 0; room = ephes; finals = 0; ran = [] }) }
+        ensures session { IfOk result (λ s. s ≡ fresh (alone minor_words pools 0 ephes)) }
     {
         let session = Session::make(alloc, minor_words, pools, 0, ephes)?;
         Ok(TableSession { session })

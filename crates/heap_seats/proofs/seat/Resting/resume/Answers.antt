@@ -1,4 +1,5 @@
 use Rattle.std.proofs.Common.{◌≡◌, ◌∙◌, ◌≤◌, ap, sym, subst, arith}
+use Rattle.open_runs.specs.Counting.{stats_of}
 use Rattle.rest_pool.specs.Keeping.{KeeperView}
 use Rattle.heap_seats.specs.declared.idle.Idle.{Idle}
 use Rattle.heap_seats.specs.Idling.{KeepsHeap, finals_of}
@@ -21,7 +22,7 @@ returns-clause-same g c =
     let d = dozes heap c.seats.inside.pool c.self.inside.keeper _ _ c.self.invariant c.self.view_is c.seats.view_is c.requires.here in
     let stays = c.resume-run.ensures.follows d.last d.rests in
     let pool = ap (λ (k : KeeperView Idle). k.pool) c.resume-run.ensures.same in
-    ap (λ p. seat_with p n) pool ∙ subst (λ (v : SeatView). seat_with c.self.inside.keeper.pool n ≡ record v { front = n.token.view.seen.front; room = n.token.view.own.ephemerons.room; finals = finals_of n; ran = n.ran }) d.seat (idle_after heap c.self.inside.keeper.pool d.last.run n d.idle.here c.resume-run.ensures.here.here stays)
+    ap (λ p. seat_with p n) pool ∙ subst (λ (v : SeatView). seat_with c.self.inside.keeper.pool n ≡ record v { front = n.token.view.seen.front; room = n.token.view.own.ephemerons.room; finals = finals_of n; stats = stats_of n.token.view.own; ran = n.ran }) d.seat (idle_after heap c.self.inside.keeper.pool d.last.run n d.idle.here c.resume-run.ensures.here.here stays)
 
 pub returns-clause-along : goal.returns-clause-along
 returns-clause-along g c =

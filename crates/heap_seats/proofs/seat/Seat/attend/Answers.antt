@@ -1,4 +1,5 @@
 use Rattle.std.proofs.Common.{◌≡◌, ◌∙◌, ◌≤◌, ap, sym, subst, arith}
+use Rattle.open_runs.specs.Counting.{stats_of}
 use Rattle.rest_pool.specs.Keeping.{KeeperView}
 use Rattle.heap_seats.specs.declared.idle.Idle.{Idle}
 use Rattle.heap_seats.specs.Idling.{KeepsHeap, finals_of}
@@ -22,7 +23,7 @@ returns-clause-same g c =
     let n = c.attend_calls.new.run in
     let s = sits heap c.seats.inside.pool r c.self.inside.keeper _ _ c.self.invariant c.self.view_is c.seats.view_is c.requires.here in
     let pool = ap (λ (k : KeeperView Idle). k.pool) c.attend_calls.ensures.same in
-    ap (λ p. seat_with p n) pool ∙ subst (λ (v : SeatView). seat_with c.self.inside.keeper.pool n ≡ record v { front = n.token.view.seen.front; room = n.token.view.own.ephemerons.room; finals = finals_of n; ran = n.ran }) c.self.view_is (idle_after heap c.self.inside.keeper.pool r n s.here c.attend_calls.ensures.idle.here c.attend_calls.ensures.stays)
+    ap (λ p. seat_with p n) pool ∙ subst (λ (v : SeatView). seat_with c.self.inside.keeper.pool n ≡ record v { front = n.token.view.seen.front; room = n.token.view.own.ephemerons.room; finals = finals_of n; stats = stats_of n.token.view.own; ran = n.ran }) c.self.view_is (idle_after heap c.self.inside.keeper.pool r n s.here c.attend_calls.ensures.idle.here c.attend_calls.ensures.stays)
 
 pub returns-clause-along : goal.returns-clause-along
 returns-clause-along g c = subst (λ (v : SeatView). GoesAlong v (seat_with c.attend_calls.new.keeper.pool c.attend_calls.new.run)) c.self.view_is (along c.self.inside.keeper.pool c.attend_calls.new.keeper.pool c.self.inside.run c.attend_calls.new.run c.attend_calls.ensures.stays)

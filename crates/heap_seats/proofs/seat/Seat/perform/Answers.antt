@@ -11,6 +11,7 @@ use Rattle.rest_pool.specs.Keeping.{KeeperView}
 use Rattle.heap_seats.specs.declared.idle.Idle.{Idle}
 use Rattle.heap_seats.specs.Idling.{KeepsHeap, finals_of}
 use Rattle.heap_seats.specs.Seating.{MayPerform, SeatView, seat_with}
+use Rattle.open_runs.specs.Counting.{stats_of}
 use Rattle.open_runs.proofs.Driven.{submitted}
 use Rattle.heap_seats.proofs.Seated.{answered_idle, finals_left, given, made, performs, seat_after, seat_again, sits}
 use Rattle.heap_seats.proofs.seat.Seat.perform.Goals as goal
@@ -52,7 +53,7 @@ returns-clause-same g c =
     let s = sits heap c.seats.inside.pool r c.self.inside.keeper _ _ c.self.invariant c.self.view_is c.seats.view_is c.requires.here in
     let a = c.await_answer.ensures.answered r.token.view c.args.command (submitted heap r c.submit.new.self c.args.command s.here c.self.invariant.more c.submit.ensures) in
     let pool = ap (λ (k : KeeperView Idle). k.pool) c.await_answer.ensures.same in
-    ap (λ p. seat_with p n) pool ∙ subst (λ (v : SeatView). seat_with c.self.inside.keeper.pool n ≡ record v { front = n.token.view.seen.front; labels = n.token.view.own.serial; room = n.token.view.own.ephemerons.room; finals = finals_of n; ran = n.ran }) c.self.view_is (seat_after heap c.self.inside.keeper.pool r n s.here a.here a.number)
+    ap (λ p. seat_with p n) pool ∙ subst (λ (v : SeatView). seat_with c.self.inside.keeper.pool n ≡ record v { front = n.token.view.seen.front; labels = n.token.view.own.serial; room = n.token.view.own.ephemerons.room; finals = finals_of n; stats = stats_of n.token.view.own; ran = n.ran }) c.self.view_is (seat_after heap c.self.inside.keeper.pool r n s.here a.here a.number)
 
 pub returns-clause-performed : goal.returns-clause-performed
 returns-clause-performed g c =

@@ -1,0 +1,43 @@
+//! What a run's domain counts.
+ghost use Rattle.std.specs.Prelude.{◌≡◌, ◌+◌, ◌≤◌, length};
+ghost use Rattle.heap_model.specs.Domains.{domain_at};
+ghost use Rattle.open_runs.specs.Counting.{stats_of};
+
+use domain_turns::DomainRun;
+
+/// What a domain counts. It costs no look at the heap. How many blocks live only a `full_major` tells.
+#[derive(Clone, Copy, Debug, PartialEq, Eq)]
+pub struct Stats {
+    /// Labels that the domain has given out: one for each block that it has allocated.
+    pub labels: u32,
+    /// Words of its minor area that its young blocks take, in the words of their size classes.
+    pub young_words: u32,
+    /// Fields of blocks in pools that it remembers, since it stored young blocks there after its last collection.
+    pub remembered: usize,
+    /// Ephemerons in its pools, and those that a sweep has still to free.
+    pub ephemerons: usize,
+    /// Finalisers that are registered, and don't wait yet.
+    pub registered: usize,
+    /// Finalisers that wait: they run before the next command.
+    pub waiting: usize,
+    /// How often it has arrived at the barrier: twice in each phase of a pause.
+    pub arrivals: u64,
+}
+
+/// What the domain of a run counts.
+pub fn stats(run: &DomainRun) -> Stats
+    ensures stats { result ≡ stats_of run.now.token.view.own }
+    ensures young { result.young_words ≤ run.now.token.config.minor_words }
+{
+    let domain = run.domain();
+    let _room = domain.finals_room();
+    Stats {
+        labels: domain.labels_made(),
+        young_words: domain.area_used(),
+        remembered: domain.remembered_len(),
+        ephemerons: domain.ephemerons_len(),
+        registered: domain.finals_len() + domain.lasts_len(),
+        waiting: domain.queued(),
+        arrivals: domain.arrivals(),
+    }
+}
