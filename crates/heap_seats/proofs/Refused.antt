@@ -1,5 +1,5 @@
 -- What the clauses of seats refuse.
-use Rattle.std.proofs.Common.{◌≡◌, ◌∙◌, ◌++◌, ℕ, suc, List, [], ◌∷◌, length, ap, sym, subst, drop, Some}
+use Rattle.std.proofs.Common.{◌≡◌, ◌∙◌, ◌++◌, ℕ, zero, suc, List, [], ◌∷◌, length, ap, sym, subst, drop, Some}
 use Rattle.std.specs.Prelude.{IsTrue, slice_get}
 use Rattle.std.specs.List.{list_any}
 use Rattle.heap_model.specs.declared.entry.Entry.{Entry}
@@ -25,7 +25,7 @@ what_ran_is_told old new g =
 
 stops_at : (z : Sizes) (h : List Entry) (ss : List SeatView) (i : ℕ) (s : SeatView) → StopsEach z h ss → slice_get ss i ≡ Some s → Stops z h s
 stops_at z h [] i s each at = cc
-stops_at z h (x ∷ ss) 0 s each at = let same : x ≡ s = cc in subst (Stops z h) same each.0
+stops_at z h (x ∷ ss) zero s each at = let same : x ≡ s = cc in subst (Stops z h) same each.0
 stops_at z h (x ∷ ss) (suc i) s each at = stops_at z h ss i s each.1 at
 
 -- the trace of each seat that was handed in has ended: a body that stops the heap before all have ended is refused

@@ -7,10 +7,9 @@ use Rattle.heap_model.specs.declared.entry.Entry.{Entry}
 use Rattle.heap_model.specs.declared.reply.Reply.{Reply}
 use Rattle.heap_model.specs.History.{commands, replies}
 use Rattle.heap_rule.specs.Limits.{sizes_in}
-use Rattle.heap_rule.specs.Token.{SharedHeap, Token}
-use Rattle.mark_slices.specs.Decks.{DeckCounts, uncounted}
+use Rattle.heap_rule.specs.Token.{SharedHeap}
 use Rattle.domain_turns.specs.declared.supply.Supply.TheVariants.{Open}
-use Rattle.domain_turns.specs.Runs.{RunView, CanBegin, unturned}
+use Rattle.domain_turns.specs.Runs.{RunView}
 use Rattle.domain_turns.specs.Handed.{Finalised}
 use Rattle.open_runs.specs.Counting.{no_stats, stats_of}
 use Rattle.open_runs.specs.Refusing.{Takes}
@@ -89,15 +88,3 @@ pub record GoesAlong (old new : SeatView) : Type 0 where
 abbrev pub fresh_seats : SeatsView → ℕ → ℕ → List SeatView
 fresh_seats s from zero = []
 fresh_seats s from (suc n) = record { heap = s.heap; pool = s.pool; number = from; front = []; labels = 0; room = s.heap.config.ephes; finals = s.heap.config.finals; stats = no_stats; ran = [] } ∷ fresh_seats s (from + 1) n
-
--- the hints of a domain, before its first command
-abbrev pub deck_of : Token → DeckCounts
-deck_of t = uncounted t.view.own.number t.config.domains
-
--- its run, before its first turn
-abbrev pub opened : Token → RunView
-opened t = unturned t [] (deck_of t) Open
-
--- each of these domains may begin such a run
-abbrev pub MayOpen : List Token → Type 0
-MayOpen ts = AllByRecursion (λ (t : Token). CanBegin t []) ts

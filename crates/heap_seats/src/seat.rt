@@ -17,7 +17,7 @@ use crate::seats::Seats;
 use domain_turns::{DomainRun, show};
 use heap_model::command::Command;
 use heap_model::reply::Reply;
-use open_runs::{Refusal, Stats, refuses, stats};
+use open_runs::{Refusal, Stats, counts, refuses};
 use rest_pool::Keeper;
 use std::marker::Model;
 use std::sync::Wait;
@@ -102,10 +102,10 @@ impl Seat {
         ensures stats { result ≡ self.now.stats }
         ensures labels { result.labels ≡ self.now.labels }
         ensures young { result.young_words ≤ self.now.heap.config.minor_words }
-        ensures finals { result.registered + result.waiting + self.now.finals ≡ self.now.heap.config.finals }
+        ensures finals { result.finals + result.lasts + result.waiting + self.now.finals ≡ self.now.heap.config.finals }
     {
         let _room = self.run.domain().finals_room();
-        stats(&self.run)
+        counts(&self.run)
     }
 
     /// Why [`perform`](Seat::perform) doesn't take a command: the first that is missing of what it asks. None exactly

@@ -3,7 +3,7 @@ ghost use Rattle.std.specs.Prelude.{◌≡◌, ◌↔◌, ◌<◌, ◌≤◌, �
 ghost use Rattle.std.specs.List.{AllByRecursion};
 ghost use Rattle.heap_model.specs.History.{Legal};
 ghost use Rattle.heap_rule.specs.Limits.{first_outside, sizes_in};
-ghost use Rattle.heap_seats.specs.Seating.{AllSeatsOf, MayOpen, deck_of, fresh_seats, opened, seat_with};
+ghost use Rattle.heap_seats.specs.Seating.{AllSeatsOf, fresh_seats, seat_with};
 ghost use Rattle.heap_seats.specs.Idling.{IsIdleIn, KeepsHeap};
 ghost use Rattle.heap_seats.specs.Stopping.{StopsEach};
 
@@ -12,8 +12,8 @@ use crate::idle::Idle;
 use crate::seat::{Resting, Seat};
 use crossbeam_utils::sync::EventCount;
 use domain_turns::DomainRun;
-use heap_rule::{Config, Domain, Ended, Heap, StartFault};
-use mark_slices::Hints;
+use heap_rule::{Config, Ended, Heap, StartFault};
+use open_runs::start;
 use outer_io::NoGate;
 use rest_pool::{Keeper, Pool};
 use std::alloc::{AllocError, Global};
@@ -35,24 +35,6 @@ impl Model for Seats {
     ghost Value = { SeatsView };
 
     ghost view = { λ s. record { heap = s.heap; pool = s.pool } };
-}
-
-// A run of each domain that gets its commands handed in.
-fn open_runs(
-    alloc: Global,
-    domains: Vec<Domain>,
-    mut decks: Vec<Hints>,
-) -> Result<Vec<DomainRun>, AllocError>
-    requires may { MayOpen domains.items }
-    requires decks { decks.items ≡ map deck_of domains.items }
-    ensures { IfOk result (λ runs. runs.items ≡ map opened domains.items) }
-{
-    let mut runs = Vec::new(alloc);
-    'domains: for domain in domains {
-        let hints = decks.remove(0);
-        runs.push(DomainRun::make_open(alloc, domain, hints)?)?;
-    }
-    Ok(runs)
 }
 
 // Puts these runs to rest, each with a keeper of its own, in room that was taken before.
@@ -101,10 +83,8 @@ impl Seats {
         ensures heap { IfOk result (λ r. r.0.heap.config ≡ config) }
         ensures seats { IfOk result (λ r. r.1.items ≡ fresh_seats r.0 0 config.domains) }
     {
-        let (heap, domains) = Heap::start(alloc, config)?;
+        let (heap, mut runs) = start(alloc, config)?;
         let _limits = heap.config();
-        let decks = Hints::make(alloc, config.domains, config.ephes)?;
-        let mut runs = open_runs(alloc, domains, decks)?;
         let room = Vec::with_capacity(alloc, runs.len())?;
         let first = Idle {
             run: runs.remove(0),

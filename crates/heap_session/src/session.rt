@@ -19,7 +19,7 @@ use heap_model::command::Command;
 use heap_model::reply::Reply;
 use heap_rule::{Config, Domain, Ended, Heap, StartFault};
 use mark_slices::Hints;
-use open_runs::{Refusal, Stats, refuses, stats};
+use open_runs::{Refusal, Stats, counts, refuses};
 use std::alloc::Global;
 use std::marker::Model;
 use std::sync::Wait;
@@ -114,11 +114,11 @@ impl Session {
         ensures stats { result ≡ self.now.stats }
         ensures labels { result.labels ≡ self.now.labels }
         ensures young { result.young_words ≤ self.now.config.minor_words }
-        ensures finals { result.registered + result.waiting + self.now.finals ≡ self.now.config.finals }
+        ensures finals { result.finals + result.lasts + result.waiting + self.now.finals ≡ self.now.config.finals }
     {
         let _config = self.heap.config();
         let _room = self.run.domain().finals_room();
-        stats(&self.run)
+        counts(&self.run)
     }
 
     /// Why [`perform`](Session::perform) doesn't take a command: the first that is missing of what it asks. None exactly

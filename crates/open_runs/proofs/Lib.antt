@@ -1,3 +1,4 @@
 pub mod Driven
 pub mod Finalising
 pub mod Refused
+mod Starts

@@ -1,5 +1,5 @@
 -- What a domain counts.
-use Rattle.std.specs.Prelude.{◌+◌, length}
+use Rattle.std.specs.Prelude.{length}
 use Rattle.heap_rule.specs.declared.view.Own.{Own}
 use Rattle.open_runs.specs.declared.counting.Stats.{Stats}
 
@@ -10,11 +10,12 @@ stats_of o = record {
   young_words = o.used;
   remembered = length o.remembered.items;
   ephemerons = length o.ephemerons.items;
-  registered = length o.finalisers.finals.items + length o.finalisers.lasts.items;
+  finals = length o.finalisers.finals.items;
+  lasts = length o.finalisers.lasts.items;
   waiting = length o.finalisers.queue.items;
   arrivals = o.arrivals;
 }
 
 -- those before the first command
 abbrev pub no_stats : Stats
-no_stats = record { labels = 0; young_words = 0; remembered = 0; ephemerons = 0; registered = 0; waiting = 0; arrivals = 0 }
+no_stats = record { labels = 0; young_words = 0; remembered = 0; ephemerons = 0; finals = 0; lasts = 0; waiting = 0; arrivals = 0 }

@@ -1,3 +1,4 @@
 pub mod Counting
 pub mod Driving
+pub mod Opening
 pub mod Refusing

@@ -1,6 +1,5 @@
 //! What a run's domain counts.
-ghost use Rattle.std.specs.Prelude.{◌≡◌, ◌+◌, ◌≤◌, length};
-ghost use Rattle.heap_model.specs.Domains.{domain_at};
+ghost use Rattle.std.specs.Prelude.{◌≡◌, ◌≤◌};
 ghost use Rattle.open_runs.specs.Counting.{stats_of};
 
 use domain_turns::DomainRun;
@@ -16,8 +15,10 @@ pub struct Stats {
     pub remembered: usize,
     /// Ephemerons in its pools, and those that a sweep has still to free.
     pub ephemerons: usize,
-    /// Finalisers that are registered, and don't wait yet.
-    pub registered: usize,
+    /// Registrations of `finalise` that don't wait yet.
+    pub finals: usize,
+    /// Registrations of `finalise_last` that don't wait yet.
+    pub lasts: usize,
     /// Finalisers that wait: they run before the next command.
     pub waiting: usize,
     /// How often it has arrived at the barrier: twice in each phase of a pause.
@@ -25,18 +26,18 @@ pub struct Stats {
 }
 
 /// What the domain of a run counts.
-pub fn stats(run: &DomainRun) -> Stats
+pub fn counts(run: &DomainRun) -> Stats
     ensures stats { result ≡ stats_of run.now.token.view.own }
     ensures young { result.young_words ≤ run.now.token.config.minor_words }
 {
     let domain = run.domain();
-    let _room = domain.finals_room();
     Stats {
         labels: domain.labels_made(),
         young_words: domain.area_used(),
         remembered: domain.remembered_len(),
         ephemerons: domain.ephemerons_len(),
-        registered: domain.finals_len() + domain.lasts_len(),
+        finals: domain.finals_len(),
+        lasts: domain.lasts_len(),
         waiting: domain.queued(),
         arrivals: domain.arrivals(),
     }

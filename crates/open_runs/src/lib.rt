@@ -1,13 +1,15 @@
-//! A domain whose commands are handed in one by one: its turns until a command is made, why a command isn't taken,
-//! and what the domain counts.
+//! Domains whose commands are handed in one by one: the start of their heap, the turns of a domain until a command is
+//! made, why a command isn't taken, and what a domain counts.
 #![tactic(auto)]
 
 mod awaiting;
 mod counting;
+mod opening;
 mod refusing;
 mod turning;
 
 pub use awaiting::await_turn;
-pub use counting::{Stats, stats};
+pub use counting::{Stats, counts};
+pub use opening::start;
 pub use refusing::{Refusal, fits, refuses};
 pub use turning::{Came, turn_below};

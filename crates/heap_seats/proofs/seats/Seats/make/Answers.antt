@@ -2,12 +2,12 @@ use Rattle.std.proofs.Common.{◌≡◌, ◌∙◌, ℕ, ◌+◌, ◌-◌, ◌�
 use Rattle.std.proofs.lemmas.Result.{err_from_is_err_and}
 use Rattle.std.specs.List.{AllByRecursion}
 use Rattle.std.specs.Prelude.{cond, insert, is_ok}
-use Rattle.heap_rule.specs.Token.{SharedHeap, Token}
-use Rattle.mark_slices.specs.Decks.{uncounted}
+use Rattle.heap_rule.specs.Token.{SharedHeap}
 use Rattle.domain_turns.specs.Runs.{RunView}
 use Rattle.heap_seats.specs.Idling.{IsIdleIn}
-use Rattle.heap_seats.specs.Seating.{MayOpen, SeatsView, deck_of, opened, seat_of, seat_with}
-use Rattle.heap_seats.proofs.Opening.{all_seats, decks_are, idle_each, may_open, opened_length, parted}
+use Rattle.open_runs.specs.Opening.{opened}
+use Rattle.heap_seats.specs.Seating.{SeatsView, seat_of, seat_with}
+use Rattle.heap_seats.proofs.Opening.{all_seats, idle_each, opened_length, parted}
 use Rattle.heap_seats.proofs.Seated.{resting_as}
 use Rattle.heap_seats.specs.declared.idle.Idle.{Idle}
 use Rattle.rest_pool.specs.Keeping.{KeeperView}
@@ -22,20 +22,6 @@ returns-in_err-heap-clause-outside g c k =
     let same = r.2 in
     let is = r.1 in
     (λ e. o.0 (let q = sym is ∙ e in cc), λ f. let q = o.1 f in is ∙ cc)
-
-pub returns-in_err-decks-clause-outside : goal.returns-in_err-decks-clause-outside
-returns-in_err-decks-clause-outside g c k =
-    let o = c.in_ok-heap.ensures.outside k in
-    let r = err_from_is_err_and c.from_residual-in_err-decks.result c.from_residual-in_err-decks.ensures.1 in
-    let same = r.2 in
-    (λ e. let q = sym r.1 ∙ e in cc, λ f. let q = o.1 f in cc)
-
-pub returns-in_err-runs-clause-outside : goal.returns-in_err-runs-clause-outside
-returns-in_err-runs-clause-outside g c k =
-    let o = c.in_ok-heap.ensures.outside k in
-    let r = err_from_is_err_and c.from_residual-in_err-runs.result c.from_residual-in_err-runs.ensures.1 in
-    let same = r.2 in
-    (λ e. let q = sym r.1 ∙ e in cc, λ f. let q = o.1 f in cc)
 
 pub returns-in_err-room-clause-outside : goal.returns-in_err-room-clause-outside
 returns-in_err-room-clause-outside g c k =
@@ -56,37 +42,29 @@ returns-clause-outside g c k =
     let o = c.in_ok-heap.ensures.outside k in
     (λ e. cc, λ f. let q = o.1 f in cc)
 
-pub open_runs-requires-clause-may : goal.open_runs-requires-clause-may
-open_runs-requires-clause-may g c = subst (λ (ts : List Token). MayOpen ts) (sym c.in_ok-heap.ensures.tokens) (may_open c.in_ok-heap.heap c.args.config 0 c.args.config.domains (omega arith))
-
-pub open_runs-requires-clause-decks : goal.open_runs-requires-clause-decks
-open_runs-requires-clause-decks g c =
-    subst (λ (ts : List Token). c.in_ok-decks.decks.items ≡ map deck_of ts) (sym c.in_ok-heap.ensures.tokens)
-    (decks_are c.in_ok-heap.heap c.args.config 0 c.args.config.domains c.in_ok-decks.decks.items (omega (arith, c.in_ok-decks.decks.ok.0, c.in_ok-decks.ensures.0)) (λ i d below. let at : i ≡ 0 + i = omega arith in c.in_ok-decks.ensures.1 i d below ∙ ap (λ (j : ℕ). uncounted j c.args.config.domains) at))
-
 pub remove-requires : goal.remove-requires
 remove-requires g c =
     let h : SharedHeap = c.in_ok-heap.heap in
     let k : Config = c.args.config in
-    let same : h.config ≡ k = c.in_ok-heap.ensures.config in
+    let same : h.config ≡ k = c.in_ok-heap.ensures.heap in
     let limits = c.config-limits.ensures.limits in
     let some : 1 ≤ k.domains = subst (λ (x : Config). 1 ≤ x.domains) same limits.some_domain in
     let few : k.domains ≤ 8 = subst (λ (x : Config). x.domains ≤ 8) same limits.domains in
-    let runs : c.in_ok-runs.runs.items ≡ map opened (opening_tokens h.table k 0 k.domains) = c.in_ok-runs.ensures ∙ ap (λ (ts : List Token). map opened ts) c.in_ok-heap.ensures.tokens in
+    let runs : c.in_ok-heap.runs.items ≡ map opened (opening_tokens h.table k 0 k.domains) = c.in_ok-heap.ensures.runs ∙ ap (λ (x : Config). map opened (opening_tokens h.table x 0 x.domains)) same in
     let many = ap (λ (rs : List RunView). length rs) runs ∙ opened_length h k 0 k.domains in
-    let len = c.in_ok-runs.runs.ok.0 in
+    let len = c.in_ok-heap.runs.ok.0 in
     omega (arith, many, len, some)
 
 pub rest_all-resting-requires-clause-keeps : goal.rest_all-resting-requires-clause-keeps
 rest_all-resting-requires-clause-keeps g c =
     let h : SharedHeap = c.in_ok-heap.heap in
     let k : Config = c.args.config in
-    let same : h.config ≡ k = c.in_ok-heap.ensures.config in
+    let same : h.config ≡ k = c.in_ok-heap.ensures.heap in
     let limits = c.config-limits.ensures.limits in
     let some : 1 ≤ k.domains = subst (λ (x : Config). 1 ≤ x.domains) same limits.some_domain in
     let few : k.domains ≤ 8 = subst (λ (x : Config). x.domains ≤ 8) same limits.domains in
-    let runs : c.in_ok-runs.runs.items ≡ map opened (opening_tokens h.table k 0 k.domains) = c.in_ok-runs.ensures ∙ ap (λ (ts : List Token). map opened ts) c.in_ok-heap.ensures.tokens in
-    let p = parted h k k.domains c.in_ok-runs.runs.items c.remove.new.self.items c.remove.result some runs c.remove.ensures.value c.remove.ensures.items in
+    let runs : c.in_ok-heap.runs.items ≡ map opened (opening_tokens h.table k 0 k.domains) = c.in_ok-heap.ensures.runs ∙ ap (λ (x : Config). map opened (opening_tokens h.table x 0 x.domains)) same in
+    let p = parted h k k.domains c.in_ok-heap.runs.items c.remove.new.self.items c.remove.result some runs c.remove.ensures.value c.remove.ensures.items in
     let idle : IsIdleIn h c.remove.result = subst (IsIdleIn h) (sym p.0) (idle_each h k 0 1 same).0 in
     let rests : c.in_ok-pool.maker.rests ≡ Some (record { run = c.remove.result }) = ap (λ (v : KeeperView Idle). v.rests) c.in_ok-pool.ensures in
     (record { run = c.remove.result }, rests, idle)
@@ -95,24 +73,24 @@ pub rest_all-resting-requires-clause-idle : goal.rest_all-resting-requires-claus
 rest_all-resting-requires-clause-idle g c =
     let h : SharedHeap = c.in_ok-heap.heap in
     let k : Config = c.args.config in
-    let same : h.config ≡ k = c.in_ok-heap.ensures.config in
+    let same : h.config ≡ k = c.in_ok-heap.ensures.heap in
     let limits = c.config-limits.ensures.limits in
     let some : 1 ≤ k.domains = subst (λ (x : Config). 1 ≤ x.domains) same limits.some_domain in
     let few : k.domains ≤ 8 = subst (λ (x : Config). x.domains ≤ 8) same limits.domains in
-    let runs : c.in_ok-runs.runs.items ≡ map opened (opening_tokens h.table k 0 k.domains) = c.in_ok-runs.ensures ∙ ap (λ (ts : List Token). map opened ts) c.in_ok-heap.ensures.tokens in
-    let p = parted h k k.domains c.in_ok-runs.runs.items c.remove.new.self.items c.remove.result some runs c.remove.ensures.value c.remove.ensures.items in
+    let runs : c.in_ok-heap.runs.items ≡ map opened (opening_tokens h.table k 0 k.domains) = c.in_ok-heap.ensures.runs ∙ ap (λ (x : Config). map opened (opening_tokens h.table x 0 x.domains)) same in
+    let p = parted h k k.domains c.in_ok-heap.runs.items c.remove.new.self.items c.remove.result some runs c.remove.ensures.value c.remove.ensures.items in
     subst (λ (rs : List RunView). AllByRecursion (IsIdleIn h) rs) (sym p.1) (idle_each h k 1 (k.domains - 1) same)
 
 pub rest_all-resting-requires-clause-few : goal.rest_all-resting-requires-clause-few
 rest_all-resting-requires-clause-few g c =
     let h : SharedHeap = c.in_ok-heap.heap in
     let k : Config = c.args.config in
-    let same : h.config ≡ k = c.in_ok-heap.ensures.config in
+    let same : h.config ≡ k = c.in_ok-heap.ensures.heap in
     let limits = c.config-limits.ensures.limits in
     let some : 1 ≤ k.domains = subst (λ (x : Config). 1 ≤ x.domains) same limits.some_domain in
     let few : k.domains ≤ 8 = subst (λ (x : Config). x.domains ≤ 8) same limits.domains in
-    let runs : c.in_ok-runs.runs.items ≡ map opened (opening_tokens h.table k 0 k.domains) = c.in_ok-runs.ensures ∙ ap (λ (ts : List Token). map opened ts) c.in_ok-heap.ensures.tokens in
-    let p = parted h k k.domains c.in_ok-runs.runs.items c.remove.new.self.items c.remove.result some runs c.remove.ensures.value c.remove.ensures.items in
+    let runs : c.in_ok-heap.runs.items ≡ map opened (opening_tokens h.table k 0 k.domains) = c.in_ok-heap.ensures.runs ∙ ap (λ (x : Config). map opened (opening_tokens h.table x 0 x.domains)) same in
+    let p = parted h k k.domains c.in_ok-heap.runs.items c.remove.new.self.items c.remove.result some runs c.remove.ensures.value c.remove.ensures.items in
     let many = ap (λ (rs : List RunView). length rs) p.1 ∙ opened_length h k 1 (k.domains - 1) in
     omega (arith, many, few)
 
@@ -120,12 +98,12 @@ pub invariant_of-insert : goal.invariant_of-insert
 invariant_of-insert g c =
     let h : SharedHeap = c.in_ok-heap.heap in
     let k : Config = c.args.config in
-    let same : h.config ≡ k = c.in_ok-heap.ensures.config in
+    let same : h.config ≡ k = c.in_ok-heap.ensures.heap in
     let limits = c.config-limits.ensures.limits in
     let some : 1 ≤ k.domains = subst (λ (x : Config). 1 ≤ x.domains) same limits.some_domain in
     let few : k.domains ≤ 8 = subst (λ (x : Config). x.domains ≤ 8) same limits.domains in
-    let runs : c.in_ok-runs.runs.items ≡ map opened (opening_tokens h.table k 0 k.domains) = c.in_ok-runs.ensures ∙ ap (λ (ts : List Token). map opened ts) c.in_ok-heap.ensures.tokens in
-    let p = parted h k k.domains c.in_ok-runs.runs.items c.remove.new.self.items c.remove.result some runs c.remove.ensures.value c.remove.ensures.items in
+    let runs : c.in_ok-heap.runs.items ≡ map opened (opening_tokens h.table k 0 k.domains) = c.in_ok-heap.ensures.runs ∙ ap (λ (x : Config). map opened (opening_tokens h.table x 0 x.domains)) same in
+    let p = parted h k k.domains c.in_ok-heap.runs.items c.remove.new.self.items c.remove.result some runs c.remove.ensures.value c.remove.ensures.items in
     let idle : IsIdleIn h c.remove.result = subst (IsIdleIn h) (sym p.0) (idle_each h k 0 1 same).0 in
     let rests : c.in_ok-pool.maker.rests ≡ Some (record { run = c.remove.result }) = ap (λ (v : KeeperView Idle). v.rests) c.in_ok-pool.ensures in
     let same_rests = ap (λ (v : KeeperView Idle). v.rests) c.rest_all-resting.ensures.maker in
@@ -135,12 +113,12 @@ pub returns-clause-seats : goal.returns-clause-seats
 returns-clause-seats g c =
     let h : SharedHeap = c.in_ok-heap.heap in
     let k : Config = c.args.config in
-    let same : h.config ≡ k = c.in_ok-heap.ensures.config in
+    let same : h.config ≡ k = c.in_ok-heap.ensures.heap in
     let limits = c.config-limits.ensures.limits in
     let some : 1 ≤ k.domains = subst (λ (x : Config). 1 ≤ x.domains) same limits.some_domain in
     let few : k.domains ≤ 8 = subst (λ (x : Config). x.domains ≤ 8) same limits.domains in
-    let runs : c.in_ok-runs.runs.items ≡ map opened (opening_tokens h.table k 0 k.domains) = c.in_ok-runs.ensures ∙ ap (λ (ts : List Token). map opened ts) c.in_ok-heap.ensures.tokens in
-    let p = parted h k k.domains c.in_ok-runs.runs.items c.remove.new.self.items c.remove.result some runs c.remove.ensures.value c.remove.ensures.items in
+    let runs : c.in_ok-heap.runs.items ≡ map opened (opening_tokens h.table k 0 k.domains) = c.in_ok-heap.ensures.runs ∙ ap (λ (x : Config). map opened (opening_tokens h.table x 0 x.domains)) same in
+    let p = parted h k k.domains c.in_ok-heap.runs.items c.remove.new.self.items c.remove.result some runs c.remove.ensures.value c.remove.ensures.items in
     let rests : c.in_ok-pool.maker.rests ≡ Some (record { run = c.remove.result }) = ap (λ (v : KeeperView Idle). v.rests) c.in_ok-pool.ensures in
     let s : SeatsView = record { heap = h; pool = c.in_ok-pool.pool } in
     let maker : c.rest_all-resting.new.maker.rests ≡ Some (record { run = c.remove.result }) = ap (λ (v : KeeperView Idle). v.rests) c.rest_all-resting.ensures.maker ∙ rests in

@@ -8,6 +8,7 @@ use Rattle.domain_turns.specs.Handed.{PerformedOn}
 use Rattle.domain_turns.specs.Runs.{registrations_in}
 use Rattle.domain_turns.specs.Tries.{registrations_of}
 use Rattle.domain_turns.proofs.Handed.{performed_commands, performed_replies}
+use Rattle.open_runs.specs.Counting.{stats_of}
 use Rattle.heap_session.specs.Sessions.{MayPerform, SessionView}
 use Rattle.heap_session.proofs.Driven.{performed, rests_again, submitted}
 use Rattle.heap_session.proofs.session.Session.perform.Goals as goal
@@ -18,7 +19,7 @@ submit-requires g c =
     let rests = c.self.invariant.0 in
     let is = c.is_faithful.ensures in
     let count : ℕ = count_of r.token.view.own.finalisers in
-    let v : SessionView = record { config = c.self.inside.heap.config; front = r.token.view.seen.front; labels = r.token.view.own.serial; room = r.token.view.own.ephemerons.room; finals = c.self.inside.heap.config.finals - count; ran = r.ran } in
+    let v : SessionView = record { config = c.self.inside.heap.config; front = r.token.view.seen.front; labels = r.token.view.own.serial; room = r.token.view.own.ephemerons.room; finals = c.self.inside.heap.config.finals - count; stats = stats_of r.token.view.own; ran = r.ran } in
     let may : MayPerform v c.args.command = subst (λ (x : SessionView). MayPerform x c.args.command) (sym c.self.view_is) c.requires.may in
     record {
       may = record {

@@ -1,7 +1,7 @@
 use Rattle.std.proofs.Common.{◌≡◌, ◌++◌, length, map}
 use Rattle.std.specs.Vec.Iter.{into_iter_items, into_iter_len}
-use Rattle.heap_seats.specs.Seating.{MayOpen, deck_of, opened}
-use Rattle.heap_seats.proofs.seats.open_runs.Given as goal
+use Rattle.open_runs.specs.Opening.{MayOpen, deck_of, opened}
+use Rattle.open_runs.proofs.opening.open_each.Given as goal
 
 abbrev pub invariant-domains : goal.invariant-domains
 invariant-domains l = record {
