@@ -50,7 +50,7 @@ fn builds(rt: &impl Wait, seats: &Seats, resting: Resting) -> Resting
     ensures here { IsSeatOf seats.now result }
 {
     let mut seat = resting.resume(rt, seats);
-    'blocks: for _ in 0..1000 {
+    'rounds: for _ in 0..1000 {
         let block = Command::Alloc {
             dst: 1,
             tag: 0,
