@@ -15,6 +15,7 @@ pub mod GoingLemmas
 pub mod ExactLemmas
 pub mod Looking
 pub mod Turning
+pub mod AtOnce
 pub mod BeginningSection
 pub mod Opened
 pub mod SectionTurns

@@ -11,8 +11,8 @@ use Rattle.steps_finalisers.specs.Registering.{count_of}
 use Rattle.heap_model.specs.declared.command.Command.TheVariants.{Spawn, Argument, PutResult, Join}
 use Rattle.domain_turns.specs.Sections.{AllFitIn, FitsIn, IsOrdinary}
 use Rattle.domain_turns.specs.Kept.{answers, finalised}
-use Rattle.domain_turns.specs.Tries.{FitsHeap, labels_of, registrations_of}
-use Rattle.domain_turns.specs.Runs.{RunView, AllFit, AreKept, EndsIn, HasLabels, HoldsOne, IsHandedIn, IsRun, MaySubmit, labels_in, most_ran, registrations_in}
+use Rattle.domain_turns.specs.Tries.{FitsHeap, labels_of}
+use Rattle.domain_turns.specs.Runs.{RunView, AllFit, AreKept, EndsIn, HasLabels, HoldsOne, IsHandedIn, IsRun, MaySubmit, ephemerons_in, labels_in, most_ran, registrations_in}
 
 pub ends_on : {A : Type 0} (s : Supply) (whole last more : List A) → EndsIn s whole last → EndsIn s (whole ++ more) (last ++ more)
 ends_on Listed whole last more is = ap (λ l. l ++ more) is
@@ -132,29 +132,30 @@ closed_is_run r is more done =
       spares = is.spares;
     }
 
--- an open run has its next command
-pub submitted_is_run : (r : RunView) (c : model.Command) → IsRun r → MaySubmit r c → IsRun (record r { commands = c ∷ []; next = 0; replies = []; ran = []; asked = None; collected = false })
-submitted_is_run r c is may =
-    let handed : IsHandedIn r.supply = subst IsHandedIn (sym may.more) tt in
-    let other : r.supply ≢ Section = λ section. let clash : Open ≡ Section = sym may.more ∙ section in cc in
+-- an open run that forgets what was handed in before, and has these commands now
+pub handed_is_run : (r : RunView) (cs : List model.Command) → IsRun r → r.supply ≡ Open → length cs ≤ 1 → AllFitIn Open cs → count_of r.token.view.own.finalisers + registrations_in cs ≤ r.token.config.finals → ephemerons_in cs ≤ r.token.view.own.ephemerons.room → r.token.view.own.serial + labels_in cs < 2 ^ 32
+    → IsRun (record r { commands = cs; next = 0; replies = []; ran = []; asked = None; collected = false })
+handed_is_run r cs is more one fit enlists room labels =
+    let handed : IsHandedIn r.supply = subst IsHandedIn (sym more) tt in
+    let other : r.supply ≢ Section = λ section. let clash : Open ≡ Section = sym more ∙ section in cc in
     let count : ℕ = count_of r.token.view.own.finalisers in
-    let listed : count + registrations_of c ≤ r.token.config.finals = may.enlists in
+    let registers : ℕ = registrations_in cs in
     let spares : r.spare ≡ r.token.config.finals = is.spares in
     let b = is.between in
     let here : List model.Command = commands r.token.view.seen.front r.token.view.own.number in
     let said : List Reply = answers (sizes_in r.token.config) r.token.view.seen.front r.token.view.own.number in
     let ran : List Reply = finalised (sizes_in r.token.config) r.token.view.seen.front r.token.view.own.number in
-    let never : r.ended ≡ true → ⊥ = λ ended. is.shut ended may.more in
+    let never : r.ended ≡ true → ⊥ = λ ended. is.shut ended more in
     record {
       inside = is.inside;
-      made = subst (λ (s : Supply). EndsIn s here []) (sym may.more) (here, sym (append-nil here));
-      answered = subst (λ (s : Supply). AreKept s (sizes_in r.token.config) r.token.view.seen.front r.token.view.own.number [] []) (sym may.more) ((said, sym (append-nil said)), (ran, sym (append-nil ran)));
-      replied = subst (λ (s : Supply). 0 + 0 + (count + (registrations_of c + 0)) ≤ 0 + most_ran s (registrations_of c + 0) r.spare) (sym may.more) (let all : 0 + 0 + (count + (registrations_of c + 0)) ≤ 0 + r.spare = omega (arith, listed, spares) in all);
+      made = subst (λ (s : Supply). EndsIn s here []) (sym more) (here, sym (append-nil here));
+      answered = subst (λ (s : Supply). AreKept s (sizes_in r.token.config) r.token.view.seen.front r.token.view.own.number [] []) (sym more) ((said, sym (append-nil said)), (ran, sym (append-nil ran)));
+      replied = subst (λ (s : Supply). 0 + 0 + (count + registers) ≤ 0 + most_ran s registers r.spare) (sym more) (let all : 0 + 0 + (count + registers) ≤ 0 + r.spare = omega (arith, enlists, spares) in all);
       within = omega arith;
-      few = omega arith;
-      fit = subst (λ (s : Supply). AllFitIn s (c ∷ [])) (sym may.more) (fits_one c may.fits);
-      room = let room = may.room in omega arith;
-      enlists = omega (arith, listed);
+      few = omega (arith, one);
+      fit = subst (λ (s : Supply). AllFitIn s cs) (sym more) fit;
+      room = room;
+      enlists = enlists;
       idle = is.idle;
       at_rest = is.at_rest;
       goes_on = is.goes_on;
@@ -169,15 +170,32 @@ submitted_is_run r c is may =
         fresh = λ e. cc;
         knows = b.knows;
       };
-      labels = subst (λ (s : Supply). HasLabels s r.token.view.own.serial 0 (c ∷ [])) (sym may.more) (let few = may.labels in omega arith);
+      labels = subst (λ (s : Supply). HasLabels s r.token.view.own.serial 0 cs) (sym more) labels;
       deck = is.deck;
       done = λ ended. absurd (never ended);
       over = λ ended. absurd (never ended);
       shut = is.shut;
-      one = λ _. record { one = omega arith; answered = refl };
+      one = λ _. record { one = one; answered = refl };
       section = λ section. absurd (other section);
       as_ever = is.as_ever;
       unasked = λ before. refl;
       told = λ ended. absurd (never ended);
       spares = is.spares;
     }
+
+-- it has its next command
+pub submitted_is_run : (r : RunView) (c : model.Command) → IsRun r → MaySubmit r c → IsRun (record r { commands = c ∷ []; next = 0; replies = []; ran = []; asked = None; collected = false })
+submitted_is_run r c is may =
+    let listed = may.enlists in
+    let room = may.room in
+    let few = may.labels in
+    handed_is_run r (c ∷ []) is may.more (omega arith) (fits_one c may.fits) (omega (arith, listed)) (omega (arith, room)) (omega (arith, few))
+
+-- or none
+pub emptied_is_run : (r : RunView) → IsRun r → r.supply ≡ Open → IsRun (record r { commands = []; next = 0; replies = []; ran = []; asked = None; collected = false })
+emptied_is_run r is more =
+    let listed = is.enlists in
+    let rest : ℕ = registrations_in (drop r.next r.commands) in
+    let few : HasLabels Open r.token.view.own.serial r.next r.commands = subst (λ (s : Supply). HasLabels s r.token.view.own.serial r.next r.commands) more is.labels in
+    let labels : ℕ = labels_in (drop r.next r.commands) in
+    handed_is_run r [] is more (omega arith) (λ i c at. cc) (omega (arith, listed)) (omega arith) (omega (arith, few))

@@ -716,6 +716,37 @@ pub data Stretches (z : Sizes) (old new : RunView) : Type 0 where
   ByEnd : MadeEnd z old new → Stretches z old new
   BySection : MadeSteps z old new → Stretches z old new
 
+-- an open run with this token that keeps neither a command nor a reply
+abbrev pub cleared : RunView → Token → RunView
+cleared r t = record r { token = t; commands = []; next = 0; replies = []; ran = []; asked = None; collected = false; due = 0 }
+
+-- what the try of a command without a turn came to: it was made, and the run keeps neither it nor its reply, or a pause that it needs must come first, or it was refused
+abbrev pub TriesNow : SharedHeap → RunView → RunView → model.Command → Option Reply → Type 0
+TriesNow h old new c (Some reply) = (new ≡ cleared old new.token) × Tried h old.token new.token c false reply × (NeedsPause h.config old.token.view.own false c → ⊥)
+TriesNow h old new c None =
+    ((new ≡ old) × NeedsPause h.config old.token.view.own false c)
+    ⊎ ((new ≡ record old { token = new.token }) × Refused h old.token new.token c false × (NeedsPause h.config old.token.view.own false c → ⊥))
+
+-- a command was made at once: the domain runs, no finaliser waits, no pause is wanted, and it is none before which the domain works for the collector
+pub record MakesNow (h : SharedHeap) (old new : RunView) (c : model.Command) (reply : Reply) : Type 0 where
+  pub runs : old.left ≡ None
+  pub unqueued : IsUnqueued old.token
+  pub other : c ≢ Poll
+  pub made : TriesNow h (wanting old 0) new c (Some reply)
+
+-- or why it wasn't, and what that left of the run
+pub data PutsOff (h : SharedHeap) (old new : RunView) (c : model.Command) : Type 0 where
+  HasArrived : (old.left ≢ None) → (new ≡ old) → PutsOff h old new c
+  OwesFinaliser : (IsUnqueued old.token → ⊥) → (new ≡ old) → PutsOff h old new c
+  WorksFirst : (c ≡ Poll) → (new ≡ old) → PutsOff h old new c
+  IsWanted : (found : ℕ) → (found ≢ 0) → (new ≡ wanting old found) → PutsOff h old new c
+  IsTried : TriesNow h (wanting old 0) new c None → PutsOff h old new c
+
+-- by the reply, if there is one
+abbrev pub NowAnswers : SharedHeap → RunView → RunView → model.Command → Option Reply → Type 0
+NowAnswers h old new c (Some reply) = MakesNow h old new c reply
+NowAnswers h old new c None = PutsOff h old new c
+
 -- the same domain's run of the same commands, from the same supply, begun by a spawn or not: what the domain saw of the history is a front part of what it sees now
 pub record GoesOn (old new : RunView) : Type 0 where
   pub commands : new.commands ≡ old.commands

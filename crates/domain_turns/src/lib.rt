@@ -4,10 +4,11 @@
 //! takes no lock and no memory, and never waits.
 //!
 //! The commands of a run are all given when it is made, or it is an open one: then they are handed in one by
-//! one, each once the one before is done.
+//! one, each once the one before is done. Of an open run a command may also be made at once, without a turn.
 #![tactic(auto)]
 
 mod command;
+mod direct;
 mod driving;
 mod meeting;
 mod passing;

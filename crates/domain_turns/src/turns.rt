@@ -140,7 +140,7 @@ fn end_trace(heap: &Heap, run: &mut DomainRun)
 
 // The want word.
 #[inline(always)]
-fn find_wants(heap: &Heap, run: &mut DomainRun) -> u64
+pub(crate) fn find_wants(heap: &Heap, run: &mut DomainRun) -> u64
     requires here { IsIn run.old.token heap.now }
     requires left { run.old.left ≡ None }
     ensures here { IsIn run.new.token heap.now }

@@ -17,8 +17,8 @@ use Rattle.domain_turns.specs.Runs.{RunView, Appended, GoesOn, IsRun, Stretches,
 use Rattle.domain_turns.specs.Runs.Stretches.{ByOthers, ByCommand, ByFinaliser, ByEnd, BySection}
 use Rattle.domain_turns.proofs.Handed.{finalised_more, finalised_none, finalised_others}
 use Rattle.heap_session.proofs.Labels.{made_labels}
-use Rattle.open_runs.specs.Driving.{Answered, Awaits}
-use Rattle.open_runs.proofs.Driven.{closed_handed, none_fits, submitted as has_to_make}
+use Rattle.open_runs.specs.Driving.{Answered}
+use Rattle.open_runs.proofs.Driven.{closed_handed, none_fits}
 use Rattle.domain_turns.specs.Handed.{PerformedOn}
 use Rattle.heap_session.specs.Driving.{CloseAnswers, Closes, IsAlone, Rests}
 use Rattle.command_counts.specs.Counts.{labels_given}
@@ -80,10 +80,6 @@ closes_turn h front old new a here s g is = by s
           none = a.none;
           front = last.appends;
         })
-
--- a run that rests and gets a command has it to make
-pub submitted : (h : SharedHeap) (r new : RunView) (c : model.Command) → Rests h r → new ≡ record r { commands = c ∷ []; next = 0; replies = []; ran = []; asked = None; collected = false } → Awaits h r.token.view c new
-submitted h r new c rests is = has_to_make h r new c rests.alone.here rests.more is
 
 -- its number is 0
 pub performed : (h : SharedHeap) (r n : RunView) (c : model.Command) (reply : Reply) → Rests h r → Answered h r.token.view c reply n → PerformedOn (sizes_in h.config) 0 r.token.view.seen.front n.token.view.seen.front c n.ran reply

@@ -13,7 +13,7 @@ ghost use Rattle.open_runs.specs.Refusing.{IsRefused};
 ghost use Rattle.heap_session.specs.Stopping.{EndsAfter, StopsAfter};
 
 use crate::closing::turn_to_end;
-use crate::performing::await_answer;
+use crate::performing::perform_on;
 use domain_turns::{DomainRun, show};
 use heap_model::command::Command;
 use heap_model::reply::Reply;
@@ -158,6 +158,7 @@ impl Session {
     /// taken for the finaliser that it registers, and there is more for each that ran. A pause that the command
     /// needs is gone through by this thread; one in which a `full_major` is answered ends with the next command.
     /// A domain that has arrived 2^60 times isn't turned any more, and then this call doesn't return.
+    #[inline(always)]
     pub fn perform<R: Wait>(&mut self, rt: &R, command: Command) -> Reply
         requires may { MayPerform self.old command }
         ensures config { self.new.config ≡ self.old.config }
@@ -171,8 +172,7 @@ impl Session {
         let _limits = self.heap.config();
         let _left = self.labels_left();
         self.run.is_faithful();
-        self.run.submit(command);
-        await_answer(rt, &self.heap, &mut self.run)
+        perform_on(rt, &self.heap, &mut self.run, command)
     }
 
     /// The reply that shows what a register holds: `int` with an integer, `blk` with the label of a block, or

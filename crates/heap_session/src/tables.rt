@@ -84,6 +84,7 @@ impl TableSession {
 
     /// Makes a command that registers no finaliser, and answers its reply, as [`Session::perform`]. The history grows
     /// by entries of the collector and then by this command, and the reply is that of the state before it.
+    #[inline(always)]
     pub fn perform<R: Wait>(&mut self, rt: &R, command: Command) -> Reply
         requires may { MayPerform self.old command }
         ensures config { self.new.config ≡ self.old.config }

@@ -1,5 +1,5 @@
 -- A turn of a run whose commands are handed in.
-use Rattle.std.proofs.Common.{◌≡◌, ◌∙◌, ℕ, ◌+◌, ◌≤◌, false, List, [], ◌∷◌, ◌++◌, append-nil, length, length-append, slice_get, Some, None, Option, refl, sym, ap, subst, arith}
+use Rattle.std.proofs.Common.{◌≡◌, ◌∙◌, ℕ, ◌+◌, ◌≤◌, List, [], ◌∷◌, ◌++◌, append-nil, length, length-append, slice_get, Some, None, Option, refl, sym, ap, subst, arith}
 use Rattle.heap_model.specs.declared.command.Command as model
 use Rattle.heap_model.specs.declared.entry.Entry.TheVariants.{Command, Ran}
 use Rattle.heap_model.specs.declared.reply.Reply.{Reply}
@@ -14,13 +14,13 @@ use Rattle.domain_turns.specs.declared.supply.Supply.TheVariants.{Section, Open,
 use Rattle.domain_turns.specs.Handed.{Finalised}
 use Rattle.domain_turns.specs.Runs.{RunView, Appended, GoesOn, IsHandedIn, IsRun, Stretches, Takes, answer_of, first_reply, ran_with, said_with}
 use Rattle.domain_turns.specs.Runs.Stretches.{ByOthers, ByCommand, ByFinaliser, ByEnd, BySection}
-use Rattle.domain_turns.proofs.Handed.{finalised_more, finalised_none, finalised_others, performed_on}
+use Rattle.domain_turns.proofs.Handed.{finalised_more, finalised_others, performed_on}
 use Rattle.domain_turns.proofs.Taking.{takes_none, takes_on}
 use Rattle.domain_turns.specs.Tries.{registrations_of}
 use Rattle.domain_turns.proofs.Turning.{apart_few}
 use Rattle.heap_rule.specs.declared.config.Config.{Config}
 use Rattle.steps_finalisers.specs.Registering.{count_of}
-use Rattle.open_runs.specs.Driving.{AwaitAnswers, Awaits, registered}
+use Rattle.open_runs.specs.Driving.{AwaitAnswers, Awaits}
 use Rattle.command_counts.specs.Counts.{ephemerons_given, labels_given}
 use Rattle.heap_rule.specs.declared.view.DomainView.{DomainView}
 
@@ -119,17 +119,3 @@ awaits_turn h start c old new a here s g = by s
         })
     by (ByEnd m) = absurd (m.shut a.more)
     by (BySection m) = absurd (let clash : Open ≡ Section = sym a.more ∙ m.sectioned in cc)
-
--- a run that waits for a command, and gets one, has it to make
-pub submitted : (h : SharedHeap) (r new : RunView) (c : model.Command) → IsIn r.token h → r.supply ≡ Open → new ≡ record r { commands = c ∷ []; next = 0; replies = []; ran = []; asked = None; collected = false } → Awaits h r.token.view c new
-submitted h r new c here more is = subst (λ (x : RunView). Awaits h r.token.view c x) (sym is) (record {
-  here = here;
-  number = refl;
-  more = more;
-  commands = refl;
-  next = refl;
-  replies = refl;
-  finalised = finalised_none (sizes_in h.config) r.token.view.own.number r.token.view.seen.front;
-  listed = let n : ℕ = registered r in omega arith;
-  takes = takes_none r.token.view r.token.view refl refl;
-})

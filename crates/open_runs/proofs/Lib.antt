@@ -2,3 +2,4 @@ pub mod Driven
 pub mod Finalising
 pub mod Refused
 mod Starts
+pub mod Begun
