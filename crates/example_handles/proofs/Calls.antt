@@ -1,17 +1,16 @@
--- What each call makes of the resources, by what the session performed.
-use Rattle.std.proofs.Common.{◌≡◌, ◌≢◌, ◌∙◌, ⊎_elim, ℕ, ◌+◌, ◌<◌, ◌≤◌, Bool, true, false, List, [], ◌∷◌, ◌++◌, length, refl, sym, ap, subst, append-nil, append_assoc, add-one, length-append, get_or-set_same, arith}
-use Rattle.std.specs.Prelude.{Option, Some, None, get_or, option_map, option_to_list, slice_get, take}
-use Rattle.std.proofs.lemmas.Bool.{cases_order}
+-- What each call makes of the resources, by what the seat performed.
+use Rattle.std.proofs.Common.{◌≡◌, ◌≢◌, ◌∙◌, ⊎_elim, ℕ, ◌+◌, ◌<◌, ◌≤◌, Bool, true, false, List, [], ◌∷◌, ◌++◌, length, refl, sym, ap, subst, append-nil, append_assoc, add-one, eq-eqb, length-append, get_or-set_same, arith}
+use Rattle.std.specs.Prelude.{◌||◌, Option, Some, None, cond, get_or, option_map, option_to_list, slice_get, take}
 use Rattle.std.proofs.lemmas.List.{take-append-le, take_all}
+use Rattle.std.proofs.lemmas.Option.{slice_get_within}
 use Rattle.std.proofs.lemmas.List.Folds.{list_any-append}
 use Rattle.heap_model.specs.declared.command.Command as model
-use Rattle.heap_model.specs.declared.command.Command.TheVariants.{Alloc, FinaliseLast}
+use Rattle.heap_model.specs.declared.command.Command.TheVariants.{Alloc, FinaliseLast, FullMajor, Poll}
 use Rattle.heap_model.specs.declared.entry.Entry.{Entry}
 use Rattle.heap_model.specs.declared.entry.Entry.TheVariants.{Command}
 use Rattle.heap_model.specs.declared.graph.Value.{Value}
 use Rattle.heap_model.specs.declared.graph.Value.TheVariants.{Block, Nothing}
 use Rattle.heap_model.specs.declared.label.Label.{Label}
-use Rattle.heap_model.specs.declared.reply.Applied.{Applied}
 use Rattle.heap_model.specs.declared.reply.Applied.TheVariants.{Replied}
 use Rattle.heap_model.specs.declared.reply.Reply.{Reply}
 use Rattle.heap_model.specs.declared.reply.Reply.TheVariants.{Block as BlockReply, Full}
@@ -20,7 +19,7 @@ use Rattle.heap_model.specs.declared.state.Pending.TheVariants.{Last}
 use Rattle.heap_model.specs.declared.state.Sizes.{Sizes}
 use Rattle.heap_model.specs.declared.state.State.{State}
 use Rattle.heap_model.specs.Commands.{CommandAllowed, after_command, finalised_last}
-use Rattle.heap_model.specs.Domains.{domain_at, label_in, opening}
+use Rattle.heap_model.specs.Domains.{IsWithinLimits, domain_at, label_in, opening}
 use Rattle.heap_model.specs.Entries.{next, reply}
 use Rattle.heap_model.specs.Graph.{label_of}
 use Rattle.heap_model.specs.History.{IsPrefix, Legal, LegalFrom, commands, state_after}
@@ -29,222 +28,362 @@ use Rattle.heap_model.proofs.Commands.FrameLemmas.{inside_running}
 use Rattle.heap_model.proofs.Commands.LeavesLemmas.{leaves_alloc, new_label}
 use Rattle.heap_model.proofs.Histories.HistoryLemmas.{state_after-push}
 use Rattle.heap_model.proofs.Histories.ShapeAfterLemmas.{shaped-history}
-use Rattle.heap_rule.specs.declared.config.Config.{Config}
 use Rattle.heap_rule.specs.Limits.{sizes_in}
 use Rattle.heap_rule.specs.Rule.{state_of}
 use Rattle.command_counts.specs.Counts.{blocks_of}
-use Rattle.table_laws.proofs.StepLemmas.{legal_parts}
-use Rattle.weak_tables.proofs.PutLemmas.{prefix_on}
 use Rattle.domain_turns.specs.Handed.{PerformedOn}
 use Rattle.domain_turns.specs.Kept.{finalised}
 use Rattle.domain_turns.specs.Tries.{registrations_of}
 use Rattle.domain_turns.proofs.Handed.{performed_commands}
+use Rattle.heap_seats.specs.Seating.{GoesAlong, SeatView}
 use Rattle.example_handles.specs.declared.resource.Resource.{Resource}
 use Rattle.example_handles.specs.declared.resource.Resource.TheVariants.{Open, ClosedByFinaliser}
-use Rattle.example_handles.specs.Handling.{HandleMade, HandlesView, HoldsLatest, IsHandles, Opens, Performs, Settles, numbered, ran_by}
+use Rattle.example_handles.specs.Handling.{HandleMade, HandlesView, HoldsLatest, IsHandles, IsLater, IsUnused, Makes, OpenWereHeld, Opens, Performs, Settles, latest, no_handles, numbered, parted, ran_by, registered_by, state_at}
 use Rattle.example_handles.specs.Resources.{Settled, is_last, names}
-use Rattle.example_handles.proofs.Histories.{names_on, none_named, ran_by_then, ran_performed, registered_on, registered_performed, registers_none, registers_on, set_first}
+use Rattle.example_handles.proofs.Held.{was_held}
+use Rattle.example_handles.proofs.Histories.{HoldsSame, legal_parts, names_on, none_named, prefix_on, ran_by_then, ran_on, ran_performed, registered_on, registered_performed, registers_none, registers_on, same_on, same_part}
 use Rattle.example_handles.proofs.Settling.{closed_named, named_closed, pushed, settled_both, settled_since}
 
--- what has run stays so
-stays_named : (old new : HandlesView) → new.session.config ≡ old.session.config → IsPrefix old.session.front new.session.front → (k : ℕ) → names (ran_by old) k ≡ true → names (ran_by new) k ≡ true
-stays_named old new config grows k is = ap (λ (f : Config). names (finalised (sizes_in f) new.session.front 0) k) config ∙ names_on (sizes_in old.session.config) old.session.front new.session.front k grows is
+or_right : (a b : Bool) → b ≡ true → (a || b) ≡ true
+or_right true b is = refl
+or_right false b is = is
 
--- after a command that a session performed
-module _ (old new : HandlesView) (c : model.Command) (r : Reply) (kept : IsHandles old) (p : Performs old.session new.session c r) where
+or_known : (a b c : Bool) → (b ≡ true → a ≡ true) → (a || c) ≡ (a || (b || c))
+or_known true b c on = refl
+or_known false false c on = refl
+or_known false true c on = let no = on refl in cc
+
+-- a seat that has gone on, whose resources are settled by what it tells
+module _ (old : HandlesView) (got : SeatView) (xs : List Resource) (kept : IsHandles old) (same : IsLater old.seat got) (grows : IsPrefix old.seat.front got.front)
+    (both : (k : ℕ) → names (finalised (sizes_in old.seat.heap.config) got.front old.seat.number) k ≡ (names (ran_by old) k || names got.ran k))
+    (count : length xs ≡ length old.resources) (s : Settled old.resources got.ran xs) where
+  abbrev new : HandlesView
+  new = parted old got xs
+
+  ran_then : ran_by new ≡ finalised (sizes_in old.seat.heap.config) got.front old.seat.number
+  ran_then = ap (λ (v : SeatView). finalised (sizes_in v.heap.config) v.front v.number) same
+
+  pub stays_named : (k : ℕ) → names (ran_by old) k ≡ true → names (ran_by new) k ≡ true
+  stays_named k is = ap (λ (rs : List Reply). names rs k) ran_then ∙ names_on (sizes_in old.seat.heap.config) old.seat.number old.seat.front got.front k grows is
+
+  pub all_settled : Settled old.resources (ran_by new) xs
+  all_settled = settled_since old.resources xs (ran_by old) got.ran (ran_by new) kept.closed (λ k. ap (λ (rs : List Reply). names rs k) ran_then ∙ both k) s
+
+  pub settles : Settles old new
+  settles = record { grows = grows; count = count; settled = all_settled }
+
+  pub closed_then : (k : ℕ) → names (ran_by new) k ≡ true → slice_get xs k ≢ Some Open
+  closed_then k = named_closed old.resources xs (ran_by new) k all_settled
+
+  pub named_then : (k : ℕ) → slice_get xs k ≡ Some ClosedByFinaliser → names (ran_by new) k ≡ true
+  named_then k = closed_named old.resources xs (ran_by new) k all_settled (λ is. stays_named k (kept.ran k is))
+
+  pub told_then : (k : ℕ) → names got.ran k ≡ true → names (ran_by new) k ≡ true
+  told_then k is = ap (λ (rs : List Reply). names rs k) ran_then ∙ (both k ∙ or_right (names (ran_by old) k) (names got.ran k) is)
+
+  pub limits_then : IsWithinLimits (sizes_in got.heap.config)
+  limits_then = subst (λ (v : SeatView). IsWithinLimits (sizes_in v.heap.config)) (sym same) kept.limits
+
+  pub registered_then : registered_by new ≡ all_registered old.seat.number (opening (sizes_in old.seat.heap.config)) got.front
+  registered_then = ap (λ (v : SeatView). all_registered v.number (opening (sizes_in v.heap.config)) v.front) same
+
+  pub still : all_registered old.seat.number (opening (sizes_in old.seat.heap.config)) got.front ≡ registered_by old → old.seat.finals ≤ got.finals → IsHandles new
+  still none finals = record {
+    limits = limits_then;
+    registered = registered_then ∙ (none ∙ (kept.registered ∙ ap numbered (sym count)));
+    few = let f = kept.few in omega (arith, f, count);
+    room = let f = kept.room in omega (arith, f, finals, count);
+    closed = closed_then;
+    ran = named_then;
+    told = told_then;
+  }
+
+-- a seat that made no command
+module _ (old : HandlesView) (got : SeatView) (xs : List Resource) (kept : IsHandles old) (same : IsLater old.seat got) (along : GoesAlong old.seat got)
+    (count : length xs ≡ length old.resources) (s : Settled old.resources got.ran xs) where
+  grows_along : IsPrefix old.seat.front got.front
+  grows_along = record { rest = along.finalised.rest; appends = along.finalised.appends }
+
+  both_along : (k : ℕ) → names (finalised (sizes_in old.seat.heap.config) got.front old.seat.number) k ≡ (names (ran_by old) k || names got.ran k)
+  both_along k =
+      ap (λ (rs : List Reply). names rs k) (ran_on (sizes_in old.seat.heap.config) old.seat.number old.seat.front got.front along.more along.finalised)
+      ∙ (list_any-append (is_last k) (ran_by old) along.more
+      ∙ (or_known (names (ran_by old) k) (names old.seat.ran k) (names along.more k) (kept.told k)
+      ∙ ap (λ (b : Bool). names (ran_by old) k || b) (sym (ap (λ (rs : List Reply). names rs k) along.ran ∙ list_any-append (is_last k) old.seat.ran along.more))))
+
+  pub settles_along : Settles old (parted old got xs)
+  settles_along = settles old got xs kept same grows_along both_along count s
+
+  pub still_along : IsHandles (parted old got xs)
+  still_along = still old got xs kept same grows_along both_along count s
+      (registered_on (sizes_in old.seat.heap.config) old.seat.number old.seat.front got.front along.more along.finalised)
+      (let more = along.finals in omega (arith, more))
+
+-- after a command that a seat performed
+module _ (old : HandlesView) (got : SeatView) (c : model.Command) (r : Reply) (kept : IsHandles old) (p : Performs old.seat got c r) where
   abbrev z : Sizes
-  z = sizes_in old.session.config
+  z = sizes_in old.seat.heap.config
+
+  abbrev d : ℕ
+  d = old.seat.number
 
   -- the state in which it was made
   abbrev before : State
   before = state_after (opening z) p.performed.before
 
-  ran_more : ran_by new ≡ ran_by old ++ new.session.ran
-  ran_more = ap (λ (k : Config). finalised (sizes_in k) new.session.front 0) p.config ∙ ran_performed z old.session.front new.session.front c new.session.ran r p.performed
-
-  pub grows : IsPrefix old.session.front new.session.front
+  pub grows : IsPrefix old.seat.front got.front
   grows = record {
-    rest = p.performed.finalised.rest ++ Command 0 c p.performed.full ∷ [];
-    appends = p.performed.appends ∙ (ap (λ (h : List Entry). h ++ Command 0 c p.performed.full ∷ []) p.performed.finalised.appends ∙ append_assoc old.session.front p.performed.finalised.rest (Command 0 c p.performed.full ∷ []));
+    rest = p.performed.finalised.rest ++ Command d c p.performed.full ∷ [];
+    appends = p.performed.appends ∙ (ap (λ (h : List Entry). h ++ Command d c p.performed.full ∷ []) p.performed.finalised.appends ∙ append_assoc old.seat.front p.performed.finalised.rest (Command d c p.performed.full ∷ []));
   }
 
-  names_stay : (k : ℕ) → names (ran_by old) k ≡ true → names (ran_by new) k ≡ true
-  names_stay k is = stays_named old new p.config grows k is
+  pub both : (k : ℕ) → names (finalised z got.front d) k ≡ (names (ran_by old) k || names got.ran k)
+  both k = ap (λ (rs : List Reply). names rs k) (ran_performed z d old.seat.front got.front c got.ran r p.performed) ∙ list_any-append (is_last k) (ran_by old) got.ran
 
-  pub all_settled : (xs : List Resource) → Settled old.resources new.session.ran xs → Settled old.resources (ran_by new) xs
-  all_settled xs s = settled_since old.resources xs (ran_by old) new.session.ran (ran_by new) kept.closed (λ k. ap (λ (rs : List Reply). names rs k) ran_more ∙ list_any-append (is_last k) (ran_by old) new.session.ran) s
+  pub registers : (all : List Pending) → registered_by old ++ registered d before (Command d c p.performed.full) ≡ all → all_registered d (opening z) got.front ≡ all
+  registers all is = registered_performed z d old.seat.front got.front c got.ran r p.performed ∙ is
 
-  closed_then : (xs : List Resource) → Settled old.resources (ran_by new) xs → (k : ℕ) → names (ran_by new) k ≡ true → slice_get xs k ≢ Some Open
-  closed_then xs s k = named_closed old.resources xs (ran_by new) k s
+  parts : LegalFrom (opening z) p.performed.before × LegalFrom before (Command d c p.performed.full ∷ [])
+  parts = legal_parts (opening z) p.performed.before (Command d c p.performed.full ∷ []) (subst (Legal z) p.performed.appends p.performed.legal)
 
-  ran_then : (xs : List Resource) → Settled old.resources (ran_by new) xs → (k : ℕ) → slice_get xs k ≡ Some ClosedByFinaliser → names (ran_by new) k ≡ true
-  ran_then xs s k = closed_named old.resources xs (ran_by new) k s (λ is. names_stay k (kept.ran k is))
-
-  registers : (all : List Pending) → all_registered 0 (opening z) old.session.front ++ registered 0 before (Command 0 c p.performed.full) ≡ all → all_registered 0 (opening (sizes_in new.session.config)) new.session.front ≡ all
-  registers all is = ap (λ (k : Config). all_registered 0 (opening (sizes_in k)) new.session.front) p.config ∙ (registered_performed z old.session.front new.session.front c new.session.ran r p.performed ∙ is)
-
-  parts : LegalFrom (opening z) p.performed.before × LegalFrom before (Command 0 c p.performed.full ∷ [])
-  parts = legal_parts (opening z) p.performed.before (Command 0 c p.performed.full ∷ []) (subst (Legal z) p.performed.appends p.performed.legal)
-
-  legal_before : Legal z p.performed.before
+  pub legal_before : Legal z p.performed.before
   legal_before = parts.0
 
-  pub allowed : CommandAllowed before 0 c p.performed.full
+  pub allowed : CommandAllowed before d c p.performed.full
   allowed = parts.1.0
 
-  left : state_of new.session.config new.session.front ≡ next before (Command 0 c p.performed.full)
-  left = ap (λ (k : Config). state_of k new.session.front) p.config ∙ (ap (state_after (opening z)) p.performed.appends ∙ state_after-push (opening z) p.performed.before (Command 0 c p.performed.full))
+  pub left : state_of old.seat.heap.config got.front ≡ next before (Command d c p.performed.full)
+  left = ap (state_after (opening z)) p.performed.appends ∙ state_after-push (opening z) p.performed.before (Command d c p.performed.full)
+
+  pub made_are : commands got.front d ≡ commands old.seat.front d ++ c ∷ []
+  made_are = performed_commands z d old.seat.front got.front c got.ran r p.performed
 
 -- a command that registers no finaliser
-module _ (old new : HandlesView) (c : model.Command) (r : Reply) (kept : IsHandles old) (p : Performs old.session new.session c r) (quiet : registrations_of c ≡ 0)
-    (most : new.most ≡ old.most) (count : length new.resources ≡ length old.resources) (s : Settled old.resources new.session.ran new.resources) where
-  pub settles : Settles old new
-  settles = record { config = p.config; most = most; grows = grows old new c r kept p; count = count; settled = all_settled old new c r kept p new.resources s }
+module _ (old : HandlesView) (got : SeatView) (xs : List Resource) (c : model.Command) (r : Reply) (kept : IsHandles old) (p : Performs old.seat got c r) (quiet : registrations_of c ≡ 0)
+    (count : length xs ≡ length old.resources) (s : Settled old.resources got.ran xs) where
+  pub settles_performed : Settles old (parted old got xs)
+  settles_performed = settles old got xs kept p.same (grows old got c r kept p) (both old got c r kept p) count s
 
-  pub still : IsHandles new
-  still = record {
-    registered = registers old new c r kept p (numbered (length new.resources)) ((λ i. kept.registered i ++ registers_none (before old new c r kept p) c p.performed.full quiet i) ∙ (append-nil (numbered (length old.resources)) ∙ ap numbered (sym count)));
-    few = let f = kept.few in omega (arith, f, most, count);
-    room = let f = kept.room in let finals = p.finals in omega (arith, f, finals, most, count, quiet);
-    closed = closed_then old new c r kept p new.resources (all_settled old new c r kept p new.resources s);
-    ran = ran_then old new c r kept p new.resources (all_settled old new c r kept p new.resources s);
-  }
+  pub still_performed : IsHandles (parted old got xs)
+  still_performed = still old got xs kept p.same (grows old got c r kept p) (both old got c r kept p) count s
+      (registers old got c r kept p (registered_by old) ((λ i. registered_by old ++ registers_none (d old got c r kept p) (before old got c r kept p) c p.performed.full quiet i) ∙ append-nil (registered_by old)))
+      (let finals = p.finals in omega (arith, finals, quiet))
 
 -- an allocation that isn't refused
-not_full : (s : State) (c : model.Command) (full : Bool) (r : Reply) → reply s (Command 0 c full) ≡ Replied r → r ≢ Full → full ≡ false
-not_full s c true r is room = absurd (room (let same : Replied Full ≡ Replied r = is in cc))
-not_full s c false r is room = refl
+not_full : (d : ℕ) (s : State) (c : model.Command) (full : Bool) (r : Reply) → reply s (Command d c full) ≡ Replied r → r ≢ Full → full ≡ false
+not_full d s c true r is room = absurd (room (let same : Replied Full ≡ Replied r = is in cc))
+not_full d s c false r is room = refl
 
-pub made : (old new : HandlesView) (dst : ℕ) (r : Reply) → IsHandles old → Performs old.session new.session (Alloc dst 0 1) r → dst < 16 → r ≢ Full → Settles old new → HandleMade old new dst
-made old new dst r kept p few room settled = record {
-  made_are = performed_commands (sizes_in old.session.config) 0 old.session.front new.session.front (Alloc dst 0 1) new.session.ran r p.performed;
+pub made : (old : HandlesView) (got : SeatView) (xs : List Resource) (dst : ℕ) (r : Reply) → IsHandles old → Performs old.seat got (Alloc dst 0 1) r → dst < 16 → r ≢ Full → Settles old (parted old got xs) → HandleMade old (parted old got xs) dst
+made old got xs dst r kept p few room settled = record {
+  made_are = made_are old got (Alloc dst 0 1) r kept p;
   labels = let given = p.labels in let one = ap blocks_of block in omega (arith, given, one);
-  handle = ap (λ (t : State). get_or (domain_at t 0).registers dst Nothing) there ∙ (ap (λ (rs : List Value). get_or rs dst Nothing) (leaves_alloc s 0 inside dst 0 1).registers_are
-      ∙ (get_or-set_same (domain_at s 0).registers dst (Block (new_label s 0)) Nothing inside_registers ∙ ap (λ (n : ℕ). Block (record { domain = 0; serial = n })) (sym serial)));
+  handle = subst (λ (v : SeatView). HoldsLatest (parted old v xs) dst) (sym p.same) handle;
   settles = settled;
 }
   where
+    number : ℕ
+    number = old.seat.number
+
     s : State
-    s = before old new (Alloc dst 0 1) r kept p
+    s = before old got (Alloc dst 0 1) r kept p
+
+    after : State
+    after = state_of old.seat.heap.config got.front
 
     is_made : p.performed.full ≡ false
-    is_made = not_full s (Alloc dst 0 1) p.performed.full r p.performed.replies room
+    is_made = not_full number s (Alloc dst 0 1) p.performed.full r p.performed.replies room
 
-    there : state_of new.session.config new.session.front ≡ next s (Command 0 (Alloc dst 0 1) false)
-    there = left old new (Alloc dst 0 1) r kept p ∙ ap (λ (b : Bool). next s (Command 0 (Alloc dst 0 1) b)) is_made
+    there : after ≡ next s (Command number (Alloc dst 0 1) false)
+    there = left old got (Alloc dst 0 1) r kept p ∙ ap (λ (b : Bool). next s (Command number (Alloc dst 0 1) b)) is_made
 
-    inside : 0 < length s.domains
-    inside = inside_running s.domains 0 (allowed old new (Alloc dst 0 1) r kept p).running
+    inside : number < length s.domains
+    inside = inside_running s.domains number (allowed old got (Alloc dst 0 1) r kept p).running
 
-    inside_registers : dst < length (domain_at s 0).registers
-    inside_registers = let sixteen = (shaped-history (sizes_in old.session.config) p.performed.before p.limits).register_count 0 inside in omega (arith, sixteen, few)
+    inside_registers : dst < length (domain_at s number).registers
+    inside_registers = let sixteen = (shaped-history (sizes_in old.seat.heap.config) p.performed.before kept.limits).register_count number inside in omega (arith, sixteen, few)
 
-    block : r ≡ BlockReply (new_label s 0)
-    block = let same : Replied r ≡ Replied (BlockReply (new_label s 0)) = sym p.performed.replies ∙ (ap (λ (b : Bool). reply s (Command 0 (Alloc dst 0 1) b)) is_made ∙ (leaves_alloc s 0 inside dst 0 1).replies) in cc
+    block : r ≡ BlockReply (new_label s number)
+    block = let same : Replied r ≡ Replied (BlockReply (new_label s number)) = sym p.performed.replies ∙ (ap (λ (b : Bool). reply s (Command number (Alloc dst 0 1) b)) is_made ∙ (leaves_alloc s number inside dst 0 1).replies) in cc
 
-    serial : new.session.labels ≡ (domain_at s 0).serial + 1
-    serial = p.serial ∙ (ap (λ (t : State). (domain_at t 0).serial) there ∙ (leaves_alloc s 0 inside dst 0 1).serial_is)
+    serial : (domain_at after number).serial ≡ (domain_at s number).serial + 1
+    serial = ap (λ (t : State). (domain_at t number).serial) there ∙ (leaves_alloc s number inside dst 0 1).serial_is
+
+    handle : get_or (domain_at after number).registers dst Nothing ≡ Block (record { domain = number; serial = (domain_at after number).serial })
+    handle = ap (λ (t : State). get_or (domain_at t number).registers dst Nothing) there ∙ (ap (λ (rs : List Value). get_or rs dst Nothing) (leaves_alloc s number inside dst 0 1).registers_are
+        ∙ (get_or-set_same (domain_at s number).registers dst (Block (new_label s number)) Nothing inside_registers ∙ ap (λ (n : ℕ). Block (record { domain = number; serial = n })) (sym serial)))
 
 -- the registration of a finaliser
-after_keeps : (t : State) → (domain_at (after_command t 0) 0).registers ≡ (domain_at t 0).registers
-after_keeps t = set_first t.domains _ refl
+after_keeps : (d : ℕ) (t : State) → HoldsSame d t (after_command t d)
+after_keeps d t = same_part d t _ refl refl
 
-last_listed : (s : State) (n : ℕ) (o : Option Label) → (domain_at (finalised_last s 0 n o).state 0).registers ≡ (domain_at s 0).registers
-last_listed s n None = refl
-last_listed s n (Some l) = set_first s.domains _ refl
+last_listed : (d : ℕ) (s : State) (n : ℕ) (o : Option Label) → HoldsSame d s (finalised_last s d n o).state
+last_listed d s n None = record { registers = refl; serial = refl }
+last_listed d s n (Some l) = same_part d s _ refl refl
 
-last_keeps : (s : State) (dst n : ℕ) (full : Bool) → (domain_at (next s (Command 0 (FinaliseLast dst n) full)) 0).registers ≡ (domain_at s 0).registers
-last_keeps s dst n true = after_keeps s
-last_keeps s dst n false = after_keeps (finalised_last s 0 n (label_in s 0 dst)).state ∙ last_listed s n (label_in s 0 dst)
+last_keeps : (d : ℕ) (s : State) (dst n : ℕ) (full : Bool) → HoldsSame d s (next s (Command d (FinaliseLast dst n) full))
+last_keeps d s dst n true = after_keeps d s
+last_keeps d s dst n false = same_on d s _ _ (last_listed d s n (label_in s d dst)) (after_keeps d (finalised_last s d n (label_in s d dst)).state)
 
-last_registers : (s : State) (dst n : ℕ) (full : Bool) (l : Label) → CommandAllowed s 0 (FinaliseLast dst n) full → label_in s 0 dst ≡ Some l → registered 0 s (Command 0 (FinaliseLast dst n) full) ≡ Last n ∷ []
-last_registers s dst n true l allowed is = absurd (let no = allowed.full_fits.allocates in cc)
-last_registers s dst n false l allowed is = ap (λ (o : Option Label). option_to_list (option_map (λ l. Last n) o)) is
+last_registers : (d : ℕ) (s : State) (dst n : ℕ) (full : Bool) (l : Label) → CommandAllowed s d (FinaliseLast dst n) full → label_in s d dst ≡ Some l → registered d s (Command d (FinaliseLast dst n) full) ≡ Last n ∷ []
+last_registers d s dst n true l allowed is = absurd (let no = allowed.full_fits.allocates in cc)
+last_registers d s dst n false l allowed is = (λ i. cond (eq-eqb d d refl i) (option_to_list (option_map (λ l. Last n) (is i))) [])
 
-module _ (old new : HandlesView) (dst : ℕ) (r : Reply) (kept : IsHandles old) (p : Performs old.session new.session (FinaliseLast dst (length old.resources)) r) (below : length old.resources < old.most) (held : HoldsLatest old dst)
-    (most : new.most ≡ old.most) (others : List Resource) (count : length others ≡ length old.resources) (s : Settled old.resources new.session.ran others) (pushes : new.resources ≡ others ++ Open ∷ []) where
+module _ (old : HandlesView) (got : SeatView) (others : List Resource) (dst : ℕ) (r : Reply) (kept : IsHandles old) (p : Performs old.seat got (FinaliseLast dst (length old.resources)) r)
+    (below : length old.resources < old.most) (held : HoldsLatest old dst) (count : length others ≡ length old.resources) (s : Settled old.resources got.ran others) where
   abbrev c : model.Command
   c = FinaliseLast dst (length old.resources)
 
-  settled : Settled old.resources (ran_by new) others
-  settled = all_settled old new c r kept p others s
+  abbrev sizes : Sizes
+  sizes = sizes_in old.seat.heap.config
+
+  abbrev number : ℕ
+  number = old.seat.number
+
+  abbrev made_in : State
+  made_in = before old got c r kept p
+
+  abbrev after : State
+  after = state_of old.seat.heap.config got.front
+
+  abbrev opened_view : HandlesView
+  opened_view = parted old got (others ++ Open ∷ [])
+
+  abbrev others_view : HandlesView
+  others_view = parted old got others
+
+  settled : Settled old.resources (ran_by others_view) others
+  settled = all_settled old got others kept p.same (grows old got c r kept p) (both old got c r kept p) count s
 
   -- by then the register still holds the handle
-  same_registers : (domain_at (before old new c r kept p) 0).registers ≡ (domain_at (state_of old.session.config old.session.front) 0).registers
-  same_registers = ap (λ (h : List Entry). (domain_at (state_after (opening (sizes_in old.session.config)) h) 0).registers) p.performed.finalised.appends
-      ∙ registers_on (sizes_in old.session.config) (length old.resources) old.session.front p.performed.finalised.rest (subst (Legal (sizes_in old.session.config)) p.performed.finalised.appends (legal_before old new c r kept p)) kept.registered p.performed.finalised.runs
+  by_then : HoldsSame number (state_at old) made_in
+  by_then = subst (λ (h : List Entry). HoldsSame number (state_at old) (state_after (opening sizes) h)) (sym p.performed.finalised.appends)
+      (registers_on sizes number (length old.resources) old.seat.front p.performed.finalised.rest (subst (Legal sizes) p.performed.finalised.appends (legal_before old got c r kept p)) kept.registered p.performed.finalised.runs)
 
-  abbrev handle : Label
-  handle = record { domain = 0; serial = old.session.labels }
+  there : label_in made_in number dst ≡ Some (latest old)
+  there = ap (λ (rs : List Value). label_of (get_or rs dst Nothing)) by_then.registers ∙ ap label_of held
 
-  there : label_in (before old new c r kept p) 0 dst ≡ Some handle
-  there = ap (λ (rs : List Value). label_of (get_or rs dst Nothing)) same_registers ∙ ap label_of held
+  in_the_end : HoldsSame number (state_at old) after
+  in_the_end = same_on number (state_at old) made_in after by_then (subst (λ (t : State). HoldsSame number made_in t) (sym (left old got c r kept p)) (last_keeps number made_in dst (length old.resources) p.performed.full))
 
-  one_more : length new.resources ≡ length old.resources + 1
-  one_more = ap (λ (xs : List Resource). length xs) pushes ∙ (length-append others (Open ∷ []) ∙ ap (λ (k : ℕ). k + 1) count)
+  one_more : length (others ++ Open ∷ []) ≡ length old.resources + 1
+  one_more = length-append others (Open ∷ []) ∙ ap (λ (k : ℕ). k + 1) count
 
-  pub opened : Opens (c ∷ []) 0 old new dst
+  pub opened : Opens (c ∷ []) 0 old opened_view dst
   opened = record {
-    config = p.config;
-    most = most;
-    grows = grows old new c r kept p;
-    made_are = performed_commands (sizes_in old.session.config) 0 old.session.front new.session.front c new.session.ran r p.performed;
+    grows = grows old got c r kept p;
+    made_are = made_are old got c r kept p;
     labels = p.labels;
-    handle = ap (λ (t : State). get_or (domain_at t 0).registers dst Nothing) (left old new c r kept p)
-        ∙ (ap (λ (rs : List Value). get_or rs dst Nothing) (last_keeps (before old new c r kept p) dst (length old.resources) p.performed.full ∙ same_registers)
-        ∙ (held ∙ ap (λ (k : ℕ). Block (record { domain = 0; serial = k })) (let given = p.labels in omega (arith, given))));
+    handle = subst (λ (v : SeatView). HoldsLatest (parted old v (others ++ Open ∷ [])) dst) (sym p.same)
+        (ap (λ (rs : List Value). get_or rs dst Nothing) in_the_end.registers ∙ (held ∙ ap (λ (n : ℕ). Block (record { domain = number; serial = n })) (sym in_the_end.serial)));
     others = others;
     settled = settled;
-    resources = pushes;
+    resources = refl;
   }
 
   -- the new resource isn't named, since its finaliser wasn't registered before
-  unnamed : (k : ℕ) → length old.resources ≤ k → names (ran_by new) k ≡ true → ⊥
+  unnamed : (k : ℕ) → length old.resources ≤ k → names (ran_by others_view) k ≡ true → ⊥
   unnamed k far is =
-      none_named (sizes_in old.session.config) p.performed.before (length old.resources) k (legal_before old new c r kept p)
-      (registered_on (sizes_in old.session.config) old.session.front p.performed.before new.session.ran p.performed.finalised ∙ kept.registered) far
-      (ap (λ (rs : List Reply). names rs k) (sym (ran_by_then (sizes_in old.session.config) old.session.front new.session.front c new.session.ran r p.performed))
-      ∙ (ap (λ (f : Config). names (finalised (sizes_in f) new.session.front 0) k) (sym p.config) ∙ is))
+      none_named sizes number p.performed.before (length old.resources) k (legal_before old got c r kept p)
+      (registered_on sizes number old.seat.front p.performed.before got.ran p.performed.finalised ∙ kept.registered) far
+      (ap (λ (rs : List Reply). names rs k) (sym (ran_then old got others kept p.same (grows old got c r kept p) (both old got c r kept p) count s ∙ ran_by_then sizes number old.seat.front got.front c got.ran r p.performed)) ∙ is)
 
-  pub open_still : IsHandles new
+  pub open_still : IsHandles opened_view
   open_still = record {
-    registered = registers old new c r kept p (numbered (length new.resources))
-        ((λ i. kept.registered i ++ last_registers (before old new c r kept p) dst (length old.resources) p.performed.full handle (allowed old new c r kept p) there i)
+    limits = limits_then old got others kept p.same (grows old got c r kept p) (both old got c r kept p) count s;
+    registered = registered_then old got others kept p.same (grows old got c r kept p) (both old got c r kept p) count s
+        ∙ registers old got c r kept p (numbered (length (others ++ Open ∷ [])))
+        ((λ i. kept.registered i ++ last_registers number made_in dst (length old.resources) p.performed.full (latest old) (allowed old got c r kept p) there i)
         ∙ ap numbered (sym (one_more ∙ add-one (length old.resources))));
-    few = let more = one_more in omega (arith, more, below, most);
-    room = let f = kept.room in let finals = p.finals in let more = one_more in omega (arith, f, finals, most, more);
+    few = let more = one_more in omega (arith, more, below);
+    room = let f = kept.room in let finals = p.finals in let more = one_more in omega (arith, f, finals, more);
     closed = λ k is held_open. ⊎_elim
-        (λ old_one. closed_then old new c r kept p others settled k is old_one)
+        (λ old_one. closed_then old got others kept p.same (grows old got c r kept p) (both old got c r kept p) count s k is old_one)
         (λ new_one. unnamed k (let same = new_one.0 in omega (arith, same, count)) is)
-        (pushed others Open Open k (ap (λ (xs : List Resource). slice_get xs k) (sym pushes) ∙ held_open));
+        (pushed others Open Open k held_open);
     ran = λ k is. ⊎_elim
-        (λ old_one. ran_then old new c r kept p others settled k old_one)
+        (λ old_one. named_then old got others kept p.same (grows old got c r kept p) (both old got c r kept p) count s k old_one)
         (λ new_one. absurd (let same = new_one.1 in cc))
-        (pushed others Open ClosedByFinaliser k (ap (λ (xs : List Resource). slice_get xs k) (sym pushes) ∙ is));
+        (pushed others Open ClosedByFinaliser k is);
+    told = told_then old got others kept p.same (grows old got c r kept p) (both old got c r kept p) count s;
   }
 
+-- what has run stays so
+later_named : (mid new : HandlesView) → IsLater mid.seat new.seat → IsPrefix mid.seat.front new.seat.front → (k : ℕ) → names (ran_by mid) k ≡ true → names (ran_by new) k ≡ true
+later_named mid new same grows k is =
+    ap (λ (v : SeatView). names (finalised (sizes_in v.heap.config) v.front v.number) k) same ∙ names_on (sizes_in mid.seat.heap.config) mid.seat.number mid.seat.front new.seat.front k grows is
+
+-- a seat that made no command has given out no label
+pub along_later : (a b : SeatView) → b ≡ record a { front = b.front; room = b.room; finals = b.finals; ran = b.ran } → IsLater a b
+along_later a b same = same ∙ (λ i. record a { front = b.front; labels = ap (λ (v : SeatView). v.labels) (sym same) i; room = b.room; finals = b.finals; ran = b.ran })
+
+-- one call after the other
+pub later_both : (a b c : SeatView) → IsLater a b → IsLater b c → IsLater a c
+later_both a b c ab bc = bc ∙ ap (λ (v : SeatView). record v { front = c.front; labels = c.labels; room = c.room; finals = c.finals; ran = c.ran }) ab
+
+pub settles_both : (old mid new : HandlesView) → IsLater mid.seat new.seat → Settles old mid → Settles mid new → Settles old new
+settles_both old mid new same a b = record {
+  grows = prefix_on old.seat.front mid.seat.front new.seat.front a.grows b.grows;
+  count = b.count ∙ a.count;
+  settled = settled_both old.resources mid.resources new.resources (ran_by mid) (ran_by new) (later_named mid new same b.grows) a.settled b.settled;
+}
+
+-- the commands of both
+both_made : (old mid new : HandlesView) (one two : List model.Command) → IsLater old.seat mid.seat → commands mid.seat.front old.seat.number ≡ commands old.seat.front old.seat.number ++ one
+    → commands new.seat.front mid.seat.number ≡ commands mid.seat.front mid.seat.number ++ two → commands new.seat.front old.seat.number ≡ commands old.seat.front old.seat.number ++ (one ++ two)
+both_made old mid new one two same a b =
+    subst (λ (k : ℕ). commands new.seat.front k ≡ commands mid.seat.front k ++ two) (ap (λ (v : SeatView). v.number) same) b
+    ∙ (ap (λ (cs : List model.Command). cs ++ two) a ∙ append_assoc (commands old.seat.front old.seat.number) one two)
+
+pub makes_both : (old mid new : HandlesView) (one two : List model.Command) → IsLater old.seat mid.seat → IsLater mid.seat new.seat → Makes one old mid → Makes two mid new → Makes (one ++ two) old new
+makes_both old mid new one two first then a b = record {
+  made_are = both_made old mid new one two first a.made_are b.made_are;
+  settles = settles_both old mid new then a.settles b.settles;
+}
+
 -- a handle, and then its finaliser
-pub opens_both : (old mid new : HandlesView) (dst : ℕ) (last : model.Command) → HandleMade old mid dst → Opens (last ∷ []) 0 mid new dst → Opens (Alloc dst 0 1 ∷ last ∷ []) 1 old new dst
-opens_both old mid new dst last a b = record {
-  config = b.config ∙ a.settles.config;
-  most = b.most ∙ a.settles.most;
-  grows = prefix_on old.session.front mid.session.front new.session.front a.settles.grows b.grows;
-  made_are = b.made_are ∙ (ap (λ (cs : List model.Command). cs ++ last ∷ []) a.made_are ∙ append_assoc (commands old.session.front 0) (Alloc dst 0 1 ∷ []) (last ∷ []));
+pub opens_both : (old mid new : HandlesView) (dst : ℕ) (last : model.Command) → IsLater old.seat mid.seat → IsLater mid.seat new.seat → HandleMade old mid dst → Opens (last ∷ []) 0 mid new dst → Opens (Alloc dst 0 1 ∷ last ∷ []) 1 old new dst
+opens_both old mid new dst last first then a b = record {
+  grows = prefix_on old.seat.front mid.seat.front new.seat.front a.settles.grows b.grows;
+  made_are = both_made old mid new (Alloc dst 0 1 ∷ []) (last ∷ []) first a.made_are b.made_are;
   labels = let first = a.labels in let then = b.labels in omega (arith, first, then);
   handle = b.handle;
   others = b.others;
-  settled = settled_both old.resources mid.resources b.others (ran_by mid) (ran_by new) (stays_named mid new b.config b.grows) a.settles.settled b.settled;
+  settled = settled_both old.resources mid.resources b.others (ran_by mid) (ran_by new) (later_named mid new then b.grows) a.settles.settled b.settled;
   resources = b.resources;
 }
 
--- one call after the other
-pub settles_both : (old mid new : HandlesView) → Settles old mid → Settles mid new → Settles old new
-settles_both old mid new a b = record {
-  config = b.config ∙ a.config;
-  most = b.most ∙ a.most;
-  grows = prefix_on old.session.front mid.session.front new.session.front a.grows b.grows;
-  count = b.count ∙ a.count;
-  settled = settled_both old.resources mid.resources new.resources (ran_by mid) (ran_by new) (stays_named mid new b.config b.grows) a.settled b.settled;
+-- what was performed, as the seat was before
+pub performed_from : (old mid new : HandlesView) (c : model.Command) (ran : List Reply) (r : Reply) → IsLater old.seat mid.seat → PerformedOn (sizes_in mid.seat.heap.config) mid.seat.number mid.seat.front new.seat.front c ran r
+    → PerformedOn (sizes_in old.seat.heap.config) old.seat.number mid.seat.front new.seat.front c ran r
+performed_from old mid new c ran r same p = subst (λ (v : SeatView). PerformedOn (sizes_in v.heap.config) v.number mid.seat.front new.seat.front c ran r) same p
+
+-- a complete collection, and then a poll
+pub open_held : (old mid new : HandlesView) → IsLater old.seat mid.seat → IsLater mid.seat new.seat → (ran1 ran2 : List Reply) (r1 r2 : Reply) → PerformedOn (sizes_in old.seat.heap.config) old.seat.number old.seat.front mid.seat.front FullMajor ran1 r1
+    → PerformedOn (sizes_in mid.seat.heap.config) mid.seat.number mid.seat.front new.seat.front Poll ran2 r2 → IsHandles new → OpenWereHeld old new
+open_held old mid new first then ran1 ran2 r1 r2 p q kept k is =
+    was_held (sizes_in old.seat.heap.config) old.seat.number k (length new.resources) old.seat.front mid.seat.front new.seat.front ran1 ran2 r1 r2 p (performed_from old mid new Poll ran2 r2 first q)
+    (sym (ap (λ (v : SeatView). all_registered v.number (opening (sizes_in v.heap.config)) v.front) both) ∙ kept.registered)
+    (slice_get_within new.resources k Open is)
+    (sym (ap (λ (v : SeatView). names (finalised (sizes_in v.heap.config) v.front v.number) k) both) ∙ unnamed (names (ran_by new) k) refl)
+  where
+    both : IsLater old.seat new.seat
+    both = later_both old.seat mid.seat new.seat first then
+
+    unnamed : (b : Bool) → names (ran_by new) k ≡ b → b ≡ false
+    unnamed true named = absurd (kept.closed k named is)
+    unnamed false named = refl
+
+-- a seat without a resource
+pub none_kept : (most : ℕ) (s : SeatView) → IsUnused most s → IsHandles (no_handles most s)
+none_kept most s unused = record {
+  limits = unused.limits;
+  registered = ap (all_registered s.number (opening (sizes_in s.heap.config))) unused.front;
+  few = omega arith;
+  room = let room = unused.room in omega (arith, room);
+  closed = λ k is held. let no : None ≡ Some Open = held in cc;
+  ran = λ k is. let no : None ≡ Some ClosedByFinaliser = is in cc;
+  told = λ k is. let no : false ≡ true = ap (λ (rs : List Reply). names rs k) (sym unused.ran) ∙ is in cc;
 }
 
 -- what a vector holds once its slice is another of its length

@@ -1,6 +1,6 @@
 -- What has run and what is registered as a history grows, where the finalisers of so many resources are registered.
-use Rattle.std.proofs.Common.{◌≡◌, ◌∙◌, ◌≢◌, ℕ, zero, suc, ◌+◌, ◌<◌, ◌≤◌, Bool, true, false, not, IsTrue, List, [], ◌∷◌, ◌++◌, refl, sym, ap, subst, append-nil, append_assoc, eqb-true, arith}
-use Rattle.std.specs.Prelude.{cond, ◌==◌, ◌||◌, count_by, get_or, length, map, set, take}
+use Rattle.std.proofs.Common.{◌≡◌, ◌∙◌, ℕ, zero, suc, ◌+◌, ◌<◌, ◌≤◌, Bool, true, false, not, IsTrue, List, [], ◌∷◌, ◌++◌, refl, sym, ap, subst, append-nil, append_assoc, eqb-true, arith}
+use Rattle.std.specs.Prelude.{cond, ◌==◌, ◌||◌, count_by, map, take}
 use Rattle.std.proofs.lemmas.List.{map-append}
 use Rattle.std.proofs.lemmas.List.Folds.{list_any-append}
 use Rattle.std.proofs.lemmas.List.Sums.{sum_by-append, sum_by-cons}
@@ -8,7 +8,6 @@ use Rattle.heap_model.specs.declared.command.Command as model
 use Rattle.heap_model.specs.declared.command.Command.TheVariants.{Finalise, FinaliseLast}
 use Rattle.heap_model.specs.declared.entry.Entry.{Entry}
 use Rattle.heap_model.specs.declared.entry.Entry.TheVariants.{Command, End, Cut, Queue, Seal, Wipe, Last as LastOf, Collected, Done, Ran}
-use Rattle.heap_model.specs.declared.graph.Value.{Value}
 use Rattle.heap_model.specs.declared.reply.Reply.{Reply}
 use Rattle.heap_model.specs.declared.reply.Reply.TheVariants.{Fin as FinReply, Last as LastReply}
 use Rattle.heap_model.specs.declared.state.DomainState.{DomainState}
@@ -16,15 +15,15 @@ use Rattle.heap_model.specs.declared.state.Pending.{Pending}
 use Rattle.heap_model.specs.declared.state.Pending.TheVariants.{Fin, Last}
 use Rattle.heap_model.specs.declared.state.Sizes.{Sizes}
 use Rattle.heap_model.specs.declared.state.State.{State}
-use Rattle.heap_model.specs.Domains.{domain_at, no_domain, opening}
+use Rattle.heap_model.specs.Domains.{domain_at, opening, with_domain}
 use Rattle.heap_model.specs.Entries.{after_run, next, queued_final, queued_last, reply, run_reply}
-use Rattle.heap_model.specs.History.{IsPrefix, Legal, is_entry_of, replies_from, reply_list, state_after}
-use Rattle.heap_model.specs.Registrations.{all_ran, all_registered, left_over, ran as run_by, registered, registered_by}
+use Rattle.heap_model.specs.History.{IsPrefix, Legal, LegalFrom, is_entry_of, replies_from, reply_list, state_after}
+use Rattle.heap_model.specs.Registrations.{all_ran, all_registered, ran as run_by, registered, registered_by}
 use Rattle.heap_model.proofs.Collections.RegistrationLemmas.{registrations_law}
-use Rattle.heap_model.proofs.Commands.FrameLemmas.{keeps_next}
+use Rattle.heap_model.specs.Fronts.{KeepsDomain}
+use Rattle.heap_model.proofs.Commands.FrameLemmas.{keeps_next, part_set}
 use Rattle.heap_model.proofs.Graphs.GraphLemmas.{and_parts}
 use Rattle.heap_model.proofs.Histories.HistoryLemmas.{state_after-push}
-use Rattle.table_laws.proofs.StepLemmas.{legal_parts}
 use Rattle.domain_turns.specs.Handed.{Finalised, OnlyRuns, PerformedOn}
 use Rattle.domain_turns.specs.Kept.{finalised, is_run_of, replies_to}
 use Rattle.domain_turns.specs.Tries.{registrations_of}
@@ -32,96 +31,109 @@ use Rattle.domain_turns.proofs.Kept.{replies_to-append}
 use Rattle.example_handles.specs.Handling.{numbered}
 use Rattle.example_handles.specs.Resources.{is_last, names}
 
+-- a legal history is one of its first part, and from there
+pub legal_parts : (s : State) (h k : List Entry) → LegalFrom s (h ++ k) → LegalFrom s h × LegalFrom (state_after s h) k
+legal_parts s [] k legal = (tt, legal)
+legal_parts s (e ∷ h) k legal = let rest = legal_parts (next s e) h k legal.1 in ((legal.0, rest.0), rest.1)
+
+-- it has grown twice
+pub prefix_on : (a b c : List Entry) → IsPrefix a b → IsPrefix b c → IsPrefix a c
+prefix_on a b c x y = record { rest = x.rest ++ y.rest; appends = y.appends ∙ (ap (λ (h : List Entry). h ++ y.rest) x.appends ∙ append_assoc a x.rest y.rest) }
+
 -- among others' entries and runs the replies are those of the runs
-one_run : (s : State) (e : Entry) → IsTrue (not (is_entry_of 0 e) || is_run_of 0 e) → cond (is_run_of 0 e) (reply_list (reply s e)) [] ≡ cond (is_entry_of 0 e) (reply_list (reply s e)) []
-one_run s (Command k c full) runs = by (k == 0) runs
+one_run : (d : ℕ) (s : State) (e : Entry) → IsTrue (not (is_entry_of d e) || is_run_of d e) → cond (is_run_of d e) (reply_list (reply s e)) [] ≡ cond (is_entry_of d e) (reply_list (reply s e)) []
+one_run d s (Command k c full) runs = by (k == d) runs
   where
     by : (b : Bool) → IsTrue (not b || false) → [] ≡ cond b (reply_list (reply s (Command k c full))) []
     by true is = cc
     by false is = refl
-one_run s (End k) runs = by (k == 0) runs
+one_run d s (End k) runs = by (k == d) runs
   where
     by : (b : Bool) → IsTrue (not b || false) → [] ≡ cond b (reply_list (reply s (End k))) []
     by true is = cc
     by false is = refl
-one_run s e runs = refl
+one_run d s e runs = refl
 
-runs_replies : (s : State) (h : List Entry) → OnlyRuns 0 h → replies_to (is_run_of 0) s h ≡ replies_from s h 0
-runs_replies s [] runs = refl
-runs_replies s (e ∷ h) runs =
-    let parts = and_parts (not (is_entry_of 0 e) || is_run_of 0 e) _ runs in
-    (λ i. one_run s e parts.0 i ++ runs_replies (next s e) h parts.1 i)
+runs_replies : (d : ℕ) (s : State) (h : List Entry) → OnlyRuns d h → replies_to (is_run_of d) s h ≡ replies_from s h d
+runs_replies d s [] runs = refl
+runs_replies d s (e ∷ h) runs =
+    let parts = and_parts (not (is_entry_of d e) || is_run_of d e) _ runs in
+    (λ i. one_run d s e parts.0 i ++ runs_replies d (next s e) h parts.1 i)
 
-pub ran_on : (z : Sizes) (old new : List Entry) (ran : List Reply) → Finalised z 0 old new ran → finalised z new 0 ≡ finalised z old 0 ++ ran
-ran_on z old new ran f =
-    ap (λ (h : List Entry). finalised z h 0) f.appends ∙ (replies_to-append (is_run_of 0) (opening z) old f.rest
-    ∙ ap (λ (rs : List Reply). finalised z old 0 ++ rs) (runs_replies (state_after (opening z) old) f.rest f.runs ∙ f.ran_are))
+pub ran_on : (z : Sizes) (d : ℕ) (old new : List Entry) (ran : List Reply) → Finalised z d old new ran → finalised z new d ≡ finalised z old d ++ ran
+ran_on z d old new ran f =
+    ap (λ (h : List Entry). finalised z h d) f.appends ∙ (replies_to-append (is_run_of d) (opening z) old f.rest
+    ∙ ap (λ (rs : List Reply). finalised z old d ++ rs) (runs_replies d (state_after (opening z) old) f.rest f.runs ∙ f.ran_are))
 
 -- what has run by the end of a command is what ran before it
-pub ran_by_then : (z : Sizes) (old new : List Entry) (c : model.Command) (ran : List Reply) (r : Reply) → (p : PerformedOn z 0 old new c ran r) → finalised z new 0 ≡ finalised z p.before 0
-ran_by_then z old new c ran r p =
-    ap (λ (h : List Entry). finalised z h 0) p.appends ∙ (replies_to-append (is_run_of 0) (opening z) p.before (Command 0 c p.full ∷ []) ∙ append-nil (finalised z p.before 0))
+pub ran_by_then : (z : Sizes) (d : ℕ) (old new : List Entry) (c : model.Command) (ran : List Reply) (r : Reply) → (p : PerformedOn z d old new c ran r) → finalised z new d ≡ finalised z p.before d
+ran_by_then z d old new c ran r p =
+    ap (λ (h : List Entry). finalised z h d) p.appends ∙ (replies_to-append (is_run_of d) (opening z) p.before (Command d c p.full ∷ []) ∙ append-nil (finalised z p.before d))
 
-pub ran_performed : (z : Sizes) (old new : List Entry) (c : model.Command) (ran : List Reply) (r : Reply) → PerformedOn z 0 old new c ran r → finalised z new 0 ≡ finalised z old 0 ++ ran
-ran_performed z old new c ran r p = ran_by_then z old new c ran r p ∙ ran_on z old p.before ran p.finalised
+pub ran_performed : (z : Sizes) (d : ℕ) (old new : List Entry) (c : model.Command) (ran : List Reply) (r : Reply) → PerformedOn z d old new c ran r → finalised z new d ≡ finalised z old d ++ ran
+ran_performed z d old new c ran r p = ran_by_then z d old new c ran r p ∙ ran_on z d old p.before ran p.finalised
 
 -- what has run stays so
 or_left : (a b : Bool) → a ≡ true → (a || b) ≡ true
 or_left true b is = refl
 or_left false b is = cc
 
-pub names_on : (z : Sizes) (old new : List Entry) (k : ℕ) → IsPrefix old new → names (finalised z old 0) k ≡ true → names (finalised z new 0) k ≡ true
-names_on z old new k grows is =
-    ap (λ (h : List Entry). names (finalised z h 0) k) grows.appends ∙ (ap (λ (rs : List Reply). names rs k) (replies_to-append (is_run_of 0) (opening z) old grows.rest)
-    ∙ (list_any-append (is_last k) (finalised z old 0) (replies_to (is_run_of 0) (state_after (opening z) old) grows.rest) ∙ or_left (names (finalised z old 0) k) _ is))
+pub names_on : (z : Sizes) (d : ℕ) (old new : List Entry) (k : ℕ) → IsPrefix old new → names (finalised z old d) k ≡ true → names (finalised z new d) k ≡ true
+names_on z d old new k grows is =
+    ap (λ (h : List Entry). names (finalised z h d) k) grows.appends ∙ (ap (λ (rs : List Reply). names rs k) (replies_to-append (is_run_of d) (opening z) old grows.rest)
+    ∙ (list_any-append (is_last k) (finalised z old d) (replies_to (is_run_of d) (state_after (opening z) old) grows.rest) ∙ or_left (names (finalised z old d) k) _ is))
 
 -- others' entries and runs register none
-one_quiet : (s : State) (e : Entry) → IsTrue (not (is_entry_of 0 e) || is_run_of 0 e) → registered 0 s e ≡ []
-one_quiet s (Command k c true) runs = refl
-one_quiet s (Command k c false) runs = by (k == 0) runs
+one_quiet : (d : ℕ) (s : State) (e : Entry) → IsTrue (not (is_entry_of d e) || is_run_of d e) → registered d s e ≡ []
+one_quiet d s (Command k c true) runs = refl
+one_quiet d s (Command k c false) runs = by (k == d) runs
   where
     by : (b : Bool) → IsTrue (not b || false) → cond b (registered_by s k c) [] ≡ []
     by true is = cc
     by false is = refl
-one_quiet s e runs = refl
+one_quiet d s e runs = refl
 
-registered-append : (s : State) (h k : List Entry) → all_registered 0 s (h ++ k) ≡ all_registered 0 s h ++ all_registered 0 (state_after s h) k
-registered-append s [] k = refl
-registered-append s (e ∷ h) k = ap (λ (rs : List Pending). registered 0 s e ++ rs) (registered-append (next s e) h k) ∙ sym (append_assoc (registered 0 s e) (all_registered 0 (next s e) h) (all_registered 0 (state_after (next s e) h) k))
+registered-append : (d : ℕ) (s : State) (h k : List Entry) → all_registered d s (h ++ k) ≡ all_registered d s h ++ all_registered d (state_after s h) k
+registered-append d s [] k = refl
+registered-append d s (e ∷ h) k = ap (λ (rs : List Pending). registered d s e ++ rs) (registered-append d (next s e) h k) ∙ sym (append_assoc (registered d s e) (all_registered d (next s e) h) (all_registered d (state_after (next s e) h) k))
 
-runs_quiet : (s : State) (h : List Entry) → OnlyRuns 0 h → all_registered 0 s h ≡ []
-runs_quiet s [] runs = refl
-runs_quiet s (e ∷ h) runs =
-    let parts = and_parts (not (is_entry_of 0 e) || is_run_of 0 e) _ runs in
-    (λ i. one_quiet s e parts.0 i ++ runs_quiet (next s e) h parts.1 i)
+runs_quiet : (d : ℕ) (s : State) (h : List Entry) → OnlyRuns d h → all_registered d s h ≡ []
+runs_quiet d s [] runs = refl
+runs_quiet d s (e ∷ h) runs =
+    let parts = and_parts (not (is_entry_of d e) || is_run_of d e) _ runs in
+    (λ i. one_quiet d s e parts.0 i ++ runs_quiet d (next s e) h parts.1 i)
 
-pub registered_on : (z : Sizes) (old new : List Entry) (ran : List Reply) → Finalised z 0 old new ran → all_registered 0 (opening z) new ≡ all_registered 0 (opening z) old
-registered_on z old new ran f =
-    ap (all_registered 0 (opening z)) f.appends ∙ (registered-append (opening z) old f.rest
-    ∙ ((λ i. all_registered 0 (opening z) old ++ runs_quiet (state_after (opening z) old) f.rest f.runs i) ∙ append-nil (all_registered 0 (opening z) old)))
+pub registered_on : (z : Sizes) (d : ℕ) (old new : List Entry) (ran : List Reply) → Finalised z d old new ran → all_registered d (opening z) new ≡ all_registered d (opening z) old
+registered_on z d old new ran f =
+    ap (all_registered d (opening z)) f.appends ∙ (registered-append d (opening z) old f.rest
+    ∙ ((λ i. all_registered d (opening z) old ++ runs_quiet d (state_after (opening z) old) f.rest f.runs i) ∙ append-nil (all_registered d (opening z) old)))
 
 -- a command registers what it does
-pub registered_performed : (z : Sizes) (old new : List Entry) (c : model.Command) (ran : List Reply) (r : Reply) → (p : PerformedOn z 0 old new c ran r)
-    → all_registered 0 (opening z) new ≡ all_registered 0 (opening z) old ++ registered 0 (state_after (opening z) p.before) (Command 0 c p.full)
-registered_performed z old new c ran r p =
+pub registered_performed : (z : Sizes) (d : ℕ) (old new : List Entry) (c : model.Command) (ran : List Reply) (r : Reply) → (p : PerformedOn z d old new c ran r)
+    → all_registered d (opening z) new ≡ all_registered d (opening z) old ++ registered d (state_after (opening z) p.before) (Command d c p.full)
+registered_performed z d old new c ran r p =
     let s : State = state_after (opening z) p.before in
-    ap (all_registered 0 (opening z)) p.appends ∙ (registered-append (opening z) p.before (Command 0 c p.full ∷ [])
-    ∙ (λ i. registered_on z old p.before ran p.finalised i ++ append-nil (registered 0 s (Command 0 c p.full)) i))
+    ap (all_registered d (opening z)) p.appends ∙ (registered-append d (opening z) p.before (Command d c p.full ∷ [])
+    ∙ (λ i. registered_on z d old p.before ran p.finalised i ++ append-nil (registered d s (Command d c p.full)) i))
 
-pub registers_none : (s : State) (c : model.Command) (full : Bool) → registrations_of c ≡ 0 → registered 0 s (Command 0 c full) ≡ []
-registers_none s c true quiet = refl
-registers_none s (Finalise item number dst) false quiet = absurd (omega (arith, quiet))
-registers_none s (FinaliseLast item number) false quiet = absurd (omega (arith, quiet))
-registers_none s _ false quiet = refl
+either_none : (b : Bool) → ◌≡◌ {A = List Pending} (cond b [] []) []
+either_none true = refl
+either_none false = refl
+
+pub registers_none : (d : ℕ) (s : State) (c : model.Command) (full : Bool) → registrations_of c ≡ 0 → registered d s (Command d c full) ≡ []
+registers_none d s c true quiet = refl
+registers_none d s (Finalise item number dst) false quiet = absurd (omega (arith, quiet))
+registers_none d s (FinaliseLast item number) false quiet = absurd (omega (arith, quiet))
+registers_none d s _ false quiet = either_none (d == d)
 
 -- what has run answers what was registered
-abbrev answer_of : Pending → Reply
+abbrev pub answer_of : Pending → Reply
 answer_of (Fin number l r) = FinReply number l
 answer_of (Last number) = LastReply number
 
-ran_answers : (s : State) (h : List Entry) → replies_to (is_run_of 0) s h ≡ map answer_of (all_ran 0 s h)
-ran_answers s [] = refl
-ran_answers s (e ∷ h) = (λ i. one e i ++ ran_answers (next s e) h i) ∙ sym (map-append answer_of (run_by 0 s e) (all_ran 0 (next s e) h))
+pub ran_answers : (d : ℕ) (s : State) (h : List Entry) → replies_to (is_run_of d) s h ≡ map answer_of (all_ran d s h)
+ran_answers d s [] = refl
+ran_answers d s (e ∷ h) = (λ i. one e i ++ ran_answers d (next s e) h i) ∙ sym (map-append answer_of (run_by d s e) (all_ran d (next s e) h))
   where
     by : (b : Bool) (queue : List Pending) → cond b (reply_list (run_reply queue)) [] ≡ map answer_of (cond b (take 1 queue) [])
     by false queue = refl
@@ -129,12 +141,12 @@ ran_answers s (e ∷ h) = (λ i. one e i ++ ran_answers (next s e) h i) ∙ sym 
     by true (Fin number l r ∷ rest) = refl
     by true (Last number ∷ rest) = refl
 
-    one : (e : Entry) → cond (is_run_of 0 e) (reply_list (reply s e)) [] ≡ map answer_of (run_by 0 s e)
-    one (Ran d) = by (d == 0) (domain_at s d).queue
+    one : (e : Entry) → cond (is_run_of d e) (reply_list (reply s e)) [] ≡ map answer_of (run_by d s e)
+    one (Ran k) = by (k == d) (domain_at s k).queue
     one e = refl
 
 -- whether a registration is that of the resource with this number
-abbrev is_of : ℕ → Pending → Bool
+abbrev pub is_of : ℕ → Pending → Bool
 is_of k (Last number) = number == k
 is_of k (Fin number l r) = false
 
@@ -176,65 +188,75 @@ no_final (suc n) =
     omega (arith, before, both, one)
 
 -- so no other finaliser has run, by the law that each registration runs once at most
-pub none_named : (z : Sizes) (h : List Entry) (n k : ℕ) → Legal z h → all_registered 0 (opening z) h ≡ numbered n → n ≤ k → names (finalised z h 0) k ≡ true → ⊥
-none_named z h n k legal are few is =
-    let law = registrations_law z h 0 (is_of k) legal in
-    let none : count_by (is_of k) (all_registered 0 (opening z) h) ≡ 0 = ap (count_by (is_of k)) are ∙ none_of k n few in
-    let some = named_counts k (all_ran 0 (opening z) h) (ap (λ (rs : List Reply). names rs k) (sym (ran_answers (opening z) h)) ∙ is) in
+pub none_named : (z : Sizes) (d : ℕ) (h : List Entry) (n k : ℕ) → Legal z h → all_registered d (opening z) h ≡ numbered n → n ≤ k → names (finalised z h d) k ≡ true → ⊥
+none_named z d h n k legal are few is =
+    let law = registrations_law z h d (is_of k) legal in
+    let none : count_by (is_of k) (all_registered d (opening z) h) ≡ 0 = ap (count_by (is_of k)) are ∙ none_of k n few in
+    let some = named_counts k (all_ran d (opening z) h) (ap (λ (rs : List Reply). names rs k) (sym (ran_answers d (opening z) h)) ∙ is) in
     omega (arith, law, none, some)
 
 -- and no finaliser waits that puts a block into a register
-waits_last : (z : Sizes) (h : List Entry) (n : ℕ) → Legal z h → all_registered 0 (opening z) h ≡ numbered n → count_by is_final (domain_at (state_after (opening z) h) 0).queue ≡ 0
-waits_last z h n legal are =
-    let x : DomainState = domain_at (state_after (opening z) h) 0 in
-    let law = registrations_law z h 0 is_final legal in
-    let none : count_by is_final (all_registered 0 (opening z) h) ≡ 0 = ap (count_by is_final) are ∙ no_final n in
+waits_last : (z : Sizes) (d : ℕ) (h : List Entry) (n : ℕ) → Legal z h → all_registered d (opening z) h ≡ numbered n → count_by is_final (domain_at (state_after (opening z) h) d).queue ≡ 0
+waits_last z d h n legal are =
+    let x : DomainState = domain_at (state_after (opening z) h) d in
+    let law = registrations_law z h d is_final legal in
+    let none : count_by is_final (all_registered d (opening z) h) ≡ 0 = ap (count_by is_final) are ∙ no_final n in
     let outer = sum_by-append (λ p. cond (is_final p) 1 0) (map queued_final x.finals ++ map queued_last x.lasts) x.queue in
     omega (arith, law, none, outer)
 
-pub set_first : (xs : List DomainState) (x : DomainState) → x.registers ≡ (get_or xs 0 no_domain).registers → (get_or (set xs 0 x) 0 no_domain).registers ≡ (get_or xs 0 no_domain).registers
-set_first [] x is = refl
-set_first (y ∷ ys) x is = is
+-- two states in which a domain's registers and its last serial are the same
+pub record HoldsSame (d : ℕ) (s t : State) : Type 0 where
+  pub registers : (domain_at t d).registers ≡ (domain_at s d).registers
+  pub serial : (domain_at t d).serial ≡ (domain_at s d).serial
 
-run_keeps : (s : State) (queue : List Pending) → count_by is_final queue ≡ 0 → (domain_at (after_run s 0 queue) 0).registers ≡ (domain_at s 0).registers
-run_keeps s [] none = refl
-run_keeps s (Fin number l r ∷ rest) none = absurd (let one = sum_by-cons (λ p. cond (is_final p) 1 0) (Fin number l r) rest in omega (arith, none, one))
-run_keeps s (Last number ∷ rest) none = set_first s.domains _ refl
+pub same_part : (d : ℕ) (s : State) (x : DomainState) → x.registers ≡ (domain_at s d).registers → x.serial ≡ (domain_at s d).serial → HoldsSame d s (with_domain s d x)
+same_part d s x registers serial = record { registers = part_set (λ y. y.registers) s.domains d x registers d; serial = part_set (λ y. y.serial) s.domains d x serial d }
 
-one_keeps : (s : State) (e : Entry) → IsTrue (not (is_entry_of 0 e) || is_run_of 0 e) → count_by is_final (domain_at s 0).queue ≡ 0 → (domain_at (next s e) 0).registers ≡ (domain_at s 0).registers
-one_keeps s (Command d c full) runs none = go (d == 0) refl runs
+kept_by : (d : ℕ) (s t : State) → KeepsDomain s t d → HoldsSame d s t
+kept_by d s t k = record { registers = k.registers; serial = k.serial }
+
+run_keeps : (d : ℕ) (s : State) (queue : List Pending) → count_by is_final queue ≡ 0 → HoldsSame d s (after_run s d queue)
+run_keeps d s [] none = record { registers = refl; serial = refl }
+run_keeps d s (Fin number l r ∷ rest) none = absurd (let one = sum_by-cons (λ p. cond (is_final p) 1 0) (Fin number l r) rest in omega (arith, none, one))
+run_keeps d s (Last number ∷ rest) none = same_part d s _ refl refl
+
+one_keeps : (d : ℕ) (s : State) (e : Entry) → IsTrue (not (is_entry_of d e) || is_run_of d e) → count_by is_final (domain_at s d).queue ≡ 0 → HoldsSame d s (next s e)
+one_keeps d s (Command k c full) runs none = go (k == d) refl runs
   where
-    go : (b : Bool) → (d == 0) ≡ b → IsTrue (not b || false) → (domain_at (next s (Command d c full)) 0).registers ≡ (domain_at s 0).registers
+    go : (b : Bool) → (k == d) ≡ b → IsTrue (not b || false) → HoldsSame d s (next s (Command k c full))
     go true e runs = cc
-    go false e runs = (keeps_next s (Command d c full) 0 e).registers
-one_keeps s (End d) runs none = go (d == 0) refl runs
+    go false e runs = kept_by d s (next s (Command k c full)) (keeps_next s (Command k c full) d e)
+one_keeps d s (End k) runs none = go (k == d) refl runs
   where
-    go : (b : Bool) → (d == 0) ≡ b → IsTrue (not b || false) → (domain_at (next s (End d)) 0).registers ≡ (domain_at s 0).registers
+    go : (b : Bool) → (k == d) ≡ b → IsTrue (not b || false) → HoldsSame d s (next s (End k))
     go true e runs = cc
-    go false e runs = (keeps_next s (End d) 0 e).registers
-one_keeps s (Ran d) runs none = go (d == 0) refl
+    go false e runs = kept_by d s (next s (End k)) (keeps_next s (End k) d e)
+one_keeps d s (Ran k) runs none = go (k == d) refl
   where
-    go : (b : Bool) → (d == 0) ≡ b → (domain_at (next s (Ran d)) 0).registers ≡ (domain_at s 0).registers
-    go true e = subst (λ (k : ℕ). (domain_at (next s (Ran k)) 0).registers ≡ (domain_at s 0).registers) (sym (eqb-true d 0 e)) (run_keeps s (domain_at s 0).queue none)
-    go false e = (keeps_next s (Ran d) 0 e).registers
-one_keeps s Cut runs none = (keeps_next s Cut 0 refl).registers
-one_keeps s (Queue d places) runs none = (keeps_next s (Queue d places) 0 refl).registers
-one_keeps s Seal runs none = (keeps_next s Seal 0 refl).registers
-one_keeps s (Wipe l keys) runs none = (keeps_next s (Wipe l keys) 0 refl).registers
-one_keeps s (LastOf d place) runs none = (keeps_next s (LastOf d place) 0 refl).registers
-one_keeps s Collected runs none = (keeps_next s Collected 0 refl).registers
-one_keeps s Done runs none = (keeps_next s Done 0 refl).registers
+    go : (b : Bool) → (k == d) ≡ b → HoldsSame d s (next s (Ran k))
+    go true e = subst (λ (j : ℕ). HoldsSame d s (next s (Ran j))) (sym (eqb-true k d e)) (run_keeps d s (domain_at s d).queue none)
+    go false e = kept_by d s (next s (Ran k)) (keeps_next s (Ran k) d e)
+one_keeps d s Cut runs none = kept_by d s (next s Cut) (keeps_next s Cut d refl)
+one_keeps d s (Queue k places) runs none = kept_by d s (next s (Queue k places)) (keeps_next s (Queue k places) d refl)
+one_keeps d s Seal runs none = kept_by d s (next s Seal) (keeps_next s Seal d refl)
+one_keeps d s (Wipe l keys) runs none = kept_by d s (next s (Wipe l keys)) (keeps_next s (Wipe l keys) d refl)
+one_keeps d s (LastOf k place) runs none = kept_by d s (next s (LastOf k place)) (keeps_next s (LastOf k place) d refl)
+one_keeps d s Collected runs none = kept_by d s (next s Collected) (keeps_next s Collected d refl)
+one_keeps d s Done runs none = kept_by d s (next s Done) (keeps_next s Done d refl)
 
--- so the registers hold between two commands what they held
-pub registers_on : (z : Sizes) (n : ℕ) (h rest : List Entry) → Legal z (h ++ rest) → all_registered 0 (opening z) h ≡ numbered n → OnlyRuns 0 rest
-    → (domain_at (state_after (opening z) (h ++ rest)) 0).registers ≡ (domain_at (state_after (opening z) h) 0).registers
-registers_on z n h [] legal are runs = ap (λ (k : List Entry). (domain_at (state_after (opening z) k) 0).registers) (append-nil h)
-registers_on z n h (e ∷ rest) legal are runs =
-    let parts = and_parts (not (is_entry_of 0 e) || is_run_of 0 e) _ runs in
+-- one after the other
+pub same_on : (d : ℕ) (s t u : State) → HoldsSame d s t → HoldsSame d t u → HoldsSame d s u
+same_on d s t u a b = record { registers = b.registers ∙ a.registers; serial = b.serial ∙ a.serial }
+
+-- so the registers hold between two commands what they held, and no label is given out
+pub registers_on : (z : Sizes) (d n : ℕ) (h rest : List Entry) → Legal z (h ++ rest) → all_registered d (opening z) h ≡ numbered n → OnlyRuns d rest → HoldsSame d (state_after (opening z) h) (state_after (opening z) (h ++ rest))
+registers_on z d n h [] legal are runs = subst (λ (k : List Entry). HoldsSame d (state_after (opening z) h) (state_after (opening z) k)) (sym (append-nil h)) (record { registers = refl; serial = refl })
+registers_on z d n h (e ∷ rest) legal are runs =
+    let parts = and_parts (not (is_entry_of d e) || is_run_of d e) _ runs in
     let s : State = state_after (opening z) h in
     let same : (h ++ e ∷ []) ++ rest ≡ h ++ e ∷ rest = append_assoc h (e ∷ []) rest in
     let before : Legal z h = (legal_parts (opening z) h (e ∷ rest) legal).0 in
-    let are' : all_registered 0 (opening z) (h ++ e ∷ []) ≡ numbered n = registered-append (opening z) h (e ∷ []) ∙ ((λ i. are i ++ (one_quiet s e parts.0 i ++ [])) ∙ append-nil (numbered n)) in
-    ap (λ (k : List Entry). (domain_at (state_after (opening z) k) 0).registers) (sym same)
-    ∙ (registers_on z n (h ++ e ∷ []) rest (subst (Legal z) (sym same) legal) are' parts.1
-    ∙ (ap (λ (t : State). (domain_at t 0).registers) (state_after-push (opening z) h e) ∙ one_keeps s e parts.0 (waits_last z h n before are)))
+    let are' : all_registered d (opening z) (h ++ e ∷ []) ≡ numbered n = registered-append d (opening z) h (e ∷ []) ∙ ((λ i. are i ++ (one_quiet d s e parts.0 i ++ [])) ∙ append-nil (numbered n)) in
+    let one : HoldsSame d s (state_after (opening z) (h ++ e ∷ [])) = subst (λ (t : State). HoldsSame d s t) (sym (state_after-push (opening z) h e)) (one_keeps d s e parts.0 (waits_last z d h n before are)) in
+    subst (λ (k : List Entry). HoldsSame d s (state_after (opening z) k)) same
+    (same_on d s _ _ one (registers_on z d n (h ++ e ∷ []) rest (subst (Legal z) (sym same) legal) are' parts.1))

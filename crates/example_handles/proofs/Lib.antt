@@ -1,3 +1,5 @@
-pub mod Histories
-pub mod Settling
-pub mod Calls
+mod Histories
+mod Settling
+mod Held
+mod Calls
+mod Ending

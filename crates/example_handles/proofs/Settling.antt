@@ -61,6 +61,15 @@ never_open (Some ClosedByFinaliser) = λ e. cc
 pub named_closed : (xs ys : List Resource) (ran : List Reply) (k : ℕ) → Settled xs ran ys → names ran k ≡ true → slice_get ys k ≢ Some Open
 named_closed xs ys ran k settled is held = never_open (slice_get xs k) (ap (λ (b : Bool). option_map (closed_if b ClosedByFinaliser) (slice_get xs k)) (sym is) ∙ (sym (settled k) ∙ held))
 
+-- one that is open was open before
+pub was_open : (o : Option Resource) (b : Bool) → option_map (closed_if b ClosedByFinaliser) o ≡ Some Open → o ≡ Some Open
+was_open None b is = cc
+was_open (Some Open) b is = refl
+was_open (Some ClosedByOwner) true is = cc
+was_open (Some ClosedByOwner) false is = cc
+was_open (Some ClosedByFinaliser) true is = cc
+was_open (Some ClosedByFinaliser) false is = cc
+
 -- and one that a finaliser closed is named, or was closed so before
 pub closed_named : (xs ys : List Resource) (ran : List Reply) (k : ℕ) → Settled xs ran ys → (slice_get xs k ≡ Some ClosedByFinaliser → names ran k ≡ true) → slice_get ys k ≡ Some ClosedByFinaliser → names ran k ≡ true
 closed_named xs ys ran k settled before is = go (names ran k) refl

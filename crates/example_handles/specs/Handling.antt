@@ -1,35 +1,65 @@
--- Handles as the program that uses them sees them.
-use Rattle.std.specs.Prelude.{◌≡◌, ◌≢◌, ◌⊎◌, ℕ, zero, suc, ◌+◌, ◌<◌, ◌≤◌, Bool, true, false, List, [], ◌∷◌, ◌++◌, length, slice_get, Option, Some, None}
+-- Handles as the threads that use them see them.
+use Rattle.std.specs.Prelude.{◌≡◌, ◌≢◌, ◌⊎◌, ◌&&◌, ℕ, zero, suc, ◌+◌, ◌<◌, ◌≤◌, Bool, true, false, List, [], ◌∷◌, ◌++◌, length, slice_get, Option, Some, None}
+use Rattle.std.specs.List.{AllByRecursion}
 use Rattle.heap_model.specs.declared.command.Command.{Command}
 use Rattle.heap_model.specs.declared.command.Command.TheVariants.{Alloc, FinaliseLast, FullMajor, Poll}
+use Rattle.heap_model.specs.declared.entry.Entry.{Entry}
+use Rattle.heap_model.specs.declared.entry.Entry.TheVariants.{Command as CommandOf}
+use Rattle.heap_model.specs.declared.label.Label.{Label}
 use Rattle.heap_model.specs.declared.reply.Reply.{Reply}
 use Rattle.heap_model.specs.declared.reply.Reply.TheVariants.{Full}
+use Rattle.heap_model.specs.declared.state.LastFinaliser.{LastFinaliser}
 use Rattle.heap_model.specs.declared.state.Pending.{Pending}
 use Rattle.heap_model.specs.declared.state.Pending.TheVariants.{Last as LastPending}
+use Rattle.heap_model.specs.declared.state.Sizes.{Sizes}
+use Rattle.heap_model.specs.declared.state.State.{State}
 use Rattle.heap_model.specs.declared.graph.Value.TheVariants.{Block}
-use Rattle.heap_model.specs.Domains.{IsWithinLimits, domain_at, opening, register}
-use Rattle.heap_model.specs.History.{IsPrefix, Legal, commands}
+use Rattle.heap_model.specs.Domains.{IsWithinLimits, domain_at, opening, queues, register}
+use Rattle.heap_model.specs.Entries.{is_gone, is_let_go}
+use Rattle.heap_model.specs.History.{IsPrefix, commands, state_after}
 use Rattle.heap_model.specs.Registrations.{all_registered}
+use Rattle.heap_rule.specs.declared.config.Config.{Config}
 use Rattle.heap_rule.specs.Limits.{sizes_in}
 use Rattle.heap_rule.specs.Rule.{state_of}
 use Rattle.command_counts.specs.Counts.{ephemerons_of, labels_given, labels_of}
 use Rattle.domain_turns.specs.Handed.{PerformedOn}
 use Rattle.domain_turns.specs.Kept.{finalised}
 use Rattle.domain_turns.specs.Tries.{FitsHeap, registrations_of}
-use Rattle.heap_session.specs.Sessions.{SessionView}
+use Rattle.heap_seats.specs.Seating.{IsSeatOf, SeatView, SeatsView}
+use Rattle.heap_seats.specs.Stopping.{Stops}
 use Rattle.example_handles.specs.declared.resource.Resource.{Resource}
 use Rattle.example_handles.specs.declared.resource.Resource.TheVariants.{Open, ClosedByOwner, ClosedByFinaliser}
 use Rattle.example_handles.specs.Resources.{Closes, Settled, names}
 
--- handles: the heap, the resources by their numbers, and how many there may be
+-- the numbers of a heap for handles: room for so many finalisers of each domain, and for no ephemeron
+abbrev pub config_for : ℕ → ℕ → ℕ → ℕ → Config
+config_for domains minor_words pools most = record { domains = domains; minor_words = minor_words; pools = pools; finals = most; ephes = 0 }
+
+-- handles of one seat: the seat, the resources by their numbers, and how many there may be
 pub record HandlesView : Type 0 where
-  pub session : SessionView
+  pub seat : SeatView
   pub resources : List Resource
   pub most : ℕ
 
--- the replies of all finalisers that have run
+-- the same seat, further on
+abbrev pub IsLater : SeatView → SeatView → Type 0
+IsLater old new = new ≡ record old { front = new.front; labels = new.labels; room = new.room; finals = new.finals; ran = new.ran }
+
+-- all are of seats of this heap
+abbrev pub AllHandlesOf : SeatsView → List HandlesView → Type 0
+AllHandlesOf s hs = AllByRecursion (λ h. IsSeatOf s h.seat) hs
+
+-- the state that the history leaves as far as the seat's domain has seen it
+abbrev pub state_at : HandlesView → State
+state_at h = state_of h.seat.heap.config h.seat.front
+
+-- the replies of all finalisers of the seat's domain that have run
 abbrev pub ran_by : HandlesView → List Reply
-ran_by h = finalised (sizes_in h.session.config) h.session.front 0
+ran_by h = finalised (sizes_in h.seat.heap.config) h.seat.front h.seat.number
+
+-- what the domain has registered
+abbrev pub registered_by : HandlesView → List Pending
+registered_by h = all_registered h.seat.number (opening (sizes_in h.seat.heap.config)) h.seat.front
 
 -- the finalisers of so many resources, in the order in which they were opened
 abbrev pub numbered : ℕ → List Pending
@@ -38,11 +68,24 @@ numbered (suc n) = numbered n ++ LastPending n ∷ []
 
 -- each resource has one finaliser; one whose finaliser has run is closed; and the finaliser has run of one that it closed
 pub record IsHandles (h : HandlesView) : Type 0 where
-  pub registered : all_registered 0 (opening (sizes_in h.session.config)) h.session.front ≡ numbered (length h.resources)
+  pub limits : IsWithinLimits (sizes_in h.seat.heap.config)
+  pub registered : registered_by h ≡ numbered (length h.resources)
   pub few : length h.resources ≤ h.most
-  pub room : h.most ≤ h.session.finals + length h.resources
+  pub room : h.most ≤ h.seat.finals + length h.resources
   pub closed : (k : ℕ) → names (ran_by h) k ≡ true → slice_get h.resources k ≢ Some Open
   pub ran : (k : ℕ) → slice_get h.resources k ≡ Some ClosedByFinaliser → names (ran_by h) k ≡ true
+  pub told : (k : ℕ) → names h.seat.ran k ≡ true → names (ran_by h) k ≡ true
+
+-- a seat on which no command was made, of a heap within its limits, with room for so many finalisers
+pub record IsUnused (most : ℕ) (s : SeatView) : Type 0 where
+  pub limits : IsWithinLimits (sizes_in s.heap.config)
+  pub front : s.front ≡ []
+  pub ran : s.ran ≡ []
+  pub room : most ≤ s.finals
+
+-- a seat without a resource
+abbrev pub no_handles : ℕ → SeatView → HandlesView
+no_handles most s = record { seat = s; resources = []; most = most }
 
 -- a command that makes no block and registers no finaliser
 pub record IsSpare (c : Command) : Type 0 where
@@ -53,29 +96,29 @@ pub record IsSpare (c : Command) : Type 0 where
 
 -- the history has grown, and each open resource whose finaliser has run by now is closed by it; the others are as they were
 pub record Settles (old new : HandlesView) : Type 0 where
-  pub config : new.session.config ≡ old.session.config
-  pub most : new.most ≡ old.most
-  pub grows : IsPrefix old.session.front new.session.front
+  pub grows : IsPrefix old.seat.front new.seat.front
   pub count : length new.resources ≡ length old.resources
   pub settled : Settled old.resources (ran_by new) new.resources
 
 -- a resource is closed by its owner, if it is open, and nothing else changes
 pub record CloseLeaves (old new : HandlesView) (number : ℕ) : Type 0 where
-  pub session : new.session ≡ old.session
+  pub seat : new.seat ≡ old.seat
   pub most : new.most ≡ old.most
   pub closes : Closes old.resources number ClosedByOwner new.resources
 
--- a register holds the block that was made last
-abbrev pub HoldsLatest : HandlesView → ℕ → Type 0
-HoldsLatest h r = register (state_of h.session.config h.session.front) 0 r ≡ Block (record { domain = 0; serial = h.session.labels })
+-- the block that the domain made last
+abbrev pub latest : HandlesView → Label
+latest h = record { domain = h.seat.number; serial = (domain_at (state_at h) h.seat.number).serial }
 
--- these commands were made, which gave out so many labels, and there is one more resource, which is open, with the block in a register as its handle; others were settled
+-- a register holds it
+abbrev pub HoldsLatest : HandlesView → ℕ → Type 0
+HoldsLatest h r = register (state_at h) h.seat.number r ≡ Block (latest h)
+
+-- these commands were made on the seat, which gave out so many labels, and there is one more resource, which is open, with the block in a register as its handle; others were settled
 pub record Opens (made : List Command) (given : ℕ) (old new : HandlesView) (dst : ℕ) : Type 0 where
-  pub config : new.session.config ≡ old.session.config
-  pub most : new.most ≡ old.most
-  pub grows : IsPrefix old.session.front new.session.front
-  pub made_are : commands new.session.front 0 ≡ commands old.session.front 0 ++ made
-  pub labels : new.session.labels ≡ old.session.labels + given
+  pub grows : IsPrefix old.seat.front new.seat.front
+  pub made_are : commands new.seat.front old.seat.number ≡ commands old.seat.front old.seat.number ++ made
+  pub labels : new.seat.labels ≡ old.seat.labels + given
   pub handle : HoldsLatest new dst
   pub others : List Resource
   pub settled : Settled old.resources (ran_by new) others
@@ -83,13 +126,13 @@ pub record Opens (made : List Command) (given : ℕ) (old new : HandlesView) (ds
 
 -- the heap had no room for a handle
 pub record NoRoom (old new : HandlesView) (dst : ℕ) : Type 0 where
-  pub full : PerformedOn (sizes_in old.session.config) 0 old.session.front new.session.front (Alloc dst 0 1) new.session.ran Full
+  pub full : PerformedOn (sizes_in old.seat.heap.config) old.seat.number old.seat.front new.seat.front (Alloc dst 0 1) new.seat.ran Full
   pub settles : Settles old new
 
 -- a handle was made
 pub record HandleMade (old new : HandlesView) (dst : ℕ) : Type 0 where
-  pub made_are : commands new.session.front 0 ≡ commands old.session.front 0 ++ Alloc dst 0 1 ∷ []
-  pub labels : new.session.labels ≡ old.session.labels + 1
+  pub made_are : commands new.seat.front old.seat.number ≡ commands old.seat.front old.seat.number ++ Alloc dst 0 1 ∷ []
+  pub labels : new.seat.labels ≡ old.seat.labels + 1
   pub handle : HoldsLatest new dst
   pub settles : Settles old new
 
@@ -101,26 +144,86 @@ HandleAnswers old new dst false = NoRoom old new dst
 -- what an opening answers: the next number; or none where there are as many resources as there may be, no label is left, or the heap had no room for the handle
 abbrev pub OpenAnswers : HandlesView → HandlesView → ℕ → Option ℕ → Type 0
 OpenAnswers old new dst (Some k) = (k ≡ length old.resources) × (k < old.most) × Opens (Alloc dst 0 1 ∷ FinaliseLast dst k ∷ []) 1 old new dst
-OpenAnswers old new dst None = ((old.most ≡ length old.resources) × (new ≡ old)) ⊎ ((old.session.labels ≡ 4294967295) × (new ≡ old)) ⊎ NoRoom old new dst
+OpenAnswers old new dst None = ((old.most ≡ length old.resources) × (new ≡ old)) ⊎ ((old.seat.labels ≡ 4294967295) × (new ≡ old)) ⊎ NoRoom old new dst
 
--- a complete collection was made, and the finalisers ran that waited
-pub record Collects (old new : HandlesView) : Type 0 where
-  pub made_are : commands new.session.front 0 ≡ commands old.session.front 0 ++ FullMajor ∷ Poll ∷ []
+-- these commands were made on the seat, and no more, and the resources settled
+pub record Makes (made : List Command) (old new : HandlesView) : Type 0 where
+  pub made_are : commands new.seat.front old.seat.number ≡ commands old.seat.front old.seat.number ++ made
   pub settles : Settles old new
 
--- the resources are those that one more collection leaves, in a legal history
-pub record StopLeaves (old : HandlesView) (resources : List Resource) : Type 0 where
+-- a complete collection was made, and the finalisers ran that waited
+abbrev pub Collects : HandlesView → HandlesView → Type 0
+Collects old new = Makes (FullMajor ∷ Poll ∷ []) old new
+
+-- the finaliser with this number waits in domain d, and no collection may take it: a register, a finaliser that waits, or an ephemeron leads to its block
+pub record IsHeld (s : State) (d k : ℕ) : Type 0 where
+  pub finaliser : LastFinaliser
+  pub place : ℕ
+  pub waits : slice_get (domain_at s d).lasts place ≡ Some finaliser
+  pub number : finaliser.number ≡ k
+  pub led_to : (is_gone s (queues s) finaliser.label && is_let_go s finaliser.label) ≡ false
+
+-- between two fronts the domain asked for a complete collection, and as that was answered the finaliser with this number was held
+pub record WasHeld (z : Sizes) (d : ℕ) (old new : List Entry) (k : ℕ) : Type 0 where
+  pub front : List Entry
+  pub full : Bool
+  pub since : IsPrefix old front
+  pub collected : IsPrefix (front ++ CommandOf d FullMajor full ∷ []) new
+  pub held : IsHeld (state_after (opening z) front) d k
+
+-- each resource that is open was held then
+abbrev pub OpenWereHeld : HandlesView → HandlesView → Type 0
+OpenWereHeld old new = (k : ℕ) → slice_get new.resources k ≡ Some Open → WasHeld (sizes_in old.seat.heap.config) old.seat.number old.seat.front new.seat.front k
+
+-- the same handles once a command was made, before which finalisers may have run
+pub record Did (c : Command) (old new : HandlesView) : Type 0 where
+  pub seat : IsLater old.seat new.seat
+  pub most : new.most ≡ old.most
+  pub settles : Settles old new
+  pub kept : IsHandles new
+  pub ran : List Reply
+  pub reply : Reply
+  pub performed : PerformedOn (sizes_in old.seat.heap.config) old.seat.number old.seat.front new.seat.front c ran reply
+
+-- each has
+abbrev pub EachDid : Command → List HandlesView → List HandlesView → Type 0
+EachDid c [] [] = Unit {0}
+EachDid c (x ∷ xs) (y ∷ ys) = Did c x y × EachDid c xs ys
+EachDid c _ _ = ⊥
+
+-- the resources are those that one more complete collection leaves: each that is open was held then. The history of the ended heap has of the seat's domain what the seat had made by then
+pub record StopLeaves (z : Sizes) (history : List Entry) (old : HandlesView) (resources : List Resource) : Type 0 where
   pub new : HandlesView
+  pub seat : IsLater old.seat new.seat
   pub collects : Collects old new
   pub kept : IsHandles new
-  pub legal : Legal (sizes_in new.session.config) new.session.front
+  pub held : OpenWereHeld old new
+  pub stops : Stops z history new.seat
   pub resources_are : resources ≡ new.resources
 
--- what a session performed
-pub record Performs (old new : SessionView) (c : Command) (r : Reply) : Type 0 where
-  pub limits : IsWithinLimits (sizes_in old.config)
-  pub config : new.config ≡ old.config
+abbrev pub StopLeavesEach : Sizes → List Entry → List HandlesView → List (List Resource) → Type 0
+StopLeavesEach z history [] [] = Unit {0}
+StopLeavesEach z history (h ∷ hs) (rs ∷ rss) = StopLeaves z history h rs × StopLeavesEach z history hs rss
+StopLeavesEach z history _ _ = ⊥
+
+-- the handles of these seats and lists, where so many there may be
+abbrev pub parted : HandlesView → SeatView → List Resource → HandlesView
+parted old s rs = record { seat = s; resources = rs; most = old.most }
+
+-- handles were taken apart into a seat and the resources
+pub record Parts (old : HandlesView) (s : SeatView) (rs : List Resource) : Type 0 where
+  pub seat : IsLater old.seat s
+  pub makes : Makes [] old (parted old s rs)
+  pub kept : IsHandles (parted old s rs)
+
+abbrev pub PartsEach : List HandlesView → List SeatView → List (List Resource) → Type 0
+PartsEach [] [] [] = Unit {0}
+PartsEach (h ∷ hs) (s ∷ ss) (rs ∷ rss) = Parts h s rs × PartsEach hs ss rss
+PartsEach _ _ _ = ⊥
+
+-- what a seat performed
+pub record Performs (old new : SeatView) (c : Command) (r : Reply) : Type 0 where
+  pub same : IsLater old new
   pub labels : new.labels ≡ old.labels + labels_given c r
-  pub serial : new.labels ≡ (domain_at (state_of new.config new.front) 0).serial
   pub finals : old.finals + length new.ran ≤ new.finals + registrations_of c
-  pub performed : PerformedOn (sizes_in old.config) 0 old.front new.front c new.ran r
+  pub performed : PerformedOn (sizes_in old.heap.config) old.number old.front new.front c new.ran r

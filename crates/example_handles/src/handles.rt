@@ -1,30 +1,33 @@
 //! Handles, and their calls.
-ghost use Rattle.std.specs.Prelude.{◌≡◌, ◌↔◌, ◌<◌, ◌∷◌, ℕ, [], length, slice_get, IfOk, Some, Err};
+ghost use Rattle.std.specs.Prelude.{◌≡◌, ◌<◌, ◌∷◌, [], length, slice_get};
 ghost use Rattle.domain_turns.specs.Handed.{PerformedOn};
 ghost use Rattle.domain_turns.specs.Tries.{registrations_of};
-ghost use Rattle.example_handles.specs.Handling.{CloseLeaves, Collects, HandleAnswers, HoldsLatest, IsHandles, IsSpare, OpenAnswers, Opens, Performs, Settles, StopLeaves};
+ghost use Rattle.example_handles.specs.Handling.{CloseLeaves, Collects, HandleAnswers, HoldsLatest, IsHandles, IsLater, IsSpare, OpenAnswers, OpenWereHeld, Opens, Performs, Settles};
 ghost use Rattle.example_handles.specs.Resources.{Settled, is_open};
 ghost use Rattle.heap_model.specs.declared.command.Command.TheVariants as command;
-ghost use Rattle.heap_rule.specs.Limits.{first_outside, sizes_in};
-ghost use Rattle.heap_session.specs.Sessions.{MayPerform, alone};
+ghost use Rattle.heap_rule.specs.Limits.{sizes_in};
+ghost use Rattle.heap_seats.specs.Seating.{GoesAlong, IsSeatOf, MayPerform};
 
 use crate::resource::{Resource, close, close_named};
+use crate::resting::RestingHandles;
 use heap_model::command::Command;
 use heap_model::reply::Reply;
-use heap_rule::StartFault;
-use heap_session::Session;
-use std::alloc::Global;
+use heap_seats::{Seat, Seats};
 use std::marker::Model;
 use std::sync::Wait;
 
-/// Resources, each with a handle: a block of a heap. A resource is closed by its owner, or else by the finaliser of
-/// its handle, which runs once no register and no field leads to it.
+/// The resources of one thread, each with a handle: a block that the thread's seat made. A resource is closed by its
+/// owner, or else by the finaliser of its handle, which runs once no register of any domain and no field leads to it.
+///
+/// What the calls say of these resources holds whatever other threads do meanwhile on their seats. A handle may be
+/// stored where other domains find it, as in the shared block, and then it is kept as long as one of them leads to it.
+/// Its resource stays with the seat that opened it: only there is it closed, or asked for.
 #[derive(Drop)]
 pub struct Handles {
-    session: Session,
+    pub(crate) seat: Seat,
     // By their numbers.
-    resources: Vec<Resource>,
-    most: u32,
+    pub(crate) resources: Vec<Resource>,
+    pub(crate) most: u32,
 }
 
 impl Model for Handles {
@@ -33,53 +36,31 @@ impl Model for Handles {
 
     ghost Value = { HandlesView };
 
-    ghost view = { λ h. record { session = h.session; resources = h.resources.items; most = h.most } };
+    ghost view = { λ h. record { seat = h.seat; resources = h.resources.items; most = h.most } };
 
-    ghost invariant = { λ h. IsHandles (record { session = h.session; resources = h.resources.items; most = h.most }) × (h.most ≤ vec_capacity h.resources) };
+    ghost invariant = { λ h. IsHandles (record { seat = h.seat; resources = h.resources.items; most = h.most }) × (h.most ≤ vec_capacity h.resources) };
 }
 
 impl Handles {
-    /// No resources as yet, of so many at most, and a heap of one domain with so many words in its minor area (a
-    /// multiple of 4096) and so many pools.
-    ///
-    /// `Config(k)` names the first of the heap's numbers outside its limit, as for [`Session::make`].
-    pub fn make(
-        alloc: Global,
-        minor_words: u32,
-        pools: u32,
-        most: u32,
-    ) -> Result<Handles, StartFault>
-        ensures outside { (k : ℕ) → (result ≡ Err (StartFault.Config k)) ↔ (first_outside (alone minor_words pools most 0) ≡ Some k) }
-        ensures config { IfOk result (λ h. h.session.config ≡ alone minor_words pools most 0) }
-        ensures none { IfOk result (λ h. h.resources ≡ []) }
-        ensures most { IfOk result (λ h. h.most ≡ most) }
-        ensures start { IfOk result (λ h. h.session.front ≡ []) }
-    {
-        let session = Session::make(alloc, minor_words, pools, most, 0)?;
-        let resources = Vec::with_capacity(alloc, most as usize)?;
-        Ok(Handles {
-            session,
-            resources,
-            most,
-        })
-    }
-
     /// Opens the next resource, with a fresh block in a register below 16 as its handle, and answers its number.
     ///
     /// Answers `None` where there are as many resources as there may be, no label is left, or the heap has no room
     /// for the block.
-    pub fn open<R: Wait>(&mut self, rt: &R, dst: u8) -> Option<u32>
+    pub fn open<R: Wait>(&mut self, rt: &R, seats: &Seats, dst: u8) -> Option<u32>
+        requires here { IsSeatOf seats.now self.old.seat }
         requires few { dst < 16 }
+        ensures seat { IsLater self.old.seat self.new.seat }
+        ensures most { self.new.most ≡ self.old.most }
         ensures answers { OpenAnswers self.old self.new dst result }
     {
         let number = self.resources.len() as u32;
-        if number >= self.most || self.session.labels_left() < 1 {
+        if number >= self.most || self.seat.labels_left() < 1 {
             return None;
         }
-        if !self.make_handle(rt, dst) {
+        if !self.make_handle(rt, seats, dst) {
             return None;
         }
-        self.register(rt, dst, number);
+        self.register(rt, seats, dst, number);
         Some(number)
     }
 
@@ -99,21 +80,42 @@ impl Handles {
     }
 
     /// Makes a command that makes no block and registers no finaliser, and answers its reply, as
-    /// [`Session::perform`]. Then closes the resources whose finalisers ran before it.
-    pub fn perform<R: Wait>(&mut self, rt: &R, command: Command) -> Reply
+    /// [`Seat::perform`]. Then closes the resources whose finalisers ran before it.
+    pub fn perform<R: Wait>(&mut self, rt: &R, seats: &Seats, command: Command) -> Reply
+        requires here { IsSeatOf seats.now self.old.seat }
         requires spare { IsSpare command }
-        ensures performed { PerformedOn (sizes_in self.old.session.config) 0 self.old.session.front self.new.session.front command self.new.session.ran result }
+        ensures seat { IsLater self.old.seat self.new.seat }
+        ensures most { self.new.most ≡ self.old.most }
+        ensures performed { PerformedOn (sizes_in self.old.seat.heap.config) self.old.seat.number self.old.seat.front self.new.seat.front command self.new.seat.ran result }
         ensures settles { Settles self.old self.new }
     {
-        self.make_command(rt, command)
+        self.make_command(rt, seats, command)
     }
 
-    /// Has the heap collect all that can't be reached, and closes the resources whose finalisers ran.
-    pub fn collect<R: Wait>(&mut self, rt: &R)
+    /// Has the heap collect all that can't be reached from any domain, and closes the resources whose finalisers ran. To
+    /// the handle of each that is open then something led as the collection was answered.
+    pub fn collect<R: Wait>(&mut self, rt: &R, seats: &Seats)
+        requires here { IsSeatOf seats.now self.old.seat }
+        ensures seat { IsLater self.old.seat self.new.seat }
+        ensures most { self.new.most ≡ self.old.most }
         ensures collects { Collects self.old self.new }
+        ensures held { OpenWereHeld self.old self.new }
     {
-        self.perform(rt, Command::FullMajor);
-        self.perform(rt, Command::Poll);
+        self.perform(rt, seats, Command::FullMajor);
+        self.perform(rt, seats, Command::Poll);
+        self.is_kept();
+    }
+
+    /// Takes part in the pause that is wanted, if there is one, and closes the resources whose finalisers ran. It
+    /// makes no command. A thread that works long without one calls it now and then.
+    pub fn attend<R: Wait>(&mut self, rt: &R, seats: &Seats)
+        requires here { IsSeatOf seats.now self.old.seat }
+        ensures seat { IsLater self.old.seat self.new.seat }
+        ensures most { self.new.most ≡ self.old.most }
+        ensures along { GoesAlong self.old.seat self.new.seat }
+        ensures settles { Settles self.old self.new }
+    {
+        attend_closing(rt, seats, &mut self.seat, &mut self.resources);
     }
 
     /// Each resource has one finaliser, registered when it was opened. One whose finaliser has run by now is closed, and
@@ -124,37 +126,43 @@ impl Handles {
         let _resources = &self.resources;
     }
 
-    /// Collects once more, ends the heap, and hands out the resources: those are open whose handles were still held.
-    pub fn stop<R: Wait>(self, rt: &R) -> Vec<Resource>
-        ensures leaves { StopLeaves self result.items }
+    /// Lets the seat rest, while its owner does something else. Finalisers that run meanwhile close their resources as
+    /// it is taken up again.
+    pub fn rest<R: Wait>(self, rt: &R, seats: &Seats) -> RestingHandles
+        requires here { IsSeatOf seats.now self.seat }
+        ensures same { result ≡ self }
     {
-        let mut handles = self;
-        handles.collect(rt);
-        handles.is_kept();
-        handles.session.is_legal();
         let Handles {
-            session,
+            seat,
             resources,
-            ..
-        } = handles;
-        session.stop(rt);
-        resources
+            most,
+        } = self;
+        RestingHandles {
+            seat: seat.rest(rt, seats),
+            resources,
+            most,
+        }
     }
 
     // Makes a command that registers no finaliser, and closes the resources whose finalisers ran before it.
-    fn make_command<R: Wait>(&mut self, rt: &R, command: Command) -> Reply
-        requires may { MayPerform self.old.session command }
+    fn make_command<R: Wait>(&mut self, rt: &R, seats: &Seats, command: Command) -> Reply
+        requires here { IsSeatOf seats.now self.old.seat }
+        requires may { MayPerform self.old.seat command }
         requires quiet { registrations_of command ≡ 0 }
-        ensures performs { Performs self.old.session self.new.session command result }
+        ensures most { self.new.most ≡ self.old.most }
+        ensures performs { Performs self.old.seat self.new.seat command result }
         ensures settles { Settles self.old self.new }
     {
-        perform_closing(rt, &mut self.session, &mut self.resources, command)
+        perform_closing(rt, seats, &mut self.seat, &mut self.resources, command)
     }
 
     // Makes a fresh block in a register. Answers whether there was room.
-    fn make_handle<R: Wait>(&mut self, rt: &R, dst: u8) -> bool
+    fn make_handle<R: Wait>(&mut self, rt: &R, seats: &Seats, dst: u8) -> bool
+        requires here { IsSeatOf seats.now self.old.seat }
         requires few { dst < 16 }
-        requires label { self.old.session.labels < 4294967295 }
+        requires label { self.old.seat.labels < 4294967295 }
+        ensures seat { IsLater self.old.seat self.new.seat }
+        ensures most { self.new.most ≡ self.old.most }
         ensures answers { HandleAnswers self.old self.new dst result }
     {
         let handle = Command::Alloc {
@@ -163,22 +171,25 @@ impl Handles {
             fields: 1,
         };
         self.is_kept();
-        match self.make_command(rt, handle) {
+        match self.make_command(rt, seats, handle) {
             Reply::Full => false,
             _ => true,
         }
     }
 
     // Registers the finaliser of the next resource for the block in a register, and opens it.
-    fn register<R: Wait>(&mut self, rt: &R, dst: u8, number: u32)
+    fn register<R: Wait>(&mut self, rt: &R, seats: &Seats, dst: u8, number: u32)
+        requires here { IsSeatOf seats.now self.old.seat }
         requires few { dst < 16 }
         requires number { number ≡ length self.old.resources }
         requires below { number < self.old.most }
         requires held { HoldsLatest self.old dst }
+        ensures seat { IsLater self.old.seat self.new.seat }
+        ensures most { self.new.most ≡ self.old.most }
         ensures opens { Opens (command.FinaliseLast dst number ∷ []) 0 self.old self.new dst }
     {
         let last = Command::FinaliseLast { item: dst, number };
-        perform_closing(rt, &mut self.session, &mut self.resources, last);
+        perform_closing(rt, seats, &mut self.seat, &mut self.resources, last);
         self.resources.push_reserved(Resource::Open);
     }
 }
@@ -186,17 +197,28 @@ impl Handles {
 // Makes a command, and closes the resources whose finalisers ran before it.
 fn perform_closing<R: Wait>(
     rt: &R,
-    session: &mut Session,
+    seats: &Seats,
+    seat: &mut Seat,
     resources: &mut [Resource],
     command: Command,
 ) -> Reply
-    requires may { MayPerform session.old command }
-    ensures performs { Performs session.old session.new command result }
-    ensures settled { Settled resources.old session.new.ran resources.new }
+    requires here { IsSeatOf seats.now seat.old }
+    requires may { MayPerform seat.old command }
+    ensures performs { Performs seat.old seat.new command result }
+    ensures settled { Settled resources.old seat.new.ran resources.new }
 {
-    session.is_legal();
-    let reply = session.perform(rt, command);
-    session.is_legal();
-    close_named(resources, session.ran());
+    let reply = seat.perform(rt, seats, command);
+    close_named(resources, seat.ran());
     reply
+}
+
+// Takes part in a pause, and closes the resources whose finalisers ran.
+fn attend_closing<R: Wait>(rt: &R, seats: &Seats, seat: &mut Seat, resources: &mut [Resource])
+    requires here { IsSeatOf seats.now seat.old }
+    ensures same { IsLater seat.old seat.new }
+    ensures along { GoesAlong seat.old seat.new }
+    ensures settled { Settled resources.old seat.new.ran resources.new }
+{
+    seat.attend(rt, seats);
+    close_named(resources, seat.ran());
 }

@@ -2,4 +2,6 @@
 #![tactic(auto)]
 
 #[cfg(test)]
+mod resources;
+#[cfg(test)]
 mod threads;

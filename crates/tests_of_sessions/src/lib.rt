@@ -4,8 +4,6 @@
 #[cfg(test)]
 mod caches;
 #[cfg(test)]
-mod resources;
-#[cfg(test)]
 mod same;
 #[cfg(test)]
 mod sessions;

@@ -1,23 +1,23 @@
-use Rattle.std.proofs.Common.{◌∙◌, [], ◌∷◌, ◌++◌, List, ap, append_assoc}
-use Rattle.heap_model.specs.declared.command.Command as model
+use Rattle.std.proofs.Common.{[], ◌∷◌}
 use Rattle.heap_model.specs.declared.command.Command.TheVariants.{FullMajor, Poll}
-use Rattle.heap_model.specs.History.{commands}
 use Rattle.heap_rule.specs.Limits.{sizes_in}
 use Rattle.domain_turns.proofs.Handed.{performed_commands}
-use Rattle.example_handles.specs.Handling.{HandlesView}
-use Rattle.example_handles.proofs.Calls.{settles_both}
+use Rattle.example_handles.specs.Handling.{HandlesView, Makes}
+use Rattle.example_handles.proofs.Calls.{later_both, makes_both, open_held}
 use Rattle.example_handles.proofs.handles.Handles.collect.Goals as goal
 
-pub returns : goal.returns
-returns g c =
+pub returns-clause-seat : goal.returns-clause-seat
+returns-clause-seat g c = later_both c.args.self.now.seat c.perform.new.self.seat c.perform-2.new.self.seat c.perform.ensures.seat c.perform-2.ensures.seat
+
+pub returns-clause-collects : goal.returns-clause-collects
+returns-clause-collects g c =
     let old : HandlesView = c.args.self.now in
     let mid : HandlesView = c.perform.new.self in
     let new : HandlesView = c.perform-2.new.self in
-    let one = performed_commands (sizes_in old.session.config) 0 old.session.front mid.session.front FullMajor mid.session.ran c.perform.result c.perform.ensures.performed in
-    let two = performed_commands (sizes_in mid.session.config) 0 mid.session.front new.session.front Poll new.session.ran c.perform-2.result c.perform-2.ensures.performed in
-    record {
-      collects = record {
-        made_are = two ∙ (ap (λ (cs : List model.Command). cs ++ Poll ∷ []) one ∙ append_assoc (commands old.session.front 0) (FullMajor ∷ []) (Poll ∷ []));
-        settles = settles_both old mid new c.perform.ensures.settles c.perform-2.ensures.settles;
-      };
-    }
+    let one : Makes (FullMajor ∷ []) old mid = record { made_are = performed_commands (sizes_in old.seat.heap.config) old.seat.number old.seat.front mid.seat.front FullMajor mid.seat.ran c.perform.result c.perform.ensures.performed; settles = c.perform.ensures.settles } in
+    let two : Makes (Poll ∷ []) mid new = record { made_are = performed_commands (sizes_in mid.seat.heap.config) mid.seat.number mid.seat.front new.seat.front Poll new.seat.ran c.perform-2.result c.perform-2.ensures.performed; settles = c.perform-2.ensures.settles } in
+    makes_both old mid new (FullMajor ∷ []) (Poll ∷ []) c.perform.ensures.seat c.perform-2.ensures.seat one two
+
+pub returns-clause-held : goal.returns-clause-held
+returns-clause-held g c =
+    open_held c.args.self.now c.perform.new.self c.perform-2.new.self c.perform.ensures.seat c.perform-2.ensures.seat c.perform.new.self.seat.ran c.perform-2.new.self.seat.ran c.perform.result c.perform-2.result c.perform.ensures.performed c.perform-2.ensures.performed c.is_kept.ensures
