@@ -1,0 +1,4 @@
+//! What of the collector a program sees.
+#![tactic(auto)]
+
+pub mod laws;

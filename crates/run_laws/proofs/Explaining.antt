@@ -1,0 +1,61 @@
+-- What the program means by a run is what the judge means.
+use Rattle.std.proofs.Common.{◌≡◌, ◌≢◌, ℕ, Bool, List, [], ◌∷◌, ◌++◌, Option, Some, refl, ap, sym, ◌∙◌}
+use Rattle.std.specs.List.{list_any}
+use Rattle.heap_model.specs.declared.command.Command.{Command}
+use Rattle.heap_model.specs.declared.entry.Entry.{Entry}
+use Rattle.heap_model.specs.declared.entry.Entry.TheVariants.{Command as CommandOf, End, Cut, Queue, Seal, Wipe, Last, Collected, Done, Ran}
+use Rattle.heap_model.specs.declared.state.Sizes.{Sizes}
+use Rattle.heap_model.specs.Output.{output}
+use Rattle.heap_rule.specs.Ending.{EndedHeap}
+use Rattle.heap_text.specs.declared.version.Version.{Version}
+use Rattle.heap_text.specs.declared.version.Version.TheVariants.{One, Two, Three}
+use Rattle.domain_turns.specs.Runs.{is_end_of}
+use Rattle.history_replay.specs.Explains.{Explains}
+use Rattle.history_replay.specs.Steps.{is_end_of as is_judged_end}
+use Rattle.camlheap_run.specs.Outcome.{WritesRun, WritesRunBy}
+use Rattle.camlheap_run.specs.Run.{is_run_of, output_of}
+use Rattle.run_laws.specs.Explained.{RunsAreOne, RunsAreExplained, ReplaysAreExplained}
+
+same_end : (d : ℕ) (e : Entry) → is_end_of d e ≡ is_judged_end d e
+same_end d (End k) = refl
+same_end d (CommandOf k c full) = refl
+same_end d Cut = refl
+same_end d (Queue k places) = refl
+same_end d Seal = refl
+same_end d (Wipe l keys) = refl
+same_end d (Last k place) = refl
+same_end d Collected = refl
+same_end d Done = refl
+same_end d (Ran k) = refl
+
+same_ends : (d : ℕ) (h : List Entry) → list_any (is_end_of d) h ≡ list_any (is_judged_end d) h
+same_ends d h = ap (λ (f : Entry → Bool). list_any f h) (λ i e. same_end d e i)
+
+pub one_run : RunsAreOne
+one_run z script h = (
+  (λ is. record { legal = is.legal; each_command = is.each_command; each_ends = λ d less. sym (same_ends d h) ∙ is.each_ends d less }),
+  (λ is. record { legal = is.legal; each_command = is.each_command; each_ends = λ d less. same_ends d h ∙ is.each_ends d less }),
+)
+
+-- two lists that begin alike and are one go on alike
+same_rest : (xs ys zs : List ℕ) → xs ++ ys ≡ xs ++ zs → ys ≡ zs
+same_rest [] ys zs is = is
+same_rest (x ∷ xs) ys zs is = let rest : xs ++ ys ≡ xs ++ zs = cc in same_rest xs ys zs rest
+
+explained : (z : Sizes) (script : List (List Command)) (ended : Option EndedHeap) (before bytes : List ℕ) → WritesRun output z script ended (Some before) (Some (before ++ bytes)) → (h : List Entry) × Explains z script bytes h
+explained z script ended before bytes w = (
+  w.ran.past.history,
+  record { run = (one_run z script w.ran.past.history).0 w.ran.run; prints = sym (same_rest before bytes (output z w.ran.past.history) w.written) },
+)
+
+by_version : (z : Sizes) (v : Version) (script : List (List Command)) (ended : Option EndedHeap) (before bytes : List ℕ) → v ≢ Three → WritesRunBy (is_run_of v) (output_of v) z script ended (Some before) (Some (before ++ bytes))
+    → (h : List Entry) × Explains z script bytes h
+by_version z One script ended before bytes older w = explained z script ended before bytes w
+by_version z Two script ended before bytes older w = explained z script ended before bytes w
+by_version z Three script ended before bytes older w = absurd (older refl)
+
+pub explained_runs : RunsAreExplained
+explained_runs z ended left_before left_after before bytes x older = by_version z x.script.version x.script.sections ended before bytes older x.writes
+
+pub explained_replays : ReplaysAreExplained
+explained_replays z ended left_before left_after before bytes x = explained z x.replay.script.sections ended before bytes x.writes.writes

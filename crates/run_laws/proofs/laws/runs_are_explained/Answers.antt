@@ -1,0 +1,11 @@
+use Rattle.run_laws.proofs.Explaining.{explained_replays, explained_runs, one_run}
+use Rattle.run_laws.proofs.laws.runs_are_explained.Goals as goal
+
+pub returns-clause-one : goal.returns-clause-one
+returns-clause-one c = one_run
+
+pub returns-clause-runs : goal.returns-clause-runs
+returns-clause-runs c = explained_runs
+
+pub returns-clause-replays : goal.returns-clause-replays
+returns-clause-replays c = explained_replays

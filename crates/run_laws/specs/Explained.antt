@@ -1,0 +1,25 @@
+-- What a run or a replay that ended well wrote is an output of the judge's relation.
+use Rattle.std.specs.Prelude.{◌≢◌, ℕ, List, ◌++◌, Option, Some}
+use Rattle.heap_model.specs.declared.command.Command.{Command}
+use Rattle.heap_model.specs.declared.entry.Entry.{Entry}
+use Rattle.heap_model.specs.declared.state.Sizes.{Sizes}
+use Rattle.heap_rule.specs.Ending.{EndedHeap}
+use Rattle.heap_text.specs.declared.version.Version.TheVariants.{Three}
+use Rattle.history_replay.specs.Explains.{Explains, IsRunOf as IsJudgedRun}
+use Rattle.camlheap_run.specs.Outcome.{RunsToEnd}
+use Rattle.camlheap_run.specs.Replaying.{ReplaysToEnd}
+use Rattle.camlheap_run.specs.Run.{IsRunOf}
+
+-- the program and the judge mean the same by a run of a script
+abbrev pub RunsAreOne : Type 0
+RunsAreOne = (z : Sizes) (script : List (List Command)) (h : List Entry) → (IsRunOf z script h → IsJudgedRun z script h) × (IsJudgedRun z script h → IsRunOf z script h)
+
+-- of a script without spawns some history explains the bytes that were written
+abbrev pub RunsAreExplained : Type 0
+RunsAreExplained = (z : Sizes) (ended : Option EndedHeap) (left_before left_after : Option (List ℕ)) (before bytes : List ℕ)
+    → (x : RunsToEnd z ended left_before left_after (Some before) (Some (before ++ bytes))) → x.script.version ≢ Three → (h : List Entry) × Explains z x.script.sections bytes h
+
+-- and of a replay
+abbrev pub ReplaysAreExplained : Type 0
+ReplaysAreExplained = (z : Sizes) (ended : Option EndedHeap) (left_before left_after : Option (List ℕ)) (before bytes : List ℕ)
+    → (x : ReplaysToEnd z ended left_before left_after (Some before) (Some (before ++ bytes))) → (h : List Entry) × Explains z x.replay.script.sections bytes h

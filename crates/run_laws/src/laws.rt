@@ -1,0 +1,17 @@
+//! Laws of runs that ended well. Each function's contract is one law, and it does nothing else.
+ghost use Rattle.run_laws.specs.Explained.{ReplaysAreExplained, RunsAreExplained, RunsAreOne};
+ghost use Rattle.run_laws.specs.Sections.{SpawningRunsKeep};
+
+/// What a run of a script without spawns wrote, and what a replay wrote, some history explains to the judge: so an output that
+/// none explains is none of this program's.
+pub fn runs_are_explained()
+    ensures one { RunsAreOne }
+    ensures runs { RunsAreExplained }
+    ensures replays { ReplaysAreExplained }
+{}
+
+/// What a run of a script of version 3 wrote is the text of a run in which each `argument` answers what its spawn passed, each
+/// `spawn` prints `ok`, and each `argument` and `join` an integer or a block.
+pub fn spawning_runs_keep()
+    ensures { SpawningRunsKeep }
+{}

@@ -1,0 +1,5 @@
+pub mod Orders
+pub mod Passed
+pub mod Printing
+pub mod Seen
+pub mod Waiting
