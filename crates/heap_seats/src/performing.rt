@@ -3,15 +3,17 @@ ghost use Rattle.std.specs.Prelude.{◌≡◌};
 ghost use Rattle.heap_model.specs.declared.command.Command as model;
 ghost use Rattle.heap_rule.specs.declared.view.DomainView.{DomainView};
 ghost use Rattle.heap_rule.specs.Token.{IsIn};
+ghost use Rattle.domain_turns.specs.Runs.{MaySubmit};
 ghost use Rattle.open_runs.specs.Driving.{Awaits, Answered};
 ghost use Rattle.heap_seats.specs.Idling.{IsIdleIn, KeepsHeap, StaysIdle};
 
 use crate::idle::{Idle, attend};
 use crossbeam_utils::sync::{EventCount, Key};
 use domain_turns::DomainRun;
+use heap_model::command::Command;
 use heap_model::reply::Reply;
 use heap_rule::Heap;
-use open_runs::{Came, await_turn};
+use open_runs::{Came, await_turn, begin};
 use rest_pool::{Keeper, Pool};
 use std::sync::Wait;
 use thread_drive::Waiter;
@@ -64,7 +66,8 @@ pub(crate) fn go_along<R: Wait>(
 }
 
 // Turns a run that has a command to make until it is made, and answers the reply.
-pub(crate) fn await_answer<R: Wait>(
+#[inline(never)]
+fn await_answer<R: Wait>(
     rt: &R,
     heap: &Heap,
     pool: &Pool<Heap, Idle>,
@@ -92,6 +95,31 @@ pub(crate) fn await_answer<R: Wait>(
         go_along(rt, heap, pool, events, keeper, &mut waiter, announced, came);
     }
     unreachable!()
+}
+
+// Makes the next command of a run, and answers the reply.
+#[inline(always)]
+pub(crate) fn perform_on<R: Wait>(
+    rt: &R,
+    heap: &Heap,
+    pool: &Pool<Heap, Idle>,
+    events: &EventCount,
+    run: &mut DomainRun,
+    keeper: &mut Keeper<Idle>,
+    command: Command,
+) -> Reply
+    requires here { IsIn run.old.token heap.now }
+    requires may { MaySubmit run.old command }
+    requires pool { keeper.old.pool ≡ pool.now }
+    requires keeps { KeepsHeap heap.now keeper.old.rests }
+    ensures here { IsIn run.new.token heap.now }
+    ensures same { keeper.new ≡ keeper.old }
+    ensures answered { Answered heap.now run.old.token.view command result run.new }
+{
+    if let Some(reply) = begin(heap, run, command) {
+        return reply;
+    }
+    await_answer(rt, heap, pool, events, run, keeper)
 }
 
 // Turns a run that has no command to make until no pause is wanted and none goes on.

@@ -12,7 +12,7 @@ ghost use Rattle.open_runs.specs.Refusing.{IsRefused};
 ghost use Rattle.heap_seats.specs.Seating.{GoesAlong, IsSeatOf, MayPerform};
 
 use crate::idle::Idle;
-use crate::performing::{attend_calls, await_answer};
+use crate::performing::{attend_calls, perform_on};
 use crate::seats::Seats;
 use domain_turns::{DomainRun, show};
 use heap_model::command::Command;
@@ -119,6 +119,7 @@ impl Seat {
     /// waited, and then by this command, and the reply is that of the state before it. [`ran`](Seat::ran) has the
     /// replies of these finalisers then. A pause that is wanted is gone through first, and this thread takes domains
     /// along that rest. A domain that has arrived 2^60 times isn't turned any more, and then this call doesn't return.
+    #[inline(always)]
     pub fn perform<R: Wait>(&mut self, rt: &R, seats: &Seats, command: Command) -> Reply
         requires here { IsSeatOf seats.now self.old }
         requires may { MayPerform self.old command }
@@ -132,14 +133,14 @@ impl Seat {
     {
         let _left = self.labels_left();
         self.run.is_faithful();
-        self.run.submit(command);
-        await_answer(
+        perform_on(
             rt,
             &seats.heap,
             &seats.pool,
             &seats.events,
             &mut self.run,
             &mut self.keeper,
+            command,
         )
     }
 

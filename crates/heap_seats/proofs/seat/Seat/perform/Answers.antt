@@ -11,106 +11,91 @@ use Rattle.rest_pool.specs.Keeping.{KeeperView}
 use Rattle.heap_seats.specs.declared.idle.Idle.{Idle}
 use Rattle.heap_seats.specs.Idling.{KeepsHeap, finals_of}
 use Rattle.heap_seats.specs.Seating.{MayPerform, SeatView, seat_with}
-use Rattle.open_runs.proofs.Driven.{submitted}
 use Rattle.heap_seats.proofs.Seated.{answered_idle, finals_left, given, made, performs, seat_after, seat_again, sits}
 use Rattle.heap_seats.proofs.seat.Seat.perform.Goals as goal
 
-pub submit-requires : goal.submit-requires
-submit-requires g c =
+pub perform_on-requires-clause-may : goal.perform_on-requires-clause-may
+perform_on-requires-clause-may g c =
     let r = c.self.inside.run in
     let is = c.is_faithful.ensures in
     let v : SeatView = seat_with c.self.inside.keeper.pool r in
     let may : MayPerform v c.args.command = subst (λ (x : SeatView). MayPerform x c.args.command) (sym c.self.view_is) c.requires.may in
     let count : ℕ = count_of r.token.view.own.finalisers in
     record {
-      may = record {
-        more = c.self.invariant.more;
-        done = c.self.invariant.done;
-        fits = may.fits;
-        enlists = let listed = is.enlists in let fits = may.enlists in let left : ℕ = registrations_in (drop r.next r.commands) in omega (arith, listed, fits);
-        room = may.room;
-        labels = let few = may.labels in let same : r.token.view.own.serial ≡ c.args.self.now.labels = ap (λ (x : SeatView). x.labels) c.self.view_is in let left = c.labels_left-left.ensures in omega (arith, few, same, left);
-      };
+      more = c.self.invariant.more;
+      done = c.self.invariant.done;
+      fits = may.fits;
+      enlists = let listed = is.enlists in let fits = may.enlists in let left : ℕ = registrations_in (drop r.next r.commands) in omega (arith, listed, fits);
+      room = may.room;
+      labels = let few = may.labels in let same : r.token.view.own.serial ≡ c.args.self.now.labels = ap (λ (x : SeatView). x.labels) c.self.view_is in let left = c.labels_left-left.ensures in omega (arith, few, same, left);
     }
 
-pub await_answer-requires-clause-here : goal.await_answer-requires-clause-here
-await_answer-requires-clause-here g c =
-    let s = sits c.seats.inside.heap c.seats.inside.pool c.self.inside.run c.self.inside.keeper _ _ c.self.invariant c.self.view_is c.seats.view_is c.requires.here in
-    subst (λ (x : RunView). IsIn x.token c.seats.inside.heap) (sym c.submit.ensures) s.here
+pub perform_on-requires-clause-here : goal.perform_on-requires-clause-here
+perform_on-requires-clause-here g c = (sits c.seats.inside.heap c.seats.inside.pool c.self.inside.run c.self.inside.keeper _ _ c.self.invariant c.self.view_is c.seats.view_is c.requires.here).here
 
-pub await_answer-requires-clause-pool : goal.await_answer-requires-clause-pool
-await_answer-requires-clause-pool g c = (sits c.seats.inside.heap c.seats.inside.pool c.self.inside.run c.self.inside.keeper _ _ c.self.invariant c.self.view_is c.seats.view_is c.requires.here).in_pool
+pub perform_on-requires-clause-pool : goal.perform_on-requires-clause-pool
+perform_on-requires-clause-pool g c = (sits c.seats.inside.heap c.seats.inside.pool c.self.inside.run c.self.inside.keeper _ _ c.self.invariant c.self.view_is c.seats.view_is c.requires.here).in_pool
 
-pub await_answer-requires-clause-keeps : goal.await_answer-requires-clause-keeps
-await_answer-requires-clause-keeps g c = (sits c.seats.inside.heap c.seats.inside.pool c.self.inside.run c.self.inside.keeper _ _ c.self.invariant c.self.view_is c.seats.view_is c.requires.here).keeps
+pub perform_on-requires-clause-keeps : goal.perform_on-requires-clause-keeps
+perform_on-requires-clause-keeps g c = (sits c.seats.inside.heap c.seats.inside.pool c.self.inside.run c.self.inside.keeper _ _ c.self.invariant c.self.view_is c.seats.view_is c.requires.here).keeps
 
 pub returns-clause-same : goal.returns-clause-same
 returns-clause-same g c =
     let heap = c.seats.inside.heap in
     let r = c.self.inside.run in
-    let n = c.await_answer.new.run in
+    let n = c.perform_on.new.run in
     let s = sits heap c.seats.inside.pool r c.self.inside.keeper _ _ c.self.invariant c.self.view_is c.seats.view_is c.requires.here in
-    let a = c.await_answer.ensures.answered r.token.view c.args.command (submitted heap r c.submit.new.self c.args.command s.here c.self.invariant.more c.submit.ensures) in
-    let pool = ap (λ (k : KeeperView Idle). k.pool) c.await_answer.ensures.same in
+    let a = c.perform_on.ensures.answered in
+    let pool = ap (λ (k : KeeperView Idle). k.pool) c.perform_on.ensures.same in
     ap (λ p. seat_with p n) pool ∙ subst (λ (v : SeatView). seat_with c.self.inside.keeper.pool n ≡ record v { front = n.token.view.seen.front; labels = n.token.view.own.serial; room = n.token.view.own.ephemerons.room; finals = finals_of n; ran = n.ran }) c.self.view_is (seat_after heap c.self.inside.keeper.pool r n s.here a.here a.number)
 
 pub returns-clause-performed : goal.returns-clause-performed
 returns-clause-performed g c =
     let heap = c.seats.inside.heap in
     let r = c.self.inside.run in
-    let n = c.await_answer.new.run in
+    let n = c.perform_on.new.run in
     let s = sits heap c.seats.inside.pool r c.self.inside.keeper _ _ c.self.invariant c.self.view_is c.seats.view_is c.requires.here in
-    let a = c.await_answer.ensures.answered r.token.view c.args.command (submitted heap r c.submit.new.self c.args.command s.here c.self.invariant.more c.submit.ensures) in
-    subst (λ (v : SeatView). PerformedOn (sizes_in v.heap.config) v.number v.front n.token.view.seen.front c.args.command n.ran c.await_answer.result) c.self.view_is (performs heap r n c.args.command c.await_answer.result s.here a)
+    let a = c.perform_on.ensures.answered in
+    subst (λ (v : SeatView). PerformedOn (sizes_in v.heap.config) v.number v.front n.token.view.seen.front c.args.command n.ran c.perform_on.result) c.self.view_is (performs heap r n c.args.command c.perform_on.result s.here a)
 
 pub returns-clause-commands : goal.returns-clause-commands
 returns-clause-commands g c =
     let heap = c.seats.inside.heap in
     let r = c.self.inside.run in
-    let n = c.await_answer.new.run in
+    let n = c.perform_on.new.run in
     let s = sits heap c.seats.inside.pool r c.self.inside.keeper _ _ c.self.invariant c.self.view_is c.seats.view_is c.requires.here in
-    let a = c.await_answer.ensures.answered r.token.view c.args.command (submitted heap r c.submit.new.self c.args.command s.here c.self.invariant.more c.submit.ensures) in
-    subst (λ (v : SeatView). commands n.token.view.seen.front v.number ≡ commands v.front v.number ++ c.args.command ∷ []) c.self.view_is (made heap r n c.args.command c.await_answer.result s.here a)
+    let a = c.perform_on.ensures.answered in
+    subst (λ (v : SeatView). commands n.token.view.seen.front v.number ≡ commands v.front v.number ++ c.args.command ∷ []) c.self.view_is (made heap r n c.args.command c.perform_on.result s.here a)
 
 pub returns-clause-replies : goal.returns-clause-replies
 returns-clause-replies g c =
     let heap = c.seats.inside.heap in
     let r = c.self.inside.run in
-    let n = c.await_answer.new.run in
+    let n = c.perform_on.new.run in
     let s = sits heap c.seats.inside.pool r c.self.inside.keeper _ _ c.self.invariant c.self.view_is c.seats.view_is c.requires.here in
-    let a = c.await_answer.ensures.answered r.token.view c.args.command (submitted heap r c.submit.new.self c.args.command s.here c.self.invariant.more c.submit.ensures) in
-    subst (λ (v : SeatView). replies (sizes_in v.heap.config) n.token.view.seen.front v.number ≡ replies (sizes_in v.heap.config) v.front v.number ++ (n.ran ++ c.await_answer.result ∷ [])) c.self.view_is (given heap r n c.args.command c.await_answer.result s.here a)
+    let a = c.perform_on.ensures.answered in
+    subst (λ (v : SeatView). replies (sizes_in v.heap.config) n.token.view.seen.front v.number ≡ replies (sizes_in v.heap.config) v.front v.number ++ (n.ran ++ c.perform_on.result ∷ [])) c.self.view_is (given heap r n c.args.command c.perform_on.result s.here a)
 
 pub returns-clause-finals : goal.returns-clause-finals
 returns-clause-finals g c =
     let heap = c.seats.inside.heap in
     let r = c.self.inside.run in
-    let n = c.await_answer.new.run in
+    let n = c.perform_on.new.run in
     let s = sits heap c.seats.inside.pool r c.self.inside.keeper _ _ c.self.invariant c.self.view_is c.seats.view_is c.requires.here in
-    let a = c.await_answer.ensures.answered r.token.view c.args.command (submitted heap r c.submit.new.self c.args.command s.here c.self.invariant.more c.submit.ensures) in
-    subst (λ (v : SeatView). v.finals + length n.ran ≤ finals_of n + registrations_of c.args.command) c.self.view_is (finals_left heap r n c.args.command c.await_answer.result s.here a c.is_faithful.ensures)
+    let a = c.perform_on.ensures.answered in
+    subst (λ (v : SeatView). v.finals + length n.ran ≤ finals_of n + registrations_of c.args.command) c.self.view_is (finals_left heap r n c.args.command c.perform_on.result s.here a c.is_faithful.ensures)
 
 pub returns-clause-labels : goal.returns-clause-labels
-returns-clause-labels g c =
-    let heap = c.seats.inside.heap in
-    let r = c.self.inside.run in
-    let s = sits heap c.seats.inside.pool r c.self.inside.keeper _ _ c.self.invariant c.self.view_is c.seats.view_is c.requires.here in
-    let a = c.await_answer.ensures.answered r.token.view c.args.command (submitted heap r c.submit.new.self c.args.command s.here c.self.invariant.more c.submit.ensures) in
-    subst (λ (v : SeatView). c.await_answer.new.run.token.view.own.serial ≡ v.labels + labels_given c.args.command c.await_answer.result) c.self.view_is a.takes.labels_are
+returns-clause-labels g c = subst (λ (v : SeatView). c.perform_on.new.run.token.view.own.serial ≡ v.labels + labels_given c.args.command c.perform_on.result) c.self.view_is c.perform_on.ensures.answered.takes.labels_are
 
 pub returns-clause-room : goal.returns-clause-room
-returns-clause-room g c =
-    let heap = c.seats.inside.heap in
-    let r = c.self.inside.run in
-    let s = sits heap c.seats.inside.pool r c.self.inside.keeper _ _ c.self.invariant c.self.view_is c.seats.view_is c.requires.here in
-    let a = c.await_answer.ensures.answered r.token.view c.args.command (submitted heap r c.submit.new.self c.args.command s.here c.self.invariant.more c.submit.ensures) in
-    subst (λ (v : SeatView). v.room ≤ c.await_answer.new.run.token.view.own.ephemerons.room + ephemerons_given c.args.command c.await_answer.result) c.self.view_is a.takes.room
+returns-clause-room g c = subst (λ (v : SeatView). v.room ≤ c.perform_on.new.run.token.view.own.ephemerons.room + ephemerons_given c.args.command c.perform_on.result) c.self.view_is c.perform_on.ensures.answered.takes.room
 
 pub invariant_of-self : goal.invariant_of-self
 invariant_of-self g c =
     let heap = c.seats.inside.heap in
     let r = c.self.inside.run in
-    let n = c.await_answer.new.run in
+    let n = c.perform_on.new.run in
     let s = sits heap c.seats.inside.pool r c.self.inside.keeper _ _ c.self.invariant c.self.view_is c.seats.view_is c.requires.here in
-    let a = c.await_answer.ensures.answered r.token.view c.args.command (submitted heap r c.submit.new.self c.args.command s.here c.self.invariant.more c.submit.ensures) in
-    seat_again heap n c.await_answer.new.keeper (answered_idle heap r n c.args.command c.await_answer.result a) (subst (λ (k : KeeperView Idle). KeepsHeap heap k.rests) (sym c.await_answer.ensures.same) s.keeps)
+    let a = c.perform_on.ensures.answered in
+    seat_again heap n c.perform_on.new.keeper (answered_idle heap r n c.args.command c.perform_on.result a) (subst (λ (k : KeeperView Idle). KeepsHeap heap k.rests) (sym c.perform_on.ensures.same) s.keeps)
