@@ -1,4 +1,4 @@
-use Rattle.std.proofs.Common.{◌≡◌, subst}
+use Rattle.std.proofs.Common.{subst}
 use Rattle.std.specs.Prelude.{Option}
 use Rattle.heap_model.specs.declared.reply.Reply.{Reply}
 use Rattle.open_runs.specs.Driving.{AwaitAnswers}
