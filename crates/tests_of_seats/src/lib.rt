@@ -2,4 +2,10 @@
 #![tactic(auto)]
 
 #[cfg(test)]
+mod eight;
+#[cfg(test)]
+mod judge;
+#[cfg(test)]
+mod texts;
+#[cfg(test)]
 mod threads;
