@@ -2,6 +2,12 @@
 #![tactic(auto)]
 
 #[cfg(test)]
+mod eight;
+#[cfg(test)]
+mod judge;
+#[cfg(test)]
 mod resources;
+#[cfg(test)]
+mod texts;
 #[cfg(test)]
 mod threads;

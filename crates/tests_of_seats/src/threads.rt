@@ -12,7 +12,12 @@ use std::test::Fail;
 use std::thread::{Threads, join};
 
 // Makes a command, where the seat takes it.
-fn made(rt: &impl Wait, seats: &Seats, seat: &mut Seat, command: Command) -> Option<Reply>
+pub(crate) fn made(
+    rt: &impl Wait,
+    seats: &Seats,
+    seat: &mut Seat,
+    command: Command,
+) -> Option<Reply>
     requires here { IsSeatOf seats.now seat.old }
     ensures here { IsSeatOf seats.now seat.new }
 {
