@@ -5,6 +5,7 @@ ghost use Rattle.domain_turns.specs.Tries.{registrations_of};
 ghost use Rattle.example_handles.specs.Handling.{CloseLeaves, Collects, HandleAnswers, HoldsLatest, IsHandles, IsLater, IsSpare, OpenAnswers, OpenWereHeld, Opens, Performs, Settles};
 ghost use Rattle.example_handles.specs.Resources.{Settled, is_open};
 ghost use Rattle.heap_model.specs.declared.command.Command.TheVariants as command;
+ghost use Rattle.heap_model.specs.History.{Legal};
 ghost use Rattle.heap_rule.specs.Limits.{sizes_in};
 ghost use Rattle.heap_seats.specs.Seating.{GoesAlong, IsSeatOf, MayPerform};
 
@@ -99,6 +100,7 @@ impl Handles {
         ensures seat { IsLater self.old.seat self.new.seat }
         ensures most { self.new.most ≡ self.old.most }
         ensures collects { Collects self.old self.new }
+        ensures legal { Legal (sizes_in self.new.seat.heap.config) self.new.seat.front }
         ensures held { OpenWereHeld self.old self.new }
     {
         self.perform(rt, seats, Command::FullMajor);

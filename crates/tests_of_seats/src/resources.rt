@@ -12,7 +12,7 @@ use std::test::Fail;
 use std::thread::{Threads, join};
 
 // Opens three resources. Stores the handle of one into the shared block, forgets that of the next, and closes the last.
-fn works(rt: &impl Wait, seats: &Seats, resting: RestingHandles, place: u32) -> RestingHandles
+fn works(rt: &impl Wait, seats: &Seats, resting: RestingHandles, place: u16) -> RestingHandles
     requires here { IsSeatOf seats.now resting.seat }
     ensures here { IsSeatOf seats.now result.seat }
 {
@@ -33,7 +33,7 @@ fn works(rt: &impl Wait, seats: &Seats, resting: RestingHandles, place: u32) -> 
 }
 
 // Overwrites the field of the shared block by which the handle of another thread is held.
-fn lets_go(rt: &impl Wait, seats: &Seats, resting: RestingHandles, place: u32) -> RestingHandles
+fn lets_go(rt: &impl Wait, seats: &Seats, resting: RestingHandles, place: u16) -> RestingHandles
     requires here { IsSeatOf seats.now resting.seat }
     ensures here { IsSeatOf seats.now result.seat }
 {

@@ -1,6 +1,8 @@
-use Rattle.std.proofs.Common.{[], ◌∷◌}
+use Rattle.std.proofs.Common.{[], ◌∷◌, subst, sym}
 use Rattle.heap_model.specs.declared.command.Command.TheVariants.{FullMajor, Poll}
+use Rattle.heap_model.specs.History.{Legal}
 use Rattle.heap_rule.specs.Limits.{sizes_in}
+use Rattle.heap_seats.specs.Seating.{SeatView}
 use Rattle.domain_turns.proofs.Handed.{performed_commands}
 use Rattle.example_handles.specs.Handling.{HandlesView, Makes}
 use Rattle.example_handles.proofs.Calls.{later_both, makes_both, open_held}
@@ -21,3 +23,6 @@ returns-clause-collects g c =
 pub returns-clause-held : goal.returns-clause-held
 returns-clause-held g c =
     open_held c.args.self.now c.perform.new.self c.perform-2.new.self c.perform.ensures.seat c.perform-2.ensures.seat c.perform.new.self.seat.ran c.perform-2.new.self.seat.ran c.perform.result c.perform-2.result c.perform.ensures.performed c.perform-2.ensures.performed c.is_kept.ensures
+
+pub returns-clause-legal : goal.returns-clause-legal
+returns-clause-legal g c = subst (λ (v : SeatView). Legal (sizes_in v.heap.config) c.perform-2.new.self.seat.front) (sym c.perform-2.ensures.seat) c.perform-2.ensures.performed.legal
