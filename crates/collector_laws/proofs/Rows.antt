@@ -1,5 +1,5 @@
 -- Worked rows: two histories with the same calls, of which one has a collection, and what differs in them.
-use Rattle.std.proofs.Common.{◌≡◌, false, List, [], ◌∷◌, ◌++◌, pos, refl, rules}
+use Rattle.std.proofs.Common.{◌≡◌, true, false, List, [], ◌∷◌, ◌++◌, pos, refl, rules}
 use Rattle.heap_model.specs.declared.label.Label.{Label}
 use Rattle.heap_model.specs.declared.command.Command as declared_command
 use Rattle.heap_model.specs.declared.command.Command.TheVariants.{Forget, Alloc, Load, Ephe, SetKey, GetKey, CheckKey}
@@ -10,6 +10,7 @@ use Rattle.heap_model.specs.declared.state.Sizes.{Sizes}
 use Rattle.heap_model.specs.Reach.{reachable}
 use Rattle.heap_model.specs.History.{Legal, replies}
 use Rattle.collector_laws.specs.Blindness.{made}
+use Rattle.collector_laws.specs.Idle.{idle_complete}
 
 abbrev sizes : Sizes
 sizes = record { domains = 1; pools = 512; minor_words = 32768; classes = 6 }
@@ -57,3 +58,14 @@ takes_kept = refl
 
 takes_emptied : replies sizes (begun ++ emptied ++ takes) 0 ≡ Block weak ∷ Block key ∷ Ok ∷ Ok ∷ Empty ∷ BadType ∷ []
 takes_emptied = refl
+
+-- a complete collection that takes nothing changes no reply, but whether an allocation may be answered `full`
+abbrev least : Sizes
+least = record { domains = 1; pools = 14; minor_words = 4096; classes = 6 }
+
+full_then : Legal least (idle_complete ++ Command 0 (Alloc 1 0 1) true ∷ [])
+unfolding reachable
+full_then = search rules
+
+no_full_before : Legal least (Command 0 (Alloc 1 0 1) true ∷ []) → ⊥
+no_full_before legal = let fresh : false ≡ true = legal.0.full_fits.fresh in cc

@@ -1,1 +1,2 @@
 pub mod Blindness
+pub mod Idle

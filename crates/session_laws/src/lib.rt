@@ -1,0 +1,4 @@
+//! What a whole session makes.
+#![tactic(auto)]
+
+pub mod laws;
