@@ -1,13 +1,13 @@
 -- A trace that has ended makes no entry any more.
-use Rattle.std.proofs.Common.{◌≡◌, ℕ, zero, suc, Bool, true, false, cond, eqb-true, List, [], ◌∷◌, ◌++◌, get_or, set, refl, ap, sym, ◌∙◌, subst}
+use Rattle.std.proofs.Common.{◌≡◌, ℕ, Bool, true, false, cond, eqb-true, List, [], ◌∷◌, ◌++◌, refl, ap, sym, ◌∙◌, subst}
 use Rattle.heap_model.specs.declared.entry.Entry.{Entry}
 use Rattle.heap_model.specs.declared.entry.Entry.TheVariants.{Command as CommandOf, End, Cut, Queue, Seal, Wipe, Last as LastOf, Collected, Done, Ran}
-use Rattle.heap_model.specs.declared.state.DomainState.{DomainState}
 use Rattle.heap_model.specs.declared.state.State.{State}
-use Rattle.heap_model.specs.Domains.{no_domain, domain_at}
-use Rattle.heap_model.specs.Entries.{Allowed, ended, next}
+use Rattle.heap_model.specs.Domains.{domain_at}
+use Rattle.heap_model.specs.Entries.{Allowed, next}
 use Rattle.heap_model.specs.History.{LegalFrom, commands, command_of, is_entry_of, state_after}
 use Rattle.heap_model.proofs.Commands.FrameLemmas.{keeps_next}
+use Rattle.scheduled_runs.proofs.Sections.{end_ends as set_ends}
 
 -- a domain that makes an entry runs
 own_runs : (s : State) (e : Entry) (d : ℕ) → Allowed s e → is_entry_of d e ≡ true → (domain_at s d).ended ≡ false
@@ -60,9 +60,4 @@ running_before s h d legal later = go (domain_at s d).ended refl
     go false runs = refl
 
 pub end_ends : (s : State) (d : ℕ) → (domain_at (next s (End d)) d).ended ≡ true
-end_ends s d = go s.domains d
-  where
-    go : (xs : List DomainState) (d : ℕ) → (get_or (set xs d (ended (get_or xs d no_domain))) d no_domain).ended ≡ true
-    go [] d = refl
-    go (x ∷ xs) zero = refl
-    go (x ∷ xs) (suc d) = go xs d
+end_ends s d = set_ends s.domains d

@@ -6,7 +6,7 @@ use Rattle.heap_model.specs.declared.label.Label.{Label}
 use Rattle.heap_model.specs.declared.command.Command as declared_command
 use Rattle.heap_model.specs.declared.command.Command.TheVariants.{FullMajor}
 use Rattle.heap_model.specs.declared.entry.Entry.{Entry}
-use Rattle.heap_model.specs.declared.entry.Entry.TheVariants.{Command as CommandOf, End, Cut, Queue, Seal, Wipe, Last as LastOf, Collected, Done, Ran}
+use Rattle.heap_model.specs.declared.entry.Entry.TheVariants.{Command as CommandOf, End, Cut, Seal, Collected, Done, Ran}
 use Rattle.heap_model.specs.declared.reply.Applied.{Applied}
 use Rattle.heap_model.specs.declared.reply.Reply.{Reply}
 use Rattle.heap_model.specs.declared.state.DomainState.{DomainState}
@@ -18,16 +18,17 @@ use Rattle.heap_model.specs.Commands.{CommandAllowed}
 use Rattle.heap_model.specs.Entries.{EndAllowed, next}
 use Rattle.heap_model.specs.History.{Legal, LegalFrom, commands, is_entry_of, replies, replies_from, reply_list, state_after}
 use Rattle.heap_model.specs.WellFormed.{names_of}
+use Rattle.heap_model.proofs.Reach.ReachLemmas.{and_left, and_right}
 use Rattle.heap_model.proofs.Histories.HistoryLemmas.{commands-append, replies_from-append, state_after-append}
 use Rattle.schedule_laws.specs.declared.items.Item.{Item}
 use Rattle.schedule_laws.specs.declared.items.Item.TheVariants.{Turn, Collect}
-use Rattle.schedule_laws.specs.Sameness.{AllAlive, AreSameDomains, IsCollection, IsSameBut, is_queue, is_step, is_taking}
+use Rattle.schedule_laws.specs.Sameness.{AllAlive, AreSameDomains, IsCollection, IsSameBut, is_step}
 use Rattle.schedule_laws.specs.Scheduled.{Played, all_ended, begun, behind, complete, domains_of, left_of, next_entries, rounds_of, take_item, take_round, take_turn, turn_on, with_entries}
 use Rattle.schedule_laws.proofs.Collecting.{collection_law, legal_parts}
 use Rattle.schedule_laws.proofs.Holding.{same_at}
 use Rattle.schedule_laws.proofs.Steps.{step_law}
 use Rattle.scheduled_runs.specs.Runs.{EndsIn}
-use Rattle.scheduled_runs.proofs.Sections.{IsTurn, turn_taken}
+use Rattle.scheduled_runs.proofs.Sections.{IsTurn, no_queue, no_run, no_taking, turn_taken}
 use Rattle.interleavings.specs.Turns.{IsMadeIn, IsOwnTurn, TurnsAreScheduled, runs_queue}
 use Rattle.interleavings.proofs.Ending.{end_ends, ended_stays, none_behind, running_before}
 
@@ -81,21 +82,13 @@ module _ (z : Sizes) where
   along_steps : (t : State) (g a es : List Entry) → GoesAlong z t g a → Legal z (a ++ es) → IsTrue (list_all is_step es) → GoesAlong z (state_after t es) (g ++ es) (a ++ es)
   along_steps t g a [] was legal all = subst (λ (k : List Entry). GoesAlong z t k (a ++ [])) (sym (append-nil g)) (subst (λ (k : List Entry). GoesAlong z t g k) (sym (append-nil a)) was)
   along_steps t g a (e ∷ es) was legal all =
-      let first : is_step e ≡ true = step_first (is_step e) (list_all is_step es) all in
-      let rest : IsTrue (list_all is_step es) = step_rest (is_step e) (list_all is_step es) all in
+      let first : is_step e ≡ true = and_left (is_step e) (list_all is_step es) all in
+      let rest : IsTrue (list_all is_step es) = and_right (is_step e) (list_all is_step es) all in
       let whole : Legal z ((a ++ e ∷ []) ++ es) = subst (λ (k : List Entry). Legal z k) (sym (append_assoc a (e ∷ []) es)) legal in
       let one = along_step t g a e was (legal_parts (opening z) (a ++ e ∷ []) es whole).0 first in
       let more = along_steps (next t e) (g ++ e ∷ []) (a ++ e ∷ []) es one whole rest in
       subst (λ (k : List Entry). GoesAlong z (state_after (next t e) es) k (a ++ e ∷ es)) (append_assoc g (e ∷ []) es)
       (subst (λ (k : List Entry). GoesAlong z (state_after (next t e) es) ((g ++ e ∷ []) ++ es) k) (append_assoc a (e ∷ []) es) more)
-    where
-      step_first : (b c : Bool) → IsTrue (b && c) → b ≡ true
-      step_first true c is = refl
-      step_first false c is = is
-
-      step_rest : (b c : Bool) → IsTrue (b && c) → IsTrue c
-      step_rest true c is = is
-      step_rest false c is = let clash : false ≡ true = is in cc
 
   along_collection : (t : State) (g a c answered : List Entry) → GoesAlong z t g a → Legal z (a ++ c) → IsCollection c answered → GoesAlong z (state_after t (complete t answered)) (g ++ complete t answered) (a ++ c)
   along_collection t g a c answered was legal is =
@@ -105,17 +98,6 @@ module _ (z : Sizes) where
       along_grown t g a (complete t answered) c was law.0 law.1
 
 -- the commands of a collection are those that are answered in it
-queue_commands : (q : List Entry) (k : ℕ) → list_all is_queue q ≡ true → commands q k ≡ []
-queue_commands [] k all = refl
-queue_commands (Queue d places ∷ q) k all = queue_commands q k all
-queue_commands (e ∷ q) k all = cc
-
-taking_commands : (q : List Entry) (k : ℕ) → list_all is_taking q ≡ true → commands q k ≡ []
-taking_commands [] k all = refl
-taking_commands (Wipe l places ∷ q) k all = taking_commands q k all
-taking_commands (LastOf d place ∷ q) k all = taking_commands q k all
-taking_commands (e ∷ q) k all = cc
-
 collection_commands : (c answered : List Entry) (k : ℕ) → IsCollection c answered → commands c k ≡ commands answered k
 collection_commands c answered k is =
     ap (λ (h : List Entry). commands h k) is.is
@@ -123,7 +105,7 @@ collection_commands c answered k is =
     ∙ append-nil (commands (Cut ∷ is.queued ++ Seal ∷ is.taken ++ Collected ∷ answered) k)
     ∙ commands-append (Cut ∷ is.queued ++ Seal ∷ is.taken) (Collected ∷ answered) k
     ∙ ap (λ (cs : List declared_command.Command). cs ++ commands answered k) (commands-append (Cut ∷ is.queued) (Seal ∷ is.taken) k
-    ∙ ap (λ (cs : List declared_command.Command). cs ++ commands is.taken k) (queue_commands is.queued k is.are_queues) ∙ taking_commands is.taken k is.are_taking)
+    ∙ ap (λ (cs : List declared_command.Command). cs ++ commands is.taken k) (no_queue is.queued k is.are_queues) ∙ no_taking is.taken k is.are_taking)
 
 one_command : (d k : ℕ) (c : declared_command.Command) → k ≢ d → cond (eqb d k) (c ∷ []) [] ≡ []
 one_command d k c apart = go (eqb d k) refl
@@ -144,10 +126,6 @@ apart_commands d k own turn apart = ⊎_elim
     (λ counts. collection_commands own (CommandOf d FullMajor false ∷ []) k counts ∙ ap (λ (cs : List declared_command.Command). cs ++ []) (one_command d k FullMajor apart))
     more)
     turn
-
-runs_commands : (n d k : ℕ) → commands (replicate n (Ran d)) k ≡ []
-runs_commands zero d k = refl
-runs_commands (suc n) d k = runs_commands n d k
 
 runs_steps : (n d : ℕ) → IsTrue (list_all is_step (replicate n (Ran d)))
 runs_steps zero d = refl
@@ -267,7 +245,7 @@ module _ (z : Sizes) where
       own_queue = ap (λ (q : List Pending). replicate (length q) (Ran d)) (same_at (state_after (opening z) a).domains p.state.domains d was.along.same.domains).queue
 
       left_here : left_of p d ≡ commands (own ++ rest) d
-      left_here = was.left d below ∙ (ap (λ (k : List Entry). commands k d) is ∙ (commands-append (runs_queue (state_after (opening z) a) d) (own ++ rest) d ∙ ap (λ (cs : List declared_command.Command). cs ++ commands (own ++ rest) d) (runs_commands (length (domain_at (state_after (opening z) a) d).queue) d d)))
+      left_here = was.left d below ∙ (ap (λ (k : List Entry). commands k d) is ∙ (commands-append (runs_queue (state_after (opening z) a) d) (own ++ rest) d ∙ ap (λ (cs : List declared_command.Command). cs ++ commands (own ++ rest) d) (no_run (length (domain_at (state_after (opening z) a) d).queue) d d)))
 
       after_runs : GoesAlong z (state_after p.state (replicate (length (domain_at p.state d).queue) (Ran d))) (p.history ++ replicate (length (domain_at p.state d).queue) (Ran d)) (a ++ runs_queue (state_after (opening z) a) d)
       after_runs = subst (λ (k : List Entry). GoesAlong z (state_after p.state k) (p.history ++ k) (a ++ runs_queue (state_after (opening z) a) d)) (sym own_queue)
@@ -289,7 +267,7 @@ module _ (z : Sizes) where
           go false e =
               let apart : k ≢ d = λ same. let twice : true ≡ false = sym (eq-eqb k d same) ∙ e in cc in
               taken.others_left k apart ∙ (was.left k less ∙ (ap (λ (g : List Entry). commands g k) is
-              ∙ (commands-append (runs_queue (state_after (opening z) a) d) (own ++ rest) k ∙ (ap (λ (cs : List declared_command.Command). cs ++ commands (own ++ rest) k) (runs_commands (length (domain_at (state_after (opening z) a) d).queue) d k)
+              ∙ (commands-append (runs_queue (state_after (opening z) a) d) (own ++ rest) k ∙ (ap (λ (cs : List declared_command.Command). cs ++ commands (own ++ rest) k) (no_run (length (domain_at (state_after (opening z) a) d).queue) d k)
               ∙ (commands-append own rest k ∙ ap (λ (cs : List declared_command.Command). cs ++ commands rest k) (apart_commands d k own turn apart))))))
 
   -- all turns

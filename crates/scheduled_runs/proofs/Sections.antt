@@ -25,18 +25,18 @@ use Rattle.scheduled_runs.specs.Runs.{EndsIn}
 use Rattle.scheduled_runs.proofs.Clearing.{may_go}
 
 -- entries that make no command
-no_queue : (h : List Entry) (d : ℕ) → list_all is_queue h ≡ true → commands h d ≡ []
+pub no_queue : (h : List Entry) (d : ℕ) → list_all is_queue h ≡ true → commands h d ≡ []
 no_queue [] d all = refl
 no_queue (Queue k places ∷ h) d all = no_queue h d all
 no_queue (e ∷ h) d all = cc
 
-no_taking : (h : List Entry) (d : ℕ) → list_all is_taking h ≡ true → commands h d ≡ []
+pub no_taking : (h : List Entry) (d : ℕ) → list_all is_taking h ≡ true → commands h d ≡ []
 no_taking [] d all = refl
 no_taking (Wipe l places ∷ h) d all = no_taking h d all
 no_taking (LastOf k place ∷ h) d all = no_taking h d all
 no_taking (e ∷ h) d all = cc
 
-no_run : (n k d : ℕ) → commands (replicate n (Ran k)) d ≡ []
+pub no_run : (n k d : ℕ) → commands (replicate n (Ran k)) d ≡ []
 no_run zero k d = refl
 no_run (suc n) k d = no_run n k d
 
@@ -135,7 +135,7 @@ next_commands s d k [] = sym (cond_same (eqb d k))
 next_commands s d k (FullMajor ∷ cs) = complete_commands s (CommandOf d FullMajor false ∷ []) k ∙ append-nil (cond (eqb d k) (FullMajor ∷ []) [])
 next_commands s d k (c ∷ cs) = append-nil (cond (eqb d k) (c ∷ []) [])
 
-end_ends : (xs : List DomainState) (d : ℕ) → (get_or (set xs d (ended (get_or xs d no_domain))) d no_domain).ended ≡ true
+pub end_ends : (xs : List DomainState) (d : ℕ) → (get_or (set xs d (ended (get_or xs d no_domain))) d no_domain).ended ≡ true
 end_ends [] d = refl
 end_ends (x ∷ xs) zero = refl
 end_ends (x ∷ xs) (suc d) = end_ends xs d

@@ -13,6 +13,7 @@ use Rattle.heap_model.specs.Domains.{register, opening, IsWithinLimits}
 use Rattle.heap_model.specs.Commands.{shown, is_full_value, CommandAllowed}
 use Rattle.heap_model.specs.Entries.{next, reply}
 use Rattle.heap_model.specs.History.{state_after, Legal}
+use Rattle.heap_model.proofs.Histories.HistoryLemmas.{state_after-append}
 use Rattle.heap_model.proofs.Histories.TallyLemmas.{tally, tally-append, counted}
 use Rattle.spawn_laws.specs.Hidden.{hidden, scratch, flag_of, argument_of, prelude}
 use Rattle.spawn_laws.specs.Expansion.{Step, step_of, steps_from, spawn_commands, is_spawned, section_at, IsScriptRun, IsFittingScript}
@@ -27,11 +28,6 @@ use Rattle.section_laws.specs.Orders.{spawns_of, IsOrderly}
 use Rattle.section_laws.specs.Passed.{passed_value, HasSpawn, AnswersArgument, ArgumentsArePassed, UnpassedIsZero}
 use Rattle.section_laws.proofs.Walking.{own_step, IsStepAt, split_step, IsStage, stage_after, stage_first, stage_next, slot_over, put_store, stage_at, running_at, never_full, first_stage}
 use Rattle.section_laws.proofs.Counting.{stores, spawns, IsMark, section_stores, section_spawns, two_sections, some_spawn, no_own_spawn, section_spawned}
-
--- the state after two lists of entries
-pub after_append : (s : State) (h k : List Entry) → state_after s (h ++ k) ≡ state_after (state_after s h) k
-after_append s [] k = refl
-after_append s (e ∷ h) k = after_append (next s e) h k
 
 -- how many of a domain's steps in some entries store into a field, part by part
 pub stores_append : (i d : ℕ) (s : State) (h k : List Entry) → stores i (steps_from s (h ++ k) d) ≡ stores i (steps_from s h d) + stores i (steps_from (state_after s h) k d)
@@ -355,7 +351,7 @@ module _ (z : Sizes) (script : List (List declared_command.Command)) (h : List E
 
         passed_law : reply (state_after s1 before) (CommandOf t (Load dst hidden (argument_of t)) full) ≡ Replied (shown (passed_value spawn.spawn.first.held item))
         passed_law = load_is before behind dst full is (passed_value spawn.spawn.first.held item)
-            (ap (λ (s : State). slot s (argument_of t)) (ap (state_after s1) before_is ∙ after_append s1 store_at.0.before (CommandOf p l.store.command store_at.0.full ∷ between))
+            (ap (λ (s : State). slot s (argument_of t)) (ap (state_after s1) before_is ∙ state_after-append s1 store_at.0.before (CommandOf p l.store.command store_at.0.full ∷ between))
             ∙ (slot_over z.domains (next (state_after s1 store_at.0.before) (CommandOf p l.store.command store_at.0.full)) between (CommandOf t (Load dst hidden (argument_of t)) full ∷ behind) (argument_of t) later_stage none_later ∙ stored_now))
 
 pub passed_arguments : ArgumentsArePassed

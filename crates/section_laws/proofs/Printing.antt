@@ -6,7 +6,6 @@ use Rattle.heap_model.specs.declared.command.Command as declared_command
 use Rattle.heap_model.specs.declared.command.Command.TheVariants.{PutInt, Load, Store, Spawn, Argument, Join}
 use Rattle.heap_model.specs.declared.entry.Entry.{Entry}
 use Rattle.heap_model.specs.declared.reply.Reply.{Reply}
-use Rattle.heap_model.specs.declared.reply.Applied.TheVariants.{Replied}
 use Rattle.heap_model.specs.declared.graph.Value.{Value}
 use Rattle.heap_model.specs.declared.graph.Value.TheVariants.{Int, Block, Nothing}
 use Rattle.heap_model.specs.declared.graph.Node.TheVariants.{Plain}
@@ -20,13 +19,13 @@ use Rattle.heap_model.proofs.Graphs.GraphLemmas.{and_parts}
 use Rattle.heap_model.proofs.Commands.FrameLemmas.{inside_running}
 use Rattle.heap_model.proofs.Commands.LeavesLemmas.{leaves_load}
 use Rattle.heap_model.proofs.Histories.FieldLemmas.{fields_law}
+use Rattle.heap_model.proofs.Histories.HistoryLemmas.{state_after-append}
 use Rattle.spawn_laws.specs.Hidden.{hidden, scratch, flag_of, argument_of, result_of, hidden_fields, hidden_label, prelude}
 use Rattle.spawn_laws.specs.Expansion.{Step, steps_from, Make, spawn_commands, IsExpansion, section_at, IsScriptRun, IsFittingScript, IsFitting, AreFitting}
 use Rattle.spawn_laws.specs.Printed.{PrintLasts}
 use Rattle.spawn_laws.proofs.Printing.{print_law}
 use Rattle.section_laws.specs.Printing.{is_value, MayPrint, MayPrintEach, SpawnsPrintOk}
-use Rattle.section_laws.proofs.Walking.{split_step, IsStage, put_store, stage_at, running_at, never_full, first_stage}
-use Rattle.section_laws.proofs.Passing.{after_append}
+use Rattle.section_laws.proofs.Walking.{replied_is, split_step, IsStage, put_store, stage_at, running_at, never_full, first_stage}
 
 full_at : (xs : List Value) (i : ℕ) → i < length xs → IsTrue (list_all is_full_value xs) → IsTrue (is_full_value (get_or xs i Nothing))
 full_at [] i lt all = absurd (omega (arith, lt))
@@ -37,9 +36,6 @@ full_shows : (v : Value) → IsTrue (is_full_value v) → IsTrue (is_value (show
 full_shows (Int n) full = refl
 full_shows (Block l) full = refl
 full_shows Nothing full = full
-
-replied_is : (y z : Reply) → Replied y ≡ Replied z → y ≡ z
-replied_is y z e = cc
 
 -- the last step of one command's
 make_last : (c : declared_command.Command) (early : List Step) (last : Step) → Make (c ∷ []) (early ++ last ∷ []) → last.command ≡ c
@@ -100,7 +96,7 @@ module _ (z : Sizes) (script : List (List declared_command.Command)) (h : List E
       let running = running_at z.domains s1 run.behind stage d us x ys at in
       let within : i < length kept.fields = let size = kept.size in omega (arith, size, low) in
       let full : IsTrue (list_all is_full_value kept.fields) = fields_law z (prelude z.domains ++ at.before) hidden_label (Plain 0 kept.fields)
-      (ap (λ (t : State). node_at t.graph hidden_label) (after_append (opening z) (prelude z.domains) at.before) ∙ kept.there) in
+      (ap (λ (t : State). node_at t.graph hidden_label) (state_after-append (opening z) (prelude z.domains) at.before) ∙ kept.there) in
       let says = (leaves_load s d (inside_running s.domains d running) dst hidden i hidden_label 0 kept.fields (get_or kept.fields i Nothing) (kept.holds d running) kept.there (slice_get-get_or kept.fields i Nothing within)).replies in
       let answer : x.answer ≡ shown (get_or kept.fields i Nothing) =
       ap (λ (w : Step). w.answer) at.is ∙ ((λ j. (command_outcome s d (loads j) (never j)).reply) ∙ replied_is _ _ says) in

@@ -17,6 +17,7 @@ use Rattle.history_laws.specs.Cells.{Cell, content, writes}
 use Rattle.history_laws.specs.Reads.{IsWrittenIn}
 use Rattle.history_laws.proofs.ReadLemmas.{seen_law}
 use Rattle.history_laws.proofs.SplitLemmas.{legal_first}
+use Rattle.heap_model.proofs.Histories.HistoryLemmas.{state_after-append}
 use Rattle.spawn_laws.specs.Hidden.{hidden, scratch, flag_of, result_of, prelude}
 use Rattle.spawn_laws.specs.Expansion.{steps_from, flag_load, is_spawned, section_at, IsScriptRun, IsFittingScript}
 use Rattle.spawn_laws.specs.Joined.{IsSpawnedIn}
@@ -25,7 +26,7 @@ use Rattle.section_laws.specs.Orders.{IsOrderly}
 use Rattle.section_laws.specs.Seen.{IsWriteIn, IsSeen, SpawnsAreSeen, JoinsAreSeen}
 use Rattle.section_laws.proofs.Walking.{IsStage, stage_after, first_stage}
 use Rattle.section_laws.proofs.Counting.{stores, spawns, IsMark, section_spawns, two_sections, section_spawned}
-use Rattle.section_laws.proofs.Passing.{after_append, stores_append, stores_one, run_stores}
+use Rattle.section_laws.proofs.Passing.{stores_append, stores_one, run_stores}
 
 -- one of two entries of a list stands before the other, or they are one
 pub record StandsBefore (a : List Entry) (x : Entry) (b c : List Entry) (y : Entry) (d : List Entry) : Type 0 where
@@ -69,9 +70,9 @@ module _ (z : Sizes) (script : List (List declared_command.Command)) (h : List E
       let part : Legal z ((prelude z.domains ++ old) ++ e ∷ k) = subst (λ (b : List Entry). LegalFrom (opening z) b) (sym (append_assoc (prelude z.domains) old (e ∷ k)))
       (legal_first (opening z) (prelude z.domains ++ (old ++ e ∷ k)) left (subst (λ (b : List Entry). LegalFrom (opening z) b) whole legal)) in
       let law = subst (λ (t : State). writes t e l cell ≡ Some v → (content (state_after (next t e) k).graph l cell ≡ v) ⊎ IsWrittenIn (next t e) k l cell (content (state_after (next t e) k).graph l cell))
-      (after_append (opening z) (prelude z.domains) old) (seen_law z (prelude z.domains ++ old) k e l cell v part) in (
+      (state_after-append (opening z) (prelude z.domains) old) (seen_law z (prelude z.domains ++ old) k e l cell v part) in (
         record { before = old; entry = e; behind = k; stands = stands; writes = wrote },
-        subst (λ (t : State). (content t.graph l cell ≡ v) ⊎ IsWrittenIn (next (state_after s1 old) e) k l cell (content t.graph l cell)) (sym (ap (state_after s1) stands ∙ after_append s1 old (e ∷ k))) (law wrote),
+        subst (λ (t : State). (content t.graph l cell ≡ v) ⊎ IsWrittenIn (next (state_after s1 old) e) k l cell (content t.graph l cell)) (sym (ap (state_after s1) stands ∙ state_after-append s1 old (e ∷ k))) (law wrote),
       )
 
   module _ (t : ℕ) (within : t < z.domains) where

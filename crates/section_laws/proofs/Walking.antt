@@ -18,6 +18,7 @@ use Rattle.heap_model.specs.History.{state_after, LegalFrom, Legal}
 use Rattle.heap_model.specs.WellFormed.{IsWellFormed}
 use Rattle.heap_model.proofs.Commands.FrameLemmas.{inside_running}
 use Rattle.heap_model.proofs.Commands.LeavesLemmas.{leaves_put}
+use Rattle.heap_model.proofs.Histories.HistoryLemmas.{state_after-append}
 use Rattle.heap_model.proofs.Histories.TallyLemmas.{tally, tally-append, counted}
 use Rattle.heap_model.proofs.Histories.WellFormedLemmas.{wf_next, wf_after, wf_opening}
 use Rattle.heap_model.proofs.Histories.ShapeAfterLemmas.{shaped-next, shaped-history}
@@ -201,7 +202,7 @@ pub record IsPutStore (n : ℕ) (s : State) (d : ℕ) (h : List Entry) (us : Lis
   pub held : register (state_after s at.before) d scratch ≡ Int z
   pub answers : y.answer ≡ reply_of.Done
 
-replied_is : (y z : Reply) → Replied y ≡ Replied z → y ≡ z
+pub replied_is : (y z : Reply) → Replied y ≡ Replied z → y ≡ z
 replied_is y z e = cc
 
 some_int : (v : Value) (z : ℤ) → v ≡ Int z → v ≢ Nothing
@@ -238,11 +239,7 @@ module _ (n : ℕ) (s : State) (h : List Entry) (stage : IsStage n s h) (d : ℕ
           (at.stands ∙ (ap (λ (k : List Entry). k ++ CommandOf d y.command at.full ∷ at.behind) put.stands ∙ append_assoc put.before (CommandOf d x.command put.full ∷ put.behind) (CommandOf d y.command at.full ∷ at.behind))) stage)
 
       behind_is : state_after s at.before ≡ state_after (next (state_after s put.before) (CommandOf d x.command put.full)) put.behind
-      behind_is = ap (state_after s) put.stands ∙ after_append s put.before (CommandOf d x.command put.full ∷ put.behind)
-        where
-          after_append : (s : State) (h k : List Entry) → state_after s (h ++ k) ≡ state_after (state_after s h) k
-          after_append s [] k = refl
-          after_append s (e ∷ h) k = after_append (next s e) h k
+      behind_is = ap (state_after s) put.stands ∙ state_after-append s put.before (CommandOf d x.command put.full ∷ put.behind)
 
       over : RunsOn (next (state_after s put.before) (CommandOf d x.command put.full)) (state_after (next (state_after s put.before) (CommandOf d x.command put.full)) put.behind) d scratch
       over = scratch_over n (next (state_after s put.before) (CommandOf d x.command put.full)) put.behind (CommandOf d y.command at.full ∷ at.behind) d (stage_next n _ _ _ here) put.rest
