@@ -1,5 +1,5 @@
 #!/usr/bin/env bash
-# Runs the tests of `tests_of_seats` RUNS times each (200 without it) on one and on two processors, beside two busy processes for each of
+# Runs the tests of `tests_of_seats` RUNS times each (200 without it) on one and on two processors, beside a busy process for each of
 # these, and counts the runs that hang, which are those that don't end within a minute, and those that fail. In one of the tests eight
 # threads with a seat each rest, wait for one another outside of the heap, and end at different times; each run compares what they were
 # told with what the slow heap prints. It ends with 1 where a run hangs or fails. PROGRAM names another build of the tests.
@@ -20,10 +20,10 @@ tests=(
     threads::one_builds_while_another_dozes
 )
 
-# Keeps the processors $1 busy, so many of them, with two processes for each.
+# Keeps the processors $1 busy, by $2 processes.
 keep_busy() {
     local processors=$1 count=$2
-    for _ in $(seq $((2 * count))); do
+    for _ in $(seq "$count"); do
         taskset -c "$processors" bash -c 'while :; do :; done' &
         busy+=($!)
     done

@@ -12,6 +12,9 @@ use std::thread;
 
 pub(crate) type Queue<S, T> = RuledArrayQueue<Rested<T>, Knows<T>, Law<S, T>>;
 
+// After so many looks for its own thing a keeper lets other threads run: as many as may rest.
+const LOOKS: u32 = 8;
+
 // Puts the first thing to rest, while there is no other keeper.
 pub(crate) fn put_first<S, T: Restful<S> + Drop, R: Wait>(
     rt: &R,
@@ -117,7 +120,17 @@ fn own_item<T: Drop>(found: Rested<T>, number: u32, stamp: u64) -> Result<T, Res
     }
 }
 
-// Takes out what the keeper itself has put to rest last.
+// Lets other threads run, once in so many looks.
+fn yield_at_times(looks: &mut u32) {
+    *looks = looks.wrapping_add(1);
+    if *looks % LOOKS == 0 {
+        thread::yield_now();
+    }
+}
+
+// Takes out what the keeper itself has put to rest last. It looks at all that may rest before it lets other threads run.
+// Where it did so after each, threads that take turns on one processor could each find what another one looks for, over
+// and over again.
 pub(crate) fn take_own<S, T: Restful<S> + Drop, R: Wait>(
     rt: &R,
     shared: &S,
@@ -135,6 +148,7 @@ pub(crate) fn take_own<S, T: Restful<S> + Drop, R: Wait>(
     ensures here { T.shares shared.now result }
     ensures follows { (y : _) → (view pass.old).rests ≡ Some y → T.follows y result }
 {
+    let mut looks = 0;
     'tries: for _ in rt.forever() {
         if let Some(found) = take(shared, queue, pass) {
             match own_item(found, number, stamp) {
@@ -142,7 +156,7 @@ pub(crate) fn take_own<S, T: Restful<S> + Drop, R: Wait>(
                 Err(found) => give(rt, shared, queue, pass, found),
             }
         }
-        thread::yield_now();
+        yield_at_times(&mut looks);
     }
     unreachable!()
 }
