@@ -1,0 +1,108 @@
+-- The machine values of a `Loose` and of a handle. Assumes `Logic`.
+use Rattle.std.proofs.Common.{◌≡◌, ℕ, List, [], ◌∷◌, ◌++◌, refl, subst, lit<}
+use mathlib.Core.Bool.{Bool, true, false, ◌&&◌}
+use mathlib.Core.Path.{◌∙◌}
+use lib.Dec.{T}
+use seplogic.Ra.Ura.{Ura}
+use mir.Syntax.{impl, tnil, dnil}
+use mir.Raw.{raw as bare}
+use mir.Val.{Val, vptr, vbool, vstruct, vcons, vnil, of_list, has_ty, WT}
+use base.Logic.{never, fst∗}
+use base.Fml.{ftrue}
+use types.Logic.{Logic, sem}
+use types.Kit.{Item, Goal, Seq, Step, step, ‵, ◌$◌, move, drop, fsplit, fsplit3, fjoin, fjoin3, fpick, fpack, rewrite, feq_i, feq_l}
+use denote.RattleType.{RattleType, Valss}
+use denote.Builtin.{RawPtr, bool}
+use denote.Laws.{Is, Lawful, Typed, shows}
+use denote.Memory.{lone}
+use denote.RawPtr.{Ptr, block_ptr, null_ptr, ptr_val, in_a_block}
+use denote.Steps.{nothing, peeks}
+use denote.Param.{layout}
+use denote.Param.Laws.{Laws}
+use denote.Struct.Struct.{Struct, within}
+use denote.Struct.Owning.{shape}
+use denote.Struct.Tuple.{Tuple}
+use Rattle.core.specs.declared.alloc.Allocator.{Ghosts}
+use Rattle.core.proofs.alloc.Calls.{Al, handle_tells}
+use Rattle.core.proofs.cell.Inside.{Good, one}
+use Rattle.std_alloc.specs.Box.Ownership.{box_owns}
+use Rattle.std_alloc.proofs.ResultValues.{and_tt}
+use Rattle.std.specs.Prelude.{cond}
+use Rattle.std.specs.contracts.alloc.Global as heap
+use Rattle.std.proofs.alloc.Global.TheLaws as heap_laws
+use Rattle.std.specs.contracts.impls.GlobalAllocator.TheImpl.{ghosts}
+use Rattle.shared_runs.specs.contracts.shared.SharedRun.{the_row as run_row}
+use Rattle.camlheap_c.specs.contracts.handle.CamlheapDomain as handle
+use Rattle.camlheap_c.specs.contracts.loose.Loose as loose
+
+abbrev pub both : Val → Val → Val
+both v w = vstruct (vcons v (vcons w vnil))
+
+pub both_tt : (x y : Bool) → T x → T y → T (x && (y && true))
+both_tt true true s t = tt
+both_tt true false s t = absurd t
+both_tt false y s t = absurd s
+
+module _ (R Z : RattleType) (L : Laws Z) (g : Ghosts Z.Denot) where
+  abbrev pub Loose : RattleType
+  Loose = loose.the_row R Z g
+
+  abbrev al : Al
+  al = record { row = Z; laws = L; g = g; d = impl [] tnil dnil; drops = impl [] tnil dnil }
+
+  pub loose_good : (b o : ℕ) (h : Val) → Good (layout Z) h → T (has_ty (layout Z) h && true) × WT (both (vptr b o) h)
+  loose_good b o h fits = (and_tt (has_ty (layout Z) h) fits.0, (tt, (fits.1, tt)))
+
+  module _ {M : Type 1} {𝓤 : Ura M} {𝓛 : Logic 𝓤} {K : Type 0} {Γ : List (Item 𝓤)} {G : Goal 𝓤 𝓛.H} where
+    pub loose_out : K → (d : Loose.Denot) (vs : List Val)
+        → ((b o : ℕ) (h : Val) → d.at ≡ block_ptr b o → vs ≡ both (vptr b o) h ∷ [] → Good (layout Z) h → Seq K 𝓛 (‵ (box_owns (g.dealloc_token d.alloc) R (block_ptr b o) d.value) ∷ ‵ (Z.own_val d.alloc (h ∷ [])) ∷ Γ) G)
+        → Seq K 𝓛 (‵ (Loose.own_val d vs) ∷ Γ) G
+    loose_out t d vs k =
+        fsplit t $ fpick t (λ vss. fsplit t $ feq_l t (λ ev. fsplit t $ feq_l t (λ ep. fsplit t $ handle_tells al t d.alloc vss.1.0 (λ h ea fits. move t (1 ∷ []) $ drop t $ move t (1 ∷ []) $
+        in_a_block t d.at (λ p. box_owns (g.dealloc_token d.alloc) R p d.value) (fst∗ 𝓤 (never 𝓤) (sem 𝓛 (g.dealloc_token d.alloc (bare (lone R.mir)) null_ptr))) (λ b o e. k b o h e
+        (subst (λ (p : Ptr). vs ≡ vstruct (of_list (ptr_val p ∷ h ∷ [])) ∷ []) e
+        (subst (λ (ws : List Val). vs ≡ vstruct (of_list (ptr_val d.at ∷ (ws ++ []))) ∷ []) ea (subst (λ (ps : List Val). vs ≡ vstruct (of_list (ps ++ (vss.1.0 ++ []))) ∷ []) ep ev))) fits)))))
+
+    pub loose_in : K → (b o : ℕ) (h : Val) (a : Z.Denot) (x : R.Denot)
+        → Step K 𝓛 (‵ (Loose.own_val (record { at = block_ptr b o; alloc = a; value = x }) (both (vptr b o) h ∷ [])) ∷ Γ) G (‵ (box_owns (g.dealloc_token a) R (block_ptr b o) x) ∷ ‵ (Z.own_val a (h ∷ [])) ∷ Γ) G
+    loose_in t b o h a x = step (λ s. let v : Val = both (vptr b o) h in
+        nothing t $ move t (2 ∷ 0 ∷ []) $ fjoin t $ feq_i t (List Val) (vptr b o ∷ []) (vptr b o ∷ []) refl $ fjoin t $ feq_i t (List Val) (v ∷ []) (v ∷ []) refl $ fjoin t $
+        fpack t (Valss (RawPtr ∷ Z ∷ [])) (within (shape (loose.the_type R Z g)) (block_ptr b o, (a, tt)) (v ∷ [])) (vptr b o ∷ [], (h ∷ [], tt)) $ fjoin t $ s)
+
+-- a handle
+abbrev pub Heap : RattleType
+Heap = heap.the_row
+
+abbrev pub al_heap : Al
+al_heap = record { row = heap.the_row; laws = heap_laws.the_row_laws; g = ghosts; d = impl [] tnil dnil; drops = impl [] tnil dnil }
+
+abbrev pub word : Val → Val → Bool → Val
+word v h t = vstruct (vcons v (vcons h (vcons (vbool t) vnil)))
+
+-- what it owns besides its fields
+abbrev pub held : (t : Bool) → Heap.Denot → Ptr → run_row.Denot → base.Fml.Fml
+held t a p x = cond t (box_owns (ghosts.dealloc_token a) run_row p x) ftrue
+
+pub three_tt : (x y z : Bool) → T x → T y → T z → T (x && (y && (z && true)))
+three_tt true true true s t u = tt
+three_tt true true false s t u = absurd u
+three_tt true false z s t u = absurd t
+three_tt false y z s t u = absurd s
+
+pub word_good : (p : Ptr) (h : Val) (t : Bool) → Good (layout Heap) h → Good (layout handle.the_row) (word (ptr_val p) h t)
+word_good null_ptr h t fits = (three_tt true (has_ty (layout Heap) h) true tt fits.0 tt, (record { fits = lit< tt }, (fits.1, (tt, tt))))
+word_good (block_ptr b o) h t fits = (three_tt true (has_ty (layout Heap) h) true tt fits.0 tt, (tt, (fits.1, (tt, tt))))
+
+module _ {M : Type 1} {𝓤 : Ura M} {𝓛 : Logic 𝓤} {K : Type 0} {Γ : List (Item 𝓤)} {G : Goal 𝓤 𝓛.H} where
+  pub handle_out : K → (d : (handle.the_row).Denot) (vs : List Val)
+      → ((h : Val) → vs ≡ word (ptr_val d.at) h d.full ∷ [] → Good (layout Heap) h → Seq K 𝓛 (‵ (held d.full d.alloc d.at d.value) ∷ ‵ (Heap.own_val d.alloc (h ∷ [])) ∷ Γ) G)
+      → Seq K 𝓛 (‵ ((handle.the_row).own_val d vs) ∷ Γ) G
+  handle_out t d vs k =
+      fsplit t $ fpick t (λ vss. fsplit t $ feq_l t (λ ev. fsplit t $ feq_l t (λ ep. fsplit t $ handle_tells al_heap t d.alloc vss.1.0 (λ h ea fits. move t (1 ∷ []) $ fsplit t $ feq_l t (λ eb. drop t $ move t (1 ∷ []) $
+      k h (ev ∙ (λ j. vstruct (of_list (ep j ++ (ea j ++ (eb j ++ [])))) ∷ [])) fits)))))
+
+  pub handle_in : K → (p : Ptr) (h : Val) (u : Bool) (a : Heap.Denot) (x : run_row.Denot)
+      → Step K 𝓛 (‵ ((handle.the_row).own_val (record { at = p; alloc = a; full = u; value = x }) (word (ptr_val p) h u ∷ [])) ∷ Γ) G (‵ (held u a p x) ∷ ‵ (Heap.own_val a (h ∷ [])) ∷ Γ) G
+  handle_in t p h u a x = step (λ s. let v : Val = word (ptr_val p) h u in
+      nothing t $ feq_i t (List Val) (vbool u ∷ []) (vbool u ∷ []) refl $ fjoin t $ move t (2 ∷ 0 ∷ []) $ fjoin t $ feq_i t (List Val) (ptr_val p ∷ []) (ptr_val p ∷ []) refl $ fjoin t $ feq_i t (List Val) (v ∷ []) (v ∷ []) refl $ fjoin t $
+      fpack t (Valss (RawPtr ∷ (heap.the_field).row ∷ bool ∷ [])) (within (shape handle.the_type) (p, ((heap.the_field).into a, (u, tt))) (v ∷ [])) (ptr_val p ∷ [], (h ∷ [], (vbool u ∷ [], tt))) $ fjoin t $ s)

@@ -1,0 +1,40 @@
+-- Turns of a domain that has a command to make.
+use Rattle.std.proofs.Common.{◌≡◌, ◌∙◌, ℕ, Option, Some, None, sym, subst, refl}
+use Rattle.heap_model.specs.declared.command.Command as model
+use Rattle.heap_model.specs.declared.reply.Reply.{Reply}
+use Rattle.heap_rule.specs.declared.view.DomainView.{DomainView}
+use Rattle.heap_rule.specs.Token.{SharedHeap}
+use Rattle.domain_turns.specs.Runs.{RunView}
+use Rattle.open_runs.specs.declared.turning.Came.{Came}
+use Rattle.open_runs.specs.declared.turning.Came.TheVariants as came
+use Rattle.open_runs.specs.Driving.{AwaitAnswers, Answered, Awaits}
+use Rattle.shared_runs.specs.Sharing.{SharedView}
+use Rattle.camlheap_c.specs.declared.crossing.CamlheapReply.{CamlheapReply}
+use Rattle.camlheap_c.specs.Exported.{GoesOn}
+use Rattle.camlheap_c.specs.Forms.{came_form, reply_form}
+
+-- a turn's answer isn't that of a command that is made
+pub not_done : (x : Came) → came_form x ≡ 0 → ⊥
+not_done came.On is = cc
+not_done came.Nowhere is = cc
+not_done came.Done is = cc
+not_done came.Ended is = cc
+
+module _ (start : DomainView) (c : model.Command) (old new : SharedView) (before : CamlheapReply) where
+  -- the command is made
+  pub made : (r : Reply) (read : CamlheapReply) → new.heap ≡ old.heap → read ≡ reply_form r → Answered old.heap start c r new.run → GoesOn start c old new before read 0
+  made r read heap is answered = record {
+    heap = heap;
+    made = λ done. record { reply = r; is_read = is; answered = subst (λ (h : SharedHeap). Answered h start c r new.run) (sym heap) answered };
+    waits = λ other. absurd (other refl);
+    unread = λ other. absurd (other refl);
+  }
+
+  -- it isn't
+  pub not_made : (told : ℕ) → (told ≡ 0 → ⊥) → new.heap ≡ old.heap → Awaits old.heap start c new.run → GoesOn start c old new before before told
+  not_made told other heap awaits = record {
+    heap = heap;
+    made = λ done. absurd (other done);
+    waits = λ ne. subst (λ (h : SharedHeap). Awaits h start c new.run) (sym heap) awaits;
+    unread = λ ne. refl;
+  }

@@ -1,0 +1,46 @@
+use Rattle.std.proofs.Common.{◌≡◌, ◌∙◌, ℕ, Option, Some, None, sym, subst, refl, arith}
+use Rattle.heap_model.specs.declared.reply.Reply.{Reply}
+use Rattle.heap_rule.specs.Token.{SharedHeap}
+use Rattle.open_runs.specs.Driving.{AwaitAnswers, Awaits}
+use Rattle.camlheap_c.specs.declared.crossing.CamlheapReply.{CamlheapReply}
+use Rattle.camlheap_c.specs.Exported.{GoesOn}
+use Rattle.camlheap_c.proofs.Waiting.{made, not_done, not_made}
+use Rattle.camlheap_c.proofs.driving.turns_of.Goals as goal
+
+pub returns-in-Some-clause-goes_on : goal.returns-in-Some-clause-goes_on
+returns-in-Some-clause-goes_on c start command waits =
+    let here = c.turns.invariant.awaits start command waits in
+    let got = c.await_turn-came.ensures.answers start command here in
+    let answered = subst (λ (o : Option Reply). AwaitAnswers c.turns.run.heap start command c.await_turn-came.new.self.run o) c.in-Some.is got in
+    let heap = c.await_turn-came.ensures.heap ∙ c.turns.invariant.heap in
+    made start command c.args.run.now c.await_turn-came.new.self c.args.reply.now c.in-Some.answer c.reply_of.result heap c.reply_of.ensures (subst (λ (h : SharedHeap). AwaitAnswers h start command c.await_turn-came.new.self.run (Some c.in-Some.answer)) c.turns.invariant.heap answered)
+
+pub returns-then-told-ne-AGAIN-clause-goes_on : goal.returns-then-told-ne-AGAIN-clause-goes_on
+returns-then-told-ne-AGAIN-clause-goes_on c start command waits =
+    let here = c.turns.invariant.awaits start command waits in
+    let got = c.await_turn-came.ensures.answers start command here in
+    let none : c.await_turn-came.result.1 ≡ None = c.in_default.is in
+    let still : Awaits c.turns.run.heap start command c.await_turn-came.new.self.run = subst (λ (o : Option Reply). AwaitAnswers c.turns.run.heap start command c.await_turn-came.new.self.run o) none got in
+    let heap = c.await_turn-came.ensures.heap ∙ c.turns.invariant.heap in
+    let other : c.turn_code-told.result ≡ 0 → ⊥ = λ is. not_done c.await_turn-came.result.0 (sym c.turn_code-told.ensures ∙ is) in
+    subst (λ (r : CamlheapReply). GoesOn start command c.args.run.now c.await_turn-came.new.self c.args.reply.now r c.turn_code-told.result) (sym c.turns.invariant.unread)
+    (not_made start command c.args.run.now c.await_turn-came.new.self c.args.reply.now c.turn_code-told.result other heap (subst (λ (h : SharedHeap). Awaits h start command c.await_turn-came.new.self.run) c.turns.invariant.heap still))
+
+pub turns-preserved : goal.turns-preserved
+turns-preserved c = record {
+  heap = c.await_turn-came.ensures.heap ∙ c.turns.invariant.heap;
+  unread = c.turns.invariant.unread;
+  awaits = λ start command waits.
+      let here = c.turns.invariant.awaits start command waits in
+      let got = c.await_turn-came.ensures.answers start command here in
+      let none : c.await_turn-came.result.1 ≡ None = c.in_default.is in
+      let still : Awaits c.turns.run.heap start command c.await_turn-came.new.self.run = subst (λ (o : Option Reply). AwaitAnswers c.turns.run.heap start command c.await_turn-came.new.self.run o) none got in
+      subst (λ (h : SharedHeap). Awaits h start command c.await_turn-came.new.self.run) (sym c.await_turn-came.ensures.heap) still;
+}
+
+pub returns-clause-goes_on : goal.returns-clause-goes_on
+returns-clause-goes_on c start command waits =
+    let here = c.turns.invariant.awaits start command waits in
+    let other : 1 ≡ 0 → ⊥ = λ is. omega (arith, is) in
+    subst (λ (r : CamlheapReply). GoesOn start command c.args.run.now c.turns.run c.args.reply.now r 1) (sym c.turns.invariant.unread)
+    (not_made start command c.args.run.now c.turns.run c.args.reply.now 1 other c.turns.invariant.heap (subst (λ (h : SharedHeap). Awaits h start command c.turns.run.run) c.turns.invariant.heap here))

@@ -1,0 +1,12 @@
+use Rattle.std.proofs.Common.{◌≡◌}
+use Rattle.heap_model.specs.declared.command.Command as model
+use Rattle.heap_rule.specs.declared.view.DomainView.{DomainView}
+use Rattle.open_runs.specs.Driving.{Awaits}
+use Rattle.camlheap_c.proofs.driving.turns_of.Given as goal
+
+abbrev pub invariant-turns : goal.invariant-turns
+invariant-turns l = record {
+  heap : l.run.heap ≡ l.initial.run.heap;
+  unread : l.reply ≡ l.initial.reply;
+  awaits : (start : DomainView) (c : model.Command) → Awaits l.initial.run.heap start c l.initial.run.run → Awaits l.run.heap start c l.run.run;
+}

@@ -1,0 +1,41 @@
+-- What the exports leave in a handle that holds a domain.
+use Rattle.std.specs.Prelude.{slice_get, ◌≡◌, ◌≢◌, ℕ, false, Some, None, [], ◌∷◌}
+use Rattle.heap_model.specs.declared.command.Command as model
+use Rattle.heap_model.specs.declared.reply.Reply.{Reply}
+use Rattle.heap_rule.specs.declared.view.DomainView.{DomainView}
+use Rattle.domain_turns.specs.Runs.{IsUnanswered, MaySubmit, answer_of}
+use Rattle.open_runs.specs.Driving.{Answered, Awaits}
+use Rattle.shared_runs.specs.Sharing.{SharedView}
+use Rattle.camlheap_c.specs.declared.crossing.CamlheapCommand.{CamlheapCommand}
+use Rattle.camlheap_c.specs.declared.crossing.CamlheapReply.{CamlheapReply}
+use Rattle.camlheap_c.specs.Forms.{command_as, reply_form}
+
+-- the command that C's stands for was handed in: the domain might take it, and has it to make
+pub record Submits (old new : SharedView) (c : CamlheapCommand) : Type 0 where
+  pub command : model.Command
+  pub stands_for : command_as c ≡ Some command
+  pub may : MaySubmit old.run command
+  pub leaves : new ≡ record old { run = record old.run { commands = command ∷ []; next = 0; replies = []; ran = []; asked = None; collected = false } }
+
+-- the command that was handed in last is made, and C reads its reply: since then the history has grown by entries of others and by runs of finalisers, and then by this command, once, with the reply of the state before it
+pub record Makes (start : DomainView) (c : model.Command) (new : SharedView) (read : CamlheapReply) : Type 0 where
+  pub reply : Reply
+  pub is_read : read ≡ reply_form reply
+  pub answered : Answered new.heap start c reply new.run
+
+-- by what a call answers: 0 where the command is made, and else it waits still, and what C reads is as it was
+pub record GoesOn (start : DomainView) (c : model.Command) (old new : SharedView) (before read : CamlheapReply) (told : ℕ) : Type 0 where
+  pub heap : new.heap ≡ old.heap
+  pub made : told ≡ 0 → Makes start c new read
+  pub waits : told ≢ 0 → Awaits new.heap start c new.run
+  pub unread : told ≢ 0 → read ≡ before
+
+-- the answer of the command that was handed in last, or none yet
+pub record Tells (s : SharedView) (before read : CamlheapReply) (told : ℕ) : Type 0 where
+  pub answer : told ≡ 0 → (r : Reply) × ((answer_of s.run ≡ Some r) × (read ≡ reply_form r))
+  pub none : told ≢ 0 → IsUnanswered s.run × (read ≡ before)
+
+-- the reply of the finaliser at this place among those that have run since the last command was handed in, or that there are no more
+pub record TellsRan (s : SharedView) (place : ℕ) (before read : CamlheapReply) (told : ℕ) : Type 0 where
+  pub reply : told ≡ 0 → (r : Reply) × ((slice_get s.run.ran place ≡ Some r) × (read ≡ reply_form r))
+  pub none : told ≢ 0 → (slice_get s.run.ran place ≡ None) × (read ≡ before)

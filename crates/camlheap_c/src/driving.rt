@@ -1,0 +1,125 @@
+//! Commands and turns, as C calls them.
+ghost use Rattle.std.specs.Prelude.{◌≡◌, ◌≢◌, ◌↔◌, true, false, None, Some};
+ghost use Rattle.heap_model.specs.declared.command.Command as model;
+ghost use Rattle.heap_rule.specs.Limits.{sizes_in};
+ghost use Rattle.heap_rule.specs.declared.view.DomainView.{DomainView};
+ghost use Rattle.domain_turns.specs.Runs.{Stretches};
+ghost use Rattle.open_runs.specs.Driving.{Awaits};
+ghost use Rattle.camlheap_c.specs.Exported.{GoesOn, Submits};
+
+use crate::codes::{AGAIN, DONE, NO_DOMAIN, UNFIT, refusal_code, turn_code};
+use crate::crossing::{CamlheapCommand, CamlheapReply, command_of, reply_of};
+use crate::handle::CamlheapDomain;
+use shared_runs::SharedRun;
+use std::alloc::Global;
+
+// Hands in a command.
+fn submit_to(run: &mut SharedRun, command: &CamlheapCommand) -> u32
+    ensures taken { result ≡ 0 → Submits run.old run.new command.now }
+    ensures refused { result ≢ 0 → run.new ≡ run.old }
+    ensures told { result ≢ 16 }
+{
+    let Some(command) = command_of(command) else {
+        return UNFIT;
+    };
+    match run.submit(command) {
+        Ok(()) => DONE,
+        Err(refused) => refusal_code(refused),
+    }
+}
+
+/// Hands in the next command of a domain. `DONE` where it was taken, and else why not; then nothing has changed.
+#[unsafe(no_mangle)]
+pub extern "C" fn camlheap_submit(
+    alloc: Global,
+    handle: &mut CamlheapDomain,
+    command: &CamlheapCommand,
+) -> u32
+    ensures kept { handle.new.full ≡ handle.old.full }
+    ensures none { (handle.old.full ≡ false) ↔ (result ≡ 16) }
+    ensures taken { handle.old.full ≡ true → result ≡ 0 → Submits handle.old.value handle.new.value command.now }
+    ensures refused { handle.old.full ≡ true → result ≢ 0 → handle.new.value ≡ handle.old.value }
+{
+    let Some(mut run) = handle.take(alloc) else {
+        return NO_DOMAIN;
+    };
+    let told = submit_to(&mut run, command);
+    *handle = CamlheapDomain::of(run);
+    told
+}
+
+/// One turn of a domain: `AGAIN` where it did something, `WAITING` where others are missing, `HUNGRY` where it has no
+/// command to make, `ENDED` where the traces of all domains have ended.
+#[unsafe(no_mangle)]
+pub extern "C" fn camlheap_turn(alloc: Global, handle: &mut CamlheapDomain) -> u32
+    ensures kept { handle.new.full ≡ handle.old.full }
+    ensures none { (handle.old.full ≡ false) ↔ (result ≡ 16) }
+    ensures heap { handle.old.full ≡ true → handle.new.value.heap ≡ handle.old.value.heap }
+    ensures stretch { handle.old.full ≡ true → Stretches (sizes_in handle.old.value.heap.config) handle.old.value.run handle.new.value.run }
+{
+    let Some(mut run) = handle.take(alloc) else {
+        return NO_DOMAIN;
+    };
+    let told = turn_code(run.turn());
+    *handle = CamlheapDomain::of(run);
+    told
+}
+
+// Turns of a domain until its command is made, or it can't go on by itself.
+fn turns_of(run: &mut SharedRun, turns: u32, reply: &mut CamlheapReply) -> u32
+    ensures goes_on { (start : DomainView) (c : model.Command) → Awaits run.old.heap start c run.old.run → GoesOn start c run.old run.new reply.old reply.new result }
+    ensures told { result ≢ 16 }
+{
+    'turns: for _ in 0..turns {
+        let (came, answer) = run.await_turn();
+        if let Some(answer) = answer {
+            *reply = reply_of(answer);
+            return DONE;
+        }
+        let told = turn_code(came);
+        if told != AGAIN {
+            return told;
+        }
+    }
+    AGAIN
+}
+
+/// At most so many turns of a domain. `DONE` and the reply once the command that was handed in last is made; `AGAIN` where
+/// all turns were taken; and else what the last turn answered.
+#[unsafe(no_mangle)]
+pub extern "C" fn camlheap_run(
+    alloc: Global,
+    handle: &mut CamlheapDomain,
+    turns: u32,
+    reply: &mut CamlheapReply,
+) -> u32
+    ensures kept { handle.new.full ≡ handle.old.full }
+    ensures none { (handle.old.full ≡ false) ↔ (result ≡ 16) }
+    ensures goes_on { handle.old.full ≡ true → (start : DomainView) (c : model.Command) → Awaits handle.old.value.heap start c handle.old.value.run → GoesOn start c handle.old.value handle.new.value reply.old reply.new result }
+{
+    let Some(mut run) = handle.take(alloc) else {
+        return NO_DOMAIN;
+    };
+    let told = turns_of(&mut run, turns, reply);
+    *handle = CamlheapDomain::of(run);
+    told
+}
+
+/// [`camlheap_submit`], and where it took the command [`camlheap_run`].
+#[unsafe(no_mangle)]
+pub extern "C" fn camlheap_call(
+    alloc: Global,
+    handle: &mut CamlheapDomain,
+    command: &CamlheapCommand,
+    turns: u32,
+    reply: &mut CamlheapReply,
+) -> u32
+    ensures kept { handle.new.full ≡ handle.old.full }
+    ensures none { (handle.old.full ≡ false) ↔ (result ≡ 16) }
+{
+    let told = camlheap_submit(alloc, handle, command);
+    if told != DONE {
+        return told;
+    }
+    camlheap_run(alloc, handle, turns, reply)
+}

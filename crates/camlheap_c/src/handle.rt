@@ -1,0 +1,93 @@
+//! A domain as its pointer, or none.
+ghost use Rattle.std.specs.Prelude.{◌≡◌, IfSome, None, true, false};
+ghost use Rattle.std.specs.Option.{MatchOption};
+ghost use Rattle.shared_runs.specs.Sharing.{SharedView};
+ghost use Rattle.shared_runs.specs.contracts.shared.SharedRun.{the_row as run_row};
+
+use crate::loose::Loose;
+use shared_runs::SharedRun;
+use std::alloc::Global;
+use std::marker::Model;
+
+/// A domain, or none. Memory of zeros is none.
+#[repr(C)]
+#[derive(Drop)]
+pub struct CamlheapDomain {
+    // A `*mut SharedRun`: what C is handed names no type with cells.
+    pub(crate) at: *mut u8,
+    pub(crate) alloc: Global,
+    pub(crate) full: bool,
+    pub(crate) ghost value: { SharedView } by { run_row.coded },
+}
+
+impl Model for CamlheapDomain {
+    ghost use Rattle.std.specs.Prelude.{cond};
+    ghost use base.Fml.{ftrue};
+    ghost use Rattle.std_alloc.specs.Box.Ownership.{box_owns};
+    ghost use Rattle.std.specs.contracts.impls.GlobalAllocator.TheImpl.{ghosts};
+    ghost use Rattle.shared_runs.specs.contracts.shared.SharedRun.{the_row as run_row};
+
+    ghost also_owns = { λ h. cond h.full (box_owns (ghosts.dealloc_token h.alloc) run_row h.at h.value) ftrue };
+}
+
+impl CamlheapDomain {
+    // A handle of a loose box.
+    fn of_loose(loose: Loose<SharedRun, Global>) -> CamlheapDomain
+        ensures { (result.full ≡ true) × (result.value ≡ loose.value) }
+    {
+        let Loose { at, alloc } = loose;
+        CamlheapDomain {
+            at: at as *mut u8,
+            alloc,
+            full: true,
+        }
+    }
+
+    // A handle of none.
+    fn none(alloc: Global) -> CamlheapDomain
+        ensures { result.full ≡ false }
+    {
+        CamlheapDomain {
+            at: std::ptr::null_mut(),
+            alloc,
+            full: false,
+        }
+    }
+
+    // The loose box of a handle.
+    fn into_loose(self) -> Option<Loose<SharedRun, Global>>
+        ensures { MatchOption result (self.full ≡ false) (λ l. (self.full ≡ true) × (l.value ≡ self.value)) }
+    {
+        let CamlheapDomain { at, alloc, full } = self;
+        if full {
+            Some(Loose {
+                at: at as *mut SharedRun,
+                alloc,
+            })
+        } else {
+            None
+        }
+    }
+
+    // A handle of a run.
+    pub(crate) fn of(run: Box<SharedRun>) -> CamlheapDomain
+        ensures { (result.full ≡ true) × (result.value ≡ run.value) }
+    {
+        CamlheapDomain::of_loose(Loose::of(run))
+    }
+
+    // Takes the run out of a handle.
+    pub(crate) fn take(&mut self, alloc: Global) -> Option<Box<SharedRun>>
+        ensures some { IfSome result (λ b. (self.old.full ≡ true) × (b.value ≡ self.old.value)) }
+        ensures none { result ≡ None → self.old.full ≡ false }
+        ensures left { self.new.full ≡ false }
+    {
+        match std::mem::replace(self, CamlheapDomain::none(alloc)).into_loose() {
+            Some(loose) => Some(loose.into_box()),
+            None => None,
+        }
+    }
+}
+
+// It may go to another thread as its run may.
+unsafe impl Send for CamlheapDomain {}

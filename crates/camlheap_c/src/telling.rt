@@ -1,0 +1,112 @@
+//! What a domain tells, as C asks it.
+ghost use Rattle.std.specs.Prelude.{◌≡◌, ◌≢◌, ◌↔◌, true, false};
+ghost use Rattle.heap_model.specs.Commands.{shown};
+ghost use Rattle.heap_model.specs.Domains.{register as register_value};
+ghost use Rattle.heap_rule.specs.Rule.{state_of};
+ghost use Rattle.camlheap_c.specs.Exported.{Tells, TellsRan};
+ghost use Rattle.camlheap_c.specs.Forms.{reply_form};
+
+use crate::codes::{AGAIN, DONE, NO_DOMAIN, NO_MORE, NO_REGISTER, refusal_code};
+use crate::crossing::{CamlheapReply, reply_of};
+use crate::handle::CamlheapDomain;
+use std::alloc::Global;
+
+/// The reply to the command that was handed in last, once it is made, and else `AGAIN`.
+#[unsafe(no_mangle)]
+pub extern "C" fn camlheap_answer(
+    alloc: Global,
+    handle: &mut CamlheapDomain,
+    reply: &mut CamlheapReply,
+) -> u32
+    ensures kept { handle.new.full ≡ handle.old.full }
+    ensures none { (handle.old.full ≡ false) ↔ (result ≡ 16) }
+    ensures same { handle.old.full ≡ true → handle.new.value ≡ handle.old.value }
+    ensures tells { handle.old.full ≡ true → Tells handle.old.value reply.old reply.new result }
+{
+    let Some(run) = handle.take(alloc) else {
+        return NO_DOMAIN;
+    };
+    let answer = run.answer();
+    *handle = CamlheapDomain::of(run);
+    match answer {
+        Some(answer) => {
+            *reply = reply_of(answer);
+            DONE
+        }
+        None => AGAIN,
+    }
+}
+
+/// What a register holds, as a reply. `NO_REGISTER` where there is no such register.
+#[unsafe(no_mangle)]
+pub extern "C" fn camlheap_show(
+    alloc: Global,
+    handle: &mut CamlheapDomain,
+    register: u8,
+    reply: &mut CamlheapReply,
+) -> u32
+    ensures kept { handle.new.full ≡ handle.old.full }
+    ensures none { (handle.old.full ≡ false) ↔ (result ≡ 16) }
+    ensures shown { handle.old.full ≡ true → result ≡ 0 → reply.new ≡ reply_form (shown (register_value (state_of handle.old.value.heap.config handle.old.value.run.token.view.seen.front) handle.old.value.run.token.view.own.number register)) }
+    ensures heap { handle.old.full ≡ true → handle.new.value.heap ≡ handle.old.value.heap }
+{
+    let Some(mut run) = handle.take(alloc) else {
+        return NO_DOMAIN;
+    };
+    let shown = run.show(register);
+    *handle = CamlheapDomain::of(run);
+    match shown {
+        Some(answer) => {
+            *reply = reply_of(answer);
+            DONE
+        }
+        None => NO_REGISTER,
+    }
+}
+
+/// No command comes any more for a domain: its trace ends in later turns, behind the finalisers that wait. `DONE`, or why
+/// it can't be closed; then nothing has changed.
+#[unsafe(no_mangle)]
+pub extern "C" fn camlheap_close(alloc: Global, handle: &mut CamlheapDomain) -> u32
+    ensures kept { handle.new.full ≡ handle.old.full }
+    ensures none { (handle.old.full ≡ false) ↔ (result ≡ 16) }
+    ensures refused { handle.old.full ≡ true → result ≢ 0 → handle.new.value ≡ handle.old.value }
+{
+    let Some(mut run) = handle.take(alloc) else {
+        return NO_DOMAIN;
+    };
+    let closed = run.close();
+    *handle = CamlheapDomain::of(run);
+    match closed {
+        Ok(()) => DONE,
+        Err(refused) => refusal_code(refused),
+    }
+}
+
+/// The reply of one of the finalisers of a domain that have run since the last command was handed in, by its place among
+/// them, counted from 0. `NO_MORE` where no more have run.
+#[unsafe(no_mangle)]
+pub extern "C" fn camlheap_ran(
+    alloc: Global,
+    handle: &mut CamlheapDomain,
+    place: usize,
+    reply: &mut CamlheapReply,
+) -> u32
+    ensures kept { handle.new.full ≡ handle.old.full }
+    ensures none { (handle.old.full ≡ false) ↔ (result ≡ 16) }
+    ensures same { handle.old.full ≡ true → handle.new.value ≡ handle.old.value }
+    ensures tells { handle.old.full ≡ true → TellsRan handle.old.value place reply.old reply.new result }
+{
+    let Some(run) = handle.take(alloc) else {
+        return NO_DOMAIN;
+    };
+    let ran = run.ran().get(place).copied();
+    *handle = CamlheapDomain::of(run);
+    match ran {
+        Some(ran) => {
+            *reply = reply_of(ran);
+            DONE
+        }
+        None => NO_MORE,
+    }
+}

@@ -1,0 +1,30 @@
+-- Domains with a share of their heap, as their owners see them.
+use Rattle.std.specs.Prelude.{◌≡◌, ◌≢◌, ℕ, ◌-◌, ◌<◌, List, length, map}
+use Rattle.heap_model.specs.declared.command.Command.{Command}
+use Rattle.heap_rule.specs.Token.{SharedHeap}
+use Rattle.domain_turns.specs.declared.supply.Supply.TheVariants.{Open}
+use Rattle.domain_turns.specs.Runs.{RunView}
+use Rattle.open_runs.specs.Driving.{registered}
+use Rattle.open_runs.specs.Refusing.{IsRefused}
+use Rattle.shared_runs.specs.declared.shared.Refused.{Refused}
+use Rattle.shared_runs.specs.declared.shared.Refused.TheVariants.{Closed, Busy, Unfit}
+use Rattle.std.specs.Prelude.{Some}
+
+-- one of them: its heap, and its run
+pub record SharedView : Type 0 where
+  pub heap : SharedHeap
+  pub run : RunView
+
+-- those of a heap, with these runs
+abbrev pub shared_by : SharedHeap → List RunView → List SharedView
+shared_by h rs = map (λ (r : RunView). record { heap = h; run = r }) rs
+
+-- how many finalisers more fit
+abbrev pub finals_left : SharedView → ℕ
+finals_left s = s.heap.config.finals - registered s.run
+
+-- why it takes no command, or not this one: it was closed; the command before isn't done; or this is the first that the command lacks
+abbrev pub IsRefusedBy : SharedView → Command → Refused → Type 0
+IsRefusedBy s c Closed = s.run.supply ≢ Open
+IsRefusedBy s c Busy = (s.run.supply ≡ Open) × (s.run.next < length s.run.commands)
+IsRefusedBy s c (Unfit why) = (s.run.supply ≡ Open) × ((s.run.next ≡ length s.run.commands) × IsRefused s.run.token.view.own.ephemerons.room (finals_left s) (4294967295 - s.run.token.view.own.serial) c (Some why))

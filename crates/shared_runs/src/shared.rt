@@ -1,0 +1,183 @@
+//! A domain with a share of its heap.
+ghost use Rattle.std.specs.Prelude.{◌≡◌, ◌↔◌, ◌≤◌, ◌∷◌, true, false, [], None, Some, IfOk, IfErr, IfSome};
+ghost use Rattle.heap_model.specs.Commands.{shown};
+ghost use Rattle.heap_model.specs.Domains.{register as register_value};
+ghost use Rattle.heap_rule.specs.Limits.{sizes_in};
+ghost use Rattle.heap_rule.specs.Rule.{state_of};
+ghost use Rattle.heap_rule.specs.Token.{IsIn};
+ghost use Rattle.domain_turns.specs.Runs.{AreLastRan, GoesOn, HasLooked, IsLastReply, IsUnanswered, MaySubmit, Stretches, answer_of};
+ghost use Rattle.heap_model.specs.declared.command.Command as model;
+ghost use Rattle.heap_rule.specs.declared.view.DomainView.{DomainView};
+ghost use Rattle.open_runs.specs.Counting.{stats_of};
+ghost use Rattle.open_runs.specs.Driving.{AwaitAnswers, Awaits};
+ghost use Rattle.shared_runs.specs.Sharing.{IsRefusedBy};
+
+use domain_turns::{DomainRun, Supply, show};
+use heap_model::command::Command;
+use heap_model::reply::Reply;
+use heap_rule::Heap;
+use open_runs::{Came, Refusal, Stats, await_turn, counts, refuses, turn_below};
+use std::marker::Model;
+use std::sync::Arc;
+
+/// Why a command isn't taken. Nothing has changed then.
+#[derive(Clone, Copy, Debug, PartialEq, Eq)]
+pub enum Refused {
+    /// The trace is closed.
+    Closed,
+    /// The command before isn't done.
+    Busy,
+    /// The command lacks something.
+    Unfit(Refusal),
+}
+
+/// A domain that gets its commands handed in, with a share of its heap. It may move between threads. Contracts see the
+/// heap and the run.
+#[derive(Drop)]
+pub struct SharedRun {
+    heap: Arc<Heap>,
+    run: DomainRun,
+}
+
+impl Model for SharedRun {
+    ghost use Rattle.heap_rule.specs.Token.{IsIn};
+    ghost use Rattle.shared_runs.specs.Sharing.{SharedView};
+
+    ghost Value = { SharedView };
+
+    ghost view = { λ s. record { heap = s.heap.value; run = s.run } };
+
+    ghost invariant = { λ s. IsIn s.run.token s.heap.value };
+}
+
+impl SharedRun {
+    // A run with a share of its heap.
+    pub(crate) fn of(heap: Arc<Heap>, run: DomainRun) -> SharedRun
+        requires here { IsIn run.token heap.value }
+        ensures { result ≡ record { heap = heap.value; run = run } }
+    {
+        SharedRun { heap, run }
+    }
+
+    // Why no command is taken, or not this one.
+    fn refuses(&self, command: &Command) -> Option<Refused>
+        ensures none { result ≡ None → MaySubmit self.now.run command.now }
+        ensures why { IfSome result (IsRefusedBy self.now command.now) }
+    {
+        if self.run.supply() != Supply::Open {
+            return Some(Refused::Closed);
+        }
+        self.run.is_faithful();
+        if self.run.has_next() {
+            return Some(Refused::Busy);
+        }
+        let _config = self.heap.config();
+        let domain = self.run.domain();
+        let labels = u32::MAX - domain.labels_made();
+        let why = refuses(command, domain.ephes_room(), domain.finals_room(), labels)?;
+        Some(Refused::Unfit(why))
+    }
+
+    /// Hands in the next command. It is taken where the trace is open, the command before is done, and the command lacks
+    /// nothing: it fits the shared heap, and there are room for its ephemeron and its finaliser, and a label for its
+    /// block. Else nothing changes.
+    pub fn submit(&mut self, command: Command) -> Result<(), Refused>
+        ensures may { IfOk result (λ _. MaySubmit self.old.run command) }
+        ensures taken { IfOk result (λ _. self.new ≡ record self.old { run = record self.old.run { commands = command ∷ []; next = 0; replies = []; ran = []; asked = None; collected = false } }) }
+        ensures why { IfErr result (IsRefusedBy self.old command) }
+        ensures same { IfErr result (λ _. self.new ≡ self.old) }
+    {
+        if let Some(why) = self.refuses(&command) {
+            return Err(why);
+        }
+        self.run.submit(command);
+        Ok(())
+    }
+
+    /// One turn of the domain: what it may do next it does, and it says how far it came. A domain that has arrived 2^60
+    /// times isn't turned any more.
+    pub fn turn(&mut self) -> Came
+        ensures heap { self.new.heap ≡ self.old.heap }
+        ensures stretch { Stretches (sizes_in self.old.heap.config) self.old.run self.new.run }
+        ensures goes_on { GoesOn self.old.run self.new.run }
+        ensures ended { result ≡ Came.Ended → self.new.run.ended ≡ true }
+    {
+        turn_below(&self.heap, &mut self.run)
+    }
+
+    /// One turn of a domain that has a command to make. Answers how far it came, and the reply, once the command is made.
+    pub fn await_turn(&mut self) -> (Came, Option<Reply>)
+        ensures heap { self.new.heap ≡ self.old.heap }
+        ensures answers { (start : DomainView) (c : model.Command) → Awaits self.old.heap start c self.old.run → AwaitAnswers self.old.heap start c self.new.run result.1 }
+    {
+        await_turn(&self.heap, &mut self.run)
+    }
+
+    /// The reply to the command that was handed in last. None exactly where that isn't done yet or none was handed in.
+    pub fn answer(&self) -> Option<Reply>
+        ensures answer { result ≡ answer_of self.now.run }
+        ensures none { (result ≡ None) ↔ IsUnanswered self.now.run }
+        ensures of_history { IfSome result (IsLastReply self.now.run) }
+    {
+        self.run.answer()
+    }
+
+    /// The replies of the finalisers that have run since the last command was handed in, in order.
+    pub fn ran(&self) -> &[Reply]
+        ensures ran { result.now ≡ self.now.run.ran }
+    {
+        self.run.ran()
+    }
+
+    /// The reply that shows what a register holds. None exactly where there is no such register. No entry is made.
+    pub fn show(&mut self, r: u8) -> Option<Reply>
+        ensures none { (result ≡ None) ↔ (16 ≤ r) }
+        ensures heap { self.new.heap ≡ self.old.heap }
+        ensures looked { IfSome result (λ _. HasLooked self.old.run self.new.run) }
+        ensures reply { IfSome result (λ a. a ≡ shown (register_value (state_of self.old.heap.config self.old.run.token.view.seen.front) self.old.run.token.view.own.number r)) }
+        ensures same { result ≡ None → self.new ≡ self.old }
+    {
+        if r >= 16 {
+            return None;
+        }
+        Some(show(&self.heap, &mut self.run, r))
+    }
+
+    /// No command comes any more: the trace ends in a later turn, behind the finalisers that wait. Refused where the last
+    /// command that was handed in isn't done, or where the trace was closed before.
+    pub fn close(&mut self) -> Result<(), Refused>
+        ensures closed { IfOk result (λ _. self.new ≡ record self.old { run = record self.old.run { supply = Supply.Closed } }) }
+        ensures same { IfErr result (λ _. self.new ≡ self.old) }
+    {
+        if self.run.supply() != Supply::Open {
+            return Err(Refused::Closed);
+        }
+        self.run.is_faithful();
+        if self.run.has_next() {
+            return Err(Refused::Busy);
+        }
+        self.run.close();
+        Ok(())
+    }
+
+    /// Whether the domain's trace has ended.
+    pub fn has_ended(&self) -> bool
+        ensures { result ≡ self.now.run.ended }
+    {
+        self.run.has_ended()
+    }
+
+    /// What the domain counts.
+    pub fn stats(&self) -> Stats
+        ensures { result ≡ stats_of self.now.run.token.view.own }
+    {
+        counts(&self.run)
+    }
+
+    /// The domain's number.
+    pub fn number(&self) -> u32
+        ensures { result ≡ self.now.run.token.view.own.number }
+    {
+        self.run.domain().number()
+    }
+}

@@ -1,0 +1,168 @@
+/* camlheap.h: a heap with the rules of OCaml 5's, proved, for programs in C. Link libcamlheap.a.
+ *
+ * A heap has 1 to 8 domains, each with 16 registers, which are its roots: a block lives as long as something leads to it
+ * from a register, or from a finaliser that waits. A program keeps each domain in a handle of its own. Register 0 of each
+ * domain holds the shared block, which has 16 fields, and through its fields domains pass blocks to one another.
+ *
+ * A command is handed in (camlheap_submit), and turns of its domain make it (camlheap_turn, camlheap_run), or both in one
+ * call (camlheap_call). No call waits, locks or starts a thread. A pause of the collector needs all domains: one that has
+ * come to it answers CAMLHEAP_WAITING until the others come too, and the program chooses what to do meanwhile. So each
+ * domain has to be turned now and then, also while its program has no command for it, and after it was closed until
+ * CAMLHEAP_ENDED. camlheap_perform below does all that for one command.
+ *
+ * What the commands of a heap reply is what one legal history of an object graph replies that never collects or moves;
+ * the contracts of these calls say so (crates/camlheap_c). With valid addresses no call reaches what is undefined. Left to
+ * the program: addresses are valid, a handle isn't copied, and one thread at a time calls on a handle. */
+#ifndef CAMLHEAP_H
+#define CAMLHEAP_H
+#include <stdbool.h>
+#include <stddef.h>
+#include <stdint.h>
+#ifdef __cplusplus
+extern "C" {
+#endif
+
+#define CAMLHEAP_VERSION 1
+
+/* A domain, or none: memory of zeros is none. Only these calls look into it. */
+typedef struct { void *at; bool full; } camlheap_domain;
+
+/* How large a heap is: 1 domains (1 to 8), 2 words of each minor area (4096 to 65536 in steps of 4096), 3 pools of 4096
+ * words (D * (minor_words / 4096 + 9) + 9 * D + 1 to 2048 for D domains), 4 and 5 room for finalisers and ephemerons of
+ * each domain (at most 200000 each). */
+typedef struct { uint32_t domains, minor_words, pools, finals, ephes; } camlheap_config;
+
+/* A command: what it is, and the fields that the table below names. */
+typedef struct { uint8_t op, dst, a, b, tag; uint16_t n; uint32_t number; int64_t value; } camlheap_command;
+
+/* A reply: what it is, and the fields that belong to its kind; the others are 0. */
+typedef struct { uint32_t kind, domain, serial, number; int64_t value; uint64_t blocks, words; } camlheap_reply;
+
+/* What the calls answer. */
+enum {
+  CAMLHEAP_DONE = 0,          /* done; of camlheap_run and camlheap_call: the command is made, and the reply is there */
+  CAMLHEAP_AGAIN = 1,         /* the domain did something, and may go on */
+  CAMLHEAP_WAITING = 2,       /* other domains are missing in a pause: turn them, or let their threads do it */
+  CAMLHEAP_HUNGRY = 3,        /* it has no command to make */
+  CAMLHEAP_ENDED = 4,         /* the traces of all domains have ended */
+  CAMLHEAP_NO_DOMAIN = 16,    /* the handle holds none */
+  CAMLHEAP_CLOSED = 17,       /* the domain takes no command any more */
+  CAMLHEAP_BUSY = 18,         /* the command before isn't made yet */
+  CAMLHEAP_UNFIT = 19,        /* no such command, or a register or number outside its range */
+  CAMLHEAP_NO_EPHEMERON = 20, /* no room for the ephemeron */
+  CAMLHEAP_NO_FINALISER = 21, /* no room for the finaliser */
+  CAMLHEAP_NO_LABEL = 22,     /* the domain has made 4294967295 blocks */
+  CAMLHEAP_NO_REGISTER = 23,  /* no such register */
+  CAMLHEAP_MEMORY = 24,       /* memory ran out, and nothing was started */
+  CAMLHEAP_TOO_FEW_HANDLES = 25,
+  CAMLHEAP_NO_MORE = 26,      /* no more finalisers have run */
+  CAMLHEAP_OUTSIDE = 32       /* with 1 to 5 added: the first field of the configuration outside its range */
+};
+
+/* Commands, with the fields that they take. Registers are 0 to 15. */
+enum {
+  CAMLHEAP_PUT_INT,       /* dst = value, an integer of 63 bits               ok                                  */
+  CAMLHEAP_COPY,          /* dst = what a holds                               ok                                  */
+  CAMLHEAP_FORGET,        /* dst = nothing                                    ok                                  */
+  CAMLHEAP_ALLOC,         /* dst = a new young block, tag 0 to 245, n fields  block or full; n is 1 to 1022       */
+  CAMLHEAP_ALLOC_MAJOR,   /* the same in the major heap                       block or full                       */
+  CAMLHEAP_RAW,           /* dst = a raw block, tag 251 to 255, n integers    block or full                       */
+  CAMLHEAP_LOAD,          /* dst = field n of the block in a                  int, block, type or bounds          */
+  CAMLHEAP_STORE,         /* field n of the block in a = what b holds         ok, type or bounds                  */
+  CAMLHEAP_CAS,           /* the same where the field holds what dst holds    yes, no, type or bounds             */
+  CAMLHEAP_EPHE,          /* dst = a new ephemeron with n keys, 1 to 8        block or full                       */
+  CAMLHEAP_SET_KEY,       /* key n of the ephemeron in a = the block in b     ok, type or bounds                  */
+  CAMLHEAP_UNSET_KEY,     /* key n of the ephemeron in a = nothing            ok, type or bounds                  */
+  CAMLHEAP_GET_KEY,       /* dst = key n of the ephemeron in a                block, none, type or bounds         */
+  CAMLHEAP_CHECK_KEY,     /* whether key n of the ephemeron in a is full      yes, no, type or bounds             */
+  CAMLHEAP_SET_DATA,      /* the data of the ephemeron in a = what b holds    ok or type                          */
+  CAMLHEAP_UNSET_DATA,    /* the data of the ephemeron in a = nothing         ok or type                          */
+  CAMLHEAP_GET_DATA,      /* dst = the data of the ephemeron in a             int, block, none or type            */
+  CAMLHEAP_CHECK_DATA,    /* whether the data of the ephemeron in a are full  yes, no or type                     */
+  CAMLHEAP_POLL,          /* nothing, but a step of the collector's           ok                                  */
+  CAMLHEAP_MINOR,         /* a minor collection                               ok                                  */
+  CAMLHEAP_MAJOR,         /* begins or goes on with a major collection        ok                                  */
+  CAMLHEAP_FULL_MAJOR,    /* a complete collection                            live, with what is left             */
+  CAMLHEAP_FINALISE,      /* once nothing leads to the block in a, finaliser `number` runs, and dst holds the block again */
+  CAMLHEAP_FINALISE_LAST  /* once the block in a is gone for good, finaliser `number` runs    both: ok or type      */
+};
+
+/* Kinds of replies, with the fields that they have. */
+enum {
+  CAMLHEAP_OK,
+  CAMLHEAP_INT,        /* value */
+  CAMLHEAP_BLOCK,      /* domain, serial: the block's label, which no other block of the heap ever has */
+  CAMLHEAP_BAD_TYPE, CAMLHEAP_BAD_INDEX, CAMLHEAP_NONE, CAMLHEAP_YES, CAMLHEAP_NO,
+  CAMLHEAP_FULL,       /* no room after a complete collection; no block was made */
+  CAMLHEAP_LIVE,       /* blocks, words */
+  CAMLHEAP_FIN,        /* number; domain and serial of its block */
+  CAMLHEAP_LAST        /* number */
+};
+
+/* CAMLHEAP_VERSION of the archive. */
+uint32_t camlheap_version(void);
+
+/* Starts a heap, and puts each of its domains into a handle; there are `count`. All memory is taken here. Answers DONE,
+ * MEMORY, TOO_FEW_HANDLES or OUTSIDE + field, and fills handles only with DONE. */
+uint32_t camlheap_start(const camlheap_config *config, camlheap_domain *handles, size_t count);
+
+/* Hands in the next command: DONE, or why it isn't taken, and then nothing has changed. */
+uint32_t camlheap_submit(camlheap_domain *domain, const camlheap_command *command);
+
+/* One turn: AGAIN, WAITING, HUNGRY or ENDED. */
+uint32_t camlheap_turn(camlheap_domain *domain);
+
+/* At most so many turns: DONE and the reply once the command is made; AGAIN, WAITING, HUNGRY or ENDED else, and *reply is
+ * as it was. */
+uint32_t camlheap_run(camlheap_domain *domain, uint32_t turns, camlheap_reply *reply);
+
+/* camlheap_submit, and where it took the command camlheap_run. */
+uint32_t camlheap_call(camlheap_domain *domain, const camlheap_command *command, uint32_t turns, camlheap_reply *reply);
+
+/* The reply to the command handed in last: DONE, or AGAIN where it isn't made yet. */
+uint32_t camlheap_answer(camlheap_domain *domain, camlheap_reply *reply);
+
+/* The finaliser at this place, from 0, among those of the domain that have run since the last command was handed in: DONE
+ * and its reply, or NO_MORE. */
+uint32_t camlheap_ran(camlheap_domain *domain, size_t place, camlheap_reply *reply);
+
+/* What a register holds: DONE with INT, BLOCK or NONE, or NO_REGISTER. */
+uint32_t camlheap_show(camlheap_domain *domain, uint8_t reg, camlheap_reply *reply);
+
+/* No command comes any more: DONE, BUSY or CLOSED. The trace ends in later turns, behind the finalisers that wait. */
+uint32_t camlheap_close(camlheap_domain *domain);
+
+/* Frees the domain, and the heap with the last of them; the handle holds none then. Do it after ENDED: the others of the
+ * heap wait for ever for a domain that was freed before. */
+void camlheap_free(camlheap_domain *domain);
+
+/* What a thread does while it waits for others. */
+#ifndef CAMLHEAP_PAUSE
+#include <sched.h>
+#define CAMLHEAP_PAUSE() sched_yield()
+#endif
+
+/* Makes a command, and waits for its reply: DONE, or why it wasn't taken. Other threads have to turn the other domains. */
+static inline uint32_t camlheap_perform(camlheap_domain *domain, const camlheap_command *command, camlheap_reply *reply) {
+  uint32_t told = camlheap_call(domain, command, 64, reply);
+  while (told == CAMLHEAP_AGAIN || told == CAMLHEAP_WAITING) {
+    if (told == CAMLHEAP_WAITING) CAMLHEAP_PAUSE();
+    told = camlheap_run(domain, 64, reply);
+  }
+  return told;
+}
+
+/* Closes a domain, turns it until all have ended, and frees it: ENDED, or why it can't be closed. */
+static inline uint32_t camlheap_finish(camlheap_domain *domain) {
+  uint32_t told = camlheap_close(domain);
+  if (told != CAMLHEAP_DONE && told != CAMLHEAP_CLOSED) return told;
+  while ((told = camlheap_turn(domain)) != CAMLHEAP_ENDED && told < CAMLHEAP_NO_DOMAIN)
+    if (told != CAMLHEAP_AGAIN) CAMLHEAP_PAUSE();
+  if (told == CAMLHEAP_ENDED) camlheap_free(domain);
+  return told;
+}
+
+#ifdef __cplusplus
+}
+#endif
+#endif
