@@ -1,13 +1,12 @@
 -- Turns of a domain that has a command to make.
-use Rattle.std.proofs.Common.{◌≡◌, ◌∙◌, ℕ, Option, Some, None, sym, subst, refl}
+use Rattle.std.proofs.Common.{◌≡◌, ℕ, sym, subst, refl}
 use Rattle.heap_model.specs.declared.command.Command as model
 use Rattle.heap_model.specs.declared.reply.Reply.{Reply}
 use Rattle.heap_rule.specs.declared.view.DomainView.{DomainView}
 use Rattle.heap_rule.specs.Token.{SharedHeap}
-use Rattle.domain_turns.specs.Runs.{RunView}
 use Rattle.open_runs.specs.declared.turning.Came.{Came}
 use Rattle.open_runs.specs.declared.turning.Came.TheVariants as came
-use Rattle.open_runs.specs.Driving.{AwaitAnswers, Answered, Awaits}
+use Rattle.open_runs.specs.Driving.{Answered, Awaits}
 use Rattle.shared_runs.specs.Sharing.{SharedView}
 use Rattle.camlheap_c.specs.declared.crossing.CamlheapReply.{CamlheapReply}
 use Rattle.camlheap_c.specs.Exported.{GoesOn}

@@ -1,6 +1,7 @@
 //! Two threads on one heap. Each has a seat: the first makes a block with a finaliser, lets it go and asks for a complete
 //! collection, while the second makes blocks of its own. The program prints how many finalisers ran.
 #![tactic(auto)]
+
 ghost use Rattle.heap_seats.specs.Seating.{IsSeatOf};
 ghost use Rattle.std.specs.Prelude.{◌≡◌};
 

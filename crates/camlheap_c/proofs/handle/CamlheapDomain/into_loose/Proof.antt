@@ -1,5 +1,5 @@
 -- `into_loose` takes the loose box out of a handle, where there is one.
-use Rattle.std.proofs.Common.{◌≡◌, Bool, true, false, List, [], ◌∷◌, ◌++◌, refl, sym, ap, ◌∙◌, subst, lit<}
+use Rattle.std.proofs.Common.{◌≡◌, Bool, true, false, List, [], ◌∷◌, ◌++◌, refl, sym, ap, subst, lit<}
 use mathlib.Core.Bool.{not}
 use lib.Dec.{T}
 use mir.Val.{Val, vptr, vcons, vnil}
@@ -11,8 +11,8 @@ use Rattle.core.proofs.atomic.Steps.{Ptr-Good}
 use Rattle.std_alloc.specs.Box.Ownership.{box_owns}
 use base.Fml.{ftrue}
 use prog.Wp.{WpFn}
-use types.Kit.{‵, raw, ◌⊛◌, some, later, at_ret, ◌$◌, ◌∵◌, !, qed, by, move, keep, drop, split, join, fsplit, fjoin, suffices, use0, use1, await, rewrite, feq_i}
-use types.Run.{stop, fld, lit, true_lit, false_lit, of_opd, no_more, and_then, first, branches, exec, returns, enter}
+use types.Kit.{‵, raw, ◌⊛◌, at_ret, ◌$◌, ◌∵◌, !, qed, by, move, keep, split, fsplit, fjoin, suffices, use0, use1, rewrite}
+use types.Run.{stop, fld, lit, of_opd, no_more, and_then, first, branches, exec, returns, enter}
 use types.ByLocal.{alloc_all, pass_all, free_all, look_at, get, get_in, sets, sets_last, is, env}
 use types.Part.{agg, sub, whole}
 use types.Match.{live}
@@ -26,7 +26,6 @@ use denote.Steps.{nothing}
 use denote.Param.{layout}
 use denote.Triple.Walked.{Stays, stay_dropped, walk_of, Goes-dropped}
 use Rattle.core.specs.declared.option.Option.TheVariants.{None, Some}
-use Rattle.core.proofs.alloc.Calls.{Goes-blank, handle_tells}
 use Rattle.core.proofs.alloc.Shapes.{after}
 use Rattle.core.proofs.cell.Inside.{Good}
 use Rattle.core.proofs.option.Made.{Some-of, none_of}
@@ -37,7 +36,7 @@ use Rattle.std_alloc.proofs.ResultValues.{and_tt}
 use Rattle.std.proofs.raw_atomic.Walks.{proved_at, leaves}
 use Rattle.shared_runs.specs.contracts.shared.SharedRun.{the_row as run_row}
 use Rattle.camlheap_c.specs.contracts.handle.CamlheapDomain as handle
-use Rattle.camlheap_c.proofs.Values.{both, Loose, loose_good, loose_in, loose_out, al_heap, word, held, word_good, handle_in, handle_out}
+use Rattle.camlheap_c.proofs.Values.{both, Loose, loose_good, loose_in, word, held, word_good, handle_out}
 use Rattle.camlheap_c.specs.contracts.handle.CamlheapDomain.into_loose.{ended, clauses}
 use Rattle.camlheap_c.specs.contracts.handle.CamlheapDomain.into_loose.Key.{name as #self}
 use Rattle.camlheap_c.proofs.handle.CamlheapDomain.into_loose.Statement.{statement}

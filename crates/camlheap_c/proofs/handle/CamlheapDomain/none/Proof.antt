@@ -1,34 +1,23 @@
 -- `none` makes a handle that owns nothing.
-use Rattle.std.proofs.Common.{◌≡◌, Bool, true, false, List, [], ◌∷◌, ◌++◌, refl, sym, ap, ◌∙◌, subst, lit<}
-use mathlib.Core.Bool.{not}
-use lib.Dec.{T}
-use mir.Val.{Val, vptr, vcons, vnil}
+use Rattle.std.proofs.Common.{◌≡◌, false, List, [], ◌∷◌, ◌++◌, refl, sym, subst}
+use mir.Val.{Val}
 use base.Logic.{SProp, ent, emp, id⊢}
 use base.Fml.{ftrue}
 use prog.Wp.{WpFn}
-use types.Kit.{‵, raw, ◌⊛◌, some, later, at_ret, ◌$◌, ◌∵◌, !, qed, by, move, keep, drop, split, join, fsplit, fjoin, suffices, use0, use1, await, rewrite, feq_i}
-use types.Run.{stop, fld, lit, true_lit, false_lit, of_opd, no_more, and_then, first, branches, exec, returns, enter}
-use types.ByLocal.{alloc_all, pass_all, free_all, look_at, get, get_in, sets, sets_last, env}
-use types.Part.{agg, sub, whole}
-use types.Match.{live}
+use types.Kit.{‵, raw, ◌⊛◌, ◌$◌, ◌∵◌, !, qed, by, move, keep, split, fsplit, fjoin, suffices, use0}
+use types.Run.{lit, false_lit, no_more, and_then, returns, enter}
+use types.ByLocal.{alloc_all, pass_all, free_all, look_at, get, sets}
+use types.Part.{agg}
 use contract.Monad.{fact, fact_i}
 use contract.Running.{tables}
-use denote.Exit.{yes, no}
+use denote.Exit.{yes}
 use denote.RattleType.{RattleType, owns}
-use denote.Signature.{types_at, type_at, plain}
-use denote.RawPtr.{Ptr, block_ptr, null_ptr, ptr_val}
+use denote.Signature.{types_at, plain}
+use denote.RawPtr.{null_ptr, ptr_val}
 use denote.Steps.{nothing}
-use denote.Param.{layout}
 use denote.Triple.Walked.{Stays, stay_dropped, walk_of, Goes-dropped}
-use Rattle.core.specs.declared.option.Option.TheVariants.{None, Some}
-use Rattle.core.proofs.alloc.Calls.{Goes-blank, handle_tells}
-use Rattle.core.proofs.alloc.Shapes.{after}
-use Rattle.core.proofs.cell.Inside.{Good}
-use Rattle.core.proofs.option.Made.{Some-of, none_of}
+use Rattle.core.proofs.alloc.Calls.{handle_tells}
 use Rattle.std.specs.contracts.alloc.Global as heap
-use Rattle.std.proofs.alloc.Global.TheLaws as heap_laws
-use Rattle.std.specs.contracts.impls.GlobalAllocator.TheImpl.{ghosts}
-use Rattle.std_alloc.proofs.ResultValues.{and_tt}
 use Rattle.std.proofs.raw_atomic.Walks.{proved_at, leaves}
 use Rattle.atomic_table.specs.Seated.{TableId}
 use Rattle.heap_rule.specs.declared.config.Config.{Config}
@@ -38,8 +27,7 @@ use Rattle.domain_turns.specs.declared.supply.Supply.TheVariants.{Open}
 use Rattle.domain_turns.specs.Runs.{unturned}
 use Rattle.shared_runs.specs.Sharing.{SharedView}
 use Rattle.shared_runs.specs.contracts.shared.SharedRun.{the_row as run_row}
-use Rattle.camlheap_c.specs.contracts.handle.CamlheapDomain as handle
-use Rattle.camlheap_c.proofs.Values.{both, Loose, loose_good, loose_in, loose_out, al_heap, word, held, word_good, handle_in, handle_out}
+use Rattle.camlheap_c.proofs.Values.{al_heap, word, word_good, handle_in}
 use Rattle.camlheap_c.specs.contracts.handle.CamlheapDomain.none.{ended, clauses}
 use Rattle.camlheap_c.specs.contracts.handle.CamlheapDomain.none.Key.{name as #self}
 use Rattle.camlheap_c.proofs.handle.CamlheapDomain.none.Statement.{statement}
