@@ -314,12 +314,12 @@ later_named mid new same grows k is =
     ap (λ (v : SeatView). names (finalised (sizes_in v.heap.config) v.front v.number) k) same ∙ names_on (sizes_in mid.seat.heap.config) mid.seat.number mid.seat.front new.seat.front k grows is
 
 -- a seat that made no command has given out no label
-pub along_later : (a b : SeatView) → b ≡ record a { front = b.front; room = b.room; finals = b.finals; ran = b.ran } → IsLater a b
-along_later a b same = same ∙ (λ i. record a { front = b.front; labels = ap (λ (v : SeatView). v.labels) (sym same) i; room = b.room; finals = b.finals; ran = b.ran })
+pub along_later : (a b : SeatView) → b ≡ record a { front = b.front; room = b.room; finals = b.finals; stats = b.stats; ran = b.ran } → IsLater a b
+along_later a b same = same ∙ (λ i. record a { front = b.front; labels = ap (λ (v : SeatView). v.labels) (sym same) i; room = b.room; finals = b.finals; stats = b.stats; ran = b.ran })
 
 -- one call after the other
 pub later_both : (a b c : SeatView) → IsLater a b → IsLater b c → IsLater a c
-later_both a b c ab bc = bc ∙ ap (λ (v : SeatView). record v { front = c.front; labels = c.labels; room = c.room; finals = c.finals; ran = c.ran }) ab
+later_both a b c ab bc = bc ∙ ap (λ (v : SeatView). record v { front = c.front; labels = c.labels; room = c.room; finals = c.finals; stats = c.stats; ran = c.ran }) ab
 
 pub settles_both : (old mid new : HandlesView) → IsLater mid.seat new.seat → Settles old mid → Settles mid new → Settles old new
 settles_both old mid new same a b = record {

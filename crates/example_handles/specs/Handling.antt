@@ -43,7 +43,7 @@ pub record HandlesView : Type 0 where
 
 -- the same seat, further on
 abbrev pub IsLater : SeatView → SeatView → Type 0
-IsLater old new = new ≡ record old { front = new.front; labels = new.labels; room = new.room; finals = new.finals; ran = new.ran }
+IsLater old new = new ≡ record old { front = new.front; labels = new.labels; room = new.room; finals = new.finals; stats = new.stats; ran = new.ran }
 
 -- all are of seats of this heap
 abbrev pub AllHandlesOf : SeatsView → List HandlesView → Type 0
