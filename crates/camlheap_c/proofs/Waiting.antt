@@ -1,5 +1,5 @@
 -- Turns of a domain that has a command to make.
-use Rattle.std.proofs.Common.{◌≡◌, ℕ, sym, subst, refl}
+use Rattle.std.proofs.Common.{◌≡◌, ◌<◌, ◌≤◌, ℕ, sym, subst, refl, arith}
 use Rattle.heap_model.specs.declared.command.Command as model
 use Rattle.heap_model.specs.declared.reply.Reply.{Reply}
 use Rattle.heap_rule.specs.declared.view.DomainView.{DomainView}
@@ -10,7 +10,10 @@ use Rattle.open_runs.specs.Driving.{Answered, Awaits}
 use Rattle.shared_runs.specs.Sharing.{SharedView}
 use Rattle.camlheap_c.specs.declared.crossing.CamlheapReply.{CamlheapReply}
 use Rattle.camlheap_c.specs.Exported.{GoesOn}
-use Rattle.camlheap_c.specs.Forms.{came_form, reply_form}
+use Rattle.camlheap_c.specs.Forms.{came_form, refused_form, reply_form}
+use Rattle.shared_runs.specs.declared.shared.Refused.{Refused}
+use Rattle.shared_runs.specs.declared.shared.Refused.TheVariants.{Closed, Busy, Unfit}
+use Rattle.open_runs.specs.declared.refusing.Refusal.TheVariants as lacks
 
 -- a turn's answer isn't that of a command that is made
 pub not_done : (x : Came) → came_form x ≡ 0 → ⊥
@@ -18,6 +21,22 @@ not_done came.On is = cc
 not_done came.Nowhere is = cc
 not_done came.Done is = cc
 not_done came.Ended is = cc
+
+-- why a command isn't taken is told by a number from 17 on
+pub refused_above : (x : Refused) → 17 ≤ refused_form x
+refused_above Closed = omega arith
+refused_above Busy = omega arith
+refused_above (Unfit lacks.Shape) = omega arith
+refused_above (Unfit lacks.NoEphemeron) = omega arith
+refused_above (Unfit lacks.NoFinaliser) = omega arith
+refused_above (Unfit lacks.NoLabel) = omega arith
+
+-- and how far a turn came by one below 5
+pub came_below : (x : Came) → came_form x < 5
+came_below came.On = omega arith
+came_below came.Nowhere = omega arith
+came_below came.Done = omega arith
+came_below came.Ended = omega arith
 
 module _ (start : DomainView) (c : model.Command) (old new : SharedView) (before : CamlheapReply) where
   -- the command is made

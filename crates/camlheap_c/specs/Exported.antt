@@ -30,6 +30,13 @@ pub record GoesOn (start : DomainView) (c : model.Command) (old new : SharedView
   pub waits : told ≢ 0 → Awaits new.heap start c new.run
   pub unread : told ≢ 0 → read ≡ before
 
+-- the command that C's stands for was taken, and by what the call answers it is made or waits still
+pub record Calls (old new : SharedView) (c : CamlheapCommand) (before read : CamlheapReply) (told : ℕ) : Type 0 where
+  pub command : model.Command
+  pub stands_for : command_as c ≡ Some command
+  pub may : MaySubmit old.run command
+  pub goes_on : GoesOn old.run.token.view command old new before read told
+
 -- the answer of the command that was handed in last, or none yet
 pub record Tells (s : SharedView) (before read : CamlheapReply) (told : ℕ) : Type 0 where
   pub answer : told ≡ 0 → (r : Reply) × ((answer_of s.run ≡ Some r) × (read ≡ reply_form r))

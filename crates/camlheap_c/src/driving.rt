@@ -1,11 +1,11 @@
 //! Commands and turns, as C calls them.
-ghost use Rattle.std.specs.Prelude.{◌≡◌, ◌≢◌, ◌↔◌, true, false, None, Some};
+ghost use Rattle.std.specs.Prelude.{◌≡◌, ◌≢◌, ◌↔◌, ◌<◌, ◌≤◌, true, false, None, Some};
 ghost use Rattle.heap_model.specs.declared.command.Command as model;
 ghost use Rattle.heap_rule.specs.Limits.{sizes_in};
 ghost use Rattle.heap_rule.specs.declared.view.DomainView.{DomainView};
 ghost use Rattle.domain_turns.specs.Runs.{Stretches};
 ghost use Rattle.open_runs.specs.Driving.{Awaits};
-ghost use Rattle.camlheap_c.specs.Exported.{GoesOn, Submits};
+ghost use Rattle.camlheap_c.specs.Exported.{Calls, GoesOn, Submits};
 
 use crate::codes::{AGAIN, DONE, NO_DOMAIN, UNFIT, refusal_code, turn_code};
 use crate::crossing::{CamlheapCommand, CamlheapReply, command_of, reply_of};
@@ -68,7 +68,7 @@ pub extern "C" fn camlheap_turn(alloc: Global, handle: &mut CamlheapDomain) -> u
 // Turns of a domain until its command is made, or it can't go on by itself.
 fn turns_of(run: &mut SharedRun, turns: u32, reply: &mut CamlheapReply) -> u32
     ensures goes_on { (start : DomainView) (c : model.Command) → Awaits run.old.heap start c run.old.run → GoesOn start c run.old run.new reply.old reply.new result }
-    ensures told { result ≢ 16 }
+    ensures told { result < 5 }
 {
     'turns: for _ in 0..turns {
         let (came, answer) = run.await_turn();
@@ -105,7 +105,33 @@ pub extern "C" fn camlheap_run(
     told
 }
 
-/// [`camlheap_submit`], and where it took the command [`camlheap_run`].
+// Makes a command at once, where that can be, and else hands it in and takes turns.
+fn call_on(
+    run: &mut SharedRun,
+    command: &CamlheapCommand,
+    turns: u32,
+    reply: &mut CamlheapReply,
+) -> u32
+    ensures called { result < 17 → Calls run.old run.new command.now reply.old reply.new result }
+    ensures refused { 17 ≤ result → (run.new ≡ run.old) × (reply.new ≡ reply.old) }
+    ensures told { result ≢ 16 }
+{
+    let Some(command) = command_of(command) else {
+        return UNFIT;
+    };
+    match run.begin(command) {
+        Ok(Some(answer)) => {
+            *reply = reply_of(answer);
+            DONE
+        }
+        Ok(None) => turns_of(run, turns, reply),
+        Err(refused) => refusal_code(refused),
+    }
+}
+
+/// Makes a command of a domain: what [`camlheap_submit`] and then [`camlheap_run`] do, and at once where no pause is wanted
+/// and none must come first. `DONE` and the reply where it is made; why it isn't taken, and then nothing has changed; and
+/// else what the last turn answered: then it is handed in, and [`camlheap_run`] goes on.
 #[unsafe(no_mangle)]
 pub extern "C" fn camlheap_call(
     alloc: Global,
@@ -116,10 +142,13 @@ pub extern "C" fn camlheap_call(
 ) -> u32
     ensures kept { handle.new.full ≡ handle.old.full }
     ensures none { (handle.old.full ≡ false) ↔ (result ≡ 16) }
+    ensures called { handle.old.full ≡ true → result < 17 → Calls handle.old.value handle.new.value command.now reply.old reply.new result }
+    ensures refused { handle.old.full ≡ true → 17 ≤ result → (handle.new.value ≡ handle.old.value) × (reply.new ≡ reply.old) }
 {
-    let told = camlheap_submit(alloc, handle, command);
-    if told != DONE {
-        return told;
-    }
-    camlheap_run(alloc, handle, turns, reply)
+    let Some(mut run) = handle.take(alloc) else {
+        return NO_DOMAIN;
+    };
+    let told = call_on(&mut run, command, turns, reply);
+    *handle = CamlheapDomain::of(run);
+    told
 }

@@ -16,7 +16,7 @@ use domain_turns::{DomainRun, Supply, show};
 use heap_model::command::Command;
 use heap_model::reply::Reply;
 use heap_rule::Heap;
-use open_runs::{Came, Refusal, Stats, await_turn, counts, refuses, turn_below};
+use open_runs::{Came, Refusal, Stats, await_turn, begin, counts, refuses, turn_below};
 use std::marker::Model;
 use std::sync::Arc;
 
@@ -92,6 +92,21 @@ impl SharedRun {
         }
         self.run.submit(command);
         Ok(())
+    }
+
+    /// Makes the next command at once, where that can be, and answers the reply; else hands it in. It is taken where
+    /// [`submit`](SharedRun::submit) takes it, and else nothing changes.
+    pub fn begin(&mut self, command: Command) -> Result<Option<Reply>, Refused>
+        ensures heap { self.new.heap ≡ self.old.heap }
+        ensures may { IfOk result (λ _. MaySubmit self.old.run command) }
+        ensures answers { IfOk result (AwaitAnswers self.old.heap self.old.run.token.view command self.new.run) }
+        ensures why { IfErr result (IsRefusedBy self.old command) }
+        ensures same { IfErr result (λ _. self.new ≡ self.old) }
+    {
+        if let Some(why) = self.refuses(&command) {
+            return Err(why);
+        }
+        Ok(begin(&self.heap, &mut self.run, command))
     }
 
     /// One turn of the domain: what it may do next it does, and it says how far it came. A domain that has arrived 2^60

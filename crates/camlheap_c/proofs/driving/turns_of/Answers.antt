@@ -1,10 +1,10 @@
-use Rattle.std.proofs.Common.{◌≡◌, ◌∙◌, Option, Some, None, sym, subst, arith}
+use Rattle.std.proofs.Common.{◌≡◌, ◌<◌, ◌∙◌, ℕ, Option, Some, None, sym, subst, arith}
 use Rattle.heap_model.specs.declared.reply.Reply.{Reply}
 use Rattle.heap_rule.specs.Token.{SharedHeap}
 use Rattle.open_runs.specs.Driving.{AwaitAnswers, Awaits}
 use Rattle.camlheap_c.specs.declared.crossing.CamlheapReply.{CamlheapReply}
 use Rattle.camlheap_c.specs.Exported.{GoesOn}
-use Rattle.camlheap_c.proofs.Waiting.{made, not_done, not_made}
+use Rattle.camlheap_c.proofs.Waiting.{came_below, made, not_done, not_made}
 use Rattle.camlheap_c.proofs.driving.turns_of.Goals as goal
 
 pub returns-in-Some-clause-goes_on : goal.returns-in-Some-clause-goes_on
@@ -44,3 +44,6 @@ returns-clause-goes_on c start command waits =
     let other : 1 ≡ 0 → ⊥ = λ is. omega (arith, is) in
     subst (λ (r : CamlheapReply). GoesOn start command c.args.run.now c.turns.run c.args.reply.now r 1) (sym c.turns.invariant.unread)
     (not_made start command c.args.run.now c.turns.run c.args.reply.now 1 other c.turns.invariant.heap (subst (λ (h : SharedHeap). Awaits h start command c.turns.run.run) c.turns.invariant.heap here))
+
+pub returns-then-told-ne-AGAIN-clause-told : goal.returns-then-told-ne-AGAIN-clause-told
+returns-then-told-ne-AGAIN-clause-told c = subst (λ (n : ℕ). n < 5) (sym c.turn_code-told.ensures) (came_below c.await_turn-came.result.0)

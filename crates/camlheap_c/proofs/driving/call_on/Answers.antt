@@ -1,0 +1,22 @@
+use Rattle.std.proofs.Common.{◌∙◌, Option, sym, subst, arith}
+use Rattle.heap_model.specs.declared.reply.Reply.{Reply}
+use Rattle.heap_rule.specs.Token.{SharedHeap}
+use Rattle.open_runs.specs.Driving.{AwaitAnswers, Awaits}
+use Rattle.camlheap_c.proofs.driving.call_on.Goals as goal
+
+pub returns-in-Ok-None-clause-called : goal.returns-in-Ok-None-clause-called
+returns-in-Ok-None-clause-called c below =
+    let start = c.args.run.now.run.token.view in
+    let command = c.in-Some.command in
+    let e = c.in-Ok-None.ensures in
+    let waits : Awaits c.args.run.now.heap start command c.begin.new.self.run = subst (λ (o : Option Reply). AwaitAnswers c.args.run.now.heap start command c.begin.new.self.run o) c.in-Ok-None.field-0-is e.answers in
+    let went = c.turns_of.ensures.goes_on start command (subst (λ (h : SharedHeap). Awaits h start command c.begin.new.self.run) (sym e.heap) waits) in
+    record {
+      command = command;
+      stands_for = sym c.command_of.ensures ∙ c.in-Some.is;
+      may = e.may;
+      goes_on = record { heap = went.heap ∙ e.heap; made = went.made; waits = went.waits; unread = went.unread };
+    }
+
+pub returns-in-Ok-None-clause-refused : goal.returns-in-Ok-None-clause-refused
+returns-in-Ok-None-clause-refused c above = let few = c.turns_of.ensures.told in absurd (omega (arith, above, few))
