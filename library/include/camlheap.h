@@ -116,7 +116,7 @@ uint32_t camlheap_turn(camlheap_domain *domain);
  * as it was. */
 uint32_t camlheap_run(camlheap_domain *domain, uint32_t turns, camlheap_reply *reply);
 
-/* camlheap_submit, and where it took the command camlheap_run. */
+/* camlheap_submit, and where it took the command camlheap_run; at once where no pause is wanted and none must come first. */
 uint32_t camlheap_call(camlheap_domain *domain, const camlheap_command *command, uint32_t turns, camlheap_reply *reply);
 
 /* The reply to the command handed in last: DONE, or AGAIN where it isn't made yet. */
