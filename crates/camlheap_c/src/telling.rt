@@ -1,8 +1,9 @@
 //! What a domain tells, as C asks it.
-ghost use Rattle.std.specs.Prelude.{◌≡◌, ◌≢◌, ◌↔◌, true, false};
+ghost use Rattle.std.specs.Prelude.{◌≡◌, ◌≢◌, ◌↔◌, ◌<◌, ◌≤◌, true, false};
 ghost use Rattle.heap_model.specs.Commands.{shown};
 ghost use Rattle.heap_model.specs.Domains.{register as register_value};
 ghost use Rattle.heap_rule.specs.Rule.{state_of};
+ghost use Rattle.domain_turns.specs.declared.supply.Supply.TheVariants.{Closed};
 ghost use Rattle.camlheap_c.specs.Exported.{Tells, TellsRan};
 ghost use Rattle.camlheap_c.specs.Forms.{reply_form};
 
@@ -48,6 +49,8 @@ pub extern "C" fn camlheap_show(
     ensures kept { handle.new.full ≡ handle.old.full }
     ensures none { (handle.old.full ≡ false) ↔ (result ≡ 16) }
     ensures shown { handle.old.full ≡ true → result ≡ 0 → reply.new ≡ reply_form (shown (register_value (state_of handle.old.value.heap.config handle.old.value.run.token.view.seen.front) handle.old.value.run.token.view.own.number register)) }
+    ensures missing { handle.old.full ≡ true → (result ≡ 23) ↔ (16 ≤ register) }
+    ensures told { handle.old.full ≡ true → (result ≡ 0) ↔ (register < 16) }
     ensures heap { handle.old.full ≡ true → handle.new.value.heap ≡ handle.old.value.heap }
 {
     let Some(mut run) = handle.take(alloc) else {
@@ -70,6 +73,7 @@ pub extern "C" fn camlheap_show(
 pub extern "C" fn camlheap_close(alloc: Global, handle: &mut CamlheapDomain) -> u32
     ensures kept { handle.new.full ≡ handle.old.full }
     ensures none { (handle.old.full ≡ false) ↔ (result ≡ 16) }
+    ensures closed { handle.old.full ≡ true → result ≡ 0 → handle.new.value ≡ record handle.old.value { run = record handle.old.value.run { supply = Closed } } }
     ensures refused { handle.old.full ≡ true → result ≢ 0 → handle.new.value ≡ handle.old.value }
 {
     let Some(mut run) = handle.take(alloc) else {
