@@ -38,6 +38,15 @@ typedef struct { uint8_t op, dst, a, b, tag; uint16_t n; uint32_t number; int64_
 /* A reply: what it is, and the fields that belong to its kind; the others are 0. */
 typedef struct { uint32_t kind, domain, serial, number; int64_t value; uint64_t blocks, words; } camlheap_reply;
 
+/* What a domain counts: labels that it has given out, words of its minor area that its young blocks take, fields that it
+ * remembers, ephemerons, registrations of both kinds that don't wait yet, finalisers that wait, and how often it has arrived
+ * at the barrier. */
+typedef struct {
+  uint32_t labels, young_words;
+  size_t remembered, ephemerons, finals, lasts, waiting;
+  uint64_t arrivals;
+} camlheap_counts;
+
 /* What the calls answer. */
 enum {
   CAMLHEAP_DONE = 0,          /* done; of camlheap_run and camlheap_call: the command is made, and the reply is there */
@@ -128,6 +137,9 @@ uint32_t camlheap_ran(camlheap_domain *domain, size_t place, camlheap_reply *rep
 
 /* What a register holds: DONE with INT, BLOCK or NONE, or NO_REGISTER. */
 uint32_t camlheap_show(camlheap_domain *domain, uint8_t reg, camlheap_reply *reply);
+
+/* What the domain counts: DONE. It costs no look at the heap. */
+uint32_t camlheap_stats(camlheap_domain *domain, camlheap_counts *counts);
 
 /* No command comes any more: DONE, BUSY or CLOSED. The trace ends in later turns, behind the finalisers that wait. */
 uint32_t camlheap_close(camlheap_domain *domain);

@@ -1,14 +1,20 @@
 -- What the exports leave in a handle that holds a domain.
-use Rattle.std.specs.Prelude.{slice_get, ◌≡◌, ◌≢◌, ℕ, false, Some, None, [], ◌∷◌}
+use Rattle.std.specs.Prelude.{slice_get, ◌≡◌, ◌≢◌, ℕ, ◌≤◌, List, length, true, false, Option, Some, None, [], ◌∷◌}
 use Rattle.heap_model.specs.declared.command.Command as model
 use Rattle.heap_model.specs.declared.reply.Reply.{Reply}
+use Rattle.heap_rule.specs.declared.config.Config.{Config}
 use Rattle.heap_rule.specs.declared.view.DomainView.{DomainView}
+use Rattle.heap_rule.specs.Token.{SharedHeap}
 use Rattle.domain_turns.specs.Runs.{IsUnanswered, MaySubmit, answer_of}
 use Rattle.open_runs.specs.Driving.{Answered, Awaits}
-use Rattle.shared_runs.specs.Sharing.{SharedView}
+use Rattle.open_runs.specs.Opening.{opened_runs}
+use Rattle.shared_runs.specs.declared.shared.Refused.{Refused}
+use Rattle.shared_runs.specs.Sharing.{SharedView, IsRefusedBy, IsUnclosedBy, shared_by}
 use Rattle.camlheap_c.specs.declared.crossing.CamlheapCommand.{CamlheapCommand}
+use Rattle.camlheap_c.specs.declared.crossing.CamlheapConfig.{CamlheapConfig}
 use Rattle.camlheap_c.specs.declared.crossing.CamlheapReply.{CamlheapReply}
-use Rattle.camlheap_c.specs.Forms.{command_as, reply_form}
+use Rattle.camlheap_c.specs.declared.handle.CamlheapDomain.{CamlheapDomain}
+use Rattle.camlheap_c.specs.Forms.{command_as, refused_form, reply_form}
 
 -- the command that C's stands for was handed in: the domain might take it, and has it to make
 pub record Submits (old new : SharedView) (c : CamlheapCommand) : Type 0 where
@@ -46,3 +52,34 @@ pub record Tells (s : SharedView) (before read : CamlheapReply) (told : ℕ) : T
 pub record TellsRan (s : SharedView) (place : ℕ) (before read : CamlheapReply) (told : ℕ) : Type 0 where
   pub reply : told ≡ 0 → (r : Reply) × ((slice_get s.run.ran place ≡ Some r) × (read ≡ reply_form r))
   pub none : told ≢ 0 → (slice_get s.run.ran place ≡ None) × (read ≡ before)
+
+-- the numbers of a heap, as C has them
+abbrev pub config_of : CamlheapConfig → Config
+config_of c = record { domains = c.domains; minor_words = c.minor_words; pools = c.pools; finals = c.finals; ephes = c.ephes }
+
+-- the handle holds this domain
+abbrev pub IsHandleOf : SharedView → CamlheapDomain → Type 0
+IsHandleOf s d = (d.full ≡ true) × (d.value ≡ s)
+
+-- the first handles hold these domains, in order, and the others are as they were
+pub record Fills (views : List SharedView) (old new : List CamlheapDomain) : Type 0 where
+  pub count : length new ≡ length old
+  pub held : (i : ℕ) (s : SharedView) → slice_get views i ≡ Some s → (d : CamlheapDomain) × ((slice_get new i ≡ Some d) × IsHandleOf s d)
+  pub others : (i : ℕ) → length views ≤ i → slice_get new i ≡ slice_get old i
+
+-- a heap of this size was started, and the first handles hold its domains, in order, before the first command of each
+pub record Starts (c : CamlheapConfig) (old new : List CamlheapDomain) : Type 0 where
+  pub heap : SharedHeap
+  pub size : heap.config ≡ config_of c
+  pub fills : Fills (shared_by heap (opened_runs heap)) old new
+
+-- why a command of C's isn't taken, as a number: it stands for none, or this is why the domain doesn't take the one that it stands for
+abbrev pub RefusesAs : SharedView → Option model.Command → ℕ → Type 0
+RefusesAs s None told = told ≡ 19
+RefusesAs s (Some command) told = (why : Refused) × ((told ≡ refused_form why) × IsRefusedBy s command why)
+
+-- why a domain can't be closed, as a number
+pub record RefusesClose (s : SharedView) (told : ℕ) : Type 0 where
+  pub why : Refused
+  pub told_is : told ≡ refused_form why
+  pub unclosed : IsUnclosedBy s why

@@ -4,6 +4,7 @@ use Rattle.heap_model.specs.declared.command.Command.{Command}
 use Rattle.heap_model.specs.declared.command.Command.TheVariants as op
 use Rattle.heap_model.specs.declared.reply.Reply.{Reply}
 use Rattle.heap_model.specs.declared.reply.Reply.TheVariants.{Done, Int, Block, BadType, BadIndex, Empty, Yes, No, Full, Live, Fin, Last}
+use Rattle.open_runs.specs.declared.counting.Stats.{Stats}
 use Rattle.open_runs.specs.declared.turning.Came.{Came}
 use Rattle.open_runs.specs.declared.turning.Came.TheVariants as came
 use Rattle.open_runs.specs.declared.refusing.Refusal.TheVariants as lacks
@@ -11,6 +12,7 @@ use Rattle.shared_runs.specs.declared.shared.Refused.{Refused}
 use Rattle.shared_runs.specs.declared.shared.Refused.TheVariants.{Closed, Busy, Unfit}
 use Rattle.camlheap_c.specs.declared.crossing.CamlheapCommand.{CamlheapCommand}
 use Rattle.camlheap_c.specs.declared.crossing.CamlheapReply.{CamlheapReply}
+use Rattle.camlheap_c.specs.declared.crossing.CamlheapStats.{CamlheapStats}
 
 -- the command that these numbers stand for: the operation says which of them count
 abbrev pub command_as : CamlheapCommand → Option Command
@@ -75,3 +77,7 @@ refused_form (Unfit lacks.Shape) = 19
 refused_form (Unfit lacks.NoEphemeron) = 20
 refused_form (Unfit lacks.NoFinaliser) = 21
 refused_form (Unfit lacks.NoLabel) = 22
+
+-- what a domain counts, as C reads it
+abbrev pub stats_form : Stats → CamlheapStats
+stats_form s = record { labels = s.labels; young_words = s.young_words; remembered = s.remembered; ephemerons = s.ephemerons; finals = s.finals; lasts = s.lasts; waiting = s.waiting; arrivals = s.arrivals }

@@ -1,5 +1,5 @@
 //! What the calls answer, as numbers. `library/include/camlheap.h` has them too.
-ghost use Rattle.std.specs.Prelude.{◌≡◌};
+ghost use Rattle.std.specs.Prelude.{◌≡◌, ◌+◌, ◌<◌};
 ghost use Rattle.camlheap_c.specs.Forms.{came_form, refused_form};
 
 use open_runs::{Came, Refusal};
@@ -39,6 +39,14 @@ pub(crate) const NO_MORE: u32 = 26;
 
 // With the number of the field of the configuration that is outside its limit added.
 pub(crate) const OUTSIDE: u32 = 32;
+
+// The first field of the configuration outside its limit.
+pub(crate) fn outside_code(field: u32) -> u32
+    requires { field < 6 }
+    ensures { result ≡ 32 + field }
+{
+    OUTSIDE + field
+}
 
 // Why a command isn't taken.
 pub(crate) fn refusal_code(refused: Refused) -> u32

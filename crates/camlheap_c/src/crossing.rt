@@ -1,10 +1,11 @@
 //! Commands and replies as C has them.
 ghost use Rattle.std.specs.Prelude.{◌≡◌, pos};
-ghost use Rattle.camlheap_c.specs.Forms.{command_as, plain as plain_form, reply_form};
+ghost use Rattle.camlheap_c.specs.Forms.{command_as, plain as plain_form, reply_form, stats_form};
 
 use heap_model::command::Command;
 use heap_model::label::Label;
 use heap_model::reply::Reply;
+use open_runs::Stats;
 
 /// How large a heap is.
 #[repr(C)]
@@ -46,6 +47,48 @@ pub struct CamlheapReply {
     /// How many blocks live, and with how many words.
     pub blocks: u64,
     pub words: u64,
+}
+
+/// What a domain counts: labels that it has given out, words of its minor area that its young blocks take, fields that it
+/// remembers, ephemerons, registrations of both kinds that don't wait yet, finalisers that wait, and how often it has
+/// arrived at the barrier.
+#[repr(C)]
+#[derive(Clone, Copy)]
+pub struct CamlheapStats {
+    pub labels: u32,
+    pub young_words: u32,
+    pub remembered: usize,
+    pub ephemerons: usize,
+    pub finals: usize,
+    pub lasts: usize,
+    pub waiting: usize,
+    pub arrivals: u64,
+}
+
+// What C reads of these counts.
+pub(crate) fn stats_as_c(stats: Stats) -> CamlheapStats
+    ensures { result ≡ stats_form stats }
+{
+    let Stats {
+        labels,
+        young_words,
+        remembered,
+        ephemerons,
+        finals,
+        lasts,
+        waiting,
+        arrivals,
+    } = stats;
+    CamlheapStats {
+        labels,
+        young_words,
+        remembered,
+        ephemerons,
+        finals,
+        lasts,
+        waiting,
+        arrivals,
+    }
 }
 
 // The command that C's stands for.

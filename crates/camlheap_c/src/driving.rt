@@ -5,7 +5,8 @@ ghost use Rattle.heap_rule.specs.Limits.{sizes_in};
 ghost use Rattle.heap_rule.specs.declared.view.DomainView.{DomainView};
 ghost use Rattle.domain_turns.specs.Runs.{Stretches};
 ghost use Rattle.open_runs.specs.Driving.{Awaits};
-ghost use Rattle.camlheap_c.specs.Exported.{Calls, GoesOn, Submits};
+ghost use Rattle.camlheap_c.specs.Exported.{Calls, GoesOn, RefusesAs, Submits};
+ghost use Rattle.camlheap_c.specs.Forms.{command_as};
 
 use crate::codes::{AGAIN, DONE, NO_DOMAIN, UNFIT, refusal_code, turn_code};
 use crate::crossing::{CamlheapCommand, CamlheapReply, command_of, reply_of};
@@ -16,6 +17,7 @@ use std::alloc::Global;
 // Hands in a command.
 fn submit_to(run: &mut SharedRun, command: &CamlheapCommand) -> u32
     ensures taken { result ≡ 0 → Submits run.old run.new command.now }
+    ensures why { result ≢ 0 → RefusesAs run.old (command_as command.now) result }
     ensures refused { result ≢ 0 → run.new ≡ run.old }
     ensures told { result ≢ 16 }
 {
@@ -38,6 +40,7 @@ pub extern "C" fn camlheap_submit(
     ensures kept { handle.new.full ≡ handle.old.full }
     ensures none { (handle.old.full ≡ false) ↔ (result ≡ 16) }
     ensures taken { handle.old.full ≡ true → result ≡ 0 → Submits handle.old.value handle.new.value command.now }
+    ensures why { handle.old.full ≡ true → result ≢ 0 → RefusesAs handle.old.value (command_as command.now) result }
     ensures refused { handle.old.full ≡ true → result ≢ 0 → handle.new.value ≡ handle.old.value }
 {
     let Some(mut run) = handle.take(alloc) else {
@@ -113,6 +116,7 @@ fn call_on(
     reply: &mut CamlheapReply,
 ) -> u32
     ensures called { result < 17 → Calls run.old run.new command.now reply.old reply.new result }
+    ensures why { 17 ≤ result → RefusesAs run.old (command_as command.now) result }
     ensures refused { 17 ≤ result → (run.new ≡ run.old) × (reply.new ≡ reply.old) }
     ensures told { result ≢ 16 }
 {
@@ -143,6 +147,7 @@ pub extern "C" fn camlheap_call(
     ensures kept { handle.new.full ≡ handle.old.full }
     ensures none { (handle.old.full ≡ false) ↔ (result ≡ 16) }
     ensures called { handle.old.full ≡ true → result < 17 → Calls handle.old.value handle.new.value command.now reply.old reply.new result }
+    ensures why { handle.old.full ≡ true → 17 ≤ result → RefusesAs handle.old.value (command_as command.now) result }
     ensures refused { handle.old.full ≡ true → 17 ≤ result → (handle.new.value ≡ handle.old.value) × (reply.new ≡ reply.old) }
 {
     let Some(mut run) = handle.take(alloc) else {

@@ -1,7 +1,9 @@
 //! The start and the end of a heap, as C calls them.
-ghost use Rattle.std.specs.Prelude.{◌≡◌, ◌≢◌, IfOk, false, true, length};
+ghost use Rattle.std.specs.Prelude.{◌≡◌, ◌≢◌, ◌↔◌, ◌+◌, ◌<◌, ◌≤◌, ℕ, IfOk, Some, false, true, length, map};
+ghost use Rattle.heap_rule.specs.Limits.{first_outside};
+ghost use Rattle.camlheap_c.specs.Exported.{Fills, Starts, config_of};
 
-use crate::codes::{DONE, MEMORY, OUTSIDE, TOO_FEW_HANDLES};
+use crate::codes::{DONE, MEMORY, TOO_FEW_HANDLES, outside_code};
 use crate::crossing::CamlheapConfig;
 use crate::handle::CamlheapDomain;
 use heap_rule::{Config, StartFault};
@@ -18,7 +20,7 @@ pub extern "C" fn camlheap_version() -> u32
 
 // Each of these runs in a box of its own.
 fn boxed(alloc: Global, runs: Vec<SharedRun>) -> Result<Vec<Box<SharedRun>>, AllocError>
-    ensures { IfOk result (λ v. length v.items ≡ length runs.items) }
+    ensures { IfOk result (λ v. map (λ b. b.value) v.items ≡ runs.items) }
 {
     let mut boxes = Vec::new(alloc);
     'runs: for run in runs {
@@ -27,14 +29,15 @@ fn boxed(alloc: Global, runs: Vec<SharedRun>) -> Result<Vec<Box<SharedRun>>, All
     Ok(boxes)
 }
 
-// Puts each of these into a handle, as far as there are handles.
-fn hand_out(boxes: Vec<Box<SharedRun>>, handles: &mut [CamlheapDomain]) {
-    let mut left = boxes;
-    'handles: for handle in handles.iter_mut() {
-        if left.is_empty() {
-            return;
-        }
-        *handle = CamlheapDomain::of(left.remove(0));
+// Puts each of these into a handle. What the handle held before is freed.
+fn hand_out(boxes: Vec<Box<SharedRun>>, handles: &mut [CamlheapDomain])
+    requires room { length boxes.items ≤ length handles.old }
+    ensures { Fills (map (λ b. b.value) boxes.items) handles.old handles.new }
+{
+    let mut at = 0;
+    'boxes: for run in boxes {
+        handles[at] = CamlheapDomain::of(run);
+        at += 1;
     }
 }
 
@@ -46,7 +49,13 @@ pub extern "C" fn camlheap_start(
     alloc: Global,
     config: &CamlheapConfig,
     handles: &mut [CamlheapDomain],
-) -> u32 {
+) -> u32
+    ensures few { (result ≡ 25) ↔ (length handles.old < config.now.domains) }
+    ensures outside { (k : ℕ) → config.now.domains ≤ length handles.old → (result ≡ 32 + k) ↔ (first_outside (config_of config.now) ≡ Some k) }
+    ensures started { result ≡ 0 → Starts config.now handles.old handles.new }
+    ensures same { result ≢ 0 → handles.new ≡ handles.old }
+    ensures told { (result ≢ 0) → (result ≢ 24) → (result ≢ 25) → 32 < result }
+{
     if handles.len() < config.domains as usize {
         return TOO_FEW_HANDLES;
     }
@@ -59,7 +68,7 @@ pub extern "C" fn camlheap_start(
     };
     let runs = match make_all(alloc, sizes) {
         Ok(runs) => runs,
-        Err(StartFault::Config(field)) => return OUTSIDE.saturating_add(field),
+        Err(StartFault::Config(field)) => return outside_code(field),
         Err(StartFault::Memory) => return MEMORY,
     };
     let Ok(boxes) = boxed(alloc, runs) else {

@@ -4,11 +4,13 @@ ghost use Rattle.heap_model.specs.Commands.{shown};
 ghost use Rattle.heap_model.specs.Domains.{register as register_value};
 ghost use Rattle.heap_rule.specs.Rule.{state_of};
 ghost use Rattle.domain_turns.specs.declared.supply.Supply.TheVariants.{Closed};
-ghost use Rattle.camlheap_c.specs.Exported.{Tells, TellsRan};
-ghost use Rattle.camlheap_c.specs.Forms.{reply_form};
+ghost use Rattle.shared_runs.specs.Sharing.{MayClose};
+ghost use Rattle.open_runs.specs.Counting.{stats_of};
+ghost use Rattle.camlheap_c.specs.Exported.{RefusesClose, Tells, TellsRan};
+ghost use Rattle.camlheap_c.specs.Forms.{reply_form, stats_form};
 
 use crate::codes::{AGAIN, DONE, NO_DOMAIN, NO_MORE, NO_REGISTER, refusal_code};
-use crate::crossing::{CamlheapReply, reply_of};
+use crate::crossing::{CamlheapReply, CamlheapStats, reply_of, stats_as_c};
 use crate::handle::CamlheapDomain;
 use std::alloc::Global;
 
@@ -74,6 +76,8 @@ pub extern "C" fn camlheap_close(alloc: Global, handle: &mut CamlheapDomain) -> 
     ensures kept { handle.new.full ≡ handle.old.full }
     ensures none { (handle.old.full ≡ false) ↔ (result ≡ 16) }
     ensures closed { handle.old.full ≡ true → result ≡ 0 → handle.new.value ≡ record handle.old.value { run = record handle.old.value.run { supply = Closed } } }
+    ensures may { handle.old.full ≡ true → result ≡ 0 → MayClose handle.old.value }
+    ensures why { handle.old.full ≡ true → result ≢ 0 → RefusesClose handle.old.value result }
     ensures refused { handle.old.full ≡ true → result ≢ 0 → handle.new.value ≡ handle.old.value }
 {
     let Some(mut run) = handle.take(alloc) else {
@@ -113,4 +117,26 @@ pub extern "C" fn camlheap_ran(
         }
         None => NO_MORE,
     }
+}
+
+/// What a domain counts. It costs no look at the heap.
+#[unsafe(no_mangle)]
+pub extern "C" fn camlheap_stats(
+    alloc: Global,
+    handle: &mut CamlheapDomain,
+    stats: &mut CamlheapStats,
+) -> u32
+    ensures kept { handle.new.full ≡ handle.old.full }
+    ensures none { (handle.old.full ≡ false) ↔ (result ≡ 16) }
+    ensures told { (result ≡ 0) ↔ (handle.old.full ≡ true) }
+    ensures same { handle.old.full ≡ true → handle.new.value ≡ handle.old.value }
+    ensures stats { handle.old.full ≡ true → stats.new ≡ stats_form (stats_of handle.old.value.run.token.view.own) }
+    ensures unread { handle.old.full ≡ false → stats.new ≡ stats.old }
+{
+    let Some(run) = handle.take(alloc) else {
+        return NO_DOMAIN;
+    };
+    *stats = stats_as_c(run.stats());
+    *handle = CamlheapDomain::of(run);
+    DONE
 }

@@ -72,9 +72,9 @@ fn keep_ran(supply: Supply, replies: &mut Vec<Reply>, ran: &mut Vec<Reply>, repl
 }
 
 // Runs the finaliser that has waited longest in the domain's queue, and keeps its reply. Answers whether
-// one waited.
-#[inline(always)]
-fn runs_finaliser(heap: &Heap, run: &mut DomainRun) -> bool
+// one waited. It is a call of its own, so that a turn which runs none pays for none.
+#[inline(never)]
+fn run_waiting(heap: &Heap, run: &mut DomainRun) -> bool
     requires here { IsIn run.old.token heap.now }
     requires running { run.old.ended ≡ false }
     requires left { run.old.left ≡ None }
@@ -89,6 +89,20 @@ fn runs_finaliser(heap: &Heap, run: &mut DomainRun) -> bool
     keep_ran(run.supply, &mut run.replies, &mut run.ran, ran.reply());
     run.due = run.domain.queued();
     true
+}
+
+// Runs a finaliser, if one waits.
+#[inline(always)]
+fn runs_finaliser(heap: &Heap, run: &mut DomainRun) -> bool
+    requires here { IsIn run.old.token heap.now }
+    requires running { run.old.ended ≡ false }
+    requires left { run.old.left ≡ None }
+    ensures here { IsIn run.new.token heap.now }
+    ensures ran { result ≡ true → RunsFinaliser heap.now run.old.token run.old run.new }
+    ensures same { result ≡ false → run.new ≡ run.old }
+    ensures unqueued { result ≡ false → IsUnqueued run.old.token }
+{
+    run.domain.queued() != 0 && run_waiting(heap, run)
 }
 
 // Tries the next command of a run, and keeps its reply. Else answers which pause must come first.

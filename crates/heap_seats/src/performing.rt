@@ -1,10 +1,8 @@
 //! The turns by which a command is made.
 ghost use Rattle.std.specs.Prelude.{◌≡◌};
-ghost use Rattle.heap_model.specs.declared.command.Command as model;
-ghost use Rattle.heap_rule.specs.declared.view.DomainView.{DomainView};
 ghost use Rattle.heap_rule.specs.Token.{IsIn};
 ghost use Rattle.domain_turns.specs.Runs.{MaySubmit};
-ghost use Rattle.open_runs.specs.Driving.{Awaits, Answered};
+ghost use Rattle.open_runs.specs.Driving.{Answered};
 ghost use Rattle.heap_seats.specs.Idling.{IsIdleIn, KeepsHeap, StaysIdle};
 
 use crate::idle::{Idle, attend};
@@ -13,7 +11,7 @@ use domain_turns::DomainRun;
 use heap_model::command::Command;
 use heap_model::reply::Reply;
 use heap_rule::Heap;
-use open_runs::{Came, await_turn, begin};
+use open_runs::{Came, Meanwhile, await_reply, begin};
 use rest_pool::{Keeper, Pool};
 use std::sync::Wait;
 use thread_drive::Waiter;
@@ -41,60 +39,59 @@ fn help_any<R: Wait>(
     false
 }
 
-// What a seat does behind a turn: where that came on, it tells the others. Else it takes domains along that rest, and
+// What a seat does between two turns: where one came on, it tells the others. Else it takes domains along that rest, and
 // waits where none of them comes on either.
-pub(crate) fn go_along<R: Wait>(
-    rt: &R,
-    heap: &Heap,
-    pool: &Pool<Heap, Idle>,
-    events: &EventCount,
-    keeper: &mut Keeper<Idle>,
-    waiter: &mut Waiter<'_>,
-    announced: Option<Key<'_>>,
-    came: Came,
-)
-    requires pool { keeper.old.pool ≡ pool.now }
-    requires keeps { KeepsHeap heap.now keeper.old.rests }
-    ensures same { keeper.new ≡ keeper.old }
-{
-    if came == Came::On || help_any(rt, heap, pool, keeper) {
-        events.notify_all();
-        waiter.went_on();
-    } else {
-        waiter.wait(rt, announced);
+#[derive(Drop)]
+struct Along<'a> {
+    pool: &'a Pool<Heap, Idle>,
+    events: &'a EventCount,
+    waiter: Waiter<'a>,
+    // A sleep that was announced before the last turn.
+    announced: Option<Key<'a>>,
+}
+
+impl<'a> Along<'a> {
+    // One that hasn't waited so far.
+    fn new(pool: &'a Pool<Heap, Idle>, events: &'a EventCount) -> Along<'a>
+        ensures { result.pool ≡ pool }
+    {
+        Along {
+            pool,
+            events,
+            waiter: Waiter::new(events),
+            announced: None,
+        }
     }
 }
 
-// Turns a run that has a command to make until it is made, and answers the reply.
-#[inline(never)]
-fn await_answer<R: Wait>(
-    rt: &R,
-    heap: &Heap,
-    pool: &Pool<Heap, Idle>,
-    events: &EventCount,
-    run: &mut DomainRun,
-    keeper: &mut Keeper<Idle>,
-) -> Reply
-    requires here { IsIn run.old.token heap.now }
-    requires pool { keeper.old.pool ≡ pool.now }
-    requires keeps { KeepsHeap heap.now keeper.old.rests }
-    ensures here { IsIn run.new.token heap.now }
-    ensures same { keeper.new ≡ keeper.old }
-    ensures answered { (start : DomainView) (c : model.Command) → Awaits heap.now start c run.old → Answered heap.now start c result run.new }
-{
-    let mut waiter = Waiter::new(events);
-    'turns: for _ in rt.forever() {
-        let announced = waiter.announced();
-        let (came, reply) = await_turn(heap, run);
-        if let Some(reply) = reply {
-            if !run.running() {
-                events.notify_all();
-            }
-            return reply;
-        }
-        go_along(rt, heap, pool, events, keeper, &mut waiter, announced, came);
+impl<'a> Meanwhile<Keeper<Idle>> for Along<'a> {
+    ghost fits = { λ h s k. (k.pool ≡ s.pool.now) × KeepsHeap h k.rests };
+
+    fn before_turn(&mut self) {
+        self.announced = self.waiter.announced();
     }
-    unreachable!()
+
+    fn behind_turn<R: Wait>(
+        &mut self,
+        rt: &R,
+        heap: &Heap,
+        kept: &mut Keeper<Idle>,
+        came: Came,
+    ) {
+        let announced = self.announced.take();
+        if came == Came::On || help_any(rt, heap, self.pool, kept) {
+            self.events.notify_all();
+            self.waiter.went_on();
+        } else {
+            self.waiter.wait(rt, announced);
+        }
+    }
+
+    fn behind_last(&mut self, run: &DomainRun) {
+        if !run.running() {
+            self.events.notify_all();
+        }
+    }
 }
 
 // Makes the next command of a run, and answers the reply.
@@ -119,7 +116,7 @@ pub(crate) fn perform_on<R: Wait>(
     if let Some(reply) = begin(heap, run, command) {
         return reply;
     }
-    await_answer(rt, heap, pool, events, run, keeper)
+    await_reply(rt, heap, run, &mut Along::new(pool, events), keeper)
 }
 
 // Turns a run that has no command to make until no pause is wanted and none goes on.
@@ -138,14 +135,14 @@ pub(crate) fn attend_calls<R: Wait>(
     ensures stays { StaysIdle run.old run.new }
     ensures same { keeper.new ≡ keeper.old }
 {
-    let mut waiter = Waiter::new(events);
+    let mut along = Along::new(pool, events);
     'turns: for _ in rt.forever() {
-        let announced = waiter.announced();
+        along.before_turn();
         let came = attend(heap, run);
         if came == Came::Done {
             return;
         }
-        go_along(rt, heap, pool, events, keeper, &mut waiter, announced, came);
+        along.behind_turn(rt, heap, keeper, came);
     }
     unreachable!()
 }

@@ -1,5 +1,5 @@
 -- Domains with a share of their heap, as their owners see them.
-use Rattle.std.specs.Prelude.{◌≡◌, ◌≢◌, ℕ, ◌-◌, ◌<◌, List, length, map}
+use Rattle.std.specs.Prelude.{◌≡◌, ◌≢◌, ℕ, ◌-◌, ◌<◌, List, length, map, Some}
 use Rattle.heap_model.specs.declared.command.Command.{Command}
 use Rattle.heap_rule.specs.Token.{SharedHeap}
 use Rattle.domain_turns.specs.declared.supply.Supply.TheVariants.{Open}
@@ -8,7 +8,6 @@ use Rattle.open_runs.specs.Driving.{registered}
 use Rattle.open_runs.specs.Refusing.{IsRefused}
 use Rattle.shared_runs.specs.declared.shared.Refused.{Refused}
 use Rattle.shared_runs.specs.declared.shared.Refused.TheVariants.{Closed, Busy, Unfit}
-use Rattle.std.specs.Prelude.{Some}
 
 -- one of them: its heap, and its run
 pub record SharedView : Type 0 where
@@ -28,3 +27,14 @@ abbrev pub IsRefusedBy : SharedView → Command → Refused → Type 0
 IsRefusedBy s c Closed = s.run.supply ≢ Open
 IsRefusedBy s c Busy = (s.run.supply ≡ Open) × (s.run.next < length s.run.commands)
 IsRefusedBy s c (Unfit why) = (s.run.supply ≡ Open) × ((s.run.next ≡ length s.run.commands) × IsRefused s.run.token.view.own.ephemerons.room (finals_left s) (4294967295 - s.run.token.view.own.serial) c (Some why))
+
+-- it can be closed: its trace is open, and the last command is done
+pub record MayClose (s : SharedView) : Type 0 where
+  pub open : s.run.supply ≡ Open
+  pub done : s.run.next ≡ length s.run.commands
+
+-- why it can't: it was closed before, or the last command isn't done. Nothing else is a reason
+abbrev pub IsUnclosedBy : SharedView → Refused → Type 0
+IsUnclosedBy s Closed = s.run.supply ≢ Open
+IsUnclosedBy s Busy = (s.run.supply ≡ Open) × (s.run.next < length s.run.commands)
+IsUnclosedBy s (Unfit why) = ⊥

@@ -10,7 +10,7 @@ ghost use Rattle.heap_model.specs.declared.command.Command as model;
 ghost use Rattle.heap_rule.specs.declared.view.DomainView.{DomainView};
 ghost use Rattle.open_runs.specs.Counting.{stats_of};
 ghost use Rattle.open_runs.specs.Driving.{AwaitAnswers, Awaits};
-ghost use Rattle.shared_runs.specs.Sharing.{IsRefusedBy};
+ghost use Rattle.shared_runs.specs.Sharing.{IsRefusedBy, IsUnclosedBy, MayClose};
 
 use domain_turns::{DomainRun, Supply, show};
 use heap_model::command::Command;
@@ -161,7 +161,9 @@ impl SharedRun {
     /// No command comes any more: the trace ends in a later turn, behind the finalisers that wait. Refused where the last
     /// command that was handed in isn't done, or where the trace was closed before.
     pub fn close(&mut self) -> Result<(), Refused>
+        ensures may { IfOk result (λ _. MayClose self.old) }
         ensures closed { IfOk result (λ _. self.new ≡ record self.old { run = record self.old.run { supply = Supply.Closed } }) }
+        ensures why { IfErr result (IsUnclosedBy self.old) }
         ensures same { IfErr result (λ _. self.new ≡ self.old) }
     {
         if self.run.supply() != Supply::Open {

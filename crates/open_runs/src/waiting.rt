@@ -1,0 +1,41 @@
+//! The loop by which a command is made that isn't made at once.
+ghost use Rattle.std.specs.Prelude.{◌≡◌};
+ghost use Rattle.heap_model.specs.declared.command.Command as model;
+ghost use Rattle.heap_rule.specs.declared.view.DomainView.{DomainView};
+ghost use Rattle.heap_rule.specs.Token.{IsIn};
+ghost use Rattle.open_runs.specs.Driving.{Answered, Awaits};
+
+use crate::awaiting::await_turn;
+use crate::meanwhile::Meanwhile;
+use domain_turns::DomainRun;
+use heap_model::reply::Reply;
+use heap_rule::Heap;
+use std::sync::Wait;
+
+/// Turns a run that has a command to make until it is made, and answers the reply. Between two turns something else is
+/// done, with what is kept for it.
+#[inline(never)]
+pub fn await_reply<R: Wait, K, M: Meanwhile<K>>(
+    rt: &R,
+    heap: &Heap,
+    run: &mut DomainRun,
+    meanwhile: &mut M,
+    kept: &mut K,
+) -> Reply
+    requires here { IsIn run.old.token heap.now }
+    requires fits { M.fits heap.now meanwhile.old kept.old }
+    ensures here { IsIn run.new.token heap.now }
+    ensures same { kept.new ≡ kept.old }
+    ensures answered { (start : DomainView) (c : model.Command) → Awaits heap.now start c run.old → Answered heap.now start c result run.new }
+{
+    'turns: for _ in rt.forever() {
+        meanwhile.before_turn();
+        let (came, reply) = await_turn(heap, run);
+        if let Some(reply) = reply {
+            meanwhile.behind_last(run);
+            return reply;
+        }
+        meanwhile.behind_turn(rt, heap, kept, came);
+    }
+    unreachable!()
+}

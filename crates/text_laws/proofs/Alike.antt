@@ -1,0 +1,182 @@
+-- Two states of the machine that look alike from their registers.
+use Rattle.std.proofs.Common.{◌≡◌, ◌≢◌, ◌⊎◌, inl, inr, ⊎_elim, ℕ, zero, suc, ◌-◌, ◌<◌, ◌≤◌, Bool, true, false, cond, List, [], ◌∷◌, length, length-set, get_or, get_or-set_same, get_or-set_other, slice_set, slice_get, Option, Some, None, refl, ap, sym, ◌∙◌, subst, arith}
+use Rattle.heap_model.specs.declared.label.Label.{Label}
+use Rattle.heap_model.specs.declared.graph.Value.{Value}
+use Rattle.heap_model.specs.Graph.{same_label}
+use Rattle.heap_model.proofs.Graphs.GraphLemmas.{same_label-true, same_label_refl}
+use Rattle.table_laws.specs.Structures.{Binding, datum_at, without}
+use Rattle.table_laws.specs.Thinning.{EmptiedBy, ThinnedBy}
+use Rattle.table_laws.proofs.BindingLemmas.{thinned_datum}
+use Rattle.table_machine.specs.Machine.{Binds, Holds, IsLost, IsNew, MayGo, TableState, with_key}
+
+-- the key in a place
+abbrev pub in_place : List (Option Label) → ℕ → Option Label
+in_place ps i = get_or ps i None
+
+-- the first state's registers, data and slots are those of the second, seen from a register
+pub record Leans (s t : TableState) : Type 0 where
+  pub registers : length s.registers ≡ length t.registers
+  pub places : length s.slots ≡ length t.slots
+  pub hold : (i : ℕ) (k : Label) → in_place s.registers i ≡ Some k → (m : Label) × (in_place t.registers i ≡ Some m)
+  pub once : (i j : ℕ) (k m n : Label) → in_place s.registers i ≡ Some k → in_place t.registers i ≡ Some m → in_place s.registers j ≡ Some k → in_place t.registers j ≡ Some n → m ≡ n
+  pub datum : (i : ℕ) (k m : Label) → in_place s.registers i ≡ Some k → in_place t.registers i ≡ Some m → datum_at s.bindings k ≡ datum_at t.bindings m
+  pub slots : (i j : ℕ) (k m : Label) → in_place s.registers i ≡ Some k → in_place t.registers i ≡ Some m → in_place s.slots j ≡ Some k → in_place t.slots j ≡ Some m
+
+abbrev pub Alike : TableState → TableState → Type 0
+Alike s t = Leans s t × Leans t s
+
+-- Places.
+pub some_is : (k m : Label) → Some k ≡ Some m → k ≡ m
+some_is k m e = let f : Option Label → Label = λ o. (case_or o k) in ap f e
+  where
+    case_or : Option Label → Label → Label
+    case_or None d = d
+    case_or (Some x) d = x
+
+not_none : {A : Type 0} (a b : Option A) → a ≡ None → b ≡ a → (x : A) → b ≡ Some x → ⊥
+not_none a b none is x some = let clash : Some x ≡ None = sym some ∙ (is ∙ none) in cc
+
+pub got : (ps : List (Option Label)) (i : ℕ) (o : Option Label) → slice_get ps i ≡ Some o → in_place ps i ≡ o
+got [] zero o e = cc
+got [] (suc i) o e = cc
+got (p ∷ ps) zero o e = let same : p ≡ o = cc in same
+got (p ∷ ps) (suc i) o e = got ps i o e
+
+pub gets : (ps : List (Option Label)) (i : ℕ) (k : Label) → in_place ps i ≡ Some k → slice_get ps i ≡ Some (Some k)
+gets [] zero k e = cc
+gets [] (suc i) k e = cc
+gets (p ∷ ps) zero k e = ap Some e
+gets (p ∷ ps) (suc i) k e = gets ps i k e
+
+-- a place of two lists of one length is set in both or in none
+pub set_two : (xs ys : List (Option Label)) (q i : ℕ) (o p : Option Label) → length xs ≡ length ys
+    → ((in_place (slice_set xs q o) i ≡ o) × (in_place (slice_set ys q p) i ≡ p)) ⊎ ((in_place (slice_set xs q o) i ≡ in_place xs i) × (in_place (slice_set ys q p) i ≡ in_place ys i))
+set_two [] [] q i o p same = inr (refl, refl)
+set_two [] (b ∷ ys) q i o p same = cc
+set_two (a ∷ xs) [] q i o p same = cc
+set_two (a ∷ xs) (b ∷ ys) zero zero o p same = inl (refl, refl)
+set_two (a ∷ xs) (b ∷ ys) zero (suc i) o p same = inr (refl, refl)
+set_two (a ∷ xs) (b ∷ ys) (suc q) zero o p same = inr (refl, refl)
+set_two (a ∷ xs) (b ∷ ys) (suc q) (suc i) o p same = set_two xs ys q i o p (let e : suc (length xs) ≡ suc (length ys) = same in omega (arith, e))
+
+-- A register holds the key, or none does.
+pub held_or_lost : (ps : List (Option Label)) (k : Label) → ((i : ℕ) × (in_place ps i ≡ Some k)) ⊎ (Holds ps k → ⊥)
+held_or_lost [] k = inr (λ h. none h.0 h.1)
+  where
+    none : (i : ℕ) → slice_get [] i ≡ Some (Some k) → ⊥
+    none zero e = cc
+    none (suc i) e = cc
+held_or_lost (p ∷ ps) k = first p refl (held_or_lost ps k)
+  where
+    later : (p ≡ Some k → ⊥) → (Holds ps k → ⊥) → (i : ℕ) → slice_get (p ∷ ps) i ≡ Some (Some k) → ⊥
+    later other lost zero e = other (let same : p ≡ Some k = cc in same)
+    later other lost (suc i) e = lost (i, e)
+    rest : (p ≡ Some k → ⊥) → ((i : ℕ) × (in_place ps i ≡ Some k)) ⊎ (Holds ps k → ⊥) → ((i : ℕ) × (in_place (p ∷ ps) i ≡ Some k)) ⊎ (Holds (p ∷ ps) k → ⊥)
+    rest other (inl (i, at)) = inl (suc i, at)
+    rest other (inr lost) = inr (λ h. later other lost h.0 h.1)
+    tested : (x : Label) → p ≡ Some x → (c : Bool) → same_label x k ≡ c → ((i : ℕ) × (in_place ps i ≡ Some k)) ⊎ (Holds ps k → ⊥) → ((i : ℕ) × (in_place (p ∷ ps) i ≡ Some k)) ⊎ (Holds (p ∷ ps) k → ⊥)
+    tested x is true same below = inl (0, is ∙ ap Some (same_label-true x k same))
+    tested x is false other below = rest (λ e. (let equal : x ≡ k = some_is x k (sym is ∙ e) in let clash : true ≡ false = sym (same_label_refl k) ∙ (ap (λ (y : Label). same_label y k) (sym equal) ∙ other) in cc)) below
+    first : (o : Option Label) → p ≡ o → ((i : ℕ) × (in_place ps i ≡ Some k)) ⊎ (Holds ps k → ⊥) → ((i : ℕ) × (in_place (p ∷ ps) i ≡ Some k)) ⊎ (Holds (p ∷ ps) k → ⊥)
+    first None is below = rest (λ e. let clash : None ≡ Some k = sym is ∙ e in cc) below
+    first (Some x) is below = tested x is (same_label x k) refl below
+
+-- Slots that were emptied.
+pub emptied_was : (P : Label → Type 0) (a b : List (Option Label)) (j : ℕ) (k : Label) → EmptiedBy P a b → in_place b j ≡ Some k → in_place a j ≡ Some k
+emptied_was P [] b j k e at = absurd (none j (sym (ap (λ (ks : List (Option Label)). in_place ks j) e) ∙ at))
+  where
+    none : (j : ℕ) → in_place [] j ≡ Some k → ⊥
+    none zero e = cc
+    none (suc j) e = cc
+emptied_was P (x ∷ a) b zero k (now, rest, is, here, later) at =
+    let first : now ≡ Some k = sym (ap (λ (ks : List (Option Label)). in_place ks 0) is) ∙ at in
+    ⊎_elim (λ same. sym same ∙ first) (λ (gone : (now ≡ None) × ((m : Label) × (x ≡ Some m) × P m)). let clash : None ≡ Some k = sym gone.0 ∙ first in cc) here
+emptied_was P (x ∷ a) b (suc j) k (now, rest, is, here, later) at = emptied_was P a rest j k later (sym (ap (λ (ks : List (Option Label)). in_place ks (suc j)) is) ∙ at)
+
+pub emptied_keeps : (P : Label → Type 0) (a b : List (Option Label)) (j : ℕ) (k : Label) → EmptiedBy P a b → (P k → ⊥) → in_place a j ≡ Some k → in_place b j ≡ Some k
+emptied_keeps P [] b j k e stays at = ap (λ (ks : List (Option Label)). in_place ks j) e ∙ at
+emptied_keeps P (x ∷ a) b zero k (now, rest, is, here, later) stays at =
+    ap (λ (ks : List (Option Label)). in_place ks 0) is ∙ ⊎_elim (λ same. same ∙ at) (λ (gone : (now ≡ None) × ((m : Label) × (x ≡ Some m) × P m)). absurd (stays (subst P (some_is gone.1.0 k (sym gone.1.1 ∙ at)) gone.1.2))) here
+emptied_keeps P (x ∷ a) b (suc j) k (now, rest, is, here, later) stays at = ap (λ (ks : List (Option Label)). in_place ks (suc j)) is ∙ emptied_keeps P a rest j k later stays at
+
+pub emptied_length : (P : Label → Type 0) (a b : List (Option Label)) → EmptiedBy P a b → length b ≡ length a
+emptied_length P [] b e = ap length e
+emptied_length P (x ∷ a) b (now, rest, is, here, later) = ap length is ∙ ap suc (emptied_length P a rest later)
+
+-- what a register holds isn't lost
+held_stays : (s : TableState) (i : ℕ) (k : Label) → in_place s.registers i ≡ Some k → IsLost s k → ⊥
+held_stays s i k at lost = lost (i, gets s.registers i k at)
+
+module _ (s t u v : TableState) (goes : MayGo s u) (other : MayGo t v) where
+  back : (i : ℕ) (k : Label) → in_place u.registers i ≡ Some k → in_place s.registers i ≡ Some k
+  back i k at = ap (λ (ps : List (Option Label)). in_place ps i) (sym goes.registers) ∙ at
+
+  back_other : (i : ℕ) (k : Label) → in_place v.registers i ≡ Some k → in_place t.registers i ≡ Some k
+  back_other i k at = ap (λ (ps : List (Option Label)). in_place ps i) (sym other.registers) ∙ at
+
+  -- what may go changes nothing that a register leads to
+  pub leans_on : Leans s t → Leans u v
+  leans_on x = record {
+    registers = ap length goes.registers ∙ (x.registers ∙ sym (ap length other.registers));
+    places = emptied_length (IsLost s) s.slots u.slots goes.slots ∙ (x.places ∙ sym (emptied_length (IsLost t) t.slots v.slots other.slots));
+    hold = λ i k at. (let h = x.hold i k (back i k at) in (h.0, ap (λ (ps : List (Option Label)). in_place ps i) other.registers ∙ h.1));
+    once = λ i j k m n a b c d. x.once i j k m n (back i k a) (back_other i m b) (back j k c) (back_other j n d);
+    datum = λ i k m a b. thinned_datum (IsLost s) k (held_stays s i k (back i k a)) s.bindings u.bindings goes.bindings
+        ∙ (x.datum i k m (back i k a) (back_other i m b) ∙ sym (thinned_datum (IsLost t) m (held_stays t i m (back_other i m b)) t.bindings v.bindings other.bindings));
+    slots = λ i j k m a b found. emptied_keeps (IsLost t) t.slots v.slots j m other.slots (held_stays t i m (back_other i m b))
+        (x.slots i j k m (back i k a) (back_other i m b) (emptied_was (IsLost s) s.slots u.slots j k goes.slots found));
+  }
+
+-- two keys stand for one another, before they come to one register
+pub record Fits (s t : TableState) (k m : Label) : Type 0 where
+  pub same : (j : ℕ) (n : Label) → in_place s.registers j ≡ Some k → in_place t.registers j ≡ Some n → m ≡ n
+  pub datum : datum_at s.bindings k ≡ datum_at t.bindings m
+  pub slot : (j : ℕ) → in_place s.slots j ≡ Some k → in_place t.slots j ≡ Some m
+
+module _ (s t : TableState) (q : ℕ) (x : Leans s t) where
+  -- the registers' places are the same
+  both_set : (o p : Option Label) → length (slice_set s.registers q o) ≡ length (slice_set t.registers q p)
+  both_set o p = length-set s.registers q o ∙ (x.registers ∙ sym (length-set t.registers q p))
+
+  -- one register of each state gets a key
+  pub leans_with : (k m : Label) → Fits s t k m → Leans (record s { registers = slice_set s.registers q (Some k) }) (record t { registers = slice_set t.registers q (Some m) })
+  leans_with k m fit = record {
+    registers = both_set (Some k) (Some m);
+    places = x.places;
+    hold = hold;
+    once = once;
+    datum = λ i l n a b. datum i l n (pair i l n a b);
+    slots = λ i j l n a b found. slots i j l n (pair i l n a b) found;
+  }
+    where
+      us : List (Option Label)
+      us = slice_set s.registers q (Some k)
+      vs : List (Option Label)
+      vs = slice_set t.registers q (Some m)
+      Pair : ℕ → Label → Label → Type 0
+      Pair i l n = ((l ≡ k) × (n ≡ m)) ⊎ ((in_place s.registers i ≡ Some l) × (in_place t.registers i ≡ Some n))
+      pair : (i : ℕ) (l n : Label) → in_place us i ≡ Some l → in_place vs i ≡ Some n → Pair i l n
+      pair i l n a b = ⊎_elim
+          (λ (y : (in_place us i ≡ Some k) × (in_place vs i ≡ Some m)). inl (some_is l k (sym a ∙ y.0), some_is n m (sym b ∙ y.1)))
+          (λ (y : (in_place us i ≡ in_place s.registers i) × (in_place vs i ≡ in_place t.registers i)). inr (sym y.0 ∙ a, sym y.1 ∙ b))
+          (set_two s.registers t.registers q i (Some k) (Some m) x.registers)
+      hold : (i : ℕ) (l : Label) → in_place us i ≡ Some l → (n : Label) × (in_place vs i ≡ Some n)
+      hold i l at = ⊎_elim
+          (λ (y : (in_place us i ≡ Some k) × (in_place vs i ≡ Some m)). (m, y.1))
+          (λ (y : (in_place us i ≡ in_place s.registers i) × (in_place vs i ≡ in_place t.registers i)). (let h = x.hold i l (sym y.0 ∙ at) in (h.0, y.1 ∙ h.1)))
+          (set_two s.registers t.registers q i (Some k) (Some m) x.registers)
+      once : (i j : ℕ) (l n o : Label) → in_place us i ≡ Some l → in_place vs i ≡ Some n → in_place us j ≡ Some l → in_place vs j ≡ Some o → n ≡ o
+      once i j l n o a b c d = of (pair i l n a b) (pair j l o c d)
+        where
+          of : Pair i l n → Pair j l o → n ≡ o
+          of (inl (e, f)) (inl (g, h)) = f ∙ sym h
+          of (inl (e, f)) (inr (g, h)) = f ∙ fit.same j o (g ∙ ap Some e) h
+          of (inr (e, f)) (inl (g, h)) = sym (h ∙ fit.same i n (e ∙ ap Some g) f)
+          of (inr (e, f)) (inr (g, h)) = x.once i j l n o e f g h
+      datum : (i : ℕ) (l n : Label) → Pair i l n → datum_at s.bindings l ≡ datum_at t.bindings n
+      datum i l n (inl (e, f)) = ap (datum_at s.bindings) e ∙ (fit.datum ∙ sym (ap (datum_at t.bindings) f))
+      datum i l n (inr (a, b)) = x.datum i l n a b
+      slots : (i j : ℕ) (l n : Label) → Pair i l n → in_place s.slots j ≡ Some l → in_place t.slots j ≡ Some n
+      slots i j l n (inl (e, f)) found = fit.slot j (found ∙ ap Some e) ∙ sym (ap Some f)
+      slots i j l n (inr (a, b)) found = x.slots i j l n a b found
+

@@ -1,0 +1,334 @@
+-- What each line does to two states that look alike, and so all lines.
+use Rattle.std.proofs.Common.{◌≡◌, ◌≢◌, ◌⊎◌, inl, inr, ⊎_elim, ℕ, zero, suc, ◌-◌, Bool, true, false, cond, List, [], ◌∷◌, ◌++◌, length, length-set, replicate, slice_set, slice_get, Option, Some, None, refl, ap, sym, ◌∙◌, subst}
+use Rattle.heap_model.specs.declared.label.Label.{Label}
+use Rattle.heap_model.specs.declared.graph.Value.{Value}
+use Rattle.heap_model.specs.declared.graph.Value.TheVariants as value
+use Rattle.heap_model.specs.declared.state.Sizes.{Sizes}
+use Rattle.heap_model.specs.Graph.{has_label, same_label}
+use Rattle.heap_model.proofs.Graphs.GraphLemmas.{same_label-true, same_label_refl}
+use Rattle.table_laws.proofs.ChangeLemmas.{not_first}
+use Rattle.table_laws.specs.Structures.{Binding, datum_at, keys_of, without}
+use Rattle.table_text.specs.declared.line.TableLine.{TableLine}
+use Rattle.table_text.specs.declared.line.TableLine.TheVariants.{Key, Forget, Put, Get, Del, SetWeak, GetWeak, Count, FullMajor}
+use Rattle.table_machine.specs.declared.reply.LineReply.{LineReply}
+use Rattle.table_machine.specs.declared.reply.LineReply.TheVariants as reply
+use Rattle.table_machine.specs.Machine.{Binds, Deletes, Effect, Holds, IsLost, IsNew, LineStep, MachineRuns, MayBeRefused, MayGo, ReadsSlot, Shows, TableState, WithKey, key_in, opened, with_key}
+use Rattle.text_laws.specs.Agreeing.{Agree, GivesBack, GoesOn, NoneRefused, Parallel, TextsAgree}
+use Rattle.text_laws.proofs.Alike.{Alike, Fits, Leans, gets, got, held_or_lost, in_place, leans_on, leans_with, set_two, some_is}
+
+-- the other way round
+swap : {s t : TableState} → Alike s t → Alike t s
+swap x = (x.1, x.0)
+
+-- Data of bindings.
+other_key : (k l : Label) → (l ≡ k → ⊥) → same_label k l ≡ false
+other_key k l differ = go (same_label k l) refl
+  where
+    go : (c : Bool) → same_label k l ≡ c → c ≡ false
+    go true e = absurd (differ (sym (same_label-true k l e)))
+    go false e = refl
+
+datum_without : (k l : Label) → (l ≡ k → ⊥) → (bs : List Binding) → datum_at (without k bs) l ≡ datum_at bs l
+datum_without k l differ [] = refl
+datum_without k l differ (b ∷ bs) = go (same_label b.0 k) refl (datum_without k l differ bs)
+  where
+    go : (c : Bool) → same_label b.0 k ≡ c → datum_at (without k bs) l ≡ datum_at bs l → datum_at (cond c (without k bs) (b ∷ without k bs)) l ≡ cond (same_label b.0 l) (Some b.1) (datum_at bs l)
+    go true e rest = rest ∙ sym (ap (λ (d : Bool). cond d (Some b.1) (datum_at bs l)) (other_key b.0 l (λ same. differ (same ∙ same_label-true b.0 k e))))
+    go false e rest = ap (cond (same_label b.0 l) (Some b.1)) rest
+
+datum_gone : (k : Label) (bs : List Binding) → datum_at (without k bs) k ≡ None
+datum_gone k [] = refl
+datum_gone k (b ∷ bs) = go (same_label b.0 k) refl (datum_gone k bs)
+  where
+    go : (c : Bool) → same_label b.0 k ≡ c → datum_at (without k bs) k ≡ None → datum_at (cond c (without k bs) (b ∷ without k bs)) k ≡ None
+    go true e rest = rest
+    go false e rest = ap (λ (d : Bool). cond d (Some b.1) (datum_at (without k bs) k)) e ∙ rest
+
+datum_unbound : (k : Label) (bs : List Binding) → has_label (keys_of bs) k ≡ false → datum_at bs k ≡ None
+datum_unbound k [] none = refl
+datum_unbound k (b ∷ bs) none = let first = not_first b.0 (keys_of bs) k none in
+    ap (λ (d : Bool). cond d (Some b.1) (datum_at bs k)) first.0 ∙ datum_unbound k bs first.1
+
+binds_other : (k l : Label) (v : Value) (old new : List Binding) → Binds k v old new → (l ≡ k → ⊥) → datum_at new l ≡ datum_at old l
+binds_other k l v old new b differ = sym (datum_without k l differ new) ∙ (ap (λ (bs : List Binding). datum_at bs l) b.rest ∙ datum_without k l differ old)
+
+-- A key that is new stands for another one that is new.
+new_fits : (s t : TableState) (k m : Label) → IsNew s k → IsNew t m → Fits s t k m
+new_fits s t k m new other = record {
+  same = λ j n at at_other. absurd (new.lost (j, gets s.registers j k at));
+  datum = datum_unbound k s.bindings new.unbound ∙ sym (datum_unbound m t.bindings other.unbound);
+  slot = λ j at. absurd (new.unset (j, gets s.slots j k at));
+}
+
+-- so do keys of one register
+held_fits : (s t : TableState) (i : ℕ) (k m : Label) → Leans s t → in_place s.registers i ≡ Some k → in_place t.registers i ≡ Some m → Fits s t k m
+held_fits s t i k m x a b = record {
+  same = λ j n c d. x.once i j k m n a b c d;
+  datum = x.datum i k m a b;
+  slot = λ j found. x.slots i j k m a b found;
+}
+
+-- Changes of one state beside those of another.
+alike_is : (s t u v : TableState) → u ≡ s → v ≡ t → Alike s t → Alike u v
+alike_is s t u v a b x = subst (λ (w : TableState × TableState). Alike w.0 w.1) (λ i. (sym a i, sym b i)) x
+
+-- a register of each state gets these keys
+alike_with : (s t : TableState) (q : ℕ) (k m : Label) → Alike s t → Fits s t k m → Fits t s m k → Alike (record s { registers = slice_set s.registers q (Some k) }) (record t { registers = slice_set t.registers q (Some m) })
+alike_with s t q k m x fit back = (leans_with s t q x.0 k m fit, leans_with t s q x.1 m k back)
+
+-- or lets its key go
+leans_without : (s t : TableState) (q : ℕ) → Leans s t → Leans (record s { registers = slice_set s.registers q None }) (record t { registers = slice_set t.registers q None })
+leans_without s t q x = record {
+  registers = length-set s.registers q None ∙ (x.registers ∙ sym (length-set t.registers q None));
+  places = x.places;
+  hold = λ i k at. (let a = was i k at in let h = x.hold i k a.0 in (h.0, a.1 ∙ h.1));
+  once = λ i j k m n a b c d. x.once i j k m n (was i k a).0 (sym (was i k a).1 ∙ b) (was j k c).0 (sym (was j k c).1 ∙ d);
+  datum = λ i k m a b. x.datum i k m (was i k a).0 (sym (was i k a).1 ∙ b);
+  slots = λ i j k m a b found. x.slots i j k m (was i k a).0 (sym (was i k a).1 ∙ b) found;
+}
+  where
+    us : List (Option Label)
+    us = slice_set s.registers q None
+    vs : List (Option Label)
+    vs = slice_set t.registers q None
+    was : (i : ℕ) (k : Label) → in_place (slice_set s.registers q None) i ≡ Some k → (in_place s.registers i ≡ Some k) × (in_place (slice_set t.registers q None) i ≡ in_place t.registers i)
+    was i k at = ⊎_elim
+        (λ (y : (in_place (slice_set s.registers q None) i ≡ None) × (in_place (slice_set t.registers q None) i ≡ None)). let clash : None ≡ Some k = sym y.0 ∙ at in cc)
+        (λ (y : (in_place (slice_set s.registers q None) i ≡ in_place s.registers i) × (in_place (slice_set t.registers q None) i ≡ in_place t.registers i)). (sym y.0 ∙ at, y.1))
+        (set_two s.registers t.registers q i None None x.registers)
+
+alike_without : (s t : TableState) (q : ℕ) → Alike s t → Alike (record s { registers = slice_set s.registers q None }) (record t { registers = slice_set t.registers q None })
+alike_without s t q x = (leans_without s t q x.0, leans_without t s q x.1)
+
+-- the data change alike
+leans_data : (s t u v : TableState) → Leans s t → u.registers ≡ s.registers → u.slots ≡ s.slots → v.registers ≡ t.registers → v.slots ≡ t.slots
+    → ((i : ℕ) (k m : Label) → in_place s.registers i ≡ Some k → in_place t.registers i ≡ Some m → datum_at u.bindings k ≡ datum_at v.bindings m) → Leans u v
+leans_data s t u v x ur us vr vs data_same = record {
+  registers = ap length ur ∙ (x.registers ∙ sym (ap length vr));
+  places = ap length us ∙ (x.places ∙ sym (ap length vs));
+  hold = λ i k at. (let h = x.hold i k (first i k at) in (h.0, ap (λ (ps : List (Option Label)). in_place ps i) vr ∙ h.1));
+  once = λ i j k m n a b c d. x.once i j k m n (first i k a) (second i m b) (first j k c) (second j n d);
+  datum = λ i k m a b. data_same i k m (first i k a) (second i m b);
+  slots = λ i j k m a b found. ap (λ (ps : List (Option Label)). in_place ps j) vs ∙ x.slots i j k m (first i k a) (second i m b) (sym (ap (λ (ps : List (Option Label)). in_place ps j) us) ∙ found);
+}
+  where
+    first : (i : ℕ) (k : Label) → in_place u.registers i ≡ Some k → in_place s.registers i ≡ Some k
+    first i k at = sym (ap (λ (ps : List (Option Label)). in_place ps i) ur) ∙ at
+    second : (i : ℕ) (k : Label) → in_place v.registers i ≡ Some k → in_place t.registers i ≡ Some k
+    second i k at = sym (ap (λ (ps : List (Option Label)). in_place ps i) vr) ∙ at
+
+same_or_not : (k l : Label) → (l ≡ k) ⊎ (l ≡ k → ⊥)
+same_or_not k l = go (same_label k l) refl
+  where
+    go : (c : Bool) → same_label k l ≡ c → (l ≡ k) ⊎ (l ≡ k → ⊥)
+    go true e = inl (sym (same_label-true k l e))
+    go false e = inr (λ same. let clash : true ≡ false = sym (same_label_refl k) ∙ (ap (same_label k) (sym same) ∙ e) in cc)
+
+-- one key gets the same datum in both, and the others keep theirs
+leans_at : (s t u v : TableState) (q : ℕ) (k m : Label) (o p : Option Value) → Alike s t → in_place s.registers q ≡ Some k → in_place t.registers q ≡ Some m
+    → u.registers ≡ s.registers → u.slots ≡ s.slots → v.registers ≡ t.registers → v.slots ≡ t.slots
+    → datum_at u.bindings k ≡ o → datum_at v.bindings m ≡ p → o ≡ p
+    → ((l : Label) → (l ≡ k → ⊥) → datum_at u.bindings l ≡ datum_at s.bindings l) → ((l : Label) → (l ≡ m → ⊥) → datum_at v.bindings l ≡ datum_at t.bindings l) → Leans u v
+leans_at s t u v q k m o p x here there ur us vr vs uk vm equal others elsewhere = leans_data s t u v x.0 ur us vr vs same
+  where
+    same : (i : ℕ) (l n : Label) → in_place s.registers i ≡ Some l → in_place t.registers i ≡ Some n → datum_at u.bindings l ≡ datum_at v.bindings n
+    same i l n a b = ⊎_elim
+        (λ is. (let other : m ≡ n = x.0.once q i k m n here there (a ∙ ap Some is) b in ap (datum_at u.bindings) is ∙ (uk ∙ (equal ∙ (sym vm ∙ ap (datum_at v.bindings) other)))))
+        (λ differs. others l differs ∙ (x.0.datum i l n a b ∙ sym (elsewhere n (λ is. differs (x.1.once i q n l k b a (there ∙ ap Some (sym is)) here)))))
+        (same_or_not k l)
+
+-- a slot of each state gets these keys
+leans_slot : (s t : TableState) (q at : ℕ) (k m : Label) → Alike s t → in_place s.registers q ≡ Some k → in_place t.registers q ≡ Some m
+    → Leans (record s { slots = slice_set s.slots at (Some k) }) (record t { slots = slice_set t.slots at (Some m) })
+leans_slot s t q at k m x here there = record {
+  registers = x.0.registers;
+  places = length-set s.slots at (Some k) ∙ (x.0.places ∙ sym (length-set t.slots at (Some m)));
+  hold = x.0.hold;
+  once = x.0.once;
+  datum = x.0.datum;
+  slots = λ i j l n a b found. ⊎_elim
+      (λ (y : (in_place (slice_set s.slots at (Some k)) j ≡ Some k) × (in_place (slice_set t.slots at (Some m)) j ≡ Some m)).
+          y.1 ∙ ap Some (x.0.once q i k m n here there (a ∙ (sym found ∙ y.0)) b))
+      (λ (y : (in_place (slice_set s.slots at (Some k)) j ≡ in_place s.slots j) × (in_place (slice_set t.slots at (Some m)) j ≡ in_place t.slots j)).
+          y.1 ∙ x.0.slots i j l n a b (sym y.0 ∙ found))
+      (set_two s.slots t.slots at j (Some k) (Some m) x.0.places);
+}
+
+-- What a line answers and leaves.
+pub record Done (s t : TableState) (l : TableLine) (a b : LineReply) (u v : TableState) : Type 0 where
+  pub agree : Agree s t l a b u v
+  pub alike : GoesOn s l a b u → Alike u v
+
+-- a line that needs the key of a register, where both find none or both find one
+with_key_too : (s t u v : TableState) (q : ℕ) (a b : LineReply) (f g : Label → Type 0) → Alike s t
+    → ((k m : Label) → in_place s.registers q ≡ Some k → in_place t.registers q ≡ Some m → f k → g m → (a ≡ b) × Alike u v)
+    → (o p : Option Label) → in_place s.registers q ≡ o → in_place t.registers q ≡ p → WithKey o s a u f → WithKey p t b v g → (a ≡ b) × Alike u v
+with_key_too s t u v q a b f g x both None None e d (ra, ua) (rb, vb) = (ra ∙ sym rb, alike_is s t u v ua vb x)
+with_key_too s t u v q a b f g x both (Some k) (Some m) e d found other = both k m e d found other
+with_key_too s t u v q a b f g x both None (Some m) e d found other = (let h = x.1.hold q m d in let clash : None ≡ Some h.0 = sym e ∙ h.1 in cc)
+with_key_too s t u v q a b f g x both (Some k) None e d found other = (let h = x.0.hold q k e in let clash : None ≡ Some h.0 = sym d ∙ h.1 in cc)
+
+shows_same : (o : Option Value) (a b : LineReply) → Shows o a → Shows o b → a ≡ b
+shows_same None a b e d = e ∙ sym d
+shows_same (Some (value.Int v)) a b e d = e ∙ sym d
+shows_same (Some (value.Block l)) a b e d = absurd e
+shows_same (Some value.Nothing) a b e d = absurd e
+
+deletes_too : (s t u v : TableState) (q : ℕ) (a b : LineReply) (k m : Label) → Alike s t → in_place s.registers q ≡ Some k → in_place t.registers q ≡ Some m
+    → (o : Option Value) → Deletes k s a u o → Deletes m t b v o → (a ≡ b) × Alike u v
+deletes_too s t u v q a b k m x here there None (ra, ua) (rb, vb) = (ra ∙ sym rb, alike_is s t u v ua vb x)
+deletes_too s t u v q a b k m x here there (Some d) (ra, ua) (rb, vb) = (ra ∙ sym rb, alike_is gone lost u v ua vb (
+    leans_at s t gone lost q k m None None x here there refl refl refl refl (datum_gone k s.bindings) (datum_gone m t.bindings) refl
+        (λ l differs. datum_without k l differs s.bindings) (λ l differs. datum_without m l differs t.bindings),
+    leans_at t s lost gone q m k None None (swap x) there here refl refl refl refl (datum_gone m t.bindings) (datum_gone k s.bindings) refl
+        (λ l differs. datum_without m l differs t.bindings) (λ l differs. datum_without k l differs s.bindings),
+  ))
+  where
+    gone : TableState
+    gone = record s { bindings = without k s.bindings }
+    lost : TableState
+    lost = record t { bindings = without m t.bindings }
+
+-- A look at a slot.
+gives_back : (s p u : TableState) (d slot : ℕ) (k : Label) → p.registers ≡ s.registers → slice_get p.slots slot ≡ Some (Some k) → u ≡ with_key p d (Some k) → (Holds p.registers k → ⊥) → GivesBack s slot u
+gives_back s p u d slot k same found is lost = record {
+  key = k;
+  found = ap (λ (w : TableState). slice_get w.slots slot) is ∙ found;
+  lost = λ held. lost (subst (λ (rs : List (Option Label)). Holds rs k) (sym same) held);
+}
+
+-- where the other run finds nothing, no register holds the key
+gone_too : (p q : TableState) (slot : ℕ) (k : Label) → Leans p q → slice_get p.slots slot ≡ Some (Some k) → slice_get q.slots slot ≡ Some None → Holds p.registers k → ⊥
+gone_too p q slot k x found none (i, at) =
+    let here = got p.registers i (Some k) at in
+    let h = x.hold i k here in
+    let there = x.slots i slot k h.0 here h.1 (got p.slots slot (Some k) found) in
+    let clash : None ≡ Some h.0 = sym (got q.slots slot None none) ∙ there in cc
+
+-- where both find a key that a register holds, these stand for one another
+pair_of : (p q : TableState) (slot : ℕ) (k m : Label) → Leans p q → slice_get p.slots slot ≡ Some (Some k) → slice_get q.slots slot ≡ Some (Some m)
+    → (i : ℕ) → in_place p.registers i ≡ Some k → in_place q.registers i ≡ Some m
+pair_of p q slot k m x found other i here =
+    let h = x.hold i k here in
+    let there = x.slots i slot k h.0 here h.1 (got p.slots slot (Some k) found) in
+    h.1 ∙ (sym there ∙ got q.slots slot (Some m) other)
+
+module _ (s t p q u v : TableState) (d slot : ℕ) (a b : LineReply) (ps : p.registers ≡ s.registers) (qt : q.registers ≡ t.registers) (x : Alike p q) where
+  both_found : (k m : Label) → slice_get p.slots slot ≡ Some (Some k) → slice_get q.slots slot ≡ Some (Some m) → u ≡ with_key p d (Some k) → v ≡ with_key q d (Some m)
+      → ((i : ℕ) × (in_place p.registers i ≡ Some k)) ⊎ (Holds p.registers k → ⊥) → (GivesBack s slot u → ⊥) → Alike u v
+  both_found k m e f ua vb (inl (i, here)) kept =
+      let there = pair_of p q slot k m x.0 e f i here in
+      alike_is (with_key p d (Some k)) (with_key q d (Some m)) u v ua vb (alike_with p q (d - 1) k m x (held_fits p q i k m x.0 here there) (held_fits q p i m k x.1 there here))
+  both_found k m e f ua vb (inr lost) kept = absurd (kept (gives_back s p u d slot k ps e ua lost))
+
+  look_too : (o r : Option (Option Label)) → slice_get p.slots slot ≡ o → slice_get q.slots slot ≡ r → ReadsSlot p a u d o → ReadsSlot q b v d r → Done s t (GetWeak d slot) a b u v
+  look_too None r e f reads looks = absurd reads
+  look_too (Some o) None e f reads looks = absurd looks
+  look_too (Some None) (Some None) e f (ra, ua) (rb, vb) = record {
+    agree = inl (ra ∙ sym rb);
+    alike = λ goes. alike_is (with_key p d None) (with_key q d None) u v ua vb (alike_without p q (d - 1) x);
+  }
+  look_too (Some (Some k)) (Some None) e f (ra, ua) (rb, vb) = record {
+    agree = inr (inl (gives_back s p u d slot k ps e ua (gone_too p q slot k x.0 e f)));
+    alike = λ goes. (let clash : reply.Yes ≡ reply.Empty = sym ra ∙ (goes.0 ∙ rb) in cc);
+  }
+  look_too (Some None) (Some (Some m)) e f (ra, ua) (rb, vb) = record {
+    agree = inr (inr (gives_back t q v d slot m qt f vb (gone_too q p slot m x.1 f e)));
+    alike = λ goes. (let clash : reply.Yes ≡ reply.Empty = sym rb ∙ (sym goes.0 ∙ ra) in cc);
+  }
+  look_too (Some (Some k)) (Some (Some m)) e f (ra, ua) (rb, vb) = record {
+    agree = inl (ra ∙ sym rb);
+    alike = λ goes. both_found k m e f ua vb (held_or_lost p.registers k) goes.1;
+  }
+
+-- all other lines: they are answered the same, and leave states that look alike
+same_done : (s t : TableState) (l : TableLine) (a b : LineReply) (u v : TableState) → ((a ≡ b) → Agree s t l a b u v) → (a ≡ b) × Alike u v → Done s t l a b u v
+same_done s t l a b u v into r = record { agree = into r.0; alike = λ goes. r.1 }
+
+module _ (s t p q u v : TableState) (a b : LineReply) (goes : MayGo s p) (other : MayGo t q) (x : Alike p q) where
+  put_too : (r : ℕ) (w : _) → Effect p (Put r w) a u → Effect q (Put r w) b v → (a ≡ b) × Alike u v
+  put_too r w = with_key_too p q u v (r - 1) a b _ _ x (λ k m here there done did. (
+      done.0 ∙ sym did.0,
+      ( leans_at p q u v (r - 1) k m (Some (value.Int w)) (Some (value.Int w)) x here there done.1 done.2 did.1 did.2 done.3.bound did.3.bound refl
+            (λ l differs. binds_other k l (value.Int w) p.bindings u.bindings done.3 differs) (λ l differs. binds_other m l (value.Int w) q.bindings v.bindings did.3 differs),
+        leans_at q p v u (r - 1) m k (Some (value.Int w)) (Some (value.Int w)) (swap x) there here did.1 did.2 done.1 done.2 did.3.bound done.3.bound refl
+            (λ l differs. binds_other m l (value.Int w) q.bindings v.bindings did.3 differs) (λ l differs. binds_other k l (value.Int w) p.bindings u.bindings done.3 differs) ),
+    )) (key_in p r) (key_in q r) refl refl
+
+  get_too : (r : ℕ) → Effect p (Get r) a u → Effect q (Get r) b v → (a ≡ b) × Alike u v
+  get_too r = with_key_too p q u v (r - 1) a b _ _ x (λ k m here there done did. (
+      shows_same (datum_at q.bindings m) a b (subst (λ (o : Option Value). Shows o a) (x.0.datum (r - 1) k m here there) done.0) did.0,
+      alike_is p q u v done.1 did.1 x,
+    )) (key_in p r) (key_in q r) refl refl
+
+  del_too : (r : ℕ) → Effect p (Del r) a u → Effect q (Del r) b v → (a ≡ b) × Alike u v
+  del_too r = with_key_too p q u v (r - 1) a b _ _ x (λ k m here there done did.
+      deletes_too p q u v (r - 1) a b k m x here there (datum_at q.bindings m) (subst (λ (o : Option Value). Deletes k p a u o) (x.0.datum (r - 1) k m here there) done) did
+    ) (key_in p r) (key_in q r) refl refl
+
+  set_too : (slot r : ℕ) → Effect p (SetWeak slot r) a u → Effect q (SetWeak slot r) b v → (a ≡ b) × Alike u v
+  set_too slot r = with_key_too p q u v (r - 1) a b _ _ x (λ k m here there done did. (
+      done.0 ∙ sym did.0,
+      alike_is (record p { slots = slice_set p.slots slot (Some k) }) (record q { slots = slice_set q.slots slot (Some m) }) u v done.1 did.1
+          (leans_slot p q (r - 1) slot k m x here there, leans_slot q p (r - 1) slot m k (swap x) there here),
+    )) (key_in p r) (key_in q r) refl refl
+
+  effects : (l : TableLine) → Effect p l a u → Effect q l b v → Done s t l a b u v
+  effects (Key r) (ra, (k, new, ua)) (rb, (m, fresh, vb)) = same_done s t (Key r) a b u v (λ e. e) (
+      ra ∙ sym rb,
+      alike_is (with_key p r (Some k)) (with_key q r (Some m)) u v ua vb (alike_with p q (r - 1) k m x (new_fits p q k m new fresh) (new_fits q p m k fresh new)),
+    )
+  effects (Forget r) (ra, ua) (rb, vb) = same_done s t (Forget r) a b u v (λ e. e) (ra ∙ sym rb, alike_is (with_key p r None) (with_key q r None) u v ua vb (alike_without p q (r - 1) x))
+  effects (Put r w) e f = same_done s t (Put r w) a b u v (λ e. e) (put_too r w e f)
+  effects (Get r) e f = same_done s t (Get r) a b u v (λ e. e) (get_too r e f)
+  effects (Del r) e f = same_done s t (Del r) a b u v (λ e. e) (del_too r e f)
+  effects (SetWeak slot r) e f = same_done s t (SetWeak slot r) a b u v (λ e. e) (set_too slot r e f)
+  effects (GetWeak d slot) e f = look_too s t p q u v d slot a b goes.registers other.registers x (slice_get p.slots slot) (slice_get q.slots slot) refl refl e f
+  effects Count (ra, ua) (rb, vb) = record { agree = (length p.bindings, length q.bindings, ra, rb); alike = λ _. alike_is p q u v ua vb x }
+  effects FullMajor (ra, ua, _) (rb, vb, _) = same_done s t FullMajor a b u v (λ e. e) (ra ∙ sym rb, alike_is p q u v ua vb x)
+
+-- A line that isn't refused, from two states that look alike.
+line_too : (y z : Sizes) (before behind : List TableLine) (l : TableLine) (s t : TableState) (a b : LineReply) (u v : TableState) → Alike s t → (a ≡ reply.Full → ⊥) → (b ≡ reply.Full → ⊥)
+    → LineStep y before l s a u → LineStep z behind l t b v → Done s t l a b u v
+line_too y z before behind l s t a b u v x none neither step other = done step.does other.does
+  where
+    after : Alike step.left other.left
+    after = (leans_on s t step.left other.left step.goes other.goes x.0, leans_on t s other.left step.left other.goes step.goes x.1)
+    done : Effect step.left l a u ⊎ ((a ≡ reply.Full) × (u ≡ step.left) × MayBeRefused y before l step.left) → Effect other.left l b v ⊎ ((b ≡ reply.Full) × (v ≡ other.left) × MayBeRefused z behind l other.left) → Done s t l a b u v
+    done (inl e) (inl f) = effects s t step.left other.left u v a b step.goes other.goes after l e f
+    done (inr e) _ = absurd (none e.0)
+    done (inl e) (inr f) = absurd (neither f.0)
+
+lines_too : (y z : Sizes) (before behind : List TableLine) (s t : TableState) (lines : List TableLine) (answers others : List LineReply) (us vs : List TableState) → Alike s t
+    → MachineRuns y before s lines answers us → MachineRuns z behind t lines others vs → NoneRefused answers → NoneRefused others → Parallel s t lines answers others us vs
+lines_too y z before behind s t [] answers others us vs x runs again none neither = tt
+lines_too y z before behind s t (l ∷ lines) (a ∷ answers) (b ∷ others) (u ∷ us) (v ∷ vs) x (step, runs) (other, again) none neither =
+    let first = line_too y z (before ++ l ∷ []) (behind ++ l ∷ []) l s t a b u v x (λ e. none 0 (ap Some e)) (λ e. neither 0 (ap Some e)) step other in
+    (first.agree, λ goes. lines_too y z (before ++ l ∷ []) (behind ++ l ∷ []) u v lines answers others us vs (first.alike goes) runs again (λ i e. none (suc i) e) (λ i e. neither (suc i) e))
+lines_too y z before behind s t (l ∷ lines) [] others us vs x runs again none neither = absurd runs
+lines_too y z before behind s t (l ∷ lines) (a ∷ answers) [] us vs x runs again none neither = absurd again
+lines_too y z before behind s t (l ∷ lines) (a ∷ answers) (b ∷ others) [] vs x runs again none neither = absurd runs
+lines_too y z before behind s t (l ∷ lines) (a ∷ answers) (b ∷ others) (u ∷ us) [] x runs again none neither = absurd again
+
+-- before the first line no register holds a key
+opened_none : (i : ℕ) (k : Label) → in_place opened.registers i ≡ Some k → ⊥
+opened_none zero k e = cc
+opened_none (suc zero) k e = cc
+opened_none (suc (suc zero)) k e = cc
+opened_none (suc (suc (suc zero))) k e = cc
+opened_none (suc (suc (suc (suc zero)))) k e = cc
+opened_none (suc (suc (suc (suc (suc zero))))) k e = cc
+opened_none (suc (suc (suc (suc (suc (suc i)))))) k e = cc
+
+opened_leans : Leans opened opened
+opened_leans = record {
+  registers = refl;
+  places = refl;
+  hold = λ i k at. absurd (opened_none i k at);
+  once = λ i j k m n a b c d. absurd (opened_none i k a);
+  datum = λ i k m a b. absurd (opened_none i k a);
+  slots = λ i j k m a b found. absurd (opened_none i k a);
+}
+
+pub texts_law : TextsAgree
+texts_law y z lines answers others us vs runs again none neither = lines_too y z [] [] opened opened lines answers others us vs (opened_leans, opened_leans) runs again none neither

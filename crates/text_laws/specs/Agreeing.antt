@@ -1,0 +1,41 @@
+-- Two runs of one text of a table.
+use Rattle.std.specs.Prelude.{◌≡◌, ◌⊎◌, ℕ, List, [], ◌∷◌, slice_get, Some}
+use Rattle.heap_model.specs.declared.label.Label.{Label}
+use Rattle.heap_model.specs.declared.state.Sizes.{Sizes}
+use Rattle.table_text.specs.declared.line.TableLine.{TableLine}
+use Rattle.table_text.specs.declared.line.TableLine.TheVariants.{Count, GetWeak}
+use Rattle.table_machine.specs.declared.reply.LineReply.{LineReply}
+use Rattle.table_machine.specs.declared.reply.LineReply.TheVariants as reply
+use Rattle.table_machine.specs.Machine.{IsLost, MachineRuns, TableState, opened}
+
+-- no allocation was refused
+abbrev pub NoneRefused : List LineReply → Type 0
+NoneRefused replies = (i : ℕ) → slice_get replies i ≡ Some reply.Full → ⊥
+
+-- a look at a slot, from the first state to the second, gives back a key that no register held
+pub record GivesBack (s : TableState) (slot : ℕ) (t : TableState) : Type 0 where
+  pub key : Label
+  pub found : slice_get t.slots slot ≡ Some (Some key)
+  pub lost : IsLost s key
+
+-- how a line is answered in two runs, from s to u in the one and from t to v in the other: the same; a count by a number; and a look at a slot the same, but where one of them gives back a key that no register held
+abbrev pub Agree : TableState → TableState → TableLine → LineReply → LineReply → TableState → TableState → Type 0
+Agree s t Count a b u v = (n : ℕ) × (m : ℕ) × (a ≡ reply.Counted n) × (b ≡ reply.Counted m)
+Agree s t (GetWeak d slot) a b u v = (a ≡ b) ⊎ (GivesBack s slot u ⊎ GivesBack t slot v)
+Agree s t _ a b u v = a ≡ b
+
+-- no look at a slot tells the runs apart, or gives back such a key
+abbrev pub GoesOn : TableState → TableLine → LineReply → LineReply → TableState → Type 0
+GoesOn s (GetWeak d slot) a b u = (a ≡ b) × (GivesBack s slot u → ⊥)
+GoesOn s _ a b u = Unit {0}
+
+-- each line is answered so, as long as that goes on
+abbrev pub Parallel : TableState → TableState → List TableLine → List LineReply → List LineReply → List TableState → List TableState → Type 0
+Parallel s t (l ∷ lines) (a ∷ answers) (b ∷ others) (u ∷ us) (v ∷ vs) = Agree s t l a b u v × (GoesOn s l a b u → Parallel u v lines answers others us vs)
+Parallel s t _ _ _ _ _ = Unit {0}
+
+-- two runs of one text, whatever the sizes of the heap of each
+abbrev pub TextsAgree : Type 0
+TextsAgree = (y z : Sizes) (lines : List TableLine) (answers others : List LineReply) (us vs : List TableState)
+    → MachineRuns y [] opened lines answers us → MachineRuns z [] opened lines others vs → NoneRefused answers → NoneRefused others
+    → Parallel opened opened lines answers others us vs

@@ -1,0 +1,28 @@
+(* Tries the wrapper: each call once, and refusals. Ends with 0 where all is as it should be. *)
+open Vikheap
+
+let config = { domains = 1; minor_words = 4096; pools = 64; finals = 1; ephes = 1 }
+let refusal f = match f () with _ -> None | exception Refused why -> Some why
+
+let () =
+  assert (refusal (fun () -> start { config with domains = 9 }) = Some (Outside 1));
+  assert (refusal (fun () -> start { config with minor_words = 5000 }) = Some (Outside 2));
+  let seat = (start config).(0) in
+  let block = Block { domain = 0; serial = 1 } in
+  assert (perform seat (Alloc { dst = 1; tag = 0; fields = 2 }) = block);
+  assert (show seat 1 = block);
+  assert (refusal (fun () -> show seat 16) = Some No_register);
+  assert (perform seat (Put_int { dst = 2; value = min_int }) = Done);
+  assert (perform seat (Store { block = 1; index = 0; item = 2 }) = Done);
+  assert (perform seat (Load { dst = 3; block = 1; index = 0 }) = Int min_int);
+  assert (refusal (fun () -> perform seat (Copy { dst = 16; src = 0 })) = Some Unfit);
+  assert (refusal (fun () -> perform seat (Copy { dst = -1; src = 0 })) = Some Unfit);
+  assert (perform seat (Finalise { item = 1; number = 3; dst = 4 }) = Done);
+  assert (refusal (fun () -> perform seat (Finalise_last { item = 1; number = 4 })) = Some No_finaliser);
+  assert (perform seat (Forget { dst = 1 }) = Done);
+  assert (match perform seat Full_major with Live _ -> true | _ -> false);
+  assert (perform seat Poll = Done);
+  assert (ran seat = [ Fin { number = 3; label = { domain = 0; serial = 1 } } ]);
+  assert ((stats seat).labels = 1);
+  finish seat;
+  assert (refusal (fun () -> perform seat Poll) = Some Closed)

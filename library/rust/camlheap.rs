@@ -1,0 +1,273 @@
+//! A heap with the rules of OCaml 5's, proved, for programs in plain Rust.
+//!
+//! A heap has 1 to 8 domains, each with 16 registers, which are its roots. [`start`] answers a [`Seat`] for each: a value
+//! that moves between threads, and that one thread at a time calls on, which the types see to. A pause of the collector
+//! needs all domains, so each seat makes commands, or takes a [`turn`](Seat::turn) now and then, until all are
+//! [finished](Seat::finish).
+use camlheap_sys as sys;
+use std::cell::Cell;
+use std::fmt;
+use std::marker::PhantomData;
+use std::thread;
+
+pub use camlheap_sys::{Config, Stats};
+
+/// The label of a block, which no other block of the heap ever has.
+#[derive(Clone, Copy, Debug, PartialEq, Eq, Hash)]
+pub struct Label {
+    pub domain: u32,
+    pub serial: u32,
+}
+
+/// A register: 0 to 15.
+pub type Register = u8;
+
+/// What a seat may be asked to do. `camlheap.h` says of each what it does and replies.
+#[derive(Clone, Copy, Debug, PartialEq, Eq)]
+pub enum Command {
+    PutInt { dst: Register, value: i64 },
+    Copy { dst: Register, src: Register },
+    Forget { dst: Register },
+    Alloc { dst: Register, tag: u8, fields: u16 },
+    AllocMajor { dst: Register, tag: u8, fields: u16 },
+    Raw { dst: Register, tag: u8, fields: u16 },
+    Load { dst: Register, block: Register, index: u16 },
+    Store { block: Register, index: u16, item: Register },
+    Cas { block: Register, index: u16, expected: Register, item: Register },
+    Ephe { dst: Register, keys: u16 },
+    SetKey { ephe: Register, index: u16, item: Register },
+    UnsetKey { ephe: Register, index: u16 },
+    GetKey { dst: Register, ephe: Register, index: u16 },
+    CheckKey { ephe: Register, index: u16 },
+    SetData { ephe: Register, item: Register },
+    UnsetData { ephe: Register },
+    GetData { dst: Register, ephe: Register },
+    CheckData { ephe: Register },
+    Poll,
+    Minor,
+    Major,
+    FullMajor,
+    Finalise { item: Register, number: u32, dst: Register },
+    FinaliseLast { item: Register, number: u32 },
+}
+
+impl Command {
+    // What C has for it.
+    fn raw(self) -> sys::Command {
+        let none = sys::Command::default();
+        match self {
+            Command::PutInt { dst, value } => sys::Command { op: 0, dst, value, ..none },
+            Command::Copy { dst, src: a } => sys::Command { op: 1, dst, a, ..none },
+            Command::Forget { dst } => sys::Command { op: 2, dst, ..none },
+            Command::Alloc { dst, tag, fields: n } => sys::Command { op: 3, dst, tag, n, ..none },
+            Command::AllocMajor { dst, tag, fields: n } => sys::Command { op: 4, dst, tag, n, ..none },
+            Command::Raw { dst, tag, fields: n } => sys::Command { op: 5, dst, tag, n, ..none },
+            Command::Load { dst, block: a, index: n } => sys::Command { op: 6, dst, a, n, ..none },
+            Command::Store { block: a, index: n, item: b } => sys::Command { op: 7, a, n, b, ..none },
+            Command::Cas { block: a, index: n, expected: dst, item: b } => sys::Command { op: 8, dst, a, n, b, ..none },
+            Command::Ephe { dst, keys: n } => sys::Command { op: 9, dst, n, ..none },
+            Command::SetKey { ephe: a, index: n, item: b } => sys::Command { op: 10, a, n, b, ..none },
+            Command::UnsetKey { ephe: a, index: n } => sys::Command { op: 11, a, n, ..none },
+            Command::GetKey { dst, ephe: a, index: n } => sys::Command { op: 12, dst, a, n, ..none },
+            Command::CheckKey { ephe: a, index: n } => sys::Command { op: 13, a, n, ..none },
+            Command::SetData { ephe: a, item: b } => sys::Command { op: 14, a, b, ..none },
+            Command::UnsetData { ephe: a } => sys::Command { op: 15, a, ..none },
+            Command::GetData { dst, ephe: a } => sys::Command { op: 16, dst, a, ..none },
+            Command::CheckData { ephe: a } => sys::Command { op: 17, a, ..none },
+            Command::Poll => sys::Command { op: 18, ..none },
+            Command::Minor => sys::Command { op: 19, ..none },
+            Command::Major => sys::Command { op: 20, ..none },
+            Command::FullMajor => sys::Command { op: 21, ..none },
+            Command::Finalise { item: a, number, dst } => sys::Command { op: 22, dst, a, number, ..none },
+            Command::FinaliseLast { item: a, number } => sys::Command { op: 23, a, number, ..none },
+        }
+    }
+}
+
+/// What a command replies, or a finaliser that ran.
+#[derive(Clone, Copy, Debug, PartialEq, Eq)]
+pub enum Reply {
+    Done,
+    Int(i64),
+    Block(Label),
+    BadType,
+    BadIndex,
+    Empty,
+    Yes,
+    No,
+    /// No room after a complete collection; no block was made.
+    Full,
+    Live { blocks: u64, words: u64 },
+    /// A `finalise` ran, of this block.
+    Fin { number: u32, label: Label },
+    /// A `finalise_last` ran.
+    Last { number: u32 },
+}
+
+impl Reply {
+    fn of(raw: &sys::Reply) -> Reply {
+        let label = Label { domain: raw.domain, serial: raw.serial };
+        match raw.kind {
+            0 => Reply::Done,
+            1 => Reply::Int(raw.value),
+            2 => Reply::Block(label),
+            3 => Reply::BadType,
+            4 => Reply::BadIndex,
+            5 => Reply::Empty,
+            6 => Reply::Yes,
+            7 => Reply::No,
+            8 => Reply::Full,
+            9 => Reply::Live { blocks: raw.blocks, words: raw.words },
+            10 => Reply::Fin { number: raw.number, label },
+            11 => Reply::Last { number: raw.number },
+            other => unreachable!("the library has no reply {other}"),
+        }
+    }
+}
+
+/// Why something wasn't done. Nothing has changed then.
+#[derive(Clone, Copy, Debug, PartialEq, Eq)]
+pub enum Refused {
+    /// The seat was closed.
+    Closed,
+    /// The command before isn't made yet.
+    Busy,
+    /// A register or number is outside its range.
+    Unfit,
+    NoEphemeron,
+    NoFinaliser,
+    NoLabel,
+    NoRegister,
+    Memory,
+    /// The first field of the configuration outside its range, counted from 1.
+    Outside(u32),
+}
+
+impl Refused {
+    fn of(told: u32) -> Refused {
+        match told {
+            17 => Refused::Closed,
+            18 => Refused::Busy,
+            19 => Refused::Unfit,
+            20 => Refused::NoEphemeron,
+            21 => Refused::NoFinaliser,
+            22 => Refused::NoLabel,
+            23 => Refused::NoRegister,
+            24 => Refused::Memory,
+            33.. => Refused::Outside(told - sys::OUTSIDE),
+            other => unreachable!("the library has no refusal {other}"),
+        }
+    }
+}
+
+impl fmt::Display for Refused {
+    fn fmt(&self, out: &mut fmt::Formatter<'_>) -> fmt::Result {
+        match self {
+            Refused::Closed => out.write_str("the seat takes no command any more"),
+            Refused::Busy => out.write_str("the command before isn't made yet"),
+            Refused::Unfit => out.write_str("a register or number is outside its range"),
+            Refused::NoEphemeron => out.write_str("no room for the ephemeron"),
+            Refused::NoFinaliser => out.write_str("no room for the finaliser"),
+            Refused::NoLabel => out.write_str("no label is left"),
+            Refused::NoRegister => out.write_str("no such register"),
+            Refused::Memory => out.write_str("memory ran out"),
+            Refused::Outside(field) => write!(out, "field {field} of the configuration is outside its range"),
+        }
+    }
+}
+
+impl std::error::Error for Refused {}
+
+/// A domain of a heap. It moves between threads; one at a time calls on it.
+pub struct Seat {
+    raw: sys::Domain,
+    // Two threads don't share one, not even to read.
+    _alone: PhantomData<Cell<()>>,
+}
+
+// The domain may be driven by any thread, as long as one at a time does: it is proved so of the crate that it stands on.
+unsafe impl Send for Seat {}
+
+/// A heap of this size: a seat for each of its domains, in order.
+pub fn start(config: Config) -> Result<Vec<Seat>, Refused> {
+    const MOST_DOMAINS: u32 = 8;
+    if config.domains > MOST_DOMAINS {
+        return Err(Refused::Outside(1));
+    }
+    let mut raw: Vec<sys::Domain> = (0..config.domains).map(|_| sys::Domain::NONE).collect();
+    match unsafe { sys::camlheap_start(&config, raw.as_mut_ptr(), raw.len()) } {
+        sys::DONE => Ok(raw.into_iter().map(|raw| Seat { raw, _alone: PhantomData }).collect()),
+        told => Err(Refused::of(told)),
+    }
+}
+
+impl Seat {
+    /// Makes a command, and answers its reply. Where a pause is wanted it waits for the other seats of the heap.
+    pub fn perform(&mut self, command: Command) -> Result<Reply, Refused> {
+        const TURNS: u32 = 64;
+        let mut reply = sys::Reply::default();
+        let mut told = unsafe { sys::camlheap_call(&mut self.raw, &command.raw(), TURNS, &mut reply) };
+        while told == sys::AGAIN || told == sys::WAITING {
+            if told == sys::WAITING {
+                thread::yield_now();
+            }
+            told = unsafe { sys::camlheap_run(&mut self.raw, TURNS, &mut reply) };
+        }
+        match told {
+            sys::DONE => Ok(Reply::of(&reply)),
+            told => Err(Refused::of(told)),
+        }
+    }
+
+    /// What a register holds: an integer, a block, or nothing.
+    pub fn show(&mut self, register: Register) -> Result<Reply, Refused> {
+        let mut reply = sys::Reply::default();
+        match unsafe { sys::camlheap_show(&mut self.raw, register, &mut reply) } {
+            sys::DONE => Ok(Reply::of(&reply)),
+            told => Err(Refused::of(told)),
+        }
+    }
+
+    /// The finalisers that have run since the last command was handed in, in order.
+    pub fn ran(&mut self) -> Vec<Reply> {
+        let mut found = Vec::new();
+        let mut reply = sys::Reply::default();
+        while unsafe { sys::camlheap_ran(&mut self.raw, found.len(), &mut reply) } == sys::DONE {
+            found.push(Reply::of(&reply));
+        }
+        found
+    }
+
+    /// What the domain counts.
+    pub fn stats(&mut self) -> Stats {
+        let mut stats = Stats::default();
+        unsafe { sys::camlheap_stats(&mut self.raw, &mut stats) };
+        stats
+    }
+
+    /// One turn, for a thread that has no command now: takes part in the pause that goes on, if there is one. Answers
+    /// whether the traces of all seats have ended.
+    pub fn turn(&mut self) -> bool {
+        let told = unsafe { sys::camlheap_turn(&mut self.raw) };
+        if told == sys::WAITING {
+            thread::yield_now();
+        }
+        told == sys::ENDED
+    }
+
+    /// No command comes any more. Waits until the other seats are finished too, and frees the domain.
+    pub fn finish(mut self) -> Result<(), Refused> {
+        match unsafe { sys::camlheap_close(&mut self.raw) } {
+            sys::DONE => (),
+            told => return Err(Refused::of(told)),
+        }
+        while !self.turn() {}
+        Ok(())
+    }
+}
+
+impl Drop for Seat {
+    fn drop(&mut self) {
+        unsafe { sys::camlheap_free(&mut self.raw) };
+    }
+}

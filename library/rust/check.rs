@@ -1,0 +1,38 @@
+//! Tries the wrapper: each call once, and each refusal that a program can come to. Ends with 0 where all is as it should be.
+use camlheap::{Command, Config, Label, Refused, Reply, start};
+
+const CONFIG: Config = Config { domains: 1, minor_words: 4096, pools: 64, finals: 1, ephes: 1 };
+
+fn starts() {
+    assert_eq!(start(Config { domains: 9, ..CONFIG }).err(), Some(Refused::Outside(1)));
+    assert_eq!(start(Config { minor_words: 5000, ..CONFIG }).err(), Some(Refused::Outside(2)));
+    assert_eq!(start(Config { pools: 1, ..CONFIG }).err(), Some(Refused::Outside(3)));
+}
+
+fn performs() -> Result<(), Refused> {
+    let mut seat = start(CONFIG)?.remove(0);
+    let block = Reply::Block(Label { domain: 0, serial: 1 });
+    assert_eq!(seat.perform(Command::Alloc { dst: 1, tag: 0, fields: 2 })?, block);
+    assert_eq!(seat.show(1)?, block);
+    assert_eq!(seat.show(16), Err(Refused::NoRegister));
+    assert_eq!(seat.perform(Command::PutInt { dst: 2, value: 7 })?, Reply::Done);
+    assert_eq!(seat.perform(Command::Store { block: 1, index: 0, item: 2 })?, Reply::Done);
+    assert_eq!(seat.perform(Command::Load { dst: 3, block: 1, index: 0 })?, Reply::Int(7));
+    assert_eq!(seat.perform(Command::Load { dst: 3, block: 1, index: 9 })?, Reply::BadIndex);
+    assert_eq!(seat.perform(Command::Copy { dst: 16, src: 0 }), Err(Refused::Unfit));
+    assert_eq!(seat.perform(Command::Finalise { item: 1, number: 3, dst: 4 })?, Reply::Done);
+    assert_eq!(seat.perform(Command::FinaliseLast { item: 1, number: 4 }), Err(Refused::NoFinaliser));
+    assert_eq!(seat.stats().finals, 1);
+    assert_eq!(seat.perform(Command::Forget { dst: 1 })?, Reply::Done);
+    assert!(matches!(seat.perform(Command::FullMajor)?, Reply::Live { .. }));
+    assert_eq!(seat.perform(Command::Poll)?, Reply::Done);
+    assert_eq!(seat.ran(), [Reply::Fin { number: 3, label: Label { domain: 0, serial: 1 } }]);
+    assert_eq!(seat.show(4)?, block);
+    assert_eq!(seat.stats().labels, 1);
+    seat.finish()
+}
+
+fn main() -> Result<(), Refused> {
+    starts();
+    performs()
+}
