@@ -1,6 +1,5 @@
 /* eval.c: evaluates nodes. An evaluation that isn't simple may leave any ENV; who needs it pushes it before. */
 #include "lisp.h"
-#include <stdlib.h>
 
 static bool is_leaf(const node *n) { return n->shape <= LOCAL; }
 
@@ -13,7 +12,7 @@ static _Noreturn void unbound(machine *m, int place) {
 
 /* A leaf, in this register unless it is a number of the code's. */
 static inline item leaf(machine *m, const node *n, int dst) {
-  if (n->shape == NUMBER) return (item){false, n->number};
+  if (n->shape == NUMBER) return integer(n->number);
   if (n->shape != LOCAL) {
     item it = load(m, dst, GLOBALS, n->a);
     if (is(it, UNBOUND_ITEM)) unbound(m, n->a);
@@ -43,13 +42,10 @@ static item part(machine *m, const node *n) {
 
 static item two(machine *m, const node *n) {
   const node *first = n->at[0], *second = n->at[1];
-  if (is_leaf(first) && is_leaf(second)) {
-    item a = leaf(m, first, A);
-    return binary(m, n->a, a, leaf(m, second, VAL));
-  }
-  item a = part(m, first);
+  bool is_first_leaf = is_leaf(first) && is_leaf(second);
+  item a = is_first_leaf ? leaf(m, first, A) : part(m, first);
   if (is_leaf(second)) {
-    if (a.is_block) copy(m, A, VAL);
+    if (!is_first_leaf && a.is_block) copy(m, A, VAL);
     return binary(m, n->a, a, leaf(m, second, VAL));
   }
   if (a.is_block) push(m, a, VAL);
@@ -58,130 +54,101 @@ static item two(machine *m, const node *n) {
   return binary(m, n->a, a, b);
 }
 
-/* Evaluates parts from one on, and pushes them; ENV stays. */
-static void push_parts(machine *m, const node *n, int from, int count, item *values) {
-  for (int i = 0; i < count; i++) push(m, values[i] = part(m, n->at[from + i]), VAL);
+/* Pushes the values of parts from one on, and answers where the first stands. */
+static int push_parts(machine *m, const node *n, int from) {
+  int base = m->depth;
+  for (int i = from; i < n->count; i++) push(m, part(m, n->at[i]), VAL);
+  return base;
+}
+
+/* A builtin, of what is pushed from here on. */
+static item call_builtin(machine *m, int which, int from) {
+  const builtin *it = &builtins[which];
+  int count = m->depth - from;
+  if (count < it->least || count > it->most) fail(m, "%s isn't called with %d arguments", it->name, count);
+  if (which >= binary_end) return it->run(m, from);
+  if (which < unary_count) return unary(m, which, peek(m, VAL, from));
+  item a = peek(m, A, from);
+  return binary(m, which, a, peek(m, VAL, from + 1));
 }
 
 static item general(machine *m, const node *n) {
-  int base = m->depth;
-  item values[MOST_ARGUMENTS];
-  if (n->count > MOST_ARGUMENTS) fail(m, "%s has more than %d arguments", builtins[n->a].name, MOST_ARGUMENTS);
-  push_parts(m, n, 0, n->count, values);
-  item it = builtins[n->a].run(m, n->count, values);
-  m->depth = base;
+  int from = push_parts(m, n, 0);
+  item it = builtins[n->a].run(m, from);
+  m->depth = from;
   return it;
 }
 
-/* A builtin as a value, of what is pushed. */
-static item call_builtin(machine *m, int which, int count, const item *values) {
-  const builtin *it = &builtins[which];
-  if (count < it->least || count > it->most) fail(m, "%s isn't called with %d arguments", it->name, count);
-  if (it->run) return it->run(m, count, values);
-  if (which < unary_count) return peek(m, VAL, m->depth - 1), unary(m, which, values[0]);
-  item sum = (peek(m, A, m->depth - count), values[0]);
-  for (int i = 1; i < count; i++) {
-    sum = binary(m, which, sum, peek(m, VAL, m->depth - count + i));
-    if (sum.is_block) copy(m, A, VAL);
-  }
-  return sum;
-}
-
 /* The code of the function in FUN, or NULL and which builtin it is. */
-static const node *code_of(machine *m, item function, int count, int64_t *above) {
-  kind kind = kind_of(m, function, FUN, above);
+static const node *code_of(machine *m, item function, int count, int64_t *which) {
+  kind kind = kind_of(m, function, FUN, which);
   if (kind == BUILTIN) return NULL;
   if (kind != CLOSURE) want(m, function, FUN, CLOSURE);
-  const node *code = codes[*above];
+  const node *code = codes[*which];
   if (code->b != count) fail(m, "a function of %d arguments is called with %d", code->b, count);
   return code;
 }
 
 /* The new frame is ENV. It leads to that of the function in FUN where the code looks there. */
 static const node *enter(machine *m, const node *code) {
-  if (code->has_link) {
-    load(m, T, FUN, 1);
-    store(m, FRAME, 0, T);
-  }
+  if (code->has_link) load(m, T, FUN, 1), store(m, FRAME, 0, T);
   copy(m, ENV, FRAME);
   return code->at[0];
 }
 
-/* The frame of a function, from what is pushed. */
-static const node *enter_pushed(machine *m, const node *code, int count, const item *values) {
+/* The body of the function in FUN, whose frame, in ENV, has what is pushed from here on. NULL where *it is the value. */
+static const node *enter_pushed(machine *m, item function, int from, item *it) {
+  int count = m->depth - from;
+  int64_t which;
+  const node *code = code_of(m, function, count, &which);
+  if (!code) return *it = call_builtin(m, (int)which, from), NULL;
   alloc(m, FRAME, count + 1);
-  for (int i = 0; i < count; i++) keep(m, FRAME, i + 1, values[i].is_block ? peek(m, VAL, m->depth - count + i) : values[i], VAL);
+  for (int i = 0; i < count; i++) peek(m, VAL, from + i), store(m, FRAME, i + 1, VAL);
   return enter(m, code);
 }
 
-item apply(machine *m, item function, int count, const item *values) {
-  int64_t above;
-  const node *code = code_of(m, function, count, &above);
-  return code ? last(m, enter_pushed(m, code, count, values)) : call_builtin(m, (int)above, count, values);
+item apply(machine *m, item function, int from) {
+  item it;
+  const node *body = enter_pushed(m, function, from, &it);
+  return body ? last(m, body) : it;
 }
 
-/* A call some part of which isn't simple, or of a builtin: the arguments are pushed. NULL where *it is the value. */
-static __attribute__((noinline)) const node *call_pushed(machine *m, const node *n, item *it) {
-  int base = m->depth, count = n->count - 1;
-  int64_t above;
-  item values[MOST_ARGUMENTS];
-  push_parts(m, n, 1, count, values);
+static const node *call_pushed(machine *m, const node *n, item *it) {
+  int from = push_parts(m, n, 1);
   item function = part(m, n->at[0]);
   if (function.is_block) copy(m, FUN, VAL);
-  const node *code = code_of(m, function, count, &above), *body = NULL;
-  if (code) body = enter_pushed(m, code, count, values);
-  else *it = call_builtin(m, (int)above, count, values);
-  m->depth = base;
+  const node *body = enter_pushed(m, function, from, it);
+  m->depth = from;
   return body;
 }
 
-/* A simple part goes to its field at once. */
-static inline void keep_part(machine *m, int index, const node *n) {
-  bool is_loaded = is_leaf(n) && n->shape != NUMBER;
-  item it = is_loaded ? leaf(m, n, VAL) : eval(m, n);
-  if (is_loaded) store(m, FRAME, index, VAL);
-  else keep(m, FRAME, index, it, VAL);
-}
-
-/* The body that a call goes on with, and its frame in ENV. NULL where *it is the value. */
+/* The same where the function is a leaf and the arguments are simple: these go to their fields at once. */
 static const node *call(machine *m, const node *n, item *it) {
-  if (!n->is_quick) return call_pushed(m, n, it);
-  int64_t above;
-  const node *code = code_of(m, leaf(m, n->at[0], FUN), n->count - 1, &above);
+  int64_t which;
+  const node *code = n->is_quick ? code_of(m, leaf(m, n->at[0], FUN), n->count - 1, &which) : NULL;
   if (!code) return call_pushed(m, n, it);
   alloc(m, FRAME, n->count);
-  for (int i = 1; i < n->count; i++) keep_part(m, i, n->at[i]);
+  for (int i = 1; i < n->count; i++) {
+    item value = eval(m, n->at[i]);
+    bool is_loaded = is_leaf(n->at[i]) && n->at[i]->shape != NUMBER;
+    keep(m, FRAME, i, is_loaded ? (item){true, 0} : value, VAL);
+  }
   return enter(m, code);
 }
 
-/* The same of a `let`, whose frame leads to the one around it. */
-static const node *let(machine *m, const node *n) {
-  int base = m->depth;
-  item values[MOST_ARGUMENTS];
-  if (!n->is_quick) push_parts(m, n, 0, n->b, values);
-  alloc(m, FRAME, n->b + 1);
-  for (int i = 0; i < n->b; i++)
-    if (n->is_quick) keep_part(m, i + 1, n->at[i]);
-    else keep(m, FRAME, i + 1, values[i].is_block ? peek(m, VAL, base + i) : values[i], VAL);
-  if (n->has_link) store(m, FRAME, 0, ENV);
-  copy(m, ENV, FRAME);
-  m->depth = base;
-  return n->at[n->b];
-}
-
 static item closure(machine *m, const node *n) {
-  item made = alloc(m, VAL, 2);
-  tag(m, VAL, CLOSURE, n->a);
+  item made = tagged(m, 2, CLOSURE, n->a);
   if (n->has_link) store(m, VAL, 1, ENV);
   return made;
 }
 
 static item set(machine *m, const node *n) {
   item it = part(m, n->at[0]);
-  if (n->shape == SET_GLOBAL) return keep(m, GLOBALS, n->a, it, VAL), NIL_ITEM;
-  int frame = ENV;
-  for (int i = n->a; i > 0; i--, frame = A) load(m, A, frame, 0);
-  return keep(m, frame, n->b, it, VAL), NIL_ITEM;
+  int block = n->shape == SET_GLOBAL ? GLOBALS : ENV;
+  if (n->shape == SET_LOCAL)
+    for (int i = n->a; i > 0; i--, block = A) load(m, A, block, 0);
+  keep(m, block, n->shape == SET_GLOBAL ? n->a : n->b, it, VAL);
+  return NIL_ITEM;
 }
 
 item eval(machine *m, const node *n) {
@@ -189,6 +156,10 @@ item eval(machine *m, const node *n) {
   for (;;) switch (n->shape) {
     case NUMBER: case CONSTANT: case GLOBAL: case LOCAL: return leaf(m, n, VAL);
     case SET_GLOBAL: case SET_LOCAL: return set(m, n);
+    case LAMBDA: return closure(m, n);
+    case UNARY: return unary(m, n->a, last(m, n->at[0]));
+    case BINARY: return two(m, n);
+    case GENERAL: return general(m, n);
     case IF: n = is_nil(part(m, n->at[0])) ? n->at[2] : n->at[1]; break;
     case OR:
       for (int i = 0; i < n->count && is_nil(it); i++) it = part(m, n->at[i]);
@@ -197,13 +168,7 @@ item eval(machine *m, const node *n) {
       for (int i = 0; i < n->count - 1; i++) part(m, n->at[i]);
       n = n->at[n->count - 1];
       break;
-    case LAMBDA: return closure(m, n);
-    case LET: n = let(m, n); break;
     case CALL:
       if (!(n = call(m, n, &it))) return it;
-      break;
-    case UNARY: return unary(m, n->a, last(m, n->at[0]));
-    case BINARY: return two(m, n);
-    case GENERAL: return general(m, n);
   }
 }

@@ -1,6 +1,6 @@
 /* main.c: `lisp [-m MINOR-WORDS] [-p POOLS] [FILE]` evaluates the forms of a file, or of standard input. A form that fails
  * prints why, and the next is evaluated. */
-#include "domains.h"
+#include "lisp.h"
 #include <pthread.h>
 #include <stdio.h>
 #include <stdlib.h>
@@ -24,9 +24,11 @@ static void *run(void *of) {
   start_names(m);
   attach(m);
   for (volatile bool goes_on = true; goes_on;) {
-    if (setjmp(m->failure)) printf("error: %s\n", m->message);
-    else goes_on = evaluate_next(m);
+    bool has_failed = setjmp(m->failure) != 0;
+    if (!has_failed) goes_on = evaluate_next(m);
+    else printf("error: %s\n", m->message);
     reset(m);
+    if (has_failed) clean(m);
     end_form(m);
   }
   join_all(m);

@@ -23,17 +23,22 @@ kind kind_of(machine *m, item it, int reg, int64_t *above) {
 }
 
 int64_t want(machine *m, item it, int reg, kind wanted) {
-  static const char *const names[] = {"pair", "function", "function", "symbol", "string", "vector", "weak pair", "handle",
-                                      "guardian", "task", "number", "nil", "t"};
+  static const char *const names[] = {"pair", "function", "function", "symbol", "string", "weak pair", "handle", "guardian", "task", "number", "nil", "t"};
   int64_t above = it.number;
   kind found = kind_of(m, it, reg, &above);
   if (found != wanted) fail(m, "wanted: %s, found: %s", names[wanted], names[found]);
   return above;
 }
 
-void tag(machine *m, int block, kind kind, int64_t above) {
+static void tag(machine *m, int block, kind kind, int64_t above) {
   number(m, T, above << 8 | kind);
   store(m, block, 0, T);
+}
+
+item tagged(machine *m, int fields, kind kind, int64_t above) {
+  item made = alloc(m, VAL, fields);
+  tag(m, VAL, kind, above);
+  return made;
 }
 
 /* A new block's fields hold 0, so it is a pair. */
@@ -48,15 +53,13 @@ item cons(machine *m, item head, item tail) {
 /* A string is a raw block: its length above its kind, and then 7 bytes a field. */
 item string(machine *m, const char *text, int length) {
   if (length > MOST_TEXT) fail(m, "a string is longer than %d", MOST_TEXT);
-  item made = heap_raw(&m->heap, NEW, 1 + (length + 6) / 7);
-  tag(m, NEW, STRING, length);
+  item made = heap_raw(&m->heap, VAL, 1 + (length + 6) / 7);
+  tag(m, VAL, STRING, length);
   for (int at = 0; at < length; at += 7) {
     int64_t bytes = 0;
     memcpy(&bytes, text + at, (size_t)(length - at < 7 ? length - at : 7));
-    number(m, T, bytes);
-    store(m, NEW, 1 + at / 7, T);
+    keep(m, VAL, 1 + at / 7, integer(bytes), T);
   }
-  copy(m, VAL, NEW);
   return made;
 }
 
@@ -91,10 +94,8 @@ item symbol(machine *m, const char *name) {
     if (find(m, name, bucket, &found)) return found;
     string(m, name, (int)strlen(name));
     copy(m, B, VAL);
-    found = alloc(m, VAL, 2);
-    tag(m, VAL, SYMBOL, 0);
+    found = tagged(m, 2, SYMBOL, 0);
     store(m, VAL, 1, B);
-    number(m, T, 0);
     heap_ephemeron(&m->heap, B, VAL, T);
     alloc(m, NEW, 2);
     store(m, NEW, 0, B);
@@ -104,27 +105,23 @@ item symbol(machine *m, const char *name) {
   }
 }
 
-/* Makes a chain anew of the cells in it whose symbols are left, and counts these. */
-static int count_chain(machine *m, int bucket) {
-  int count = 0;
-  item first = load(m, A, TABLE, bucket);
-  number(m, B, 0);
-  for (item cell = first; cell.is_block; cell = load(m, A, A, 1)) {
-    load(m, VAL, A, 0);
-    if (!heap_has_key(&m->heap, VAL)) continue;
-    alloc(m, NEW, 2);
-    store(m, NEW, 0, VAL);
-    store(m, NEW, 1, B);
-    copy(m, B, NEW);
-    count++;
-  }
-  if (is(load(m, A, TABLE, bucket), first)) heap_cas(&m->heap, TABLE, bucket, A, B);
-  return count;
-}
-
+/* Makes each chain anew of the cells whose symbols are left, and counts these. */
 int64_t count_symbols(machine *m) {
   int64_t count = 0;
-  for (int bucket = 0; bucket < BUCKETS; bucket++) count += count_chain(m, bucket);
+  for (int bucket = 0; bucket < BUCKETS; bucket++) {
+    item first = load(m, A, TABLE, bucket);
+    number(m, B, 0);
+    for (item cell = first; cell.is_block; cell = load(m, A, A, 1)) {
+      load(m, VAL, A, 0);
+      if (!heap_has_key(&m->heap, VAL)) continue;
+      alloc(m, NEW, 2);
+      store(m, NEW, 0, VAL);
+      store(m, NEW, 1, B);
+      copy(m, B, NEW);
+      count++;
+    }
+    if (is(load(m, A, TABLE, bucket), first)) heap_cas(&m->heap, TABLE, bucket, A, B);
+  }
   return count;
 }
 
@@ -134,10 +131,7 @@ static int chunk_with(machine *m, int position) {
   if (wanted == m->chunk) return STACK;
   if (wanted >= CHUNKS) fail(m, "the stack is full");
   m->chunk = -1;
-  if (!load(m, STACK, SPINE, wanted).is_block) {
-    alloc(m, STACK, CHUNK);
-    store(m, SPINE, wanted, STACK);
-  }
+  if (!load(m, STACK, SPINE, wanted).is_block) alloc(m, STACK, CHUNK), store(m, SPINE, wanted, STACK);
   m->chunk = wanted;
   return STACK;
 }
@@ -156,9 +150,7 @@ void nest(machine *m) {
 }
 
 void attach(machine *m) {
-  load(m, GLOBALS, SHARED, S_GLOBALS);
-  load(m, NAMES, SHARED, S_NAMES);
-  load(m, TABLE, SHARED, S_TABLE);
+  for (int i = 0; i < JOBS; i++) load(m, GLOBALS + i, SHARED, i);
   alloc(m, SPINE, CHUNKS + 1);
   reset(m);
 }
@@ -169,12 +161,10 @@ void reset(machine *m) {
   number(m, ENV, 0);
 }
 
-/* Blocks in registers and places that aren't in use would be held by a collection. */
+/* What registers and places hold that aren't in use would live through a collection. */
 void clean(machine *m) {
   for (int reg = VAL; reg <= T; reg++) heap_forget(&m->heap, reg);
-  number(m, T, 0);
-  int chunk = m->depth / CHUNK;
-  for (int at = chunk + 1; at <= m->deepest / CHUNK; at++) store(m, SPINE, at, T);
-  for (int at = m->depth; at < m->deepest && at / CHUNK == chunk; at++) store(m, chunk_with(m, at), at % CHUNK, T);
+  for (int at = m->depth / CHUNK + 1; at <= m->deepest / CHUNK; at++) keep(m, SPINE, at, integer(0), T);
+  for (int at = m->depth; at % CHUNK && at < m->deepest; at++) keep(m, chunk_with(m, at), at % CHUNK, integer(0), T);
   m->deepest = m->depth;
 }
