@@ -53,7 +53,7 @@ struct Along<'a> {
 impl<'a> Along<'a> {
     // One that hasn't waited so far.
     fn new(pool: &'a Pool<Heap, Idle>, events: &'a EventCount) -> Along<'a>
-        ensures { result.pool ≡ pool }
+        ensures { result.pool ≡ pool.entry }
     {
         Along {
             pool,

@@ -1,13 +1,12 @@
 -- Two states of the machine that look alike from their registers.
-use Rattle.std.proofs.Common.{◌≡◌, ◌≢◌, ◌⊎◌, inl, inr, ⊎_elim, ℕ, zero, suc, ◌-◌, ◌<◌, ◌≤◌, Bool, true, false, cond, List, [], ◌∷◌, length, length-set, get_or, get_or-set_same, get_or-set_other, slice_set, slice_get, Option, Some, None, refl, ap, sym, ◌∙◌, subst, arith}
+use Rattle.std.proofs.Common.{◌≡◌, ◌⊎◌, inl, inr, ⊎_elim, ℕ, zero, suc, Bool, true, false, List, [], ◌∷◌, length, length-set, get_or, slice_set, slice_get, Option, Some, None, refl, ap, sym, ◌∙◌, subst, arith}
 use Rattle.heap_model.specs.declared.label.Label.{Label}
-use Rattle.heap_model.specs.declared.graph.Value.{Value}
 use Rattle.heap_model.specs.Graph.{same_label}
 use Rattle.heap_model.proofs.Graphs.GraphLemmas.{same_label-true, same_label_refl}
-use Rattle.table_laws.specs.Structures.{Binding, datum_at, without}
-use Rattle.table_laws.specs.Thinning.{EmptiedBy, ThinnedBy}
+use Rattle.table_laws.specs.Structures.{datum_at}
+use Rattle.table_laws.specs.Thinning.{EmptiedBy}
 use Rattle.table_laws.proofs.BindingLemmas.{thinned_datum}
-use Rattle.table_machine.specs.Machine.{Binds, Holds, IsLost, IsNew, MayGo, TableState, with_key}
+use Rattle.table_machine.specs.Machine.{Holds, IsLost, MayGo, TableState}
 
 -- the key in a place
 abbrev pub in_place : List (Option Label) → ℕ → Option Label

@@ -1,5 +1,5 @@
 -- What each line does to two states that look alike, and so all lines.
-use Rattle.std.proofs.Common.{◌≡◌, ◌≢◌, ◌⊎◌, inl, inr, ⊎_elim, ℕ, zero, suc, ◌-◌, Bool, true, false, cond, List, [], ◌∷◌, ◌++◌, length, length-set, replicate, slice_set, slice_get, Option, Some, None, refl, ap, sym, ◌∙◌, subst}
+use Rattle.std.proofs.Common.{◌≡◌, ◌⊎◌, inl, inr, ⊎_elim, ℕ, zero, suc, ◌-◌, Bool, true, false, cond, List, [], ◌∷◌, ◌++◌, length, length-set, slice_set, slice_get, Option, Some, None, refl, ap, sym, ◌∙◌, subst}
 use Rattle.heap_model.specs.declared.label.Label.{Label}
 use Rattle.heap_model.specs.declared.graph.Value.{Value}
 use Rattle.heap_model.specs.declared.graph.Value.TheVariants as value
@@ -12,9 +12,9 @@ use Rattle.table_text.specs.declared.line.TableLine.{TableLine}
 use Rattle.table_text.specs.declared.line.TableLine.TheVariants.{Key, Forget, Put, Get, Del, SetWeak, GetWeak, Count, FullMajor}
 use Rattle.table_machine.specs.declared.reply.LineReply.{LineReply}
 use Rattle.table_machine.specs.declared.reply.LineReply.TheVariants as reply
-use Rattle.table_machine.specs.Machine.{Binds, Deletes, Effect, Holds, IsLost, IsNew, LineStep, MachineRuns, MayBeRefused, MayGo, ReadsSlot, Shows, TableState, WithKey, key_in, opened, with_key}
+use Rattle.table_machine.specs.Machine.{Binds, Deletes, Effect, Holds, IsNew, LineStep, MachineRuns, MayBeRefused, MayGo, ReadsSlot, Shows, TableState, WithKey, key_in, opened, with_key}
 use Rattle.text_laws.specs.Agreeing.{Agree, GivesBack, GoesOn, NoneRefused, Parallel, TextsAgree}
-use Rattle.text_laws.proofs.Alike.{Alike, Fits, Leans, gets, got, held_or_lost, in_place, leans_on, leans_with, set_two, some_is}
+use Rattle.text_laws.proofs.Alike.{Alike, Fits, Leans, gets, got, held_or_lost, in_place, leans_on, leans_with, set_two}
 
 -- the other way round
 swap : {s t : TableState} → Alike s t → Alike t s
