@@ -128,6 +128,23 @@ uint32_t camlheap_run(camlheap_domain *domain, uint32_t turns, camlheap_reply *r
 /* camlheap_submit, and where it took the command camlheap_run; at once where no pause is wanted and none must come first. */
 uint32_t camlheap_call(camlheap_domain *domain, const camlheap_command *command, uint32_t turns, camlheap_reply *reply);
 
+/* The commands that are made most, each by a call of its own, which costs less: DONE and the reply where the command is made
+ * at once; AGAIN where a pause is wanted or must come first: then it is handed in, and camlheap_run goes on; and else why it
+ * isn't taken, and then nothing has changed. Operands stand in the order of a script's line. */
+uint32_t camlheap_put_int(camlheap_domain *domain, uint8_t dst, int64_t value, camlheap_reply *reply);
+uint32_t camlheap_copy(camlheap_domain *domain, uint8_t dst, uint8_t src, camlheap_reply *reply);
+uint32_t camlheap_forget(camlheap_domain *domain, uint8_t dst, camlheap_reply *reply);
+uint32_t camlheap_alloc(camlheap_domain *domain, uint8_t dst, uint8_t tag, uint16_t fields, camlheap_reply *reply);
+uint32_t camlheap_load(camlheap_domain *domain, uint8_t dst, uint8_t block, uint16_t index, camlheap_reply *reply);
+uint32_t camlheap_store(camlheap_domain *domain, uint8_t block, uint16_t index, uint8_t item, camlheap_reply *reply);
+uint32_t camlheap_cas(camlheap_domain *domain, uint8_t block, uint16_t index, uint8_t expected, uint8_t item, camlheap_reply *reply);
+uint32_t camlheap_set_key(camlheap_domain *domain, uint8_t ephe, uint16_t index, uint8_t item, camlheap_reply *reply);
+uint32_t camlheap_get_key(camlheap_domain *domain, uint8_t dst, uint8_t ephe, uint16_t index, camlheap_reply *reply);
+uint32_t camlheap_check_key(camlheap_domain *domain, uint8_t ephe, uint16_t index, camlheap_reply *reply);
+uint32_t camlheap_set_data(camlheap_domain *domain, uint8_t ephe, uint8_t item, camlheap_reply *reply);
+uint32_t camlheap_get_data(camlheap_domain *domain, uint8_t dst, uint8_t ephe, camlheap_reply *reply);
+uint32_t camlheap_poll(camlheap_domain *domain, camlheap_reply *reply);
+
 /* The reply to the command handed in last: DONE, or AGAIN where it isn't made yet. */
 uint32_t camlheap_answer(camlheap_domain *domain, camlheap_reply *reply);
 
@@ -154,14 +171,19 @@ void camlheap_free(camlheap_domain *domain);
 #define CAMLHEAP_PAUSE() sched_yield()
 #endif
 
-/* Makes a command, and waits for its reply: DONE, or why it wasn't taken. Other threads have to turn the other domains. */
-static inline uint32_t camlheap_perform(camlheap_domain *domain, const camlheap_command *command, camlheap_reply *reply) {
-  uint32_t told = camlheap_call(domain, command, 64, reply);
+/* Goes on with a command until it is made, from what the call that began it has answered. Other threads have to turn the
+ * other domains. */
+static inline uint32_t camlheap_await(camlheap_domain *domain, uint32_t told, camlheap_reply *reply) {
   while (told == CAMLHEAP_AGAIN || told == CAMLHEAP_WAITING) {
     if (told == CAMLHEAP_WAITING) CAMLHEAP_PAUSE();
     told = camlheap_run(domain, 64, reply);
   }
   return told;
+}
+
+/* Makes a command, and waits for its reply: DONE, or why it wasn't taken. */
+static inline uint32_t camlheap_perform(camlheap_domain *domain, const camlheap_command *command, camlheap_reply *reply) {
+  return camlheap_await(domain, camlheap_call(domain, command, 64, reply), reply);
 }
 
 /* Closes a domain, turns it until all have ended, and frees it: ENDED, or why it can't be closed. */

@@ -1,2 +1,3 @@
 pub mod Values
 mod Waiting
+mod Handing

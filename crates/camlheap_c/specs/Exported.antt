@@ -1,5 +1,5 @@
 -- What the exports leave in a handle that holds a domain.
-use Rattle.std.specs.Prelude.{slice_get, ◌≡◌, ◌≢◌, ℕ, ◌≤◌, List, length, true, false, Option, Some, None, [], ◌∷◌}
+use Rattle.std.specs.Prelude.{slice_get, ◌≡◌, ◌≢◌, ◌↔◌, ℕ, ◌<◌, ◌≤◌, List, true, false, Option, Some, None, [], ◌∷◌}
 use Rattle.heap_model.specs.declared.command.Command as model
 use Rattle.heap_model.specs.declared.reply.Reply.{Reply}
 use Rattle.heap_rule.specs.declared.config.Config.{Config}
@@ -43,6 +43,11 @@ pub record Calls (old new : SharedView) (c : CamlheapCommand) (before read : Cam
   pub may : MaySubmit old.run command
   pub goes_on : GoesOn old.run.token.view command old new before read told
 
+-- this command was taken, and by what the call answers it is made or waits still
+pub record Begins (old new : SharedView) (c : model.Command) (before read : CamlheapReply) (told : ℕ) : Type 0 where
+  pub may : MaySubmit old.run c
+  pub goes_on : GoesOn old.run.token.view c old new before read told
+
 -- the answer of the command that was handed in last, or none yet
 pub record Tells (s : SharedView) (before read : CamlheapReply) (told : ℕ) : Type 0 where
   pub answer : told ≡ 0 → (r : Reply) × ((answer_of s.run ≡ Some r) × (read ≡ reply_form r))
@@ -62,10 +67,10 @@ abbrev pub IsHandleOf : SharedView → CamlheapDomain → Type 0
 IsHandleOf s d = (d.full ≡ true) × (d.value ≡ s)
 
 -- the first handles hold these domains, in order, and the others are as they were
-pub record Fills (views : List SharedView) (old new : List CamlheapDomain) : Type 0 where
-  pub count : length new ≡ length old
-  pub held : (i : ℕ) (s : SharedView) → slice_get views i ≡ Some s → (d : CamlheapDomain) × ((slice_get new i ≡ Some d) × IsHandleOf s d)
-  pub others : (i : ℕ) → length views ≤ i → slice_get new i ≡ slice_get old i
+abbrev pub Fills : List SharedView → List CamlheapDomain → List CamlheapDomain → Type 0
+Fills [] old new = new ≡ old
+Fills (s ∷ views) (d ∷ old) (e ∷ new) = IsHandleOf s e × Fills views old new
+Fills (s ∷ views) _ _ = ⊥
 
 -- a heap of this size was started, and the first handles hold its domains, in order, before the first command of each
 pub record Starts (c : CamlheapConfig) (old new : List CamlheapDomain) : Type 0 where
@@ -83,3 +88,11 @@ pub record RefusesClose (s : SharedView) (told : ℕ) : Type 0 where
   pub why : Refused
   pub told_is : told ≡ refused_form why
   pub unclosed : IsUnclosedBy s why
+
+-- what a call of its own for a command leaves: a handle that holds none is told as such, and nothing else is; the command was begun, or it isn't taken, and then nothing has changed
+pub record CallsDirectly (old new : CamlheapDomain) (c : model.Command) (before read : CamlheapReply) (told : ℕ) : Type 0 where
+  pub kept : new.full ≡ old.full
+  pub none : (old.full ≡ false) ↔ (told ≡ 16)
+  pub begun : old.full ≡ true → told < 17 → Begins old.value new.value c before read told
+  pub why : old.full ≡ true → 17 ≤ told → RefusesAs old.value (Some c) told
+  pub same : old.full ≡ true → 17 ≤ told → (new.value ≡ old.value) × (read ≡ before)

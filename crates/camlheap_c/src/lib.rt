@@ -7,6 +7,7 @@
 
 mod codes;
 mod crossing;
+mod direct;
 mod driving;
 mod handle;
 mod loose;

@@ -53,7 +53,7 @@ struct Along<'a> {
 impl<'a> Along<'a> {
     // One that hasn't waited so far.
     fn new(pool: &'a Pool<Heap, Idle>, events: &'a EventCount) -> Along<'a>
-        ensures { result.pool ≡ pool }
+        ensures { result.pool ≡ pool.entry }
     {
         Along {
             pool,
@@ -71,13 +71,7 @@ impl<'a> Meanwhile<Keeper<Idle>> for Along<'a> {
         self.announced = self.waiter.announced();
     }
 
-    fn behind_turn<R: Wait>(
-        &mut self,
-        rt: &R,
-        heap: &Heap,
-        kept: &mut Keeper<Idle>,
-        came: Came,
-    ) {
+    fn behind_turn<R: Wait>(&mut self, rt: &R, heap: &Heap, kept: &mut Keeper<Idle>, came: Came) {
         let announced = self.announced.take();
         if came == Came::On || help_any(rt, heap, self.pool, kept) {
             self.events.notify_all();

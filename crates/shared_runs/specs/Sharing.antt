@@ -30,7 +30,7 @@ IsRefusedBy s c (Unfit why) = (s.run.supply ≡ Open) × ((s.run.next ≡ length
 
 -- it can be closed: its trace is open, and the last command is done
 pub record MayClose (s : SharedView) : Type 0 where
-  pub open : s.run.supply ≡ Open
+  pub is_open : s.run.supply ≡ Open
   pub done : s.run.next ≡ length s.run.commands
 
 -- why it can't: it was closed before, or the last command isn't done. Nothing else is a reason

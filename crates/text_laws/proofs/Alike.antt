@@ -1,13 +1,12 @@
 -- Two states of the machine that look alike from their registers.
-use Rattle.std.proofs.Common.{◌≡◌, ◌≢◌, ◌⊎◌, inl, inr, ⊎_elim, ℕ, zero, suc, ◌-◌, ◌<◌, ◌≤◌, Bool, true, false, cond, List, [], ◌∷◌, length, length-set, get_or, get_or-set_same, get_or-set_other, slice_set, slice_get, Option, Some, None, refl, ap, sym, ◌∙◌, subst, arith}
+use Rattle.std.proofs.Common.{◌≡◌, ◌⊎◌, inl, inr, ⊎_elim, ℕ, zero, suc, Bool, true, false, List, [], ◌∷◌, length, length-set, get_or, slice_set, slice_get, Option, Some, None, refl, ap, sym, ◌∙◌, subst, arith}
 use Rattle.heap_model.specs.declared.label.Label.{Label}
-use Rattle.heap_model.specs.declared.graph.Value.{Value}
 use Rattle.heap_model.specs.Graph.{same_label}
 use Rattle.heap_model.proofs.Graphs.GraphLemmas.{same_label-true, same_label_refl}
-use Rattle.table_laws.specs.Structures.{Binding, datum_at, without}
-use Rattle.table_laws.specs.Thinning.{EmptiedBy, ThinnedBy}
+use Rattle.table_laws.specs.Structures.{datum_at}
+use Rattle.table_laws.specs.Thinning.{EmptiedBy}
 use Rattle.table_laws.proofs.BindingLemmas.{thinned_datum}
-use Rattle.table_machine.specs.Machine.{Binds, Holds, IsLost, IsNew, MayGo, TableState, with_key}
+use Rattle.table_machine.specs.Machine.{Holds, IsLost, MayGo, TableState}
 
 -- the key in a place
 abbrev pub in_place : List (Option Label) → ℕ → Option Label
@@ -71,12 +70,15 @@ held_or_lost (p ∷ ps) k = first p refl (held_or_lost ps k)
     later : (p ≡ Some k → ⊥) → (Holds ps k → ⊥) → (i : ℕ) → slice_get (p ∷ ps) i ≡ Some (Some k) → ⊥
     later other lost zero e = other (let same : p ≡ Some k = cc in same)
     later other lost (suc i) e = lost (i, e)
+
     rest : (p ≡ Some k → ⊥) → ((i : ℕ) × (in_place ps i ≡ Some k)) ⊎ (Holds ps k → ⊥) → ((i : ℕ) × (in_place (p ∷ ps) i ≡ Some k)) ⊎ (Holds (p ∷ ps) k → ⊥)
     rest other (inl (i, at)) = inl (suc i, at)
     rest other (inr lost) = inr (λ h. later other lost h.0 h.1)
+
     tested : (x : Label) → p ≡ Some x → (c : Bool) → same_label x k ≡ c → ((i : ℕ) × (in_place ps i ≡ Some k)) ⊎ (Holds ps k → ⊥) → ((i : ℕ) × (in_place (p ∷ ps) i ≡ Some k)) ⊎ (Holds (p ∷ ps) k → ⊥)
     tested x is true same below = inl (0, is ∙ ap Some (same_label-true x k same))
     tested x is false other below = rest (λ e. (let equal : x ≡ k = some_is x k (sym is ∙ e) in let clash : true ≡ false = sym (same_label_refl k) ∙ (ap (λ (y : Label). same_label y k) (sym equal) ∙ other) in cc)) below
+
     first : (o : Option Label) → p ≡ o → ((i : ℕ) × (in_place ps i ≡ Some k)) ⊎ (Holds ps k → ⊥) → ((i : ℕ) × (in_place (p ∷ ps) i ≡ Some k)) ⊎ (Holds (p ∷ ps) k → ⊥)
     first None is below = rest (λ e. let clash : None ≡ Some k = sym is ∙ e in cc) below
     first (Some x) is below = tested x is (same_label x k) refl below
@@ -151,20 +153,25 @@ module _ (s t : TableState) (q : ℕ) (x : Leans s t) where
     where
       us : List (Option Label)
       us = slice_set s.registers q (Some k)
+
       vs : List (Option Label)
       vs = slice_set t.registers q (Some m)
+
       Pair : ℕ → Label → Label → Type 0
       Pair i l n = ((l ≡ k) × (n ≡ m)) ⊎ ((in_place s.registers i ≡ Some l) × (in_place t.registers i ≡ Some n))
+
       pair : (i : ℕ) (l n : Label) → in_place us i ≡ Some l → in_place vs i ≡ Some n → Pair i l n
       pair i l n a b = ⊎_elim
           (λ (y : (in_place us i ≡ Some k) × (in_place vs i ≡ Some m)). inl (some_is l k (sym a ∙ y.0), some_is n m (sym b ∙ y.1)))
           (λ (y : (in_place us i ≡ in_place s.registers i) × (in_place vs i ≡ in_place t.registers i)). inr (sym y.0 ∙ a, sym y.1 ∙ b))
           (set_two s.registers t.registers q i (Some k) (Some m) x.registers)
+
       hold : (i : ℕ) (l : Label) → in_place us i ≡ Some l → (n : Label) × (in_place vs i ≡ Some n)
       hold i l at = ⊎_elim
           (λ (y : (in_place us i ≡ Some k) × (in_place vs i ≡ Some m)). (m, y.1))
           (λ (y : (in_place us i ≡ in_place s.registers i) × (in_place vs i ≡ in_place t.registers i)). (let h = x.hold i l (sym y.0 ∙ at) in (h.0, y.1 ∙ h.1)))
           (set_two s.registers t.registers q i (Some k) (Some m) x.registers)
+
       once : (i j : ℕ) (l n o : Label) → in_place us i ≡ Some l → in_place vs i ≡ Some n → in_place us j ≡ Some l → in_place vs j ≡ Some o → n ≡ o
       once i j l n o a b c d = of (pair i l n a b) (pair j l o c d)
         where
@@ -173,10 +180,11 @@ module _ (s t : TableState) (q : ℕ) (x : Leans s t) where
           of (inl (e, f)) (inr (g, h)) = f ∙ fit.same j o (g ∙ ap Some e) h
           of (inr (e, f)) (inl (g, h)) = sym (h ∙ fit.same i n (e ∙ ap Some g) f)
           of (inr (e, f)) (inr (g, h)) = x.once i j l n o e f g h
+
       datum : (i : ℕ) (l n : Label) → Pair i l n → datum_at s.bindings l ≡ datum_at t.bindings n
       datum i l n (inl (e, f)) = ap (datum_at s.bindings) e ∙ (fit.datum ∙ sym (ap (datum_at t.bindings) f))
       datum i l n (inr (a, b)) = x.datum i l n a b
+
       slots : (i j : ℕ) (l n : Label) → Pair i l n → in_place s.slots j ≡ Some l → in_place t.slots j ≡ Some n
       slots i j l n (inl (e, f)) found = fit.slot j (found ∙ ap Some e) ∙ sym (ap Some f)
       slots i j l n (inr (a, b)) found = x.slots i j l n a b found
-

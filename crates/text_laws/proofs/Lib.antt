@@ -1,3 +1,3 @@
-pub mod Alike
-
-pub mod Lines
+mod Alike
+mod Lines
+mod Parting

@@ -1,5 +1,5 @@
 -- What each line does to two states that look alike, and so all lines.
-use Rattle.std.proofs.Common.{◌≡◌, ◌≢◌, ◌⊎◌, inl, inr, ⊎_elim, ℕ, zero, suc, ◌-◌, Bool, true, false, cond, List, [], ◌∷◌, ◌++◌, length, length-set, replicate, slice_set, slice_get, Option, Some, None, refl, ap, sym, ◌∙◌, subst}
+use Rattle.std.proofs.Common.{◌≡◌, ◌⊎◌, inl, inr, ⊎_elim, ℕ, zero, suc, ◌-◌, Bool, true, false, cond, List, [], ◌∷◌, ◌++◌, length, length-set, slice_set, slice_get, Option, Some, None, refl, ap, sym, ◌∙◌, subst}
 use Rattle.heap_model.specs.declared.label.Label.{Label}
 use Rattle.heap_model.specs.declared.graph.Value.{Value}
 use Rattle.heap_model.specs.declared.graph.Value.TheVariants as value
@@ -12,9 +12,9 @@ use Rattle.table_text.specs.declared.line.TableLine.{TableLine}
 use Rattle.table_text.specs.declared.line.TableLine.TheVariants.{Key, Forget, Put, Get, Del, SetWeak, GetWeak, Count, FullMajor}
 use Rattle.table_machine.specs.declared.reply.LineReply.{LineReply}
 use Rattle.table_machine.specs.declared.reply.LineReply.TheVariants as reply
-use Rattle.table_machine.specs.Machine.{Binds, Deletes, Effect, Holds, IsLost, IsNew, LineStep, MachineRuns, MayBeRefused, MayGo, ReadsSlot, Shows, TableState, WithKey, key_in, opened, with_key}
+use Rattle.table_machine.specs.Machine.{Binds, Deletes, Effect, Holds, IsNew, LineStep, MachineRuns, MayBeRefused, MayGo, ReadsSlot, Shows, TableState, WithKey, key_in, opened, with_key}
 use Rattle.text_laws.specs.Agreeing.{Agree, GivesBack, GoesOn, NoneRefused, Parallel, TextsAgree}
-use Rattle.text_laws.proofs.Alike.{Alike, Fits, Leans, gets, got, held_or_lost, in_place, leans_on, leans_with, set_two, some_is}
+use Rattle.text_laws.proofs.Alike.{Alike, Fits, Leans, gets, got, held_or_lost, in_place, leans_on, leans_with, set_two}
 
 -- the other way round
 swap : {s t : TableState} → Alike s t → Alike t s
@@ -89,8 +89,10 @@ leans_without s t q x = record {
   where
     us : List (Option Label)
     us = slice_set s.registers q None
+
     vs : List (Option Label)
     vs = slice_set t.registers q None
+
     was : (i : ℕ) (k : Label) → in_place (slice_set s.registers q None) i ≡ Some k → (in_place s.registers i ≡ Some k) × (in_place (slice_set t.registers q None) i ≡ in_place t.registers i)
     was i k at = ⊎_elim
         (λ (y : (in_place (slice_set s.registers q None) i ≡ None) × (in_place (slice_set t.registers q None) i ≡ None)). let clash : None ≡ Some k = sym y.0 ∙ at in cc)
@@ -114,6 +116,7 @@ leans_data s t u v x ur us vr vs data_same = record {
   where
     first : (i : ℕ) (k : Label) → in_place u.registers i ≡ Some k → in_place s.registers i ≡ Some k
     first i k at = sym (ap (λ (ps : List (Option Label)). in_place ps i) ur) ∙ at
+
     second : (i : ℕ) (k : Label) → in_place v.registers i ≡ Some k → in_place t.registers i ≡ Some k
     second i k at = sym (ap (λ (ps : List (Option Label)). in_place ps i) vr) ∙ at
 
@@ -148,9 +151,9 @@ leans_slot s t q at k m x here there = record {
   datum = x.0.datum;
   slots = λ i j l n a b found. ⊎_elim
       (λ (y : (in_place (slice_set s.slots at (Some k)) j ≡ Some k) × (in_place (slice_set t.slots at (Some m)) j ≡ Some m)).
-          y.1 ∙ ap Some (x.0.once q i k m n here there (a ∙ (sym found ∙ y.0)) b))
+      y.1 ∙ ap Some (x.0.once q i k m n here there (a ∙ (sym found ∙ y.0)) b))
       (λ (y : (in_place (slice_set s.slots at (Some k)) j ≡ in_place s.slots j) × (in_place (slice_set t.slots at (Some m)) j ≡ in_place t.slots j)).
-          y.1 ∙ x.0.slots i j l n a b (sym y.0 ∙ found))
+      y.1 ∙ x.0.slots i j l n a b (sym y.0 ∙ found))
       (set_two s.slots t.slots at j (Some k) (Some m) x.0.places);
 }
 
@@ -177,15 +180,19 @@ shows_same (Some value.Nothing) a b e d = absurd e
 deletes_too : (s t u v : TableState) (q : ℕ) (a b : LineReply) (k m : Label) → Alike s t → in_place s.registers q ≡ Some k → in_place t.registers q ≡ Some m
     → (o : Option Value) → Deletes k s a u o → Deletes m t b v o → (a ≡ b) × Alike u v
 deletes_too s t u v q a b k m x here there None (ra, ua) (rb, vb) = (ra ∙ sym rb, alike_is s t u v ua vb x)
-deletes_too s t u v q a b k m x here there (Some d) (ra, ua) (rb, vb) = (ra ∙ sym rb, alike_is gone lost u v ua vb (
+deletes_too s t u v q a b k m x here there (Some d) (ra, ua) (rb, vb) = (
+  ra ∙ sym rb,
+  alike_is gone lost u v ua vb (
     leans_at s t gone lost q k m None None x here there refl refl refl refl (datum_gone k s.bindings) (datum_gone m t.bindings) refl
         (λ l differs. datum_without k l differs s.bindings) (λ l differs. datum_without m l differs t.bindings),
     leans_at t s lost gone q m k None None (swap x) there here refl refl refl refl (datum_gone m t.bindings) (datum_gone k s.bindings) refl
         (λ l differs. datum_without m l differs t.bindings) (λ l differs. datum_without k l differs s.bindings),
-  ))
+  ),
+)
   where
     gone : TableState
     gone = record s { bindings = without k s.bindings }
+
     lost : TableState
     lost = record t { bindings = without m t.bindings }
 
@@ -248,36 +255,38 @@ same_done s t l a b u v into r = record { agree = into r.0; alike = λ goes. r.1
 module _ (s t p q u v : TableState) (a b : LineReply) (goes : MayGo s p) (other : MayGo t q) (x : Alike p q) where
   put_too : (r : ℕ) (w : _) → Effect p (Put r w) a u → Effect q (Put r w) b v → (a ≡ b) × Alike u v
   put_too r w = with_key_too p q u v (r - 1) a b _ _ x (λ k m here there done did. (
-      done.0 ∙ sym did.0,
-      ( leans_at p q u v (r - 1) k m (Some (value.Int w)) (Some (value.Int w)) x here there done.1 done.2 did.1 did.2 done.3.bound did.3.bound refl
-            (λ l differs. binds_other k l (value.Int w) p.bindings u.bindings done.3 differs) (λ l differs. binds_other m l (value.Int w) q.bindings v.bindings did.3 differs),
-        leans_at q p v u (r - 1) m k (Some (value.Int w)) (Some (value.Int w)) (swap x) there here did.1 did.2 done.1 done.2 did.3.bound done.3.bound refl
-            (λ l differs. binds_other m l (value.Int w) q.bindings v.bindings did.3 differs) (λ l differs. binds_other k l (value.Int w) p.bindings u.bindings done.3 differs) ),
-    )) (key_in p r) (key_in q r) refl refl
+    done.0 ∙ sym did.0,
+    (
+      leans_at p q u v (r - 1) k m (Some (value.Int w)) (Some (value.Int w)) x here there done.1 done.2 did.1 did.2 done.3.bound did.3.bound refl
+          (λ l differs. binds_other k l (value.Int w) p.bindings u.bindings done.3 differs) (λ l differs. binds_other m l (value.Int w) q.bindings v.bindings did.3 differs),
+      leans_at q p v u (r - 1) m k (Some (value.Int w)) (Some (value.Int w)) (swap x) there here did.1 did.2 done.1 done.2 did.3.bound done.3.bound refl
+          (λ l differs. binds_other m l (value.Int w) q.bindings v.bindings did.3 differs) (λ l differs. binds_other k l (value.Int w) p.bindings u.bindings done.3 differs),
+    ),
+  )) (key_in p r) (key_in q r) refl refl
 
   get_too : (r : ℕ) → Effect p (Get r) a u → Effect q (Get r) b v → (a ≡ b) × Alike u v
   get_too r = with_key_too p q u v (r - 1) a b _ _ x (λ k m here there done did. (
-      shows_same (datum_at q.bindings m) a b (subst (λ (o : Option Value). Shows o a) (x.0.datum (r - 1) k m here there) done.0) did.0,
-      alike_is p q u v done.1 did.1 x,
-    )) (key_in p r) (key_in q r) refl refl
+    shows_same (datum_at q.bindings m) a b (subst (λ (o : Option Value). Shows o a) (x.0.datum (r - 1) k m here there) done.0) did.0,
+    alike_is p q u v done.1 did.1 x,
+  )) (key_in p r) (key_in q r) refl refl
 
   del_too : (r : ℕ) → Effect p (Del r) a u → Effect q (Del r) b v → (a ≡ b) × Alike u v
   del_too r = with_key_too p q u v (r - 1) a b _ _ x (λ k m here there done did.
       deletes_too p q u v (r - 1) a b k m x here there (datum_at q.bindings m) (subst (λ (o : Option Value). Deletes k p a u o) (x.0.datum (r - 1) k m here there) done) did
-    ) (key_in p r) (key_in q r) refl refl
+      ) (key_in p r) (key_in q r) refl refl
 
   set_too : (slot r : ℕ) → Effect p (SetWeak slot r) a u → Effect q (SetWeak slot r) b v → (a ≡ b) × Alike u v
   set_too slot r = with_key_too p q u v (r - 1) a b _ _ x (λ k m here there done did. (
-      done.0 ∙ sym did.0,
-      alike_is (record p { slots = slice_set p.slots slot (Some k) }) (record q { slots = slice_set q.slots slot (Some m) }) u v done.1 did.1
-          (leans_slot p q (r - 1) slot k m x here there, leans_slot q p (r - 1) slot m k (swap x) there here),
-    )) (key_in p r) (key_in q r) refl refl
+    done.0 ∙ sym did.0,
+    alike_is (record p { slots = slice_set p.slots slot (Some k) }) (record q { slots = slice_set q.slots slot (Some m) }) u v done.1 did.1
+        (leans_slot p q (r - 1) slot k m x here there, leans_slot q p (r - 1) slot m k (swap x) there here),
+  )) (key_in p r) (key_in q r) refl refl
 
   effects : (l : TableLine) → Effect p l a u → Effect q l b v → Done s t l a b u v
   effects (Key r) (ra, (k, new, ua)) (rb, (m, fresh, vb)) = same_done s t (Key r) a b u v (λ e. e) (
-      ra ∙ sym rb,
-      alike_is (with_key p r (Some k)) (with_key q r (Some m)) u v ua vb (alike_with p q (r - 1) k m x (new_fits p q k m new fresh) (new_fits q p m k fresh new)),
-    )
+    ra ∙ sym rb,
+    alike_is (with_key p r (Some k)) (with_key q r (Some m)) u v ua vb (alike_with p q (r - 1) k m x (new_fits p q k m new fresh) (new_fits q p m k fresh new)),
+  )
   effects (Forget r) (ra, ua) (rb, vb) = same_done s t (Forget r) a b u v (λ e. e) (ra ∙ sym rb, alike_is (with_key p r None) (with_key q r None) u v ua vb (alike_without p q (r - 1) x))
   effects (Put r w) e f = same_done s t (Put r w) a b u v (λ e. e) (put_too r w e f)
   effects (Get r) e f = same_done s t (Get r) a b u v (λ e. e) (get_too r e f)
@@ -294,6 +303,7 @@ line_too y z before behind l s t a b u v x none neither step other = done step.d
   where
     after : Alike step.left other.left
     after = (leans_on s t step.left other.left step.goes other.goes x.0, leans_on t s other.left step.left other.goes step.goes x.1)
+
     done : Effect step.left l a u ⊎ ((a ≡ reply.Full) × (u ≡ step.left) × MayBeRefused y before l step.left) → Effect other.left l b v ⊎ ((b ≡ reply.Full) × (v ≡ other.left) × MayBeRefused z behind l other.left) → Done s t l a b u v
     done (inl e) (inl f) = effects s t step.left other.left u v a b step.goes other.goes after l e f
     done (inr e) _ = absurd (none e.0)

@@ -3,7 +3,7 @@ use Rattle.std.specs.Prelude.{◌≡◌, ◌⊎◌, ℕ, List, [], ◌∷◌, sl
 use Rattle.heap_model.specs.declared.label.Label.{Label}
 use Rattle.heap_model.specs.declared.state.Sizes.{Sizes}
 use Rattle.table_text.specs.declared.line.TableLine.{TableLine}
-use Rattle.table_text.specs.declared.line.TableLine.TheVariants.{Count, GetWeak}
+use Rattle.table_text.specs.declared.line.TableLine.TheVariants.{Count, Forget, GetWeak, Key, SetWeak}
 use Rattle.table_machine.specs.declared.reply.LineReply.{LineReply}
 use Rattle.table_machine.specs.declared.reply.LineReply.TheVariants as reply
 use Rattle.table_machine.specs.Machine.{IsLost, MachineRuns, TableState, opened}
@@ -39,3 +39,13 @@ abbrev pub TextsAgree : Type 0
 TextsAgree = (y z : Sizes) (lines : List TableLine) (answers others : List LineReply) (us vs : List TableState)
     → MachineRuns y [] opened lines answers us → MachineRuns z [] opened lines others vs → NoneRefused answers → NoneRefused others
     → Parallel opened opened lines answers others us vs
+
+-- Where it ends: a slot has a key that no register holds, and in one run the collector has emptied it.
+abbrev pub parting_lines : List TableLine
+parting_lines = Key 1 ∷ SetWeak 3 1 ∷ Forget 1 ∷ GetWeak 2 3 ∷ []
+
+abbrev pub found_replies : List LineReply
+found_replies = reply.Done ∷ reply.Done ∷ reply.Done ∷ reply.Yes ∷ []
+
+abbrev pub gone_replies : List LineReply
+gone_replies = reply.Done ∷ reply.Done ∷ reply.Done ∷ reply.Empty ∷ []

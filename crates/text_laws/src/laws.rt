@@ -1,9 +1,17 @@
 //! Laws of texts of tables. Each function's contract is one law, and it does nothing else.
-ghost use Rattle.text_laws.specs.Agreeing.{TextsAgree};
+ghost use Rattle.text_laws.specs.Agreeing.{TextsAgree, found_replies, gone_replies, parting_lines};
+ghost use Rattle.heap_model.specs.declared.state.Sizes.{Sizes};
+ghost use Rattle.table_machine.specs.Machine.{MachineAnswers};
 
 /// Two runs of one text of a table, in none of which an allocation was refused, are answered the same, whatever the
 /// collector did in each: but for the number of bindings, and for a look at a slot whose key no register holds. So it goes
 /// on until such a look gives back its key, or is answered otherwise in the other run.
 pub fn texts_agree()
     ensures { TextsAgree }
+{}
+
+/// Where that ends: a look at a slot whose key no register holds may be answered in two ways.
+pub fn texts_part()
+    ensures found { (z : Sizes) → MachineAnswers z parting_lines found_replies }
+    ensures gone { (z : Sizes) → MachineAnswers z parting_lines gone_replies }
 {}

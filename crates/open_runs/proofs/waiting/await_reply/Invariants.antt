@@ -6,4 +6,4 @@ use Rattle.open_runs.specs.Driving.{Awaits}
 use Rattle.open_runs.proofs.waiting.await_reply.Given as goal
 
 abbrev pub invariant-turns : goal.invariant-turns
-invariant-turns g l = IsIn l.run.token l.heap × ((start : DomainView) (c : model.Command) → Awaits l.heap start c l.initial.run → Awaits l.heap start c l.run) × g.M.fits l.heap l.meanwhile l.kept × (l.kept ≡ l.initial.kept)
+invariant-turns g l = IsIn l.run.token l.heap × ((start : DomainView) (c : model.Command) → Awaits l.heap start c l.initial.run → Awaits l.heap start c l.run) × g.M.Meanwhile.fits l.heap l.meanwhile l.kept × (l.kept ≡ l.initial.kept)
