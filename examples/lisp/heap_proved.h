@@ -29,7 +29,7 @@ static inline const char *heap_refusal(uint32_t told) {
 }
 
 /* What is left of a command that isn't made at once: turns until it is, and the finalisers that ran before it. Where there
- * is no room for what it registers, a complete collection may make some. */
+ * is no room for what it registers, a complete collection may make some; `command` is NULL for those that register nothing. */
 static __attribute__((noinline)) void heap_finish(heap *h, uint32_t told, const camlheap_command *command, camlheap_reply *reply) {
   if (told == CAMLHEAP_NO_EPHEMERON || told == CAMLHEAP_NO_FINALISER) {
     heap_collect(h, FULL_MAJOR);
@@ -44,51 +44,84 @@ static __attribute__((noinline)) void heap_finish(heap *h, uint32_t told, const 
   for (size_t i = 0; camlheap_ran(&h->domain, i, &ran) == CAMLHEAP_DONE; i++) heap_ran(h, ran.kind == CAMLHEAP_LAST, ran.number);
 }
 
-/* Makes a command. With no turns, DONE says that it was made at once, and that no finaliser ran before it. */
-static inline camlheap_reply heap_perform(heap *h, camlheap_command command) {
-  camlheap_reply reply;
-  uint32_t told = camlheap_call(&h->domain, &command, 0, &reply);
-  if (told != CAMLHEAP_DONE) heap_finish(h, told, &command, &reply);
-  if (reply.kind == CAMLHEAP_FULL) heap_failed(h, "the heap is full");
-  if (reply.kind == CAMLHEAP_BAD_TYPE || reply.kind == CAMLHEAP_BAD_INDEX) heap_failed(h, "no such field");
-  return reply;
-}
-
 static inline item heap_item(camlheap_reply reply) {
   if (reply.kind == CAMLHEAP_BLOCK) return (item){true, (int64_t)reply.domain << 32 | reply.serial};
   return (item){false, reply.value};
 }
 
-#define MAKE(name, ...) heap_perform(h, (camlheap_command){.op = CAMLHEAP_##name, __VA_ARGS__})
-static inline item heap_load(heap *h, int dst, int block, int index) { return heap_item(MAKE(LOAD, .dst = dst, .a = block, .n = index)); }
-static inline void heap_store(heap *h, int block, int index, int src) { MAKE(STORE, .a = block, .n = index, .b = src); }
-static inline bool heap_cas(heap *h, int block, int index, int old, int src) {
-  return MAKE(CAS, .a = block, .n = index, .dst = old, .b = src).kind == CAMLHEAP_YES;
+static inline void heap_wants(heap *h, bool fact, const char *why) {
+  if (__builtin_expect(!fact, false)) heap_failed(h, why);
 }
-static inline void heap_number(heap *h, int dst, int64_t number) { MAKE(PUT_INT, .dst = dst, .value = number); }
-static inline void heap_copy(heap *h, int dst, int src) { MAKE(COPY, .dst = dst, .a = src); }
-static inline void heap_forget(heap *h, int dst) { MAKE(FORGET, .dst = dst); }
-static inline item heap_alloc(heap *h, int dst, int fields) { return heap_item(MAKE(ALLOC, .dst = dst, .n = fields)); }
-static inline item heap_raw(heap *h, int dst, int fields) { return heap_item(MAKE(RAW, .dst = dst, .tag = 252, .n = fields)); }
-static inline void heap_ephemeron(heap *h, int dst, int key, int data) {
-  MAKE(EPHE, .dst = dst, .n = 1);
-  MAKE(SET_KEY, .a = dst, .b = key);
-  MAKE(SET_DATA, .a = dst, .b = data);
+
+/* A command of its own call: DONE says that it was made at once, and that no finaliser ran before it. */
+#define MAKE(name, ...) \
+  camlheap_reply reply; \
+  uint32_t told = camlheap_##name(&h->domain, __VA_ARGS__, &reply); \
+  if (__builtin_expect(told != CAMLHEAP_DONE, false)) heap_finish(h, told, NULL, &reply);
+
+static inline item heap_load(heap *h, int dst, int block, int index) {
+  MAKE(load, dst, block, index)
+  heap_wants(h, reply.kind == CAMLHEAP_INT || reply.kind == CAMLHEAP_BLOCK, "no such field");
+  return heap_item(reply);
+}
+static inline void heap_store(heap *h, int block, int index, int src) {
+  MAKE(store, block, index, src)
+  heap_wants(h, reply.kind == CAMLHEAP_OK, "no such field");
+}
+static inline bool heap_cas(heap *h, int block, int index, int old, int src) {
+  MAKE(cas, block, index, old, src)
+  return reply.kind == CAMLHEAP_YES;
+}
+static inline void heap_number(heap *h, int dst, int64_t number) { MAKE(put_int, dst, number) }
+static inline void heap_copy(heap *h, int dst, int src) { MAKE(copy, dst, src) }
+static inline void heap_forget(heap *h, int dst) { MAKE(forget, dst) }
+static inline item heap_alloc(heap *h, int dst, int fields) {
+  MAKE(alloc, dst, 0, fields)
+  heap_wants(h, reply.kind == CAMLHEAP_BLOCK, "the heap is full");
+  return heap_item(reply);
 }
 static inline bool heap_key(heap *h, int dst, int ephemeron, item *key) {
-  camlheap_reply reply = MAKE(GET_KEY, .dst = dst, .a = ephemeron);
+  MAKE(get_key, dst, ephemeron, 0)
   *key = heap_item(reply);
   return reply.kind == CAMLHEAP_BLOCK;
 }
-static inline bool heap_has_key(heap *h, int ephemeron) { return MAKE(CHECK_KEY, .a = ephemeron).kind == CAMLHEAP_YES; }
-static inline item heap_data(heap *h, int dst, int ephemeron) { return heap_item(MAKE(GET_DATA, .dst = dst, .a = ephemeron)); }
-static inline void heap_finalise(heap *h, int block, uint32_t number, int dst) { MAKE(FINALISE, .a = block, .number = number, .dst = dst); }
-static inline void heap_finalise_last(heap *h, int block, uint32_t number) { MAKE(FINALISE_LAST, .a = block, .number = number); }
+static inline bool heap_has_key(heap *h, int ephemeron) {
+  MAKE(check_key, ephemeron, 0)
+  return reply.kind == CAMLHEAP_YES;
+}
+static inline item heap_data(heap *h, int dst, int ephemeron) {
+  MAKE(get_data, dst, ephemeron)
+  return heap_item(reply);
+}
+
+/* The others go by the general call. */
+static inline camlheap_reply heap_perform(heap *h, camlheap_command command) {
+  camlheap_reply reply;
+  uint32_t told = camlheap_call(&h->domain, &command, 0, &reply);
+  if (told != CAMLHEAP_DONE) heap_finish(h, told, &command, &reply);
+  heap_wants(h, reply.kind != CAMLHEAP_FULL, "the heap is full");
+  return reply;
+}
+static inline item heap_raw(heap *h, int dst, int fields) {
+  return heap_item(heap_perform(h, (camlheap_command){.op = CAMLHEAP_RAW, .dst = dst, .tag = 252, .n = fields}));
+}
+static inline void heap_ephemeron(heap *h, int dst, int key, int data) {
+  heap_perform(h, (camlheap_command){.op = CAMLHEAP_EPHE, .dst = dst, .n = 1});
+  heap_perform(h, (camlheap_command){.op = CAMLHEAP_SET_KEY, .a = dst, .b = key});
+  heap_perform(h, (camlheap_command){.op = CAMLHEAP_SET_DATA, .a = dst, .b = data});
+}
+static inline void heap_finalise(heap *h, int block, uint32_t number, int dst) {
+  heap_perform(h, (camlheap_command){.op = CAMLHEAP_FINALISE, .a = block, .number = number, .dst = dst});
+}
+static inline void heap_finalise_last(heap *h, int block, uint32_t number) {
+  heap_perform(h, (camlheap_command){.op = CAMLHEAP_FINALISE_LAST, .a = block, .number = number});
+}
 
 /* Finalisers that a complete collection queues run before the next command. */
 static inline int64_t heap_collect(heap *h, collection which) {
-  camlheap_reply reply = heap_perform(h, (camlheap_command){.op = which == MINOR ? CAMLHEAP_MINOR : which == MAJOR ? CAMLHEAP_MAJOR : CAMLHEAP_FULL_MAJOR});
-  MAKE(POLL, .n = 0);
+  static const uint8_t ops[] = {[MINOR] = CAMLHEAP_MINOR, [MAJOR] = CAMLHEAP_MAJOR, [FULL_MAJOR] = CAMLHEAP_FULL_MAJOR};
+  camlheap_reply reply = heap_perform(h, (camlheap_command){.op = ops[which]});
+  heap_perform(h, (camlheap_command){.op = CAMLHEAP_POLL});
   return (int64_t)reply.blocks;
 }
 

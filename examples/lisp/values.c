@@ -164,7 +164,8 @@ void reset(machine *m) {
 /* What registers and places hold that aren't in use would live through a collection. */
 void clean(machine *m) {
   for (int reg = VAL; reg <= T; reg++) heap_forget(&m->heap, reg);
-  for (int at = m->depth / CHUNK + 1; at <= m->deepest / CHUNK; at++) keep(m, SPINE, at, integer(0), T);
-  for (int at = m->depth; at % CHUNK && at < m->deepest; at++) keep(m, chunk_with(m, at), at % CHUNK, integer(0), T);
+  int chunk = m->depth / CHUNK;
+  for (int at = chunk + 1; at <= m->deepest / CHUNK; at++) keep(m, SPINE, at, integer(0), T);
+  for (int at = m->depth; at / CHUNK == chunk && at < m->deepest; at++) keep(m, chunk_with(m, at), at % CHUNK, integer(0), T);
   m->deepest = m->depth;
 }
