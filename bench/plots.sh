@@ -16,7 +16,8 @@ if [ -z "${PROGRAM:-}" ]; then
 fi
 cp "$PROGRAM" "$work/camlheap"
 rustc -O --edition 2024 -o "$work/twin" "$top/bench/twin/main.rs"
-"$top/bench/ocaml5.sh" player "$work/ocaml5"
+# Status 3: there is no OCaml 5, and none is drawn.
+"$top/bench/ocaml5.sh" player "$work/ocaml5" || [ $? -eq 3 ]
 programs=(camlheap twin)
 [ ! -x "$work/ocaml5" ] || programs+=(ocaml5)
 mkdir -p "$into"
