@@ -71,8 +71,10 @@ say() {
     printf '%s: %s\n' "$name" "$1" >&2
 }
 
-# Says what the build does and for how long: on a terminal in one line that is written anew, else in a line for each crate.
+# Says what the build does and for how long, from its second second on: on a terminal in one line that is written anew, else in a line
+# for each crate.
 show() {
+    [ "$SECONDS" -gt 0 ] || return 0
     local time="$((SECONDS / 60)) min $((SECONDS % 60)) s"
     if [ -t 2 ]; then
         printf '\r\033[K%s: %s, %s' "$name" "$1" "$time" >&2
@@ -93,7 +95,7 @@ follow() {
             "proved "*) now=$line ;;
         esac
     done
-    [ -t 2 ] && echo >&2
+    [ -t 2 ] && [ -n "$shown" ] && echo >&2
 }
 
 # Ends the build, and then this script by the signal $1.
