@@ -17,6 +17,8 @@ let () =
   assert (perform seat (Load { dst = 3; block = 1; index = 0 }) = Int min_int);
   assert (refusal (fun () -> perform seat (Copy { dst = 16; src = 0 })) = Some Unfit);
   assert (refusal (fun () -> perform seat (Copy { dst = -1; src = 0 })) = Some Unfit);
+  assert (refusal (fun () -> perform seat (Raw { dst = 1; tag = 507; fields = 1 })) = Some Unfit);
+  assert (refusal (fun () -> perform seat (Finalise_last { item = 1; number = -1 })) = Some Unfit);
   assert (perform seat (Finalise { item = 1; number = 3; dst = 4 }) = Done);
   assert (refusal (fun () -> perform seat (Finalise_last { item = 1; number = 4 })) = Some No_finaliser);
   assert (perform seat (Forget { dst = 1 }) = Done);

@@ -32,37 +32,20 @@ type command =
   | Unset_data of { ephe : register }
   | Get_data of { dst : register; ephe : register }
   | Check_data of { ephe : register }
-  | Poll
-  | Minor
-  | Major
-  | Full_major
+  | Poll | Minor | Major | Full_major
   | Finalise of { item : register; number : int; dst : register }
   | Finalise_last of { item : register; number : int }
 
+(** [Full]: no room after a complete collection, and no block was made. [Fin]: a [finalise] ran, of this block. [Last]: a
+    [finalise_last] ran. *)
 type reply =
-  | Done
-  | Int of int
-  | Block of label
-  | Bad_type
-  | Bad_index
-  | Empty
-  | Yes
-  | No
-  | Full  (** no room after a complete collection; no block was made *)
+  | Done | Int of int | Block of label | Bad_type | Bad_index | Empty | Yes | No | Full
   | Live of { blocks : int; words : int }
-  | Fin of { number : int; label : label }  (** a [finalise] ran, of this block *)
-  | Last of { number : int }  (** a [finalise_last] ran *)
+  | Fin of { number : int; label : label }
+  | Last of { number : int }
 
-type refused =
-  | Closed
-  | Busy
-  | Unfit
-  | No_ephemeron
-  | No_finaliser
-  | No_label
-  | No_register
-  | Memory
-  | Outside of int  (** the first field of the configuration outside its range, counted from 1 *)
+(** [Outside n]: the n-th field of the configuration is outside its range. *)
+type refused = Closed | Busy | Unfit | No_ephemeron | No_finaliser | No_label | No_register | Memory | Outside of int
 
 (** Why something wasn't done. Nothing has changed then. *)
 exception Refused of refused
@@ -70,14 +53,7 @@ exception Refused of refused
 type seat
 
 type stats = {
-  labels : int;
-  young_words : int;
-  remembered : int;
-  ephemerons : int;
-  finals : int;
-  lasts : int;
-  waiting : int;
-  arrivals : int;
+  labels : int; young_words : int; remembered : int; ephemerons : int; finals : int; lasts : int; waiting : int; arrivals : int;
 }
 
 (** A heap of this size: a seat for each of its domains, in order. *)
@@ -98,5 +74,6 @@ val stats : seat -> stats
 (** One turn, for whoever has no command now. Answers whether the traces of all seats have ended. *)
 val turn : seat -> bool
 
-(** No command comes any more. Waits until the other seats are finished too. *)
+(** No command comes any more. Waits until the other seats are finished too. A seat that the collector of OCaml frees before
+    leaves the others of its heap waiting in their next pause, for ever. *)
 val finish : ?pause:(unit -> unit) -> seat -> unit

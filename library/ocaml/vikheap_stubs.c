@@ -1,39 +1,32 @@
-/* The calls of camlheap.h for OCaml. A seat is a custom block that holds a handle; the collector of OCaml frees it. */
+/* The calls of camlheap.h for OCaml. A seat is a custom block that holds a handle; the collector of OCaml frees it. No call
+ * here waits, or lets another thread of OCaml run. */
 #define CAML_NAME_SPACE
 #include "camlheap.h"
 #include <caml/alloc.h>
 #include <caml/custom.h>
-#include <caml/memory.h>
 #include <caml/mlvalues.h>
 
 static camlheap_domain *domain_of(value seat) { return Data_custom_val(seat); }
-
 static void free_seat(value seat) { camlheap_free(domain_of(seat)); }
 
 static struct custom_operations seat_operations = {
     "camlheap.seat", free_seat, custom_compare_default, custom_hash_default,
     custom_serialize_default, custom_deserialize_default, custom_compare_ext_default, custom_fixed_length_default};
 
-/* What a call answers: its number and the fields of the reply, as a record of OCaml's. */
-static value told(uint32_t code, const camlheap_reply *reply) {
+/* A record of eight integers. */
+static value record(const int64_t *numbers) {
   value made = caml_alloc_small(8, 0);
-  Field(made, 0) = Val_long(code);
-  Field(made, 1) = Val_long(reply->kind);
-  Field(made, 2) = Val_long(reply->domain);
-  Field(made, 3) = Val_long(reply->serial);
-  Field(made, 4) = Val_long(reply->number);
-  Field(made, 5) = Val_long(reply->value);
-  Field(made, 6) = Val_long(reply->blocks);
-  Field(made, 7) = Val_long(reply->words);
+  for (int i = 0; i < 8; i++) Field(made, i) = Val_long(numbers[i]);
   return made;
 }
 
-/* The number in a field, or one that the library refuses where it doesn't fit so many bits. */
-static uint64_t number(value record, int field, int bits) {
-  long read = Long_val(Field(record, field));
-  uint64_t most = ~(uint64_t)0 >> (64 - bits);
-  return read < 0 || (uint64_t)read > most ? most : (uint64_t)read;
+static value told(uint32_t code, const camlheap_reply *r) {
+  return record((int64_t[]){code, r->kind, r->domain, r->serial, r->number, r->value, (int64_t)r->blocks, (int64_t)r->words});
 }
+
+/* Whether an integer of OCaml's has at most so many bits. */
+static bool fits(value number, int bits) { return Long_val(number) >= 0 && Long_val(number) >> bits == 0; }
+static uint32_t size(value config, int field) { return fits(Field(config, field), 32) ? Long_val(Field(config, field)) : UINT32_MAX; }
 
 value vikheap_none(value unit) {
   (void)unit;
@@ -44,17 +37,19 @@ value vikheap_none(value unit) {
 
 value vikheap_start(value config, value seats) {
   camlheap_domain handles[8] = {{0}};
-  camlheap_config sizes = {number(config, 0, 32), number(config, 1, 32), number(config, 2, 32), number(config, 3, 32), number(config, 4, 32)};
+  camlheap_config sizes = {size(config, 0), size(config, 1), size(config, 2), size(config, 3), size(config, 4)};
   uint32_t code = camlheap_start(&sizes, handles, Wosize_val(seats));
   for (mlsize_t i = 0; i < Wosize_val(seats); i++) *domain_of(Field(seats, i)) = handles[i];
   return Val_long(code);
 }
 
 value vikheap_call(value seat, value raw) {
+  static const int bits[] = {8, 8, 8, 8, 8, 16, 32};
   camlheap_reply reply = {0};
-  camlheap_command command = {
-      .op = number(raw, 0, 8), .dst = number(raw, 1, 8), .a = number(raw, 2, 8), .b = number(raw, 3, 8), .tag = number(raw, 4, 8),
-      .n = number(raw, 5, 16), .number = number(raw, 6, 32), .value = Long_val(Field(raw, 7))};
+  for (int i = 0; i < 7; i++)
+    if (!fits(Field(raw, i), bits[i])) return told(CAMLHEAP_UNFIT, &reply);
+  camlheap_command command = {Long_val(Field(raw, 0)), Long_val(Field(raw, 1)), Long_val(Field(raw, 2)), Long_val(Field(raw, 3)),
+                              Long_val(Field(raw, 4)), Long_val(Field(raw, 5)), Long_val(Field(raw, 6)), Long_val(Field(raw, 7))};
   uint32_t code = camlheap_call(domain_of(seat), &command, 64, &reply);
   return told(code, &reply);
 }
@@ -67,8 +62,7 @@ value vikheap_run(value seat) {
 
 value vikheap_show(value seat, value reg) {
   camlheap_reply reply = {0};
-  long read = Long_val(reg);
-  uint32_t code = camlheap_show(domain_of(seat), read < 0 || read > 255 ? 255 : read, &reply);
+  uint32_t code = camlheap_show(domain_of(seat), fits(reg, 8) ? Long_val(reg) : 255, &reply);
   return told(code, &reply);
 }
 
@@ -79,20 +73,10 @@ value vikheap_ran(value seat, value place) {
 }
 
 value vikheap_stats(value seat) {
-  camlheap_counts counted = {0};
-  camlheap_stats(domain_of(seat), &counted);
-  value made = caml_alloc_small(8, 0);
-  Field(made, 0) = Val_long(counted.labels);
-  Field(made, 1) = Val_long(counted.young_words);
-  Field(made, 2) = Val_long(counted.remembered);
-  Field(made, 3) = Val_long(counted.ephemerons);
-  Field(made, 4) = Val_long(counted.finals);
-  Field(made, 5) = Val_long(counted.lasts);
-  Field(made, 6) = Val_long(counted.waiting);
-  Field(made, 7) = Val_long(counted.arrivals);
-  return made;
+  camlheap_counts c = {0};
+  camlheap_stats(domain_of(seat), &c);
+  return record((int64_t[]){c.labels, c.young_words, (int64_t)c.remembered, (int64_t)c.ephemerons, (int64_t)c.finals, (int64_t)c.lasts, (int64_t)c.waiting, (int64_t)c.arrivals});
 }
 
 value vikheap_turn(value seat) { return Val_long(camlheap_turn(domain_of(seat))); }
-
 value vikheap_close(value seat) { return Val_long(camlheap_close(domain_of(seat))); }

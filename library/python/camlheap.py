@@ -1,21 +1,24 @@
 """A heap with the rules of OCaml 5's, proved, from Python, by ctypes over libcamlheap.so.
 
-    heap = camlheap.start(domains=1)
-    domain = heap[0]
-    domain.perform("alloc", 1, 0, 2)      # Reply(kind='blk', domain=0, serial=1)
+    (domain,) = camlheap.start()
+    domain.perform("alloc", 1, 0, 2)        # Reply(kind='blk', domain=0, serial=1)
     domain.perform("finalise_last", 1, 7)
     domain.perform("drop", 1)
-    domain.perform("full_major")          # Reply(kind='live', blocks=1, words=18)
-    domain.perform("poll"); domain.ran()  # [Reply(kind='last', number=7)]
+    domain.perform("full_major")            # Reply(kind='live', blocks=1, words=18)
+    domain.perform("poll"); domain.ran()    # [Reply(kind='last', number=7)]
+    domain.finish()
 
 Commands and their numbers are those of a script's line. `perform` waits for its reply: where a heap has several domains,
-a thread for each has to make commands or `turn` meanwhile. What isn't taken is raised as `Refused`."""
+a thread for each has to make commands or `turn` meanwhile. What isn't done is raised as a class below `Refused`, and
+changes nothing. `camlheap.tour()`, or `python3 -m camlheap`, shows a heap step by step, and makes what is typed.
+
+The library is ../out/libcamlheap.so beside this file's folder, or what CAMLHEAP_LIBRARY names."""
 import ctypes
 import os
 import time
 from dataclasses import dataclass
 
-U8, U16, U32, U64, I64 = ctypes.c_uint8, ctypes.c_uint16, ctypes.c_uint32, ctypes.c_uint64, ctypes.c_int64
+U8, U16, U32, U64, I64, SIZE = ctypes.c_uint8, ctypes.c_uint16, ctypes.c_uint32, ctypes.c_uint64, ctypes.c_int64, ctypes.c_size_t
 
 
 class _Domain(ctypes.Structure):
@@ -34,6 +37,14 @@ class _Reply(ctypes.Structure):
     _fields_ = [*((it, U32) for it in ("kind", "domain", "serial", "number")), ("value", I64), ("blocks", U64), ("words", U64)]
 
 
+class _Counts(ctypes.Structure):
+    _fields_ = [
+        *((it, U32) for it in ("labels", "young_words")),
+        *((it, SIZE) for it in ("remembered", "ephemerons", "finals", "lasts", "waiting")),
+        ("arrivals", U64),
+    ]
+
+
 # The operands of each command, in the order of its line; a command's place is its number.
 FORMS = {
     "int": "dst value", "move": "dst a", "drop": "dst", "alloc": "dst tag n", "allocmaj": "dst tag n", "raw": "dst tag n",
@@ -42,31 +53,60 @@ FORMS = {
     "poll": "", "minor": "", "major": "", "full_major": "", "finalise": "a number dst", "finalise_last": "a number",
 }  # fmt: skip
 OPERATIONS = {word: number for number, word in enumerate(FORMS)}
+# What fits into each operand; the library says what is in its range.
+ROOM = {"dst": U8, "a": U8, "b": U8, "tag": U8, "n": U16, "number": U32, "value": I64}
 # The word of each kind of reply, and the fields that it has, in the order of its line.
 KINDS = [
     ("ok", ""), ("int", "value"), ("blk", "domain serial"), ("type", ""), ("bounds", ""), ("none", ""), ("yes", ""), ("no", ""),
     ("full", ""), ("live", "blocks words"), ("fin", "number domain serial"), ("last", "number"),
 ]  # fmt: skip
 DONE, AGAIN, WAITING, HUNGRY, ENDED = range(5)
-CAUSES = {
-    16: "the handle holds no domain", 17: "the domain takes no command any more", 18: "the command before isn't made yet",
-    19: "no such command, or a number outside its range", 20: "no room for the ephemeron", 21: "no room for the finaliser",
-    22: "no label is left", 23: "no such register", 24: "memory ran out", 25: "too few handles",
-}  # fmt: skip
-FIELDS = ["domains", "minor_words", "pools", "finals", "ephes"]
 
 
 class Refused(Exception):
-    """Why a call wasn't done. `code` is the library's number for it."""
+    """Why a call wasn't done; nothing has changed. `code` is the library's number for it."""
+
+    def __init__(self, code, text=None):
+        self.code = code
+        super().__init__(text or self.__doc__)
+
+
+def _cause(name, text):
+    return type(name, (Refused,), {"__doc__": text, "__module__": __name__})
+
+
+# The classes of refusals, by their numbers from 16 on.
+_CAUSES = NoDomain, Closed, Busy, Unfit, NoEphemeron, NoFinaliser, NoLabel, NoRegister, OutOfMemory, TooFewHandles = (
+    _cause("NoDomain", "the domain was freed"),
+    _cause("Closed", "the domain takes no command any more"),
+    _cause("Busy", "the command before isn't made yet"),
+    _cause("Unfit", "no such command, or a register or number outside its range"),
+    _cause("NoEphemeron", "no room for the ephemeron"),
+    _cause("NoFinaliser", "no room for the finaliser"),
+    _cause("NoLabel", "no label is left"),
+    _cause("NoRegister", "no such register"),
+    _cause("OutOfMemory", "memory ran out, and nothing was started"),
+    _cause("TooFewHandles", "fewer handles than domains"),
+)
+
+
+class Outside(Refused):
+    """a number of the heap's size is outside its range; `field` names it"""
+
+    FIELDS = [it for it, _ in _Config._fields_]
 
     def __init__(self, code):
-        self.code = code
-        super().__init__(CAUSES.get(code) or f"{FIELDS[code - 33]} is outside its range")
+        self.field = self.FIELDS[code - 33]
+        super().__init__(code, f"{self.field} is outside its range")
+
+
+def _refuse(code):
+    raise _CAUSES[code - 16](code) if code < 32 else Outside(code)
 
 
 @dataclass(frozen=True)
 class Reply:
-    """A reply: the word of its kind, and the numbers that this kind has."""
+    """A reply: the word of its kind, and the numbers that this kind has. `str` gives the line of a run's output."""
 
     kind: str
     value: int | None = None
@@ -83,6 +123,21 @@ class Reply:
         return " ".join([self.kind, *shown, *([label] if label else [])])
 
 
+@dataclass(frozen=True)
+class Stats:
+    """What a domain counts: labels that it has given out, words of its minor area that its young blocks take, fields that it
+    remembers, ephemerons, registrations of both kinds that don't wait yet, finalisers that wait, and arrivals at the barrier."""
+
+    labels: int
+    young_words: int
+    remembered: int
+    ephemerons: int
+    finals: int
+    lasts: int
+    waiting: int
+    arrivals: int
+
+
 def _reply(raw):
     kind, names = KINDS[raw.kind]
     return Reply(kind, **{name: getattr(raw, name) for name in names.split()})
@@ -90,65 +145,151 @@ def _reply(raw):
 
 def _library():
     here = os.path.dirname(os.path.abspath(__file__))
-    return ctypes.CDLL(os.environ.get("CAMLHEAP_LIBRARY", f"{here}/../out/libcamlheap.so"))
+    library = ctypes.CDLL(os.environ.get("CAMLHEAP_LIBRARY", f"{here}/../out/libcamlheap.so"))
+    domain, reply = ctypes.POINTER(_Domain), ctypes.POINTER(_Reply)
+    library.camlheap_start.argtypes = [ctypes.POINTER(_Config), domain, SIZE]
+    library.camlheap_call.argtypes = [domain, ctypes.POINTER(_Command), U32, reply]
+    library.camlheap_run.argtypes = [domain, U32, reply]
+    library.camlheap_ran.argtypes = [domain, SIZE, reply]
+    library.camlheap_show.argtypes = [domain, U8, reply]
+    library.camlheap_stats.argtypes = [domain, ctypes.POINTER(_Counts)]
+    for it in (library.camlheap_turn, library.camlheap_close, library.camlheap_free):
+        it.argtypes = [domain]
+    library.camlheap_free.restype = None
+    return library
+
+
+def _fits(number, room):
+    return isinstance(number, int) and room(number).value == number
 
 
 class Domain:
-    """A domain of a heap. One thread at a time calls on it."""
+    """A domain of a heap, which `start` makes. One thread at a time calls on it."""
 
     def __init__(self, library, raw):
         self._library, self._raw = library, raw
 
     def perform(self, word, *numbers):
-        """Makes a command, and answers its reply. Raises `Refused` where the domain doesn't take it."""
+        """Makes a command, and answers its reply, as `perform("load", 3, 1, 0)`. Waits for other domains in a pause."""
+        if word not in FORMS:
+            raise Unfit(19, f"no such command: {word}")
         names = FORMS[word].split()
         if len(names) != len(numbers):
             raise TypeError(f"{word} takes {len(names)} numbers: {FORMS[word]}")
-        command = _Command(op=OPERATIONS[word], **dict(zip(names, numbers)))
-        reply = _Reply()
-        told = self._library.camlheap_call(ctypes.byref(self._raw), ctypes.byref(command), 64, ctypes.byref(reply))
+        if not all(_fits(number, ROOM[name]) for name, number in zip(names, numbers)):
+            raise Unfit(19)
+        command, reply = _Command(op=OPERATIONS[word], **dict(zip(names, numbers))), _Reply()
+        told = self._library.camlheap_call(self._raw, command, 64, reply)
         while told in (AGAIN, WAITING):
             if told == WAITING:
                 time.sleep(0)
-            told = self._library.camlheap_run(ctypes.byref(self._raw), 64, ctypes.byref(reply))
-        if told != DONE:
-            raise Refused(told)
-        return _reply(reply)
+            told = self._library.camlheap_run(self._raw, 64, reply)
+        return _reply(reply) if told == DONE else _refuse(told)
 
     def show(self, register):
         """What a register holds: `int`, `blk` or `none`."""
         reply = _Reply()
-        told = self._library.camlheap_show(ctypes.byref(self._raw), register, ctypes.byref(reply))
-        if told != DONE:
-            raise Refused(told)
-        return _reply(reply)
+        told = self._library.camlheap_show(self._raw, register if _fits(register, U8) else 255, reply)
+        return _reply(reply) if told == DONE else _refuse(told)
 
     def ran(self):
         """The replies of the finalisers that have run since the last command was handed in, in order."""
         found, reply = [], _Reply()
-        while self._library.camlheap_ran(ctypes.byref(self._raw), ctypes.c_size_t(len(found)), ctypes.byref(reply)) == DONE:
+        while (told := self._library.camlheap_ran(self._raw, len(found), reply)) == DONE:
             found.append(_reply(reply))
-        return found
+        return found if told == 26 else _refuse(told)
+
+    def stats(self):
+        """What the domain counts. It costs no look at the heap."""
+        counts = _Counts()
+        told = self._library.camlheap_stats(self._raw, counts)
+        return Stats(*(getattr(counts, it) for it, _ in _Counts._fields_)) if told == DONE else _refuse(told)
 
     def turn(self):
         """One turn: whether the traces of all domains have ended. A thread with no command calls it now and then."""
-        return self._library.camlheap_turn(ctypes.byref(self._raw)) == ENDED
+        told = self._library.camlheap_turn(self._raw)
+        return told == ENDED if told < 16 else _refuse(told)
 
     def close(self):
         """No command comes any more. Turns end the trace."""
-        if told := self._library.camlheap_close(ctypes.byref(self._raw)):
-            raise Refused(told)
+        if told := self._library.camlheap_close(self._raw):
+            _refuse(told)
 
     def free(self):
-        """Frees the domain. Do it once `turn` has answered True."""
-        self._library.camlheap_free(ctypes.byref(self._raw))
+        """Frees the domain. Do it once `turn` has answered True: the others of the heap wait for it else."""
+        self._library.camlheap_free(self._raw)
+
+    def finish(self):
+        """Closes the domain, turns it until all have ended, and frees it."""
+        self.close()
+        while not self.turn():
+            time.sleep(0)
+        self.free()
 
 
 def start(domains=1, minor_words=4096, pools=64, finals=16, ephes=64):
-    """Starts a heap, and answers its domains in order."""
-    library = _library()
-    handles = (_Domain * domains)()
-    told = library.camlheap_start(ctypes.byref(_Config(domains, minor_words, pools, finals, ephes)), handles, ctypes.c_size_t(domains))
-    if told != DONE:
-        raise Refused(told)
-    return [Domain(library, it) for it in handles]
+    """Starts a heap, and answers its domains in order. `camlheap.h` says in which range each number is."""
+    numbers = (domains, minor_words, pools, finals, ephes)
+    wrong = [place for place, number in enumerate(numbers) if not _fits(number, U32)]
+    if wrong or domains > 8:
+        raise Outside(33 + min(wrong or [0]))
+    library, handles = _library(), (_Domain * domains)()
+    told = library.camlheap_start(_Config(*numbers), handles, domains)
+    return [Domain(library, it) for it in handles] if told == DONE else _refuse(told)
+
+
+_TOUR = [
+    ("A block with two fields, in register 1. Its label is 0:1, for good.", "alloc 1 0 2"),
+    ("An integer, and a store of it into the block.", "int 2 42"),
+    ("", "store 1 0 2"),
+    ("", "load 3 1 0"),
+    ("An ephemeron with one key: it holds the block weakly.", "ephe 4 1"),
+    ("", "set_key 4 0 1"),
+    ("A finaliser with the number 7, for when the block is gone.", "finalise_last 1 7"),
+    ("A complete collection: register 1 keeps the block.", "full_major"),
+    ("", "check_key 4 0"),
+    ("Now nothing but the weak key leads to it.", "drop 1"),
+    ("", "full_major"),
+    ("The key is empty, and the finaliser runs before this command.", "check_key 4 0"),
+]
+
+
+def _line(domain, line):
+    """Makes the command of a line, and answers what is to be printed."""
+    word, *numbers = line.split()
+    try:
+        reply = domain.perform(word, *map(int, numbers))
+    except (Refused, TypeError, ValueError) as why:
+        return f"  {type(why).__name__}: {why}"
+    return "\n".join(f"  {it}" for it in [*domain.ran(), reply])
+
+
+def tour(ask=input):
+    """Shows a heap step by step. Return makes the step that is offered; another line is made as a command."""
+    (domain,) = start()
+    print("Return makes the command that is offered; type another, or `show R`, `stats`, `help`, `quit`.")
+    steps = iter([*_TOUR, (None, None)])
+    text, offered = next(steps)
+    while offered:
+        print(text or "", end="\n" if text else "")
+        try:
+            typed = ask(f"[{offered}] ").strip()
+        except EOFError:
+            break
+        if typed == "quit":
+            break
+        if typed == "help":
+            print("\n".join(f"  {word} {numbers}" for word, numbers in FORMS.items()))
+        elif typed == "stats":
+            print(f"  {domain.stats()}")
+        elif typed.startswith("show ") and typed[5:].isdigit() and int(typed[5:]) < 16:
+            print(f"  {domain.show(int(typed[5:]))}")
+        else:
+            print(_line(domain, typed or offered))
+        if not typed:
+            text, offered = next(steps)
+    domain.finish()
+
+
+if __name__ == "__main__":
+    tour()

@@ -43,10 +43,7 @@ pub enum Command {
     UnsetData { ephe: Register },
     GetData { dst: Register, ephe: Register },
     CheckData { ephe: Register },
-    Poll,
-    Minor,
-    Major,
-    FullMajor,
+    Poll, Minor, Major, FullMajor,
     Finalise { item: Register, number: u32, dst: Register },
     FinaliseLast { item: Register, number: u32 },
 }
@@ -87,14 +84,7 @@ impl Command {
 /// What a command replies, or a finaliser that ran.
 #[derive(Clone, Copy, Debug, PartialEq, Eq)]
 pub enum Reply {
-    Done,
-    Int(i64),
-    Block(Label),
-    BadType,
-    BadIndex,
-    Empty,
-    Yes,
-    No,
+    Done, Int(i64), Block(Label), BadType, BadIndex, Empty, Yes, No,
     /// No room after a complete collection; no block was made.
     Full,
     Live { blocks: u64, words: u64 },
@@ -128,57 +118,50 @@ impl Reply {
 /// Why something wasn't done. Nothing has changed then.
 #[derive(Clone, Copy, Debug, PartialEq, Eq)]
 pub enum Refused {
-    /// The seat was closed.
-    Closed,
-    /// The command before isn't made yet.
-    Busy,
-    /// A register or number is outside its range.
-    Unfit,
-    NoEphemeron,
-    NoFinaliser,
-    NoLabel,
-    NoRegister,
-    Memory,
+    Closed, Busy, Unfit, NoEphemeron, NoFinaliser, NoLabel, NoRegister, Memory,
     /// The first field of the configuration outside its range, counted from 1.
     Outside(u32),
 }
 
+/// The refusals in the order of their numbers, with what they say.
+const REFUSALS: [(Refused, &str); 8] = [
+    (Refused::Closed, "the seat takes no command any more"),
+    (Refused::Busy, "the command before isn't made yet"),
+    (Refused::Unfit, "a register or number is outside its range"),
+    (Refused::NoEphemeron, "no room for the ephemeron"),
+    (Refused::NoFinaliser, "no room for the finaliser"),
+    (Refused::NoLabel, "no label is left"),
+    (Refused::NoRegister, "no such register"),
+    (Refused::Memory, "memory ran out"),
+];
+
 impl Refused {
     fn of(told: u32) -> Refused {
-        match told {
-            17 => Refused::Closed,
-            18 => Refused::Busy,
-            19 => Refused::Unfit,
-            20 => Refused::NoEphemeron,
-            21 => Refused::NoFinaliser,
-            22 => Refused::NoLabel,
-            23 => Refused::NoRegister,
-            24 => Refused::Memory,
-            33.. => Refused::Outside(told - sys::OUTSIDE),
-            other => unreachable!("the library has no refusal {other}"),
+        match REFUSALS.get((told - sys::CLOSED) as usize) {
+            Some((refused, _)) => *refused,
+            None => Refused::Outside(told - sys::OUTSIDE),
         }
     }
 }
 
 impl fmt::Display for Refused {
     fn fmt(&self, out: &mut fmt::Formatter<'_>) -> fmt::Result {
-        match self {
-            Refused::Closed => out.write_str("the seat takes no command any more"),
-            Refused::Busy => out.write_str("the command before isn't made yet"),
-            Refused::Unfit => out.write_str("a register or number is outside its range"),
-            Refused::NoEphemeron => out.write_str("no room for the ephemeron"),
-            Refused::NoFinaliser => out.write_str("no room for the finaliser"),
-            Refused::NoLabel => out.write_str("no label is left"),
-            Refused::NoRegister => out.write_str("no such register"),
-            Refused::Memory => out.write_str("memory ran out"),
-            Refused::Outside(field) => write!(out, "field {field} of the configuration is outside its range"),
+        match (self, REFUSALS.iter().find(|(refused, _)| refused == self)) {
+            (Refused::Outside(field), _) => write!(out, "field {field} of the configuration is outside its range"),
+            (_, said) => out.write_str(said.map_or("", |(_, text)| text)),
         }
     }
 }
 
 impl std::error::Error for Refused {}
 
-/// A domain of a heap. It moves between threads; one at a time calls on it.
+// What a call answered: its reply, or why there is none.
+fn answered(told: u32, reply: &sys::Reply) -> Result<Reply, Refused> {
+    if told == sys::DONE { Ok(Reply::of(reply)) } else { Err(Refused::of(told)) }
+}
+
+/// A domain of a heap. It moves between threads; one at a time calls on it. One that is dropped before it has finished
+/// leaves the others of its heap waiting in their next pause, for ever.
 pub struct Seat {
     raw: sys::Domain,
     // Two threads don't share one, not even to read.
@@ -190,8 +173,7 @@ unsafe impl Send for Seat {}
 
 /// A heap of this size: a seat for each of its domains, in order.
 pub fn start(config: Config) -> Result<Vec<Seat>, Refused> {
-    const MOST_DOMAINS: u32 = 8;
-    if config.domains > MOST_DOMAINS {
+    if config.domains > 8 {
         return Err(Refused::Outside(1));
     }
     let mut raw: Vec<sys::Domain> = (0..config.domains).map(|_| sys::Domain::NONE).collect();
@@ -213,25 +195,18 @@ impl Seat {
             }
             told = unsafe { sys::camlheap_run(&mut self.raw, TURNS, &mut reply) };
         }
-        match told {
-            sys::DONE => Ok(Reply::of(&reply)),
-            told => Err(Refused::of(told)),
-        }
+        answered(told, &reply)
     }
 
     /// What a register holds: an integer, a block, or nothing.
     pub fn show(&mut self, register: Register) -> Result<Reply, Refused> {
         let mut reply = sys::Reply::default();
-        match unsafe { sys::camlheap_show(&mut self.raw, register, &mut reply) } {
-            sys::DONE => Ok(Reply::of(&reply)),
-            told => Err(Refused::of(told)),
-        }
+        answered(unsafe { sys::camlheap_show(&mut self.raw, register, &mut reply) }, &reply)
     }
 
     /// The finalisers that have run since the last command was handed in, in order.
     pub fn ran(&mut self) -> Vec<Reply> {
-        let mut found = Vec::new();
-        let mut reply = sys::Reply::default();
+        let (mut found, mut reply) = (Vec::new(), sys::Reply::default());
         while unsafe { sys::camlheap_ran(&mut self.raw, found.len(), &mut reply) } == sys::DONE {
             found.push(Reply::of(&reply));
         }
@@ -257,9 +232,9 @@ impl Seat {
 
     /// No command comes any more. Waits until the other seats are finished too, and frees the domain.
     pub fn finish(mut self) -> Result<(), Refused> {
-        match unsafe { sys::camlheap_close(&mut self.raw) } {
-            sys::DONE => (),
-            told => return Err(Refused::of(told)),
+        let told = unsafe { sys::camlheap_close(&mut self.raw) };
+        if told != sys::DONE {
+            return Err(Refused::of(told));
         }
         while !self.turn() {}
         Ok(())

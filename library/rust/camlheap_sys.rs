@@ -13,59 +13,27 @@ impl Domain {
     pub const NONE: Domain = Domain { at: core::ptr::null_mut(), full: false };
 }
 
-#[repr(C)]
-#[derive(Clone, Copy)]
-pub struct Config {
-    pub domains: u32,
-    pub minor_words: u32,
-    pub pools: u32,
-    pub finals: u32,
-    pub ephes: u32,
+/// A struct of C, with public fields.
+macro_rules! layout {
+    ($name:ident { $($field:ident: $kind:ty),* }) => {
+        #[repr(C)]
+        #[derive(Clone, Copy, Debug, Default, PartialEq, Eq)]
+        pub struct $name { $(pub $field: $kind),* }
+    };
 }
 
-#[repr(C)]
-#[derive(Clone, Copy, Default)]
-pub struct Command {
-    pub op: u8,
-    pub dst: u8,
-    pub a: u8,
-    pub b: u8,
-    pub tag: u8,
-    pub n: u16,
-    pub number: u32,
-    pub value: i64,
-}
-
-#[repr(C)]
-#[derive(Clone, Copy, Default)]
-pub struct Reply {
-    pub kind: u32,
-    pub domain: u32,
-    pub serial: u32,
-    pub number: u32,
-    pub value: i64,
-    pub blocks: u64,
-    pub words: u64,
-}
-
-#[repr(C)]
-#[derive(Clone, Copy, Debug, Default, PartialEq, Eq)]
-pub struct Stats {
-    pub labels: u32,
-    pub young_words: u32,
-    pub remembered: usize,
-    pub ephemerons: usize,
-    pub finals: usize,
-    pub lasts: usize,
-    pub waiting: usize,
-    pub arrivals: u64,
-}
+layout!(Config { domains: u32, minor_words: u32, pools: u32, finals: u32, ephes: u32 });
+layout!(Command { op: u8, dst: u8, a: u8, b: u8, tag: u8, n: u16, number: u32, value: i64 });
+layout!(Reply { kind: u32, domain: u32, serial: u32, number: u32, value: i64, blocks: u64, words: u64 });
+layout!(Stats { labels: u32, young_words: u32, remembered: usize, ephemerons: usize, finals: usize, lasts: usize, waiting: usize, arrivals: u64 });
 
 pub const DONE: u32 = 0;
 pub const AGAIN: u32 = 1;
 pub const WAITING: u32 = 2;
 pub const HUNGRY: u32 = 3;
 pub const ENDED: u32 = 4;
+/// The first refusal of a command, and the number before those of a configuration's fields.
+pub const CLOSED: u32 = 17;
 pub const OUTSIDE: u32 = 32;
 
 unsafe extern "C" {

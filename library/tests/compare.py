@@ -45,10 +45,7 @@ def made(commands):
         lines += [*map(str, domain.ran()), str(reply)]
     domain.perform("poll")
     lines += map(str, domain.ran())
-    domain.close()
-    while not domain.turn():
-        pass
-    domain.free()
+    domain.finish()
     return lines
 
 

@@ -1,0 +1,7 @@
+(print (apply + '(1 2)) (apply list '(1 2 3)) (apply (lambda (a b) (- a b)) '(10 3)) (apply list nil))
+(apply car '(1 2))
+(apply (lambda (a) a) '(1 2))
+(apply 5 '(1))
+(define ops (list + - * cons))
+(define (each l) (if (null? l) nil (cons ((car l) 8 2) (each (cdr l)))))
+(print (each ops))

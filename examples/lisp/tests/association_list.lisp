@@ -1,0 +1,8 @@
+(define (put key value l)
+  (cond ((null? l) (list (cons key value)))
+        ((eq? key (car (car l))) (cons (cons key value) (cdr l)))
+        (else (cons (car l) (put key value (cdr l))))))
+(define (get key l) (cond ((null? l) nil) ((eq? key (car (car l))) (cdr (car l))) (else (get key (cdr l)))))
+(define l (put 'a 1 (put 'b 2 (put 'c 3 nil))))
+(print l (get 'b l) (get 'z l))
+(print (put 'b 20 l))

@@ -1,0 +1,7 @@
+(define zero (lambda (f) (lambda (x) x)))
+(define (next n) (lambda (f) (lambda (x) (f ((n f) x)))))
+(define (add a b) (lambda (f) (lambda (x) ((a f) ((b f) x)))))
+(define (times a b) (lambda (f) (a (b f))))
+(define (number n) ((n (lambda (x) (+ x 1))) 0))
+(define three (next (next (next zero))))
+(print (number three) (number (add three three)) (number (times three (times three three))))

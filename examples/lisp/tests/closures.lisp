@@ -1,0 +1,6 @@
+(define (compose f g) (lambda (x) (f (g x))))
+(define (twice f) (compose f f))
+(define (adder n) (lambda (x) (+ x n)))
+(print ((compose (adder 1) (adder 10)) 5) (((lambda (f) (twice (twice f))) (adder 3)) 0))
+(define (curry a) (lambda (b) (lambda (c) (list a b c))))
+(print (((curry 1) 2) 3))

@@ -1,0 +1,8 @@
+(define (sign n) (cond ((< n 0) 'negative) ((= n 0) 'zero) (else 'positive)))
+(print (sign -5) (sign 0) (sign 5) (cond ((= 1 2) 3)))
+(print (and) (and 1 2 3) (and 1 nil 3) (or) (or nil nil) (or nil 2 3))
+(define called nil)
+(define (note x) (set! called (cons x called)) x)
+(and (note 1) (note nil) (note 3))
+(or (note nil) (note 5) (note 6))
+(print called)

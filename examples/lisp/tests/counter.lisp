@@ -1,0 +1,6 @@
+(define (make-counter)
+  (let ((n 0)) (lambda () (set! n (+ n 1)) n)))
+(define a (make-counter))
+(define b (make-counter))
+(a) (a)
+(print (a) (b) (a) (b))

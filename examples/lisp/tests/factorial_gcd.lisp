@@ -1,0 +1,5 @@
+(define (fact n) (if (= n 0) 1 (* n (fact (- n 1)))))
+(define (gcd a b) (if (= b 0) a (gcd b (remainder a b))))
+(print (fact 5) (fact 20) (gcd 1071 462))
+(print (fact 21))
+(print 'on)

@@ -1,0 +1,5 @@
+(define (range a b) (if (= a b) nil (cons a (range (- a 1) b))))
+(define (churn n) (if (= n 0) 'done (begin (range 100 0) (churn (- n 1)))))
+(print (churn 5000))
+(define (text n) (if (= n 0) "" (begin (string-append "some text " (number->string n)) (text (- n 1)))))
+(print (text 20000))

@@ -1,0 +1,11 @@
+; needs a collector
+(define g (guardian))
+(define x (list 'first))
+(guard g x)
+(guard g (list 'second))
+(full-major)
+(print (retrieve g) (retrieve g))
+(set! x nil)
+(full-major)
+(print (retrieve g) (retrieve g))
+(guard g 5)

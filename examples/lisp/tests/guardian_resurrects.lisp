@@ -1,0 +1,13 @@
+; needs a collector
+(define g (guardian))
+(define w nil)
+(let ((it (list 'comes 'back))) (set! w (weak it 1)) (guard g it))
+(full-major)
+(define it (retrieve g))
+(print it (weak-key w) (eq? it (weak-key w)))
+(guard g it)
+(set! it nil)
+(full-major)
+(print (retrieve g))
+(full-major)
+(print (weak-key w))

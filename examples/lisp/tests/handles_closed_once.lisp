@@ -1,0 +1,12 @@
+; needs a collector
+(define a (open))
+(define b (open))
+(define c (open))
+(print (close a) (close a) (handle-counts))
+(set! a nil) (set! b nil)
+(full-major)
+(print (handle-counts))
+(print (close c) (close c))
+(set! c nil)
+(full-major) (full-major)
+(print (handle-counts))

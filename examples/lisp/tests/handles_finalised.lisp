@@ -1,0 +1,12 @@
+; needs a collector
+(define (open-some n) (if (= n 0) nil (begin (open) (open-some (- n 1)))))
+(open-some 50)
+(define kept (open))
+(print (handle-counts))
+(full-major)
+(print (handle-counts))
+(full-major)
+(print (handle-counts))
+(set! kept nil)
+(full-major)
+(print (handle-counts))

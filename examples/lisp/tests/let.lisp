@@ -1,0 +1,6 @@
+(define x 1)
+(print (let ((x 2) (y x)) (list x y)) x)
+(print (let ((x 5)) (let ((x (+ x 1)) (z x)) (set! x (* x 10)) (list x z))))
+(print (let () 7))
+(define (f a) (let ((b (* a 2))) (let ((c (+ a b))) (lambda (d) (list a b c d)))))
+(print ((f 3) 4))

@@ -1,0 +1,13 @@
+; needs a collector
+(define kept nil)
+(define after 0)
+(define (range a b) (if (= a b) nil (cons a (range (- a 1) b))))
+(define before (full-major))
+(set! before (full-major))
+(set! kept (range 100 0))
+(set! after (full-major))
+(print (- after before))
+(range 100 0)
+(print (- (full-major) after))
+(set! kept nil)
+(print (- (full-major) before))

@@ -1,0 +1,7 @@
+(define (map f l) (if (null? l) nil (cons (f (car l)) (map f (cdr l)))))
+(define (filter f l) (cond ((null? l) nil) ((f (car l)) (cons (car l) (filter f (cdr l)))) (else (filter f (cdr l)))))
+(define (fold f so-far l) (if (null? l) so-far (fold f (f so-far (car l)) (cdr l))))
+(define (range a b) (if (= a b) nil (cons a (range (+ a 1) b))))
+(print (map (lambda (x) (* x x)) (range 0 10)))
+(print (filter (lambda (x) (= 0 (remainder x 3))) (range 0 20)))
+(print (fold + 0 (range 0 101)) (fold (lambda (l x) (cons x l)) nil '(a b c)))

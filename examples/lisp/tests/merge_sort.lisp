@@ -1,0 +1,11 @@
+(define (split l a b) (if (null? l) (cons a b) (split (cdr l) (cons (car l) b) a)))
+(define (merge a b)
+  (cond ((null? a) b) ((null? b) a)
+        ((< (car b) (car a)) (cons (car b) (merge a (cdr b))))
+        (else (cons (car a) (merge (cdr a) b)))))
+(define (sort l)
+  (if (or (null? l) (null? (cdr l))) l
+      (let ((halves (split l nil nil))) (merge (sort (car halves)) (sort (cdr halves))))))
+(define (draw n seed) (if (= n 0) nil (cons (remainder seed 1000) (draw (- n 1) (remainder (+ (* seed 7919) 13) 104729)))))
+(print (sort '(3 1 2)) (sort nil))
+(print (sort (draw 60 17)))

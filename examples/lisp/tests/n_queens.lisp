@@ -1,0 +1,13 @@
+(define (safe? column row queens)
+  (cond ((null? queens) t)
+        ((= column (car queens)) nil)
+        ((= row (- column (car queens))) nil)
+        ((= row (- (car queens) column)) nil)
+        (else (safe? column (+ row 1) (cdr queens)))))
+(define (place column n rows queens)
+  (if (= column n) 0
+      (+ (if (safe? column 1 queens) (solve n (- rows 1) (cons column queens)) 0)
+         (place (+ column 1) n rows queens))))
+(define (solve n rows queens) (if (= rows 0) 1 (place 0 n rows queens)))
+(define (queens n) (solve n n nil))
+(print (queens 1) (queens 4) (queens 5) (queens 6) (queens 7))

@@ -1,0 +1,7 @@
+(define (append a b) (if (null? a) b (cons (car a) (append (cdr a) b))))
+(define (part l pivot less more)
+  (cond ((null? l) (append (sort less) (cons pivot (sort more))))
+        ((< (car l) pivot) (part (cdr l) pivot (cons (car l) less) more))
+        (else (part (cdr l) pivot less (cons (car l) more)))))
+(define (sort l) (if (null? l) nil (part (cdr l) (car l) nil nil)))
+(print (sort '(5 3 9 1 1 7 2 8 0 4 6 3)))

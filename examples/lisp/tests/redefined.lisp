@@ -1,0 +1,7 @@
+(print (+ 1 2))
+(define (+ a b) (* a b))
+(print (+ 3 4))
+(define car 5)
+(print car)
+(define (cdr x) (list 'my x))
+(print (cdr 1))

@@ -1,0 +1,6 @@
+(define (adder n) (lambda (x) (+ x n)))
+(define f (join (spawn (adder 5))))
+(print (f 10))
+(define (work from) (let ((l (list from (+ from 1)))) (spawn (cons 'got l))))
+(print (join (work 7)))
+(print (join (spawn (string->symbol (string-append "made-" "there")))) (eq? 'made-there (join (spawn (string->symbol "made-there")))))

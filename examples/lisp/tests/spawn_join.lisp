@@ -1,0 +1,7 @@
+(define (fib n) (if (< n 2) n (+ (fib (- n 1)) (fib (- n 2)))))
+(define task (spawn (fib 16)))
+(define here (fib 15))
+(print here (join task))
+(print (join (spawn (list 'a (fib 5) "text"))))
+(define base 100)
+(print (join (spawn (set! base (+ base 1)) base)) base)

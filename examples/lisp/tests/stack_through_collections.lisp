@@ -1,0 +1,7 @@
+(define (deep n) (if (= n 0) (begin (full-major) 0) (+ (car (list n)) (deep (- n 1)))))
+(print (deep 3000))
+(define (keep n l) (if (= n 0) (begin (minor) (full-major) (car l)) (let ((kept (list n l))) (keep (- n 1) kept))))
+(print (keep 200 nil))
+(define (both n) (if (= n 0) nil (cons (list n) (begin (if (= 0 (remainder n 50)) (full-major) nil) (both (- n 1))))))
+(define (sum l) (if (null? l) 0 (+ (car (car l)) (sum (cdr l)))))
+(print (sum (both 300)))

@@ -1,0 +1,7 @@
+(print (string-append "abc" "defghijklmnop" "") (string-length "abcdefgh") (substring "hello world" 6 11))
+(print (string=? "a" "a") (string=? "a" "ab") (string<? "abc" "abd") (string<? "b" "a") (string<? "ab" "abc"))
+(print (string-length "") (string-append) (substring "abc" 1 1))
+(define (double s n) (if (= n 0) s (double (string-append s s) (- n 1))))
+(print (string-length (double "seven--" 9)))
+(substring "abc" 2 5)
+(double "seven--" 11)

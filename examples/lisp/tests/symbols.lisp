@@ -1,0 +1,5 @@
+(print 'abc (symbol->string 'abc) (string->symbol "abc"))
+(print (eq? 'abc (string->symbol (string-append "a" "bc"))) (eq? 'abc (string->symbol "abd")))
+(define a-long-name-with-dashes? 7)
+(print a-long-name-with-dashes? 'a-long-name-with-dashes?)
+(symbol->string 5)

@@ -1,0 +1,5 @@
+(define (make n) (if (= n 0) nil (cons (string->symbol (string-append "s" (number->string n))) (make (- n 1)))))
+(define (same? a b) (cond ((null? a) (null? b)) ((eq? (car a) (car b)) (same? (cdr a) (cdr b))) (else nil)))
+(define task (spawn (make 400)))
+(define here (make 400))
+(print (same? here (join task)))

@@ -1,0 +1,12 @@
+; needs a collector
+(define (make n) (if (= n 0) nil (begin (string->symbol (string-append "symbol-" (number->string n))) (make (- n 1)))))
+(full-major)
+(define start (symbol-count))
+(make 500)
+(print (- (symbol-count) start))
+(full-major)
+(print (- (symbol-count) start))
+(define kept (string->symbol "symbol-7"))
+(make 20)
+(full-major)
+(print (- (symbol-count) start) kept (eq? kept (string->symbol "symbol-7")))

@@ -1,0 +1,7 @@
+(define (f x) (+ 1 (f x)))
+(f 1)
+(define (g x) (cons x (g (+ x 1))))
+(g 1)
+(define (h x) (not (h x)))
+(h 1)
+(print 'on)

@@ -1,0 +1,13 @@
+; needs a collector
+(define a (list 'a))
+(define b (list 'b))
+(define c (list 'c))
+(define ab (weak a b))
+(define bc (weak b c))
+(define ca (weak c a))
+(set! b nil) (set! c nil)
+(full-major)
+(print (weak-data ab) (weak-data bc) (weak-data ca))
+(set! a nil)
+(full-major)
+(print (weak-data ab) (weak-data bc) (weak-data ca))

@@ -1,0 +1,54 @@
+#!/usr/bin/env python3
+"""Tries the module: each call, and each refusal that a program can come to. Ends with 0 where all is as it should be."""
+import camlheap
+from camlheap import Reply
+
+
+def refusal(call, *words):
+    """The class of what a call raises, or None."""
+    try:
+        call(*words)
+    except camlheap.Refused as why:
+        assert str(why)
+        return type(why)
+    return None
+
+
+def main():
+    for place, numbers in enumerate([(9,), (1, 5000), (1, 4096, 19), (1, 4096, 64, 200001), (1, 4096, 64, 1, 2**32)]):
+        try:
+            camlheap.start(*numbers)
+            assert False
+        except camlheap.Outside as why:
+            assert why.field == camlheap.Outside.FIELDS[place] and why.code == 33 + place
+    (domain,) = camlheap.start(finals=1, ephes=1)
+    block = Reply("blk", domain=0, serial=1)
+    assert domain.perform("alloc", 1, 0, 2) == block == domain.show(1)
+    assert domain.perform("int", 2, -(2**62)) == Reply("ok")
+    assert domain.perform("store", 1, 0, 2) == Reply("ok")
+    assert str(domain.perform("load", 3, 1, 0)) == f"int {-(2**62)}"
+    for words in [("copy", 1), ("int", 2, 2**62), ("int", 2, 2**70), ("move", 16, 0), ("move", 256, 0), ("move", -1, 0), ("raw", 1, 507, 1)]:
+        assert refusal(domain.perform, *words) == camlheap.Unfit
+    assert refusal(domain.show, 16) == refusal(domain.show, 256) == refusal(domain.show, -1) == camlheap.NoRegister
+    domain.perform("finalise_last", 1, 7)
+    domain.perform("ephe", 4, 1)
+    assert refusal(domain.perform, "finalise", 1, 8, 5) == camlheap.NoFinaliser
+    assert refusal(domain.perform, "ephe", 5, 1) == camlheap.NoEphemeron
+    assert domain.stats().labels == 2 and domain.stats().lasts == 1 and domain.stats().ephemerons == 1
+    domain.perform("drop", 1)
+    assert domain.perform("full_major").kind == "live"
+    domain.perform("poll")
+    assert domain.ran() == [Reply("last", number=7)] and domain.stats().waiting == 0
+    domain.close()
+    assert refusal(domain.close) == refusal(domain.perform, "poll") == camlheap.Closed
+    while not domain.turn():
+        pass
+    domain.free()
+    assert refusal(domain.stats) == refusal(domain.turn) == refusal(domain.show, 0) == refusal(domain.ran) == camlheap.NoDomain
+    typed = iter(["", "alloc 99 0 1", "nonsense", "int 1 x", "stats", "show 1", "help", *[""] * 11])
+    camlheap.tour(lambda offered: next(typed))
+    print("ok")
+
+
+if __name__ == "__main__":
+    main()
