@@ -187,13 +187,13 @@ collections() {
 chain 0 the shared block alone
 chain 60000 a chain of 60,000 blocks
 ephemerons 20000 20,000 ephemerons
-finalise 20000 20,000 registrations of `finalise`
-finalise_last 20000 20,000 registrations of `finalise_last`
+finalise 5000 5,000 registrations of `finalise`
+finalise_last 5000 5,000 registrations of `finalise_last`
 END
-    halves 20000 0 >"$work/few"
-    halves 20000 1 >"$work/many"
-    mapfile -t each < <(for program in camlheap twin; do between "$program" "$work/few" "$work/many" 1 --minor 4096 --pools 600; done; alone halves 20000 0 1)
-    beside "the first one over 20,000 registrations of \`finalise\`, half of which run" "${each[@]}"
+    halves 5000 0 >"$work/few"
+    halves 5000 1 >"$work/many"
+    mapfile -t each < <(for program in camlheap twin; do between "$program" "$work/few" "$work/many" 1 --minor 4096 --pools 600; done; alone halves 5000 0 1)
+    beside "the first one over 5,000 registrations of \`finalise\`, half of which run" "${each[@]}"
 }
 
 chains() {
