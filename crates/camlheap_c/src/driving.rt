@@ -59,6 +59,7 @@ pub extern "C" fn camlheap_turn(alloc: Global, handle: &mut CamlheapDomain) -> u
     ensures none { (handle.old.full ≡ false) ↔ (result ≡ 16) }
     ensures heap { handle.old.full ≡ true → handle.new.value.heap ≡ handle.old.value.heap }
     ensures stretch { handle.old.full ≡ true → Stretches (sizes_in handle.old.value.heap.config) handle.old.value.run handle.new.value.run }
+    ensures ended { handle.old.full ≡ true → result ≡ 4 → handle.new.value.run.ended ≡ true }
 {
     let Some(mut run) = handle.take(alloc) else {
         return NO_DOMAIN;

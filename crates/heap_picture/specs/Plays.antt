@@ -6,12 +6,13 @@ use Rattle.heap_model.specs.declared.state.State.{State}
 use Rattle.heap_model.specs.Domains.{opening, sizes_of}
 use Rattle.heap_model.specs.History.{commands, state_after, LegalFrom}
 use Rattle.heap_text.specs.declared.fault.ScriptFault.{ScriptFault}
-use Rattle.heap_text.specs.declared.version.Version.TheVariants.{Two}
+use Rattle.heap_text.specs.declared.version.Version.TheVariants.{Three}
 use Rattle.heap_text.specs.Faults.{IsFaultUnlessMemory}
 use Rattle.heap_text.specs.Script.{Scripted}
 use Rattle.heap_text.specs.Spelling.{Spells}
 use Rattle.heap_picture.specs.declared.fault.PictureFault.{PictureFault}
 use Rattle.heap_picture.specs.declared.fault.PictureFault.TheVariants.{Script, Play}
+use Rattle.heap_picture.specs.Sections.{made_of}
 use Rattle.heap_picture.specs.Steps.{played}
 use Rattle.heap_picture.specs.Text.{picture_text}
 
@@ -31,11 +32,11 @@ pub record IsDrawn (cs : List Command) (text : List ℕ) : Type 0 where
   pub legal : Plays start (played start cs) cs
   pub text_is : text ≡ picture_text (played start cs)
 
--- so drawn are the commands that the bytes spell, in a version without spawns
+-- so drawn are the commands that a run of one domain makes of what the bytes spell
 pub record IsPictureOf (bytes text : List ℕ) : Type 0 where
   pub script : Scripted
-  pub spelled : Spells Two 1 script bytes
-  pub drawn : IsDrawn (slice_index_or script.sections 0 []) text
+  pub spelled : Spells Three 1 script bytes
+  pub drawn : IsDrawn (made_of script.version (slice_index_or script.sections 0 [])) text
 
 -- only what is told of a script needs a cause in its bytes
 abbrev pub IsFaultOf : Option ScriptFault → PictureFault → Type 0

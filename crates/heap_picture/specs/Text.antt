@@ -1,5 +1,5 @@
 -- The text of a picture, piece by piece.
-use Rattle.std.specs.Prelude.{ℕ, ◌+◌, Bool, true, false, cond, ◌&&◌, ◌==◌, nat_lt, List, [], ◌∷◌, ◌++◌, length, flat_map, codes, decimal, pos, Option, Some, None}
+use Rattle.std.specs.Prelude.{ℕ, ◌+◌, Bool, true, false, cond, ◌&&◌, ◌==◌, nat_lt, List, [], ◌∷◌, ◌++◌, length, flat_map, codes, decimal, pos, slice_get, Option, Some, None}
 use Rattle.std.specs.List.{list_any, list_all}
 use Rattle.std.specs.Fmt.{signed_decimal}
 use Rattle.heap_model.specs.declared.label.Label.{Label}
@@ -14,6 +14,9 @@ use Rattle.heap_model.specs.declared.state.LastFinaliser.{LastFinaliser}
 use Rattle.heap_model.specs.declared.state.DomainState.{DomainState}
 use Rattle.heap_model.specs.declared.state.State.{State}
 use Rattle.heap_model.specs.Commands.{same_value}
+use Rattle.heap_model.specs.Domains.{shared_label}
+use Rattle.heap_model.specs.Entries.{is_some_and}
+use Rattle.heap_model.specs.Graph.{same_label}
 use Rattle.heap_model.specs.Output.{label_text}
 use Rattle.heap_picture.specs.declared.fates.Fate.{Fate}
 use Rattle.heap_picture.specs.declared.fates.Fate.TheVariants.{Kept, MayReturn, MayGo}
@@ -35,20 +38,47 @@ fill Kept = []
 fill MayReturn = codes ", fillcolor=gray90"
 fill MayGo = codes ", fillcolor=gray75, style=\"filled,dashed\""
 
--- a register that holds something: its cell, and its arrow
-abbrev pub register_cell : ℕ → Value → List ℕ
-register_cell place (Int z) = codes "|<r" ++ decimal place ++ codes "> r" ++ decimal place ++ codes " = " ++ signed_decimal z
-register_cell place (Block l) = codes "|<r" ++ decimal place ++ codes "> r" ++ decimal place
-register_cell place Nothing = []
+-- whether each field holds 0, and whether there are more than four of them besides
+abbrev pub are_zeros : List Value → Bool
+are_zeros fields = list_all (λ v. same_value v (Int (pos 0))) fields
 
-abbrev pub register_arrow : ℕ → Value → List ℕ
-register_arrow place (Int z) = []
-register_arrow place (Block l) = codes "  registers:r" ++ decimal place ++ codes " -> \"" ++ label_text l ++ codes "\";\n"
-register_arrow place Nothing = []
+abbrev pub is_blank : List Value → Bool
+is_blank fields = nat_lt 4 (length fields) && are_zeros fields
+
+-- whether a value is the shared block
+abbrev pub is_shared : Value → Bool
+is_shared v = same_value v (Block shared_label)
+
+-- whether a block is the shared one, while all its fields hold 0: it isn't drawn, nor the registers that hold it
+abbrev pub is_bare : Label → Node → Bool
+is_bare l (Plain tag fields) = same_label l shared_label && are_zeros fields
+is_bare l (Raw tag fields) = false
+is_bare l (Ephe keys datum) = false
+
+abbrev pub hides_shared : List (Label × Node) → Bool
+hides_shared graph = is_some_and (λ b. is_bare b.0 b.1) (slice_get graph 0)
+
+-- a register that holds something: its cell, and its arrow
+abbrev pub shown_cell : ℕ → Value → List ℕ
+shown_cell place (Int z) = codes "|<r" ++ decimal place ++ codes "> register " ++ decimal place ++ codes " = " ++ signed_decimal z
+shown_cell place (Block l) = codes "|<r" ++ decimal place ++ codes "> register " ++ decimal place
+shown_cell place Nothing = []
+
+abbrev pub shown_arrow : ℕ → Value → List ℕ
+shown_arrow place (Int z) = []
+shown_arrow place (Block l) = codes "  registers:r" ++ decimal place ++ codes " -> \"" ++ label_text l ++ codes "\";\n"
+shown_arrow place Nothing = []
+
+-- the same, unless it isn't drawn
+abbrev pub register_cell : Bool → ℕ → Value → List ℕ
+register_cell hides place v = cond (hides && is_shared v) [] (shown_cell place v)
+
+abbrev pub register_arrow : Bool → ℕ → Value → List ℕ
+register_arrow hides place v = cond (hides && is_shared v) [] (shown_arrow place v)
 
 -- the registers
-abbrev pub registers_text : List Value → List ℕ
-registers_text values = codes "  registers [label=\"registers" ++ placed register_cell 0 values ++ codes "\"];\n" ++ placed register_arrow 0 values
+abbrev pub registers_text : Bool → List Value → List ℕ
+registers_text hides values = codes "  registers [label=\"registers" ++ placed (register_cell hides) 0 values ++ codes "\"];\n" ++ placed (register_arrow hides) 0 values
 
 -- a field: its cell, and its arrow where it holds a block
 abbrev pub field_cell : ℕ → Value → List ℕ
@@ -60,13 +90,6 @@ abbrev pub field_arrow : Label → ℕ → Value → List ℕ
 field_arrow l place (Int z) = []
 field_arrow l place (Block to) = codes "  \"" ++ label_text l ++ codes "\":f" ++ decimal place ++ codes " -> \"" ++ label_text to ++ codes "\";\n"
 field_arrow l place Nothing = []
-
--- whether each field holds 0, and whether there are more than four of them besides
-abbrev pub are_zeros : List Value → Bool
-are_zeros fields = list_all (λ v. same_value v (Int (pos 0))) fields
-
-abbrev pub is_blank : List Value → Bool
-is_blank fields = nat_lt 4 (length fields) && are_zeros fields
 
 -- the cells of fields: one cell for all where they are blank
 abbrev pub cells_where : Bool → List Value → List ℕ
@@ -130,14 +153,18 @@ abbrev pub ephemeron_text : (Label → Fate) → Label → List (Option Label) �
 ephemeron_text fate l keys datum = ephemeron_node fate l keys datum ++ placed (key_arrow fate l) 0 keys ++ datum_arrow l (list_any (may_empty fate) keys) datum
 
 -- a block
+abbrev pub node_text : (Label → Fate) → Label → Node → List ℕ
+node_text fate l (Plain tag fields) = fields_text (fate l) l [] fields
+node_text fate l (Raw tag fields) = fields_text (fate l) l (codes " raw") fields
+node_text fate l (Ephe keys datum) = ephemeron_text fate l keys datum
+
+-- the same, unless it isn't drawn
 unfoldable pub block_text : (Label → Fate) → Label × Node → List ℕ
-block_text fate (l, Plain tag fields) = fields_text (fate l) l [] fields
-block_text fate (l, Raw tag fields) = fields_text (fate l) l (codes " raw") fields
-block_text fate (l, Ephe keys datum) = ephemeron_text fate l keys datum
+block_text fate block = cond (is_bare block.0 block.1) [] (node_text fate block.0 block.1)
 
 -- a registration of `finalise`, and one of `finalise_last`: its note, and its arrow
 abbrev pub final_note : ℕ → Finaliser → List ℕ
-final_note place f = codes "  finalise" ++ decimal place ++ codes " [shape=note, label=\"finalise " ++ decimal f.number ++ codes " into r" ++ decimal f.register ++ codes "\"];\n"
+final_note place f = codes "  finalise" ++ decimal place ++ codes " [shape=note, label=\"finalise " ++ decimal f.number ++ codes " into register " ++ decimal f.register ++ codes "\"];\n"
 
 abbrev pub final_arrow : ℕ → Label → List ℕ
 final_arrow place l = codes "  finalise" ++ decimal place ++ codes " -> \"" ++ label_text l ++ codes "\""
@@ -158,7 +185,7 @@ last_text fate place f =
 
 -- a finaliser in the queue: its cell, and its arrow
 abbrev pub pending_cell : ℕ → Pending → List ℕ
-pending_cell place (Fin number l register) = codes "|<q" ++ decimal place ++ codes "> finalise " ++ decimal number ++ codes " into r" ++ decimal register
+pending_cell place (Fin number l register) = codes "|<q" ++ decimal place ++ codes "> finalise " ++ decimal number ++ codes " into register " ++ decimal register
 pending_cell place (Last number) = codes "|<q" ++ decimal place ++ codes "> finalise_last " ++ decimal number
 
 abbrev pub pending_arrow : ℕ → Pending → List ℕ
@@ -176,8 +203,8 @@ abbrev pub queue_text : List Pending → List ℕ
 queue_text queue = cond (length queue == 0) [] (full_queue_text queue)
 
 -- what a domain has
-unfoldable pub domain_text : (Label → Fate) → DomainState → List ℕ
-domain_text fate x = registers_text x.registers ++ queue_text x.queue ++ placed (final_text fate) 0 x.finals ++ placed (last_text fate) 0 x.lasts
+unfoldable pub domain_text : Bool → (Label → Fate) → DomainState → List ℕ
+domain_text hides fate x = registers_text hides x.registers ++ queue_text x.queue ++ placed (final_text fate) 0 x.finals ++ placed (last_text fate) 0 x.lasts
 
 -- the head of a picture
 abbrev pub head_text : List ℕ
@@ -185,7 +212,7 @@ head_text = codes "digraph heap {\n  rankdir=LR;\n  node [shape=record, style=fi
 
 -- a state, with the fates of its blocks
 abbrev pub state_text : (Label → Fate) → State → List ℕ
-state_text fate s = head_text ++ flat_map (domain_text fate) s.domains ++ flat_map (block_text fate) s.graph ++ codes "}\n"
+state_text fate s = head_text ++ flat_map (domain_text (hides_shared s.graph) fate) s.domains ++ flat_map (block_text fate) s.graph ++ codes "}\n"
 
 -- the picture of a state
 abbrev pub picture_text : State → List ℕ

@@ -2,7 +2,7 @@
 ghost use Rattle.std.specs.Prelude.{◌≡◌, ◌++◌, OnOk, flat_map, pos, string_bytes};
 ghost use Rattle.heap_model.specs.Commands.{same_value};
 ghost use Rattle.heap_picture.specs.Fates.{fate_of};
-ghost use Rattle.heap_picture.specs.Text.{placed, fill, field_cell, field_arrow, are_zeros as has_zeros, is_blank as has_blanks, cells_where, fields_head, fields_text, block_text};
+ghost use Rattle.heap_picture.specs.Text.{placed, fill, field_cell, field_arrow, are_zeros as has_zeros, is_blank as has_blanks, cells_where, fields_head, fields_text, is_bare as is_bare_block, hides_shared as hides_shared_in, node_text, block_text};
 
 use crate::ephemerons::push_ephemeron;
 use crate::fates::{Fate, Fates};
@@ -139,15 +139,46 @@ fn push_fields(
     push_field_arrows(out, l, fields)
 }
 
-// Adds a block.
-#[tactic(auto, unfolding(crate::specs::Text::block_text))]
-fn push_block(out: &mut String, fates: &Fates, l: Label, node: &Node) -> Result<(), AllocError>
-    ensures { OnOk result (string_bytes out.new ≡ string_bytes out.old ++ block_text (fate_of fates.now) (l, node.now)) }
+// Whether a block is the shared one, while all its fields hold 0.
+fn is_bare(l: Label, node: &Node) -> bool
+    ensures { result ≡ is_bare_block l node.now }
+{
+    match node {
+        Node::Plain { fields, .. } => l.domain == 0 && l.serial == 0 && are_zeros(fields),
+        Node::Raw { .. } | Node::Ephe { .. } => false,
+    }
+}
+
+// Whether the shared block, and the registers that hold it, aren't drawn.
+pub(crate) fn hides_shared(graph: &Sequence<(Label, Node)>) -> bool
+    ensures { result ≡ hides_shared_in graph.now }
+{
+    match graph.items.first() {
+        Some(block) => is_bare(block.0, &block.1),
+        None => false,
+    }
+}
+
+// Adds a block that is drawn.
+fn push_node(out: &mut String, fates: &Fates, l: Label, node: &Node) -> Result<(), AllocError>
+    ensures { OnOk result (string_bytes out.new ≡ string_bytes out.old ++ node_text (fate_of fates.now) l node.now) }
 {
     match node {
         Node::Plain { fields, .. } => push_fields(out, fates.fate(l), l, "", fields),
         Node::Raw { fields, .. } => push_fields(out, fates.fate(l), l, " raw", fields),
         Node::Ephe { keys, datum } => push_ephemeron(out, fates, l, keys, *datum),
+    }
+}
+
+// Adds a block.
+#[tactic(auto, unfolding(crate::specs::Text::block_text))]
+fn push_block(out: &mut String, fates: &Fates, l: Label, node: &Node) -> Result<(), AllocError>
+    ensures { OnOk result (string_bytes out.new ≡ string_bytes out.old ++ block_text (fate_of fates.now) (l, node.now)) }
+{
+    if is_bare(l, node) {
+        Ok(())
+    } else {
+        push_node(out, fates, l, node)
     }
 }
 

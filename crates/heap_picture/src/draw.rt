@@ -1,17 +1,28 @@
 //! From the bytes of a script to the text of its picture.
-ghost use Rattle.std.specs.Prelude.{◌≡◌, IfOk, IfErr, string_bytes};
-ghost use Rattle.heap_text.specs.declared.version.Version.TheVariants.{Two};
+ghost use Rattle.std.specs.Prelude.{◌≡◌, ◌<◌, [], length, slice_index_or, IfOk, IfErr, string_bytes};
+ghost use Rattle.heap_text.specs.declared.version.Version.TheVariants.{Three};
 ghost use Rattle.heap_text.specs.Faults.{first_fault};
 ghost use Rattle.heap_picture.specs.Plays.{IsPictureOf, IsDrawn, IsFaultOf};
+ghost use Rattle.heap_picture.specs.Sections.{made_of};
 
 use crate::fault::PictureFault;
 use crate::picture::picture;
 use crate::play::play;
+use crate::sections::commands_of;
 use heap_model::command::Command;
 use heap_model::reply::ApplyFault;
-use heap_text::{Version, read_script};
+use heap_text::{Script, Version, read_script};
 use slow_heap::SlowHeap;
 use std::alloc::Global;
+
+// The picture of what a script leaves.
+fn draw_script(alloc: Global, script: &Script) -> Result<String, ApplyFault>
+    requires { 0 < length script.now.sections }
+    ensures { IfOk result (λ t. IsDrawn (made_of script.now.version (slice_index_or script.now.sections 0 [])) (string_bytes t)) }
+{
+    let commands = commands_of(alloc, script)?;
+    draw_commands(alloc, commands.as_slice())
+}
 
 // The picture of what commands leave.
 fn draw_commands(alloc: Global, commands: &[Command]) -> Result<String, ApplyFault>
@@ -22,13 +33,13 @@ fn draw_commands(alloc: Global, commands: &[Command]) -> Result<String, ApplyFau
     Ok(picture(alloc, &heap)?)
 }
 
-/// The picture of what a script of version 1 or 2 with one domain leaves, on a heap with the sizes that `camlheap run` has without options.
+/// The picture of what a script of one domain leaves, on a heap with the sizes that `camlheap run` has without options.
 pub(crate) fn draw(alloc: Global, bytes: &[u8]) -> Result<String, PictureFault>
     ensures picture { IfOk result (λ t. IsPictureOf bytes.now (string_bytes t)) }
-    ensures fault { IfErr result (IsFaultOf (first_fault Two 1 bytes.now)) }
+    ensures fault { IfErr result (IsFaultOf (first_fault Three 1 bytes.now)) }
 {
-    match read_script(alloc, Version::Two, 1, bytes) {
-        Ok(script) => match draw_commands(alloc, script.section(0)) {
+    match read_script(alloc, Version::Three, 1, bytes) {
+        Ok(script) => match draw_script(alloc, &script) {
             Ok(text) => Ok(text),
             Err(fault) => Err(PictureFault::Play(fault)),
         },

@@ -1,8 +1,8 @@
 //! Draws the object graph that a script of one domain leaves: reads the script from standard input, and writes the
 //! picture to standard output, as text for Graphviz.
 //!
-//! `draw` says it whole: its text is `picture_text` of the state `played start cs`, where `cs` are the commands that the
-//! bytes spell, and a legal history with these commands leads from `start`, a heap of one domain with the sizes that
+//! `draw` says it whole: its text is `picture_text` of the state `played start cs`, where `cs` are the commands that a run
+//! makes of those that the bytes spell, and a legal history with these commands leads from `start`, a heap of one domain with the sizes that
 //! `camlheap run` has without options, to that state. `played` says which history it is: before each command the queued
 //! finalisers run, and `major` and `full_major` make a complete collection. What is white, grey and red in a picture is
 //! said by `specs/Fates` in the words of the model: reach and settled reach.
@@ -22,6 +22,7 @@ mod fault;
 mod picture;
 mod play;
 mod registers;
+mod sections;
 mod text;
 
 use fault::PictureFault;

@@ -3,7 +3,7 @@ ghost use Rattle.std.specs.Prelude.{◌≡◌, ◌++◌, IfOk, OnOk, flat_map, s
 ghost use Rattle.heap_picture.specs.Fates.{fate_of, reached_in};
 ghost use Rattle.heap_picture.specs.Text.{domain_text, state_text, picture_text};
 
-use crate::blocks::push_blocks;
+use crate::blocks::{hides_shared, push_blocks};
 use crate::fates::Fates;
 use crate::registers::{push_finals, push_lasts, push_queue, push_registers};
 use crate::text::push_text;
@@ -17,10 +17,15 @@ const HEAD: &str =
 
 // Adds what a domain has.
 #[tactic(auto, unfolding(crate::specs::Text::domain_text))]
-fn push_domain(out: &mut String, fates: &Fates, domain: &DomainState) -> Result<(), AllocError>
-    ensures { OnOk result (string_bytes out.new ≡ string_bytes out.old ++ domain_text (fate_of fates.now) domain.now) }
+fn push_domain(
+    out: &mut String,
+    hides: bool,
+    fates: &Fates,
+    domain: &DomainState,
+) -> Result<(), AllocError>
+    ensures { OnOk result (string_bytes out.new ≡ string_bytes out.old ++ domain_text hides (fate_of fates.now) domain.now) }
 {
-    push_registers(out, &domain.registers)?;
+    push_registers(out, hides, &domain.registers)?;
     push_queue(out, &domain.queue)?;
     push_finals(out, fates, &domain.finals)?;
     push_lasts(out, fates, &domain.lasts)
@@ -29,13 +34,14 @@ fn push_domain(out: &mut String, fates: &Fates, domain: &DomainState) -> Result<
 // Adds what all domains have.
 fn push_domains(
     out: &mut String,
+    hides: bool,
     fates: &Fates,
     domains: &Sequence<DomainState>,
 ) -> Result<(), AllocError>
-    ensures { OnOk result (string_bytes out.new ≡ string_bytes out.old ++ flat_map (domain_text (fate_of fates.now)) domains.now) }
+    ensures { OnOk result (string_bytes out.new ≡ string_bytes out.old ++ flat_map (domain_text hides (fate_of fates.now)) domains.now) }
 {
     for domain in &domains.items {
-        push_domain(out, fates, domain)?;
+        push_domain(out, hides, fates, domain)?;
     }
     Ok(())
 }
@@ -45,7 +51,7 @@ fn push_picture(out: &mut String, fates: &Fates, state: &State) -> Result<(), Al
     ensures { OnOk result (string_bytes out.new ≡ string_bytes out.old ++ state_text (fate_of fates.now) state.now) }
 {
     push_text(out, HEAD)?;
-    push_domains(out, fates, &state.domains)?;
+    push_domains(out, hides_shared(&state.graph), fates, &state.domains)?;
     push_blocks(out, fates, &state.graph)?;
     push_text(out, "}\n")
 }

@@ -1,6 +1,6 @@
 //! The registers of a domain, and its finalisers.
 ghost use Rattle.std.specs.Prelude.{◌≡◌, ◌++◌, OnOk, string_bytes};
-ghost use Rattle.heap_picture.specs.Text.{placed, register_cell, register_arrow, registers_text, final_note, final_arrow, final_text, last_note, last_arrow, last_text, pending_cell, pending_arrow, queue_node, full_queue_text, queue_text};
+ghost use Rattle.heap_picture.specs.Text.{placed, shown_cell, shown_arrow, is_shared as is_shared_block, register_cell, register_arrow, registers_text, final_note, final_arrow, final_text, last_note, last_arrow, last_text, pending_cell, pending_arrow, queue_node, full_queue_text, queue_text};
 ghost use Rattle.heap_picture.specs.Fates.{fate_of};
 
 use crate::fates::{Fates, may_go, may_run};
@@ -13,19 +13,19 @@ use std::alloc::AllocError;
 use std::fmt::Write;
 
 // Adds the cell of a register that holds something.
-fn push_register_cell(out: &mut String, place: usize, value: Value) -> Result<(), AllocError>
-    ensures { OnOk result (string_bytes out.new ≡ string_bytes out.old ++ register_cell place value) }
+fn push_shown_cell(out: &mut String, place: usize, value: Value) -> Result<(), AllocError>
+    ensures { OnOk result (string_bytes out.new ≡ string_bytes out.old ++ shown_cell place value) }
 {
     match value {
-        Value::Int(z) => write!(out, "|<r{place}> r{place} = {z}"),
-        Value::Block(_) => write!(out, "|<r{place}> r{place}"),
+        Value::Int(z) => write!(out, "|<r{place}> register {place} = {z}"),
+        Value::Block(_) => write!(out, "|<r{place}> register {place}"),
         Value::Nothing => Ok(()),
     }
 }
 
 // Adds the arrow of a register that holds a block.
-fn push_register_arrow(out: &mut String, place: usize, value: Value) -> Result<(), AllocError>
-    ensures { OnOk result (string_bytes out.new ≡ string_bytes out.old ++ register_arrow place value) }
+fn push_shown_arrow(out: &mut String, place: usize, value: Value) -> Result<(), AllocError>
+    ensures { OnOk result (string_bytes out.new ≡ string_bytes out.old ++ shown_arrow place value) }
 {
     match value {
         Value::Block(l) => write!(
@@ -37,34 +37,88 @@ fn push_register_arrow(out: &mut String, place: usize, value: Value) -> Result<(
     }
 }
 
+// Whether a value is the shared block.
+fn is_shared(value: Value) -> bool
+    ensures { result ≡ is_shared_block value }
+{
+    match value {
+        Value::Block(l) => l.domain == 0 && l.serial == 0,
+        Value::Int(_) | Value::Nothing => false,
+    }
+}
+
+// Adds the cell of a register, unless it isn't drawn.
+fn push_register_cell(
+    out: &mut String,
+    hides: bool,
+    place: usize,
+    value: Value,
+) -> Result<(), AllocError>
+    ensures { OnOk result (string_bytes out.new ≡ string_bytes out.old ++ register_cell hides place value) }
+{
+    if hides && is_shared(value) {
+        Ok(())
+    } else {
+        push_shown_cell(out, place, value)
+    }
+}
+
+// Adds the arrow of a register, unless it isn't drawn.
+fn push_register_arrow(
+    out: &mut String,
+    hides: bool,
+    place: usize,
+    value: Value,
+) -> Result<(), AllocError>
+    ensures { OnOk result (string_bytes out.new ≡ string_bytes out.old ++ register_arrow hides place value) }
+{
+    if hides && is_shared(value) {
+        Ok(())
+    } else {
+        push_shown_arrow(out, place, value)
+    }
+}
+
 // Adds the cells of the registers.
-fn push_register_cells(out: &mut String, values: &Sequence<Value>) -> Result<(), AllocError>
-    ensures { OnOk result (string_bytes out.new ≡ string_bytes out.old ++ placed register_cell 0 values.now) }
+fn push_register_cells(
+    out: &mut String,
+    hides: bool,
+    values: &Sequence<Value>,
+) -> Result<(), AllocError>
+    ensures { OnOk result (string_bytes out.new ≡ string_bytes out.old ++ placed (register_cell hides) 0 values.now) }
 {
     for (place, value) in values.items.iter().enumerate() {
-        push_register_cell(out, place, *value)?;
+        push_register_cell(out, hides, place, *value)?;
     }
     Ok(())
 }
 
 // Adds the arrows of the registers.
-fn push_register_arrows(out: &mut String, values: &Sequence<Value>) -> Result<(), AllocError>
-    ensures { OnOk result (string_bytes out.new ≡ string_bytes out.old ++ placed register_arrow 0 values.now) }
+fn push_register_arrows(
+    out: &mut String,
+    hides: bool,
+    values: &Sequence<Value>,
+) -> Result<(), AllocError>
+    ensures { OnOk result (string_bytes out.new ≡ string_bytes out.old ++ placed (register_arrow hides) 0 values.now) }
 {
     for (place, value) in values.items.iter().enumerate() {
-        push_register_arrow(out, place, *value)?;
+        push_register_arrow(out, hides, place, *value)?;
     }
     Ok(())
 }
 
-// Adds the registers.
-pub(crate) fn push_registers(out: &mut String, values: &Sequence<Value>) -> Result<(), AllocError>
-    ensures { OnOk result (string_bytes out.new ≡ string_bytes out.old ++ registers_text values.now) }
+// Adds the registers. Those that hold the shared block are left out where it isn't drawn.
+pub(crate) fn push_registers(
+    out: &mut String,
+    hides: bool,
+    values: &Sequence<Value>,
+) -> Result<(), AllocError>
+    ensures { OnOk result (string_bytes out.new ≡ string_bytes out.old ++ registers_text hides values.now) }
 {
     push_text(out, "  registers [label=\"registers")?;
-    push_register_cells(out, values)?;
+    push_register_cells(out, hides, values)?;
     push_text(out, "\"];\n")?;
-    push_register_arrows(out, values)
+    push_register_arrows(out, hides, values)
 }
 
 // Adds the note of a registration of `finalise`.
@@ -73,7 +127,7 @@ fn push_final_note(out: &mut String, place: usize, f: Finaliser) -> Result<(), A
 {
     write!(
         out,
-        "  finalise{place} [shape=note, label=\"finalise {} into r{}\"];\n",
+        "  finalise{place} [shape=note, label=\"finalise {} into register {}\"];\n",
         f.number, f.register
     )
 }
@@ -167,7 +221,10 @@ fn push_pending_cell(out: &mut String, place: usize, pending: Pending) -> Result
             number,
             register,
             ..
-        } => write!(out, "|<q{place}> finalise {number} into r{register}"),
+        } => write!(
+            out,
+            "|<q{place}> finalise {number} into register {register}"
+        ),
         Pending::Last { number } => write!(out, "|<q{place}> finalise_last {number}"),
     }
 }

@@ -60,6 +60,7 @@ impl SharedRun {
     }
 
     // Why no command is taken, or not this one.
+    #[inline(always)]
     fn refuses(&self, command: &Command) -> Option<Refused>
         ensures none { result ≡ None → MaySubmit self.now.run command.now }
         ensures why { IfSome result (IsRefusedBy self.now command.now) }
@@ -96,6 +97,7 @@ impl SharedRun {
 
     /// Makes the next command at once, where that can be, and answers the reply; else hands it in. It is taken where
     /// [`submit`](SharedRun::submit) takes it, and else nothing changes.
+    #[inline(always)]
     pub fn begin(&mut self, command: Command) -> Result<Option<Reply>, Refused>
         ensures heap { self.new.heap ≡ self.old.heap }
         ensures may { IfOk result (λ _. MaySubmit self.old.run command) }

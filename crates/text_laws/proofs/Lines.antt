@@ -1,10 +1,12 @@
 -- What each line does to two states that look alike, and so all lines.
-use Rattle.std.proofs.Common.{◌≡◌, ◌⊎◌, inl, inr, ⊎_elim, ℕ, zero, suc, ◌-◌, Bool, true, false, cond, List, [], ◌∷◌, ◌++◌, length, length-set, slice_set, slice_get, Option, Some, None, refl, ap, sym, ◌∙◌, subst}
+use Rattle.std.proofs.Common.{◌≡◌, ◌⊎◌, inl, inr, ⊎_elim, ℕ, zero, suc, ◌+◌, ◌-◌, ◌≤◌, Bool, true, false, not, ◌||◌, cond, IsTrue, List, [], ◌∷◌, ◌++◌, length, length-set, slice_set, slice_get, Option, Some, None, refl, ap, sym, ◌∙◌, subst, arith}
+use Rattle.std.specs.List.{list_any}
 use Rattle.heap_model.specs.declared.label.Label.{Label}
 use Rattle.heap_model.specs.declared.graph.Value.{Value}
 use Rattle.heap_model.specs.declared.graph.Value.TheVariants as value
 use Rattle.heap_model.specs.declared.state.Sizes.{Sizes}
-use Rattle.heap_model.specs.Graph.{has_label, same_label}
+use Rattle.heap_model.specs.Entries.{is_label}
+use Rattle.heap_model.specs.Graph.{has_label, has_no_repeats, same_label}
 use Rattle.heap_model.proofs.Graphs.GraphLemmas.{same_label-true, same_label_refl}
 use Rattle.table_laws.proofs.ChangeLemmas.{not_first}
 use Rattle.table_laws.specs.Structures.{Binding, datum_at, keys_of, without}
@@ -13,7 +15,8 @@ use Rattle.table_text.specs.declared.line.TableLine.TheVariants.{Key, Forget, Pu
 use Rattle.table_machine.specs.declared.reply.LineReply.{LineReply}
 use Rattle.table_machine.specs.declared.reply.LineReply.TheVariants as reply
 use Rattle.table_machine.specs.Machine.{Binds, Deletes, Effect, Holds, IsNew, LineStep, MachineRuns, MayBeRefused, MayGo, ReadsSlot, Shows, TableState, WithKey, key_in, opened, with_key}
-use Rattle.text_laws.specs.Agreeing.{Agree, GivesBack, GoesOn, NoneRefused, Parallel, TextsAgree}
+use Rattle.heap_model.proofs.Reach.ReachLemmas.{and_left, and_right, is_false, or_left, or_right}
+use Rattle.text_laws.specs.Agreeing.{Agree, is_held, loose, GivesBack, GoesOn, NoneRefused, Parallel, TextsAgree}
 use Rattle.text_laws.proofs.Alike.{Alike, Fits, Leans, gets, got, held_or_lost, in_place, leans_on, leans_with, set_two}
 
 -- the other way round
@@ -157,6 +160,75 @@ leans_slot s t q at k m x here there = record {
       (set_two s.slots t.slots at j (Some k) (Some m) x.0.places);
 }
 
+-- Counts.
+without_few : (k : Label) (bs : List Binding) → length (without k bs) ≤ length bs
+without_few k [] = omega arith
+without_few k (b ∷ bs) = go (same_label b.0 k) (without_few k bs)
+  where
+    go : (c : Bool) → length (without k bs) ≤ length bs → length (cond c (without k bs) (b ∷ without k bs)) ≤ suc (length bs)
+    go true few = omega (arith, few)
+    go false few = omega (arith, few)
+
+shorter : (k : Label) (d : Value) (bs : List Binding) → datum_at bs k ≡ Some d → length (without k bs) + 1 ≤ length bs
+shorter k d [] e = let clash : None ≡ Some d = e in cc
+shorter k d (b ∷ bs) e = go (same_label b.0 k) refl (without_few k bs) (shorter k d bs)
+  where
+    go : (c : Bool) → same_label b.0 k ≡ c → length (without k bs) ≤ length bs → (datum_at bs k ≡ Some d → length (without k bs) + 1 ≤ length bs) → length (cond c (without k bs) (b ∷ without k bs)) + 1 ≤ suc (length bs)
+    go true is few rest = omega (arith, few)
+    go false is few rest = let later = rest (sym (ap (λ (x : Bool). cond x (Some b.1) (datum_at bs k)) is) ∙ e) in omega (arith, later)
+
+-- a register of each state holds the one and the other
+abbrev Pair : TableState → TableState → Label → Label → Type 0
+Pair s t k m = (i : ℕ) × (in_place s.registers i ≡ Some k) × (in_place t.registers i ≡ Some m)
+
+-- what a register holds is in a place
+held_place : (ps : List (Option Label)) (k : Label) → IsTrue (list_any (is_label k) ps) → (i : ℕ) × (in_place ps i ≡ Some k)
+held_place [] k held = let clash : false ≡ true = held in cc
+held_place (p ∷ ps) k held = go p refl (is_label k p) refl (held_place ps k)
+  where
+    go : (o : Option Label) → p ≡ o → (c : Bool) → is_label k p ≡ c → (IsTrue (list_any (is_label k) ps) → (i : ℕ) × (in_place ps i ≡ Some k)) → (i : ℕ) × (in_place (p ∷ ps) i ≡ Some k)
+    go (Some x) is true same rest = (0, is ∙ ap Some (same_label-true x k (sym (ap (is_label k) is) ∙ same)))
+    go None is true same rest = let clash : false ≡ true = sym (ap (is_label k) is) ∙ same in cc
+    go o is false other rest = let h = rest (sym (ap (λ (c : Bool). c || list_any (is_label k) ps) other) ∙ held) in (suc h.0, h.1)
+
+-- what is bound has a datum
+bound_datum : (bs : List Binding) (k : Label) → IsTrue (has_label (keys_of bs) k) → (d : Value) × (datum_at bs k ≡ Some d)
+bound_datum [] k h = let clash : false ≡ true = h in cc
+bound_datum (b ∷ bs) k h = go (same_label b.0 k) refl (bound_datum bs k)
+  where
+    go : (c : Bool) → same_label b.0 k ≡ c → (IsTrue (has_label (keys_of bs) k) → (d : Value) × (datum_at bs k ≡ Some d)) → (d : Value) × (cond (same_label b.0 k) (Some b.1) (datum_at bs k) ≡ Some d)
+    go true e rest = (b.1, ap (λ (c : Bool). cond c (Some b.1) (datum_at bs k)) e)
+    go false e rest = let r = rest (sym (ap (λ (c : Bool). c || has_label (keys_of bs) k) e) ∙ h) in (r.0, ap (λ (c : Bool). cond c (Some b.1) (datum_at bs k)) e ∙ r.1)
+
+module _ (s t : TableState) (x : Alike s t) where
+  one_key : (k l m : Label) → Pair s t k m → Pair s t l m → k ≡ l
+  one_key k l m (i, a, b) (j, c, d) = x.1.once i j m k l b a d c
+
+  -- bindings whose keys registers hold are no more than those of the other state
+  few_bound : (bs others : List Binding) → IsTrue (has_no_repeats (keys_of bs)) → ((k : Label) → IsTrue (has_label (keys_of bs) k) → IsTrue (is_held s k) → (m : Label) × Pair s t k m × ((d : Value) × (datum_at others m ≡ Some d))) → length bs ≤ length others + length (loose s bs)
+  few_bound [] others once found = omega arith
+  few_bound (b ∷ bs) others once found = go (is_held s b.0) refl
+      (λ ys each. few_bound bs ys (and_right (not (has_label (keys_of bs) b.0)) _ once) each)
+    where
+      later : (k : Label) → IsTrue (has_label (keys_of bs) k) → IsTrue (has_label (keys_of (b ∷ bs)) k)
+      later k h = or_right (same_label b.0 k) (has_label (keys_of bs) k) h
+
+      other : (k : Label) → IsTrue (has_label (keys_of bs) k) → k ≡ b.0 → ⊥
+      other k h is = let new = is_false (has_label (keys_of bs) b.0) (and_left _ _ once) in let clash : true ≡ false = sym (subst (λ (l : Label). IsTrue (has_label (keys_of bs) l)) is h) ∙ new in cc
+
+      go : (c : Bool) → is_held s b.0 ≡ c → ((ys : List Binding) → ((k : Label) → IsTrue (has_label (keys_of bs) k) → IsTrue (is_held s k) → (m : Label) × Pair s t k m × ((d : Value) × (datum_at ys m ≡ Some d))) → length bs ≤ length ys + length (loose s bs)) → suc (length bs) ≤ length others + length (cond c (loose s bs) (b ∷ loose s bs))
+      go false e rest = let few = rest others (λ k h held. found k (later k h) held) in omega (arith, few)
+      go true e rest =
+          let here = found b.0 (or_left (same_label b.0 b.0) _ (same_label_refl b.0)) e in let m = here.0 in
+          let few = rest (without m others) (λ k h held. (let f = found k (later k h) held in (f.0, f.1, (f.2.0, datum_without m f.0 (λ same. other k h (one_key k b.0 m (subst (λ (l : Label). Pair s t k l) same f.1) here.1)) others ∙ f.2.1)))) in
+          let short = shorter m here.2.0 others here.2.1 in
+          omega (arith, few, short)
+
+  pub few_counted : IsTrue (has_no_repeats (keys_of s.bindings)) → length s.bindings ≤ length t.bindings + length (loose s s.bindings)
+  few_counted once = few_bound s.bindings t.bindings once (λ k h held.
+      let at = held_place s.registers k held in let over = x.0.hold at.0 k at.1 in let d = bound_datum s.bindings k h in
+      (over.0, (at.0, at.1, over.1), (d.0, sym (x.0.datum at.0 k over.0 at.1 over.1) ∙ d.1)))
+
 -- What a line answers and leaves.
 pub record Done (s t : TableState) (l : TableLine) (a b : LineReply) (u v : TableState) : Type 0 where
   pub agree : Agree s t l a b u v
@@ -293,7 +365,17 @@ module _ (s t p q u v : TableState) (a b : LineReply) (goes : MayGo s p) (other 
   effects (Del r) e f = same_done s t (Del r) a b u v (λ e. e) (del_too r e f)
   effects (SetWeak slot r) e f = same_done s t (SetWeak slot r) a b u v (λ e. e) (set_too slot r e f)
   effects (GetWeak d slot) e f = look_too s t p q u v d slot a b goes.registers other.registers x (slice_get p.slots slot) (slice_get q.slots slot) refl refl e f
-  effects Count (ra, ua) (rb, vb) = record { agree = (length p.bindings, length q.bindings, ra, rb); alike = λ _. alike_is p q u v ua vb x }
+  effects Count (ra, ua) (rb, vb) = record {
+    agree = record {
+      first = length p.bindings;
+      second = length q.bindings;
+      first_is = ra;
+      second_is = rb;
+      first_few = λ once. subst (λ (w : TableState). length p.bindings ≤ length q.bindings + length (loose w w.bindings)) (sym ua) (few_counted p q x (subst (λ (w : TableState). IsTrue (has_no_repeats (keys_of w.bindings))) ua once));
+      second_few = λ once. subst (λ (w : TableState). length q.bindings ≤ length p.bindings + length (loose w w.bindings)) (sym vb) (few_counted q p (swap x) (subst (λ (w : TableState). IsTrue (has_no_repeats (keys_of w.bindings))) vb once));
+    };
+    alike = λ _. alike_is p q u v ua vb x;
+  }
   effects FullMajor (ra, ua, _) (rb, vb, _) = same_done s t FullMajor a b u v (λ e. e) (ra ∙ sym rb, alike_is p q u v ua vb x)
 
 -- A line that isn't refused, from two states that look alike.

@@ -1,7 +1,11 @@
 -- Two runs of one text of a table.
-use Rattle.std.specs.Prelude.{◌≡◌, ◌⊎◌, ℕ, List, [], ◌∷◌, slice_get, Some}
+use Rattle.std.specs.Prelude.{◌≡◌, ◌⊎◌, ℕ, ◌+◌, ◌≤◌, Bool, cond, IsTrue, List, [], ◌∷◌, length, slice_get, Some}
+use Rattle.std.specs.List.{list_any}
 use Rattle.heap_model.specs.declared.label.Label.{Label}
 use Rattle.heap_model.specs.declared.state.Sizes.{Sizes}
+use Rattle.heap_model.specs.Entries.{is_label}
+use Rattle.heap_model.specs.Graph.{has_no_repeats}
+use Rattle.table_laws.specs.Structures.{Binding, keys_of}
 use Rattle.table_text.specs.declared.line.TableLine.{TableLine}
 use Rattle.table_text.specs.declared.line.TableLine.TheVariants.{Count, Forget, GetWeak, Key, SetWeak}
 use Rattle.table_machine.specs.declared.reply.LineReply.{LineReply}
@@ -18,9 +22,27 @@ pub record GivesBack (s : TableState) (slot : ℕ) (t : TableState) : Type 0 whe
   pub found : slice_get t.slots slot ≡ Some (Some key)
   pub lost : IsLost s key
 
--- how a line is answered in two runs, from s to u in the one and from t to v in the other: the same; a count by a number; and a look at a slot the same, but where one of them gives back a key that no register held
+-- whether a register holds the key
+abbrev pub is_held : TableState → Label → Bool
+is_held s k = list_any (is_label k) s.registers
+
+-- the bindings whose key no register holds, which the collector may take
+abbrev pub loose : TableState → List Binding → List Binding
+loose s [] = []
+loose s (b ∷ bs) = cond (is_held s b.0) (loose s bs) (b ∷ loose s bs)
+
+-- two counts, after which the states are these: where no key is bound twice, as in each table, the one is no greater than the other but by bindings whose key no register holds
+pub record Counts (a b : LineReply) (u v : TableState) : Type 0 where
+  pub first : ℕ
+  pub second : ℕ
+  pub first_is : a ≡ reply.Counted first
+  pub second_is : b ≡ reply.Counted second
+  pub first_few : IsTrue (has_no_repeats (keys_of u.bindings)) → first ≤ second + length (loose u u.bindings)
+  pub second_few : IsTrue (has_no_repeats (keys_of v.bindings)) → second ≤ first + length (loose v v.bindings)
+
+-- how a line is answered in two runs, from s to u in the one and from t to v in the other: the same; a count but for bindings that may go; and a look at a slot the same, but where one of them gives back a key that no register held
 abbrev pub Agree : TableState → TableState → TableLine → LineReply → LineReply → TableState → TableState → Type 0
-Agree s t Count a b u v = (n : ℕ) × (m : ℕ) × (a ≡ reply.Counted n) × (b ≡ reply.Counted m)
+Agree s t Count a b u v = Counts a b u v
 Agree s t (GetWeak d slot) a b u v = (a ≡ b) ⊎ (GivesBack s slot u ⊎ GivesBack t slot v)
 Agree s t _ a b u v = a ≡ b
 

@@ -4,8 +4,8 @@ ghost use Rattle.heap_model.specs.declared.state.Sizes.{Sizes};
 ghost use Rattle.table_machine.specs.Machine.{MachineAnswers};
 
 /// Two runs of one text of a table, in none of which an allocation was refused, are answered the same, whatever the
-/// collector did in each: but for the number of bindings, and for a look at a slot whose key no register holds. So it goes
-/// on until such a look gives back its key, or is answered otherwise in the other run.
+/// collector did in each: but for counts, which differ by bindings whose key no register holds, and for a look at a slot
+/// whose key none holds. So it goes on until such a look gives back its key, or is answered otherwise in the other run.
 pub fn texts_agree()
     ensures { TextsAgree }
 {}
