@@ -10,14 +10,9 @@ enum { ADD = UNARY_END, SUBTRACT, MULTIPLY, QUOTIENT, REMAINDER, LESS, MORE, EQU
 item unary(machine *m, int which, item it) {
   if (which == IS_NULL || which == NOT) return truth(is_nil(it));
   if (which == CAR || which == CDR) return want(m, it, VAL, PAIR), load(m, VAL, VAL, which == CAR ? 1 : 2);
+  static const kind kinds[] = {[IS_PAIR] = PAIR, [IS_SYMBOL] = SYMBOL, [IS_STRING] = STRING, [IS_NUMBER] = INTEGER, [IS_FUNCTION] = CLOSURE};
   kind kind = kind_of(m, it, VAL, NULL);
-  switch (which) {
-    case IS_PAIR: return truth(kind == PAIR);
-    case IS_SYMBOL: return truth(kind == SYMBOL);
-    case IS_STRING: return truth(kind == STRING);
-    case IS_NUMBER: return truth(kind == INTEGER);
-    default: return truth(kind == CLOSURE || kind == BUILTIN);
-  }
+  return truth((kind == BUILTIN ? CLOSURE : kind) == kinds[which]);
 }
 
 static item arithmetic(machine *m, int which, int64_t a, int64_t b) {

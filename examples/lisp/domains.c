@@ -1,6 +1,5 @@
 /* domains.c: handles, guardians, and the second domain. */
 #include "lisp.h"
-#include <pthread.h>
 #include <stdlib.h>
 
 enum { MOST_HANDLES = 100000, STACK_BYTES = 256 << 20 };
@@ -124,9 +123,16 @@ item retrieve(machine *m, int from) {
   return it;
 }
 
-/* The job of a domain stands in its field of the shared block, and then what that came to. */
-static pthread_t threads[DOMAINS];
+bool start_thread(pthread_t *thread, void *(*run)(void *), machine *m) {
+  pthread_attr_t attributes;
+  pthread_attr_init(&attributes);
+  pthread_attr_setstacksize(&attributes, STACK_BYTES);
+  bool is_started = pthread_create(thread, &attributes, run, m) == 0;
+  pthread_attr_destroy(&attributes);
+  return is_started;
+}
 
+/* The job of a domain stands in its field of the shared block, and then what that came to. */
 static void *run_job(void *of) {
   machine *m = of;
   int job = JOBS + m->number;
@@ -152,11 +158,8 @@ item spawn(machine *m, int from) {
   machine *to = &machines[other];
   peek(m, A, from);
   store(m, SHARED, JOBS + other, A);
-  pthread_attr_t attributes;
-  pthread_attr_init(&attributes);
-  pthread_attr_setstacksize(&attributes, STACK_BYTES);
   atomic_store(&to->is_done, false);
-  if (pthread_create(&threads[other], &attributes, run_job, to)) fail(m, "no thread is left");
+  if (!start_thread(&to->thread, run_job, to)) fail(m, "no thread is left");
   to->is_busy = true;
   return tagged(m, 1, TASK, ++to->jobs << 8 | other);
 }
@@ -164,7 +167,7 @@ item spawn(machine *m, int from) {
 static item join_job(machine *m, int other) {
   machine *of = &machines[other];
   while (!atomic_load(&of->is_done)) heap_turn(&m->heap);
-  pthread_join(threads[other], NULL);
+  pthread_join(of->thread, NULL);
   of->is_busy = false;
   if (of->has_failed) fail(m, "the task failed: %s", of->message);
   item it = load(m, VAL, SHARED, JOBS + other);

@@ -3,6 +3,7 @@
 #ifndef LISP_H
 #define LISP_H
 #include "heap.h"
+#include <pthread.h>
 #include <setjmp.h>
 
 /* The registers of a domain. VAL holds what was evaluated last, where it is a block. Finalisers write GIVEN and SENTINEL. */
@@ -35,6 +36,7 @@ typedef struct {
   char message[200];
   bool is_attached, is_busy, has_failed, has_sentinel_come, *has_come;
   atomic_bool is_done;
+  pthread_t thread;
   int64_t jobs, guarded;
 } machine;
 extern machine machines[DOMAINS];
@@ -99,4 +101,5 @@ item make_guardian(machine *m, int from), guard(machine *m, int from), retrieve(
 item spawn(machine *m, int from), join(machine *m, int from);
 void settle(machine *m);                                    /* hands out what guardians wait for */
 void join_all(machine *m);
+bool start_thread(pthread_t *thread, void *(*run)(void *), machine *m);   /* with a large stack */
 #endif
