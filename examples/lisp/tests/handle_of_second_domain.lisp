@@ -1,0 +1,12 @@
+; needs a collector
+(join (spawn (open) nil))
+(full-major)
+(print (handle-counts))
+(join (spawn 5))
+(print (handle-counts))
+(define g (guardian))
+(join (spawn (guard g (list 'from 'there)) nil))
+(full-major)
+(print (retrieve g))
+(join (spawn (full-major)))
+(print (retrieve g) (retrieve g))
