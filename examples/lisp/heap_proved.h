@@ -7,18 +7,21 @@ static inline bool heap_is_idle(heap *h) { return !atomic_exchange(&h->is_driven
 static inline void heap_leave(heap *h) { atomic_store(&h->is_driven, false); }
 static inline void heap_drive(heap *h) { while (!heap_is_idle(h)) CAMLHEAP_PAUSE(); }
 
-/* While a domain waits in a pause, those that no thread drives are turned. */
+/* While a domain waits in a pause, those that no thread drives are turned; without any, another thread has to. */
 static inline void heap_turn_idle(heap *h) {
+  bool has_turned = false;
   for (int i = 0; i < h->count; i++)
     if (heap_is_idle(h->all[i])) {
       camlheap_turn(&h->all[i]->domain);
       heap_leave(h->all[i]);
+      has_turned = true;
     }
-  CAMLHEAP_PAUSE();
+  if (!has_turned) CAMLHEAP_PAUSE();
 }
 
 static inline void heap_turn(heap *h) {
-  if (camlheap_turn(&h->domain) != CAMLHEAP_AGAIN) heap_turn_idle(h);
+  if (camlheap_turn(&h->domain) == CAMLHEAP_WAITING) heap_turn_idle(h);
+  else CAMLHEAP_PAUSE();
 }
 
 static inline const char *heap_refusal(uint32_t told) {

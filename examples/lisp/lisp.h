@@ -11,7 +11,7 @@ enum { SHARED, GLOBALS, NAMES, TABLE, SPINE, STACK, ENV, VAL, FUN, FRAME, A, B, 
 enum { S_GLOBALS, S_NAMES, S_TABLE, JOBS, DOMAINS = 2 };
 /* Fields of the spine: the chunks of the stack, and an ephemeron with the sentinel of the guardians. */
 enum { CHUNKS = 1000, S_SENTINEL = CHUNKS, CHUNK = 1000 };
-enum { MOST_ARGUMENTS = 15, MOST_NESTING = 60000, MOST_CODES = 4096, BUCKETS = 256, MOST_TEXT = 7 * (MOST_FIELDS - 1) };
+enum { MOST_ARGUMENTS = 15, MOST_NESTING = 12000, MOST_CODES = 4096, BUCKETS = 256, MOST_TEXT = 7 * (MOST_FIELDS - 1) };
 
 /* Field 0 of each block that is a value has its kind in the low 8 bits, and a number above. From INTEGER on none is a block. */
 typedef enum { PAIR, CLOSURE, BUILTIN, SYMBOL, STRING, WEAK, HANDLE, GUARDIAN, TASK, INTEGER, NIL, TRUTH } kind;

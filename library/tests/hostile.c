@@ -74,9 +74,33 @@ static const camlheap_command UNFIT[] = {
     {.op = CAMLHEAP_FINALISE, .a = 16}, {.op = CAMLHEAP_FINALISE, .dst = 16}, {.op = CAMLHEAP_FINALISE_LAST, .a = 16}};
 enum { UNFITS = sizeof UNFIT / sizeof *UNFIT };
 
-/* Each of them is refused by both calls: with `told`, and one that is no command at all with UNFIT. */
+/* Makes a command by the call of its own, where it has one, and else by the general call. */
+static uint32_t own_call(camlheap_domain *domain, const camlheap_command *c, camlheap_reply *reply) {
+  switch (c->op) {
+    case CAMLHEAP_PUT_INT: return camlheap_put_int(domain, c->dst, c->value, reply);
+    case CAMLHEAP_COPY: return camlheap_copy(domain, c->dst, c->a, reply);
+    case CAMLHEAP_FORGET: return camlheap_forget(domain, c->dst, reply);
+    case CAMLHEAP_ALLOC: return camlheap_alloc(domain, c->dst, c->tag, c->n, reply);
+    case CAMLHEAP_LOAD: return camlheap_load(domain, c->dst, c->a, c->n, reply);
+    case CAMLHEAP_STORE: return camlheap_store(domain, c->a, c->n, c->b, reply);
+    case CAMLHEAP_CAS: return camlheap_cas(domain, c->a, c->n, c->dst, c->b, reply);
+    case CAMLHEAP_SET_KEY: return camlheap_set_key(domain, c->a, c->n, c->b, reply);
+    case CAMLHEAP_GET_KEY: return camlheap_get_key(domain, c->dst, c->a, c->n, reply);
+    case CAMLHEAP_CHECK_KEY: return camlheap_check_key(domain, c->a, c->n, reply);
+    case CAMLHEAP_SET_DATA: return camlheap_set_data(domain, c->a, c->b, reply);
+    case CAMLHEAP_GET_DATA: return camlheap_get_data(domain, c->dst, c->a, reply);
+    case CAMLHEAP_POLL: return camlheap_poll(domain, reply);
+    default: return camlheap_call(domain, c, 0, reply);
+  }
+}
+
+/* Each of them is refused by all calls: with `told`, and one that is no command at all with UNFIT. */
 static void refuses(camlheap_domain *domain, uint32_t told) {
+  camlheap_reply reply = UNTOUCHED;
   for (int i = 0; i < UNFITS; i++) CHECK(camlheap_submit(domain, &UNFIT[i]) == told && called(domain, UNFIT[i]) == told);
+  for (int i = 0; i < UNFITS; i++) CHECK(own_call(domain, &UNFIT[i], &reply) == told && is_untouched(&reply));
+  for (uint8_t op = 0; told != CAMLHEAP_UNFIT && op < 24; op++)
+    CHECK(own_call(domain, &(camlheap_command){.op = op, .n = 1, .tag = 251}, &reply) == told && is_untouched(&reply));
   uint32_t unknown = told == CAMLHEAP_NO_DOMAIN ? told : CAMLHEAP_UNFIT;
   for (int op = 24; op < 256; op++) CHECK(camlheap_submit(domain, &(camlheap_command){.op = (uint8_t)op}) == unknown);
   for (int op = 24; op < 256; op++) CHECK(called(domain, (camlheap_command){.op = (uint8_t)op}) == unknown);
@@ -152,9 +176,8 @@ static void closed(camlheap_domain *domain) {
   CHECK(camlheap_submit(domain, &POLL) == CAMLHEAP_CLOSED && called(domain, POLL) == CAMLHEAP_CLOSED);
   refuses(domain, CAMLHEAP_CLOSED);
   looks(domain);
-  uint32_t told;
-  while ((told = camlheap_run(domain, UINT32_MAX, &reply)) == CAMLHEAP_AGAIN) {}
-  CHECK(told == CAMLHEAP_ENDED);
+  CHECK(camlheap_run(domain, 9, &reply) == CAMLHEAP_DONE && reply.kind == CAMLHEAP_OK);
+  while (camlheap_turn(domain) == CAMLHEAP_AGAIN) {}
   for (int i = 0; i < 3; i++) CHECK(camlheap_turn(domain) == CAMLHEAP_ENDED);
   CHECK(camlheap_submit(domain, &POLL) == CAMLHEAP_CLOSED && called(domain, POLL) == CAMLHEAP_CLOSED && camlheap_close(domain) == CAMLHEAP_CLOSED);
   refuses(domain, CAMLHEAP_CLOSED);
@@ -186,15 +209,15 @@ static void stalled(void) {
   for (int i = 0; i < 2; i++) camlheap_free(&two[i]);
 }
 
-/* A start frees what its handles held. */
+/* A handle takes one heap after another, once the one before is freed, in whatever state that was. */
 static void started_over(void) {
   camlheap_domain domain = {0};
   for (int i = 0; i < 3; i++) {
     CHECK(camlheap_start(&SMALL, &domain, 1) == CAMLHEAP_DONE);
     CHECK(done(&domain, (camlheap_command){.op = CAMLHEAP_ALLOC, .dst = 1, .n = 1}).serial == 1);
     CHECK(camlheap_submit(&domain, &POLL) == CAMLHEAP_DONE);
+    camlheap_free(&domain);
   }
-  camlheap_free(&domain);
   empty(&domain);
 }
 
@@ -204,21 +227,32 @@ static uint64_t drawn(void) {
   return seed;
 }
 
-/* So many calls of random bytes: each answers a number of the header. Half of the commands have small fields. */
-static void bytes(int count) {
-  camlheap_domain domain = {0};
-  CHECK(camlheap_start(&(camlheap_config){1, 4096, 32, 50, 50}, &domain, 1) == CAMLHEAP_DONE);
+/* A command of random bytes, or every other time one with small fields. */
+static camlheap_command random_command(int i) {
+  uint64_t bits[4] = {drawn(), drawn(), drawn(), drawn()};
+  camlheap_command command;
+  memcpy(&command, bits, sizeof command);
+  if (i & 1)
+    command = (camlheap_command){.op = bits[0] % 24, .dst = bits[1] % 16, .a = bits[1] >> 8 & 15, .b = bits[1] >> 16 & 15, .tag = bits[1] >> 24, .n = bits[2] % 9, .number = bits[3], .value = bits[3] >> 60};
+  return command;
+}
+
+/* So many commands by chance on two heaps, which answer the same: one makes them by the general call, and the other by calls
+ * of their own. Each answers a number of the header. */
+static void random_commands(int count) {
+  camlheap_domain general = {0}, own = {0};
+  camlheap_config config = {1, 4096, 32, 50, 50};
+  CHECK(camlheap_start(&config, &general, 1) == CAMLHEAP_DONE && camlheap_start(&config, &own, 1) == CAMLHEAP_DONE);
   for (int i = 0; i < count; i++) {
-    camlheap_command command;
-    camlheap_reply reply = {0};
-    uint64_t bits[4] = {drawn(), drawn(), drawn(), drawn()};
-    memcpy(&command, bits, sizeof command);
-    if (i & 1) command = (camlheap_command){.op = bits[0] % 24, .dst = bits[1] % 16, .a = bits[1] >> 8 & 15, .b = bits[1] >> 16 & 15, .tag = bits[1] >> 24, .n = bits[2] % 9, .number = bits[3]};
-    uint32_t told = camlheap_call(&domain, &command, 64, &reply);
-    while (told == CAMLHEAP_AGAIN) told = camlheap_run(&domain, 64, &reply);
-    if (!(told == CAMLHEAP_DONE ? reply.kind <= CAMLHEAP_LAST : told >= CAMLHEAP_UNFIT && told <= CAMLHEAP_NO_FINALISER)) CHECK(!"a number of the header");
+    camlheap_command command = random_command(i);
+    camlheap_reply replies[2] = {{0}, {0}};
+    uint32_t told = camlheap_call(&general, &command, 64, &replies[0]), by_own = own_call(&own, &command, &replies[1]);
+    while (told == CAMLHEAP_AGAIN) told = camlheap_run(&general, 64, &replies[0]);
+    while (by_own == CAMLHEAP_AGAIN) by_own = camlheap_run(&own, 64, &replies[1]);
+    CHECK(told == CAMLHEAP_DONE ? replies[0].kind <= CAMLHEAP_LAST : told >= CAMLHEAP_UNFIT && told <= CAMLHEAP_NO_FINALISER);
+    CHECK(told == by_own && memcmp(&replies[0], &replies[1], sizeof replies[0]) == 0);
   }
-  CHECK(camlheap_finish(&domain) == CAMLHEAP_ENDED);
+  CHECK(camlheap_finish(&general) == CAMLHEAP_ENDED && camlheap_finish(&own) == CAMLHEAP_ENDED);
 }
 
 int main(int words, char **word) {
@@ -235,6 +269,6 @@ int main(int words, char **word) {
   empty(&domain);
   stalled();
   started_over();
-  bytes(words > 1 ? atoi(word[1]) : 1000000);
+  random_commands(words > 1 ? atoi(word[1]) : 1000000);
   return ended();
 }
