@@ -7,7 +7,7 @@ use Rattle.steps_finalisers.specs.Running.{ran_own}
 use Rattle.domain_turns.specs.Runs.{HasReserved, IsRun, RunView, ran_with, said_with}
 use Rattle.domain_turns.proofs.Owing.{ran_count}
 use Rattle.domain_turns.proofs.Turning.{ran_apart, ran_is_run, ran_replies}
-use Rattle.domain_turns.proofs.turns.run_waiting.Goals as goal
+use Rattle.domain_turns.proofs.turns.runs_finaliser.Goals as goal
 
 pub keep_ran-requires-clause-among : goal.keep_ran-requires-clause-among
 keep_ran-requires-clause-among c = λ other.
