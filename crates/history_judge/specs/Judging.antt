@@ -4,13 +4,13 @@ use Rattle.std.specs.Io.KnownBytes.{Appends}
 use Rattle.heap_model.specs.declared.entry.Entry.{Entry}
 use Rattle.heap_model.specs.declared.state.Sizes.{Sizes}
 use Rattle.heap_text.specs.declared.fault.ScriptFault.{ScriptFault}
-use Rattle.heap_text.specs.declared.version.Version.TheVariants.{Two}
+use Rattle.heap_text.specs.declared.version.Version.TheVariants.{Three}
 use Rattle.heap_text.specs.Faults.{first_fault}
 use Rattle.heap_text.specs.Script.{Scripted}
 use Rattle.heap_text.specs.Spelling.{Spells}
-use Rattle.history_replay.specs.Explains.{Explains}
 use Rattle.history_judge.specs.declared.judged.Judged.{Judged}
 use Rattle.history_judge.specs.declared.judged.Judged.TheVariants.{Legal, NoneFound, GaveUp, Script, NoSeparator, TooLong, Memory, ReadFault, WriteFault}
+use Rattle.history_judge.specs.Answer.{ExplainsScript}
 use Rattle.history_judge.specs.Input.{HasParts, HasNoParts}
 use Rattle.history_judge.specs.Reading.{ReadsAll}
 use Rattle.history_judge.specs.Show.{legal_text, none_text, gave_up_text}
@@ -20,7 +20,7 @@ use Rattle.history_judge.specs.Writing.{AppendsFront}
 pub record IsInput (domains : ℕ) (bytes : List ℕ) (script : Scripted) (output : List ℕ) : Type 0 where
   pub text : List ℕ
   pub parts : HasParts bytes text output
-  pub spelled : Spells Two domains script text
+  pub spelled : Spells Three domains script text
 
 -- a legal history of the script makes the output, and this is the text of that history
 pub record TellsLegal (z : Sizes) (bytes text : List ℕ) : Type 0 where
@@ -28,7 +28,7 @@ pub record TellsLegal (z : Sizes) (bytes text : List ℕ) : Type 0 where
   pub output : List ℕ
   pub input : IsInput z.domains bytes script output
   pub history : List Entry
-  pub explains : Explains z script.sections output history
+  pub explains : ExplainsScript z script output history
   pub text_is : text ≡ legal_text history
 
 -- the text of an answer
@@ -43,7 +43,7 @@ pub record IsWrong (domains : ℕ) (bytes : List ℕ) (fault : ScriptFault) : Ty
   pub text : List ℕ
   pub output : List ℕ
   pub parts : HasParts bytes text output
-  pub first : first_fault Two domains text ≡ Some fault
+  pub first : first_fault Three domains text ≡ Some fault
 
 -- why there is no answer: the bytes are no input, or memory ran out
 abbrev pub Refuses : ℕ → List ℕ → Judged → Type 0

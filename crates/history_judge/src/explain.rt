@@ -1,12 +1,13 @@
 //! Whether some legal history makes an output.
-ghost use Rattle.std.specs.Prelude.{◌≡◌, length, IfOk};
+ghost use Rattle.std.specs.Prelude.{◌≡◌, length, IfOk, IsTrue};
 ghost use Rattle.heap_model.specs.Domains.{IsWithinLimits};
-ghost use Rattle.history_judge.specs.Answer.{IsTrueAnswer};
+ghost use Rattle.history_judge.specs.Answer.{ExplainsScript, IsTrueAnswer};
 
 use heap_model::entry::Entry;
 use heap_model::state::Sizes;
 use heap_text::Script;
 use history_replay::gives;
+use spawned_replay::gives_spawning;
 use std::alloc::{AllocError, Global};
 
 /// What a search for a history comes to.
@@ -44,6 +45,25 @@ pub(crate) enum Explained {
     GaveUp { states: u64 },
 }
 
+// Whether a history makes an output of a script of any version.
+fn explains(
+    alloc: Global,
+    sizes: &Sizes,
+    script: &Script,
+    history: &[Entry],
+    output: &[u8],
+) -> Result<bool, AllocError>
+    requires limits { IsWithinLimits sizes.now }
+    requires sections { length script.now.sections ≡ sizes.now.domains }
+    ensures { IfOk result (λ yes. IsTrue yes → ExplainsScript sizes.now script.now output.now history.now) }
+{
+    if script.version() == 3 {
+        gives_spawning(alloc, sizes, script, history, output)
+    } else {
+        gives(alloc, sizes, script, history, output)
+    }
+}
+
 /// Looks for a legal history of a heap of these sizes in which each domain makes the commands of its section, each once
 /// and in order, and ends, and which prints this output.
 pub(crate) fn explain<F: Seek>(
@@ -59,7 +79,7 @@ pub(crate) fn explain<F: Seek>(
 {
     match search.seek(alloc, sizes, script, output)? {
         Sought::History { entries, states } => {
-            if gives(alloc, sizes, script, &entries, output)? {
+            if explains(alloc, sizes, script, &entries, output)? {
                 Ok(Explained::Legal(entries))
             } else {
                 Ok(Explained::GaveUp { states })

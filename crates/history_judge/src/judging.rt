@@ -36,7 +36,7 @@ fn read_input(alloc: Global, domains: u32, bytes: &[u8]) -> Result<(Script, &[u8
     let Some((text, output)) = split_input(bytes) else {
         return Err(Judged::NoSeparator);
     };
-    match read_script(alloc, Version::Two, domains, text) {
+    match read_script(alloc, Version::Three, domains, text) {
         Ok(script) => Ok((script, output)),
         Err(ScriptFault::Memory) => Err(Judged::Memory),
         Err(fault) => Err(Judged::Script(fault)),
@@ -112,9 +112,9 @@ fn judge_bytes<K: Sink, F: Seek>(
     }
 }
 
-/// Judges an output: reads a script of version 1 or 2, a line `---` and an output from the source, has the search look for a
+/// Judges an output: reads a script, a line `---` and an output from the source, has the search look for a
 /// legal history of a heap of these sizes in which each domain makes the commands of its section, each once and in order, and
-/// ends, and which prints the output, and writes what came of it: `legal` and a line for each entry of that history, or that
+/// ends, and which prints the output (of a script of version 3, the steps that its section stands for), and writes what came of it: `legal` and a line for each entry of that history, or that
 /// none was found, or that the search was given up.
 ///
 /// The refusals come in the order in which the work is done: reading, too long an input, no line `---`, the script, writing. A
