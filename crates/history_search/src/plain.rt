@@ -1,5 +1,5 @@
 //! The way that the search has come: what stands in a history, as plain numbers, and the entries that are made of it.
-use crate::story::Story;
+use crate::run::Run;
 use heap_model::command::Command;
 use heap_model::entry::{Entry, Places};
 use heap_model::label::Label;
@@ -7,17 +7,34 @@ use std::alloc::{AllocError, Global};
 
 /// An entry of a history.
 #[derive(Clone, Copy)]
-pub(crate) enum Note {
-    /// The next command of a domain, and whether it is answered `full`.
-    Command { domain: usize, full: bool },
-    End { domain: usize },
-    Ran { domain: usize },
+pub(crate) enum PlainEntry {
+    /// The command at a place of a domain's trace, and whether it is answered `full`.
+    Command {
+        domain: usize,
+        place: usize,
+        full: bool,
+    },
+    End {
+        domain: usize,
+    },
+    Ran {
+        domain: usize,
+    },
     Cut,
-    Queue { domain: usize, place: usize },
+    Queue {
+        domain: usize,
+        place: usize,
+    },
     Seal,
-    /// The block is numbered by the story.
-    Wipe { block: usize, key: usize },
-    Last { domain: usize, place: usize },
+    /// The block is numbered by the run.
+    Wipe {
+        block: usize,
+        key: usize,
+    },
+    Last {
+        domain: usize,
+        place: usize,
+    },
     Collected,
     Done,
 }
@@ -26,7 +43,7 @@ pub(crate) enum Note {
 #[derive(Clone, Copy)]
 pub(crate) struct Link {
     pub before: usize,
-    pub note: Note,
+    pub entry: PlainEntry,
 }
 
 // A number that a list of less than 2^32 elements gives.
@@ -65,40 +82,39 @@ fn add_wiped(
     Ok(())
 }
 
-// The next of a domain's commands, and one more is made.
-fn next_command(story: &Story, made: &mut Vec<usize>, d: usize) -> Command {
-    let Some(count) = made.get_mut(d) else {
-        return Command::Poll;
-    };
-    let place = *count;
-    *count = place.saturating_add(1);
-    match story.traces.get(d) {
-        Some(trace) => trace.commands.get(place).copied().unwrap_or(Command::Poll),
+// The command at a place of a domain's trace.
+fn command_at(run: &Run, d: usize, place: usize) -> Command {
+    match run.turn(d, place) {
+        Some(turn) => turn.command,
         None => Command::Poll,
     }
 }
 
 // The entry of a domain.
-fn domain_entry(story: &Story, made: &mut Vec<usize>, note: Note) -> Entry {
-    match note {
-        Note::Command { domain, full } => Entry::Command {
+fn domain_entry(run: &Run, entry: PlainEntry) -> Entry {
+    match entry {
+        PlainEntry::Command {
+            domain,
+            place,
+            full,
+        } => Entry::Command {
             domain: number(domain),
-            command: next_command(story, made, domain),
+            command: command_at(run, domain, place),
             full,
         },
-        Note::End { domain } => Entry::End {
+        PlainEntry::End { domain } => Entry::End {
             domain: number(domain),
         },
-        Note::Ran { domain } => Entry::Ran {
+        PlainEntry::Ran { domain } => Entry::Ran {
             domain: number(domain),
         },
-        Note::Cut => Entry::Cut,
-        Note::Seal => Entry::Seal,
-        Note::Last { domain, place } => Entry::Last {
+        PlainEntry::Cut => Entry::Cut,
+        PlainEntry::Seal => Entry::Seal,
+        PlainEntry::Last { domain, place } => Entry::Last {
             domain: number(domain),
             place: number(place),
         },
-        Note::Collected => Entry::Collected,
+        PlainEntry::Collected => Entry::Collected,
         _ => Entry::Done,
     }
 }
@@ -106,53 +122,62 @@ fn domain_entry(story: &Story, made: &mut Vec<usize>, note: Note) -> Entry {
 // Adds an entry.
 fn add_entry(
     alloc: Global,
-    story: &Story,
-    made: &mut Vec<usize>,
+    run: &Run,
     history: &mut Vec<Entry>,
-    note: Note,
+    entry: PlainEntry,
 ) -> Result<(), AllocError> {
-    match note {
-        Note::Queue { domain, place } => {
+    match entry {
+        PlainEntry::Queue { domain, place } => {
             let domain = number(domain);
             let places = only(alloc, place)?;
             history.push(Entry::Queue { domain, places })?;
         }
-        Note::Wipe { block, key } => add_wiped(alloc, history, story.block(block).label, key)?,
-        _ => history.push(domain_entry(story, made, note))?,
+        PlainEntry::Wipe { block, key } => add_wiped(alloc, history, run.block(block).label, key)?,
+        _ => history.push(domain_entry(run, entry))?,
     }
     Ok(())
 }
 
-// The notes up to a link, the last one first.
-fn notes_before(alloc: Global, links: &[Link], last: usize) -> Result<Vec<Note>, AllocError> {
-    let mut notes = Vec::new(alloc);
+// The entries up to a link, the last one first.
+fn entries_before(
+    alloc: Global,
+    links: &[Link],
+    last: usize,
+) -> Result<Vec<PlainEntry>, AllocError> {
+    let mut entries = Vec::new(alloc);
     let mut at = last;
     for _ in 0..links.len() {
         let Some(link) = links.get(at) else {
             break;
         };
-        notes.push(link.note)?;
+        entries.push(link.entry)?;
         if link.before >= at {
             break;
         }
         at = link.before;
     }
-    Ok(notes)
+    Ok(entries)
 }
 
 /// The entries up to a link. The first link stands for none.
 pub(crate) fn history(
     alloc: Global,
-    story: &Story,
+    run: &Run,
     links: &[Link],
     last: usize,
 ) -> Result<Vec<Entry>, AllocError> {
-    let mut notes = notes_before(alloc, links, last)?;
-    notes.pop();
-    let mut made = vec![in alloc; 0; story.domains()]?;
+    let mut entries = entries_before(alloc, links, last)?;
+    entries.pop();
     let mut history = Vec::new(alloc);
-    for note in notes.iter().rev() {
-        add_entry(alloc, story, &mut made, &mut history, *note)?;
+    for early in &run.prelude {
+        history.push(Entry::Command {
+            domain: number(early.domain),
+            command: early.command,
+            full: false,
+        })?;
+    }
+    for entry in entries.iter().rev() {
+        add_entry(alloc, run, &mut history, *entry)?;
     }
     Ok(history)
 }

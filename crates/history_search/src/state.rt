@@ -5,7 +5,7 @@ use std::alloc::{AllocError, Global};
 /// How many registers a domain has.
 const REGISTERS: usize = 16;
 
-/// What a register, a field, a key or the data of an ephemeron holds. Blocks are numbered by the story.
+/// What a register, a field, a key or the data of an ephemeron holds. Blocks are numbered by the run.
 #[derive(Clone, Copy, PartialEq, Eq)]
 pub(crate) enum Held {
     Nothing,
@@ -34,29 +34,29 @@ pub(crate) enum List {
 
 /// How far a domain has come.
 #[derive(Clone, Copy)]
-pub(crate) struct Part {
+pub(crate) struct DomainState {
     /// How many of its commands were made, and how many of its lines were printed.
     pub made: usize,
     pub told: usize,
     /// How many blocks it has made.
     pub serial: usize,
     pub ended: bool,
-    /// Whether its last entry left finalisers in its queue.
+    /// Whether its last registration left finalisers in its queue.
     pub owes: bool,
 }
 
 /// A state of the search.
 #[derive(Drop)]
-pub(crate) struct Point {
-    parts: Vec<Part>,
+pub(crate) struct State {
+    domains: Vec<DomainState>,
     /// The registrations of each domain that wait, the oldest first, and those in its queue, the first to run first.
-    pub entries: Vec<Registration>,
+    pub registrations: Vec<Registration>,
     /// What registers hold, 16 for each domain, and behind them what the fields, keys and data of all blocks hold, also of
     /// those that aren't made yet.
     cells: Vec<Held>,
 }
 
-/// A state as numbers, which no other state of the same story has.
+/// A state as numbers, which no other state of the same run has.
 pub(crate) type Key = Vec<u64>;
 
 fn add_held(held: Held, key: &mut Key) -> Result<(), AllocError> {
@@ -70,23 +70,23 @@ fn add_held(held: Held, key: &mut Key) -> Result<(), AllocError> {
     Ok(())
 }
 
-fn add_part(part: Part, key: &mut Key) -> Result<(), AllocError> {
+fn add_domain_numbers(own: DomainState, key: &mut Key) -> Result<(), AllocError> {
     let numbers = [
-        part.made as u64,
-        part.told as u64,
-        u64::from(part.ended),
-        u64::from(part.owes),
+        own.made as u64,
+        own.told as u64,
+        u64::from(own.ended),
+        u64::from(own.owes),
     ];
     key.extend_from_slice(&numbers)
 }
 
-fn add_entry(entry: Registration, key: &mut Key) -> Result<(), AllocError> {
+fn add_registration(registration: Registration, key: &mut Key) -> Result<(), AllocError> {
     let numbers = [
-        entry.domain as u64,
-        u64::from(entry.number),
-        entry.block as u64,
-        u64::from(entry.register.unwrap_or(u8::MAX)),
-        u64::from(entry.queued),
+        registration.domain as u64,
+        u64::from(registration.number),
+        registration.block as u64,
+        u64::from(registration.register.unwrap_or(u8::MAX)),
+        u64::from(registration.queued),
     ];
     key.extend_from_slice(&numbers)
 }
@@ -96,28 +96,28 @@ fn register_at(d: usize, r: u8) -> usize {
     d.saturating_mul(REGISTERS).saturating_add(usize::from(r))
 }
 
-impl Point {
-    /// The state before the first entry of so many domains, over these cells of blocks.
+impl State {
+    /// The state before the first registration of so many domains, over these cells of blocks.
     pub(crate) fn opening(
         alloc: Global,
         domains: usize,
         blocks: &[Held],
-    ) -> Result<Point, AllocError> {
-        let mut point = Point {
-            parts: Vec::new(alloc),
-            entries: Vec::new(alloc),
+    ) -> Result<State, AllocError> {
+        let mut state = State {
+            domains: Vec::new(alloc),
+            registrations: Vec::new(alloc),
             cells: Vec::new(alloc),
         };
         for _ in 0..domains {
-            point.add_domain()?;
+            state.add_domain()?;
         }
-        point.cells.extend_from_slice(blocks)?;
-        Ok(point)
+        state.cells.extend_from_slice(blocks)?;
+        Ok(state)
     }
 
-    // A domain before its first entry. Its register 0 holds the shared block.
+    // A domain before its first registration. Its register 0 holds the shared block.
     fn add_domain(&mut self) -> Result<(), AllocError> {
-        self.parts.push(Part {
+        self.domains.push(DomainState {
             made: 0,
             told: 0,
             serial: 0,
@@ -131,34 +131,34 @@ impl Point {
         Ok(())
     }
 
-    pub(crate) fn copy(&self, alloc: Global) -> Result<Point, AllocError> {
-        Ok(Point {
-            parts: copy_of(alloc, &self.parts)?,
-            entries: copy_of(alloc, &self.entries)?,
+    pub(crate) fn copy(&self, alloc: Global) -> Result<State, AllocError> {
+        Ok(State {
+            domains: copy_of(alloc, &self.domains)?,
+            registrations: copy_of(alloc, &self.registrations)?,
             cells: copy_of(alloc, &self.cells)?,
         })
     }
 
     pub(crate) fn key(&self, alloc: Global) -> Result<Key, AllocError> {
         let mut key = Vec::new(alloc);
-        self.add_parts(&mut key)?;
-        self.add_entries(&mut key)?;
+        self.add_domains(&mut key)?;
+        self.add_registrations(&mut key)?;
         for held in &self.cells {
             add_held(*held, &mut key)?;
         }
         Ok(key)
     }
 
-    fn add_parts(&self, key: &mut Key) -> Result<(), AllocError> {
-        for part in &self.parts {
-            add_part(*part, key)?;
+    fn add_domains(&self, key: &mut Key) -> Result<(), AllocError> {
+        for own in &self.domains {
+            add_domain_numbers(*own, key)?;
         }
         Ok(())
     }
 
     // Adds the registrations of each domain: the order of those of different domains doesn't matter.
-    fn add_entries(&self, key: &mut Key) -> Result<(), AllocError> {
-        for d in 0..self.parts.len() {
+    fn add_registrations(&self, key: &mut Key) -> Result<(), AllocError> {
+        for d in 0..self.domains.len() {
             self.add_list(d, List::Finals, key)?;
             self.add_list(d, List::Lasts, key)?;
             self.add_list(d, List::Queue, key)?;
@@ -167,9 +167,9 @@ impl Point {
     }
 
     fn add_list(&self, d: usize, list: List, key: &mut Key) -> Result<(), AllocError> {
-        for entry in &self.entries {
-            if entry.stands_in(d, list) {
-                add_entry(*entry, key)?;
+        for registration in &self.registrations {
+            if registration.stands_in(d, list) {
+                add_registration(*registration, key)?;
             }
         }
         Ok(())
@@ -177,12 +177,12 @@ impl Point {
 
     /// How many domains there are.
     pub(crate) fn domains(&self) -> usize {
-        self.parts.len()
+        self.domains.len()
     }
 
     /// How far a domain has come. One that isn't there has ended.
-    pub(crate) fn part(&self, d: usize) -> Part {
-        self.parts.get(d).copied().unwrap_or(Part {
+    pub(crate) fn domain_at(&self, d: usize) -> DomainState {
+        self.domains.get(d).copied().unwrap_or(DomainState {
             made: 0,
             told: 0,
             serial: 0,
@@ -191,8 +191,8 @@ impl Point {
         })
     }
 
-    pub(crate) fn set_part(&mut self, d: usize, part: Part) {
-        set_at(&mut self.parts, d, part);
+    pub(crate) fn set_domain(&mut self, d: usize, own: DomainState) {
+        set_at(&mut self.domains, d, own);
     }
 
     fn cell(&self, at: usize) -> Held {
@@ -208,7 +208,7 @@ impl Point {
 
     // Where the cells of blocks begin.
     fn first_slot(&self) -> usize {
-        self.parts.len().saturating_mul(REGISTERS)
+        self.domains.len().saturating_mul(REGISTERS)
     }
 
     /// What a register of a domain holds.
@@ -247,15 +247,15 @@ impl Point {
     }
 
     /// The registration at a place of the list of all.
-    pub(crate) fn entry(&self, at: usize) -> Option<Registration> {
-        self.entries.get(at).copied()
+    pub(crate) fn registration(&self, at: usize) -> Option<Registration> {
+        self.registrations.get(at).copied()
     }
 
     /// How many registrations of a list of a domain stand before a place of the list of all.
     pub(crate) fn count_before(&self, at: usize, d: usize, list: List) -> usize {
         let mut count: usize = 0;
-        for (place, entry) in self.entries.iter().enumerate() {
-            if place < at && entry.stands_in(d, list) {
+        for (place, registration) in self.registrations.iter().enumerate() {
+            if place < at && registration.stands_in(d, list) {
                 count = count.saturating_add(1);
             }
         }
@@ -264,38 +264,38 @@ impl Point {
 
     /// How many finalisers wait in a domain's queue.
     pub(crate) fn count_queued(&self, d: usize) -> usize {
-        self.count_before(self.entries.len(), d, List::Queue)
+        self.count_before(self.registrations.len(), d, List::Queue)
     }
 
     /// Whether a registration of a list of a domain stands at a place of the list of all.
     pub(crate) fn has_at(&self, at: usize, d: usize, list: List) -> bool {
-        match self.entry(at) {
-            Some(entry) => entry.stands_in(d, list),
+        match self.registration(at) {
+            Some(registration) => registration.stands_in(d, list),
             None => false,
         }
     }
 
     // Takes out the registration at a place.
-    fn take_entry(&mut self, at: usize) -> Option<Registration> {
-        if at < self.entries.len() {
-            Some(self.entries.remove(at))
+    fn take_registration(&mut self, at: usize) -> Option<Registration> {
+        if at < self.registrations.len() {
+            Some(self.registrations.remove(at))
         } else {
             None
         }
     }
 
     /// Adds a registration behind all.
-    pub(crate) fn add(&mut self, entry: Registration) -> Result<(), AllocError> {
-        self.entries.push(entry)?;
+    pub(crate) fn add(&mut self, registration: Registration) -> Result<(), AllocError> {
+        self.registrations.push(registration)?;
         Ok(())
     }
 
     /// Queues the registration at a place of the list of all.
     pub(crate) fn queue(&mut self, at: usize) -> Result<(), AllocError> {
-        if let Some(entry) = self.take_entry(at) {
-            self.entries.push(Registration {
+        if let Some(registration) = self.take_registration(at) {
+            self.registrations.push(Registration {
                 queued: true,
-                ..entry
+                ..registration
             })?;
         }
         Ok(())
@@ -303,9 +303,9 @@ impl Point {
 
     /// Takes the first finaliser out of a domain's queue.
     pub(crate) fn take_queued(&mut self, d: usize) -> Option<Registration> {
-        for at in 0..self.entries.len() {
+        for at in 0..self.registrations.len() {
             if self.has_at(at, d, List::Queue) {
-                return self.take_entry(at);
+                return self.take_registration(at);
             }
         }
         None
@@ -313,15 +313,10 @@ impl Point {
 
     /// The end of a domain's trace.
     pub(crate) fn end(&mut self, d: usize) {
-        let part = self.part(d);
-        self.set_part(
-            d,
-            Part {
-                ended: true,
-                ..part
-            },
-        );
-        self.entries.retain(|entry| entry.domain != d);
+        let own = self.domain_at(d);
+        self.set_domain(d, DomainState { ended: true, ..own });
+        self.registrations
+            .retain(|registration| registration.domain != d);
         for r in 0..16 {
             self.put(d, r, Held::Nothing);
         }

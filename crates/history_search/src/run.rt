@@ -1,7 +1,9 @@
 //! What script and output fix beforehand: the commands and lines of each domain, and all blocks.
+use crate::command::make;
 use crate::lines::{Kind, Line, read_output};
 use crate::list::{copy_of, set_at};
-use crate::point::{Held, Point};
+use crate::section::{Early, HIDDEN_FIELDS, Turn, prelude, turns_of};
+use crate::state::{Held, State};
 use heap_model::command::Command;
 use heap_model::label::Label;
 use heap_model::reply::Reply;
@@ -13,6 +15,12 @@ use std::alloc::{AllocError, Global};
 const SHARED: Label = Label {
     domain: 0,
     serial: 0,
+};
+
+// The block through which sections pass values.
+const HIDDEN: Label = Label {
+    domain: 0,
+    serial: 1,
 };
 
 // More than the greatest count of fields.
@@ -51,10 +59,10 @@ impl Block {
     }
 }
 
-/// The commands of a domain, and what is known of them.
+/// What a domain makes, and what is known of it.
 #[derive(Drop)]
 pub(crate) struct Trace {
-    pub commands: Vec<Command>,
+    pub turns: Vec<Turn>,
     /// The number of the first block that it makes.
     pub first_block: usize,
     /// So many of the domain's lines stand up to the last that counts what is kept: of `full_major`, or `full`.
@@ -65,8 +73,10 @@ pub(crate) struct Trace {
 
 /// All that is fixed.
 #[derive(Drop)]
-pub(crate) struct Story {
+pub(crate) struct Run {
     pub sizes: Sizes,
+    /// What is made before any section begins.
+    pub prelude: Vec<Early>,
     pub traces: Vec<Trace>,
     /// The lines that each domain is to print.
     pub lines: Vec<Vec<Line>>,
@@ -123,7 +133,7 @@ fn bring_back(commands: &[Command]) -> bool {
     any
 }
 
-// Notes each index that commands name.
+// Mades each index that commands name.
 fn note_indices(named: &mut Vec<bool>, commands: &[Command]) {
     for command in commands {
         if let Some(index) = named_index(*command) {
@@ -157,54 +167,91 @@ fn count_up_to_last(lines: &[Line]) -> usize {
     counting
 }
 
-impl Story {
+// The commands of a section. One that isn't there has none.
+fn section_of(script: &Script, d: usize) -> &[Command] {
+    if d < script.sections() {
+        script.section(d)
+    } else {
+        &[]
+    }
+}
+
+// Whether an index is named in a script of version 3, whatever its commands are.
+fn is_of_hidden(script: &Script, index: usize) -> bool {
+    script.version() == 3 && index < usize::from(HIDDEN_FIELDS)
+}
+
+// Which indices are named.
+fn named_in(alloc: Global, script: &Script) -> Result<Vec<bool>, AllocError> {
+    let mut named = Vec::new(alloc);
+    for index in 0..COUNTS {
+        named.push(is_of_hidden(script, index))?;
+    }
+    for d in 0..script.sections() {
+        note_indices(&mut named, script.section(d));
+    }
+    Ok(named)
+}
+
+// What is made before any section of a script begins.
+fn prelude_of(alloc: Global, script: &Script) -> Result<Vec<Early>, AllocError> {
+    if script.version() == 3 {
+        prelude(alloc, script.sections())
+    } else {
+        Ok(Vec::new(alloc))
+    }
+}
+
+// Whether a command and the one behind it aren't made.
+fn is_left_out(turn: Turn, state: &State, d: usize) -> bool {
+    match turn.unless {
+        Some(register) => state.register(d, register) != Held::Nothing,
+        None => false,
+    }
+}
+
+impl Run {
     /// What a script and an output fix. `None` where the output has no section for each domain.
     pub(crate) fn read(
         alloc: Global,
         sizes: Sizes,
         script: &Script,
         output: &[u8],
-    ) -> Result<Option<Story>, AllocError> {
+    ) -> Result<Option<Run>, AllocError> {
         let Some(lines) = read_output(alloc, output)? else {
             return Ok(None);
         };
         if lines.len() != script.sections() {
             return Ok(None);
         }
-        let mut named = vec![in alloc; false; COUNTS]?;
-        for d in 0..script.sections() {
-            note_indices(&mut named, script.section(d));
-        }
-        let mut story = Story {
+        let mut run = Run {
             sizes,
+            prelude: prelude_of(alloc, script)?,
             traces: Vec::new(alloc),
             lines,
             blocks: Vec::new(alloc),
             ephemerons: Vec::new(alloc),
-            ranks: ranks_of(alloc, &named)?,
+            ranks: ranks_of(alloc, &named_in(alloc, script)?)?,
             output: copy_of(alloc, output)?,
         };
-        story.add_block(SHARED, Shape::Plain, 16)?;
+        run.add_block(SHARED, Shape::Plain, 16)?;
         for d in 0..script.sections() {
-            story.add_trace(alloc, d, script.section(d))?;
+            run.add_trace(alloc, d, script)?;
         }
-        Ok(Some(story))
+        Ok(Some(run))
     }
 
-    fn add_trace(
-        &mut self,
-        alloc: Global,
-        d: usize,
-        commands: &[Command],
-    ) -> Result<(), AllocError> {
+    fn add_trace(&mut self, alloc: Global, d: usize, script: &Script) -> Result<(), AllocError> {
+        let number = u32::try_from(d).unwrap_or(0);
+        let commands = section_of(script, d);
         let trace = Trace {
-            commands: copy_of(alloc, commands)?,
+            turns: turns_of(alloc, number, script.is_spawned(number), commands)?,
             first_block: self.blocks.len(),
             counting: self.count_up_to_last(d),
             brings_back: bring_back(commands),
         };
         self.traces.push(trace)?;
-        self.add_blocks(u32::try_from(d).unwrap_or(0), commands)
+        self.add_blocks(number, commands)
     }
 
     // How many lines of a domain stand up to the last that counts.
@@ -217,6 +264,10 @@ impl Story {
 
     fn add_blocks(&mut self, domain: u32, commands: &[Command]) -> Result<(), AllocError> {
         let mut serial: u32 = 0;
+        if domain == 0 && !self.prelude.is_empty() {
+            serial = 1;
+            self.add_block(HIDDEN, Shape::Plain, HIDDEN_FIELDS)?;
+        }
         for command in commands {
             if let Some((shape, count)) = made_by(*command) {
                 serial = serial.saturating_add(1);
@@ -256,12 +307,16 @@ impl Story {
     }
 
     /// The state before the first entry.
-    pub(crate) fn opening(&self, alloc: Global) -> Result<Point, AllocError> {
+    pub(crate) fn opening(&self, alloc: Global) -> Result<State, AllocError> {
         let mut slots = Vec::new(alloc);
         for block in &self.blocks {
             add_slots(&mut slots, *block)?;
         }
-        Point::opening(alloc, self.traces.len(), &slots)
+        let mut state = State::opening(alloc, self.traces.len(), &slots)?;
+        for early in &self.prelude {
+            make(self, &mut state, early.domain, early.command)?;
+        }
+        Ok(state)
     }
 
     /// The number of the first block that a domain makes.
@@ -287,10 +342,28 @@ impl Story {
         })
     }
 
+    /// What stands at a place of a domain's trace.
+    pub(crate) fn turn(&self, d: usize, place: usize) -> Option<Turn> {
+        self.traces.get(d)?.turns.get(place).copied()
+    }
+
+    /// The place of what a domain makes next.
+    pub(crate) fn next_place(&self, state: &State, d: usize) -> usize {
+        let made = state.domain_at(d).made;
+        match self.turn(d, made) {
+            Some(turn) if is_left_out(turn, state, d) => made.saturating_add(2),
+            _ => made,
+        }
+    }
+
+    /// What a domain makes next.
+    pub(crate) fn next_turn(&self, state: &State, d: usize) -> Option<Turn> {
+        self.turn(d, self.next_place(state, d))
+    }
+
     /// The command that a domain makes next.
-    pub(crate) fn next_command(&self, point: &Point, d: usize) -> Option<Command> {
-        let trace = self.traces.get(d)?;
-        trace.commands.get(point.part(d).made).copied()
+    pub(crate) fn next_command(&self, state: &State, d: usize) -> Option<Command> {
+        Some(self.next_turn(state, d)?.command)
     }
 
     /// A line of a domain.
@@ -299,8 +372,8 @@ impl Story {
     }
 
     /// The line that a domain prints next.
-    pub(crate) fn next_line(&self, point: &Point, d: usize) -> Option<Line> {
-        self.line(d, point.part(d).told)
+    pub(crate) fn next_line(&self, state: &State, d: usize) -> Option<Line> {
+        self.line(d, state.domain_at(d).told)
     }
 
     pub(crate) fn text(&self, line: Line) -> &[u8] {
@@ -308,10 +381,10 @@ impl Story {
     }
 
     /// Whether another domain may still count what this one keeps.
-    pub(crate) fn is_counted(&self, point: &Point, d: usize) -> bool {
+    pub(crate) fn is_counted(&self, state: &State, d: usize) -> bool {
         let mut counted = false;
         for (other, trace) in self.traces.iter().enumerate() {
-            counted = counted || (other != d && point.part(other).told < trace.counting);
+            counted = counted || (other != d && state.domain_at(other).told < trace.counting);
         }
         counted
     }
@@ -339,10 +412,10 @@ fn add_slots(slots: &mut Vec<Held>, block: Block) -> Result<(), AllocError> {
 }
 
 /// What a register that holds this shows.
-pub(crate) fn shown(story: &Story, held: Held) -> Reply {
+pub(crate) fn shown(run: &Run, held: Held) -> Reply {
     match held {
         Held::Nothing => Reply::Empty,
         Held::Int(value) => Reply::Int(value),
-        Held::Block(block) => Reply::Block(story.block(block).label),
+        Held::Block(block) => Reply::Block(run.block(block).label),
     }
 }
