@@ -1,5 +1,5 @@
 //! Turns.
-ghost use Rattle.std.specs.Prelude.{◌≡◌, ◌≢◌, ◌≤◌, ◌<◌, ◌^◌, ◌&&◌, true, false, length, slice_get, vec_capacity, vec_len, Some, None};
+ghost use Rattle.std.specs.Prelude.{◌≡◌, ◌≢◌, ◌≤◌, ◌<◌, ◌^◌, ◌&&◌, nat_lt, true, false, length, slice_get, vec_capacity, vec_len, Some, None};
 ghost use Rattle.heap_model.specs.declared.command.Command.TheVariants.{Poll};
 ghost use Rattle.safepoint.specs.declared.answer.Want.TheVariants.{Finish, Full};
 ghost use Rattle.heap_rule.specs.declared.phase.Note.TheVariants as note;
@@ -45,13 +45,22 @@ fn end(heap: &Heap, dom: &mut Domain)
     ended_add(heap, dom);
 }
 
+// Whether a domain has arrived since it asked for a pause. It is a call of its own, so that a command of a domain which has
+// asked for none doesn't pay for it.
+#[inline(never)]
+fn has_arrived_since(run: &DomainRun, asked: u64) -> bool
+    ensures { result ≡ nat_lt asked run.now.token.view.own.arrivals }
+{
+    asked < run.domain.arrivals()
+}
+
 // Whether a pause was begun and ended since the domain asked for one.
 #[inline(always)]
 pub(crate) fn is_served(run: &DomainRun) -> bool
     ensures { result ≡ served_since run.now.asked run.now.token.view.own.arrivals }
 {
     match run.asked {
-        Some(at) => at < run.domain.arrivals(),
+        Some(at) => has_arrived_since(run, at),
         None => false,
     }
 }
@@ -72,9 +81,9 @@ fn keep_ran(supply: Supply, replies: &mut Vec<Reply>, ran: &mut Vec<Reply>, repl
 }
 
 // Runs the finaliser that has waited longest in the domain's queue, and keeps its reply. Answers whether
-// one waited. It is a call of its own, so that a turn which runs none pays for none.
-#[inline(never)]
-fn run_waiting(heap: &Heap, run: &mut DomainRun) -> bool
+// one waited.
+#[inline(always)]
+fn runs_finaliser(heap: &Heap, run: &mut DomainRun) -> bool
     requires here { IsIn run.old.token heap.now }
     requires running { run.old.ended ≡ false }
     requires left { run.old.left ≡ None }
@@ -89,20 +98,6 @@ fn run_waiting(heap: &Heap, run: &mut DomainRun) -> bool
     keep_ran(run.supply, &mut run.replies, &mut run.ran, ran.reply());
     run.due = run.domain.queued();
     true
-}
-
-// Runs a finaliser, if one waits.
-#[inline(always)]
-fn runs_finaliser(heap: &Heap, run: &mut DomainRun) -> bool
-    requires here { IsIn run.old.token heap.now }
-    requires running { run.old.ended ≡ false }
-    requires left { run.old.left ≡ None }
-    ensures here { IsIn run.new.token heap.now }
-    ensures ran { result ≡ true → RunsFinaliser heap.now run.old.token run.old run.new }
-    ensures same { result ≡ false → run.new ≡ run.old }
-    ensures unqueued { result ≡ false → IsUnqueued run.old.token }
-{
-    run.domain.queued() != 0 && run_waiting(heap, run)
 }
 
 // Tries the next command of a run, and keeps its reply. Else answers which pause must come first.

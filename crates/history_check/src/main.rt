@@ -2,64 +2,34 @@
 //! output from standard input, and writes `legal` and the entries of a history that prints the output, or that no such
 //! history was found, or that the search was given up.
 //!
-//! `explain` says what is proved: the history that it answers is legal for the sizes, each domain's commands in it are its
-//! section, each domain ends, and its output is exactly these bytes. That there is none where none was found is shown by
-//! tests alone, and so are the words in which a history is told.
+//! The judge of `history_judge` does the work over the two streams. It says what is proved: `legal` is written only where a legal
+//! history makes the output, and then that history is. That there is none where none was found is shown by tests alone.
 #![tactic(auto)]
 
 ghost use Rattle.std.specs.Prelude.{IfOk};
 ghost use Rattle.heap_model.specs.Domains.{IsWithinLimits};
 
-mod explain;
-mod input;
-mod show;
+mod bounded;
 mod words;
 
-use explain::{Explained, Watch, explain};
-use heap_model::entry::Entry;
-use heap_text::{Script, ScriptFault, Version, read_script};
-use input::split_input;
+use bounded::Bounded;
+use heap_text::ScriptFault;
+use history_judge::{Judged, judge};
+use outer_io::{StdSink, StdSource};
 use std::alloc::Global;
-use std::io::{BufWriter, ErrorKind, Read, Write};
+use std::io::{BufReader, BufWriter, ErrorKind, Write};
 use std::process::ExitCode;
-use std::time::{Duration, Instant};
 use std::{env, io};
 use words::{Asked, read_asked};
 
-// What went wrong, with the statuses of `camlheap`, and what was found. All but `Legal` has a status of its own.
+// How many bytes are read ahead, and how many are gathered before they are written.
+const GATHERED: usize = 65_536;
+
+// The words aren't as they should be, or what the judge answers.
 #[derive(Clone, Copy)]
 enum Outcome {
-    Legal,
     Usage,
-    Script(ScriptFault),
-    NoSeparator,
-    ReadFault,
-    WriteFault,
-    Memory,
-    NoneFound,
-    GaveUp,
-}
-
-// Tells how far the search has come, each time that another second has passed.
-#[derive(Drop)]
-struct Teller<'a> {
-    rt: &'a HostRuntime,
-    told: Option<Instant>,
-}
-
-impl<'a> Watch for Teller<'a> {
-    fn saw(&mut self, states: u64) {
-        let Some(before) = self.told else {
-            return;
-        };
-        let Ok(passed) = before.elapsed(self.rt) else {
-            return;
-        };
-        if passed >= Duration::from_secs(1) {
-            let _ = eprintln!(self.rt; "history_check: looked at {states} states");
-            self.told = Instant::now(self.rt).ok();
-        }
-    }
+    Judged(Judged),
 }
 
 // The words behind the program's name.
@@ -73,69 +43,11 @@ fn words_given(rt: &HostRuntime) -> io::Result<Vec<String>> {
     Ok(words)
 }
 
-// Writes a history.
-fn write_history(rt: &HostRuntime, history: &[Entry]) -> io::Result<()> {
-    let mut out = BufWriter::new(rt.alloc(), rt.stdout())?;
-    out.write_all(b"legal\n")?;
-    for entry in history {
-        let text = show::entry_text(rt.alloc(), entry)?;
-        out.write_all(text.as_bytes())?;
-        out.write_all(b"\n")?;
-    }
-    out.flush()
-}
-
-// Writes an answer.
-fn write_answer(rt: &HostRuntime, answer: &Explained) -> io::Result<Outcome> {
-    match answer {
-        Explained::Legal(history) => {
-            write_history(rt, history)?;
-            Ok(Outcome::Legal)
-        }
-        Explained::NoneFound { states } => {
-            println!(rt;
-                "no history found in {states} states, which are all; tests alone show that there is none then"
-            )?;
-            Ok(Outcome::NoneFound)
-        }
-        Explained::GaveUp { states } => {
-            println!(rt; "gave up after {states} states")?;
-            Ok(Outcome::GaveUp)
-        }
-        Explained::Memory => Ok(Outcome::Memory),
-    }
-}
-
 // What an error says that came where a fault of another kind would be this one.
 fn outcome_of(error: io::Error, other: Outcome) -> Outcome {
     match error.kind() {
-        ErrorKind::OutOfMemory => Outcome::Memory,
+        ErrorKind::OutOfMemory => Outcome::Judged(Judged::Memory),
         _ => other,
-    }
-}
-
-// Judges an output.
-fn judge(rt: &HostRuntime, asked: &Asked, script: &Script, output: &[u8]) -> Outcome
-    requires { IsWithinLimits asked.now.sizes }
-{
-    if script.sections() != asked.sizes.domains as usize {
-        return Outcome::Usage;
-    }
-    let mut teller = Teller {
-        rt,
-        told: Instant::now(rt).ok(),
-    };
-    let answer = explain(
-        rt.alloc(),
-        &asked.sizes,
-        script,
-        output,
-        asked.states,
-        &mut teller,
-    );
-    match write_answer(rt, &answer) {
-        Ok(outcome) => outcome,
-        Err(error) => outcome_of(error, Outcome::WriteFault),
     }
 }
 
@@ -150,25 +62,22 @@ fn asked(rt: &HostRuntime, alloc: Global) -> Result<Asked, Outcome>
     match read_asked(alloc, words) {
         Ok(Some(asked)) => Ok(asked),
         Ok(None) => Err(Outcome::Usage),
-        Err(_) => Err(Outcome::Memory),
+        Err(_) => Err(Outcome::Judged(Judged::Memory)),
     }
 }
 
-// Reads the input, and judges it.
-fn run(rt: &HostRuntime, asked: &Asked) -> Outcome
+// Judges what standard input has.
+fn run(rt: &HostRuntime, asked: &Asked) -> io::Result<Judged>
     requires { IsWithinLimits asked.now.sizes }
 {
-    let mut bytes = Vec::new(rt.alloc());
-    if let Err(error) = rt.stdin().read_to_end(&mut bytes) {
-        return outcome_of(error, Outcome::ReadFault);
-    }
-    let Some((script, output)) = split_input(&bytes) else {
-        return Outcome::NoSeparator;
-    };
-    match read_script(rt.alloc(), Version::Two, asked.sizes.domains, script) {
-        Ok(script) => judge(rt, asked, &script, output),
-        Err(ScriptFault::Memory) => Outcome::Memory,
-        Err(fault) => Outcome::Script(fault),
+    let alloc = rt.alloc();
+    let mut src = StdSource::make(BufReader::with_capacity(alloc, GATHERED, rt.stdin())?);
+    let mut out = StdSink::make(BufWriter::with_capacity(alloc, GATHERED, rt.stdout())?);
+    let mut search = Bounded::new(rt, asked.states);
+    let judged = judge(alloc, &asked.sizes, &mut src, &mut out, &mut search);
+    match out.flush() {
+        Ok(()) => Ok(judged),
+        Err(_) => Ok(Judged::WriteFault),
     }
 }
 
@@ -190,34 +99,41 @@ fn tell_fault(rt: &HostRuntime, fault: ScriptFault) -> io::Result<()> {
 // Says what went wrong.
 fn tell(rt: &HostRuntime, outcome: Outcome) -> io::Result<()> {
     match outcome {
-        Outcome::Legal | Outcome::NoneFound | Outcome::GaveUp => Ok(()),
         Outcome::Usage => {
             eprintln!(rt; "usage: history_check [--domains N] [--minor W] [--pools P] [--states S]")
         }
-        Outcome::Script(fault) => tell_fault(rt, fault),
-        Outcome::NoSeparator => eprintln!(rt; "no line --- between the script and the output"),
-        Outcome::ReadFault => eprintln!(rt; "read fault"),
-        Outcome::WriteFault => eprintln!(rt; "write fault"),
-        Outcome::Memory => eprintln!(rt; "out of memory"),
+        Outcome::Judged(Judged::Legal | Judged::NoneFound | Judged::GaveUp) => Ok(()),
+        Outcome::Judged(Judged::Script(fault)) => tell_fault(rt, fault),
+        Outcome::Judged(Judged::NoSeparator) => {
+            eprintln!(rt; "no line --- between the script and the output")
+        }
+        Outcome::Judged(Judged::TooLong) => eprintln!(rt; "more than 1073741823 bytes"),
+        Outcome::Judged(Judged::ReadFault) => eprintln!(rt; "read fault"),
+        Outcome::Judged(Judged::WriteFault) => eprintln!(rt; "write fault"),
+        Outcome::Judged(Judged::Memory) => eprintln!(rt; "out of memory"),
     }
 }
 
+// The statuses are those of `camlheap`, and two more.
 fn status_number(outcome: Outcome) -> u8 {
     match outcome {
-        Outcome::Legal => 0,
         Outcome::Usage => 1,
-        Outcome::Script(_) | Outcome::NoSeparator => 2,
-        Outcome::ReadFault => 3,
-        Outcome::WriteFault => 4,
-        Outcome::Memory => 5,
-        Outcome::NoneFound => 6,
-        Outcome::GaveUp => 7,
+        Outcome::Judged(Judged::Legal) => 0,
+        Outcome::Judged(Judged::Script(_) | Judged::NoSeparator | Judged::TooLong) => 2,
+        Outcome::Judged(Judged::ReadFault) => 3,
+        Outcome::Judged(Judged::WriteFault) => 4,
+        Outcome::Judged(Judged::Memory) => 5,
+        Outcome::Judged(Judged::NoneFound) => 6,
+        Outcome::Judged(Judged::GaveUp) => 7,
     }
 }
 
 fn main(rt: HostRuntime) -> ExitCode {
     let outcome = match asked(&rt, rt.alloc()) {
-        Ok(asked) => run(&rt, &asked),
+        Ok(asked) => match run(&rt, &asked) {
+            Ok(judged) => Outcome::Judged(judged),
+            Err(error) => outcome_of(error, Outcome::Judged(Judged::ReadFault)),
+        },
         Err(outcome) => outcome,
     };
     let _ = tell(&rt, outcome);

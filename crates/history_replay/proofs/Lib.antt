@@ -1,3 +1,5 @@
+mod ExactLemmas
 mod PlayLemmas
+mod RangeLemmas
 mod RowLemmas
 mod TextLemmas

@@ -1,7 +1,6 @@
 -- A row tells its command.
-use Rattle.std.proofs.Common.{◌≡◌, ℕ, Bool, true, false, List, [], ◌∷◌, refl, ap, sym, ◌∙◌}
-use Rattle.std.specs.Prelude.{ℤ, pos}
-use Rattle.std.specs.Bool.{OnTrue}
+use Rattle.std.proofs.Common.{◌≡◌, ℕ, Bool, List, [], ◌∷◌, refl, ap, sym, ◌∙◌}
+use Rattle.std.specs.Prelude.{◌↔◌, IsTrue, ℤ, pos}
 use Rattle.heap_model.specs.declared.command.Command.{Command}
 use Rattle.heap_model.specs.declared.command.Command.TheVariants.{PutInt}
 use Rattle.heap_text.specs.declared.form.Word.TheVariants as word
@@ -34,7 +33,9 @@ same_parts r s w z a b c d =
     ∙ ap (λ x. row_with s.word s.value x r.b r.c r.d) a ∙ ap (λ x. row_with s.word s.value s.a x r.c r.d) b
     ∙ ap (λ x. row_with s.word s.value s.a s.b x r.d) c ∙ ap (λ x. row_with s.word s.value s.a s.b s.c x) d
 
--- commands with one row are the same
-pub rows_tell : (x y : Command) (r s : Row) (b : Bool) → r ≡ row_of x → s ≡ row_of y → OnTrue b (r ≡ s) → OnTrue b (x ≡ y)
-rows_tell x y r s true is other same = sym (told_by-row x) ∙ ap told_by (sym is ∙ same ∙ other) ∙ told_by-row y
-rows_tell x y r s false is other same = tt
+-- commands with one row are the same, and one command has one row
+pub rows_tell : (x y : Command) (r s : Row) (b : Bool) → r ≡ row_of x → s ≡ row_of y → (IsTrue b ↔ (r ≡ s)) → (IsTrue b ↔ (x ≡ y))
+rows_tell x y r s b is other same = (
+  (λ t. sym (told_by-row x) ∙ ap told_by (sym is ∙ same.0 t ∙ other) ∙ told_by-row y),
+  (λ e. same.1 (is ∙ ap row_of e ∙ sym other)),
+)

@@ -48,7 +48,12 @@ pub record HasDone (z : Sizes) (d : ℕ) (section : List Command) (h : List Entr
   pub commands_are : take made section ≡ commands h d
   pub ended_is : ended ≡ list_any (is_end_of d) h
 
--- domain d makes these commands in a history, in order, ends, and answers these replies
+-- domain d makes these commands in a history, in order, and ends
+pub record MakesAndEnds (d : ℕ) (section : List Command) (h : List Entry) : Type 0 where
+  pub commands_are : commands h d ≡ section
+  pub ends : IsTrue (list_any (is_end_of d) h)
+
+-- and answers these replies
 pub record Does (z : Sizes) (d : ℕ) (section : List Command) (h : List Entry) (own : List Reply) : Type 0 where
   pub commands_are : commands h d ≡ section
   pub replies_are : replies z h d ≡ own

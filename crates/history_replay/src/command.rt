@@ -1,6 +1,6 @@
 //! Commands that are the same.
-ghost use Rattle.std.specs.Prelude.{◌≡◌, pos};
-ghost use Rattle.std.specs.Bool.{OnTrue};
+ghost use Rattle.std.specs.Prelude.{◌≡◌, ◌↔◌, IsTrue, pos};
+ghost use Rattle.heap_text.specs.declared.form.Word as declared_word;
 ghost use Rattle.history_replay.specs.Rows.{row_of};
 
 use heap_model::command::Command;
@@ -31,134 +31,105 @@ fn plain_row(word: Word, a: u32, b: u32, c: u32, d: u32) -> Row
     }
 }
 
+// The row of a register.
+fn one(word: Word, a: u8) -> Row
+    ensures { result ≡ record { word = word; value = pos 0; a = a; b = 0; c = 0; d = 0 } }
+{
+    plain_row(word, u32::from(a), 0, 0, 0)
+}
+
+// The row of two registers.
+fn two(word: Word, a: u8, b: u8) -> Row
+    ensures { result ≡ record { word = word; value = pos 0; a = a; b = b; c = 0; d = 0 } }
+{
+    plain_row(word, u32::from(a), u32::from(b), 0, 0)
+}
+
+// The row of a register and a count or a place.
+fn placed(word: Word, a: u8, b: u16) -> Row
+    ensures { result ≡ record { word = word; value = pos 0; a = a; b = b; c = 0; d = 0 } }
+{
+    plain_row(word, u32::from(a), u32::from(b), 0, 0)
+}
+
+// The row of a register, a small number and a count or a place.
+fn counted(word: Word, a: u8, b: u8, c: u16) -> Row
+    ensures { result ≡ record { word = word; value = pos 0; a = a; b = b; c = c; d = 0 } }
+{
+    plain_row(word, u32::from(a), u32::from(b), u32::from(c), 0)
+}
+
+// The row of a register, a place and a register.
+fn stored(word: Word, a: u8, b: u16, c: u8) -> Row
+    ensures { result ≡ record { word = word; value = pos 0; a = a; b = b; c = c; d = 0 } }
+{
+    plain_row(word, u32::from(a), u32::from(b), u32::from(c), 0)
+}
+
+// The row of `int`.
+fn integer(a: u8, value: i64) -> Row
+    ensures { result ≡ record { word = Word.Int; value = value; a = a; b = 0; c = 0; d = 0 } }
+{
+    Row {
+        value,
+        ..one(Word::Int, a)
+    }
+}
+
+// The row of `cas`.
+fn exchanged(a: u8, b: u16, c: u8, d: u8) -> Row
+    ensures { result ≡ record { word = Word.Cas; value = pos 0; a = a; b = b; c = c; d = d } }
+{
+    plain_row(
+        Word::Cas,
+        u32::from(a),
+        u32::from(b),
+        u32::from(c),
+        u32::from(d),
+    )
+}
+
 // A command as a row.
 fn row_of_command(command: Command) -> Row
     ensures { result ≡ row_of command }
 {
     match command {
-        Command::PutInt { dst, value } => Row {
-            word: Word::Int,
-            value,
-            a: u32::from(dst),
-            b: 0,
-            c: 0,
-            d: 0,
-        },
-        Command::Copy { dst, src } => plain_row(Word::Move, u32::from(dst), u32::from(src), 0, 0),
-        Command::Forget { dst } => plain_row(Word::Drop, u32::from(dst), 0, 0, 0),
-        Command::Alloc { dst, tag, fields } => plain_row(
-            Word::Alloc,
-            u32::from(dst),
-            u32::from(tag),
-            u32::from(fields),
-            0,
-        ),
-        Command::AllocMaj { dst, tag, fields } => plain_row(
-            Word::AllocMaj,
-            u32::from(dst),
-            u32::from(tag),
-            u32::from(fields),
-            0,
-        ),
-        Command::Load { dst, src, index } => plain_row(
-            Word::Load,
-            u32::from(dst),
-            u32::from(src),
-            u32::from(index),
-            0,
-        ),
-        Command::Store { block, index, item } => plain_row(
-            Word::Store,
-            u32::from(block),
-            u32::from(index),
-            u32::from(item),
-            0,
-        ),
-        Command::Raw { dst, tag, fields } => plain_row(
-            Word::Raw,
-            u32::from(dst),
-            u32::from(tag),
-            u32::from(fields),
-            0,
-        ),
+        Command::PutInt { dst, value } => integer(dst, value),
+        Command::Copy { dst, src } => two(Word::Move, dst, src),
+        Command::Forget { dst } => one(Word::Drop, dst),
+        Command::Alloc { dst, tag, fields } => counted(Word::Alloc, dst, tag, fields),
+        Command::AllocMaj { dst, tag, fields } => counted(Word::AllocMaj, dst, tag, fields),
+        Command::Load { dst, src, index } => counted(Word::Load, dst, src, index),
+        Command::Store { block, index, item } => stored(Word::Store, block, index, item),
+        Command::Raw { dst, tag, fields } => counted(Word::Raw, dst, tag, fields),
         Command::Cas {
-            block,
+            block: a,
             index,
             expected,
             item,
-        } => plain_row(
-            Word::Cas,
-            u32::from(block),
-            u32::from(index),
-            u32::from(expected),
-            u32::from(item),
-        ),
-        Command::Ephe { dst, keys } => plain_row(Word::Ephe, u32::from(dst), u32::from(keys), 0, 0),
-        Command::SetKey { ephe, index, item } => plain_row(
-            Word::SetKey,
-            u32::from(ephe),
-            u32::from(index),
-            u32::from(item),
-            0,
-        ),
-        Command::UnsetKey { ephe, index } => plain_row(
-            Word::UnsetKey,
-            u32::from(ephe),
-            u32::from(index),
-            0,
-            0,
-        ),
-        Command::GetKey { dst, ephe, index } => plain_row(
-            Word::GetKey,
-            u32::from(dst),
-            u32::from(ephe),
-            u32::from(index),
-            0,
-        ),
-        Command::CheckKey { ephe, index } => plain_row(
-            Word::CheckKey,
-            u32::from(ephe),
-            u32::from(index),
-            0,
-            0,
-        ),
-        Command::SetData { ephe, item } => plain_row(
-            Word::SetData,
-            u32::from(ephe),
-            u32::from(item),
-            0,
-            0,
-        ),
-        Command::UnsetData { ephe } => plain_row(Word::UnsetData, u32::from(ephe), 0, 0, 0),
-        Command::GetData { dst, ephe } => plain_row(
-            Word::GetData,
-            u32::from(dst),
-            u32::from(ephe),
-            0,
-            0,
-        ),
-        Command::CheckData { ephe } => plain_row(Word::CheckData, u32::from(ephe), 0, 0, 0),
-        Command::Finalise { item, number, dst } => plain_row(
-            Word::Finalise,
-            u32::from(item),
-            number,
-            u32::from(dst),
-            0,
-        ),
-        Command::FinaliseLast { item, number } => plain_row(
-            Word::FinaliseLast,
-            u32::from(item),
-            number,
-            0,
-            0,
-        ),
+        } => exchanged(a, index, expected, item),
+        Command::Ephe { dst, keys } => placed(Word::Ephe, dst, keys),
+        Command::SetKey { ephe, index, item } => stored(Word::SetKey, ephe, index, item),
+        Command::UnsetKey { ephe, index } => placed(Word::UnsetKey, ephe, index),
+        Command::GetKey { dst, ephe, index } => counted(Word::GetKey, dst, ephe, index),
+        Command::CheckKey { ephe, index } => placed(Word::CheckKey, ephe, index),
+        Command::SetData { ephe, item } => two(Word::SetData, ephe, item),
+        Command::UnsetData { ephe } => one(Word::UnsetData, ephe),
+        Command::GetData { dst, ephe } => two(Word::GetData, dst, ephe),
+        Command::CheckData { ephe } => one(Word::CheckData, ephe),
+        Command::Finalise { item, number, dst } => {
+            plain_row(Word::Finalise, u32::from(item), number, u32::from(dst), 0)
+        }
+        Command::FinaliseLast { item, number } => {
+            plain_row(Word::FinaliseLast, u32::from(item), number, 0, 0)
+        }
         Command::Poll => plain_row(Word::Poll, 0, 0, 0, 0),
         Command::Minor => plain_row(Word::Minor, 0, 0, 0, 0),
         Command::Major => plain_row(Word::Major, 0, 0, 0, 0),
         Command::FullMajor => plain_row(Word::FullMajor, 0, 0, 0, 0),
         Command::Spawn { section, item } => plain_row(Word::Spawn, section, u32::from(item), 0, 0),
-        Command::Argument { dst } => plain_row(Word::Argument, u32::from(dst), 0, 0, 0),
-        Command::PutResult { item } => plain_row(Word::Result, u32::from(item), 0, 0, 0),
+        Command::Argument { dst } => one(Word::Argument, dst),
+        Command::PutResult { item } => one(Word::Result, item),
         Command::Join { dst, section } => plain_row(Word::Join, u32::from(dst), section, 0, 0),
     }
 }
@@ -166,14 +137,14 @@ fn row_of_command(command: Command) -> Row
 // Whether two rows are the same.
 #[tactic(auto, using(crate::proofs::RowLemmas::same_parts))]
 fn same_rows(x: Row, y: Row) -> bool
-    ensures { OnTrue result (x ≡ y) }
+    ensures { IsTrue result ↔ (x ≡ y) }
 {
     x.word == y.word && x.value == y.value && x.a == y.a && x.b == y.b && x.c == y.c && x.d == y.d
 }
 
 /// Whether two commands are the same.
-pub(crate) fn same_command(x: Command, y: Command) -> bool
-    ensures { OnTrue result (x ≡ y) }
+pub fn same_command(x: Command, y: Command) -> bool
+    ensures { IsTrue result ↔ (x ≡ y) }
 {
     same_rows(row_of_command(x), row_of_command(y))
 }

@@ -1,7 +1,8 @@
 //! What one domain does in a history.
-ghost use Rattle.std.specs.Prelude.{◌≡◌, ◌≤◌, ◌++◌, ◌||◌, IfOk, OnOk, IfSome, length, slice_get, take};
+ghost use Rattle.std.specs.Prelude.{◌≡◌, ◌≤◌, ◌++◌, ◌||◌, List, IfOk, OnOk, IfSome, IfNone, length, slice_get, take};
+ghost use Rattle.heap_model.specs.declared.command.Command.{Command as declared_command};
 ghost use Rattle.heap_model.specs.History.{command_of, is_entry_of};
-ghost use Rattle.history_replay.specs.Steps.{answers, Does, is_end_of as ends_in, own_replies};
+ghost use Rattle.history_replay.specs.Steps.{answers, Does, MakesAndEnds, is_end_of as ends_in, own_replies};
 
 use crate::command::same_command;
 use heap_model::command::Command;
@@ -54,6 +55,7 @@ fn count_made(section: &[Command], made: usize, d: u32, entry: &Entry) -> Option
     requires { made ≤ length section.now }
     ensures within { IfSome result (λ n. n ≤ length section.now) }
     ensures commands { IfSome result (λ n. take n section.now ≡ take made section.now ++ command_of d entry.now) }
+    ensures other { IfNone result ((more : List declared_command) → take made section.now ++ (command_of d entry.now ++ more) ≡ section.now → ⊥) }
 {
     match entry {
         Entry::Command {
@@ -97,7 +99,8 @@ pub(crate) fn read_domain(
     told: &[Applied],
 ) -> Result<Option<Vec<Reply>>, AllocError>
     requires { told.now ≡ answers _sizes.now history.now }
-    ensures { IfOk result (λ o. IfSome o (λ v. Does _sizes.now d section.now history.now v.items)) }
+    ensures does { IfOk result (λ o. IfSome o (λ v. Does _sizes.now d section.now history.now v.items)) }
+    ensures other { IfOk result (λ o. IfNone o (MakesAndEnds d section.now history.now → ⊥)) }
 {
     let mut replies = Vec::new(alloc);
     let mut made = 0;

@@ -7,4 +7,7 @@ mod lines;
 mod play;
 mod replay;
 
+pub use command::same_command;
+pub use lines::behind_section;
+pub use play::follow;
 pub use replay::gives;

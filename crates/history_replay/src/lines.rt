@@ -1,5 +1,5 @@
 //! The lines of a domain at the front of an output.
-ghost use Rattle.std.specs.Prelude.{◌≡◌, ◌++◌, IfSome};
+ghost use Rattle.std.specs.Prelude.{◌≡◌, ◌≢◌, ◌++◌, List, ℕ, IfSome, IfNone};
 ghost use Rattle.heap_model.specs.Output.{line, printed, reply_text};
 ghost use Rattle.heap_text.specs.Spelling.{heading_text};
 
@@ -8,14 +8,16 @@ use heap_text::{Line, print_heading, print_reply};
 
 // What stands behind a front.
 fn behind<'a>(bytes: &'a [u8], front: &[u8]) -> Option<&'a [u8]>
-    ensures { IfSome result (λ rest. bytes.now ≡ front.now ++ rest.now) }
+    ensures some { IfSome result (λ rest. bytes.now ≡ front.now ++ rest.now) }
+    ensures none { IfNone result ((more : List ℕ) → bytes.now ≢ front.now ++ more) }
 {
     bytes.strip_prefix(front)
 }
 
 // What stands behind the line of a reply.
 fn behind_reply<'a>(bytes: &'a [u8], reply: &Reply) -> Option<&'a [u8]>
-    ensures { IfSome result (λ rest. bytes.now ≡ line (reply_text reply.now) ++ rest.now) }
+    ensures some { IfSome result (λ rest. bytes.now ≡ line (reply_text reply.now) ++ rest.now) }
+    ensures none { IfNone result ((more : List ℕ) → bytes.now ≢ line (reply_text reply.now) ++ more) }
 {
     let mut text: Line = [0; 64];
     let length = print_reply(reply, &mut text);
@@ -24,7 +26,8 @@ fn behind_reply<'a>(bytes: &'a [u8], reply: &Reply) -> Option<&'a [u8]>
 
 // What stands behind the heading of a domain.
 fn behind_heading(bytes: &[u8], domain: u32) -> Option<&[u8]>
-    ensures { IfSome result (λ rest. bytes.now ≡ line (heading_text domain) ++ rest.now) }
+    ensures some { IfSome result (λ rest. bytes.now ≡ line (heading_text domain) ++ rest.now) }
+    ensures none { IfNone result ((more : List ℕ) → bytes.now ≢ line (heading_text domain) ++ more) }
 {
     let mut text: Line = [0; 64];
     let length = print_heading(domain, &mut text);
@@ -33,7 +36,8 @@ fn behind_heading(bytes: &[u8], domain: u32) -> Option<&[u8]>
 
 // What stands behind the lines of replies.
 fn behind_replies<'a>(bytes: &'a [u8], replies: &[Reply]) -> Option<&'a [u8]>
-    ensures { IfSome result (λ rest. bytes.now ≡ printed replies.now ++ rest.now) }
+    ensures some { IfSome result (λ rest. bytes.now ≡ printed replies.now ++ rest.now) }
+    ensures none { IfNone result ((more : List ℕ) → bytes.now ≢ printed replies.now ++ more) }
 {
     let mut rest = bytes;
     for reply in replies {
@@ -43,12 +47,9 @@ fn behind_replies<'a>(bytes: &'a [u8], replies: &[Reply]) -> Option<&'a [u8]>
 }
 
 /// What stands behind the section of a domain.
-pub(crate) fn behind_section<'a>(
-    bytes: &'a [u8],
-    domain: u32,
-    replies: &[Reply],
-) -> Option<&'a [u8]>
-    ensures { IfSome result (λ rest. bytes.now ≡ (line (heading_text domain) ++ printed replies.now) ++ rest.now) }
+pub fn behind_section<'a>(bytes: &'a [u8], domain: u32, replies: &[Reply]) -> Option<&'a [u8]>
+    ensures some { IfSome result (λ rest. bytes.now ≡ (line (heading_text domain) ++ printed replies.now) ++ rest.now) }
+    ensures none { IfNone result ((more : List ℕ) → bytes.now ≢ (line (heading_text domain) ++ printed replies.now) ++ more) }
 {
     let rest = behind_heading(bytes, domain)?;
     behind_replies(rest, replies)

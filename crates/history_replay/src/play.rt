@@ -1,7 +1,8 @@
 //! Plays a history on the slow heap.
-ghost use Rattle.std.specs.Prelude.{◌≡◌, IfOk, IfSome};
+ghost use Rattle.std.specs.Prelude.{◌≡◌, ◌<◌, ◌^◌, IfOk, IfSome, IfNone, length};
 ghost use Rattle.heap_model.specs.Domains.{IsWithinLimits};
 ghost use Rattle.heap_model.specs.History.{Legal};
+ghost use Rattle.heap_model.specs.Entries.{Allowed, IsInRange};
 ghost use Rattle.history_replay.specs.Steps.{Leads, answers};
 
 use heap_model::entry::Entry;
@@ -10,9 +11,10 @@ use heap_model::state::Sizes;
 use slow_heap::SlowHeap;
 use std::alloc::{AllocError, Global};
 
-// Follows an entry, and answers its reply. `None`: it isn't allowed.
-fn follow(heap: &mut SlowHeap, entry: &Entry) -> Result<Option<Applied>, AllocError>
-    ensures { IfOk result (λ o. IfSome o (Leads heap.old heap.new entry.now)) }
+/// Follows an entry, and answers its reply. `None`: it isn't allowed.
+pub fn follow(heap: &mut SlowHeap, entry: &Entry) -> Result<Option<Applied>, AllocError>
+    ensures led { IfOk result (λ o. IfSome o (Leads heap.old heap.new entry.now)) }
+    ensures refused { IfOk result (λ o. IfNone o (Allowed heap.old entry.now → IsInRange heap.old entry.now → ⊥)) }
 {
     if !heap.is_in_range(entry) {
         return Ok(None);
@@ -24,7 +26,8 @@ fn follow(heap: &mut SlowHeap, entry: &Entry) -> Result<Option<Applied>, AllocEr
     }
 }
 
-/// Plays a history on a heap of these sizes, and answers what each entry answers. `None`: the history isn't legal.
+/// Plays a history on a heap of these sizes, and answers what each entry answers. `None`: the history isn't legal, or has 2^32 entries
+/// or more.
 pub(crate) fn play(
     alloc: Global,
     sizes: &Sizes,
@@ -33,6 +36,7 @@ pub(crate) fn play(
     requires { IsWithinLimits sizes.now }
     ensures legal { IfOk result (λ o. IfSome o (λ v. Legal sizes.now history.now)) }
     ensures answers { IfOk result (λ o. IfSome o (λ v. v.items ≡ answers sizes.now history.now)) }
+    ensures illegal { IfOk result (λ o. IfNone o (length history.now < 2 ^ 32 → Legal sizes.now history.now → ⊥)) }
 {
     let mut heap = SlowHeap::make(
         alloc,

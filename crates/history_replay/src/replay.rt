@@ -1,5 +1,5 @@
 //! All domains of a history, and all lines of an output.
-ghost use Rattle.std.specs.Prelude.{◌≡◌, IfOk, IsTrue, length};
+ghost use Rattle.std.specs.Prelude.{◌≡◌, ◌<◌, ◌^◌, IfOk, IsTrue, length};
 ghost use Rattle.heap_model.specs.Domains.{IsWithinLimits};
 ghost use Rattle.history_replay.specs.Explains.{Explains};
 
@@ -22,7 +22,10 @@ pub fn gives(
 ) -> Result<bool, AllocError>
     requires limits { IsWithinLimits sizes.now }
     requires sections { length script.now.sections ≡ sizes.now.domains }
-    ensures { IfOk result (λ yes. IsTrue yes → Explains sizes.now script.now.sections bytes.now history.now) }
+    // What it says yes to is so.
+    ensures sound { IfOk result (λ yes. IsTrue yes → Explains sizes.now script.now.sections bytes.now history.now) }
+    // It says yes to what is so, of a history with fewer than 2^32 entries.
+    ensures exact { length history.now < 2 ^ 32 → IfOk result (λ yes. Explains sizes.now script.now.sections bytes.now history.now → IsTrue yes) }
 {
     let Some(told) = play(alloc, sizes, history)? else {
         return Ok(false);

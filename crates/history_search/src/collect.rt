@@ -2,10 +2,10 @@
 use crate::command::ephemeron;
 use crate::lines::{Kind, Line, prints};
 use crate::list::{copy_of, set_at};
-use crate::note::Note;
-use crate::point::{Held, List, Point, Registration};
+use crate::plain::PlainEntry;
 use crate::reach::{Reach, keys_of, reached, settled, slots_of};
-use crate::story::{Block, Shape, Story};
+use crate::run::{Block, Run, Shape};
+use crate::state::{Held, List, Registration, State};
 use heap_model::command::Command;
 use heap_model::reply::Reply;
 use std::alloc::{AllocError, Global};
@@ -16,37 +16,37 @@ const MOST_WAYS: usize = 256;
 /// A state that comes next, and the entries that lead to it.
 #[derive(Drop)]
 pub(crate) struct Next {
-    pub point: Point,
-    pub notes: Vec<Note>,
+    pub state: State,
+    pub entries: Vec<PlainEntry>,
 }
 
 impl Next {
-    pub(crate) fn after(alloc: Global, point: &Point) -> Result<Next, AllocError> {
+    pub(crate) fn after(alloc: Global, state: &State) -> Result<Next, AllocError> {
         Ok(Next {
-            point: point.copy(alloc)?,
-            notes: Vec::new(alloc),
+            state: state.copy(alloc)?,
+            entries: Vec::new(alloc),
         })
     }
 
-    pub(crate) fn note(&mut self, note: Note) -> Result<(), AllocError> {
-        self.notes.push(note)?;
+    pub(crate) fn make(&mut self, entry: PlainEntry) -> Result<(), AllocError> {
+        self.entries.push(entry)?;
         Ok(())
     }
 
     // Queues a registration, which stands at a place of the list of all.
     fn queue(&mut self, at: usize, domain: usize, list: List) -> Result<(), AllocError> {
-        let place = self.point.count_before(at, domain, list);
-        self.point.queue(at)?;
-        self.note(match list {
-            List::Lasts => Note::Last { domain, place },
-            _ => Note::Queue { domain, place },
+        let place = self.state.count_before(at, domain, list);
+        self.state.queue(at)?;
+        self.make(match list {
+            List::Lasts => PlainEntry::Last { domain, place },
+            _ => PlainEntry::Queue { domain, place },
         })
     }
 
     // Queues the registrations of a list of a domain whose blocks aren't kept, the newest first.
     fn queue_unkept(&mut self, kept: &Reach, d: usize, list: List) -> Result<(), AllocError> {
-        for at in (0..self.point.entries.len()).rev() {
-            if self.point.has_at(at, d, list) && !keeps(&self.point, kept, at) {
+        for at in (0..self.state.registrations.len()).rev() {
+            if self.state.has_at(at, d, list) && !keeps(&self.state, kept, at) {
                 self.queue(at, d, list)?;
             }
         }
@@ -55,7 +55,7 @@ impl Next {
 
     // The same for all domains.
     fn queue_all_unkept(&mut self, kept: &Reach, list: List) -> Result<(), AllocError> {
-        for d in 0..self.point.domains() {
+        for d in 0..self.state.domains() {
             self.queue_unkept(kept, d, list)?;
         }
         Ok(())
@@ -63,17 +63,17 @@ impl Next {
 
     // Empties a key of an ephemeron, and its data with it.
     fn wipe_key(&mut self, number: usize, block: Block, key: usize) -> Result<(), AllocError> {
-        self.point
+        self.state
             .write(block.first.saturating_add(key), Held::Nothing);
-        self.point.write(block.data_at(), Held::Nothing);
-        self.note(Note::Wipe { block: number, key })
+        self.state.write(block.data_at(), Held::Nothing);
+        self.make(PlainEntry::Wipe { block: number, key })
     }
 
     // Empties the keys of an ephemeron that aren't kept.
-    fn wipe(&mut self, story: &Story, kept: &Reach, number: usize) -> Result<(), AllocError> {
-        let block = story.block(number);
+    fn wipe(&mut self, run: &Run, kept: &Reach, number: usize) -> Result<(), AllocError> {
+        let block = run.block(number);
         for key in 0..usize::from(block.count) {
-            let held = self.point.slot(block.first.saturating_add(key));
+            let held = self.state.slot(block.first.saturating_add(key));
             if held != Held::Nothing && !kept.holds(held) {
                 self.wipe_key(number, block, key)?;
             }
@@ -82,85 +82,92 @@ impl Next {
     }
 
     // Empties the keys that aren't kept of all ephemerons that are.
-    fn wipe_all(&mut self, story: &Story, kept: &Reach) -> Result<(), AllocError> {
-        for number in &story.ephemerons {
+    fn wipe_all(&mut self, run: &Run, kept: &Reach) -> Result<(), AllocError> {
+        for number in &run.ephemerons {
             if kept.has(*number) {
-                self.wipe(story, kept, *number)?;
+                self.wipe(run, kept, *number)?;
             }
         }
         Ok(())
     }
 
     // Empties the keys of what isn't kept, and queues the `finalise_last` of it.
-    fn take_unkept(&mut self, story: &Story, kept: &Reach) -> Result<(), AllocError> {
-        self.wipe_all(story, kept)?;
+    fn take_unkept(&mut self, run: &Run, kept: &Reach) -> Result<(), AllocError> {
+        self.wipe_all(run, kept)?;
         self.queue_all_unkept(kept, List::Lasts)
     }
 
     /// A complete collection up to where `full_major` is answered. Answers what is left.
-    pub(crate) fn complete(&mut self, alloc: Global, story: &Story) -> Result<Reach, AllocError> {
-        self.note(Note::Cut)?;
-        let live = reached(alloc, story, &self.point)?;
+    pub(crate) fn complete(&mut self, alloc: Global, run: &Run) -> Result<Reach, AllocError> {
+        self.make(PlainEntry::Cut)?;
+        let live = reached(alloc, run, &self.state)?;
         self.queue_all_unkept(&live, List::Finals)?;
-        self.note(Note::Seal)?;
-        let live = reached(alloc, story, &self.point)?;
-        self.take_unkept(story, &live)?;
-        self.note(Note::Collected)?;
+        self.make(PlainEntry::Seal)?;
+        let live = reached(alloc, run, &self.state)?;
+        self.take_unkept(run, &live)?;
+        self.make(PlainEntry::Collected)?;
         Ok(live)
     }
 }
 
 // Whether the block of the registration at a place of the list of all is kept.
-fn keeps(point: &Point, kept: &Reach, at: usize) -> bool {
-    match point.entry(at) {
+fn keeps(state: &State, kept: &Reach, at: usize) -> bool {
+    match state.registration(at) {
         Some(entry) => kept.has(entry.block),
         None => true,
     }
 }
 
 /// What a finaliser prints as it runs.
-pub(crate) fn run_reply(story: &Story, entry: Registration) -> Reply {
+pub(crate) fn run_reply(run: &Run, entry: Registration) -> Reply {
     let number = entry.number;
     match entry.register {
         Some(_) => Reply::Fin {
             number,
-            label: story.block(entry.block).label,
+            label: run.block(entry.block).label,
         },
         None => Reply::Last { number },
     }
 }
 
+// Whether a domain's next command is `full_major`.
+fn makes_full_major(run: &Run, state: &State, d: usize) -> bool {
+    matches!(run.next_command(state, d), Some(Command::FullMajor))
+}
+
 // Where the lines of finalisers begin that may stand in a domain's queue now: behind the line of `full_major`, if that
 // is next and the domain owes nothing.
-fn first_awaited(story: &Story, point: &Point, d: usize) -> usize {
-    let part = point.part(d);
-    match story.line(d, part.told) {
-        Some(line) if line.kind == Kind::Live && !part.owes => part.told.saturating_add(1),
-        _ => part.told,
+fn first_awaited(run: &Run, state: &State, d: usize) -> usize {
+    let own = state.domain_at(d);
+    match run.line(d, own.told) {
+        Some(line) if line.kind == Kind::Live && !own.owes && makes_full_major(run, state, d) => {
+            own.told.saturating_add(1)
+        }
+        _ => own.told,
     }
 }
 
 // A line that a finaliser may print that isn't queued yet: so many lines behind those of the queue.
-fn awaited(story: &Story, point: &Point, d: usize, behind: usize) -> Option<Line> {
-    let first = first_awaited(story, point, d);
-    let queued = point.count_queued(d);
-    story.line(d, first.saturating_add(queued).saturating_add(behind))
+fn awaited(run: &Run, state: &State, d: usize, behind: usize) -> Option<Line> {
+    let first = first_awaited(run, state, d);
+    let queued = state.count_queued(d);
+    run.line(d, first.saturating_add(queued).saturating_add(behind))
 }
 
 // Whether a registration prints a line of a domain.
-fn prints_at(story: &Story, d: usize, place: usize, entry: Registration) -> bool {
-    match story.line(d, place) {
-        Some(line) => prints(story.text(line), &run_reply(story, entry)),
+fn prints_at(run: &Run, d: usize, place: usize, entry: Registration) -> bool {
+    match run.line(d, place) {
+        Some(line) => prints(run.text(line), &run_reply(run, entry)),
         None => false,
     }
 }
 
 // The place of the first line to come that the queue of a domain doesn't print in its turn.
-fn first_unfit(story: &Story, point: &Point, d: usize) -> Option<usize> {
-    let mut place = first_awaited(story, point, d);
-    for entry in &point.entries {
+fn first_unfit(run: &Run, state: &State, d: usize) -> Option<usize> {
+    let mut place = first_awaited(run, state, d);
+    for entry in &state.registrations {
         if entry.queued && entry.domain == d {
-            if !prints_at(story, d, place, *entry) {
+            if !prints_at(run, d, place, *entry) {
                 return Some(place);
             }
             place = place.saturating_add(1);
@@ -170,26 +177,26 @@ fn first_unfit(story: &Story, point: &Point, d: usize) -> Option<usize> {
 }
 
 /// Whether the queues of all domains print the lines to come.
-pub(crate) fn fits(story: &Story, point: &Point) -> bool {
+pub(crate) fn fits(run: &Run, state: &State) -> bool {
     let mut fit = true;
-    for d in 0..point.domains() {
-        fit = fit && first_unfit(story, point, d).is_none();
+    for d in 0..state.domains() {
+        fit = fit && first_unfit(run, state, d).is_none();
     }
     fit
 }
 
 /// Whether a domain waits for a finaliser that isn't queued yet.
-pub(crate) fn is_awaiting(story: &Story, point: &Point, d: usize) -> bool {
-    match awaited(story, point, d, 0) {
+pub(crate) fn is_awaiting(run: &Run, state: &State, d: usize) -> bool {
+    match awaited(run, state, d, 0) {
         Some(line) => matches!(line.kind, Kind::Fin | Kind::Last),
         None => false,
     }
 }
 
 // How many finalisers of `finalise` a domain waits for in a row.
-fn count_awaited(story: &Story, point: &Point, d: usize) -> usize {
+fn count_awaited(run: &Run, state: &State, d: usize) -> usize {
     for behind in 0..MOST_WAYS {
-        match awaited(story, point, d, behind) {
+        match awaited(run, state, d, behind) {
             Some(line) if line.kind == Kind::Fin => {}
             _ => return behind,
         }
@@ -198,9 +205,9 @@ fn count_awaited(story: &Story, point: &Point, d: usize) -> usize {
 }
 
 // The greatest place of the list of all below an end of a `finalise` of a domain that prints this line.
-fn place_before(story: &Story, point: &Point, d: usize, end: usize, line: Line) -> Option<usize> {
-    for at in (0..end.min(point.entries.len())).rev() {
-        if point.has_at(at, d, List::Finals) && prints_line(story, point, at, line) {
+fn place_before(run: &Run, state: &State, d: usize, end: usize, line: Line) -> Option<usize> {
+    for at in (0..end.min(state.registrations.len())).rev() {
+        if state.has_at(at, d, List::Finals) && prints_line(run, state, at, line) {
             return Some(at);
         }
     }
@@ -208,22 +215,22 @@ fn place_before(story: &Story, point: &Point, d: usize, end: usize, line: Line) 
 }
 
 // Whether the registration at a place of the list of all prints a line.
-fn prints_line(story: &Story, point: &Point, at: usize, line: Line) -> bool {
-    match point.entry(at) {
-        Some(entry) => prints(story.text(line), &run_reply(story, entry)),
+fn prints_line(run: &Run, state: &State, at: usize, line: Line) -> bool {
+    match state.registration(at) {
+        Some(entry) => prints(run.text(line), &run_reply(run, entry)),
         None => false,
     }
 }
 
 // The place of the next finaliser of a domain that is to be queued in this collection.
-fn next_place(story: &Story, point: &Point, d: usize, end: usize) -> Option<usize> {
-    let line = awaited(story, point, d, 0)?;
-    place_before(story, point, d, end, line)
+fn next_place(run: &Run, state: &State, d: usize, end: usize) -> Option<usize> {
+    let line = awaited(run, state, d, 0)?;
+    place_before(run, state, d, end, line)
 }
 
-// Queues so many finalisers of a domain, by the lines to come, and notes their blocks. False where there are none.
+// Queues so many finalisers of a domain, by the lines to come, and made their blocks. False where there are none.
 fn queue_counted(
-    story: &Story,
+    run: &Run,
     next: &mut Next,
     d: usize,
     count: usize,
@@ -231,10 +238,10 @@ fn queue_counted(
 ) -> Result<bool, AllocError> {
     let mut end = usize::MAX;
     for _ in 0..count {
-        let Some(at) = next_place(story, &next.point, d, end) else {
+        let Some(at) = next_place(run, &next.state, d, end) else {
             return Ok(false);
         };
-        if let Some(entry) = next.point.entry(at) {
+        if let Some(entry) = next.state.registration(at) {
             queued.push(entry.block)?;
         }
         next.queue(at, d, List::Finals)?;
@@ -244,11 +251,11 @@ fn queue_counted(
 }
 
 // What registers and queues held before, and what waits still, reach.
-fn left(alloc: Global, story: &Story, before: &Point, point: &Point) -> Result<Reach, AllocError> {
-    let mut reach = Reach::new(alloc, story)?;
+fn left(alloc: Global, run: &Run, before: &State, state: &State) -> Result<Reach, AllocError> {
+    let mut reach = Reach::new(alloc, run)?;
     reach.add_roots(before)?;
-    reach.add_waiting(point)?;
-    reach.close(story, before)?;
+    reach.add_waiting(state)?;
+    reach.close(run, before)?;
     Ok(reach)
 }
 
@@ -264,24 +271,24 @@ fn are_dead(reach: &Reach, blocks: &[usize]) -> bool {
 // A collection that queues so many finalisers of each domain and takes nothing.
 fn queue_each(
     alloc: Global,
-    story: &Story,
-    point: &Point,
+    run: &Run,
+    state: &State,
     counts: &[usize],
 ) -> Result<Option<Next>, AllocError> {
-    let mut next = Next::after(alloc, point)?;
+    let mut next = Next::after(alloc, state)?;
     let mut queued = Vec::new(alloc);
-    next.note(Note::Cut)?;
+    next.make(PlainEntry::Cut)?;
     for (d, count) in counts.iter().enumerate() {
-        if !queue_counted(story, &mut next, d, *count, &mut queued)? {
+        if !queue_counted(run, &mut next, d, *count, &mut queued)? {
             return Ok(None);
         }
     }
-    let left = left(alloc, story, point, &next.point)?;
+    let left = left(alloc, run, state, &next.state)?;
     if !are_dead(&left, &queued) {
         return Ok(None);
     }
-    next.note(Note::Seal)?;
-    next.note(Note::Done)?;
+    next.make(PlainEntry::Seal)?;
+    next.make(PlainEntry::Done)?;
     Ok(Some(next))
 }
 
@@ -301,20 +308,20 @@ fn count_on(counts: &mut Vec<usize>, most: &[usize]) -> bool {
 /// False where there are too many.
 pub(crate) fn add_queued(
     alloc: Global,
-    story: &Story,
-    point: &Point,
+    run: &Run,
+    state: &State,
     found: &mut Vec<Next>,
 ) -> Result<bool, AllocError> {
     let mut most = Vec::new(alloc);
-    for d in 0..story.domains() {
-        most.push(count_awaited(story, point, d))?;
+    for d in 0..run.domains() {
+        most.push(count_awaited(run, state, d))?;
     }
-    let mut counts = vec![in alloc; 0; story.domains()]?;
+    let mut counts = vec![in alloc; 0; run.domains()]?;
     for _ in 0..MOST_WAYS {
         if !count_on(&mut counts, &most) {
             return Ok(true);
         }
-        if let Some(next) = queue_each(alloc, story, point, &counts)? {
+        if let Some(next) = queue_each(alloc, run, state, &counts)? {
             found.push(next)?;
         }
     }
@@ -322,21 +329,21 @@ pub(crate) fn add_queued(
 }
 
 // Whether a registration is a `finalise_last` of a domain that waits and prints a line.
-fn is_last_for(story: &Story, entry: Registration, d: usize, line: Line) -> bool {
-    !entry.queued && entry.domain == d && prints(story.text(line), &run_reply(story, entry))
+fn is_last_for(run: &Run, entry: Registration, d: usize, line: Line) -> bool {
+    !entry.queued && entry.domain == d && prints(run.text(line), &run_reply(run, entry))
 }
 
 // The blocks whose `finalise_last` of a domain may print a line.
 fn lasts_for(
     alloc: Global,
-    story: &Story,
-    point: &Point,
+    run: &Run,
+    state: &State,
     d: usize,
     line: Line,
 ) -> Result<Vec<usize>, AllocError> {
     let mut blocks = Vec::new(alloc);
-    for entry in &point.entries {
-        if is_last_for(story, *entry, d, line) {
+    for entry in &state.registrations {
+        if is_last_for(run, *entry, d, line) {
             blocks.push(entry.block)?;
         }
     }
@@ -357,39 +364,39 @@ fn blocks_in(alloc: Global, held: &[Held]) -> Result<Vec<usize>, AllocError> {
 // The block in a key of the ephemeron in a register.
 fn key_at(
     alloc: Global,
-    story: &Story,
-    point: &Point,
+    run: &Run,
+    state: &State,
     d: usize,
     ephe: u8,
     index: u16,
 ) -> Result<Vec<usize>, AllocError> {
-    let Some(number) = ephemeron(story, point, d, ephe) else {
+    let Some(number) = ephemeron(run, state, d, ephe) else {
         return Ok(Vec::new(alloc));
     };
-    let block = story.block(number);
+    let block = run.block(number);
     let at = block.first.saturating_add(usize::from(index));
     let end = at.saturating_add(1).min(block.data_at());
-    blocks_in(alloc, point.slots(at, end))
+    blocks_in(alloc, state.slots(at, end))
 }
 
 // The blocks in all keys of the ephemeron in a register.
 fn keys_at(
     alloc: Global,
-    story: &Story,
-    point: &Point,
+    run: &Run,
+    state: &State,
     d: usize,
     ephe: u8,
 ) -> Result<Vec<usize>, AllocError> {
-    match ephemeron(story, point, d, ephe) {
-        Some(number) => blocks_in(alloc, keys_of(point, story.block(number))),
+    match ephemeron(run, state, d, ephe) {
+        Some(number) => blocks_in(alloc, keys_of(state, run.block(number))),
         None => Ok(Vec::new(alloc)),
     }
 }
 
 // Whether the ephemeron in a register has data.
-fn has_data(story: &Story, point: &Point, d: usize, ephe: u8) -> bool {
-    match ephemeron(story, point, d, ephe) {
-        Some(number) => point.slot(story.block(number).data_at()) != Held::Nothing,
+fn has_data(run: &Run, state: &State, d: usize, ephe: u8) -> bool {
+    match ephemeron(run, state, d, ephe) {
+        Some(number) => state.slot(run.block(number).data_at()) != Held::Nothing,
         None => false,
     }
 }
@@ -398,27 +405,27 @@ fn has_data(story: &Story, point: &Point, d: usize, ephe: u8) -> bool {
 /// or leaves what later lines say.
 pub(crate) fn keys_before(
     alloc: Global,
-    story: &Story,
-    point: &Point,
+    run: &Run,
+    state: &State,
     d: usize,
     command: Command,
 ) -> Result<Vec<usize>, AllocError> {
     match command {
         Command::CheckKey { ephe, index } | Command::GetKey { ephe, index, .. } => {
-            key_at(alloc, story, point, d, ephe, index)
+            key_at(alloc, run, state, d, ephe, index)
         }
         Command::SetKey { ephe, index, .. } | Command::UnsetKey { ephe, index }
-            if has_data(story, point, d, ephe) => { key_at(alloc, story, point, d, ephe, index) }
+            if has_data(run, state, d, ephe) => { key_at(alloc, run, state, d, ephe, index) }
         Command::CheckData { ephe } | Command::GetData { ephe, .. }
-            if has_data(story, point, d, ephe) => { keys_at(alloc, story, point, d, ephe) }
-        Command::SetData { ephe, .. } => keys_at(alloc, story, point, d, ephe),
+            if has_data(run, state, d, ephe) => { keys_at(alloc, run, state, d, ephe) }
+        Command::SetData { ephe, .. } => keys_at(alloc, run, state, d, ephe),
         _ => Ok(Vec::new(alloc)),
     }
 }
 
 // Whether a line may be that of a command before which keys are emptied.
-fn may_show_empty(story: &Story, line: Line, command: Command) -> bool {
-    let text = story.text(line);
+fn may_show_empty(run: &Run, line: Line, command: Command) -> bool {
+    let text = run.text(line);
     match command {
         Command::CheckKey { .. } | Command::CheckData { .. } => prints(text, &Reply::No),
         Command::GetKey { .. } | Command::GetData { .. } => prints(text, &Reply::Empty),
@@ -427,16 +434,16 @@ fn may_show_empty(story: &Story, line: Line, command: Command) -> bool {
 }
 
 // The blocks that a collection may take for the next line of a domain.
-fn wishes(alloc: Global, story: &Story, point: &Point, d: usize) -> Result<Vec<usize>, AllocError> {
-    let Some(line) = awaited(story, point, d, 0) else {
+fn wishes(alloc: Global, run: &Run, state: &State, d: usize) -> Result<Vec<usize>, AllocError> {
+    let Some(line) = awaited(run, state, d, 0) else {
         return Ok(Vec::new(alloc));
     };
     if line.kind == Kind::Last {
-        return lasts_for(alloc, story, point, d, line);
+        return lasts_for(alloc, run, state, d, line);
     }
-    match story.next_command(point, d) {
-        Some(command) if point.count_queued(d) == 0 && may_show_empty(story, line, command) => {
-            keys_before(alloc, story, point, d, command)
+    match run.next_command(state, d) {
+        Some(command) if state.count_queued(d) == 0 && may_show_empty(run, line, command) => {
+            keys_before(alloc, run, state, d, command)
         }
         _ => Ok(Vec::new(alloc)),
     }
@@ -464,16 +471,16 @@ fn any_leads_out(slots: &[Held], out: &[bool]) -> bool {
 }
 
 // Whether a plain block leads to one that is taken.
-fn must_go(story: &Story, point: &Point, number: usize, out: &[bool]) -> bool {
-    let block = story.block(number);
-    matches!(block.shape, Shape::Plain) && any_leads_out(slots_of(point, block), out)
+fn must_go(run: &Run, state: &State, number: usize, out: &[bool]) -> bool {
+    let block = run.block(number);
+    matches!(block.shape, Shape::Plain) && any_leads_out(slots_of(state, block), out)
 }
 
 // Takes each plain block that leads to one that is taken. Whether there was one.
-fn spread_once(story: &Story, point: &Point, out: &mut Vec<bool>) -> bool {
+fn spread_once(run: &Run, state: &State, out: &mut Vec<bool>) -> bool {
     let mut more = false;
-    for number in 0..story.blocks.len() {
-        if !is_out(out, number) && must_go(story, point, number, out) {
+    for number in 0..run.blocks.len() {
+        if !is_out(out, number) && must_go(run, state, number, out) {
             set_at(out, number, true);
             more = true;
         }
@@ -481,24 +488,24 @@ fn spread_once(story: &Story, point: &Point, out: &mut Vec<bool>) -> bool {
     more
 }
 
-fn spread(story: &Story, point: &Point, out: &mut Vec<bool>) {
-    for _ in 0..story.blocks.len() {
-        if !spread_once(story, point, out) {
+fn spread(run: &Run, state: &State, out: &mut Vec<bool>) {
+    for _ in 0..run.blocks.len() {
+        if !spread_once(run, state, out) {
             return;
         }
     }
 }
 
 // Whether an ephemeron that is kept, with all its keys, has data that is taken.
-fn is_torn(story: &Story, point: &Point, number: usize, out: &[bool]) -> bool {
-    let block = story.block(number);
-    let held = point.slot(block.data_at());
-    !is_out(out, number) && leads_out(held, out) && !any_leads_out(keys_of(point, block), out)
+fn is_torn(run: &Run, state: &State, number: usize, out: &[bool]) -> bool {
+    let block = run.block(number);
+    let held = state.slot(block.data_at());
+    !is_out(out, number) && leads_out(held, out) && !any_leads_out(keys_of(state, block), out)
 }
 
-fn first_torn(story: &Story, point: &Point, out: &[bool]) -> Option<usize> {
-    for number in &story.ephemerons {
-        if is_torn(story, point, *number, out) {
+fn first_torn(run: &Run, state: &State, out: &[bool]) -> Option<usize> {
+    for number in &run.ephemerons {
+        if is_torn(run, state, *number, out) {
             return Some(*number);
         }
     }
@@ -515,14 +522,14 @@ fn with_taken(alloc: Global, out: &[bool], block: usize) -> Result<Vec<bool>, Al
 // Adds what mends a torn ephemeron: that it is taken itself, or one of its keys.
 fn add_mended(
     alloc: Global,
-    story: &Story,
-    point: &Point,
+    run: &Run,
+    state: &State,
     number: usize,
     out: &[bool],
     todo: &mut Vec<Vec<bool>>,
 ) -> Result<(), AllocError> {
     todo.push(with_taken(alloc, out, number)?)?;
-    for block in blocks_in(alloc, keys_of(point, story.block(number)))? {
+    for block in blocks_in(alloc, keys_of(state, run.block(number)))? {
         todo.push(with_taken(alloc, out, block)?)?;
     }
     Ok(())
@@ -538,8 +545,8 @@ fn is_apart(out: &[bool], live: &Reach) -> bool {
 }
 
 // All blocks that aren't taken.
-fn kept_of(alloc: Global, story: &Story, out: &[bool]) -> Result<Reach, AllocError> {
-    let mut kept = Reach::new(alloc, story)?;
+fn kept_of(alloc: Global, run: &Run, out: &[bool]) -> Result<Reach, AllocError> {
+    let mut kept = Reach::new(alloc, run)?;
     for (number, taken) in out.iter().enumerate() {
         if !*taken {
             kept.add(number)?;
@@ -549,23 +556,23 @@ fn kept_of(alloc: Global, story: &Story, out: &[bool]) -> Result<Reach, AllocErr
 }
 
 // A collection that takes just these.
-fn take(alloc: Global, story: &Story, point: &Point, out: &[bool]) -> Result<Next, AllocError> {
-    let kept = kept_of(alloc, story, out)?;
-    let mut next = Next::after(alloc, point)?;
-    next.note(Note::Cut)?;
-    next.note(Note::Seal)?;
-    next.take_unkept(story, &kept)?;
-    next.note(Note::Done)?;
+fn take(alloc: Global, run: &Run, state: &State, out: &[bool]) -> Result<Next, AllocError> {
+    let kept = kept_of(alloc, run, out)?;
+    let mut next = Next::after(alloc, state)?;
+    next.make(PlainEntry::Cut)?;
+    next.make(PlainEntry::Seal)?;
+    next.take_unkept(run, &kept)?;
+    next.make(PlainEntry::Done)?;
     Ok(next)
 }
 
 // The blocks of which one must be taken too, where a collection left queues that don't print the lines to come: a
 // `finalise_last` of each may print the first line of a domain that its queue doesn't.
-fn lacking(alloc: Global, story: &Story, point: &Point) -> Result<Vec<usize>, AllocError> {
-    for d in 0..point.domains() {
-        if let Some(place) = first_unfit(story, point, d) {
-            return match story.line(d, place) {
-                Some(line) => lasts_for(alloc, story, point, d, line),
+fn lacking(alloc: Global, run: &Run, state: &State) -> Result<Vec<usize>, AllocError> {
+    for d in 0..state.domains() {
+        if let Some(place) = first_unfit(run, state, d) {
+            return match run.line(d, place) {
+                Some(line) => lasts_for(alloc, run, state, d, line),
                 None => Ok(Vec::new(alloc)),
             };
         }
@@ -576,18 +583,18 @@ fn lacking(alloc: Global, story: &Story, point: &Point) -> Result<Vec<usize>, Al
 // Adds a collection that takes just these, or where its queues don't print the lines to come, what may mend them.
 fn add_fit(
     alloc: Global,
-    story: &Story,
-    point: &Point,
+    run: &Run,
+    state: &State,
     out: &[bool],
     todo: &mut Vec<Vec<bool>>,
     found: &mut Vec<Next>,
 ) -> Result<(), AllocError> {
-    let next = take(alloc, story, point, out)?;
-    if fits(story, &next.point) {
+    let next = take(alloc, run, state, out)?;
+    if fits(run, &next.state) {
         found.push(next)?;
         return Ok(());
     }
-    for block in lacking(alloc, story, &next.point)? {
+    for block in lacking(alloc, run, &next.state)? {
         todo.push(with_taken(alloc, out, block)?)?;
     }
     Ok(())
@@ -597,27 +604,27 @@ fn add_fit(
 // there are too many.
 fn add_taken(
     alloc: Global,
-    story: &Story,
-    point: &Point,
+    run: &Run,
+    state: &State,
     live: &Reach,
     wish: usize,
     found: &mut Vec<Next>,
 ) -> Result<bool, AllocError> {
-    let none = vec![in alloc; false; story.blocks.len()]?;
+    let none = vec![in alloc; false; run.blocks.len()]?;
     let mut todo = Vec::new(alloc);
     todo.push(with_taken(alloc, &none, wish)?)?;
     for _ in 0..MOST_WAYS {
         let Some(mut out) = todo.pop() else {
             return Ok(true);
         };
-        spread(story, point, &mut out);
+        spread(run, state, &mut out);
         if !is_apart(&out, live) {
             continue;
         }
-        if let Some(number) = first_torn(story, point, &out) {
-            add_mended(alloc, story, point, number, &out, &mut todo)?;
+        if let Some(number) = first_torn(run, state, &out) {
+            add_mended(alloc, run, state, number, &out, &mut todo)?;
         } else {
-            add_fit(alloc, story, point, &out, &mut todo, found)?;
+            add_fit(alloc, run, state, &out, &mut todo, found)?;
         }
     }
     Ok(false)
@@ -627,20 +634,20 @@ fn add_taken(
 /// False where there are too many.
 pub(crate) fn add_wished(
     alloc: Global,
-    story: &Story,
-    point: &Point,
+    run: &Run,
+    state: &State,
     d: usize,
     found: &mut Vec<Next>,
 ) -> Result<bool, AllocError> {
-    let wishes = wishes(alloc, story, point, d)?;
+    let wishes = wishes(alloc, run, state, d)?;
     if wishes.is_empty() {
         return Ok(true);
     }
-    let live = settled(alloc, story, point)?;
+    let live = settled(alloc, run, state)?;
     let mut whole = true;
     for block in &wishes {
         if !live.has(*block) {
-            whole = add_taken(alloc, story, point, &live, *block, found)? && whole;
+            whole = add_taken(alloc, run, state, &live, *block, found)? && whole;
         }
     }
     Ok(whole)

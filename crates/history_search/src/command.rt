@@ -1,6 +1,6 @@
 //! What commands do to a state of the search, and what they answer.
-use crate::point::{Held, Part, Point, Registration};
-use crate::story::{Block, Shape, Story, shown};
+use crate::run::{Block, Run, Shape, shown};
+use crate::state::{DomainState, Held, Registration, State};
 use heap_model::command::Command;
 use heap_model::reply::Reply;
 use std::alloc::AllocError;
@@ -36,27 +36,27 @@ fn told(reply: Reply) -> Outcome {
     }
 }
 
-fn keep(point: &mut Point, d: usize, dst: u8, held: Held) -> Outcome {
+fn keep(state: &mut State, d: usize, dst: u8, held: Held) -> Outcome {
     Outcome {
-        let_go: point.put(d, dst, held),
+        let_go: state.put(d, dst, held),
         ..told(Reply::Done)
     }
 }
 
-fn write(point: &mut Point, slot: Slot, held: Held) -> Outcome {
+fn write(state: &mut State, slot: Slot, held: Held) -> Outcome {
     Outcome {
-        let_go: point.write(slot.at, held),
+        let_go: state.write(slot.at, held),
         used: Some(slot.block),
         wrote: true,
         ..told(Reply::Done)
     }
 }
 
-fn bring(story: &Story, point: &mut Point, d: usize, dst: u8, slot: Slot) -> Outcome {
-    let held = point.slot(slot.at);
+fn bring(run: &Run, state: &mut State, d: usize, dst: u8, slot: Slot) -> Outcome {
+    let held = state.slot(slot.at);
     Outcome {
-        reply: shown(story, held),
-        let_go: point.put(d, dst, held),
+        reply: shown(run, held),
+        let_go: state.put(d, dst, held),
         brought: held,
         used: Some(slot.block),
         wrote: false,
@@ -67,28 +67,28 @@ fn yes_or_no(yes: bool) -> Reply {
     if yes { Reply::Yes } else { Reply::No }
 }
 
-fn allocate(story: &Story, point: &mut Point, d: usize, dst: u8) -> Outcome {
-    let part = point.part(d);
-    let made = Held::Block(story.first_block(d).saturating_add(part.serial));
-    point.set_part(
+fn allocate(run: &Run, state: &mut State, d: usize, dst: u8) -> Outcome {
+    let own = state.domain_at(d);
+    let made = Held::Block(run.first_block(d).saturating_add(own.serial));
+    state.set_domain(
         d,
-        Part {
-            serial: part.serial.saturating_add(1),
-            ..part
+        DomainState {
+            serial: own.serial.saturating_add(1),
+            ..own
         },
     );
     Outcome {
-        reply: shown(story, made),
-        ..keep(point, d, dst, made)
+        reply: shown(run, made),
+        ..keep(state, d, dst, made)
     }
 }
 
 // The slot of a field of a block that isn't an ephemeron, or the refusal.
-fn field_in(story: &Story, number: usize, block: Block, index: u16) -> Result<Slot, Reply> {
+fn field_in(run: &Run, number: usize, block: Block, index: u16) -> Result<Slot, Reply> {
     if index < block.count {
         Ok(Slot {
             block: number,
-            at: block.first.saturating_add(story.rank(index)),
+            at: block.first.saturating_add(run.rank(index)),
         })
     } else {
         Err(Reply::BadIndex)
@@ -96,57 +96,51 @@ fn field_in(story: &Story, number: usize, block: Block, index: u16) -> Result<Sl
 }
 
 // The slot of a field that is to hold something, where anything is to be written, or the refusal.
-fn field(story: &Story, held: Held, index: u16, item: Option<Held>) -> Result<Slot, Reply> {
+fn field(run: &Run, held: Held, index: u16, item: Option<Held>) -> Result<Slot, Reply> {
     let Held::Block(number) = held else {
         return Err(Reply::BadType);
     };
-    let block = story.block(number);
+    let block = run.block(number);
     match (block.shape, item) {
         (Shape::Ephemeron, _) | (_, Some(Held::Nothing)) | (Shape::Raw, Some(Held::Block(_))) => {
             Err(Reply::BadType)
         }
-        _ => field_in(story, number, block, index),
+        _ => field_in(run, number, block, index),
     }
 }
 
-fn load(
-    story: &Story,
-    point: &mut Point,
-    d: usize,
-    dst: u8,
-    found: Result<Slot, Reply>,
-) -> Outcome {
+fn load(run: &Run, state: &mut State, d: usize, dst: u8, found: Result<Slot, Reply>) -> Outcome {
     match found {
-        Ok(slot) => bring(story, point, d, dst, slot),
+        Ok(slot) => bring(run, state, d, dst, slot),
         Err(reply) => told(reply),
     }
 }
 
-fn store(point: &mut Point, found: Result<Slot, Reply>, item: Held) -> Outcome {
+fn store(state: &mut State, found: Result<Slot, Reply>, item: Held) -> Outcome {
     match found {
-        Ok(slot) => write(point, slot, item),
+        Ok(slot) => write(state, slot, item),
         Err(reply) => told(reply),
     }
 }
 
-fn exchange(point: &mut Point, found: Result<Slot, Reply>, expected: Held, item: Held) -> Outcome {
+fn exchange(state: &mut State, found: Result<Slot, Reply>, expected: Held, item: Held) -> Outcome {
     match found {
         _ if expected == Held::Nothing => told(Reply::BadType),
         Err(reply) => told(reply),
-        Ok(slot) if point.slot(slot.at) == expected => Outcome {
+        Ok(slot) if state.slot(slot.at) == expected => Outcome {
             reply: Reply::Yes,
-            ..write(point, slot, item)
+            ..write(state, slot, item)
         },
         Ok(_) => told(Reply::No),
     }
 }
 
 /// The number of the ephemeron in a register.
-pub(crate) fn ephemeron(story: &Story, point: &Point, d: usize, r: u8) -> Option<usize> {
-    let Held::Block(number) = point.register(d, r) else {
+pub(crate) fn ephemeron(run: &Run, state: &State, d: usize, r: u8) -> Option<usize> {
+    let Held::Block(number) = state.register(d, r) else {
         return None;
     };
-    if matches!(story.block(number).shape, Shape::Ephemeron) {
+    if matches!(run.block(number).shape, Shape::Ephemeron) {
         Some(number)
     } else {
         None
@@ -154,11 +148,11 @@ pub(crate) fn ephemeron(story: &Story, point: &Point, d: usize, r: u8) -> Option
 }
 
 // The slot of a key, or the refusal.
-fn key(story: &Story, point: &Point, d: usize, r: u8, index: u16) -> Result<Slot, Reply> {
-    let Some(number) = ephemeron(story, point, d, r) else {
+fn key(run: &Run, state: &State, d: usize, r: u8, index: u16) -> Result<Slot, Reply> {
+    let Some(number) = ephemeron(run, state, d, r) else {
         return Err(Reply::BadType);
     };
-    let block = story.block(number);
+    let block = run.block(number);
     if index < block.count {
         Ok(Slot {
             block: number,
@@ -170,45 +164,45 @@ fn key(story: &Story, point: &Point, d: usize, r: u8, index: u16) -> Result<Slot
 }
 
 // The slot of the data, or the refusal.
-fn data_of(story: &Story, point: &Point, d: usize, r: u8) -> Result<Slot, Reply> {
-    match ephemeron(story, point, d, r) {
+fn data_of(run: &Run, state: &State, d: usize, r: u8) -> Result<Slot, Reply> {
+    match ephemeron(run, state, d, r) {
         Some(block) => Ok(Slot {
             block,
-            at: story.block(block).data_at(),
+            at: run.block(block).data_at(),
         }),
         None => Err(Reply::BadType),
     }
 }
 
-fn check(point: &Point, found: Result<Slot, Reply>) -> Outcome {
+fn check(state: &State, found: Result<Slot, Reply>) -> Outcome {
     match found {
-        Ok(slot) => told(yes_or_no(point.slot(slot.at) != Held::Nothing)),
+        Ok(slot) => told(yes_or_no(state.slot(slot.at) != Held::Nothing)),
         Err(reply) => told(reply),
     }
 }
 
-fn set_key(point: &mut Point, found: Result<Slot, Reply>, item: Held) -> Outcome {
+fn set_key(state: &mut State, found: Result<Slot, Reply>, item: Held) -> Outcome {
     match item {
-        Held::Block(_) => store(point, found, item),
+        Held::Block(_) => store(state, found, item),
         _ => told(Reply::BadType),
     }
 }
 
-fn set_data(point: &mut Point, found: Result<Slot, Reply>, item: Held) -> Outcome {
+fn set_data(state: &mut State, found: Result<Slot, Reply>, item: Held) -> Outcome {
     match item {
         Held::Nothing => told(Reply::BadType),
-        _ => store(point, found, item),
+        _ => store(state, found, item),
     }
 }
 
 fn register(
-    point: &mut Point,
+    state: &mut State,
     d: usize,
     item: u8,
     number: u32,
     register: Option<u8>,
 ) -> Result<Outcome, AllocError> {
-    let Held::Block(block) = point.register(d, item) else {
+    let Held::Block(block) = state.register(d, item) else {
         return Ok(told(Reply::BadType));
     };
     let registration = Registration {
@@ -218,21 +212,21 @@ fn register(
         register,
         queued: false,
     };
-    point.add(registration)?;
+    state.add(registration)?;
     Ok(told(Reply::Done))
 }
 
 // A command on a field.
-fn use_field(story: &Story, point: &mut Point, d: usize, command: Command) -> Outcome {
+fn use_field(run: &Run, state: &mut State, d: usize, command: Command) -> Outcome {
     match command {
         Command::Load { dst, src, index } => {
-            let found = field(story, point.register(d, src), index, None);
-            load(story, point, d, dst, found)
+            let found = field(run, state.register(d, src), index, None);
+            load(run, state, d, dst, found)
         }
         Command::Store { block, index, item } => {
-            let item = point.register(d, item);
-            let found = field(story, point.register(d, block), index, Some(item));
-            store(point, found, item)
+            let item = state.register(d, item);
+            let found = field(run, state.register(d, block), index, Some(item));
+            store(state, found, item)
         }
         Command::Cas {
             block,
@@ -240,58 +234,58 @@ fn use_field(story: &Story, point: &mut Point, d: usize, command: Command) -> Ou
             expected,
             item,
         } => {
-            let item = point.register(d, item);
-            let expected = point.register(d, expected);
-            let found = field(story, point.register(d, block), index, Some(item));
-            exchange(point, found, expected, item)
+            let item = state.register(d, item);
+            let expected = state.register(d, expected);
+            let found = field(run, state.register(d, block), index, Some(item));
+            exchange(state, found, expected, item)
         }
         _ => told(Reply::BadType),
     }
 }
 
 // A command on an ephemeron's key.
-fn use_key(story: &Story, point: &mut Point, d: usize, command: Command) -> Outcome {
+fn use_key(run: &Run, state: &mut State, d: usize, command: Command) -> Outcome {
     match command {
         Command::SetKey { ephe, index, item } => {
-            let item = point.register(d, item);
-            let found = key(story, point, d, ephe, index);
-            set_key(point, found, item)
+            let item = state.register(d, item);
+            let found = key(run, state, d, ephe, index);
+            set_key(state, found, item)
         }
         Command::UnsetKey { ephe, index } => {
-            let found = key(story, point, d, ephe, index);
-            store(point, found, Held::Nothing)
+            let found = key(run, state, d, ephe, index);
+            store(state, found, Held::Nothing)
         }
         Command::GetKey { dst, ephe, index } => {
-            let found = key(story, point, d, ephe, index);
-            load(story, point, d, dst, found)
+            let found = key(run, state, d, ephe, index);
+            load(run, state, d, dst, found)
         }
         Command::CheckKey { ephe, index } => {
-            let found = key(story, point, d, ephe, index);
-            check(point, found)
+            let found = key(run, state, d, ephe, index);
+            check(state, found)
         }
-        _ => use_data(story, point, d, command),
+        _ => use_data(run, state, d, command),
     }
 }
 
 // A command on an ephemeron's data.
-fn use_data(story: &Story, point: &mut Point, d: usize, command: Command) -> Outcome {
+fn use_data(run: &Run, state: &mut State, d: usize, command: Command) -> Outcome {
     match command {
         Command::SetData { ephe, item } => {
-            let item = point.register(d, item);
-            let found = data_of(story, point, d, ephe);
-            set_data(point, found, item)
+            let item = state.register(d, item);
+            let found = data_of(run, state, d, ephe);
+            set_data(state, found, item)
         }
         Command::UnsetData { ephe } => {
-            let found = data_of(story, point, d, ephe);
-            store(point, found, Held::Nothing)
+            let found = data_of(run, state, d, ephe);
+            store(state, found, Held::Nothing)
         }
         Command::GetData { dst, ephe } => {
-            let found = data_of(story, point, d, ephe);
-            load(story, point, d, dst, found)
+            let found = data_of(run, state, d, ephe);
+            load(run, state, d, dst, found)
         }
         Command::CheckData { ephe } => {
-            let found = data_of(story, point, d, ephe);
-            check(point, found)
+            let found = data_of(run, state, d, ephe);
+            check(state, found)
         }
         _ => told(Reply::BadType),
     }
@@ -299,28 +293,28 @@ fn use_data(story: &Story, point: &mut Point, d: usize, command: Command) -> Out
 
 /// Makes a command of a domain other than `full_major`.
 pub(crate) fn make(
-    story: &Story,
-    point: &mut Point,
+    run: &Run,
+    state: &mut State,
     d: usize,
     command: Command,
 ) -> Result<Outcome, AllocError> {
     Ok(match command {
-        Command::PutInt { dst, value } => keep(point, d, dst, Held::Int(value)),
+        Command::PutInt { dst, value } => keep(state, d, dst, Held::Int(value)),
         Command::Copy { dst, src } => {
-            let held = point.register(d, src);
-            keep(point, d, dst, held)
+            let held = state.register(d, src);
+            keep(state, d, dst, held)
         }
-        Command::Forget { dst } => keep(point, d, dst, Held::Nothing),
+        Command::Forget { dst } => keep(state, d, dst, Held::Nothing),
         Command::Alloc { dst, .. }
         | Command::AllocMaj { dst, .. }
         | Command::Raw { dst, .. }
-        | Command::Ephe { dst, .. } => allocate(story, point, d, dst),
+        | Command::Ephe { dst, .. } => allocate(run, state, d, dst),
         Command::Load { .. } | Command::Store { .. } | Command::Cas { .. } => {
-            use_field(story, point, d, command)
+            use_field(run, state, d, command)
         }
-        Command::Finalise { item, number, dst } => register(point, d, item, number, Some(dst))?,
-        Command::FinaliseLast { item, number } => register(point, d, item, number, None)?,
+        Command::Finalise { item, number, dst } => register(state, d, item, number, Some(dst))?,
+        Command::FinaliseLast { item, number } => register(state, d, item, number, None)?,
         Command::Poll | Command::Minor | Command::Major => told(Reply::Done),
-        _ => use_key(story, point, d, command),
+        _ => use_key(run, state, d, command),
     })
 }

@@ -5,11 +5,12 @@ mod collect;
 mod command;
 mod lines;
 mod list;
-mod note;
-mod point;
+mod plain;
 mod reach;
+mod run;
 mod search;
+mod section;
+mod state;
 mod step;
-mod story;
 
 pub use search::{Found, Search};

@@ -1,7 +1,7 @@
 //! Which blocks are reached.
 use crate::list::set_at;
-use crate::point::{Held, Point};
-use crate::story::{Block, Shape, Story};
+use crate::run::{Block, Run, Shape};
+use crate::state::{Held, State};
 use std::alloc::{AllocError, Global};
 
 /// The blocks that are reached, and those of them whose cells weren't followed yet.
@@ -13,12 +13,12 @@ pub(crate) struct Reach {
 
 impl Reach {
     /// No block.
-    pub(crate) fn new(alloc: Global, story: &Story) -> Result<Reach, AllocError> {
+    pub(crate) fn new(alloc: Global, run: &Run) -> Result<Reach, AllocError> {
         let mut reach = Reach {
             live: Vec::new(alloc),
             rest: Vec::new(alloc),
         };
-        for _ in &story.blocks {
+        for _ in &run.blocks {
             reach.live.push(false)?;
         }
         Ok(reach)
@@ -63,8 +63,8 @@ impl Reach {
     }
 
     // Adds the blocks of the registrations of `finalise` that are queued, or of those that aren't.
-    fn add_finals(&mut self, point: &Point, queued: bool) -> Result<(), AllocError> {
-        for entry in &point.entries {
+    fn add_finals(&mut self, state: &State, queued: bool) -> Result<(), AllocError> {
+        for entry in &state.registrations {
             if entry.is_first() && entry.queued == queued {
                 self.add(entry.block)?;
             }
@@ -73,8 +73,8 @@ impl Reach {
     }
 
     // Adds the blocks of all registrations of `finalise` of other domains.
-    fn add_finals_of_others(&mut self, point: &Point, d: usize) -> Result<(), AllocError> {
-        for entry in &point.entries {
+    fn add_finals_of_others(&mut self, state: &State, d: usize) -> Result<(), AllocError> {
+        for entry in &state.registrations {
             if entry.is_first() && entry.domain != d {
                 self.add(entry.block)?;
             }
@@ -83,68 +83,58 @@ impl Reach {
     }
 
     // Adds what the registers of all domains but this one hold.
-    fn add_registers_but(&mut self, point: &Point, d: usize) -> Result<(), AllocError> {
-        for other in 0..point.domains() {
+    fn add_registers_but(&mut self, state: &State, d: usize) -> Result<(), AllocError> {
+        for other in 0..state.domains() {
             if other != d {
-                self.add_all(point.registers(other))?;
+                self.add_all(state.registers(other))?;
             }
         }
         Ok(())
     }
 
     /// Adds what registers and queues hold.
-    pub(crate) fn add_roots(&mut self, point: &Point) -> Result<(), AllocError> {
-        self.add_registers_but(point, usize::MAX)?;
-        self.add_finals(point, true)
+    pub(crate) fn add_roots(&mut self, state: &State) -> Result<(), AllocError> {
+        self.add_registers_but(state, usize::MAX)?;
+        self.add_finals(state, true)
     }
 
     /// Adds the waiting registrations of `finalise`.
-    pub(crate) fn add_waiting(&mut self, point: &Point) -> Result<(), AllocError> {
-        self.add_finals(point, false)
+    pub(crate) fn add_waiting(&mut self, state: &State) -> Result<(), AllocError> {
+        self.add_finals(state, false)
     }
 
     // Adds what a block leads to by its fields, and where `weakly` by its keys and its data.
-    fn follow(&mut self, point: &Point, block: Block, weakly: bool) -> Result<(), AllocError> {
+    fn follow(&mut self, state: &State, block: Block, weakly: bool) -> Result<(), AllocError> {
         match block.shape {
-            Shape::Plain => self.add_all(slots_of(point, block)),
-            Shape::Ephemeron if weakly => self.add_all(slots_of(point, block)),
+            Shape::Plain => self.add_all(slots_of(state, block)),
+            Shape::Ephemeron if weakly => self.add_all(slots_of(state, block)),
             _ => Ok(()),
         }
     }
 
     // Follows all blocks that weren't followed.
-    fn follow_rest(
-        &mut self,
-        story: &Story,
-        point: &Point,
-        weakly: bool,
-    ) -> Result<(), AllocError> {
-        for _ in 0..story.blocks.len() {
+    fn follow_rest(&mut self, run: &Run, state: &State, weakly: bool) -> Result<(), AllocError> {
+        for _ in 0..run.blocks.len() {
             let Some(number) = self.rest.pop() else {
                 return Ok(());
             };
-            self.follow(point, story.block(number), weakly)?;
+            self.follow(state, run.block(number), weakly)?;
         }
         Ok(())
     }
 
     // Adds the data of an ephemeron, where it is reached and all its full keys are.
-    fn add_data_of(
-        &mut self,
-        story: &Story,
-        point: &Point,
-        number: usize,
-    ) -> Result<(), AllocError> {
-        let block = story.block(number);
-        if self.has(number) && self.has_keys(keys_of(point, block)) {
-            self.add_held(point.slot(block.data_at()))?;
+    fn add_data_of(&mut self, run: &Run, state: &State, number: usize) -> Result<(), AllocError> {
+        let block = run.block(number);
+        if self.has(number) && self.has_keys(keys_of(state, block)) {
+            self.add_held(state.slot(block.data_at()))?;
         }
         Ok(())
     }
 
-    fn add_data(&mut self, story: &Story, point: &Point) -> Result<(), AllocError> {
-        for number in &story.ephemerons {
-            self.add_data_of(story, point, *number)?;
+    fn add_data(&mut self, run: &Run, state: &State) -> Result<(), AllocError> {
+        for number in &run.ephemerons {
+            self.add_data_of(run, state, *number)?;
         }
         Ok(())
     }
@@ -159,10 +149,10 @@ impl Reach {
     }
 
     /// Adds all that is reached.
-    pub(crate) fn close(&mut self, story: &Story, point: &Point) -> Result<(), AllocError> {
-        for _ in 0..=story.ephemerons.len() {
-            self.follow_rest(story, point, false)?;
-            self.add_data(story, point)?;
+    pub(crate) fn close(&mut self, run: &Run, state: &State) -> Result<(), AllocError> {
+        for _ in 0..=run.ephemerons.len() {
+            self.follow_rest(run, state, false)?;
+            self.add_data(run, state)?;
             if self.rest.is_empty() {
                 return Ok(());
             }
@@ -182,9 +172,9 @@ impl Reach {
     }
 
     /// The sum of their words.
-    pub(crate) fn count_words(&self, story: &Story) -> u64 {
+    pub(crate) fn count_words(&self, run: &Run) -> u64 {
         let mut words: u64 = 0;
-        for (number, block) in story.blocks.iter().enumerate() {
+        for (number, block) in run.blocks.iter().enumerate() {
             if self.has(number) {
                 words = words.saturating_add(words_of(*block));
             }
@@ -202,42 +192,42 @@ fn words_of(block: Block) -> u64 {
 }
 
 /// What the cells of a block hold.
-pub(crate) fn slots_of(point: &Point, block: Block) -> &[Held] {
-    point.slots(block.first, block.end())
+pub(crate) fn slots_of(state: &State, block: Block) -> &[Held] {
+    state.slots(block.first, block.end())
 }
 
 /// The keys of an ephemeron. Of another block they are of no meaning.
-pub(crate) fn keys_of(point: &Point, block: Block) -> &[Held] {
-    point.slots(block.first, block.data_at())
+pub(crate) fn keys_of(state: &State, block: Block) -> &[Held] {
+    state.slots(block.first, block.data_at())
 }
 
 /// What registers, queues and the waiting registrations of `finalise` reach.
-pub(crate) fn settled(alloc: Global, story: &Story, point: &Point) -> Result<Reach, AllocError> {
-    let mut reach = Reach::new(alloc, story)?;
-    reach.add_roots(point)?;
-    reach.add_waiting(point)?;
-    reach.close(story, point)?;
+pub(crate) fn settled(alloc: Global, run: &Run, state: &State) -> Result<Reach, AllocError> {
+    let mut reach = Reach::new(alloc, run)?;
+    reach.add_roots(state)?;
+    reach.add_waiting(state)?;
+    reach.close(run, state)?;
     Ok(reach)
 }
 
 /// What registers and queues reach.
-pub(crate) fn reached(alloc: Global, story: &Story, point: &Point) -> Result<Reach, AllocError> {
-    let mut reach = Reach::new(alloc, story)?;
-    reach.add_roots(point)?;
-    reach.close(story, point)?;
+pub(crate) fn reached(alloc: Global, run: &Run, state: &State) -> Result<Reach, AllocError> {
+    let mut reach = Reach::new(alloc, run)?;
+    reach.add_roots(state)?;
+    reach.close(run, state)?;
     Ok(reach)
 }
 
 /// All blocks that the other domains may come to without this one, over fields, keys and data.
 pub(crate) fn known_to_others(
     alloc: Global,
-    story: &Story,
-    point: &Point,
+    run: &Run,
+    state: &State,
     d: usize,
 ) -> Result<Reach, AllocError> {
-    let mut reach = Reach::new(alloc, story)?;
-    reach.add_registers_but(point, d)?;
-    reach.add_finals_of_others(point, d)?;
-    reach.follow_rest(story, point, true)?;
+    let mut reach = Reach::new(alloc, run)?;
+    reach.add_registers_but(state, d)?;
+    reach.add_finals_of_others(state, d)?;
+    reach.follow_rest(run, state, true)?;
     Ok(reach)
 }

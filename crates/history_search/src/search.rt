@@ -1,10 +1,10 @@
 //! The search: a stack of states that are to be looked at, and a set of those that were seen.
 use crate::collect::{Next, add_queued, add_wished};
 use crate::lines::{Kind, Line};
-use crate::note::{Link, Note, history};
-use crate::point::{Key, Point};
+use crate::plain::{Link, PlainEntry, history};
+use crate::run::Run;
+use crate::state::{Key, State};
 use crate::step::{Step, make_next};
-use crate::story::Story;
 use heap_model::entry::Entry;
 use heap_model::state::Sizes;
 use heap_text::Script;
@@ -27,7 +27,7 @@ pub enum Found {
 // A state that is to be looked at, and the last link of the way to it.
 #[derive(Drop)]
 struct Task {
-    point: Point,
+    state: State,
     link: usize,
 }
 
@@ -35,7 +35,7 @@ struct Task {
 #[derive(Drop)]
 pub struct Search {
     alloc: Global,
-    story: Story,
+    run: Run,
     stack: Vec<Task>,
     seen: BTreeSet<Key>,
     links: Vec<Link>,
@@ -44,10 +44,10 @@ pub struct Search {
 }
 
 // Whether all domains have ended.
-fn is_over(point: &Point) -> bool {
+fn is_over(state: &State) -> bool {
     let mut over = true;
-    for d in 0..point.domains() {
-        over = over && point.part(d).ended;
+    for d in 0..state.domains() {
+        over = over && state.domain_at(d).ended;
     }
     over
 }
@@ -62,9 +62,9 @@ fn has_full(lines: &[Line]) -> bool {
 }
 
 // Whether some line is `full`.
-fn tells_full(story: &Story) -> bool {
+fn tells_full(run: &Run) -> bool {
     let mut full = false;
-    for lines in &story.lines {
+    for lines in &run.lines {
         full = full || has_full(lines);
     }
     full
@@ -74,13 +74,13 @@ fn tells_full(story: &Story) -> bool {
 // made are added to `found`.
 fn next_unseen(
     alloc: Global,
-    story: &Story,
-    point: &Point,
+    run: &Run,
+    state: &State,
     found: &mut Vec<Next>,
 ) -> Result<Option<Next>, AllocError> {
-    for d in 0..story.domains() {
-        let mut next = Next::after(alloc, point)?;
-        match make_next(alloc, story, &mut next, d)? {
+    for d in 0..run.domains() {
+        let mut next = Next::after(alloc, state)?;
+        match make_next(alloc, run, &mut next, d)? {
             Step::Unseen => return Ok(Some(next)),
             Step::Seen => found.push(next)?,
             Step::Refused => {}
@@ -98,14 +98,14 @@ impl Search {
         script: &Script,
         output: &[u8],
     ) -> Result<Option<Search>, AllocError> {
-        let Some(story) = Story::read(alloc, sizes, script, output)? else {
+        let Some(run) = Run::read(alloc, sizes, script, output)? else {
             return Ok(None);
         };
-        let point = story.opening(alloc)?;
+        let state = run.opening(alloc)?;
         let mut search = Search {
             alloc,
-            cut_short: tells_full(&story),
-            story,
+            cut_short: tells_full(&run),
+            run,
             stack: Vec::new(alloc),
             seen: BTreeSet::new(alloc),
             links: Vec::new(alloc),
@@ -113,9 +113,9 @@ impl Search {
         };
         search.links.push(Link {
             before: 0,
-            note: Note::Done,
+            entry: PlainEntry::Done,
         })?;
-        search.stack.push(Task { point, link: 0 })?;
+        search.stack.push(Task { state, link: 0 })?;
         Ok(Some(search))
     }
 
@@ -125,13 +125,13 @@ impl Search {
     }
 
     // Adds the links of a way behind a link, and answers the last one.
-    fn add_links(&mut self, link: usize, notes: &[Note]) -> Result<usize, AllocError> {
+    fn add_links(&mut self, link: usize, entries: &[PlainEntry]) -> Result<usize, AllocError> {
         let mut before = link;
-        for note in notes {
+        for entry in entries {
             let at = self.links.len();
             self.links.push(Link {
                 before,
-                note: *note,
+                entry: *entry,
             })?;
             before = at;
         }
@@ -139,9 +139,9 @@ impl Search {
     }
 
     fn push(&mut self, link: usize, next: Next) -> Result<(), AllocError> {
-        let link = self.add_links(link, &next.notes)?;
+        let link = self.add_links(link, &next.entries)?;
         self.stack.push(Task {
-            point: next.point,
+            state: next.state,
             link,
         })?;
         Ok(())
@@ -160,11 +160,11 @@ impl Search {
     fn hurry(&mut self, task: &mut Task) -> Result<Vec<Next>, AllocError> {
         for _ in 0..u32::MAX {
             let mut found = Vec::new(self.alloc);
-            let Some(next) = next_unseen(self.alloc, &self.story, &task.point, &mut found)? else {
+            let Some(next) = next_unseen(self.alloc, &self.run, &task.state, &mut found)? else {
                 return Ok(found);
             };
-            task.link = self.add_links(task.link, &next.notes)?;
-            task.point = next.point;
+            task.link = self.add_links(task.link, &next.entries)?;
+            task.state = next.state;
         }
         Ok(Vec::new(self.alloc))
     }
@@ -172,11 +172,11 @@ impl Search {
     // Adds the collections for the lines to come.
     fn push_collections(&mut self, task: &Task) -> Result<(), AllocError> {
         let mut found = Vec::new(self.alloc);
-        if !add_queued(self.alloc, &self.story, &task.point, &mut found)? {
+        if !add_queued(self.alloc, &self.run, &task.state, &mut found)? {
             self.cut_short = true;
         }
-        for d in 0..self.story.domains() {
-            if !add_wished(self.alloc, &self.story, &task.point, d, &mut found)? {
+        for d in 0..self.run.domains() {
+            if !add_wished(self.alloc, &self.run, &task.state, d, &mut found)? {
                 self.cut_short = true;
             }
         }
@@ -187,10 +187,10 @@ impl Search {
     fn look(&mut self, task: Task) -> Result<Option<usize>, AllocError> {
         let mut task = task;
         let found = self.hurry(&mut task)?;
-        if is_over(&task.point) {
+        if is_over(&task.state) {
             return Ok(Some(task.link));
         }
-        if self.seen.insert(task.point.key(self.alloc)?)? {
+        if self.seen.insert(task.state.key(self.alloc)?)? {
             self.push_collections(&task)?;
             self.push_all(task.link, found)?;
         }
@@ -209,7 +209,7 @@ impl Search {
             };
             self.states = self.states.saturating_add(1);
             if let Some(link) = self.look(task)? {
-                let entries = history(self.alloc, &self.story, &self.links, link)?;
+                let entries = history(self.alloc, &self.run, &self.links, link)?;
                 return Ok(Found::History(entries));
             }
         }

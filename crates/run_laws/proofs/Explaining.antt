@@ -1,5 +1,5 @@
 -- What the program means by a run is what the judge means.
-use Rattle.std.proofs.Common.{◌≡◌, ◌≢◌, ℕ, Bool, List, [], ◌∷◌, ◌++◌, Option, Some, refl, ap, sym, ◌∙◌}
+use Rattle.std.proofs.Common.{◌≡◌, ◌≢◌, ℕ, Bool, List, [], ◌∷◌, ◌++◌, Option, Some, refl, ap, sym, subst, ◌∙◌}
 use Rattle.std.specs.List.{list_any}
 use Rattle.heap_model.specs.declared.command.Command.{Command}
 use Rattle.heap_model.specs.declared.entry.Entry.{Entry}
@@ -13,8 +13,10 @@ use Rattle.domain_turns.specs.Runs.{is_end_of}
 use Rattle.history_replay.specs.Explains.{Explains}
 use Rattle.history_replay.specs.Steps.{is_end_of as is_judged_end}
 use Rattle.camlheap_run.specs.Outcome.{WritesRun, WritesRunBy}
-use Rattle.camlheap_run.specs.Run.{is_run_of, output_of}
-use Rattle.run_laws.specs.Explained.{RunsAreOne, RunsAreExplained, ReplaysAreExplained}
+use Rattle.camlheap_run.specs.Run.{IsSpawningRunOf, is_run_of, output_of}
+use Rattle.spawn_laws.specs.Printed.{spawning_output}
+use Rattle.spawned_replay.specs.Explains.{ExplainsSpawning}
+use Rattle.run_laws.specs.Explained.{RunsAreOne, RunsAreExplained, ReplaysAreExplained, SpawningRunsAreExplained}
 
 same_end : (d : ℕ) (e : Entry) → is_end_of d e ≡ is_judged_end d e
 same_end d (End k) = refl
@@ -56,6 +58,22 @@ by_version z Three script ended before bytes older w = absurd (older refl)
 
 pub explained_runs : RunsAreExplained
 explained_runs z ended left_before left_after before bytes x older = by_version z x.script.version x.script.sections ended before bytes older x.writes
+
+explained_spawning : (z : Sizes) (script : List (List Command)) (ended : Option EndedHeap) (before bytes : List ℕ) → WritesRunBy IsSpawningRunOf spawning_output z script ended (Some before) (Some (before ++ bytes))
+    → (h : List Entry) × ExplainsSpawning z script bytes h
+explained_spawning z script ended before bytes w = (
+  w.ran.past.history,
+  record {
+    legal = w.ran.run.legal;
+    run = w.ran.run.run;
+    each_ends = λ d less. sym (same_ends d w.ran.past.history) ∙ w.ran.run.each_ends d less;
+    prints = sym (same_rest before bytes (spawning_output z w.ran.past.history) w.written);
+  },
+)
+
+pub explained_spawning_runs : SpawningRunsAreExplained
+explained_spawning_runs z ended left_before left_after before bytes x third =
+    explained_spawning z x.script.sections ended before bytes (subst (λ (v : Version). WritesRunBy (is_run_of v) (output_of v) z x.script.sections ended (Some before) (Some (before ++ bytes))) third x.writes)
 
 pub explained_replays : ReplaysAreExplained
 explained_replays z ended left_before left_after before bytes x = explained z x.replay.script.sections ended before bytes x.writes.writes

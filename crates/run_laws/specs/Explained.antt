@@ -1,11 +1,12 @@
 -- What a run or a replay that ended well wrote is an output of the judge's relation.
-use Rattle.std.specs.Prelude.{◌≢◌, ℕ, List, ◌++◌, Option, Some}
+use Rattle.std.specs.Prelude.{◌≡◌, ◌≢◌, ℕ, List, ◌++◌, Option, Some}
 use Rattle.heap_model.specs.declared.command.Command.{Command}
 use Rattle.heap_model.specs.declared.entry.Entry.{Entry}
 use Rattle.heap_model.specs.declared.state.Sizes.{Sizes}
 use Rattle.heap_rule.specs.Ending.{EndedHeap}
 use Rattle.heap_text.specs.declared.version.Version.TheVariants.{Three}
 use Rattle.history_replay.specs.Explains.{Explains, IsRunOf as IsJudgedRun}
+use Rattle.spawned_replay.specs.Explains.{ExplainsSpawning}
 use Rattle.camlheap_run.specs.Outcome.{RunsToEnd}
 use Rattle.camlheap_run.specs.Replaying.{ReplaysToEnd}
 use Rattle.camlheap_run.specs.Run.{IsRunOf}
@@ -18,6 +19,11 @@ RunsAreOne = (z : Sizes) (script : List (List Command)) (h : List Entry) → (Is
 abbrev pub RunsAreExplained : Type 0
 RunsAreExplained = (z : Sizes) (ended : Option EndedHeap) (left_before left_after : Option (List ℕ)) (before bytes : List ℕ)
     → (x : RunsToEnd z ended left_before left_after (Some before) (Some (before ++ bytes))) → x.script.version ≢ Three → (h : List Entry) × Explains z x.script.sections bytes h
+
+-- and of a script with spawns
+abbrev pub SpawningRunsAreExplained : Type 0
+SpawningRunsAreExplained = (z : Sizes) (ended : Option EndedHeap) (left_before left_after : Option (List ℕ)) (before bytes : List ℕ)
+    → (x : RunsToEnd z ended left_before left_after (Some before) (Some (before ++ bytes))) → x.script.version ≡ Three → (h : List Entry) × ExplainsSpawning z x.script.sections bytes h
 
 -- and of a replay
 abbrev pub ReplaysAreExplained : Type 0

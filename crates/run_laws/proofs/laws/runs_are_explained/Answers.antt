@@ -1,4 +1,4 @@
-use Rattle.run_laws.proofs.Explaining.{explained_replays, explained_runs, one_run}
+use Rattle.run_laws.proofs.Explaining.{explained_replays, explained_runs, explained_spawning_runs, one_run}
 use Rattle.run_laws.proofs.laws.runs_are_explained.Goals as goal
 
 pub returns-clause-one : goal.returns-clause-one
@@ -6,6 +6,9 @@ returns-clause-one c = one_run
 
 pub returns-clause-runs : goal.returns-clause-runs
 returns-clause-runs c = explained_runs
+
+pub returns-clause-spawning : goal.returns-clause-spawning
+returns-clause-spawning c = explained_spawning_runs
 
 pub returns-clause-replays : goal.returns-clause-replays
 returns-clause-replays c = explained_replays

@@ -1,0 +1,4 @@
+mod InputLemmas
+mod TextLemmas
+mod VersionLemmas
+mod WritingLemmas

@@ -1,0 +1,6 @@
+pub mod Answer
+pub mod Input
+pub mod Judging
+pub mod Reading
+pub mod Show
+pub mod Writing

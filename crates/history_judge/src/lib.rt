@@ -1,0 +1,14 @@
+//! The judge of outputs: whether some legal history makes an output, from the bytes that are read to the bytes that are written.
+#![tactic(auto)]
+
+mod explain;
+mod input;
+mod judged;
+mod judging;
+mod reading;
+mod show;
+mod writing;
+
+pub use explain::{Seek, Sought};
+pub use judged::Judged;
+pub use judging::judge;

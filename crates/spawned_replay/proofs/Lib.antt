@@ -1,0 +1,5 @@
+mod MakeLemmas
+mod PreludeLemmas
+mod StepLemmas
+mod TellLemmas
+mod TextLemmas

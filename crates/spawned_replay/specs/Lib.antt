@@ -1,0 +1,4 @@
+pub mod Explains
+pub mod Parts
+pub mod Prelude
+pub mod Told
