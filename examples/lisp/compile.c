@@ -1,16 +1,13 @@
 /* compile.c: from lists to nodes. A global has a number, which stands in its symbol: names of special forms come first, then
  * those of builtins. Constants take numbers from the other end. */
 #include "lisp.h"
-#include <stdlib.h>
 #include <string.h>
 
-typedef struct scope scope;
-struct scope { scope *outer; int count; bool is_crossed; int64_t names[MOST_ARGUMENTS]; };
+typedef struct scope { struct scope *outer; int count; bool is_crossed; int64_t names[MOST_ARGUMENTS]; } scope;
 
-enum { F_QUOTE, F_IF, F_DEFINE, F_SET, F_LAMBDA, F_LET, F_BEGIN, F_COND, F_AND, F_OR, F_SPAWN, F_ELSE, FORMS };
+enum { F_QUOTE, F_IF, F_DEFINE, F_SET, F_LAMBDA, F_LET, F_BEGIN, F_COND, F_AND, F_OR, F_SPAWN, F_ELSE, FORMS, ROOM = 4 << 20 };
 static const char *const forms[] = {"quote", "if", "define", "set!", "lambda", "let", "begin", "cond", "and", "or", "spawn", "else"};
 static const int fewest[] = {2, 3, 3, 3, 3, 3, 1, 1, 1, 1, 2}, most[] = {2, 4, 999, 3, 999, 999, 999, 999, 999, 999, 999};
-enum { ROOM = 4 << 20 };
 
 node *codes[MOST_CODES];
 static int code_count, codes_before, global_count, constant_count, constants_before;
@@ -84,11 +81,7 @@ static item element(machine *m, int list, int i) {
   return load(m, VAL, VAL, 1);
 }
 
-static int inner(machine *m, int list, int i) {
-  push(m, element(m, list, i), VAL);
-  length(m, m->depth - 1);
-  return m->depth - 1;
-}
+static int inner(machine *m, int list, int i) { return push(m, element(m, list, i), VAL), length(m, m->depth - 1), m->depth - 1; }
 
 static node *parts(machine *m, scope *s, node *made, int list, int from) {
   for (int i = 0; i < made->count; i++) made->at[i] = expression(m, s, element(m, list, from + i));

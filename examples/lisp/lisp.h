@@ -25,8 +25,7 @@ typedef enum { PAIR, CLOSURE, BUILTIN, SYMBOL, STRING, WEAK, HANDLE, GUARDIAN, T
 /* What an expression is compiled to. Those up to LOCAL are leaves. A simple one makes no call: ENV, FUN and FRAME stay. A
  * call is quick where its function is a leaf and its arguments are simple. */
 typedef enum { NUMBER, CONSTANT, GLOBAL, LOCAL, SET_GLOBAL, SET_LOCAL, IF, OR, SEQUENCE, LAMBDA, CALL, UNARY, BINARY, GENERAL } shape;
-typedef struct node node;
-struct node { shape shape; bool is_simple, is_quick, has_link; int a, b, count; int64_t number; node *at[]; };
+typedef struct node { shape shape; bool is_simple, is_quick, has_link; int a, b, count; int64_t number; struct node *at[]; } node;
 
 /* A domain with the thread that evaluates on it. STACK holds one chunk of the spine. */
 typedef struct {
@@ -69,10 +68,8 @@ int64_t count_symbols(machine *m);                          /* A and B are lost 
 void push(machine *m, item it, int reg);
 item peek(machine *m, int dst, int position);
 item pop(machine *m, int dst);
-void nest(machine *m);
-void attach(machine *m);
-void reset(machine *m);                                     /* after a failure */
-void clean(machine *m);                                     /* forgets what registers and stack held */
+void nest(machine *m), attach(machine *m);
+void reset(machine *m), clean(machine *m);                  /* after a failure; forgets what registers and stack held */
 
 /* text.c: an item is read into VAL, and printed from there. */
 bool read_item(machine *m, const char **text, item *read);
