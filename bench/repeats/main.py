@@ -1,5 +1,4 @@
-"""Runs random scripts of two to four domains, has history_check print the schedule of a history of each output, and replays it: the
-replay must print the output again. And it judges outputs of scripts of all versions, as printed and with one reply changed.
+"""Repeats and judges outputs of random scripts, as `bench/repeats.sh` says.
 
 usage: main.py CAMLHEAP CHECK schedules|outputs FIRST COUNT      CHECK is the launcher history_check"""
 import random
@@ -70,9 +69,9 @@ def spawning_script(dice, domains):
             lines += [f"join {dice.randrange(1, 5)} {d}"] + section(dice, 3, 0.1)
     for d in range(1, domains):
         lines += [f"domain {d}"] + section(dice, 3, 0)
-        if dice.random() < 0.7:
+        if d in spawned and dice.random() < 0.7:
             lines += [f"argument {dice.randrange(1, 5)}", f"store {dice.randrange(1, 5)} 0 1"]
-        if dice.random() < 0.7:
+        if d in spawned and dice.random() < 0.7:
             lines += [f"result {dice.randrange(1, 5)}"]
     return "\n".join(lines) + "\n"
 
@@ -124,7 +123,7 @@ def outputs(heap, check, first, count):
         domains = dice.randrange(1, 4)
         script = spawning_script(dice, domains) if seed % 2 else plain_script(dice, domains, 0.3)
         _, output = piped([heap, "run", "--domains", str(domains)], script)
-        words = [check, "--domains", str(domains), "--states", "20000"]
+        words = [check, "--domains", str(domains), "--states", "200000"]
         status, _ = piped(words, script + "---\n" + output)
         statuses[status] = statuses.get(status, 0) + 1
         if status != 0:
