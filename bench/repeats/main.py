@@ -5,6 +5,7 @@ import random
 import subprocess
 import sys
 
+SIZES = ["--minor", "4096", "--pools", "128"]
 PLAIN = ["int", "alloc", "load", "load", "store", "store", "cas", "move", "drop", "raw"]
 
 
@@ -61,19 +62,31 @@ def plain_script(dice, domains, weak):
 def spawning_script(dice, domains):
     """Section 0 spawns some of the others and joins some of those; each tells what it was given."""
     lines = ["heap 3", "domain 0"] + section(dice, 4, 0)
-    spawned = [d for d in range(1, domains) if dice.random() < 0.9]
-    for d in spawned:
+    for d in range(1, domains):
         lines += [f"spawn {d} {dice.randrange(1, 5)}"] + section(dice, 3, 0)
-    for d in spawned:
+    for d in range(1, domains):
         if dice.random() < 0.8:
             lines += [f"join {dice.randrange(1, 5)} {d}"] + section(dice, 3, 0.1)
     for d in range(1, domains):
         lines += [f"domain {d}"] + section(dice, 3, 0)
-        if d in spawned and dice.random() < 0.7:
+        if dice.random() < 0.7:
             lines += [f"argument {dice.randrange(1, 5)}", f"store {dice.randrange(1, 5)} 0 1"]
-        if d in spawned and dice.random() < 0.7:
+        if dice.random() < 0.7:
             lines += [f"result {dice.randrange(1, 5)}"]
     return "\n".join(lines) + "\n"
+
+
+def of(domains):
+    """The words for a heap of so many domains."""
+    return ["--domains", str(domains), *SIZES]
+
+
+def printed(heap, domains, script):
+    """What a run prints. The script has no fault."""
+    status, output = piped([heap, "run", *of(domains)], script)
+    if status:
+        sys.exit(f"camlheap ends with {status} on\n{script}")
+    return output
 
 
 def piped(words, text):
@@ -101,12 +114,12 @@ def schedules(heap, check, first, count):
         dice = random.Random(seed)
         domains = dice.randrange(2, 5)
         script = plain_script(dice, domains, dice.choice([0, 0.1]))
-        script = script.replace("\nmajor\n", "\npoll\n").replace("\nmajor\n", "\npoll\n")
-        _, output = piped([heap, "run", "--domains", str(domains)], script)
-        status, schedule = piped([check, "--schedule", "--domains", str(domains)], script + "---\n" + output)
+        script = script.replace("\nmajor\n", "\npoll\n")
+        output = printed(heap, domains, script)
+        status, schedule = piped([check, "--schedule", *of(domains)], script + "---\n" + output)
         if status == 8:
             without += 1
-        elif status == 0 and piped([heap, "replay", "--domains", str(domains)], schedule + script)[1] == output:
+        elif status == 0 and piped([heap, "replay", *of(domains)], schedule + script)[1] == output:
             again += 1
         else:
             wrong += 1
@@ -122,8 +135,8 @@ def outputs(heap, check, first, count):
         dice = random.Random(seed)
         domains = dice.randrange(1, 4)
         script = spawning_script(dice, domains) if seed % 2 else plain_script(dice, domains, 0.3)
-        _, output = piped([heap, "run", "--domains", str(domains)], script)
-        words = [check, "--domains", str(domains), "--states", "200000"]
+        output = printed(heap, domains, script)
+        words = [check, *of(domains), "--states", "200000"]
         status, _ = piped(words, script + "---\n" + output)
         statuses[status] = statuses.get(status, 0) + 1
         if status != 0:
