@@ -1,11 +1,11 @@
-"""Runs random scripts of two to four domains, has history_check print the schedule of a history of each output, and replays it: the
-replay must print the output again. And it judges outputs of scripts of all versions, as printed and with one reply changed.
+"""Repeats and judges outputs of random scripts, as `bench/repeats.sh` says.
 
 usage: main.py CAMLHEAP CHECK schedules|outputs FIRST COUNT      CHECK is the launcher history_check"""
 import random
 import subprocess
 import sys
 
+SIZES = ["--minor", "4096", "--pools", "128"]
 PLAIN = ["int", "alloc", "load", "load", "store", "store", "cas", "move", "drop", "raw"]
 
 
@@ -62,10 +62,9 @@ def plain_script(dice, domains, weak):
 def spawning_script(dice, domains):
     """Section 0 spawns some of the others and joins some of those; each tells what it was given."""
     lines = ["heap 3", "domain 0"] + section(dice, 4, 0)
-    spawned = [d for d in range(1, domains) if dice.random() < 0.9]
-    for d in spawned:
+    for d in range(1, domains):
         lines += [f"spawn {d} {dice.randrange(1, 5)}"] + section(dice, 3, 0)
-    for d in spawned:
+    for d in range(1, domains):
         if dice.random() < 0.8:
             lines += [f"join {dice.randrange(1, 5)} {d}"] + section(dice, 3, 0.1)
     for d in range(1, domains):
@@ -75,6 +74,19 @@ def spawning_script(dice, domains):
         if dice.random() < 0.7:
             lines += [f"result {dice.randrange(1, 5)}"]
     return "\n".join(lines) + "\n"
+
+
+def of(domains):
+    """The words for a heap of so many domains."""
+    return ["--domains", str(domains), *SIZES]
+
+
+def printed(heap, domains, script):
+    """What a run prints. The script has no fault."""
+    status, output = piped([heap, "run", *of(domains)], script)
+    if status:
+        sys.exit(f"camlheap ends with {status} on\n{script}")
+    return output
 
 
 def piped(words, text):
@@ -102,12 +114,12 @@ def schedules(heap, check, first, count):
         dice = random.Random(seed)
         domains = dice.randrange(2, 5)
         script = plain_script(dice, domains, dice.choice([0, 0.1]))
-        script = script.replace("\nmajor\n", "\npoll\n").replace("\nmajor\n", "\npoll\n")
-        _, output = piped([heap, "run", "--domains", str(domains)], script)
-        status, schedule = piped([check, "--schedule", "--domains", str(domains)], script + "---\n" + output)
+        script = script.replace("\nmajor\n", "\npoll\n")
+        output = printed(heap, domains, script)
+        status, schedule = piped([check, "--schedule", *of(domains)], script + "---\n" + output)
         if status == 8:
             without += 1
-        elif status == 0 and piped([heap, "replay", "--domains", str(domains)], schedule + script)[1] == output:
+        elif status == 0 and piped([heap, "replay", *of(domains)], schedule + script)[1] == output:
             again += 1
         else:
             wrong += 1
@@ -123,8 +135,8 @@ def outputs(heap, check, first, count):
         dice = random.Random(seed)
         domains = dice.randrange(1, 4)
         script = spawning_script(dice, domains) if seed % 2 else plain_script(dice, domains, 0.3)
-        _, output = piped([heap, "run", "--domains", str(domains)], script)
-        words = [check, "--domains", str(domains), "--states", "20000"]
+        output = printed(heap, domains, script)
+        words = [check, *of(domains), "--states", "200000"]
         status, _ = piped(words, script + "---\n" + output)
         statuses[status] = statuses.get(status, 0) + 1
         if status != 0:
