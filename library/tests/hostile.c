@@ -209,15 +209,16 @@ static void stalled(void) {
   for (int i = 0; i < 2; i++) camlheap_free(&two[i]);
 }
 
-/* A handle takes one heap after another, once the one before is freed, in whatever state that was. */
+/* A handle takes one heap after another: what it held is freed, in whatever state that was. */
 static void started_over(void) {
   camlheap_domain domain = {0};
   for (int i = 0; i < 3; i++) {
     CHECK(camlheap_start(&SMALL, &domain, 1) == CAMLHEAP_DONE);
     CHECK(done(&domain, (camlheap_command){.op = CAMLHEAP_ALLOC, .dst = 1, .n = 1}).serial == 1);
     CHECK(camlheap_submit(&domain, &POLL) == CAMLHEAP_DONE);
-    camlheap_free(&domain);
+    if (i == 1) camlheap_free(&domain);
   }
+  camlheap_free(&domain);
   empty(&domain);
 }
 

@@ -76,16 +76,32 @@ impl CamlheapDomain {
         CamlheapDomain::of_loose(Loose::of(run))
     }
 
+    // Puts another handle in its place, and answers the run that it held.
+    fn replaced(&mut self, by: CamlheapDomain) -> Option<Box<SharedRun>>
+        ensures some { IfSome result (λ b. (self.old.full ≡ true) × (b.value ≡ self.old.value)) }
+        ensures none { result ≡ None → self.old.full ≡ false }
+        ensures left { self.new ≡ by }
+    {
+        match std::mem::replace(self, by).into_loose() {
+            Some(loose) => Some(loose.into_box()),
+            None => None,
+        }
+    }
+
+    // Puts a run into a handle. What that held before is freed.
+    pub(crate) fn put(&mut self, run: Box<SharedRun>)
+        ensures { (self.new.full ≡ true) × (self.new.value ≡ run.value) }
+    {
+        let _held = self.replaced(CamlheapDomain::of(run));
+    }
+
     // Takes the run out of a handle.
     pub(crate) fn take(&mut self, alloc: Global) -> Option<Box<SharedRun>>
         ensures some { IfSome result (λ b. (self.old.full ≡ true) × (b.value ≡ self.old.value)) }
         ensures none { result ≡ None → self.old.full ≡ false }
         ensures left { self.new.full ≡ false }
     {
-        match std::mem::replace(self, CamlheapDomain::none(alloc)).into_loose() {
-            Some(loose) => Some(loose.into_box()),
-            None => None,
-        }
+        self.replaced(CamlheapDomain::none(alloc))
     }
 }
 

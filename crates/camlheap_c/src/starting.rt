@@ -36,7 +36,7 @@ fn hand_out(boxes: Vec<Box<SharedRun>>, handles: &mut [CamlheapDomain])
 {
     let mut at = 0;
     'boxes: for run in boxes {
-        handles[at] = CamlheapDomain::of(run);
+        handles[at].put(run);
         at += 1;
     }
 }

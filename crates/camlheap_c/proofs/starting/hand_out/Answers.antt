@@ -6,7 +6,7 @@ use Rattle.camlheap_c.specs.Exported.{Fills}
 use Rattle.camlheap_c.proofs.Handing.{fills_more, none_left}
 use Rattle.camlheap_c.proofs.starting.hand_out.Goals as goal
 
-has_room : (c : goal.After-of) → length c.boxes.invariant.handed < length c.args.handles.now
+has_room : (c : goal.After-put) → length c.boxes.invariant.handed < length c.args.handles.now
 has_room c =
     let v = c.boxes.invariant in let now = into_iter_items c.boxes.run-iterator in
     let all = ap (λ (xs : List SharedView). length xs) v.rest in
@@ -27,7 +27,7 @@ boxes-preserved c =
       handed = v.handed ++ s ∷ [];
       rest = v.rest ∙ (ap (λ xs. v.handed ++ map (λ b. b.value) xs) steps.0 ∙ sym (append_assoc v.handed (s ∷ []) (map (λ b. b.value) (into_iter_items c.next.new.self))));
       count = let before = v.count in let more = length-append v.handed (s ∷ []) in omega (arith, before, more);
-      fills = subst (λ (n : ℕ). Fills (v.handed ++ s ∷ []) c.args.handles.now (slice_set c.boxes.handles n c.of.result)) v.count (fills_more v.handed s c.args.handles.now c.boxes.handles c.of.result v.fills (has_room c) c.of.ensures);
+      fills = subst (λ (n : ℕ). Fills (v.handed ++ s ∷ []) c.args.handles.now (slice_set c.boxes.handles n c.put.new.self)) v.count (fills_more v.handed s c.args.handles.now c.boxes.handles c.put.new.self v.fills (has_room c) c.put.ensures);
       len = let before = v.len in let next = steps.1 in omega (arith, before, next, many);
     }
 
