@@ -198,9 +198,9 @@ END
 
 chains() {
     head_of bench/chains.sh
-    columns ephemerons linked "data leads by" domains instructions
+    columns "ephemerons in the chain" linked "the next key is" domains "a later complete collection"
     "$top/bench/chains.sh" "$work/camlheap" | awk 'NR > 1 {
-        print $1 "\t" ($2 == "along" ? "in the order of the lists" : $2 == "against" ? "against it" : "by chance") "\t" ($3 == "data" ? "itself" : "a field") "\t" $4 "\t" $5
+        print $1 "\t" ($2 == "along" ? "in the order of the lists" : $2 == "against" ? "against it" : "by chance") "\t" ($3 == "data" ? "the data" : "in a field of the data") "\t" $4 "\t" $5
     }'
 }
 

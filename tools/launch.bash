@@ -174,7 +174,7 @@ pass_on() {
 # Runs a program with its words in place of this script. Where standard error is a terminal this script stays, hints behind the
 # program, passes signals on to it, and ends as it does.
 run() {
-    local child passer status signal
+    local child passer status last signal
     [ -t 2 ] && [ -e /dev/fd/0 ] || exec "$@"
     exec 6> >(pass_on)
     passer=$!
@@ -187,7 +187,9 @@ run() {
     done
     # A signal ends a wait too. Bash's own words on how the program ended aren't shown.
     while { wait "$child"; status=$?; kill -0 "$child"; } 2>/dev/null; do :; done
-    { wait "$child"; status=$?; wait "$passer"; } 2>/dev/null
+    { wait "$child"; last=$?; wait "$passer"; } 2>/dev/null
+    # Bash may have forgotten how the program ended where a signal ended the wait before; then that wait has said by which.
+    [ "$last" -lt 0 ] || [ "$last" -eq 127 ] || status=$last
     trap - HUP INT QUIT TERM
     [ "$status" -le 128 ] || kill -s $((status - 128)) $$
     exit "$status"
