@@ -3,7 +3,7 @@
 #
 #   bench/repeats.sh schedules [COUNT]   plays COUNT random scripts (1000 without it) of two to four domains, has history_check print the
 #                                        schedule of a history of each output, and replays it: the output must be printed again
-#   bench/repeats.sh outputs [COUNT]     plays COUNT random scripts (1000 without it) of versions 2 and 3 of one to three domains: each output
+#   bench/repeats.sh outputs [COUNT]     plays COUNT random scripts (1000 without it) of versions 1 to 3 of one to three domains: each output
 #                                        must be legal. Of one in ten it changes a reply besides, and prints it if it is legal all the same
 #
 # PROGRAM and CHECKER name other programs for camlheap and history_check. It ends with 1 where an output isn't judged as it should be.

@@ -59,6 +59,12 @@ def plain_script(dice, domains, weak):
     return "\n".join(lines) + "\n"
 
 
+def oldest_script(dice, domains, weak):
+    """One of version 1, which has no raw blocks and no `cas`."""
+    lines = plain_script(dice, domains, weak).split("\n")[1:]
+    return "\n".join(["heap 1"] + [line for line in lines if line.split(" ")[0] not in ("raw", "cas")])
+
+
 def spawning_script(dice, domains):
     """Section 0 spawns some of the others and joins some of those; each tells what it was given."""
     lines = ["heap 3", "domain 0"] + section(dice, 4, 0)
@@ -134,7 +140,10 @@ def outputs(heap, check, first, count):
     for seed in range(first, first + count):
         dice = random.Random(seed)
         domains = dice.randrange(1, 4)
-        script = spawning_script(dice, domains) if seed % 2 else plain_script(dice, domains, 0.3)
+        if seed % 4 == 0:
+            script = oldest_script(dice, domains, 0.3)
+        else:
+            script = plain_script(dice, domains, 0.3) if seed % 4 == 2 else spawning_script(dice, domains)
         output = printed(heap, domains, script)
         words = [check, *of(domains), "--states", "200000"]
         status, _ = piped(words, script + "---\n" + output)
