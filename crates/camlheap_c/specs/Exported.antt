@@ -51,12 +51,12 @@ pub record Begins (old new : SharedView) (c : model.Command) (before read : Caml
 -- the answer of the command that was handed in last, or none yet
 pub record Tells (s : SharedView) (before read : CamlheapReply) (told : ℕ) : Type 0 where
   pub answer : told ≡ 0 → (r : Reply) × ((answer_of s.run ≡ Some r) × (read ≡ reply_form r))
-  pub none : told ≢ 0 → IsUnanswered s.run × (read ≡ before)
+  pub none : told ≢ 0 → (told ≡ 1) × IsUnanswered s.run × (read ≡ before)
 
 -- the reply of the finaliser at this place among those that have run since the last command was handed in, or that there are no more
 pub record TellsRan (s : SharedView) (place : ℕ) (before read : CamlheapReply) (told : ℕ) : Type 0 where
   pub reply : told ≡ 0 → (r : Reply) × ((slice_get s.run.ran place ≡ Some r) × (read ≡ reply_form r))
-  pub none : told ≢ 0 → (slice_get s.run.ran place ≡ None) × (read ≡ before)
+  pub none : told ≢ 0 → (told ≡ 26) × (slice_get s.run.ran place ≡ None) × (read ≡ before)
 
 -- the numbers of a heap, as C has them
 abbrev pub config_of : CamlheapConfig → Config
@@ -94,5 +94,7 @@ pub record CallsDirectly (old new : CamlheapDomain) (c : model.Command) (before 
   pub kept : new.full ≡ old.full
   pub none : (old.full ≡ false) ↔ (told ≡ 16)
   pub begun : old.full ≡ true → told < 17 → Begins old.value new.value c before read told
+  pub few : old.full ≡ true → told < 17 → told < 2
   pub why : old.full ≡ true → 17 ≤ told → RefusesAs old.value (Some c) told
   pub same : old.full ≡ true → 17 ≤ told → (new.value ≡ old.value) × (read ≡ before)
+  pub unread : old.full ≡ false → read ≡ before

@@ -21,6 +21,7 @@ fn begin_on(run: &mut SharedRun, command: Command, reply: &mut CamlheapReply) ->
     ensures why { 17 ≤ result → RefusesAs run.old (Some command) result }
     ensures same { 17 ≤ result → (run.new ≡ run.old) × (reply.new ≡ reply.old) }
     ensures told { result ≢ 16 }
+    ensures few { result < 17 → result < 2 }
 {
     match run.begin(command) {
         Ok(Some(answer)) => {

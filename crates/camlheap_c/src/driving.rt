@@ -100,6 +100,8 @@ pub extern "C" fn camlheap_run(
     ensures kept { handle.new.full ≡ handle.old.full }
     ensures none { (handle.old.full ≡ false) ↔ (result ≡ 16) }
     ensures goes_on { handle.old.full ≡ true → (start : DomainView) (c : model.Command) → Awaits handle.old.value.heap start c handle.old.value.run → GoesOn start c handle.old.value handle.new.value reply.old reply.new result }
+    ensures told { handle.old.full ≡ true → result < 5 }
+    ensures unread { handle.old.full ≡ false → reply.new ≡ reply.old }
 {
     let Some(mut run) = handle.take(alloc) else {
         return NO_DOMAIN;
@@ -120,6 +122,7 @@ fn call_on(
     ensures why { 17 ≤ result → RefusesAs run.old (command_as command.now) result }
     ensures refused { 17 ≤ result → (run.new ≡ run.old) × (reply.new ≡ reply.old) }
     ensures told { result ≢ 16 }
+    ensures few { result < 17 → result < 5 }
 {
     let Some(command) = command_of(command) else {
         return UNFIT;
@@ -150,6 +153,8 @@ pub extern "C" fn camlheap_call(
     ensures called { handle.old.full ≡ true → result < 17 → Calls handle.old.value handle.new.value command.now reply.old reply.new result }
     ensures why { handle.old.full ≡ true → 17 ≤ result → RefusesAs handle.old.value (command_as command.now) result }
     ensures refused { handle.old.full ≡ true → 17 ≤ result → (handle.new.value ≡ handle.old.value) × (reply.new ≡ reply.old) }
+    ensures few { handle.old.full ≡ true → result < 17 → result < 5 }
+    ensures unread { handle.old.full ≡ false → reply.new ≡ reply.old }
 {
     let Some(mut run) = handle.take(alloc) else {
         return NO_DOMAIN;

@@ -3,6 +3,7 @@ ghost use Rattle.std.specs.Prelude.{◌≡◌, ◌≢◌, ◌↔◌, ◌<◌, �
 ghost use Rattle.heap_model.specs.Commands.{shown};
 ghost use Rattle.heap_model.specs.Domains.{register as register_value};
 ghost use Rattle.heap_rule.specs.Rule.{state_of};
+ghost use Rattle.domain_turns.specs.Runs.{HasLooked};
 ghost use Rattle.domain_turns.specs.declared.supply.Supply.TheVariants.{Closed};
 ghost use Rattle.shared_runs.specs.Sharing.{MayClose};
 ghost use Rattle.open_runs.specs.Counting.{stats_of};
@@ -25,6 +26,7 @@ pub extern "C" fn camlheap_answer(
     ensures none { (handle.old.full ≡ false) ↔ (result ≡ 16) }
     ensures same { handle.old.full ≡ true → handle.new.value ≡ handle.old.value }
     ensures tells { handle.old.full ≡ true → Tells handle.old.value reply.old reply.new result }
+    ensures unread { handle.old.full ≡ false → reply.new ≡ reply.old }
 {
     let Some(run) = handle.take(alloc) else {
         return NO_DOMAIN;
@@ -54,6 +56,9 @@ pub extern "C" fn camlheap_show(
     ensures missing { handle.old.full ≡ true → (result ≡ 23) ↔ (16 ≤ register) }
     ensures told { handle.old.full ≡ true → (result ≡ 0) ↔ (register < 16) }
     ensures heap { handle.old.full ≡ true → handle.new.value.heap ≡ handle.old.value.heap }
+    ensures looked { handle.old.full ≡ true → result ≡ 0 → HasLooked handle.old.value.run handle.new.value.run }
+    ensures same { handle.old.full ≡ true → result ≢ 0 → (handle.new.value ≡ handle.old.value) × (reply.new ≡ reply.old) }
+    ensures unread { handle.old.full ≡ false → reply.new ≡ reply.old }
 {
     let Some(mut run) = handle.take(alloc) else {
         return NO_DOMAIN;
@@ -104,6 +109,7 @@ pub extern "C" fn camlheap_ran(
     ensures none { (handle.old.full ≡ false) ↔ (result ≡ 16) }
     ensures same { handle.old.full ≡ true → handle.new.value ≡ handle.old.value }
     ensures tells { handle.old.full ≡ true → TellsRan handle.old.value place reply.old reply.new result }
+    ensures unread { handle.old.full ≡ false → reply.new ≡ reply.old }
 {
     let Some(run) = handle.take(alloc) else {
         return NO_DOMAIN;
