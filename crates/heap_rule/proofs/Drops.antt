@@ -27,7 +27,7 @@ use Rattle.heap_rule.specs.Places.{Debt, Place, Live, extent, values_of, Stands,
 use Rattle.heap_rule.specs.Changes.{value_at}
 use Rattle.heap_rule.specs.Copies.{nothing_copied, known, Owes, Copies, Promoting, IsOldValue, HoldsOld, Rooted}
 use Rattle.heap_rule.specs.Phases.{Pause, Phases, IsOdd, Staged, Still, TookBack, HasSetBack, Unwished}
-use Rattle.heap_rule.specs.Pools.{no_stock, drawn, Stock, Hunts, KeepsReserve, Resting, Tenancy, Pools, Grid, place_in, size_of, last_found}
+use Rattle.heap_rule.specs.Pools.{no_stock, drawn, Stock, Covered, Hunts, KeepsReserve, Resting, Tenancy, Pools, Grid, place_in, size_of, last_found}
 use Rattle.heap_rule.specs.declared.view.Finalisers.{Finalisers}
 use Rattle.heap_rule.specs.Finalisers.{RefersOld, Enrolled}
 use Rattle.heap_rule.proofs.FinaliserLemmas.{enrolled_at}
@@ -45,8 +45,7 @@ use Rattle.heap_rule.proofs.Controls.{Move, Untouched, found_untouched, making_u
 use Rattle.heap_rule.specs.Cycles.{Cycling, Cycled}
 use Rattle.heap_rule.proofs.FullnessLemmas.{full_back, full_kind}
 use Rattle.heap_rule.specs.declared.phase.Kind.{Kind}
-use Rattle.heap_rule.specs.declared.phase.Kind.TheVariants.{Run, Answer}
-use Rattle.heap_rule.proofs.PauseFacts.{not_both}
+use Rattle.heap_rule.specs.declared.phase.Kind.TheVariants.{Answer}
 
 abbrev Side : Config → ℕ → Type 0
 Side k a = (a ≤ k.pools * 4096) ⊎ (k.pools * 4096 < a)
@@ -223,6 +222,7 @@ module _ (k : Config) (s : Words) (r : Rule k s) (id : ℕ) (hist : List Entry) 
     pub at_rest : (q d : ℕ) → r.account.tenancy.holder q ≡ drawn d → ⊥
     pub unprepared : (a d : ℕ) → r.account.tenancy.prepared a ≡ Some d → ⊥
     pub no_claims : (d : ℕ) → d < k.domains → d ≢ x.own.number → r.account.tenancy.stock.claims d ≡ 0
+    pub covered : Covered k pause' r.account.tenancy words'
     pub unwished : Unwished pause' words'
     pub took_back : TookBack words' y
     pub others_took_back : (z : DomainView) → Staged r.account.pause z → TookBack s.words z → TookBack words' z
@@ -281,8 +281,7 @@ module _ (k : Config) (s : Words) (r : Rule k s) (id : ℕ) (hist : List Entry) 
         endings = o.endings ∙ r.whole.endings;
         pools = pools_stock k t no_stock words' pools1;
         reserved = λ keeps. absurd (o.kept keeps);
-        covered = λ runs. absurd (⊎_elim (λ (h : (j : ℕ) × (pause'.phase ≡ j * 2) × (pause'.kinds j ≡ Run)). not_both pause'.phase (h.0, h.1) o.odd)
-            (λ (h : (j : ℕ) × (pause'.phase ≡ j * 2 + 1) × (pause'.led ≡ true) × (pause'.kinds (j + 1) ≡ Run)). let e : ◌≡◌ {A = Bool} true false = sym h.2 ∙ o.not_led in cc) runs);
+        covered = o.covered;
         grid = grid_stock k t no_stock live1 words' grid1;
         drawers = record { drawn = λ q d e. absurd (o.at_rest q d e); prepared = λ a d e. absurd (o.unprepared a d e); claims = λ d some. absurd (let h : 0 < 0 = some in omega arith) };
         room = room_unused k live1 pause' no_stock words' o.over;

@@ -57,7 +57,7 @@ use Rattle.cycle_laws.specs.Beside.{Snapshot}
 use Rattle.heap_rule.specs.Room.{spent_stock, count, drawn_in_all, copied_words, Room, IsUnused, Opened, Drawable}
 use Rattle.heap_model.specs.Domains.{class_count, reserve}
 use Rattle.heap_rule.specs.Layout.{heap_words, at_address}
-use Rattle.heap_rule.specs.Pools.{Holder, Stock, Reserved, Covered, Takes, IsCopying, Latest, DrawsFor, prepared_at, size_of, Tenancy, drawn, owned, Pools, Grid, Drawers, IsLeading, Lists, Resting, Hunts, Hunter, drawn_in, hunting_free, spot_at, IsBefore, IsFree, limit_of}
+use Rattle.heap_rule.specs.Pools.{Holder, Stock, Reserved, NoneCameBack, IsListWhole, Covered, Takes, IsCopying, Latest, DrawsFor, prepared_at, size_of, Tenancy, drawn, owned, Pools, Grid, Drawers, IsLeading, Lists, Resting, Hunts, Hunter, drawn_in, hunting_free, spot_at, IsBefore, IsFree, limit_of}
 use Rattle.heap_rule.specs.Standing.{with_front}
 use Rattle.heap_rule.specs.Ephemerons.{IsEpheAt, Listed}
 use Rattle.heap_rule.specs.Finalisers.{RefersOld}
@@ -352,7 +352,7 @@ lists_same k words words' number stage l count asked list owner s = record {
   owners = λ q w got. owner q (within (length l.owners) q s.few.0 (slice_get_within l.owners q w got)) ∙ s.owners q w got;
   names = λ i q got. list i (within (length l.names) i s.few.1 (slice_get_within l.names i q got)) ∙ s.names i q got;
   count = count ∙ s.count;
-  rewinds = λ b. asked ∙ s.rewinds b;
+  found = λ c e. asked ∙ s.found c e;
 } where
   within : (n i : ℕ) → n ≤ k.pools → i < n → i < k.pools
   within n i few below = let f : n ≤ k.pools = few in let b : i < n = below in omega arith
@@ -396,10 +396,14 @@ pools_words k t words words' counts asked list owner s =
 pub pools_same : (k : Config) (t : Tenancy) (words words' : List ℕ) → Control k words words' → Pools k t words → Pools k t words'
 pools_same k t words words' c s = pools_words k t words words' (c 6 (omega arith)) (c 7 (omega arith)) (λ i h. let g : i < k.pools = h in c (11 + i) (omega arith)) (λ q h. let g : q < k.pools = h in c (11 + k.pools + q) (omega arith)) s
 
+-- the list is whole where it was
+pub whole_words : (p : Pause) (words words' : List ℕ) → listed words' ≡ listed words → IsListWhole p words' → IsListWhole p words
+whole_words p words words' counts is = ⊎_elim (λ h. inl h) (λ (h : NoneCameBack p × (listed words' ≢ 0)). inr (h.0, λ e. h.1 (counts ∙ e))) is
+
 -- and each pool that is nobody's is listed as it was
 pub covered_words : (k : Config) (p : Pause) (t : Tenancy) (words words' : List ℕ) → listed words' ≡ listed words → cursor words' ≡ cursor words → ((i : ℕ) → i < k.pools → listed_pool words' i ≡ listed_pool words i) → listed words ≤ k.pools → Covered k p t words → Covered k p t words'
 covered_words k p t words words' counts asked list few covered runs q inside free =
-    let at = covered runs q inside free in
+    let at = covered (whole_words p words words' counts runs) q inside free in
     let i : ℕ = at.0 in
     let n : ℕ = listed words in
     let f : n ≤ k.pools = few in
@@ -562,7 +566,7 @@ module _ (k : Config) (s : Words) (r : Rule k s) (id : ℕ) (hist : List Entry) 
     counts = λ _. (c 6 (omega arith), c 7 (omega arith));
     listed_young = λ _ _ _ _. c 6 (omega arith);
     drawable = record {
-      to_run = λ j odd led runs. c 7 (omega arith) ∙ r.whole.drawable.to_run j odd led runs;
+      to_run = λ j odd led runs. subst (λ (m : ℕ × ℕ). m.0 ≤ limit_of k m.1) (λ i. (sym (c 7 (omega arith)) i, sym (c 6 (omega arith)) i)) (r.whole.drawable.to_run j odd led runs);
       to_copy = λ j odd led copies. subst (λ (m : ℕ × ℕ). m.0 ≤ limit_of k m.1) (λ i. (sym (c 7 (omega arith)) i, sym (c 6 (omega arith)) i)) (r.whole.drawable.to_copy j odd led copies);
     };
     set_back = λ _ _ _ low. subst (λ (m : ℕ × ℕ). m.0 ≤ limit_of k m.1) (λ i. (sym (c 7 (omega arith)) i, sym (c 6 (omega arith)) i)) low;

@@ -9,7 +9,8 @@ use Rattle.heap_rule.specs.declared.view.Hunt.TheVariants.{Rests, Counts, Asks, 
 use Rattle.heap_rule.specs.declared.view.Spare.{Spare}
 use Rattle.heap_rule.specs.declared.view.Spot.{Spot}
 use Rattle.heap_rule.specs.declared.view.DomainView.{DomainView}
-use Rattle.heap_rule.specs.declared.phase.Kind.TheVariants.{Run, Promote}
+use Rattle.heap_rule.specs.declared.phase.Kind.{Kind}
+use Rattle.heap_rule.specs.declared.phase.Kind.TheVariants.{Run, Promote, Reset}
 use Rattle.heap_rule.specs.declared.phase.Stage.{Stage}
 use Rattle.heap_rule.specs.declared.phase.Stage.TheVariants.{In, Leads, Led}
 use Rattle.heap_rule.specs.Limits.{sizes_in}
@@ -93,9 +94,21 @@ Reserved k p t words = KeepsReserve p → (i : ℕ) → i < listed words → lim
 abbrev pub RunsNext : Pause → Type 0
 RunsNext p = ((j : ℕ) × (p.phase ≡ j * 2) × (p.kinds j ≡ Run)) ⊎ ((j : ℕ) × (p.phase ≡ j * 2 + 1) × (p.led ≡ true) × (p.kinds (j + 1) ≡ Run))
 
+-- while domains run, copy and reset their minor areas pools are drawn, and none comes back
+abbrev pub DrawsAlone : Kind → Type 0
+DrawsAlone kind = (kind ≡ Run) ⊎ ((kind ≡ Promote) ⊎ (kind ≡ Reset))
+
+-- none has come back since domains ran: such a phase goes on, or is over and nothing else was named, or is named
+abbrev pub NoneCameBack : Pause → Type 0
+NoneCameBack p = ((j : ℕ) × (p.phase ≡ j * 2) × DrawsAlone (p.kinds j)) ⊎ (((j : ℕ) × (p.phase ≡ j * 2 + 1) × (p.led ≡ false) × DrawsAlone (p.kinds j)) ⊎ ((j : ℕ) × (p.phase ≡ j * 2 + 1) × (p.led ≡ true) × DrawsAlone (p.kinds (j + 1))))
+
+-- the list of free pools is whole: the domains run, or run next, or none has come back since, and it isn't written anew, for then it names none
+abbrev pub IsListWhole : Pause → List ℕ → Type 0
+IsListWhole p words = RunsNext p ⊎ (NoneCameBack p × (listed words ≢ 0))
+
 -- then each pool that is nobody's is listed, behind the cursor or in the reserve
 abbrev pub Covered : Config → Pause → Tenancy → List ℕ → Type 0
-Covered k p t words = RunsNext p → (q : ℕ) → q < k.pools → t.holder q ≡ nobody → (i : ℕ) × (i < listed words) × (listed_pool words i ≡ q) × ((cursor words ≤ i) ⊎ (limit_of k (listed words) ≤ i))
+Covered k p t words = IsListWhole p words → (q : ℕ) → q < k.pools → t.holder q ≡ nobody → (i : ℕ) × (i < listed words) × (listed_pool words i ≡ q) × ((cursor words ≤ i) ⊎ (limit_of k (listed words) ≤ i))
 
 -- the place of a block in a pool
 pub record Lot (holder : ℕ → Holder) (a : ℕ) (p : Place) : Type 0 where
@@ -190,7 +203,7 @@ IsLeading (Leads kind) = Unit {0}
 IsLeading (Led kind) = Unit {0}
 IsLeading _ = ⊥
 
--- domain 0 writes the list of free pools anew: these are the owner words of the first pools, the first places of the list, and how many are listed, and the cursor is 0 once it was set back
+-- domain 0 looks at the list of free pools or writes it anew: these are the owner words of the first pools, the first places of the list, how many are listed, and where the cursor stands, once that is known
 pub record Lists (k : Config) (words : List ℕ) (number : ℕ) (stage : Stage) (l : Listing) : Type 0 where
   pub first : number ≡ 0
   pub leads : IsLeading stage
@@ -198,7 +211,7 @@ pub record Lists (k : Config) (words : List ℕ) (number : ℕ) (stage : Stage) 
   pub owners : (q w : ℕ) → slice_get l.owners q ≡ Some w → owner_of k words q ≡ w
   pub names : (i q : ℕ) → slice_get l.names i ≡ Some q → listed_pool words i ≡ q
   pub count : listed words ≡ l.listed
-  pub rewinds : l.rewound ≡ true → cursor words ≡ 0
+  pub found : (c : ℕ) → l.cursor ≡ Some c → cursor words ≡ c
 
 -- a domain that neither runs nor copies takes no block. Where it doesn't run it knows nothing of how many pools are free, and of no free place. Only domain 0 writes the list, in an odd phase
 pub record Resting (k : Config) (words : List ℕ) (x : DomainView) : Type 0 where

@@ -53,7 +53,7 @@ IsUnused p s = (Promoting p → ⊥) → s ≡ spent_stock s
 abbrev pub Opened : Config → Live → List ℕ → Type 0
 Opened k live words = (a : ℕ) (q : Place) → live a ≡ Some q → k.pools * 4096 < a → reserve (sizes_in k) ≤ listed words
 
--- once domain 0 has named the next phase, the cursor is 0 where domains run next, and not in the reserve where they copy
+-- once domain 0 has named the next phase, the cursor isn't in the reserve where domains run or copy next
 pub record Drawable (k : Config) (p : Pause) (words : List ℕ) : Type 0 where
-  pub to_run : (j : ℕ) → p.phase ≡ j * 2 + 1 → p.led ≡ true → p.kinds (j + 1) ≡ Run → cursor words ≡ 0
+  pub to_run : (j : ℕ) → p.phase ≡ j * 2 + 1 → p.led ≡ true → p.kinds (j + 1) ≡ Run → cursor words ≤ limit_of k (listed words)
   pub to_copy : (j : ℕ) → p.phase ≡ j * 2 + 1 → p.led ≡ true → p.kinds (j + 1) ≡ Promote → cursor words ≤ limit_of k (listed words)

@@ -89,14 +89,14 @@ pub enum Reaping {
     AtGarbage { pool: u32, class: u32, slot: u32 },
 }
 
-/// The list of free pools, while domain 0 writes it anew.
+/// The list of free pools, while domain 0 looks at it, or writes it anew.
 pub struct Listing {
     /// The owner words that it found, from pool 0 on.
     pub owners: LinkedList<u64>,
     /// The pools that it wrote into the list, from its first place on.
     pub names: LinkedList<u64>,
-    /// Whether the cursor is 0 again.
-    pub rewound: bool,
+    /// Where the cursor stands, once it was looked at or set.
+    pub cursor: Option<u64>,
     /// How many of them the word of the listed pools says.
     pub listed: u64,
 }

@@ -18,12 +18,12 @@ use Rattle.heap_rule.specs.Copies.{IsEmptying}
 use Rattle.heap_rule.specs.Phases.{Follows, last_note}
 use Rattle.heap_rule.specs.Standing.{noted}
 use Rattle.steps_pauses.specs.Pauses.{MayFollow}
-use Rattle.steps_pools.specs.Listings.{HasList, IsLeader, with_listing}
+use Rattle.steps_pools.specs.Listings.{HasList, ListStays, NamesAll, IsLeader, with_listing}
 use Rattle.steps_marking.specs.Arming.{knowing_armed}
 use Rattle.steps_marking.specs.Changed.{FindTold}
 use Rattle.steps_marking.specs.Looks.{knowing_colours, with_share}
 use Rattle.steps_sweep.specs.Turning.{TurnTold}
-use Rattle.size_pools.specs.Listed.{ListsAnew, SetsBack}
+use Rattle.size_pools.specs.Listed.{ListsFree, SetsBack}
 use Rattle.pause_phases.specs.declared.decider.Decider.{Decider}
 use Rattle.pause_phases.specs.Leading.{CountsCleared, Findings, Opens, begins, completes, finishes, kind_after_reset, next_kind, noted_before, opened_view}
 
@@ -286,16 +286,18 @@ module _ (k : Config) (who : Decider) (x : DomainView) where
     rounds_end_second none second = changed_opens Rounds Clean (inr (inr refl)) (ap (after_rounds true) (sym second) ∙ ap (λ (b : Bool). after_rounds b x.seen.share.progress.cut) (sym (eq-eqb found 0 none))) refl (λ e. cc) (λ e. cc)
         (changed_may y.seen.share found Rounds Clean knows none (λ e. cc) (λ _. same_cut ∙ second) (inr refl) (λ e. cc) (λ e. cc) (λ e. cc))
 
-  -- the list of free pools, where one is written and nothing else done since
-  list_as : (y z : DomainView) → z.seen.listing ≡ y.seen.listing → HasList k y → HasList k z
-  list_as y z same list = record { owners = list.owners; all = list.all; listing = same ∙ list.listing }
+  -- the list of free pools, where it was seen to and nothing else done since
+  list_as : (y z : DomainView) → z.seen.listing ≡ y.seen.listing → z.seen.stage ≡ y.seen.stage → z.own.number ≡ y.own.number → NamesAll k y → NamesAll k z
+  list_as y z same stage number = ⊎_elim
+      (λ (l : HasList k y). inl (record { owners = l.owners; all = l.all; listing = same ∙ l.listing }))
+      (λ (l : ListStays k y). inr (record { leads = record { first = number ∙ l.leads.first; stage = stage ∙ l.leads.stage }; list = l.list; listing = same ∙ l.listing; some = l.some; at = l.at; cursor_is = l.cursor_is; low = l.low }))
 
   -- what comes after Sweep, by whether garbage was left of an earlier pause, whether a cycle begins, and whether the one that ended began in this pause
   abbrev after_sweep : Bool → Bool → Bool → Kind
   after_sweep unswept start is_whole = if unswept then (if start then Roots else Run) else (if is_whole then Answer else Roots)
 
   -- it writes the list, and finds the wishes
-  module _ (y z : DomainView) (found free : ℕ) (lists : ListsAnew free x y) (list : HasList k y) (told : z ≡ noted y (Want found)) where
+  module _ (y z : DomainView) (found free : ℕ) (lists : ListsFree free x y) (list : NamesAll k y) (told : z ≡ noted y (Want found)) where
     abbrev wishes : Findings
     wishes = record { wants = found; changed = 0; free = free }
 
@@ -325,7 +327,7 @@ module _ (k : Config) (who : Decider) (x : DomainView) where
             findings = wishes;
             chosen = chosen;
             may = subst (λ (s : Share). MayFollow s Reset next) (sym share_is) (subst (MayFollow share Reset) (sym chosen) (reset_may share p.armed (finishes who found) b p.unswept knows_all));
-            list = λ _. list_as y u listed list;
+            list = λ _. list_as y u listed (ap (λ (w : DomainView). w.seen.stage) view ∙ sym (ap (λ (w : DomainView). w.seen.stage) lists)) (ap (λ (w : DomainView). w.own.number) view ∙ sym (ap (λ (w : DomainView). w.own.number) lists)) list;
             set_back = λ e. absurd (reset_copies p.armed (finishes who found) b p.unswept (sym chosen ∙ e));
             progress_is = ap (λ (s : Share). s.progress) share_is ∙ progress;
             view = opened_as x u two_notes _ y.seen.listing share view in_order;
@@ -346,7 +348,7 @@ module _ (k : Config) (who : Decider) (x : DomainView) where
       findings = wishes;
       chosen = chosen;
       may = subst (λ (s : Share). MayFollow s Sweep next) (sym (ap (λ (w : DomainView). w.seen.share) is)) may;
-      list = λ _. list_as y z (ap (λ (w : DomainView). w.seen.listing) is) list;
+      list = λ _. list_as y z (ap (λ (w : DomainView). w.seen.listing) is) (ap (λ (w : DomainView). w.seen.stage) told) (ap (λ (w : DomainView). w.own.number) told) list;
       set_back = λ e. absurd (copies e);
       progress_is = ap (λ (w : DomainView). w.seen.share.progress) is;
       view = opened_as x z two_notes _ y.seen.listing x.seen.share is (in_order ∙ ap (λ (b : Bool). x.seen.notes ++ (if b then Listed free ∷ Want found ∷ [] else [])) (sym owed));
@@ -371,7 +373,7 @@ module _ (k : Config) (who : Decider) (x : DomainView) where
     copies : next ≢ Promote
 
   -- with what it then knows of the phase
-  decides : (last next : Kind) (f : Findings) (u : DomainView) (share : Share) → Decides last next f → u ≡ opened x (x.seen.notes ++ noted_before last next x.seen.share.progress f) u.seen.listing share → share.progress ≡ x.seen.share.progress → MayFollow share last next → (next ≡ Run → HasList k u) → Opens k who x u last next
+  decides : (last next : Kind) (f : Findings) (u : DomainView) (share : Share) → Decides last next f → u ≡ opened x (x.seen.notes ++ noted_before last next x.seen.share.progress f) u.seen.listing share → share.progress ≡ x.seen.share.progress → MayFollow share last next → (next ≡ Run → NamesAll k u) → Opens k who x u last next
   decides last next f u share d view progress may list =
       let same : u.seen.share ≡ share = ap (λ (w : DomainView). w.seen.share) view in record {
         follows = d.follows;
@@ -458,17 +460,17 @@ module _ (k : Config) (who : Decider) (x : DomainView) where
         (λ e. cc)
 
     -- or the domains run, and free it as they do
-    pub lasts_run : (z : DomainView) (free : ℕ) → completes who found ≡ false → ListsAnew free (knowing_armed y3 false) z → HasList k z → Opens k who x z Lasts Run
+    pub lasts_run : (z : DomainView) (free : ℕ) → completes who found ≡ false → ListsFree free (knowing_armed y3 false) z → HasList k z → Opens k who x z Lasts Run
     lasts_run z free part lists list =
         let share : Share = record turned_share { armed = Some false } in
         let view : z ≡ opened x ((x.seen.notes ++ Want found ∷ []) ++ Listed free ∷ []) z.seen.listing share = lists ∙ ap (λ (w : DomainView). noted (with_listing (knowing_armed w false) z.seen.listing) (Listed free)) turned_is in
         decides Lasts Run (wished found free) z share (lasts_decides Run free (inr refl) (ap (λ (b : Bool). if b then Sweep else Run) (sym part)) (λ e. cc))
         (view ∙ ap (λ (n : List Note). opened x n z.seen.listing share) (append_assoc x.seen.notes (Want found ∷ []) (Listed free ∷ []))) refl
         (runs_may share Lasts record { rotated = λ _. refl; on = λ e. cc; over = λ _. refl; freed = λ e. cc })
-        (λ _. list)
+        (λ _. inl list)
 
   -- before the domains run the armed word and the list are written
-  module _ (y z : DomainView) (armed : Bool) (free : ℕ) (lists : ListsAnew free (knowing_armed y armed) z) (list : HasList k z) where
+  module _ (y z : DomainView) (armed : Bool) (free : ℕ) (lists : ListsFree free (knowing_armed y armed) z) (list : HasList k z) where
     abbrev armed_share : Share
     armed_share = record x.seen.share { armed = Some armed }
 
@@ -479,10 +481,10 @@ module _ (k : Config) (who : Decider) (x : DomainView) where
     roots_run found told part is = decides Roots Run (wished found free) z armed_share record { follows = inr refl; chosen = ap (λ (b : Bool). if b then Mark else Run) (sym part); copies = λ e. cc }
         (armed_view (x.seen.notes ++ Want found ∷ []) told ∙ ap (λ (n : List Note). opened x n z.seen.listing armed_share) (append_assoc x.seen.notes (Want found ∷ []) (Listed free ∷ []))) refl
         (runs_may armed_share Roots record { rotated = λ e. cc; on = λ _. ap Some is; over = ⊎_elim (λ (e : Roots ≡ Lasts). cc) (λ (e : Roots ≡ Answer). cc); freed = λ e. cc })
-        (λ _. list)
+        (λ _. inl list)
 
     pub answer_runs : y ≡ x → armed ≡ false → Opens k who x z Answer Run
     answer_runs told is = decides Answer Run (wished 0 free) z armed_share record { follows = refl; chosen = refl; copies = λ e. cc }
         (armed_view x.seen.notes told) refl
         (runs_may armed_share Answer record { rotated = λ e. cc; on = λ e. cc; over = λ _. ap Some is; freed = λ e. cc })
-        (λ _. list)
+        (λ _. inl list)

@@ -13,7 +13,7 @@ use Rattle.heap_rule.specs.declared.phase.Stage.TheVariants.{Led}
 use Rattle.heap_rule.specs.Phases.{Follows, last_note}
 use Rattle.heap_rule.specs.Views.{fresh_share}
 use Rattle.steps_pauses.specs.Pauses.{EndsWith, MayFollow, arrived_view, entry_of, progress_after}
-use Rattle.steps_pools.specs.Listings.{HasList}
+use Rattle.steps_pools.specs.Listings.{NamesAll}
 use Rattle.safepoint.specs.declared.answer.Want.TheVariants.{Cycle, Finish, Full}
 use Rattle.safepoint.specs.Looks.{LedTo, cleared, is_wanted}
 use Rattle.steps_marking.specs.Looks.{with_share}
@@ -60,7 +60,7 @@ next_kind k decider Lasts p f = if completes decider f.wants then Sweep else Run
 next_kind k decider Sweep p f = if p.unswept then (if begins k decider f.wants f.free then Roots else Run) else (if p.whole then Answer else Roots)
 next_kind k decider Answer p f = Run
 
--- where the domains run next it writes the list of free pools
+-- where the domains run next it sees to the list of free pools
 abbrev pub noted_list : Kind → Findings → List Note
 noted_list Run f = Listed f.free ∷ []
 noted_list _ f = []
@@ -106,7 +106,7 @@ pub record Opens (k : Config) (decider : Decider) (x y : DomainView) (last kind 
   pub findings : Findings
   pub chosen : kind ≡ next_kind k decider last x.seen.share.progress findings
   pub may : MayFollow y.seen.share last kind
-  pub list : kind ≡ Run → HasList k y
+  pub list : kind ≡ Run → NamesAll k y
   pub set_back : kind ≡ Promote → last_note y.seen.notes ≡ Some SetBack
   pub progress_is : y.seen.share.progress ≡ x.seen.share.progress
   pub view : y ≡ opened_view x y (x.seen.notes ++ noted_before last kind x.seen.share.progress findings)

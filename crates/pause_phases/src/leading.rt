@@ -8,7 +8,7 @@ ghost use Rattle.heap_rule.specs.Phases.{Follows, last_note};
 ghost use Rattle.heap_rule.specs.Token.{IsIn};
 ghost use Rattle.heap_rule.specs.Views.{voided};
 ghost use Rattle.steps_pauses.specs.Pauses.{MayFollow, kind_in};
-ghost use Rattle.steps_pools.specs.Listings.{HasList};
+ghost use Rattle.steps_pools.specs.Listings.{NamesAll};
 ghost use Rattle.pause_phases.specs.Leading.{LeadsOn, Named};
 
 use crate::decider::Decider;
@@ -25,7 +25,7 @@ fn name(heap: &Heap, dom: &mut Domain, next: Kind)
     requires odd { dom.old.view.seen.stage ≡ Leads (kind_in dom.old.view.seen.stage) }
     requires follows { Follows (kind_in dom.old.view.seen.stage) next }
     requires may { MayFollow dom.old.view.seen.share (kind_in dom.old.view.seen.stage) next }
-    requires list { next ≡ Run → HasList heap.now.config dom.old.view }
+    requires list { next ≡ Run → NamesAll heap.now.config dom.old.view }
     requires set_back { next ≡ Promote → last_note dom.old.view.seen.notes ≡ Some SetBack }
     ensures here { IsIn dom.new heap.now }
     ensures named { Named heap.now.config next dom.old.view dom.new.view }

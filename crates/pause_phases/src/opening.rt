@@ -6,7 +6,7 @@ ghost use Rattle.heap_rule.specs.Token.{IsIn};
 ghost use Rattle.heap_rule.specs.Views.{voided};
 ghost use Rattle.steps_marking.specs.Arming.{ArmMay, knowing_armed};
 ghost use Rattle.steps_pools.specs.Listings.{HasList, IsLeader};
-ghost use Rattle.size_pools.specs.Listed.{ListsAnew};
+ghost use Rattle.size_pools.specs.Listed.{ListsFree};
 ghost use Rattle.steps_sweep.specs.Turning.{ClearMay};
 ghost use Rattle.pause_phases.specs.declared.decider.Decider.{Decider};
 ghost use Rattle.pause_phases.specs.Leading.{CountsCleared, Opens, begins, completes, finishes, kind_after_reset};
@@ -15,7 +15,7 @@ use crate::decider::Decider;
 use heap_rule::{Config, Domain, Heap, Kind, Progress};
 use heap_words::{pack_colours, rotate};
 use safepoint::{Want, Wants, is_wanted, wants};
-use size_pools::{set_cursor_back, write_list};
+use size_pools::{list_free, set_cursor_back, write_list};
 use steps_marking::{armed_store, changed_load, colours_now};
 use steps_sweep::{blocks_clear, colours_store, words_clear};
 
@@ -73,7 +73,7 @@ fn before_run(heap: &Heap, dom: &mut Domain, armed: bool) -> u32
     requires leader { IsLeader dom.old.view }
     ensures here { IsIn dom.new heap.now }
     ensures list { HasList heap.now.config dom.new.view }
-    ensures lists { ListsAnew result (knowing_armed dom.old.view armed) dom.new.view }
+    ensures lists { ListsFree result (knowing_armed dom.old.view armed) dom.new.view }
 {
     armed_store(heap, dom, armed);
     write_list(heap, dom)
@@ -113,8 +113,9 @@ fn clear_counts(heap: &Heap, dom: &mut Domain)
     words_clear(heap, dom);
 }
 
-// The list of free pools is written anew. A collection of the major heap begins or none does; one that
-// goes on is finished or goes on. Before one begins the garbage that is left of the last one is freed.
+// The list of free pools stays, or is written anew. A collection of the major heap begins or none does;
+// one that goes on is finished or goes on. Before one begins the garbage that is left of the last one is
+// freed.
 fn after_reset(heap: &Heap, dom: &mut Domain, decider: Decider, progress: Progress) -> Kind
     requires here { IsIn dom.old heap.now }
     requires first { dom.old.view.own.number ≡ 0 }
@@ -123,7 +124,7 @@ fn after_reset(heap: &Heap, dom: &mut Domain, decider: Decider, progress: Progre
     ensures here { IsIn dom.new heap.now }
     ensures opens { Opens heap.now.config decider dom.old.view dom.new.view Reset result }
 {
-    let free = write_list(heap, dom);
+    let free = list_free(heap, dom);
     let found = wants(heap, dom);
     let next = kind_after_reset(&heap.config(), decider, found, free, progress);
     match next {

@@ -1,5 +1,5 @@
 -- Domain 0 may name the next kind once it has taken the wishes back, where the domains run next.
-use Rattle.std.proofs.Common.{◌≡◌, ℕ, ◌+◌, List, ◌++◌, Some, true, length, sym, refl, ap, ◌∙◌, subst, inl, inr, ◌-◌, ◌≤◌, arith, suc}
+use Rattle.std.proofs.Common.{◌≡◌, ℕ, ◌+◌, List, ◌++◌, Some, length, sym, refl, ap, ◌∙◌, subst, inl, inr, ⊎_elim, ◌-◌, ◌≤◌, arith, suc}
 use Rattle.std.proofs.lemmas.List.{append-nil}
 use Rattle.heap_rule.specs.declared.config.Config.{Config}
 use Rattle.heap_rule.specs.declared.view.DomainView.{DomainView}
@@ -11,7 +11,7 @@ use Rattle.heap_rule.specs.declared.phase.Stage.TheVariants.{Leads}
 use Rattle.heap_rule.specs.Phases.{code, kind_at, Follows, last_note}
 use Rattle.heap_rule.proofs.Controls.{last_note_end}
 use Rattle.steps_pauses.specs.Pauses.{kind_in, IsWish, LeadMay, MayFollow, LeadTold}
-use Rattle.steps_pools.specs.Listings.{HasList, free_pools}
+use Rattle.steps_pools.specs.Listings.{HasList, ListStays, NamesAll, free_pools}
 use Rattle.steps_pools.proofs.FreePools.{free_all}
 use Rattle.safepoint.specs.declared.answer.Want as wish
 use Rattle.safepoint.specs.declared.answer.Want.TheVariants.{Minor, Cycle, Finish, Full}
@@ -51,7 +51,7 @@ took notes next runs = subst (λ (kind : Kind). last_note (notes ++ cleared kind
 back : (notes : List Note) (next : Kind) → next ≡ Promote → last_note notes ≡ Some SetBack → last_note (notes ++ cleared next) ≡ Some SetBack
 back notes next copies last = subst (λ (kind : Kind). last_note (notes ++ cleared kind) ≡ Some SetBack) (sym copies) (ap last_note (append-nil notes) ∙ last)
 
-pub lead_may : (k : Config) (x y : DomainView) (word : ℕ) (next : Kind) → x.own.number ≡ 0 → x.seen.stage ≡ Leads (kind_in x.seen.stage) → Follows (kind_in x.seen.stage) next → MayFollow x.seen.share (kind_in x.seen.stage) next → word ≡ code next → (next ≡ Run → HasList k x) → (next ≡ Promote → last_note x.seen.notes ≡ Some SetBack)
+pub lead_may : (k : Config) (x y : DomainView) (word : ℕ) (next : Kind) → x.own.number ≡ 0 → x.seen.stage ≡ Leads (kind_in x.seen.stage) → Follows (kind_in x.seen.stage) next → MayFollow x.seen.share (kind_in x.seen.stage) next → word ≡ code next → (next ≡ Run → NamesAll k x) → (next ≡ Promote → last_note x.seen.notes ≡ Some SetBack)
     → y ≡ record x { seen = record x.seen { notes = x.seen.notes ++ cleared next } } → LeadMay k y word (kind_at word)
 lead_may k x y word next first leads follows may is list set_back view =
     let kind : kind_at word ≡ next = ap kind_at is ∙ kind_of_code next in
@@ -63,14 +63,17 @@ lead_may k x y word next first leads follows may is list set_back view =
       may = subst (MayFollow x.seen.share (kind_in x.seen.stage)) (sym kind) may;
       word = is ∙ ap code (sym kind);
       took_back = λ runs. took x.seen.notes next (sym kind ∙ runs);
-      relisted = λ runs. let l = list (sym kind ∙ runs) in record {
-        list = record { owners = l.owners; names = free_pools l.owners; rewound = true; listed = length (free_pools l.owners) };
-        listing = l.listing;
-        rewound = refl;
-        all = l.all;
-        count = refl;
-        free = λ q none. let at = free_all 0 q l.owners none in (at.0, at.1 ∙ ap Some (let e : 0 + q ≡ q = omega arith in e));
-      };
+      relisted = λ runs. ⊎_elim
+        (λ (l : HasList k x). inl (record {
+          list = record { owners = l.owners; names = free_pools l.owners; cursor = Some 0; listed = length (free_pools l.owners) };
+          listing = l.listing;
+          rewound = refl;
+          all = l.all;
+          count = refl;
+          free = λ q none. let at = free_all 0 q l.owners none in (at.0, at.1 ∙ ap Some (let e : 0 + q ≡ q = omega arith in e));
+        }))
+        (λ (l : ListStays k x). inr (record { list = l.list; listing = l.listing; stage = l.leads.stage; some = l.some; at = l.at; cursor_is = l.cursor_is; low = l.low }))
+        (list (sym kind ∙ runs));
       set_back = λ copies. let is = sym kind ∙ copies in back x.seen.notes next is (set_back is);
     })
 

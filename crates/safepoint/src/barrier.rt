@@ -9,7 +9,7 @@ ghost use Rattle.heap_rule.specs.Standing.{noted, ShowsRegisters};
 ghost use Rattle.steps_pauses.specs.Pauses.{IsGone, ArriveMay, ClearMay, MayFollow, kind_in, arrived_view};
 ghost use Rattle.heap_rule.specs.Token.{IsIn};
 ghost use Rattle.safepoint.specs.Looks.{bit_of, cleared, is_wanted, LedTo, LookAnswers};
-ghost use Rattle.steps_pools.specs.Listings.{HasList};
+ghost use Rattle.steps_pools.specs.Listings.{NamesAll};
 
 use crate::answer::{Look, Want, Wants};
 use heap_rule::{Domain, Heap, Kind};
@@ -141,7 +141,7 @@ fn clear_for(heap: &Heap, dom: &mut Domain, next: Kind)
 }
 
 /// Domain 0 says in an odd phase which phase comes next. Before domains run again no wish is left, and
-/// the list of free pools has been written anew in this phase. Before they copy the cursor was just set
+/// the list of free pools has been written anew in this phase, or stays. Before they copy the cursor was just set
 /// back out of the reserve. Before they run beside a cycle, and before one that goes on is finished, it
 /// knows that the armed word is set; before they run after a collection, and before another begins where
 /// blocks were copied, that it isn't. Another begins there only where no garbage of the last one is left:
@@ -152,7 +152,7 @@ pub fn lead(heap: &Heap, dom: &mut Domain, next: Kind)
     requires odd { dom.old.view.seen.stage ≡ Leads (kind_in dom.old.view.seen.stage) }
     requires follows { Follows (kind_in dom.old.view.seen.stage) next }
     requires may { MayFollow dom.old.view.seen.share (kind_in dom.old.view.seen.stage) next }
-    requires list { next ≡ Run → HasList heap.now.config dom.old.view }
+    requires list { next ≡ Run → NamesAll heap.now.config dom.old.view }
     requires set_back { next ≡ Promote → last_note dom.old.view.seen.notes ≡ Some note.SetBack }
     ensures here { IsIn dom.new heap.now }
     ensures led { LedTo heap.now.config next dom.old.view dom.new.view }

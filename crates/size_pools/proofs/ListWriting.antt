@@ -1,18 +1,21 @@
 -- The list of free pools grows by one pool that is nobody's.
-use Rattle.std.proofs.Common.{◌≡◌, ◌≢◌, ℕ, ◌+◌, ◌<◌, ◌≤◌, false, List, [], ◌∷◌, ◌++◌, length, Option, Some, None, refl, sym, ap, ◌∙◌, subst, arith, length-append}
+use Rattle.std.proofs.Common.{◌≡◌, ◌≢◌, ℕ, ◌+◌, ◌<◌, ◌≤◌, List, [], ◌∷◌, ◌++◌, length, Option, Some, None, refl, sym, ap, ◌∙◌, subst, arith, length-append}
 use Rattle.heap_rule.specs.declared.config.Config.{Config}
 use Rattle.heap_rule.specs.declared.view.DomainView.{DomainView}
 use Rattle.heap_rule.specs.declared.view.Listing.{Listing}
-use Rattle.steps_pools.specs.Listings.{with_listing, further, relisted, found_owner, named, set_back, listed_as, no_listing, noted_set_back, IsOpener, CountedTold, HasCounted, free_from, free_pools, IsLeader, EmptiedTold, LookMay, LookedTold, NameMay, NamedTold, SetBackTold, CloseMay, ListedAsTold, HasList, IsListedCount}
+use Rattle.steps_pools.specs.Listings.{with_listing, further, relisted, found_owner, named, cursor_at, with_cursor, listed_as, no_listing, noted_set_back, noted_left, LeadsBehind, IsLooker, IsOpener, CountedTold, HasCounted, IsAbove, CursorLookTold, KeepLookTold, ListStays, free_from, free_pools, IsLeader, EmptiedTold, LookMay, LookedTold, NameMay, NamedTold, SetBackTold, CloseMay, ListedAsTold, HasList, IsListedCount}
 use Rattle.steps_pools.proofs.FreePools.{free_last, free_same}
 use Rattle.size_pools.specs.Listed.{HasListed, Relisted}
+use Rattle.heap_rule.specs.declared.phase.Kind.{Kind}
+use Rattle.heap_rule.specs.declared.phase.Kind.TheVariants.{Run, Reset}
 use Rattle.heap_rule.specs.declared.phase.Note.TheVariants.{SetBack}
+use Rattle.heap_rule.specs.Pools.{limit_of}
 use Rattle.heap_rule.specs.Phases.{last_note}
 use Rattle.heap_rule.proofs.Controls.{last_note_end}
 
 -- the list so far
 abbrev so_far : List ℕ → List ℕ → Listing
-so_far owners names = record { owners = owners; names = names; rewound = false; listed = 0 }
+so_far owners names = record { owners = owners; names = names; cursor = None; listed = 0 }
 
 on_list : (x y : DomainView) (l : Listing) (f : Listing → Listing) → x.seen.listing ≡ Some l → y ≡ relisted x f → y.seen.listing ≡ Some (f l)
 on_list x y l f listing told = ap (λ (z : DomainView). z.seen.listing) told ∙ ap (further f) listing
@@ -101,17 +104,18 @@ listed_in (Some l) = l.listed
 module _ (k : Config) (x : DomainView) (count : ℕ) (h : HasListed x k.pools count) where
   module _ (y : DomainView) (told : SetBackTold x 0 y) where
     abbrev back : Listing
-    back = set_back (so_far h.owners (free_pools h.owners))
+    back = cursor_at 0 (so_far h.owners (free_pools h.owners))
 
     back_list : y.seen.listing ≡ Some back
-    back_list = on_list x y (so_far h.owners (free_pools h.owners)) set_back h.listing told
+    back_list = on_list x y (so_far h.owners (free_pools h.owners)) (cursor_at 0) h.listing told
 
     pub close_ready : CloseMay k y count
     close_ready = record {
-      empties = record { leader = leads_on x y (same_list x y set_back told) h.leader; list = back; listing = back_list; empty = refl };
+      empties = record { leader = leads_on x y (same_list x y (cursor_at 0) told) h.leader; list = back; listing = back_list; empty = refl };
       all = h.all;
       free = refl;
       count = sym h.count_is;
+      back = refl;
     }
 
     pub closed_list : (z : DomainView) → ListedAsTold y count z → HasList k z
@@ -126,13 +130,38 @@ module _ (k : Config) (x : DomainView) (count : ℕ) (h : HasListed x k.pools co
     closed_count z said list = ap listed_in (sym (on_listed y z back count back_list said) ∙ list.listing)
 
 -- how many pools are listed is known
-pub counted_ready : (k : Config) (x y : DomainView) (count : ℕ) → IsOpener x → CountedTold k x count y → HasCounted y count
-counted_ready k x y count opener told = record {
-  opener = subst IsOpener (sym told.view) (let l : IsOpener (with_listing x (Some (listed_as count no_listing))) = record { first = opener.first; stage = opener.stage } in l);
+pub counted_ready : (k : Config) (kind : Kind) (x y : DomainView) (count : ℕ) → LeadsBehind kind x → CountedTold k x count y → HasCounted kind y count
+counted_ready k kind x y count leads told = record {
+  leads = subst (LeadsBehind kind) (sym told.view) (let l : LeadsBehind kind (with_listing x (Some (listed_as count no_listing))) = record { first = leads.first; stage = leads.stage } in l);
   list = listed_as count no_listing;
   listing = ap (λ (z : DomainView). z.seen.listing) told.view;
-  kept = refl;
   count_is = refl;
+}
+
+-- where the cursor stands is known
+module _ (k : Config) (kind : Kind) (y z : DomainView) (count found : ℕ) (h : HasCounted kind y count) (told : z ≡ with_cursor y found) where
+  cursor_list : z.seen.listing ≡ Some (cursor_at found h.list)
+  cursor_list = on_list y z h.list (cursor_at found) h.listing told
+
+  abbrev leads_still : LeadsBehind kind (with_cursor y found)
+  leads_still = record { first = h.leads.first; stage = h.leads.stage }
+
+  seen_cursor : HasCounted kind z count
+  seen_cursor = record { leads = subst (LeadsBehind kind) (sym told) leads_still; list = cursor_at found h.list; listing = cursor_list; count_is = h.count_is }
+
+pub above_ready : (k : Config) (y z : DomainView) (count found : ℕ) → HasCounted Run y count → CursorLookTold k count y found z → limit_of k count < found → IsAbove k z count
+above_ready k y z count found h told above = record { counted = seen_cursor k Run y z count found h (told.high above); at = found; cursor_is = refl; above = above }
+
+-- the list stays
+pub stays_ready : (k : Config) (y z : DomainView) (count found : ℕ) → HasCounted Reset y count → count ≢ 0 → KeepLookTold k count y found z → found ≤ limit_of k count → ListStays k z
+stays_ready k y z count found h some told low = record {
+  leads = subst (LeadsBehind Reset) (sym (told.low low)) (let l : LeadsBehind Reset (noted_left count found y) = record { first = h.leads.first; stage = h.leads.stage } in l);
+  list = cursor_at found h.list;
+  listing = ap (λ (v : DomainView). v.seen.listing) (told.low low) ∙ ap (further (cursor_at found)) h.listing;
+  some = λ none. some (sym h.count_is ∙ none);
+  at = found;
+  cursor_is = refl;
+  low = subst (λ (n : ℕ). found ≤ limit_of k n) (sym h.count_is) low;
 }
 
 -- the cursor is set back

@@ -1,15 +1,16 @@
 //! The list of free pools, written anew, and its cursor set back.
-ghost use Rattle.std.specs.Prelude.{◌≡◌, ◌+◌, ◌<◌, ◌≤◌, Some};
+ghost use Rattle.std.specs.Prelude.{◌≡◌, ◌+◌, ◌<◌, ◌≤◌, Some, None, IfSome};
+ghost use Rattle.heap_rule.specs.declared.phase.Kind.TheVariants.{Reset};
 ghost use Rattle.heap_rule.specs.declared.phase.Note.TheVariants.{SetBack};
 ghost use Rattle.heap_rule.specs.Phases.{last_note};
 ghost use Rattle.heap_rule.specs.Token.{IsIn};
-ghost use Rattle.steps_pools.specs.Listings.{IsLeader, IsOpener, HasList, IsListedCount};
-ghost use Rattle.size_pools.specs.Listed.{HasListed, ListsAnew, Relisted, SetsBack};
+ghost use Rattle.steps_pools.specs.Listings.{IsLeader, IsOpener, LeadsBehind, HasList, IsListedCount, ListStays, NamesAll};
+ghost use Rattle.size_pools.specs.Listed.{HasListed, ListsFree, Relisted, SetsBack};
 
 use heap_rule::{Domain, Heap};
 use steps_pools::{
-    cursor_clear, cursor_cut, cursor_look, draw_limit, list_store, listed_clear, listed_look,
-    listed_store, owner_look,
+    cursor_clear, cursor_cut, cursor_look, draw_limit, keep_look, list_store, listed_clear,
+    listed_look, listed_store, owner_look,
 };
 
 // The index of the first word of the list, and of the first owner word less the number of pools.
@@ -67,13 +68,51 @@ pub fn write_list(heap: &Heap, dom: &mut Domain) -> u32
     ensures here { IsIn dom.new heap.now }
     ensures list { HasList heap.now.config dom.new.view }
     ensures count { IsListedCount heap.now.config dom.new.view result }
-    ensures lists { ListsAnew result dom.old.view dom.new.view }
+    ensures lists { ListsFree result dom.old.view dom.new.view }
 {
     listed_clear(heap, dom);
     let count = list_pools(heap, dom);
     cursor_clear(heap, dom);
     listed_store(heap, dom, u64::from(count));
     count
+}
+
+// How many pools the list names behind the cursor, where some are listed and copies have drawn none of the reserve: then
+// it stays.
+fn still_listed(heap: &Heap, dom: &mut Domain) -> Option<u32>
+    requires here { IsIn dom.old heap.now }
+    requires leads { LeadsBehind Reset dom.old.view }
+    ensures here { IsIn dom.new heap.now }
+    ensures stays { IfSome result (λ _. ListStays heap.now.config dom.new.view) }
+    ensures lists { IfSome result (λ count. ListsFree count dom.old.view dom.new.view) }
+    ensures same { result ≡ None → Relisted dom.old.view dom.new.view }
+{
+    let _limits = heap.config();
+    let count = listed_look(heap, dom) as u32;
+    if count == 0 {
+        return None;
+    }
+    let cursor = keep_look(heap, dom, count);
+    if cursor > u64::from(draw_limit(heap, count)) {
+        return None;
+    }
+    Some(count - cursor as u32)
+}
+
+/// Domain 0, behind Reset, in which it hasn't named the next kind, sees to it that the list names all free pools. No pool
+/// has come back since domains ran last, so it stays unless copies have drawn pools of the reserve, and else is written
+/// anew. All that the domain owns stays as it is. Answers how many free pools are listed, and notes it.
+pub fn list_free(heap: &Heap, dom: &mut Domain) -> u32
+    requires here { IsIn dom.old heap.now }
+    requires leads { LeadsBehind Reset dom.old.view }
+    ensures here { IsIn dom.new heap.now }
+    ensures list { NamesAll heap.now.config dom.new.view }
+    ensures lists { ListsFree result dom.old.view dom.new.view }
+{
+    match still_listed(heap, dom) {
+        Some(count) => count,
+        None => write_list(heap, dom),
+    }
 }
 
 /// Domain 0, in the first phase of a pause in which it hasn't named the next kind, sets the cursor back

@@ -314,7 +314,7 @@ module _ (k : Config) (s : Words) (r : Rule k s) (id : ℕ) (hist : List Entry) 
           unused = r.whole.unused;
           opened = opened_words k r.account.live s.words ws (λ _ _ _ _. counts.0) r.whole.opened;
           drawable = record {
-            to_run = λ j odd led runs. counts.1 ∙ r.whole.drawable.to_run j odd led runs;
+            to_run = λ j odd led runs. low_kept (r.whole.drawable.to_run j odd led runs);
             to_copy = λ j odd led copies. low_kept (r.whole.drawable.to_copy j odd led copies);
           };
           cycle = cycle';

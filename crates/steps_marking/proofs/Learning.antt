@@ -198,7 +198,7 @@ module _ (k : Config) (s : Words) (r : Rule k s) (id : ℕ) (hist : List Entry) 
         room = room_words k live r.account.pause t.stock s.words words' (λ _. counts) r.whole.room;
         unused = r.whole.unused;
         drawable = record {
-          to_run = λ j odd led runs. counts.1 ∙ r.whole.drawable.to_run j odd led runs;
+          to_run = λ j odd led runs. low_untouched k s.words words' o.untouched (r.whole.drawable.to_run j odd led runs);
           to_copy = λ j odd led copies. low_untouched k s.words words' o.untouched (r.whole.drawable.to_copy j odd led copies);
         };
         hunter = hunter_as k t words' x y refl refl refl refl refl refl refl (hunter_untouched k t s.words words' x o.untouched g.hunter);

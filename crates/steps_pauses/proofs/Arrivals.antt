@@ -20,7 +20,7 @@ use Rattle.heap_rule.specs.Limits.{sizes_in}
 use Rattle.heap_rule.specs.Places.{Place, Live, Settled}
 use Rattle.heap_rule.specs.Copies.{nothing_copied, Promoting, Cleared as Clears, AllCleared, Emptied, Rooted, IsEmptying, Resetting}
 use Rattle.heap_rule.specs.Phases.{code, Follows, sum_of, IsEven, IsOdd, Pause, Phases, LeftOdd, AtStage, Staged, Unwished}
-use Rattle.heap_rule.specs.Pools.{OwnPlace, Stock, Tenancy, nobody, drawn, drawn_in, place_in, limit_of, Reserved, Covered, Drawers, Hunts, no_stock}
+use Rattle.heap_rule.specs.Pools.{OwnPlace, Stock, Tenancy, nobody, drawn, drawn_in, place_in, limit_of, Reserved, RunsNext, DrawsAlone, NoneCameBack, Covered, Drawers, Hunts, no_stock}
 use Rattle.heap_rule.specs.Room.{spent_stock, drawn_in_all, Room, IsUnused, Drawable}
 use Rattle.heap_rule.specs.Rule.{Good, Rule}
 use Rattle.heap_rule.specs.Views.{one, Tells}
@@ -368,7 +368,7 @@ module _ (k : Config) (s : Words) (r : Rule k s) (id : ℕ) (hist : List Entry) 
   -- some domain of the phase hasn't arrived: the phase stays
   open_phase : (claims' : ℕ → ℕ) → ((pause.phase + 1) * k.domains ≤ barrier s.words + 1 → ⊥) → claims' number ≡ 0 → ((e : ℕ) → e ≢ number → claims' e ≡ tenancy.stock.claims e)
       → Room k live stays (counting claims') words' → IsUnused stays (counting claims') → Rule k record { words = words'; homes = s.homes; views = set s.views id (one k hist y) }
-  open_phase claims' not_full mine_is theirs room unused = let c = counts_untouched s.words words' untouched in through stays claims' record {
+  open_phase claims' not_full mine_is theirs room unused = through stays claims' record {
     phases = record {
       sum = sum_is;
       begun = subst (λ (n : ℕ). pause.phase * k.domains ≤ n) (sym barrier_is) (let b : ℕ = barrier s.words in let m : ℕ = pause.phase * k.domains in let u : m ≤ b = r.whole.phases.begun in let v : m ≤ b + 1 = omega arith in v);
@@ -405,7 +405,7 @@ module _ (k : Config) (s : Words) (r : Rule k s) (id : ℕ) (hist : List Entry) 
     room = room;
     unused = unused;
     drawable = record {
-      to_run = λ j odd led runs. c.1 ∙ r.whole.drawable.to_run j odd led runs;
+      to_run = λ j odd led runs. low_untouched k s.words words' untouched (r.whole.drawable.to_run j odd led runs);
       to_copy = λ j odd led copies. low_untouched k s.words words' untouched (r.whole.drawable.to_copy j odd led copies);
     };
     unwished = λ j odd led runs. want_is ∙ r.whole.unwished j odd led runs;
@@ -509,6 +509,26 @@ module _ (k : Config) (s : Words) (r : Rule k s) (id : ℕ) (hist : List Entry) 
     garbage_kept : KeepsGarbage k (dropped k live) tenancy (record tenancy { stock = no_stock }) s.words words'
     garbage_kept = record { same = λ a. refl; dead = λ a is. dropped_none k live a (r.whole.cycle.leaves.dead a is); unprepared = r.whole.cycle.leaves.unprepared; heads = λ a _. same_heap a; held = λ q d c e. e }
 
+    -- the domains run next where domain 0 named it
+    was_next : RunsNext next → RunsNext pause
+    was_next runs = inr (⊎_elim
+        (λ (h : (j : ℕ) × (pause.phase + 1 ≡ j * 2) × (pause.kinds j ≡ Run)). half_before {A = (i : ℕ) × (pause.phase ≡ i * 2 + 1) × (pause.led ≡ true) × (pause.kinds (i + 1) ≡ Run)} h.0 pause.phase h.1 (λ i odd more. (i, odd, led_is i odd, ap pause.kinds more ∙ h.2)))
+        (λ (h : (j : ℕ) × (pause.phase + 1 ≡ j * 2 + 1) × (false ≡ true) × (pause.kinds (j + 1) ≡ Run)). absurd (true≢false (sym h.2)))
+        runs)
+
+    -- and pools are only drawn next where he named such a kind, or the phase was one
+    drew_alone : NoneCameBack next → NoneCameBack pause
+    drew_alone came = ⊎_elim
+        (λ (h : (j : ℕ) × (pause.phase + 1 ≡ j * 2) × DrawsAlone (pause.kinds j)). half_before {A = NoneCameBack pause} h.0 pause.phase h.1 (λ i odd more. inr (inr (i, odd, led_is i odd, subst (λ (n : ℕ). DrawsAlone (pause.kinds n)) (sym more) h.2))))
+        (λ rest. ⊎_elim
+            (λ (h : (j : ℕ) × (pause.phase + 1 ≡ j * 2 + 1) × (false ≡ false) × DrawsAlone (pause.kinds j)). inl (h.0, even_before pause.phase h.0 h.1, h.3))
+            (λ (h : (j : ℕ) × (pause.phase + 1 ≡ j * 2 + 1) × (false ≡ true) × DrawsAlone (pause.kinds (j + 1))). absurd (true≢false (sym h.2)))
+            rest)
+        came
+
+    next_covered : Covered k next tenancy words'
+    next_covered is = still_covered (⊎_elim (λ (h : RunsNext next). inl (was_next h)) (λ (h : NoneCameBack next × (listed words' ≢ 0)). inr (drew_alone h.0, h.1)) is)
+
     -- the domains leave Promote: the blocks of the minor areas are dropped
     promoted : Promoting pause → Rule k record { words = words'; homes = s.homes; views = set s.views id (one k hist y) }
     promoted p = let copies : r.account.cycling.kind ≡ Promote = kind_now k pause r.account.cycling x Promote (promotes p) good.staged r.whole.cycle.told in let in_promote : HasNoCycle r.account.cycling.kind = no_cycle_here k s r id hist x at Promote tt (promotes p) in let whole = whole_here k s r id hist x at Promote tt (promotes p) in drops k s r id hist x at move next cycling' words' refl record {
@@ -543,6 +563,7 @@ module _ (k : Config) (s : Words) (r : Rule k s) (id : ℕ) (hist : List Entry) 
       at_rest = none_drawn;
       unprepared = none_prepared;
       no_claims = none_listed;
+      covered = next_covered;
       unwished = λ j odd led. absurd (true≢false (sym led));
       took_back = λ kind leads last. absurd (gone_leads (kind_in x.seen.stage) kind leads);
       others_took_back = λ z _ took kind leads last. want_is ∙ took kind leads last;
@@ -555,21 +576,15 @@ module _ (k : Config) (s : Words) (r : Rule k s) (id : ℕ) (hist : List Entry) 
     }
 
     -- the kind of the phase that begins is the one that domain 0 named
-    behind : cursor s.words ≡ 0 → (i : ℕ) → i < listed words' → tenancy.holder (listed_pool words' i) ≡ nobody
-    behind back i below = (pools_untouched k tenancy s.words words' untouched r.whole.pools).untaken i below (subst (λ (n : ℕ). n ≤ i) (sym ((counts_untouched s.words words' untouched).1 ∙ back)) zero-le)
+    behind : cursor s.words ≤ limit_of k (listed s.words) → (i : ℕ) → i < listed words' → limit_of k (listed words') ≤ i → tenancy.holder (listed_pool words' i) ≡ nobody
+    behind low i below above = (pools_untouched k tenancy s.words words' untouched r.whole.pools).untaken i below
+        (let c : ℕ = cursor words' in let l : ℕ = limit_of k (listed words') in let a : c ≤ l = low_untouched k s.words words' untouched low in let b : l ≤ i = above in let o : c ≤ i = omega arith in o)
 
     next_reserved : Reserved k next tenancy words'
     next_reserved kept i below above = ⊎_elim
-        (λ (even : pause.phase + 1 ≡ kept.0 * 2). half_before kept.0 pause.phase even (λ j odd more. behind (r.whole.drawable.to_run j odd (led_is j odd) (ap pause.kinds more ∙ kept.2)) i below))
+        (λ (even : pause.phase + 1 ≡ kept.0 * 2). half_before kept.0 pause.phase even (λ j odd more. behind (r.whole.drawable.to_run j odd (led_is j odd) (ap pause.kinds more ∙ kept.2)) i below above))
         (λ (odd : pause.phase + 1 ≡ kept.0 * 2 + 1). reserved_untouched k pause tenancy s.words words' untouched r.whole.pools r.whole.reserved (kept.0, inl (even_before pause.phase kept.0 odd), kept.2) i below above)
         kept.1
-
-    -- the domains run next where domain 0 named it
-    next_covered : Covered k next tenancy words'
-    next_covered runs = still_covered (inr (⊎_elim
-        (λ (h : (j : ℕ) × (pause.phase + 1 ≡ j * 2) × (pause.kinds j ≡ Run)). half_before {A = (i : ℕ) × (pause.phase ≡ i * 2 + 1) × (pause.led ≡ true) × (pause.kinds (i + 1) ≡ Run)} h.0 pause.phase h.1 (λ i odd more. (i, odd, led_is i odd, ap pause.kinds more ∙ h.2)))
-        (λ (h : (j : ℕ) × (pause.phase + 1 ≡ j * 2 + 1) × (false ≡ true) × (pause.kinds (j + 1) ≡ Run)). absurd (true≢false (sym h.2)))
-        runs))
 
     -- where the domains copy next all pools of the reserve are left
     next_left : Promoting next → (a : ℕ) (q : Place) → live a ≡ Some q → k.pools * 4096 < a → cursor words' + reserve (sizes_in k) ≤ listed words' + drawn_in_all k (spent_stock tenancy.stock)

@@ -27,12 +27,12 @@ use Rattle.heap_rule.specs.Beside.{IsUnaware, is_weak}
 use Rattle.heap_rule.proofs.BesideLemmas.{runs_unaware, unaware_of}
 use Rattle.steps_pauses.proofs.BesideRows.{AllOld, marks_same, past_owes}
 use Rattle.steps_pauses.proofs.Repainting.{repainted}
-use Rattle.heap_rule.specs.Pools.{Tenancy, nobody, owner_word, limit_of, KeepsReserve}
+use Rattle.heap_rule.specs.Pools.{Tenancy, nobody, owner_word, limit_of, DrawsAlone, NoneCameBack, Covered, KeepsReserve}
 use Rattle.heap_rule.specs.Deciding.{Deciding}
 use Rattle.heap_rule.specs.Finalisers.{StandsFinal, StandsLast}
 use Rattle.heap_rule.specs.Rule.{Account, AllFound, Good, Rule, Sharing, Stood, state_of}
 use Rattle.heap_rule.specs.Views.{one, fresh_share}
-use Rattle.heap_rule.proofs.Controls.{Untouched, found_untouched, making_untouched, pools_untouched, grid_untouched, counts_untouched, low_untouched, reserved_untouched, hunter_untouched, resting_untouched, cycle_untouched, heap_untouched}
+use Rattle.heap_rule.proofs.Controls.{covered_untouched, Untouched, found_untouched, making_untouched, pools_untouched, grid_untouched, counts_untouched, low_untouched, reserved_untouched, hunter_untouched, resting_untouched, cycle_untouched, heap_untouched}
 use Rattle.heap_rule.proofs.Keeps.{Words, mine, my_good, now, remakes, more_same, stood_other, sum_same, quiet_in, owes_rests, hunter_as, room_words, opened_words}
 use Rattle.heap_rule.proofs.PauseFacts.{led_runs, not_both}
 use Rattle.heap_rule.proofs.Sharings.{SameCycle, facts_words}
@@ -41,7 +41,7 @@ use Rattle.heap_model.specs.declared.label.Label.{Label}
 use Rattle.heap_rule.proofs.EphemeronLemmas.{looks_idle}
 use Rattle.heap_rule.proofs.FinaliserLemmas.{paired_length}
 use Rattle.steps_pauses.proofs.Arriving.{whole_all}
-use Rattle.steps_pauses.specs.Pauses.{kind_in, armed_after, entry_of, cut_in, progress_after, unswept_after, whole_after, MayFollow, NamesFree, LeadMay, LeadTold}
+use Rattle.steps_pauses.specs.Pauses.{kind_in, armed_after, entry_of, cut_in, progress_after, unswept_after, whole_after, MayFollow, NamesFree, KeepsNames, LeadMay, LeadTold}
 use Rattle.steps_pauses.proofs.CollectorEntries.{OfCollector, entry_of_collector, keeps_left, work_left, graph_left, front_then, after_logged, legal_logged, knows_logged, seen_then}
 use Rattle.steps_pauses.proofs.Naming.{left_by, logged, pass_in, left_in, led_cycle, Ready, Way, led_way}
 use Rattle.steps_pauses.proofs.Sizes.{domains_of}
@@ -133,6 +133,22 @@ follows_promote a b f e = from a (subst (Follows a) e f)
     from Lasts f = ⊎_elim (λ (e : Promote ≡ Sweep). absurd (let h : Promote ≡ Sweep = e in cc)) (λ (e : Promote ≡ Run). absurd (let h : Promote ≡ Run = e in cc)) f
     from Sweep f = ⊎_elim (λ (e : Promote ≡ Run). absurd (let h : Promote ≡ Run = e in cc))
         (λ q. ⊎_elim (λ (e : Promote ≡ Answer). absurd (let h : Promote ≡ Answer = e in cc)) (λ (e : Promote ≡ Roots). absurd (let h : Promote ≡ Roots = e in cc)) q) f
+    from _ f = cc
+
+follows_reset : (a b : Kind) → Follows a b → b ≡ Reset → a ≡ Promote
+follows_reset a b f e = from a (subst (Follows a) e f)
+  where
+    from : (a : Kind) → Follows a Reset → a ≡ Promote
+    from Promote f = refl
+    from Reset f = ⊎_elim (λ (e : Reset ≡ Run). absurd (let h : Reset ≡ Run = e in cc))
+        (λ q. ⊎_elim (λ (e : Reset ≡ Roots). absurd (let h : Reset ≡ Roots = e in cc)) (λ q. ⊎_elim (λ (e : Reset ≡ Mark). absurd (let h : Reset ≡ Mark = e in cc)) (λ (e : Reset ≡ Sweep). absurd (let h : Reset ≡ Sweep = e in cc)) q) q) f
+    from Roots f = ⊎_elim (λ (e : Reset ≡ Mark). absurd (let h : Reset ≡ Mark = e in cc)) (λ (e : Reset ≡ Run). absurd (let h : Reset ≡ Run = e in cc)) f
+    from Mark f = ⊎_elim (λ (e : Reset ≡ Mark). absurd (let h : Reset ≡ Mark = e in cc)) (λ (e : Reset ≡ Rounds). absurd (let h : Reset ≡ Rounds = e in cc)) f
+    from Rounds f = ⊎_elim (λ (e : Reset ≡ Mark). absurd (let h : Reset ≡ Mark = e in cc))
+        (λ q. ⊎_elim (λ (e : Reset ≡ Decide). absurd (let h : Reset ≡ Decide = e in cc)) (λ (e : Reset ≡ Clean). absurd (let h : Reset ≡ Clean = e in cc)) q) f
+    from Lasts f = ⊎_elim (λ (e : Reset ≡ Sweep). absurd (let h : Reset ≡ Sweep = e in cc)) (λ (e : Reset ≡ Run). absurd (let h : Reset ≡ Run = e in cc)) f
+    from Sweep f = ⊎_elim (λ (e : Reset ≡ Run). absurd (let h : Reset ≡ Run = e in cc))
+        (λ q. ⊎_elim (λ (e : Reset ≡ Answer). absurd (let h : Reset ≡ Answer = e in cc)) (λ (e : Reset ≡ Roots). absurd (let h : Reset ≡ Roots = e in cc)) q) f
     from _ f = cc
 
 pub led_leads : (kind other : Kind) → ◌≡◌ {A = Stage} (Led kind) (Leads other) → ⊥
@@ -432,7 +448,46 @@ module _ (k : Config) (s : Words) (r : Rule k s) (id : ℕ) (hist : List Entry) 
       let none : word ≡ 0 = sym (lists.owners q word got) ∙ ((pools_untouched k tenancy s.words ws untouched r.whole.pools).owners q inside ∙ ap owner_word free) in
       let at = names.free q (got ∙ ap Some none) in
       let below : at.0 < listed ws = subst (λ (n : ℕ). at.0 < n) (names.count ∙ sym lists.count) (slice_get_within names.list.names at.0 q at.1) in
-      (at.0, below, lists.names at.0 q at.1, inl (subst (λ (n : ℕ). n ≤ at.0) (sym (lists.rewinds names.rewound)) zero-le))
+      (at.0, below, lists.names at.0 q at.1, inl (subst (λ (n : ℕ). n ≤ at.0) (sym (lists.found 0 names.rewound)) zero-le))
+
+  -- where the list was whole it is so
+  stayed : DrawsAlone last → listed ws ≢ 0 → (q : ℕ) → q < k.pools → tenancy.holder q ≡ nobody → (i : ℕ) × (i < listed ws) × (listed_pool ws i ≡ q) × ((cursor ws ≤ i) ⊎ (limit_of k (listed ws) ≤ i))
+  stayed draws listing = covered_untouched k t tenancy s.words ws untouched r.whole.pools r.whole.covered
+      (inr (inr (inl (j, odd, before.2 may.leads, subst DrawsAlone (sym before.1.2) draws)), listing))
+
+  -- the list that stays was whole
+  kept_free : KeepsNames k x → (q : ℕ) → q < k.pools → tenancy.holder q ≡ nobody → (i : ℕ) × (i < listed ws) × (listed_pool ws i ≡ q) × ((cursor ws ≤ i) ⊎ (limit_of k (listed ws) ≤ i))
+  kept_free keeps = stayed (inr (inr (ap kind_in keeps.stage))) (λ none. keeps.some (sym ((resting_untouched k s.words ws x untouched good.resting).lists keeps.list keeps.listing).count ∙ none))
+
+  -- where the domains run next
+  runs_free : next ≡ Run → (q : ℕ) → q < k.pools → tenancy.holder q ≡ nobody → (i : ℕ) × (i < listed ws) × (listed_pool ws i ≡ q) × ((cursor ws ≤ i) ⊎ (limit_of k (listed ws) ≤ i))
+  runs_free runs = ⊎_elim listed_free kept_free (may.relisted runs)
+
+  led_covered : Covered k t' tenancy ws
+  led_covered = ⊎_elim
+      (⊎_elim
+        (λ (h : (i : ℕ) × (t.phase ≡ i * 2) × (t'.kinds i ≡ Run)). absurd (no_even (h.0, h.1)))
+        (λ (h : (i : ℕ) × (t.phase ≡ i * 2 + 1) × (true ≡ true) × (t'.kinds (i + 1) ≡ Run)). runs_free (sym (named h.0 h.1) ∙ h.3)))
+      (λ (came : NoneCameBack t' × (listed ws ≢ 0)). ⊎_elim
+        (λ (h : (i : ℕ) × (t.phase ≡ i * 2) × DrawsAlone (t'.kinds i)). absurd (no_even (h.0, h.1)))
+        (⊎_elim
+          (λ (h : (i : ℕ) × (t.phase ≡ i * 2 + 1) × (true ≡ false) × DrawsAlone (t'.kinds i)). absurd (true≢false h.2))
+          (λ (h : (i : ℕ) × (t.phase ≡ i * 2 + 1) × (true ≡ true) × DrawsAlone (t'.kinds (i + 1))). ⊎_elim
+            (λ (runs : next ≡ Run). runs_free runs)
+            (⊎_elim
+              (λ (copies : next ≡ Promote). stayed (inl (follows_promote last next follows copies)) came.1)
+              (λ (resets : next ≡ Reset). stayed (inr (inl (follows_reset last next follows resets))) came.1))
+            (subst DrawsAlone (named h.0 h.1) h.3)))
+        came.0)
+
+  -- and there the cursor isn't in the reserve
+  led_low : next ≡ Run → cursor ws ≤ limit_of k (listed ws)
+  led_low runs =
+      let lists = (resting_untouched k s.words ws x untouched good.resting).lists in
+      ⊎_elim
+      (λ (w : NamesFree k x). subst (λ (n : ℕ). n ≤ limit_of k (listed ws)) (sym ((lists w.list w.listing).found 0 w.rewound)) zero-le)
+      (λ (w : KeepsNames k x). let l = lists w.list w.listing in subst (λ (z : ℕ × ℕ). z.0 ≤ limit_of k z.1) (λ i. (sym (l.found w.at w.cursor_is) i, sym l.count i)) w.low)
+      (may.relisted runs)
 
   pub led_rule : Rule k record { words = ws; homes = s.homes; views = set s.views id (one k hist y) }
   led_rule =
@@ -463,10 +518,7 @@ module _ (k : Config) (s : Words) (r : Rule k s) (id : ℕ) (hist : List Entry) 
         endings = get_or-set_other s.words 2 8 new 0 (λ e. omega arith) ∙ (r.whole.endings ∙ sym (sum_same (is_over state) (is_over (state_of k log')) k.domains (λ d _. ap flag (ap (λ (u : model.State). (domain_at u d).ended) after ∙ (keeps_left state o collector d).ended))));
         pools = pools_untouched k tenancy s.words ws untouched r.whole.pools;
         reserved = λ keeps i below above. reserved_untouched k t tenancy s.words ws untouched r.whole.pools r.whole.reserved (keeps_led t j next odd keeps) i below above;
-        covered = λ runs q inside free. ⊎_elim
-            (λ (h : (i : ℕ) × (t.phase ≡ i * 2) × (t'.kinds i ≡ Run)). absurd (no_even (h.0, h.1)))
-            (λ (h : (i : ℕ) × (t.phase ≡ i * 2 + 1) × (true ≡ true) × (t'.kinds (i + 1) ≡ Run)). listed_free (may.relisted (sym (named h.0 h.1) ∙ h.3)) q inside free)
-            runs;
+        covered = led_covered;
         grid = grid_untouched k tenancy live s.words ws untouched r.whole.grid;
         drawers = record {
           drawn = λ q e h. let u = (r.whole.drawers.drawn q e h).1 in absurd (no_even (u.0, u.1));
@@ -477,7 +529,7 @@ module _ (k : Config) (s : Words) (r : Rule k s) (id : ℕ) (hist : List Entry) 
         unused = λ _. r.whole.unused elsewhere;
         opened = opened_words k live s.words ws (λ _ _ _ _. counts.0) r.whole.opened;
         drawable = record {
-          to_run = λ i e l runs. let w = may.relisted (sym (named i e) ∙ runs) in (rest.lists w.list w.listing).rewinds w.rewound;
+          to_run = λ i e l runs. led_low (sym (named i e) ∙ runs);
           to_copy = λ i e l copies.
               let is : next ≡ Promote = sym (named i e) ∙ copies in
               low_untouched k s.words ws untouched (good.set_back (stage_is ∙ ap Leads (follows_promote last next follows is), may.set_back is));
@@ -496,7 +548,7 @@ module _ (k : Config) (s : Words) (r : Rule k s) (id : ℕ) (hist : List Entry) 
           hunt = λ _. rest.hunt (λ takes. ⊎_elim stays (λ e. leads_promotes last (sym stage_is ∙ e)) takes);
           free = λ _. rest.free stays;
           spare = λ _. rest.spare stays;
-          lists = λ l e. let z = rest.lists l e in record { first = z.first; leads = tt; few = z.few; owners = z.owners; names = z.names; count = z.count; rewinds = z.rewinds };
+          lists = λ l e. let z = rest.lists l e in record { first = z.first; leads = tt; few = z.few; owners = z.owners; names = z.names; count = z.count; found = z.found };
         };
         took_back = λ kind leads _. absurd (led_leads next kind leads);
         owes = owes_rests k live x y refl quiet (ap (λ (u : Copying). u.pending) quiet) refl good.owes;

@@ -23,7 +23,7 @@ use Rattle.heap_rule.specs.declared.phase.Note.TheVariants.{Want, Asked, Barrier
 use Rattle.heap_rule.specs.declared.view.Hunt.TheVariants.{Rests}
 use Rattle.heap_rule.specs.Limits.{sizes_in}
 use Rattle.heap_rule.specs.Phases.{code, Follows, Comes, IsEven, IsOdd, last_note}
-use Rattle.heap_rule.specs.Pools.{prepared_at}
+use Rattle.heap_rule.specs.Pools.{limit_of, prepared_at}
 use Rattle.heap_rule.specs.Copies.{nothing_copied, HoldsOld}
 use Rattle.heap_rule.specs.Rule.{state_of}
 use Rattle.heap_rule.specs.Standing.{noted, with_front, with_own, ShowsRegisters}
@@ -246,12 +246,22 @@ pub record MayFollow (share : Share) (last next : Kind) : Type 0 where
 pub record NamesFree (k : Config) (x : DomainView) : Type 0 where
   pub list : Listing
   pub listing : x.seen.listing ≡ Some list
-  pub rewound : list.rewound ≡ true
+  pub rewound : list.cursor ≡ Some 0
   pub all : length list.owners ≡ k.pools
   pub count : length list.names ≡ list.listed
   pub free : (q : ℕ) → slice_get list.owners q ≡ Some 0 → (i : ℕ) × (slice_get list.names i ≡ Some q)
 
--- domain 0 names the next kind in an odd phase, once. Before the domains run again it has just taken the wishes back, and in this phase it has written the list of free pools anew. Before they copy it has just set the cursor back out of the reserve
+-- domain 0 has looked at the list in this phase, behind Reset: pools are listed, and the cursor isn't in the reserve
+pub record KeepsNames (k : Config) (x : DomainView) : Type 0 where
+  pub list : Listing
+  pub listing : x.seen.listing ≡ Some list
+  pub stage : x.seen.stage ≡ Leads Reset
+  pub some : list.listed ≢ 0
+  pub at : ℕ
+  pub cursor_is : list.cursor ≡ Some at
+  pub low : at ≤ limit_of k list.listed
+
+-- domain 0 names the next kind in an odd phase, once. Before the domains run again it has just taken the wishes back, and in this phase it has written the list of free pools anew, or found that it may stay. Before they copy it has just set the cursor back out of the reserve
 pub record LeadMay (k : Config) (x : DomainView) (new : ℕ) (next : Kind) : Type 0 where
   pub leads : x.own.number ≡ 0
   pub last : Kind
@@ -259,7 +269,7 @@ pub record LeadMay (k : Config) (x : DomainView) (new : ℕ) (next : Kind) : Typ
   pub follows : Follows last next
   pub word : new ≡ code next
   pub took_back : next ≡ Run → last_note x.seen.notes ≡ Some Cleared
-  pub relisted : next ≡ Run → NamesFree k x
+  pub relisted : next ≡ Run → NamesFree k x ⊎ KeepsNames k x
   pub set_back : next ≡ Promote → last_note x.seen.notes ≡ Some SetBack
   pub may : MayFollow x.seen.share last next
 

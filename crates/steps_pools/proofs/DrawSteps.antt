@@ -24,7 +24,7 @@ use Rattle.heap_rule.specs.Pools.{Holder, nobody, drawn, owned, owner_word, Stoc
 use Rattle.heap_rule.specs.Phases.{Phases, AtStage, sum_of}
 use Rattle.steps_pools.specs.Takes.{with_hunt, found_free, HasNoDraw, LeavesSpare, NoneFree}
 use Rattle.heap_rule.proofs.Update.{over, over_here, over_else}
-use Rattle.heap_rule.proofs.Keeps.{Words, mine, my_good, phases_words, holds_again, room_words, run_copying}
+use Rattle.heap_rule.proofs.Keeps.{Words, mine, my_good, phases_words, holds_again, room_words, whole_words, run_copying}
 use Rattle.heap_rule.proofs.PauseFacts.{run_promoting, promote_now}
 use Rattle.heap_rule.proofs.Controls.{sum_one}
 use Rattle.heap_rule.proofs.EphemeronLemmas.{listed_on}
@@ -363,7 +363,7 @@ module _ (k : Config) (s : Words) (r : Rule k s) (id : ℕ) (hist : List Entry) 
       want = other_word 0 (λ e. omega arith);
       listed_same = agrees.count;
       reserved = λ keeps i h above. ap t.holder (names i h) ∙ r.whole.reserved keeps i (lower i h) (subst (λ (m : ℕ). limit_of k m ≤ i) agrees.count above);
-      covered = λ goes q inside free. let at = r.whole.covered goes q inside free in still_listed q at (λ here. inr (late_place at.0 here));
+      covered = λ goes q inside free. let at = r.whole.covered (whole_words r.account.pause s.words words1 agrees.count goes) q inside free in still_listed q at (λ here. inr (late_place at.0 here));
       room = run_room runs words1;
       unused = r.whole.unused;
       endings = other_word 8 (λ e. omega arith);
@@ -542,7 +542,7 @@ module _ (k : Config) (s : Words) (r : Rule k s) (id : ℕ) (hist : List Entry) 
             let low : c < l = unreserved keeps in
             let high : l ≤ i = subst (λ (m : ℕ). limit_of k m ≤ i) agrees.count above in
             elsewhere i h (λ e. omega arith) ∙ r.whole.reserved keeps i (lower i h) high;
-        covered = λ goes q inside none. let at = r.whole.covered goes q inside (nobody_was q none) in
+        covered = λ goes q inside none. let at = r.whole.covered (whole_words r.account.pause s.words words1 agrees.count goes) q inside (nobody_was q none) in
             still_listed q at (λ here. absurd (is_drawn q none (sym at.2 ∙ ap (listed_pool s.words) here)));
         room = room;
         unused = unused;

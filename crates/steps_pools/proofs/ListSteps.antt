@@ -1,5 +1,5 @@
--- The steps by which domain 0 writes the list of free pools anew keep the rule.
-use Rattle.std.proofs.Common.{◌≡◌, ◌≢◌, ℕ, ◌+◌, ◌*◌, ◌<◌, ◌≤◌, ◌⊎◌, Bool, true, false, true≢false, List, [], ◌∷◌, ◌++◌, length, get_or, set, slice_get, Option, Some, None, sym, refl, ap, ◌∙◌, subst, inl, inr, ⊎_elim, arith, length-set, length-append, get_or-set_same, get_or-set_other}
+-- The steps by which domain 0 looks at the list of free pools, or writes it anew, keep the rule.
+use Rattle.std.proofs.Common.{◌≡◌, ◌≢◌, ℕ, ◌+◌, ◌-◌, ◌*◌, ◌<◌, ◌≤◌, ◌⊎◌, Bool, true, false, true≢false, List, [], ◌∷◌, ◌++◌, length, get_or, set, slice_get, Option, Some, None, sym, refl, ap, ◌∙◌, subst, inl, inr, ⊎_elim, arith, zero-le, length-set, length-append, get_or-set_same, get_or-set_other}
 use Rattle.std.proofs.lemmas.Option.{none-some, same_Some, slice_get-get_or}
 use mathlib.Core.Logic.{dite}
 use native.Mathlib.Decide.{dec_le}
@@ -9,7 +9,7 @@ use Rattle.atomic_table.specs.Table.{Me, keeps}
 use Rattle.heap_model.specs.declared.entry.Entry.{Entry}
 use Rattle.heap_rule.specs.declared.config.Config.{Config}
 use Rattle.heap_rule.specs.declared.phase.Kind.{Kind}
-use Rattle.heap_rule.specs.declared.phase.Kind.TheVariants.{Run}
+use Rattle.heap_rule.specs.declared.phase.Kind.TheVariants.{Run, Reset}
 use Rattle.heap_rule.specs.declared.phase.Note.{Note}
 use Rattle.heap_rule.specs.declared.phase.Note.TheVariants.{Cleared, Listed, SetBack}
 use Rattle.heap_rule.specs.declared.phase.Stage.TheVariants.{Leads}
@@ -22,19 +22,19 @@ use Rattle.heap_rule.specs.Places.{Place}
 use Rattle.heap_rule.specs.Copies.{Promoting}
 use Rattle.heap_rule.specs.Room.{Drawable}
 use Rattle.heap_rule.specs.Phases.{Pause, AtStage, Staged, IsOdd, sum_of, last_note, HasSetBack}
-use Rattle.heap_rule.specs.Pools.{Holder, nobody, drawn, owned, owner_word, Tenancy, Takes, Pools, Reserved, RunsNext, KeepsReserve, IsLeading, Lists, Hunts, Hunter, Latest, DrawsFor, drawn_in, limit_of, place_in}
+use Rattle.heap_rule.specs.Pools.{Holder, nobody, drawn, owned, owner_word, Tenancy, Takes, Pools, Reserved, RunsNext, NoneCameBack, IsListWhole, Covered, KeepsReserve, IsLeading, Lists, Hunts, Hunter, Latest, DrawsFor, drawn_in, limit_of, place_in}
 use Rattle.heap_rule.specs.Raw.{MayStep, MayStore}
 use Rattle.heap_rule.specs.Rule.{state_of, Good, Rule}
 use Rattle.heap_rule.specs.Standing.{noted}
 use Rattle.heap_rule.specs.Views.{one}
 use Rattle.heap_rule.proofs.Holders.{SameHeap, found_heap, making_heap, grid_heap, sum_small}
-use Rattle.heap_rule.proofs.Keeps.{Words, my_good, remakes, looks, knows_front, phases_words, room_words, opened_words, hunter_as, owes_as, takes_even, unmoved}
+use Rattle.heap_rule.proofs.Keeps.{Words, my_good, remakes, looks, knows_front, phases_words, room_words, opened_words, whole_words, hunter_as, owes_as, takes_even, unmoved}
 use Rattle.heap_rule.proofs.PauseFacts.{not_both}
 use Rattle.heap_rule.proofs.Controls.{last_note_end, sharing_words}
 use Rattle.heap_rule.proofs.Lists.{got_below, got_end}
 use Rattle.heap_rule.proofs.Notes.{IsLook, listed_note}
-use Rattle.steps_pools.specs.Listings.{with_listing, further, relisted, found_owner, named, set_back, listed_as, no_listing, IsLeader, IsOpener, CountedTold, HasCounted, noted_set_back, CursorLookTold, CursorCutTold, Empties, EmptiedTold, LookMay, LookedTold, NameMay, NamedTold, SetBackTold, CloseMay, ListedAsTold, free_pools}
-use Rattle.steps_pools.proofs.FreePools.{IsFree, free_there, free_once}
+use Rattle.steps_pools.specs.Listings.{with_listing, further, relisted, found_owner, named, cursor_at, with_cursor, listed_as, no_listing, IsLeader, LeadsBehind, IsLooker, CountedTold, HasCounted, IsAbove, noted_set_back, noted_left, CursorLookTold, KeepLookTold, CursorCutTold, Empties, EmptiedTold, LookMay, LookedTold, NameMay, NamedTold, SetBackTold, CloseMay, ListedAsTold, free_pools}
+use Rattle.steps_pools.proofs.FreePools.{IsFree, free_there, free_once, free_all}
 use Rattle.steps_pools.proofs.DrawSteps.{draws_none, latest_words}
 use Rattle.heap_rule.proofs.Sharings.{SameCycle, cycle_words}
 use Rattle.std.proofs.Math.Nat.{not-le_of_lt}
@@ -95,6 +95,10 @@ module _ (k : Config) (s : Words) (r : Rule k s) (id : ℕ) (hist : List Entry) 
       (λ (h : (j : ℕ) × (pause.phase ≡ j * 2) × (pause.kinds j ≡ Run)). not_both pause.phase (h.0, h.1) odd)
       (λ (h : (j : ℕ) × (pause.phase ≡ j * 2 + 1) × (pause.led ≡ true) × (pause.kinds (j + 1) ≡ Run)). not_led h.2) runs
 
+  -- and while no pool is listed nothing is said of the list
+  pub covers_none : (words' : List ℕ) → listed words' ≡ 0 → Covered k pause t words'
+  covers_none words' none is = absurd (⊎_elim not_next (λ (h : NoneCameBack pause × (listed words' ≢ 0)). h.1 none) is)
+
   -- nothing is said of the cursor yet
   undrawable : (words' : List ℕ) → Drawable k pause words'
   undrawable words' = record { to_run = λ _ _ led _. absurd (not_led led); to_copy = λ _ _ led _. absurd (not_led led) }
@@ -118,6 +122,7 @@ module _ (k : Config) (s : Words) (r : Rule k s) (id : ℕ) (hist : List Entry) 
     pub lists : (l : Listing) → listing ≡ Some l → Lists k words' x.own.number x.seen.stage l
     pub listed_young : (a : ℕ) (q : Place) → r.account.live a ≡ Some q → k.pools * 4096 < a → listed words' ≡ listed s.words
     pub reserved : Reserved k pause t words'
+    pub covered : Covered k pause t words'
     pub took_back : last_note notes ≡ Some Cleared → last_note x.seen.notes ≡ Some Cleared
     pub set_back : x.seen.stage ≡ Leads Run → last_note notes ≡ Some SetBack → cursor words' ≤ limit_of k (listed words')
     pub others_set_back : (z : DomainView) → Staged pause z → HasSetBack z → cursor s.words ≤ limit_of k (listed s.words) → cursor words' ≤ limit_of k (listed words')
@@ -147,7 +152,7 @@ module _ (k : Config) (s : Words) (r : Rule k s) (id : ℕ) (hist : List Entry) 
         endings = o.control 8 (inr (omega arith, omega arith)) ∙ r.whole.endings;
         pools = o.pools;
         reserved = o.reserved;
-        covered = λ runs. absurd (not_next runs);
+        covered = o.covered;
         grid = grid_heap k t r.account.live s.words words' heap r.whole.grid;
         drawers = r.whole.drawers;
         room = room_words k r.account.live pause t.stock s.words words' (λ p. absurd (not_promoting p)) r.whole.room;
@@ -268,9 +273,9 @@ module _ (k : Config) (s : Words) (r : Rule k s) (id : ℕ) (hist : List Entry) 
   nobody_opens z staged stage = let a = (subst (AtStage r.account.pause z.own.number z.own.arrivals) stage staged.stage).1 in not_run a.0 a.1 a.2
 
   -- a store of one of these words, or a load
-  relists_noting : (listing : Option Listing) (notes : List Note) (words' : List ℕ) → (last_note notes ≡ Some Cleared → last_note x.seen.notes ≡ Some Cleared) → length words' ≡ length s.words → ((a : ℕ) → at_address k words' a ≡ at_address k s.words a) → ((i : ℕ) → (i < 6) ⊎ ((8 ≤ i) × (i ≤ 10)) → get_or words' i 0 ≡ get_or s.words i 0) → Pools k T words' → ((l : Listing) → listing ≡ Some l → Lists k words' x.own.number x.seen.stage l)
+  relists_noting : (listing : Option Listing) (notes : List Note) (words' : List ℕ) → (last_note notes ≡ Some Cleared → last_note x.seen.notes ≡ Some Cleared) → length words' ≡ length s.words → ((a : ℕ) → at_address k words' a ≡ at_address k s.words a) → ((i : ℕ) → (i < 6) ⊎ ((8 ≤ i) × (i ≤ 10)) → get_or words' i 0 ≡ get_or s.words i 0) → Pools k T words' → Covered k r.account.pause T words' → ((l : Listing) → listing ≡ Some l → Lists k words' x.own.number x.seen.stage l)
       → Rule k record { words = words'; homes = s.homes; views = set s.views id (one k hist (listing_notes x listing notes)) }
-  relists_noting listing notes words' took_back wide every control pools lists = relists k s r id hist x at leader.last leader.first leader.stage listing notes words' record {
+  relists_noting listing notes words' took_back wide every control pools covered lists = relists k s r id hist x at leader.last leader.first leader.stage listing notes words' record {
     wide = wide;
     every = every;
     control = control;
@@ -278,25 +283,30 @@ module _ (k : Config) (s : Words) (r : Rule k s) (id : ℕ) (hist : List Entry) 
     lists = lists;
     listed_young = λ a q lives young. absurd (nothing_young a q lives young);
     reserved = λ keeps. absurd (nothing_kept keeps);
+    covered = covered;
     took_back = took_back;
     set_back = λ leads _. absurd (nobody_opens x good_leader.staged leads);
     others_set_back = λ z staged h. absurd (nobody_opens z staged h.0);
   }
 
-  relists_empty : (listing : Option Listing) (words' : List ℕ) → length words' ≡ length s.words → ((a : ℕ) → at_address k words' a ≡ at_address k s.words a) → ((i : ℕ) → (i < 6) ⊎ ((8 ≤ i) × (i ≤ 10)) → get_or words' i 0 ≡ get_or s.words i 0) → Pools k T words' → ((l : Listing) → listing ≡ Some l → Lists k words' x.own.number x.seen.stage l)
+  relists_empty : (listing : Option Listing) (words' : List ℕ) → length words' ≡ length s.words → ((a : ℕ) → at_address k words' a ≡ at_address k s.words a) → ((i : ℕ) → (i < 6) ⊎ ((8 ≤ i) × (i ≤ 10)) → get_or words' i 0 ≡ get_or s.words i 0) → Pools k T words' → Covered k r.account.pause T words' → ((l : Listing) → listing ≡ Some l → Lists k words' x.own.number x.seen.stage l)
       → Rule k record { words = words'; homes = s.homes; views = set s.views id (one k hist (with_listing x listing)) }
-  relists_empty listing words' wide every control pools lists = relists_noting listing x.seen.notes words' (λ e. e) wide every control pools lists
+  relists_empty listing words' wide every control pools covered lists = relists_noting listing x.seen.notes words' (λ e. e) wide every control pools covered lists
+
+  -- while no pool is listed
+  none_covered : (words' : List ℕ) → listed words' ≡ 0 → Covered k r.account.pause T words'
+  none_covered = covers_none k s r id hist x at leader.last leader.first leader.stage
 
   module _ (j new : ℕ) (of_list : IsOfList k j) where
     abbrev pub ws0 : List ℕ
     ws0 = set s.words j new
 
-    pub stores : (listing : Option Listing) → Pools k T ws0 → ((l : Listing) → listing ≡ Some l → Lists k ws0 x.own.number x.seen.stage l) → Rule k record { words = ws0; homes = s.homes; views = set s.views id (one k hist (with_listing x listing)) }
-    stores listing pools lists = relists_empty listing ws0 (length-set s.words j new) (every k s r j new of_list) (control k s r j new of_list) pools lists
+    pub stores : (listing : Option Listing) → Pools k T ws0 → listed ws0 ≡ 0 → ((l : Listing) → listing ≡ Some l → Lists k ws0 x.own.number x.seen.stage l) → Rule k record { words = ws0; homes = s.homes; views = set s.views id (one k hist (with_listing x listing)) }
+    stores listing pools none lists = relists_empty listing ws0 (length-set s.words j new) (every k s r j new of_list) (control k s r j new of_list) pools (none_covered ws0 none) lists
 
     -- and one that leaves a note
-    pub stores_noting : (n : Note) → IsLook n → (listing : Option Listing) → Pools k T ws0 → ((l : Listing) → listing ≡ Some l → Lists k ws0 x.own.number x.seen.stage l) → Rule k record { words = ws0; homes = s.homes; views = set s.views id (one k hist (noted (with_listing x listing) n)) }
-    stores_noting n look listing pools lists = relists_noting listing (x.seen.notes ++ n ∷ []) ws0 (λ e. absurd (look.not_cleared (sym (last_note_end x.seen.notes n) ∙ e))) (length-set s.words j new) (every k s r j new of_list) (control k s r j new of_list) pools lists
+    pub stores_noting : (n : Note) → IsLook n → (listing : Option Listing) → Pools k T ws0 → Covered k r.account.pause T ws0 → ((l : Listing) → listing ≡ Some l → Lists k ws0 x.own.number x.seen.stage l) → Rule k record { words = ws0; homes = s.homes; views = set s.views id (one k hist (noted (with_listing x listing) n)) }
+    stores_noting n look listing pools covered lists = relists_noting listing (x.seen.notes ++ n ∷ []) ws0 (λ e. absurd (look.not_cleared (sym (last_note_end x.seen.notes n) ∙ e))) (length-set s.words j new) (every k s r j new of_list) (control k s r j new of_list) pools covered lists
 
   leads_now : IsLeading x.seen.stage
   leads_now = subst IsLeading (sym leader.stage) tt
@@ -308,14 +318,14 @@ module _ (k : Config) (s : Words) (r : Rule k s) (id : ℕ) (hist : List Entry) 
       let same : cursor (set s.words 6 0) ≡ cursor s.words = elsewhere k s r 6 0 (inl refl) 7 (λ e. omega arith) in
       let low : cursor (set s.words 6 0) ≤ cursor s.words = subst (λ (n : ℕ). n ≤ cursor s.words) (sym same) (let c : ℕ = cursor s.words in let o : c ≤ c = omega arith in o) in
       let p : ℕ = k.pools in
-      stores 6 0 (inl refl) (Some no_listing) (emptied k s r 6 0 (inl refl) none low) (λ l e. subst (Lists k (set s.words 6 0) x.own.number x.seen.stage) (same_Some no_listing l e) record {
+      stores 6 0 (inl refl) (Some no_listing) (emptied k s r 6 0 (inl refl) none low) none (λ l e. subst (Lists k (set s.words 6 0) x.own.number x.seen.stage) (same_Some no_listing l e) record {
         first = leader.first;
         leads = leads_now;
         few = let o : 0 ≤ p = omega arith in (o, o);
         owners = λ q w got. cc;
         names = λ i q got. cc;
         count = none;
-        rewinds = λ b. cc;
+        found = λ c e. cc;
       })
 
   module _ (l : Listing) (listing : x.seen.listing ≡ Some l) where
@@ -324,14 +334,14 @@ module _ (k : Config) (s : Words) (r : Rule k s) (id : ℕ) (hist : List Entry) 
 
     -- one owner word more is found
     pub finds_rule : length l.owners < k.pools → Rule k record { words = s.words; homes = s.homes; views = set s.views id (one k hist (with_listing x (Some (found_owner (owner_of k s.words (length l.owners)) l)))) }
-    finds_rule inside = let word : ℕ = owner_of k s.words (length l.owners) in let after : Listing = found_owner word l in relists_empty (Some after) s.words refl (λ a. refl) (λ i low. refl) r.whole.pools (λ m e. subst (Lists k s.words x.own.number x.seen.stage) (same_Some after m e) record {
+    finds_rule inside = let word : ℕ = owner_of k s.words (length l.owners) in let after : Listing = found_owner word l in relists_empty (Some after) s.words refl (λ a. refl) (λ i low. refl) r.whole.pools r.whole.covered (λ m e. subst (Lists k s.words x.own.number x.seen.stage) (same_Some after m e) record {
       first = known.first;
       leads = known.leads;
       few = (subst (λ (n : ℕ). n ≤ k.pools) (sym (length-append l.owners (word ∷ []))) (let n : ℕ = length l.owners in let i : n < k.pools = inside in let o : n + 1 ≤ k.pools = omega arith in o), known.few.1);
       owners = λ q w got. ⊎_elim (λ (g : slice_get l.owners q ≡ Some w). known.owners q w g) (λ (g : (q ≡ length l.owners) × (word ≡ w)). ap (owner_of k s.words) g.0 ∙ g.1) (got_end l.owners word w q got);
       names = known.names;
       count = known.count;
-      rewinds = known.rewinds;
+      found = known.found;
     })
 
     module _ (empty : l.listed ≡ 0) where
@@ -348,7 +358,7 @@ module _ (k : Config) (s : Words) (r : Rule k s) (id : ℕ) (hist : List Entry) 
           let count : listed w1 ≡ listed s.words = elsewhere k s r j new of_list 6 (λ e. omega arith) in
           let asked : cursor w1 ≡ cursor s.words = elsewhere k s r j new of_list 7 (λ e. omega arith) in
           let low : cursor w1 ≤ cursor s.words = subst (λ (c : ℕ). c ≤ cursor s.words) (sym asked) (let c : ℕ = cursor s.words in let o : c ≤ c = omega arith in o) in
-          stores j new of_list (Some (named new l)) (emptied k s r j new of_list (count ∙ none) low) (λ m e. subst (Lists k w1 x.own.number x.seen.stage) (same_Some (named new l) m e) record {
+          stores j new of_list (Some (named new l)) (emptied k s r j new of_list (count ∙ none) low) (count ∙ none) (λ m e. subst (Lists k w1 x.own.number x.seen.stage) (same_Some (named new l) m e) record {
             first = known.first;
             leads = known.leads;
             few = (known.few.0, subst (λ (c : ℕ). c ≤ k.pools) (sym (length-append l.names (new ∷ []))) (let i : n < k.pools = inside in let o : n + 1 ≤ k.pools = omega arith in o));
@@ -356,29 +366,29 @@ module _ (k : Config) (s : Words) (r : Rule k s) (id : ℕ) (hist : List Entry) 
             names = λ i q got. ⊎_elim (λ (g : slice_get l.names i ≡ Some q). let below : i < n = got_below l.names i q g in elsewhere k s r j new of_list (11 + i) (λ e. omega arith) ∙ known.names i q g)
                 (λ (g : (i ≡ length l.names) × (new ≡ q)). ap (λ (c : ℕ). get_or w1 (11 + c) 0) g.0 ∙ (here k s r j new of_list ∙ g.1)) (got_end l.names new q i got);
             count = count ∙ known.count;
-            rewinds = λ b. asked ∙ known.rewinds b;
+            found = λ c e. asked ∙ known.found c e;
           })
 
       -- the cursor is set back
-      pub back_rule : Rule k record { words = set s.words 7 0; homes = s.homes; views = set s.views id (one k hist (with_listing x (Some (set_back l)))) }
+      pub back_rule : Rule k record { words = set s.words 7 0; homes = s.homes; views = set s.views id (one k hist (with_listing x (Some (cursor_at 0 l)))) }
       back_rule =
           let of_list : IsOfList k 7 = inr (inl refl) in
           let w1 : List ℕ = set s.words 7 0 in
           let count : listed w1 ≡ listed s.words = elsewhere k s r 7 0 of_list 6 (λ e. omega arith) in
           let zero_is : cursor w1 ≡ 0 = here k s r 7 0 of_list in
           let low : cursor w1 ≤ cursor s.words = subst (λ (c : ℕ). c ≤ cursor s.words) (sym zero_is) (let c : ℕ = cursor s.words in let o : 0 ≤ c = omega arith in o) in
-          stores 7 0 of_list (Some (set_back l)) (emptied k s r 7 0 of_list (count ∙ none) low) (λ m e. subst (Lists k w1 x.own.number x.seen.stage) (same_Some (set_back l) m e) record {
+          stores 7 0 of_list (Some (cursor_at 0 l)) (emptied k s r 7 0 of_list (count ∙ none) low) (count ∙ none) (λ m e. subst (Lists k w1 x.own.number x.seen.stage) (same_Some (cursor_at 0 l) m e) record {
             first = known.first;
             leads = known.leads;
             few = known.few;
             owners = λ q w got. owners_same k s r 7 0 of_list q ∙ known.owners q w got;
             names = λ i q got. elsewhere k s r 7 0 of_list (11 + i) (λ e. omega arith) ∙ known.names i q got;
             count = count ∙ known.count;
-            rewinds = λ b. zero_is;
+            found = λ c e. zero_is ∙ same_Some 0 c e;
           })
 
       -- the pools that the list names are nobody's, and they are listed
-      module _ (all : length l.owners ≡ k.pools) (free : l.names ≡ free_pools l.owners) where
+      module _ (all : length l.owners ≡ k.pools) (free : l.names ≡ free_pools l.owners) (back : l.cursor ≡ Some 0) where
         abbrev n : ℕ
         n = length l.names
 
@@ -417,6 +427,17 @@ module _ (k : Config) (s : Words) (r : Rule k s) (id : ℕ) (hist : List Entry) 
             let word : owner_of k s.words q ≡ 0 = known.owners q 0 ((its i h).word q (omega arith)) in
             no_owner (T.holder q) (sym (r.whole.pools.owners q (names_inside i h)) ∙ word) (λ d e. let w = (r.whole.drawers.drawn q d e).1 in not_both r.account.pause.phase (w.0, w.1) (before.0, before.1))
 
+        -- each pool that is nobody's is listed
+        closed_covers : (q : ℕ) → q < k.pools → T.holder q ≡ nobody → (i : ℕ) × (i < listed w2) × (listed_pool w2 i ≡ q) × ((cursor w2 ≤ i) ⊎ (limit_of k (listed w2) ≤ i))
+        closed_covers q inside none_has =
+            let word : ℕ = get_or l.owners q 0 in
+            let got : slice_get l.owners q ≡ Some word = slice_get-get_or l.owners q 0 (subst (λ (m : ℕ). q < m) (sym all) inside) in
+            let is_zero : word ≡ 0 = sym (known.owners q word got) ∙ (r.whole.pools.owners q inside ∙ ap owner_word none_has) in
+            let at : (i : ℕ) × (slice_get (free_pools l.owners) i ≡ Some (0 + q)) = free_all 0 q l.owners (got ∙ ap Some is_zero) in
+            let there : slice_get l.names at.0 ≡ Some q = ap (λ (names : List ℕ). slice_get names at.0) free ∙ (at.1 ∙ ap Some (let e : 0 + q ≡ q = omega arith in e)) in
+            let below : at.0 < listed w2 = subst (λ (m : ℕ). at.0 < m) (sym count) (got_below l.names at.0 q there) in
+            (at.0, below, elsewhere k s r 6 n of_list (11 + at.0) (λ e. omega arith) ∙ known.names at.0 q there, inl (subst (λ (c : ℕ). c ≤ at.0) (sym (asked_same ∙ known.found 0 back)) zero-le))
+
         pub closes_rule : Rule k record { words = w2; homes = s.homes; views = set s.views id (one k hist (noted (with_listing x (Some (listed_as n l))) (Listed n))) }
         closes_rule =
             let pools = r.whole.pools in
@@ -430,23 +451,74 @@ module _ (k : Config) (s : Words) (r : Rule k s) (id : ℕ) (hist : List Entry) 
               drawn_by = pools.drawn_by;
               one_each = pools.one_each;
               asked = subst (λ (c : ℕ). c + sum_of T.asking k.domains ≤ k.pools + k.domains) (sym asked_same) pools.asked;
-            } (λ m e. subst (Lists k w2 x.own.number x.seen.stage) (same_Some (listed_as n l) m e) record {
+            } (λ _. closed_covers) (λ m e. subst (Lists k w2 x.own.number x.seen.stage) (same_Some (listed_as n l) m e) record {
               first = known.first;
               leads = known.leads;
               few = known.few;
               owners = λ q w got. owners_same k s r 6 n of_list q ∙ known.owners q w got;
               names = λ i q got. elsewhere k s r 6 n of_list (11 + i) (λ e. omega arith) ∙ known.names i q got;
               count = count;
-              rewinds = λ b. asked_same ∙ known.rewinds b;
+              found = λ c e. asked_same ∙ known.found c e;
             })
 
--- in the first phase of a pause, domain 0 may set the cursor back
-module _ (k : Config) (s : Words) (r : Rule k s) (id : ℕ) (hist : List Entry) (x : DomainView) (at : get_elem? s.views id ≡ some (one k hist x)) (opener : IsOpener x) where
+-- in an odd phase domain 0 may look how many pools are listed, and where the cursor stands
+module _ (k : Config) (s : Words) (r : Rule k s) (id : ℕ) (hist : List Entry) (x : DomainView) (at : get_elem? s.views id ≡ some (one k hist x)) (last : Kind) (leads : LeadsBehind last x) where
+  good_looker : Good k r.account s.words x
+  good_looker = my_good k s r id hist x at
+
+  -- a look at these words, which may leave a note
+  looks_at : (l : Listing) (notes : List Note) → Lists k s.words x.own.number x.seen.stage l → (last_note notes ≡ Some Cleared → last_note x.seen.notes ≡ Some Cleared) → (x.seen.stage ≡ Leads Run → last_note notes ≡ Some SetBack → cursor s.words ≤ limit_of k (listed s.words))
+      → Rule k record { words = s.words; homes = s.homes; views = set s.views id (one k hist (listing_notes x (Some l) notes)) }
+  looks_at l notes lists took_back set_back = relists k s r id hist x at last leads.first leads.stage (Some l) notes s.words record {
+    wide = refl;
+    every = λ a. refl;
+    control = λ i low. refl;
+    pools = r.whole.pools;
+    lists = λ m e. subst (Lists k s.words x.own.number x.seen.stage) (same_Some l m e) lists;
+    listed_young = λ _ _ _ _. refl;
+    reserved = r.whole.reserved;
+    covered = r.whole.covered;
+    took_back = took_back;
+    set_back = set_back;
+    others_set_back = λ _ _ _ low. low;
+  }
+
+  -- so many pools are listed
+  pub counts_rule : Rule k record { words = s.words; homes = s.homes; views = set s.views id (one k hist (with_listing x (Some (listed_as (listed s.words) no_listing)))) }
+  counts_rule = looks_at (listed_as (listed s.words) no_listing) x.seen.notes record {
+      first = leads.first;
+      leads = subst IsLeading (sym leads.stage) tt;
+      few = (let p : ℕ = k.pools in let o : 0 ≤ p = omega arith in (o, o));
+      owners = λ q w got. cc;
+      names = λ i q got. cc;
+      count = refl;
+      found = λ c e. cc;
+    } (λ e. e) (λ stage noted. good_looker.set_back (stage, noted))
+
+  module _ (l : Listing) (listing : x.seen.listing ≡ Some l) where
+    pub counted : Lists k s.words x.own.number x.seen.stage l
+    counted = good_looker.resting.lists l listing
+
+    -- and there stands the cursor
+    abbrev pub seen_list : Listing
+    seen_list = cursor_at (cursor s.words) l
+
+    seen_lists : Lists k s.words x.own.number x.seen.stage seen_list
+    seen_lists = record { first = counted.first; leads = counted.leads; few = counted.few; owners = counted.owners; names = counted.names; count = counted.count; found = λ c e. same_Some (cursor s.words) c e }
+
+    pub sees_rule : Rule k record { words = s.words; homes = s.homes; views = set s.views id (one k hist (with_listing x (Some seen_list))) }
+    sees_rule = looks_at seen_list x.seen.notes seen_lists (λ e. e) (λ stage noted. good_looker.set_back (stage, noted))
+
+    -- which the domain may note
+    pub notes_list_rule : (n : Note) → (◌≡◌ {A = Option Note} (Some n) (Some Cleared) → ⊥) → (◌≡◌ {A = Option Note} (Some n) (Some SetBack) → cursor s.words ≤ limit_of k l.listed)
+        → Rule k record { words = s.words; homes = s.homes; views = set s.views id (one k hist (noted (with_listing x (Some seen_list)) n)) }
+    notes_list_rule n not_cleared low = looks_at seen_list (x.seen.notes ++ n ∷ []) seen_lists (λ e. absurd (not_cleared (sym (last_note_end x.seen.notes n) ∙ e)))
+        (λ _ e. subst (λ (c : ℕ). cursor s.words ≤ limit_of k c) (sym counted.count) (low (sym (last_note_end x.seen.notes n) ∙ e)))
+
+-- in the first phase of a pause domain 0 may set the cursor back
+module _ (k : Config) (s : Words) (r : Rule k s) (id : ℕ) (hist : List Entry) (x : DomainView) (at : get_elem? s.views id ≡ some (one k hist x)) (opener : LeadsBehind Run x) (l : Listing) (listing : x.seen.listing ≡ Some l) (c : ℕ) (stands : l.cursor ≡ Some c) (above : limit_of k l.listed < c) where
   abbrev T0 : Tenancy
   T0 = r.account.tenancy
-
-  good_opener : Good k r.account s.words x
-  good_opener = my_good k s r id hist x at
 
   -- the domains ran before, so the pools of the reserve are nobody's
   reserve_kept : KeepsReserve r.account.pause
@@ -455,114 +527,86 @@ module _ (k : Config) (s : Words) (r : Rule k s) (id : ℕ) (hist : List Entry) 
   wishes_kept : (notes : List Note) → last_note (notes ++ SetBack ∷ []) ≡ Some Cleared → ⊥
   wishes_kept notes e = let clash : ◌≡◌ {A = Option Note} (Some SetBack) (Some Cleared) = sym (last_note_end notes SetBack) ∙ e in cc
 
-  -- so many pools are listed
-  pub counts_rule : Rule k record { words = s.words; homes = s.homes; views = set s.views id (one k hist (with_listing x (Some (listed_as (listed s.words) no_listing)))) }
-  counts_rule = let l : Listing = listed_as (listed s.words) no_listing in relists k s r id hist x at Run opener.first opener.stage (Some l) x.seen.notes s.words record {
-    wide = refl;
-    every = λ a. refl;
-    control = λ i low. refl;
-    pools = r.whole.pools;
-    lists = λ m e. subst (Lists k s.words x.own.number x.seen.stage) (same_Some l m e) record {
-      first = opener.first;
-      leads = subst IsLeading (sym opener.stage) tt;
-      few = (let p : ℕ = k.pools in let o : 0 ≤ p = omega arith in (o, o));
-      owners = λ q w got. cc;
-      names = λ i q got. cc;
-      count = refl;
-      rewinds = λ b. cc;
-    };
-    listed_young = λ _ _ _ _. refl;
-    reserved = r.whole.reserved;
-    took_back = λ e. e;
-    set_back = λ leads noted. good_opener.set_back (leads, noted);
-    others_set_back = λ _ _ _ low. low;
-  }
+  known_list : Lists k s.words x.own.number x.seen.stage l
+  known_list = counted k s r id hist x at Run opener l listing
 
-  module _ (l : Listing) (listing : x.seen.listing ≡ Some l) where
-    counted : Lists k s.words x.own.number x.seen.stage l
-    counted = good_opener.resting.lists l listing
+  abbrev limit : ℕ
+  limit = limit_of k l.listed
 
-    -- the cursor is low enough
-    pub low_rule : cursor s.words ≤ limit_of k l.listed → Rule k record { words = s.words; homes = s.homes; views = set s.views id (one k hist (noted_set_back x)) }
-    low_rule low = relists k s r id hist x at Run opener.first opener.stage x.seen.listing (x.seen.notes ++ SetBack ∷ []) s.words record {
-      wide = refl;
-      every = λ a. refl;
-      control = λ i low. refl;
-      pools = r.whole.pools;
-      lists = good_opener.resting.lists;
-      listed_young = λ _ _ _ _. refl;
-      reserved = r.whole.reserved;
-      took_back = λ e. absurd (wishes_kept x.seen.notes e);
-      set_back = λ _ _. subst (λ (n : ℕ). cursor s.words ≤ limit_of k n) (sym counted.count) low;
-      others_set_back = λ _ _ _ low. low;
-    }
+  abbrev ws7 : List ℕ
+  ws7 = set s.words 7 limit
 
-    -- it is cut to the limit
-    module _ (kept : l.rewound ≡ false) where
-      abbrev limit : ℕ
-      limit = limit_of k l.listed
+  of_seven : IsOfList k 7
+  of_seven = inr (inl refl)
 
-      abbrev ws7 : List ℕ
-      ws7 = set s.words 7 limit
+  cursor_is : cursor ws7 ≡ limit
+  cursor_is = here k s r 7 limit of_seven
 
-      of_seven : IsOfList k 7
-      of_seven = inr (inl refl)
+  listed_same : listed ws7 ≡ listed s.words
+  listed_same = elsewhere k s r 7 limit of_seven 6 (λ e. omega arith)
 
-      cursor_is : cursor ws7 ≡ limit
-      cursor_is = here k s r 7 limit of_seven
+  list_same : (i : ℕ) → listed_pool ws7 i ≡ listed_pool s.words i
+  list_same i = elsewhere k s r 7 limit of_seven (11 + i) (λ e. omega arith)
 
-      listed_same : listed ws7 ≡ listed s.words
-      listed_same = elsewhere k s r 7 limit of_seven 6 (λ e. omega arith)
+  lower : (i : ℕ) → i < listed ws7 → i < listed s.words
+  lower i h = subst (λ (n : ℕ). i < n) listed_same h
 
-      list_same : (i : ℕ) → listed_pool ws7 i ≡ listed_pool s.words i
-      list_same i = elsewhere k s r 7 limit of_seven (11 + i) (λ e. omega arith)
+  low_now : cursor ws7 ≤ limit_of k (listed ws7)
+  low_now = subst (λ (m : ℕ × ℕ). m.0 ≤ limit_of k m.1) (λ i. (sym cursor_is i, sym (listed_same ∙ known_list.count) i)) (let n : ℕ = limit in let o : n ≤ n = omega arith in o)
 
-      lower : (i : ℕ) → i < listed ws7 → i < listed s.words
-      lower i h = subst (λ (n : ℕ). i < n) listed_same h
+  -- the pools that the cursor had passed and passes no more are of the reserve
+  cut_covers : Covered k r.account.pause T0 ws7
+  cut_covers is q inside free =
+      let at = r.whole.covered (whole_words r.account.pause s.words ws7 listed_same is) q inside free in
+      let i : ℕ = at.0 in
+      let stood : ℕ = cursor s.words in
+      let z : ℕ = limit in
+      let high : z < stood = subst (λ (n : ℕ). limit < n) (sym (known_list.found c stands)) above in
+      (i, subst (λ (n : ℕ). i < n) (sym listed_same) at.1, list_same i ∙ at.2, ⊎_elim
+          (λ (behind : cursor s.words ≤ i). inl (subst (λ (n : ℕ). n ≤ i) (sym cursor_is) (let b : stood ≤ i = behind in let o : z ≤ i = omega arith in o)))
+          (λ (spared : limit_of k (listed s.words) ≤ i). inr (subst (λ (n : ℕ). limit_of k n ≤ i) (sym listed_same) spared)) at.3)
 
-      low_now : cursor ws7 ≤ limit_of k (listed ws7)
-      low_now = subst (λ (m : ℕ × ℕ). m.0 ≤ limit_of k m.1) (λ i. (sym cursor_is i, sym (listed_same ∙ counted.count) i)) (let n : ℕ = limit in let o : n ≤ n = omega arith in o)
-
-      pub cuts_rule : Rule k record { words = ws7; homes = s.homes; views = set s.views id (one k hist (noted_set_back x)) }
-      cuts_rule =
-          let pools = r.whole.pools in
-          relists k s r id hist x at Run opener.first opener.stage x.seen.listing (x.seen.notes ++ SetBack ∷ []) ws7 record {
-            wide = length-set s.words 7 limit;
-            every = every k s r 7 limit of_seven;
-            control = control k s r 7 limit of_seven;
-            pools = record {
-              few = subst (λ (n : ℕ). n ≤ k.pools) (sym listed_same) pools.few;
-              inside = λ i h. subst (λ (q : ℕ). q < k.pools) (sym (list_same i)) (pools.inside i (lower i h));
-              once = λ i j h g e. pools.once i j (lower i h) (lower j g) (sym (list_same i) ∙ (e ∙ list_same j));
-              untaken = λ i h g. ap T0.holder (list_same i) ∙ r.whole.reserved reserve_kept i (lower i h) (subst (λ (n : ℕ). limit_of k n ≤ i) (sym counted.count) (subst (λ (n : ℕ). n ≤ i) cursor_is g));
-              owners = λ q h. owners_same k s r 7 limit of_seven q ∙ pools.owners q h;
-              owned_by = pools.owned_by;
-              drawn_by = pools.drawn_by;
-              one_each = pools.one_each;
-              asked =
-                  let u : ℕ = sum_of T0.asking k.domains in let v : u ≤ k.domains = sum_small T0.asking k.domains pools.one_each in
-                  let n : ℕ = listed s.words in let m : ℕ = l.listed in let e : n ≡ m = counted.count in let f : n ≤ k.pools = pools.few in
-                  let z : ℕ = limit in let y : z ≤ m = limit_low m in
-                  let g : z + u ≤ k.pools + k.domains = omega arith in subst (λ (c : ℕ). c + u ≤ k.pools + k.domains) (sym cursor_is) g;
-            };
-            lists = λ m e. let same : l ≡ m = same_Some l m (sym listing ∙ e) in subst (Lists k ws7 x.own.number x.seen.stage) same record {
-              first = counted.first;
-              leads = counted.leads;
-              few = counted.few;
-              owners = λ q w got. owners_same k s r 7 limit of_seven q ∙ counted.owners q w got;
-              names = λ i q got. list_same i ∙ counted.names i q got;
-              count = listed_same ∙ counted.count;
-              rewinds = λ b. absurd (let clash : ◌≡◌ {A = Bool} false true = sym kept ∙ b in cc);
-            };
-            listed_young = λ _ _ _ _. listed_same;
-            reserved = λ still i h above. ap T0.holder (list_same i) ∙ r.whole.reserved still i (lower i h) (subst (λ (n : ℕ). limit_of k n ≤ i) listed_same above);
-            took_back = λ e. absurd (wishes_kept x.seen.notes e);
-            set_back = λ _ _. low_now;
-            others_set_back = λ _ _ _ _. low_now;
-          }
-        where
-          limit_low : (m : ℕ) → limit_of k m ≤ m
-          limit_low m = let e : ℕ = limit_of k m in omega arith
+  pub cuts_rule : Rule k record { words = ws7; homes = s.homes; views = set s.views id (one k hist (noted_set_back (with_listing x (Some (cursor_at limit l))))) }
+  cuts_rule =
+      let pools = r.whole.pools in
+      relists k s r id hist x at Run opener.first opener.stage (Some (cursor_at limit l)) (x.seen.notes ++ SetBack ∷ []) ws7 record {
+        wide = length-set s.words 7 limit;
+        every = every k s r 7 limit of_seven;
+        control = control k s r 7 limit of_seven;
+        pools = record {
+          few = subst (λ (n : ℕ). n ≤ k.pools) (sym listed_same) pools.few;
+          inside = λ i h. subst (λ (q : ℕ). q < k.pools) (sym (list_same i)) (pools.inside i (lower i h));
+          once = λ i j h g e. pools.once i j (lower i h) (lower j g) (sym (list_same i) ∙ (e ∙ list_same j));
+          untaken = λ i h g. ap T0.holder (list_same i) ∙ r.whole.reserved reserve_kept i (lower i h) (subst (λ (n : ℕ). limit_of k n ≤ i) (sym known_list.count) (subst (λ (n : ℕ). n ≤ i) cursor_is g));
+          owners = λ q h. owners_same k s r 7 limit of_seven q ∙ pools.owners q h;
+          owned_by = pools.owned_by;
+          drawn_by = pools.drawn_by;
+          one_each = pools.one_each;
+          asked =
+              let u : ℕ = sum_of T0.asking k.domains in let v : u ≤ k.domains = sum_small T0.asking k.domains pools.one_each in
+              let n : ℕ = listed s.words in let m : ℕ = l.listed in let e : n ≡ m = known_list.count in let f : n ≤ k.pools = pools.few in
+              let z : ℕ = limit in let y : z ≤ m = limit_low m in
+              let g : z + u ≤ k.pools + k.domains = omega arith in subst (λ (c : ℕ). c + u ≤ k.pools + k.domains) (sym cursor_is) g;
+        };
+        lists = λ m e. subst (Lists k ws7 x.own.number x.seen.stage) (same_Some (cursor_at limit l) m e) record {
+          first = known_list.first;
+          leads = known_list.leads;
+          few = known_list.few;
+          owners = λ q w got. owners_same k s r 7 limit of_seven q ∙ known_list.owners q w got;
+          names = λ i q got. list_same i ∙ known_list.names i q got;
+          count = listed_same ∙ known_list.count;
+          found = λ n e. cursor_is ∙ same_Some limit n e;
+        };
+        listed_young = λ _ _ _ _. listed_same;
+        reserved = λ still i h above. ap T0.holder (list_same i) ∙ r.whole.reserved still i (lower i h) (subst (λ (n : ℕ). limit_of k n ≤ i) listed_same above);
+        covered = cut_covers;
+        took_back = λ e. absurd (wishes_kept x.seen.notes e);
+        set_back = λ _ _. low_now;
+        others_set_back = λ _ _ _ _. low_now;
+      }
+    where
+      limit_low : (m : ℕ) → limit_of k m ≤ m
+      limit_low m = let e : ℕ = limit_of k m in omega arith
 
 abbrev Seat : Type 0
 Seat = Me (Unit {0}) View
@@ -597,8 +641,8 @@ name_may k x word new may fits slots id h s r _ at _ =
 
 pub back_may : (k : Config) (x : DomainView) → Empties x → MayStore k x 7 0 SetBackTold
 back_may k x e fits slots id h s r _ at _ =
-    let y : DomainView = relisted x set_back in
-    (one k h y, keeps, tt, subst (λ (z : DomainView). Rule k record { words = set s.words 7 0; homes = s.homes; views = set s.views id (one k h z) }) (on_list x e.list set_back e.listing) (back_rule k s r id h x at e.leader e.list e.listing e.empty), (refl, refl))
+    let y : DomainView = with_cursor x 0 in
+    (one k h y, keeps, tt, subst (λ (z : DomainView). Rule k record { words = set s.words 7 0; homes = s.homes; views = set s.views id (one k h z) }) (on_list x e.list (cursor_at 0) e.listing) (back_rule k s r id h x at e.leader e.list e.listing e.empty), (refl, refl))
 
 pub close_may : (k : Config) (x : DomainView) (new : ℕ) → CloseMay k x new → MayStore k x 6 new ListedAsTold
 close_may k x new may fits slots id h s r _ at _ =
@@ -608,29 +652,53 @@ close_may k x new may fits slots id h s r _ at _ =
       keeps,
       tt,
       subst (λ (z : ℕ × DomainView). Rule k record { words = set s.words 6 z.0; homes = s.homes; views = set s.views id (one k h z.1) }) (λ i. (sym may.count i, (ap (λ (n : ℕ). noted (with_listing x (Some (listed_as n e.list))) (Listed n)) (sym may.count) ∙ ap (λ (v : DomainView). noted v (Listed new)) (on_list x e.list (listed_as new) e.listing)) i))
-          (closes_rule k s r id h x at e.leader e.list e.listing e.empty may.all may.free),
+          (closes_rule k s r id h x at e.leader e.list e.listing e.empty may.all may.free may.back),
       (refl, refl),
     )
 
-pub count_may : (k : Config) (x : DomainView) → IsOpener x → MayStep k x 6 (λ n. n) (CountedTold k)
-count_may k x opener fits slots id h s r _ at _ =
+pub count_may : (k : Config) (x : DomainView) → IsLooker x → MayStep k x 6 (λ n. n) (CountedTold k)
+count_may k x looker fits slots id h s r _ at _ =
     let y : DomainView = with_listing x (Some (listed_as (listed s.words) no_listing)) in
-    (one k h y, keeps, tt, unmoved k s 6 (set s.views id (one k h y)) (counts_rule k s r id h x at opener), (record { few = r.whole.pools.few; view = refl }, refl))
+    (one k h y, keeps, tt, unmoved k s 6 (set s.views id (one k h y)) (counts_rule k s r id h x at looker.kind looker.leads), (record { few = r.whole.pools.few; view = refl }, refl))
 
-pub cursor_look_may : (k : Config) (x : DomainView) (count : ℕ) → HasCounted x count → MayStep k x 7 (λ n. n) (CursorLookTold k count)
+-- a look at the cursor, whatever the domain notes of it
+module _ (k : Config) (x : DomainView) (kind : Kind) (count : ℕ) (may : HasCounted kind x count) (s : Words) (r : Rule k s) (id : ℕ) (h : List Entry) (at : get_elem? s.views id ≡ some (one k h x)) where
+  abbrev seen_now : DomainView
+  seen_now = with_cursor x (cursor s.words)
+
+  known_as : with_listing x (Some (cursor_at (cursor s.words) may.list)) ≡ seen_now
+  known_as = on_list x may.list (cursor_at (cursor s.words)) may.listing
+
+  pub look_leaves : Rule k record { words = s.words; homes = s.homes; views = set s.views id (one k h seen_now) }
+  look_leaves = subst (λ (y : DomainView). Rule k record { words = s.words; homes = s.homes; views = set s.views id (one k h y) }) known_as (sees_rule k s r id h x at kind may.leads may.list may.listing)
+
+  pub look_notes : (n : Note) → (◌≡◌ {A = Option Note} (Some n) (Some Cleared) → ⊥) → (◌≡◌ {A = Option Note} (Some n) (Some SetBack) → cursor s.words ≤ limit_of k count) → Rule k record { words = s.words; homes = s.homes; views = set s.views id (one k h (noted seen_now n)) }
+  look_notes n not_cleared low = subst (λ (y : DomainView). Rule k record { words = s.words; homes = s.homes; views = set s.views id (one k h (noted y n)) }) known_as
+      (notes_list_rule k s r id h x at kind may.leads may.list may.listing n not_cleared (λ e. subst (λ (m : ℕ). cursor s.words ≤ limit_of k m) (sym may.count_is) (low e)))
+
+pub cursor_look_may : (k : Config) (x : DomainView) (count : ℕ) → HasCounted Run x count → MayStep k x 7 (λ n. n) (CursorLookTold k count)
 cursor_look_may k x count may fits slots id h s r _ at _ = dite (dec_le (cursor s.words) (limit_of k count))
-    (λ low. let y : DomainView = noted_set_back x in
-    (one k h y, keeps, tt, unmoved k s 7 (set s.views id (one k h y)) (low_rule k s r id h x at may.opener may.list may.listing (subst (λ (n : ℕ). cursor s.words ≤ limit_of k n) (sym may.count_is) low)), (record { low = λ l. refl; high = λ b. absurd (not-le_of_lt b low) }, refl)))
-    (λ high.
-    (one k h x, keeps, tt, unmoved k s 7 (set s.views id (one k h x)) (looks k s r id h x at x.seen.front (inl refl)), (record { low = λ l. absurd (high l); high = λ b. refl }, refl)))
+    (λ low. let y : DomainView = noted_set_back (with_cursor x (cursor s.words)) in
+    (one k h y, keeps, tt, unmoved k s 7 (set s.views id (one k h y)) (look_notes k x Run count may s r id h at SetBack (λ e. cc) (λ _. low)), (record { low = λ l. refl; high = λ b. absurd (not-le_of_lt b low) }, refl)))
+    (λ high. let y : DomainView = with_cursor x (cursor s.words) in
+    (one k h y, keeps, tt, unmoved k s 7 (set s.views id (one k h y)) (look_leaves k x Run count may s r id h at), (record { low = λ l. absurd (high l); high = λ b. refl }, refl)))
 
-pub cut_may : (k : Config) (x : DomainView) (n new : ℕ) → HasCounted x n → new ≡ limit_of k n → MayStore k x 7 new CursorCutTold
+pub keep_look_may : (k : Config) (x : DomainView) (count : ℕ) → HasCounted Reset x count → MayStep k x 7 (λ n. n) (KeepLookTold k count)
+keep_look_may k x count may fits slots id h s r _ at _ = dite (dec_le (cursor s.words) (limit_of k count))
+    (λ low. let y : DomainView = noted_left count (cursor s.words) x in
+    (one k h y, keeps, tt, unmoved k s 7 (set s.views id (one k h y)) (look_notes k x Reset count may s r id h at (Listed (count - cursor s.words)) (λ e. cc) (λ e. cc)), (record { low = λ l. refl; high = λ b. absurd (not-le_of_lt b low) }, refl)))
+    (λ high. let y : DomainView = with_cursor x (cursor s.words) in
+    (one k h y, keeps, tt, unmoved k s 7 (set s.views id (one k h y)) (look_leaves k x Reset count may s r id h at), (record { low = λ l. absurd (high l); high = λ b. refl }, refl)))
+
+pub cut_may : (k : Config) (x : DomainView) (n new : ℕ) → IsAbove k x n → new ≡ limit_of k n → MayStore k x 7 new CursorCutTold
 cut_may k x n new may is fits slots id h s r _ at _ =
-    let y : DomainView = noted_set_back x in
-    let new_is : limit_of k may.list.listed ≡ new = ap (limit_of k) may.count_is ∙ sym is in (
+    let y : DomainView = noted_set_back (with_cursor x new) in
+    let c = may.counted in
+    let new_is : limit_of k c.list.listed ≡ new = ap (limit_of k) c.count_is ∙ sym is in (
       one k h y,
       keeps,
       tt,
-      subst (λ (n : ℕ). Rule k record { words = set s.words 7 n; homes = s.homes; views = set s.views id (one k h y) }) new_is (cuts_rule k s r id h x at may.opener may.list may.listing may.kept),
+      subst (λ (z : ℕ × DomainView). Rule k record { words = set s.words 7 z.0; homes = s.homes; views = set s.views id (one k h (noted_set_back z.1)) }) (λ i. (new_is i, (ap (λ (m : ℕ). with_listing x (Some (cursor_at m c.list))) new_is ∙ on_list x c.list (cursor_at new) c.listing) i))
+          (cuts_rule k s r id h x at c.leads c.list c.listing may.at may.cursor_is (subst (λ (m : ℕ). limit_of k m < may.at) (sym c.count_is) may.above)),
       (refl, refl),
     )

@@ -21,7 +21,7 @@ use Rattle.heap_rule.specs.Token.{AllInHeap, LooksWithin, OwnFits, SweptWithin, 
 use Rattle.heap_rule.proofs.ChangeLemmas.{changed_only}
 use Rattle.heap_rule.proofs.Classes.{some_block}
 use Rattle.steps_pools.specs.Takes.{CursorTold, CursorAddTold, OwnedTold, OwnerTold, PlaceTold, MajorTold}
-use Rattle.steps_pools.specs.Listings.{CursorLookTold}
+use Rattle.steps_pools.specs.Listings.{CursorLookTold, KeepLookTold}
 use Rattle.steps_pools.specs.Ephemerons.{with_ephemeron, EpheTold, CanList, ListsEphemeron}
 use Rattle.heap_rule.specs.Standing.{IsInHeap}
 use Rattle.steps_pools.specs.Writes.{looking, CanLook, LooksFrom, PassesPool, PassesPlace, CanLabel, Labels}
@@ -60,6 +60,16 @@ cursor_look_own k count x found y told = dite (dec_le found (limit_of k count))
 
 pub cursor_look_front : (k : Config) (count : ℕ) (x : DomainView) (found : ℕ) (y : DomainView) → CursorLookTold k count x found y → IsFrontOf x.own.number y.seen.front x.seen.front
 cursor_look_front k count x found y told = dite (dec_le found (limit_of k count))
+    (λ low. front_same x y (ap (λ (z : DomainView). z.seen.front) (told.low low)))
+    (λ high. front_same x y (ap (λ (z : DomainView). z.seen.front) (told.high (lt_of_not-le high))))
+
+pub keep_look_own : (k : Config) (count : ℕ) (x : DomainView) (found : ℕ) (y : DomainView) → KeepLookTold k count x found y → y.own ≡ x.own
+keep_look_own k count x found y told = dite (dec_le found (limit_of k count))
+    (λ low. ap (λ (z : DomainView). z.own) (told.low low))
+    (λ high. ap (λ (z : DomainView). z.own) (told.high (lt_of_not-le high)))
+
+pub keep_look_front : (k : Config) (count : ℕ) (x : DomainView) (found : ℕ) (y : DomainView) → KeepLookTold k count x found y → IsFrontOf x.own.number y.seen.front x.seen.front
+keep_look_front k count x found y told = dite (dec_le found (limit_of k count))
     (λ low. front_same x y (ap (λ (z : DomainView). z.seen.front) (told.low low)))
     (λ high. front_same x y (ap (λ (z : DomainView). z.seen.front) (told.high (lt_of_not-le high))))
 

@@ -1,8 +1,8 @@
--- Steps by which domain 0 writes the list of free pools anew, in an odd phase.
-use Rattle.std.specs.Prelude.{◌≡◌, ℕ, ◌+◌, ◌<◌, ◌≤◌, ◌==◌, if◌then◌else◌, true, false, List, [], ◌∷◌, ◌++◌, length, Option, Some, None}
+-- Steps by which domain 0 looks at the list of free pools, or writes it anew, in an odd phase.
+use Rattle.std.specs.Prelude.{◌≡◌, ◌≢◌, ◌⊎◌, ℕ, ◌+◌, ◌-◌, ◌<◌, ◌≤◌, ◌==◌, if◌then◌else◌, List, [], ◌∷◌, ◌++◌, length, Option, Some, None}
 use Rattle.heap_rule.specs.declared.config.Config.{Config}
 use Rattle.heap_rule.specs.declared.phase.Kind.{Kind}
-use Rattle.heap_rule.specs.declared.phase.Kind.TheVariants.{Run}
+use Rattle.heap_rule.specs.declared.phase.Kind.TheVariants.{Run, Reset}
 use Rattle.heap_rule.specs.declared.phase.Note.TheVariants.{Listed, SetBack}
 use Rattle.heap_rule.specs.declared.phase.Stage.TheVariants.{Leads}
 use Rattle.heap_rule.specs.declared.view.DomainView.{DomainView}
@@ -31,15 +31,15 @@ further f (Some l) = Some (f l)
 abbrev pub relisted : DomainView → (Listing → Listing) → DomainView
 relisted x f = with_listing x (further f x.seen.listing)
 
--- one owner word more is found, one place more of the list is written, the cursor is set back, so many pools are listed
+-- one owner word more is found, one place more of the list is written, the cursor stands there, so many pools are listed
 abbrev pub found_owner : ℕ → Listing → Listing
 found_owner word l = record l { owners = l.owners ++ word ∷ [] }
 
 abbrev pub named : ℕ → Listing → Listing
 named pool l = record l { names = l.names ++ pool ∷ [] }
 
-abbrev pub set_back : Listing → Listing
-set_back l = record l { rewound = true }
+abbrev pub cursor_at : ℕ → Listing → Listing
+cursor_at c l = record l { cursor = Some c }
 
 abbrev pub listed_as : ℕ → Listing → Listing
 listed_as count l = record l { listed = count }
@@ -53,41 +53,69 @@ pub record IsLeader (x : DomainView) : Type 0 where
 
 -- no pool is listed, no owner word is found and no place of the list is written so far
 abbrev pub no_listing : Listing
-no_listing = record { owners = []; names = []; rewound = false; listed = 0 }
+no_listing = record { owners = []; names = []; cursor = None; listed = 0 }
 
 abbrev pub EmptiedTold : DomainView → ℕ → DomainView → Type 0
 EmptiedTold x new y = y ≡ with_listing x (Some no_listing)
 
--- domain 0 acts in the first phase of a pause, and hasn't named the next kind
-pub record IsOpener (x : DomainView) : Type 0 where
+-- domain 0 acts in the odd phase behind one of this kind, and hasn't named the next kind
+pub record LeadsBehind (kind : Kind) (x : DomainView) : Type 0 where
   pub first : x.own.number ≡ 0
-  pub stage : x.seen.stage ≡ Leads Run
+  pub stage : x.seen.stage ≡ Leads kind
+
+-- whatever that was
+pub record IsLooker (x : DomainView) : Type 0 where
+  pub kind : Kind
+  pub leads : LeadsBehind kind x
+
+-- it opens a pause
+abbrev pub IsOpener : DomainView → Type 0
+IsOpener = LeadsBehind Run
 
 -- a load of the number of listed pools
 pub record CountedTold (k : Config) (x : DomainView) (found : ℕ) (y : DomainView) : Type 0 where
   pub few : found ≤ k.pools
   pub view : y ≡ with_listing x (Some (listed_as found no_listing))
 
--- so many pools are listed, and the cursor wasn't set to 0
-pub record HasCounted (x : DomainView) (count : ℕ) : Type 0 where
-  pub opener : IsOpener x
+-- behind a phase of this kind it knows that so many pools are listed
+pub record HasCounted (kind : Kind) (x : DomainView) (count : ℕ) : Type 0 where
+  pub leads : LeadsBehind kind x
   pub list : Listing
   pub listing : x.seen.listing ≡ Some list
-  pub kept : list.rewound ≡ false
   pub count_is : list.listed ≡ count
+
+-- and that the cursor stands above the limit
+pub record IsAbove (k : Config) (x : DomainView) (count : ℕ) : Type 0 where
+  pub counted : HasCounted Run x count
+  pub at : ℕ
+  pub cursor_is : counted.list.cursor ≡ Some at
+  pub above : limit_of k count < at
 
 -- the domain notes that it has set the cursor back
 abbrev pub noted_set_back : DomainView → DomainView
 noted_set_back x = noted x SetBack
 
+-- the domain knows where the cursor stands
+abbrev pub with_cursor : DomainView → ℕ → DomainView
+with_cursor x c = relisted x (cursor_at c)
+
 -- a load of the cursor: up to the limit it need not be set back
 pub record CursorLookTold (k : Config) (count : ℕ) (x : DomainView) (found : ℕ) (y : DomainView) : Type 0 where
-  pub low : found ≤ limit_of k count → y ≡ noted_set_back x
-  pub high : limit_of k count < found → y ≡ x
+  pub low : found ≤ limit_of k count → y ≡ noted_set_back (with_cursor x found)
+  pub high : limit_of k count < found → y ≡ with_cursor x found
 
 -- a store of the limit into the cursor
 abbrev pub CursorCutTold : DomainView → ℕ → DomainView → Type 0
-CursorCutTold x new y = y ≡ noted_set_back x
+CursorCutTold x new y = y ≡ noted_set_back (with_cursor x new)
+
+-- the domain notes how many of so many listed pools are behind the cursor
+abbrev pub noted_left : ℕ → ℕ → DomainView → DomainView
+noted_left count found x = noted (with_cursor x found) (Listed (count - found))
+
+-- a load of the cursor behind Reset: up to the limit the list names all free pools still, and the domain notes how many
+pub record KeepLookTold (k : Config) (count : ℕ) (x : DomainView) (found : ℕ) (y : DomainView) : Type 0 where
+  pub low : found ≤ limit_of k count → y ≡ noted_left count found x
+  pub high : limit_of k count < found → y ≡ with_cursor x found
 
 -- domain 0 writes the list, and no pool is listed
 pub record Empties (x : DomainView) : Type 0 where
@@ -118,14 +146,15 @@ NamedTold x new y = y ≡ relisted x (named new)
 
 -- a store of 0 into the cursor
 abbrev pub SetBackTold : DomainView → ℕ → DomainView → Type 0
-SetBackTold x new y = y ≡ relisted x set_back
+SetBackTold x new y = y ≡ with_cursor x 0
 
--- a store of the number of listed pools: the list names those whose owner words say nobody, and all owner words were looked at
+-- a store of the number of listed pools: the list names those whose owner words say nobody, all owner words were looked at, and the cursor is 0
 pub record CloseMay (k : Config) (x : DomainView) (new : ℕ) : Type 0 where
   pub empties : Empties x
   pub all : length empties.list.owners ≡ k.pools
   pub free : empties.list.names ≡ free_pools empties.list.owners
   pub count : new ≡ length empties.list.names
+  pub back : empties.list.cursor ≡ Some 0
 
 -- the domain notes how many pools are listed
 abbrev pub ListedAsTold : DomainView → ℕ → DomainView → Type 0
@@ -135,7 +164,21 @@ ListedAsTold x new y = y ≡ noted (relisted x (listed_as new)) (Listed new)
 pub record HasList (k : Config) (x : DomainView) : Type 0 where
   pub owners : List ℕ
   pub all : length owners ≡ k.pools
-  pub listing : x.seen.listing ≡ Some (record { owners = owners; names = free_pools owners; rewound = true; listed = length (free_pools owners) })
+  pub listing : x.seen.listing ≡ Some (record { owners = owners; names = free_pools owners; cursor = Some 0; listed = length (free_pools owners) })
+
+-- behind Reset it knows that pools are listed, and that the cursor stands in none of the reserve: so the list names each free pool still, behind the cursor
+pub record ListStays (k : Config) (x : DomainView) : Type 0 where
+  pub leads : LeadsBehind Reset x
+  pub list : Listing
+  pub listing : x.seen.listing ≡ Some list
+  pub some : list.listed ≢ 0
+  pub at : ℕ
+  pub cursor_is : list.cursor ≡ Some at
+  pub low : at ≤ limit_of k list.listed
+
+-- the list names all free pools: it was written anew, or it stays
+abbrev pub NamesAll : Config → DomainView → Type 0
+NamesAll k x = HasList k x ⊎ ListStays k x
 
 -- the list names so many pools
 abbrev pub IsListedCount : Config → DomainView → ℕ → Type 0

@@ -8,8 +8,8 @@ mod taking;
 mod walking;
 
 pub use listing::{
-    cursor_clear, cursor_cut, cursor_look, list_store, listed_clear, listed_look, listed_store,
-    owner_look,
+    cursor_clear, cursor_cut, cursor_look, keep_look, list_store, listed_clear, listed_look,
+    listed_store, owner_look,
 };
 pub use taking::{
     clear_store, copy_draw, cursor_add, cursor_load, draw_limit, ephe_store, fill_store,

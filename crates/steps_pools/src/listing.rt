@@ -1,8 +1,9 @@
-//! The writing of the list of free pools, and the setting back of the cursor, by domain 0 in odd phases.
+//! What domain 0 does in odd phases with the list of free pools: it looks at it, writes it anew, and sets the cursor back.
 ghost use Rattle.heap_rule.specs.Token.{IsIn};
 ghost use Rattle.std.specs.Prelude.{◌≡◌};
 ghost use Rattle.heap_rule.specs.Pools.{limit_of};
-ghost use Rattle.steps_pools.specs.Listings.{IsLeader, IsOpener, CountedTold, HasCounted, CursorLookTold, CursorCutTold, Empties, EmptiedTold, LookMay, LookedTold, NameMay, NamedTold, SetBackTold, CloseMay, ListedAsTold};
+ghost use Rattle.heap_rule.specs.declared.phase.Kind.TheVariants.{Run, Reset};
+ghost use Rattle.steps_pools.specs.Listings.{IsLeader, IsLooker, CountedTold, HasCounted, IsAbove, CursorLookTold, KeepLookTold, CursorCutTold, Empties, EmptiedTold, LookMay, LookedTold, NameMay, NamedTold, SetBackTold, CloseMay, ListedAsTold};
 
 use heap_rule::{CURSOR, Change, Domain, Heap, LISTED, Leaving, Own, Writing, raw_load, raw_store};
 use std::marker::Brand;
@@ -23,31 +24,42 @@ impl Writing for Cutting {
     fn write(&self, _found: u64, _changes: &[Change], _own: &mut Own) {}
 }
 
-/// A load of the number of listed pools by domain 0, in the first phase of a pause. Answers it.
+/// A load of the number of listed pools by domain 0, in an odd phase in which it hasn't named the next kind. Answers it.
 pub fn listed_look(heap: &Heap, dom: &mut Domain) -> u64
     requires here { IsIn dom.old heap.now }
-    requires opener { IsOpener dom.old.view }
+    requires looker { IsLooker dom.old.view }
     ensures here { IsIn dom.new heap.now }
     ensures told { CountedTold heap.now.config dom.old.view result dom.new.view }
 {
     raw_load::<Brand, Leaving>(heap, dom, LISTED, &Leaving, &[])
 }
 
-/// A load of the cursor by domain 0. Where it is not above the limit, the domain notes that it need
-/// not be set back. Answers the cursor.
+/// A load of the cursor by domain 0, in the first phase of a pause. Where it is not above the limit, the domain notes that
+/// it need not be set back. Answers the cursor.
 pub fn cursor_look(heap: &Heap, dom: &mut Domain, count: u32) -> u64
     requires here { IsIn dom.old heap.now }
-    requires counted { HasCounted dom.old.view count }
+    requires counted { HasCounted Run dom.old.view count }
     ensures here { IsIn dom.new heap.now }
     ensures told { CursorLookTold heap.now.config count dom.old.view result dom.new.view }
 {
     raw_load::<Brand, Cutting>(heap, dom, CURSOR, &Cutting { count }, &[])
 }
 
-/// Domain 0 sets the cursor to the limit.
+/// A load of the cursor by domain 0, behind Reset, where so many pools are listed. Where it is not above the limit, the
+/// list names all free pools still, and the domain notes how many. Answers the cursor.
+pub fn keep_look(heap: &Heap, dom: &mut Domain, count: u32) -> u64
+    requires here { IsIn dom.old heap.now }
+    requires counted { HasCounted Reset dom.old.view count }
+    ensures here { IsIn dom.new heap.now }
+    ensures told { KeepLookTold heap.now.config count dom.old.view result dom.new.view }
+{
+    raw_load::<Brand, Cutting>(heap, dom, CURSOR, &Cutting { count }, &[])
+}
+
+/// Domain 0 sets the cursor, which it knows to be above the limit, to the limit.
 pub fn cursor_cut(heap: &Heap, dom: &mut Domain, count: u32, new: u64)
     requires here { IsIn dom.old heap.now }
-    requires counted { HasCounted dom.old.view count }
+    requires above { IsAbove heap.now.config dom.old.view count }
     requires limit { new ≡ limit_of heap.now.config count }
     ensures here { IsIn dom.new heap.now }
     ensures told { CursorCutTold dom.old.view new dom.new.view }

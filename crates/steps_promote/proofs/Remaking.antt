@@ -24,11 +24,11 @@ use Rattle.heap_rule.specs.Copies.{Owes, Copies, Promoting, AllCleared}
 use Rattle.heap_rule.specs.Phases.{Pause}
 use Rattle.heap_rule.specs.Cycles.{Cycling}
 use Rattle.heap_rule.specs.Places.{Place, Live, Stands, Placed, Spread, More, colour_in, new_colour}
-use Rattle.heap_rule.specs.Pools.{Tenancy, Pools, Grid, Drawers, RunsNext, Hunter, Takes, IsLeading}
+use Rattle.heap_rule.specs.Pools.{Tenancy, Pools, Grid, Drawers, Hunter, Takes, IsLeading}
 use Rattle.heap_rule.specs.Room.{Room, Opened}
 use Rattle.heap_rule.specs.Rule.{Account, state_of, AllFound, Stood, Area, Making, Rule}
 use Rattle.heap_rule.specs.Views.{one}
-use Rattle.heap_rule.proofs.Keeps.{still_as, Words, Control, my_good, remakes, knows_front, phases_same, cycle_control, stands_more, nobody_leads, takes_drawable, resting_takes, resting_other, between_here, cycle_here, runs_here, sharing_here, sharings_here}
+use Rattle.heap_rule.proofs.Keeps.{still_as, Words, Control, my_good, remakes, knows_front, phases_same, cycle_control, covered_words, stands_more, nobody_leads, takes_drawable, resting_takes, resting_other, between_here, cycle_here, runs_here, sharing_here, sharings_here}
 use Rattle.heap_rule.proofs.Advancing.{pooled_more}
 use Rattle.heap_rule.proofs.BesideLemmas.{runs_as}
 use Rattle.heap_rule.proofs.FinaliserLemmas.{enrolled_more}
@@ -41,13 +41,6 @@ use Rattle.heap_rule.proofs.EphemeronLemmas.{listed_as, listed_on, ephe_more}
 use Rattle.heap_rule.proofs.Sharings.{KeepsUnderway, SameCycle, kind_now}
 use Rattle.heap_rule.specs.Fullness.{Homes, Fullness}
 use Rattle.heap_rule.proofs.Stages.{copying_keeps}
-
--- while young blocks are copied domains don't run next
-copying_runs : (t : Pause) → Promoting t → RunsNext t → ⊥
-copying_runs t p runs = ⊎_elim
-    (λ (even : (j : ℕ) × (t.phase ≡ j * 2) × (t.kinds j ≡ Run)). copying_keeps t p (even.0, inl even.1, even.2))
-    (λ (odd : (j : ℕ) × (t.phase ≡ j * 2 + 1) × (t.led ≡ true) × (t.kinds (j + 1) ≡ Run)). let i : ℕ = odd.0 in let j : ℕ = p.0 in let e : t.phase ≡ i * 2 + 1 = odd.1 in let f : t.phase ≡ j * 2 = p.1 in omega arith)
-    runs
 
 module _ (k : Config) (s : Words) (r : Rule k s) (id : ℕ) (hist : List Entry) (x : DomainView) (at : get_elem? s.views id ≡ some (one k hist x)) (promotes : x.seen.stage ≡ In Promote) where
   abbrev pub now : model.State
@@ -155,7 +148,7 @@ module _ (k : Config) (s : Words) (r : Rule k s) (id : ℕ) (hist : List Entry) 
         endings = o.control 8 (omega arith) ∙ r.whole.endings;
         pools = o.pools;
         reserved = λ keeps. absurd (copying_keeps r.account.pause promoting keeps);
-        covered = λ runs. absurd (copying_runs r.account.pause promoting runs);
+        covered = λ goes q inside free. covered_words k r.account.pause r.account.tenancy s.words words' (o.control 6 (omega arith)) (o.control 7 (omega arith)) (λ i h. let g : i < k.pools = h in o.control (11 + i) (omega arith)) r.whole.pools.few r.whole.covered goes q inside (sym (o.holders q) ∙ free);
         grid = o.grid;
         drawers = o.drawers;
         room = o.room;

@@ -1,5 +1,5 @@
 -- The return of a pool in which nothing is left keeps the rule.
-use Rattle.std.proofs.Common.{◌≡◌, ◌≢◌, ℕ, ◌+◌, ◌*◌, ◌<◌, ◌≤◌, true, true≢false, List, get_or, set, None, sym, refl, ap, ◌∙◌, subst, inl, inr, ⊎_elim, arith, length-set}
+use Rattle.std.proofs.Common.{◌≡◌, ◌≢◌, ℕ, ◌+◌, ◌*◌, ◌<◌, ◌≤◌, true, false, true≢false, List, get_or, set, None, sym, refl, ap, ◌∙◌, subst, inl, inr, ⊎_elim, arith, length-set}
 use Rattle.std.proofs.lemmas.Option.{none-some}
 use mathlib.Core.Option.{some}
 use lib.ListN.{get_elem?}
@@ -15,7 +15,7 @@ use Rattle.heap_rule.specs.Beside.{RunsBeside}
 use Rattle.heap_rule.specs.Cycles.{Cycling, IsCollecting, IsIdle, Knowing}
 use Rattle.heap_rule.specs.Layout.{cursor, listed}
 use Rattle.heap_rule.specs.Phases.{AtStage, Staged}
-use Rattle.heap_rule.specs.Pools.{Covered, Holder, Hunter, Hunts, Resting, Stock, Tenancy, limit_of}
+use Rattle.heap_rule.specs.Pools.{Covered, DrawsAlone, NoneCameBack, Holder, Hunter, Hunts, Resting, Stock, Tenancy, limit_of}
 use Rattle.heap_rule.specs.Raw.{CanLeave, Closes, Leaves, MayStore}
 use Rattle.heap_rule.specs.Rule.{Account, Good, Rule, Sharing, state_of}
 use Rattle.heap_rule.specs.Views.{one}
@@ -76,18 +76,28 @@ module _ (k : Config) (s : Words) (r : Rule k s) (id : ℕ) (hist : List Entry) 
   even_here : (j : ℕ) → r.account.pause.phase ≡ j * 2 + 1 → ⊥
   even_here j e = not_both r.account.pause.phase (even k s r id hist x at collects) (j, e)
 
-  -- the domain runs in no phase in which it gives pools back
-  stands : (kind : Kind) × (x.seen.stage ≡ In kind) × (kind ≢ Run)
-  stands = ⊎_elim (λ (h : (x.seen.stage ≡ In Sweep) × (k.pools ≤ x.own.swept.spot.pool)). (Sweep, h.0, λ e. cc)) (λ (h : x.seen.stage ≡ In Answer). (Answer, h, λ e. cc)) may.returns
+  -- pools aren't only drawn in a phase in which it gives some back
+  stands : (kind : Kind) × (x.seen.stage ≡ In kind) × (DrawsAlone kind → ⊥)
+  stands = ⊎_elim (λ (h : (x.seen.stage ≡ In Sweep) × (k.pools ≤ x.own.swept.spot.pool)). (Sweep, h.0, ⊎_elim (λ e. cc) (⊎_elim (λ e. cc) (λ e. cc)))) (λ (h : x.seen.stage ≡ In Answer). (Answer, h, ⊎_elim (λ e. cc) (⊎_elim (λ e. cc) (λ e. cc)))) may.returns
 
-  -- the domains don't run next
-  covered' : Covered k r.account.pause after ws
-  covered' runs = absurd (⊎_elim
-      (λ (h : (j : ℕ) × (r.account.pause.phase ≡ j * 2) × (r.account.pause.kinds j ≡ Run)).
+  draws_here : (j : ℕ) → r.account.pause.phase ≡ j * 2 → DrawsAlone (r.account.pause.kinds j) → ⊥
+  draws_here j is draws =
       let a = subst (AtStage r.account.pause d x.own.arrivals) stands.1 good.staged.stage in
-      stands.2 (sym (kind_differs r.account.pause h.0 a.1.0 r.account.pause.phase Run stands.0 h.1 a.1.1 h.2 a.1.2)))
-      (λ (h : (j : ℕ) × (r.account.pause.phase ≡ j * 2 + 1) × (r.account.pause.led ≡ true) × (r.account.pause.kinds (j + 1) ≡ Run)). even_here h.0 h.1)
-      runs)
+      stands.2 (subst DrawsAlone (kind_differs r.account.pause j a.1.0 r.account.pause.phase (r.account.pause.kinds j) stands.0 is a.1.1 refl a.1.2) draws)
+
+  -- so the list isn't whole
+  covered' : Covered k r.account.pause after ws
+  covered' whole = absurd (⊎_elim
+      (⊎_elim
+        (λ (h : (j : ℕ) × (r.account.pause.phase ≡ j * 2) × (r.account.pause.kinds j ≡ Run)). draws_here h.0 h.1 (inl h.2))
+        (λ (h : (j : ℕ) × (r.account.pause.phase ≡ j * 2 + 1) × (r.account.pause.led ≡ true) × (r.account.pause.kinds (j + 1) ≡ Run)). even_here h.0 h.1))
+      (λ (came : NoneCameBack r.account.pause × (listed ws ≢ 0)). ⊎_elim
+        (λ (h : (j : ℕ) × (r.account.pause.phase ≡ j * 2) × DrawsAlone (r.account.pause.kinds j)). draws_here h.0 h.1 h.2)
+        (⊎_elim
+          (λ (h : (j : ℕ) × (r.account.pause.phase ≡ j * 2 + 1) × (r.account.pause.led ≡ false) × DrawsAlone (r.account.pause.kinds j)). even_here h.0 h.1)
+          (λ (h : (j : ℕ) × (r.account.pause.phase ≡ j * 2 + 1) × (r.account.pause.led ≡ true) × DrawsAlone (r.account.pause.kinds (j + 1))). even_here h.0 h.1))
+        came.0)
+      whole)
 
   -- nobody writes the list
   lists_none : (z : DomainView) → Staged r.account.pause z → Resting k s.words z → Resting k ws z

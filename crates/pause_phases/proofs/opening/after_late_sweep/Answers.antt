@@ -1,4 +1,4 @@
-use Rattle.std.proofs.Common.{◌∙◌, ap, sym}
+use Rattle.std.proofs.Common.{◌∙◌, ap, sym, inl}
 use Rattle.heap_rule.specs.declared.config.Config.{Config}
 use Rattle.heap_rule.specs.declared.phase.Kind.TheVariants.{Sweep}
 use Rattle.pause_phases.specs.Leading.{begins}
@@ -11,11 +11,11 @@ write_list-free-requires-clause-leader c = leads_list c.args.dom.now.view Sweep 
 pub returns-then-begins-clause-opens : goal.returns-then-begins-clause-opens
 returns-then-begins-clause-opens c =
     let k = c.args.heap.now.config in
-    late_begins k c.args.decider c.args.dom.now.view c.write_list-free.new.dom.view c.wants-found.new.dom.view c.wants-found.result.bits c.write_list-free.result c.write_list-free.ensures.lists c.write_list-free.ensures.list c.wants-found.ensures.view c.requires.unswept
+    late_begins k c.args.decider c.args.dom.now.view c.write_list-free.new.dom.view c.wants-found.new.dom.view c.wants-found.result.bits c.write_list-free.result c.write_list-free.ensures.lists (inl c.write_list-free.ensures.list) c.wants-found.ensures.view c.requires.unswept
     (ap (λ (l : Config). begins l c.args.decider c.wants-found.result.bits c.write_list-free.result) (sym c.config.ensures.value) ∙ (sym c.begins.ensures ∙ c.if-begins.true))
 
 pub returns-else-begins-clause-opens : goal.returns-else-begins-clause-opens
 returns-else-begins-clause-opens c =
     let k = c.args.heap.now.config in
-    late_runs k c.args.decider c.args.dom.now.view c.write_list-free.new.dom.view c.wants-found.new.dom.view c.wants-found.result.bits c.write_list-free.result c.write_list-free.ensures.lists c.write_list-free.ensures.list c.wants-found.ensures.view c.requires.unswept
+    late_runs k c.args.decider c.args.dom.now.view c.write_list-free.new.dom.view c.wants-found.new.dom.view c.wants-found.result.bits c.write_list-free.result c.write_list-free.ensures.lists (inl c.write_list-free.ensures.list) c.wants-found.ensures.view c.requires.unswept
     (ap (λ (l : Config). begins l c.args.decider c.wants-found.result.bits c.write_list-free.result) (sym c.config.ensures.value) ∙ (sym c.begins.ensures ∙ c.if-begins.false))
