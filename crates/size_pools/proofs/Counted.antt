@@ -1,5 +1,5 @@
 -- How many pools were found free, by the looks of one call and of several, and what is known of free places.
-use Rattle.std.proofs.Common.{◌≡◌, ◌∙◌, ◌⊎◌, ⊎_elim, inl, inr, ℕ, ◌+◌, ◌-◌, ◌<◌, ◌≤◌, List, [], ◌∷◌, ◌++◌, Some, Result, Ok, Err, IfOk, IfErr, OnOk, OnErr, arith, sym, ap, subst, append_assoc}
+use Rattle.std.proofs.Common.{◌≡◌, ◌∙◌, ◌⊎◌, ⊎_elim, inl, inr, ℕ, ◌+◌, ◌-◌, ◌<◌, ◌≤◌, List, [], ◌∷◌, ◌++◌, Result, Ok, Err, IfOk, IfErr, arith, sym, ap, subst, append_assoc}
 use Rattle.heap_model.specs.Domains.{reserve}
 use Rattle.heap_rule.specs.declared.config.Config.{Config}
 use Rattle.heap_rule.specs.declared.view.DomainView.{DomainView}
@@ -13,7 +13,7 @@ use Rattle.steps_pools.specs.Takes.{LeavesSpare, NoneFree}
 use Rattle.sweeper.specs.Pruning.{Shortens}
 use Rattle.sweeper.specs.Sweeping.{SweptAll, with_sweep}
 use Rattle.sweeper.specs.Walks.{IsWalk}
-use Rattle.size_pools.specs.Taken.{CountedFree, FoundFew, FoundOwn, HasPlace, Hunted, KnowsNone, Reserved, Searched, Sought, SweptFirst, Taken, Took, Unreserved}
+use Rattle.size_pools.specs.Taken.{CountedFree, FoundFew, FoundOwn, HasPlace, Hunted, KnowsNone, Reserved, Sought, SweptFirst, Taken, Took, Unreserved}
 
 -- nothing was looked at before
 pub counted_later : (free : ℕ) (x v y : DomainView) → v.seen.free ≡ x.seen.free → CountedFree free v y → CountedFree free x y

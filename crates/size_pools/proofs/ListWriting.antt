@@ -3,7 +3,7 @@ use Rattle.std.proofs.Common.{◌≡◌, ◌≢◌, ℕ, ◌+◌, ◌<◌, ◌�
 use Rattle.heap_rule.specs.declared.config.Config.{Config}
 use Rattle.heap_rule.specs.declared.view.DomainView.{DomainView}
 use Rattle.heap_rule.specs.declared.view.Listing.{Listing}
-use Rattle.steps_pools.specs.Listings.{with_listing, further, relisted, found_owner, named, cursor_at, with_cursor, listed_as, no_listing, noted_set_back, noted_left, LeadsBehind, IsLooker, IsOpener, CountedTold, HasCounted, IsAbove, CursorLookTold, KeepLookTold, ListStays, free_from, free_pools, IsLeader, EmptiedTold, LookMay, LookedTold, NameMay, NamedTold, SetBackTold, CloseMay, ListedAsTold, HasList, IsListedCount}
+use Rattle.steps_pools.specs.Listings.{with_listing, further, relisted, found_owner, named, cursor_at, with_cursor, listed_as, no_listing, noted_set_back, noted_left, LeadsBehind, CountedTold, HasCounted, IsAbove, CursorLookTold, KeepLookTold, ListStays, free_from, free_pools, IsLeader, EmptiedTold, LookMay, LookedTold, NameMay, NamedTold, SetBackTold, CloseMay, ListedAsTold, HasList, IsListedCount}
 use Rattle.steps_pools.proofs.FreePools.{free_last, free_same}
 use Rattle.size_pools.specs.Listed.{HasListed, Relisted}
 use Rattle.heap_rule.specs.declared.phase.Kind.{Kind}
@@ -150,6 +150,7 @@ module _ (k : Config) (kind : Kind) (y z : DomainView) (count found : ℕ) (h : 
   seen_cursor = record { leads = subst (LeadsBehind kind) (sym told) leads_still; list = cursor_at found h.list; listing = cursor_list; count_is = h.count_is }
 
 pub above_ready : (k : Config) (y z : DomainView) (count found : ℕ) → HasCounted Run y count → CursorLookTold k count y found z → limit_of k count < found → IsAbove k z count
+unfolding seen_cursor
 above_ready k y z count found h told above = record { counted = seen_cursor k Run y z count found h (told.high above); at = found; cursor_is = refl; above = above }
 
 -- the list stays
