@@ -521,9 +521,9 @@ module _ (k : Config) (s : Words) (r : Rule k s) (id : ℕ) (hist : List Entry) 
     drew_alone came = ⊎_elim
         (λ (h : (j : ℕ) × (pause.phase + 1 ≡ j * 2) × DrawsAlone (pause.kinds j)). half_before {A = NoneCameBack pause} h.0 pause.phase h.1 (λ i odd more. inr (inr (i, odd, led_is i odd, subst (λ (n : ℕ). DrawsAlone (pause.kinds n)) (sym more) h.2))))
         (λ rest. ⊎_elim
-            (λ (h : (j : ℕ) × (pause.phase + 1 ≡ j * 2 + 1) × (false ≡ false) × DrawsAlone (pause.kinds j)). inl (h.0, even_before pause.phase h.0 h.1, h.3))
-            (λ (h : (j : ℕ) × (pause.phase + 1 ≡ j * 2 + 1) × (false ≡ true) × DrawsAlone (pause.kinds (j + 1))). absurd (true≢false (sym h.2)))
-            rest)
+        (λ (h : (j : ℕ) × (pause.phase + 1 ≡ j * 2 + 1) × (false ≡ false) × DrawsAlone (pause.kinds j)). inl (h.0, even_before pause.phase h.0 h.1, h.3))
+        (λ (h : (j : ℕ) × (pause.phase + 1 ≡ j * 2 + 1) × (false ≡ true) × DrawsAlone (pause.kinds (j + 1))). absurd (true≢false (sym h.2)))
+        rest)
         came
 
     next_covered : Covered k next tenancy words'

@@ -466,19 +466,19 @@ module _ (k : Config) (s : Words) (r : Rule k s) (id : ℕ) (hist : List Entry) 
   led_covered : Covered k t' tenancy ws
   led_covered = ⊎_elim
       (⊎_elim
-        (λ (h : (i : ℕ) × (t.phase ≡ i * 2) × (t'.kinds i ≡ Run)). absurd (no_even (h.0, h.1)))
-        (λ (h : (i : ℕ) × (t.phase ≡ i * 2 + 1) × (true ≡ true) × (t'.kinds (i + 1) ≡ Run)). runs_free (sym (named h.0 h.1) ∙ h.3)))
+      (λ (h : (i : ℕ) × (t.phase ≡ i * 2) × (t'.kinds i ≡ Run)). absurd (no_even (h.0, h.1)))
+      (λ (h : (i : ℕ) × (t.phase ≡ i * 2 + 1) × (true ≡ true) × (t'.kinds (i + 1) ≡ Run)). runs_free (sym (named h.0 h.1) ∙ h.3)))
       (λ (came : NoneCameBack t' × (listed ws ≢ 0)). ⊎_elim
-        (λ (h : (i : ℕ) × (t.phase ≡ i * 2) × DrawsAlone (t'.kinds i)). absurd (no_even (h.0, h.1)))
-        (⊎_elim
-          (λ (h : (i : ℕ) × (t.phase ≡ i * 2 + 1) × (true ≡ false) × DrawsAlone (t'.kinds i)). absurd (true≢false h.2))
-          (λ (h : (i : ℕ) × (t.phase ≡ i * 2 + 1) × (true ≡ true) × DrawsAlone (t'.kinds (i + 1))). ⊎_elim
-            (λ (runs : next ≡ Run). runs_free runs)
-            (⊎_elim
-              (λ (copies : next ≡ Promote). stayed (inl (follows_promote last next follows copies)) came.1)
-              (λ (resets : next ≡ Reset). stayed (inr (inl (follows_reset last next follows resets))) came.1))
-            (subst DrawsAlone (named h.0 h.1) h.3)))
-        came.0)
+      (λ (h : (i : ℕ) × (t.phase ≡ i * 2) × DrawsAlone (t'.kinds i)). absurd (no_even (h.0, h.1)))
+      (⊎_elim
+      (λ (h : (i : ℕ) × (t.phase ≡ i * 2 + 1) × (true ≡ false) × DrawsAlone (t'.kinds i)). absurd (true≢false h.2))
+      (λ (h : (i : ℕ) × (t.phase ≡ i * 2 + 1) × (true ≡ true) × DrawsAlone (t'.kinds (i + 1))). ⊎_elim
+      (λ (runs : next ≡ Run). runs_free runs)
+      (⊎_elim
+      (λ (copies : next ≡ Promote). stayed (inl (follows_promote last next follows copies)) came.1)
+      (λ (resets : next ≡ Reset). stayed (inr (inl (follows_reset last next follows resets))) came.1))
+      (subst DrawsAlone (named h.0 h.1) h.3)))
+      came.0)
 
   -- and there the cursor isn't in the reserve
   led_low : next ≡ Run → cursor ws ≤ limit_of k (listed ws)

@@ -486,14 +486,14 @@ module _ (k : Config) (s : Words) (r : Rule k s) (id : ℕ) (hist : List Entry) 
   -- so many pools are listed
   pub counts_rule : Rule k record { words = s.words; homes = s.homes; views = set s.views id (one k hist (with_listing x (Some (listed_as (listed s.words) no_listing)))) }
   counts_rule = looks_at (listed_as (listed s.words) no_listing) x.seen.notes record {
-      first = leads.first;
-      leads = subst IsLeading (sym leads.stage) tt;
-      few = (let p : ℕ = k.pools in let o : 0 ≤ p = omega arith in (o, o));
-      owners = λ q w got. cc;
-      names = λ i q got. cc;
-      count = refl;
-      found = λ c e. cc;
-    } (λ e. e) (λ stage noted. good_looker.set_back (stage, noted))
+    first = leads.first;
+    leads = subst IsLeading (sym leads.stage) tt;
+    few = (let p : ℕ = k.pools in let o : 0 ≤ p = omega arith in (o, o));
+    owners = λ q w got. cc;
+    names = λ i q got. cc;
+    count = refl;
+    found = λ c e. cc;
+  } (λ e. e) (λ stage noted. good_looker.set_back (stage, noted))
 
   module _ (l : Listing) (listing : x.seen.listing ≡ Some l) where
     pub counted : Lists k s.words x.own.number x.seen.stage l
@@ -561,10 +561,14 @@ module _ (k : Config) (s : Words) (r : Rule k s) (id : ℕ) (hist : List Entry) 
       let i : ℕ = at.0 in
       let stood : ℕ = cursor s.words in
       let z : ℕ = limit in
-      let high : z < stood = subst (λ (n : ℕ). limit < n) (sym (known_list.found c stands)) above in
-      (i, subst (λ (n : ℕ). i < n) (sym listed_same) at.1, list_same i ∙ at.2, ⊎_elim
-          (λ (behind : cursor s.words ≤ i). inl (subst (λ (n : ℕ). n ≤ i) (sym cursor_is) (let b : stood ≤ i = behind in let o : z ≤ i = omega arith in o)))
-          (λ (spared : limit_of k (listed s.words) ≤ i). inr (subst (λ (n : ℕ). limit_of k n ≤ i) (sym listed_same) spared)) at.3)
+      let high : z < stood = subst (λ (n : ℕ). limit < n) (sym (known_list.found c stands)) above in (
+        i,
+        subst (λ (n : ℕ). i < n) (sym listed_same) at.1,
+        list_same i ∙ at.2,
+        ⊎_elim
+            (λ (behind : cursor s.words ≤ i). inl (subst (λ (n : ℕ). n ≤ i) (sym cursor_is) (let b : stood ≤ i = behind in let o : z ≤ i = omega arith in o)))
+            (λ (spared : limit_of k (listed s.words) ≤ i). inr (subst (λ (n : ℕ). limit_of k n ≤ i) (sym listed_same) spared)) at.3,
+      )
 
   pub cuts_rule : Rule k record { words = ws7; homes = s.homes; views = set s.views id (one k hist (noted_set_back (with_listing x (Some (cursor_at limit l))))) }
   cuts_rule =

@@ -89,14 +89,14 @@ module _ (k : Config) (s : Words) (r : Rule k s) (id : ℕ) (hist : List Entry) 
   covered' : Covered k r.account.pause after ws
   covered' whole = absurd (⊎_elim
       (⊎_elim
-        (λ (h : (j : ℕ) × (r.account.pause.phase ≡ j * 2) × (r.account.pause.kinds j ≡ Run)). draws_here h.0 h.1 (inl h.2))
-        (λ (h : (j : ℕ) × (r.account.pause.phase ≡ j * 2 + 1) × (r.account.pause.led ≡ true) × (r.account.pause.kinds (j + 1) ≡ Run)). even_here h.0 h.1))
+      (λ (h : (j : ℕ) × (r.account.pause.phase ≡ j * 2) × (r.account.pause.kinds j ≡ Run)). draws_here h.0 h.1 (inl h.2))
+      (λ (h : (j : ℕ) × (r.account.pause.phase ≡ j * 2 + 1) × (r.account.pause.led ≡ true) × (r.account.pause.kinds (j + 1) ≡ Run)). even_here h.0 h.1))
       (λ (came : NoneCameBack r.account.pause × (listed ws ≢ 0)). ⊎_elim
-        (λ (h : (j : ℕ) × (r.account.pause.phase ≡ j * 2) × DrawsAlone (r.account.pause.kinds j)). draws_here h.0 h.1 h.2)
-        (⊎_elim
-          (λ (h : (j : ℕ) × (r.account.pause.phase ≡ j * 2 + 1) × (r.account.pause.led ≡ false) × DrawsAlone (r.account.pause.kinds j)). even_here h.0 h.1)
-          (λ (h : (j : ℕ) × (r.account.pause.phase ≡ j * 2 + 1) × (r.account.pause.led ≡ true) × DrawsAlone (r.account.pause.kinds (j + 1))). even_here h.0 h.1))
-        came.0)
+      (λ (h : (j : ℕ) × (r.account.pause.phase ≡ j * 2) × DrawsAlone (r.account.pause.kinds j)). draws_here h.0 h.1 h.2)
+      (⊎_elim
+      (λ (h : (j : ℕ) × (r.account.pause.phase ≡ j * 2 + 1) × (r.account.pause.led ≡ false) × DrawsAlone (r.account.pause.kinds j)). even_here h.0 h.1)
+      (λ (h : (j : ℕ) × (r.account.pause.phase ≡ j * 2 + 1) × (r.account.pause.led ≡ true) × DrawsAlone (r.account.pause.kinds (j + 1))). even_here h.0 h.1))
+      came.0)
       whole)
 
   -- nobody writes the list
