@@ -204,7 +204,7 @@ module _ (k : Config) (s : Words) (r : Rule k s) (id : ℕ) (hist : List Entry) 
       let stage = subst (AtStage r.account.pause x.own.number x.own.arrivals) acts.runs (my_good k s r id hist x at).staged.stage in
       let spots : List Label = places m f in
       let nobodys : (q : ℕ) → q < k.pools → holder q ≡ nobody → HoldsKept spots named q = (λ q inside is.
-      let c = r.whole.covered (inl stage.1) q inside is in
+      let c = r.whole.covered (inl (inl stage.1)) q inside is in
       let i : ℕ = c.0 in
       let low : m ≤ i = bound.below i c.3 in
       let top : listed words ≤ f + m = bound.fits (listed words) f free.0 free.1 in
