@@ -4,3 +4,5 @@ pub mod DeepenLemmas
 pub mod TakeLemmas
 pub mod StayLemmas
 pub mod TreeLemmas
+pub mod MapLemmas
+pub mod RespectLemmas

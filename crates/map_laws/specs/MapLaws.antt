@@ -5,11 +5,14 @@ use Rattle.heap_model.specs.declared.entry.Entry.{Entry}
 use Rattle.heap_model.specs.declared.graph.Value.{Value}
 use Rattle.heap_model.specs.declared.graph.Value.TheVariants.{Block, Nothing}
 use Rattle.heap_model.specs.declared.state.Sizes.{Sizes}
+use Rattle.heap_model.specs.declared.state.State.{State}
 use Rattle.heap_model.specs.Graph.{Graph}
+use Rattle.heap_model.specs.Entries.{next}
+use Rattle.heap_model.specs.History.{Legal}
 use Rattle.table_laws.specs.Thinning.{WasOutside}
 use Rattle.table_laws.specs.Stages.{Goes, graph_of}
 use Rattle.map_laws.specs.Tries.{inside, at, found, bound_by, way_to, IsMap, IsTree}
-use Rattle.map_laws.specs.Steps.{WritesField, Sets, Deepens}
+use Rattle.map_laws.specs.Steps.{WritesField, Sets, Deepens, Clears, MapStep, LeavesBinding, OthersRespect}
 use Rattle.map_laws.specs.Calls.{bound_after}
 
 -- where a leaf of a key is set, or taken out, the key is bound as the new value binds it, and every other key as before
@@ -35,3 +38,24 @@ ReadTells = (n : ℕ) (g : Graph) (root k : Label) (p : List ℕ) (i : ℕ) (q :
 abbrev pub CollectorTakes : Type 0
 CollectorTakes = (z : Sizes) (old new : List Entry) (root : Label) → Goes z old new [] → IsMap (graph_of z old) root → (k : Label)
     → (bound_after z root new k ≡ bound_after z root old k) ⊎ (WasOutside z old new k × (bound_after z root new k ≡ None))
+
+-- a leaf that binds nothing is taken out: no binding changes
+abbrev pub ClearKeeps : Type 0
+ClearKeeps = (n : ℕ) (g h : Graph) (root : Label) → IsMap g root → Clears g h root → (l : Label) → found n h root l ≡ found n g root l
+
+-- after each step a map is a map
+abbrev pub MapStays : Type 0
+MapStays = (n : ℕ) (root : Label) (s : State) (e : Entry) → IsMap s.graph root → MapStep n root s e → IsMap (next s e).graph root
+
+-- and each of its blocks stands where it stood
+abbrev pub PlacesStay : Type 0
+PlacesStay = (n : ℕ) (root : Label) (s : State) (e : Entry) → IsMap s.graph root → MapStep n root s e
+    → (q : List ℕ) (u : Value) (fields : List Value) → at (inside s.graph) q (Block root) ≡ Some u → inside s.graph u ≡ Some fields → at (inside (next s e).graph) q (Block root) ≡ Some u
+
+-- each step leaves of each key's binding what it is said to leave
+abbrev pub StepTells : Type 0
+StepTells = (n : ℕ) (root : Label) (s : State) (e : Entry) → IsMap s.graph root → (step : MapStep n root s e) → (l : Label) → LeavesBinding n root s e step l
+
+-- in a heap of one domain nobody but that domain does anything to a map, apart from the collector: each entry of others respects it
+abbrev pub AloneRespects : Type 0
+AloneRespects = (z : Sizes) (root : Label) (old new : List Entry) → z.domains ≡ 1 → Legal z new → OthersRespect z root 0 old new

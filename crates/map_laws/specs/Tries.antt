@@ -69,7 +69,7 @@ bound_by g k v = None
 abbrev pub found : ℕ → Graph → Label → Label → Option Value
 found n g root k = bound_by g k (ends (inside g) (way_to n k) (Block root))
 
--- what a field of a map may hold: 0, a leaf, or a block of the map
+-- what a field of a map may hold: 0, a leaf, or a block of the map. Past its last field there is nothing
 abbrev pub is_leaf : Option Node → Type 0
 is_leaf (Some (Ephe (key ∷ []) datum)) = Unit {0}
 is_leaf _ = ⊥
@@ -77,7 +77,7 @@ is_leaf _ = ⊥
 abbrev pub IsSlot : Graph → Value → Type 0
 IsSlot g (Int z) = z ≡ pos 0
 IsSlot g (Block l) = is_leaf (node_at g l) ⊎ ((fields : List Value) × (fields_of (node_at g l) ≡ Some fields))
-IsSlot g Nothing = ⊥
+IsSlot g Nothing = Unit {0}
 
 -- no block stands at two places
 abbrev pub IsTree : (Value → Option (List Value)) → Value → Type 0

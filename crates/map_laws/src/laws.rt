@@ -1,5 +1,5 @@
 //! Laws of maps. Each function's contract is one law, and it does nothing else.
-ghost use Rattle.map_laws.specs.MapLaws.{SetBinds, DeepenKeeps, BlocksStay, ReadTells, CollectorTakes};
+ghost use Rattle.map_laws.specs.MapLaws.{SetBinds, DeepenKeeps, ClearKeeps, BlocksStay, ReadTells, CollectorTakes, MapStays, PlacesStay, StepTells, AloneRespects};
 
 /// Where a leaf of a key is set, or taken out, the key is bound as its new leaf binds it, and every other key as before.
 pub fn set_binds()
@@ -24,4 +24,25 @@ pub fn read_tells()
 /// Where no call wrote a block, the collector took only bindings of keys that were outside reach.
 pub fn collector_takes()
     ensures { CollectorTakes }
+{}
+
+/// A leaf that binds nothing may be taken out: no binding changes.
+pub fn clear_keeps()
+    ensures { ClearKeeps }
+{}
+
+/// After each step a map is a map, and its blocks stand where they stood.
+pub fn map_stays()
+    ensures map { MapStays }
+    ensures places { PlacesStay }
+{}
+
+/// What each step leaves of the bindings, told for all keys.
+pub fn steps_tell()
+    ensures { StepTells }
+{}
+
+/// In a heap of one domain each entry that isn't that domain's respects each map.
+pub fn alone_respects()
+    ensures { AloneRespects }
 {}
