@@ -6,3 +6,5 @@ pub mod StayLemmas
 pub mod TreeLemmas
 pub mod MapLemmas
 pub mod RespectLemmas
+pub mod WayLemmas
+pub mod FrontLemmas

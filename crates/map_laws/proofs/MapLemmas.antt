@@ -279,3 +279,21 @@ step_tells n root s e map (SetsKey k new set) l =
 step_tells n root s e map (GoesDeeper deeper) l = deepen_keeps n s.graph (next s e).graph root map deeper l
 step_tells n root s e map (ClearsField cleared) l = clear_keeps n s.graph (next s e).graph root map cleared l
 step_tells n root s e map (TakesKeys thin) l = thinned_binds (IsOutside s) s.graph (next s e).graph root map thin n l
+
+-- and is a block of the map still
+module _ (g h : Graph) (root : Label) (p : List ℕ) (i : ℕ) (held new : Value) (w : WritesField g h root p i held new) (map : IsMap g root) where
+  written_plain : (u : Value) (fields : List Value) → inside g u ≡ Some fields → (now : List Value) × (inside h u ≡ Some now)
+  written_plain u fields plain = go (block_is w.block u)
+    where
+      go : (u ≡ Block w.block) ⊎ (u ≡ Block w.block → ⊥) → (now : List Value) × (inside h u ≡ Some now)
+      go (inl same) = (set w.fields i new, ap (inside h) same ∙ now_inside g h root p i held new w map.tree)
+      go (inr other) = (fields, others_inside g h root p i held new w map.tree u other ∙ plain)
+
+pub plain_stays : (n : ℕ) (root : Label) (s : State) (e : Entry) → IsMap s.graph root → MapStep n root s e
+    → (q : List ℕ) (u : Value) (fields : List Value) → at (inside s.graph) q (Block root) ≡ Some u → inside s.graph u ≡ Some fields → (now : List Value) × (inside (next s e).graph u ≡ Some now)
+plain_stays n root s e map (Untouched same) q u fields there plain =
+    (fields, inside_same NoLabel s.graph (next s e).graph root map (untouched_thinned NoLabel s.graph (next s e).graph root same) q u there ∙ plain)
+plain_stays n root s e map (SetsKey k new set) q u fields there plain = written_plain s.graph (next s e).graph root set.p set.i set.held new set.writes map u fields plain
+plain_stays n root s e map (GoesDeeper deeper) q u fields there plain = written_plain s.graph (next s e).graph root deeper.p deeper.i deeper.held (Block deeper.block) deeper.writes map u fields plain
+plain_stays n root s e map (ClearsField cleared) q u fields there plain = written_plain s.graph (next s e).graph root cleared.p cleared.i cleared.held (Int (pos 0)) cleared.writes map u fields plain
+plain_stays n root s e map (TakesKeys thin) q u fields there plain = (fields, inside_same (IsOutside s) s.graph (next s e).graph root map thin q u there ∙ plain)

@@ -1,5 +1,5 @@
 -- Weak maps: a trie of plain blocks whose leaves are ephemerons of one key. What a map binds is a function of the graph.
-use Rattle.std.specs.Prelude.{◌≡◌, ℕ, zero, suc, ◌+◌, ◌*◌, ◌/◌, ◌%◌, ◌<◌, cond, List, [], ◌∷◌, ◌++◌, length, slice_index_or, option_and_then, pos, Option, Some, None, ◌⊎◌}
+use Rattle.std.specs.Prelude.{◌≡◌, ℕ, zero, suc, ◌+◌, ◌*◌, ◌/◌, ◌%◌, ◌^◌, ◌<◌, cond, List, [], ◌∷◌, ◌++◌, length, slice_index_or, option_and_then, pos, Option, Some, None, ◌⊎◌}
 use Rattle.std.specs.Option.{option_map_or}
 use Rattle.heap_model.specs.declared.label.Label.{Label}
 use Rattle.heap_model.specs.declared.graph.Value.{Value}
@@ -31,6 +31,10 @@ digits m = m % root_width ∷ low_digits 6 (m / root_width)
 -- the way to a key: which field to follow at the root, at the block below it, and so on
 abbrev pub way_to : ℕ → Label → List ℕ
 way_to n k = digits (number_of n k)
+
+-- a label that a heap of n domains may give out: its serial is a number of 32 bits
+abbrev pub IsLabelOf : ℕ → Label → Type 0
+IsLabelOf n k = (k.domain < n) × (k.serial < 2 ^ 32)
 
 -- how many steps a way has
 abbrev pub way_length : ℕ
