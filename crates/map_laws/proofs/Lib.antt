@@ -8,3 +8,4 @@ pub mod MapLemmas
 pub mod RespectLemmas
 pub mod WayLemmas
 pub mod FrontLemmas
+pub mod CallLemmas
