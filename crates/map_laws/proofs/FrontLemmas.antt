@@ -29,7 +29,7 @@ walk_along P old new grows each p = go grows.rest old (prefix_same old) grows.ap
         let split : new ≡ (front ++ e ∷ []) ++ rest = whole ∙ sym (append_assoc front (e ∷ []) rest) in
         go rest (front ++ e ∷ []) (prefix_trans old front (front ++ e ∷ []) since (prefix_more front (e ∷ []))) split (each front e since (record { rest = rest; appends = split }) here)
 
-drop_front : (a b c : List Entry) → a ++ b ≡ a ++ c → b ≡ c
+pub drop_front : (a b c : List Entry) → a ++ b ≡ a ++ c → b ≡ c
 drop_front [] b c e = e
 drop_front (x ∷ a) b c e = drop_front a b c cc
 

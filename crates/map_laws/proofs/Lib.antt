@@ -9,3 +9,4 @@ pub mod RespectLemmas
 pub mod WayLemmas
 pub mod FrontLemmas
 pub mod CallLemmas
+pub mod OwnLemmas
