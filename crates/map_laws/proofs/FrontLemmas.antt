@@ -86,3 +86,19 @@ own_is_last d old between c front e none since until own =
         (sym (append_assoc old between (c ∷ [])) ∙ (until.appends ∙ (append_assoc front (e ∷ []) until.rest ∙ (ap (λ (h : List Entry). h ++ e ∷ until.rest) since.appends ∙ append_assoc old since.rest (e ∷ until.rest))))) in
     let last = last_is d between c since.rest e until.rest none own split in
     (since.appends ∙ ap (λ (h : List Entry). old ++ h) last.0, last.1)
+
+-- an entry before the end of a stretch is its last, or stands before that
+pub last_or_before : (h : List Entry) (c : Entry) (front : List Entry) (e : Entry) → IsPrefix (front ++ e ∷ []) (h ++ c ∷ []) → IsPrefix (front ++ e ∷ []) h ⊎ ((front ≡ h) × (e ≡ c))
+last_or_before h c front e until = go (cut h (c ∷ []) front e until.rest (sym whole))
+  where
+    whole : h ++ c ∷ [] ≡ front ++ e ∷ until.rest
+    whole = until.appends ∙ append_assoc front (e ∷ []) until.rest
+    end : (v : List Entry) → c ∷ [] ≡ v ++ e ∷ until.rest → (v ≡ []) × (e ≡ c)
+    end [] is = (refl, cc)
+    end (a ∷ []) is = cc
+    end (a ∷ b ∷ v) is = cc
+    go : ((u : List Entry) × (h ≡ front ++ e ∷ u)) ⊎ ((v : List Entry) × (front ≡ h ++ v)) → IsPrefix (front ++ e ∷ []) h ⊎ ((front ≡ h) × (e ≡ c))
+    go (inl (u, is)) = inl (record { rest = u; appends = is ∙ sym (append_assoc front (e ∷ []) u) })
+    go (inr (v, is)) =
+        let t = end v (drop_front h (c ∷ []) (v ++ e ∷ until.rest) (whole ∙ (ap (λ (x : List Entry). x ++ e ∷ until.rest) is ∙ append_assoc h v (e ∷ until.rest)))) in
+        inr (is ∙ (ap (λ (x : List Entry). h ++ x) t.0 ∙ append-nil h), t.1)

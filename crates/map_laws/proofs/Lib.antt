@@ -10,3 +10,6 @@ pub mod WayLemmas
 pub mod FrontLemmas
 pub mod CallLemmas
 pub mod OwnLemmas
+pub mod ReachLemmas
+pub mod FieldLemmas
+pub mod RefusedBodies

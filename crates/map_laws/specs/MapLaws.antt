@@ -2,12 +2,14 @@
 use Rattle.std.specs.Prelude.{◌≡◌, ◌≢◌, ◌⊎◌, ℕ, ◌<◌, ◌≤◌, IsTrue, List, [], ◌∷◌, ◌++◌, length, slice_index_or, Option, Some, None}
 use Rattle.heap_model.specs.declared.label.Label.{Label}
 use Rattle.heap_model.specs.declared.entry.Entry.{Entry}
+use Rattle.heap_model.specs.declared.entry.Entry.TheVariants.{Collected}
 use Rattle.heap_model.specs.declared.graph.Value.{Value}
 use Rattle.heap_model.specs.declared.graph.Value.TheVariants.{Block, Nothing}
+use Rattle.heap_model.specs.declared.graph.Node.TheVariants.{Ephe}
 use Rattle.heap_model.specs.declared.state.Sizes.{Sizes}
 use Rattle.heap_model.specs.declared.state.State.{State}
-use Rattle.heap_model.specs.Graph.{Graph, has_label}
-use Rattle.heap_model.specs.Domains.{reach}
+use Rattle.heap_model.specs.Graph.{Graph, has_label, node_at}
+use Rattle.heap_model.specs.Domains.{with_block, reach}
 use Rattle.heap_model.specs.Entries.{next}
 use Rattle.heap_model.specs.History.{IsPrefix, Legal}
 use Rattle.table_laws.specs.Thinning.{WasOutside, state_of}
@@ -96,3 +98,13 @@ HeldBindingIsFound = (z : Sizes) (root : Label) (old new : List Entry) → IsPre
 -- and a map is a map all along
 abbrev pub RespectedMapStays : Type 0
 RespectedMapStays = (z : Sizes) (root : Label) (old new : List Entry) → IsPrefix old new → AllRespect z root old new → IsMap (graph_of z old) root → IsMap (graph_of z new) root
+
+-- after a complete collection in which a map is reached, each key that it binds is reached
+abbrev pub CollectedKeysAreReached : Type 0
+CollectedKeysAreReached = (z : Sizes) (h : List Entry) → Legal z (h ++ Collected ∷ []) → let s = state_of z (h ++ Collected ∷ []) in
+    (root : Label) → IsTrue (has_label (reach s) root) → (k : Label) → found z.domains s.graph root k ≢ None → IsTrue (has_label (reach s) k)
+
+-- no binding keeps its own key alive: a key that is reached is reached without the datum of a leaf of it
+abbrev pub DatumKeepsNoKey : Type 0
+DatumKeepsNoKey = (z : Sizes) (h : List Entry) (l k : Label) (datum : Value) → node_at (graph_of z h) l ≡ Some (Ephe (Some k ∷ []) datum)
+    → IsTrue (has_label (reach (state_of z h)) k) → IsTrue (has_label (reach (with_block (state_of z h) l (Ephe (Some k ∷ []) Nothing))) k)

@@ -1,5 +1,5 @@
 //! Laws of maps. Each function's contract is one law, and it does nothing else.
-ghost use Rattle.map_laws.specs.MapLaws.{SetBinds, DeepenKeeps, ClearKeeps, BlocksStay, ReadTells, CollectorTakes, MapStays, PlacesStay, StepTells, AloneRespects, WaysDiffer, WaysPart, RespectedMapStays, LookupAnswersLastPut, HeldBindingIsFound};
+ghost use Rattle.map_laws.specs.MapLaws.{SetBinds, DeepenKeeps, ClearKeeps, BlocksStay, ReadTells, CollectorTakes, MapStays, PlacesStay, StepTells, AloneRespects, WaysDiffer, WaysPart, RespectedMapStays, LookupAnswersLastPut, HeldBindingIsFound, CollectedKeysAreReached, DatumKeepsNoKey};
 
 /// Where a leaf of a key is set, or taken out, the key is bound as its new leaf binds it, and every other key as before.
 pub fn set_binds()
@@ -66,4 +66,14 @@ pub fn lookup_answers_last_put()
 /// A binding whose key is reached all along is found, until an entry sets it.
 pub fn held_binding_is_found()
     ensures { HeldBindingIsFound }
+{}
+
+/// After a complete collection in which a map is reached, each key that it binds is reached.
+pub fn collected_keys_are_reached()
+    ensures { CollectedKeysAreReached }
+{}
+
+/// No binding keeps its own key alive: a key that is reached is reached without the datum that it is bound to.
+pub fn datum_keeps_no_key()
+    ensures { DatumKeepsNoKey }
 {}
