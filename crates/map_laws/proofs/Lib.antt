@@ -13,3 +13,4 @@ pub mod OwnLemmas
 pub mod ReachLemmas
 pub mod FieldLemmas
 pub mod RefusedBodies
+pub mod ExampleLemmas

@@ -2,3 +2,4 @@ pub mod Tries
 pub mod Steps
 pub mod Calls
 pub mod MapLaws
+pub mod Examples

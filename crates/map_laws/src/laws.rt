@@ -1,5 +1,6 @@
 //! Laws of maps. Each function's contract is one law, and it does nothing else.
 ghost use Rattle.map_laws.specs.MapLaws.{SetBinds, DeepenKeeps, ClearKeeps, BlocksStay, ReadTells, CollectorTakes, MapStays, PlacesStay, StepTells, AloneRespects, WaysDiffer, WaysPart, RespectedMapStays, LookupAnswersLastPut, HeldBindingIsFound, CollectedKeysAreReached, DatumKeepsNoKey};
+ghost use Rattle.map_laws.specs.Examples.{IsLegalExample, PutIsAStep, IsBoundWhileHeld, IsUnboundAfterwards, NoneLeavesIt, StoredNumberBreaksMap};
 
 /// Where a leaf of a key is set, or taken out, the key is bound as its new leaf binds it, and every other key as before.
 pub fn set_binds()
@@ -76,4 +77,18 @@ pub fn collected_keys_are_reached()
 /// No binding keeps its own key alive: a key that is reached is reached without the datum that it is bound to.
 pub fn datum_keeps_no_key()
     ensures { DatumKeepsNoKey }
+{}
+
+/// A small history: a key whose datum holds it is put and forgotten. A complete collection takes it, and none leaves it.
+pub fn own_datum_is_collected()
+    ensures legal { IsLegalExample }
+    ensures step { PutIsAStep }
+    ensures bound { IsBoundWhileHeld }
+    ensures unbound { IsUnboundAfterwards }
+    ensures none { NoneLeavesIt }
+{}
+
+/// Another: a number that is stored into a map's block by a command that is no map call's makes it no map.
+pub fn stored_number_breaks_map()
+    ensures { StoredNumberBreaksMap }
 {}
