@@ -14,3 +14,4 @@ pub mod ReachLemmas
 pub mod FieldLemmas
 pub mod RefusedBodies
 pub mod ExampleLemmas
+pub mod PrivateLemmas
