@@ -29,6 +29,16 @@ use Rattle.map_laws.specs.Tries.{inside, fields_of, ends, bound_in, bound_by, wa
 use Rattle.map_laws.specs.MapLaws.{CollectedKeysAreReached, DatumKeepsNoKey}
 use Rattle.map_laws.proofs.WalkLemmas.{ends_step, ends_stop}
 
+-- a field that holds a label
+pub field_named : (fields : List Value) (i : ℕ) (m : Label) → get_or fields i Nothing ≡ Block m → IsTrue (has_label (filter_map label_of fields) m)
+field_named [] i m is = cc
+field_named (Int z ∷ fields) zero m is = cc
+field_named (Nothing ∷ fields) zero m is = cc
+field_named (Block l ∷ fields) zero m is = let same : l ≡ m = cc in or_left (same_label l m) _ (subst (λ x. IsTrue (same_label l x)) same (same_label_refl l))
+field_named (Int z ∷ fields) (suc i) m is = field_named fields i m is
+field_named (Nothing ∷ fields) (suc i) m is = field_named fields i m is
+field_named (Block l ∷ fields) (suc i) m is = or_right (same_label l m) _ (field_named fields i m is)
+
 -- what a set that is closed holds of a map that it holds
 module _ (g : Graph) (alive : Label → Bool) (closed : IsClosedUnder g alive) where
   -- a value whose label, if it is one, is held
@@ -37,15 +47,6 @@ module _ (g : Graph) (alive : Label → Bool) (closed : IsClosedUnder g alive) w
 
   edge : (l m : Label) (tag : ℕ) (fields : List Value) → IsTrue (alive l) → node_at g l ≡ Some (Plain tag fields) → IsTrue (has_label (filter_map label_of fields) m) → IsTrue (alive m)
   edge l m tag fields lives at named = closed l m lives (subst (λ o. IsTrue (has_label (option_map_or (edges_of alive) o []) m)) (sym at) named)
-
-  field_named : (fields : List Value) (i : ℕ) (m : Label) → get_or fields i Nothing ≡ Block m → IsTrue (has_label (filter_map label_of fields) m)
-  field_named [] i m is = cc
-  field_named (Int z ∷ fields) zero m is = cc
-  field_named (Nothing ∷ fields) zero m is = cc
-  field_named (Block l ∷ fields) zero m is = let same : l ≡ m = cc in or_left (same_label l m) _ (subst (λ x. IsTrue (same_label l x)) same (same_label_refl l))
-  field_named (Int z ∷ fields) (suc i) m is = field_named fields i m is
-  field_named (Nothing ∷ fields) (suc i) m is = field_named fields i m is
-  field_named (Block l ∷ fields) (suc i) m is = or_right (same_label l m) _ (field_named fields i m is)
 
   -- a field of a block that is held
   field_lives : (v : Value) (fields : List Value) (i : ℕ) → Lives v → inside g v ≡ Some fields → Lives (get_or fields i Nothing)
