@@ -15,3 +15,5 @@ pub mod FieldLemmas
 pub mod RefusedBodies
 pub mod ExampleLemmas
 pub mod PrivateLemmas
+pub mod LabelLemmas
+pub mod CacheLemmas

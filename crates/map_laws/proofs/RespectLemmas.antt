@@ -30,7 +30,7 @@ use Rattle.table_laws.proofs.StepLemmas.{legal_parts}
 use Rattle.map_laws.specs.Tries.{inside, at, found, bound_by, is_leaf, IsMap}
 use Rattle.map_laws.specs.Steps.{Sets, MapStep, Untouched, SetsKey, GoesDeeper, ClearsField, TakesKeys, LeavesBinding, RespectsMap, AllRespect, OthersRespect, OwnRespect}
 use Rattle.map_laws.specs.Calls.{bound_after}
-use Rattle.map_laws.specs.MapLaws.{AloneRespects, NoneSets, BoundOrTaken, LookupAnswersLastPut, HeldBindingIsFound, RespectedMapStays}
+use Rattle.map_laws.specs.MapLaws.{AloneRespects, NoneSets, BoundOrTaken, LookupAnswersLastPut, HeldBindingIsFound, PutIsFound, RespectedMapStays}
 use Rattle.map_laws.proofs.SetLemmas.{set_binds}
 use Rattle.map_laws.proofs.MapLemmas.{map_stays, places_stay, plain_stays, step_tells}
 use Rattle.map_laws.proofs.FrontLemmas.{prefix_same, prefix_more, prefix_trans, prefix_before, walk_along, before_or_behind}
@@ -64,7 +64,7 @@ module _ (s : State) where
       length-set t.domains d _ ∙ length-set s.domains d _
   count_run d (Last number ∷ rest) = length-set s.domains d _
 
-count_next : (s : State) (e : Entry) → length (next s e).domains ≡ length s.domains
+pub count_next : (s : State) (e : Entry) → length (next s e).domains ≡ length s.domains
 count_next s (CommandOf d c true) = count_with s d _
 count_next s (CommandOf d c false) = length-set (outcome s d c).state.domains d _
     ∙ keeps_outcome (λ t. length t.domains ≡ length s.domains) (λ t d x q. length-set t.domains d x ∙ q) (λ t g n q. q) s refl d c
@@ -227,3 +227,14 @@ held_found z root old new grows all map k v bound none reached = go (unset_stays
 
 pub respected_map : RespectedMapStays
 respected_map z root old new grows all map = map_after z root old new grows all map
+
+pub put_found : PutIsFound
+put_found z root d reader old mid new k v before datum all map first behind x gets none reached =
+    let after : List Entry = x.front ++ x.entry ∷ [] in
+    let since : IsPrefix old after = prefix_trans old x.front after x.since (prefix_more x.front (x.entry ∷ [])) in
+    let until : IsPrefix after gets.front = prefix_trans after mid gets.front x.until gets.since in
+    let to_new : IsPrefix after new = prefix_trans after gets.front new until gets.until in
+    let there : IsMap (graph_of z after) root = map_between z root old new (prefix_trans old after new since to_new) all map after since to_new in
+    sym gets.bound
+    ∙ held_found z root after gets.front until (respect_within z root old after gets.front new since gets.until all) there k v x.binds
+    (λ f e a b w. none f e a (prefix_trans (f ++ e ∷ []) gets.front new b gets.until) w) (λ f a b. reached f a (prefix_trans f gets.front new b gets.until))

@@ -3,3 +3,4 @@ pub mod Steps
 pub mod Calls
 pub mod MapLaws
 pub mod Examples
+pub mod Caches

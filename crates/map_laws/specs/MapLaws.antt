@@ -16,7 +16,7 @@ use Rattle.table_laws.specs.Thinning.{WasOutside, state_of}
 use Rattle.table_laws.specs.Stages.{Goes, graph_of}
 use Rattle.map_laws.specs.Tries.{inside, at, found, bound_by, way_to, way_length, IsLabelOf, IsMap, IsTree}
 use Rattle.map_laws.specs.Steps.{WritesField, Sets, Deepens, Clears, MapStep, LeavesBinding, AllRespect, OthersRespect}
-use Rattle.map_laws.specs.Calls.{bound_after}
+use Rattle.map_laws.specs.Calls.{bound_after, ChangesOne, Gets}
 
 -- where a leaf of a key is set, or taken out, the key is bound as the new value binds it, and every other key as before
 abbrev pub SetBinds : Type 0
@@ -108,3 +108,9 @@ CollectedKeysAreReached = (z : Sizes) (h : List Entry) → Legal z (h ++ Collect
 abbrev pub DatumKeepsNoKey : Type 0
 DatumKeepsNoKey = (z : Sizes) (h : List Entry) (l k : Label) (datum : Value) → node_at (graph_of z h) l ≡ Some (Ephe (Some k ∷ []) datum)
     → IsTrue (has_label (reach (state_of z h)) k) → IsTrue (has_label (reach (with_block (state_of z h) l (Ephe (Some k ∷ []) Nothing))) k)
+
+-- what a put put, a later lookup of any domain answers, as long as the key is reached and no entry sets it between
+abbrev pub PutIsFound : Type 0
+PutIsFound = (z : Sizes) (root : Label) (d reader : ℕ) (old mid new : List Entry) (k : Label) (v : Value) (before datum : Option Value) → AllRespect z root old new → IsMap (graph_of z old) root
+    → IsPrefix old mid → IsPrefix mid new → (put : ChangesOne z root d old mid k before (Some v)) → Gets z root reader mid new k datum → NoneSets z root (put.front ++ put.entry ∷ []) new k
+    → ((front : List Entry) → IsPrefix (put.front ++ put.entry ∷ []) front → IsPrefix front new → IsTrue (has_label (reach (state_of z front)) k)) → datum ≡ Some v

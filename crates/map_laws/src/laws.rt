@@ -1,5 +1,6 @@
 //! Laws of maps. Each function's contract is one law, and it does nothing else.
-ghost use Rattle.map_laws.specs.MapLaws.{SetBinds, DeepenKeeps, ClearKeeps, BlocksStay, ReadTells, CollectorTakes, MapStays, PlacesStay, StepTells, AloneRespects, WaysDiffer, WaysPart, RespectedMapStays, LookupAnswersLastPut, HeldBindingIsFound, CollectedKeysAreReached, DatumKeepsNoKey};
+ghost use Rattle.map_laws.specs.MapLaws.{SetBinds, DeepenKeeps, ClearKeeps, BlocksStay, ReadTells, CollectorTakes, MapStays, PlacesStay, StepTells, AloneRespects, WaysDiffer, WaysPart, RespectedMapStays, LookupAnswersLastPut, HeldBindingIsFound, PutIsFound, CollectedKeysAreReached, DatumKeepsNoKey};
+ghost use Rattle.map_laws.specs.Caches.{PutIsBounded, PutIsFound as CachedPutIsFound, PutKeepsUsed, GetKeeps};
 ghost use Rattle.map_laws.specs.Examples.{IsLegalExample, PutIsAStep, IsBoundWhileHeld, IsUnboundAfterwards, NoneLeavesIt, StoredNumberBreaksMap};
 
 /// Where a leaf of a key is set, or taken out, the key is bound as its new leaf binds it, and every other key as before.
@@ -69,6 +70,11 @@ pub fn held_binding_is_found()
     ensures { HeldBindingIsFound }
 {}
 
+/// What a put put, a later lookup of any domain answers, as long as the key is reached and no entry sets it between.
+pub fn put_is_found()
+    ensures { PutIsFound }
+{}
+
 /// After a complete collection in which a map is reached, each key that it binds is reached.
 pub fn collected_keys_are_reached()
     ensures { CollectedKeysAreReached }
@@ -91,4 +97,13 @@ pub fn own_datum_is_collected()
 /// Another: a number that is stored into a map's block by a command that is no map call's makes it no map.
 pub fn stored_number_breaks_map()
     ensures { StoredNumberBreaksMap }
+{}
+
+/// A bounded cache, as plain data: no more entries than its bound, what was put is found, an entry stays until as many others
+/// were used, and a lookup changes no entry.
+pub fn caches()
+    ensures bounded { PutIsBounded }
+    ensures found { CachedPutIsFound }
+    ensures used { PutKeepsUsed }
+    ensures kept { GetKeeps }
 {}
