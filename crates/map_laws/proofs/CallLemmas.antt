@@ -27,8 +27,7 @@ use Rattle.heap_model.proofs.Histories.NumberLemmas.{next_label_after}
 use Rattle.table_laws.specs.Thinning.{state_of}
 use Rattle.table_laws.specs.Stages.{graph_of}
 use Rattle.table_laws.proofs.OutcomeLemmas.{leaves_get_key, leaves_get_data, leaves_set_key, leaves_set_data}
-use Rattle.table_laws.specs.Performing.{Performed}
-use Rattle.table_laws.proofs.StepLemmas.{legal_parts, collector_none}
+use Rattle.table_laws.proofs.StepLemmas.{legal_parts}
 use Rattle.map_laws.specs.Calls.{PerformedBy, registers_after}
 use Rattle.map_laws.specs.Steps.{AllRespect, OthersRespect}
 use Rattle.map_laws.proofs.FrontLemmas.{other_between, prefix_more, prefix_trans}
@@ -236,7 +235,3 @@ module _ (z : Sizes) (d : ℕ) (old new : List Entry) (r : Reply) where
       × Took z d new r (graph_of z (old ++ p.between) ++ (made z d old new (NewEphe dst 1) r p, Ephe (None ∷ []) Nothing) ∷ []) (set rs dst (Block (made z d old new (NewEphe dst 1) r p))) (BlockReply (made z d old new (NewEphe dst 1) r p)))
   ephe_step dst p = makes z d old new (NewEphe dst 1) r p dst (Ephe (None ∷ []) Nothing)
       (λ below. leaves_allocation (before z d old new (NewEphe dst 1) r p) d below (NewEphe dst 1) dst (Ephe (None ∷ []) Nothing) refl)
-
--- a command of the one domain of a heap is one of domain 0
-pub performed_by : (z : Sizes) (old new : List Entry) (c : Command) (r : Reply) → Performed z old new c r → PerformedBy z 0 old new c r
-performed_by z old new c r p = record { between = p.between; others = collector_none p.between 0 p.collector; full = p.full; appends = p.appends; legal = p.legal; replies = p.replies }

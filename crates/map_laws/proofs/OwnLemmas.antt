@@ -19,7 +19,9 @@ use Rattle.heap_model.proofs.Commands.FrameLemmas.{grew_same, grew_after, grew_n
 use Rattle.heap_model.proofs.Graphs.GraphLemmas.{node_at-with_node_other, node_at-append_old}
 use Rattle.table_laws.specs.Thinning.{IsOutside, Thin, state_of}
 use Rattle.table_laws.specs.Stages.{graph_of}
+use Rattle.table_laws.specs.Performing.{Performed}
 use Rattle.table_laws.proofs.ChangeLemmas.{thin_is}
+use Rattle.table_laws.proofs.StepLemmas.{collector_none}
 use Rattle.map_laws.specs.Tries.{inside, fields_of, at, is_leaf, way_to, root_width, width_at, IsSlot, IsMap, found, ends, bound_by}
 use Rattle.map_laws.specs.Steps.{MapStep, Untouched, IsUntouched, SparesLeaves, RespectsMap, OwnRespect}
 use Rattle.map_laws.specs.Calls.{bound_after, OwnKeep, Looks, ChangesOne, PerformedBy}
@@ -214,6 +216,10 @@ module _ (z : Sizes) (root : Label) (d : ℕ) where
       last = λ f e a b mine l. absurd (nothing_between (old ++ p.between ++ CommandOf d c p.full ∷ []) f e a (subst (λ (h : List Entry). IsPrefix (f ++ e ∷ []) h) p.appends b));
       respects = own_respects;
     }
+
+-- a command of the one domain of a heap is one of domain 0
+pub performed_by : (z : Sizes) (old new : List Entry) (c : Command) (r : Reply) → Performed z old new c r → PerformedBy z 0 old new c r
+performed_by z old new c r p = record { between = p.between; others = collector_none p.between 0 p.collector; full = p.full; appends = p.appends; legal = p.legal; replies = p.replies }
 
 -- a new map: a root whose fields are 0, alone
 module _ (g : Graph) (root : Label) (tag : ℕ) (node : node_at g root ≡ Some (Plain tag (replicate root_width (Int (pos 0))))) where

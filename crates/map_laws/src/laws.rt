@@ -1,7 +1,7 @@
 //! Laws of maps. Each function's contract is one law, and it does nothing else.
 ghost use Rattle.map_laws.specs.MapLaws.{SetBinds, DeepenKeeps, ClearKeeps, BlocksStay, ReadTells, CollectorTakes, MapStays, PlacesStay, StepTells, AloneRespects, WaysDiffer, WaysPart, RespectedMapStays, LookupAnswersLastPut, HeldBindingIsFound, PutIsFound, CollectedKeysAreReached, DatumKeepsNoKey};
 ghost use Rattle.map_laws.specs.Caches.{PutIsBounded, PutIsFound as CachedPutIsFound, PutKeepsUsed, GetKeeps};
-ghost use Rattle.map_laws.specs.Examples.{IsLegalExample, PutIsAStep, IsBoundWhileHeld, IsUnboundAfterwards, NoneLeavesIt, StoredNumberBreaksMap};
+ghost use Rattle.map_laws.specs.Examples.{IsLegalExample, PutIsAStep, DeepenIsAStep, IsBoundDeeper, IsBoundWhileHeld, IsUnboundAfterwards, NoneLeavesIt, StoredNumberBreaksMap};
 
 /// Where a leaf of a key is set, or taken out, the key is bound as its new leaf binds it, and every other key as before.
 pub fn set_binds()
@@ -92,6 +92,12 @@ pub fn own_datum_is_collected()
     ensures bound { IsBoundWhileHeld }
     ensures unbound { IsUnboundAfterwards }
     ensures none { NoneLeavesIt }
+{}
+
+/// Another: the leaf of a key goes one block deeper, and the key is bound as before.
+pub fn leaf_goes_deeper()
+    ensures step { DeepenIsAStep }
+    ensures bound { IsBoundDeeper }
 {}
 
 /// Another: a number that is stored into a map's block by a command that is no map call's makes it no map.
