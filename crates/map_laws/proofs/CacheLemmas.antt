@@ -1,12 +1,12 @@
 -- A bounded cache as plain data.
-use Rattle.std.proofs.Common.{◌≡◌, ◌≢◌, ℕ, zero, suc, ◌+◌, ◌<◌, ◌≤◌, Bool, true, false, cond, List, [], ◌∷◌, ◌++◌, length, take, Option, Some, None, refl, ap, sym, ◌∙◌, subst, arith}
+use Rattle.std.proofs.Common.{◌≡◌, ◌≢◌, ℕ, zero, suc, ◌<◌, ◌≤◌, Bool, true, false, cond, List, [], ◌∷◌, ◌++◌, length, take, Option, Some, None, refl, ap, sym, ◌∙◌, arith}
 use Rattle.heap_model.specs.declared.label.Label.{Label}
 use Rattle.heap_model.specs.declared.graph.Value.{Value}
 use Rattle.heap_model.specs.Graph.{same_label}
 use Rattle.heap_model.proofs.Graphs.GraphLemmas.{same_label-true, same_label-false, same_label_refl}
 use Rattle.table_laws.specs.Structures.{Binding, datum_at, without}
 use Rattle.table_laws.proofs.BindingLemmas.{without_append}
-use Rattle.map_laws.specs.Caches.{cache_put, cache_get, touched, PutIsBounded, PutIsFound, PutKeepsUsed, GetKeeps}
+use Rattle.map_laws.specs.Caches.{touched, PutIsBounded, PutIsFound, PutKeepsUsed, GetKeeps}
 
 take_bounded : (n : ℕ) (bs : List Binding) → length (take n bs) ≤ n
 take_bounded zero bs = omega arith
@@ -66,6 +66,7 @@ get_keeps k l bs = go (datum_at bs k) refl
     hit : (v : Value) → datum_at bs k ≡ Some v → (c : Bool) → same_label k l ≡ c → cond c (Some v) (datum_at (without k bs) l) ≡ datum_at bs l
     hit v e true same = sym e ∙ ap (datum_at bs) (same_label-true k l same)
     hit v e false other = without_datum k l bs (λ is. let clash : true ≡ false = sym (same_label_refl k) ∙ (ap (λ (x : Label). same_label k x) (sym is) ∙ other) in cc)
+
     go : (o : Option Value) → datum_at bs k ≡ o → datum_at (touched k o bs) l ≡ datum_at bs l
     go None e = refl
     go (Some v) e = hit v e (same_label k l) refl

@@ -1,5 +1,5 @@
 -- One command of a call: what it answers, which registers it changes, which block, and what it does to a map.
-use Rattle.std.proofs.Common.{◌≡◌, ◌≢◌, ◌⊎◌, inl, inr, ℕ, ◌+◌, ◌<◌, Bool, true, false, List, [], ◌∷◌, ◌++◌, length, get_or, set, slice_get, replicate, pos, ℤ, Option, Some, None, refl, ap, sym, ◌∙◌, subst, append_assoc}
+use Rattle.std.proofs.Common.{◌≡◌, ◌≢◌, ◌⊎◌, inl, inr, ℕ, ◌+◌, ◌<◌, Bool, true, false, List, [], ◌∷◌, ◌++◌, length, get_or, set, slice_get, ℤ, Option, Some, None, refl, ap, sym, ◌∙◌, subst, append_assoc}
 use Rattle.heap_model.specs.declared.label.Label.{Label}
 use Rattle.heap_model.specs.declared.command.Command.{Command}
 use Rattle.heap_model.specs.declared.command.Command.TheVariants.{PutInt, Copy, Forget, Alloc, Load, Store, Cas, Ephe as NewEphe, SetKey, GetKey, SetData, GetData}
@@ -18,8 +18,8 @@ use Rattle.heap_model.specs.Graph.{Graph, node_at, with_node}
 use Rattle.heap_model.specs.Domains.{domain_at, register, opening}
 use Rattle.heap_model.specs.Commands.{CommandAllowed, FullOnlyWhereAllowed, MayBeFull, is_allocation, same_value, shown, key_value, new_plain}
 use Rattle.heap_model.specs.Entries.{next, reply}
-use Rattle.heap_model.specs.History.{IsPrefix, Legal, LegalFrom, is_entry_of}
-use Rattle.heap_model.specs.Fronts.{NoneOf, KeepsDomain}
+use Rattle.heap_model.specs.History.{IsPrefix, Legal, LegalFrom}
+use Rattle.heap_model.specs.Fronts.{KeepsDomain}
 use Rattle.heap_model.proofs.Commands.FrameLemmas.{inside_running}
 use Rattle.heap_model.proofs.Commands.LeavesLemmas.{Leaves, new_label, takes_plain, leaves_put, leaves_copy, leaves_forget, leaves_load, leaves_load_kind, leaves_store, leaves_cas_written, leaves_cas_kept, leaves_full, leaves_allocation}
 use Rattle.heap_model.proofs.Histories.FrontLemmas.{keeps_front}
@@ -132,10 +132,15 @@ module _ (z : Sizes) (d : ℕ) (old new : List Entry) (c : Command) (r : Reply) 
           inl (e, (ap (λ (t : State). t.graph) here ∙ x.graph_is, ap (λ (t : State). (domain_at t d).registers) here ∙ (x.registers_are ∙ kept.registers), cc))
       go false e =
           let t = took _ _ _ _ e (leaves inside) in
-          inr (e, fresh, (
-          t.0 ∙ ap (λ (l : Label). before.graph ++ (l, n) ∷ []) same_made,
-          t.1 ∙ (λ i. set (kept.registers i) dst (Block (same_made i))),
-          t.2 ∙ ap BlockReply same_made))
+          inr (
+            e,
+            fresh,
+            (
+              t.0 ∙ ap (λ (l : Label). before.graph ++ (l, n) ∷ []) same_made,
+              t.1 ∙ (λ i. set (kept.registers i) dst (Block (same_made i))),
+              t.2 ∙ ap BlockReply same_made,
+            ),
+          )
 
 module _ (z : Sizes) (d : ℕ) (old new : List Entry) (r : Reply) where
   abbrev rs : List Value
@@ -211,14 +216,21 @@ module _ (z : Sizes) (d : ℕ) (old new : List Entry) (r : Reply) where
     where
       c : Command
       c = Cas block i expected item
+
       go : (b : Bool) → same_value was e ≡ b → ((same_value was e ≡ true) × Took z d new r (with_node (graph_of z (old ++ p.between)) l (Plain tag (set fields i v))) rs Yes)
           ⊎ ((same_value was e ≡ false) × Took z d new r (graph_of z (old ++ p.between)) rs No)
-      go true same = inl (same, took_from z d old new (Cas block i expected item) r p _ (λ (xs : List Value). xs) _ _ refl
-          (leaves_cas_written (before z d old new (Cas block i expected item) r p) d block i expected item e (held z d old new (Cas block i expected item) r p expected ∙ expects) full l (Plain tag fields) _ v was
-          (held z d old new (Cas block i expected item) r p block ∙ holds) node (held z d old new (Cas block i expected item) r p item ∙ is) (takes_plain tag fields i v was at some) same))
-      go false other = inr (other, took_from z d old new (Cas block i expected item) r p _ (λ (xs : List Value). xs) _ _ refl
-          (leaves_cas_kept (before z d old new (Cas block i expected item) r p) d block i expected item e (held z d old new (Cas block i expected item) r p expected ∙ expects) full l (Plain tag fields) _ v was
-          (held z d old new (Cas block i expected item) r p block ∙ holds) node (held z d old new (Cas block i expected item) r p item ∙ is) (takes_plain tag fields i v was at some) other))
+      go true same = inl (
+        same,
+        took_from z d old new (Cas block i expected item) r p _ (λ (xs : List Value). xs) _ _ refl
+            (leaves_cas_written (before z d old new (Cas block i expected item) r p) d block i expected item e (held z d old new (Cas block i expected item) r p expected ∙ expects) full l (Plain tag fields) _ v was
+            (held z d old new (Cas block i expected item) r p block ∙ holds) node (held z d old new (Cas block i expected item) r p item ∙ is) (takes_plain tag fields i v was at some) same),
+      )
+      go false other = inr (
+        other,
+        took_from z d old new (Cas block i expected item) r p _ (λ (xs : List Value). xs) _ _ refl
+            (leaves_cas_kept (before z d old new (Cas block i expected item) r p) d block i expected item e (held z d old new (Cas block i expected item) r p expected ∙ expects) full l (Plain tag fields) _ v was
+            (held z d old new (Cas block i expected item) r p block ∙ holds) node (held z d old new (Cas block i expected item) r p item ∙ is) (takes_plain tag fields i v was at some) other),
+      )
 
   -- a new block of so many fields, or `full`
   pub alloc_step : (dst tag fields : ℕ) (p : PerformedBy z d old new (Alloc dst tag fields) r)

@@ -1,16 +1,16 @@
 -- A leaf goes one block deeper: no binding changes.
-use Rattle.std.proofs.Common.{◌≡◌, ◌≢◌, ◌⊎◌, inl, inr, ℕ, zero, suc, ◌<◌, Bool, true, false, eqb, eqb-true, eq-eqb, List, [], ◌∷◌, ◌++◌, length, get_or, set, replicate, pos, Option, Some, None, refl, ap, sym, ◌∙◌, subst, arith}
+use Rattle.std.proofs.Common.{◌≡◌, ◌≢◌, ◌⊎◌, inl, inr, ℕ, zero, suc, ◌<◌, List, [], ◌∷◌, ◌++◌, length, get_or, set, replicate, pos, Option, Some, None, refl, ap, sym, ◌∙◌}
 use Rattle.heap_model.specs.declared.label.Label.{Label}
 use Rattle.heap_model.specs.declared.graph.Value.{Value}
 use Rattle.heap_model.specs.declared.graph.Value.TheVariants.{Int, Block, Nothing}
 use Rattle.heap_model.specs.declared.graph.Node.{Node}
 use Rattle.heap_model.specs.declared.graph.Node.TheVariants.{Plain, Raw, Ephe}
 use Rattle.heap_model.specs.Graph.{Graph, node_at}
-use Rattle.map_laws.specs.Tries.{inside, fields_of, ends, at, found, bound_by, bound_in, way_to, node_width, IsMap, IsTree}
-use Rattle.map_laws.specs.Steps.{WritesField, Deepens}
+use Rattle.map_laws.specs.Tries.{inside, fields_of, ends, found, bound_by, bound_in, way_to, node_width, IsMap}
+use Rattle.map_laws.specs.Steps.{Deepens}
 use Rattle.map_laws.specs.MapLaws.{DeepenKeeps}
-use Rattle.map_laws.proofs.WalkLemmas.{ends_step, ends_stop, set_same, set_else, same_number}
-use Rattle.map_laws.proofs.SetLemmas.{tail_is, each_way, found_through, found_came, found_beside, others_inside, stays, still_end}
+use Rattle.map_laws.proofs.WalkLemmas.{ends_step, set_same, set_else, same_number}
+use Rattle.map_laws.proofs.SetLemmas.{each_way, found_through, found_came, found_beside, others_inside, stays, still_end}
 
 -- a field of a fresh block leads nowhere and binds nothing
 pub zero_inside : (g : Graph) (n j : ℕ) → inside g (get_or (replicate n (Int (pos 0))) j Nothing) ≡ None
@@ -51,12 +51,16 @@ deepen_at n g h root map s l (j2 ∷ q) way = go (same_number j2 s.j)
   where
     apart : Block s.block ≡ Block s.writes.block → ⊥
     apart same = s.fresh s.p (s.writes.there ∙ ap Some (sym same))
+
     inner : inside h (Block s.block) ≡ Some (set (replicate node_width (Int (pos 0))) s.j s.held)
     inner = others_inside g h root s.p s.i s.held (Block s.block) s.writes map.tree (Block s.block) apart ∙ s.inner
+
     step : ends (inside h) (j2 ∷ q) (Block s.block) ≡ ends (inside h) q (get_or (set (replicate node_width (Int (pos 0))) s.j s.held) j2 Nothing)
     step = ends_step (inside h) j2 q (Block s.block) (set (replicate node_width (Int (pos 0))) s.j s.held) inner
+
     wide : s.j < length (replicate node_width (Int (pos 0)))
     wide = s.small
+
     go : (j2 ≡ s.j) ⊎ (j2 ≡ s.j → ⊥) → bound_by g l (ends (inside h) (j2 ∷ q) (Block s.block)) ≡ bound_by g l s.held
     go (inl same) =
         let field : get_or (set (replicate node_width (Int (pos 0))) s.j s.held) j2 Nothing ≡ s.held = ap (λ (x : ℕ). get_or (set (replicate node_width (Int (pos 0))) s.j s.held) x Nothing) same ∙ set_same (replicate node_width (Int (pos 0))) s.j s.held Nothing wide in

@@ -1,12 +1,11 @@
 -- The histories of specs/Examples.antt, computed.
-use Rattle.std.proofs.Common.{◌≡◌, ◌≢◌, inl, ℕ, get_or, set, replicate, Option, unwrap_or, is_some, Bool, true, false, cond, ap, sym, ◌∙◌, List, [], ◌∷◌, ◌++◌, pos, Some, None, refl, rules, arith}
+use Rattle.std.proofs.Common.{◌≡◌, ◌≢◌, inl, ℕ, get_or, Option, unwrap_or, is_some, Bool, true, false, cond, ap, sym, ◌∙◌, List, [], ◌∷◌, pos, Some, None, refl, rules, arith}
 use Rattle.heap_model.specs.declared.label.Label.{Label}
 use Rattle.heap_model.specs.declared.graph.Value.{Value}
 use Rattle.heap_model.specs.declared.graph.Value.TheVariants.{Int, Block, Nothing}
 use Rattle.heap_model.proofs.Graphs.GraphLemmas.{same_label-false}
 use Rattle.heap_model.specs.Reach.{reachable}
-use Rattle.heap_model.specs.History.{Legal}
-use Rattle.map_laws.specs.Examples.{small_sizes, put_with_own_key, forgotten, collection, idle_collection, stored_number, block, IsBoundWhileHeld, IsUnboundAfterwards, IsLegalExample, NoneLeavesIt, StoredNumberBreaksMap, PutIsAStep, root_fields, room_graph, DeepenIsAStep, IsBoundDeeper}
+use Rattle.map_laws.specs.Examples.{block, IsBoundWhileHeld, IsUnboundAfterwards, IsLegalExample, NoneLeavesIt, StoredNumberBreaksMap, PutIsAStep, root_fields, room_graph, DeepenIsAStep, IsBoundDeeper}
 use Rattle.heap_model.specs.Graph.{same_label}
 use Rattle.heap_model.proofs.Graphs.GraphLemmas.{same_label-true}
 use Rattle.map_laws.specs.Tries.{low_digits, way_to, inside, at, bound_by}

@@ -1,5 +1,5 @@
 -- What a call finds in a field of a map's block: 0, a leaf, or a block of the map.
-use Rattle.std.proofs.Common.{◌≡◌, ◌≢◌, ◌⊎◌, inl, inr, ℕ, zero, suc, ◌<◌, Bool, true, false, IsTrue, List, [], ◌∷◌, ◌++◌, length, get_or, slice_get, pos, Option, Some, None, refl, ap, sym, ◌∙◌, subst, arith}
+use Rattle.std.proofs.Common.{◌≡◌, ◌≢◌, ◌⊎◌, inl, inr, ℕ, zero, suc, ◌<◌, true, false, IsTrue, List, [], ◌∷◌, ◌++◌, length, get_or, slice_get, pos, Option, Some, None, refl, ap, sym, ◌∙◌, subst, arith}
 use Rattle.std.specs.List.{list_all}
 use Rattle.std.proofs.lemmas.Option.{slice_get-get_or}
 use Rattle.heap_model.specs.declared.label.Label.{Label}
@@ -59,6 +59,7 @@ field_holds z h root map p b tag fields i there node below =
   where
     g : Graph
     g = graph_of z h
+
     of_block : (l : Label) (o : Option Node) → node_at (graph_of z h) l ≡ o → (is_leaf o ⊎ ((fs : List Value) × (fields_of o ≡ Some fs))) → FieldHolds (graph_of z h) (Block l)
     of_block l None e (inl leaf) = absurd leaf
     of_block l None e (inr (fs, is)) = cc
@@ -70,6 +71,7 @@ field_holds z h root map p b tag fields i there node below =
     of_block l (Some (Ephe (key ∷ []) datum)) e slot = Leaf l key datum refl e
     of_block l (Some (Ephe (key ∷ key2 ∷ keys) datum)) e (inl leaf) = absurd leaf
     of_block l (Some (Ephe (key ∷ key2 ∷ keys) datum)) e (inr (gs, is)) = cc
+
     of_slot : (v : Value) → v ≢ Nothing → IsSlot (graph_of z h) v → FieldHolds (graph_of z h) v
     of_slot (Int n) full slot = Zero (ap Int slot)
     of_slot Nothing full slot = absurd (full refl)

@@ -1,5 +1,5 @@
 -- Fronts of a call: which entries are its own, and which are others'.
-use Rattle.std.proofs.Common.{◌≡◌, ◌≢◌, ◌⊎◌, inl, inr, ℕ, zero, suc, Bool, true, false, List, [], ◌∷◌, ◌++◌, refl, ap, sym, ◌∙◌, subst, append_assoc, append-nil}
+use Rattle.std.proofs.Common.{◌≡◌, ◌⊎◌, inl, inr, ℕ, true, false, List, [], ◌∷◌, ◌++◌, refl, ap, sym, ◌∙◌, subst, append_assoc, append-nil}
 use Rattle.heap_model.specs.declared.entry.Entry.{Entry}
 use Rattle.heap_model.specs.Fronts.{NoneOf}
 use Rattle.heap_model.specs.History.{IsPrefix, is_entry_of}
@@ -41,6 +41,7 @@ cut (c ∷ a) b (d ∷ x) e y split = go (cut a b x e y cc)
   where
     head : d ≡ c
     head = cc
+
     go : ((u : List Entry) × (a ≡ x ++ e ∷ u)) ⊎ ((v : List Entry) × (x ≡ a ++ v)) → ((u : List Entry) × (c ∷ a ≡ (d ∷ x) ++ e ∷ u)) ⊎ ((v : List Entry) × (d ∷ x ≡ (c ∷ a) ++ v))
     go (inl (u, is)) = inl (u, (λ i. sym head i ∷ is i))
     go (inr (v, is)) = inr (v, (λ i. head i ∷ is i))
@@ -51,6 +52,7 @@ before_or_behind now new front e grows until = go (cut now grows.rest front e un
   where
     whole : now ++ grows.rest ≡ front ++ e ∷ until.rest
     whole = sym grows.appends ∙ (until.appends ∙ append_assoc front (e ∷ []) until.rest)
+
     go : ((u : List Entry) × (now ≡ front ++ e ∷ u)) ⊎ ((v : List Entry) × (front ≡ now ++ v)) → IsPrefix (front ++ e ∷ []) now ⊎ IsPrefix now front
     go (inl (u, is)) = inl (record { rest = u; appends = is ∙ sym (append_assoc front (e ∷ []) u) })
     go (inr (v, is)) = inr (record { rest = v; appends = is })
@@ -83,7 +85,7 @@ pub own_is_last : (d : ℕ) (old between : List Entry) (c : Entry) (front : List
     → (front ≡ old ++ between) × (e ≡ c)
 own_is_last d old between c front e none since until own =
     let split : between ++ c ∷ [] ≡ since.rest ++ e ∷ until.rest = drop_front old (between ++ c ∷ []) (since.rest ++ e ∷ until.rest)
-        (sym (append_assoc old between (c ∷ [])) ∙ (until.appends ∙ (append_assoc front (e ∷ []) until.rest ∙ (ap (λ (h : List Entry). h ++ e ∷ until.rest) since.appends ∙ append_assoc old since.rest (e ∷ until.rest))))) in
+    (sym (append_assoc old between (c ∷ [])) ∙ (until.appends ∙ (append_assoc front (e ∷ []) until.rest ∙ (ap (λ (h : List Entry). h ++ e ∷ until.rest) since.appends ∙ append_assoc old since.rest (e ∷ until.rest))))) in
     let last = last_is d between c since.rest e until.rest none own split in
     (since.appends ∙ ap (λ (h : List Entry). old ++ h) last.0, last.1)
 
@@ -93,10 +95,12 @@ last_or_before h c front e until = go (cut h (c ∷ []) front e until.rest (sym 
   where
     whole : h ++ c ∷ [] ≡ front ++ e ∷ until.rest
     whole = until.appends ∙ append_assoc front (e ∷ []) until.rest
+
     end : (v : List Entry) → c ∷ [] ≡ v ++ e ∷ until.rest → (v ≡ []) × (e ≡ c)
     end [] is = (refl, cc)
     end (a ∷ []) is = cc
     end (a ∷ b ∷ v) is = cc
+
     go : ((u : List Entry) × (h ≡ front ++ e ∷ u)) ⊎ ((v : List Entry) × (front ≡ h ++ v)) → IsPrefix (front ++ e ∷ []) h ⊎ ((front ≡ h) × (e ≡ c))
     go (inl (u, is)) = inl (record { rest = u; appends = is ∙ sym (append_assoc front (e ∷ []) u) })
     go (inr (v, is)) =

@@ -1,5 +1,5 @@
 -- The labels that a heap gives out name its domains.
-use Rattle.std.proofs.Common.{◌≡◌, ◌≢◌, ⊎_elim, ℕ, suc, ◌+◌, ◌<◌, ◌≤◌, Bool, true, false, IsTrue, List, [], ◌∷◌, ◌++◌, length, get_or, filter_map, option_to_list, Option, Some, None, refl, ap, sym, ◌∙◌, subst, arith}
+use Rattle.std.proofs.Common.{◌≡◌, ⊎_elim, ℕ, ◌+◌, ◌<◌, ◌≤◌, true, false, IsTrue, List, [], ◌∷◌, ◌++◌, length, option_to_list, Option, Some, None, sym, ◌∙◌, subst, arith}
 use Rattle.std.proofs.lemmas.List.{length-replicate}
 use Rattle.heap_model.specs.declared.label.Label.{Label}
 use Rattle.heap_model.specs.declared.command.Command.{Command}
@@ -21,7 +21,7 @@ use Rattle.heap_model.specs.History.{Legal, LegalFrom, state_after}
 use Rattle.heap_model.proofs.Commands.FrameLemmas.{inside_running}
 use Rattle.heap_model.proofs.Commands.MoveLemmas.{moved}
 use Rattle.heap_model.proofs.Graphs.GraphLemmas.{same_label-true, same_label_refl, labels-with_node}
-use Rattle.heap_model.proofs.Graphs.NamedLemmas.{have_at, have_left, have_head, have_none, have_option}
+use Rattle.heap_model.proofs.Graphs.NamedLemmas.{have_at, have_none}
 use Rattle.heap_model.proofs.Histories.WellFormedLemmas.{labels-append, wf_after, wf_opening}
 use Rattle.heap_model.proofs.Reach.ReachLemmas.{or_cases, or_left, has-append_cases}
 use Rattle.table_laws.specs.Thinning.{state_of}

@@ -1,5 +1,5 @@
 -- A map stays a map at each step, and its blocks stay where they are.
-use Rattle.std.proofs.Common.{◌≡◌, ◌≢◌, ◌⊎◌, inl, inr, ℕ, zero, suc, ◌+◌, ◌<◌, List, [], ◌∷◌, ◌++◌, length, get_or, set, replicate, pos, Option, Some, None, refl, ap, sym, ◌∙◌, subst, arith}
+use Rattle.std.proofs.Common.{◌≡◌, ◌⊎◌, inl, inr, ℕ, zero, suc, ◌+◌, ◌<◌, List, [], ◌∷◌, ◌++◌, length, get_or, set, replicate, pos, Option, Some, None, refl, ap, sym, ◌∙◌, subst, arith}
 use Rattle.std.proofs.lemmas.List.{length-set}
 use Rattle.heap_model.specs.declared.label.Label.{Label}
 use Rattle.heap_model.specs.declared.entry.Entry.{Entry}
@@ -14,8 +14,8 @@ use Rattle.heap_model.proofs.Commands.FrameLemmas.{label_cases}
 use Rattle.heap_model.proofs.Graphs.GraphLemmas.{node_at-with_node_other}
 use Rattle.table_laws.specs.Thinning.{IsOutside, Thin}
 use Rattle.table_laws.proofs.ChangeLemmas.{thin_is}
-use Rattle.map_laws.specs.Tries.{inside, fields_of, at, found, bound_by, way_to, way_length, width_at, node_width, is_leaf, IsSlot, IsMap, IsTree}
-use Rattle.map_laws.specs.Steps.{WritesField, Sets, Deepens, Clears, IsUntouched, IsThinned, MapStep, Untouched, SetsKey, GoesDeeper, ClearsField, TakesKeys, LeavesBinding}
+use Rattle.map_laws.specs.Tries.{inside, fields_of, at, found, bound_by, way_to, way_length, width_at, node_width, is_leaf, IsSlot, IsMap}
+use Rattle.map_laws.specs.Steps.{WritesField, Deepens, IsUntouched, IsThinned, MapStep, Untouched, SetsKey, GoesDeeper, ClearsField, TakesKeys, LeavesBinding}
 use Rattle.map_laws.specs.MapLaws.{MapStays, PlacesStay, StepTells, ClearKeeps}
 use Rattle.map_laws.proofs.WalkLemmas.{at_any, at_back, at_step, at_stop}
 use Rattle.map_laws.proofs.SetLemmas.{block_is, was_inside, now_inside, others_inside, still_end, stays, written_tree, set_binds, each_way, found_through, found_came, found_beside}
@@ -88,6 +88,7 @@ clear_keeps n g h root map c l = go (each_way g h root c.p c.i c.held zeroed c.w
   where
     zeroed : Value
     zeroed = Int (pos 0)
+
     go : ((q : List ℕ) × (way_to n l ≡ c.p ++ c.i ∷ q)) ⊎ ((q : List ℕ) → way_to n l ≡ c.p ++ c.i ∷ q → ⊥) → found n h root l ≡ found n g root l
     go (inl (q, way)) =
         found_through g h root c.p c.i c.held zeroed c.writes map.tree n l q way
@@ -175,12 +176,14 @@ module _ (n : ℕ) (g h : Graph) (root : Label) (map : IsMap g root) (s : Deepen
       slot x v (inl old) = kept v (map.slots x v old)
       slot x v (inr (inl fresh)) = subst (IsSlot h) (sym fresh) (inr (ms, inner))
       slot x v (inr (inr (j, field))) = subst (IsSlot h) (sym field) (kept (get_or ms j Nothing) (field_slot node_width s.j j))
+
       width : (x : List ℕ) (v : Value) (gs : List Value) → inside h v ≡ Some gs → Came x v → length gs ≡ width_at x
       width x v gs plain (inl old) = let o = old_block v gs plain in o.2 ∙ map.wide x v o.0 old o.1
       width x v gs plain (inr (is, (p, split, there))) =
           let same : Some gs ≡ Some ms = sym plain ∙ (ap (inside h) is ∙ inner) in
           let fields : gs ≡ ms = cc in
           ap length fields ∙ (length-set (replicate node_width (Int (pos 0))) s.j s.held ∙ (length_replicate node_width (Int (pos 0)) ∙ (sym (narrow p s.i) ∙ ap width_at (sym split))))
+
       depth : (x : List ℕ) (v : Value) (gs : List Value) → inside h v ≡ Some gs → Came x v → length x < way_length
       depth x v gs plain (inl old) = let o = old_block v gs plain in map.low x v o.0 old o.1
       depth x v gs plain (inr (is, (p, split, there))) =

@@ -1,5 +1,5 @@
 -- What a call's own entries do to a map, and how the entries of a call come together.
-use Rattle.std.proofs.Common.{◌≡◌, ◌≢◌, ◌⊎◌, inl, inr, ⊎_elim, ℕ, zero, suc, ◌<◌, Bool, true, false, List, [], ◌∷◌, ◌++◌, length, get_or, set, replicate, pos, Option, Some, None, refl, ap, sym, ◌∙◌, subst, arith, append_assoc, append-nil}
+use Rattle.std.proofs.Common.{◌≡◌, ◌≢◌, ◌⊎◌, inl, inr, ⊎_elim, ℕ, zero, suc, true, false, List, [], ◌∷◌, ◌++◌, length, get_or, replicate, pos, Option, Some, None, refl, ap, sym, ◌∙◌, subst, arith, append_assoc, append-nil}
 use Rattle.heap_model.specs.declared.label.Label.{Label}
 use Rattle.heap_model.specs.declared.command.Command.{Command}
 use Rattle.heap_model.specs.declared.entry.Entry.{Entry}
@@ -10,25 +10,24 @@ use Rattle.heap_model.specs.declared.graph.Node.{Node}
 use Rattle.heap_model.specs.declared.graph.Node.TheVariants.{Plain, Raw, Ephe}
 use Rattle.heap_model.specs.declared.reply.Reply.{Reply}
 use Rattle.heap_model.specs.declared.state.Sizes.{Sizes}
-use Rattle.heap_model.specs.declared.state.State.{State}
 use Rattle.heap_model.specs.Graph.{Graph, node_at, with_node}
 use Rattle.heap_model.specs.Entries.{next}
 use Rattle.heap_model.specs.Fronts.{EpheShape, shape_of, Grew}
 use Rattle.heap_model.specs.History.{IsPrefix, is_entry_of}
-use Rattle.heap_model.proofs.Commands.FrameLemmas.{grew_same, grew_after, grew_next, label_cases}
+use Rattle.heap_model.proofs.Commands.FrameLemmas.{grew_same, grew_after, grew_next}
 use Rattle.heap_model.proofs.Graphs.GraphLemmas.{node_at-with_node_other, node_at-append_old}
-use Rattle.table_laws.specs.Thinning.{IsOutside, Thin, state_of}
+use Rattle.table_laws.specs.Thinning.{IsOutside, state_of}
 use Rattle.table_laws.specs.Stages.{graph_of}
 use Rattle.table_laws.specs.Performing.{Performed}
 use Rattle.table_laws.proofs.ChangeLemmas.{thin_is}
 use Rattle.table_laws.proofs.StepLemmas.{collector_none}
 use Rattle.map_laws.specs.Tries.{inside, fields_of, at, is_leaf, way_to, root_width, width_at, IsSlot, IsMap, found, ends, bound_by}
-use Rattle.map_laws.specs.Steps.{MapStep, Untouched, IsUntouched, SparesLeaves, RespectsMap, OwnRespect}
+use Rattle.map_laws.specs.Steps.{Untouched, IsUntouched, SparesLeaves, RespectsMap, OwnRespect}
 use Rattle.map_laws.specs.Calls.{bound_after, OwnKeep, Looks, ChangesOne, PerformedBy}
 use Rattle.map_laws.proofs.MapLemmas.{untouched_binds}
 use Rattle.map_laws.proofs.RespectLemmas.{graph_push}
-use Rattle.map_laws.proofs.FrontLemmas.{prefix_same, prefix_more, prefix_trans, prefix_before, walk_along, before_or_behind, drop_front, other_between, own_is_last}
-use Rattle.map_laws.proofs.CallLemmas.{middle, to_middle, from_middle}
+use Rattle.map_laws.proofs.FrontLemmas.{prefix_trans, walk_along, before_or_behind, drop_front, other_between, own_is_last}
+use Rattle.map_laws.proofs.CallLemmas.{to_middle, from_middle}
 use Rattle.map_laws.proofs.WalkLemmas.{at_step, at_stop, ends_step, ends_stop}
 
 -- an entry that leaves the graph
@@ -293,9 +292,11 @@ module _ (g : Graph) (root : Label) (tag : ℕ) (node : node_at g root ≡ Some 
       empty : (v : Value) → IsZero v → bound_by g k v ≡ None
       empty v (inl is) = ap (bound_by g k) is
       empty v (inr is) = ap (bound_by g k) is
+
       stop : (i : ℕ) (q : List ℕ) → ends (inside g) q (field i) ≡ field i
       stop i [] = refl
       stop i (j ∷ q) = ends_stop (inside g) j q (field i) (field_ends i)
+
       go : (w : List ℕ) → way_to n k ≡ w → found n g root k ≡ None
       go [] way = cc
       go (i ∷ q) way =

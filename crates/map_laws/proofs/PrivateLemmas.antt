@@ -1,5 +1,5 @@
 -- A block that only one domain knows: what others do leaves it alone, and it stands in no map.
-use Rattle.std.proofs.Common.{◌≡◌, ◌≢◌, ◌⊎◌, inl, inr, ⊎_elim, ℕ, zero, suc, ◌+◌, ◌<◌, Bool, true, false, eqb, eqb-true, eq-eqb, IsTrue, is_some, List, [], ◌∷◌, ◌++◌, map, reverse, length, filter_map, option_to_list, replicate, get_or, set, slice_get, ℤ, pos, Option, Some, None, refl, ap, sym, ◌∙◌, subst, arith}
+use Rattle.std.proofs.Common.{◌≡◌, ◌≢◌, ⊎_elim, ℕ, zero, suc, ◌+◌, Bool, true, false, eqb, eqb-true, eq-eqb, IsTrue, is_some, List, [], ◌∷◌, ◌++◌, map, reverse, length, filter_map, option_to_list, replicate, get_or, set, slice_get, pos, Option, Some, None, refl, ap, sym, ◌∙◌, subst}
 use Rattle.heap_model.specs.declared.label.Label.{Label}
 use Rattle.heap_model.specs.declared.command.Command.{Command}
 use Rattle.heap_model.specs.declared.command.Command.TheVariants.{PutInt, Copy, Forget, Alloc, AllocMaj, Load, Store, Raw as NewRaw, Cas, Ephe as NewEphe, SetKey, UnsetKey, GetKey, CheckKey, SetData, UnsetData, GetData, CheckData, Finalise, FinaliseLast, Poll, Minor, Major, FullMajor, Spawn, Argument, PutResult, Join}
@@ -16,7 +16,7 @@ use Rattle.heap_model.specs.declared.state.Pending.TheVariants.{Fin, Last}
 use Rattle.heap_model.specs.declared.state.DomainState.{DomainState}
 use Rattle.heap_model.specs.declared.state.Sizes.{Sizes}
 use Rattle.heap_model.specs.declared.state.State.{State}
-use Rattle.heap_model.specs.Graph.{Graph, same_label, labels, has_label, label_of, node_at, with_node}
+use Rattle.heap_model.specs.Graph.{Graph, same_label, labels, has_label, label_of, node_at}
 use Rattle.heap_model.specs.Domains.{domain_at, with_domain, with_register, with_block, register, label_in, no_domain, pending_label, opening}
 use Rattle.heap_model.specs.Commands.{Outcome, in_bounds, at_ephe, loaded, at_field, written_over, same_value, written_where, exchanged, key_set, key_value, key_stored, datum_set, datum_stored, with_final, with_last, finalised, finalised_last, tells, is_full_value, allocated, new_plain, new_raw, block_in, outcome, after_command}
 use Rattle.heap_model.specs.Entries.{Allowed, at_places, wiped_keys, wiped, with_wiped, with_last_queued, without_first, after_run, next}
@@ -24,10 +24,10 @@ use Rattle.heap_model.specs.Fronts.{NoneOf}
 use Rattle.heap_model.specs.History.{Legal, is_entry_of}
 use Rattle.heap_model.specs.Laws.{written_by}
 use Rattle.heap_model.specs.WellFormed.{names_of, HaveNodes}
-use Rattle.heap_model.proofs.Commands.FrameLemmas.{label_cases, not_same}
+use Rattle.heap_model.proofs.Commands.FrameLemmas.{not_same}
 use Rattle.heap_model.proofs.Commands.MoveLemmas.{held_block}
 use Rattle.heap_model.proofs.Graphs.GraphLemmas.{same_label-true, same_label_refl, node_at-with_node_cases, node_at-append_cases}
-use Rattle.heap_model.proofs.Graphs.NamedLemmas.{have_none, have_append, have_left, have_right, have_at, have_get, have_set, have_replicate, have_option, have_rest, have_filter_map_append, join_named, remove_named, without_named, places_named, queued_finals_named, queued_lasts_named, wiped_keys_named}
+use Rattle.heap_model.proofs.Graphs.NamedLemmas.{have_none, have_append, have_left, have_right, have_at, have_get, have_set, have_replicate, have_option, have_rest, have_filter_map_append, join_named, without_named, places_named, queued_finals_named, queued_lasts_named, wiped_keys_named}
 use Rattle.heap_model.proofs.Histories.WellFormedLemmas.{labels-append, wf_after, wf_opening}
 use Rattle.heap_model.proofs.Histories.NumberLemmas.{next_label-new, numbered_after, numbered_opening}
 use Rattle.heap_model.proofs.Graphs.GraphStepLemmas.{nodes_stay_law}
@@ -300,6 +300,7 @@ module _ (d : ℕ) (l : Label) where
             domains = each_index (NamesWithin q.known d) s.domains k (record (domain_at s k) { serial = (domain_at s k).serial + 1 }) (record { registers = (q.domains k).registers; finals = (q.domains k).finals; queue = (q.domains k).queue }) q.domains;
             nodes = λ m o at. ⊎_elim (λ fresh. subst (λ (y : Node). HaveNodes q.known (names_of y)) (sym fresh) names) (λ old. q.nodes m o old) (node_at-append_cases s.graph (born s k, n) m o at);
           }) k dst (Block (born s k)) new
+
       go : (b : Bool) → eqb k d ≡ b → IsPrivate (allocated s k dst n).state d l
       go true same = build p named (λ other. absurd (other (eqb-true k d same)))
       go false other =
@@ -380,12 +381,14 @@ module _ (d : ℕ) (l : Label) where
     where
       popped : (x : Pending) (rest : List Pending) → HaveNodes p.known (filter_map pending_label (x ∷ rest)) → IsPrivate (with_domain s k (without_first (domain_at s k) rest)) d l
       popped x rest named = private_domain s p k _ (record { registers = (p.domains k).registers; finals = (p.domains k).finals; queue = have_rest p.known (pending_label x) (filter_map pending_label rest) named })
+
       run : (queue : List Pending) → HaveNodes p.known (filter_map pending_label queue) → IsPrivate (after_run s k queue) d l
       run [] named = p
       run (Fin number x r ∷ rest) named = ran
         where
           old : NamesWithin p.known d k (domain_at s k)
           old = p.domains k
+
           ran : IsPrivate (after_run s k (Fin number x r ∷ rest)) d l
           ran = private_register _ (record {
             known = p.known;
@@ -405,6 +408,7 @@ module _ (d : ℕ) (l : Label) where
       by : (q : IsPrivate s d l) → HaveNodes q.known (option_to_list (label_of (register s d item))) → IsPrivate (after_command (outcome s d c).state d) d l
       by q named = private_after_command (outcome s d c).state
           (private_outcome s q d c (λ r is. subst (λ (x : ℕ). HaveNodes q.known (option_to_list (label_of (register s d x)))) (sym (only r is)) named)) d
+
       go : (v : Value) → register s d item ≡ v → IsPrivate (after_command (outcome s d c).state d) d l
       go (Int z) is = by p (subst (λ (v : Value). HaveNodes p.known (option_to_list (label_of v))) (sym is) (have_none p.known))
       go Nothing is = by p (subst (λ (v : Value). HaveNodes p.known (option_to_list (label_of v))) (sym is) (have_none p.known))
@@ -445,6 +449,7 @@ module _ (d : ℕ) (l : Label) where
           let named = have_at p.known label_of (domain_at s k).registers r Nothing regs (have_none p.known) in
           let there : IsTrue (has_label (labels p.known) l) = named l (subst (λ (o : Option Label). IsTrue (has_label (option_to_list o) l)) (sym is) (or_left (same_label l l) false (same_label_refl l))) in
           let clash : true ≡ false = sym there ∙ p.away in cc
+
       unheld : (c : Command) → written_by s k c ≡ Some l → ⊥
       unheld (Store block index item) is = holds_not block is
       unheld (Cas block index expected item) is = holds_not block is
@@ -509,17 +514,19 @@ private_left z d l old between n none legal p at = both.1
   where
     P : List Entry → Type 0
     P h = IsPrivate (state_of z h) d l × Thin (WasOutside z old h) n (node_at (graph_of z h) l)
+
     both : P (old ++ between)
     both = walk_along P old (old ++ between) (prefix_more old between)
         (λ f e a b q.
         let other = other_between d old between f e none a b in (
-        subst (λ (s : State). IsPrivate s d l) (sym (state_push z f e)) (private_next d l (state_of z f) e other q.0),
-        thin_twice (WasOutside z old (f ++ e ∷ [])) n (node_at (graph_of z f) l) (node_at (graph_of z (f ++ e ∷ [])) l)
-            (thin_more (WasOutside z old f) (WasOutside z old (f ++ e ∷ [])) (λ k w. outside_wider z old old f (f ++ e ∷ []) k (prefix_same old) (prefix_more f (e ∷ [])) w) n (node_at (graph_of z f) l) q.1)
-            (λ m here. subst (λ (g : Graph). Thin (WasOutside z old (f ++ e ∷ [])) m (node_at g l)) (sym (graph_push z f e))
-                (thin_more (IsOutside (state_of z f)) (WasOutside z old (f ++ e ∷ []))
-                    (λ k outside. record { front = f; since = a; until = prefix_more f (e ∷ []); outside = outside }) m (node_at (next (state_of z f) e).graph l)
-                    (private_thin d l (state_of z f) q.0 e m other (allowed_at z f (old ++ between) e legal b) here)))))
+          subst (λ (s : State). IsPrivate s d l) (sym (state_push z f e)) (private_next d l (state_of z f) e other q.0),
+          thin_twice (WasOutside z old (f ++ e ∷ [])) n (node_at (graph_of z f) l) (node_at (graph_of z (f ++ e ∷ [])) l)
+              (thin_more (WasOutside z old f) (WasOutside z old (f ++ e ∷ [])) (λ k w. outside_wider z old old f (f ++ e ∷ []) k (prefix_same old) (prefix_more f (e ∷ [])) w) n (node_at (graph_of z f) l) q.1)
+              (λ m here. subst (λ (g : Graph). Thin (WasOutside z old (f ++ e ∷ [])) m (node_at g l)) (sym (graph_push z f e))
+              (thin_more (IsOutside (state_of z f)) (WasOutside z old (f ++ e ∷ []))
+              (λ k outside. record { front = f; since = a; until = prefix_more f (e ∷ []); outside = outside }) m (node_at (next (state_of z f) e).graph l)
+              (private_thin d l (state_of z f) q.0 e m other (allowed_at z f (old ++ between) e legal b) here))),
+        ))
         (p, thin_is (WasOutside z old old) n (node_at (graph_of z old) l) at)
 
 -- a private block that isn't the root doesn't stand in the map

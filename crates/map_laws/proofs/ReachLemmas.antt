@@ -1,15 +1,12 @@
 -- Reach and maps: after a complete collection only keys that are reached are bound, and no binding keeps its key alive.
-use Rattle.std.proofs.Common.{◌≡◌, ◌≢◌, ◌⊎◌, inl, inr, ⊎_elim, ℕ, zero, suc, Bool, true, false, cond, ◌&&◌, IsTrue, List, [], ◌∷◌, ◌++◌, get_or, filter_map, option_to_list, Option, Some, None, refl, ap, sym, ◌∙◌, subst}
-use Rattle.std.specs.List.{list_all}
+use Rattle.std.proofs.Common.{◌≡◌, ◌≢◌, ℕ, zero, suc, Bool, true, false, cond, ◌&&◌, IsTrue, List, [], ◌∷◌, ◌++◌, get_or, filter_map, option_to_list, Option, Some, None, refl, ap, sym, ◌∙◌, subst}
 use Rattle.std.specs.Option.{option_map_or}
 use Rattle.heap_model.specs.declared.label.Label.{Label}
-use Rattle.heap_model.specs.declared.entry.Entry.{Entry}
 use Rattle.heap_model.specs.declared.entry.Entry.TheVariants.{Collected}
 use Rattle.heap_model.specs.declared.graph.Value.{Value}
 use Rattle.heap_model.specs.declared.graph.Value.TheVariants.{Int, Block, Nothing}
 use Rattle.heap_model.specs.declared.graph.Node.{Node}
 use Rattle.heap_model.specs.declared.graph.Node.TheVariants.{Plain, Raw, Ephe}
-use Rattle.heap_model.specs.declared.state.Sizes.{Sizes}
 use Rattle.heap_model.specs.declared.state.State.{State}
 use Rattle.heap_model.specs.Graph.{Graph, same_label, labels, has_label, label_of, node_at, with_node}
 use Rattle.heap_model.specs.Domains.{opening, queues, roots, reach}
@@ -23,7 +20,6 @@ use Rattle.heap_model.proofs.Histories.HistoryLemmas.{state_after-push}
 use Rattle.heap_model.proofs.Histories.WellFormedLemmas.{reach_after, wf_after, wf_opening, closed_graph, queues_named}
 use Rattle.heap_model.proofs.Reach.ReachLemmas.{or_left, or_right, and_left, reach_law, reachable_least}
 use Rattle.table_laws.specs.Thinning.{state_of}
-use Rattle.table_laws.specs.Stages.{graph_of}
 use Rattle.table_laws.proofs.StepLemmas.{legal_parts}
 use Rattle.map_laws.specs.Tries.{inside, fields_of, ends, bound_in, bound_by, way_to}
 use Rattle.map_laws.specs.MapLaws.{CollectedKeysAreReached, DatumKeepsNoKey}
@@ -144,8 +140,10 @@ module _ (g : Graph) (rs : List Label) (whole : IsClosedGraph g rs) (l k : Label
     where
       least : IsLeastClosed emptied rs (reachable emptied rs)
       least = reach_law emptied rs closed_still
+
       alive : Label → Bool
       alive = has_label (reachable emptied rs)
+
       go : (b : Bool) → has_label (reachable emptied rs) k ≡ b → IsTrue b
       go true e = refl
       go false e = sym e ∙ reachable_least g (has_label (reachable emptied rs))

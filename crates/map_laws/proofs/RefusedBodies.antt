@@ -1,9 +1,9 @@
 -- What the clauses of the calls on maps refuse: where a clause holds a wrong outcome doesn't, whatever body met it.
-use Rattle.std.proofs.Common.{◌≡◌, ◌≢◌, ◌⊎◌, inl, inr, ⊎_elim, ℕ, true, false, IsTrue, List, [], ◌∷◌, ◌++◌, length, Option, Some, None, refl, ap, sym, ◌∙◌, subst, append_assoc}
+use Rattle.std.proofs.Common.{◌≡◌, ◌≢◌, inl, inr, ⊎_elim, ℕ, true, IsTrue, List, [], ◌∷◌, ◌++◌, length, Option, Some, None, ap, sym, ◌∙◌}
 use Rattle.heap_model.specs.declared.label.Label.{Label}
 use Rattle.heap_model.specs.declared.entry.Entry.{Entry}
 use Rattle.heap_model.specs.declared.graph.Value.{Value}
-use Rattle.heap_model.specs.declared.graph.Value.TheVariants.{Int, Block, Nothing}
+use Rattle.heap_model.specs.declared.graph.Value.TheVariants.{Block}
 use Rattle.heap_model.specs.declared.reply.Reply.{Reply}
 use Rattle.heap_model.specs.declared.reply.Reply.TheVariants as reply
 use Rattle.heap_model.specs.declared.state.Sizes.{Sizes}
@@ -12,8 +12,8 @@ use Rattle.heap_model.specs.Commands.{shown}
 use Rattle.heap_model.specs.History.{IsPrefix, is_entry_of}
 use Rattle.heap_model.proofs.Graphs.GraphLemmas.{same_label_refl}
 use Rattle.heap_model.proofs.Reach.ReachLemmas.{or_left}
-use Rattle.map_laws.specs.Calls.{bound_after, value_of, ChangesOne, GetAnswers, PutAnswers, PutsOrFull, TakeAnswers, CleanAnswers}
-use Rattle.map_laws.proofs.FrontLemmas.{prefix_more, prefix_before, before_or_behind, last_or_before}
+use Rattle.map_laws.specs.Calls.{bound_after, value_of, ChangesOne, GetAnswers, PutsOrFull, TakeAnswers, CleanAnswers}
+use Rattle.map_laws.proofs.FrontLemmas.{prefix_before, before_or_behind, last_or_before}
 
 first_is : (k : Label) (keys : List Label) → IsTrue (has_label (k ∷ keys) k)
 first_is k keys = or_left (same_label k k) (has_label keys k) (same_label_refl k)

@@ -1,12 +1,11 @@
 -- Entries that respect a map, and what they leave of it from one front to a later one.
-use Rattle.std.proofs.Common.{◌≡◌, ◌≢◌, ◌⊎◌, inl, inr, ⊎_elim, ℕ, zero, suc, ◌+◌, ◌<◌, ◌≤◌, Bool, true, false, eqb, eq-eqb, IsTrue, List, [], ◌∷◌, ◌++◌, length, get_or, replicate, Option, Some, None, refl, ap, sym, ◌∙◌, subst, arith, append_assoc, append-nil, length-set}
+use Rattle.std.proofs.Common.{◌≡◌, inl, inr, ⊎_elim, ℕ, Bool, true, false, eq-eqb, IsTrue, List, [], ◌∷◌, ◌++◌, length, Option, Some, None, refl, ap, sym, ◌∙◌, subst, arith, append_assoc, length-set}
 use Rattle.std.proofs.lemmas.List.{length-map, length-replicate}
 use Rattle.heap_model.specs.declared.label.Label.{Label}
-use Rattle.heap_model.specs.declared.command.Command.{Command}
 use Rattle.heap_model.specs.declared.entry.Entry.{Entry}
 use Rattle.heap_model.specs.declared.entry.Entry.TheVariants.{Command as CommandOf, End, Cut, Queue, Seal, Wipe, Last as LastOf, Collected, Done, Ran}
 use Rattle.heap_model.specs.declared.graph.Value.{Value}
-use Rattle.heap_model.specs.declared.graph.Value.TheVariants.{Int, Block, Nothing}
+use Rattle.heap_model.specs.declared.graph.Value.TheVariants.{Block}
 use Rattle.heap_model.specs.declared.graph.Node.{Node}
 use Rattle.heap_model.specs.declared.state.DomainState.{DomainState}
 use Rattle.heap_model.specs.declared.state.Pending.{Pending}
@@ -17,7 +16,7 @@ use Rattle.heap_model.specs.Graph.{Graph, has_label, node_at}
 use Rattle.heap_model.specs.Domains.{domain_at, with_domain, opening, opening_domain, reach}
 use Rattle.heap_model.specs.Commands.{outcome}
 use Rattle.heap_model.specs.Entries.{Allowed, with_wiped, without_first, after_run, next}
-use Rattle.heap_model.specs.History.{IsPrefix, Legal, LegalFrom, state_after, is_entry_of}
+use Rattle.heap_model.specs.History.{IsPrefix, Legal, state_after, is_entry_of}
 use Rattle.heap_model.proofs.Commands.FrameLemmas.{inside_running}
 use Rattle.heap_model.proofs.Commands.MoveLemmas.{keeps_outcome}
 use Rattle.heap_model.proofs.Histories.HistoryLemmas.{state_after-push}
@@ -135,16 +134,20 @@ module _ (z : Sizes) (root : Label) (old new : List Entry) (grows : IsPrefix old
     where
       P : List Entry → Type 0
       P h = IsMap (graph_of z h) root × ((at (inside (graph_of z h)) q (Block root) ≡ Some u) × ((now : List Value) × (inside (graph_of z h) u ≡ Some now)))
+
       both : P new
       both = walk_along P old new grows
           (λ f e a b m.
           let step = (all f e a b).step in
           let s : State = state_of z f in
           let there : at (inside (next s e).graph) q (Block root) ≡ Some u = places_stay z.domains root s e m.0 step q u m.1.1.0 m.1.0 m.1.1.1 in
-          let plain : (now : List Value) × (inside (next s e).graph u ≡ Some now) = plain_stays z.domains root s e m.0 step q u m.1.1.0 m.1.0 m.1.1.1 in
-          (subst (λ (g : Graph). IsMap g root) (sym (graph_push z f e)) (map_stays z.domains root s e m.0 step),
-          (subst (λ (g : Graph). at (inside g) q (Block root) ≡ Some u) (sym (graph_push z f e)) there,
-          subst (λ (g : Graph). (now : List Value) × (inside g u ≡ Some now)) (sym (graph_push z f e)) plain)))
+          let plain : (now : List Value) × (inside (next s e).graph u ≡ Some now) = plain_stays z.domains root s e m.0 step q u m.1.1.0 m.1.0 m.1.1.1 in (
+            subst (λ (g : Graph). IsMap g root) (sym (graph_push z f e)) (map_stays z.domains root s e m.0 step),
+            (
+              subst (λ (g : Graph). at (inside g) q (Block root) ≡ Some u) (sym (graph_push z f e)) there,
+              subst (λ (g : Graph). (now : List Value) × (inside g u ≡ Some now)) (sym (graph_push z f e)) plain,
+            ),
+          ))
           (map, (there, (fields, plain)))
 
   -- a leaf that the map had is as it was, or has lost its key where that was outside reach
@@ -156,11 +159,11 @@ module _ (z : Sizes) (root : Label) (old new : List Entry) (grows : IsPrefix old
       go h since until = walk_along (λ f. Thin (WasOutside z old f) n (node_at (graph_of z f) l)) old h since
           (λ f e a b thin.
           thin_twice (WasOutside z old (f ++ e ∷ [])) n (node_at (graph_of z f) l) (node_at (graph_of z (f ++ e ∷ [])) l)
-              (thin_more (WasOutside z old f) (WasOutside z old (f ++ e ∷ [])) (λ k w. outside_wider z old old f (f ++ e ∷ []) k (prefix_same old) (prefix_more f (e ∷ [])) w) n (node_at (graph_of z f) l) thin)
-              (λ m here. subst (λ (g : Graph). Thin (WasOutside z old (f ++ e ∷ [])) m (node_at g l)) (sym (graph_push z f e))
-                  (thin_more (IsOutside (state_of z f)) (WasOutside z old (f ++ e ∷ []))
-                      (λ k outside. record { front = f; since = a; until = prefix_more f (e ∷ []); outside = outside }) m (node_at (next (state_of z f) e).graph l)
-                      ((all f e a (prefix_trans (f ++ e ∷ []) h new b until)).leaves former p l m (prefix_trans former old f before a) there leaf here))))
+          (thin_more (WasOutside z old f) (WasOutside z old (f ++ e ∷ [])) (λ k w. outside_wider z old old f (f ++ e ∷ []) k (prefix_same old) (prefix_more f (e ∷ [])) w) n (node_at (graph_of z f) l) thin)
+          (λ m here. subst (λ (g : Graph). Thin (WasOutside z old (f ++ e ∷ [])) m (node_at g l)) (sym (graph_push z f e))
+          (thin_more (IsOutside (state_of z f)) (WasOutside z old (f ++ e ∷ []))
+          (λ k outside. record { front = f; since = a; until = prefix_more f (e ∷ []); outside = outside }) m (node_at (next (state_of z f) e).graph l)
+          ((all f e a (prefix_trans (f ++ e ∷ []) h new b until)).leaves former p l m (prefix_trans former old f before a) there leaf here))))
           (thin_is (WasOutside z old old) n (node_at (graph_of z old) l) node)
 
   -- a key that no entry sets is bound as it was, or was taken
@@ -169,11 +172,14 @@ module _ (z : Sizes) (root : Label) (old new : List Entry) (grows : IsPrefix old
     where
       P : List Entry → Type 0
       P h = BoundOrTaken z root old h k (bound_after z root old k)
+
       later : (f : List Entry) (e : Entry) → P f → bound_after z root (f ++ e ∷ []) k ≡ bound_after z root f k → P (f ++ e ∷ [])
       later f e (inl is) same = inl (same ∙ is)
       later f e (inr (was, gone)) same = inr (outside_wider z old old f (f ++ e ∷ []) k (prefix_same old) (prefix_more f (e ∷ [])) was, same ∙ gone)
+
       here : (f : List Entry) (e : Entry) → found z.domains (next (state_of z f) e).graph root k ≡ bound_after z root f k → bound_after z root (f ++ e ∷ []) k ≡ bound_after z root f k
       here f e same = ap (λ (g : Graph). found z.domains g root k) (graph_push z f e) ∙ same
+
       step : (f : List Entry) (e : Entry) → IsPrefix old f → IsPrefix (f ++ e ∷ []) new → P f → (s : MapStep z.domains root (state_of z f) e) → LeavesBinding z.domains root (state_of z f) e s k → P (f ++ e ∷ [])
       step f e a b p (Untouched u) same = later f e p (here f e same)
       step f e a b p (SetsKey j v set) (inl (is, now)) = absurd (none f e a b v (subst (λ (x : Label). Sets z.domains (graph_of z f) (next (state_of z f) e).graph root x v) (sym is) set))
@@ -183,6 +189,7 @@ module _ (z : Sizes) (root : Label) (old new : List Entry) (grows : IsPrefix old
       step f e a b p (TakesKeys u) (inl same) = later f e p (here f e same)
       step f e a b p (TakesKeys u) (inr (outside, gone)) =
           inr (record { front = f; since = a; until = prefix_more f (e ∷ []); outside = outside }, ap (λ (g : Graph). found z.domains g root k) (graph_push z f e) ∙ gone)
+
       go : (h : List Entry) → IsPrefix old h → IsPrefix h new → P h
       go h since until = walk_along P old h since
           (λ f e a b p.

@@ -1,14 +1,13 @@
 -- One field of a map is written: what its keys are bound to then.
-use Rattle.std.proofs.Common.{◌≡◌, ◌≢◌, ◌⊎◌, inl, inr, ⊎_elim, ℕ, zero, suc, ◌<◌, Bool, true, false, cond, eqb, eqb-true, eq-eqb, List, [], ◌∷◌, ◌++◌, length, get_or, set, Option, Some, None, refl, ap, sym, ◌∙◌, subst, arith}
+use Rattle.std.proofs.Common.{◌≡◌, ◌≢◌, ◌⊎◌, inl, inr, ℕ, Bool, true, false, eqb, eqb-true, eq-eqb, List, [], ◌∷◌, ◌++◌, set, Option, Some, None, refl, ap, sym, ◌∙◌}
 use Rattle.heap_model.specs.declared.label.Label.{Label}
 use Rattle.heap_model.specs.declared.graph.Value.{Value}
 use Rattle.heap_model.specs.declared.graph.Value.TheVariants.{Int, Block, Nothing}
-use Rattle.heap_model.specs.declared.graph.Node.{Node}
-use Rattle.heap_model.specs.declared.graph.Node.TheVariants.{Plain, Raw, Ephe}
+use Rattle.heap_model.specs.declared.graph.Node.TheVariants.{Plain}
 use Rattle.heap_model.specs.Graph.{Graph, same_label, node_at, with_node}
-use Rattle.heap_model.proofs.Graphs.GraphLemmas.{same_label-true, same_label-false, same_label_refl, node_at-with_node_same, node_at-with_node_other}
-use Rattle.map_laws.specs.Tries.{inside, fields_of, ends, at, found, bound_by, bound_in, way_to, IsMap, IsTree}
-use Rattle.map_laws.specs.Steps.{WritesField, Sets}
+use Rattle.heap_model.proofs.Graphs.GraphLemmas.{same_label-true, same_label_refl, node_at-with_node_same, node_at-with_node_other}
+use Rattle.map_laws.specs.Tries.{inside, fields_of, ends, at, found, bound_by, bound_in, way_to, IsTree}
+use Rattle.map_laws.specs.Steps.{WritesField}
 use Rattle.map_laws.specs.MapLaws.{SetBinds}
 use Rattle.map_laws.proofs.WalkLemmas.{ends_beside, at_through, at_back, ends_at, ends_step, ends_stop}
 
@@ -150,9 +149,11 @@ written_tree g h root p i held new w leaf tree = λ a b u gs at_a at_b plain. go
   where
     end : inside h new ≡ None
     end = still_end g h root p i held new new w tree leaf
+
     back : (x : List ℕ) (u : Value) (gs : List Value) → at (inside h) x (Block root) ≡ Some u → inside h u ≡ Some gs → at (inside g) x (Block root) ≡ Some u
     back x u gs = at_back (inside g) (inside h) (Block w.block) i new w.fields (was_inside g h root p i held new w tree) (now_inside g h root p i held new w tree)
         (others_inside g h root p i held new w tree) (block_is w.block) w.below end x (Block root) u gs
+
     go : (a b : List ℕ) (u : Value) (gs : List Value) → at (inside h) a (Block root) ≡ Some u → at (inside h) b (Block root) ≡ Some u → inside h u ≡ Some gs → (u ≡ Block w.block) ⊎ (u ≡ Block w.block → ⊥) → a ≡ b
     go a b u gs at_a at_b plain (inl same) = tree a b u w.fields (back a u gs at_a plain) (back b u gs at_b plain) (ap (inside g) same ∙ was_inside g h root p i held new w tree)
     go a b u gs at_a at_b plain (inr other) = tree a b u gs (back a u gs at_a plain) (back b u gs at_b plain) (sym (others_inside g h root p i held new w tree u other) ∙ plain)

@@ -1,12 +1,9 @@
 -- What a call knows of a map beside other calls.
-use Rattle.std.proofs.Common.{◌≡◌, ◌≢◌, ◌⊎◌, inl, inr, ℕ, zero, suc, ◌<◌, Bool, true, false, List, [], ◌∷◌, ◌++◌, length, get_or, set, Option, Some, None, refl, ap, sym, ◌∙◌, subst, arith}
+use Rattle.std.proofs.Common.{◌≡◌, ℕ, zero, suc, ◌<◌, List, [], ◌∷◌, length, get_or, set, Some, refl, ap, sym, ◌∙◌, subst, arith}
 use Rattle.std.proofs.lemmas.List.{length-set}
-use Rattle.heap_model.specs.declared.label.Label.{Label}
 use Rattle.heap_model.specs.declared.graph.Value.{Value}
-use Rattle.heap_model.specs.declared.graph.Value.TheVariants.{Int, Block, Nothing}
-use Rattle.heap_model.specs.Graph.{Graph}
-use Rattle.map_laws.specs.Tries.{inside, ends, at, found, bound_by, way_to, IsTree}
-use Rattle.map_laws.specs.Steps.{WritesField}
+use Rattle.heap_model.specs.declared.graph.Value.TheVariants.{Block, Nothing}
+use Rattle.map_laws.specs.Tries.{inside, ends, bound_by}
 use Rattle.map_laws.specs.MapLaws.{BlocksStay, ReadTells}
 use Rattle.map_laws.proofs.WalkLemmas.{at_back, ends_at, ends_step}
 use Rattle.map_laws.proofs.SetLemmas.{block_is, was_inside, now_inside, others_inside, stays}

@@ -1,5 +1,5 @@
 -- What the collector takes from a map.
-use Rattle.std.proofs.Common.{◌≡◌, ◌≢◌, ◌⊎◌, inl, inr, ℕ, zero, suc, Bool, true, false, cond, List, [], ◌∷◌, ◌++◌, get_or, Option, Some, None, refl, ap, sym, ◌∙◌, subst}
+use Rattle.std.proofs.Common.{◌≡◌, ◌⊎◌, inl, inr, ℕ, Bool, true, false, cond, List, [], ◌∷◌, get_or, Option, Some, None, refl, ap, sym, ◌∙◌, subst}
 use Rattle.heap_model.specs.declared.label.Label.{Label}
 use Rattle.heap_model.specs.declared.graph.Value.{Value}
 use Rattle.heap_model.specs.declared.graph.Value.TheVariants.{Int, Block, Nothing}
@@ -7,10 +7,9 @@ use Rattle.heap_model.specs.declared.graph.Node.{Node}
 use Rattle.heap_model.specs.declared.graph.Node.TheVariants.{Plain, Raw, Ephe}
 use Rattle.heap_model.specs.Graph.{Graph, same_label, node_at}
 use Rattle.heap_model.proofs.Graphs.GraphLemmas.{same_label-true}
-use Rattle.table_laws.specs.Thinning.{Changes, Thin, WasOutside}
+use Rattle.table_laws.specs.Thinning.{Thin, WasOutside}
 use Rattle.table_laws.specs.Stages.{graph_of}
-use Rattle.map_laws.specs.Tries.{inside, fields_of, is_leaf, IsSlot, ends, at, found, bound_by, bound_in, way_to, IsMap}
-use Rattle.map_laws.specs.Steps.{IsThinned}
+use Rattle.map_laws.specs.Tries.{inside, fields_of, is_leaf, IsSlot, ends, at, bound_by, bound_in, way_to}
 use Rattle.map_laws.specs.MapLaws.{CollectorTakes}
 use Rattle.map_laws.proofs.WalkLemmas.{ends_step, ends_stop, at_step}
 
@@ -30,8 +29,10 @@ node_left P k (Ephe (key ∷ []) datum) o slot (inr (l, is, gone, now)) = (ap fi
   where
     was : bound_in k (Some (Ephe (key ∷ []) datum)) ≡ cond (same_label l k) (Some datum) None
     was = ap (λ (x : Option Label). bound_in k (Some (Ephe (x ∷ []) datum))) is
+
     empty : bound_in k o ≡ None
     empty = ap (bound_in k) now
+
     go : (b : Bool) → same_label l k ≡ b → Left P k (bound_in k (Some (Ephe (key ∷ []) datum))) (bound_in k o)
     go true e = inr (subst P (same_label-true l k e) gone, empty)
     go false e = inl (empty ∙ sym (was ∙ ap (λ (b : Bool). cond b (Some datum) None) e))
@@ -64,6 +65,7 @@ walk_left P g h k (i ∷ is) v thin slots = go (inside g v) refl (λ x t s. walk
   where
     here : (inside h v ≡ inside g v) × Left P k (bound_by g k v) (bound_by h k v)
     here = slot_left P g h k v (λ l n is e. thin [] l n (ap Some is) e) (slots [] v refl)
+
     go : (o : Option (List Value)) → inside g v ≡ o → ((x : Value) → ThinnedFrom P g h x → ((p : List ℕ) (u : Value) → at (inside g) p x ≡ Some u → IsSlot g u) → Left P k (bound_by g k (ends (inside g) is x)) (bound_by h k (ends (inside h) is x)))
         → Left P k (bound_by g k (ends (inside g) (i ∷ is) v)) (bound_by h k (ends (inside h) (i ∷ is) v))
     go None e rec =

@@ -1,8 +1,8 @@
 -- A field of a tree is written: what each way leads to then.
-use Rattle.std.proofs.Common.{◌≡◌, ◌⊎◌, inl, inr, ⊎_elim, ℕ, zero, suc, ◌<◌, Bool, true, false, eqb, eqb-true, eq-eqb, List, [], ◌∷◌, ◌++◌, length, get_or, set, Option, Some, None, refl, ap, sym, ◌∙◌, subst, arith}
+use Rattle.std.proofs.Common.{◌≡◌, ◌⊎◌, inl, inr, ℕ, zero, suc, ◌<◌, Bool, true, false, eqb, eqb-true, eq-eqb, List, [], ◌∷◌, ◌++◌, length, get_or, set, Option, Some, None, refl, ap, sym, ◌∙◌, arith}
 use Rattle.heap_model.specs.declared.graph.Value.{Value}
-use Rattle.heap_model.specs.declared.graph.Value.TheVariants.{Int, Block, Nothing}
-use Rattle.map_laws.specs.Tries.{ends, at, IsTree}
+use Rattle.heap_model.specs.declared.graph.Value.TheVariants.{Nothing}
+use Rattle.map_laws.specs.Tries.{ends, at}
 
 abbrev pub Walk : Type 0
 Walk = Value → Option (List Value)
@@ -52,7 +52,6 @@ ends_at f (i ∷ p) q v u e = go (f v) refl (λ x here. ends_at f p q x u here)
 module _ (f h : Walk) (n : Value) (i : ℕ) (w : Value) (fields : List Value)
     (was : f n ≡ Some fields) (now : h n ≡ Some (set fields i w)) (others : (v : Value) → (v ≡ n → ⊥) → h v ≡ f v)
     (decide : (v : Value) → (v ≡ n) ⊎ (v ≡ n → ⊥)) (below : i < length fields) where
-
   -- a way that doesn't go through the field leads where it led
   pub ends_beside : (is : List ℕ) (v : Value) → ((p : List ℕ) (j : ℕ) (q : List ℕ) → is ≡ p ++ j ∷ q → at f p v ≡ Some n → j ≡ i → ⊥) → ends h is v ≡ ends f is v
   ends_beside [] v apart = refl
@@ -60,9 +59,11 @@ module _ (f h : Walk) (n : Value) (i : ℕ) (w : Value) (fields : List Value)
     where
       later : (fs : List Value) → f v ≡ Some fs → (p : List ℕ) (j2 : ℕ) (q : List ℕ) → is ≡ p ++ j2 ∷ q → at f p (get_or fs j Nothing) ≡ Some n → j2 ≡ i → ⊥
       later fs e p j2 q split here = apart (j ∷ p) j2 q (ap (λ (l : List ℕ). j ∷ l) split) (at_step f j p v fs e ∙ here)
+
       stays : ((x : Value) → ((p : List ℕ) (j2 : ℕ) (q : List ℕ) → is ≡ p ++ j2 ∷ q → at f p x ≡ Some n → j2 ≡ i → ⊥) → ends h is x ≡ ends f is x) → (o : Option (List Value)) → f v ≡ o → h v ≡ o → ends h (j ∷ is) v ≡ ends f (j ∷ is) v
       stays rec None e eh = ends_stop h j is v eh ∙ sym (ends_stop f j is v e)
       stays rec (Some fs) e eh = ends_step h j is v fs eh ∙ rec (get_or fs j Nothing) (later fs e) ∙ sym (ends_step f j is v fs e)
+
       go : (v ≡ n) ⊎ (v ≡ n → ⊥) → ((x : Value) → ((p : List ℕ) (j2 : ℕ) (q : List ℕ) → is ≡ p ++ j2 ∷ q → at f p x ≡ Some n → j2 ≡ i → ⊥) → ends h is x ≡ ends f is x) → ends h (j ∷ is) v ≡ ends f (j ∷ is) v
       go (inl same) rec =
           let e : f v ≡ Some fields = ap f same ∙ was in
@@ -80,6 +81,7 @@ module _ (f h : Walk) (n : Value) (i : ℕ) (w : Value) (fields : List Value)
     where
       other : v ≡ n → ⊥
       other same = first [] j p refl (ap Some same)
+
       go : (o : Option (List Value)) → f v ≡ o → ((x : Value) → at f p x ≡ Some n → ((p2 : List ℕ) (j2 : ℕ) (q : List ℕ) → p ≡ p2 ++ j2 ∷ q → at f p2 x ≡ Some n → ⊥) → at h (p ++ i ∷ []) x ≡ Some w) → at h (j ∷ (p ++ i ∷ [])) v ≡ Some w
       go None e rec = let clash : None ≡ Some n = sym (at_stop f j p v e) ∙ here in cc
       go (Some fs) e rec =
@@ -95,16 +97,19 @@ module _ (f h : Walk) (n : Value) (i : ℕ) (w : Value) (fields : List Value)
       dead : (x : List ℕ) → at h x w ≡ Some u → ⊥
       dead [] e = let same : w ≡ u = cc in let clash : None ≡ Some gs = sym end ∙ ap h same ∙ plain in cc
       dead (k ∷ x) e = let clash : None ≡ Some u = sym (at_stop h k x w end) ∙ e in cc
+
       stays : ((x : Value) → at h is x ≡ Some u → at f is x ≡ Some u) → (o : Option (List Value)) → f v ≡ o → h v ≡ o → at f (j ∷ is) v ≡ Some u
       stays rec None e eh = let clash : None ≡ Some u = sym (at_stop h j is v eh) ∙ here in cc
       stays rec (Some fs) e eh = at_step f j is v fs e ∙ rec (get_or fs j Nothing) (sym (at_step h j is v fs eh) ∙ here)
+
       at_n : ((x : Value) → at h is x ≡ Some u → at f is x ≡ Some u) → (same : v ≡ n) → (j ≡ i) ⊎ (j ≡ i → ⊥) → at f (j ∷ is) v ≡ Some u
       at_n rec same (inr other) =
           at_step f j is v fields (ap f same ∙ was)
           ∙ rec (get_or fields j Nothing)
           (ap (at h is) (sym (set_else fields i j w Nothing other)) ∙ (sym (at_step h j is v (set fields i w) (ap h same ∙ now)) ∙ here))
       at_n rec same (inl hit) = absurd (dead is
-        (ap (at h is) (sym (ap (λ (k : ℕ). get_or (set fields i w) k Nothing) hit ∙ set_same fields i w Nothing below)) ∙ (sym (at_step h j is v (set fields i w) (ap h same ∙ now)) ∙ here)))
+          (ap (at h is) (sym (ap (λ (k : ℕ). get_or (set fields i w) k Nothing) hit ∙ set_same fields i w Nothing below)) ∙ (sym (at_step h j is v (set fields i w) (ap h same ∙ now)) ∙ here)))
+
       go : ((x : Value) → at h is x ≡ Some u → at f is x ≡ Some u) → (v ≡ n) ⊎ (v ≡ n → ⊥) → at f (j ∷ is) v ≡ Some u
       go rec (inl same) = at_n rec same (same_number j i)
       go rec (inr other) = stays rec (f v) refl (others v other)
@@ -117,17 +122,21 @@ module _ (f h : Walk) (n : Value) (i : ℕ) (w : Value) (fields : List Value)
       dead : (x : List ℕ) → at h x w ≡ Some u → u ≡ w
       dead [] e = let same : w ≡ u = cc in sym same
       dead (k ∷ x) e = let clash : None ≡ Some u = sym (at_stop h k x w end) ∙ e in cc
+
       further : (fs : List Value) → f v ≡ Some fs → (at f is (get_or fs j Nothing) ≡ Some u) ⊎ (u ≡ w) → (at f (j ∷ is) v ≡ Some u) ⊎ (u ≡ w)
       further fs e (inl old) = inl (at_step f j is v fs e ∙ old)
       further fs e (inr written) = inr written
+
       stays : ((x : Value) → at h is x ≡ Some u → (at f is x ≡ Some u) ⊎ (u ≡ w)) → (o : Option (List Value)) → f v ≡ o → h v ≡ o → (at f (j ∷ is) v ≡ Some u) ⊎ (u ≡ w)
       stays rec None e eh = let clash : None ≡ Some u = sym (at_stop h j is v eh) ∙ here in cc
       stays rec (Some fs) e eh = further fs e (rec (get_or fs j Nothing) (sym (at_step h j is v fs eh) ∙ here))
+
       at_n : ((x : Value) → at h is x ≡ Some u → (at f is x ≡ Some u) ⊎ (u ≡ w)) → (same : v ≡ n) → (j ≡ i) ⊎ (j ≡ i → ⊥) → (at f (j ∷ is) v ≡ Some u) ⊎ (u ≡ w)
       at_n rec same (inr other) = further fields (ap f same ∙ was)
           (rec (get_or fields j Nothing) (ap (at h is) (sym (set_else fields i j w Nothing other)) ∙ (sym (at_step h j is v (set fields i w) (ap h same ∙ now)) ∙ here)))
       at_n rec same (inl hit) = inr (dead is
-        (ap (at h is) (sym (ap (λ (k : ℕ). get_or (set fields i w) k Nothing) hit ∙ set_same fields i w Nothing below)) ∙ (sym (at_step h j is v (set fields i w) (ap h same ∙ now)) ∙ here)))
+          (ap (at h is) (sym (ap (λ (k : ℕ). get_or (set fields i w) k Nothing) hit ∙ set_same fields i w Nothing below)) ∙ (sym (at_step h j is v (set fields i w) (ap h same ∙ now)) ∙ here)))
+
       go : ((x : Value) → at h is x ≡ Some u → (at f is x ≡ Some u) ⊎ (u ≡ w)) → (v ≡ n) ⊎ (v ≡ n → ⊥) → (at f (j ∷ is) v ≡ Some u) ⊎ (u ≡ w)
       go rec (inl same) = at_n rec same (same_number j i)
       go rec (inr other) = stays rec (f v) refl (others v other)

@@ -1,5 +1,5 @@
 -- The way to a key: no other key has it, and its digits fit the blocks.
-use Rattle.std.proofs.Common.{◌≡◌, ◌≢◌, ◌⊎◌, inl, inr, ℕ, zero, suc, ◌+◌, ◌*◌, ◌/◌, ◌%◌, ◌<◌, ◌≤◌, List, [], ◌∷◌, ◌++◌, length, refl, ap, sym, ◌∙◌, subst, arith, append-nil}
+use Rattle.std.proofs.Common.{◌≡◌, ℕ, zero, suc, ◌+◌, ◌*◌, ◌/◌, ◌%◌, ◌<◌, ◌≤◌, List, [], ◌∷◌, ◌++◌, length, refl, ap, sym, ◌∙◌, subst, arith}
 use Rattle.std.proofs.lemmas.List.{length-append}
 use Rattle.std.proofs.lemmas.Nat.{mod_below, mul-le, div-mul-add, mod-mul-add}
 use Rattle.std.proofs.Math.Nat.{mod-add-div', div-lt_iff_lt-mul, suc-mul}
@@ -28,7 +28,7 @@ digits_same x y below_x below_y e =
     let head : x % root_width ≡ y % root_width = cc in
     let tail : low_digits 6 (x / root_width) ≡ low_digits 6 (y / root_width) = cc in
     let rest = low_same 6 (x / root_width) (y / root_width)
-        ((div-lt_iff_lt-mul {k = root_width} {x = x} {y = room 6} (omega arith)).1 below_x) ((div-lt_iff_lt-mul {k = root_width} {x = y} {y = room 6} (omega arith)).1 below_y) tail in
+    ((div-lt_iff_lt-mul {k = root_width} {x = x} {y = room 6} (omega arith)).1 below_x) ((div-lt_iff_lt-mul {k = root_width} {x = y} {y = room 6} (omega arith)).1 below_y) tail in
     sym (mod-add-div' x root_width) ∙ ((λ i. head i + rest i * root_width) ∙ mod-add-div' y root_width)
 
 number_below : (n : ℕ) (k : Label) → n ≤ 8 → IsLabelOf n k → number_of n k < room 6 * root_width

@@ -1,8 +1,8 @@
 -- A bounded cache as plain data: its entries in the order of use, the last used first.
-use Rattle.std.specs.Prelude.{◌≡◌, ◌≢◌, ℕ, ◌+◌, ◌<◌, ◌≤◌, List, [], ◌∷◌, ◌++◌, length, take, Option, Some, None}
+use Rattle.std.specs.Prelude.{◌≡◌, ◌≢◌, ℕ, ◌+◌, ◌<◌, ◌≤◌, List, ◌∷◌, ◌++◌, length, take, Option, Some, None}
 use Rattle.heap_model.specs.declared.label.Label.{Label}
 use Rattle.heap_model.specs.declared.graph.Value.{Value}
-use Rattle.table_laws.specs.Structures.{Binding, datum_at, without, keys_of}
+use Rattle.table_laws.specs.Structures.{Binding, datum_at, without}
 
 -- a put: the entry comes first, another of its key goes, and of more than n the last used first n stay
 abbrev pub cache_put : ℕ → Label → Value → List Binding → List Binding

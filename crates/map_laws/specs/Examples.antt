@@ -1,5 +1,5 @@
 -- Small histories of one domain with a map, for laws that hold of them by computing.
-use Rattle.std.specs.Prelude.{◌≡◌, ℕ, false, List, [], ◌∷◌, ◌++◌, map, replicate, slice_set, pos, Option, Some, None}
+use Rattle.std.specs.Prelude.{◌≡◌, ℕ, false, List, [], ◌∷◌, ◌++◌, map, replicate, slice_set, pos, Some, None}
 use Rattle.heap_model.specs.declared.label.Label.{Label}
 use Rattle.heap_model.specs.declared.command.Command as declared_command
 use Rattle.heap_model.specs.declared.command.Command.TheVariants.{PutInt, Forget, Alloc, Store, Cas, Ephe, SetKey, SetData}

@@ -1,11 +1,11 @@
 -- Weak maps: a trie of plain blocks whose leaves are ephemerons of one key. What a map binds is a function of the graph.
-use Rattle.std.specs.Prelude.{◌≡◌, ℕ, zero, suc, ◌+◌, ◌*◌, ◌/◌, ◌%◌, ◌^◌, ◌<◌, cond, List, [], ◌∷◌, ◌++◌, length, slice_index_or, option_and_then, pos, Option, Some, None, ◌⊎◌}
+use Rattle.std.specs.Prelude.{◌≡◌, ℕ, zero, suc, ◌+◌, ◌*◌, ◌/◌, ◌%◌, ◌^◌, ◌<◌, cond, List, [], ◌∷◌, length, slice_index_or, option_and_then, pos, Option, Some, None, ◌⊎◌}
 use Rattle.std.specs.Option.{option_map_or}
 use Rattle.heap_model.specs.declared.label.Label.{Label}
 use Rattle.heap_model.specs.declared.graph.Value.{Value}
 use Rattle.heap_model.specs.declared.graph.Value.TheVariants.{Int, Block, Nothing}
 use Rattle.heap_model.specs.declared.graph.Node.{Node}
-use Rattle.heap_model.specs.declared.graph.Node.TheVariants.{Plain, Raw, Ephe}
+use Rattle.heap_model.specs.declared.graph.Node.TheVariants.{Plain, Ephe}
 use Rattle.heap_model.specs.Graph.{Graph, same_label, node_at}
 
 -- how many fields the root has, and each block below it
