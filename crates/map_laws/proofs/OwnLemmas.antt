@@ -24,6 +24,7 @@ use Rattle.table_laws.proofs.StepLemmas.{collector_none}
 use Rattle.map_laws.specs.Tries.{inside, fields_of, at, is_leaf, way_to, root_width, width_at, IsSlot, IsMap, found, ends, bound_by}
 use Rattle.map_laws.specs.Steps.{Untouched, IsUntouched, SparesLeaves, RespectsMap, OwnRespect}
 use Rattle.map_laws.specs.Calls.{bound_after, OwnKeep, Looks, ChangesOne, PerformedBy}
+use Rattle.map_laws.specs.MapLaws.{NewMapIsEmpty}
 use Rattle.map_laws.proofs.MapLemmas.{untouched_binds}
 use Rattle.map_laws.proofs.RespectLemmas.{graph_push}
 use Rattle.map_laws.proofs.FrontLemmas.{prefix_trans, walk_along, before_or_behind, drop_front, other_between, own_is_last}
@@ -302,3 +303,6 @@ module _ (g : Graph) (root : Label) (tag : ℕ) (node : node_at g root ≡ Some 
       go (i ∷ q) way =
           ap (λ (w : List ℕ). bound_by g k (ends (inside g) w (Block root))) way
           ∙ (ap (bound_by g k) (ends_step (inside g) i q (Block root) (replicate root_width (Int (pos 0))) plain ∙ stop i q) ∙ empty (field i) (zero_field root_width i))
+
+pub new_map_is_empty : NewMapIsEmpty
+new_map_is_empty n g root tag node = (new_map g root tag node, λ k. new_map_binds_nothing g root tag node n k)

@@ -37,25 +37,13 @@ use Rattle.table_laws.specs.Stages.{graph_of}
 use Rattle.table_laws.proofs.ChangeLemmas.{thin_is, thin_twice, thin_more}
 use Rattle.table_laws.proofs.CollectorLemmas.{collector_thins}
 use Rattle.map_laws.specs.Tries.{inside, at}
+use Rattle.map_laws.specs.Private.{NamesWithin, IsPrivate}
+use Rattle.map_laws.specs.MapLaws.{PrivateStays, PrivateStandsNowhere}
 use Rattle.map_laws.proofs.WalkLemmas.{at_step, at_stop}
 use Rattle.map_laws.proofs.FieldLemmas.{plain_is}
 use Rattle.map_laws.proofs.FrontLemmas.{prefix_same, prefix_more, walk_along, other_between}
 use Rattle.map_laws.proofs.ReachLemmas.{field_named}
 use Rattle.map_laws.proofs.RespectLemmas.{allowed_at, outside_wider, state_push, graph_push}
-
--- what a domain other than d names lies among the labels of k, and what domain d registered
-pub record NamesWithin (k : Graph) (d : ℕ) (i : ℕ) (x : DomainState) : Type 0 where
-  pub registers : i ≢ d → HaveNodes k (filter_map label_of x.registers)
-  pub finals : HaveNodes k (map (λ f. f.label) x.finals)
-  pub queue : HaveNodes k (filter_map pending_label x.queue)
-
--- a label that only registers of domain d hold: all that others name, and that blocks name, lies among labels without it
-pub record IsPrivate (s : State) (d : ℕ) (l : Label) : Type 0 where
-  pub known : Graph
-  pub away : has_label (labels known) l ≡ false
-  pub mine : l.domain ≡ d
-  pub domains : (i : ℕ) → NamesWithin known d i (domain_at s i)
-  pub nodes : (m : Label) (n : Node) → node_at s.graph m ≡ Some n → HaveNodes known (names_of n)
 
 -- which register's label a command may write into a block, or register
 abbrev pub is_item : Command → ℕ → Bool
@@ -532,3 +520,9 @@ private_left z d l old between n none legal p at = both.1
 -- a private block that isn't the root doesn't stand in the map
 pub private_outside : (z : Sizes) (d : ℕ) (l root : Label) (h : List Entry) → IsPrivate (state_of z h) d l → root ≢ l → (p : List ℕ) → at (inside (graph_of z h)) p (Block root) ≡ Some (Block l) → ⊥
 private_outside z d l root h private other p there = private_apart d l (state_of z h) private p (Block root) (λ same. other (let is : root ≡ l = cc in is)) there
+
+pub private_stays : PrivateStays
+private_stays z d l old between n none legal p at = (private_between z d l old between none p, private_left z d l old between n none legal p at)
+
+pub private_stands_nowhere : PrivateStandsNowhere
+private_stands_nowhere z d l root h private other p there = private_outside z d l root h private other p there

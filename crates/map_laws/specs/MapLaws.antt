@@ -1,22 +1,25 @@
 -- Laws of maps, in the words in which a reader would ask for them.
-use Rattle.std.specs.Prelude.{◌≡◌, ◌≢◌, ◌⊎◌, ℕ, ◌<◌, ◌≤◌, IsTrue, List, [], ◌∷◌, ◌++◌, length, slice_index_or, Option, Some, None}
+use Rattle.std.specs.Prelude.{◌≡◌, ◌≢◌, ◌⊎◌, ℕ, ◌<◌, ◌≤◌, IsTrue, List, [], ◌∷◌, ◌++◌, length, replicate, slice_index_or, pos, Option, Some, None}
 use Rattle.heap_model.specs.declared.label.Label.{Label}
 use Rattle.heap_model.specs.declared.entry.Entry.{Entry}
 use Rattle.heap_model.specs.declared.entry.Entry.TheVariants.{Collected}
 use Rattle.heap_model.specs.declared.graph.Value.{Value}
-use Rattle.heap_model.specs.declared.graph.Value.TheVariants.{Block, Nothing}
-use Rattle.heap_model.specs.declared.graph.Node.TheVariants.{Ephe}
+use Rattle.heap_model.specs.declared.graph.Value.TheVariants.{Int, Block, Nothing}
+use Rattle.heap_model.specs.declared.graph.Node.{Node}
+use Rattle.heap_model.specs.declared.graph.Node.TheVariants.{Plain, Ephe}
 use Rattle.heap_model.specs.declared.state.Sizes.{Sizes}
 use Rattle.heap_model.specs.declared.state.State.{State}
 use Rattle.heap_model.specs.Graph.{Graph, has_label, node_at}
 use Rattle.heap_model.specs.Domains.{with_block, reach}
 use Rattle.heap_model.specs.Entries.{next}
+use Rattle.heap_model.specs.Fronts.{NoneOf}
 use Rattle.heap_model.specs.History.{IsPrefix, Legal}
-use Rattle.table_laws.specs.Thinning.{WasOutside, state_of}
+use Rattle.table_laws.specs.Thinning.{Thin, WasOutside, state_of}
 use Rattle.table_laws.specs.Stages.{Goes, graph_of}
-use Rattle.map_laws.specs.Tries.{inside, at, found, bound_by, way_to, way_length, IsLabelOf, IsMap, IsTree}
+use Rattle.map_laws.specs.Tries.{inside, at, found, bound_by, way_to, way_length, root_width, IsLabelOf, IsMap, IsTree}
 use Rattle.map_laws.specs.Steps.{WritesField, Sets, Deepens, Clears, MapStep, LeavesBinding, AllRespect, OthersRespect}
 use Rattle.map_laws.specs.Calls.{bound_after, ChangesOne, Gets}
+use Rattle.map_laws.specs.Private.{IsPrivate}
 
 -- where a leaf of a key is set, or taken out, the key is bound as the new value binds it, and every other key as before
 abbrev pub SetBinds : Type 0
@@ -114,3 +117,16 @@ abbrev pub PutIsFound : Type 0
 PutIsFound = (z : Sizes) (root : Label) (d reader : ℕ) (old mid new : List Entry) (k : Label) (v : Value) (before datum : Option Value) → AllRespect z root old new → IsMap (graph_of z old) root
     → IsPrefix old mid → IsPrefix mid new → (put : ChangesOne z root d old mid k before (Some v)) → Gets z root reader mid new k datum → NoneSets z root (put.front ++ put.entry ∷ []) new k
     → ((front : List Entry) → IsPrefix (put.front ++ put.entry ∷ []) front → IsPrefix front new → IsTrue (has_label (reach (state_of z front)) k)) → datum ≡ Some v
+
+-- a root whose fields are 0 is a map, and binds nothing
+abbrev pub NewMapIsEmpty : Type 0
+NewMapIsEmpty = (n : ℕ) (g : Graph) (root : Label) (tag : ℕ) → node_at g root ≡ Some (Plain tag (replicate root_width (Int (pos 0)))) → IsMap g root × ((k : Label) → found n g root k ≡ None)
+
+-- over entries of others a block that domain d alone holds stays so. It is as it was, or an ephemeron that has lost a key which was outside reach
+abbrev pub PrivateStays : Type 0
+PrivateStays = (z : Sizes) (d : ℕ) (l : Label) (old between : List Entry) (n : Node) → NoneOf d between → Legal z (old ++ between) → IsPrivate (state_of z old) d l → node_at (graph_of z old) l ≡ Some n
+    → IsPrivate (state_of z (old ++ between)) d l × Thin (WasOutside z old (old ++ between)) n (node_at (graph_of z (old ++ between)) l)
+
+-- and it stands in no map
+abbrev pub PrivateStandsNowhere : Type 0
+PrivateStandsNowhere = (z : Sizes) (d : ℕ) (l root : Label) (h : List Entry) → IsPrivate (state_of z h) d l → root ≢ l → (p : List ℕ) → at (inside (graph_of z h)) p (Block root) ≢ Some (Block l)

@@ -1,7 +1,12 @@
 //! Laws of maps. Each function's contract is one law, and it does nothing else.
-ghost use Rattle.map_laws.specs.MapLaws.{SetBinds, DeepenKeeps, ClearKeeps, BlocksStay, ReadTells, CollectorTakes, MapStays, PlacesStay, StepTells, AloneRespects, WaysDiffer, WaysPart, RespectedMapStays, LookupAnswersLastPut, HeldBindingIsFound, PutIsFound, CollectedKeysAreReached, DatumKeepsNoKey};
+ghost use Rattle.map_laws.specs.MapLaws.{SetBinds, DeepenKeeps, ClearKeeps, BlocksStay, ReadTells, CollectorTakes, MapStays, PlacesStay, StepTells, AloneRespects, WaysDiffer, WaysPart, RespectedMapStays, LookupAnswersLastPut, HeldBindingIsFound, PutIsFound, CollectedKeysAreReached, DatumKeepsNoKey, NewMapIsEmpty, PrivateStays, PrivateStandsNowhere};
 ghost use Rattle.map_laws.specs.Caches.{PutIsBounded, PutIsFound as CachedPutIsFound, PutKeepsUsed, GetKeeps};
 ghost use Rattle.map_laws.specs.Examples.{IsLegalExample, PutIsAStep, DeepenIsAStep, IsBoundDeeper, IsBoundWhileHeld, IsUnboundAfterwards, NoneLeavesIt, StoredNumberBreaksMap};
+
+/// A root whose fields are 0 is a map, and binds nothing.
+pub fn new_maps_are_empty()
+    ensures { NewMapIsEmpty }
+{}
 
 /// Where a leaf of a key is set, or taken out, the key is bound as its new leaf binds it, and every other key as before.
 pub fn set_binds()
@@ -42,6 +47,13 @@ pub fn map_stays()
 /// What each step leaves of the bindings, told for all keys.
 pub fn steps_tell()
     ensures { StepTells }
+{}
+
+/// A block that one domain alone holds: what others do leaves it as it is, but for what the collector takes, and it stands in
+/// no map. So a leaf in the making is its maker's.
+pub fn private_blocks_stay()
+    ensures stays { PrivateStays }
+    ensures nowhere { PrivateStandsNowhere }
 {}
 
 /// In a heap of one domain each entry that isn't that domain's respects each map.
