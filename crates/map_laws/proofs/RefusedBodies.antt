@@ -1,0 +1,88 @@
+-- What the clauses of the calls on maps refuse: where a clause holds a wrong outcome doesn't, whatever body met it.
+use Rattle.std.proofs.Common.{◌≡◌, ◌≢◌, inl, inr, ⊎_elim, ℕ, true, false, IsTrue, List, [], ◌∷◌, ◌++◌, length, Option, Some, None, ap, sym, ◌∙◌}
+use Rattle.heap_model.specs.declared.label.Label.{Label}
+use Rattle.heap_model.specs.declared.entry.Entry.{Entry}
+use Rattle.heap_model.specs.declared.graph.Value.{Value}
+use Rattle.heap_model.specs.declared.graph.Value.TheVariants.{Block}
+use Rattle.heap_model.specs.declared.reply.Reply.{Reply}
+use Rattle.heap_model.specs.declared.reply.Reply.TheVariants as reply
+use Rattle.heap_model.specs.declared.state.Sizes.{Sizes}
+use Rattle.heap_model.specs.Graph.{has_label, same_label}
+use Rattle.heap_model.specs.Commands.{shown}
+use Rattle.heap_model.specs.History.{IsPrefix, is_entry_of}
+use Rattle.heap_model.proofs.Graphs.GraphLemmas.{same_label_refl}
+use Rattle.heap_model.proofs.Reach.ReachLemmas.{or_left}
+use Rattle.map_laws.specs.Calls.{bound_after, value_of, ChangesOne, GetAnswers, PutsOrFull, TakeAnswers, CleanAnswers}
+use Rattle.map_laws.proofs.FrontLemmas.{prefix_before, before_or_behind, last_or_before}
+
+first_is : (k : Label) (keys : List Label) → IsTrue (has_label (k ∷ keys) k)
+first_is k keys = or_left (same_label k k) (has_label keys k) (same_label_refl k)
+
+-- of a call that sets one key, no entry changes the binding of another
+pub no_other_binding_is_lost : (z : Sizes) (root : Label) (d : ℕ) (old new : List Entry) (k l : Label) (before after : Option Value) → ChangesOne z root d old new k before after → l ≢ k
+    → (front : List Entry) (e : Entry) → IsPrefix old front → IsPrefix (front ++ e ∷ []) new → is_entry_of d e ≡ true → bound_after z root (front ++ e ∷ []) l ≡ bound_after z root front l
+no_other_binding_is_lost z root d old new k l before after x differ front e since until own =
+    ⊎_elim
+    (λ within. ⊎_elim
+    (λ earlier. x.first front e since earlier own l)
+    (λ same. (λ i. bound_after z root (same.0 i ++ same.1 i ∷ []) l) ∙ (x.others l differ ∙ ap (λ (h : List Entry). bound_after z root h l) (sym same.0)))
+    (last_or_before x.front x.entry front e within))
+    (λ behind. x.last front e behind until own l)
+    (before_or_behind (x.front ++ x.entry ∷ []) new front e x.until until)
+
+-- a put that is done overwrites nothing that another put into the same key afterwards
+pub no_later_put_is_overwritten : (z : Sizes) (root : Label) (d : ℕ) (old new : List Entry) (k : Label) (before after : Option Value) → (x : ChangesOne z root d old new k before after)
+    → (front : List Entry) (e : Entry) → IsPrefix (x.front ++ x.entry ∷ []) front → IsPrefix (front ++ e ∷ []) new → is_entry_of d e ≡ true → bound_after z root (front ++ e ∷ []) k ≡ bound_after z root front k
+no_later_put_is_overwritten z root d old new k before after x front e behind until own = x.last front e behind until own k
+
+-- a put that is done has bound the key to its datum, at a front of the call
+pub no_put_is_lost : (z : Sizes) (root : Label) (d : ℕ) (old new : List Entry) (k : Label) (v : Value) → PutsOrFull z root d old new k v reply.Done → (front : List Entry) × (e : Entry) × IsPrefix (front ++ e ∷ []) new × (bound_after z root (front ++ e ∷ []) k ≡ Some v)
+no_put_is_lost z root d old new k v (inl (done, (before, x))) = (x.front, x.entry, x.until, x.binds)
+no_put_is_lost z root d old new k v (inr (full, looks)) = cc
+
+-- a take takes what the key is bound to then, and nothing that was bound before and is replaced
+pub no_take_of_what_is_replaced : (z : Sizes) (root : Label) (d : ℕ) (old new : List Entry) (k : Label) (was v : Value) → (x : ChangesOne z root d old new k (Some was) None) → bound_after z root x.front k ≡ Some v → was ≡ v
+no_take_of_what_is_replaced z root d old new k was v x bound = let same : Some was ≡ Some v = sym x.was ∙ bound in cc
+
+-- a take answers `none` of no key that is bound all along
+pub no_bound_key_is_missed_by_take : (z : Sizes) (root : Label) (d : ℕ) (old new : List Entry) (k : Label) → ((front : List Entry) → IsPrefix old front → IsPrefix front new → bound_after z root front k ≢ None) → TakeAnswers z root d old new (Block k) reply.Empty → ⊥
+no_bound_key_is_missed_by_take z root d old new k all (inl (done, x)) = cc
+no_bound_key_is_missed_by_take z root d old new k all (inr (empty, x)) = all x.front x.since x.until x.bound
+
+-- nor `ok` of one that is unbound all along
+pub no_unbound_key_is_taken : (z : Sizes) (root : Label) (d : ℕ) (old new : List Entry) (k : Label) → ((front : List Entry) → IsPrefix old front → IsPrefix front new → bound_after z root front k ≡ None) → TakeAnswers z root d old new (Block k) reply.Done → ⊥
+no_unbound_key_is_taken z root d old new k all (inl (done, (was, x))) = let clash : Some was ≡ None = sym x.was ∙ all x.front x.since (prefix_before x.front x.entry new x.until) in cc
+no_unbound_key_is_taken z root d old new k all (inr (empty, x)) = cc
+
+-- a lookup misses no key that is bound all along, wherever its leaf stands by then
+pub no_bound_key_is_missed : (z : Sizes) (root : Label) (d : ℕ) (old new : List Entry) (k : Label) (v : Value) (r : Reply) → ((front : List Entry) → IsPrefix old front → IsPrefix front new → bound_after z root front k ≡ Some v) → GetAnswers z root d old new (Block k) r → r ≡ shown v
+no_bound_key_is_missed z root d old new k v r all (datum, x, answers) =
+    let found : datum ≡ Some v = sym x.bound ∙ all x.front x.since x.until in
+    answers ∙ ap (λ (o : Option Value). shown (value_of o)) found
+
+-- and finds none that is unbound all along
+pub no_unbound_key_is_found : (z : Sizes) (root : Label) (d : ℕ) (old new : List Entry) (k : Label) (r : Reply) → ((front : List Entry) → IsPrefix old front → IsPrefix front new → bound_after z root front k ≡ None) → GetAnswers z root d old new (Block k) r → r ≡ reply.Empty
+no_unbound_key_is_found z root d old new k r all (datum, x, answers) =
+    let found : datum ≡ None = sym x.bound ∙ all x.front x.since x.until in
+    answers ∙ ap (λ (o : Option Value). shown (value_of o)) found
+
+-- cleaning drops no binding
+pub no_live_leaf_is_dropped : (z : Sizes) (root : Label) (d : ℕ) (old new : List Entry) (count : ℕ) → CleanAnswers z root d old new count → (front : List Entry) (e : Entry) → IsPrefix old front → IsPrefix (front ++ e ∷ []) new → is_entry_of d e ≡ true
+    → (k : Label) → bound_after z root (front ++ e ∷ []) k ≡ bound_after z root front k
+no_live_leaf_is_dropped z root d old new count x front e since until own k = x.looks.keeps front e since until own k
+
+-- and counts nothing where nothing is bound
+pub no_empty_map_counts : (z : Sizes) (root : Label) (d : ℕ) (old new : List Entry) (count : ℕ) → CleanAnswers z root d old new count → ((front : List Entry) (k : Label) → IsPrefix old front → IsPrefix front new → bound_after z root front k ≡ None) → count ≡ 0
+no_empty_map_counts z root d old new count x none = go x.keys x.number x.bound
+  where
+    go : (keys : List Label) → length keys ≡ count → ((k : Label) → IsTrue (has_label keys k) → (front : List Entry) × IsPrefix old front × IsPrefix front new × (bound_after z root front k ≢ None)) → count ≡ 0
+    go [] number bound = sym number
+    go (k ∷ keys) number bound = let t = bound k (first_is k keys) in absurd (t.3 (none t.0 k t.1 t.2))
+
+-- it counts each key that is bound all along
+pub each_bound_key_is_counted : (z : Sizes) (root : Label) (d : ℕ) (old new : List Entry) (k : Label) → CleanAnswers z root d old new 0 → ((front : List Entry) → IsPrefix old front → IsPrefix front new → bound_after z root front k ≢ None) → ⊥
+each_bound_key_is_counted z root d old new k x all = go x.keys x.number (x.all k all)
+  where
+    go : (keys : List Label) → length keys ≡ 0 → IsTrue (has_label keys k) → ⊥
+    go [] number there = let clash : false ≡ true = there in cc
+    go (y ∷ keys) number there = cc

@@ -1,0 +1,127 @@
+//! Laws of maps. Each function's contract is one law, and it does nothing else.
+ghost use Rattle.map_laws.specs.MapLaws.{SetBinds, DeepenKeeps, ClearKeeps, BlocksStay, ReadTells, CollectorTakes, MapStays, PlacesStay, StepTells, AloneRespects, WaysDiffer, WaysPart, RespectedMapStays, LookupAnswersLastPut, HeldBindingIsFound, PutIsFound, CollectedKeysAreReached, DatumKeepsNoKey, NewMapIsEmpty, PrivateStays, PrivateStandsNowhere};
+ghost use Rattle.map_laws.specs.Caches.{PutIsBounded, PutIsFound as CachedPutIsFound, PutKeepsUsed, GetKeeps};
+ghost use Rattle.map_laws.specs.Examples.{IsLegalExample, PutIsAStep, DeepenIsAStep, IsBoundDeeper, IsBoundWhileHeld, IsUnboundAfterwards, NoneLeavesIt, StoredNumberBreaksMap};
+
+/// A root whose fields are 0 is a map, and binds nothing.
+pub fn new_maps_are_empty()
+    ensures { NewMapIsEmpty }
+{}
+
+/// Where a leaf of a key is set, or taken out, the key is bound as its new leaf binds it, and every other key as before.
+pub fn set_binds()
+    ensures { SetBinds }
+{}
+
+/// A leaf that goes one block deeper changes no binding.
+pub fn deepen_keeps()
+    ensures { DeepenKeeps }
+{}
+
+/// A block of a map stays where it is, whatever another call writes.
+pub fn blocks_stay()
+    ensures { BlocksStay }
+{}
+
+/// The field at which a key's way ends tells what the key is bound to.
+pub fn read_tells()
+    ensures { ReadTells }
+{}
+
+/// Where no call wrote a block, the collector took only bindings of keys that were outside reach.
+pub fn collector_takes()
+    ensures { CollectorTakes }
+{}
+
+/// A leaf that binds nothing may be taken out: no binding changes.
+pub fn clear_keeps()
+    ensures { ClearKeeps }
+{}
+
+/// After each step a map is a map, and its blocks stand where they stood.
+pub fn map_stays()
+    ensures map { MapStays }
+    ensures places { PlacesStay }
+{}
+
+/// What each step leaves of the bindings, told for all keys.
+pub fn steps_tell()
+    ensures { StepTells }
+{}
+
+/// A block that one domain alone holds: what others do leaves it as it is, but for what the collector takes, and it stands in
+/// no map. So a leaf in the making is its maker's.
+pub fn private_blocks_stay()
+    ensures stays { PrivateStays }
+    ensures nowhere { PrivateStandsNowhere }
+{}
+
+/// In a heap of one domain each entry that isn't that domain's respects each map.
+pub fn alone_respects()
+    ensures { AloneRespects }
+{}
+
+/// No two keys have one way, so their ways part before they end.
+pub fn ways_differ()
+    ensures differ { WaysDiffer }
+    ensures part { WaysPart }
+{}
+
+/// Over a history whose entries respect a map it stays one.
+pub fn respected_map_stays()
+    ensures { RespectedMapStays }
+{}
+
+/// What a map binds a key to is what was put last, unless the key was outside reach since.
+pub fn lookup_answers_last_put()
+    ensures { LookupAnswersLastPut }
+{}
+
+/// A binding whose key is reached all along is found, until an entry sets it.
+pub fn held_binding_is_found()
+    ensures { HeldBindingIsFound }
+{}
+
+/// What a put put, a later lookup of any domain answers, as long as the key is reached and no entry sets it between.
+pub fn put_is_found()
+    ensures { PutIsFound }
+{}
+
+/// After a complete collection in which a map is reached, each key that it binds is reached.
+pub fn collected_keys_are_reached()
+    ensures { CollectedKeysAreReached }
+{}
+
+/// No binding keeps its own key alive: a key that is reached is reached without the datum that it is bound to.
+pub fn datum_keeps_no_key()
+    ensures { DatumKeepsNoKey }
+{}
+
+/// A small history: a key whose datum holds it is put and forgotten. A complete collection takes it, and none leaves it.
+pub fn own_datum_is_collected()
+    ensures legal { IsLegalExample }
+    ensures step { PutIsAStep }
+    ensures bound { IsBoundWhileHeld }
+    ensures unbound { IsUnboundAfterwards }
+    ensures none { NoneLeavesIt }
+{}
+
+/// Another: the leaf of a key goes one block deeper, and the key is bound as before.
+pub fn leaf_goes_deeper()
+    ensures step { DeepenIsAStep }
+    ensures bound { IsBoundDeeper }
+{}
+
+/// Another: a number that is stored into a map's block by a command that is no map call's makes it no map.
+pub fn stored_number_breaks_map()
+    ensures { StoredNumberBreaksMap }
+{}
+
+/// A bounded cache, as plain data: no more entries than its bound, what was put is found, an entry stays until as many others
+/// were used, and a lookup changes no entry.
+pub fn caches()
+    ensures bounded { PutIsBounded }
+    ensures found { CachedPutIsFound }
+    ensures used { PutKeepsUsed }
+    ensures kept { GetKeeps }
+{}
