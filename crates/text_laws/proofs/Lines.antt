@@ -9,8 +9,8 @@ use Rattle.heap_model.specs.Entries.{is_label}
 use Rattle.heap_model.specs.Graph.{has_label, has_no_repeats, same_label}
 use Rattle.heap_model.proofs.Graphs.GraphLemmas.{same_label-true, same_label_refl}
 use Rattle.table_laws.proofs.ChangeLemmas.{not_first}
+use Rattle.table_laws.proofs.WalkLemmas.{thinned_length}
 use Rattle.table_laws.specs.Structures.{Binding, datum_at, keys_of, without}
-use Rattle.table_laws.specs.Thinning.{ThinnedBy}
 use Rattle.table_text.specs.declared.line.TableLine.{TableLine}
 use Rattle.table_text.specs.declared.line.TableLine.TheVariants.{Key, Forget, Put, Get, Del, SetWeak, GetWeak, Count, FullMajor}
 use Rattle.table_machine.specs.declared.reply.LineReply.{LineReply}
@@ -256,19 +256,13 @@ module _ (s t : TableState) (x : Alike s t) where
       let at = held_place s.registers k held in let over = x.0.hold at.0 k at.1 in let d = bound_datum s.bindings k h in
       (over.0, (at.0, at.1, over.1), (d.0, sym (x.0.pairs k over.0 (inl (at.0, at.1, over.1))).datum ∙ d.1)))
 
--- what was thinned is no longer
-thinned_short : (P : Label → Type 0) (a b : List Binding) → ThinnedBy P a b → length b ≤ length a
-thinned_short P [] b e = let none : length b ≡ 0 = ap length e in omega (arith, none)
-thinned_short P (x ∷ a) b (inl (rest, is, t)) = let less = thinned_short P a rest t in let one : length b ≡ suc (length rest) = ap length is in omega (arith, less, one)
-thinned_short P (x ∷ a) b (inr (gone, t)) = let less = thinned_short P a b t in omega (arith, less)
-
 -- a count before which keys went, and while it was made, beside another one
 tallies_few : (s t p q u v : TableState) (a b : LineReply) → Alike s t → MayGo s p → MayGo t q → (c : Tallies p a u) → (d : Tallies q b v) → IsTrue (has_no_repeats (keys_of s.bindings)) → c.number ≤ d.number + length (loose s s.bindings)
 tallies_few s t p q u v a b x goes other c d once =
     let beside : Alike s q = (leans_on s t s q (may_same s) other x.0, leans_on t s q s other (may_same s) x.1) in
     let after : Alike s v = (leans_on s q s v (may_same s) d.goes beside.0, leans_on q s v s d.goes (may_same s) beside.1) in
     let few = few_counted s v after once in
-    let short = thinned_short (IsLost s) s.bindings p.bindings goes.bindings in
+    let short = thinned_length (IsLost s) s.bindings p.bindings goes.bindings in
     let most = c.most in
     let least = d.least in
     omega (arith, few, short, most, least)
