@@ -16,12 +16,8 @@ use Rattle.table_laws.specs.Structures.{Binding, bindings, datum_at, IsTable}
 use Rattle.table_laws.specs.Thinning.{WasOutside, state_of}
 use Rattle.table_laws.specs.Performing.{refusals, writings, full_of}
 use Rattle.table_laws.specs.Stages.{Goes, graph_of, held_in}
-use Rattle.table_laws.proofs.BindingLemmas.{thinned_datum, thinned_more}
-use Rattle.table_laws.proofs.ArrayLemmas.{emptied_more}
-use Rattle.table_laws.proofs.ChangeLemmas.{table_kept, bindings_thinned, array_kept}
-use Rattle.table_laws.proofs.RefusalLemmas.{refusals-append}
-use Rattle.table_laws.proofs.WritingLemmas.{writings-append}
-use Rattle.table_laws.proofs.LawLemmas.{keys_emptied}
+use Rattle.table_laws.proofs.BindingLemmas.{thinned_datum}
+use Rattle.table_laws.proofs.ChangeLemmas.{table_kept}
 use Rattle.table_laws.proofs.StageLemmas.{since_outside}
 use Rattle.weak_tables.specs.Commands.{value_of}
 use Rattle.weak_tables.specs.Tables.{Gets, GetAnswers, Counts}

@@ -36,7 +36,7 @@ use Rattle.table_run.proofs.LineLemmas.{after_with, after_goes, after_goes_by, a
 use Rattle.table_run.proofs.RefusalLemmas.{used_up}
 use Rattle.table_run.proofs.OwnLemmas.{take_done, put_done, slot_done}
 use Rattle.table_run.proofs.CallLemmas.{held_key, nothing_done, left, read_goes, read_stands, read_line, get_line, said_full, count_line}
-use Rattle.table_run.proofs.GoneLemmas.{forget_open, left_held}
+use Rattle.table_run.proofs.GoneLemmas.{left_held}
 use Rattle.table_run.proofs.StandLemmas.{line_ends, line_later, others_clean, keeps_high}
 
 -- a register holds the table, and one the weak array
@@ -274,6 +274,6 @@ gone z limits old mid new a b one quiet q w p s lines x =
     let count = performed_refusals z mid new FullMajor b w in
     let zero : held_in z mid 0 ≡ Nothing = set_here z limits old old mid 0 Nothing first.0.registers_are (omega arith) in
     let last : Stands z p u new = stands_reading z limits p t mid new y second.0 in
-    let all_gone : AllGone u = left_held z limits mid new b one quiet w (forget_open z limits old mid a q) p t u y zero last refl second.1 in
-    line_later z p lines line.FullMajor s t old mid reply.Done new (after_goes z limits p s old mid x _ first.0 s.registers y (forget_open z limits old mid a q)) first.0.grows (omega (arith, none))
+    let all_gone : AllGone u = left_held z limits mid new b one quiet w (step_open z limits old mid (Forget 0) a q refl) p t u y zero last refl second.1 in
+    line_later z p lines line.FullMajor s t old mid reply.Done new (after_goes z limits p s old mid x _ first.0 s.registers y (step_open z limits old mid (Forget 0) a q refl)) first.0.grows (omega (arith, none))
     (line_ends z p lines line.FullMajor t mid reply.Done u new (record { left = u; goes = after_goes_by z limits p t mid new y _ second.0 (λ k there. ⊎_elim (λ bound. all_gone.bindings k bound) (λ slot. all_gone.slots k slot) there); does = inl (refl, refl, all_gone) }) tt tt second.0.grows (omega (arith, count, given_none)) last)

@@ -1,5 +1,5 @@
 -- What the collector took is nowhere any more, once no collection is under way.
-use Rattle.std.proofs.Common.{◌≡◌, ◌⊎◌, inl, inr, ⊎_elim, ℕ, zero, suc, ◌<◌, Bool, true, false, cond, not, IsTrue, List, [], ◌∷◌, ◌++◌, map, filter_map, get_or, slice_get, unwrap_or, option_map, option_to_list, pos, Option, Some, None, refl, ap, sym, ◌∙◌, subst, append_assoc, append-nil}
+use Rattle.std.proofs.Common.{◌≡◌, ◌⊎◌, inl, inr, ⊎_elim, ℕ, suc, Bool, true, false, cond, not, IsTrue, List, [], ◌∷◌, ◌++◌, filter_map, slice_get, unwrap_or, option_map, option_to_list, pos, Option, Some, None, refl, ap, sym, ◌∙◌, subst, append_assoc, append-nil}
 use Rattle.std.specs.List.{list_all}
 use Rattle.std.specs.Option.{option_map_or}
 use Rattle.std.proofs.lemmas.Option.{slice_get-get_or}
@@ -13,15 +13,15 @@ use Rattle.heap_model.specs.declared.graph.Value.TheVariants.{Int, Block, Nothin
 use Rattle.heap_model.specs.declared.graph.Node.{Node}
 use Rattle.heap_model.specs.declared.graph.Node.TheVariants.{Plain, Raw, Ephe}
 use Rattle.heap_model.specs.declared.state.Mode.{Mode}
-use Rattle.heap_model.specs.declared.state.Mode.TheVariants.{Open, Cut as CutMode, Sealed, Answer}
+use Rattle.heap_model.specs.declared.state.Mode.TheVariants.{Open, Cut as CutMode}
 use Rattle.heap_model.specs.declared.state.Sizes.{Sizes}
 use Rattle.heap_model.specs.declared.state.State.{State}
 use Rattle.heap_model.specs.Graph.{Graph, same_label, labels, has_label, label_of, node_at}
-use Rattle.heap_model.specs.Domains.{domain_at, opening, register}
+use Rattle.heap_model.specs.Domains.{domain_at, opening}
 use Rattle.heap_model.specs.Commands.{FitsMode, key_value}
 use Rattle.heap_model.specs.Entries.{Allowed, is_sealed, keys_are_live, left_reach, next, with_wiped, wiped}
-use Rattle.heap_model.specs.History.{IsPrefix, LegalFrom, Legal, state_after}
-use Rattle.heap_model.specs.Reach.{IsClosedUnder, edges_at, edges_of, key_holds}
+use Rattle.heap_model.specs.History.{LegalFrom, Legal}
+use Rattle.heap_model.specs.Reach.{IsClosedUnder, edges_of, key_holds}
 use Rattle.heap_model.proofs.Collections.CollectionLemmas.{all_has}
 use Rattle.heap_model.proofs.Graphs.GraphStepLemmas.{labels_stay_law}
 use Rattle.heap_model.proofs.Histories.NumberLemmas.{node_at-no_label}
@@ -32,7 +32,7 @@ use Rattle.heap_model.specs.WellFormed.{HaveNodes}
 use Rattle.heap_model.proofs.Reach.ReachLemmas.{and_both, is_false, or_cases, has-append_left, has-append_right}
 use Rattle.history_laws.specs.Cells.{Cell, Field, Key, Datum, content}
 use Rattle.history_laws.proofs.CellLemmas.{content_is}
-use Rattle.history_laws.proofs.ApartLemmas.{IsApart, IsKnownOut, out_after}
+use Rattle.history_laws.proofs.ApartLemmas.{IsKnownOut, out_after}
 use Rattle.history_laws.proofs.LostLemmas.{known_lost}
 use Rattle.table_laws.specs.Structures.{IsTable, IsWeakArray, bindings, keys_of, slot_keys}
 use Rattle.table_laws.specs.Thinning.{WasOutside, state_of, taken_by}
