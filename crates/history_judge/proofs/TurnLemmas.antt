@@ -1,5 +1,5 @@
 -- The turns of a history of calls, and what their schedule prints.
-use Rattle.std.proofs.Common.{◌≡◌, ◌≢◌, ℕ, Bool, true, false, eqb-true, IsTrue, ⊎_elim, List, [], ◌∷◌, ◌++◌, flat_map, Option, Some, None, refl, ap, ap₂, sym, ◌∙◌, subst, append_assoc, append-nil}
+use Rattle.std.proofs.Common.{◌≡◌, ◌≢◌, ℕ, Bool, true, false, eqb-true, IsTrue, ⊎_elim, List, [], ◌∷◌, ◌++◌, flat_map, map, Option, Some, None, refl, ap, ap₂, sym, ◌∙◌, subst, append_assoc, append-nil}
 use Rattle.std.specs.Prelude.{codes, decimal}
 use Rattle.std.specs.List.{list_all, list_any, range_with_len}
 use Rattle.heap_model.specs.declared.command.Command.{Command}
@@ -17,26 +17,26 @@ use Rattle.heap_text.specs.declared.version.Version.{Version}
 use Rattle.heap_text.specs.declared.version.Version.TheVariants.{One, Two, Three}
 use Rattle.history_replay.specs.Explains.{Explains}
 use Rattle.history_replay.specs.Steps.{is_end_of}
-use Rattle.interleavings.specs.Turns.{is_call, turns_of}
+use Rattle.interleavings.specs.Turns.{IsScriptMade, is_call, turns_of}
 use Rattle.interleavings.proofs.Calling.{interleaving_law}
 use Rattle.scheduled_runs.specs.Runs.{EndsIn}
 use Rattle.schedule_laws.specs.declared.items.Item.{Item}
 use Rattle.schedule_laws.specs.declared.items.Item.TheVariants.{Turn}
 use Rattle.schedule_laws.specs.Scheduled.{scheduled}
-use Rattle.schedule_text.specs.Spelling.{spelling}
+use Rattle.schedule_text.specs.Spelling.{item_text, spelling}
 use Rattle.history_judge.specs.declared.turns.Phase.TheVariants.{Between}
 use Rattle.history_judge.specs.Answer.{ExplainsScript, explains_by}
 use Rattle.history_judge.specs.Judging.{IsInput}
-use Rattle.history_judge.specs.Scheduling.{AreCallsOf, FoundTurns, PrintsTurns}
-use Rattle.history_judge.specs.Turns.{turns_from, turns_in}
+use Rattle.history_judge.specs.Scheduling.{AreCallsOf, FoundTurns, HasNoSchedule, PrintsTurns}
+use Rattle.history_judge.specs.Turns.{schedule_written, turns_from, turns_in}
 
 -- a history of calls has their turns
 calls_from : (items : List Item) (h : List Entry) → IsTrue (list_all is_call h) → turns_from items Between h ≡ Some (items ++ turns_of h)
 calls_from items [] all = ap Some (sym (append-nil items))
-calls_from items (entry.End d ∷ h) all = calls_from (items ++ Turn d ∷ []) h (and_right _ _ all) ∙ ap Some (append_assoc items (Turn d ∷ []) (turns_of h))
+calls_from items (entry.End d ∷ h) all = calls_from (items ++ Turn d ∷ []) h (and_right true (list_all is_call h) all) ∙ ap Some (append_assoc items (Turn d ∷ []) (turns_of h))
 calls_from items (entry.Command d FullMajor full ∷ h) all = let clash : false ≡ true = all in cc
 calls_from items (entry.Command d c true ∷ h) all = let clash : false ≡ true = all in cc
-calls_from items (entry.Command d c false ∷ h) all = calls_from (items ++ Turn d ∷ []) h (and_right _ _ all) ∙ ap Some (append_assoc items (Turn d ∷ []) (turns_of h))
+calls_from items (entry.Command d c false ∷ h) all = calls_from (items ++ Turn d ∷ []) h (and_right true (list_all is_call h) all) ∙ ap Some (append_assoc items (Turn d ∷ []) (turns_of h))
 calls_from items (entry.Cut ∷ h) all = let clash : false ≡ true = all in cc
 calls_from items (entry.Queue d places ∷ h) all = let clash : false ≡ true = all in cc
 calls_from items (entry.Seal ∷ h) all = let clash : false ≡ true = all in cc
@@ -74,7 +74,7 @@ sections_same z h k (d ∷ ds) same = ap₂ (λ (a b : List ℕ). a ++ b) (ap (�
 calls_of : (z : Sizes) (sections : List (List Command)) (bytes : List ℕ) (h : List Entry) (items : List Item) → Explains z sections bytes h → turns_in h ≡ Some items → IsTrue (list_all is_call h) → AreCallsOf z sections bytes h items
 calls_of z sections bytes h items x turns all =
     let are : items ≡ turns_of h = (let both : Some items ≡ Some (turns_of h) = sym turns ∙ calls_from [] h all in cc) in
-    let made = record { legal = x.run.legal; commands_are = x.run.each_command; ends = λ d below. ends_in d h (x.run.each_ends d below) } in
+    let made : IsScriptMade z sections h = record { legal = x.run.legal; commands_are = x.run.each_command; ends = λ d below. ends_in d h (x.run.each_ends d below) } in
     record {
       turns = are;
       prints = ap (λ (is : List Item). output z (scheduled z sections is)) are ∙ (sections_same z (scheduled z sections (turns_of h)) h (range_with_len 0 z.domains) (interleaving_law z sections h made all) ∙ x.prints);
@@ -85,8 +85,20 @@ by_version One z sections bytes h other x = x
 by_version Two z sections bytes h other x = x
 by_version Three z sections bytes h other x = absurd (other refl)
 
+-- a schedule is written as it is spelled
+lines_mapped : (items : List Item) → flat_map (λ i. line (item_text i)) items ≡ flat_map line (map item_text items)
+lines_mapped [] = refl
+lines_mapped (i ∷ items) = ap (λ (rest : List ℕ). line (item_text i) ++ rest) (lines_mapped items)
+
+written_spelling : (items : List Item) → schedule_written items ≡ spelling items
+written_spelling items = ap (λ (rest : List ℕ). line (codes "schedule 1") ++ rest ++ line (codes "end")) (lines_mapped items)
+
+-- where none were found nothing is written
+pub no_turns : (z : Sizes) (bytes out text : List ℕ) (script : Scripted) (h : List Entry) → IsInput z.domains bytes script out → ExplainsScript z script out h → FoundTurns script h None → text ≡ [] → HasNoSchedule z bytes text
+no_turns z bytes out text script h input x found is = record { script = script; output = out; input = input; history = h; explains = x; none = found; text_is = is }
+
 -- the turns that were found are written
-pub printed_turns : (z : Sizes) (bytes out text : List ℕ) (script : Scripted) (h : List Entry) (items : List Item) → IsInput z.domains bytes script out → ExplainsScript z script out h → FoundTurns script h (Some items) → text ≡ spelling items → PrintsTurns z bytes text
+pub printed_turns : (z : Sizes) (bytes out text : List ℕ) (script : Scripted) (h : List Entry) (items : List Item) → IsInput z.domains bytes script out → ExplainsScript z script out h → FoundTurns script h (Some items) → text ≡ schedule_written items → PrintsTurns z bytes text
 printed_turns z bytes out text script h items input x found is =
     let explains = by_version script.version z script.sections out h found.0 x in record {
       script = script;
@@ -96,6 +108,6 @@ printed_turns z bytes out text script h items input x found is =
       explains = explains;
       items = items;
       turns = found.1;
-      text_is = is;
+      text_is = is ∙ written_spelling items;
       calls = calls_of z script.sections out h items explains found.1;
     }

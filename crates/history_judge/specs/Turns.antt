@@ -1,9 +1,11 @@
 -- The turns of a history, as a schedule has them.
-use Rattle.std.specs.Prelude.{◌≡◌, ℕ, Bool, true, false, ◌==◌, cond, List, [], ◌∷◌, ◌++◌, option_to_list, Option, Some, None}
+use Rattle.std.specs.Prelude.{◌≡◌, ℕ, Bool, true, false, ◌==◌, cond, List, [], ◌∷◌, ◌++◌, option_to_list, codes, flat_map, Option, Some, None}
 use Rattle.heap_model.specs.declared.command.Command.{Command}
 use Rattle.heap_model.specs.declared.command.Command.TheVariants.{FullMajor}
 use Rattle.heap_model.specs.declared.entry.Entry.{Entry}
 use Rattle.heap_model.specs.declared.entry.Entry.TheVariants as entry
+use Rattle.heap_model.specs.Output.{line}
+use Rattle.schedule_text.specs.Spelling.{item_text}
 use Rattle.schedule_laws.specs.declared.items.Item.{Item}
 use Rattle.schedule_laws.specs.declared.items.Item.TheVariants.{Turn, Collect}
 use Rattle.history_judge.specs.declared.turns.Phase.{Phase}
@@ -90,3 +92,7 @@ turns_from items p (e ∷ h) = on_step (after_entry p e) items (λ more next. tu
 -- the turns and complete collections of a history, in order, where it is made of such
 abbrev pub turns_in : List Entry → Option (List Item)
 turns_in h = turns_from [] Between h
+
+-- what a schedule of these items is written as: it is its spelling
+abbrev pub schedule_written : List Item → List ℕ
+schedule_written items = line (codes "schedule 1") ++ flat_map (λ i. line (item_text i)) items ++ line (codes "end")

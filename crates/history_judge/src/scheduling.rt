@@ -58,7 +58,7 @@ fn turns_found(
 }
 
 // What is written of a history that was found.
-#[tactic(auto, using(Rattle.history_judge.proofs.TurnLemmas.printed_turns))]
+#[tactic(auto, using(crate::proofs::TurnLemmas::printed_turns, crate::proofs::TurnLemmas::no_turns))]
 fn tell_found(alloc: Global, script: &Script, history: &[Entry]) -> Result<Answer, AllocError>
     ensures { (z : declared_sizes) (bytes output : List ℕ) → IsInput z.domains bytes script.now output → ExplainsScript z script.now output history.now
         → IfOk result (λ a. TellsTurns z bytes a.judged a.text.items) }

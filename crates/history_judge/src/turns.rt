@@ -1,12 +1,12 @@
 //! The schedule of a history's turns, and its text.
 ghost use Rattle.std.specs.Prelude.{◌≡◌, ◌++◌, Some, OnOk, IfOk, option_map};
-ghost use Rattle.schedule_text.specs.Spelling.{item_text, spelling};
+ghost use Rattle.schedule_text.specs.Spelling.{item_text};
 ghost use Rattle.heap_model.specs.Output.{line};
-ghost use Rattle.history_judge.specs.Turns.{after_answer, after_begin, after_call, after_end, after_entry, after_run, after_within, completed as completed_as, turns_in};
+ghost use Rattle.history_judge.specs.Turns.{after_answer, after_begin, after_call, after_end, after_entry, after_run, after_within, completed as completed_as, schedule_written, turns_in};
 
+use crate::show::{push, push_between};
 use heap_model::command::Command;
 use heap_model::entry::Entry;
-use itoa::Buffer;
 use schedule_laws::Item;
 use std::alloc::{AllocError, Global};
 
@@ -158,7 +158,7 @@ fn end(phase: Phase) -> Option<Step>
 }
 
 // What an entry leads to. `None`: no schedule makes such a history.
-fn step(phase: Phase, entry: &Entry) -> Option<Step>
+fn step_by(phase: Phase, entry: &Entry) -> Option<Step>
     ensures { result ≡ after_entry phase entry.now }
 {
     match entry {
@@ -190,7 +190,7 @@ pub(crate) fn gather_turns(
     let mut items = Vec::new(alloc);
     let mut phase = Phase::Between;
     for entry in history {
-        let Some(next) = step(phase, entry) else {
+        let Some(next) = step_by(phase, entry) else {
             return Ok(None);
         };
         phase = next.phase;
@@ -209,25 +209,20 @@ fn push_item(text: &mut Vec<u8>, item: Item) -> Result<(), AllocError>
     ensures { OnOk result (text.new.items ≡ text.old.items ++ line (item_text item)) }
 {
     match item {
-        Item::Turn(domain) => {
-            text.extend_from_slice(b"turn ")?;
-            let mut buffer = Buffer::new();
-            text.extend_from_slice(buffer.format(domain).as_bytes())?;
-            text.push(b'\n')
-        }
-        Item::Collect => text.extend_from_slice(b"collect\n"),
+        Item::Turn(domain) => push_between(text, b"turn ", domain, b"\n"),
+        Item::Collect => push(text, b"collect\n"),
     }
 }
 
 /// The text of a schedule of these items.
 pub(crate) fn turns_text(alloc: Global, items: &[Item]) -> Result<Vec<u8>, AllocError>
-    ensures { IfOk result (λ v. v.items ≡ spelling items.now) }
+    ensures { IfOk result (λ v. v.items ≡ schedule_written items.now) }
 {
     let mut text = Vec::new(alloc);
-    text.extend_from_slice(b"schedule 1\n")?;
+    push(&mut text, b"schedule 1\n")?;
     for item in items {
         push_item(&mut text, *item)?;
     }
-    text.extend_from_slice(b"end\n")?;
+    push(&mut text, b"end\n")?;
     Ok(text)
 }

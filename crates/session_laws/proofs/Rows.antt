@@ -9,6 +9,7 @@ use Rattle.heap_model.specs.declared.reply.Reply.{Reply}
 use Rattle.heap_model.specs.declared.reply.Reply.TheVariants.{Done as Ok, Block, Fin, Live}
 use Rattle.heap_model.specs.declared.state.Sizes.{Sizes}
 use Rattle.heap_model.specs.Domains.{opening}
+use Rattle.heap_model.specs.Reach.{reachable}
 use Rattle.heap_model.specs.History.{Legal, commands, replies, replies_from, state_after}
 use Rattle.domain_turns.specs.Handed.{Finalised, OnlyRuns}
 use Rattle.heap_session.specs.Stopping.{EndsAfter}
@@ -58,6 +59,7 @@ none_ran : (old : List Entry) → Finalised sizes 0 old old []
 none_ran old = record { rest = []; appends = sym (append-nil old); runs = refl; ran_are = refl }
 
 called : AreCalled sizes [] calls front
+unfolding reachable
 called = (
   made,
   record { before = []; finalised = none_ran []; full = false; appends = refl; legal = search rules; replies = refl },
@@ -77,6 +79,7 @@ called = (
 )
 
 ends : EndsAfter sizes front history
+unfolding reachable
 ends = record { before = front; ran = []; finalised = none_ran front; after = []; last = refl; appends = refl; legal = search rules }
 
 -- so the history is the session of these calls
@@ -88,6 +91,7 @@ abbrev unheard : List Call
 unheard = call (Alloc 0 0 1) [] (Block label) ∷ call (Finalise 0 7 1) [] Ok ∷ call (Forget 0) [] Ok ∷ call FullMajor [] live ∷ call (PutInt 0 (pos 5)) [] Ok ∷ []
 
 not_unheard : IsSessionOf sizes unheard history → ⊥
+unfolding reachable
 not_unheard is = let clash : replies sizes history 0 ≡ (Block label ∷ Ok ∷ Ok ∷ live ∷ Ok ∷ []) ++ is.last_ran = is.replies_are in cc
 
 -- nor of fewer calls
