@@ -1,6 +1,6 @@
 -- Worked rows: an output that a history explains, and two that none explains.
-use Rattle.std.proofs.Common.{◌≡◌, ℕ, zero, suc, ◌<◌, ◌==◌, Bool, true, false, cond, IsTrue, List, [], ◌∷◌, ◌++◌, drop, pos, refl, ap, sym, subst, arith, rules}
-use Rattle.std.specs.Prelude.{codes, slice_index_or}
+use Rattle.std.proofs.Common.{◌≡◌, ℕ, zero, suc, ◌<◌, ◌==◌, Bool, true, false, cond, IsTrue, List, [], ◌∷◌, ◌++◌, pos, refl, ap, sym, ◌∙◌, subst, append_assoc, append-nil, arith, rules}
+use Rattle.std.specs.Prelude.{codes, decimal, slice_index_or}
 use Rattle.std.specs.List.{list_all, list_any}
 use Rattle.heap_model.specs.declared.command.Command as declared_command
 use Rattle.heap_model.specs.declared.command.Command.TheVariants.{PutInt}
@@ -20,7 +20,7 @@ use Rattle.heap_model.proofs.Reach.ReachLemmas.{and_both, and_left, and_right}
 use Rattle.history_replay.specs.Explains.{Explains, IsRunOf as IsJudgedRun}
 use Rattle.history_replay.specs.Steps.{is_end_of}
 use Rattle.camlheap_run.specs.Run.{IsRunOf}
-use Rattle.run_laws.proofs.Explaining.{one_run}
+use Rattle.run_laws.proofs.Explaining.{one_run, same_rest}
 
 abbrev sizes : Sizes
 sizes = record { domains = 1; pools = 512; minor_words = 32768; classes = 6 }
@@ -43,14 +43,17 @@ judged = record { legal = search rules; each_command = each_command; each_ends =
     each_ends zero below = refl
     each_ends (suc d) below = absurd (omega arith)
 
-explained : Explains sizes script (line (codes "domain 0") ++ line (codes "ok")) history
-explained = record { run = judged; prints = refl }
+abbrev heading : List ℕ
+heading = line (codes "domain " ++ decimal 0)
+
+explained : Explains sizes script (heading ++ line (codes "ok")) history
+explained = record { run = judged; prints = append-nil (heading ++ line (codes "ok")) }
 
 -- and the program may have made that run
 made : IsRunOf sizes script history
 made = (one_run sizes script history).1 judged
 
-head : List ℕ → ℕ
+abbrev head : List ℕ → ℕ
 head [] = 0
 head (n ∷ ns) = n
 
@@ -126,5 +129,6 @@ no_int (reply.Fin number l ∷ rs) all is = let first : 102 ≡ 105 = ap head is
 no_int (reply.Last number ∷ rs) all is = let first : 108 ≡ 105 = ap head is in absurd (omega (arith, first))
 
 -- nor one in which the integer is shown as it is put: such an output is none of this program's
-no_shown_put : (h : List Entry) → Explains sizes script (line (codes "domain 0") ++ line (codes "int 5")) h → ⊥
-no_shown_put h x = no_int (replies sizes h 0) (shows_none 0 (opening sizes) h (subst (λ (cs : List declared_command.Command). IsTrue (list_all puts cs)) (sym (x.run.each_command 0 (omega arith))) refl)) (ap (drop 9) x.prints)
+no_shown_put : (h : List Entry) → Explains sizes script (heading ++ line (codes "int 5")) h → ⊥
+no_shown_put h x = no_int (replies sizes h 0) (shows_none 0 (opening sizes) h (subst (λ (cs : List declared_command.Command). IsTrue (list_all puts cs)) (sym (x.run.each_command 0 (omega arith))) refl))
+    (same_rest heading (printed (replies sizes h 0) ++ []) (line (codes "int 5")) (sym (append_assoc heading (printed (replies sizes h 0)) []) ∙ x.prints))

@@ -25,9 +25,9 @@ label = record { domain = 0; serial = 1 }
 abbrev call : declared_command.Command → List Reply → Reply → Call
 call c ran r = record { command = c; ran = ran; reply = r }
 
--- the shared block and the one that waits in the queue
+-- the block that waits in the queue
 abbrev live : Reply
-live = Live 2 21
+live = Live 1 3
 
 -- alloc 0 0 1, finalise 0 7 1, forget 0, full_major, int 0 5: the finaliser runs before the last
 abbrev calls : List Call
