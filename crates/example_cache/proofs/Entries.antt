@@ -139,10 +139,10 @@ keeps_both P old mid new a b = record {
 }
   where
     earlier : (k : Label) → WasGone old mid k → WasGone old new k
-    earlier k w = record { front = w.front; since = w.since; until = prefix_on w.front mid.session.front new.session.front w.until b.grows; outside = w.outside }
+    earlier k w = record { front = w.front; since = w.since; until = prefix_on w.front mid.session.front new.session.front w.until b.grows; outside = w.outside; entry = w.entry; through = prefix_on (w.front ++ w.entry ∷ []) mid.session.front new.session.front w.through b.grows; taken = w.taken }
 
     later : (k : Label) → WasGone mid new k → WasGone old new k
-    later k gone = let w = subst (λ (z : Sizes). WasOutside z mid.session.front new.session.front k) a.sizes gone in record { front = w.front; since = prefix_on old.session.front mid.session.front w.front a.grows w.since; until = w.until; outside = w.outside }
+    later k gone = let w = subst (λ (z : Sizes). WasOutside z mid.session.front new.session.front k) a.sizes gone in record { front = w.front; since = prefix_on old.session.front mid.session.front w.front a.grows w.since; until = w.until; outside = w.outside; entry = w.entry; through = w.through; taken = w.taken }
 
 -- the bindings of one key are one at most
 pub without_length : (k : Label) (bs : List Binding) → IsTrue (has_no_repeats (keys_of bs)) → length bs ≤ length (without k bs) + 1

@@ -1,6 +1,7 @@
 //! Tells whether a runtime's output for a script is one that the definitions allow: reads the script, a line `---` and the
 //! output from standard input, and writes `legal` and the entries of a history that prints the output, or that no such
-//! history was found, or that the search was given up.
+//! history was found, or that the search was given up. With `--schedule` it writes the schedule of the turns of that history in
+//! its place.
 //!
 //! The judge of `history_judge` does the work over the two streams. It says what is proved: `legal` is written only where a legal
 //! history makes the output, and then that history is. That there is none where none was found is shown by tests alone.
@@ -14,8 +15,8 @@ mod words;
 
 use bounded::Bounded;
 use heap_text::ScriptFault;
-use history_judge::{Judged, judge};
-use outer_io::{StdSink, StdSource};
+use history_judge::{Judged, TurnsJudged, judge, judge_turns};
+use outer_io::{Sink, Source, StdSink, StdSource};
 use std::alloc::Global;
 use std::io::{BufReader, BufWriter, ErrorKind, Write};
 use std::process::ExitCode;
@@ -25,11 +26,12 @@ use words::{Asked, read_asked};
 // How many bytes are read ahead, and how many are gathered before they are written.
 const GATHERED: usize = 65_536;
 
-// The words aren't as they should be, or what the judge answers.
+// The words aren't as they should be, what the judge answers, or that the history has no schedule.
 #[derive(Clone, Copy)]
 enum Outcome {
     Usage,
     Judged(Judged),
+    NoSchedule,
 }
 
 // The words behind the program's name.
@@ -66,18 +68,37 @@ fn asked(rt: &HostRuntime, alloc: Global) -> Result<Asked, Outcome>
     }
 }
 
+// Judges what a source has, and writes the history or its schedule.
+fn judge_asked<S: Source, K: Sink>(
+    rt: &HostRuntime,
+    asked: &Asked,
+    src: &mut S,
+    out: &mut K,
+) -> Outcome
+    requires { IsWithinLimits asked.now.sizes }
+{
+    let mut search = Bounded::new(rt, asked.states);
+    if !asked.schedule {
+        return Outcome::Judged(judge(rt.alloc(), &asked.sizes, src, out, &mut search));
+    }
+    match judge_turns(rt.alloc(), &asked.sizes, src, out, &mut search) {
+        TurnsJudged::Printed => Outcome::Judged(Judged::Legal),
+        TurnsJudged::NoSchedule => Outcome::NoSchedule,
+        TurnsJudged::Other(judged) => Outcome::Judged(judged),
+    }
+}
+
 // Judges what standard input has.
-fn run(rt: &HostRuntime, asked: &Asked) -> io::Result<Judged>
+fn run(rt: &HostRuntime, asked: &Asked) -> io::Result<Outcome>
     requires { IsWithinLimits asked.now.sizes }
 {
     let alloc = rt.alloc();
     let mut src = StdSource::make(BufReader::with_capacity(alloc, GATHERED, rt.stdin())?);
     let mut out = StdSink::make(BufWriter::with_capacity(alloc, GATHERED, rt.stdout())?);
-    let mut search = Bounded::new(rt, asked.states);
-    let judged = judge(alloc, &asked.sizes, &mut src, &mut out, &mut search);
+    let outcome = judge_asked(rt, asked, &mut src, &mut out);
     match out.flush() {
-        Ok(()) => Ok(judged),
-        Err(_) => Ok(Judged::WriteFault),
+        Ok(()) => Ok(outcome),
+        Err(_) => Ok(Outcome::Judged(Judged::WriteFault)),
     }
 }
 
@@ -100,8 +121,11 @@ fn tell_fault(rt: &HostRuntime, fault: ScriptFault) -> io::Result<()> {
 fn tell(rt: &HostRuntime, outcome: Outcome) -> io::Result<()> {
     match outcome {
         Outcome::Usage => {
-            eprintln!(rt; "usage: history_check [--domains N] [--minor W] [--pools P] [--states S]")
+            eprintln!(rt;
+                "usage: history_check [--schedule] [--domains N] [--minor W] [--pools P] [--states S]"
+            )
         }
+        Outcome::NoSchedule => eprintln!(rt; "history_check: the history has no schedule"),
         Outcome::Judged(Judged::Legal | Judged::NoneFound | Judged::GaveUp) => Ok(()),
         Outcome::Judged(Judged::Script(fault)) => tell_fault(rt, fault),
         Outcome::Judged(Judged::NoSeparator) => {
@@ -114,7 +138,7 @@ fn tell(rt: &HostRuntime, outcome: Outcome) -> io::Result<()> {
     }
 }
 
-// The statuses are those of `camlheap`, and two more.
+// The statuses are those of `camlheap`, and three more.
 fn status_number(outcome: Outcome) -> u8 {
     match outcome {
         Outcome::Usage => 1,
@@ -125,13 +149,14 @@ fn status_number(outcome: Outcome) -> u8 {
         Outcome::Judged(Judged::Memory) => 5,
         Outcome::Judged(Judged::NoneFound) => 6,
         Outcome::Judged(Judged::GaveUp) => 7,
+        Outcome::NoSchedule => 8,
     }
 }
 
 fn main(rt: HostRuntime) -> ExitCode {
     let outcome = match asked(&rt, rt.alloc()) {
         Ok(asked) => match run(&rt, &asked) {
-            Ok(judged) => Outcome::Judged(judged),
+            Ok(outcome) => outcome,
             Err(error) => outcome_of(error, Outcome::Judged(Judged::ReadFault)),
         },
         Err(outcome) => outcome,

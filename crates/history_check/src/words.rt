@@ -16,6 +16,8 @@ pub(crate) struct Asked {
     pub sizes: Sizes,
     /// How many states are looked at at most.
     pub states: u64,
+    /// Whether the schedule of the history's turns is written in place of the history.
+    pub schedule: bool,
 }
 
 // A number of at most nine digits.
@@ -37,21 +39,27 @@ fn sizes_asked(alloc: Global, words: &[String]) -> Result<Option<Sizes>, AllocEr
     }
 }
 
-// The words of a run, without `--states` and its number.
+// The words of a run, without `--schedule`, and without `--states` and its number.
 #[derive(Drop)]
 struct Sorted {
     run: Vec<String>,
     states: Option<u64>,
     waiting: bool,
+    schedule: bool,
 }
 
 impl Sorted {
-    // Takes a word. False where it is no number of states, or the second.
+    // Takes a word. False where it is no number of states, or one that was there.
     fn take(&mut self, word: String) -> Result<bool, AllocError> {
         if self.waiting {
             self.waiting = false;
             self.states = number(word.as_str());
             return Ok(self.states.is_some());
+        }
+        if word.as_str() == "--schedule" {
+            let is_first = !self.schedule;
+            self.schedule = true;
+            return Ok(is_first);
         }
         if word.as_str() == "--states" {
             self.waiting = self.states.is_none();
@@ -68,7 +76,7 @@ impl Sorted {
 }
 
 /// What the words ask for: any of `--domains N`, `--minor W` and `--pools P` as behind `camlheap run`, and `--states S`, a
-/// number of at most nine digits, each at most once, each also as `--states=S` and so on. `None`: they are other words.
+/// number of at most nine digits, each also as `--states=S` and so on, and `--schedule`, each at most once. `None`: they are other words.
 pub(crate) fn read_asked(alloc: Global, words: Vec<String>) -> Result<Option<Asked>, AllocError>
     ensures { IfOk result (λ o. IfSome o (λ asked. IsWithinLimits asked.sizes)) }
 {
@@ -76,6 +84,7 @@ pub(crate) fn read_asked(alloc: Global, words: Vec<String>) -> Result<Option<Ask
         run: Vec::new(alloc),
         states: None,
         waiting: false,
+        schedule: false,
     };
     sorted.run.push(String::from_str(alloc, "run")?)?;
     for word in words {
@@ -90,6 +99,7 @@ pub(crate) fn read_asked(alloc: Global, words: Vec<String>) -> Result<Option<Ask
         Some(sizes) => Ok(Some(Asked {
             sizes,
             states: sorted.states.unwrap_or(STATES),
+            schedule: sorted.schedule,
         })),
         None => Ok(None),
     }

@@ -1,4 +1,5 @@
 mod InputLemmas
 mod TextLemmas
+mod TurnLemmas
 mod VersionLemmas
 mod WritingLemmas

@@ -29,7 +29,11 @@ struct Answer {
 }
 
 // The script before the line between, and the output behind it.
-fn read_input(alloc: Global, domains: u32, bytes: &[u8]) -> Result<(Script, &[u8]), Judged>
+pub(crate) fn read_input(
+    alloc: Global,
+    domains: u32,
+    bytes: &[u8],
+) -> Result<(Script, &[u8]), Judged>
     ensures found { IfOk result (λ p. IsInput domains bytes.now p.0 p.1.now) }
     ensures refused { IfErr result (Refuses domains bytes.now) }
 {

@@ -6,9 +6,12 @@ mod input;
 mod judged;
 mod judging;
 mod reading;
+mod scheduling;
 mod show;
+mod turns;
 mod writing;
 
 pub use explain::{Seek, Sought};
 pub use judged::Judged;
 pub use judging::judge;
+pub use scheduling::{TurnsJudged, judge_turns};

@@ -11,8 +11,8 @@ use heap_text::{Line, print_command};
 use itoa::Buffer;
 use std::alloc::{AllocError, Global};
 
-// Puts a text at the end.
-fn push(text: &mut Vec<u8>, more: &[u8]) -> Result<(), AllocError>
+/// Puts a text at the end.
+pub(crate) fn push(text: &mut Vec<u8>, more: &[u8]) -> Result<(), AllocError>
     ensures { OnOk result (text.new.items ≡ text.old.items ++ more.now) }
 {
     text.extend_from_slice(more)
@@ -35,8 +35,8 @@ fn push_count(text: &mut Vec<u8>, front: &[u8], count: u64, behind: &[u8]) -> Re
     push(text, behind)
 }
 
-// Puts a number at the end between two texts.
-fn push_between(
+/// Puts a number at the end between two texts.
+pub(crate) fn push_between(
     text: &mut Vec<u8>,
     front: &[u8],
     number: u32,

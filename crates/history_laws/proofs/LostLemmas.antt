@@ -207,7 +207,7 @@ reached_left z h x = let s : State = state_after (opening z) h in
     (roots s (queues s)) (λ k r. left_roots z h k (has-append_left (settled_roots s (queues s)) (last_labels s) k (has-append_left (roots s (queues s)) (waiting s) k r))) x
 
 -- what isn't among what domains may still come to is out
-known_lost : (z : Sizes) (h : List Entry) (l : Label) → Legal z h → IsTrue (has_label (labels (state_after (opening z) h).graph) l) → has_label (left_reach (state_after (opening z) h)) l ≡ false
+pub known_lost : (z : Sizes) (h : List Entry) (l : Label) → Legal z h → IsTrue (has_label (labels (state_after (opening z) h).graph) l) → has_label (left_reach (state_after (opening z) h)) l ≡ false
     → IsKnownOut l (state_after (opening z) h)
 known_lost z h l legal there lost = let s : State = state_after (opening z) h in record {
   numbered = numbered_after (opening z) h legal (numbered_opening z);

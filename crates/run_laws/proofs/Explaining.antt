@@ -40,7 +40,7 @@ one_run z script h = (
 )
 
 -- two lists that begin alike and are one go on alike
-same_rest : (xs ys zs : List ℕ) → xs ++ ys ≡ xs ++ zs → ys ≡ zs
+pub same_rest : (xs ys zs : List ℕ) → xs ++ ys ≡ xs ++ zs → ys ≡ zs
 same_rest [] ys zs is = is
 same_rest (x ∷ xs) ys zs is = let rest : xs ++ ys ≡ xs ++ zs = cc in same_rest xs ys zs rest
 

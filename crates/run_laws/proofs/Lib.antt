@@ -1,2 +1,3 @@
 pub mod Explaining
 pub mod Keeping
+mod Rows

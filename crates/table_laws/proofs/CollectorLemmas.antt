@@ -1,5 +1,6 @@
 -- What the collector's entries take: keys outside reach, which no register holds, with their data.
 use Rattle.std.proofs.Common.{◌≡◌, inl, inr, ℕ, zero, suc, Bool, true, false, not, IsTrue, List, [], ◌∷◌, ◌++◌, length, get_or, set, slice_get, flat_map, filter_map, Option, Some, None, refl, ap, sym, ◌∙◌, subst, arith, append_assoc, append-nil}
+use Rattle.std.specs.List.{cons_option}
 use Rattle.heap_model.specs.declared.label.Label.{Label}
 use Rattle.heap_model.specs.declared.entry.Entry.{Entry}
 use Rattle.heap_model.specs.declared.entry.Entry.TheVariants.{Command as CommandOf, End, Cut, Queue, Seal, Wipe, Last as LastOf, Collected, Done, Ran}
@@ -12,13 +13,13 @@ use Rattle.heap_model.specs.declared.state.Sizes.{Sizes}
 use Rattle.heap_model.specs.declared.state.State.{State}
 use Rattle.heap_model.specs.Graph.{same_label, has_label, label_of, node_at, with_node}
 use Rattle.heap_model.specs.Domains.{no_domain, register, opening, queues, pending_label, roots, reach, waiting, settled_roots, settled_reach}
-use Rattle.heap_model.specs.Entries.{Allowed, is_rising, has_gone_keys, is_gone, is_some_and, wiped_keys, wiped, with_wiped, next}
+use Rattle.heap_model.specs.Entries.{Allowed, at_places, is_rising, has_gone_keys, is_gone, is_some_and, keys_at, wiped_keys, wiped, with_wiped, next}
 use Rattle.heap_model.specs.History.{LegalFrom, is_entry_of}
 use Rattle.heap_model.proofs.Graphs.GraphLemmas.{same_label_refl, node_at-with_node_same, node_at-with_node_other}
 use Rattle.heap_model.proofs.Commands.FrameLemmas.{keeps_next, label_cases}
 use Rattle.heap_model.proofs.Histories.HistoryLemmas.{state_after-push}
 use Rattle.heap_model.proofs.Reach.ReachLemmas.{or_left, or_right, and_left, and_right, is_false, has-append_left, has-append_right, reachable_more, reachable_roots}
-use Rattle.table_laws.specs.Thinning.{is_collector, AllCollector, state_of, IsOutside, IsUnheld, Went, EmptiedBy, LosesSome, Thin, Changes}
+use Rattle.table_laws.specs.Thinning.{is_collector, AllCollector, state_of, IsOutside, IsTakenBy, IsUnheld, Went, EmptiedBy, LosesSome, Thin, Changes}
 use Rattle.table_laws.proofs.ChangeLemmas.{emptied_same, loses_emptied, thin_is, changes_same, changes_twice, changes_more}
 
 -- what is gone is outside reach
@@ -47,61 +48,81 @@ key_there test None h = cc
 key_there test (Some None) h = cc
 key_there test (Some (Some k)) h = (k, refl, h)
 
--- the places that are wiped, one after the other
-wiped_emptied : (s : State) (places : List ℕ) (keys : List (Option Label)) (datum : Value) → IsTrue (has_gone_keys s places (Some (Ephe keys datum))) → EmptiedBy (IsOutside s) keys (wiped_keys places keys)
-wiped_emptied s [] keys datum gone = emptied_same (IsOutside s) keys
-wiped_emptied s (p ∷ ps) keys datum gone =
-    let t = key_there (is_gone s (queues s)) (slice_get keys p) (and_left _ _ gone) in
-    loses_emptied (IsOutside s) keys _ (set_loses (IsOutside s) keys (wiped_keys ps keys) p t.0 (wiped_emptied s ps keys datum (and_right _ _ gone)) t.1 (gone_outside s t.0 t.2))
+-- the keys at the places that are wiped
+keys_first : (keys : List (Option Label)) (p : ℕ) (ps : List ℕ) (k : Label) → slice_get keys p ≡ Some (Some k) → IsTrue (has_label (filter_map (λ k. k) (at_places (p ∷ ps) keys)) k)
+keys_first keys p ps k at = subst (λ (o : Option (Option Label)). IsTrue (has_label (filter_map (λ k. k) (cons_option o (at_places ps keys))) k)) (sym at) (or_left (same_label k k) _ (same_label_refl k))
 
-wiped_loses : (s : State) (places : List ℕ) (keys : List (Option Label)) (datum : Value) → IsTrue (is_rising places) → IsTrue (has_gone_keys s places (Some (Ephe keys datum))) → LosesSome (IsOutside s) keys (wiped_keys places keys)
-wiped_loses s [] keys datum rising gone = cc
-wiped_loses s (p ∷ ps) keys datum rising gone =
+keys_later : (o : Option (Option Label)) (rest : List (Option Label)) (k : Label) → IsTrue (has_label (filter_map (λ k. k) rest) k) → IsTrue (has_label (filter_map (λ k. k) (cons_option o rest)) k)
+keys_later None rest k there = there
+keys_later (Some None) rest k there = there
+keys_later (Some (Some j)) rest k there = or_right (same_label j k) _ there
+
+-- of what is gone and stands at these places P holds
+abbrev HoldsOfTaken : (Label → Type 0) → State → List ℕ → Option Node → Type 0
+HoldsOfTaken P s places n = (k : Label) → IsTrue (is_gone s (queues s) k) → IsTrue (has_label (keys_at places n) k) → P k
+
+-- the places that are wiped, one after the other
+wiped_emptied : (P : Label → Type 0) (s : State) (places : List ℕ) (keys : List (Option Label)) (datum : Value) → IsTrue (has_gone_keys s places (Some (Ephe keys datum))) → HoldsOfTaken P s places (Some (Ephe keys datum)) → EmptiedBy P keys (wiped_keys places keys)
+wiped_emptied P s [] keys datum gone each = emptied_same P keys
+wiped_emptied P s (p ∷ ps) keys datum gone each =
     let t = key_there (is_gone s (queues s)) (slice_get keys p) (and_left _ _ gone) in
-    set_loses (IsOutside s) keys (wiped_keys ps keys) p t.0 (wiped_emptied s ps keys datum (and_right _ _ gone)) t.1 (gone_outside s t.0 t.2)
+    loses_emptied P keys _ (set_loses P keys (wiped_keys ps keys) p t.0 (wiped_emptied P s ps keys datum (and_right _ _ gone) (λ k is there. each k is (keys_later (slice_get keys p) (at_places ps keys) k there))) t.1
+    (each t.0 t.2 (keys_first keys p ps t.0 t.1)))
+
+wiped_loses : (P : Label → Type 0) (s : State) (places : List ℕ) (keys : List (Option Label)) (datum : Value) → IsTrue (is_rising places) → IsTrue (has_gone_keys s places (Some (Ephe keys datum))) → HoldsOfTaken P s places (Some (Ephe keys datum)) → LosesSome P keys (wiped_keys places keys)
+wiped_loses P s [] keys datum rising gone each = cc
+wiped_loses P s (p ∷ ps) keys datum rising gone each =
+    let t = key_there (is_gone s (queues s)) (slice_get keys p) (and_left _ _ gone) in
+    set_loses P keys (wiped_keys ps keys) p t.0 (wiped_emptied P s ps keys datum (and_right _ _ gone) (λ k is there. each k is (keys_later (slice_get keys p) (at_places ps keys) k there))) t.1 (each t.0 t.2 (keys_first keys p ps t.0 t.1))
 
 -- one key that is lost
 one_lost : (P : Label → Type 0) (key : Option Label) (now : List (Option Label)) → LosesSome P (key ∷ []) now → (k : Label) × (key ≡ Some k) × P k × (now ≡ None ∷ [])
 one_lost P key now (j, rest, is, inl (none, (k, full, gone), more)) = (k, full, gone, is ∙ (ap (λ (o : Option Label). o ∷ rest) none ∙ ap (λ (ks : List (Option Label)). None ∷ ks) more))
 one_lost P key now (j, rest, is, inr (same, loses)) = absurd loses
 
-wiped_thin : (s : State) (places : List ℕ) (n : Node) → IsTrue (is_rising places) → IsTrue (has_gone_keys s places (Some n)) → Thin (IsOutside s) n (wiped places (Some n))
-wiped_thin s places (Plain tag fields) rising gone = cc
-wiped_thin s places (Raw tag fields) rising gone = cc
-wiped_thin s places (Ephe [] datum) rising gone = absurd (wiped_loses s places [] datum rising gone)
-wiped_thin s places (Ephe (key ∷ other ∷ keys) datum) rising gone = inr (wiped_keys places (key ∷ other ∷ keys), wiped_loses s places (key ∷ other ∷ keys) datum rising gone, refl)
-wiped_thin s places (Ephe (key ∷ []) datum) rising gone =
-    let lost = one_lost (IsOutside s) key (wiped_keys places (key ∷ [])) (wiped_loses s places (key ∷ []) datum rising gone) in
+wiped_thin : (P : Label → Type 0) (s : State) (places : List ℕ) (n : Node) → IsTrue (is_rising places) → IsTrue (has_gone_keys s places (Some n)) → HoldsOfTaken P s places (Some n) → Thin P n (wiped places (Some n))
+wiped_thin P s places (Plain tag fields) rising gone each = cc
+wiped_thin P s places (Raw tag fields) rising gone each = cc
+wiped_thin P s places (Ephe [] datum) rising gone each = absurd (wiped_loses P s places [] datum rising gone each)
+wiped_thin P s places (Ephe (key ∷ other ∷ keys) datum) rising gone each = inr (wiped_keys places (key ∷ other ∷ keys), wiped_loses P s places (key ∷ other ∷ keys) datum rising gone each, refl)
+wiped_thin P s places (Ephe (key ∷ []) datum) rising gone each =
+    let lost = one_lost P key (wiped_keys places (key ∷ [])) (wiped_loses P s places (key ∷ []) datum rising gone each) in
     inr (lost.0, lost.1, lost.2, ap (λ (ks : List (Option Label)). Some (Ephe ks Nothing)) lost.3)
 
 -- after a Wipe
 wipe_thins : (s : State) (l : Label) (places : List ℕ) (o : Option Node) → node_at s.graph l ≡ o → IsTrue (is_rising places) → IsTrue (has_gone_keys s places o)
-    → Changes (IsOutside s) [] s.graph (with_wiped s l (wiped places o)).graph
+    → Changes (IsTakenBy s (Wipe l places)) [] s.graph (with_wiped s l (wiped places o)).graph
 wipe_thins s l places None at rising gone = cc
 wipe_thins s l places (Some (Plain tag fields)) at rising gone = cc
 wipe_thins s l places (Some (Raw tag fields)) at rising gone = cc
 wipe_thins s l places (Some (Ephe keys datum)) at rising gone = λ k n here other.
+    let P : Label → Type 0 = IsTakenBy s (Wipe l places) in
     let new : Node = Ephe (wiped_keys places keys) Nothing in
-    label_cases (Thin (IsOutside s) n (node_at (with_node s.graph l new) k)) k l
+    label_cases (Thin P n (node_at (with_node s.graph l new) k)) k l
     (λ same.
     let is : Ephe keys datum ≡ n = let found : node_at s.graph l ≡ Some n = ap (node_at s.graph) (sym same) ∙ here in cc in
-    let left : Thin (IsOutside s) (Ephe keys datum) (Some new) = wiped_thin s places (Ephe keys datum) rising gone in
+    let left : Thin P (Ephe keys datum) (Some new) = wiped_thin P s places (Ephe keys datum) rising gone
+    (λ j is there. record { outside = gone_outside s j is; taken = subst (λ (n : Option Node). IsTrue (has_label (keys_at places n) j)) (sym at) there }) in
     let there : node_at (with_node s.graph l new) k ≡ Some new = ap (node_at (with_node s.graph l new)) same ∙ node_at-with_node_same s.graph l new (Ephe keys datum) at in
-    subst (λ (x : Option Node). Thin (IsOutside s) n x) (sym there) (subst (λ (x : Node). Thin (IsOutside s) x (Some new)) is left))
-    (λ differ. thin_is (IsOutside s) n _ (node_at-with_node_other s.graph l k new differ ∙ here))
+    subst (λ (x : Option Node). Thin P n x) (sym there) (subst (λ (x : Node). Thin P x (Some new)) is left))
+    (λ differ. thin_is P n _ (node_at-with_node_other s.graph l k new differ ∙ here))
 
 -- after each of the collector's entries
-pub collector_thins : (s : State) (e : Entry) → IsTrue (is_collector e) → Allowed s e → Changes (IsOutside s) [] s.graph (next s e).graph
+pub collector_thins : (s : State) (e : Entry) → IsTrue (is_collector e) → Allowed s e → Changes (IsTakenBy s e) [] s.graph (next s e).graph
 collector_thins s (CommandOf d c full) mine allowed = cc
 collector_thins s (End d) mine allowed = cc
-collector_thins s Cut mine allowed = changes_same (IsOutside s) [] s.graph
-collector_thins s (Queue d places) mine allowed = changes_same (IsOutside s) [] s.graph
-collector_thins s Seal mine allowed = changes_same (IsOutside s) [] s.graph
+collector_thins s Cut mine allowed = changes_same (IsTakenBy s Cut) [] s.graph
+collector_thins s (Queue d places) mine allowed = changes_same (IsTakenBy s (Queue d places)) [] s.graph
+collector_thins s Seal mine allowed = changes_same (IsTakenBy s Seal) [] s.graph
 collector_thins s (Wipe l keys) mine allowed = wipe_thins s l keys (node_at s.graph l) refl allowed.rising allowed.gone
-collector_thins s (LastOf d place) mine allowed = changes_same (IsOutside s) [] s.graph
-collector_thins s Collected mine allowed = changes_same (IsOutside s) [] s.graph
-collector_thins s Done mine allowed = changes_same (IsOutside s) [] s.graph
+collector_thins s (LastOf d place) mine allowed = changes_same (IsTakenBy s (LastOf d place)) [] s.graph
+collector_thins s Collected mine allowed = changes_same (IsTakenBy s Collected) [] s.graph
+collector_thins s Done mine allowed = changes_same (IsTakenBy s Done) [] s.graph
 collector_thins s (Ran d) mine allowed = cc
+
+-- which are outside reach
+pub collector_outside : (s : State) (e : Entry) → IsTrue (is_collector e) → Allowed s e → Changes (IsOutside s) [] s.graph (next s e).graph
+collector_outside s e mine allowed = changes_more (IsTakenBy s e) (IsOutside s) [] [] s.graph (next s e).graph (λ k t. t.outside) (λ l h. h) (collector_thins s e mine allowed)
 
 -- what a register holds is a root
 held_value : (rs : List Value) (r : ℕ) (k : Label) → get_or rs r Nothing ≡ Block k → IsTrue (has_label (filter_map label_of rs) k)
@@ -151,10 +172,21 @@ stretch_thins z old (e ∷ more) legal mine =
     let there : state_of z (old ++ e ∷ []) ≡ next s e = state_after-push (opening z) old e in
     let whole : (old ++ e ∷ []) ++ more ≡ old ++ e ∷ more = append_assoc old (e ∷ []) more in
     let first : Changes (Went z old (old ++ e ∷ more)) [] s.graph (state_of z (old ++ e ∷ [])).graph =
-    changes_more (IsOutside s) (Went z old (old ++ e ∷ more)) [] [] s.graph (state_of z (old ++ e ∷ [])).graph
-    (λ k outside. record { was = record { front = old; since = record { rest = []; appends = sym (append-nil old) }; until = record { rest = e ∷ more; appends = refl }; outside = outside }; unheld = outside_unheld s k outside })
+    changes_more (IsTakenBy s e) (Went z old (old ++ e ∷ more)) [] [] s.graph (state_of z (old ++ e ∷ [])).graph
+    (λ k took. record {
+      was = record {
+        front = old;
+        since = record { rest = []; appends = sym (append-nil old) };
+        until = record { rest = e ∷ more; appends = refl };
+        outside = took.outside;
+        entry = e;
+        through = record { rest = more; appends = sym whole };
+        taken = took.taken;
+      };
+      unheld = outside_unheld s k took.outside;
+    })
     (λ l h. h)
-    (subst (λ (t : State). Changes (IsOutside s) [] s.graph t.graph) (sym there) (collector_thins s e own legal.0)) in
+    (subst (λ (t : State). Changes (IsTakenBy s e) [] s.graph t.graph) (sym there) (collector_thins s e own legal.0)) in
     let later : Changes (Went z (old ++ e ∷ []) ((old ++ e ∷ []) ++ more)) [] (state_of z (old ++ e ∷ [])).graph (state_of z ((old ++ e ∷ []) ++ more)).graph =
     stretch_thins z (old ++ e ∷ []) more (subst (λ (t : State). LegalFrom t more) (sym there) legal.1) (and_right (is_collector e) _ mine) in
     let second : Changes (Went z old (old ++ e ∷ more)) [] (state_of z (old ++ e ∷ [])).graph (state_of z (old ++ e ∷ more)).graph =
@@ -165,6 +197,9 @@ stretch_thins z old (e ∷ more) legal mine =
         since = record { rest = e ∷ went.was.since.rest; appends = went.was.since.appends ∙ append_assoc old (e ∷ []) went.was.since.rest };
         until = record { rest = went.was.until.rest; appends = sym whole ∙ went.was.until.appends };
         outside = went.was.outside;
+        entry = went.was.entry;
+        through = record { rest = went.was.through.rest; appends = sym whole ∙ went.was.through.appends };
+        taken = went.was.taken;
       };
       unheld = unheld_before s e k own (subst (λ (t : State). IsUnheld t k) there went.unheld);
     })

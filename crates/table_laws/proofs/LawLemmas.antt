@@ -25,12 +25,12 @@ use Rattle.table_laws.specs.Thinning.{state_of, IsOutside, EmptiedBy, Thin, Chan
 use Rattle.table_laws.specs.TableLaws.{TakesFromTables, TakesFromArrays, CollectedKeysAreReached, KeysDiffer}
 use Rattle.table_laws.proofs.LookupLemmas.{bucket_parts}
 use Rattle.table_laws.proofs.ChangeLemmas.{table_kept, bindings_thinned, array_kept}
-use Rattle.table_laws.proofs.CollectorLemmas.{collector_thins}
+use Rattle.table_laws.proofs.CollectorLemmas.{collector_outside}
 use Rattle.table_laws.proofs.StepLemmas.{legal_parts}
 
 pub tables_law : TakesFromTables
 tables_law s e mine allowed root chains table =
-    let changes = collector_thins s e mine allowed in
+    let changes = collector_outside s e mine allowed in
     (table_kept (IsOutside s) [] s.graph (next s e).graph changes root chains (λ l h. refl) table, bindings_thinned (IsOutside s) [] s.graph (next s e).graph changes root chains (λ l h. refl) table)
 
 -- the keys of slots
@@ -59,7 +59,7 @@ module _ (P : Label → Type 0) (own : List Label) (g h : Graph) (changes : Chan
 
 pub arrays_law : TakesFromArrays
 arrays_law s e mine allowed root slots array =
-    let changes = collector_thins s e mine allowed in
+    let changes = collector_outside s e mine allowed in
     (array_kept (IsOutside s) [] s.graph (next s e).graph changes root slots (λ l h. refl) array, keys_emptied (IsOutside s) [] s.graph (next s e).graph changes slots (λ l h. refl) array.weak)
 
 -- what a set that is closed holds of a table that it holds

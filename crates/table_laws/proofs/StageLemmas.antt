@@ -33,10 +33,10 @@ pub goes_from : (z : Sizes) (first : List Entry) (own : List Label) → Legal z 
 goes_from z first own legal = record { legal = legal; grows = record { rest = []; appends = sym (append-nil first) }; changes = changes_same (WasOutside z first first) own (graph_of z first) }
 
 pub later_outside : (z : Sizes) (first now new : List Entry) (k : Label) → IsPrefix now new → WasOutside z first now k → WasOutside z first new k
-later_outside z first now new k grows w = record { front = w.front; since = w.since; until = prefix_trans w.front now new w.until grows; outside = w.outside }
+later_outside z first now new k grows w = record { front = w.front; since = w.since; until = prefix_trans w.front now new w.until grows; outside = w.outside; entry = w.entry; through = prefix_trans (w.front ++ w.entry ∷ []) now new w.through grows; taken = w.taken }
 
 pub since_outside : (z : Sizes) (first now new : List Entry) (k : Label) → IsPrefix first now → WasOutside z now new k → WasOutside z first new k
-since_outside z first now new k grows w = record { front = w.front; since = prefix_trans first now w.front grows w.since; until = w.until; outside = w.outside }
+since_outside z first now new k grows w = record { front = w.front; since = prefix_trans first now w.front grows w.since; until = w.until; outside = w.outside; entry = w.entry; through = w.through; taken = w.taken }
 
 earlier_outside : (z : Sizes) (first now new : List Entry) (k : Label) → IsPrefix first now → Went z now new k → WasOutside z first new k
 earlier_outside z first now new k grows w = since_outside z first now new k grows w.was

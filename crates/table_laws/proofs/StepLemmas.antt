@@ -2,7 +2,7 @@
 use Rattle.std.proofs.Common.{◌≡◌, ◌≢◌, ◌⊎◌, inl, inr, ⊎_elim, ℕ, ◌+◌, ◌<◌, ◌≤◌, Bool, true, false, List, [], ◌∷◌, ◌++◌, length, get_or, set, slice_get, ℤ, Option, Some, None, refl, ap, sym, ◌∙◌, subst, append_assoc}
 use Rattle.heap_model.specs.declared.label.Label.{Label}
 use Rattle.heap_model.specs.declared.command.Command.{Command}
-use Rattle.heap_model.specs.declared.command.Command.TheVariants.{PutInt, Copy, Forget, Alloc, Load, Store, Ephe as NewEphe, SetKey, UnsetKey, GetKey, CheckKey, SetData, UnsetData, GetData, FullMajor}
+use Rattle.heap_model.specs.declared.command.Command.TheVariants.{PutInt, Copy, Forget, Alloc, Load, Store, Ephe as NewEphe, SetKey, UnsetKey, GetKey, CheckKey, SetData, UnsetData, GetData, FullMajor, Spawn, Argument, PutResult, Join}
 use Rattle.heap_model.specs.declared.entry.Entry.{Entry}
 use Rattle.heap_model.specs.declared.entry.Entry.TheVariants.{Command as CommandOf}
 use Rattle.heap_model.specs.declared.reply.Reply.{Reply}
@@ -12,15 +12,17 @@ use Rattle.heap_model.specs.declared.graph.Value.{Value}
 use Rattle.heap_model.specs.declared.graph.Value.TheVariants.{Int, Block, Nothing}
 use Rattle.heap_model.specs.declared.graph.Node.{Node}
 use Rattle.heap_model.specs.declared.graph.Node.TheVariants.{Plain, Ephe}
+use Rattle.heap_model.specs.declared.state.Mode.TheVariants.{Open}
 use Rattle.heap_model.specs.declared.state.Sizes.{Sizes}
 use Rattle.heap_model.specs.declared.state.State.{State}
 use Rattle.heap_model.specs.Graph.{Graph, label_of, same_label, node_at, with_node}
 use Rattle.heap_model.specs.Domains.{IsWithinLimits, domain_at, register, opening}
-use Rattle.heap_model.specs.Commands.{CommandAllowed, FullOnlyWhereAllowed, MayBeFull, is_allocation, shown, key_value, new_plain}
+use Rattle.heap_model.specs.Commands.{CommandAllowed, FitsMode, FullOnlyWhereAllowed, MayBeFull, is_allocation, shown, key_value, new_plain}
 use Rattle.heap_model.specs.Entries.{next, reply}
 use Rattle.heap_model.specs.History.{state_after, LegalFrom, Legal}
 use Rattle.heap_model.specs.Fronts.{NoneOf, KeepsDomain}
 use Rattle.heap_model.proofs.Commands.FrameLemmas.{inside_running}
+use Rattle.heap_model.proofs.Commands.MoveLemmas.{outcome-mode}
 use Rattle.heap_model.proofs.Commands.LeavesLemmas.{Leaves, new_label, leaves_put, leaves_load, leaves_load_past, leaves_copy, leaves_forget, leaves_store, leaves_store_nothing, leaves_full, leaves_allocation, leaves_alloc}
 use Rattle.heap_model.proofs.Graphs.GraphLemmas.{same_label_refl, node_at-with_node_same, node_at-append_new}
 use Rattle.heap_model.proofs.Histories.NumberLemmas.{next_label_after}
@@ -43,6 +45,23 @@ pub collector_none : (h : List Entry) (d : ℕ) → AllCollector h → NoneOf d 
 collector_none [] d mine = refl
 collector_none (e ∷ h) d mine = and_both _ _ (not_false _ (collector_other e d (and_left _ _ mine))) (collector_none h d (and_right (is_collector e) _ mine))
 
+-- a command is answered while no collection is under way, but a `full_major`
+abbrev pub is_major : Command → Bool
+is_major FullMajor = true
+is_major _ = false
+
+fits_open : (s : State) (d : ℕ) (c : Command) → is_major c ≡ false → FitsMode s d c → s.mode ≡ Open
+fits_open s d FullMajor other fits = cc
+fits_open s d (Spawn section item) other fits = absurd fits
+fits_open s d (Argument dst) other fits = absurd fits
+fits_open s d (PutResult item) other fits = absurd fits
+fits_open s d (Join dst section) other fits = absurd fits
+fits_open s d c other fits = fits.0
+
+command_mode : (s : State) (d : ℕ) (c : Command) (full : Bool) → (next s (CommandOf d c full)).mode ≡ s.mode
+command_mode s d c true = refl
+command_mode s d c false = outcome-mode s d c
+
 module _ (z : Sizes) (limits : IsWithinLimits z) (old new : List Entry) (c : Command) (r : Reply) (p : Performed z old new c r) where
   abbrev front : List Entry
   front = old ++ p.between
@@ -63,6 +82,10 @@ module _ (z : Sizes) (limits : IsWithinLimits z) (old new : List Entry) (c : Com
   allowed : CommandAllowed middle 0 c p.full
   allowed = whole_legal.1.0
 
+  -- so none is afterwards
+  pub step_open : is_major c ≡ false → (state_of z new).mode ≡ Open
+  step_open other = ap (λ (t : State). t.mode) left_is ∙ (command_mode middle 0 c p.full ∙ fits_open middle 0 c other allowed.fits)
+
   pub inside : 0 < length middle.domains
   inside = inside_running middle.domains 0 allowed.running
 
@@ -82,6 +105,12 @@ module _ (z : Sizes) (limits : IsWithinLimits z) (old new : List Entry) (c : Com
         appends = new_is ∙ (ap (λ (h : List Entry). h ++ CommandOf 0 c p.full ∷ []) went.was.until.appends ∙ append_assoc went.was.front went.was.until.rest _);
       };
       outside = went.was.outside;
+      entry = went.was.entry;
+      through = record {
+        rest = went.was.through.rest ++ CommandOf 0 c p.full ∷ [];
+        appends = new_is ∙ (ap (λ (h : List Entry). h ++ CommandOf 0 c p.full ∷ []) went.was.through.appends ∙ append_assoc (went.was.front ++ went.was.entry ∷ []) went.was.through.rest _);
+      };
+      taken = went.was.taken;
     };
     unheld = went.unheld;
   }

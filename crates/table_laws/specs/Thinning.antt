@@ -1,8 +1,9 @@
 -- What the collector may take from the bindings, and what a call leaves of all other blocks.
-use Rattle.std.specs.Prelude.{◌≡◌, ◌⊎◌, ℕ, Bool, false, not, IsTrue, List, [], ◌∷◌, Option, Some, None}
+use Rattle.std.specs.Prelude.{◌≡◌, ◌⊎◌, ℕ, Bool, false, not, IsTrue, List, [], ◌∷◌, ◌++◌, Option, Some, None}
 use Rattle.std.specs.List.{list_all}
 use Rattle.heap_model.specs.declared.label.Label.{Label}
 use Rattle.heap_model.specs.declared.entry.Entry.{Entry}
+use Rattle.heap_model.specs.declared.entry.Entry.TheVariants.{Wipe}
 use Rattle.heap_model.specs.declared.graph.Value.TheVariants.{Block, Nothing}
 use Rattle.heap_model.specs.declared.graph.Node.{Node}
 use Rattle.heap_model.specs.declared.graph.Node.TheVariants.{Plain, Raw, Ephe}
@@ -10,6 +11,7 @@ use Rattle.heap_model.specs.declared.state.Sizes.{Sizes}
 use Rattle.heap_model.specs.declared.state.State.{State}
 use Rattle.heap_model.specs.Graph.{Graph, has_label, node_at}
 use Rattle.heap_model.specs.Domains.{opening, register, reach}
+use Rattle.heap_model.specs.Entries.{keys_at}
 use Rattle.heap_model.specs.Fronts.{is_call}
 use Rattle.heap_model.specs.History.{IsPrefix, state_after}
 use Rattle.table_laws.specs.Structures.{Binding}
@@ -30,12 +32,25 @@ state_of z h = state_after (opening z) h
 abbrev pub IsOutside : State → Label → Type 0
 IsOutside s k = IsTrue (not (has_label (reach s) k))
 
--- a label that was outside reach at some moment, from the first front to the second
+-- the labels in the keys that an entry empties
+abbrev pub taken_by : State → Entry → List Label
+taken_by s (Wipe l keys) = keys_at keys (node_at s.graph l)
+taken_by s _ = []
+
+-- an entry takes a label, which is outside reach
+pub record IsTakenBy (s : State) (e : Entry) (k : Label) : Type 0 where
+  pub outside : IsOutside s k
+  pub taken : IsTrue (has_label (taken_by s e) k)
+
+-- a label that was outside reach at some moment, from the first front to the second, when the collector's next entry took it
 pub record WasOutside (z : Sizes) (old new : List Entry) (k : Label) : Type 0 where
   pub front : List Entry
   pub since : IsPrefix old front
   pub until : IsPrefix front new
   pub outside : IsOutside (state_of z front) k
+  pub entry : Entry
+  pub through : IsPrefix (front ++ entry ∷ []) new
+  pub taken : IsTrue (has_label (taken_by (state_of z front) entry) k)
 
 -- no register holds the label
 abbrev pub IsUnheld : State → Label → Type 0

@@ -1,16 +1,17 @@
 -- The machine on two texts, line by line.
-use Rattle.std.proofs.Common.{◌≡◌, inl, inr, ⊎_elim, zero, suc, ℤ, pos, Bool, true, false, ◌||◌, IsTrue, List, [], ◌∷◌, replicate, Option, Some, None, refl, ap, sym, ◌∙◌, subst}
+use Rattle.std.proofs.Common.{◌≡◌, inl, inr, ⊎_elim, zero, suc, ℤ, pos, Bool, true, false, ◌||◌, IsTrue, List, [], ◌∷◌, length, replicate, Option, Some, None, refl, ap, sym, ◌∙◌, subst, arith}
 use Rattle.heap_model.specs.declared.label.Label.{Label}
 use Rattle.heap_model.specs.declared.graph.Value.TheVariants.{Int}
 use Rattle.heap_model.specs.declared.state.Sizes.{Sizes}
 use Rattle.heap_model.specs.Graph.{has_label, same_label}
 use Rattle.heap_model.proofs.Graphs.GraphLemmas.{same_label-true, same_label_refl}
 use Rattle.heap_model.proofs.Reach.ReachLemmas.{or_cases, or_left, or_right}
-use Rattle.table_laws.specs.Structures.{Binding}
+use Rattle.table_laws.specs.Structures.{Binding, datum_at}
 use Rattle.table_laws.specs.Thinning.{ThinnedBy, EmptiedBy}
 use Rattle.table_text.specs.declared.line.TableLine.{TableLine}
 use Rattle.table_machine.specs.declared.reply.LineReply.{LineReply}
-use Rattle.table_machine.specs.Machine.{TableState, Holds, IsLost, MayGo, Effect, LineStep, MachineAnswers}
+use Rattle.table_machine.specs.declared.reply.LineReply.TheVariants as reply
+use Rattle.table_machine.specs.Machine.{TableState, Holds, IsLost, IsThere, KeepsKey, MayGo, Tallies, Effect, LineStep, MachineAnswers}
 use Rattle.table_machine.specs.Rows.{binding_lines, binding_replies, slot_lines, slot_replies}
 
 abbrev first : Label
@@ -29,7 +30,11 @@ none_emptied P [] = refl
 none_emptied P (k ∷ ks) = (k, ks, refl, inl refl, none_emptied P ks)
 
 stays : (s : TableState) → MayGo s s
-stays s = record { registers = refl; bindings = all_stay (IsLost s) s.bindings; slots = none_emptied (IsLost s) s.slots }
+stays s = record { registers = refl; bindings = all_stay (IsLost s) s.bindings; slots = none_emptied (IsLost s) s.slots; together = λ k there. record { datum = refl; slots = λ i at. at } }
+
+-- a count beside which nothing goes
+counts : (s : TableState) → Tallies s (reply.Counted (length s.bindings)) s
+counts s = record { goes = stays s; number = length s.bindings; answers = refl; most = omega arith; least = omega arith }
 
 -- a line before which nothing goes
 plain : (z : Sizes) (lines : List TableLine) (l : TableLine) (s : TableState) (a : LineReply) (t : TableState) → Effect s l a t → LineStep z lines l s a t
@@ -75,6 +80,11 @@ bound_first v = (first, Int v) ∷ []
 abbrev bound_both : ℤ → List Binding
 bound_both v = (first, Int v) ∷ (second, Int (pos 20)) ∷ []
 
+-- the first binding has lost nothing as the second goes
+first_left : (k : Label) → IsThere (state one (bound_first (pos 11)) empty) k → KeepsKey (state one (bound_both (pos 11)) empty) (state one (bound_first (pos 11)) empty) k
+first_left k (inl h) = record { datum = ap (λ (l : Label). datum_at (bound_first (pos 11)) l) (is_first k h) ∙ sym (ap (λ (l : Label). datum_at (bound_both (pos 11)) l) (is_first k h)); slots = λ i at. at }
+first_left k (inr h) = absurd (unheld empty k refl h)
+
 pub binding_row : (z : Sizes) → MachineAnswers z binding_lines binding_replies
 binding_row z = record {
   states = state one [] empty ∷ state two [] empty ∷ state two (bound_first (pos 10)) empty ∷ state two (bound_both (pos 10)) empty ∷ state two (bound_both (pos 11)) empty ∷ state two (bound_both (pos 11)) empty
@@ -93,17 +103,17 @@ binding_row z = record {
             (
               plain z _ _ _ _ _ (refl, refl),
               (
-                plain z _ _ _ _ _ (refl, refl),
+                plain z _ _ _ _ _ (counts _),
                 (
                   plain z _ _ _ _ _ (refl, refl),
                   (
                     record {
                       left = state one (bound_first (pos 11)) empty;
-                      goes = record { registers = refl; bindings = inl (_, refl, inr (unheld one second refl, refl)); slots = none_emptied _ empty };
+                      goes = record { registers = refl; bindings = inl (_, refl, inr (unheld one second refl, refl)); slots = none_emptied _ empty; together = first_left };
                       does = inl (refl, refl, record { bindings = λ k h. (0, ap (λ (l : Label). Some (Some l)) (sym (is_first k h))); slots = λ k h. absurd (unheld empty k refl h) });
                     },
                     (
-                      plain z _ _ _ _ _ (refl, refl),
+                      plain z _ _ _ _ _ (counts _),
                       (
                         plain z _ _ _ _ _ (refl, refl),
                         (
@@ -171,7 +181,7 @@ slot_row z = record {
                   (
                     record {
                       left = state (replicate 5 None) [] empty;
-                      goes = record { registers = refl; bindings = refl; slots = (None, _, refl, inl refl, (None, _, refl, inl refl, (None, _, refl, inl refl, (None, _, refl, inr (refl, (first, refl, unheld (replicate 5 None) first refl)), none_emptied _ (replicate 12 None))))) };
+                      goes = record { registers = refl; bindings = refl; slots = (None, _, refl, inl refl, (None, _, refl, inl refl, (None, _, refl, inl refl, (None, _, refl, inr (refl, (first, refl, unheld (replicate 5 None) first refl)), none_emptied _ (replicate 12 None))))); together = λ k there. ⊎_elim (λ h. let clash : false ≡ true = h in cc) (λ h. absurd (unheld empty k refl h)) there };
                       does = inl (refl, refl, record { bindings = λ k h. absurd (let clash : false ≡ true = h in cc); slots = λ k h. absurd (unheld empty k refl h) });
                     },
                     (

@@ -38,11 +38,21 @@ Holds places k = (i : ℕ) × (slice_get places i ≡ Some (Some k))
 abbrev pub IsLost : TableState → Label → Type 0
 IsLost s k = Holds s.registers k → ⊥
 
--- before a line some bindings and slots may go whose key is in no register
+-- the label is bound, or in a slot
+abbrev pub IsThere : TableState → Label → Type 0
+IsThere s k = IsTrue (has_label (keys_of s.bindings) k) ⊎ Holds s.slots k
+
+-- the label has lost neither its binding nor a slot
+pub record KeepsKey (s t : TableState) (k : Label) : Type 0 where
+  pub datum : datum_at t.bindings k ≡ datum_at s.bindings k
+  pub slots : (i : ℕ) → slice_get s.slots i ≡ Some (Some k) → slice_get t.slots i ≡ Some (Some k)
+
+-- before a line some keys may go that are in no register, each from the bindings and from all slots at once: one that is anywhere still has lost nothing
 pub record MayGo (s t : TableState) : Type 0 where
   pub registers : t.registers ≡ s.registers
   pub bindings : ThinnedBy (IsLost s) s.bindings t.bindings
   pub slots : EmptiedBy (IsLost s) s.slots t.slots
+  pub together : (k : Label) → IsThere t k → KeepsKey s t k
 
 -- after a complete collection all of these are gone
 pub record AllGone (s : TableState) : Type 0 where
@@ -80,6 +90,14 @@ ReadsSlot s r t d None = ⊥
 ReadsSlot s r t d (Some None) = (r ≡ reply.Empty) × (t ≡ with_key s d None)
 ReadsSlot s r t d (Some (Some k)) = (r ≡ reply.Yes) × (t ≡ with_key s d (Some k))
 
+-- a count answers how many bindings there are at some moment, and keys may go while it is made
+pub record Tallies (s : TableState) (r : LineReply) (t : TableState) : Type 0 where
+  pub goes : MayGo s t
+  pub number : ℕ
+  pub answers : r ≡ reply.Counted number
+  pub most : number ≤ length s.bindings
+  pub least : length t.bindings ≤ number
+
 -- what a line answers and leaves, once what may go has gone
 abbrev pub Effect : TableState → TableLine → LineReply → TableState → Type 0
 Effect s (Key r) a t = (a ≡ reply.Done) × ((k : Label) × IsNew s k × (t ≡ with_key s r (Some k)))
@@ -89,7 +107,7 @@ Effect s (Get r) a t = WithKey (key_in s r) s a t (λ k. Shows (datum_at s.bindi
 Effect s (Del r) a t = WithKey (key_in s r) s a t (λ k. Deletes k s a t (datum_at s.bindings k))
 Effect s (SetWeak i r) a t = WithKey (key_in s r) s a t (λ k. (a ≡ reply.Done) × (t ≡ record s { slots = slice_set s.slots i (Some k) }))
 Effect s (GetWeak d i) a t = ReadsSlot s a t d (slice_get s.slots i)
-Effect s Count a t = (a ≡ reply.Counted (length s.bindings)) × (t ≡ s)
+Effect s Count a t = Tallies s a t
 Effect s FullMajor a t = (a ≡ reply.Done) × (t ≡ s) × AllGone s
 
 -- how many labels a line may make

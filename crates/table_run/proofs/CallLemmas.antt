@@ -1,26 +1,23 @@
 -- The lines of one call that writes no block: a look-up, a key that isn't bound, a slot that is read, and a count.
-use Rattle.std.proofs.Common.{◌≡◌, inl, ℕ, ◌+◌, ◌-◌, ◌≤◌, ℤ, List, [], ◌∷◌, ◌++◌, Option, Some, None, refl, ap, sym, ◌∙◌, subst, arith}
+use Rattle.std.proofs.Common.{◌≡◌, inl, ℕ, ◌+◌, ◌-◌, ◌≤◌, ℤ, List, [], ◌∷◌, ◌++◌, length, Option, Some, None, refl, ap, sym, ◌∙◌, subst, arith}
 use Rattle.heap_model.specs.declared.label.Label.{Label}
 use Rattle.heap_model.specs.declared.entry.Entry.{Entry}
 use Rattle.heap_model.specs.declared.reply.Reply.{Reply}
 use Rattle.heap_model.specs.declared.reply.Reply.TheVariants as given
 use Rattle.heap_model.specs.declared.graph.Value.{Value}
 use Rattle.heap_model.specs.declared.graph.Value.TheVariants.{Int, Block, Nothing}
+use Rattle.heap_model.specs.declared.state.Mode.TheVariants.{Open}
 use Rattle.heap_model.specs.declared.state.Sizes.{Sizes}
 use Rattle.heap_model.specs.Graph.{label_of}
 use Rattle.heap_model.specs.Domains.{IsWithinLimits}
 use Rattle.heap_model.specs.Commands.{key_value, shown}
 use Rattle.heap_model.specs.History.{IsPrefix}
-use Rattle.table_laws.specs.Structures.{bindings, datum_at, slot_keys, IsTable, IsWeakArray}
-use Rattle.table_laws.specs.Thinning.{WasOutside}
+use Rattle.table_laws.specs.Structures.{Binding, bindings, datum_at, IsTable}
+use Rattle.table_laws.specs.Thinning.{WasOutside, state_of}
 use Rattle.table_laws.specs.Performing.{refusals, writings, full_of}
 use Rattle.table_laws.specs.Stages.{Goes, graph_of, held_in}
-use Rattle.table_laws.proofs.BindingLemmas.{thinned_datum, thinned_more}
-use Rattle.table_laws.proofs.ArrayLemmas.{emptied_more}
-use Rattle.table_laws.proofs.ChangeLemmas.{table_kept, bindings_thinned, array_kept}
-use Rattle.table_laws.proofs.RefusalLemmas.{refusals-append}
-use Rattle.table_laws.proofs.WritingLemmas.{writings-append}
-use Rattle.table_laws.proofs.LawLemmas.{keys_emptied}
+use Rattle.table_laws.proofs.BindingLemmas.{thinned_datum}
+use Rattle.table_laws.proofs.ChangeLemmas.{table_kept}
 use Rattle.table_laws.proofs.StageLemmas.{since_outside}
 use Rattle.weak_tables.specs.Commands.{value_of}
 use Rattle.weak_tables.specs.Tables.{Gets, GetAnswers, Counts}
@@ -28,9 +25,9 @@ use Rattle.table_text.specs.declared.line.TableLine.{TableLine}
 use Rattle.table_text.specs.declared.line.TableLine.TheVariants as line
 use Rattle.table_machine.specs.declared.reply.LineReply.{LineReply}
 use Rattle.table_machine.specs.declared.reply.LineReply.TheVariants as reply
-use Rattle.table_machine.specs.Machine.{Effect, LineStep, TableState, MayGo, IsLost, key_in, WithKey, Shows}
-use Rattle.table_run.specs.Standing.{Places, Shown, Stands}
-use Rattle.table_run.specs.Running.{LineDone, MakesNew, full_in, said}
+use Rattle.table_machine.specs.Machine.{Effect, TableState, Tallies, MayGo, key_in, WithKey, Shows}
+use Rattle.table_run.specs.Standing.{Places, Stands}
+use Rattle.table_run.specs.Running.{LineDone, MakesNew, WasCounted, full_in, said}
 use Rattle.table_run.proofs.MachineLemmas.{may_same, datum_int, place_holds}
 use Rattle.table_run.proofs.RegisterLemmas.{register_at}
 use Rattle.table_run.proofs.StandLemmas.{outside_lost, others_clean, keeps_high, left_with, frame_goes, frame_same, line_ends}
@@ -44,10 +41,10 @@ pub held_key : (z : Sizes) (p : Places) (s : TableState) (old : List Entry) → 
 held_key z p s old x r low high = ap label_of (x.shown.registers r low high) ∙ label_key (key_in s r)
 
 -- a call that did nothing
-pub nothing_done : (z : Sizes) (p : Places) (s : TableState) (old new : List Entry) → Stands z p s old → (lines : List TableLine) (l : TableLine) (a : LineReply) → Effect s l a s → MakesNew z old l a s → refusals new ≡ refusals old + full_in a → new ≡ old → LineDone z p lines l s old a new
-nothing_done z p s old new x lines l a effect fresh refused same =
+pub nothing_done : (z : Sizes) (p : Places) (s : TableState) (old new : List Entry) → Stands z p s old → (lines : List TableLine) (l : TableLine) (a : LineReply) → Effect s l a s → MakesNew z old l a s → WasCounted z p old l a old → refusals new ≡ refusals old + full_in a → new ≡ old → LineDone z p lines l s old a new
+nothing_done z p s old new x lines l a effect fresh counted refused same =
     subst (λ (h : List Entry). LineDone z p lines l s old a h) (sym same)
-    (line_ends z p lines l s old a s old (record { left = s; goes = may_same s; does = inl effect }) fresh (record { rest = []; appends = sym (end old) }) (sym (ap refusals same) ∙ refused) x)
+    (line_ends z p lines l s old a s old (record { left = s; goes = may_same s; does = inl effect }) fresh counted (record { rest = []; appends = sym (end old) }) (sym (ap refusals same) ∙ refused) x)
   where
     end : (h : List Entry) → h ++ [] ≡ h
     end [] = refl
@@ -64,9 +61,6 @@ module _ (z : Sizes) (limits : IsWithinLimits z) (p : Places) (s : TableState) (
   abbrev pub left : TableState
   left = left_with z p s old new x (WasOutside z old new) goes.changes (outside_lost z p s old new x quiet) s.registers
 
-  pub read_goes : MayGo s left
-  read_goes = frame_goes z p s old new x (WasOutside z old new) goes.changes (outside_lost z p s old new x quiet)
-
   pub read_stands : ((r : ℕ) → 8 ≤ r → held_in z new r ≡ Nothing) → Stands z p left new
   read_stands others = frame_same z p s old new x (WasOutside z old new) goes.changes (outside_lost z p s old new x quiet)
       (λ r low high. register_at z old new new r low high goes.grows (record { rest = []; appends = sym (end new) }) quiet) others
@@ -75,9 +69,13 @@ module _ (z : Sizes) (limits : IsWithinLimits z) (p : Places) (s : TableState) (
       end [] = refl
       end (e ∷ h) = ap (λ (t : List Entry). e ∷ t) (end h)
 
+  pub read_goes : ((r : ℕ) → 8 ≤ r → held_in z new r ≡ Nothing) → (state_of z new).mode ≡ Open → MayGo s left
+  read_goes others calm = frame_goes z p s old new x (WasOutside z old new) goes.changes (outside_lost z p s old new x quiet) s.registers (read_stands others) goes.legal calm (λ k w. w)
+
   -- a line whose effect is what the machine shows of what is left
-  pub read_line : (lines : List TableLine) (l : TableLine) (a : LineReply) → Effect left l a left → MakesNew z old l a left → refusals new ≡ refusals old + full_in a → ((r : ℕ) → 8 ≤ r → held_in z new r ≡ Nothing) → LineDone z p lines l s old a new
-  read_line lines l a effect fresh refused others = line_ends z p lines l s old a left new (record { left = left; goes = read_goes; does = inl effect }) fresh goes.grows refused (read_stands others)
+  pub read_line : (lines : List TableLine) (l : TableLine) (a : LineReply) → Effect left l a left → MakesNew z old l a left → WasCounted z p old l a new → refusals new ≡ refusals old + full_in a → ((r : ℕ) → 8 ≤ r → held_in z new r ≡ Nothing) → (state_of z new).mode ≡ Open → LineDone z p lines l s old a new
+  read_line lines l a effect fresh counted refused others calm =
+      line_ends z p lines l s old a left new (record { left = left; goes = read_goes others calm; does = inl effect }) fresh counted goes.grows refused (read_stands others)
 
   -- a key that a register holds isn't taken from a front of the call on
   pub not_taken : (r : ℕ) (k : Label) (front : List Entry) → key_in s r ≡ Some k → IsPrefix old front → WasOutside z front new k → ⊥
@@ -93,12 +91,12 @@ get_found z limits p s old new x lines r k rep key g quiet refused =
     let datum : datum_at (bindings (graph_of z new) x.shown.chains) k ≡ g.found = thinned_datum (WasOutside z g.front new) k (not_taken z limits p s old new x goes quiet r k g.front key g.since) _ _ g.rest.thinned ∙ g.bound in
     let shows : Shows (datum_at t.bindings k) (said rep) =
     subst (λ (o : Option Value). Shows o (said rep)) (sym datum) (subst (λ (a : Reply). Shows g.found (said a)) (sym g.answers) (shows_found g.found (λ v is. datum_int k t.bindings v stands.ints (datum ∙ is)))) in
-    read_line z limits p s old new x goes quiet lines (line.Get r) (said rep) (subst (λ (o : Option Label). WithKey o t (said rep) t (λ j. Shows (datum_at t.bindings j) (said rep) × (t ≡ t))) (sym key) (shows, refl)) tt refused stands.others
+    read_line z limits p s old new x goes quiet lines (line.Get r) (said rep) (subst (λ (o : Option Label). WithKey o t (said rep) t (λ j. Shows (datum_at t.bindings j) (said rep) × (t ≡ t))) (sym key) (shows, refl)) tt tt refused stands.others g.clean.calm
 
 pub get_line : (z : Sizes) (limits : IsWithinLimits z) (p : Places) (s : TableState) (old new : List Entry) (x : Stands z p s old) (lines : List TableLine) (r : ℕ) (rep : Reply) → (o : Option Label) → key_in s r ≡ o → GetAnswers z old new p.table x.shown.chains 0 o rep
     → writings new ≤ writings old → refusals new ≡ refusals old + full_in (said rep) → LineDone z p lines (line.Get r) s old (said rep) new
 get_line z limits p s old new x lines r rep None key (bad, same) quiet refused =
-    nothing_done z p s old new x lines (line.Get r) (said rep) (subst (λ (o : Option Label). WithKey o s (said rep) s (λ j. Shows (datum_at s.bindings j) (said rep) × (s ≡ s))) (sym key) (ap said bad, refl)) tt refused same
+    nothing_done z p s old new x lines (line.Get r) (said rep) (subst (λ (o : Option Label). WithKey o s (said rep) s (λ j. Shows (datum_at s.bindings j) (said rep) × (s ≡ s))) (sym key) (ap said bad, refl)) tt tt refused same
 get_line z limits p s old new x lines r rep (Some k) key g quiet refused = get_found z limits p s old new x lines r k rep key g quiet refused
 
 -- the reply of a call, and of a line
@@ -116,42 +114,23 @@ said_full (given.Live blocks words) = refl
 said_full (given.Fin number label) = refl
 said_full (given.Last number) = refl
 
--- `count`: the line is over at a front on the way
+-- `count`
 pub count_line : (z : Sizes) (limits : IsWithinLimits z) (p : Places) (s : TableState) (old new : List Entry) (x : Stands z p s old) (lines : List TableLine) (n : ℕ) → Counts z old new p.table x.shown.chains n → writings new ≡ writings old → refusals new ≡ refusals old
     → LineDone z p lines line.Count s old (reply.Counted n) new
 count_line z limits p s old new x lines n c quiet none =
     let chains = x.shown.chains in
-    let front = c.front in
-    let w1 : writings front ≡ writings old + writings c.before.grows.rest = ap writings c.before.grows.appends ∙ writings-append old c.before.grows.rest in
-    let w2 : writings new ≡ writings front + writings c.behind.grows.rest = ap writings c.behind.grows.appends ∙ writings-append front c.behind.grows.rest in
-    let r1 : refusals front ≡ refusals old + refusals c.before.grows.rest = ap refusals c.before.grows.appends ∙ refusals-append old c.before.grows.rest in
-    let r2 : refusals new ≡ refusals front + refusals c.behind.grows.rest = ap refusals c.behind.grows.appends ∙ refusals-append front c.behind.grows.rest in
     let few : writings new ≤ writings old = omega (arith, quiet) in
-    let early : writings front ≤ writings old = omega (arith, w2, quiet) in
     let goes : Goes z old new [] = c.leaves.reads.goes in
-    let t : TableState = record { registers = s.registers; bindings = bindings (graph_of z front) chains; slots = slot_keys (graph_of z front) p.slots } in
-    let table : IsTable (graph_of z front) p.table chains = table_kept (WasOutside z old front) [] (graph_of z old) (graph_of z front) c.before.changes p.table chains (λ l h. refl) x.shown.table in
-    let array : IsWeakArray (graph_of z front) p.array p.slots = array_kept (WasOutside z old front) [] (graph_of z old) (graph_of z front) c.before.changes p.array p.slots (λ l h. refl) x.shown.array in
-    let lost : (k : Label) → WasOutside z front new k → IsLost s k = λ k gone. outside_lost z p s old new x few k (since_outside z old front new k c.before.grows gone) in
-    let thin = bindings_thinned (WasOutside z front new) [] (graph_of z front) (graph_of z new) c.behind.changes p.table chains (λ l h. refl) table in
-    let emptied = keys_emptied (WasOutside z front new) [] (graph_of z front) (graph_of z new) c.behind.changes p.slots (λ l h. refl) array.weak in
-    let step : LineStep z lines line.Count s (reply.Counted n) t =
-    record { left = t; goes = frame_goes z p s old front x (WasOutside z old front) c.before.changes (outside_lost z p s old front x early); does = inl (ap reply.Counted (sym c.number), refl) } in
-    let seen : Shown z p t front = record {
-      chains = chains;
-      table = table;
-      array = array;
-      registers = λ r low high. register_at z old front new r low (omega arith) c.before.grows c.behind.grows few ∙ x.shown.registers r low high;
-      bindings_are = refl;
-      slots_are = refl;
+    let t : TableState = left z limits p s old new x goes few in
+    let others = others_clean z old new x.others (keeps_high z old new c.keeps) c.leaves.clean in
+    let table : IsTable (graph_of z c.front) p.table chains = table_kept (WasOutside z old c.front) [] (graph_of z old) (graph_of z c.front) c.before.changes p.table chains (λ l h. refl) x.shown.table in
+    let tallies : Tallies s (reply.Counted n) t = record {
+      goes = read_goes z limits p s old new x goes few others c.leaves.clean.calm;
+      number = n;
+      answers = refl;
+      most = subst (λ (bs : List Binding). n ≤ length bs) x.shown.bindings_are c.many;
+      least = c.few;
     } in
-    record {
-      after = t;
-      front = front;
-      runs = record { step = step; fresh = tt; grows = c.before.grows; shown = seen; refused = omega (arith, r1, r2, none) };
-      until = c.behind.grows;
-      given = omega (arith, r1, r2, none);
-      left = left z limits p s old new x goes few;
-      goes = record { registers = refl; bindings = thinned_more (WasOutside z front new) (IsLost s) lost _ _ thin; slots = emptied_more (WasOutside z front new) (IsLost s) lost _ _ emptied };
-      stands = read_stands z limits p s old new x goes few (others_clean z old new x.others (keeps_high z old new c.keeps) c.leaves.clean);
-    }
+    line_ends z p lines line.Count s old (reply.Counted n) t new (record { left = s; goes = may_same s; does = inl tallies }) tt
+    (record { chains = chains; front = c.front; since = c.before.grows; until = c.behind.grows; table = table; answers = ap reply.Counted (sym c.number) })
+    goes.grows (omega (arith, none)) (read_stands z limits p s old new x goes few others)

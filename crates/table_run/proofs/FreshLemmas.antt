@@ -14,16 +14,17 @@ use Rattle.heap_model.proofs.Histories.HistoryLemmas.{state_after-append}
 use Rattle.heap_model.proofs.Histories.NumberLemmas.{node_at-no_label}
 use Rattle.table_laws.specs.Thinning.{state_of}
 use Rattle.table_laws.specs.Stages.{graph_of}
+use Rattle.table_laws.proofs.StageLemmas.{prefix_trans}
 use Rattle.table_text.specs.declared.line.TableLine.{TableLine}
 use Rattle.table_text.specs.declared.line.TableLine.TheVariants.{Key, Forget, Put, Get, Del, SetWeak, GetWeak, Count, FullMajor}
 use Rattle.table_machine.specs.declared.reply.LineReply.{LineReply}
 use Rattle.table_machine.specs.declared.reply.LineReply.TheVariants as reply
 use Rattle.table_machine.specs.Machine.{TableState, key_in}
 use Rattle.table_run.specs.Standing.{Places}
-use Rattle.table_run.specs.Running.{LineRuns, MakesNew}
+use Rattle.table_run.specs.Running.{LineRuns, MakesNew, WasCounted}
 
 -- no entry removes a label
-labels_go_on : (s : State) (h : List Entry) (l : Label) → IsTrue (has_label (labels s.graph) l) → IsTrue (has_label (labels (state_after s h).graph) l)
+pub labels_go_on : (s : State) (h : List Entry) (l : Label) → IsTrue (has_label (labels s.graph) l) → IsTrue (has_label (labels (state_after s h).graph) l)
 labels_go_on s [] l there = there
 labels_go_on s (e ∷ h) l there = labels_go_on (next s e) h l (labels_stay_law s e l there)
 
@@ -58,6 +59,18 @@ makes_before z old new (SetWeak i r) a t grows made = tt
 makes_before z old new (GetWeak d i) a t grows made = tt
 makes_before z old new Count a t grows made = tt
 makes_before z old new FullMajor a t grows made = tt
+
+-- a count on the way from one front is one on the way from an earlier front
+pub counted_before : (z : Sizes) (p : Places) (old mid : List Entry) (l : TableLine) (a : LineReply) (new : List Entry) → IsPrefix old mid → WasCounted z p mid l a new → WasCounted z p old l a new
+counted_before z p old mid Count a new grows c = record { chains = c.chains; front = c.front; since = prefix_trans old mid c.front grows c.since; until = c.until; table = c.table; answers = c.answers }
+counted_before z p old mid (Key r) a new grows c = tt
+counted_before z p old mid (Forget r) a new grows c = tt
+counted_before z p old mid (Put r v) a new grows c = tt
+counted_before z p old mid (Get r) a new grows c = tt
+counted_before z p old mid (Del r) a new grows c = tt
+counted_before z p old mid (SetWeak i r) a new grows c = tt
+counted_before z p old mid (GetWeak d i) a new grows c = tt
+counted_before z p old mid FullMajor a new grows c = tt
 
 -- a line that is answered `full` makes none
 pub full_makes_none : (z : Sizes) (old : List Entry) (l : TableLine) (t : TableState) → MakesNew z old l reply.Full t

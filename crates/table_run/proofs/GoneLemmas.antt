@@ -1,8 +1,8 @@
 -- What a `full_major` line leaves: the keys that a register holds.
-use Rattle.std.proofs.Common.{◌≡◌, ◌⊎◌, inl, inr, ⊎_elim, ℕ, zero, suc, ◌-◌, ◌≤◌, Bool, true, IsTrue, List, [], ◌∷◌, ◌++◌, map, length, count_by, flat_map, filter_map, get_or, Option, Some, None, refl, ap, sym, ◌∙◌, subst, arith}
+use Rattle.std.proofs.Common.{◌≡◌, ◌⊎◌, inl, inr, ⊎_elim, ℕ, zero, suc, ◌-◌, ◌≤◌, true, IsTrue, List, [], ◌∷◌, ◌++◌, map, length, count_by, flat_map, filter_map, get_or, Option, Some, None, refl, ap, sym, ◌∙◌, subst, arith}
 use Rattle.std.specs.List.{list_all}
 use Rattle.heap_model.specs.declared.label.Label.{Label}
-use Rattle.heap_model.specs.declared.command.Command.TheVariants.{Forget, FullMajor}
+use Rattle.heap_model.specs.declared.command.Command.TheVariants.{FullMajor}
 use Rattle.heap_model.specs.declared.entry.Entry.{Entry}
 use Rattle.heap_model.specs.declared.entry.Entry.TheVariants.{Command as CommandOf, End, Cut, Queue, Seal, Wipe, Last as LastOf, Collected, Done as DoneOf, Ran}
 use Rattle.heap_model.specs.declared.reply.Reply.{Reply}
@@ -37,7 +37,7 @@ use Rattle.table_laws.specs.Stages.{graph_of, held_in}
 use Rattle.table_laws.proofs.CollectorLemmas.{held_reached}
 use Rattle.table_laws.proofs.LawLemmas.{table_keys_held}
 use Rattle.table_laws.proofs.OnceLemmas.{not_both}
-use Rattle.table_laws.proofs.StepLemmas.{kept, left_is, legal_parts, not_full}
+use Rattle.table_laws.proofs.StepLemmas.{kept, legal_parts}
 use Rattle.weak_tables.specs.Held.{AllHave, IsBare, IsTidy}
 use Rattle.weak_tables.proofs.RegisteredLemmas.{none_between}
 use Rattle.table_machine.specs.Machine.{AllGone, Holds, TableState, key_in}
@@ -70,13 +70,6 @@ live_next s DoneOf mine allowed = λ is. cc
 live_after : (s : State) (h : List Entry) → LegalFrom s h → AllCollector h → Live s → Live (state_after s h)
 live_after s [] legal mine live = live
 live_after s (e ∷ h) legal mine live = live_after (next s e) h legal.1 (and_right (is_collector e) _ mine) (live_next s e (and_left (is_collector e) _ mine) legal.0)
-
--- no collection is under way where a register was emptied
-pub forget_open : (z : Sizes) (limits : IsWithinLimits z) (old mid : List Entry) (a : Reply) → Performed z old mid (Forget 0) a → (state_of z mid).mode ≡ Open
-forget_open z limits old mid a q =
-    let front : List Entry = old ++ q.between in
-    let legal = legal_parts (opening z) front (CommandOf 0 (Forget 0) q.full ∷ []) (subst (Legal z) q.appends q.legal) in
-    ap (λ (t : State). t.mode) (left_is z limits old mid (Forget 0) a q ∙ ap (λ (b : Bool). next (state_of z front) (CommandOf 0 (Forget 0) b)) (not_full z limits old mid (Forget 0) a q refl)) ∙ legal.1.0.fits.0
 
 -- nothing is left of what was never registered
 none_counted : (qs : List Pending) → count_by (λ q. true) qs ≤ 0 → qs ≡ []

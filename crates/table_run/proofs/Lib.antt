@@ -3,6 +3,7 @@ pub mod MachineLemmas
 pub mod RefusalLemmas
 pub mod FreshLemmas
 pub mod SettledLemmas
+pub mod TakenLemmas
 pub mod StandLemmas
 pub mod LineLemmas
 pub mod CallLemmas

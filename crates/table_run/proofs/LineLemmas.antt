@@ -5,12 +5,13 @@ use Rattle.heap_model.specs.declared.entry.Entry.{Entry}
 use Rattle.heap_model.specs.declared.graph.Value.{Value}
 use Rattle.heap_model.specs.declared.graph.Value.TheVariants.{Block, Nothing}
 use Rattle.heap_model.specs.declared.graph.Node.{Node}
+use Rattle.heap_model.specs.declared.state.Mode.TheVariants.{Open}
 use Rattle.heap_model.specs.declared.state.Sizes.{Sizes}
 use Rattle.heap_model.specs.Graph.{node_at}
 use Rattle.heap_model.specs.Domains.{IsWithinLimits}
 use Rattle.heap_model.specs.Commands.{key_value}
 use Rattle.table_laws.specs.Structures.{keys_of}
-use Rattle.table_laws.specs.Thinning.{Went}
+use Rattle.table_laws.specs.Thinning.{Went, state_of}
 use Rattle.table_laws.specs.Performing.{After, refusals, registers_of}
 use Rattle.table_laws.specs.Stages.{graph_of, held_in}
 use Rattle.table_laws.proofs.OnceLemmas.{lacks}
@@ -18,12 +19,12 @@ use Rattle.weak_tables.proofs.SearchLemmas.{set_here, set_other}
 use Rattle.table_text.specs.declared.line.TableLine.{TableLine}
 use Rattle.table_text.specs.declared.line.TableLine.TheVariants as line
 use Rattle.table_machine.specs.declared.reply.LineReply.TheVariants as reply
-use Rattle.table_machine.specs.Machine.{TableState, MayGo, Holds, with_key, MayBeRefused}
+use Rattle.table_machine.specs.Machine.{TableState, MayGo, IsThere, Holds, with_key, MayBeRefused}
 use Rattle.table_run.specs.Standing.{Places, Stands, IsKnown, key_node}
-use Rattle.table_run.specs.Running.{LineDone}
+use Rattle.table_run.specs.Running.{LineDone, WasCounted}
 use Rattle.table_run.proofs.FreshLemmas.{full_makes_none}
 use Rattle.table_run.proofs.MachineLemmas.{known_before}
-use Rattle.table_run.proofs.StandLemmas.{went_lost, left_with, frame_goes, frame_key, frame_stands, frame_same, line_ends}
+use Rattle.table_run.proofs.StandLemmas.{went_lost, left_with, frame_goes, frame_goes_by, frame_key, frame_stands, frame_same, line_ends}
 
 pub same_or_other : (a b : ℕ) → (a ≡ b) ⊎ (a ≢ b)
 same_or_other zero zero = inl refl
@@ -44,8 +45,11 @@ module _ (z : Sizes) (limits : IsWithinLimits z) (p : Places) (s : TableState) (
     abbrev pub after_with : List (Option Label) → TableState
     after_with keys = left_with z p s old new x (Went z old new) after.changes (went_lost z p s old new x) keys
 
-    pub after_goes : MayGo s (after_with s.registers)
-    after_goes = frame_goes z p s old new x (Went z old new) after.changes (went_lost z p s old new x)
+    pub after_goes : (keys : List (Option Label)) → Stands z p (after_with keys) new → (state_of z new).mode ≡ Open → MayGo s (after_with s.registers)
+    after_goes keys y calm = frame_goes z p s old new x (Went z old new) after.changes (went_lost z p s old new x) keys y after.legal calm (λ k w. w.was)
+
+    pub after_goes_by : ((k : Label) → IsThere (after_with s.registers) k → Holds s.registers k) → MayGo s (after_with s.registers)
+    after_goes_by held = frame_goes_by z p s old new x (Went z old new) after.changes (went_lost z p s old new x) (λ k w there. went_lost z p s old new x k w (held k there))
 
     pub after_key : (k : Label) → IsKnown s k → node_at (graph_of z new) k ≡ Some key_node
     after_key = frame_key z p s old new x (Went z old new) after.changes (went_lost z p s old new x)
@@ -91,30 +95,32 @@ module _ (z : Sizes) (limits : IsWithinLimits z) (p : Places) (s : TableState) (
         (λ k held. ⊎_elim (λ same. node k same) (λ before. after_key (set (registers_of z old) r v) after k (inl before)) (holds_set s.registers (r - 1) key k held))
 
   -- `forget R`
-  pub forget_line : (lines : List TableLine) (r : ℕ) → 1 ≤ r → r ≤ 5 → After z old new [] (set (registers_of z old) r Nothing) → refusals new ≡ refusals old → LineDone z p lines (line.Forget r) s old reply.Done new
-  forget_line lines r low high after none =
+  pub forget_line : (lines : List TableLine) (r : ℕ) → 1 ≤ r → r ≤ 5 → After z old new [] (set (registers_of z old) r Nothing) → (state_of z new).mode ≡ Open → refusals new ≡ refusals old → LineDone z p lines (line.Forget r) s old reply.Done new
+  forget_line lines r low high after calm none =
+      let y = stands_set r low high None after (λ k is. cc) in
       line_ends z p lines (line.Forget r) s old reply.Done (with_key (after_with _ after s.registers) r None) new
-      (record { left = after_with _ after s.registers; goes = after_goes _ after; does = inl (refl, refl) }) tt after.grows (omega arith)
-      (stands_set r low high None after (λ k is. cc))
+      (record { left = after_with _ after s.registers; goes = after_goes _ after _ y calm; does = inl (refl, refl) }) tt tt after.grows (omega arith) y
 
   -- `key R`
-  pub key_line : (lines : List TableLine) (r : ℕ) (l : Label) → 1 ≤ r → r ≤ 5 → After z old new [] (set (registers_of z old) r (Block l)) → node_at (graph_of z old) l ≡ None → node_at (graph_of z new) l ≡ Some key_node → refusals new ≡ refusals old
+  pub key_line : (lines : List TableLine) (r : ℕ) (l : Label) → 1 ≤ r → r ≤ 5 → After z old new [] (set (registers_of z old) r (Block l)) → (state_of z new).mode ≡ Open → node_at (graph_of z old) l ≡ None → node_at (graph_of z new) l ≡ Some key_node → refusals new ≡ refusals old
       → LineDone z p lines (line.Key r) s old reply.Done new
-  key_line lines r l low high after fresh made none =
+  key_line lines r l low high after calm fresh made none =
       let left = after_with _ after s.registers in
       let unknown : IsKnown s l → ⊥ = λ known. (let clash : ◌≡◌ {A = Option Node} None (Some key_node) = sym fresh ∙ x.keys l known in cc) in
-      let before : IsKnown left l → IsKnown s l = λ known. known_before s left l (after_goes _ after) known in
+      let y = stands_set r low high (Some l) after (λ k is. let same : l ≡ k = cc in subst (λ (m : Label). node_at (graph_of z new) m ≡ Some key_node) same made) in
+      let goes : MayGo s left = after_goes _ after _ y calm in
+      let before : IsKnown left l → IsKnown s l = λ known. known_before s left l goes known in
       line_ends z p lines (line.Key r) s old reply.Done (with_key left r (Some l)) new
       (record {
         left = left;
-        goes = after_goes _ after;
+        goes = goes;
         does = inl (refl, (l, record { lost = λ held. unknown (inl held); unbound = lacks (keys_of left.bindings) l (λ bound. unknown (before (inr (inl bound)))); unset = λ held. unknown (before (inr (inr held))) }, refl));
       })
-      (λ done. (l, get_or-set_same s.registers (r - 1) (Some l) None (let five = x.five in omega arith), fresh)) after.grows (omega arith)
-      (stands_set r low high (Some l) after (λ k is. let same : l ≡ k = cc in subst (λ (m : Label). node_at (graph_of z new) m ≡ Some key_node) same made))
+      (λ done. (l, get_or-set_same s.registers (r - 1) (Some l) None (let five = x.five in omega arith), fresh)) tt after.grows (omega arith) y
 
   -- a line whose one command is answered `full`
-  pub full_line : (lines : List TableLine) (l : TableLine) → (after : After z old new [] (registers_of z old)) → MayBeRefused z lines l (after_with (registers_of z old) after s.registers) → refusals new ≡ refusals old + 1 → LineDone z p lines l s old reply.Full new
-  full_line lines l after may one =
-      let left = after_with _ after s.registers in
-      line_ends z p lines l s old reply.Full left new (record { left = left; goes = after_goes _ after; does = inr (refl, refl, may) }) (full_makes_none z old l left) after.grows one (stands_reading after)
+  pub full_line : (lines : List TableLine) (l : TableLine) → WasCounted z p old l reply.Full new → (after : After z old new [] (registers_of z old)) → (state_of z new).mode ≡ Open → MayBeRefused z lines l (after_with (registers_of z old) after s.registers) → refusals new ≡ refusals old + 1 → LineDone z p lines l s old reply.Full new
+  full_line lines l counted after calm may one =
+      let left = after_with (registers_of z old) after s.registers in
+      let y = stands_reading after in
+      line_ends z p lines l s old reply.Full left new (record { left = left; goes = after_goes _ after _ y calm; does = inr (refl, refl, may) }) (full_makes_none z old l left) counted after.grows one y

@@ -7,6 +7,7 @@ use Rattle.heap_model.specs.declared.reply.Reply.{Reply}
 use Rattle.heap_model.specs.declared.reply.Reply.TheVariants as given
 use Rattle.heap_model.specs.declared.graph.Value.{Value}
 use Rattle.heap_model.specs.declared.graph.Value.TheVariants.{Int, Block, Nothing}
+use Rattle.heap_model.specs.declared.state.Mode.TheVariants.{Open}
 use Rattle.heap_model.specs.declared.state.Sizes.{Sizes}
 use Rattle.heap_model.specs.Graph.{label_of}
 use Rattle.heap_model.specs.Domains.{IsWithinLimits, domain_at, opening}
@@ -20,7 +21,7 @@ use Rattle.weak_tables.proofs.SearchLemmas.{set_here}
 use Rattle.table_laws.specs.Performing.{Performed, After, refusals, full_of, writings, registers_of}
 use Rattle.table_laws.specs.Stages.{graph_of, held_in}
 use Rattle.table_laws.proofs.RefusalLemmas.{performed_refusals, performed_given}
-use Rattle.table_laws.proofs.StepLemmas.{put_step, forget_step, alloc_step, copy_step, full_major_step}
+use Rattle.table_laws.proofs.StepLemmas.{step_open, put_step, forget_step, alloc_step, copy_step, full_major_step}
 use Rattle.weak_tables.specs.Held.{HoldsTable, HoldsArray}
 use Rattle.weak_tables.specs.Tables.{GetAnswers, TakeAnswers, PutAnswers, Counts}
 use Rattle.weak_tables.specs.Arrays.{SetAnswers, SlotAnswers}
@@ -31,11 +32,11 @@ use Rattle.table_machine.specs.declared.reply.LineReply.TheVariants as reply
 use Rattle.table_machine.specs.Machine.{AllGone, TableState, HasItsKey, MayGo, MayBeRefused, WithKey, Deletes, Binds, ReadsSlot, key_in, with_key, made_by, all_made}
 use Rattle.table_run.specs.Standing.{Places, Stands, IsStanding}
 use Rattle.table_run.specs.Running.{LineDone, HasGiven, full_in, said}
-use Rattle.table_run.proofs.LineLemmas.{after_with, after_goes, after_key, stands_zero, stands_reading, stands_set, forget_line, key_line, full_line}
+use Rattle.table_run.proofs.LineLemmas.{after_with, after_goes, after_goes_by, after_key, stands_zero, stands_reading, stands_set, forget_line, key_line, full_line}
 use Rattle.table_run.proofs.RefusalLemmas.{used_up}
 use Rattle.table_run.proofs.OwnLemmas.{take_done, put_done, slot_done}
 use Rattle.table_run.proofs.CallLemmas.{held_key, nothing_done, left, read_goes, read_stands, read_line, get_line, said_full, count_line}
-use Rattle.table_run.proofs.GoneLemmas.{forget_open, left_held}
+use Rattle.table_run.proofs.GoneLemmas.{left_held}
 use Rattle.table_run.proofs.StandLemmas.{line_ends, line_later, others_clean, keeps_high}
 
 -- a register holds the table, and one the weak array
@@ -64,7 +65,7 @@ module _ (z : Sizes) (limits : IsWithinLimits z) (old new : List Entry) where
   key_made r rep low high q room p s lines x =
       let count = performed_refusals z old new (Alloc r 0 1) rep q in
       ⊎_elim (λ no. absurd (room no.1))
-      (λ made. key_line z limits p s old new x lines r made.0 low high made.1 made.3 made.4 (count ∙ ap (λ (a : Reply). refusals old + full_of a) made.2 ∙ zero_more (refusals old)))
+      (λ made. key_line z limits p s old new x lines r made.0 low high made.1 (step_open z limits old new (Alloc r 0 1) rep q refl) made.3 made.4 (count ∙ ap (λ (a : Reply). refusals old + full_of a) made.2 ∙ zero_more (refusals old)))
       (alloc_step z limits old new rep r 0 1 q)
     where
       zero_more : (n : ℕ) → n + 0 ≡ n
@@ -75,7 +76,7 @@ module _ (z : Sizes) (limits : IsWithinLimits z) (old new : List Entry) where
   key_refused r rep q full p s before left_old left_new one serial labels given_few x =
       let count : refusals new ≡ refusals old + 1 = performed_refusals z old new (Alloc r 0 1) rep q ∙ ap (λ (a : Reply). refusals old + full_of a) full in
       ⊎_elim
-      (λ no. full_line z limits p s old new x (before ++ line.Key r ∷ []) (line.Key r) no.0
+      (λ no. full_line z limits p s old new x (before ++ line.Key r ∷ []) (line.Key r) tt no.0 (step_open z limits old new (Alloc r 0 1) rep q refl)
       (may_refuse z limits old new left_old left_new before (line.Key r) one no.0.legal no.0.grows (omega (arith, count)) serial labels given_few (λ none. absurd (omega (arith, none))) (after_with z limits p s old new x _ no.0 s.registers) tt) count)
       (λ made. absurd (let clash : given.Block made.0 ≡ given.Full = sym made.2 ∙ full in cc))
       (alloc_step z limits old new rep r 0 1 q)
@@ -85,7 +86,7 @@ module _ (z : Sizes) (limits : IsWithinLimits z) (old new : List Entry) where
   forgotten r rep low high q p s lines x =
       let t = forget_step z limits old new rep r q in
       let count = performed_refusals z old new (Forget r) rep q in
-      forget_line z limits p s old new x lines r low high t.0 (count ∙ (ap (λ (a : Reply). refusals old + full_of a) t.1 ∙ zero_more (refusals old)))
+      forget_line z limits p s old new x lines r low high t.0 (step_open z limits old new (Forget r) rep q refl) (count ∙ (ap (λ (a : Reply). refusals old + full_of a) t.1 ∙ zero_more (refusals old)))
     where
       zero_more : (n : ℕ) → n + 0 ≡ n
       zero_more n = omega arith
@@ -103,7 +104,7 @@ module _ (z : Sizes) (limits : IsWithinLimits z) (old new : List Entry) where
   taken : (r : ℕ) (rep : Reply) → writings new ≡ writings old → refusals new ≡ refusals old + full_of rep → (p : Places) (s : TableState) (lines : List TableLine) (x : Stands z p s old) (o : Option Label) → key_in s r ≡ o
       → TakeAnswers z old new p.table x.shown.chains o rep → LineDone z p lines (line.Del r) s old (said rep) new
   taken r rep quiet count p s lines x None key (bad, same) =
-      nothing_done z p s old new x lines (line.Del r) (said rep) (subst (λ (o : Option Label). WithKey o s (said rep) s (λ j. Deletes j s (said rep) s (datum_at s.bindings j))) (sym key) (ap said bad, refl)) tt
+      nothing_done z p s old new x lines (line.Del r) (said rep) (subst (λ (o : Option Label). WithKey o s (said rep) s (λ j. Deletes j s (said rep) s (datum_at s.bindings j))) (sym key) (ap said bad, refl)) tt tt
       (count ∙ ap (λ (n : ℕ). refusals old + n) (sym (said_full rep))) same
   taken r rep quiet count p s lines x (Some k) key (inl (done, t)) =
       let none : refusals new ≡ refusals old = (let e : refusals new ≡ refusals old + 0 = count ∙ ap (λ (a : Reply). refusals old + full_of a) done in omega (arith, e)) in
@@ -114,8 +115,8 @@ module _ (z : Sizes) (limits : IsWithinLimits z) (old new : List Entry) where
       let goes = leaves.reads.goes in
       let t = left z limits p s old new x goes few in
       read_line z limits p s old new x goes few lines (line.Del r) (said rep)
-      (subst (λ (o : Option Label). WithKey o t (said rep) t (λ j. Deletes j t (said rep) t (datum_at t.bindings j))) (sym key) (subst (λ (o : Option Value). Deletes k t (said rep) t o) (sym none) (ap said empty, refl))) tt
-      (count ∙ ap (λ (n : ℕ). refusals old + n) (sym (said_full rep))) (others_clean z old new x.others (keeps_high z old new keeps) leaves.clean)
+      (subst (λ (o : Option Label). WithKey o t (said rep) t (λ j. Deletes j t (said rep) t (datum_at t.bindings j))) (sym key) (subst (λ (o : Option Value). Deletes k t (said rep) t o) (sym none) (ap said empty, refl))) tt tt
+      (count ∙ ap (λ (n : ℕ). refusals old + n) (sym (said_full rep))) (others_clean z old new x.others (keeps_high z old new keeps) leaves.clean) leaves.clean.calm
 
   pub deleted : (r : ℕ) (rep : Reply) → 1 ≤ r → r ≤ 5 → writings new ≡ writings old → refusals new ≡ refusals old + full_of rep
       → ((root : Label) (chains : List (List Cell)) → held_in z old 6 ≡ Block root → IsTable (graph_of z old) root chains → TakeAnswers z old new root chains (label_of (held_in z old r)) rep)
@@ -132,8 +133,8 @@ module _ (z : Sizes) (limits : IsWithinLimits z) (old new : List Entry) where
       let goes = spares.reads.goes in
       let t = left z limits p s old new x goes few in
       read_line z limits p s old new x goes few lines (line.SetWeak i r) (said rep)
-      (subst (λ (o : Option Label). WithKey o t (said rep) t (λ k. (said rep ≡ reply.Done) × (t ≡ record t { slots = set t.slots i (Some k) }))) (sym key) (ap said bad, refl)) tt
-      (count ∙ ap (λ (n : ℕ). refusals old + n) (sym (said_full rep))) (others_clean z old new x.others (keeps_high z old new spares.keeps) clean)
+      (subst (λ (o : Option Label). WithKey o t (said rep) t (λ k. (said rep ≡ reply.Done) × (t ≡ record t { slots = set t.slots i (Some k) }))) (sym key) (ap said bad, refl)) tt tt
+      (count ∙ ap (λ (n : ℕ). refusals old + n) (sym (said_full rep))) (others_clean z old new x.others (keeps_high z old new spares.keeps) clean) clean.calm
   slot_taken i r rep below quiet count p s lines x (Some e) (Some k) at key (done, t) =
       let none : refusals new ≡ refusals old = (let e : refusals new ≡ refusals old + 0 = count ∙ ap (λ (a : Reply). refusals old + full_of a) done in omega (arith, e)) in
       subst (λ (a : Reply). LineDone z p lines (line.SetWeak i r) s old (said a) new) (sym done)
@@ -157,7 +158,8 @@ stands_put : (z : Sizes) (limits : IsWithinLimits z) (old mid : List Entry) (w :
 stands_put z limits old mid w rep q p s x =
     let t = put_step z limits old mid rep 0 w q in
     let count : refusals mid ≡ refusals old + 0 = performed_refusals z old mid (PutInt 0 w) rep q ∙ ap (λ (a : Reply). refusals old + full_of a) t.1 in
-    (after_with z limits p s old mid x _ t.0 s.registers, after_goes z limits p s old mid x _ t.0, stands_zero z limits p s old mid x (Int w) t.0, refl, set_here z limits old old mid 0 (Int w) t.0.registers_are (omega arith), t.0.grows, omega (arith, count))
+    let y = stands_zero z limits p s old mid x (Int w) t.0 in
+    (after_with z limits p s old mid x _ t.0 s.registers, after_goes z limits p s old mid x _ t.0 s.registers y (step_open z limits old mid (PutInt 0 w) rep q refl), y, refl, set_here z limits old old mid 0 (Int w) t.0.registers_are (omega arith), t.0.grows, omega (arith, count))
 
 module _ (z : Sizes) (limits : IsWithinLimits z) (mid new : List Entry) where
   -- `put R V`, once the value is in register 0
@@ -166,7 +168,7 @@ module _ (z : Sizes) (limits : IsWithinLimits z) (mid new : List Entry) where
       → LineDone z p (before ++ line.Put r w ∷ []) (line.Put r w) s mid (said rep) new
   bound r w rep quiet count p s before x left_old left_new one serial labels given_few None key (bad, same) =
       nothing_done z p s mid new x _ (line.Put r w) (said rep)
-      (subst (λ (o : Option Label). WithKey o s (said rep) s (λ k. (said rep ≡ reply.Done) × (s.registers ≡ s.registers) × (s.slots ≡ s.slots) × Binds k (Int w) s.bindings s.bindings)) (sym key) (ap said bad, refl)) tt
+      (subst (λ (o : Option Label). WithKey o s (said rep) s (λ k. (said rep ≡ reply.Done) × (s.registers ≡ s.registers) × (s.slots ≡ s.slots) × Binds k (Int w) s.bindings s.bindings)) (sym key) (ap said bad, refl)) tt tt
       (count ∙ ap (λ (n : ℕ). refusals mid + n) (sym (said_full rep))) same
   bound r w rep quiet count p s before x left_old left_new one serial labels given_few (Some k) key (inl (done, g)) =
       let none : refusals new ≡ refusals mid = (let e : refusals new ≡ refusals mid + 0 = count ∙ ap (λ (a : Reply). refusals mid + full_of a) done in omega (arith, e)) in
@@ -181,10 +183,10 @@ module _ (z : Sizes) (limits : IsWithinLimits z) (mid new : List Entry) where
       (line_ends z p _ (line.Put r w) s mid reply.Full t new
       (record {
         left = t;
-        goes = read_goes z limits p s mid new x goes few;
+        goes = read_goes z limits p s mid new x goes few (others_clean z mid new x.others (keeps_high z mid new refused.keeps) clean) clean.calm;
         does = inr (refl, refl, may_refuse z limits mid new left_old left_new before (line.Put r w) one goes.legal goes.grows (omega (arith, more)) serial labels given_few (λ none. absurd (omega (arith, none))) t (k, key));
       })
-      tt goes.grows more (read_stands z limits p s mid new x goes few (others_clean z mid new x.others (keeps_high z mid new refused.keeps) clean)))
+      tt tt goes.grows more (read_stands z limits p s mid new x goes few (others_clean z mid new x.others (keeps_high z mid new refused.keeps) clean)))
 
 -- `put R V`
 pub put_made : (z : Sizes) (limits : IsWithinLimits z) (old mid new : List Entry) (r : ℕ) (w : ℤ) (a rep : Reply) → 1 ≤ r → r ≤ 5 → Performed z old mid (PutInt 0 w) a → writings new ≡ writings mid → refusals new ≡ refusals mid + full_of rep
@@ -204,7 +206,7 @@ standing_put z limits old mid w a q x = let t = stands_put z limits old mid w a 
 
 -- `wget D I`
 module _ (z : Sizes) (limits : IsWithinLimits z) (mid new : List Entry) (p : Places) (s : TableState) (x : Stands z p s mid) (d i : ℕ) (key : Option Label) (held : held_in z mid 0 ≡ key_value key) (slot : slice_get s.slots i ≡ Some key) (low : 1 ≤ d) (high : d ≤ 5)
-    (after : After z mid new [] (set (registers_of z mid) d (key_value key))) where
+    (after : After z mid new [] (set (registers_of z mid) d (key_value key))) (calm : (state_of z new).mode ≡ Open) where
   abbrev here : TableState
   here = after_with z limits p s mid new x _ after s.registers
 
@@ -222,10 +224,10 @@ module _ (z : Sizes) (limits : IsWithinLimits z) (mid new : List Entry) (p : Pla
 
   pub copied : (lines : List TableLine) → refusals new ≡ refusals mid → LineDone z p lines (line.GetWeak d i) s mid (said (shown (key_value key))) new
   copied lines none =
+      let y = stands_set z limits p s mid new x d low high key after (λ k is. after_key z limits p s mid new x _ after k (inr (inr (i, slot ∙ ap Some is)))) in
       line_ends z p lines (line.GetWeak d i) s mid (said (shown (key_value key))) (with_key here d key) new
-      (record { left = here; goes = after_goes z limits p s mid new x _ after; does = inl (subst (λ (o : Option (Option Label)). ReadsSlot here (said (shown (key_value key))) (with_key here d key) d o) (sym still) reads) })
-      tt after.grows (none ∙ full_none key (refusals mid))
-      (stands_set z limits p s mid new x d low high key after (λ k is. after_key z limits p s mid new x _ after k (inr (inr (i, slot ∙ ap Some is)))))
+      (record { left = here; goes = after_goes z limits p s mid new x _ after _ y calm; does = inl (subst (λ (o : Option (Option Label)). ReadsSlot here (said (shown (key_value key))) (with_key here d key) d o) (sym still) reads) })
+      tt tt after.grows (none ∙ full_none key (refusals mid)) y
     where
       full_none : (o : Option Label) (n : ℕ) → n ≡ n + full_in (said (shown (key_value o)))
       full_none None n = omega arith
@@ -238,14 +240,15 @@ slot_read z limits old mid new d i rep b below low high quiet count q p s lines 
     let few : writings mid ≤ writings old = omega (arith, quiet) in
     let goes = g.reads.goes in
     let t = left z limits p s old mid x goes few in
-    let y : Stands z p t mid = read_stands z limits p s old mid x goes few (others_clean z old mid x.others (λ q high. g.keeps q (λ e. absurd (omega arith)) (λ e. absurd (omega arith)) (λ e. absurd (omega arith)) (λ e. absurd (omega arith))) g.clean) in
+    let others = others_clean z old mid x.others (λ q high. g.keeps q (λ e. absurd (omega arith)) (λ e. absurd (omega arith)) (λ e. absurd (omega arith)) (λ e. absurd (omega arith))) g.clean in
+    let y : Stands z p t mid = read_stands z limits p s old mid x goes few others in
     let c = copy_step z limits mid new b d 0 (key_value g.key) g.holds q in
     let shows : full_of rep ≡ 0 = ap full_of g.answers ∙ none_full g.key in
     let first : refusals mid ≡ refusals old = omega (arith, count, shows) in
     let last : refusals new ≡ refusals mid + 0 = performed_refusals z mid new (Copy d 0) b q ∙ ap (λ (a : Reply). refusals mid + full_of a) c.1 in
     subst (λ (a : Reply). LineDone z p lines (line.GetWeak d i) s old (said a) new) (sym g.answers)
-    (line_later z p lines (line.GetWeak d i) s t old mid (said (shown (key_value g.key))) new (read_goes z limits p s old mid x goes few) goes.grows first
-    (copied z limits mid new p t y d i g.key g.holds g.still low high c.0 lines (omega (arith, last))))
+    (line_later z p lines (line.GetWeak d i) s t old mid (said (shown (key_value g.key))) new (read_goes z limits p s old mid x goes few others g.clean.calm) goes.grows first
+    (copied z limits mid new p t y d i g.key g.holds g.still low high c.0 (step_open z limits mid new (Copy d 0) b q refl) lines (omega (arith, last))))
   where
     none_full : (o : Option Label) → full_of (shown (key_value o)) ≡ 0
     none_full None = refl
@@ -271,6 +274,6 @@ gone z limits old mid new a b one quiet q w p s lines x =
     let count = performed_refusals z mid new FullMajor b w in
     let zero : held_in z mid 0 ≡ Nothing = set_here z limits old old mid 0 Nothing first.0.registers_are (omega arith) in
     let last : Stands z p u new = stands_reading z limits p t mid new y second.0 in
-    let all_gone : AllGone u = left_held z limits mid new b one quiet w (forget_open z limits old mid a q) p t u y zero last refl second.1 in
-    line_later z p lines line.FullMajor s t old mid reply.Done new (after_goes z limits p s old mid x _ first.0) first.0.grows (omega (arith, none))
-    (line_ends z p lines line.FullMajor t mid reply.Done u new (record { left = u; goes = after_goes z limits p t mid new y _ second.0; does = inl (refl, refl, all_gone) }) tt second.0.grows (omega (arith, count, given_none)) last)
+    let all_gone : AllGone u = left_held z limits mid new b one quiet w (step_open z limits old mid (Forget 0) a q refl) p t u y zero last refl second.1 in
+    line_later z p lines line.FullMajor s t old mid reply.Done new (after_goes z limits p s old mid x _ first.0 s.registers y (step_open z limits old mid (Forget 0) a q refl)) first.0.grows (omega (arith, none))
+    (line_ends z p lines line.FullMajor t mid reply.Done u new (record { left = u; goes = after_goes_by z limits p t mid new y _ second.0 (λ k there. ⊎_elim (λ bound. all_gone.bindings k bound) (λ slot. all_gone.slots k slot) there); does = inl (refl, refl, all_gone) }) tt tt second.0.grows (omega (arith, count, given_none)) last)

@@ -1,5 +1,5 @@
 -- Lists of bindings and of places: what may go, and a key that stays.
-use Rattle.std.proofs.Common.{◌≡◌, inl, inr, ⊎_elim, ℕ, zero, suc, ◌<◌, ℤ, Bool, true, false, cond, not, IsTrue, List, [], ◌∷◌, length, get_or, set, slice_get, Option, Some, None, refl, ap, sym, ◌∙◌, subst, arith}
+use Rattle.std.proofs.Common.{◌≡◌, ◌⊎◌, inl, inr, ⊎_elim, ℕ, zero, suc, ◌<◌, ℤ, Bool, true, false, cond, not, IsTrue, List, [], ◌∷◌, length, get_or, set, slice_get, Option, Some, None, refl, ap, sym, ◌∙◌, subst, arith}
 use Rattle.heap_model.specs.declared.label.Label.{Label}
 use Rattle.heap_model.specs.declared.graph.Value.{Value}
 use Rattle.heap_model.specs.declared.graph.Value.TheVariants.{Int, Block, Nothing}
@@ -8,10 +8,11 @@ use Rattle.heap_model.proofs.Reach.ReachLemmas.{and_left, and_right, is_false}
 use Rattle.heap_model.proofs.Graphs.GraphLemmas.{same_label-true}
 use Rattle.table_laws.specs.Structures.{Binding, keys_of, without, datum_at}
 use Rattle.table_laws.specs.Thinning.{ThinnedBy, EmptiedBy}
-use Rattle.table_laws.proofs.BindingLemmas.{thinned_same, thinned_more, thinned_twice, thinned_keys}
+use Rattle.table_laws.proofs.BindingLemmas.{thinned_datum, thinned_same, thinned_more, thinned_twice, thinned_keys}
 use Rattle.table_laws.proofs.LookupLemmas.{key_unbound, without_unbound}
 use Rattle.table_laws.proofs.ArrayLemmas.{emptied_more, emptied_twice}
-use Rattle.table_machine.specs.Machine.{TableState, MayGo, IsLost, Holds}
+use Rattle.weak_tables.proofs.SlotLemmas.{emptied_stays}
+use Rattle.table_machine.specs.Machine.{TableState, MayGo, IsLost, IsThere, Holds}
 use Rattle.table_run.specs.Standing.{IsKnown, AreInts}
 
 emptied_same : (P : Label → Type 0) (ks : List (Option Label)) → EmptiedBy P ks ks
@@ -19,18 +20,10 @@ emptied_same P [] = refl
 emptied_same P (k ∷ ks) = (k, ks, refl, inl refl, emptied_same P ks)
 
 pub may_same : (s : TableState) → MayGo s s
-may_same s = record { registers = refl; bindings = thinned_same (IsLost s) s.bindings; slots = emptied_same (IsLost s) s.slots }
-
-pub may_twice : (s t u : TableState) → MayGo s t → MayGo t u → MayGo s u
-may_twice s t u x y =
-    let lost : (k : Label) → IsLost t k → IsLost s k = λ k none held. none (subst (λ (rs : List (Option Label)). Holds rs k) (sym x.registers) held) in record {
-      registers = y.registers ∙ x.registers;
-      bindings = thinned_twice (IsLost s) _ _ _ x.bindings (thinned_more (IsLost t) (IsLost s) lost _ _ y.bindings);
-      slots = emptied_twice (IsLost s) _ _ _ x.slots (emptied_more (IsLost t) (IsLost s) lost _ _ y.slots);
-    }
+may_same s = record { registers = refl; bindings = thinned_same (IsLost s) s.bindings; slots = emptied_same (IsLost s) s.slots; together = λ k there. record { datum = refl; slots = λ i at. at } }
 
 -- what is left is known
-emptied_holds : (P : Label → Type 0) (a b : List (Option Label)) (k : Label) → EmptiedBy P a b → Holds b k → Holds a k
+pub emptied_holds : (P : Label → Type 0) (a b : List (Option Label)) (k : Label) → EmptiedBy P a b → Holds b k → Holds a k
 emptied_holds P [] b k e (i, at) = absurd (none i (sym (ap (λ (ks : List (Option Label)). slice_get ks i) e) ∙ at))
   where
     none : (j : ℕ) → slice_get [] j ≡ Some (Some k) → ⊥
@@ -42,10 +35,35 @@ emptied_holds P (x ∷ a) b k (now, rest, is, here, later) (zero, at) =
 emptied_holds P (x ∷ a) b k (now, rest, is, here, later) (suc i, at) =
     let t = emptied_holds P a rest k later (i, sym (ap (λ (ks : List (Option Label)). slice_get ks (suc i)) is) ∙ at) in (suc t.0, t.1)
 
+pub there_before : (s t : TableState) (k : Label) → MayGo s t → IsThere t k → IsThere s k
+there_before s t k x (inl bound) = inl (thinned_keys (IsLost s) _ _ k x.bindings bound)
+there_before s t k x (inr slot) = inr (emptied_holds (IsLost s) _ _ k x.slots slot)
+
 pub known_before : (s t : TableState) (k : Label) → MayGo s t → IsKnown t k → IsKnown s k
 known_before s t k x (inl held) = inl (subst (λ (rs : List (Option Label)). Holds rs k) x.registers held)
-known_before s t k x (inr (inl bound)) = inr (inl (thinned_keys (IsLost s) _ _ k x.bindings bound))
-known_before s t k x (inr (inr slot)) = inr (inr (emptied_holds (IsLost s) _ _ k x.slots slot))
+known_before s t k x (inr there) = inr (there_before s t k x there)
+
+pub may_twice : (s t u : TableState) → MayGo s t → MayGo t u → MayGo s u
+may_twice s t u x y =
+    let lost : (k : Label) → IsLost t k → IsLost s k = λ k none held. none (subst (λ (rs : List (Option Label)). Holds rs k) (sym x.registers) held) in record {
+      registers = y.registers ∙ x.registers;
+      bindings = thinned_twice (IsLost s) _ _ _ x.bindings (thinned_more (IsLost t) (IsLost s) lost _ _ y.bindings);
+      slots = emptied_twice (IsLost s) _ _ _ x.slots (emptied_more (IsLost t) (IsLost s) lost _ _ y.slots);
+      together = λ k there. (let late = y.together k there in let early = x.together k (there_before t u k y there) in record { datum = late.datum ∙ early.datum; slots = λ i at. late.slots i (early.slots i at) });
+    }
+
+-- keys of which P holds went, and are nowhere afterwards
+pub goes_of : (P : Label → Type 0) (s : TableState) (bs : List Binding) (ks : List (Option Label)) → ((k : Label) → P k → IsLost s k) → ThinnedBy P s.bindings bs → EmptiedBy P s.slots ks
+    → ((k : Label) → P k → IsThere (record { registers = s.registers; bindings = bs; slots = ks }) k → ⊥) → MayGo s (record { registers = s.registers; bindings = bs; slots = ks })
+goes_of P s bs ks lost thin emptied nowhere = record {
+  registers = refl;
+  bindings = thinned_more P (IsLost s) lost _ _ thin;
+  slots = emptied_more P (IsLost s) lost _ _ emptied;
+  together = λ k there. record {
+    datum = thinned_datum P k (λ gone. nowhere k gone there) s.bindings bs thin;
+    slots = λ i at. emptied_stays P i s.slots ks (Some k) emptied (λ j is gone. (let same : k ≡ j = cc in nowhere k (subst P (sym same) gone) there)) at;
+  };
+}
 
 -- the bindings without a key were thinned: with it, if it was there
 pub record Kept (P : Label → Type 0) (k : Label) (a rest : List Binding) : Type 0 where
@@ -81,15 +99,16 @@ key_kept P k (x ∷ a) rest t = go (same_label x.0 k) refl t (λ more u. key_kep
           datum = m.datum ∙ sym (ap (λ b. cond b (Some x.1) (datum_at a k)) e);
         }
 
--- a place was set to a key that may not go, and the others were emptied
-pub slot_kept : (P : Label → Type 0) (k : Label) → (P k → ⊥) → (a b : List (Option Label)) (i : ℕ) → i < length a → EmptiedBy P (set a i (Some k)) b → (left : List (Option Label)) × EmptiedBy P a left × (set left i (Some k) ≡ b)
-slot_kept P k kept [] b i below e = absurd (omega arith)
-slot_kept P k kept (x ∷ a) b zero below (now, rest, is, here, later) =
-    let first : now ≡ Some k = ⊎_elim (λ same. same) (λ gone. absurd (let was : k ≡ gone.1.0 = (let h = gone.1.1 in cc) in kept (subst P (sym was) gone.1.2))) here in
-    (x ∷ rest, (x, rest, refl, inl refl, later), ap (λ (o : Option Label). o ∷ rest) (sym first) ∙ sym is)
-slot_kept P k kept (x ∷ a) b (suc i) below (now, rest, is, here, later) =
-    let m = slot_kept P k kept a rest i (omega arith) later in
-    (now ∷ m.0, (now, m.0, refl, here, m.1), ap (λ (ks : List (Option Label)). now ∷ ks) m.2 ∙ sym is)
+-- a place was set to a key that may not go, and the others were emptied: what it held before is kept or emptied
+pub slot_chosen : (P : Label → Type 0) (k : Label) → (P k → ⊥) → (a b : List (Option Label)) (i : ℕ) → i < length a → EmptiedBy P (set a i (Some k)) b
+    → (now : Option Label) → (now ≡ get_or a i None) ⊎ ((now ≡ None) × ((j : Label) × (get_or a i None ≡ Some j) × P j)) → EmptiedBy P a (set b i now) × (set (set b i now) i (Some k) ≡ b)
+slot_chosen P k kept [] b i below e now choice = absurd (omega arith)
+slot_chosen P k kept (x ∷ a) b zero below (n, rest, is, here, later) now choice =
+    let first : n ≡ Some k = ⊎_elim (λ same. same) (λ gone. absurd (let was : k ≡ gone.1.0 = (let h = gone.1.1 in cc) in kept (subst P (sym was) gone.1.2))) here in
+    ((now, rest, ap (λ (ks : List (Option Label)). set ks 0 now) is, choice, later), ap (λ (ks : List (Option Label)). set (set ks 0 now) 0 (Some k)) is ∙ (ap (λ (o : Option Label). o ∷ rest) (sym first) ∙ sym is))
+slot_chosen P k kept (x ∷ a) b (suc i) below (n, rest, is, here, later) now choice =
+    let m = slot_chosen P k kept a rest i (omega arith) later now choice in
+    ((n, set rest i now, ap (λ (ks : List (Option Label)). set ks (suc i) now) is, here, m.0), ap (λ (ks : List (Option Label)). set (set ks (suc i) now) (suc i) (Some k)) is ∙ (ap (λ (ks : List (Option Label)). n ∷ ks) m.1 ∙ sym is))
 
 -- integers stay integers
 pub thinned_ints : (P : Label → Type 0) (a b : List Binding) → ThinnedBy P a b → AreInts a → AreInts b

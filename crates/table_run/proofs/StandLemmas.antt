@@ -3,16 +3,17 @@ use Rattle.std.proofs.Common.{◌≡◌, inl, inr, ℕ, zero, suc, ◌+◌, ◌-
 use Rattle.heap_model.specs.declared.label.Label.{Label}
 use Rattle.heap_model.specs.declared.entry.Entry.{Entry}
 use Rattle.heap_model.specs.declared.graph.Value.TheVariants.{Block, Nothing}
+use Rattle.heap_model.specs.declared.state.Mode.TheVariants.{Open}
 use Rattle.heap_model.specs.declared.state.Sizes.{Sizes}
 use Rattle.heap_model.specs.Graph.{node_at}
 use Rattle.heap_model.specs.Commands.{key_value}
-use Rattle.heap_model.specs.History.{IsPrefix}
+use Rattle.heap_model.specs.History.{IsPrefix, Legal}
+use Rattle.history_laws.proofs.ApartLemmas.{IsKnownOut}
 use Rattle.table_laws.specs.Structures.{Binding, Cell, bindings, table_labels, IsTable, IsWeakArray, slot_keys}
 use Rattle.table_laws.specs.Thinning.{ThinnedBy, EmptiedBy, WasOutside, Went, Changes, state_of}
 use Rattle.table_laws.specs.Performing.{refusals, writings}
 use Rattle.table_laws.specs.Stages.{graph_of, held_in}
-use Rattle.table_laws.proofs.BindingLemmas.{thinned_more}
-use Rattle.table_laws.proofs.ArrayLemmas.{emptied_more}
+use Rattle.table_laws.proofs.BindingLemmas.{thinned_keys}
 use Rattle.table_laws.proofs.ChangeLemmas.{table_kept, bindings_thinned, array_kept}
 use Rattle.table_laws.proofs.CollectorLemmas.{outside_unheld}
 use Rattle.table_laws.proofs.LawLemmas.{keys_emptied}
@@ -21,12 +22,13 @@ use Rattle.weak_tables.specs.Held.{IsBare, IsTidy, KeepsOthers, IsClean}
 use Rattle.weak_tables.proofs.TidyLemmas.{all_kept, bare_lasts, tidy_lasts}
 use Rattle.table_text.specs.declared.line.TableLine.{TableLine}
 use Rattle.table_machine.specs.declared.reply.LineReply.{LineReply}
-use Rattle.table_machine.specs.Machine.{LineStep, TableState, MayGo, IsLost, Holds}
+use Rattle.table_machine.specs.Machine.{LineStep, TableState, MayGo, IsLost, IsThere, Holds}
 use Rattle.table_run.specs.Standing.{Places, Stands, IsKnown, key_node, AreInts}
-use Rattle.table_run.specs.Running.{LineDone, MakesNew, full_in}
-use Rattle.table_run.proofs.FreshLemmas.{makes_before}
-use Rattle.table_run.proofs.MachineLemmas.{may_same, may_twice, known_before, thinned_ints, holds_place}
+use Rattle.table_run.specs.Running.{LineDone, MakesNew, WasCounted, full_in}
+use Rattle.table_run.proofs.FreshLemmas.{counted_before, makes_before}
+use Rattle.table_run.proofs.MachineLemmas.{emptied_holds, goes_of, may_same, may_twice, thinned_ints, holds_place}
 use Rattle.table_run.proofs.RegisterLemmas.{register_at}
+use Rattle.table_run.proofs.TakenLemmas.{labelled, out_unbound, out_unset, taken_out}
 
 -- a register that holds a key of the machine
 pub register_of : (z : Sizes) (p : Places) (s : TableState) (h : List Entry) (i : ℕ) (k : Label) → Stands z p s h → get_or s.registers i None ≡ Some k → i < 5 → held_in z h (i + 1) ≡ Block k
@@ -80,12 +82,31 @@ module _ (z : Sizes) (p : Places) (s : TableState) (old new : List Entry) (x : S
   abbrev pub left_with : List (Option Label) → TableState
   left_with rs = record { registers = rs; bindings = bindings (graph_of z new) chains; slots = slot_keys (graph_of z new) p.slots }
 
-  pub frame_goes : MayGo s (left_with s.registers)
-  frame_goes = record {
-    registers = refl;
-    bindings = subst (λ (bs : List Binding). ThinnedBy (IsLost s) bs (bindings (graph_of z new) chains)) x.shown.bindings_are (thinned_more P (IsLost s) lost _ _ thin);
-    slots = subst (λ (ks : List (Option Label)). EmptiedBy (IsLost s) ks (slot_keys (graph_of z new) p.slots)) x.shown.slots_are (emptied_more P (IsLost s) lost _ _ emptied);
-  }
+  thin_s : ThinnedBy P s.bindings (bindings (graph_of z new) chains)
+  thin_s = subst (λ (bs : List Binding). ThinnedBy P bs (bindings (graph_of z new) chains)) x.shown.bindings_are thin
+
+  emptied_s : EmptiedBy P s.slots (slot_keys (graph_of z new) p.slots)
+  emptied_s = subst (λ (ks : List (Option Label)). EmptiedBy P ks (slot_keys (graph_of z new) p.slots)) x.shown.slots_are emptied
+
+  -- what is left was known before
+  known_left : (rs : List (Option Label)) (k : Label) → IsThere (left_with rs) k → IsKnown s k
+  known_left rs k (inl bound) = inr (inl (thinned_keys P _ _ k thin_s bound))
+  known_left rs k (inr slot) = inr (inr (emptied_holds P _ _ k emptied_s slot))
+
+  -- where what went is nowhere afterwards it went from everywhere at once
+  pub frame_goes_by : ((k : Label) → P k → IsThere (left_with s.registers) k → ⊥) → MayGo s (left_with s.registers)
+  frame_goes_by nowhere = goes_of P s (bindings (graph_of z new) chains) (slot_keys (graph_of z new) p.slots) lost thin_s emptied_s nowhere
+
+  -- and so it is where no collection is under way
+  pub frame_goes : (rs : List (Option Label)) → Stands z p (left_with rs) new → Legal z new → (state_of z new).mode ≡ Open → ((k : Label) → P k → WasOutside z old new k) → MayGo s (left_with s.registers)
+  frame_goes rs y legal calm was = frame_goes_by nowhere
+    where
+      known : (k : Label) → P k → IsThere (left_with s.registers) k → IsKnownOut k (state_of z new)
+      known k gone there = taken_out z old new k legal calm (labelled (graph_of z old) k key_node (x.keys k (known_left s.registers k there))) (was k gone)
+
+      nowhere : (k : Label) → P k → IsThere (left_with s.registers) k → ⊥
+      nowhere k gone (inl bound) = out_unbound z new k (known k gone (inl bound)) 6 p.table chains y.table_held table_new bound
+      nowhere k gone (inr slot) = out_unset z new k (known k gone (inr slot)) 7 p.array p.slots y.array_held array_new slot
 
   pub frame_key : (k : Label) → IsKnown s k → node_at (graph_of z new) k ≡ Some key_node
   frame_key k known = changes k key_node (x.keys k known) refl
@@ -107,7 +128,7 @@ module _ (z : Sizes) (p : Places) (s : TableState) (old new : List Entry) (x : S
   } where
     known_key : (k : Label) → IsKnown (left_with rs) k → node_at (graph_of z new) k ≡ Some key_node
     known_key k (inl held) = keys k held
-    known_key k (inr there) = frame_key k (known_before s (left_with s.registers) k frame_goes (inr there))
+    known_key k (inr there) = frame_key k (known_left rs k there)
 
   -- with the same keys in the registers
   pub frame_same : ((r : ℕ) → 1 ≤ r → r ≤ 7 → held_in z new r ≡ held_in z old r) → ((r : ℕ) → 8 ≤ r → held_in z new r ≡ Nothing) → Stands z p (left_with s.registers) new
@@ -118,12 +139,12 @@ prefix_self : (h : List Entry) → IsPrefix h h
 prefix_self h = record { rest = []; appends = sym (append-nil h) }
 
 -- a line that is over with the last front of its call
-pub line_ends : (z : Sizes) (p : Places) (lines : List TableLine) (l : TableLine) (s : TableState) (old : List Entry) (a : LineReply) (t : TableState) (new : List Entry) → LineStep z lines l s a t → MakesNew z old l a t → IsPrefix old new → refusals new ≡ refusals old + full_in a → Stands z p t new
-    → LineDone z p lines l s old a new
-line_ends z p lines l s old a t new step fresh grows refused x = record {
+pub line_ends : (z : Sizes) (p : Places) (lines : List TableLine) (l : TableLine) (s : TableState) (old : List Entry) (a : LineReply) (t : TableState) (new : List Entry) → LineStep z lines l s a t → MakesNew z old l a t → WasCounted z p old l a new → IsPrefix old new → refusals new ≡ refusals old + full_in a
+    → Stands z p t new → LineDone z p lines l s old a new
+line_ends z p lines l s old a t new step fresh counted grows refused x = record {
   after = t;
   front = new;
-  runs = record { step = step; fresh = fresh; grows = grows; shown = x.shown; refused = refused };
+  runs = record { step = step; fresh = fresh; counted = counted; grows = grows; shown = x.shown; refused = refused };
   until = prefix_self new;
   given = refl;
   left = t;
@@ -140,6 +161,7 @@ line_later z p lines l s t old mid a new goes grows none x = record {
   runs = record {
     step = record { left = x.runs.step.left; goes = may_twice s t x.runs.step.left goes x.runs.step.goes; does = x.runs.step.does };
     fresh = makes_before z old mid l a x.after grows x.runs.fresh;
+    counted = counted_before z p old mid l a x.front grows x.runs.counted;
     grows = prefix_trans old mid x.front grows x.runs.grows;
     shown = x.runs.shown;
     refused = x.runs.refused ∙ ap (λ (n : ℕ). n + full_in a) none;

@@ -29,7 +29,7 @@ use Rattle.table_machine.specs.declared.reply.LineReply.{LineReply}
 use Rattle.table_machine.specs.Machine.{MachineAnswers, MachineRuns, TableState, Holds, made_by, all_made, opened}
 use Rattle.table_run.specs.Standing.{Places, Shown, IsKnown}
 use Rattle.table_run.specs.Running.{LineRuns, LinesRun, LineDone, LineAnswers, HasGiven, TextRuns, RanTo, Begins, full_in, rooms_of, all_rooms}
-use Rattle.table_run.proofs.FreshLemmas.{makes_before}
+use Rattle.table_run.proofs.FreshLemmas.{counted_before, makes_before}
 use Rattle.table_run.proofs.MachineLemmas.{may_same, may_twice}
 use Rattle.table_run.proofs.LinesLemmas.{made-append}
 use Rattle.table_run.proofs.RefusalLemmas.{used_up}
@@ -153,6 +153,7 @@ ran_more z lines replies now x l a new y = record {
   lines_run = lines_push z x.places [] opened x.first lines replies x.state x.last l a y.after y.front x.lines_run (record {
     step = record { left = y.runs.step.left; goes = may_twice x.state x.left y.runs.step.left x.goes y.runs.step.goes; does = y.runs.step.does };
     fresh = makes_before z x.last now l a y.after x.until y.runs.fresh;
+    counted = counted_before z x.places x.last now l a y.front x.until y.runs.counted;
     grows = prefix_trans x.last now y.front x.until y.runs.grows;
     shown = y.runs.shown;
     refused = y.runs.refused ∙ ap (λ (n : ℕ). n + full_in a) x.given;

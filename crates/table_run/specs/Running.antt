@@ -1,5 +1,5 @@
 -- A text of a table, run line by line: each line is a step of the machine, and the history has a prefix for it.
-use Rattle.std.specs.Prelude.{◌≡◌, ℕ, ◌+◌, ◌≤◌, List, [], ◌∷◌, ◌++◌, Some, None}
+use Rattle.std.specs.Prelude.{◌≡◌, ℕ, ◌+◌, ◌≤◌, List, [], ◌∷◌, ◌++◌, length, Some, None}
 use Rattle.heap_model.specs.declared.label.Label.{Label}
 use Rattle.heap_model.specs.declared.entry.Entry.{Entry}
 use Rattle.heap_model.specs.declared.reply.Reply.{Reply}
@@ -8,9 +8,10 @@ use Rattle.heap_model.specs.declared.state.Sizes.{Sizes}
 use Rattle.heap_model.specs.Graph.{node_at}
 use Rattle.heap_model.specs.History.{IsPrefix}
 use Rattle.table_laws.specs.Performing.{refusals}
+use Rattle.table_laws.specs.Structures.{Cell, bindings, IsTable}
 use Rattle.table_laws.specs.Stages.{graph_of}
 use Rattle.table_text.specs.declared.line.TableLine.{TableLine}
-use Rattle.table_text.specs.declared.line.TableLine.TheVariants.{Key, Put}
+use Rattle.table_text.specs.declared.line.TableLine.TheVariants.{Count, Key, Put}
 use Rattle.table_machine.specs.declared.reply.LineReply.{LineReply}
 use Rattle.table_machine.specs.declared.reply.LineReply.TheVariants as reply
 use Rattle.table_machine.specs.Machine.{LineStep, TableState, MayGo, key_in, all_made, opened}
@@ -35,10 +36,24 @@ abbrev pub MakesNew : Sizes → List Entry → TableLine → LineReply → Table
 MakesNew z old (Key r) a t = a ≡ reply.Done → (k : Label) × (key_in t r ≡ Some k) × (node_at (graph_of z old) k ≡ None)
 MakesNew z old _ a t = Unit {0}
 
+-- a count is the number of the table's bindings at some prefix of the history on the way
+pub record CountedBetween (z : Sizes) (p : Places) (old : List Entry) (a : LineReply) (new : List Entry) : Type 0 where
+  pub chains : List (List Cell)
+  pub front : List Entry
+  pub since : IsPrefix old front
+  pub until : IsPrefix front new
+  pub table : IsTable (graph_of z front) p.table chains
+  pub answers : a ≡ reply.Counted (length (bindings (graph_of z front) chains))
+
+abbrev pub WasCounted : Sizes → Places → List Entry → TableLine → LineReply → List Entry → Type 0
+WasCounted z p old Count a new = CountedBetween z p old a new
+WasCounted z p old _ a new = Unit {0}
+
 -- a line, the last of these, from a state at one prefix of the history to a state at the next: a step of the machine, whose new key is new to the heap, and one command of the line was answered `full` exactly where the reply is
 pub record LineRuns (z : Sizes) (p : Places) (lines : List TableLine) (l : TableLine) (s : TableState) (old : List Entry) (a : LineReply) (t : TableState) (new : List Entry) : Type 0 where
   pub step : LineStep z lines l s a t
   pub fresh : MakesNew z old l a t
+  pub counted : WasCounted z p old l a new
   pub grows : IsPrefix old new
   pub shown : Shown z p t new
   pub refused : refusals new ≡ refusals old + full_in a

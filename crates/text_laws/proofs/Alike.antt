@@ -5,21 +5,34 @@ use Rattle.heap_model.specs.Graph.{same_label}
 use Rattle.heap_model.proofs.Graphs.GraphLemmas.{same_label-true, same_label_refl}
 use Rattle.table_laws.specs.Structures.{datum_at}
 use Rattle.table_laws.specs.Thinning.{EmptiedBy}
-use Rattle.table_laws.proofs.BindingLemmas.{thinned_datum}
-use Rattle.table_machine.specs.Machine.{Holds, IsLost, MayGo, TableState}
+use Rattle.table_laws.proofs.BindingLemmas.{thinned_datum, thinned_same}
+use Rattle.table_laws.proofs.ChangeLemmas.{emptied_same}
+use Rattle.table_machine.specs.Machine.{Holds, IsLost, KeepsKey, MayGo, TableState}
 
 -- the key in a place
 abbrev pub in_place : List (Option Label) → ℕ → Option Label
 in_place ps i = get_or ps i None
 
--- the first state's registers, data and slots are those of the second, seen from a register
+-- the same place of two lists holds the one label and the other
+abbrev pub InBoth : List (Option Label) → List (Option Label) → Label → Label → Type 0
+InBoth ps qs k m = (i : ℕ) × (in_place ps i ≡ Some k) × (in_place qs i ≡ Some m)
+
+-- the same register of two states holds them, or the same slot
+abbrev pub Pair : TableState → TableState → Label → Label → Type 0
+Pair s t k m = InBoth s.registers t.registers k m ⊎ InBoth s.slots t.slots k m
+
+-- wherever the one key is, the other one is, and it is bound alike
+pub record Fits (s t : TableState) (k m : Label) : Type 0 where
+  pub registers : (j : ℕ) → in_place s.registers j ≡ Some k → in_place t.registers j ≡ Some m
+  pub datum : datum_at s.bindings k ≡ datum_at t.bindings m
+  pub slots : (j : ℕ) → in_place s.slots j ≡ Some k → in_place t.slots j ≡ Some m
+
+-- the first state is the second, seen from its registers and from what slots of both hold
 pub record Leans (s t : TableState) : Type 0 where
   pub registers : length s.registers ≡ length t.registers
   pub places : length s.slots ≡ length t.slots
   pub hold : (i : ℕ) (k : Label) → in_place s.registers i ≡ Some k → (m : Label) × (in_place t.registers i ≡ Some m)
-  pub once : (i j : ℕ) (k m n : Label) → in_place s.registers i ≡ Some k → in_place t.registers i ≡ Some m → in_place s.registers j ≡ Some k → in_place t.registers j ≡ Some n → m ≡ n
-  pub datum : (i : ℕ) (k m : Label) → in_place s.registers i ≡ Some k → in_place t.registers i ≡ Some m → datum_at s.bindings k ≡ datum_at t.bindings m
-  pub slots : (i j : ℕ) (k m : Label) → in_place s.registers i ≡ Some k → in_place t.registers i ≡ Some m → in_place s.slots j ≡ Some k → in_place t.slots j ≡ Some m
+  pub pairs : (k m : Label) → Pair s t k m → Fits s t k m
 
 abbrev pub Alike : TableState → TableState → Type 0
 Alike s t = Leans s t × Leans t s
@@ -109,6 +122,19 @@ emptied_length P (x ∷ a) b (now, rest, is, here, later) = ap length is ∙ ap 
 held_stays : (s : TableState) (i : ℕ) (k : Label) → in_place s.registers i ≡ Some k → IsLost s k → ⊥
 held_stays s i k at lost = lost (i, gets s.registers i k at)
 
+-- so it has lost nothing where keys have gone, nor has what a slot still holds
+kept_held : (s u : TableState) (i : ℕ) (k : Label) → MayGo s u → in_place s.registers i ≡ Some k → KeepsKey s u k
+kept_held s u i k goes at = record {
+  datum = thinned_datum (IsLost s) k (held_stays s i k at) s.bindings u.bindings goes.bindings;
+  slots = λ j found. gets u.slots j k (emptied_keeps (IsLost s) s.slots u.slots j k goes.slots (held_stays s i k at) (got s.slots j (Some k) found));
+}
+
+kept_slot : (s u : TableState) (i : ℕ) (k : Label) → MayGo s u → in_place u.slots i ≡ Some k → KeepsKey s u k
+kept_slot s u i k goes at = goes.together k (inr (i, gets u.slots i k at))
+
+pub may_same : (s : TableState) → MayGo s s
+may_same s = record { registers = refl; bindings = thinned_same (IsLost s) s.bindings; slots = emptied_same (IsLost s) s.slots; together = λ k there. record { datum = refl; slots = λ i at. at } }
+
 module _ (s t u v : TableState) (goes : MayGo s u) (other : MayGo t v) where
   back : (i : ℕ) (k : Label) → in_place u.registers i ≡ Some k → in_place s.registers i ≡ Some k
   back i k at = ap (λ (ps : List (Option Label)). in_place ps i) (sym goes.registers) ∙ at
@@ -116,24 +142,35 @@ module _ (s t u v : TableState) (goes : MayGo s u) (other : MayGo t v) where
   back_other : (i : ℕ) (k : Label) → in_place v.registers i ≡ Some k → in_place t.registers i ≡ Some k
   back_other i k at = ap (λ (ps : List (Option Label)). in_place ps i) (sym other.registers) ∙ at
 
-  -- what may go changes nothing that a register leads to
+  fits_on : (k m : Label) → Fits s t k m → KeepsKey s u k → KeepsKey t v m → Fits u v k m
+  fits_on k m fit kept same = record {
+    registers = λ j at. ap (λ (ps : List (Option Label)). in_place ps j) other.registers ∙ fit.registers j (back j k at);
+    datum = kept.datum ∙ (fit.datum ∙ sym same.datum);
+    slots = λ j found. got v.slots j (Some m) (same.slots j (gets t.slots j m (fit.slots j (emptied_was (IsLost s) s.slots u.slots j k goes.slots found))));
+  }
+
+  -- what may go changes nothing that a register leads to, or a slot that still holds its key in both
   pub leans_on : Leans s t → Leans u v
   leans_on x = record {
     registers = ap length goes.registers ∙ (x.registers ∙ sym (ap length other.registers));
     places = emptied_length (IsLost s) s.slots u.slots goes.slots ∙ (x.places ∙ sym (emptied_length (IsLost t) t.slots v.slots other.slots));
     hold = λ i k at. (let h = x.hold i k (back i k at) in (h.0, ap (λ (ps : List (Option Label)). in_place ps i) other.registers ∙ h.1));
-    once = λ i j k m n a b c d. x.once i j k m n (back i k a) (back_other i m b) (back j k c) (back_other j n d);
-    datum = λ i k m a b. thinned_datum (IsLost s) k (held_stays s i k (back i k a)) s.bindings u.bindings goes.bindings
-        ∙ (x.datum i k m (back i k a) (back_other i m b) ∙ sym (thinned_datum (IsLost t) m (held_stays t i m (back_other i m b)) t.bindings v.bindings other.bindings));
-    slots = λ i j k m a b found. emptied_keeps (IsLost t) t.slots v.slots j m other.slots (held_stays t i m (back_other i m b))
-        (x.slots i j k m (back i k a) (back_other i m b) (emptied_was (IsLost s) s.slots u.slots j k goes.slots found));
+    pairs = pairs;
   }
+    where
+      pairs : (k m : Label) → Pair u v k m → Fits u v k m
+      pairs k m (inl (i, a, b)) = fits_on k m (x.pairs k m (inl (i, back i k a, back_other i m b))) (kept_held s u i k goes (back i k a)) (kept_held t v i m other (back_other i m b))
+      pairs k m (inr (i, a, b)) =
+          fits_on k m (x.pairs k m (inr (i, emptied_was (IsLost s) s.slots u.slots i k goes.slots a, emptied_was (IsLost t) t.slots v.slots i m other.slots b))) (kept_slot s u i k goes a) (kept_slot t v i m other b)
 
--- two keys stand for one another, before they come to one register
-pub record Fits (s t : TableState) (k m : Label) : Type 0 where
-  pub same : (j : ℕ) (n : Label) → in_place s.registers j ≡ Some k → in_place t.registers j ≡ Some n → m ≡ n
-  pub datum : datum_at s.bindings k ≡ datum_at t.bindings m
-  pub slot : (j : ℕ) → in_place s.slots j ≡ Some k → in_place t.slots j ≡ Some m
+-- one key stands for one other
+pub pair_one : (s t : TableState) (k m n : Label) → Fits s t k m → Pair s t k n → m ≡ n
+pair_one s t k m n fit (inl (i, a, b)) = some_is m n (sym (fit.registers i a) ∙ b)
+pair_one s t k m n fit (inr (i, a, b)) = some_is m n (sym (fit.slots i a) ∙ b)
+
+pub flip : (s t : TableState) (k m : Label) → Pair s t k m → Pair t s m k
+flip s t k m (inl (i, a, b)) = inl (i, b, a)
+flip s t k m (inr (i, a, b)) = inr (i, b, a)
 
 module _ (s t : TableState) (q : ℕ) (x : Leans s t) where
   -- the registers' places are the same
@@ -146,9 +183,7 @@ module _ (s t : TableState) (q : ℕ) (x : Leans s t) where
     registers = both_set (Some k) (Some m);
     places = x.places;
     hold = hold;
-    once = once;
-    datum = λ i l n a b. datum i l n (pair i l n a b);
-    slots = λ i j l n a b found. slots i j l n (pair i l n a b) found;
+    pairs = λ l n pair. fits l n (was l n pair);
   }
     where
       us : List (Option Label)
@@ -157,14 +192,21 @@ module _ (s t : TableState) (q : ℕ) (x : Leans s t) where
       vs : List (Option Label)
       vs = slice_set t.registers q (Some m)
 
-      Pair : ℕ → Label → Label → Type 0
-      Pair i l n = ((l ≡ k) × (n ≡ m)) ⊎ ((in_place s.registers i ≡ Some l) × (in_place t.registers i ≡ Some n))
+      new : TableState
+      new = record s { registers = us }
 
-      pair : (i : ℕ) (l n : Label) → in_place us i ≡ Some l → in_place vs i ≡ Some n → Pair i l n
-      pair i l n a b = ⊎_elim
+      other : TableState
+      other = record t { registers = vs }
+
+      Was : Label → Label → Type 0
+      Was l n = ((l ≡ k) × (n ≡ m)) ⊎ Pair s t l n
+
+      was : (l n : Label) → Pair new other l n → Was l n
+      was l n (inl (i, a, b)) = ⊎_elim
           (λ (y : (in_place us i ≡ Some k) × (in_place vs i ≡ Some m)). inl (some_is l k (sym a ∙ y.0), some_is n m (sym b ∙ y.1)))
-          (λ (y : (in_place us i ≡ in_place s.registers i) × (in_place vs i ≡ in_place t.registers i)). inr (sym y.0 ∙ a, sym y.1 ∙ b))
+          (λ (y : (in_place us i ≡ in_place s.registers i) × (in_place vs i ≡ in_place t.registers i)). inr (inl (i, sym y.0 ∙ a, sym y.1 ∙ b)))
           (set_two s.registers t.registers q i (Some k) (Some m) x.registers)
+      was l n (inr found) = inr (inr found)
 
       hold : (i : ℕ) (l : Label) → in_place us i ≡ Some l → (n : Label) × (in_place vs i ≡ Some n)
       hold i l at = ⊎_elim
@@ -172,19 +214,17 @@ module _ (s t : TableState) (q : ℕ) (x : Leans s t) where
           (λ (y : (in_place us i ≡ in_place s.registers i) × (in_place vs i ≡ in_place t.registers i)). (let h = x.hold i l (sym y.0 ∙ at) in (h.0, y.1 ∙ h.1)))
           (set_two s.registers t.registers q i (Some k) (Some m) x.registers)
 
-      once : (i j : ℕ) (l n o : Label) → in_place us i ≡ Some l → in_place vs i ≡ Some n → in_place us j ≡ Some l → in_place vs j ≡ Some o → n ≡ o
-      once i j l n o a b c d = of (pair i l n a b) (pair j l o c d)
-        where
-          of : Pair i l n → Pair j l o → n ≡ o
-          of (inl (e, f)) (inl (g, h)) = f ∙ sym h
-          of (inl (e, f)) (inr (g, h)) = f ∙ fit.same j o (g ∙ ap Some e) h
-          of (inr (e, f)) (inl (g, h)) = sym (h ∙ fit.same i n (e ∙ ap Some g) f)
-          of (inr (e, f)) (inr (g, h)) = x.once i j l n o e f g h
+      -- a key that fits the other one does so afterwards
+      fitting : (l n : Label) → Fits s t l n → (l ≡ k → n ≡ m) → Fits new other l n
+      fitting l n old one = record {
+        registers = λ j at. ⊎_elim
+            (λ (y : (in_place us j ≡ Some k) × (in_place vs j ≡ Some m)). y.1 ∙ ap Some (sym (one (some_is l k (sym at ∙ y.0)))))
+            (λ (y : (in_place us j ≡ in_place s.registers j) × (in_place vs j ≡ in_place t.registers j)). y.1 ∙ old.registers j (sym y.0 ∙ at))
+            (set_two s.registers t.registers q j (Some k) (Some m) x.registers);
+        datum = old.datum;
+        slots = old.slots;
+      }
 
-      datum : (i : ℕ) (l n : Label) → Pair i l n → datum_at s.bindings l ≡ datum_at t.bindings n
-      datum i l n (inl (e, f)) = ap (datum_at s.bindings) e ∙ (fit.datum ∙ sym (ap (datum_at t.bindings) f))
-      datum i l n (inr (a, b)) = x.datum i l n a b
-
-      slots : (i j : ℕ) (l n : Label) → Pair i l n → in_place s.slots j ≡ Some l → in_place t.slots j ≡ Some n
-      slots i j l n (inl (e, f)) found = fit.slot j (found ∙ ap Some e) ∙ sym (ap Some f)
-      slots i j l n (inr (a, b)) found = x.slots i j l n a b found
+      fits : (l n : Label) → Was l n → Fits new other l n
+      fits l n (inl (e, f)) = fitting l n (subst (λ (y : Label × Label). Fits s t y.0 y.1) (λ i. (sym e i, sym f i)) fit) (λ _. f)
+      fits l n (inr pair) = fitting l n (x.pairs l n pair) (λ e. sym (pair_one s t k m n fit (subst (λ (y : Label). Pair s t y n) e pair)))

@@ -1,5 +1,5 @@
 -- What each line does to two states that look alike, and so all lines.
-use Rattle.std.proofs.Common.{◌≡◌, ◌⊎◌, inl, inr, ⊎_elim, ℕ, zero, suc, ◌+◌, ◌-◌, ◌≤◌, Bool, true, false, not, ◌||◌, cond, IsTrue, List, [], ◌∷◌, ◌++◌, length, length-set, slice_set, slice_get, Option, Some, None, refl, ap, sym, ◌∙◌, subst, arith}
+use Rattle.std.proofs.Common.{◌≡◌, ◌⊎◌, inl, inr, ⊎_elim, ℕ, zero, suc, ◌+◌, ◌-◌, ◌≤◌, Bool, true, false, not, ◌||◌, cond, IsTrue, List, [], ◌∷◌, ◌++◌, length, length-set, replicate, slice_set, slice_get, Option, Some, None, refl, ap, sym, ◌∙◌, subst, arith}
 use Rattle.std.specs.List.{list_any}
 use Rattle.heap_model.specs.declared.label.Label.{Label}
 use Rattle.heap_model.specs.declared.graph.Value.{Value}
@@ -9,15 +9,16 @@ use Rattle.heap_model.specs.Entries.{is_label}
 use Rattle.heap_model.specs.Graph.{has_label, has_no_repeats, same_label}
 use Rattle.heap_model.proofs.Graphs.GraphLemmas.{same_label-true, same_label_refl}
 use Rattle.table_laws.proofs.ChangeLemmas.{not_first}
+use Rattle.table_laws.proofs.WalkLemmas.{thinned_length}
 use Rattle.table_laws.specs.Structures.{Binding, datum_at, keys_of, without}
 use Rattle.table_text.specs.declared.line.TableLine.{TableLine}
 use Rattle.table_text.specs.declared.line.TableLine.TheVariants.{Key, Forget, Put, Get, Del, SetWeak, GetWeak, Count, FullMajor}
 use Rattle.table_machine.specs.declared.reply.LineReply.{LineReply}
 use Rattle.table_machine.specs.declared.reply.LineReply.TheVariants as reply
-use Rattle.table_machine.specs.Machine.{Binds, Deletes, Effect, Holds, IsNew, LineStep, MachineRuns, MayBeRefused, MayGo, ReadsSlot, Shows, TableState, WithKey, key_in, opened, with_key}
+use Rattle.table_machine.specs.Machine.{Binds, Deletes, Effect, Holds, IsLost, IsNew, LineStep, MachineRuns, MayBeRefused, MayGo, ReadsSlot, Shows, TableState, Tallies, WithKey, key_in, opened, with_key}
 use Rattle.heap_model.proofs.Reach.ReachLemmas.{and_left, and_right, is_false, or_left, or_right}
 use Rattle.text_laws.specs.Agreeing.{Agree, is_held, loose, GivesBack, GoesOn, NoneRefused, Parallel, TextsAgree}
-use Rattle.text_laws.proofs.Alike.{Alike, Fits, Leans, gets, got, held_or_lost, in_place, leans_on, leans_with, set_two}
+use Rattle.text_laws.proofs.Alike.{Alike, Fits, InBoth, Leans, Pair, flip, gets, got, in_place, leans_on, leans_with, may_same, pair_one, set_two, some_is}
 
 -- the other way round
 swap : {s t : TableState} → Alike s t → Alike t s
@@ -58,17 +59,9 @@ binds_other k l v old new b differ = sym (datum_without k l differ new) ∙ (ap 
 -- A key that is new stands for another one that is new.
 new_fits : (s t : TableState) (k m : Label) → IsNew s k → IsNew t m → Fits s t k m
 new_fits s t k m new other = record {
-  same = λ j n at at_other. absurd (new.lost (j, gets s.registers j k at));
+  registers = λ j at. absurd (new.lost (j, gets s.registers j k at));
   datum = datum_unbound k s.bindings new.unbound ∙ sym (datum_unbound m t.bindings other.unbound);
-  slot = λ j at. absurd (new.unset (j, gets s.slots j k at));
-}
-
--- so do keys of one register
-held_fits : (s t : TableState) (i : ℕ) (k m : Label) → Leans s t → in_place s.registers i ≡ Some k → in_place t.registers i ≡ Some m → Fits s t k m
-held_fits s t i k m x a b = record {
-  same = λ j n c d. x.once i j k m n a b c d;
-  datum = x.datum i k m a b;
-  slot = λ j found. x.slots i j k m a b found;
+  slots = λ j at. absurd (new.unset (j, gets s.slots j k at));
 }
 
 -- Changes of one state beside those of another.
@@ -85,9 +78,7 @@ leans_without s t q x = record {
   registers = length-set s.registers q None ∙ (x.registers ∙ sym (length-set t.registers q None));
   places = x.places;
   hold = λ i k at. (let a = was i k at in let h = x.hold i k a.0 in (h.0, a.1 ∙ h.1));
-  once = λ i j k m n a b c d. x.once i j k m n (was i k a).0 (sym (was i k a).1 ∙ b) (was j k c).0 (sym (was j k c).1 ∙ d);
-  datum = λ i k m a b. x.datum i k m (was i k a).0 (sym (was i k a).1 ∙ b);
-  slots = λ i j k m a b found. x.slots i j k m (was i k a).0 (sym (was i k a).1 ∙ b) found;
+  pairs = λ k m pair. fitting k m (x.pairs k m (pair_was k m pair));
 }
   where
     us : List (Option Label)
@@ -96,32 +87,45 @@ leans_without s t q x = record {
     vs : List (Option Label)
     vs = slice_set t.registers q None
 
-    was : (i : ℕ) (k : Label) → in_place (slice_set s.registers q None) i ≡ Some k → (in_place s.registers i ≡ Some k) × (in_place (slice_set t.registers q None) i ≡ in_place t.registers i)
+    was : (i : ℕ) (k : Label) → in_place us i ≡ Some k → (in_place s.registers i ≡ Some k) × (in_place vs i ≡ in_place t.registers i)
     was i k at = ⊎_elim
-        (λ (y : (in_place (slice_set s.registers q None) i ≡ None) × (in_place (slice_set t.registers q None) i ≡ None)). let clash : None ≡ Some k = sym y.0 ∙ at in cc)
-        (λ (y : (in_place (slice_set s.registers q None) i ≡ in_place s.registers i) × (in_place (slice_set t.registers q None) i ≡ in_place t.registers i)). (sym y.0 ∙ at, y.1))
+        (λ (y : (in_place us i ≡ None) × (in_place vs i ≡ None)). let clash : None ≡ Some k = sym y.0 ∙ at in cc)
+        (λ (y : (in_place us i ≡ in_place s.registers i) × (in_place vs i ≡ in_place t.registers i)). (sym y.0 ∙ at, y.1))
         (set_two s.registers t.registers q i None None x.registers)
+
+    pair_was : (k m : Label) → Pair (record s { registers = us }) (record t { registers = vs }) k m → Pair s t k m
+    pair_was k m (inl (i, a, b)) = let h = was i k a in inl (i, h.0, sym h.1 ∙ b)
+    pair_was k m (inr found) = inr found
+
+    fitting : (k m : Label) → Fits s t k m → Fits (record s { registers = us }) (record t { registers = vs }) k m
+    fitting k m fit = record { registers = λ j at. (let h = was j k at in h.1 ∙ fit.registers j h.0); datum = fit.datum; slots = fit.slots }
 
 alike_without : (s t : TableState) (q : ℕ) → Alike s t → Alike (record s { registers = slice_set s.registers q None }) (record t { registers = slice_set t.registers q None })
 alike_without s t q x = (leans_without s t q x.0, leans_without t s q x.1)
 
 -- the data change alike
 leans_data : (s t u v : TableState) → Leans s t → u.registers ≡ s.registers → u.slots ≡ s.slots → v.registers ≡ t.registers → v.slots ≡ t.slots
-    → ((i : ℕ) (k m : Label) → in_place s.registers i ≡ Some k → in_place t.registers i ≡ Some m → datum_at u.bindings k ≡ datum_at v.bindings m) → Leans u v
+    → ((k m : Label) → Pair s t k m → datum_at u.bindings k ≡ datum_at v.bindings m) → Leans u v
 leans_data s t u v x ur us vr vs data_same = record {
   registers = ap length ur ∙ (x.registers ∙ sym (ap length vr));
   places = ap length us ∙ (x.places ∙ sym (ap length vs));
-  hold = λ i k at. (let h = x.hold i k (first i k at) in (h.0, ap (λ (ps : List (Option Label)). in_place ps i) vr ∙ h.1));
-  once = λ i j k m n a b c d. x.once i j k m n (first i k a) (second i m b) (first j k c) (second j n d);
-  datum = λ i k m a b. data_same i k m (first i k a) (second i m b);
-  slots = λ i j k m a b found. ap (λ (ps : List (Option Label)). in_place ps j) vs ∙ x.slots i j k m (first i k a) (second i m b) (sym (ap (λ (ps : List (Option Label)). in_place ps j) us) ∙ found);
+  hold = λ i k at. (let h = x.hold i k (at_first ur i k at) in (h.0, ap (λ (ps : List (Option Label)). in_place ps i) vr ∙ h.1));
+  pairs = λ k m pair. fitting k m (was k m pair);
 }
   where
-    first : (i : ℕ) (k : Label) → in_place u.registers i ≡ Some k → in_place s.registers i ≡ Some k
-    first i k at = sym (ap (λ (ps : List (Option Label)). in_place ps i) ur) ∙ at
+    at_first : {ps qs : List (Option Label)} → ps ≡ qs → (i : ℕ) (k : Label) → in_place ps i ≡ Some k → in_place qs i ≡ Some k
+    at_first same i k at = sym (ap (λ (ps : List (Option Label)). in_place ps i) same) ∙ at
 
-    second : (i : ℕ) (k : Label) → in_place v.registers i ≡ Some k → in_place t.registers i ≡ Some k
-    second i k at = sym (ap (λ (ps : List (Option Label)). in_place ps i) vr) ∙ at
+    was : (k m : Label) → Pair u v k m → Pair s t k m
+    was k m (inl (i, a, b)) = inl (i, at_first ur i k a, at_first vr i m b)
+    was k m (inr (i, a, b)) = inr (i, at_first us i k a, at_first vs i m b)
+
+    fitting : (k m : Label) → Pair s t k m → Fits u v k m
+    fitting k m pair = let fit = x.pairs k m pair in record {
+      registers = λ j at. at_first (sym vr) j m (fit.registers j (at_first ur j k at));
+      datum = data_same k m pair;
+      slots = λ j at. at_first (sym vs) j m (fit.slots j (at_first us j k at));
+    }
 
 same_or_not : (k l : Label) → (l ≡ k) ⊎ (l ≡ k → ⊥)
 same_or_not k l = go (same_label k l) refl
@@ -137,10 +141,14 @@ leans_at : (s t u v : TableState) (q : ℕ) (k m : Label) (o p : Option Value) �
     → ((l : Label) → (l ≡ k → ⊥) → datum_at u.bindings l ≡ datum_at s.bindings l) → ((l : Label) → (l ≡ m → ⊥) → datum_at v.bindings l ≡ datum_at t.bindings l) → Leans u v
 leans_at s t u v q k m o p x here there ur us vr vs uk vm equal others elsewhere = leans_data s t u v x.0 ur us vr vs same
   where
-    same : (i : ℕ) (l n : Label) → in_place s.registers i ≡ Some l → in_place t.registers i ≡ Some n → datum_at u.bindings l ≡ datum_at v.bindings n
-    same i l n a b = ⊎_elim
-        (λ is. (let other : m ≡ n = x.0.once q i k m n here there (a ∙ ap Some is) b in ap (datum_at u.bindings) is ∙ (uk ∙ (equal ∙ (sym vm ∙ ap (datum_at v.bindings) other)))))
-        (λ differs. others l differs ∙ (x.0.datum i l n a b ∙ sym (elsewhere n (λ is. differs (x.1.once i q n l k b a (there ∙ ap Some (sym is)) here)))))
+    pair : Pair s t k m
+    pair = inl (q, here, there)
+
+    same : (l n : Label) → Pair s t l n → datum_at u.bindings l ≡ datum_at v.bindings n
+    same l n other_pair = ⊎_elim
+        (λ is. (let other : m ≡ n = pair_one s t k m n (x.0.pairs k m pair) (subst (λ (y : Label). Pair s t y n) is other_pair) in ap (datum_at u.bindings) is ∙ (uk ∙ (equal ∙ (sym vm ∙ ap (datum_at v.bindings) other)))))
+        (λ differs. others l differs ∙ ((x.0.pairs l n other_pair).datum
+        ∙ sym (elsewhere n (λ is. differs (sym (pair_one t s m k l (x.1.pairs m k (flip s t k m pair)) (subst (λ (y : Label). Pair t s y l) is (flip s t l n other_pair))))))))
         (same_or_not k l)
 
 -- a slot of each state gets these keys
@@ -150,15 +158,34 @@ leans_slot s t q at k m x here there = record {
   registers = x.0.registers;
   places = length-set s.slots at (Some k) ∙ (x.0.places ∙ sym (length-set t.slots at (Some m)));
   hold = x.0.hold;
-  once = x.0.once;
-  datum = x.0.datum;
-  slots = λ i j l n a b found. ⊎_elim
-      (λ (y : (in_place (slice_set s.slots at (Some k)) j ≡ Some k) × (in_place (slice_set t.slots at (Some m)) j ≡ Some m)).
-      y.1 ∙ ap Some (x.0.once q i k m n here there (a ∙ (sym found ∙ y.0)) b))
-      (λ (y : (in_place (slice_set s.slots at (Some k)) j ≡ in_place s.slots j) × (in_place (slice_set t.slots at (Some m)) j ≡ in_place t.slots j)).
-      y.1 ∙ x.0.slots i j l n a b (sym y.0 ∙ found))
-      (set_two s.slots t.slots at j (Some k) (Some m) x.0.places);
+  pairs = λ l n pair. fitting l n (was l n pair);
 }
+  where
+    us : List (Option Label)
+    us = slice_set s.slots at (Some k)
+
+    vs : List (Option Label)
+    vs = slice_set t.slots at (Some m)
+
+    fit : Fits s t k m
+    fit = x.0.pairs k m (inl (q, here, there))
+
+    was : (l n : Label) → Pair (record s { slots = us }) (record t { slots = vs }) l n → Pair s t l n
+    was l n (inl found) = inl found
+    was l n (inr (i, a, b)) = ⊎_elim
+        (λ (y : (in_place us i ≡ Some k) × (in_place vs i ≡ Some m)). inl (q, here ∙ (sym y.0 ∙ a), there ∙ (sym y.1 ∙ b)))
+        (λ (y : (in_place us i ≡ in_place s.slots i) × (in_place vs i ≡ in_place t.slots i)). inr (i, sym y.0 ∙ a, sym y.1 ∙ b))
+        (set_two s.slots t.slots at i (Some k) (Some m) x.0.places)
+
+    fitting : (l n : Label) → Pair s t l n → Fits (record s { slots = us }) (record t { slots = vs }) l n
+    fitting l n pair = let old = x.0.pairs l n pair in record {
+      registers = old.registers;
+      datum = old.datum;
+      slots = λ j found. ⊎_elim
+          (λ (y : (in_place us j ≡ Some k) × (in_place vs j ≡ Some m)). y.1 ∙ ap Some (pair_one s t k m n fit (subst (λ (w : Label). Pair s t w n) (some_is l k (sym found ∙ y.0)) pair)))
+          (λ (y : (in_place us j ≡ in_place s.slots j) × (in_place vs j ≡ in_place t.slots j)). y.1 ∙ old.slots j (sym y.0 ∙ found))
+          (set_two s.slots t.slots at j (Some k) (Some m) x.0.places);
+    }
 
 -- Counts.
 without_few : (k : Label) (bs : List Binding) → length (without k bs) ≤ length bs
@@ -176,10 +203,6 @@ shorter k d (b ∷ bs) e = go (same_label b.0 k) refl (without_few k bs) (shorte
     go : (c : Bool) → same_label b.0 k ≡ c → length (without k bs) ≤ length bs → (datum_at bs k ≡ Some d → length (without k bs) + 1 ≤ length bs) → length (cond c (without k bs) (b ∷ without k bs)) + 1 ≤ suc (length bs)
     go true is few rest = omega (arith, few)
     go false is few rest = let later = rest (sym (ap (λ (x : Bool). cond x (Some b.1) (datum_at bs k)) is) ∙ e) in omega (arith, later)
-
--- a register of each state holds the one and the other
-abbrev Pair : TableState → TableState → Label → Label → Type 0
-Pair s t k m = (i : ℕ) × (in_place s.registers i ≡ Some k) × (in_place t.registers i ≡ Some m)
 
 -- what a register holds is in a place
 held_place : (ps : List (Option Label)) (k : Label) → IsTrue (list_any (is_label k) ps) → (i : ℕ) × (in_place ps i ≡ Some k)
@@ -201,11 +224,15 @@ bound_datum (b ∷ bs) k h = go (same_label b.0 k) refl (bound_datum bs k)
     go false e rest = let r = rest (sym (ap (λ (c : Bool). c || has_label (keys_of bs) k) e) ∙ h) in (r.0, ap (λ (c : Bool). cond c (Some b.1) (datum_at bs k)) e ∙ r.1)
 
 module _ (s t : TableState) (x : Alike s t) where
-  one_key : (k l m : Label) → Pair s t k m → Pair s t l m → k ≡ l
-  one_key k l m (i, a, b) (j, c, d) = x.1.once i j m k l b a d c
+  -- the registers hold them
+  abbrev HeldPair : Label → Label → Type 0
+  HeldPair k m = InBoth s.registers t.registers k m
+
+  one_key : (k l m : Label) → HeldPair k m → HeldPair l m → k ≡ l
+  one_key k l m a b = pair_one t s m k l (x.1.pairs m k (flip s t k m (inl a))) (flip s t l m (inl b))
 
   -- bindings whose keys registers hold are no more than those of the other state
-  few_bound : (bs others : List Binding) → IsTrue (has_no_repeats (keys_of bs)) → ((k : Label) → IsTrue (has_label (keys_of bs) k) → IsTrue (is_held s k) → (m : Label) × Pair s t k m × ((d : Value) × (datum_at others m ≡ Some d))) → length bs ≤ length others + length (loose s bs)
+  few_bound : (bs others : List Binding) → IsTrue (has_no_repeats (keys_of bs)) → ((k : Label) → IsTrue (has_label (keys_of bs) k) → IsTrue (is_held s k) → (m : Label) × HeldPair k m × ((d : Value) × (datum_at others m ≡ Some d))) → length bs ≤ length others + length (loose s bs)
   few_bound [] others once found = omega arith
   few_bound (b ∷ bs) others once found = go (is_held s b.0) refl
       (λ ys each. few_bound bs ys (and_right (not (has_label (keys_of bs) b.0)) _ once) each)
@@ -216,23 +243,34 @@ module _ (s t : TableState) (x : Alike s t) where
       other : (k : Label) → IsTrue (has_label (keys_of bs) k) → k ≡ b.0 → ⊥
       other k h is = let new = is_false (has_label (keys_of bs) b.0) (and_left _ _ once) in let clash : true ≡ false = sym (subst (λ (l : Label). IsTrue (has_label (keys_of bs) l)) is h) ∙ new in cc
 
-      go : (c : Bool) → is_held s b.0 ≡ c → ((ys : List Binding) → ((k : Label) → IsTrue (has_label (keys_of bs) k) → IsTrue (is_held s k) → (m : Label) × Pair s t k m × ((d : Value) × (datum_at ys m ≡ Some d))) → length bs ≤ length ys + length (loose s bs)) → suc (length bs) ≤ length others + length (cond c (loose s bs) (b ∷ loose s bs))
+      go : (c : Bool) → is_held s b.0 ≡ c → ((ys : List Binding) → ((k : Label) → IsTrue (has_label (keys_of bs) k) → IsTrue (is_held s k) → (m : Label) × HeldPair k m × ((d : Value) × (datum_at ys m ≡ Some d))) → length bs ≤ length ys + length (loose s bs)) → suc (length bs) ≤ length others + length (cond c (loose s bs) (b ∷ loose s bs))
       go false e rest = let few = rest others (λ k h held. found k (later k h) held) in omega (arith, few)
       go true e rest =
           let here = found b.0 (or_left (same_label b.0 b.0) _ (same_label_refl b.0)) e in let m = here.0 in
-          let few = rest (without m others) (λ k h held. (let f = found k (later k h) held in (f.0, f.1, (f.2.0, datum_without m f.0 (λ same. other k h (one_key k b.0 m (subst (λ (l : Label). Pair s t k l) same f.1) here.1)) others ∙ f.2.1)))) in
+          let few = rest (without m others) (λ k h held. (let f = found k (later k h) held in (f.0, f.1, (f.2.0, datum_without m f.0 (λ same. other k h (one_key k b.0 m (subst (λ (l : Label). HeldPair k l) same f.1) here.1)) others ∙ f.2.1)))) in
           let short = shorter m here.2.0 others here.2.1 in
           omega (arith, few, short)
 
   pub few_counted : IsTrue (has_no_repeats (keys_of s.bindings)) → length s.bindings ≤ length t.bindings + length (loose s s.bindings)
   few_counted once = few_bound s.bindings t.bindings once (λ k h held.
       let at = held_place s.registers k held in let over = x.0.hold at.0 k at.1 in let d = bound_datum s.bindings k h in
-      (over.0, (at.0, at.1, over.1), (d.0, sym (x.0.datum at.0 k over.0 at.1 over.1) ∙ d.1)))
+      (over.0, (at.0, at.1, over.1), (d.0, sym (x.0.pairs k over.0 (inl (at.0, at.1, over.1))).datum ∙ d.1)))
+
+-- a count before which keys went, and while it was made, beside another one
+tallies_few : (s t p q u v : TableState) (a b : LineReply) → Alike s t → MayGo s p → MayGo t q → (c : Tallies p a u) → (d : Tallies q b v) → IsTrue (has_no_repeats (keys_of s.bindings)) → c.number ≤ d.number + length (loose s s.bindings)
+tallies_few s t p q u v a b x goes other c d once =
+    let beside : Alike s q = (leans_on s t s q (may_same s) other x.0, leans_on t s q s other (may_same s) x.1) in
+    let after : Alike s v = (leans_on s q s v (may_same s) d.goes beside.0, leans_on q s v s d.goes (may_same s) beside.1) in
+    let few = few_counted s v after once in
+    let short = thinned_length (IsLost s) s.bindings p.bindings goes.bindings in
+    let most = c.most in
+    let least = d.least in
+    omega (arith, few, short, most, least)
 
 -- What a line answers and leaves.
 pub record Done (s t : TableState) (l : TableLine) (a b : LineReply) (u v : TableState) : Type 0 where
   pub agree : Agree s t l a b u v
-  pub alike : GoesOn s l a b u → Alike u v
+  pub alike : GoesOn l a b → Alike u v
 
 -- a line that needs the key of a register, where both find none or both find one
 with_key_too : (s t u v : TableState) (q : ℕ) (a b : LineReply) (f g : Label → Type 0) → Alike s t
@@ -281,24 +319,14 @@ gone_too : (p q : TableState) (slot : ℕ) (k : Label) → Leans p q → slice_g
 gone_too p q slot k x found none (i, at) =
     let here = got p.registers i (Some k) at in
     let h = x.hold i k here in
-    let there = x.slots i slot k h.0 here h.1 (got p.slots slot (Some k) found) in
+    let there = (x.pairs k h.0 (inl (i, here, h.1))).slots slot (got p.slots slot (Some k) found) in
     let clash : None ≡ Some h.0 = sym (got q.slots slot None none) ∙ there in cc
 
--- where both find a key that a register holds, these stand for one another
-pair_of : (p q : TableState) (slot : ℕ) (k m : Label) → Leans p q → slice_get p.slots slot ≡ Some (Some k) → slice_get q.slots slot ≡ Some (Some m)
-    → (i : ℕ) → in_place p.registers i ≡ Some k → in_place q.registers i ≡ Some m
-pair_of p q slot k m x found other i here =
-    let h = x.hold i k here in
-    let there = x.slots i slot k h.0 here h.1 (got p.slots slot (Some k) found) in
-    h.1 ∙ (sym there ∙ got q.slots slot (Some m) other)
-
 module _ (s t p q u v : TableState) (d slot : ℕ) (a b : LineReply) (ps : p.registers ≡ s.registers) (qt : q.registers ≡ t.registers) (x : Alike p q) where
-  both_found : (k m : Label) → slice_get p.slots slot ≡ Some (Some k) → slice_get q.slots slot ≡ Some (Some m) → u ≡ with_key p d (Some k) → v ≡ with_key q d (Some m)
-      → ((i : ℕ) × (in_place p.registers i ≡ Some k)) ⊎ (Holds p.registers k → ⊥) → (GivesBack s slot u → ⊥) → Alike u v
-  both_found k m e f ua vb (inl (i, here)) kept =
-      let there = pair_of p q slot k m x.0 e f i here in
-      alike_is (with_key p d (Some k)) (with_key q d (Some m)) u v ua vb (alike_with p q (d - 1) k m x (held_fits p q i k m x.0 here there) (held_fits q p i m k x.1 there here))
-  both_found k m e f ua vb (inr lost) kept = absurd (kept (gives_back s p u d slot k ps e ua lost))
+  both_found : (k m : Label) → slice_get p.slots slot ≡ Some (Some k) → slice_get q.slots slot ≡ Some (Some m) → u ≡ with_key p d (Some k) → v ≡ with_key q d (Some m) → Alike u v
+  both_found k m e f ua vb =
+      let pair : Pair p q k m = inr (slot, got p.slots slot (Some k) e, got q.slots slot (Some m) f) in
+      alike_is (with_key p d (Some k)) (with_key q d (Some m)) u v ua vb (alike_with p q (d - 1) k m x (x.0.pairs k m pair) (x.1.pairs m k (flip p q k m pair)))
 
   look_too : (o r : Option (Option Label)) → slice_get p.slots slot ≡ o → slice_get q.slots slot ≡ r → ReadsSlot p a u d o → ReadsSlot q b v d r → Done s t (GetWeak d slot) a b u v
   look_too None r e f reads looks = absurd reads
@@ -309,22 +337,22 @@ module _ (s t p q u v : TableState) (d slot : ℕ) (a b : LineReply) (ps : p.reg
   }
   look_too (Some (Some k)) (Some None) e f (ra, ua) (rb, vb) = record {
     agree = inr (inl (gives_back s p u d slot k ps e ua (gone_too p q slot k x.0 e f)));
-    alike = λ goes. (let clash : reply.Yes ≡ reply.Empty = sym ra ∙ (goes.0 ∙ rb) in cc);
+    alike = λ goes. (let clash : reply.Yes ≡ reply.Empty = sym ra ∙ (goes ∙ rb) in cc);
   }
   look_too (Some None) (Some (Some m)) e f (ra, ua) (rb, vb) = record {
     agree = inr (inr (gives_back t q v d slot m qt f vb (gone_too q p slot m x.1 f e)));
-    alike = λ goes. (let clash : reply.Yes ≡ reply.Empty = sym rb ∙ (sym goes.0 ∙ ra) in cc);
+    alike = λ goes. (let clash : reply.Yes ≡ reply.Empty = sym rb ∙ (sym goes ∙ ra) in cc);
   }
   look_too (Some (Some k)) (Some (Some m)) e f (ra, ua) (rb, vb) = record {
     agree = inl (ra ∙ sym rb);
-    alike = λ goes. both_found k m e f ua vb (held_or_lost p.registers k) goes.1;
+    alike = λ goes. both_found k m e f ua vb;
   }
 
 -- all other lines: they are answered the same, and leave states that look alike
 same_done : (s t : TableState) (l : TableLine) (a b : LineReply) (u v : TableState) → ((a ≡ b) → Agree s t l a b u v) → (a ≡ b) × Alike u v → Done s t l a b u v
 same_done s t l a b u v into r = record { agree = into r.0; alike = λ goes. r.1 }
 
-module _ (s t p q u v : TableState) (a b : LineReply) (goes : MayGo s p) (other : MayGo t q) (x : Alike p q) where
+module _ (s t p q u v : TableState) (a b : LineReply) (before : Alike s t) (goes : MayGo s p) (other : MayGo t q) (x : Alike p q) where
   put_too : (r : ℕ) (w : _) → Effect p (Put r w) a u → Effect q (Put r w) b v → (a ≡ b) × Alike u v
   put_too r w = with_key_too p q u v (r - 1) a b _ _ x (λ k m here there done did. (
     done.0 ∙ sym did.0,
@@ -338,13 +366,13 @@ module _ (s t p q u v : TableState) (a b : LineReply) (goes : MayGo s p) (other 
 
   get_too : (r : ℕ) → Effect p (Get r) a u → Effect q (Get r) b v → (a ≡ b) × Alike u v
   get_too r = with_key_too p q u v (r - 1) a b _ _ x (λ k m here there done did. (
-    shows_same (datum_at q.bindings m) a b (subst (λ (o : Option Value). Shows o a) (x.0.datum (r - 1) k m here there) done.0) did.0,
+    shows_same (datum_at q.bindings m) a b (subst (λ (o : Option Value). Shows o a) (x.0.pairs k m (inl (r - 1, here, there))).datum done.0) did.0,
     alike_is p q u v done.1 did.1 x,
   )) (key_in p r) (key_in q r) refl refl
 
   del_too : (r : ℕ) → Effect p (Del r) a u → Effect q (Del r) b v → (a ≡ b) × Alike u v
   del_too r = with_key_too p q u v (r - 1) a b _ _ x (λ k m here there done did.
-      deletes_too p q u v (r - 1) a b k m x here there (datum_at q.bindings m) (subst (λ (o : Option Value). Deletes k p a u o) (x.0.datum (r - 1) k m here there) done) did
+      deletes_too p q u v (r - 1) a b k m x here there (datum_at q.bindings m) (subst (λ (o : Option Value). Deletes k p a u o) (x.0.pairs k m (inl (r - 1, here, there))).datum done) did
       ) (key_in p r) (key_in q r) refl refl
 
   set_too : (slot r : ℕ) → Effect p (SetWeak slot r) a u → Effect q (SetWeak slot r) b v → (a ≡ b) × Alike u v
@@ -365,16 +393,16 @@ module _ (s t p q u v : TableState) (a b : LineReply) (goes : MayGo s p) (other 
   effects (Del r) e f = same_done s t (Del r) a b u v (λ e. e) (del_too r e f)
   effects (SetWeak slot r) e f = same_done s t (SetWeak slot r) a b u v (λ e. e) (set_too slot r e f)
   effects (GetWeak d slot) e f = look_too s t p q u v d slot a b goes.registers other.registers x (slice_get p.slots slot) (slice_get q.slots slot) refl refl e f
-  effects Count (ra, ua) (rb, vb) = record {
+  effects Count c d = record {
     agree = record {
-      first = length p.bindings;
-      second = length q.bindings;
-      first_is = ra;
-      second_is = rb;
-      first_few = λ once. subst (λ (w : TableState). length p.bindings ≤ length q.bindings + length (loose w w.bindings)) (sym ua) (few_counted p q x (subst (λ (w : TableState). IsTrue (has_no_repeats (keys_of w.bindings))) ua once));
-      second_few = λ once. subst (λ (w : TableState). length q.bindings ≤ length p.bindings + length (loose w w.bindings)) (sym vb) (few_counted q p (swap x) (subst (λ (w : TableState). IsTrue (has_no_repeats (keys_of w.bindings))) vb once));
+      first = c.number;
+      second = d.number;
+      first_is = c.answers;
+      second_is = d.answers;
+      first_few = tallies_few s t p q u v a b before goes other c d;
+      second_few = tallies_few t s q p v u b a (swap before) other goes d c;
     };
-    alike = λ _. alike_is p q u v ua vb x;
+    alike = λ _. (leans_on p q u v c.goes d.goes x.0, leans_on q p v u d.goes c.goes x.1);
   }
   effects FullMajor (ra, ua, _) (rb, vb, _) = same_done s t FullMajor a b u v (λ e. e) (ra ∙ sym rb, alike_is p q u v ua vb x)
 
@@ -387,7 +415,7 @@ line_too y z before behind l s t a b u v x none neither step other = done step.d
     after = (leans_on s t step.left other.left step.goes other.goes x.0, leans_on t s other.left step.left other.goes step.goes x.1)
 
     done : Effect step.left l a u ⊎ ((a ≡ reply.Full) × (u ≡ step.left) × MayBeRefused y before l step.left) → Effect other.left l b v ⊎ ((b ≡ reply.Full) × (v ≡ other.left) × MayBeRefused z behind l other.left) → Done s t l a b u v
-    done (inl e) (inl f) = effects s t step.left other.left u v a b step.goes other.goes after l e f
+    done (inl e) (inl f) = effects s t step.left other.left u v a b x step.goes other.goes after l e f
     done (inr e) _ = absurd (none e.0)
     done (inl e) (inr f) = absurd (neither f.0)
 
@@ -402,25 +430,19 @@ lines_too y z before behind s t (l ∷ lines) (a ∷ answers) [] us vs x runs ag
 lines_too y z before behind s t (l ∷ lines) (a ∷ answers) (b ∷ others) [] vs x runs again none neither = absurd runs
 lines_too y z before behind s t (l ∷ lines) (a ∷ answers) (b ∷ others) (u ∷ us) [] x runs again none neither = absurd again
 
--- before the first line no register holds a key
-opened_none : (i : ℕ) (k : Label) → in_place opened.registers i ≡ Some k → ⊥
-opened_none zero k e = cc
-opened_none (suc zero) k e = cc
-opened_none (suc (suc zero)) k e = cc
-opened_none (suc (suc (suc zero))) k e = cc
-opened_none (suc (suc (suc (suc zero)))) k e = cc
-opened_none (suc (suc (suc (suc (suc zero))))) k e = cc
-opened_none (suc (suc (suc (suc (suc (suc i)))))) k e = cc
+-- before the first line nothing holds a key
+none_there : (n i : ℕ) (k : Label) → in_place (replicate n None) i ≡ Some k → ⊥
+none_there zero zero k e = cc
+none_there zero (suc i) k e = cc
+none_there (suc n) zero k e = cc
+none_there (suc n) (suc i) k e = none_there n i k e
 
 opened_leans : Leans opened opened
-opened_leans = record {
-  registers = refl;
-  places = refl;
-  hold = λ i k at. absurd (opened_none i k at);
-  once = λ i j k m n a b c d. absurd (opened_none i k a);
-  datum = λ i k m a b. absurd (opened_none i k a);
-  slots = λ i j k m a b found. absurd (opened_none i k a);
-}
+opened_leans = record { registers = refl; places = refl; hold = λ i k at. absurd (none_there 5 i k at); pairs = pairs }
+  where
+    pairs : (k m : Label) → Pair opened opened k m → Fits opened opened k m
+    pairs k m (inl (i, a, b)) = absurd (none_there 5 i k a)
+    pairs k m (inr (i, a, b)) = absurd (none_there 16 i k a)
 
 pub texts_law : TextsAgree
 texts_law y z lines answers others us vs runs again none neither = lines_too y z [] [] opened opened lines answers others us vs (opened_leans, opened_leans) runs again none neither

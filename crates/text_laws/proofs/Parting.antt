@@ -1,14 +1,17 @@
 -- Two runs of one text that part.
-use Rattle.std.proofs.Common.{◌≡◌, inl, inr, zero, suc, List, [], ◌∷◌, replicate, slice_set, slice_get, Some, None, refl}
+use Rattle.std.proofs.Common.{◌≡◌, inl, inr, ⊎_elim, zero, suc, pos, false, true, List, [], ◌∷◌, replicate, slice_set, slice_get, Some, None, refl}
 use Rattle.heap_model.specs.declared.label.Label.{Label}
+use Rattle.heap_model.specs.declared.graph.Value.TheVariants.{Int}
 use Rattle.heap_model.specs.declared.state.Sizes.{Sizes}
 use Rattle.table_laws.specs.Thinning.{EmptiedBy}
 use Rattle.table_laws.proofs.ChangeLemmas.{emptied_same}
-use Rattle.table_laws.proofs.BindingLemmas.{thinned_same}
 use Rattle.table_text.specs.declared.line.TableLine.{TableLine}
 use Rattle.table_machine.specs.declared.reply.LineReply.{LineReply}
-use Rattle.table_machine.specs.Machine.{Effect, IsLost, LineStep, MachineAnswers, MayGo, TableState, opened, with_key}
-use Rattle.text_laws.specs.Agreeing.{found_replies, gone_replies, parting_lines}
+use Rattle.table_machine.specs.declared.reply.LineReply.TheVariants as reply
+use Rattle.table_machine.specs.Machine.{Effect, IsLost, LineStep, MachineAnswers, MachineRuns, MayGo, TableState, opened, with_key}
+use Rattle.text_laws.specs.Agreeing.{NoneRefused, apart_replies, back_lines, found_replies, gone_replies, kept_replies, parting_lines}
+use Rattle.text_laws.proofs.Alike.{may_same}
+use Rattle.text_laws.proofs.Lines.{texts_law}
 
 abbrev key : Label
 key = record { domain = 0; serial = 20 }
@@ -20,9 +23,15 @@ none_held zero (suc i) e = cc
 none_held (suc n) zero e = cc
 none_held (suc n) (suc i) e = none_held n i e
 
+lone_held : (n : _) (k : Label) (i : _) → slice_get (replicate n None) i ≡ Some (Some k) → ⊥
+lone_held zero k zero e = cc
+lone_held zero k (suc i) e = cc
+lone_held (suc n) k zero e = cc
+lone_held (suc n) k (suc i) e = lone_held n k i e
+
 -- a line before which nothing goes
 stays : (z : Sizes) (lines : List TableLine) (l : TableLine) (s : TableState) (a : LineReply) (t : TableState) → Effect s l a t → LineStep z lines l s a t
-stays z lines l s a t e = record { left = s; goes = record { registers = refl; bindings = thinned_same (IsLost s) s.bindings; slots = emptied_same (IsLost s) s.slots }; does = inl e }
+stays z lines l s a t e = record { left = s; goes = may_same s; does = inl e }
 
 abbrev made : TableState
 made = with_key opened 1 (Some key)
@@ -53,7 +62,7 @@ one_emptied = (None, replicate 12 None, refl, inr (refl, (key, refl, is_lost)), 
 
 -- before the last line the collector empties the slot
 goes : MayGo let_go emptied
-goes = record { registers = refl; bindings = refl; slots = (None, replicate 15 None, refl, inl refl, (None, replicate 14 None, refl, inl refl, (None, replicate 13 None, refl, inl refl, one_emptied))) }
+goes = record { registers = refl; bindings = refl; slots = (None, replicate 15 None, refl, inl refl, (None, replicate 14 None, refl, inl refl, (None, replicate 13 None, refl, inl refl, one_emptied))); together = λ k there. absurd (⊎_elim (λ h. let clash : false ≡ true = h in cc) (λ h. lone_held 16 k h.0 h.1) there) }
 
 pub gone : (z : Sizes) → MachineAnswers z parting_lines gone_replies
 gone z = record {
@@ -63,3 +72,64 @@ gone z = record {
     (stays z _ _ _ _ _ (refl, refl), (stays z _ _ _ _ _ (refl, refl), (record { left = emptied; goes = goes; does = inl (refl, refl) }, tt))),
   );
 }
+
+-- A slot gives back a key with its binding.
+abbrev bound : TableState
+bound = record made { bindings = (key, Int (pos 7)) ∷ [] }
+
+abbrev bound_set : TableState
+bound_set = record bound { slots = slice_set bound.slots 3 (Some key) }
+
+abbrev bound_let_go : TableState
+bound_let_go = with_key bound_set 1 None
+
+abbrev given_back : TableState
+given_back = with_key bound_let_go 2 (Some key)
+
+abbrev kept_states : List TableState
+kept_states = made ∷ bound ∷ bound_set ∷ bound_let_go ∷ given_back ∷ given_back ∷ []
+
+kept_runs : (z : Sizes) → MachineRuns z [] opened back_lines kept_replies kept_states
+kept_runs z = (
+  stays z _ _ _ _ _ (refl, (key, record { lost = λ h. none_held 5 h.0 h.1; unbound = refl; unset = λ h. none_held 16 h.0 h.1 }, refl)),
+  (stays z _ _ _ _ _ (refl, refl, refl, record { rest = refl; bound = refl }), (stays z _ _ _ _ _ (refl, refl), (stays z _ _ _ _ _ (refl, refl), (stays z _ _ _ _ _ (refl, refl), (stays z _ _ _ _ _ (refl, refl), tt))))),
+)
+
+pub kept : (z : Sizes) → MachineAnswers z back_lines kept_replies
+kept z = record { states = kept_states; runs = kept_runs z }
+
+none_full : NoneRefused kept_replies
+none_full zero e = cc
+none_full (suc zero) e = cc
+none_full (suc (suc zero)) e = cc
+none_full (suc (suc (suc zero))) e = cc
+none_full (suc (suc (suc (suc zero)))) e = cc
+none_full (suc (suc (suc (suc (suc zero))))) e = cc
+none_full (suc (suc (suc (suc (suc (suc zero)))))) e = cc
+none_full (suc (suc (suc (suc (suc (suc (suc i))))))) e = cc
+
+none_refused : NoneRefused apart_replies
+none_refused zero e = cc
+none_refused (suc zero) e = cc
+none_refused (suc (suc zero)) e = cc
+none_refused (suc (suc (suc zero))) e = cc
+none_refused (suc (suc (suc (suc zero)))) e = cc
+none_refused (suc (suc (suc (suc (suc zero))))) e = cc
+none_refused (suc (suc (suc (suc (suc (suc zero)))))) e = cc
+none_refused (suc (suc (suc (suc (suc (suc (suc i))))))) e = cc
+
+-- and never without it, since the law holds of the two runs
+never_apart : (z : Sizes) (vs : List TableState) → MachineRuns z [] opened back_lines apart_replies vs → ⊥
+never_apart z [] runs = absurd runs
+never_apart z (a ∷ []) runs = absurd runs.1
+never_apart z (a ∷ b ∷ []) runs = absurd runs.1.1
+never_apart z (a ∷ b ∷ c ∷ []) runs = absurd runs.1.1.1
+never_apart z (a ∷ b ∷ c ∷ d ∷ []) runs = absurd runs.1.1.1.1
+never_apart z (a ∷ b ∷ c ∷ d ∷ e ∷ []) runs = absurd runs.1.1.1.1.1
+never_apart z (a ∷ b ∷ c ∷ d ∷ e ∷ f ∷ vs) runs =
+    let together = texts_law z z back_lines kept_replies apart_replies kept_states (a ∷ b ∷ c ∷ d ∷ e ∷ f ∷ vs) (kept_runs z) runs none_full none_refused in
+    let look = (((together.1 tt).1 tt).1 tt).1 tt in
+    let clash : reply.Number (pos 7) ≡ reply.Empty = (look.1 refl).0 in cc
+
+pub apart : (z : Sizes) → MachineAnswers z back_lines apart_replies → ⊥
+apart z m = never_apart z m.states m.runs

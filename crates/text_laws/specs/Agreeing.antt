@@ -1,5 +1,5 @@
 -- Two runs of one text of a table.
-use Rattle.std.specs.Prelude.{◌≡◌, ◌⊎◌, ℕ, ◌+◌, ◌≤◌, Bool, cond, IsTrue, List, [], ◌∷◌, length, slice_get, Some}
+use Rattle.std.specs.Prelude.{◌≡◌, ◌⊎◌, ℕ, ◌+◌, ◌≤◌, Bool, cond, IsTrue, List, [], ◌∷◌, length, pos, slice_get, Some}
 use Rattle.std.specs.List.{list_any}
 use Rattle.heap_model.specs.declared.label.Label.{Label}
 use Rattle.heap_model.specs.declared.state.Sizes.{Sizes}
@@ -7,7 +7,7 @@ use Rattle.heap_model.specs.Entries.{is_label}
 use Rattle.heap_model.specs.Graph.{has_no_repeats}
 use Rattle.table_laws.specs.Structures.{Binding, keys_of}
 use Rattle.table_text.specs.declared.line.TableLine.{TableLine}
-use Rattle.table_text.specs.declared.line.TableLine.TheVariants.{Count, Forget, GetWeak, Key, SetWeak}
+use Rattle.table_text.specs.declared.line.TableLine.TheVariants.{Count, Forget, Get, GetWeak, Key, Put, SetWeak}
 use Rattle.table_machine.specs.declared.reply.LineReply.{LineReply}
 use Rattle.table_machine.specs.declared.reply.LineReply.TheVariants as reply
 use Rattle.table_machine.specs.Machine.{IsLost, MachineRuns, TableState, opened}
@@ -31,29 +31,29 @@ abbrev pub loose : TableState → List Binding → List Binding
 loose s [] = []
 loose s (b ∷ bs) = cond (is_held s b.0) (loose s bs) (b ∷ loose s bs)
 
--- two counts, after which the states are these: where no key is bound twice, as in each table, the one is no greater than the other but by bindings whose key no register holds
-pub record Counts (a b : LineReply) (u v : TableState) : Type 0 where
+-- two counts, from these states: where no key is bound twice, as in each table, the one is no greater than the other but by bindings whose key no register holds
+pub record Counts (s t : TableState) (a b : LineReply) : Type 0 where
   pub first : ℕ
   pub second : ℕ
   pub first_is : a ≡ reply.Counted first
   pub second_is : b ≡ reply.Counted second
-  pub first_few : IsTrue (has_no_repeats (keys_of u.bindings)) → first ≤ second + length (loose u u.bindings)
-  pub second_few : IsTrue (has_no_repeats (keys_of v.bindings)) → second ≤ first + length (loose v v.bindings)
+  pub first_few : IsTrue (has_no_repeats (keys_of s.bindings)) → first ≤ second + length (loose s s.bindings)
+  pub second_few : IsTrue (has_no_repeats (keys_of t.bindings)) → second ≤ first + length (loose t t.bindings)
 
 -- how a line is answered in two runs, from s to u in the one and from t to v in the other: the same; a count but for bindings that may go; and a look at a slot the same, but where one of them gives back a key that no register held
 abbrev pub Agree : TableState → TableState → TableLine → LineReply → LineReply → TableState → TableState → Type 0
-Agree s t Count a b u v = Counts a b u v
+Agree s t Count a b u v = Counts s t a b
 Agree s t (GetWeak d slot) a b u v = (a ≡ b) ⊎ (GivesBack s slot u ⊎ GivesBack t slot v)
 Agree s t _ a b u v = a ≡ b
 
--- no look at a slot tells the runs apart, or gives back such a key
-abbrev pub GoesOn : TableState → TableLine → LineReply → LineReply → TableState → Type 0
-GoesOn s (GetWeak d slot) a b u = (a ≡ b) × (GivesBack s slot u → ⊥)
-GoesOn s _ a b u = Unit {0}
+-- no look at a slot tells the runs apart
+abbrev pub GoesOn : TableLine → LineReply → LineReply → Type 0
+GoesOn (GetWeak d slot) a b = a ≡ b
+GoesOn _ a b = Unit {0}
 
 -- each line is answered so, as long as that goes on
 abbrev pub Parallel : TableState → TableState → List TableLine → List LineReply → List LineReply → List TableState → List TableState → Type 0
-Parallel s t (l ∷ lines) (a ∷ answers) (b ∷ others) (u ∷ us) (v ∷ vs) = Agree s t l a b u v × (GoesOn s l a b u → Parallel u v lines answers others us vs)
+Parallel s t (l ∷ lines) (a ∷ answers) (b ∷ others) (u ∷ us) (v ∷ vs) = Agree s t l a b u v × (GoesOn l a b → Parallel u v lines answers others us vs)
 Parallel s t _ _ _ _ _ = Unit {0}
 
 -- two runs of one text, whatever the sizes of the heap of each
@@ -71,3 +71,14 @@ found_replies = reply.Done ∷ reply.Done ∷ reply.Done ∷ reply.Yes ∷ []
 
 abbrev pub gone_replies : List LineReply
 gone_replies = reply.Done ∷ reply.Done ∷ reply.Done ∷ reply.Empty ∷ []
+
+-- A slot gives back a key that no register held, with its binding
+abbrev pub back_lines : List TableLine
+back_lines = Key 1 ∷ Put 1 (pos 7) ∷ SetWeak 3 1 ∷ Forget 1 ∷ GetWeak 2 3 ∷ Get 2 ∷ []
+
+abbrev pub kept_replies : List LineReply
+kept_replies = reply.Done ∷ reply.Done ∷ reply.Done ∷ reply.Done ∷ reply.Yes ∷ reply.Number (pos 7) ∷ []
+
+-- and never without it
+abbrev pub apart_replies : List LineReply
+apart_replies = reply.Done ∷ reply.Done ∷ reply.Done ∷ reply.Done ∷ reply.Yes ∷ reply.Empty ∷ []

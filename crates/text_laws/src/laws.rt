@@ -1,11 +1,11 @@
 //! Laws of texts of tables. Each function's contract is one law, and it does nothing else.
-ghost use Rattle.text_laws.specs.Agreeing.{TextsAgree, found_replies, gone_replies, parting_lines};
+ghost use Rattle.text_laws.specs.Agreeing.{TextsAgree, apart_replies, back_lines, found_replies, gone_replies, kept_replies, parting_lines};
 ghost use Rattle.heap_model.specs.declared.state.Sizes.{Sizes};
 ghost use Rattle.table_machine.specs.Machine.{MachineAnswers};
 
 /// Two runs of one text of a table, in none of which an allocation was refused, are answered the same, whatever the
 /// collector did in each: but for counts, which differ by bindings whose key no register holds, and for a look at a slot
-/// whose key none holds. So it goes on until such a look gives back its key, or is answered otherwise in the other run.
+/// whose key none holds. So it goes on until such a look is answered otherwise in the other run.
 pub fn texts_agree()
     ensures { TextsAgree }
 {}
@@ -14,4 +14,10 @@ pub fn texts_agree()
 pub fn texts_part()
     ensures found { (z : Sizes) → MachineAnswers z parting_lines found_replies }
     ensures gone { (z : Sizes) → MachineAnswers z parting_lines gone_replies }
+{}
+
+/// Where it goes on: a key that a slot gives back has its binding, and never comes without it.
+pub fn keys_come_whole()
+    ensures kept { (z : Sizes) → MachineAnswers z back_lines kept_replies }
+    ensures never { (z : Sizes) → MachineAnswers z back_lines apart_replies → ⊥ }
 {}

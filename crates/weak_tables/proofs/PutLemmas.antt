@@ -47,10 +47,10 @@ prefix_on a b c x y = record { rest = x.rest ++ y.rest; appends = y.appends ∙ 
 
 module _ (z : Sizes) (a b c : List Entry) (ab : IsPrefix a b) (bc : IsPrefix b c) where
   pub wider_left : (k : Label) → WasOutside z a b k → WasOutside z a c k
-  wider_left k w = record { front = w.front; since = w.since; until = prefix_on w.front b c w.until bc; outside = w.outside }
+  wider_left k w = record { front = w.front; since = w.since; until = prefix_on w.front b c w.until bc; outside = w.outside; entry = w.entry; through = prefix_on (w.front ++ w.entry ∷ []) b c w.through bc; taken = w.taken }
 
   wider_right : (k : Label) → WasOutside z b c k → WasOutside z a c k
-  wider_right k w = record { front = w.front; since = prefix_on a b w.front ab w.since; until = w.until; outside = w.outside }
+  wider_right k w = record { front = w.front; since = prefix_on a b w.front ab w.since; until = w.until; outside = w.outside; entry = w.entry; through = w.through; taken = w.taken }
 
   pub thinned_both : (x y w : List Binding) → ThinnedBy (WasOutside z a b) x y → ThinnedBy (WasOutside z b c) y w → ThinnedBy (WasOutside z a c) x w
   thinned_both x y w s t = thinned_twice (WasOutside z a c) x y w (thinned_more (WasOutside z a b) (WasOutside z a c) wider_left x y s) (thinned_more (WasOutside z b c) (WasOutside z a c) wider_right y w t)

@@ -33,7 +33,7 @@ use Rattle.weak_tables.proofs.PutLemmas.{prefix_on, wider_left}
 use Rattle.weak_tables.proofs.TidyLemmas.{bare_lasts, has_cleared, has_kept, has_once}
 
 earlier : (z : Sizes) (first now new : List Entry) (k : Label) → IsPrefix first now → Went z now new k → WasOutside z first new k
-earlier z first now new k grows w = record { front = w.was.front; since = prefix_on first now w.was.front grows w.was.since; until = w.was.until; outside = w.was.outside }
+earlier z first now new k grows w = record { front = w.was.front; since = prefix_on first now w.was.front grows w.was.since; until = w.was.until; outside = w.was.outside; entry = w.was.entry; through = w.was.through; taken = w.was.taken }
 
 -- keys emptied in a call and then at one command
 emptied_on : (z : Sizes) (first now new : List Entry) (a b c : List (Option Label)) → IsPrefix first now → IsPrefix now new → EmptiedBy (WasOutside z first now) a b → EmptiedBy (Went z now new) b c → EmptiedBy (WasOutside z first new) a c

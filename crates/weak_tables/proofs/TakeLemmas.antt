@@ -24,7 +24,7 @@ use Rattle.table_laws.proofs.LookupLemmas.{unbound_key, key_unbound, without_unb
 use Rattle.table_laws.proofs.OnceLemmas.{lacks, not_both, chain_label}
 use Rattle.table_laws.proofs.ChangeLemmas.{changes_more}
 use Rattle.table_laws.proofs.CellLemmas.{in_chain}
-use Rattle.table_laws.proofs.StepLemmas.{forget_step}
+use Rattle.table_laws.proofs.StepLemmas.{step_open, forget_step}
 use Rattle.table_laws.proofs.StageLemmas.{held_stays, goes_on, goes_reading, thinned_on, table_reading, bindings_reading}
 use Rattle.table_laws.proofs.FillLemmas.{take_key, take_data, holding_datum}
 use Rattle.weak_tables.specs.Held.{IsTidy, KeepsOthers, IsClean, Reads, Cleared}
@@ -68,6 +68,7 @@ module _ (z : Sizes) (limits : IsWithinLimits z) (old new : List Entry) (c : Cle
         ∙ (set_other z limits old c.first c.second 9 Nothing c.nine.registers_are 8 (λ e. absurd (omega arith)) ∙ set_here z limits old old c.first 8 Nothing c.eight.registers_are (omega arith));
     nine = set_other z limits old c.second new 10 Nothing c.ten.registers_are 9 (λ e. absurd (omega arith)) ∙ set_here z limits old c.first c.second 9 Nothing c.nine.registers_are (omega arith);
     ten = set_here z limits old c.second new 10 Nothing c.ten.registers_are (omega arith);
+    calm = c.calm;
   }
 
   pub cleared_keeps : (first : List Entry) → KeepsOthers z first old → KeepsOthers z first new
@@ -207,6 +208,7 @@ all_cleared z limits old f g new a b c p q r = record {
   eight = (forget_step z limits old f a 8 p).0;
   nine = (forget_step z limits f g b 9 q).0;
   ten = (forget_step z limits g new c 10 r).0;
+  calm = step_open z limits g new (Forget 10) c r refl;
 }
 
 pub at_sizes : (z y : Sizes) (a b : List Entry) (c : Command) (r : Reply) → y ≡ z → Performed y a b c r → Performed z a b c r

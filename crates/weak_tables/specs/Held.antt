@@ -6,10 +6,11 @@ use Rattle.heap_model.specs.declared.graph.Value.{Value}
 use Rattle.heap_model.specs.declared.graph.Value.TheVariants.{Block, Nothing}
 use Rattle.heap_model.specs.declared.graph.Node.{Node}
 use Rattle.heap_model.specs.declared.graph.Node.TheVariants.{Plain, Raw, Ephe}
+use Rattle.heap_model.specs.declared.state.Mode.TheVariants.{Open}
 use Rattle.heap_model.specs.declared.state.Sizes.{Sizes}
 use Rattle.heap_model.specs.Graph.{Graph, has_label, node_at}
 use Rattle.table_laws.specs.Structures.{Cell, bindings, IsTable, IsWeakArray, slot_keys}
-use Rattle.table_laws.specs.Thinning.{ThinnedBy, EmptiedBy, WasOutside}
+use Rattle.table_laws.specs.Thinning.{ThinnedBy, EmptiedBy, WasOutside, state_of}
 use Rattle.table_laws.specs.Performing.{After, registers_of}
 use Rattle.table_laws.specs.Stages.{Goes, graph_of, held_in}
 
@@ -17,11 +18,12 @@ use Rattle.table_laws.specs.Stages.{Goes, graph_of, held_in}
 abbrev pub KeepsOthers : Sizes → List Entry → List Entry → Type 0
 KeepsOthers z old new = (r : ℕ) → r ≢ 8 → r ≢ 9 → r ≢ 10 → held_in z new r ≡ held_in z old r
 
--- these hold nothing
+-- these hold nothing, and no collection is under way
 pub record IsClean (z : Sizes) (h : List Entry) : Type 0 where
   pub eight : held_in z h 8 ≡ Nothing
   pub nine : held_in z h 9 ≡ Nothing
   pub ten : held_in z h 10 ≡ Nothing
+  pub calm : (state_of z h).mode ≡ Open
 
 -- registers 8, 9 and 10 were emptied, one after the other
 pub record Cleared (z : Sizes) (old new : List Entry) : Type 0 where
@@ -30,6 +32,7 @@ pub record Cleared (z : Sizes) (old new : List Entry) : Type 0 where
   pub eight : After z old first [] (slice_set (registers_of z old) 8 Nothing)
   pub nine : After z first second [] (slice_set (registers_of z first) 9 Nothing)
   pub ten : After z second new [] (slice_set (registers_of z second) 10 Nothing)
+  pub calm : (state_of z new).mode ≡ Open
 
 -- a register holds a table
 pub record HoldsTable (z : Sizes) (h : List Entry) (r : ℕ) : Type 0 where

@@ -1,0 +1,113 @@
+-- The turns of a history of calls, and what their schedule prints.
+use Rattle.std.proofs.Common.{◌≡◌, ◌≢◌, ℕ, Bool, true, false, eqb-true, IsTrue, ⊎_elim, List, [], ◌∷◌, ◌++◌, flat_map, map, Option, Some, None, refl, ap, ap₂, sym, ◌∙◌, subst, append_assoc, append-nil}
+use Rattle.std.specs.Prelude.{codes, decimal}
+use Rattle.std.specs.List.{list_all, list_any, range_with_len}
+use Rattle.heap_model.specs.declared.command.Command.{Command}
+use Rattle.heap_model.specs.declared.command.Command.TheVariants.{FullMajor}
+use Rattle.heap_model.specs.declared.entry.Entry.{Entry}
+use Rattle.heap_model.specs.declared.entry.Entry.TheVariants as entry
+use Rattle.heap_model.specs.declared.reply.Reply.{Reply}
+use Rattle.heap_model.specs.declared.state.Sizes.{Sizes}
+use Rattle.heap_model.specs.History.{replies}
+use Rattle.heap_model.specs.Output.{line, output, printed, section_text}
+use Rattle.heap_model.proofs.Reach.ReachLemmas.{and_right, or_cases}
+use Rattle.heap_text.specs.Forms.{version_number}
+use Rattle.heap_text.specs.Script.{Scripted}
+use Rattle.heap_text.specs.declared.version.Version.{Version}
+use Rattle.heap_text.specs.declared.version.Version.TheVariants.{One, Two, Three}
+use Rattle.history_replay.specs.Explains.{Explains}
+use Rattle.history_replay.specs.Steps.{is_end_of}
+use Rattle.interleavings.specs.Turns.{IsScriptMade, is_call, turns_of}
+use Rattle.interleavings.proofs.Calling.{interleaving_law}
+use Rattle.scheduled_runs.specs.Runs.{EndsIn}
+use Rattle.schedule_laws.specs.declared.items.Item.{Item}
+use Rattle.schedule_laws.specs.declared.items.Item.TheVariants.{Turn}
+use Rattle.schedule_laws.specs.Scheduled.{scheduled}
+use Rattle.schedule_text.specs.Spelling.{item_text, spelling}
+use Rattle.history_judge.specs.declared.turns.Phase.TheVariants.{Between}
+use Rattle.history_judge.specs.Answer.{ExplainsScript, explains_by}
+use Rattle.history_judge.specs.Judging.{IsInput}
+use Rattle.history_judge.specs.Scheduling.{AreCallsOf, FoundTurns, HasNoSchedule, PrintsTurns}
+use Rattle.history_judge.specs.Turns.{schedule_written, turns_from, turns_in}
+
+-- a history of calls has their turns
+calls_from : (items : List Item) (h : List Entry) → IsTrue (list_all is_call h) → turns_from items Between h ≡ Some (items ++ turns_of h)
+calls_from items [] all = ap Some (sym (append-nil items))
+calls_from items (entry.End d ∷ h) all = calls_from (items ++ Turn d ∷ []) h (and_right true (list_all is_call h) all) ∙ ap Some (append_assoc items (Turn d ∷ []) (turns_of h))
+calls_from items (entry.Command d FullMajor full ∷ h) all = let clash : false ≡ true = all in cc
+calls_from items (entry.Command d c true ∷ h) all = let clash : false ≡ true = all in cc
+calls_from items (entry.Command d c false ∷ h) all = calls_from (items ++ Turn d ∷ []) h (and_right true (list_all is_call h) all) ∙ ap Some (append_assoc items (Turn d ∷ []) (turns_of h))
+calls_from items (entry.Cut ∷ h) all = let clash : false ≡ true = all in cc
+calls_from items (entry.Queue d places ∷ h) all = let clash : false ≡ true = all in cc
+calls_from items (entry.Seal ∷ h) all = let clash : false ≡ true = all in cc
+calls_from items (entry.Wipe l keys ∷ h) all = let clash : false ≡ true = all in cc
+calls_from items (entry.Last d place ∷ h) all = let clash : false ≡ true = all in cc
+calls_from items (entry.Collected ∷ h) all = let clash : false ≡ true = all in cc
+calls_from items (entry.Done ∷ h) all = let clash : false ≡ true = all in cc
+calls_from items (entry.Ran d ∷ h) all = let clash : false ≡ true = all in cc
+
+-- an end that is among the entries
+is_end : (d : ℕ) (e : Entry) → is_end_of d e ≡ true → e ≡ entry.End d
+is_end d (entry.End k) is = ap (λ (n : ℕ). entry.End n) (eqb-true k d is)
+is_end d (entry.Command k c full) is = cc
+is_end d entry.Cut is = cc
+is_end d (entry.Queue k places) is = cc
+is_end d entry.Seal is = cc
+is_end d (entry.Wipe l keys) is = cc
+is_end d (entry.Last k place) is = cc
+is_end d entry.Collected is = cc
+is_end d entry.Done is = cc
+is_end d (entry.Ran k) is = cc
+
+ends_in : (d : ℕ) (h : List Entry) → IsTrue (list_any (is_end_of d) h) → EndsIn d h
+ends_in d [] any = let clash : false ≡ true = any in cc
+ends_in d (e ∷ h) any = ⊎_elim
+    (λ here. record { before = []; after = h; is = ap (λ (x : Entry). x ∷ h) (is_end d e here) })
+    (λ later. (let t = ends_in d h later in record { before = e ∷ t.before; after = t.after; is = ap (λ (k : List Entry). e ∷ k) t.is }))
+    (or_cases (is_end_of d e) (list_any (is_end_of d) h) any)
+
+-- where each domain has the same replies, the same is printed
+sections_same : (z : Sizes) (h k : List Entry) (ds : List ℕ) → ((d : ℕ) → replies z h d ≡ replies z k d) → flat_map (section_text z h) ds ≡ flat_map (section_text z k) ds
+sections_same z h k [] same = refl
+sections_same z h k (d ∷ ds) same = ap₂ (λ (a b : List ℕ). a ++ b) (ap (λ (rs : List Reply). line (codes "domain " ++ decimal d) ++ printed rs) (same d)) (sections_same z h k ds same)
+
+calls_of : (z : Sizes) (sections : List (List Command)) (bytes : List ℕ) (h : List Entry) (items : List Item) → Explains z sections bytes h → turns_in h ≡ Some items → IsTrue (list_all is_call h) → AreCallsOf z sections bytes h items
+calls_of z sections bytes h items x turns all =
+    let are : items ≡ turns_of h = (let both : Some items ≡ Some (turns_of h) = sym turns ∙ calls_from [] h all in cc) in
+    let made : IsScriptMade z sections h = record { legal = x.run.legal; commands_are = x.run.each_command; ends = λ d below. ends_in d h (x.run.each_ends d below) } in
+    record {
+      turns = are;
+      prints = ap (λ (is : List Item). output z (scheduled z sections is)) are ∙ (sections_same z (scheduled z sections (turns_of h)) h (range_with_len 0 z.domains) (interleaving_law z sections h made all) ∙ x.prints);
+    }
+
+by_version : (v : Version) (z : Sizes) (sections : List (List Command)) (bytes : List ℕ) (h : List Entry) → version_number v ≢ 3 → explains_by v z sections bytes h → Explains z sections bytes h
+by_version One z sections bytes h other x = x
+by_version Two z sections bytes h other x = x
+by_version Three z sections bytes h other x = absurd (other refl)
+
+-- a schedule is written as it is spelled
+lines_mapped : (items : List Item) → flat_map (λ i. line (item_text i)) items ≡ flat_map line (map item_text items)
+lines_mapped [] = refl
+lines_mapped (i ∷ items) = ap (λ (rest : List ℕ). line (item_text i) ++ rest) (lines_mapped items)
+
+written_spelling : (items : List Item) → schedule_written items ≡ spelling items
+written_spelling items = ap (λ (rest : List ℕ). line (codes "schedule 1") ++ rest ++ line (codes "end")) (lines_mapped items)
+
+-- where none were found nothing is written
+pub no_turns : (z : Sizes) (bytes out text : List ℕ) (script : Scripted) (h : List Entry) → IsInput z.domains bytes script out → ExplainsScript z script out h → FoundTurns script h None → text ≡ [] → HasNoSchedule z bytes text
+no_turns z bytes out text script h input x found is = record { script = script; output = out; input = input; history = h; explains = x; none = found; text_is = is }
+
+-- the turns that were found are written
+pub printed_turns : (z : Sizes) (bytes out text : List ℕ) (script : Scripted) (h : List Entry) (items : List Item) → IsInput z.domains bytes script out → ExplainsScript z script out h → FoundTurns script h (Some items) → text ≡ schedule_written items → PrintsTurns z bytes text
+printed_turns z bytes out text script h items input x found is =
+    let explains = by_version script.version z script.sections out h found.0 x in record {
+      script = script;
+      output = out;
+      input = input;
+      history = h;
+      explains = explains;
+      items = items;
+      turns = found.1;
+      text_is = is ∙ written_spelling items;
+      calls = calls_of z script.sections out h items explains found.1;
+    }

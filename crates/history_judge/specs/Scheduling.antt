@@ -1,0 +1,108 @@
+-- What the judge has written where a schedule is asked for.
+use Rattle.std.specs.Prelude.{◌≡◌, ◌≢◌, ◌⊎◌, ℕ, IsTrue, List, [], Option, Some, None}
+use Rattle.std.specs.List.{list_all}
+use Rattle.std.specs.Io.KnownBytes.{Appends}
+use Rattle.heap_model.specs.declared.command.Command.{Command}
+use Rattle.heap_model.specs.declared.entry.Entry.{Entry}
+use Rattle.heap_model.specs.declared.state.Sizes.{Sizes}
+use Rattle.heap_model.specs.Output.{output}
+use Rattle.heap_text.specs.Forms.{version_number}
+use Rattle.heap_text.specs.Script.{Scripted}
+use Rattle.history_replay.specs.Explains.{Explains}
+use Rattle.interleavings.specs.Turns.{is_call, turns_of}
+use Rattle.schedule_laws.specs.declared.items.Item.{Item}
+use Rattle.schedule_laws.specs.Scheduled.{scheduled}
+use Rattle.schedule_text.specs.Spelling.{spelling}
+use Rattle.history_judge.specs.declared.judged.Judged.{Judged}
+use Rattle.history_judge.specs.declared.judged.Judged.TheVariants.{Legal, WriteFault}
+use Rattle.history_judge.specs.declared.scheduling.TurnsJudged.{TurnsJudged}
+use Rattle.history_judge.specs.declared.scheduling.TurnsJudged.TheVariants.{Printed, NoSchedule, Other}
+use Rattle.history_judge.specs.Answer.{ExplainsScript}
+use Rattle.history_judge.specs.Judging.{IsInput, IsOfBytes, IsRefused, IsSilent, IsTold, Refuses, Tells}
+use Rattle.history_judge.specs.Reading.{ReadsAll}
+use Rattle.history_judge.specs.Turns.{turns_in}
+use Rattle.history_judge.specs.Writing.{AppendsFront}
+
+-- of a history of calls, where no collection comes in, the items are the turns, and their schedule prints these bytes
+pub record AreCallsOf (z : Sizes) (sections : List (List Command)) (bytes : List ℕ) (history : List Entry) (items : List Item) : Type 0 where
+  pub turns : items ≡ turns_of history
+  pub prints : output z (scheduled z sections items) ≡ bytes
+
+-- a history explains the output, and this is the text of the schedule of its turns
+pub record PrintsTurns (z : Sizes) (bytes text : List ℕ) : Type 0 where
+  pub script : Scripted
+  pub output : List ℕ
+  pub input : IsInput z.domains bytes script output
+  pub history : List Entry
+  pub explains : Explains z script.sections output history
+  pub items : List Item
+  pub turns : turns_in history ≡ Some items
+  pub text_is : text ≡ spelling items
+  pub calls : IsTrue (list_all is_call history) → AreCallsOf z script.sections output history items
+
+-- the turns of a history that was found for a script: there are none where it spawns
+abbrev pub FoundTurns : Scripted → List Entry → Option (List Item) → Type 0
+FoundTurns script history None = (version_number script.version ≡ 3) ⊎ (turns_in history ≡ None)
+FoundTurns script history (Some items) = (version_number script.version ≢ 3) × (turns_in history ≡ Some items)
+
+-- a history explains the output, and has no schedule: nothing is written
+pub record HasNoSchedule (z : Sizes) (bytes text : List ℕ) : Type 0 where
+  pub script : Scripted
+  pub output : List ℕ
+  pub input : IsInput z.domains bytes script output
+  pub history : List Entry
+  pub explains : ExplainsScript z script output history
+  pub none : FoundTurns script history None
+  pub text_is : text ≡ []
+
+-- the text of an answer
+abbrev pub TellsTurns : Sizes → List ℕ → TurnsJudged → List ℕ → Type 0
+TellsTurns z bytes Printed text = PrintsTurns z bytes text
+TellsTurns z bytes NoSchedule text = HasNoSchedule z bytes text
+TellsTurns z bytes (Other Legal) text = ⊥
+TellsTurns z bytes (Other judged) text = Tells z bytes judged text
+
+-- the text of the answer was written
+pub record WritesTurns (z : Sizes) (bytes : List ℕ) (judged : TurnsJudged) (before after : Option (List ℕ)) : Type 0 where
+  pub text : List ℕ
+  pub tells : TellsTurns z bytes judged text
+  pub written : Appends before after text
+
+-- a front part of the text of some answer was written
+pub record WritesTurnsFront (z : Sizes) (bytes : List ℕ) (before after : Option (List ℕ)) : Type 0 where
+  pub judged : TurnsJudged
+  pub text : List ℕ
+  pub tells : TellsTurns z bytes judged text
+  pub written : AppendsFront before after text
+
+-- the input was read to its end, and the text of its answer was written
+abbrev pub JudgesTurns : Sizes → TurnsJudged → Option (List ℕ) → Option (List ℕ) → Option (List ℕ) → Option (List ℕ) → Type 0
+JudgesTurns z judged left_before left_after before after = ReadsAll (λ bytes. WritesTurns z bytes judged before after) left_before left_after
+
+-- or a front part of it
+abbrev pub StopsTurns : Sizes → Option (List ℕ) → Option (List ℕ) → Option (List ℕ) → Option (List ℕ) → Type 0
+StopsTurns z left_before left_after before after = ReadsAll (λ bytes. WritesTurnsFront z bytes before after) left_before left_after
+
+-- an answer that is written whole, with a schedule or without one
+abbrev pub IsTurnsTold : TurnsJudged → Type 0
+IsTurnsTold (Other judged) = IsTold judged
+IsTurnsTold _ = Unit {0}
+
+-- an answer before which nothing was written
+abbrev pub IsTurnsSilent : TurnsJudged → Type 0
+IsTurnsSilent (Other judged) = IsSilent judged
+IsTurnsSilent _ = ⊥
+
+-- an answer that says that the bytes are no input
+abbrev pub IsTurnsRefused : TurnsJudged → Type 0
+IsTurnsRefused (Other judged) = IsRefused judged
+IsTurnsRefused _ = ⊥
+
+abbrev pub RefusesTurns : ℕ → List ℕ → TurnsJudged → Type 0
+RefusesTurns domains bytes (Other judged) = Refuses domains bytes judged
+RefusesTurns domains bytes _ = ⊥
+
+-- an answer of which the bytes that were read are the cause, or the sink, or want of memory
+abbrev pub IsTurnsOfBytes : TurnsJudged → Type 0
+IsTurnsOfBytes (Other judged) = IsOfBytes judged
+IsTurnsOfBytes _ = Unit {0}
