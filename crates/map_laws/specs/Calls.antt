@@ -1,0 +1,90 @@
+-- What a call of one domain answers about a map, beside whatever other domains and the collector do between its entries.
+use Rattle.std.specs.Prelude.{◌≡◌, ◌≢◌, ◌⊎◌, ℕ, true, IsTrue, List, [], ◌∷◌, ◌++◌, length, Option, Some, None}
+use Rattle.heap_model.specs.declared.label.Label.{Label}
+use Rattle.heap_model.specs.declared.entry.Entry.{Entry}
+use Rattle.heap_model.specs.declared.graph.Value.{Value}
+use Rattle.heap_model.specs.declared.graph.Value.TheVariants.{Int, Block, Nothing}
+use Rattle.heap_model.specs.declared.reply.Reply.{Reply}
+use Rattle.heap_model.specs.declared.reply.Reply.TheVariants as reply
+use Rattle.heap_model.specs.declared.state.Sizes.{Sizes}
+use Rattle.heap_model.specs.Graph.{has_label, has_no_repeats}
+use Rattle.heap_model.specs.Commands.{shown}
+use Rattle.heap_model.specs.History.{IsPrefix, is_entry_of}
+use Rattle.table_laws.specs.Stages.{graph_of}
+use Rattle.map_laws.specs.Tries.{found}
+use Rattle.map_laws.specs.Steps.{OwnRespect}
+
+-- what a map binds a key to after a history
+abbrev pub bound_after : Sizes → Label → List Entry → Label → Option Value
+bound_after z root h k = found z.domains (graph_of z h) root k
+
+-- a bound datum as a value: nothing where there is none
+abbrev pub value_of : Option Value → Value
+value_of None = Nothing
+value_of (Some v) = v
+
+-- from one front to a later one, entries of domain d change no binding of a map
+abbrev pub OwnKeep : Sizes → Label → ℕ → List Entry → List Entry → Type 0
+OwnKeep z root d old new = (front : List Entry) (e : Entry) → IsPrefix old front → IsPrefix (front ++ e ∷ []) new → is_entry_of d e ≡ true
+    → (l : Label) → bound_after z root (front ++ e ∷ []) l ≡ bound_after z root front l
+
+-- a call changes no binding, and does to the map only what others may rely on
+pub record Looks (z : Sizes) (root : Label) (d : ℕ) (old new : List Entry) : Type 0 where
+  pub keeps : OwnKeep z root d old new
+  pub respects : OwnRespect z root d old new
+
+-- one entry of a call changes one binding: the key is bound so afterwards, each other key as before, and no other entry of the call changes any
+pub record ChangesOne (z : Sizes) (root : Label) (d : ℕ) (old new : List Entry) (k : Label) (before after : Option Value) : Type 0 where
+  pub front : List Entry
+  pub entry : Entry
+  pub since : IsPrefix old front
+  pub until : IsPrefix (front ++ entry ∷ []) new
+  pub own : is_entry_of d entry ≡ true
+  pub was : bound_after z root front k ≡ before
+  pub binds : bound_after z root (front ++ entry ∷ []) k ≡ after
+  pub others : (l : Label) → l ≢ k → bound_after z root (front ++ entry ∷ []) l ≡ bound_after z root front l
+  pub first : OwnKeep z root d old front
+  pub last : OwnKeep z root d (front ++ entry ∷ []) new
+  pub respects : OwnRespect z root d old new
+
+-- a lookup answers what the map bound the key to at a front of the call
+pub record Gets (z : Sizes) (root : Label) (d : ℕ) (old new : List Entry) (k : Label) (datum : Option Value) : Type 0 where
+  pub looks : Looks z root d old new
+  pub front : List Entry
+  pub since : IsPrefix old front
+  pub until : IsPrefix front new
+  pub bound : bound_after z root front k ≡ datum
+
+-- `get`, by what the register of the key holds: `type` exactly where it is no label, `none` exactly where the key isn't bound, else its datum
+abbrev pub GetAnswers : Sizes → Label → ℕ → List Entry → List Entry → Value → Reply → Type 0
+GetAnswers z root d old new (Block k) r = (datum : Option Value) × Gets z root d old new k datum × (r ≡ shown (value_of datum))
+GetAnswers z root d old new key r = (r ≡ reply.BadType) × (new ≡ old)
+
+-- `put` of a datum: done, or `full`, and then no binding is changed
+abbrev pub PutsOrFull : Sizes → Label → ℕ → List Entry → List Entry → Label → Value → Reply → Type 0
+PutsOrFull z root d old new k v r =
+    ((r ≡ reply.Done) × ((before : Option Value) × ChangesOne z root d old new k before (Some v)))
+    ⊎ ((r ≡ reply.Full) × Looks z root d old new)
+
+-- `put`, by what the registers of the key and of the datum hold: `type` exactly where the first is no label or the second nothing
+abbrev pub PutAnswers : Sizes → Label → ℕ → List Entry → List Entry → Value → Value → Reply → Type 0
+PutAnswers z root d old new (Block k) (Int i) r = PutsOrFull z root d old new k (Int i) r
+PutAnswers z root d old new (Block k) (Block l) r = PutsOrFull z root d old new k (Block l) r
+PutAnswers z root d old new (Block k) Nothing r = (r ≡ reply.BadType) × (new ≡ old)
+PutAnswers z root d old new key v r = (r ≡ reply.BadType) × (new ≡ old)
+
+-- `take`: done, where the key was bound just before, or `none`, where it was unbound at a front of the call
+abbrev pub TakeAnswers : Sizes → Label → ℕ → List Entry → List Entry → Value → Reply → Type 0
+TakeAnswers z root d old new (Block k) r =
+    ((r ≡ reply.Done) × ((was : Value) × ChangesOne z root d old new k (Some was) None))
+    ⊎ ((r ≡ reply.Empty) × Gets z root d old new k None)
+TakeAnswers z root d old new key r = (r ≡ reply.BadType) × (new ≡ old)
+
+-- `clean` changes no binding. It counts keys that were bound at a front of the call, each once, and among them all that were bound at each front of it
+pub record CleanAnswers (z : Sizes) (root : Label) (d : ℕ) (old new : List Entry) (count : ℕ) : Type 0 where
+  pub looks : Looks z root d old new
+  pub keys : List Label
+  pub number : length keys ≡ count
+  pub once : IsTrue (has_no_repeats keys)
+  pub bound : (k : Label) → IsTrue (has_label keys k) → (front : List Entry) × IsPrefix old front × IsPrefix front new × (bound_after z root front k ≢ None)
+  pub all : (k : Label) → ((front : List Entry) → IsPrefix old front → IsPrefix front new → bound_after z root front k ≢ None) → IsTrue (has_label keys k)

@@ -1,0 +1,4 @@
+pub mod Tries
+pub mod Steps
+pub mod Calls
+pub mod MapLaws

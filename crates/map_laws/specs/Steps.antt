@@ -1,0 +1,109 @@
+-- What one entry does to a map, and what a history of such entries is.
+use Rattle.std.specs.Prelude.{◌≡◌, ◌≢◌, ◌⊎◌, ℕ, ◌+◌, ◌<◌, Bool, true, false, List, [], ◌∷◌, ◌++◌, length, replicate, slice_index_or, slice_set, pos, Option, Some, None}
+use Rattle.heap_model.specs.declared.label.Label.{Label}
+use Rattle.heap_model.specs.declared.entry.Entry.{Entry}
+use Rattle.heap_model.specs.declared.graph.Value.{Value}
+use Rattle.heap_model.specs.declared.graph.Value.TheVariants.{Int, Block, Nothing}
+use Rattle.heap_model.specs.declared.graph.Node.{Node}
+use Rattle.heap_model.specs.declared.graph.Node.TheVariants.{Plain}
+use Rattle.heap_model.specs.declared.state.Sizes.{Sizes}
+use Rattle.heap_model.specs.declared.state.State.{State}
+use Rattle.heap_model.specs.Graph.{Graph, node_at, with_node}
+use Rattle.heap_model.specs.Entries.{next}
+use Rattle.heap_model.specs.History.{IsPrefix, is_entry_of}
+use Rattle.table_laws.specs.Thinning.{IsOutside, Thin, state_of}
+use Rattle.table_laws.specs.Stages.{graph_of}
+use Rattle.map_laws.specs.Tries.{inside, at, found, bound_by, way_to, way_length, node_width, is_leaf, IsSlot}
+
+-- field i of the block to which p leads is written: it held a value that is no block of the map, and holds new
+pub record WritesField (g h : Graph) (root : Label) (p : List ℕ) (i : ℕ) (held new : Value) : Type 0 where
+  pub block : Label
+  pub tag : ℕ
+  pub fields : List Value
+  pub there : at (inside g) p (Block root) ≡ Some (Block block)
+  pub node : node_at g block ≡ Some (Plain tag fields)
+  pub below : i < length fields
+  pub was : slice_index_or fields i Nothing ≡ held
+  pub end : inside g held ≡ None
+  pub now : h ≡ with_node g block (Plain tag (slice_set fields i new))
+
+-- a leaf of a key, or 0 in place of one, comes into the field at which the key's way ends: the one step by which a put or a take is made
+pub record Sets (n : ℕ) (g h : Graph) (root : Label) (k : Label) (new : Value) : Type 0 where
+  pub p : List ℕ
+  pub i : ℕ
+  pub q : List ℕ
+  pub way : way_to n k ≡ p ++ i ∷ q
+  pub held : Value
+  pub writes : WritesField g h root p i held new
+  pub leaf : inside g new ≡ None
+  pub slot : IsSlot g new
+  pub mine : (l : Label) → l ≢ k → (bound_by g l held ≡ None) × (bound_by g l new ≡ None)
+
+-- a fresh block that holds only the leaf comes in the place of a leaf, which stands one step deeper on the way to its key then
+pub record Deepens (n : ℕ) (g h : Graph) (root : Label) : Type 0 where
+  pub p : List ℕ
+  pub i : ℕ
+  pub j : ℕ
+  pub held : Value
+  pub block : Label
+  pub writes : WritesField g h root p i held (Block block)
+  pub inner : inside g (Block block) ≡ Some (slice_set (replicate node_width (Int (pos 0))) j held)
+  pub small : j < node_width
+  pub low : length p + 1 < way_length
+  pub fresh : (x : List ℕ) → at (inside g) x (Block root) ≢ Some (Block block)
+  pub next : (l : Label) → bound_by g l held ≢ None → (q : List ℕ) × (way_to n l ≡ p ++ i ∷ j ∷ q)
+
+-- a leaf that binds nothing is replaced by 0
+pub record Clears (g h : Graph) (root : Label) : Type 0 where
+  pub p : List ℕ
+  pub i : ℕ
+  pub held : Value
+  pub writes : WritesField g h root p i held (Int (pos 0))
+  pub empty : (l : Label) → bound_by g l held ≡ None
+
+-- each block of a map and each of its leaves is as it was
+abbrev pub IsUntouched : Graph → Graph → Label → Type 0
+IsUntouched g h root = (p : List ℕ) (l : Label) → at (inside g) p (Block root) ≡ Some (Block l) → node_at h l ≡ node_at g l
+
+-- each is as it was, or a leaf that has lost a key of which P holds, and its datum
+abbrev pub IsThinned : (Label → Type 0) → Graph → Graph → Label → Type 0
+IsThinned P g h root = (p : List ℕ) (l : Label) (n : Node) → at (inside g) p (Block root) ≡ Some (Block l) → node_at g l ≡ Some n → Thin P n (node_at h l)
+
+-- One entry, in a state of a heap of n domains, does one of these to a map: it leaves it untouched, sets or takes out one key, makes room for one, clears a field,
+-- or takes keys that are outside reach, as the collector does
+pub data MapStep (n : ℕ) (root : Label) (s : State) (e : Entry) : Type 0 where
+  Untouched : IsUntouched s.graph (next s e).graph root → MapStep n root s e
+  SetsKey : (k : Label) (new : Value) → Sets n s.graph (next s e).graph root k new → MapStep n root s e
+  GoesDeeper : Deepens n s.graph (next s e).graph root → MapStep n root s e
+  ClearsField : Clears s.graph (next s e).graph root → MapStep n root s e
+  TakesKeys : IsThinned (IsOutside s) s.graph (next s e).graph root → MapStep n root s e
+
+-- what this step leaves of the binding of a key
+abbrev pub LeavesBinding : (n : ℕ) (root : Label) (s : State) (e : Entry) → MapStep n root s e → Label → Type 0
+LeavesBinding n root s e (Untouched same) l = found n (next s e).graph root l ≡ found n s.graph root l
+LeavesBinding n root s e (SetsKey k new set) l = ((l ≡ k) × (found n (next s e).graph root l ≡ bound_by s.graph k new)) ⊎ ((l ≢ k) × (found n (next s e).graph root l ≡ found n s.graph root l))
+LeavesBinding n root s e (GoesDeeper deeper) l = found n (next s e).graph root l ≡ found n s.graph root l
+LeavesBinding n root s e (ClearsField cleared) l = found n (next s e).graph root l ≡ found n s.graph root l
+LeavesBinding n root s e (TakesKeys thinned) l = (found n (next s e).graph root l ≡ found n s.graph root l) ⊎ (IsOutside s l × (found n (next s e).graph root l ≡ None))
+
+-- a leaf that stood in a map at this front or an earlier one is written by nobody but the collector, which may take its key where that is outside reach
+abbrev pub SparesLeaves : Sizes → Label → List Entry → Entry → Type 0
+SparesLeaves z root front e = (former : List Entry) (p : List ℕ) (l : Label) (n : Node) → IsPrefix former front → at (inside (graph_of z former)) p (Block root) ≡ Some (Block l)
+    → is_leaf (node_at (graph_of z former) l) → node_at (graph_of z front) l ≡ Some n → Thin (IsOutside (state_of z front)) n (node_at (next (state_of z front) e).graph l)
+
+-- what calls may rely on of an entry behind a front: it does one of the steps to a map, and spares each leaf that the map had
+pub record RespectsMap (z : Sizes) (root : Label) (front : List Entry) (e : Entry) : Type 0 where
+  pub step : MapStep z.domains root (state_of z front) e
+  pub leaves : SparesLeaves z root front e
+
+-- so does each entry of the new history beyond the old one
+abbrev pub AllRespect : Sizes → Label → List Entry → List Entry → Type 0
+AllRespect z root old new = (front : List Entry) (e : Entry) → IsPrefix old front → IsPrefix (front ++ e ∷ []) new → RespectsMap z root front e
+
+-- so does each that isn't of domain d: those of other domains, and of the collector
+abbrev pub OthersRespect : Sizes → Label → ℕ → List Entry → List Entry → Type 0
+OthersRespect z root d old new = (front : List Entry) (e : Entry) → IsPrefix old front → IsPrefix (front ++ e ∷ []) new → is_entry_of d e ≡ false → RespectsMap z root front e
+
+-- so does each that is of domain d
+abbrev pub OwnRespect : Sizes → Label → ℕ → List Entry → List Entry → Type 0
+OwnRespect z root d old new = (front : List Entry) (e : Entry) → IsPrefix old front → IsPrefix (front ++ e ∷ []) new → is_entry_of d e ≡ true → RespectsMap z root front e
