@@ -33,20 +33,16 @@ use Rattle.table_laws.proofs.OutcomeLemmas.{leaves_get_key, leaves_get_data}
 use Rattle.weak_maps.specs.Beside.{PerformedBeside, held_by, registers_by}
 use Rattle.weak_maps.proofs.CountLemmas.{legal_both, not_refused}
 
--- there are sixteen registers
-pub sixteen : (z : Sizes) (limits : IsWithinLimits z) (d : ℕ) → d < z.domains → (h : List Entry) → length (registers_by z d h) ≡ 16
-sixteen z limits d inside h =
-    let shaped = shaped-history z h limits in
-    let count = shaped.domain_count in
-    shaped.register_count d (omega (arith, count, inside))
-
 -- registers after a command that changes one of them
-module _ (z : Sizes) (limits : IsWithinLimits z) (d : ℕ) (inside : d < z.domains) (now new : List Entry) (dst : ℕ) (v : Value) (is : registers_by z d new ≡ set (registers_by z d now) dst v) where
-  pub set_here : dst < 16 → held_by z d new dst ≡ v
-  set_here few = ap (λ (rs : List Value). get_or rs dst Nothing) is ∙ get_or-set_same (registers_by z d now) dst v Nothing (let all = sixteen z limits d inside now in omega (arith, all, few))
+module _ (z : Sizes) (d : ℕ) (now new : List Entry) (dst : ℕ) (v : Value) (is : registers_by z d new ≡ set (registers_by z d now) dst v) where
+  pub set_here : length (registers_by z d now) ≡ 16 → dst < 16 → held_by z d new dst ≡ v
+  set_here all few = ap (λ (rs : List Value). get_or rs dst Nothing) is ∙ get_or-set_same (registers_by z d now) dst v Nothing (omega (arith, all, few))
 
   pub set_other : (r : ℕ) → r ≢ dst → held_by z d new r ≡ held_by z d now r
   set_other r other = ap (λ (rs : List Value). get_or rs r Nothing) is ∙ get_or-set_other (registers_by z d now) dst r v Nothing other
+
+pub same_held : (z : Sizes) (d : ℕ) (now new : List Entry) → registers_by z d new ≡ registers_by z d now → (r : ℕ) → held_by z d new r ≡ held_by z d now r
+same_held z d now new is r = ap (λ (rs : List Value). get_or rs r Nothing) is
 
 module _ (z : Sizes) (d : ℕ) (old new : List Entry) (c : Command) (r : Reply) (p : PerformedBeside z d old new c r) where
   -- the front at which the command is made, and the state there
@@ -77,6 +73,10 @@ module _ (z : Sizes) (d : ℕ) (old new : List Entry) (c : Command) (r : Reply) 
 
   pub kept : KeepsDomain (state_of z old) here d
   kept = keeps_front (opening z) d middle old (record { rest = p.between; appends = refl; others = p.others })
+
+  -- there are sixteen registers
+  pub sixteen : IsWithinLimits z → length (registers_by z d old) ≡ 16
+  sixteen limits = ap length (sym kept.registers) ∙ (shaped-history z middle limits).register_count d inside_here
 
   -- what a register holds is what it held before the others' entries
   pub held_here : (i : ℕ) → register here d i ≡ held_by z d old i
