@@ -1,3 +1,6 @@
 pub mod CountLemmas
 pub mod BesideLemmas
 pub mod EntryLemmas
+pub mod StepStays
+pub mod StayLemmas
+pub mod DescendLemmas

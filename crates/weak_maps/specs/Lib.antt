@@ -1,2 +1,4 @@
 pub mod Commands
 pub mod Beside
+pub mod Walks
+pub mod Returns
