@@ -4,3 +4,8 @@ pub mod DeepenLemmas
 pub mod TakeLemmas
 pub mod StayLemmas
 pub mod TreeLemmas
+pub mod MapLemmas
+pub mod RespectLemmas
+pub mod WayLemmas
+pub mod FrontLemmas
+pub mod CallLemmas

@@ -145,14 +145,14 @@ set_binds n g h root k new map s =
         go (inr apart) = found_beside g h root s.p s.i s.held new s.writes map.tree n l apart
 
 -- where what was written is no plain block, no block stands at two places
-pub set_keeps_tree : (n : ℕ) (g h : Graph) (root k : Label) (new : Value) → IsMap g root → Sets n g h root k new → IsTree (inside h) (Block root)
-set_keeps_tree n g h root k new map s = λ a b u gs at_a at_b plain. go a b u gs at_a at_b plain (block_is s.writes.block u)
+pub written_tree : (g h : Graph) (root : Label) (p : List ℕ) (i : ℕ) (held new : Value) → WritesField g h root p i held new → inside g new ≡ None → IsTree (inside g) (Block root) → IsTree (inside h) (Block root)
+written_tree g h root p i held new w leaf tree = λ a b u gs at_a at_b plain. go a b u gs at_a at_b plain (block_is w.block u)
   where
     end : inside h new ≡ None
-    end = still_end g h root s.p s.i s.held new new s.writes map.tree s.leaf
+    end = still_end g h root p i held new new w tree leaf
     back : (x : List ℕ) (u : Value) (gs : List Value) → at (inside h) x (Block root) ≡ Some u → inside h u ≡ Some gs → at (inside g) x (Block root) ≡ Some u
-    back x u gs = at_back (inside g) (inside h) (Block s.writes.block) s.i new s.writes.fields (was_inside g h root s.p s.i s.held new s.writes map.tree) (now_inside g h root s.p s.i s.held new s.writes map.tree)
-        (others_inside g h root s.p s.i s.held new s.writes map.tree) (block_is s.writes.block) s.writes.below end x (Block root) u gs
-    go : (a b : List ℕ) (u : Value) (gs : List Value) → at (inside h) a (Block root) ≡ Some u → at (inside h) b (Block root) ≡ Some u → inside h u ≡ Some gs → (u ≡ Block s.writes.block) ⊎ (u ≡ Block s.writes.block → ⊥) → a ≡ b
-    go a b u gs at_a at_b plain (inl same) = map.tree a b u s.writes.fields (back a u gs at_a plain) (back b u gs at_b plain) (ap (inside g) same ∙ was_inside g h root s.p s.i s.held new s.writes map.tree)
-    go a b u gs at_a at_b plain (inr other) = map.tree a b u gs (back a u gs at_a plain) (back b u gs at_b plain) (sym (others_inside g h root s.p s.i s.held new s.writes map.tree u other) ∙ plain)
+    back x u gs = at_back (inside g) (inside h) (Block w.block) i new w.fields (was_inside g h root p i held new w tree) (now_inside g h root p i held new w tree)
+        (others_inside g h root p i held new w tree) (block_is w.block) w.below end x (Block root) u gs
+    go : (a b : List ℕ) (u : Value) (gs : List Value) → at (inside h) a (Block root) ≡ Some u → at (inside h) b (Block root) ≡ Some u → inside h u ≡ Some gs → (u ≡ Block w.block) ⊎ (u ≡ Block w.block → ⊥) → a ≡ b
+    go a b u gs at_a at_b plain (inl same) = tree a b u w.fields (back a u gs at_a plain) (back b u gs at_b plain) (ap (inside g) same ∙ was_inside g h root p i held new w tree)
+    go a b u gs at_a at_b plain (inr other) = tree a b u gs (back a u gs at_a plain) (back b u gs at_b plain) (sym (others_inside g h root p i held new w tree u other) ∙ plain)

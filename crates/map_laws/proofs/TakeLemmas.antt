@@ -42,9 +42,9 @@ absent : (A : Type 0) → (is_leaf None ⊎ ((fields : List Value) × (fields_of
 absent A (inl leaf) = absurd leaf
 absent A (inr (fs, e)) = cc
 
-slot_left : (P : Label → Type 0) (g h : Graph) (k : Label) (v : Value) → ((l : Label) (n : Node) → v ≡ Block l → node_at g l ≡ Some n → Thin P n (node_at h l)) → IsSlot g v → (inside h v ≡ inside g v) × Left P k (bound_by g k v) (bound_by h k v)
+pub slot_left : (P : Label → Type 0) (g h : Graph) (k : Label) (v : Value) → ((l : Label) (n : Node) → v ≡ Block l → node_at g l ≡ Some n → Thin P n (node_at h l)) → IsSlot g v → (inside h v ≡ inside g v) × Left P k (bound_by g k v) (bound_by h k v)
 slot_left P g h k (Int z) thin slot = (refl, inl refl)
-slot_left P g h k Nothing thin slot = absurd slot
+slot_left P g h k Nothing thin slot = (refl, inl refl)
 slot_left P g h k (Block l) thin slot = go (node_at g l) refl slot
   where
     go : (o : Option Node) → node_at g l ≡ o → (is_leaf o ⊎ ((fields : List Value) × (fields_of o ≡ Some fields))) → (inside h (Block l) ≡ inside g (Block l)) × Left P k (bound_by g k (Block l)) (bound_by h k (Block l))
@@ -54,7 +54,7 @@ slot_left P g h k (Block l) thin slot = go (node_at g l) refl slot
         (left.0 ∙ sym (ap fields_of e), subst (λ x. Left P k (bound_in k x) (bound_in k (node_at h l))) (sym e) left.1)
 
 -- what is left of the blocks to which ways lead from a value
-abbrev ThinnedFrom : (Label → Type 0) → Graph → Graph → Value → Type 0
+abbrev pub ThinnedFrom : (Label → Type 0) → Graph → Graph → Value → Type 0
 ThinnedFrom P g h v = (p : List ℕ) (l : Label) (n : Node) → at (inside g) p v ≡ Some (Block l) → node_at g l ≡ Some n → Thin P n (node_at h l)
 
 pub walk_left : (P : Label → Type 0) (g h : Graph) (k : Label) (is : List ℕ) (v : Value) → ThinnedFrom P g h v → ((p : List ℕ) (u : Value) → at (inside g) p v ≡ Some u → IsSlot g u)

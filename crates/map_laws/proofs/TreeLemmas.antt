@@ -48,7 +48,38 @@ module _ (f h : Walk) (n : Value) (i : ℕ) (w : Value) (fields ms : List Value)
       go rec (inl same) = at_n rec same (same_number j i)
       go rec (inr other) = stays rec (f v) refl (others v other)
 
-leads_nowhere : (h : Graph) (j k n : ℕ) (held : Value) → j < n → inside h held ≡ None → inside h (get_or (set (replicate n (Int (pos 0))) j held) k Nothing) ≡ None
+  -- any way leads to what it led to, to w, or to one of its fields
+  abbrev CameAny : List ℕ → Value → Value → Type 0
+  CameAny is v u = (at f is v ≡ Some u) ⊎ ((u ≡ w) ⊎ ((j : ℕ) × (u ≡ get_or ms j Nothing)))
+
+  any_from_w : (is : List ℕ) (u : Value) → at h is w ≡ Some u → (u ≡ w) ⊎ ((j : ℕ) × (u ≡ get_or ms j Nothing))
+  any_from_w [] u here = let same : w ≡ u = cc in inl (sym same)
+  any_from_w (j ∷ []) u here =
+      let same : Some (get_or ms j Nothing) ≡ Some u = sym (at_step h j [] w ms inner) ∙ here in
+      inr (j, (let field : get_or ms j Nothing ≡ u = cc in sym field))
+  any_from_w (j ∷ k ∷ is) u here =
+      let clash : None ≡ Some u = sym (at_stop h k is (get_or ms j Nothing) (leads j)) ∙ (sym (at_step h j (k ∷ is) w ms inner) ∙ here) in cc
+
+  pub came_any : (is : List ℕ) (v u : Value) → at h is v ≡ Some u → CameAny is v u
+  came_any [] v u here = inl here
+  came_any (j ∷ is) v u here = go (λ x a. came_any is x u a) (decide v)
+    where
+      further : (fs : List Value) → f v ≡ Some fs → CameAny is (get_or fs j Nothing) u → CameAny (j ∷ is) v u
+      further fs e (inl old) = inl (at_step f j is v fs e ∙ old)
+      further fs e (inr new) = inr new
+      stays : ((x : Value) → at h is x ≡ Some u → CameAny is x u) → (o : Option (List Value)) → f v ≡ o → h v ≡ o → CameAny (j ∷ is) v u
+      stays rec None e eh = let clash : None ≡ Some u = sym (at_stop h j is v eh) ∙ here in cc
+      stays rec (Some fs) e eh = further fs e (rec (get_or fs j Nothing) (sym (at_step h j is v fs eh) ∙ here))
+      at_n : ((x : Value) → at h is x ≡ Some u → CameAny is x u) → v ≡ n → (j ≡ i) ⊎ (j ≡ i → ⊥) → CameAny (j ∷ is) v u
+      at_n rec same (inr other) = further fields (ap f same ∙ was) (rec (get_or fields j Nothing)
+          (ap (at h is) (sym (set_else fields i j w Nothing other)) ∙ (sym (at_step h j is v (set fields i w) (ap h same ∙ now)) ∙ here)))
+      at_n rec same (inl hit) =
+          inr (any_from_w is u (ap (at h is) (sym (ap (λ (k : ℕ). get_or (set fields i w) k Nothing) hit ∙ set_same fields i w Nothing below)) ∙ (sym (at_step h j is v (set fields i w) (ap h same ∙ now)) ∙ here)))
+      go : ((x : Value) → at h is x ≡ Some u → CameAny is x u) → (v ≡ n) ⊎ (v ≡ n → ⊥) → CameAny (j ∷ is) v u
+      go rec (inl same) = at_n rec same (same_number j i)
+      go rec (inr other) = stays rec (f v) refl (others v other)
+
+pub leads_nowhere : (h : Graph) (j k n : ℕ) (held : Value) → j < n → inside h held ≡ None → inside h (get_or (set (replicate n (Int (pos 0))) j held) k Nothing) ≡ None
 leads_nowhere h j k n held small end = go (same_number k j)
   where
     go : (k ≡ j) ⊎ (k ≡ j → ⊥) → inside h (get_or (set (replicate n (Int (pos 0))) j held) k Nothing) ≡ None

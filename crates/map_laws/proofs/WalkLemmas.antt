@@ -108,3 +108,26 @@ module _ (f h : Walk) (n : Value) (i : ℕ) (w : Value) (fields : List Value)
       go : ((x : Value) → at h is x ≡ Some u → at f is x ≡ Some u) → (v ≡ n) ⊎ (v ≡ n → ⊥) → at f (j ∷ is) v ≡ Some u
       go rec (inl same) = at_n rec same (same_number j i)
       go rec (inr other) = stays rec (f v) refl (others v other)
+
+  -- and any way leads to what it led to, or to what was written
+  pub at_any : (h w ≡ None) → (is : List ℕ) (v u : Value) → at h is v ≡ Some u → (at f is v ≡ Some u) ⊎ (u ≡ w)
+  at_any end [] v u here = inl here
+  at_any end (j ∷ is) v u here = go (λ x a. at_any end is x u a) (decide v)
+    where
+      dead : (x : List ℕ) → at h x w ≡ Some u → u ≡ w
+      dead [] e = let same : w ≡ u = cc in sym same
+      dead (k ∷ x) e = let clash : None ≡ Some u = sym (at_stop h k x w end) ∙ e in cc
+      further : (fs : List Value) → f v ≡ Some fs → (at f is (get_or fs j Nothing) ≡ Some u) ⊎ (u ≡ w) → (at f (j ∷ is) v ≡ Some u) ⊎ (u ≡ w)
+      further fs e (inl old) = inl (at_step f j is v fs e ∙ old)
+      further fs e (inr written) = inr written
+      stays : ((x : Value) → at h is x ≡ Some u → (at f is x ≡ Some u) ⊎ (u ≡ w)) → (o : Option (List Value)) → f v ≡ o → h v ≡ o → (at f (j ∷ is) v ≡ Some u) ⊎ (u ≡ w)
+      stays rec None e eh = let clash : None ≡ Some u = sym (at_stop h j is v eh) ∙ here in cc
+      stays rec (Some fs) e eh = further fs e (rec (get_or fs j Nothing) (sym (at_step h j is v fs eh) ∙ here))
+      at_n : ((x : Value) → at h is x ≡ Some u → (at f is x ≡ Some u) ⊎ (u ≡ w)) → (same : v ≡ n) → (j ≡ i) ⊎ (j ≡ i → ⊥) → (at f (j ∷ is) v ≡ Some u) ⊎ (u ≡ w)
+      at_n rec same (inr other) = further fields (ap f same ∙ was)
+          (rec (get_or fields j Nothing) (ap (at h is) (sym (set_else fields i j w Nothing other)) ∙ (sym (at_step h j is v (set fields i w) (ap h same ∙ now)) ∙ here)))
+      at_n rec same (inl hit) = inr (dead is
+        (ap (at h is) (sym (ap (λ (k : ℕ). get_or (set fields i w) k Nothing) hit ∙ set_same fields i w Nothing below)) ∙ (sym (at_step h j is v (set fields i w) (ap h same ∙ now)) ∙ here)))
+      go : ((x : Value) → at h is x ≡ Some u → (at f is x ≡ Some u) ⊎ (u ≡ w)) → (v ≡ n) ⊎ (v ≡ n → ⊥) → (at f (j ∷ is) v ≡ Some u) ⊎ (u ≡ w)
+      go rec (inl same) = at_n rec same (same_number j i)
+      go rec (inr other) = stays rec (f v) refl (others v other)

@@ -1,15 +1,22 @@
 -- What a call of one domain answers about a map, beside whatever other domains and the collector do between its entries.
-use Rattle.std.specs.Prelude.{◌≡◌, ◌≢◌, ◌⊎◌, ℕ, true, IsTrue, List, [], ◌∷◌, ◌++◌, length, Option, Some, None}
+use Rattle.std.specs.Prelude.{◌≡◌, ◌≢◌, ◌⊎◌, ℕ, Bool, true, IsTrue, List, [], ◌∷◌, ◌++◌, length, Option, Some, None}
 use Rattle.heap_model.specs.declared.label.Label.{Label}
+use Rattle.heap_model.specs.declared.command.Command as declared_command
 use Rattle.heap_model.specs.declared.entry.Entry.{Entry}
+use Rattle.heap_model.specs.declared.entry.Entry.TheVariants.{Command}
 use Rattle.heap_model.specs.declared.graph.Value.{Value}
 use Rattle.heap_model.specs.declared.graph.Value.TheVariants.{Int, Block, Nothing}
 use Rattle.heap_model.specs.declared.reply.Reply.{Reply}
 use Rattle.heap_model.specs.declared.reply.Reply.TheVariants as reply
+use Rattle.heap_model.specs.declared.reply.Applied.TheVariants.{Replied}
 use Rattle.heap_model.specs.declared.state.Sizes.{Sizes}
 use Rattle.heap_model.specs.Graph.{has_label, has_no_repeats}
 use Rattle.heap_model.specs.Commands.{shown}
-use Rattle.heap_model.specs.History.{IsPrefix, is_entry_of}
+use Rattle.heap_model.specs.Domains.{domain_at}
+use Rattle.heap_model.specs.Entries.{reply as reply_of}
+use Rattle.heap_model.specs.Fronts.{NoneOf}
+use Rattle.heap_model.specs.History.{IsPrefix, Legal, is_entry_of}
+use Rattle.table_laws.specs.Thinning.{state_of}
 use Rattle.table_laws.specs.Stages.{graph_of}
 use Rattle.map_laws.specs.Tries.{found}
 use Rattle.map_laws.specs.Steps.{OwnRespect}
@@ -88,3 +95,16 @@ pub record CleanAnswers (z : Sizes) (root : Label) (d : ℕ) (old new : List Ent
   pub once : IsTrue (has_no_repeats keys)
   pub bound : (k : Label) → IsTrue (has_label keys k) → (front : List Entry) × IsPrefix old front × IsPrefix front new × (bound_after z root front k ≢ None)
   pub all : (k : Label) → ((front : List Entry) → IsPrefix old front → IsPrefix front new → bound_after z root front k ≢ None) → IsTrue (has_label keys k)
+
+-- one command of domain d: the front has grown by entries of others and then by this command, and the reply is that of the state before it
+pub record PerformedBy (z : Sizes) (d : ℕ) (old new : List Entry) (c : declared_command.Command) (r : Reply) : Type 0 where
+  pub between : List Entry
+  pub others : NoneOf d between
+  pub full : Bool
+  pub appends : new ≡ old ++ between ++ Command d c full ∷ []
+  pub legal : Legal z new
+  pub replies : reply_of (state_of z (old ++ between)) (Command d c full) ≡ Replied r
+
+-- what the registers of domain d hold after a history
+abbrev pub registers_after : Sizes → ℕ → List Entry → List Value
+registers_after z d h = (domain_at (state_of z h) d).registers

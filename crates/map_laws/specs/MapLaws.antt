@@ -1,15 +1,19 @@
 -- Laws of maps, in the words in which a reader would ask for them.
-use Rattle.std.specs.Prelude.{◌≡◌, ◌≢◌, ◌⊎◌, ℕ, List, [], ◌∷◌, ◌++◌, slice_index_or, Option, Some, None}
+use Rattle.std.specs.Prelude.{◌≡◌, ◌≢◌, ◌⊎◌, ℕ, ◌<◌, ◌≤◌, IsTrue, List, [], ◌∷◌, ◌++◌, length, slice_index_or, Option, Some, None}
 use Rattle.heap_model.specs.declared.label.Label.{Label}
 use Rattle.heap_model.specs.declared.entry.Entry.{Entry}
 use Rattle.heap_model.specs.declared.graph.Value.{Value}
 use Rattle.heap_model.specs.declared.graph.Value.TheVariants.{Block, Nothing}
 use Rattle.heap_model.specs.declared.state.Sizes.{Sizes}
-use Rattle.heap_model.specs.Graph.{Graph}
-use Rattle.table_laws.specs.Thinning.{WasOutside}
+use Rattle.heap_model.specs.declared.state.State.{State}
+use Rattle.heap_model.specs.Graph.{Graph, has_label}
+use Rattle.heap_model.specs.Domains.{reach}
+use Rattle.heap_model.specs.Entries.{next}
+use Rattle.heap_model.specs.History.{IsPrefix, Legal}
+use Rattle.table_laws.specs.Thinning.{WasOutside, state_of}
 use Rattle.table_laws.specs.Stages.{Goes, graph_of}
-use Rattle.map_laws.specs.Tries.{inside, at, found, bound_by, way_to, IsMap, IsTree}
-use Rattle.map_laws.specs.Steps.{WritesField, Sets, Deepens}
+use Rattle.map_laws.specs.Tries.{inside, at, found, bound_by, way_to, way_length, IsLabelOf, IsMap, IsTree}
+use Rattle.map_laws.specs.Steps.{WritesField, Sets, Deepens, Clears, MapStep, LeavesBinding, AllRespect, OthersRespect}
 use Rattle.map_laws.specs.Calls.{bound_after}
 
 -- where a leaf of a key is set, or taken out, the key is bound as the new value binds it, and every other key as before
@@ -35,3 +39,60 @@ ReadTells = (n : ℕ) (g : Graph) (root k : Label) (p : List ℕ) (i : ℕ) (q :
 abbrev pub CollectorTakes : Type 0
 CollectorTakes = (z : Sizes) (old new : List Entry) (root : Label) → Goes z old new [] → IsMap (graph_of z old) root → (k : Label)
     → (bound_after z root new k ≡ bound_after z root old k) ⊎ (WasOutside z old new k × (bound_after z root new k ≡ None))
+
+-- a leaf that binds nothing is taken out: no binding changes
+abbrev pub ClearKeeps : Type 0
+ClearKeeps = (n : ℕ) (g h : Graph) (root : Label) → IsMap g root → Clears g h root → (l : Label) → found n h root l ≡ found n g root l
+
+-- after each step a map is a map
+abbrev pub MapStays : Type 0
+MapStays = (n : ℕ) (root : Label) (s : State) (e : Entry) → IsMap s.graph root → MapStep n root s e → IsMap (next s e).graph root
+
+-- and each of its blocks stands where it stood
+abbrev pub PlacesStay : Type 0
+PlacesStay = (n : ℕ) (root : Label) (s : State) (e : Entry) → IsMap s.graph root → MapStep n root s e
+    → (q : List ℕ) (u : Value) (fields : List Value) → at (inside s.graph) q (Block root) ≡ Some u → inside s.graph u ≡ Some fields → at (inside (next s e).graph) q (Block root) ≡ Some u
+
+-- each step leaves of each key's binding what it is said to leave
+abbrev pub StepTells : Type 0
+StepTells = (n : ℕ) (root : Label) (s : State) (e : Entry) → IsMap s.graph root → (step : MapStep n root s e) → (l : Label) → LeavesBinding n root s e step l
+
+-- in a heap of one domain nobody but that domain does anything to a map, apart from the collector: each entry of others respects it
+abbrev pub AloneRespects : Type 0
+AloneRespects = (z : Sizes) (root : Label) (old new : List Entry) → z.domains ≡ 1 → Legal z new → OthersRespect z root 0 old new
+
+-- no two keys have one way
+abbrev pub WaysDiffer : Type 0
+WaysDiffer = (n : ℕ) (k l : Label) → n ≤ 8 → IsLabelOf n k → IsLabelOf n l → way_to n k ≡ way_to n l → k ≡ l
+
+-- so the ways of two keys part before they end: a leaf may always go one block deeper
+abbrev pub WaysPart : Type 0
+WaysPart = (n : ℕ) (k l : Label) → n ≤ 8 → IsLabelOf n k → IsLabelOf n l → k ≢ l → (p x y : List ℕ) → way_to n k ≡ p ++ x → way_to n l ≡ p ++ y → length p < way_length
+
+-- an entry behind a front sets this key
+abbrev pub SetsAt : Sizes → Label → List Entry → Entry → Label → Value → Type 0
+SetsAt z root front e k v = Sets z.domains (graph_of z front) (next (state_of z front) e).graph root k v
+
+-- no entry from one front to a later one sets it
+abbrev pub NoneSets : Sizes → Label → List Entry → List Entry → Label → Type 0
+NoneSets z root old new k = (front : List Entry) (e : Entry) → IsPrefix old front → IsPrefix (front ++ e ∷ []) new → (v : Value) → SetsAt z root front e k v → ⊥
+
+-- a key is bound to this at the later front, or it was outside reach between and is unbound
+abbrev pub BoundOrTaken : Sizes → Label → List Entry → List Entry → Label → Option Value → Type 0
+BoundOrTaken z root old new k datum = (bound_after z root new k ≡ datum) ⊎ (WasOutside z old new k × (bound_after z root new k ≡ None))
+
+-- what a map binds a key to is what the last entry that set it put, unless the key was outside reach since
+abbrev pub LookupAnswersLastPut : Type 0
+LookupAnswersLastPut = (z : Sizes) (root : Label) (old new : List Entry) → AllRespect z root old new → IsMap (graph_of z old) root
+    → (k : Label) (front : List Entry) (e : Entry) (v : Value) → IsPrefix old front → IsPrefix (front ++ e ∷ []) new → SetsAt z root front e k v → NoneSets z root (front ++ e ∷ []) new k
+    → BoundOrTaken z root (front ++ e ∷ []) new k (bound_by (graph_of z front) k v)
+
+-- a binding whose key is reached at each front from then on, and which no entry sets, is found
+abbrev pub HeldBindingIsFound : Type 0
+HeldBindingIsFound = (z : Sizes) (root : Label) (old new : List Entry) → IsPrefix old new → AllRespect z root old new → IsMap (graph_of z old) root
+    → (k : Label) (v : Value) → bound_after z root old k ≡ Some v → NoneSets z root old new k
+    → ((front : List Entry) → IsPrefix old front → IsPrefix front new → IsTrue (has_label (reach (state_of z front)) k)) → bound_after z root new k ≡ Some v
+
+-- and a map is a map all along
+abbrev pub RespectedMapStays : Type 0
+RespectedMapStays = (z : Sizes) (root : Label) (old new : List Entry) → IsPrefix old new → AllRespect z root old new → IsMap (graph_of z old) root → IsMap (graph_of z new) root

@@ -1,5 +1,5 @@
 -- Weak maps: a trie of plain blocks whose leaves are ephemerons of one key. What a map binds is a function of the graph.
-use Rattle.std.specs.Prelude.{◌≡◌, ℕ, zero, suc, ◌+◌, ◌*◌, ◌/◌, ◌%◌, ◌<◌, cond, List, [], ◌∷◌, ◌++◌, length, slice_index_or, option_and_then, pos, Option, Some, None, ◌⊎◌}
+use Rattle.std.specs.Prelude.{◌≡◌, ℕ, zero, suc, ◌+◌, ◌*◌, ◌/◌, ◌%◌, ◌^◌, ◌<◌, cond, List, [], ◌∷◌, ◌++◌, length, slice_index_or, option_and_then, pos, Option, Some, None, ◌⊎◌}
 use Rattle.std.specs.Option.{option_map_or}
 use Rattle.heap_model.specs.declared.label.Label.{Label}
 use Rattle.heap_model.specs.declared.graph.Value.{Value}
@@ -31,6 +31,10 @@ digits m = m % root_width ∷ low_digits 6 (m / root_width)
 -- the way to a key: which field to follow at the root, at the block below it, and so on
 abbrev pub way_to : ℕ → Label → List ℕ
 way_to n k = digits (number_of n k)
+
+-- a label that a heap of n domains may give out: its serial is a number of 32 bits
+abbrev pub IsLabelOf : ℕ → Label → Type 0
+IsLabelOf n k = (k.domain < n) × (k.serial < 2 ^ 32)
 
 -- how many steps a way has
 abbrev pub way_length : ℕ
@@ -69,7 +73,7 @@ bound_by g k v = None
 abbrev pub found : ℕ → Graph → Label → Label → Option Value
 found n g root k = bound_by g k (ends (inside g) (way_to n k) (Block root))
 
--- what a field of a map may hold: 0, a leaf, or a block of the map
+-- what a field of a map may hold: 0, a leaf, or a block of the map. Past its last field there is nothing
 abbrev pub is_leaf : Option Node → Type 0
 is_leaf (Some (Ephe (key ∷ []) datum)) = Unit {0}
 is_leaf _ = ⊥
@@ -77,7 +81,7 @@ is_leaf _ = ⊥
 abbrev pub IsSlot : Graph → Value → Type 0
 IsSlot g (Int z) = z ≡ pos 0
 IsSlot g (Block l) = is_leaf (node_at g l) ⊎ ((fields : List Value) × (fields_of (node_at g l) ≡ Some fields))
-IsSlot g Nothing = ⊥
+IsSlot g Nothing = Unit {0}
 
 -- no block stands at two places
 abbrev pub IsTree : (Value → Option (List Value)) → Value → Type 0
