@@ -19,7 +19,8 @@ use Rattle.table_laws.specs.Thinning.{state_of}
 use Rattle.table_laws.specs.Performing.{refused, written, writes, full_of}
 use Rattle.table_laws.proofs.StepLemmas.{legal_parts}
 use Rattle.table_laws.proofs.RefusalLemmas.{outcome_given, full_none, block_reply}
-use Rattle.weak_maps.specs.Beside.{PerformedBeside, refusals_by, writings_by}
+use Rattle.map_laws.specs.Calls.{PerformedBy}
+use Rattle.weak_maps.specs.Beside.{refusals_by, writings_by}
 
 mine : (d : ℕ) → (d == d) ≡ true
 mine d = eq-eqb d d refl
@@ -49,7 +50,7 @@ writings_none d (e ∷ h) none =
     let rest = writings_none d h parts.1 in
     omega (arith, here, rest)
 
-module _ (z : Sizes) (d : ℕ) (old new : List Entry) (c : declared_command.Command) (r : Reply) (p : PerformedBeside z d old new c r) where
+module _ (z : Sizes) (d : ℕ) (old new : List Entry) (c : declared_command.Command) (r : Reply) (p : PerformedBy z d old new c r) where
   abbrev s : State
   s = state_of z (old ++ p.between)
 

@@ -19,15 +19,16 @@ use Rattle.heap_model.proofs.Graphs.GraphLemmas.{same_label-true, same_label-fal
 use Rattle.table_laws.specs.Stages.{graph_of}
 use Rattle.table_laws.proofs.StageLemmas.{prefix_trans}
 use Rattle.map_laws.specs.Tries.{at, ends, inside, fields_of, found, bound_by, bound_in, is_leaf, IsSlot, low_digits, digits, number_of, way_to, way_length, width_at, root_width, node_width, IsMap}
-use Rattle.map_laws.specs.Steps.{OthersRespect, OwnRespect}
-use Rattle.map_laws.specs.Calls.{Looks, OwnKeep, bound_after}
+use Rattle.map_laws.specs.Steps.{OthersRespect}
+use Rattle.map_laws.specs.Calls.{PerformedBy, bound_after}
+use Rattle.map_laws.proofs.CallLemmas.{load_step, load_leaf_step}
 use Rattle.map_laws.proofs.WalkLemmas.{Walk, ends_at, at_step, at_stop}
 use Rattle.map_laws.proofs.SetLemmas.{stays}
 use Rattle.weak_maps.specs.Commands.{IsBlock}
-use Rattle.weak_maps.specs.Beside.{PerformedBeside, held_by}
+use Rattle.weak_maps.specs.Beside.{held_by}
 use Rattle.weak_maps.specs.Walks.{KeepsButEight, Looking, Descends, LeafTells, Meets, HoldsLeaf, Met}
-use Rattle.weak_maps.proofs.BesideLemmas.{sixteen, set_here, set_other, same_held, since_old, until_new, load_beside, load_kind_beside}
-use Rattle.weak_maps.proofs.StayLemmas.{prefix_same, Stays, leaf_stays, looking_on, stays_middle, respects_within}
+use Rattle.weak_maps.proofs.BesideLemmas.{sixteen, set_here, set_other, same_held, since_old, until_new}
+use Rattle.weak_maps.proofs.StayLemmas.{prefix_same, Stays, leaf_middle, looking_from, looking_on, stays_middle}
 
 -- a way goes on from where its first part leads
 pub at_append : (f : Walk) (p q : List ℕ) (v u : Value) → at f p v ≡ Some u → at f (p ++ q) v ≡ at f q u
@@ -95,24 +96,8 @@ module _ (z : Sizes) (limits : IsWithinLimits z) (root : Label) (d : ℕ) (first
   abbrev number : ℕ
   number = number_of z.domains k
 
-  -- before the first command
-  pub looking_from : IsMap (graph_of z first) root → Looking z root d first first
-  looking_from map = record {
-    looks = record { keeps = λ front e since until mine l. absurd (none front e since until); respects = λ front e since until mine. absurd (none front e since until) };
-    grows = prefix_same first;
-    map = map;
-  }
-    where
-      longer : (a b : List Entry) (e : Entry) → a ≡ (a ++ b) ++ e ∷ [] → ⊥
-      longer [] [] e is = cc
-      longer [] (f ∷ b) e is = cc
-      longer (g ∷ a) b e is = longer a b e cc
-      none : (front : List Entry) (e : Entry) → IsPrefix first front → IsPrefix (front ++ e ∷ []) first → ⊥
-      none front e since until = let less = length-append front (e ∷ []) in let more = length-append (front ++ e ∷ []) until.rest in let some = length-append first since.rest in
-          let a = ap length since.appends in let b = ap length until.appends in omega (arith, less, more, some, a, b)
-
   -- a load from a block of the map: register 8 holds what one step more leads to
-  module _ (now new : List Entry) (r : Reply) (i src : ℕ) (p : PerformedBeside z d now new (Load 8 src i) r) (respects : OthersRespect z root d first new) (looking : Looking z root d first now) where
+  module _ (now new : List Entry) (r : Reply) (i src : ℕ) (p : PerformedBy z d now new (Load 8 src i) r) (respects : OthersRespect z root d first new) (looking : Looking z root d first now) where
     abbrev mid : List Entry
     mid = now ++ p.between
 
@@ -128,7 +113,7 @@ module _ (z : Sizes) (limits : IsWithinLimits z) (root : Label) (d : ℕ) (first
         let node = plain_node (node_at (graph_of z mid) l) moved.1.0 moved.1.1 in
         let wide : length moved.1.0 ≡ width_at way = stay.map.wide way (Block l) moved.1.0 moved.0 moved.1.1 in
         let v : Value = get_or moved.1.0 i Nothing in
-        let all = load_beside z d now new r 8 src i l p holds node.0 moved.1.0 v node.1 (slice_get-get_or moved.1.0 i Nothing (subst (λ (m : ℕ). i < m) (sym wide) below)) in
+        let all = load_step z d now new r 8 src i p l node.0 moved.1.0 v holds node.1 (slice_get-get_or moved.1.0 i Nothing (subst (λ (m : ℕ). i < m) (sym wide) below)) in
         (v,
          subst (λ (g : Graph). at (inside g) (way ++ i ∷ []) (Block root) ≡ Some v) (sym all.0) (at_one (inside (graph_of z mid)) way i (Block root) (Block l) moved.1.0 moved.0 moved.1.1),
          set_here z d now new 8 v all.1 (sixteen z d now new (Load 8 src i) r p limits) (omega arith),
@@ -140,15 +125,15 @@ module _ (z : Sizes) (limits : IsWithinLimits z) (root : Label) (d : ℕ) (first
     pub loads_leaf : (l : Label) (key : Option Label) (datum : Value) → held_by z d now src ≡ Block l → node_at (graph_of z mid) l ≡ Some (Ephe (key ∷ []) datum)
         → (r ≡ reply.BadType) × Looking z root d first new × ((j : ℕ) → held_by z d new j ≡ held_by z d now j) × (graph_of z new ≡ graph_of z mid)
     loads_leaf l key datum holds at_mid =
-        let all = load_kind_beside z d now new r 8 src i l p holds (key ∷ []) datum at_mid in
+        let all = load_leaf_step z d now new r 8 src i p l (key ∷ []) datum holds at_mid in
         (all.2, looking_on z root d first now new (Load 8 src i) r p all.0 respects looking, (λ j. same_held z d now new all.1 j), all.0)
 
   -- the first load
-  pub descend_begins : (now : List Entry) (r : Reply) (map : ℕ) → IsMap (graph_of z first) root → held_by z d first map ≡ Block root → (p : PerformedBeside z d first now (Load 8 map (number % root_width)) r) → OthersRespect z root d first now
+  pub descend_begins : (now : List Entry) (r : Reply) (map : ℕ) → IsMap (graph_of z first) root → held_by z d first map ≡ Block root → (p : PerformedBy z d first now (Load 8 map (number % root_width)) r) → OthersRespect z root d first now
       → Descends z d first now root k r 1 (number / root_width)
   descend_begins now r map is_map holds p respects =
       let own = is_map.own in
-      let x = loads_inner first now r (number % root_width) map p respects (looking_from is_map) root own.0 [] holds refl own.1 (below_root number) in record {
+      let x = loads_inner first now r (number % root_width) map p respects (looking_from z root d first is_map) root own.0 [] holds refl own.1 (below_root number) in record {
         looking = x.4;
         keeps = x.5;
         p = number % root_width ∷ [];
@@ -175,7 +160,7 @@ module _ (z : Sizes) (limits : IsWithinLimits z) (root : Label) (d : ℕ) (first
   none_bound : (g : Graph) (v : Value) → IsSlot g v → (IsBlock (shown v) → ⊥) → (inside g v ≡ None) × (bound_by g k v ≡ None)
   none_bound g (Int i) slot none = (refl, refl)
   none_bound g (Block l) slot none = absurd (none tt)
-  none_bound g Nothing slot none = absurd slot
+  none_bound g Nothing slot none = (refl, refl)
 
   wide_below : (p : List ℕ) (done : ℕ) → length p ≡ suc done → width_at p ≡ node_width
   wide_below [] done many = cc
@@ -218,9 +203,14 @@ module _ (z : Sizes) (limits : IsWithinLimits z) (root : Label) (d : ℕ) (first
       (λ inner. absurd (let low = x.looking.map.low x.p (Block b.0) inner.0 (x.there ∙ ap Some b.1) inner.1 in let many = x.many in omega (arith, low, many)))
       (subst (IsSlot (graph_of z now)) b.1 (x.looking.map.slots x.p x.v x.there))
 
+  -- once all of the way was followed
+  pub descend_ends : (now : List Entry) (r : Reply) (done rest : ℕ) (b : Bool) → done ≡ way_length → Descends z d first now root k r done rest → (b ≡ true → IsBlock r) → (IsBlock r → b ≡ true) → Met z d first now root k b
+  descend_ends now r done rest true all x there back = descend_last now r rest (subst (λ (m : ℕ). Descends z d first now root k r m rest) all x) (there refl)
+  descend_ends now r done rest false all x there back = descend_none now r done rest x (λ is. let clash : false ≡ true = back is in cc)
+
   module _ (kr : ℕ) (few : kr < 8) (key : held_by z d first kr ≡ Block k) where
     -- one step more
-    descend_step : (now new : List Entry) (r r2 : Reply) (done rest : ℕ) → PerformedBeside z d now new (Load 8 8 (rest % node_width)) r2 → OthersRespect z root d first new → Descends z d first now root k r (suc done) rest → IsBlock r
+    descend_step : (now new : List Entry) (r r2 : Reply) (done rest : ℕ) → PerformedBy z d now new (Load 8 8 (rest % node_width)) r2 → OthersRespect z root d first new → Descends z d first now root k r (suc done) rest → IsBlock r
         → ((r2 ≡ reply.BadType) × Met z d first new root k true) ⊎ Descends z d first new root k r2 (suc (suc done)) (rest / node_width)
     descend_step now new r r2 done rest p respects x is =
         ⊎_elim (λ leaf. inl (at_leaf leaf)) (λ inner. inr (at_inner inner.0 inner.1 x.left refl)) (subst (IsSlot (graph_of z now)) b.1 (x.looking.map.slots x.p x.v x.there))
@@ -270,9 +260,9 @@ module _ (z : Sizes) (limits : IsWithinLimits z) (root : Label) (d : ℕ) (first
               shows = y.3;
             }
 
-    pub descend_next : (now new : List Entry) (r r2 : Reply) (done rest : ℕ) → PerformedBeside z d now new (Load 8 8 (rest % node_width)) r2 → OthersRespect z root d first new → Descends z d first now root k r (suc done) rest → IsBlock r → (r2 ≡ reply.BadType → ⊥)
+    pub descend_next : (now new : List Entry) (r r2 : Reply) (done rest : ℕ) → PerformedBy z d now new (Load 8 8 (rest % node_width)) r2 → OthersRespect z root d first new → Descends z d first now root k r (suc done) rest → IsBlock r → (r2 ≡ reply.BadType → ⊥)
         → Descends z d first new root k r2 (suc (suc done)) (rest / node_width)
     descend_next now new r r2 done rest p respects x is other = ⊎_elim (λ met. absurd (other met.0)) (λ on. on) (descend_step now new r r2 done rest p respects x is)
 
-    pub descend_met : (now new : List Entry) (r r2 : Reply) (done rest : ℕ) → PerformedBeside z d now new (Load 8 8 (rest % node_width)) r2 → OthersRespect z root d first new → Descends z d first now root k r (suc done) rest → IsBlock r → r2 ≡ reply.BadType → Met z d first new root k true
+    pub descend_met : (now new : List Entry) (r r2 : Reply) (done rest : ℕ) → PerformedBy z d now new (Load 8 8 (rest % node_width)) r2 → OthersRespect z root d first new → Descends z d first now root k r (suc done) rest → IsBlock r → r2 ≡ reply.BadType → Met z d first new root k true
     descend_met now new r r2 done rest p respects x is kind = ⊎_elim (λ met. met.1) (λ on. absurd (shown_no_type on.v (sym on.shows ∙ kind))) (descend_step now new r r2 done rest p respects x is)

@@ -1,6 +1,8 @@
 pub mod CountLemmas
+pub mod MachineLemmas
 pub mod BesideLemmas
 pub mod EntryLemmas
-pub mod StepStays
 pub mod StayLemmas
 pub mod DescendLemmas
+pub mod GetLemmas
+pub mod MakeLemmas

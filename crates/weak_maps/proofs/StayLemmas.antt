@@ -1,5 +1,5 @@
 -- While others respect a map it is a map still, its blocks stand where they stood, and a leaf that was met tells of a key what it told.
-use Rattle.std.proofs.Common.{◌≡◌, ◌≢◌, ◌⊎◌, inl, inr, ⊎_elim, ℕ, ◌+◌, ◌<◌, Bool, true, false, List, [], ◌∷◌, ◌++◌, get_or, Option, Some, None, refl, ap, sym, ◌∙◌, subst, append_assoc, append-nil}
+use Rattle.std.proofs.Common.{◌≡◌, ◌≢◌, ◌⊎◌, inl, inr, ⊎_elim, ℕ, ◌+◌, ◌<◌, Bool, true, false, List, [], ◌∷◌, ◌++◌, length, get_or, Option, Some, None, refl, ap, sym, ◌∙◌, subst, append_assoc, append-nil, length-append, arith}
 use Rattle.heap_model.specs.declared.label.Label.{Label}
 use Rattle.heap_model.specs.declared.command.Command.{Command}
 use Rattle.heap_model.specs.declared.entry.Entry.{Entry}
@@ -25,13 +25,13 @@ use Rattle.table_laws.proofs.ChangeLemmas.{thin_is}
 use Rattle.table_laws.proofs.CollectorLemmas.{outside_unheld}
 use Rattle.table_laws.proofs.StageLemmas.{prefix_trans}
 use Rattle.map_laws.specs.Tries.{at, inside, found, is_leaf, IsMap}
-use Rattle.map_laws.specs.Steps.{MapStep, Untouched, OthersRespect, OwnRespect, RespectsMap, SparesLeaves}
-use Rattle.map_laws.specs.Calls.{Looks, bound_after}
-use Rattle.weak_maps.specs.Beside.{PerformedBeside, held_by}
-use Rattle.weak_maps.specs.Walks.{LeafTells, Looking}
-use Rattle.weak_maps.proofs.BesideLemmas.{middle, since_old, entry_is, until_new, left_is}
+use Rattle.map_laws.specs.Steps.{MapStep, Untouched, OthersRespect, RespectsMap, SparesLeaves}
+use Rattle.map_laws.specs.Calls.{Looks, PerformedBy}
+use Rattle.map_laws.proofs.MapLemmas.{map_stays, places_stay, plain_stays}
+use Rattle.weak_maps.specs.Beside.{held_by}
+use Rattle.weak_maps.specs.Walks.{LeafTells, Looking, OwnQuiet}
+use Rattle.weak_maps.proofs.BesideLemmas.{since_old, until_new}
 use Rattle.weak_maps.proofs.EntryLemmas.{own_entry}
-use Rattle.weak_maps.proofs.StepStays.{step_map, step_block}
 
 pub prefix_same : (h : List Entry) → IsPrefix h h
 prefix_same h = record { rest = []; appends = sym (append-nil h) }
@@ -52,15 +52,16 @@ others_stay z root d now (e ∷ more) none map respects =
     let whole : (now ++ e ∷ []) ++ more ≡ now ++ e ∷ more = append_assoc now (e ∷ []) more in
     let step : MapStep z.domains root (state_of z now) e = (respects now e (prefix_same now) (record { rest = more; appends = sym whole }) parts.0).step in
     let there : state_of z (now ++ e ∷ []) ≡ next (state_of z now) e = state_after-push (opening z) now e in
-    let map_next : IsMap (graph_of z (now ++ e ∷ [])) root = subst (λ (t : State). IsMap t.graph root) (sym there) (step_map z.domains root (state_of z now) e map step) in
+    let map_next : IsMap (graph_of z (now ++ e ∷ [])) root = subst (λ (t : State). IsMap t.graph root) (sym there) (map_stays z.domains root (state_of z now) e map step) in
     let rest : Stays z root (now ++ e ∷ []) ((now ++ e ∷ []) ++ more) = others_stay z root d (now ++ e ∷ []) more parts.1 map_next
         (respects_within z root d now (now ++ e ∷ more) (now ++ e ∷ []) ((now ++ e ∷ []) ++ more) (record { rest = e ∷ []; appends = refl }) (record { rest = []; appends = sym whole ∙ sym (append-nil ((now ++ e ∷ []) ++ more)) }) respects) in
     subst (λ (h : List Entry). Stays z root now h) whole
     (record {
       map = rest.map;
       block = λ q u fields at_now plain.
-          let one = step_block z.domains root (state_of z now) e map step q u fields at_now plain in
-          rest.block q u one.1.0 (subst (λ (t : State). at (inside t.graph) q (Block root) ≡ Some u) (sym there) one.0) (subst (λ (t : State). inside t.graph u ≡ Some one.1.0) (sym there) one.1.1);
+          let place = places_stay z.domains root (state_of z now) e map step q u fields at_now plain in
+          let left = plain_stays z.domains root (state_of z now) e map step q u fields at_now plain in
+          rest.block q u left.0 (subst (λ (t : State). at (inside t.graph) q (Block root) ≡ Some u) (sym there) place) (subst (λ (t : State). inside t.graph u ≡ Some left.0) (sym there) left.1);
     })
 
 -- what a leaf tells of a key that isn't taken
@@ -100,41 +101,44 @@ quiet_respects z root front e same = record {
 }
 
 -- up to a command of the domain
-pub stays_middle : (z : Sizes) (root : Label) (d : ℕ) (first now new : List Entry) (c : Command) (r : Reply) (p : PerformedBeside z d now new c r) → OthersRespect z root d first new → IsPrefix first now → IsMap (graph_of z now) root → Stays z root now (now ++ p.between)
+pub stays_middle : (z : Sizes) (root : Label) (d : ℕ) (first now new : List Entry) (c : Command) (r : Reply) (p : PerformedBy z d now new c r) → OthersRespect z root d first new → IsPrefix first now → IsMap (graph_of z now) root → Stays z root now (now ++ p.between)
 stays_middle z root d first now new c r p respects grows map = others_stay z root d now p.between p.others map (respects_within z root d first new now (now ++ p.between) grows (until_new z d now new c r p) respects)
 
-pub leaf_middle : (z : Sizes) (root : Label) (d : ℕ) (first now new : List Entry) (c : Command) (r : Reply) (p : PerformedBeside z d now new c r) → OthersRespect z root d first new → IsPrefix first now → (k : Label) (o : Option Value) (i : ℕ) (l : Label) (former : List Entry) (way : List ℕ)
+pub leaf_middle : (z : Sizes) (root : Label) (d : ℕ) (first now new : List Entry) (c : Command) (r : Reply) (p : PerformedBy z d now new c r) → OthersRespect z root d first new → IsPrefix first now → (k : Label) (o : Option Value) (i : ℕ) (l : Label) (former : List Entry) (way : List ℕ)
     → IsPrefix former now → at (inside (graph_of z former)) way (Block root) ≡ Some (Block l) → is_leaf (node_at (graph_of z former) l) → held_by z d now i ≡ Block k → LeafTells (graph_of z now) l k o → LeafTells (graph_of z (now ++ p.between)) l k o
 leaf_middle z root d first now new c r p respects grows k o i l former way before there leaf held tells =
     leaf_stays z root d now p.between p.others (respects_within z root d first new now (now ++ p.between) grows (until_new z d now new c r p) respects) former way l k o i before there leaf held tells
 
 -- a command of the domain's own that changes no block, behind others' entries
-module _ (z : Sizes) (root : Label) (d : ℕ) (first now new : List Entry) (c : Command) (r : Reply) (p : PerformedBeside z d now new c r) (same : graph_of z new ≡ graph_of z (now ++ p.between)) where
-  abbrev mid : List Entry
-  mid = now ++ p.between
-
-  abbrev entry : Entry
-  entry = CommandOf d c p.full
-
-  next_same : (next (state_of z mid) entry).graph ≡ graph_of z mid
-  next_same = ap (λ (t : State). t.graph) (sym (left_is z d now new c r p)) ∙ same
-
-  looks_on : Looks z root d first now → Looks z root d first new
-  looks_on looks = record {
-    keeps = λ front e since until mine l.
-        ⊎_elim (λ early. looks.keeps front e since early mine l)
-        (λ is. subst (λ (w : List Entry × Entry). bound_after z root (w.0 ++ w.1 ∷ []) l ≡ bound_after z root w.0 l) (λ i. (sym is.0 i, sym is.1 i))
-            (ap (λ (t : State). found z.domains t.graph root l) (state_after-push (opening z) mid entry) ∙ ap (λ (g : Graph). found z.domains g root l) next_same))
-        (own_entry d now p.between entry front e p.others (subst (IsPrefix (front ++ e ∷ [])) p.appends until) mine);
-    respects = λ front e since until mine.
-        ⊎_elim (λ early. looks.respects front e since early mine)
-        (λ is. subst (λ (w : List Entry × Entry). RespectsMap z root w.0 w.1) (λ i. (sym is.0 i, sym is.1 i)) (quiet_respects z root mid entry next_same))
-        (own_entry d now p.between entry front e p.others (subst (IsPrefix (front ++ e ∷ [])) p.appends until) mine);
-  }
+module _ (z : Sizes) (root : Label) (d : ℕ) (first now new : List Entry) (c : Command) (r : Reply) (p : PerformedBy z d now new c r) (same : graph_of z new ≡ graph_of z (now ++ p.between)) where
+  pub quiet_on : OwnQuiet z d first now → OwnQuiet z d first new
+  quiet_on quiet front e since until mine = ⊎_elim (λ early. quiet front e since early mine)
+      (λ is. subst (λ (w : List Entry × Entry). graph_of z (w.0 ++ w.1 ∷ []) ≡ graph_of z w.0) (λ i. (sym is.0 i, sym is.1 i)) (ap (graph_of z) (sym p.appends) ∙ same))
+      (own_entry d now p.between (CommandOf d c p.full) front e p.others (subst (IsPrefix (front ++ e ∷ [])) p.appends until) mine)
 
   pub looking_on : OthersRespect z root d first new → Looking z root d first now → Looking z root d first new
   looking_on respects x = record {
-    looks = looks_on x.looks;
-    grows = prefix_trans first now new x.grows (prefix_trans now mid new (since_old z d now new c r p) (until_new z d now new c r p));
+    quiet = quiet_on x.quiet;
+    grows = prefix_trans first now new x.grows (prefix_trans now (now ++ p.between) new (since_old z d now new c r p) (until_new z d now new c r p));
     map = subst (λ (g : Graph). IsMap g root) (sym same) (stays_middle z root d first now new c r p respects x.grows x.map).map;
   }
+
+-- before the first command
+pub no_entry : (first front : List Entry) (e : Entry) → IsPrefix first front → IsPrefix (front ++ e ∷ []) first → ⊥
+no_entry first front e since until =
+    let one = length-append front (e ∷ []) in
+    let more = length-append (front ++ e ∷ []) until.rest in
+    let some = length-append first since.rest in
+    let a = ap length since.appends in
+    let b = ap length until.appends in
+    omega (arith, one, more, some, a, b)
+
+pub looking_from : (z : Sizes) (root : Label) (d : ℕ) (first : List Entry) → IsMap (graph_of z first) root → Looking z root d first first
+looking_from z root d first map = record { quiet = λ front e since until mine. absurd (no_entry first front e since until); grows = prefix_same first; map = map }
+
+-- a call whose entries change no block keeps each binding, and respects each map
+pub quiet_looks : (z : Sizes) (root : Label) (d : ℕ) (old new : List Entry) → OwnQuiet z d old new → Looks z root d old new
+quiet_looks z root d old new quiet = record {
+  keeps = λ front e since until mine l. ap (λ (g : Graph). found z.domains g root l) (quiet front e since until mine);
+  respects = λ front e since until mine. quiet_respects z root front e (ap (λ (t : State). t.graph) (sym (state_after-push (opening z) front e)) ∙ quiet front e since until mine);
+}

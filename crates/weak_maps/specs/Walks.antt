@@ -1,6 +1,7 @@
 -- Where a call stands on the way to a key, and what its walk meets there.
 use Rattle.std.specs.Prelude.{◌≡◌, ◌≢◌, ℕ, ◌+◌, Bool, true, false, List, [], ◌∷◌, ◌++◌, length, Option, Some, None}
 use Rattle.heap_model.specs.declared.label.Label.{Label}
+use Rattle.heap_model.specs.declared.command.Command.TheVariants.{Forget}
 use Rattle.heap_model.specs.declared.entry.Entry.{Entry}
 use Rattle.heap_model.specs.declared.graph.Value.{Value}
 use Rattle.heap_model.specs.declared.graph.Value.TheVariants.{Block, Nothing}
@@ -9,20 +10,24 @@ use Rattle.heap_model.specs.declared.reply.Reply.{Reply}
 use Rattle.heap_model.specs.declared.state.Sizes.{Sizes}
 use Rattle.heap_model.specs.Graph.{Graph, node_at}
 use Rattle.heap_model.specs.Commands.{shown}
-use Rattle.heap_model.specs.History.{IsPrefix}
+use Rattle.heap_model.specs.History.{IsPrefix, is_entry_of}
 use Rattle.table_laws.specs.Stages.{graph_of}
 use Rattle.map_laws.specs.Tries.{at, inside, is_leaf, low_digits, way_to, way_length, IsMap}
 use Rattle.map_laws.specs.Steps.{OthersRespect}
-use Rattle.map_laws.specs.Calls.{Looks, bound_after}
+use Rattle.map_laws.specs.Calls.{PerformedBy, bound_after}
 use Rattle.weak_maps.specs.Beside.{held_by}
 
 -- all registers of domain d but 8 are as they were
 abbrev pub KeepsButEight : Sizes → ℕ → List Entry → List Entry → Type 0
 KeepsButEight z d old new = (r : ℕ) → r ≢ 8 → held_by z d new r ≡ held_by z d old r
 
--- a call has changed nothing of a map so far, and it is a map still
+-- from one front to a later one, entries of domain d change no block and make none
+abbrev pub OwnQuiet : Sizes → ℕ → List Entry → List Entry → Type 0
+OwnQuiet z d old new = (front : List Entry) (e : Entry) → IsPrefix old front → IsPrefix (front ++ e ∷ []) new → is_entry_of d e ≡ true → graph_of z (front ++ e ∷ []) ≡ graph_of z front
+
+-- a call has changed no block so far, and a map is one still
 pub record Looking (z : Sizes) (root : Label) (d : ℕ) (first now : List Entry) : Type 0 where
-  pub looks : Looks z root d first now
+  pub quiet : OwnQuiet z d first now
   pub grows : IsPrefix first now
   pub map : IsMap (graph_of z now) root
 
@@ -73,3 +78,11 @@ Met z d first now root k false = Meets z d first now root k None
 -- whatever map the register holds, if others respect it
 abbrev pub Descended : Sizes → ℕ → List Entry → List Entry → ℕ → ℕ → Label → Bool → Type 0
 Descended z d old new map key k met = (root : Label) → held_by z d old map ≡ Block root → held_by z d old key ≡ Block k → IsMap (graph_of z old) root → OthersRespect z root d old new → Met z d old new root k met
+
+-- a register and register 8 were emptied, one after the other
+pub record Emptied (z : Sizes) (d : ℕ) (old new : List Entry) (dst : ℕ) : Type 0 where
+  pub between : List Entry
+  pub first : Reply
+  pub second : Reply
+  pub empties : PerformedBy z d old between (Forget dst) first
+  pub clears : PerformedBy z d between new (Forget 8) second

@@ -4,4 +4,5 @@
 mod digits;
 pub mod getting;
 pub mod machine;
+pub mod making;
 pub mod replies;

@@ -10,7 +10,8 @@ ghost use Rattle.table_laws.specs.Thinning.{state_of};
 ghost use Rattle.table_laws.specs.Performing.{full_of, writes};
 ghost use Rattle.command_counts.specs.Counts.{labels_of, labels_given, ephemerons_of, ephemerons_given};
 ghost use Rattle.weak_maps.specs.Commands.{IsMapCommand};
-ghost use Rattle.weak_maps.specs.Beside.{PerformedBeside, held_by, refusals_by, writings_by};
+ghost use Rattle.map_laws.specs.Calls.{PerformedBy};
+ghost use Rattle.weak_maps.specs.Beside.{held_by, refusals_by, writings_by};
 
 use heap_model::command::Command;
 use heap_model::reply::Reply;
@@ -67,7 +68,7 @@ pub trait Machine {
         ensures domain { domain self.new ≡ domain self.old }
         ensures labels { labels_left self.old ≡ labels_left self.new + labels_given c result }
         ensures room { ephes_room self.old ≤ ephes_room self.new + ephemerons_given c result }
-        ensures performed { PerformedBeside (sizes self.old) (domain self.old) (front self.old) (front self.new) c result };
+        ensures performed { PerformedBy (sizes self.old) (domain self.old) (front self.old) (front self.new) c result };
 }
 
 // Makes a command: one entry more of the domain is refused exactly where it is answered `full`, and an allocation gives out a
@@ -83,7 +84,7 @@ pub(crate) fn perform<M: Machine, R: Wait>(m: &mut M, rt: &R, c: Command) -> Rep
     ensures refused { refusals_by (M.domain m.old) (M.front m.new) ≡ refusals_by (M.domain m.old) (M.front m.old) + full_of result }
     ensures given { labels_given c result + full_of result ≡ labels_of c }
     ensures written { writings_by (M.domain m.old) (M.front m.new) ≡ writings_by (M.domain m.old) (M.front m.old) + writes c }
-    ensures performed { PerformedBeside (M.sizes m.old) (M.domain m.old) (M.front m.old) (M.front m.new) c result }
+    ensures performed { PerformedBy (M.sizes m.old) (M.domain m.old) (M.front m.old) (M.front m.new) c result }
 {
     m.stands();
     m.perform(rt, c)
