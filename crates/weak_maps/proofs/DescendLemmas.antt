@@ -28,7 +28,8 @@ use Rattle.weak_maps.specs.Commands.{IsBlock}
 use Rattle.weak_maps.specs.Beside.{held_by}
 use Rattle.weak_maps.specs.Walks.{KeepsButEight, Looking, Descends, LeafTells, Meets, HoldsLeaf, Met}
 use Rattle.weak_maps.proofs.BesideLemmas.{sixteen, set_here, set_other, same_held, since_old, until_new}
-use Rattle.weak_maps.proofs.StayLemmas.{prefix_same, Stays, leaf_middle, looking_from, looking_on, stays_middle}
+use Rattle.weak_maps.proofs.StayLemmas.{prefix_same, leaf_middle, looking_from, looking_on, stays_middle}
+use Rattle.weak_maps.specs.Fields.{Stays}
 
 -- a way goes on from where its first part leads
 pub at_append : (f : Walk) (p q : List ℕ) (v u : Value) → at f p v ≡ Some u → at f (p ++ q) v ≡ at f q u
@@ -59,7 +60,7 @@ leaf_node (Some (Ephe [] datum)) leaf = absurd leaf
 leaf_node (Some (Ephe (key ∷ []) datum)) leaf = (key, datum, refl)
 leaf_node (Some (Ephe (key ∷ other ∷ keys) datum)) leaf = absurd leaf
 
-leaf_none : (o : Option Node) → is_leaf o → fields_of o ≡ None
+pub leaf_none : (o : Option Node) → is_leaf o → fields_of o ≡ None
 leaf_none o leaf = let n = leaf_node o leaf in ap fields_of n.2
 
 -- what a leaf tells of a key
@@ -81,10 +82,10 @@ pub way_ends : (n : ℕ) (g : Graph) (root k : Label) (p q : List ℕ) (v : Valu
 way_ends n g root k p q v way there end =
     ap (bound_by g k) (ap (λ (l : List ℕ). ends (inside g) l (Block root)) way ∙ (ends_at (inside g) p q (Block root) v there ∙ stays (inside g) q v end))
 
-below_width : (m : ℕ) → m % node_width < node_width
+pub below_width : (m : ℕ) → m % node_width < node_width
 below_width m = omega arith
 
-below_root : (m : ℕ) → m % root_width < root_width
+pub below_root : (m : ℕ) → m % root_width < root_width
 below_root m = omega arith
 
 pub shown_no_type : (v : Value) → shown v ≡ reply.BadType → ⊥
@@ -96,16 +97,16 @@ module _ (z : Sizes) (limits : IsWithinLimits z) (root : Label) (d : ℕ) (first
   abbrev number : ℕ
   number = number_of z.domains k
 
-  -- a load from a block of the map: register 8 holds what one step more leads to
-  module _ (now new : List Entry) (r : Reply) (i src : ℕ) (p : PerformedBy z d now new (Load 8 src i) r) (respects : OthersRespect z root d first new) (looking : Looking z root d first now) where
+  -- a load from a block of the map: a register holds what one step more leads to
+  module _ (now new : List Entry) (r : Reply) (dst i src : ℕ) (small : dst < 16) (p : PerformedBy z d now new (Load dst src i) r) (respects : OthersRespect z root d first new) (looking : Looking z root d first now) where
     abbrev mid : List Entry
     mid = now ++ p.between
 
-    stay : Stays z root now mid
-    stay = stays_middle z root d first now new (Load 8 src i) r p respects looking.grows looking.map
+    pub stay : Stays z root now mid
+    stay = stays_middle z root d first now new (Load dst src i) r p respects looking.grows looking.map
 
-    abbrev Loaded : List ℕ → Type 0
-    Loaded way = (v : Value) × (at (inside (graph_of z new)) (way ++ i ∷ []) (Block root) ≡ Some v) × (held_by z d new 8 ≡ v) × (r ≡ shown v) × Looking z root d first new × ((j : ℕ) → j ≢ 8 → held_by z d new j ≡ held_by z d now j)
+    abbrev pub Loaded : List ℕ → Type 0
+    Loaded way = (v : Value) × (at (inside (graph_of z new)) (way ++ i ∷ []) (Block root) ≡ Some v) × (held_by z d new dst ≡ v) × (r ≡ shown v) × Looking z root d first new × ((j : ℕ) → j ≢ dst → held_by z d new j ≡ held_by z d now j) × (graph_of z new ≡ graph_of z mid)
 
     pub loads_inner : (l : Label) (fields : List Value) (way : List ℕ) → held_by z d now src ≡ Block l → at (inside (graph_of z now)) way (Block root) ≡ Some (Block l) → inside (graph_of z now) (Block l) ≡ Some fields → i < width_at way → Loaded way
     loads_inner l fields way holds there plain below =
@@ -113,27 +114,28 @@ module _ (z : Sizes) (limits : IsWithinLimits z) (root : Label) (d : ℕ) (first
         let node = plain_node (node_at (graph_of z mid) l) moved.1.0 moved.1.1 in
         let wide : length moved.1.0 ≡ width_at way = stay.map.wide way (Block l) moved.1.0 moved.0 moved.1.1 in
         let v : Value = get_or moved.1.0 i Nothing in
-        let all = load_step z d now new r 8 src i p l node.0 moved.1.0 v holds node.1 (slice_get-get_or moved.1.0 i Nothing (subst (λ (m : ℕ). i < m) (sym wide) below)) in
+        let all = load_step z d now new r dst src i p l node.0 moved.1.0 v holds node.1 (slice_get-get_or moved.1.0 i Nothing (subst (λ (m : ℕ). i < m) (sym wide) below)) in
         (v,
          subst (λ (g : Graph). at (inside g) (way ++ i ∷ []) (Block root) ≡ Some v) (sym all.0) (at_one (inside (graph_of z mid)) way i (Block root) (Block l) moved.1.0 moved.0 moved.1.1),
-         set_here z d now new 8 v all.1 (sixteen z d now new (Load 8 src i) r p limits) (omega arith),
+         set_here z d now new dst v all.1 (sixteen z d now new (Load dst src i) r p limits) small,
          all.2,
-         looking_on z root d first now new (Load 8 src i) r p all.0 respects looking,
-         (λ j other. set_other z d now new 8 v all.1 j other))
+         looking_on z root d first now new (Load dst src i) r p all.0 respects looking,
+         (λ j other. set_other z d now new dst v all.1 j other),
+         all.0)
 
     -- a load from a leaf: nothing changes
     pub loads_leaf : (l : Label) (key : Option Label) (datum : Value) → held_by z d now src ≡ Block l → node_at (graph_of z mid) l ≡ Some (Ephe (key ∷ []) datum)
         → (r ≡ reply.BadType) × Looking z root d first new × ((j : ℕ) → held_by z d new j ≡ held_by z d now j) × (graph_of z new ≡ graph_of z mid)
     loads_leaf l key datum holds at_mid =
-        let all = load_leaf_step z d now new r 8 src i p l (key ∷ []) datum holds at_mid in
-        (all.2, looking_on z root d first now new (Load 8 src i) r p all.0 respects looking, (λ j. same_held z d now new all.1 j), all.0)
+        let all = load_leaf_step z d now new r dst src i p l (key ∷ []) datum holds at_mid in
+        (all.2, looking_on z root d first now new (Load dst src i) r p all.0 respects looking, (λ j. same_held z d now new all.1 j), all.0)
 
   -- the first load
   pub descend_begins : (now : List Entry) (r : Reply) (map : ℕ) → IsMap (graph_of z first) root → held_by z d first map ≡ Block root → (p : PerformedBy z d first now (Load 8 map (number % root_width)) r) → OthersRespect z root d first now
       → Descends z d first now root k r 1 (number / root_width)
   descend_begins now r map is_map holds p respects =
       let own = is_map.own in
-      let x = loads_inner first now r (number % root_width) map p respects (looking_from z root d first is_map) root own.0 [] holds refl own.1 (below_root number) in record {
+      let x = loads_inner first now r 8 (number % root_width) map (omega arith) p respects (looking_from z root d first is_map) root own.0 [] holds refl own.1 (below_root number) in record {
         looking = x.4;
         keeps = x.5;
         p = number % root_width ∷ [];
@@ -148,16 +150,16 @@ module _ (z : Sizes) (limits : IsWithinLimits z) (root : Label) (d : ℕ) (first
       }
 
   -- the node of a block that tells of a key
-  tells_node : (g : Graph) (l : Label) (o : Option Value) → LeafTells g l k o → (key : Option Label) × (datum : Value) × (node_at g l ≡ Some (Ephe (key ∷ []) datum))
+  pub tells_node : (g : Graph) (l : Label) (o : Option Value) → LeafTells g l k o → (key : Option Label) × (datum : Value) × (node_at g l ≡ Some (Ephe (key ∷ []) datum))
   tells_node g l (Some datum) is = (Some k, datum, is)
   tells_node g l None (key, datum, other, is) = (key, datum, is)
 
-  block_of : (v : Value) → IsBlock (shown v) → (l : Label) × (v ≡ Block l)
+  pub block_of : (v : Value) → IsBlock (shown v) → (l : Label) × (v ≡ Block l)
   block_of (Int i) is = absurd is
   block_of (Block l) is = (l, refl)
   block_of Nothing is = absurd is
 
-  none_bound : (g : Graph) (v : Value) → IsSlot g v → (IsBlock (shown v) → ⊥) → (inside g v ≡ None) × (bound_by g k v ≡ None)
+  pub none_bound : (g : Graph) (v : Value) → IsSlot g v → (IsBlock (shown v) → ⊥) → (inside g v ≡ None) × (bound_by g k v ≡ None)
   none_bound g (Int i) slot none = (refl, refl)
   none_bound g (Block l) slot none = absurd (none tt)
   none_bound g Nothing slot none = (refl, refl)
@@ -232,7 +234,7 @@ module _ (z : Sizes) (limits : IsWithinLimits z) (root : Label) (d : ℕ) (first
             let tells : LeafTells (graph_of z (now ++ p.between)) b.0 k o =
             leaf_middle z root d first now new c r2 p respects x.looking.grows k o kr b.0 now x.p (prefix_same now) there leaf held (leaf_tells (graph_of z now) b.0 k leaf) in
             let n = tells_node (graph_of z (now ++ p.between)) b.0 o tells in
-            let all = loads_leaf now new r2 (rest % node_width) 8 p respects x.looking b.0 n.0 n.1 holds n.2 in (
+            let all = loads_leaf now new r2 8 (rest % node_width) 8 (omega arith) p respects x.looking b.0 n.0 n.1 holds n.2 in (
               all.0,
               meets_leaf now new r (suc done) rest x b.0 b.1 leaf (prefix_trans now (now ++ p.between) new (since_old z d now new c r2 p) (until_new z d now new c r2 p)) all.1 all.2
                   (subst (λ (g : Graph). LeafTells g b.0 k o) (sym all.3) tells),
@@ -246,7 +248,7 @@ module _ (z : Sizes) (limits : IsWithinLimits z) (root : Label) (d : ℕ) (first
             omega (arith, low, many, all, none))
         at_inner fields plain (suc left) more =
             let i : ℕ = rest % node_width in
-            let y = loads_inner now new r2 i 8 p respects x.looking b.0 fields x.p holds there plain (subst (λ (m : ℕ). i < m) (sym (wide_below x.p done x.many)) (below_width rest)) in record {
+            let y = loads_inner now new r2 8 i 8 (omega arith) p respects x.looking b.0 fields x.p holds there plain (subst (λ (m : ℕ). i < m) (sym (wide_below x.p done x.many)) (below_width rest)) in record {
               looking = y.4;
               keeps = λ j other. y.5 j other ∙ x.keeps j other;
               p = x.p ++ i ∷ [];

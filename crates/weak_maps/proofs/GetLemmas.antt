@@ -86,8 +86,8 @@ module _ (z : Sizes) (limits : IsWithinLimits z) (root : Label) (d : ℕ) (old n
   leaf_key g l None (key, datum, other, is) = (key, datum, is, other)
 
   -- a leaf that register 8 holds, once the answer's register has got its key
-  pub key_read : (now n1 : List Entry) (r : Reply) (o : Option Value) (kr : ℕ) → PerformedBy z d now n1 (GetKey dst 8 0) r → IsPrefix n1 new → Looking z root d old now → held_by z d now kr ≡ Block k → Keeps now → HoldsLeaf z d now root k o
-      → (key : Option Label) × Looking z root d old n1 × Keeps n1 × (held_by z d n1 dst ≡ key_value key) × (r ≡ shown (key_value key)) × KeyTells o key × HoldsLeaf z d n1 root k o
+  pub key_read : (now n1 : List Entry) (r : Reply) (o : Option Value) (kr : ℕ) → PerformedBy z d now n1 (GetKey dst 8 0) r → IsPrefix n1 new → Looking z root d old now → held_by z d now kr ≡ Block k → Keeps now → HoldsLeaf z d now root k o 8
+      → (key : Option Label) × Looking z root d old n1 × Keeps n1 × (held_by z d n1 dst ≡ key_value key) × (r ≡ shown (key_value key)) × KeyTells o key × HoldsLeaf z d n1 root k o 8
   key_read now n1 r o kr p before looking key keeps x =
       let c = GetKey dst 8 0 in
       let later = up_to n1 before in
@@ -113,7 +113,7 @@ module _ (z : Sizes) (limits : IsWithinLimits z) (root : Label) (d : ℕ) (old n
       )
 
   -- it is a leaf of another key
-  pub returns_other : (now n1 : List Entry) (r : Reply) (o : Option Value) (kr : ℕ) → PerformedBy z d now n1 (GetKey dst 8 0) r → IsPrefix n1 new → KeepsButEight z d old now → held_by z d now kr ≡ Block k → Meets z d old now root k o → HoldsLeaf z d now root k o
+  pub returns_other : (now n1 : List Entry) (r : Reply) (o : Option Value) (kr : ℕ) → PerformedBy z d now n1 (GetKey dst 8 0) r → IsPrefix n1 new → KeepsButEight z d old now → held_by z d now kr ≡ Block k → Meets z d old now root k o → HoldsLeaf z d now root k o 8
       → (r ≡ reply.Block k → ⊥) → Emptied z d n1 new dst → GetReturns z d old new root dst (Block k) reply.Empty
   returns_other now n1 r None kr p before keeps key m x other e =
       let y = key_read now n1 r None kr p before m.looking key (λ i a b. keeps i a) x in
@@ -128,7 +128,7 @@ module _ (z : Sizes) (limits : IsWithinLimits z) (root : Label) (d : ℕ) (old n
 
   -- it is the leaf of the key
   pub returns_datum : (now n1 n2 : List Entry) (r r2 r3 : Reply) (o : Option Value) (kr : ℕ) → PerformedBy z d now n1 (GetKey dst 8 0) r → PerformedBy z d n1 n2 (GetData dst 8) r2 → PerformedBy z d n2 new (Forget 8) r3 → KeepsButEight z d old now → held_by z d now kr ≡ Block k
-      → Meets z d old now root k o → HoldsLeaf z d now root k o → r ≡ reply.Block k → GetReturns z d old new root dst (Block k) r2
+      → Meets z d old now root k o → HoldsLeaf z d now root k o 8 → r ≡ reply.Block k → GetReturns z d old new root dst (Block k) r2
   returns_datum now n1 n2 r r2 r3 None kr p p2 p3 keeps key m x is =
       let y = key_read now n1 r None kr p (prefix_trans n1 n2 new (grows_by z d n1 n2 (GetData dst 8) r2 p2) (grows_by z d n2 new (Forget 8) r3 p3)) m.looking key (λ i a b. keeps i a) x in
       absurd (y.5 (key_shown y.0 (sym y.4 ∙ is)))

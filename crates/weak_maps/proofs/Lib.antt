@@ -6,3 +6,5 @@ pub mod StayLemmas
 pub mod DescendLemmas
 pub mod GetLemmas
 pub mod MakeLemmas
+pub mod FieldLemmas
+pub mod TakeLemmas

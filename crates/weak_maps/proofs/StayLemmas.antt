@@ -29,6 +29,7 @@ use Rattle.map_laws.specs.Steps.{MapStep, Untouched, OthersRespect, RespectsMap,
 use Rattle.map_laws.specs.Calls.{Looks, PerformedBy}
 use Rattle.map_laws.proofs.MapLemmas.{map_stays, places_stay, plain_stays}
 use Rattle.weak_maps.specs.Beside.{held_by}
+use Rattle.weak_maps.specs.Fields.{Stays}
 use Rattle.weak_maps.specs.Walks.{LeafTells, Looking, OwnQuiet}
 use Rattle.weak_maps.proofs.BesideLemmas.{since_old, until_new}
 use Rattle.weak_maps.proofs.EntryLemmas.{own_entry}
@@ -38,12 +39,6 @@ prefix_same h = record { rest = []; appends = sym (append-nil h) }
 
 pub respects_within : (z : Sizes) (root : Label) (d : ℕ) (old new later earlier : List Entry) → IsPrefix old later → IsPrefix earlier new → OthersRespect z root d old new → OthersRespect z root d later earlier
 respects_within z root d old new later earlier after before respects front e since until other = respects front e (prefix_trans old later front after since) (prefix_trans (front ++ e ∷ []) earlier new until before) other
-
--- from one front to a later one
-pub record Stays (z : Sizes) (root : Label) (now later : List Entry) : Type 0 where
-  pub map : IsMap (graph_of z later) root
-  pub block : (q : List ℕ) (u : Value) (fields : List Value) → at (inside (graph_of z now)) q (Block root) ≡ Some u → inside (graph_of z now) u ≡ Some fields
-      → (at (inside (graph_of z later)) q (Block root) ≡ Some u) × ((left : List Value) × (inside (graph_of z later) u ≡ Some left))
 
 pub others_stay : (z : Sizes) (root : Label) (d : ℕ) (now between : List Entry) → NoneOf d between → IsMap (graph_of z now) root → OthersRespect z root d now (now ++ between) → Stays z root now (now ++ between)
 others_stay z root d now [] none map respects = subst (λ (h : List Entry). Stays z root now h) (sym (append-nil now)) (record { map = map; block = λ q u fields there plain. (there, (fields, plain)) })
@@ -141,4 +136,18 @@ pub quiet_looks : (z : Sizes) (root : Label) (d : ℕ) (old new : List Entry) �
 quiet_looks z root d old new quiet = record {
   keeps = λ front e since until mine l. ap (λ (g : Graph). found z.domains g root l) (quiet front e since until mine);
   respects = λ front e since until mine. quiet_respects z root front e (ap (λ (t : State). t.graph) (sym (state_after-push (opening z) front e)) ∙ quiet front e since until mine);
+}
+
+pub stays_twice : (z : Sizes) (root : Label) (a b c : List Entry) → Stays z root a b → Stays z root b c → Stays z root a c
+stays_twice z root a b c x y = record {
+  map = y.map;
+  block = λ q u fields there plain. let one = x.block q u fields there plain in y.block q u one.1.0 one.0 one.1.1;
+}
+
+pub stays_same : (z : Sizes) (root : Label) (a b c : List Entry) → graph_of z c ≡ graph_of z b → Stays z root a b → Stays z root a c
+stays_same z root a b c same x = record {
+  map = subst (λ (g : Graph). IsMap g root) (sym same) x.map;
+  block = λ q u fields there plain.
+      let one = x.block q u fields there plain in
+      (subst (λ (g : Graph). at (inside g) q (Block root) ≡ Some u) (sym same) one.0, (one.1.0, subst (λ (g : Graph). inside g u ≡ Some one.1.0) (sym same) one.1.1));
 }

@@ -1,5 +1,5 @@
 -- What the calls answer and leave.
-use Rattle.std.specs.Prelude.{◌≡◌, ◌≢◌, ◌⊎◌, ℕ, List, [], ◌∷◌, ◌++◌, None}
+use Rattle.std.specs.Prelude.{◌≡◌, ◌≢◌, ◌⊎◌, ◌<◌, ◌≤◌, ℕ, List, [], ◌∷◌, ◌++◌, None}
 use Rattle.heap_model.specs.declared.label.Label.{Label}
 use Rattle.heap_model.specs.declared.entry.Entry.{Entry}
 use Rattle.heap_model.specs.declared.graph.Value.{Value}
@@ -12,7 +12,7 @@ use Rattle.heap_model.specs.Commands.{new_plain, shown}
 use Rattle.heap_model.specs.History.{IsPrefix}
 use Rattle.table_laws.specs.Stages.{graph_of}
 use Rattle.map_laws.specs.Tries.{IsMap, root_width}
-use Rattle.map_laws.specs.Calls.{GetAnswers, bound_after}
+use Rattle.map_laws.specs.Calls.{GetAnswers, TakeAnswers, bound_after}
 use Rattle.weak_maps.specs.Beside.{held_by}
 use Rattle.weak_maps.specs.Walks.{OwnQuiet}
 
@@ -48,3 +48,14 @@ pub record MakesNone (z : Sizes) (d : ℕ) (old new : List Entry) : Type 0 where
 
 abbrev pub MakeReturns : Sizes → ℕ → List Entry → List Entry → ℕ → Reply → Type 0
 MakeReturns z d old new dst r = ((root : Label) × (r ≡ reply.Block root) × MakesMap z d old new dst root) ⊎ ((r ≡ reply.Full) × MakesNone z d old new)
+
+-- what `map_take` leaves: the map is one still, registers 8 to 11 hold nothing, and the others what they held
+pub record TakeLeaves (z : Sizes) (d : ℕ) (old new : List Entry) (root : Label) : Type 0 where
+  pub map : IsMap (graph_of z new) root
+  pub clean : (i : ℕ) → 8 ≤ i → i ≤ 11 → held_by z d new i ≡ Nothing
+  pub keeps : (i : ℕ) → i < 8 → held_by z d new i ≡ held_by z d old i
+
+-- `map_take`, by what the register of the key holds
+abbrev pub TakeReturns : Sizes → ℕ → List Entry → List Entry → Label → Value → Reply → Type 0
+TakeReturns z d old new root (Block k) r = TakeAnswers z root d old new (Block k) r × TakeLeaves z d old new root
+TakeReturns z d old new root key r = TakeAnswers z root d old new key r

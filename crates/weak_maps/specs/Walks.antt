@@ -59,10 +59,10 @@ pub record Meets (z : Sizes) (d : ℕ) (first now : List Entry) (root k : Label)
   pub until : IsPrefix front now
   pub bound : bound_after z root front k ≡ datum
 
--- register 8 holds the leaf that it met there
-pub record HoldsLeaf (z : Sizes) (d : ℕ) (now : List Entry) (root k : Label) (datum : Option Value) : Type 0 where
+-- a register holds the leaf that it met there
+pub record HoldsLeaf (z : Sizes) (d : ℕ) (now : List Entry) (root k : Label) (datum : Option Value) (r : ℕ) : Type 0 where
   pub l : Label
-  pub held : held_by z d now 8 ≡ Block l
+  pub held : held_by z d now r ≡ Block l
   pub tells : LeafTells (graph_of z now) l k datum
   pub former : List Entry
   pub before : IsPrefix former now
@@ -72,7 +72,7 @@ pub record HoldsLeaf (z : Sizes) (d : ℕ) (now : List Entry) (root k : Label) (
 
 -- what a walk leaves, by whether it has met a leaf
 abbrev pub Met : Sizes → ℕ → List Entry → List Entry → Label → Label → Bool → Type 0
-Met z d first now root k true = (datum : Option Value) × Meets z d first now root k datum × HoldsLeaf z d now root k datum
+Met z d first now root k true = (datum : Option Value) × Meets z d first now root k datum × HoldsLeaf z d now root k datum 8
 Met z d first now root k false = Meets z d first now root k None
 
 -- whatever map the register holds, if others respect it

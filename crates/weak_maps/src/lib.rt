@@ -6,3 +6,4 @@ pub mod getting;
 pub mod machine;
 pub mod making;
 pub mod replies;
+pub mod taking;
