@@ -352,3 +352,9 @@ pub not_taken : (z : Sizes) (d : ℕ) (old : List Entry) (root : Label) (v : Val
 not_taken z d old root (Int i) none = (refl, refl)
 not_taken z d old root (Block l) none = absurd (none l refl)
 not_taken z d old root Nothing none = (refl, refl)
+
+pub cleared_grows : (z : Sizes) (d : ℕ) (now new : List Entry) → Cleared z d now new → IsPrefix now new
+cleared_grows z d now new x =
+    prefix_trans now x.first new (grows_by z d now x.first (Forget 8) x.eight_reply x.eight)
+    (prefix_trans x.first x.second new (grows_by z d x.first x.second (Forget 9) x.nine_reply x.nine)
+    (prefix_trans x.second x.third new (grows_by z d x.second x.third (Forget 10) x.ten_reply x.ten) (grows_by z d x.third new (Forget 11) x.eleven_reply x.eleven)))

@@ -21,6 +21,7 @@ levels-init g c = record {
   room = omega arith;
   given = refl;
   written = refl;
+  grows = prefix_same _;
   walk = λ first root key looking x respects. (looking, (λ j e8 e9 e11. refl), (x, omega arith));
 }
 
@@ -92,6 +93,7 @@ levels-preserved g c =
       room = omega (arith, r0, r1, r2, r3);
       given = omega (arith, f0, f1, f2, f3, k1, k2, k3);
       written = omega (arith, w0, w1, w2, w3);
+      grows = prefix_trans old now new c.levels.invariant.grows g2;
       walk = λ first root key looking x respects.
           subst (λ (n : ℕ). Walked z root d first c.args.label.now old new n (c.levels.rest / node_width) c.perform-at.result (c.levels.counter + 1)) (sym c.node_index-index.ensures)
           (walk_down z c.stands.ensures.limits root d first c.args.label.now old now n0 n1 new c.perform-found.result c.perform-down.result c.perform-at.result c.levels.index c.levels.rest c.levels.at c.levels.counter c.args.key c.requires.few key p0 p1 p2
@@ -107,3 +109,8 @@ returns-clause-found g c =
     let all : c.levels.counter ≡ 7 = search rules in
     λ first root key looking x respects.
     absurd (walk_ends z c.stands.ensures.limits root d first c.args.label.now old _ c.levels.index c.levels.rest c.levels.at c.levels.counter all (c.levels.invariant.walk first root key looking x respects))
+
+pub returns-then-not-is_other_kind-clause-grows : goal.returns-then-not-is_other_kind-clause-grows
+returns-then-not-is_other_kind-clause-grows g c =
+    prefix_trans (g.M.Machine.front c.args.m.now) (g.M.Machine.front c.levels.m) (g.M.Machine.front c.perform-found.new.m) c.levels.invariant.grows
+    (grows_by (g.M.Machine.sizes c.levels.m) (g.M.Machine.domain c.levels.m) (g.M.Machine.front c.levels.m) (g.M.Machine.front c.perform-found.new.m) _ _ c.perform-found.ensures.performed)

@@ -2,6 +2,7 @@ use Rattle.std.proofs.Common.{◌≡◌, ◌≤◌, List}
 use Rattle.heap_model.specs.declared.entry.Entry.{Entry}
 use Rattle.heap_model.specs.declared.label.Label.{Label}
 use Rattle.heap_model.specs.declared.graph.Value.TheVariants.{Block}
+use Rattle.heap_model.specs.History.{IsPrefix}
 use Rattle.map_laws.specs.Steps.{OthersRespect}
 use Rattle.weak_maps.specs.Beside.{held_by, refusals_by, writings_by}
 use Rattle.weak_maps.specs.Walks.{Looking}
@@ -16,6 +17,7 @@ invariant-levels g l = record {
   room : g.M.Machine.ephes_room l.fn.m ≤ g.M.Machine.ephes_room l.m;
   given : refusals_by (g.M.Machine.domain l.fn.m) (g.M.Machine.front l.m) ≡ refusals_by (g.M.Machine.domain l.fn.m) (g.M.Machine.front l.fn.m);
   written : writings_by (g.M.Machine.domain l.fn.m) (g.M.Machine.front l.m) ≡ writings_by (g.M.Machine.domain l.fn.m) (g.M.Machine.front l.fn.m);
+  grows : IsPrefix (g.M.Machine.front l.fn.m) (g.M.Machine.front l.m);
   walk : (first : List Entry) (root : Label) → held_by (g.M.Machine.sizes l.fn.m) (g.M.Machine.domain l.fn.m) (g.M.Machine.front l.fn.m) l.key ≡ Block l.label → Looking (g.M.Machine.sizes l.fn.m) root (g.M.Machine.domain l.fn.m) first (g.M.Machine.front l.fn.m)
       → AtField (g.M.Machine.sizes l.fn.m) (g.M.Machine.domain l.fn.m) first (g.M.Machine.front l.fn.m) (g.M.Machine.front l.fn.m) root l.label l.fn.from.index l.fn.from.rest l.fn.field
       → OthersRespect (g.M.Machine.sizes l.fn.m) root (g.M.Machine.domain l.fn.m) first (g.M.Machine.front l.m)
