@@ -26,7 +26,7 @@ use Rattle.heap_model.proofs.Histories.FrontLemmas.{keeps_front}
 use Rattle.heap_model.proofs.Histories.NumberLemmas.{next_label_after}
 use Rattle.table_laws.specs.Thinning.{state_of}
 use Rattle.table_laws.specs.Stages.{graph_of}
-use Rattle.table_laws.proofs.OutcomeLemmas.{leaves_get_key, leaves_get_data, leaves_set_key, leaves_set_data}
+use Rattle.table_laws.proofs.OutcomeLemmas.{leaves_get_key, leaves_get_key_plain, leaves_get_data, leaves_set_key, leaves_set_data}
 use Rattle.table_laws.proofs.StepLemmas.{legal_parts}
 use Rattle.map_laws.specs.Calls.{PerformedBy, registers_after}
 use Rattle.map_laws.specs.Steps.{AllRespect, OthersRespect}
@@ -180,6 +180,12 @@ module _ (z : Sizes) (d : ℕ) (old new : List Entry) (r : Reply) where
   get_key_step dst ephe p l key datum holds node = let c = GetKey dst ephe 0 in
       took_from z d old new c r p _ (λ (xs : List Value). set xs dst (key_value key)) _ _ refl
       (leaves_get_key (before z d old new c r p) d ephe l key datum (held z d old new c r p ephe ∙ holds) node (inside z d old new c r p) dst)
+
+  -- a plain block has none
+  pub get_key_plain_step : (dst ephe : ℕ) (p : PerformedBy z d old new (GetKey dst ephe 0) r) (l : Label) (tag : ℕ) (fields : List Value) → register start d ephe ≡ Block l
+      → node_at (graph_of z (old ++ p.between)) l ≡ Some (Plain tag fields) → Took z d new r (graph_of z (old ++ p.between)) rs BadType
+  get_key_plain_step dst ephe p l tag fields holds node = let c = GetKey dst ephe 0 in
+      took_from z d old new c r p _ (λ (xs : List Value). xs) _ _ refl (leaves_get_key_plain (before z d old new c r p) d dst ephe l tag fields (held z d old new c r p ephe ∙ holds) node)
 
   -- its datum
   pub get_data_step : (dst ephe : ℕ) (p : PerformedBy z d old new (GetData dst ephe) r) (l : Label) (key : Option Label) (datum : Value) → register start d ephe ≡ Block l

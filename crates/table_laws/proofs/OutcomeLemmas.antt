@@ -10,7 +10,7 @@ use Rattle.heap_model.specs.declared.reply.Applied.TheVariants.{Replied}
 use Rattle.heap_model.specs.declared.graph.Value.{Value}
 use Rattle.heap_model.specs.declared.graph.Value.TheVariants.{Int, Block, Nothing}
 use Rattle.heap_model.specs.declared.graph.Node.{Node}
-use Rattle.heap_model.specs.declared.graph.Node.TheVariants.{Ephe}
+use Rattle.heap_model.specs.declared.graph.Node.TheVariants.{Plain, Ephe}
 use Rattle.heap_model.specs.declared.state.DomainState.{DomainState}
 use Rattle.heap_model.specs.declared.state.State.{State}
 use Rattle.heap_model.specs.Graph.{node_at, with_node, block_at, label_of}
@@ -68,6 +68,11 @@ module _ (s : State) (d : ℕ) where
   -- no label, so no key is set
   pub leaves_set_key_type : (ephe item : ℕ) → label_of (register s d item) ≡ None → Leaves s (CommandOf d (SetKey ephe 0 item) false) d s.graph mine.registers mine.serial (Replied BadType)
   leaves_set_key_type ephe item none = leaves_reply (SetKey ephe 0 item) BadType (ap (λ o. key_stored s 0 o (block_in s d ephe)) none)
+
+  -- a plain block has no key
+  pub leaves_get_key_plain : (dst ephe : ℕ) (l : Label) (tag : ℕ) (fields : List Value) → register s d ephe ≡ Block l → node_at s.graph l ≡ Some (Plain tag fields) → Leaves s (CommandOf d (GetKey dst ephe 0) false) d s.graph mine.registers mine.serial (Replied BadType)
+  leaves_get_key_plain dst ephe l tag fields holds node = leaves_reply (GetKey dst ephe 0) BadType
+      (ap (λ b. at_ephe s b (λ m keys datum. in_bounds s (slice_get keys 0) (λ k. read_into s d dst (key_value k)))) (block_is ephe l (Plain tag fields) holds node))
 
   -- an ephemeron of one key in a register
   module _ (ephe : ℕ) (l : Label) (key : Option Label) (datum : Value) (holds : register s d ephe ≡ Block l) (node : node_at s.graph l ≡ Some (Ephe (key ∷ []) datum)) where

@@ -91,7 +91,7 @@ last_given : (s : State) (d number : ℕ) (o : Option Label) → IsGiven (finali
 last_given s d number None = λ e. cc
 last_given s d number (Some l) = λ e. cc
 
-outcome_given : (s : State) (d : ℕ) (c : declared_command.Command) → IsGiven (outcome s d c)
+pub outcome_given : (s : State) (d : ℕ) (c : declared_command.Command) → IsGiven (outcome s d c)
 outcome_given s d (PutInt dst value) = λ e. cc
 outcome_given s d (Copy dst src) = λ e. cc
 outcome_given s d (Forget dst) = λ e. cc
@@ -121,7 +121,7 @@ outcome_given s d (Argument dst) = λ e. cc
 outcome_given s d (PutResult item) = λ e. cc
 outcome_given s d (Join dst section) = λ e. cc
 
-full_none : (r : Reply) → (r ≡ reply.Full → ⊥) → full_of r ≡ 0
+pub full_none : (r : Reply) → (r ≡ reply.Full → ⊥) → full_of r ≡ 0
 full_none reply.Done other = refl
 full_none (reply.Int z) other = refl
 full_none (reply.Block l) other = refl
@@ -196,12 +196,12 @@ performed_given z limits old new c r p = go (is_allocation c) refl
         full_none r (λ full. outcome_given s 0 c (sym same ∙ full))
 
 -- what an allocation answers of itself is its block
-block_reply : (s : State) (c : declared_command.Command) → is_allocation c ≡ true → (l : Label) × ((outcome s 0 c).reply ≡ reply.Block l)
-block_reply s (Alloc dst tag fields) is = (_, refl)
-block_reply s (AllocMaj dst tag fields) is = (_, refl)
-block_reply s (NewRaw dst tag fields) is = (_, refl)
-block_reply s (NewEphe dst keys) is = (_, refl)
-block_reply s c is = cc
+pub block_reply : (s : State) (d : ℕ) (c : declared_command.Command) → is_allocation c ≡ true → (l : Label) × ((outcome s d c).reply ≡ reply.Block l)
+block_reply s d (Alloc dst tag fields) is = (_, refl)
+block_reply s d (AllocMaj dst tag fields) is = (_, refl)
+block_reply s d (NewRaw dst tag fields) is = (_, refl)
+block_reply s d (NewEphe dst keys) is = (_, refl)
+block_reply s d c is = cc
 
 -- so an allocation gives out a label or is answered `full`, and no other command does either
 pub performed_gives : (z : Sizes) (limits : IsWithinLimits z) (old new : List Entry) (c : declared_command.Command) (r : Reply) → Performed z old new c r → labels_given c r + full_of r ≡ labels_of c
@@ -216,7 +216,7 @@ performed_gives z limits old new c r p = go (is_allocation c) refl
         let same : r ≡ reply.Full = cc in
         ap (λ a. blocks_of a + full_of a) same
     one false e is =
-        let made = block_reply s c is in
+        let made = block_reply s 0 c is in
         let answered : Replied r ≡ Replied (reply.Block made.0) = sym p.replies ∙ (ap (λ b. reply_of s (Command 0 c b)) e ∙ ap Replied made.1) in
         let same : r ≡ reply.Block made.0 = cc in
         ap (λ a. blocks_of a + full_of a) same

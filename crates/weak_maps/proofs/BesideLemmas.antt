@@ -1,0 +1,59 @@
+-- What the registers of a domain hold after one of its commands.
+use Rattle.std.proofs.Common.{◌≡◌, ◌≢◌, ℕ, ◌<◌, List, ◌∷◌, [], ◌++◌, length, get_or, set, refl, ap, sym, ◌∙◌, subst, arith, get_or-set_same, get_or-set_other}
+use Rattle.heap_model.specs.declared.command.Command.{Command}
+use Rattle.heap_model.specs.declared.entry.Entry.{Entry}
+use Rattle.heap_model.specs.declared.entry.Entry.TheVariants.{Command as CommandOf}
+use Rattle.heap_model.specs.declared.reply.Reply.{Reply}
+use Rattle.heap_model.specs.declared.graph.Value.{Value}
+use Rattle.heap_model.specs.declared.graph.Value.TheVariants.{Nothing}
+use Rattle.heap_model.specs.declared.state.Sizes.{Sizes}
+use Rattle.heap_model.specs.declared.state.State.{State}
+use Rattle.heap_model.specs.Domains.{IsWithinLimits, opening}
+use Rattle.heap_model.specs.Entries.{next}
+use Rattle.heap_model.specs.Fronts.{KeepsDomain}
+use Rattle.heap_model.specs.History.{IsPrefix}
+use Rattle.heap_model.proofs.Commands.FrameLemmas.{inside_running}
+use Rattle.heap_model.proofs.Histories.FrontLemmas.{keeps_front}
+use Rattle.heap_model.proofs.Histories.HistoryLemmas.{state_after-push}
+use Rattle.heap_model.proofs.Histories.ShapeAfterLemmas.{shaped-history}
+use Rattle.table_laws.specs.Thinning.{state_of}
+use Rattle.map_laws.specs.Calls.{PerformedBy, registers_after}
+use Rattle.weak_maps.specs.Beside.{held_by}
+use Rattle.weak_maps.proofs.CountLemmas.{legal_both}
+
+-- registers after a command that changes one of them
+module _ (z : Sizes) (d : ℕ) (now new : List Entry) (dst : ℕ) (v : Value) (is : registers_after z d new ≡ set (registers_after z d now) dst v) where
+  pub set_here : length (registers_after z d now) ≡ 16 → dst < 16 → held_by z d new dst ≡ v
+  set_here all few = ap (λ (rs : List Value). get_or rs dst Nothing) is ∙ get_or-set_same (registers_after z d now) dst v Nothing (omega (arith, all, few))
+
+  pub set_other : (r : ℕ) → r ≢ dst → held_by z d new r ≡ held_by z d now r
+  set_other r other = ap (λ (rs : List Value). get_or rs r Nothing) is ∙ get_or-set_other (registers_after z d now) dst r v Nothing other
+
+pub same_held : (z : Sizes) (d : ℕ) (now new : List Entry) → registers_after z d new ≡ registers_after z d now → (r : ℕ) → held_by z d new r ≡ held_by z d now r
+same_held z d now new is r = ap (λ (rs : List Value). get_or rs r Nothing) is
+
+module _ (z : Sizes) (d : ℕ) (old new : List Entry) (c : Command) (r : Reply) (p : PerformedBy z d old new c r) where
+  abbrev front : List Entry
+  front = old ++ p.between
+
+  abbrev here : State
+  here = state_of z front
+
+  pub since_old : IsPrefix old front
+  since_old = record { rest = p.between; appends = refl }
+
+  pub until_new : IsPrefix front new
+  until_new = record { rest = CommandOf d c p.full ∷ []; appends = p.appends }
+
+  pub left_is : state_of z new ≡ next here (CommandOf d c p.full)
+  left_is = ap (state_of z) p.appends ∙ state_after-push (opening z) front _
+
+  inside_here : d < length here.domains
+  inside_here = inside_running here.domains d (legal_both z d old new c r p).1.0.running
+
+  kept : KeepsDomain (state_of z old) here d
+  kept = keeps_front (opening z) d front old (record { rest = p.between; appends = refl; others = p.others })
+
+  -- there are sixteen
+  pub sixteen : IsWithinLimits z → length (registers_after z d old) ≡ 16
+  sixteen limits = ap length (sym kept.registers) ∙ (shaped-history z front limits).register_count d inside_here

@@ -1,0 +1,55 @@
+-- What a machine promised before one of its numbers was seen to be the same.
+use Rattle.std.proofs.Common.{◌≡◌, ℕ, ◌+◌, List, ap, subst}
+use Rattle.std.proofs.Common.{Bool, true, false, not, refl, sym}
+use Rattle.heap_model.specs.declared.label.Label.{Label}
+use Rattle.heap_model.specs.declared.graph.Value.{Value}
+use Rattle.heap_model.specs.declared.graph.Value.TheVariants.{Block}
+use Rattle.heap_model.specs.declared.command.Command.{Command}
+use Rattle.heap_model.specs.declared.entry.Entry.{Entry}
+use Rattle.heap_model.specs.declared.reply.Reply.{Reply}
+use Rattle.heap_model.specs.declared.state.Sizes.{Sizes}
+use Rattle.map_laws.specs.Calls.{PerformedBy}
+use Rattle.weak_maps.specs.Walks.{Descended, Emptied}
+use Rattle.weak_maps.specs.Fields.{Cleared, Finds}
+use Rattle.weak_maps.specs.Returns.{GetReturns, TakeReturns}
+
+pub at_machine : (z now : Sizes) (d e : ℕ) (old new : List Entry) (c : Command) (r : Reply) → now ≡ z → e ≡ d → PerformedBy now e old new c r → PerformedBy z d old new c r
+at_machine z now d e old new c r sizes domain p = subst (λ (w : Sizes × ℕ). PerformedBy w.0 w.1 old new c r) (λ i. (sizes i, domain i)) p
+
+-- so with what is counted of the domain's entries
+pub counted_by : (f : ℕ → List Entry → ℕ) (d e n : ℕ) (old new : List Entry) → e ≡ d → f e new ≡ f e old + n → f d new ≡ f d old + n
+counted_by f d e n old new same is = subst (λ (m : ℕ). f m new ≡ f m old + n) same is
+
+-- a walk that began at this front, and what it met
+pub descended_at : (z now : Sizes) (d e : ℕ) (old first new : List Entry) (map key : ℕ) (k : Label) (a b : Bool) → now ≡ z → e ≡ d → first ≡ old → b ≡ a → Descended now e first new map key k b → Descended z d old new map key k a
+descended_at z now d e old first new map key k a b sizes domain front is x =
+    subst (λ (w : Sizes × ℕ × List Entry × Bool). Descended w.0 w.1 w.2 new map key k w.3) (λ i. (sizes i, domain i, front i, is i)) x
+
+pub emptied_at : (z now : Sizes) (d e : ℕ) (old new : List Entry) (dst : ℕ) → now ≡ z → e ≡ d → Emptied now e old new dst → Emptied z d old new dst
+emptied_at z now d e old new dst sizes domain x = subst (λ (w : Sizes × ℕ). Emptied w.0 w.1 old new dst) (λ i. (sizes i, domain i)) x
+
+-- what is answered of the key that a register holds
+pub returned_at : (z : Sizes) (d : ℕ) (old new : List Entry) (root : Label) (dst : ℕ) (v : Value) (k : Label) (r answer : Reply) → v ≡ Block k → r ≡ answer → GetReturns z d old new root dst (Block k) answer → GetReturns z d old new root dst v r
+returned_at z d old new root dst v k r answer held is x = subst (λ (w : Value × Reply). GetReturns z d old new root dst w.0 w.1) (λ i. (sym held i, sym is i)) x
+
+-- so with what a take is made of
+pub performed_from : (z now : Sizes) (d e : ℕ) (old first new : List Entry) (c : Command) (r : Reply) → now ≡ z → e ≡ d → first ≡ old → PerformedBy now e first new c r → PerformedBy z d old new c r
+performed_from z now d e old first new c r sizes domain front p = subst (λ (w : Sizes × ℕ × List Entry). PerformedBy w.0 w.1 w.2 new c r) (λ i. (sizes i, domain i, front i)) p
+
+pub cleared_at : (z now : Sizes) (d e : ℕ) (old new : List Entry) → now ≡ z → e ≡ d → Cleared now e old new → Cleared z d old new
+cleared_at z now d e old new sizes domain x = subst (λ (w : Sizes × ℕ). Cleared w.0 w.1 old new) (λ i. (sizes i, domain i)) x
+
+pub finds_at : (z now : Sizes) (d e : ℕ) (old new : List Entry) (kr : ℕ) (k : Label) (i rest : ℕ) (s : Reply) (i2 rest2 : ℕ) (a b : Bool) → now ≡ z → e ≡ d → b ≡ a → Finds now e old new kr k i rest s i2 rest2 b → Finds z d old new kr k i rest s i2 rest2 a
+finds_at z now d e old new kr k i rest s i2 rest2 a b sizes domain is x = subst (λ (w : Sizes × ℕ × Bool). Finds w.0 w.1 old new kr k i rest s i2 rest2 w.2) (λ j. (sizes j, domain j, is j)) x
+
+pub taken_at : (z : Sizes) (d : ℕ) (old new : List Entry) (root : Label) (v : Value) (k : Label) (r : Reply) → v ≡ Block k → TakeReturns z d old new root (Block k) r → TakeReturns z d old new root v r
+taken_at z d old new root v k r held x = subst (λ (w : Value). TakeReturns z d old new root w r) (sym held) x
+
+-- what isn't so
+pub not_so : (b : Bool) → not b ≡ true → b ≡ false
+not_so true is = let clash : false ≡ true = is in cc
+not_so false is = refl
+
+pub so_then : (b : Bool) → not b ≡ false → b ≡ true
+so_then true is = refl
+so_then false is = let clash : true ≡ false = is in cc

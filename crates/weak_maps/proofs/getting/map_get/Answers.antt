@@ -1,0 +1,61 @@
+use Rattle.std.proofs.Common.{◌≡◌, ◌∙◌, ℕ, ◌+◌, List, true, false, sym, refl, arith}
+use Rattle.heap_model.specs.declared.entry.Entry.{Entry}
+use Rattle.heap_model.specs.declared.graph.Value.TheVariants.{Block}
+use Rattle.heap_model.specs.declared.state.Sizes.{Sizes}
+use Rattle.heap_model.specs.declared.reply.Reply.TheVariants as reply
+use Rattle.weak_maps.specs.Beside.{held_by, refusals_by, writings_by}
+use Rattle.weak_maps.specs.Walks.{Descended}
+use Rattle.weak_maps.proofs.MachineLemmas.{at_machine, counted_by, descended_at, emptied_at, returned_at}
+use Rattle.weak_maps.proofs.GetLemmas.{got_datum, got_missed, got_other, shown_label}
+use Rattle.weak_maps.proofs.getting.map_get.Goals as goal
+
+pub returns-then-not-descend-clause-answer : goal.returns-then-not-descend-clause-answer
+returns-then-not-descend-clause-answer g c =
+    let z : Sizes = g.M.Machine.sizes c.args.m.now in
+    let d : ℕ = g.M.Machine.domain c.args.m.now in
+    let old : List Entry = g.M.Machine.front c.args.m.now in
+    let now : List Entry = g.M.Machine.front c.descend.new.m in
+    let key : held_by z d old c.args.key ≡ Block c.in-Block.label = shown_label _ _ (sym c.show.ensures.reply ∙ c.in-Block.is) in
+    let met : Descended z d old now c.args.map c.args.key c.in-Block.label false = descended_at z _ d _ old _ now c.args.map c.args.key c.in-Block.label false _ c.show.ensures.sizes c.show.ensures.domain c.show.ensures.front c.if-not-descend.true c.descend.ensures.met in
+    let emptied = emptied_at z _ d _ now _ c.args.dst (c.descend.ensures.sizes ∙ c.show.ensures.sizes) (c.descend.ensures.domain ∙ c.show.ensures.domain) c.unbound.ensures.emptied in
+    λ root held map respects.
+    returned_at z d old _ root c.args.dst _ c.in-Block.label _ reply.Empty key c.unbound.ensures.reply
+    (got_missed z c.stands.ensures.limits root d old _ c.in-Block.label c.args.dst c.requires.few.0 respects now (met root held key map) emptied)
+
+pub returns-then-not-is_this-clause-answer : goal.returns-then-not-is_this-clause-answer
+returns-then-not-is_this-clause-answer g c =
+    let z : Sizes = g.M.Machine.sizes c.args.m.now in
+    let d : ℕ = g.M.Machine.domain c.args.m.now in
+    let old : List Entry = g.M.Machine.front c.args.m.now in
+    let now : List Entry = g.M.Machine.front c.descend.new.m in
+    let n1 : List Entry = g.M.Machine.front c.perform-found.new.m in
+    let key : held_by z d old c.args.key ≡ Block c.in-Block.label = shown_label _ _ (sym c.show.ensures.reply ∙ c.in-Block.is) in
+    let met : Descended z d old now c.args.map c.args.key c.in-Block.label true = descended_at z _ d _ old _ now c.args.map c.args.key c.in-Block.label true _ c.show.ensures.sizes c.show.ensures.domain c.show.ensures.front c.if-not-descend.false c.descend.ensures.met in
+    let s1 : g.M.Machine.sizes c.descend.new.m ≡ z = c.descend.ensures.sizes ∙ c.show.ensures.sizes in
+    let d1 : g.M.Machine.domain c.descend.new.m ≡ d = c.descend.ensures.domain ∙ c.show.ensures.domain in
+    let emptied = emptied_at z _ d _ n1 _ c.args.dst (c.perform-found.ensures.sizes ∙ s1) (c.perform-found.ensures.domain ∙ d1) c.unbound-then-not-is_this.ensures.emptied in
+    λ root held map respects.
+    returned_at z d old _ root c.args.dst _ c.in-Block.label _ reply.Empty key c.unbound-then-not-is_this.ensures.reply
+    (got_other z c.stands.ensures.limits root d old _ c.in-Block.label c.args.dst c.requires.few.0 respects c.args.key c.requires.few.2 key now n1 c.perform-found.result (met root held key map) (at_machine z _ d _ now n1 _ _ s1 d1 c.perform-found.ensures.performed)
+    (λ e. let clash : true ≡ false = sym (c.is_this.ensures.1 e) ∙ c.if-not-is_this.true in cc) emptied)
+
+pub returns-clause-answer : goal.returns-clause-answer
+returns-clause-answer g c =
+    let z : Sizes = g.M.Machine.sizes c.args.m.now in
+    let d : ℕ = g.M.Machine.domain c.args.m.now in
+    let old : List Entry = g.M.Machine.front c.args.m.now in
+    let now : List Entry = g.M.Machine.front c.descend.new.m in
+    let n1 : List Entry = g.M.Machine.front c.perform-found.new.m in
+    let n2 : List Entry = g.M.Machine.front c.perform-datum.new.m in
+    let key : held_by z d old c.args.key ≡ Block c.in-Block.label = shown_label _ _ (sym c.show.ensures.reply ∙ c.in-Block.is) in
+    let met : Descended z d old now c.args.map c.args.key c.in-Block.label true = descended_at z _ d _ old _ now c.args.map c.args.key c.in-Block.label true _ c.show.ensures.sizes c.show.ensures.domain c.show.ensures.front c.if-not-descend.false c.descend.ensures.met in
+    let s1 : g.M.Machine.sizes c.descend.new.m ≡ z = c.descend.ensures.sizes ∙ c.show.ensures.sizes in
+    let d1 : g.M.Machine.domain c.descend.new.m ≡ d = c.descend.ensures.domain ∙ c.show.ensures.domain in
+    let s2 : g.M.Machine.sizes c.perform-found.new.m ≡ z = c.perform-found.ensures.sizes ∙ s1 in
+    let d2 : g.M.Machine.domain c.perform-found.new.m ≡ d = c.perform-found.ensures.domain ∙ d1 in
+    let s3 : g.M.Machine.sizes c.perform-datum.new.m ≡ z = c.perform-datum.ensures.sizes ∙ s2 in
+    let d3 : g.M.Machine.domain c.perform-datum.new.m ≡ d = c.perform-datum.ensures.domain ∙ d2 in
+    λ root held map respects.
+    returned_at z d old _ root c.args.dst _ c.in-Block.label _ c.perform-datum.result key refl
+    (got_datum z c.stands.ensures.limits root d old _ c.in-Block.label c.args.dst c.requires.few.0 respects c.args.key c.requires.few.2 key now n1 n2 c.perform-found.result c.perform-datum.result c.perform-leaf.result (met root held key map)
+    (at_machine z _ d _ now n1 _ _ s1 d1 c.perform-found.ensures.performed) (at_machine z _ d _ n1 n2 _ _ s2 d2 c.perform-datum.ensures.performed) (at_machine z _ d _ n2 _ _ _ s3 d3 c.perform-leaf.ensures.performed) (c.is_this.ensures.0 c.if-not-is_this.false))

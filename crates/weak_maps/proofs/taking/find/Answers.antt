@@ -1,0 +1,116 @@
+use Rattle.std.proofs.Common.{◌≡◌, ◌∙◌, ℕ, ◌+◌, ◌/◌, ◌%◌, List, true, false, refl, sym, ap, subst, arith, rules}
+use Rattle.heap_model.specs.declared.command.Command.TheVariants.{Load}
+use Rattle.heap_model.specs.declared.entry.Entry.{Entry}
+use Rattle.heap_model.specs.declared.state.Sizes.{Sizes}
+use Rattle.map_laws.specs.Calls.{PerformedBy}
+use Rattle.map_laws.specs.Tries.{node_width}
+use Rattle.table_laws.proofs.StageLemmas.{prefix_trans}
+use Rattle.weak_maps.specs.Beside.{refusals_by, writings_by}
+use Rattle.weak_maps.specs.Fields.{Walked}
+use Rattle.weak_maps.proofs.StayLemmas.{prefix_same, respects_within}
+use Rattle.weak_maps.proofs.MachineLemmas.{at_machine, counted_by}
+use Rattle.weak_maps.proofs.GetLemmas.{grows_by}
+use Rattle.weak_maps.proofs.FieldLemmas.{field_none, walk_down, walk_ends, walk_key}
+use Rattle.weak_maps.proofs.taking.find.Goals as goal
+
+pub levels-init : goal.levels-init
+levels-init g c = record {
+  same = refl;
+  own = refl;
+  labels = refl;
+  room = omega arith;
+  given = refl;
+  written = refl;
+  grows = prefix_same _;
+  walk = λ first root key looking x respects. (looking, (λ j e8 e9 e11. refl), (x, omega arith));
+}
+
+pub returns-then-not-is_block-clause-found : goal.returns-then-not-is_block-clause-found
+returns-then-not-is_block-clause-found g c =
+    let z : Sizes = g.M.Machine.sizes c.args.m.now in
+    let d : ℕ = g.M.Machine.domain c.args.m.now in
+    λ first root key looking x respects.
+    let w = c.levels.invariant.walk first root key looking x respects in
+    (w.0, w.1, field_none z c.stands.ensures.limits root d first c.args.label.now _ _ c.levels.index c.levels.rest c.levels.at w.2.0 (λ is. let clash : true ≡ false = sym (c.is_block.ensures.1 is) ∙ c.if-not-is_block.true in cc))
+
+pub returns-then-not-is_other_kind-clause-found : goal.returns-then-not-is_other_kind-clause-found
+returns-then-not-is_other_kind-clause-found g c =
+    let z : Sizes = g.M.Machine.sizes c.args.m.now in
+    let d : ℕ = g.M.Machine.domain c.args.m.now in
+    let old : List Entry = g.M.Machine.front c.args.m.now in
+    let now : List Entry = g.M.Machine.front c.levels.m in
+    let n0 : List Entry = g.M.Machine.front c.perform-found.new.m in
+    let p = at_machine z _ d _ now n0 _ _ c.levels.invariant.same c.levels.invariant.own c.perform-found.ensures.performed in
+    λ first root key looking x respects.
+    let w = c.levels.invariant.walk first root key looking x (respects_within z root d first n0 first now (prefix_same first) (grows_by z d now n0 _ _ p) respects) in
+    walk_key z c.stands.ensures.limits root d first c.args.label.now old now n0 c.perform-found.result c.levels.index c.levels.rest c.levels.at _ c.args.key c.requires.few key p respects w (c.is_block.ensures.0 c.if-not-is_block.false)
+    (λ e. let clash : true ≡ false = sym (c.is_other_kind.ensures.1 e) ∙ c.if-not-is_other_kind.true in cc) c.is_this.result c.is_this.ensures.0 c.is_this.ensures.1
+
+pub levels-preserved : goal.levels-preserved
+levels-preserved g c =
+    let z : Sizes = g.M.Machine.sizes c.args.m.now in
+    let d : ℕ = g.M.Machine.domain c.args.m.now in
+    let old : List Entry = g.M.Machine.front c.args.m.now in
+    let now : List Entry = g.M.Machine.front c.levels.m in
+    let n0 : List Entry = g.M.Machine.front c.perform-found.new.m in
+    let n1 : List Entry = g.M.Machine.front c.perform-down.new.m in
+    let new : List Entry = g.M.Machine.front c.perform-at.new.m in
+    let s0 : g.M.Machine.sizes c.levels.m ≡ z = c.levels.invariant.same in
+    let o0 : g.M.Machine.domain c.levels.m ≡ d = c.levels.invariant.own in
+    let s1 : g.M.Machine.sizes c.perform-found.new.m ≡ z = c.perform-found.ensures.sizes ∙ s0 in
+    let o1 : g.M.Machine.domain c.perform-found.new.m ≡ d = c.perform-found.ensures.domain ∙ o0 in
+    let s2 : g.M.Machine.sizes c.perform-down.new.m ≡ z = c.perform-down.ensures.sizes ∙ s1 in
+    let o2 : g.M.Machine.domain c.perform-down.new.m ≡ d = c.perform-down.ensures.domain ∙ o1 in
+    let p0 = at_machine z _ d _ now n0 _ _ s0 o0 c.perform-found.ensures.performed in
+    let p1 = at_machine z _ d _ n0 n1 _ _ s1 o1 c.perform-down.ensures.performed in
+    let q2 = at_machine z _ d _ n1 new _ _ s2 o2 c.perform-at.ensures.performed in
+    let p2 = subst (λ (n : ℕ). PerformedBy z d n1 new (Load 9 8 n) c.perform-at.result) c.node_index-index.ensures q2 in
+    let g1 = grows_by z d n1 new _ _ q2 in
+    let g0 = prefix_trans n0 n1 new (grows_by z d n0 n1 _ _ p1) g1 in
+    let g2 = prefix_trans now n0 new (grows_by z d now n0 _ _ p0) g0 in
+    let l0 = c.levels.invariant.labels in
+    let l1 = c.perform-found.ensures.labels in
+    let l2 = c.perform-down.ensures.labels in
+    let l3 = c.perform-at.ensures.labels in
+    let r0 = c.levels.invariant.room in
+    let r1 = c.perform-found.ensures.room in
+    let r2 = c.perform-down.ensures.room in
+    let r3 = c.perform-at.ensures.room in
+    let f0 = c.levels.invariant.given in
+    let f1 = counted_by refusals_by d _ _ now n0 o0 c.perform-found.ensures.refused in
+    let f2 = counted_by refusals_by d _ _ n0 n1 o1 c.perform-down.ensures.refused in
+    let f3 = counted_by refusals_by d _ _ n1 new o2 c.perform-at.ensures.refused in
+    let k1 = c.perform-found.ensures.given in
+    let k2 = c.perform-down.ensures.given in
+    let k3 = c.perform-at.ensures.given in
+    let w0 = c.levels.invariant.written in
+    let w1 = counted_by writings_by d _ _ now n0 o0 c.perform-found.ensures.written in
+    let w2 = counted_by writings_by d _ _ n0 n1 o1 c.perform-down.ensures.written in
+    let w3 = counted_by writings_by d _ _ n1 new o2 c.perform-at.ensures.written in record {
+      same = c.perform-at.ensures.sizes ∙ s2;
+      own = c.perform-at.ensures.domain ∙ o2;
+      labels = omega (arith, l0, l1, l2, l3);
+      room = omega (arith, r0, r1, r2, r3);
+      given = omega (arith, f0, f1, f2, f3, k1, k2, k3);
+      written = omega (arith, w0, w1, w2, w3);
+      grows = prefix_trans old now new c.levels.invariant.grows g2;
+      walk = λ first root key looking x respects.
+          subst (λ (n : ℕ). Walked z root d first c.args.label.now old new n (c.levels.rest / node_width) c.perform-at.result (c.levels.counter + 1)) (sym c.node_index-index.ensures)
+          (walk_down z c.stands.ensures.limits root d first c.args.label.now old now n0 n1 new c.perform-found.result c.perform-down.result c.perform-at.result c.levels.index c.levels.rest c.levels.at c.levels.counter c.args.key c.requires.few key p0 p1 p2
+          (respects_within z root d first new first n0 (prefix_same first) g0 respects) (respects_within z root d first new first n1 (prefix_same first) g1 respects) respects
+          (c.levels.invariant.walk first root key looking x (respects_within z root d first new first now (prefix_same first) g2 respects)) (c.is_block.ensures.0 c.if-not-is_block.false) (c.is_other_kind.ensures.0 c.if-not-is_other_kind.false));
+    }
+
+pub returns-clause-found : goal.returns-clause-found
+returns-clause-found g c =
+    let z : Sizes = g.M.Machine.sizes c.args.m.now in
+    let d : ℕ = g.M.Machine.domain c.args.m.now in
+    let old : List Entry = g.M.Machine.front c.args.m.now in
+    let all : c.levels.counter ≡ 7 = search rules in
+    λ first root key looking x respects.
+    absurd (walk_ends z c.stands.ensures.limits root d first c.args.label.now old _ c.levels.index c.levels.rest c.levels.at c.levels.counter all (c.levels.invariant.walk first root key looking x respects))
+
+pub returns-then-not-is_other_kind-clause-grows : goal.returns-then-not-is_other_kind-clause-grows
+returns-then-not-is_other_kind-clause-grows g c =
+    prefix_trans (g.M.Machine.front c.args.m.now) (g.M.Machine.front c.levels.m) (g.M.Machine.front c.perform-found.new.m) c.levels.invariant.grows
+    (grows_by (g.M.Machine.sizes c.levels.m) (g.M.Machine.domain c.levels.m) (g.M.Machine.front c.levels.m) (g.M.Machine.front c.perform-found.new.m) _ _ c.perform-found.ensures.performed)

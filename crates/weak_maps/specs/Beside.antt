@@ -1,0 +1,23 @@
+-- What a register of a domain holds, and what the domain's entries do besides.
+use Rattle.std.specs.Prelude.{ℕ, ◌+◌, cond, List, [], ◌∷◌}
+use Rattle.heap_model.specs.declared.entry.Entry.{Entry}
+use Rattle.heap_model.specs.declared.graph.Value.{Value}
+use Rattle.heap_model.specs.declared.state.Sizes.{Sizes}
+use Rattle.heap_model.specs.Domains.{register}
+use Rattle.heap_model.specs.History.{is_entry_of}
+use Rattle.table_laws.specs.Thinning.{state_of}
+use Rattle.table_laws.specs.Performing.{refused, written}
+
+-- what a register of domain d holds after a history
+abbrev pub held_by : Sizes → ℕ → List Entry → ℕ → Value
+held_by z d h r = register (state_of z h) d r
+
+-- how many commands of domain d were answered `full`
+abbrev pub refusals_by : ℕ → List Entry → ℕ
+refusals_by d [] = 0
+refusals_by d (e ∷ h) = cond (is_entry_of d e) (refused e) 0 + refusals_by d h
+
+-- how many entries of domain d write one of its registers 1 to 7
+abbrev pub writings_by : ℕ → List Entry → ℕ
+writings_by d [] = 0
+writings_by d (e ∷ h) = cond (is_entry_of d e) (written e) 0 + writings_by d h

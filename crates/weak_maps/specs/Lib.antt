@@ -1,0 +1,5 @@
+pub mod Commands
+pub mod Beside
+pub mod Walks
+pub mod Fields
+pub mod Returns

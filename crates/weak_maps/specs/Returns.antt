@@ -1,0 +1,61 @@
+-- What the calls answer and leave.
+use Rattle.std.specs.Prelude.{◌≡◌, ◌≢◌, ◌⊎◌, ◌<◌, ◌≤◌, ℕ, List, [], ◌∷◌, ◌++◌, None}
+use Rattle.heap_model.specs.declared.label.Label.{Label}
+use Rattle.heap_model.specs.declared.entry.Entry.{Entry}
+use Rattle.heap_model.specs.declared.graph.Value.{Value}
+use Rattle.heap_model.specs.declared.graph.Value.TheVariants.{Block, Nothing}
+use Rattle.heap_model.specs.declared.reply.Reply.{Reply}
+use Rattle.heap_model.specs.declared.reply.Reply.TheVariants as reply
+use Rattle.heap_model.specs.declared.state.Sizes.{Sizes}
+use Rattle.heap_model.specs.Graph.{node_at}
+use Rattle.heap_model.specs.Commands.{new_plain, shown}
+use Rattle.heap_model.specs.History.{IsPrefix}
+use Rattle.table_laws.specs.Stages.{graph_of}
+use Rattle.map_laws.specs.Tries.{IsMap, root_width}
+use Rattle.map_laws.specs.Calls.{GetAnswers, TakeAnswers, bound_after}
+use Rattle.weak_maps.specs.Beside.{held_by}
+use Rattle.weak_maps.specs.Walks.{OwnQuiet}
+
+-- what `map_get` leaves: the map is one still, no block was changed by the domain, the register of the answer holds what the reply shows, register 8 nothing, and the others what they held
+pub record GetLeaves (z : Sizes) (d : ℕ) (old new : List Entry) (root : Label) (dst : ℕ) (r : Reply) : Type 0 where
+  pub map : IsMap (graph_of z new) root
+  pub quiet : OwnQuiet z d old new
+  pub holds : shown (held_by z d new dst) ≡ r
+  pub clean : held_by z d new 8 ≡ Nothing
+  pub keeps : (i : ℕ) → i ≢ 8 → i ≢ dst → held_by z d new i ≡ held_by z d old i
+
+-- `map_get`, by what the register of the key holds
+abbrev pub GetReturns : Sizes → ℕ → List Entry → List Entry → Label → ℕ → Value → Reply → Type 0
+GetReturns z d old new root dst (Block k) r = GetAnswers z root d old new (Block k) r × GetLeaves z d old new root dst r
+GetReturns z d old new root dst key r = GetAnswers z root d old new key r
+
+-- `map_make`: a new map that binds nothing, in a register. Its root alone is made, behind entries of others
+pub record MakesMap (z : Sizes) (d : ℕ) (old new : List Entry) (dst : ℕ) (root : Label) : Type 0 where
+  pub map : IsMap (graph_of z new) root
+  pub empty : (k : Label) → bound_after z root new k ≡ None
+  pub holds : held_by z d new dst ≡ Block root
+  pub keeps : (i : ℕ) → i ≢ dst → held_by z d new i ≡ held_by z d old i
+  pub front : List Entry
+  pub since : IsPrefix old front
+  pub until : IsPrefix front new
+  pub fresh : node_at (graph_of z front) root ≡ None
+  pub made : graph_of z new ≡ graph_of z front ++ (root, new_plain 0 root_width) ∷ []
+
+-- or the allocation was refused: the domain changed nothing
+pub record MakesNone (z : Sizes) (d : ℕ) (old new : List Entry) : Type 0 where
+  pub quiet : OwnQuiet z d old new
+  pub keeps : (i : ℕ) → held_by z d new i ≡ held_by z d old i
+
+abbrev pub MakeReturns : Sizes → ℕ → List Entry → List Entry → ℕ → Reply → Type 0
+MakeReturns z d old new dst r = ((root : Label) × (r ≡ reply.Block root) × MakesMap z d old new dst root) ⊎ ((r ≡ reply.Full) × MakesNone z d old new)
+
+-- what `map_take` leaves: the map is one still, registers 8 to 11 hold nothing, and the others what they held
+pub record TakeLeaves (z : Sizes) (d : ℕ) (old new : List Entry) (root : Label) : Type 0 where
+  pub map : IsMap (graph_of z new) root
+  pub clean : (i : ℕ) → 8 ≤ i → i ≤ 11 → held_by z d new i ≡ Nothing
+  pub keeps : (i : ℕ) → i < 8 → held_by z d new i ≡ held_by z d old i
+
+-- `map_take`, by what the register of the key holds
+abbrev pub TakeReturns : Sizes → ℕ → List Entry → List Entry → Label → Value → Reply → Type 0
+TakeReturns z d old new root (Block k) r = TakeAnswers z root d old new (Block k) r × TakeLeaves z d old new root
+TakeReturns z d old new root key r = TakeAnswers z root d old new key r

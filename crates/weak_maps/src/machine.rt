@@ -1,0 +1,91 @@
+//! What the calls need of a domain.
+ghost use Rattle.std.specs.Prelude.{◌≡◌, ◌+◌, ◌<◌, ◌≤◌, ℕ, List, []};
+ghost use Rattle.heap_model.specs.declared.entry.Entry.{Entry};
+ghost use Rattle.heap_model.specs.declared.state.Sizes.{Sizes};
+ghost use Rattle.heap_model.specs.Domains.{IsWithinLimits, domain_at, opening};
+ghost use Rattle.heap_model.specs.History.{Legal};
+ghost use Rattle.heap_model.specs.Commands.{shown};
+ghost use Rattle.heap_model.specs.Registrations.{all_registered};
+ghost use Rattle.table_laws.specs.Thinning.{state_of};
+ghost use Rattle.table_laws.specs.Performing.{full_of, writes};
+ghost use Rattle.command_counts.specs.Counts.{labels_of, labels_given, ephemerons_of, ephemerons_given};
+ghost use Rattle.weak_maps.specs.Commands.{IsMapCommand};
+ghost use Rattle.map_laws.specs.Calls.{PerformedBy};
+ghost use Rattle.weak_maps.specs.Beside.{held_by, refusals_by, writings_by};
+
+use heap_model::command::Command;
+use heap_model::reply::Reply;
+use std::sync::Wait;
+
+/// A domain of a heap, whose commands are handed in one by one. Between two of them there may be commands of other domains.
+pub trait Machine {
+    /// The numbers of the heap.
+    ghost sizes: { Self → Sizes };
+
+    /// The number of the domain.
+    ghost domain: { Self → ℕ };
+
+    /// What the domain has seen of the history so far.
+    ghost front: { Self → List Entry };
+
+    /// How many labels are left for the domain's blocks.
+    ghost labels_left: { Self → ℕ };
+
+    /// How many ephemerons fit into the domain's list.
+    ghost ephes_room: { Self → ℕ };
+
+    /// Nothing changes. The domain is one of the heap's, the numbers are within their limits, the history is legal and
+    /// registers no finaliser of the domain, and each of its labels was given out or is left.
+    fn stands(&self)
+        ensures inside { domain self.now < (sizes self.now).domains }
+        ensures limits { IsWithinLimits (sizes self.now) }
+        ensures legal { Legal (sizes self.now) (front self.now) }
+        ensures unregistered { all_registered (domain self.now) (opening (sizes self.now)) (front self.now) ≡ [] }
+        ensures labels { (domain_at (state_of (sizes self.now) (front self.now)) (domain self.now)).serial + labels_left self.now ≡ 4294967295 };
+
+    /// How many domains the heap has.
+    fn domains(&self) -> u32
+        ensures { result ≡ (sizes self.now).domains };
+
+    /// The reply that shows what a register holds. No entry is made.
+    fn show(&mut self, r: u8) -> Reply
+        requires few { r < 16 }
+        ensures sizes { sizes self.new ≡ sizes self.old }
+        ensures domain { domain self.new ≡ domain self.old }
+        ensures front { front self.new ≡ front self.old }
+        ensures labels { labels_left self.new ≡ labels_left self.old }
+        ensures room { ephes_room self.new ≡ ephes_room self.old }
+        ensures reply { result ≡ shown (held_by (sizes self.old) (domain self.old) (front self.old) r) };
+
+    /// Makes a command. The history grows by entries of the collector and of other domains, and then by this one. It gives
+    /// out a label exactly for the block that it makes, and takes room for the ephemeron that it makes: more room is there
+    /// only where ephemerons were swept.
+    fn perform<R: Wait>(&mut self, rt: &R, c: Command) -> Reply
+        requires fits { IsMapCommand c }
+        requires label { labels_of c ≤ labels_left self.old }
+        requires room { ephemerons_of c ≤ ephes_room self.old }
+        ensures sizes { sizes self.new ≡ sizes self.old }
+        ensures domain { domain self.new ≡ domain self.old }
+        ensures labels { labels_left self.old ≡ labels_left self.new + labels_given c result }
+        ensures room { ephes_room self.old ≤ ephes_room self.new + ephemerons_given c result }
+        ensures performed { PerformedBy (sizes self.old) (domain self.old) (front self.old) (front self.new) c result };
+}
+
+// Makes a command: one entry more of the domain is refused exactly where it is answered `full`, and an allocation gives out a
+// label or is.
+pub(crate) fn perform<M: Machine, R: Wait>(m: &mut M, rt: &R, c: Command) -> Reply
+    requires fits { IsMapCommand c }
+    requires label { labels_of c ≤ M.labels_left m.old }
+    requires room { ephemerons_of c ≤ M.ephes_room m.old }
+    ensures sizes { M.sizes m.new ≡ M.sizes m.old }
+    ensures domain { M.domain m.new ≡ M.domain m.old }
+    ensures labels { M.labels_left m.old ≡ M.labels_left m.new + labels_given c result }
+    ensures room { M.ephes_room m.old ≤ M.ephes_room m.new + ephemerons_of c }
+    ensures refused { refusals_by (M.domain m.old) (M.front m.new) ≡ refusals_by (M.domain m.old) (M.front m.old) + full_of result }
+    ensures given { labels_given c result + full_of result ≡ labels_of c }
+    ensures written { writings_by (M.domain m.old) (M.front m.new) ≡ writings_by (M.domain m.old) (M.front m.old) + writes c }
+    ensures performed { PerformedBy (M.sizes m.old) (M.domain m.old) (M.front m.old) (M.front m.new) c result }
+{
+    m.stands();
+    m.perform(rt, c)
+}

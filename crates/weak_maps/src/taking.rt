@@ -1,0 +1,185 @@
+//! Bindings that are taken out.
+ghost use Rattle.std.specs.Prelude.{◌≡◌, ◌+◌, ◌<◌, ◌≤◌};
+ghost use Rattle.heap_model.specs.declared.graph.Value.TheVariants.{Block};
+ghost use Rattle.heap_model.specs.declared.label.Label as labels;
+ghost use Rattle.heap_model.specs.History.{IsPrefix};
+ghost use Rattle.table_laws.specs.Stages.{graph_of};
+ghost use Rattle.map_laws.specs.Tries.{IsMap};
+ghost use Rattle.map_laws.specs.Steps.{OthersRespect};
+ghost use Rattle.weak_maps.specs.Beside.{held_by, refusals_by, writings_by};
+ghost use Rattle.weak_maps.specs.Fields.{Cleared, Finds};
+ghost use Rattle.weak_maps.specs.Returns.{TakeReturns};
+
+use crate::digits::{node_index, number_of, root_index};
+use crate::machine::{Machine, perform};
+use crate::replies::{is_block, is_other_kind, is_this, is_yes};
+use heap_model::command::Command;
+use heap_model::label::Label;
+use heap_model::reply::Reply;
+use std::sync::Wait;
+
+/// Where a search of a key's field has come to.
+#[derive(Clone, Copy, Debug, PartialEq, Eq)]
+pub struct Search {
+    /// The field's index in the block that register 8 holds.
+    pub index: u16,
+    /// The number whose digits are the rest of the key's way.
+    pub rest: u64,
+    /// Whether register 9 holds a leaf of the key.
+    pub mine: bool,
+}
+
+// Goes on from a field on a key's way, whose block is in register 8 and what it held in register 9, to the one at which the
+// way ends. Register 11 is used between.
+pub(crate) fn find<M: Machine, R: Wait>(
+    m: &mut M,
+    rt: &R,
+    key: u8,
+    label: &Label,
+    from: Search,
+    field: Reply,
+) -> Search
+    requires few { key < 8 }
+    ensures sizes { M.sizes m.new ≡ M.sizes m.old }
+    ensures domain { M.domain m.new ≡ M.domain m.old }
+    ensures labels { M.labels_left m.new ≡ M.labels_left m.old }
+    ensures room { M.ephes_room m.old ≤ M.ephes_room m.new }
+    ensures given { refusals_by (M.domain m.old) (M.front m.new) ≡ refusals_by (M.domain m.old) (M.front m.old) }
+    ensures written { writings_by (M.domain m.old) (M.front m.new) ≡ writings_by (M.domain m.old) (M.front m.old) }
+    ensures grows { IsPrefix (M.front m.old) (M.front m.new) }
+    ensures found { Finds (M.sizes m.old) (M.domain m.old) (M.front m.old) (M.front m.new) key label.now from.index from.rest field result.index result.rest result.mine }
+{
+    m.stands();
+    let mut index = from.index;
+    let mut rest = from.rest;
+    let mut at = field;
+    'levels: for _ in 0..7u8 {
+        if !is_block(&at) {
+            return Search {
+                index,
+                rest,
+                mine: false,
+            };
+        }
+        let found = perform(
+            m,
+            rt,
+            Command::GetKey {
+                dst: 11,
+                ephe: 9,
+                index: 0,
+            },
+        );
+        if !is_other_kind(&found) {
+            return Search {
+                index,
+                rest,
+                mine: is_this(&found, label),
+            };
+        }
+        let _down = perform(m, rt, Command::Copy { dst: 8, src: 9 });
+        index = node_index(rest);
+        rest /= 32;
+        at = perform(
+            m,
+            rt,
+            Command::Load {
+                dst: 9,
+                src: 8,
+                index,
+            },
+        );
+    }
+    Search {
+        index,
+        rest,
+        mine: false,
+    }
+}
+
+// Empties the registers that the calls use between.
+pub(crate) fn clear<M: Machine, R: Wait>(m: &mut M, rt: &R)
+    ensures sizes { M.sizes m.new ≡ M.sizes m.old }
+    ensures domain { M.domain m.new ≡ M.domain m.old }
+    ensures labels { M.labels_left m.new ≡ M.labels_left m.old }
+    ensures room { M.ephes_room m.old ≤ M.ephes_room m.new }
+    ensures given { refusals_by (M.domain m.old) (M.front m.new) ≡ refusals_by (M.domain m.old) (M.front m.old) }
+    ensures written { writings_by (M.domain m.old) (M.front m.new) ≡ writings_by (M.domain m.old) (M.front m.old) }
+    ensures cleared { Cleared (M.sizes m.old) (M.domain m.old) (M.front m.old) (M.front m.new) }
+{
+    let _eight = perform(m, rt, Command::Forget { dst: 8 });
+    let _nine = perform(m, rt, Command::Forget { dst: 9 });
+    let _ten = perform(m, rt, Command::Forget { dst: 10 });
+    let _eleven = perform(m, rt, Command::Forget { dst: 11 });
+}
+
+/// Takes the binding of the key in a register out of the map in another. Answers `type` exactly where the register holds no
+/// label, and then changes nothing; `none` where the key wasn't bound at some moment of the call; and else that it is done:
+/// the key was bound, and an entry of the call unbound it and no other key. Registers are below 8. Registers 8 to 11 hold
+/// nothing afterwards, but for `type`. Other domains may use the map meanwhile, by its calls. Where one of them wins a field,
+/// the call tries again.
+pub fn map_take<M: Machine, R: Wait>(m: &mut M, rt: &R, map: u8, key: u8) -> Reply
+    requires few { (map < 8) × (key < 8) }
+    ensures sizes { M.sizes m.new ≡ M.sizes m.old }
+    ensures domain { M.domain m.new ≡ M.domain m.old }
+    ensures labels { M.labels_left m.new ≡ M.labels_left m.old }
+    ensures room { M.ephes_room m.old ≤ M.ephes_room m.new }
+    ensures given { refusals_by (M.domain m.old) (M.front m.new) ≡ refusals_by (M.domain m.old) (M.front m.old) }
+    ensures written { writings_by (M.domain m.old) (M.front m.new) ≡ writings_by (M.domain m.old) (M.front m.old) }
+    ensures answer { (root : labels.Label) → held_by (M.sizes m.old) (M.domain m.old) (M.front m.old) map ≡ Block root → IsMap (graph_of (M.sizes m.old) (M.front m.old)) root
+        → OthersRespect (M.sizes m.old) root (M.domain m.old) (M.front m.old) (M.front m.new)
+        → TakeReturns (M.sizes m.old) (M.domain m.old) (M.front m.old) (M.front m.new) root (held_by (M.sizes m.old) (M.domain m.old) (M.front m.old) key) result }
+{
+    m.stands();
+    let Reply::Block(label) = m.show(key) else {
+        return Reply::BadType;
+    };
+    let number = number_of(m.domains(), &label);
+    let _zero = perform(m, rt, Command::PutInt { dst: 10, value: 0 });
+    let _root = perform(m, rt, Command::Copy { dst: 8, src: map });
+    let mut at = perform(
+        m,
+        rt,
+        Command::Load {
+            dst: 9,
+            src: 8,
+            index: root_index(number),
+        },
+    );
+    let mut from = Search {
+        index: root_index(number),
+        rest: number / 512,
+        mine: false,
+    };
+    'tries: for _ in rt.forever() {
+        from = find(m, rt, key, &label, from, at);
+        if !from.mine {
+            clear(m, rt);
+            return Reply::Empty;
+        }
+        let won = perform(
+            m,
+            rt,
+            Command::Cas {
+                block: 8,
+                index: from.index,
+                expected: 9,
+                item: 10,
+            },
+        );
+        if is_yes(&won) {
+            clear(m, rt);
+            return Reply::Done;
+        }
+        at = perform(
+            m,
+            rt,
+            Command::Load {
+                dst: 9,
+                src: 8,
+                index: from.index,
+            },
+        );
+    }
+    unreachable!()
+}
