@@ -10,11 +10,7 @@ use Rattle.heap_rule.specs.declared.config.Config.{Config}
 use Rattle.heap_rule.specs.Limits.{sizes_in}
 use Rattle.domain_turns.specs.Handed.{PerformedOn}
 use Rattle.domain_turns.specs.Tries.{registrations_of}
-use Rattle.heap_model.specs.declared.entry.Entry.{Entry}
-use Rattle.heap_model.specs.declared.state.Sizes.{Sizes}
-use Rattle.map_laws.specs.Calls.{PerformedBy}
 use Rattle.table_laws.specs.Performing.{Performed}
-use Rattle.table_laws.proofs.StepLemmas.{collector_none}
 use Rattle.weak_tables.proofs.RegisteredLemmas.{none_performed}
 use Rattle.heap_session.specs.Sessions.{MayPerform, SessionView}
 use Rattle.heap_session.proofs.Collectors.{performs}
@@ -43,7 +39,3 @@ module _ (old new : SessionView) (c : model.Command) (r : Reply) (limits : IsWit
 
   pub unregistered : all_registered 0 (opening (sizes_in old.config)) old.front ≡ [] → all_registered 0 (opening (sizes_in new.config)) new.front ≡ []
   unregistered before = subst (λ (k : Config). all_registered 0 (opening (sizes_in k)) new.front ≡ []) (sym same) (none_performed (sizes_in old.config) old.front new.front c r (λ s. registers_none s c quiet) plainly before)
-
--- beside other domains, of which there is none
-pub performed_by : (z : Sizes) (old new : List Entry) (c : model.Command) (r : Reply) → Performed z old new c r → PerformedBy z 0 old new c r
-performed_by z old new c r p = record { between = p.between; others = collector_none p.between 0 p.collector; full = p.full; appends = p.appends; legal = p.legal; replies = p.replies }

@@ -8,12 +8,10 @@
 //! let ended = session.stop(rt);
 //! ```
 //!
-//! The calls of `weak_tables` on weak arrays and tables, and those of `weak_maps`, take a [`TableSession`], which registers no
-//! finaliser.
+//! The calls of `weak_tables` on weak arrays and tables take a [`TableSession`], which registers no finaliser.
 #![tactic(auto)]
 
 mod closing;
-mod maps;
 mod performing;
 mod session;
 mod tables;
