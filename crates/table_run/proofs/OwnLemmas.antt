@@ -303,9 +303,12 @@ module _ (z : Sizes) (limits : IsWithinLimits z) (p : Places) (s : TableState) (
       let Away : Label → Type 0 = λ j. IsLost s j × (Left j → ⊥) in
       let knew : (j : Label) → Left j → IsKnown s j = λ j there. ⊎_elim (λ bound. inr (inl (thinned_keys P _ _ j thin_p bound)))
       (λ slot. ⊎_elim (λ equal. (let is : k ≡ j = cc in inl (subst (Holds s.registers) is held))) (λ before. inr (inr before)) (holds_set s.slots i (Some k) j (emptied_holds P _ _ j emptied slot))) there in
-      let away : (j : Label) → P j → Away j = λ j gone. (lost j gone, λ there. ⊎_elim
-      (λ bound. out_unbound z new j (out g.goes.legal g.clean.calm j gone (knew j there)) 6 p.table chains (table_now g.goes.grows) table bound)
-      (λ slot. out_unset z new j (out g.goes.legal g.clean.calm j gone (knew j there)) 7 p.array p.slots (array_now g.goes.grows) g.array slot) there) in
+      let away : (j : Label) → P j → Away j = λ j gone. (
+        lost j gone,
+        λ there. ⊎_elim
+            (λ bound. out_unbound z new j (out g.goes.legal g.clean.calm j gone (knew j there)) 6 p.table chains (table_now g.goes.grows) table bound)
+            (λ slot. out_unset z new j (out g.goes.legal g.clean.calm j gone (knew j there)) 7 p.array p.slots (array_now g.goes.grows) g.array slot) there,
+      ) in
       let before = choose s bs all (get_or s.slots i None) in
       let m = slot_chosen Away k (λ gone. gone.0 held) s.slots all i long (emptied_more P Away away _ _ emptied) before.now before.choice in
       let slots : List (Option Label) = set all i before.now in
