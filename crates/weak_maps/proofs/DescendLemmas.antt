@@ -69,10 +69,12 @@ leaf_tells g l k leaf = go n.0 n.2
   where
     n : (key : Option Label) × (datum : Value) × (node_at g l ≡ Some (Ephe (key ∷ []) datum))
     n = leaf_node (node_at g l) leaf
+
     some : (j : Label) → node_at g l ≡ Some (Ephe (Some j ∷ []) n.1) → (b : Bool) → same_label j k ≡ b → LeafTells g l k (bound_in k (Some (Ephe (Some j ∷ []) n.1)))
     some j is true e = subst (λ (c : Bool). LeafTells g l k (cond c (Some n.1) None)) (sym e) (is ∙ ap (λ (x : Label). Some (Ephe (Some x ∷ []) n.1)) (same_label-true j k e))
     some j is false e = subst (λ (c : Bool). LeafTells g l k (cond c (Some n.1) None)) (sym e)
         (Some j, n.1, (λ same. let at : j ≡ k = cc in let clash : true ≡ false = sym (same_label_refl k) ∙ (ap (λ (x : Label). same_label x k) (sym at) ∙ e) in cc), is)
+
     go : (key : Option Label) → node_at g l ≡ Some (Ephe (key ∷ []) n.1) → LeafTells g l k (bound_by g k (Block l))
     go None is = subst (λ (o : Option Node). LeafTells g l k (bound_in k o)) (sym is) (None, n.1, (λ e. cc), is)
     go (Some j) is = subst (λ (o : Option Node). LeafTells g l k (bound_in k o)) (sym is) (some j is (same_label j k) refl)
@@ -114,14 +116,15 @@ module _ (z : Sizes) (limits : IsWithinLimits z) (root : Label) (d : ℕ) (first
         let node = plain_node (node_at (graph_of z mid) l) moved.1.0 moved.1.1 in
         let wide : length moved.1.0 ≡ width_at way = stay.map.wide way (Block l) moved.1.0 moved.0 moved.1.1 in
         let v : Value = get_or moved.1.0 i Nothing in
-        let all = load_step z d now new r dst src i p l node.0 moved.1.0 v holds node.1 (slice_get-get_or moved.1.0 i Nothing (subst (λ (m : ℕ). i < m) (sym wide) below)) in
-        (v,
-         subst (λ (g : Graph). at (inside g) (way ++ i ∷ []) (Block root) ≡ Some v) (sym all.0) (at_one (inside (graph_of z mid)) way i (Block root) (Block l) moved.1.0 moved.0 moved.1.1),
-         set_here z d now new dst v all.1 (sixteen z d now new (Load dst src i) r p limits) small,
-         all.2,
-         looking_on z root d first now new (Load dst src i) r p all.0 respects looking,
-         (λ j other. set_other z d now new dst v all.1 j other),
-         all.0)
+        let all = load_step z d now new r dst src i p l node.0 moved.1.0 v holds node.1 (slice_get-get_or moved.1.0 i Nothing (subst (λ (m : ℕ). i < m) (sym wide) below)) in (
+          v,
+          subst (λ (g : Graph). at (inside g) (way ++ i ∷ []) (Block root) ≡ Some v) (sym all.0) (at_one (inside (graph_of z mid)) way i (Block root) (Block l) moved.1.0 moved.0 moved.1.1),
+          set_here z d now new dst v all.1 (sixteen z d now new (Load dst src i) r p limits) small,
+          all.2,
+          looking_on z root d first now new (Load dst src i) r p all.0 respects looking,
+          (λ j other. set_other z d now new dst v all.1 j other),
+          all.0,
+        )
 
     -- a load from a leaf: nothing changes
     pub loads_leaf : (l : Label) (key : Option Label) (datum : Value) → held_by z d now src ≡ Block l → node_at (graph_of z mid) l ≡ Some (Ephe (key ∷ []) datum)

@@ -15,6 +15,7 @@ stands (f ∷ x) y (g ∷ a) e b is = go (stands x y a e b (let rest : a ++ e �
   where
     same : f ≡ g
     same = cc
+
     go : Stands x y a e b → Stands (f ∷ x) y (g ∷ a) e b
     go (inl (rest, at)) = inl (rest, ap (λ (h : List Entry). f ∷ h) at ∙ ap (λ (k : Entry). k ∷ (a ++ e ∷ rest)) same)
     go (inr (more, at, behind)) = inr (more, ap (λ (h : List Entry). g ∷ h) at ∙ ap (λ (k : Entry). k ∷ (x ++ more)) (sym same), behind)
@@ -37,9 +38,11 @@ own_entry d old between c front e none within mine = go (stands (old ++ between)
   where
     whole : front ++ e ∷ within.rest ≡ (old ++ between) ++ c ∷ []
     whole = sym (append_assoc front (e ∷ []) within.rest) ∙ sym within.appends
+
     early : (rest : List Entry) → Stands old between front e rest → IsPrefix (front ++ e ∷ []) old ⊎ ((front ≡ old ++ between) × (e ≡ c))
     early rest (inl (more, at)) = inl (record { rest = more; appends = at ∙ sym (append_assoc front (e ∷ []) more) })
     early rest (inr (more, at, behind)) = let clash : false ≡ true = sym (mine_not_there d between more e rest none (sym behind)) ∙ mine in cc
+
     go : Stands (old ++ between) (c ∷ []) front e within.rest → IsPrefix (front ++ e ∷ []) old ⊎ ((front ≡ old ++ between) × (e ≡ c))
     go (inl (rest, at)) = early rest (stands old between front e rest (sym at))
     go (inr (more, at, behind)) =

@@ -43,26 +43,29 @@ module _ (z : Sizes) (limits : IsWithinLimits z) (root : Label) (d : ℕ) (first
       let mid_stays = stays_middle z root d first now new c r p respects looking.grows looking.map in
       let moved = mid_stays.block q (Block l) fields there plain in (
         y.4,
-        (record {
-          p = q;
-          left = left;
-          all = all;
-          way = way;
-          l = l;
-          held = y.5 8 (λ e. absurd (omega (arith, e))) ∙ holds;
-          v = y.0;
-          holds = y.2;
-          shows = y.3;
-          since = y.4.grows;
-          until = prefix_same new;
-          there = subst (λ (g : Graph). at (inside g) q (Block root) ≡ Some (Block l)) (sym y.6) moved.0;
-          fields = moved.1.0;
-          plain = subst (λ (g : Graph). inside g (Block l) ≡ Some moved.1.0) (sym y.6) moved.1.1;
-          was = y.1;
-          narrow = below;
-          map = y.4.map;
-          stays = stays_here z root new y.4.map;
-        }, refl),
+        (
+          record {
+            p = q;
+            left = left;
+            all = all;
+            way = way;
+            l = l;
+            held = y.5 8 (λ e. absurd (omega (arith, e))) ∙ holds;
+            v = y.0;
+            holds = y.2;
+            shows = y.3;
+            since = y.4.grows;
+            until = prefix_same new;
+            there = subst (λ (g : Graph). at (inside g) q (Block root) ≡ Some (Block l)) (sym y.6) moved.0;
+            fields = moved.1.0;
+            plain = subst (λ (g : Graph). inside g (Block l) ≡ Some moved.1.0) (sym y.6) moved.1.1;
+            was = y.1;
+            narrow = below;
+            map = y.4.map;
+            stays = stays_here z root new y.4.map;
+          },
+          refl,
+        ),
         y.5,
       )
 
@@ -75,7 +78,7 @@ module _ (z : Sizes) (limits : IsWithinLimits z) (root : Label) (d : ℕ) (first
       let looking1 = looking_on z root d first now n1 (Copy 8 map) r p all.0 earlier looking in
       let own = looking1.map.own in
       let y = field_load n1 new r2 (number_of z.domains k % root_width) (number_of z.domains k / root_width) 6 [] refl refl (below_root (number_of z.domains k)) root own.0
-          (set_here z d now n1 8 v all.1 (sixteen z d now n1 (Copy 8 map) r p limits) (omega arith) ∙ holds) refl own.1 p2 respects looking1 in
+      (set_here z d now n1 8 v all.1 (sixteen z d now n1 (Copy 8 map) r p limits) (omega arith) ∙ holds) refl own.1 p2 respects looking1 in
       (y.0, y.1.0, (λ j a b. y.2 j b ∙ set_other z d now n1 8 v all.1 j a))
 
   -- while a command that writes neither the map nor registers 8 and 9 is made
@@ -151,8 +154,12 @@ module _ (z : Sizes) (limits : IsWithinLimits z) (root : Label) (d : ℕ) (first
         let moved = stay.block (x.p ++ i ∷ []) (Block l) fields (x.was ∙ ap Some is_l) plain in
         let node = plain_node (node_at (graph_of z mid) l) moved.1.0 moved.1.1 in
         let all = get_key_plain_step z d now new r 11 9 p l node.0 moved.1.0 (x.holds ∙ is_l) node.1 in
-        inl (all.2, looking_on z root d first now new c r p all.0 respects looking, (λ j e8 e9 e11. same_held z d now new all.1 j),
-            (field_on now now new c r i rest s p all.0 (same_held z d now new all.1 8) (same_held z d now new all.1 9) respects looking x, (fields, ap (inside (graph_of z now)) is_l ∙ plain), refl))
+        inl (
+          all.2,
+          looking_on z root d first now new c r p all.0 respects looking,
+          (λ j e8 e9 e11. same_held z d now new all.1 j),
+          (field_on now now new c r i rest s p all.0 (same_held z d now new all.1 8) (same_held z d now new all.1 9) respects looking x, (fields, ap (inside (graph_of z now)) is_l ∙ plain), refl),
+        )
 
     at_leaf : (l : Label) → x.v ≡ Block l → is_leaf (node_at (graph_of z now) l) → KeyAnswers
     unfolding field_on
@@ -167,12 +174,21 @@ module _ (z : Sizes) (limits : IsWithinLimits z) (root : Label) (d : ℕ) (first
         let nine : held_by z d new 9 ≡ held_by z d now 9 = other 9 (λ e. absurd (omega (arith, e))) in
         let y = field_on now now new c r i rest s p all.0 (other 8 (λ e. absurd (omega (arith, e)))) nine respects looking x in
         let told : bound_after z root now k ≡ o = way_ends z.domains (graph_of z now) root k (x.p ++ i ∷ []) (low_digits x.left rest) (Block l) (field_way now now i rest s x) was (leaf_none (node_at (graph_of z now) l) leaf) in
-        inr ((λ e. key_no_type n.0 (sym all.2 ∙ e)), looking2, (λ j e8 e9 e11. other j e11),
-            met o told n.0 n.3 all.2
-            (λ datum same. record { shows = s; front = now; field = y; datum = datum;
+        inr (
+          (λ e. key_no_type n.0 (sym all.2 ∙ e)),
+          looking2,
+          (λ j e8 e9 e11. other j e11),
+          met o told n.0 n.3 all.2
+              (λ datum same. record {
+                shows = s;
+                front = now;
+                field = y;
+                datum = datum;
                 leaf = record { l = l; held = nine ∙ (x.holds ∙ is_l); tells = subst (λ (w : Graph × Option Value). LeafTells w.0 l k w.1) (λ e. (sym all.0 e, same e)) tells; former = now; before = grows_by z d now new c r p; p = x.p ++ i ∷ []; there = was; leaf = leaf };
-                same = nine ∙ x.holds })
-            (λ none. record { front = now; since = looking.grows; until = grows_by z d now new c r p; bound = told ∙ none }))
+                same = nine ∙ x.holds;
+              })
+              (λ none. record { front = now; since = looking.grows; until = grows_by z d now new c r p; bound = told ∙ none }),
+        )
       where
         met : (o : Option Value) → bound_after z root now k ≡ o → (key : Option Label) → KeyTells o key → r ≡ shown (key_value key) → ((datum : Value) → o ≡ Some datum → FoundMine z d first new root k i rest) → (o ≡ None → FoundNone z first new root k)
             → (mine : Bool) → (mine ≡ true → r ≡ reply.Block k) → (r ≡ reply.Block k → mine ≡ true) → FoundBy z d first new root k i rest mine
@@ -209,8 +225,8 @@ module _ (z : Sizes) (limits : IsWithinLimits z) (root : Label) (d : ℕ) (first
           let long = length-append x.p (i ∷ []) in
           let whole = x.all in
           let y = field_load n1 new r2 (rest % node_width) (rest / node_width) left (x.p ++ i ∷ []) (omega (arith, long, whole, more))
-              (field_way front now i rest s x ∙ ap (λ (m : ℕ). (x.p ++ i ∷ []) ++ low_digits m rest) more)
-              (subst (λ (m : ℕ). rest % node_width < m) (sym (wide x.p)) (below_width rest)) b.0 moved.1.0 eight (moved.0 ∙ ap Some b.1) (ap (inside (graph_of z n1)) (sym b.1) ∙ moved.1.1) p2 respects looking1 in
+          (field_way front now i rest s x ∙ ap (λ (m : ℕ). (x.p ++ i ∷ []) ++ low_digits m rest) more)
+          (subst (λ (m : ℕ). rest % node_width < m) (sym (wide x.p)) (below_width rest)) b.0 moved.1.0 eight (moved.0 ∙ ap Some b.1) (ap (inside (graph_of z n1)) (sym b.1) ∙ moved.1.1) p2 respects looking1 in
           (y.0, (y.1.0, (let e = ap length y.1.1 in omega (arith, e, long))), (λ j e8 e9. y.2 j e9 ∙ set_other z d now n1 8 v all.1 j e8))
         where
           wide : (q : List ℕ) → width_at (q ++ i ∷ []) ≡ node_width

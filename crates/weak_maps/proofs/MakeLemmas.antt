@@ -78,24 +78,31 @@ module _ (g : Graph) (root : Label) (node : node_at g root ≡ Some (new_plain 0
 
 pub made_map : (z : Sizes) (limits : IsWithinLimits z) (d : ℕ) (old new : List Entry) (r : Reply) (dst : ℕ) → dst < 8 → PerformedBy z d old new (Alloc dst 0 512) r → MakeReturns z d old new dst r
 made_map z limits d old new r dst few p = ⊎_elim
-    (λ refused. inr (refused.1.2, record {
-      quiet = quiet_on z root_of d old old new (Alloc dst 0 512) r p refused.1.0 (λ front e since until mine. absurd (no_entry old front e since until));
-      keeps = same_held z d old new refused.1.1;
-    }))
+    (λ refused. inr (
+      refused.1.2,
+      record {
+        quiet = quiet_on z root_of d old old new (Alloc dst 0 512) r p refused.1.0 (λ front e since until mine. absurd (no_entry old front e since until));
+        keeps = same_held z d old new refused.1.1;
+      },
+    ))
     (λ granted.
     let l : Label = made z d old new (Alloc dst 0 512) r p in
     let node : node_at (graph_of z new) l ≡ Some (new_plain 0 root_width) = ap (λ (g : Graph). node_at g l) granted.2.0 ∙ node_at-append_new (graph_of z (old ++ p.between)) l (new_plain 0 root_width) granted.1 in
-    inl (l, granted.2.2, record {
-      map = new_map (graph_of z new) l node;
-      empty = new_empty (graph_of z new) l node z.domains;
-      holds = set_here z d old new dst (Block l) granted.2.1 (sixteen z d old new (Alloc dst 0 512) r p limits) (omega (arith, few));
-      keeps = set_other z d old new dst (Block l) granted.2.1;
-      front = old ++ p.between;
-      since = since_old z d old new (Alloc dst 0 512) r p;
-      until = until_new z d old new (Alloc dst 0 512) r p;
-      fresh = granted.1;
-      made = granted.2.0;
-    }))
+    inl (
+      l,
+      granted.2.2,
+      record {
+        map = new_map (graph_of z new) l node;
+        empty = new_empty (graph_of z new) l node z.domains;
+        holds = set_here z d old new dst (Block l) granted.2.1 (sixteen z d old new (Alloc dst 0 512) r p limits) (omega (arith, few));
+        keeps = set_other z d old new dst (Block l) granted.2.1;
+        front = old ++ p.between;
+        since = since_old z d old new (Alloc dst 0 512) r p;
+        until = until_new z d old new (Alloc dst 0 512) r p;
+        fresh = granted.1;
+        made = granted.2.0;
+      },
+    ))
     (alloc_step z d old new r dst 0 512 p)
   where
     root_of : Label

@@ -49,7 +49,7 @@ others_stay z root d now (e ∷ more) none map respects =
     let there : state_of z (now ++ e ∷ []) ≡ next (state_of z now) e = state_after-push (opening z) now e in
     let map_next : IsMap (graph_of z (now ++ e ∷ [])) root = subst (λ (t : State). IsMap t.graph root) (sym there) (map_stays z.domains root (state_of z now) e map step) in
     let rest : Stays z root (now ++ e ∷ []) ((now ++ e ∷ []) ++ more) = others_stay z root d (now ++ e ∷ []) more parts.1 map_next
-        (respects_within z root d now (now ++ e ∷ more) (now ++ e ∷ []) ((now ++ e ∷ []) ++ more) (record { rest = e ∷ []; appends = refl }) (record { rest = []; appends = sym whole ∙ sym (append-nil ((now ++ e ∷ []) ++ more)) }) respects) in
+    (respects_within z root d now (now ++ e ∷ more) (now ++ e ∷ []) ((now ++ e ∷ []) ++ more) (record { rest = e ∷ []; appends = refl }) (record { rest = []; appends = sym whole ∙ sym (append-nil ((now ++ e ∷ []) ++ more)) }) respects) in
     subst (λ (h : List Entry). Stays z root now h) whole
     (record {
       map = rest.map;
@@ -82,11 +82,11 @@ leaf_stays z root d now (e ∷ more) none respects former p l k o r before there
     let next_is : state_of z (now ++ e ∷ []) ≡ next (state_of z now) e = state_after-push (opening z) now e in
     let held_next : held_by z d (now ++ e ∷ []) r ≡ Block k = ap (λ (t : State). register t d r) next_is ∙ (ap (λ (rs : List Value). get_or rs r Nothing) (keeps_next (state_of z now) e d parts.0).registers ∙ held) in
     let tells_next : LeafTells (graph_of z (now ++ e ∷ [])) l k o = subst (λ (t : State). LeafTells t.graph l k o) (sym next_is)
-        (tells_on (IsOutside (state_of z now)) (graph_of z now) (next (state_of z now) e).graph l k o (λ gone. outside_unheld (state_of z now) k gone d r held) (λ n is. spares former p l n before there leaf is) tells) in
+    (tells_on (IsOutside (state_of z now)) (graph_of z now) (next (state_of z now) e).graph l k o (λ gone. outside_unheld (state_of z now) k gone d r held) (λ n is. spares former p l n before there leaf is) tells) in
     subst (λ (h : List Entry). LeafTells (graph_of z h) l k o) whole
     (leaf_stays z root d (now ++ e ∷ []) more parts.1
-        (respects_within z root d now (now ++ e ∷ more) (now ++ e ∷ []) ((now ++ e ∷ []) ++ more) (record { rest = e ∷ []; appends = refl }) (record { rest = []; appends = sym whole ∙ sym (append-nil ((now ++ e ∷ []) ++ more)) }) respects)
-        former p l k o r (prefix_trans former now (now ++ e ∷ []) before (record { rest = e ∷ []; appends = refl })) there leaf held_next tells_next)
+    (respects_within z root d now (now ++ e ∷ more) (now ++ e ∷ []) ((now ++ e ∷ []) ++ more) (record { rest = e ∷ []; appends = refl }) (record { rest = []; appends = sym whole ∙ sym (append-nil ((now ++ e ∷ []) ++ more)) }) respects)
+    former p l k o r (prefix_trans former now (now ++ e ∷ []) before (record { rest = e ∷ []; appends = refl })) there leaf held_next tells_next)
 
 -- an entry that leaves the graph respects each map
 pub quiet_respects : (z : Sizes) (root : Label) (front : List Entry) (e : Entry) → (next (state_of z front) e).graph ≡ graph_of z front → RespectsMap z root front e

@@ -133,9 +133,11 @@ module _ (z : Sizes) (limits : IsWithinLimits z) (root : Label) (d : ℕ) (first
     -- where it is refused the walk stands where it stood
     pub cas_lost : (r ≡ reply.Yes → ⊥) → Looking z root d first new × AtField z d first front new root k i rest s × ((j : ℕ) → held_by z d new j ≡ held_by z d now j)
     cas_lost other = ⊎_elim (λ won. absurd (other won.1.2))
-        (λ lost. (looking_on z root d first now new c r p lost.1.0 respects looking,
-            field_on z limits root d first k front now new c r i rest s p lost.1.0 (same_held z d now new lost.1.1 8) (same_held z d now new lost.1.1 9) respects looking x,
-            (λ j. same_held z d now new lost.1.1 j)))
+        (λ lost. (
+          looking_on z root d first now new c r p lost.1.0 respects looking,
+          field_on z limits root d first k front now new c r i rest s p lost.1.0 (same_held z d now new lost.1.1 8) (same_held z d now new lost.1.1 9) respects looking x,
+          (λ j. same_held z d now new lost.1.1 j),
+        ))
         took
 
     -- where it is made the key is unbound by it, and no other
@@ -207,8 +209,8 @@ module _ (z : Sizes) (limits : IsWithinLimits z) (root : Label) (d : ℕ) (first
         respects = λ front2 e since until mine.
             ⊎_elim
             (λ within. ⊎_elim (λ early. (quiet_looks z root d first now looking.quiet).respects front2 e since early mine)
-                (λ is. subst (λ (w : List Entry × Entry). RespectsMap z root w.0 w.1) (λ j. (sym is.0 j, sym is.1 j)) respects_entry)
-                (own_entry d now p.between entry front2 e p.others (subst (IsPrefix (front2 ++ e ∷ [])) p.appends within) mine))
+            (λ is. subst (λ (w : List Entry × Entry). RespectsMap z root w.0 w.1) (λ j. (sym is.0 j, sym is.1 j)) respects_entry)
+            (own_entry d now p.between entry front2 e p.others (subst (IsPrefix (front2 ++ e ∷ [])) p.appends within) mine))
             (λ behind. (quiet_looks z root d new last after.quiet).respects front2 e behind until mine)
             (before_or_behind new last front2 e after.grows until);
       }
@@ -272,7 +274,7 @@ module _ (z : Sizes) (limits : IsWithinLimits z) (root : Label) (d : ℕ) (first
     pub cleared_clean : (j : ℕ) → 8 ≤ j → j ≤ 11 → held_by z d new j ≡ Nothing
     cleared_clean j low high = ⊎_elim (λ e. subst (λ (m : ℕ). held_by z d new m ≡ Nothing) (sym e) eight_empty)
         (λ more. ⊎_elim (λ e. subst (λ (m : ℕ). held_by z d new m ≡ Nothing) (sym e) nine_empty)
-            (λ later. ⊎_elim (λ e. subst (λ (m : ℕ). held_by z d new m ≡ Nothing) (sym e) ten_empty) (λ last. subst (λ (m : ℕ). held_by z d new m ≡ Nothing) (sym (omega (arith, high, last))) last_empty) (next_or 10 j later)) (next_or 9 j more)) (next_or 8 j low)
+        (λ later. ⊎_elim (λ e. subst (λ (m : ℕ). held_by z d new m ≡ Nothing) (sym e) ten_empty) (λ last. subst (λ (m : ℕ). held_by z d new m ≡ Nothing) (sym (omega (arith, high, last))) last_empty) (next_or 10 j later)) (next_or 9 j more)) (next_or 8 j low)
       where
         next_or : (a b : ℕ) → a ≤ b → (b ≡ a) ⊎ (a + 1 ≤ b)
         next_or a b le = ⊎_elim (λ e. inl e) (λ other. inr (grind (arith, le, other))) (same_number b a)

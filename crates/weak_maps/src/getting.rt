@@ -20,7 +20,13 @@ use heap_model::reply::Reply;
 use std::sync::Wait;
 
 // Follows the way to a key, which a register holds, to its end. Tells whether a leaf was met there: register 8 holds it.
-pub(crate) fn descend<M: Machine, R: Wait>(m: &mut M, rt: &R, map: u8, key: u8, label: &Label) -> bool
+pub(crate) fn descend<M: Machine, R: Wait>(
+    m: &mut M,
+    rt: &R,
+    map: u8,
+    key: u8,
+    label: &Label,
+) -> bool
     requires few { (map < 8) × (key < 8) }
     ensures sizes { M.sizes m.new ≡ M.sizes m.old }
     ensures domain { M.domain m.new ≡ M.domain m.old }
