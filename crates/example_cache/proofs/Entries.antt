@@ -1,5 +1,5 @@
 -- What a call leaves of the entries of a cache.
-use Rattle.std.proofs.Common.{◌≡◌, ◌∙◌, ℕ, ◌+◌, ◌≤◌, true, false, IsTrue, cond, Bool, List, [], ◌∷◌, length, get_or, set, get_or-set_other, ⊎_elim, Option, Some, None, refl, sym, subst, arith}
+use Rattle.std.proofs.Common.{◌≡◌, ◌∙◌, ℕ, ◌+◌, ◌≤◌, true, false, IsTrue, cond, Bool, List, [], ◌∷◌, ◌++◌, length, get_or, set, get_or-set_other, ⊎_elim, Option, Some, None, refl, sym, subst, arith}
 use Rattle.heap_model.specs.declared.label.Label.{Label}
 use Rattle.heap_model.specs.declared.entry.Entry.{Entry}
 use Rattle.heap_model.specs.declared.graph.Value.{Value}
