@@ -1,16 +1,21 @@
 #!/usr/bin/env python3
-"""Draws scripts of one domain by chance, makes their commands through the library, and compares each reply with what
-`camlheap run` prints of the script: `compare.py COUNT COMMANDS [SEED]`. Ends with 1 where two differ."""
+"""Draws scripts by chance, makes their commands through the library, a thread for each domain, and has the replies judged:
+`compare.py COUNT COMMANDS [SEED [DOMAINS]]`, with so many commands of each domain. Of one domain they are those that `camlheap run`
+prints of the script; of several `history_check` looks for a legal history of them. Ends with 1 where some are not as they should be."""
 import os
 import random
 import subprocess
 import sys
+import threading
+import time
 
 TOP = os.path.dirname(os.path.dirname(os.path.dirname(os.path.abspath(__file__))))
 sys.path.insert(0, f"{TOP}/library/python")
 import camlheap
 
 PROGRAM = os.environ.get("PROGRAM", f"{TOP}/camlheap")
+JUDGE = os.environ.get("JUDGE", f"{TOP}/history_check")
+MINOR, POOLS = 4096, 160
 MOST = 2**62
 
 
@@ -29,39 +34,63 @@ def command(draw):
     return word, [ranges.get(name, register)() for name in camlheap.FORMS[word].split()]
 
 
-def printed(commands):
-    """The lines that the program prints of the script, without its heading."""
-    script = "heap 2\ndomain 0\n" + "".join(f"{word} {' '.join(map(str, numbers))}".rstrip() + "\n" for word, numbers in commands)
-    ran = subprocess.run([PROGRAM, "run", "--domains", "1", "--minor", "4096", "--pools", "64"], input=script, capture_output=True, text=True, check=True)
-    return ran.stdout.splitlines()[1:]
+def script(traces):
+    """The text of these traces."""
+    line = lambda word, numbers: f"{word} {' '.join(map(str, numbers))}".rstrip() + "\n"
+    return "heap 2\n" + "".join(f"domain {at}\n" + "".join(line(*it) for it in trace) for at, trace in enumerate(traces))
 
 
-def made(commands):
-    """The replies of the library, and those of the finalisers that ran before each."""
-    (domain,) = camlheap.start(1, 4096, 64, len(commands), len(commands))
-    lines = []
+def output(lines):
+    """The text of what these domains have replied."""
+    return "".join(f"domain {at}\n" + "".join(f"{it}\n" for it in its) for at, its in enumerate(lines))
+
+
+def trace_of(domain, commands, lines):
+    """Makes the commands and ends the trace. The replies go to `lines`, with those of the finalisers that ran before each."""
+    told = []
     for word, numbers in commands:
         reply = domain.perform(word, *numbers)
-        lines += [*map(str, domain.ran()), str(reply)]
-    domain.perform("poll")
-    lines += map(str, domain.ran())
-    domain.finish()
+        told = domain.ran()
+        lines += [*map(str, told), str(reply)]
+    domain.close()
+    while not domain.turn():
+        time.sleep(0)
+    lines += map(str, domain.ran()[len(told) :])
+    domain.free()
+
+
+def made(traces):
+    """What the domains reply, in a thread each."""
+    most = max(map(len, traces))
+    domains = camlheap.start(len(traces), MINOR, POOLS, most, most)
+    lines = [[] for _ in traces]
+    threads = [threading.Thread(target=trace_of, args=it) for it in zip(domains, traces, lines)]
+    for it in threads:
+        it.start()
+    for it in threads:
+        it.join()
     return lines
 
 
-def main():
-    count, length, seed = int(sys.argv[1]), int(sys.argv[2]), int(sys.argv[3]) if len(sys.argv) > 3 else 1
-    total = 0
+def is_right(traces, lines):
+    """Whether the program prints these lines of one domain, or the judge finds a legal history of those of several."""
+    sizes = ["--domains", str(len(traces)), "--minor", str(MINOR), "--pools", str(POOLS)]
+    if len(traces) == 1:
+        ran = subprocess.run([PROGRAM, "run", *sizes], input=script(traces), capture_output=True, text=True, check=True)
+        return ran.stdout == output(lines)
+    judged = subprocess.run([JUDGE, *sizes], input=f"{script(traces)}---\n{output(lines)}", capture_output=True, text=True)
+    return judged.returncode == 0
+
+
+def main(count, length, seed=1, domains=1):
     for at in range(count):
         draw = random.Random(seed * 1000003 + at)
-        commands = [command(draw) for _ in range(length)]
-        here, there = made(commands), printed(commands)
-        if here != there:
-            place = next((i for i, (a, b) in enumerate(zip(here, there)) if a != b), min(len(here), len(there)))
-            sys.exit(f"compare: script {at} of seed {seed} differs in line {place}: {here[place:place + 1]} and {there[place:place + 1]}")
-        total += length
-    print(f"{total} commands of {count} scripts: the same replies")
+        traces = [[command(draw) for _ in range(length)] for _ in range(domains)]
+        lines = made(traces)
+        if not is_right(traces, lines):
+            sys.exit(f"compare: script {at} of seed {seed}:\n{script(traces)}---\n{output(lines)}")
+    print(f"{count * length * domains} commands of {count} scripts: the replies are right")
 
 
 if __name__ == "__main__":
-    main()
+    main(*map(int, sys.argv[1:]))
