@@ -32,10 +32,10 @@ use Rattle.heap_model.proofs.Histories.WellFormedLemmas.{labels-append, wf_after
 use Rattle.heap_model.proofs.Histories.NumberLemmas.{next_label-new, numbered_after, numbered_opening}
 use Rattle.heap_model.proofs.Graphs.GraphStepLemmas.{nodes_stay_law}
 use Rattle.heap_model.proofs.Reach.ReachLemmas.{or_cases, or_left, never_true, has-append_cases, has-append_left, has-append_right}
-use Rattle.table_laws.specs.Thinning.{IsOutside, WasOutside, Thin, state_of}
+use Rattle.table_laws.specs.Thinning.{IsOutside, Thin, state_of}
+use Rattle.map_laws.specs.Steps.{WasUnreached}
 use Rattle.table_laws.specs.Stages.{graph_of}
 use Rattle.table_laws.proofs.ChangeLemmas.{thin_is, thin_twice, thin_more}
-use Rattle.table_laws.proofs.CollectorLemmas.{collector_thins}
 use Rattle.map_laws.specs.Tries.{inside, at}
 use Rattle.map_laws.specs.Private.{NamesWithin, IsPrivate}
 use Rattle.map_laws.specs.MapLaws.{PrivateStays, PrivateStandsNowhere}
@@ -43,7 +43,7 @@ use Rattle.map_laws.proofs.WalkLemmas.{at_step, at_stop}
 use Rattle.map_laws.proofs.FieldLemmas.{plain_is}
 use Rattle.map_laws.proofs.FrontLemmas.{prefix_same, prefix_more, walk_along, other_between}
 use Rattle.map_laws.proofs.ReachLemmas.{field_named}
-use Rattle.map_laws.proofs.RespectLemmas.{allowed_at, outside_wider, state_push, graph_push}
+use Rattle.map_laws.proofs.RespectLemmas.{collector_spares, allowed_at, outside_wider, state_push, graph_push}
 
 -- which register's label a command may write into a block, or register
 abbrev pub is_item : Command → ℕ → Bool
@@ -469,13 +469,13 @@ module _ (d : ℕ) (l : Label) where
       unheld (Join dst section) is = cc
   private_thin s p (End k) n other allowed at = thin_is (IsOutside s) n (node_at (next s (End k)).graph l) at
   private_thin s p (Ran k) n other allowed at = thin_is (IsOutside s) n (node_at (next s (Ran k)).graph l) (nodes_stay_law s (Ran k) l n (λ is. cc) at)
-  private_thin s p Cut n other allowed at = collector_thins s Cut refl allowed l n at refl
-  private_thin s p (Queue k places) n other allowed at = collector_thins s (Queue k places) refl allowed l n at refl
-  private_thin s p Seal n other allowed at = collector_thins s Seal refl allowed l n at refl
-  private_thin s p (Wipe x keys) n other allowed at = collector_thins s (Wipe x keys) refl allowed l n at refl
-  private_thin s p (LastOf k place) n other allowed at = collector_thins s (LastOf k place) refl allowed l n at refl
-  private_thin s p Collected n other allowed at = collector_thins s Collected refl allowed l n at refl
-  private_thin s p Done n other allowed at = collector_thins s Done refl allowed l n at refl
+  private_thin s p Cut n other allowed at = collector_spares s Cut refl allowed l n at
+  private_thin s p (Queue k places) n other allowed at = collector_spares s (Queue k places) refl allowed l n at
+  private_thin s p Seal n other allowed at = collector_spares s Seal refl allowed l n at
+  private_thin s p (Wipe x keys) n other allowed at = collector_spares s (Wipe x keys) refl allowed l n at
+  private_thin s p (LastOf k place) n other allowed at = collector_spares s (LastOf k place) refl allowed l n at
+  private_thin s p Collected n other allowed at = collector_spares s Collected refl allowed l n at
+  private_thin s p Done n other allowed at = collector_spares s Done refl allowed l n at
 
 -- the next label of a domain is private, before its block is made
 pub private_born : (z : Sizes) (h : List Entry) → Legal z h → (d : ℕ) → IsPrivate (state_of z h) d (born (state_of z h) d)
@@ -497,25 +497,25 @@ private_between z d l old between none p = walk_along (λ h. IsPrivate (state_of
 
 -- and what is left of it
 pub private_left : (z : Sizes) (d : ℕ) (l : Label) (old between : List Entry) (n : Node) → NoneOf d between → Legal z (old ++ between) → IsPrivate (state_of z old) d l → node_at (graph_of z old) l ≡ Some n
-    → Thin (WasOutside z old (old ++ between)) n (node_at (graph_of z (old ++ between)) l)
+    → Thin (WasUnreached z old (old ++ between)) n (node_at (graph_of z (old ++ between)) l)
 private_left z d l old between n none legal p at = both.1
   where
     P : List Entry → Type 0
-    P h = IsPrivate (state_of z h) d l × Thin (WasOutside z old h) n (node_at (graph_of z h) l)
+    P h = IsPrivate (state_of z h) d l × Thin (WasUnreached z old h) n (node_at (graph_of z h) l)
 
     both : P (old ++ between)
     both = walk_along P old (old ++ between) (prefix_more old between)
         (λ f e a b q.
         let other = other_between d old between f e none a b in (
           subst (λ (s : State). IsPrivate s d l) (sym (state_push z f e)) (private_next d l (state_of z f) e other q.0),
-          thin_twice (WasOutside z old (f ++ e ∷ [])) n (node_at (graph_of z f) l) (node_at (graph_of z (f ++ e ∷ [])) l)
-              (thin_more (WasOutside z old f) (WasOutside z old (f ++ e ∷ [])) (λ k w. outside_wider z old old f (f ++ e ∷ []) k (prefix_same old) (prefix_more f (e ∷ [])) w) n (node_at (graph_of z f) l) q.1)
-              (λ m here. subst (λ (g : Graph). Thin (WasOutside z old (f ++ e ∷ [])) m (node_at g l)) (sym (graph_push z f e))
-              (thin_more (IsOutside (state_of z f)) (WasOutside z old (f ++ e ∷ []))
+          thin_twice (WasUnreached z old (f ++ e ∷ [])) n (node_at (graph_of z f) l) (node_at (graph_of z (f ++ e ∷ [])) l)
+              (thin_more (WasUnreached z old f) (WasUnreached z old (f ++ e ∷ [])) (λ k w. outside_wider z old old f (f ++ e ∷ []) k (prefix_same old) (prefix_more f (e ∷ [])) w) n (node_at (graph_of z f) l) q.1)
+              (λ m here. subst (λ (g : Graph). Thin (WasUnreached z old (f ++ e ∷ [])) m (node_at g l)) (sym (graph_push z f e))
+              (thin_more (IsOutside (state_of z f)) (WasUnreached z old (f ++ e ∷ []))
               (λ k outside. record { front = f; since = a; until = prefix_more f (e ∷ []); outside = outside }) m (node_at (next (state_of z f) e).graph l)
               (private_thin d l (state_of z f) q.0 e m other (allowed_at z f (old ++ between) e legal b) here))),
         ))
-        (p, thin_is (WasOutside z old old) n (node_at (graph_of z old) l) at)
+        (p, thin_is (WasUnreached z old old) n (node_at (graph_of z old) l) at)
 
 -- a private block that isn't the root doesn't stand in the map
 pub private_outside : (z : Sizes) (d : ℕ) (l root : Label) (h : List Entry) → IsPrivate (state_of z h) d l → root ≢ l → (p : List ℕ) → at (inside (graph_of z h)) p (Block root) ≡ Some (Block l) → ⊥

@@ -21,13 +21,13 @@ use Rattle.heap_model.proofs.Commands.FrameLemmas.{inside_running}
 use Rattle.heap_model.proofs.Commands.MoveLemmas.{keeps_outcome}
 use Rattle.heap_model.proofs.Histories.HistoryLemmas.{state_after-push}
 use Rattle.heap_model.proofs.Reach.ReachLemmas.{is_false}
-use Rattle.table_laws.specs.Thinning.{is_collector, state_of, IsOutside, WasOutside, Thin}
+use Rattle.table_laws.specs.Thinning.{IsTakenBy, is_collector, state_of, IsOutside, Thin}
 use Rattle.table_laws.specs.Stages.{graph_of}
 use Rattle.table_laws.proofs.ChangeLemmas.{thin_is, thin_twice, thin_more}
 use Rattle.table_laws.proofs.CollectorLemmas.{collector_thins}
 use Rattle.table_laws.proofs.StepLemmas.{legal_parts}
 use Rattle.map_laws.specs.Tries.{inside, at, found, bound_by, is_leaf, IsMap}
-use Rattle.map_laws.specs.Steps.{Sets, MapStep, Untouched, SetsKey, GoesDeeper, ClearsField, TakesKeys, LeavesBinding, RespectsMap, AllRespect, OthersRespect, OwnRespect}
+use Rattle.map_laws.specs.Steps.{WasUnreached, Sets, MapStep, Untouched, SetsKey, GoesDeeper, ClearsField, TakesKeys, LeavesBinding, RespectsMap, AllRespect, OthersRespect, OwnRespect}
 use Rattle.map_laws.specs.Calls.{bound_after}
 use Rattle.map_laws.specs.MapLaws.{AloneRespects, NoneSets, BoundOrTaken, LookupAnswersLastPut, HeldBindingIsFound, PutIsFound, RespectedMapStays}
 use Rattle.map_laws.proofs.SetLemmas.{set_binds}
@@ -40,11 +40,15 @@ allowed_at z front new e legal until =
     let whole : new ≡ front ++ e ∷ until.rest = until.appends ∙ append_assoc front (e ∷ []) until.rest in
     (legal_parts (opening z) front (e ∷ until.rest) (subst (Legal z) whole legal)).1.0
 
+-- what an entry of the collector takes is outside reach
+pub collector_spares : (s : State) (e : Entry) → IsTrue (is_collector e) → Allowed s e → (l : Label) (n : Node) → node_at s.graph l ≡ Some n → Thin (IsOutside s) n (node_at (next s e).graph l)
+collector_spares s e mine allowed l n node = thin_more (IsTakenBy s e) (IsOutside s) (λ k taken. taken.outside) n (node_at (next s e).graph l) (collector_thins s e mine allowed l n node refl)
+
 -- an entry of the collector respects each map
 pub collector_respects : (z : Sizes) (root : Label) (front : List Entry) (e : Entry) → IsTrue (is_collector e) → Allowed (state_of z front) e → RespectsMap z root front e
 collector_respects z root front e mine allowed = record {
-  step = TakesKeys (λ p l n there node. collector_thins (state_of z front) e mine allowed l n node refl);
-  leaves = λ former p l n before there leaf node. collector_thins (state_of z front) e mine allowed l n node refl;
+  step = TakesKeys (λ p l n there node. collector_spares (state_of z front) e mine allowed l n node);
+  leaves = λ former p l n before there leaf node. collector_spares (state_of z front) e mine allowed l n node;
 }
 
 -- how many domains a heap has never changes
@@ -107,7 +111,7 @@ alone_respects z root old new one legal front e since until other =
     collector_respects z root front e (alone_collects z front e one allowed other) allowed
 
 -- a label that was outside reach from one front to a later one, seen from a wider stretch
-pub outside_wider : (z : Sizes) (a b c d : List Entry) (k : Label) → IsPrefix a b → IsPrefix c d → WasOutside z b c k → WasOutside z a d k
+pub outside_wider : (z : Sizes) (a b c d : List Entry) (k : Label) → IsPrefix a b → IsPrefix c d → WasUnreached z b c k → WasUnreached z a d k
 outside_wider z a b c d k first last w = record { front = w.front; since = prefix_trans a b w.front first w.since; until = prefix_trans w.front c d w.until last; outside = w.outside }
 
 -- the state behind one entry more
@@ -152,19 +156,19 @@ module _ (z : Sizes) (root : Label) (old new : List Entry) (grows : IsPrefix old
 
   -- a leaf that the map had is as it was, or has lost its key where that was outside reach
   pub leaf_after : (former : List Entry) (p : List ℕ) (l : Label) (n : Node) → IsPrefix former old → at (inside (graph_of z former)) p (Block root) ≡ Some (Block l) → is_leaf (node_at (graph_of z former) l)
-      → node_at (graph_of z old) l ≡ Some n → Thin (WasOutside z old new) n (node_at (graph_of z new) l)
+      → node_at (graph_of z old) l ≡ Some n → Thin (WasUnreached z old new) n (node_at (graph_of z new) l)
   leaf_after former p l n before there leaf node = go new grows (prefix_same new)
     where
-      go : (h : List Entry) → IsPrefix old h → IsPrefix h new → Thin (WasOutside z old h) n (node_at (graph_of z h) l)
-      go h since until = walk_along (λ f. Thin (WasOutside z old f) n (node_at (graph_of z f) l)) old h since
+      go : (h : List Entry) → IsPrefix old h → IsPrefix h new → Thin (WasUnreached z old h) n (node_at (graph_of z h) l)
+      go h since until = walk_along (λ f. Thin (WasUnreached z old f) n (node_at (graph_of z f) l)) old h since
           (λ f e a b thin.
-          thin_twice (WasOutside z old (f ++ e ∷ [])) n (node_at (graph_of z f) l) (node_at (graph_of z (f ++ e ∷ [])) l)
-          (thin_more (WasOutside z old f) (WasOutside z old (f ++ e ∷ [])) (λ k w. outside_wider z old old f (f ++ e ∷ []) k (prefix_same old) (prefix_more f (e ∷ [])) w) n (node_at (graph_of z f) l) thin)
-          (λ m here. subst (λ (g : Graph). Thin (WasOutside z old (f ++ e ∷ [])) m (node_at g l)) (sym (graph_push z f e))
-          (thin_more (IsOutside (state_of z f)) (WasOutside z old (f ++ e ∷ []))
+          thin_twice (WasUnreached z old (f ++ e ∷ [])) n (node_at (graph_of z f) l) (node_at (graph_of z (f ++ e ∷ [])) l)
+          (thin_more (WasUnreached z old f) (WasUnreached z old (f ++ e ∷ [])) (λ k w. outside_wider z old old f (f ++ e ∷ []) k (prefix_same old) (prefix_more f (e ∷ [])) w) n (node_at (graph_of z f) l) thin)
+          (λ m here. subst (λ (g : Graph). Thin (WasUnreached z old (f ++ e ∷ [])) m (node_at g l)) (sym (graph_push z f e))
+          (thin_more (IsOutside (state_of z f)) (WasUnreached z old (f ++ e ∷ []))
           (λ k outside. record { front = f; since = a; until = prefix_more f (e ∷ []); outside = outside }) m (node_at (next (state_of z f) e).graph l)
           ((all f e a (prefix_trans (f ++ e ∷ []) h new b until)).leaves former p l m (prefix_trans former old f before a) there leaf here))))
-          (thin_is (WasOutside z old old) n (node_at (graph_of z old) l) node)
+          (thin_is (WasUnreached z old old) n (node_at (graph_of z old) l) node)
 
   -- a key that no entry sets is bound as it was, or was taken
   pub unset_stays : (k : Label) → NoneSets z root old new k → BoundOrTaken z root old new k (bound_after z root old k)

@@ -17,7 +17,7 @@ use Rattle.heap_model.specs.History.{IsPrefix, Legal}
 use Rattle.table_laws.specs.Thinning.{Thin, WasOutside, state_of}
 use Rattle.table_laws.specs.Stages.{Goes, graph_of}
 use Rattle.map_laws.specs.Tries.{inside, at, found, bound_by, way_to, way_length, root_width, IsLabelOf, IsMap, IsTree}
-use Rattle.map_laws.specs.Steps.{WritesField, Sets, Deepens, Clears, MapStep, LeavesBinding, AllRespect, OthersRespect}
+use Rattle.map_laws.specs.Steps.{WasUnreached, WritesField, Sets, Deepens, Clears, MapStep, LeavesBinding, AllRespect, OthersRespect}
 use Rattle.map_laws.specs.Calls.{bound_after, ChangesOne, Gets}
 use Rattle.map_laws.specs.Private.{IsPrivate}
 
@@ -84,7 +84,7 @@ NoneSets z root old new k = (front : List Entry) (e : Entry) → IsPrefix old fr
 
 -- a key is bound to this at the later front, or it was outside reach between and is unbound
 abbrev pub BoundOrTaken : Sizes → Label → List Entry → List Entry → Label → Option Value → Type 0
-BoundOrTaken z root old new k datum = (bound_after z root new k ≡ datum) ⊎ (WasOutside z old new k × (bound_after z root new k ≡ None))
+BoundOrTaken z root old new k datum = (bound_after z root new k ≡ datum) ⊎ (WasUnreached z old new k × (bound_after z root new k ≡ None))
 
 -- what a map binds a key to is what the last entry that set it put, unless the key was outside reach since
 abbrev pub LookupAnswersLastPut : Type 0
@@ -125,7 +125,7 @@ NewMapIsEmpty = (n : ℕ) (g : Graph) (root : Label) (tag : ℕ) → node_at g r
 -- over entries of others a block that domain d alone holds stays so. It is as it was, or an ephemeron that has lost a key which was outside reach
 abbrev pub PrivateStays : Type 0
 PrivateStays = (z : Sizes) (d : ℕ) (l : Label) (old between : List Entry) (n : Node) → NoneOf d between → Legal z (old ++ between) → IsPrivate (state_of z old) d l → node_at (graph_of z old) l ≡ Some n
-    → IsPrivate (state_of z (old ++ between)) d l × Thin (WasOutside z old (old ++ between)) n (node_at (graph_of z (old ++ between)) l)
+    → IsPrivate (state_of z (old ++ between)) d l × Thin (WasUnreached z old (old ++ between)) n (node_at (graph_of z (old ++ between)) l)
 
 -- and it stands in no map
 abbrev pub PrivateStandsNowhere : Type 0

@@ -15,6 +15,13 @@ use Rattle.table_laws.specs.Thinning.{IsOutside, Thin, state_of}
 use Rattle.table_laws.specs.Stages.{graph_of}
 use Rattle.map_laws.specs.Tries.{inside, at, found, bound_by, way_to, way_length, node_width, is_leaf, IsSlot}
 
+-- a label that was outside reach at some front, from one to a later one
+pub record WasUnreached (z : Sizes) (old new : List Entry) (k : Label) : Type 0 where
+  pub front : List Entry
+  pub since : IsPrefix old front
+  pub until : IsPrefix front new
+  pub outside : IsOutside (state_of z front) k
+
 -- field i of the block to which p leads is written: it held a value that is no block of the map, and holds new
 pub record WritesField (g h : Graph) (root : Label) (p : List ℕ) (i : ℕ) (held new : Value) : Type 0 where
   pub block : Label
