@@ -1,18 +1,20 @@
 -- A seat whose domain has registered no finaliser: none of its domain's runs, and its labels are counted.
 use Rattle.std.proofs.Common.{◌≡◌, ◌≢◌, ◌∙◌, true≢false, ℕ, zero, suc, ◌+◌, ◌<◌, ◌≤◌, Bool, true, false, not, IsTrue, List, [], ◌∷◌, ◌++◌, length, refl, sym, ap, subst, append-nil, append_assoc, eqb-true, arith}
 use Rattle.std.specs.Prelude.{cond, ◌==◌, ◌||◌, count_by, map}
+use Rattle.std.proofs.lemmas.List.{get_or-replicate}
 use Rattle.std.proofs.lemmas.List.Sums.{sum_by-append, sum_by-cons}
 use Rattle.heap_model.specs.declared.command.Command as model
-use Rattle.heap_model.specs.declared.command.Command.TheVariants.{Finalise, FinaliseLast}
+use Rattle.heap_model.specs.declared.command.Command.TheVariants.{Finalise, FinaliseLast, Poll}
 use Rattle.heap_model.specs.declared.entry.Entry.{Entry}
 use Rattle.heap_model.specs.declared.entry.Entry.TheVariants.{Command, End, Cut, Queue, Seal, Wipe, Last as LastOf, Collected, Done, Ran}
 use Rattle.heap_model.specs.declared.reply.Reply.{Reply}
+use Rattle.heap_model.specs.declared.reply.Reply.TheVariants.{Done as DoneReply}
 use Rattle.heap_model.specs.declared.reply.Applied.TheVariants.{Replied}
 use Rattle.heap_model.specs.declared.state.DomainState.{DomainState}
 use Rattle.heap_model.specs.declared.state.Pending.{Pending}
 use Rattle.heap_model.specs.declared.state.Sizes.{Sizes}
 use Rattle.heap_model.specs.declared.state.State.{State}
-use Rattle.heap_model.specs.Domains.{IsWithinLimits, domain_at, opening}
+use Rattle.heap_model.specs.Domains.{IsWithinLimits, domain_at, no_domain, opening, opening_domain}
 use Rattle.heap_model.specs.Entries.{Allowed, next, queued_final, queued_last, reply as reply_of}
 use Rattle.heap_model.specs.Fronts.{NoneOf}
 use Rattle.heap_model.specs.History.{Legal, LegalFrom, is_entry_of, state_after}
@@ -29,8 +31,10 @@ use Rattle.command_counts.specs.Counts.{labels_given}
 use Rattle.heap_rule.specs.Limits.{sizes_in}
 use Rattle.heap_rule.specs.Rule.{state_of}
 use Rattle.heap_rule.specs.Token.{SharedHeap}
-use Rattle.heap_seats.specs.Seating.{SeatView}
-use Rattle.map_domains.specs.Seated.{Stands}
+use Rattle.heap_seats.specs.Seating.{GoesAlong, SeatView}
+use Rattle.open_runs.proofs.Finalising.{finalised_on}
+use Rattle.weak_maps.proofs.CountLemmas.{not_refused}
+use Rattle.map_domains.specs.Seated.{IsUnused, Stands}
 use Rattle.map_domains.proofs.Labels.{made_labels}
 
 -- others' entries and runs register none
@@ -150,16 +154,16 @@ pub record StoodBy (old new : SeatView) : Type 0 where
   pub heap : new.heap ≡ old.heap
   pub number : new.number ≡ old.number
 
-pub stands_again : (old new : SeatView) (c : model.Command) (r : Reply) → StoodBy old new → Stands old → registrations_of c ≡ 0 → new.labels ≡ old.labels + labels_given c r
-    → PerformedOn (sizes_in old.heap.config) old.number old.front new.front c new.ran r → Stands new
-stands_again old new c r same was quiet labels p =
+pub stands_again : (old new : SeatView) (c : model.Command) (ran : List Reply) (r : Reply) → StoodBy old new → Stands old → registrations_of c ≡ 0 → new.labels ≡ old.labels + labels_given c r
+    → PerformedOn (sizes_in old.heap.config) old.number old.front new.front c ran r → Stands new
+stands_again old new c ran r same was quiet labels p =
     let z : Sizes = sizes_in old.heap.config in
     let d : ℕ = old.number in
-    let by : PerformedBy z d old.front new.front c r = performs z d old.front new.front c new.ran r was.legal was.unregistered p in
+    let by : PerformedBy z d old.front new.front c r = performs z d old.front new.front c ran r was.legal was.unregistered p in
     let made = made_labels z d old.front new.front c r by in
     let before = was.labels in
     let serial : (domain_at (state_after (opening z) new.front) d).serial ≡ new.labels = omega (arith, made, before, labels) in
-    let none : all_registered d (opening z) new.front ≡ [] = unregistered z d old.front new.front c new.ran r was.legal was.unregistered p quiet in
+    let none : all_registered d (opening z) new.front ≡ [] = unregistered z d old.front new.front c ran r was.legal was.unregistered p quiet in
     record {
       inside = subst (λ (w : SharedHeap × ℕ). w.1 < w.0.config.domains) (λ i. (sym same.heap i, sym same.number i)) was.inside;
       limits = subst (λ (h : SharedHeap). IsWithinLimits (sizes_in h.config)) (sym same.heap) was.limits;
@@ -167,3 +171,47 @@ stands_again old new c r same was quiet labels p =
       unregistered = subst (λ (w : SharedHeap × ℕ). all_registered w.1 (opening (sizes_in w.0.config)) new.front ≡ []) (λ i. (sym same.heap i, sym same.number i)) none;
       labels = subst (λ (w : SharedHeap × ℕ). (domain_at (state_of w.0.config new.front) w.1).serial ≡ new.labels) (λ i. (sym same.heap i, sym same.number i)) serial;
     }
+
+-- before the first command
+pub unused : (s : SeatView) → IsUnused s → Stands s
+unused s u = record {
+  inside = u.inside;
+  limits = u.limits;
+  legal = subst (Legal (sizes_in s.heap.config)) (sym u.front) tt;
+  unregistered = ap (all_registered s.number (opening (sizes_in s.heap.config))) u.front;
+  labels = ap (λ (h : List Entry). (domain_at (state_of s.heap.config h) s.number).serial) u.front ∙ (ap (λ (x : DomainState). x.serial) (get_or-replicate s.heap.config.domains s.number opening_domain no_domain u.inside) ∙ sym u.labels);
+}
+
+-- a seat that has come back from its rest as this one, and then polled
+pub record Polls (old mid new : SeatView) (r : Reply) : Type 0 where
+  pub heap_then : mid.heap ≡ old.heap
+  pub number_then : mid.number ≡ old.number
+  pub along : GoesAlong old mid
+  pub performed : PerformedOn (sizes_in mid.heap.config) mid.number mid.front new.front Poll new.ran r
+
+module _ (old mid new : SeatView) (r : Reply) (polls : Polls old mid new r) where
+  abbrev z : Sizes
+  z = sizes_in old.heap.config
+
+  at_old : PerformedOn z old.number mid.front new.front Poll new.ran r
+  at_old = subst (λ (w : SharedHeap × ℕ). PerformedOn (sizes_in w.0.config) w.1 mid.front new.front Poll new.ran r) (λ i. (polls.heap_then i, polls.number_then i)) polls.performed
+
+  pub since : PerformedOn z old.number old.front new.front Poll (polls.along.more ++ new.ran) r
+  since = let p = at_old in record {
+    before = p.before;
+    finalised = finalised_on z old.number old.front mid.front p.before polls.along.more new.ran polls.along.finalised p.finalised;
+    full = p.full;
+    appends = p.appends;
+    legal = p.legal;
+    replies = p.replies;
+  }
+
+  pub polled : Stands old → PerformedBy z old.number old.front new.front Poll DoneReply
+  polled was = go (performs z old.number old.front new.front Poll (polls.along.more ++ new.ran) r was.legal was.unregistered since)
+    where
+      go : PerformedBy z old.number old.front new.front Poll r → PerformedBy z old.number old.front new.front Poll DoneReply
+      go p =
+          let made : p.full ≡ false = not_refused z old.number old.front new.front Poll r p refl in
+          let answers : Replied DoneReply ≡ Replied r = sym (ap (λ (b : Bool). reply_of (state_after (opening z) (old.front ++ p.between)) (Command old.number Poll b)) made) ∙ p.replies in
+          let is : r ≡ DoneReply = cc in
+          subst (PerformedBy z old.number old.front new.front Poll) is p

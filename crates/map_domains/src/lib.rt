@@ -4,5 +4,5 @@
 mod seat;
 mod session;
 
-pub use seat::SeatDomain;
+pub use seat::{SeatDomain, unused_stands};
 pub use session::SessionDomain;

@@ -19,7 +19,7 @@ invariant_of-self g c =
     let pool = ap (λ (v : SeatView). v.pool) p.same in (
       record {
         here = record { heap = heap ∙ was.here.heap; pool = pool ∙ was.here.pool };
-        stands = stands_again old new c.args.c c.perform.result (record { heap = heap; number = number }) was.stands (registers_none c.args.c c.requires.fits) p.labels p.performed;
+        stands = stands_again old new c.args.c new.ran c.perform.result (record { heap = heap; number = number }) was.stands (registers_none c.args.c c.requires.fits) p.labels p.performed;
       },
       subst (λ (h : SharedHeap). c.self.inside.domains ≡ h.config.domains) (sym heap) c.self.invariant.1,
     )
