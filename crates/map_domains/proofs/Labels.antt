@@ -1,11 +1,10 @@
 -- How many labels a domain has given out once its command is made, beside other domains.
-use Rattle.std.proofs.Common.{◌≡◌, ◌∙◌, ℕ, ◌+◌, ◌<◌, Bool, true, false, IsTrue, cond, not, List, [], ◌∷◌, ◌++◌, length, replicate, None, refl, sym, ap, subst, arith, get_or-set_same}
-use Rattle.std.specs.Prelude.{◌==◌, ◌||◌}
+use Rattle.std.proofs.Common.{◌≡◌, ◌∙◌, ℕ, ◌+◌, ◌<◌, Bool, true, false, cond, List, [], ◌∷◌, ◌++◌, length, replicate, None, refl, sym, ap, subst, arith, get_or-set_same}
 use Rattle.command_counts.specs.Counts.{labels_given}
 use Rattle.heap_model.specs.declared.command.Command as model
 use Rattle.heap_model.specs.declared.command.Command.TheVariants.{Alloc, AllocMaj, Raw, Ephe}
 use Rattle.heap_model.specs.declared.entry.Entry.{Entry}
-use Rattle.heap_model.specs.declared.entry.Entry.TheVariants.{Command, End, Cut, Queue, Seal, Wipe, Last, Collected, Done, Ran}
+use Rattle.heap_model.specs.declared.entry.Entry.TheVariants.{Command}
 use Rattle.heap_model.specs.declared.graph.Node.{Node}
 use Rattle.heap_model.specs.declared.graph.Node.TheVariants.{Ephe as EpheNode}
 use Rattle.heap_model.specs.declared.graph.Value.TheVariants.{Nothing}
@@ -18,7 +17,7 @@ use Rattle.heap_model.specs.declared.state.State.{State}
 use Rattle.heap_model.specs.Domains.{domain_at, no_domain, opening, with_domain}
 use Rattle.heap_model.specs.Commands.{CommandAllowed, allocated, is_allocation, new_plain, new_raw, outcome}
 use Rattle.heap_model.specs.Entries.{next, reply}
-use Rattle.heap_model.specs.History.{Legal, LegalFrom, state_after}
+use Rattle.heap_model.specs.History.{Legal, LegalFrom}
 use Rattle.heap_model.proofs.Commands.FrameLemmas.{inside_running, part_set}
 use Rattle.heap_model.proofs.Commands.LeavesLemmas.{leaves_full}
 use Rattle.heap_model.proofs.Commands.MoveLemmas.{moved}

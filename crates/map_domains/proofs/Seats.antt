@@ -1,12 +1,12 @@
 -- A seat whose domain has registered no finaliser: none of its domain's runs, and its labels are counted.
-use Rattle.std.proofs.Common.{◌≡◌, ◌≢◌, ◌∙◌, true≢false, ℕ, zero, suc, ◌+◌, ◌<◌, ◌≤◌, Bool, true, false, not, IsTrue, List, [], ◌∷◌, ◌++◌, length, refl, sym, ap, subst, append-nil, append_assoc, eqb-true, arith}
+use Rattle.std.proofs.Common.{◌≡◌, ◌∙◌, ℕ, ◌+◌, ◌<◌, ◌≤◌, Bool, true, false, not, IsTrue, List, [], ◌∷◌, ◌++◌, length, refl, sym, ap, subst, append_assoc, eqb-true, arith}
 use Rattle.std.specs.Prelude.{cond, ◌==◌, ◌||◌, count_by, map}
 use Rattle.std.proofs.lemmas.List.{get_or-replicate}
 use Rattle.std.proofs.lemmas.List.Sums.{sum_by-append, sum_by-cons}
 use Rattle.heap_model.specs.declared.command.Command as model
 use Rattle.heap_model.specs.declared.command.Command.TheVariants.{Finalise, FinaliseLast, Poll}
 use Rattle.heap_model.specs.declared.entry.Entry.{Entry}
-use Rattle.heap_model.specs.declared.entry.Entry.TheVariants.{Command, End, Cut, Queue, Seal, Wipe, Last as LastOf, Collected, Done, Ran}
+use Rattle.heap_model.specs.declared.entry.Entry.TheVariants.{Command, End, Ran}
 use Rattle.heap_model.specs.declared.reply.Reply.{Reply}
 use Rattle.heap_model.specs.declared.reply.Reply.TheVariants.{Done as DoneReply}
 use Rattle.heap_model.specs.declared.reply.Applied.TheVariants.{Replied}
@@ -18,7 +18,7 @@ use Rattle.heap_model.specs.Domains.{IsWithinLimits, domain_at, no_domain, openi
 use Rattle.heap_model.specs.Entries.{Allowed, next, queued_final, queued_last, reply as reply_of}
 use Rattle.heap_model.specs.Fronts.{NoneOf}
 use Rattle.heap_model.specs.History.{Legal, LegalFrom, is_entry_of, state_after}
-use Rattle.heap_model.specs.Registrations.{all_registered, left_over, registered, registered_by}
+use Rattle.heap_model.specs.Registrations.{all_registered, registered, registered_by}
 use Rattle.heap_model.proofs.Collections.RegistrationLemmas.{registrations_law}
 use Rattle.heap_model.proofs.Graphs.GraphLemmas.{and_parts}
 use Rattle.heap_model.proofs.Histories.HistoryLemmas.{state_after-push}

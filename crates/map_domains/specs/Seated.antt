@@ -1,5 +1,5 @@
 -- A seat whose domain a map is used on.
-use Rattle.std.specs.Prelude.{◌≡◌, ℕ, ◌<◌, []}
+use Rattle.std.specs.Prelude.{◌≡◌, ◌<◌, []}
 use Rattle.heap_model.specs.Domains.{IsWithinLimits, domain_at, opening}
 use Rattle.heap_model.specs.History.{Legal}
 use Rattle.heap_model.specs.Registrations.{all_registered}
