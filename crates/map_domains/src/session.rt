@@ -1,0 +1,77 @@
+//! The one domain of a session.
+ghost use Rattle.std.specs.Prelude.{◌≡◌, ◌-◌};
+ghost use Rattle.heap_rule.specs.Limits.{sizes_in};
+
+use heap_model::command::Command;
+use heap_model::reply::Reply;
+use heap_session::TableSession;
+use std::marker::Model;
+use std::sync::Wait;
+use weak_maps::machine::Machine;
+
+/// The one domain of a heap, as the calls of `weak_maps` take it: a session that registers no finaliser.
+#[derive(Drop)]
+pub struct SessionDomain {
+    session: TableSession,
+}
+
+impl Model for SessionDomain {
+    ghost use Rattle.heap_session.specs.Sessions.{SessionView};
+
+    ghost Value = { SessionView };
+
+    ghost view = { λ d. d.session };
+}
+
+impl SessionDomain {
+    /// The domain of this session.
+    pub fn new(session: TableSession) -> SessionDomain
+        ensures { result ≡ session }
+    {
+        SessionDomain { session }
+    }
+
+    /// The session of the domain, as it is now.
+    pub fn into_inner(self) -> TableSession
+        ensures { result ≡ self }
+    {
+        self.session
+    }
+
+    /// The session, as one looks at it while the domain is in use.
+    pub fn session(&self) -> &TableSession
+        ensures { result.now ≡ self.now }
+    {
+        &self.session
+    }
+}
+
+impl Machine for SessionDomain {
+    ghost sizes = { λ s. sizes_in s.config };
+
+    ghost domain = { λ s. 0 };
+
+    ghost front = { λ s. s.front };
+
+    ghost labels_left = { λ s. 4294967295 - s.labels };
+
+    ghost ephes_room = { λ s. s.room };
+
+    fn stands(&self) {
+        self.session.is_legal();
+        self.session.labels_left();
+    }
+
+    fn domains(&self) -> u32 {
+        self.session.is_legal();
+        1
+    }
+
+    fn show(&mut self, r: u8) -> Reply {
+        self.session.show(r)
+    }
+
+    fn perform<R: Wait>(&mut self, rt: &R, c: Command) -> Reply {
+        self.session.perform(rt, c)
+    }
+}
