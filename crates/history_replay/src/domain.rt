@@ -33,8 +33,8 @@ fn is_end(d: u32, entry: &Entry) -> bool
     }
 }
 
-/// Adds the reply of an entry, where it is the domain's and has one.
-pub fn add_reply(
+// Adds the reply of an entry, where it is the domain's and has one.
+fn add_reply(
     replies: &mut Vec<Reply>,
     d: u32,
     entry: &Entry,

@@ -8,7 +8,6 @@ mod play;
 mod replay;
 
 pub use command::same_command;
-pub use domain::add_reply;
 pub use lines::behind_section;
-pub use play::{follow, play_history};
+pub use play::follow;
 pub use replay::gives;

@@ -28,7 +28,7 @@ pub fn follow(heap: &mut SlowHeap, entry: &Entry) -> Result<Option<Applied>, All
 
 /// Plays a history on a heap of these sizes, and answers what each entry answers. `None`: the history isn't legal, or has 2^32 entries
 /// or more.
-pub fn play_history(
+pub(crate) fn play(
     alloc: Global,
     sizes: &Sizes,
     history: &[Entry],

@@ -5,7 +5,7 @@ ghost use Rattle.history_replay.specs.Explains.{Explains};
 
 use crate::domain::read_domain;
 use crate::lines::behind_section;
-use crate::play::play_history;
+use crate::play::play;
 use heap_model::entry::Entry;
 use heap_model::state::Sizes;
 use heap_text::Script;
@@ -27,7 +27,7 @@ pub fn gives(
     // It says yes to what is so, of a history with fewer than 2^32 entries.
     ensures exact { length history.now < 2 ^ 32 → IfOk result (λ yes. Explains sizes.now script.now.sections bytes.now history.now → IsTrue yes) }
 {
-    let Some(told) = play_history(alloc, sizes, history)? else {
+    let Some(told) = play(alloc, sizes, history)? else {
         return Ok(false);
     };
     let mut rest = bytes;

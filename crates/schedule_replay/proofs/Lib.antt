@@ -1,0 +1,5 @@
+pub mod ListLemmas
+pub mod EntryLemmas
+pub mod TakeLemmas
+pub mod TextLemmas
+pub mod TurnLemmas

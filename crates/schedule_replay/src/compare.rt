@@ -7,17 +7,18 @@ pub fn first_difference(expected: &[u8], output: &[u8]) -> Option<usize>
     ensures { result ≡ differs_from 1 expected.now output.now }
 {
     let mut line = 1;
-    'bytes: for at in 0..expected.len() {
-        if at == output.len() || output[at] != expected[at] {
+    let mut rest = output;
+    'bytes: for byte in expected {
+        let Some((first, behind)) = rest.split_first() else {
+            return Some(line);
+        };
+        if first != byte {
             return Some(line);
         }
-        if expected[at] == b'\n' {
+        if *byte == b'\n' {
             line += 1;
         }
+        rest = behind;
     }
-    if expected.len() == output.len() {
-        None
-    } else {
-        Some(line)
-    }
+    if rest.is_empty() { None } else { Some(line) }
 }

@@ -28,6 +28,7 @@ fn push_wipe(entries: &mut Vec<Entry>, label: Label, places: Vec<u32>) -> Result
 }
 
 // The places of the keys of a block that are gone.
+#[tactic(auto, using(crate::proofs::TakeLemmas::keys_are))]
 fn gone_keys(alloc: Global, state: &State, l: Label, settled: &Vec<Label>) -> Result<Vec<u32>, AllocError>
     requires { settled.now.items ≡ settled_reach state.now (queues state.now) }
     ensures { IfOk result (λ v. v.items ≡ gone_of state.now (node_at state.now.graph l)) }
@@ -65,6 +66,7 @@ fn push_keys(
 }
 
 // Adds the entries that empty what is gone of the keys of the blocks of a domain.
+#[tactic(auto, using(crate::proofs::TakeLemmas::wipes_more))]
 fn push_domain(
     alloc: Global,
     state: &State,
@@ -85,26 +87,28 @@ fn push_domain(
 }
 
 // Adds the entries that empty what is gone of the keys of all blocks.
+#[tactic(auto, using(crate::proofs::TakeLemmas::domain_more))]
 fn push_all(
     alloc: Global,
-    state: &State,
+    heap: &SlowHeap,
     reached: &Reached,
     entries: &mut Vec<Entry>,
 ) -> Result<(), AllocError>
-    requires live { reached.now.live.items ≡ reach_of state.now }
-    requires settled { reached.now.settled.items ≡ settled_reach state.now (queues state.now) }
+    requires live { reached.now.live.items ≡ reach_of heap.now }
+    requires settled { reached.now.settled.items ≡ settled_reach heap.now (queues heap.now) }
     requires empty { entries.old.items ≡ [] }
-    ensures { OnOk result (entries.new.items ≡ wiped_in state.now) }
+    ensures { OnOk result (entries.new.items ≡ wiped_in heap.now) }
 {
+    let state = heap.state();
     let shared = Label {
         domain: 0,
         serial: 0,
     };
     push_keys(alloc, state, reached, shared, entries)?;
-    let domains = &state.domains;
-    'domains: for d in 0..domains.items.len() {
-        let count = domains.items[d].serial;
-        push_domain(alloc, state, reached, d as u32, count, entries)?;
+    'domains: for d in 0..state.sizes.domains {
+        let domains = &state.domains;
+        let count = domains.items[d as usize].serial;
+        push_domain(alloc, state, reached, d, count, entries)?;
     }
     Ok(())
 }
@@ -118,6 +122,6 @@ pub(crate) fn all_wiped(alloc: Global, heap: &SlowHeap) -> Result<Vec<Entry>, Al
         settled: heap.settled_reach()?,
     };
     let mut entries = Vec::new(alloc);
-    push_all(alloc, heap.state(), &reached, &mut entries)?;
+    push_all(alloc, heap, &reached, &mut entries)?;
     Ok(entries)
 }

@@ -1,9 +1,12 @@
 //! What a complete collection queues of `finalise_last`.
-ghost use Rattle.std.specs.Prelude.{◌≡◌, ◌++◌, IfOk, OnOk, map, reverse};
-ghost use Rattle.schedule_laws.specs.Scheduled.{all_lasts as lasts_in};
+ghost use Rattle.std.specs.Prelude.{◌≡◌, ◌++◌, ◌<◌, IfOk, OnOk, length, map, reverse};
+ghost use Rattle.heap_model.specs.Domains.{queues, settled_reach};
+ghost use Rattle.schedule_laws.specs.Scheduled.{all_lasts as lasts_in, gone_lasts as gone_of};
 
 use crate::places::gone_places;
 use heap_model::entry::Entry;
+use heap_model::label::Label;
+use heap_model::state::State;
 use slow_heap::SlowHeap;
 use std::alloc::{AllocError, Global};
 
@@ -11,27 +14,43 @@ use std::alloc::{AllocError, Global};
 fn push_lasts(entries: &mut Vec<Entry>, domain: u32, places: &[u32]) -> Result<(), AllocError>
     ensures { OnOk result (entries.new.items ≡ entries.old.items ++ map (λ p. Entry.Last domain p) (reverse places.now)) }
 {
-    for place in places.iter().rev() {
-        entries.push(Entry::Last {
-            domain,
-            place: *place,
-        })?;
+    let mut left = places.len();
+    'left: while left > 0 {
+        left -= 1;
+        let place = places[left];
+        entries.push(Entry::Last { domain, place })?;
     }
     Ok(())
 }
 
+// The places of the registrations of a domain that may be queued.
+#[tactic(auto, using(crate::proofs::TakeLemmas::gone_is))]
+fn gone_lasts(
+    alloc: Global,
+    state: &State,
+    d: usize,
+    settled: &Vec<Label>,
+) -> Result<Vec<u32>, AllocError>
+    requires inside { d < length state.now.domains }
+    requires settled { settled.now.items ≡ settled_reach state.now (queues state.now) }
+    ensures { IfOk result (λ v. v.items ≡ gone_of state.now d) }
+{
+    let domains = &state.domains;
+    let domain = &domains.items[d];
+    gone_places(alloc, &state.graph, &domain.lasts, settled)
+}
+
 // All that is queued, for each domain in turn, the newest first.
+#[tactic(auto, using(crate::proofs::ListLemmas::flat_map_more))]
 pub(crate) fn all_lasts(alloc: Global, heap: &SlowHeap) -> Result<Vec<Entry>, AllocError>
     ensures { IfOk result (λ v. v.items ≡ lasts_in heap.now) }
 {
     let settled = heap.settled_reach()?;
     let state = heap.state();
-    let domains = &state.domains;
     let mut entries = Vec::new(alloc);
-    'domains: for d in 0..domains.items.len() {
-        let domain = &domains.items[d];
-        let places = gone_places(alloc, &state.graph, &domain.lasts, &settled)?;
-        push_lasts(&mut entries, d as u32, &places)?;
+    'domains: for d in 0..state.sizes.domains {
+        let places = gone_lasts(alloc, state, d as usize, &settled)?;
+        push_lasts(&mut entries, d, &places)?;
     }
     Ok(entries)
 }

@@ -25,6 +25,7 @@ fn push_place(places: &mut Vec<u32>, place: usize, passes: bool) -> Result<(), A
 }
 
 // The places of the registrations of `finalise` whose values are not among these.
+#[tactic(auto, using(crate::proofs::ListLemmas::filter_more))]
 pub(crate) fn dead_places(
     alloc: Global,
     finals: &Sequence<Finaliser>,
@@ -40,6 +41,7 @@ pub(crate) fn dead_places(
 }
 
 // The places of the full keys that are not among these.
+#[tactic(auto, using(crate::proofs::ListLemmas::filter_more))]
 pub(crate) fn key_places(
     alloc: Global,
     keys: &Sequence<Option<Label>>,
@@ -55,6 +57,7 @@ pub(crate) fn key_places(
 }
 
 // The places of the registrations of `finalise_last` whose values are not among these, and which no ephemeron of these has.
+#[tactic(auto, using(crate::proofs::ListLemmas::filter_more))]
 pub(crate) fn gone_places(
     alloc: Global,
     graph: &Sequence<(Label, Node)>,

@@ -1,10 +1,12 @@
 //! What a complete collection queues of `finalise`.
-ghost use Rattle.std.specs.Prelude.{◌≡◌, ◌++◌, IfOk, OnOk};
-ghost use Rattle.heap_model.specs.Domains.{queues};
-ghost use Rattle.schedule_laws.specs.Scheduled.{all_queued as queued_in, queuing};
+ghost use Rattle.std.specs.Prelude.{◌≡◌, ◌++◌, ◌<◌, IfOk, OnOk, length};
+ghost use Rattle.heap_model.specs.Domains.{queues, reach as reach_of};
+ghost use Rattle.schedule_laws.specs.Scheduled.{all_queued as queued_in, dead_finals as dead_of, queuing};
 
 use crate::places::dead_places;
 use heap_model::entry::{Entry, Places};
+use heap_model::label::Label;
+use heap_model::state::State;
 use slow_heap::SlowHeap;
 use std::alloc::{AllocError, Global};
 
@@ -19,19 +21,36 @@ fn push_queue(entries: &mut Vec<Entry>, domain: u32, places: Vec<u32>) -> Result
     Ok(())
 }
 
+// The places of the registrations of a domain that may be queued, right behind the cut.
+#[tactic(auto, using(crate::proofs::TakeLemmas::dead_is))]
+fn dead_finals(
+    alloc: Global,
+    state: &State,
+    d: usize,
+    live: &Vec<Label>,
+) -> Result<Vec<u32>, AllocError>
+    requires inside { d < length state.now.domains }
+    requires cut { state.now.cut ≡ queues state.now }
+    requires live { live.now.items ≡ reach_of state.now }
+    ensures { IfOk result (λ v. v.items ≡ dead_of state.now d) }
+{
+    let domains = &state.domains;
+    let domain = &domains.items[d];
+    dead_places(alloc, &domain.finals, live)
+}
+
 // All that is queued, for each domain in turn.
+#[tactic(auto, using(crate::proofs::ListLemmas::flat_map_more))]
 pub(crate) fn all_queued(alloc: Global, heap: &SlowHeap) -> Result<Vec<Entry>, AllocError>
     requires { heap.now.cut ≡ queues heap.now }
     ensures { IfOk result (λ v. v.items ≡ queued_in heap.now) }
 {
     let live = heap.reach()?;
     let state = heap.state();
-    let domains = &state.domains;
     let mut entries = Vec::new(alloc);
-    'domains: for d in 0..domains.items.len() {
-        let domain = &domains.items[d];
-        let places = dead_places(alloc, &domain.finals, &live)?;
-        push_queue(&mut entries, d as u32, places)?;
+    'domains: for d in 0..state.sizes.domains {
+        let places = dead_finals(alloc, state, d as usize, &live)?;
+        push_queue(&mut entries, d, places)?;
     }
     Ok(entries)
 }

@@ -71,7 +71,7 @@ impl<'a> Run<'a> {
 
     /// The history.
     pub(crate) fn into_history(self) -> Vec<Entry>
-        ensures { result.items ≡ self.history }
+        ensures { result.items ≡ self.entry.history }
     {
         self.history
     }
@@ -90,10 +90,12 @@ impl<'a> Run<'a> {
             Err(ApplyFault::NotLegal) => unreachable!(),
             Err(ApplyFault::Memory) => return Err(AllocError),
         }
-        self.history.push(entry)
+        self.history.push(entry)?;
+        Ok(())
     }
 
     // Makes entries, one behind the other.
+    #[tactic(auto, using(crate::proofs::EntryLemmas::one_more, crate::proofs::EntryLemmas::allowed_at))]
     fn make_all(&mut self, entries: Vec<Entry>) -> Result<(), AllocError>
         requires { LegalFrom self.old.state entries.items }
         ensures { OnOk result (self.new ≡ with_entries self.old entries.items) }
@@ -133,6 +135,7 @@ impl<'a> Run<'a> {
     }
 
     /// Makes a complete collection, in which these entries stand where it is answered.
+    #[tactic(auto, using(crate::proofs::EntryLemmas::stages, crate::proofs::EntryLemmas::cut_queues, crate::proofs::EntryLemmas::all_parts))]
     pub(crate) fn collect(&mut self, alloc: Global, answered: Vec<Entry>) -> Result<(), AllocError>
         requires { LegalFrom self.old.state (complete self.old.state answered.items) }
         ensures { OnOk result (self.new ≡ with_entries self.old (complete self.old.state answered.items)) }
@@ -165,6 +168,7 @@ impl<'a> Run<'a> {
     }
 
     // Makes a command, with a complete collection round `full_major`.
+    #[tactic(auto, using(crate::proofs::EntryLemmas::next_alone))]
     fn make_command(
         &mut self,
         alloc: Global,
@@ -189,6 +193,7 @@ impl<'a> Run<'a> {
     }
 
     /// A domain makes its next command, or its end where none is left.
+    #[tactic(auto, using(crate::proofs::EntryLemmas::next_alone))]
     pub(crate) fn make_next(&mut self, alloc: Global, domain: u32) -> Result<(), AllocError>
         requires inside { domain < length self.old.left }
         requires legal { LegalFrom self.old.state (next_entries self.old.state domain (left_of self.old domain)) }

@@ -1,56 +1,91 @@
 //! What a scheduled history prints.
-ghost use Rattle.std.specs.Prelude.{◌≡◌, ◌++◌, IfOk, OnOk, length};
+ghost use Rattle.std.specs.Prelude.{◌≡◌, ◌++◌, [], cond, IfOk, OnOk, length};
 ghost use Rattle.heap_model.specs.Domains.{IsWithinLimits};
-ghost use Rattle.heap_model.specs.History.{Legal, replies};
+ghost use Rattle.heap_model.specs.History.{Legal, is_entry_of, replies, reply_list};
+ghost use Rattle.heap_model.specs.Entries.{Allowed, next, reply};
 ghost use Rattle.heap_model.specs.Output.{line, output, printed, reply_text};
 ghost use Rattle.heap_text.specs.Spelling.{heading_text};
-ghost use Rattle.history_replay.specs.Steps.{answers};
 ghost use Rattle.schedule_laws.specs.Scheduled.{scheduled};
 ghost use Rattle.scheduled_runs.specs.Runs.{IsPlainScript};
 
 use crate::turns::scheduled_history;
 use heap_model::entry::Entry;
-use heap_model::reply::{Applied, Reply};
+use heap_model::reply::{Applied, ApplyFault, Reply};
 use heap_model::state::Sizes;
 use heap_text::{Line, Script, print_heading, print_reply};
-use history_replay::{add_reply, play_history};
 use schedule_laws::Item;
+use slow_heap::SlowHeap;
 use std::alloc::{AllocError, Global};
 
-// What each entry of a legal history answers.
-fn answers_of(
-    alloc: Global,
-    sizes: &Sizes,
-    history: &[Entry],
-) -> Result<Vec<Applied>, AllocError>
-    requires limits { IsWithinLimits sizes.now }
-    requires legal { Legal sizes.now history.now }
-    ensures { IfOk result (λ v. v.items ≡ answers sizes.now history.now) }
+// Whether an entry is a command, the end or a run finaliser of a domain.
+fn is_own(d: u32, entry: &Entry) -> bool
+    ensures { result ≡ is_entry_of d entry.now }
 {
-    // More entries than 32 bits count would fill more than all memory.
-    if u32::try_from(history.len()).is_err() {
-        return Err(AllocError);
-    }
-    match play_history(alloc, sizes, history)? {
-        Some(told) => Ok(told),
-        None => unreachable!(),
+    match entry {
+        Entry::Command { domain, .. } => *domain == d,
+        Entry::End { domain } => *domain == d,
+        Entry::Ran { domain } => *domain == d,
+        _ => false,
     }
 }
 
-// The replies of a domain in a history.
+// Adds the reply of an entry, where it is the domain's and has one.
+fn add_reply(
+    replies: &mut Vec<Reply>,
+    d: u32,
+    entry: &Entry,
+    applied: Applied,
+) -> Result<(), AllocError>
+    ensures { OnOk result (replies.new.items ≡ replies.old.items ++ cond (is_entry_of d entry.now) (reply_list applied) []) }
+{
+    if is_own(d, entry) {
+        if let Applied::Replied(reply) = applied {
+            replies.push(reply)?;
+        }
+    }
+    Ok(())
+}
+
+// Follows an entry that is allowed.
+fn follow(heap: &mut SlowHeap, entry: &Entry) -> Result<Applied, AllocError>
+    requires { Allowed heap.old entry.now }
+    ensures reply { IfOk result (λ a. a ≡ reply heap.old entry.now) }
+    ensures state { OnOk result (heap.new ≡ next heap.old entry.now) }
+{
+    // A domain with more blocks than 32 bits count would fill more than all memory.
+    if !heap.is_in_range(entry) {
+        return Err(AllocError);
+    }
+    match heap.apply(entry) {
+        Ok(applied) => Ok(applied),
+        Err(ApplyFault::NotLegal) => unreachable!(),
+        Err(ApplyFault::Memory) => Err(AllocError),
+    }
+}
+
+// The replies of a domain in a legal history.
+#[tactic(auto, using(crate::proofs::TextLemmas::may_follow, crate::proofs::TextLemmas::followed, crate::proofs::TextLemmas::replied))]
 fn replies_of(
     alloc: Global,
-    _sizes: &Sizes,
+    sizes: &Sizes,
     domain: u32,
     history: &[Entry],
-    told: &[Applied],
 ) -> Result<Vec<Reply>, AllocError>
-    requires { told.now ≡ answers _sizes.now history.now }
-    ensures { IfOk result (λ v. v.items ≡ replies _sizes.now history.now domain) }
+    requires limits { IsWithinLimits sizes.now }
+    requires legal { Legal sizes.now history.now }
+    ensures { IfOk result (λ v. v.items ≡ replies sizes.now history.now domain) }
 {
+    let mut heap = SlowHeap::make(
+        alloc,
+        sizes.domains,
+        sizes.pools,
+        sizes.minor_words,
+        sizes.classes,
+    )?;
     let mut own = Vec::new(alloc);
-    'entries: for i in 0..history.len() {
-        add_reply(&mut own, domain, &history[i], told[i])?;
+    'entries: for entry in history {
+        let applied = follow(&mut heap, entry)?;
+        add_reply(&mut own, domain, entry, applied)?;
     }
     Ok(own)
 }
@@ -85,15 +120,15 @@ fn push_section(text: &mut Vec<u8>, domain: u32, own: &[Reply]) -> Result<(), Al
 }
 
 // What a legal history prints.
+#[tactic(auto, using(crate::proofs::ListLemmas::flat_map_more))]
 fn text_of(alloc: Global, sizes: &Sizes, history: &[Entry]) -> Result<Vec<u8>, AllocError>
     requires limits { IsWithinLimits sizes.now }
     requires legal { Legal sizes.now history.now }
     ensures { IfOk result (λ v. v.items ≡ output sizes.now history.now) }
 {
-    let told = answers_of(alloc, sizes, history)?;
     let mut text = Vec::new(alloc);
     'domains: for domain in 0..sizes.domains {
-        let own = replies_of(alloc, sizes, domain, history, &told)?;
+        let own = replies_of(alloc, sizes, domain, history)?;
         push_section(&mut text, domain, &own)?;
     }
     Ok(text)

@@ -1,5 +1,5 @@
 //! The turns and collections of a schedule.
-ghost use Rattle.std.specs.Prelude.{◌≡◌, ◌<◌, ◌^◌, IfOk, OnOk, fold, length, map, max};
+ghost use Rattle.std.specs.Prelude.{◌≡◌, ◌+◌, IfOk, OnOk, fold, length, map, max};
 ghost use Rattle.std.specs.List.{list_all};
 ghost use Rattle.heap_model.specs.Domains.{IsWithinLimits};
 ghost use Rattle.schedule_laws.specs.Scheduled.{all_ended as ended_in, scheduled, take_item as item_taken, take_round as round_taken, take_rounds as rounds_taken, take_turn as turn_taken};
@@ -14,6 +14,7 @@ use schedule_laws::Item;
 use std::alloc::{AllocError, Global};
 
 // A domain that hasn't ended runs its queue, and makes its next command or its end.
+#[tactic(auto, using(crate::proofs::TurnLemmas::turn_past, crate::proofs::TurnLemmas::turn_ended, crate::proofs::TurnLemmas::turn_running, crate::proofs::TurnLemmas::runs_legal, crate::proofs::TurnLemmas::next_legal, crate::proofs::TurnLemmas::inside))]
 fn take_turn(alloc: Global, run: &mut Run, domain: u32) -> Result<(), AllocError>
     requires { IsUnderWay run.old }
     ensures { OnOk result (run.new ≡ turn_taken run.old domain) }
@@ -40,6 +41,7 @@ fn all_ended(state: &State) -> bool
 }
 
 // An item: a turn, or a complete collection if not all have ended.
+#[tactic(auto, using(crate::proofs::TurnLemmas::collect_legal))]
 fn take_item(alloc: Global, run: &mut Run, item: Item) -> Result<(), AllocError>
     requires { IsUnderWay run.old }
     ensures { OnOk result (run.new ≡ item_taken run.old item) }
@@ -57,6 +59,7 @@ fn take_item(alloc: Global, run: &mut Run, item: Item) -> Result<(), AllocError>
 }
 
 // The items of a schedule.
+#[tactic(auto, using(crate::proofs::TurnLemmas::item_way, crate::proofs::ListLemmas::fold_take))]
 fn take_items(alloc: Global, run: &mut Run, items: &[Item]) -> Result<(), AllocError>
     requires { IsUnderWay run.old }
     ensures { OnOk result (run.new ≡ fold item_taken run.old items.now) }
@@ -68,6 +71,7 @@ fn take_items(alloc: Global, run: &mut Run, items: &[Item]) -> Result<(), AllocE
 }
 
 // A turn of each domain.
+#[tactic(auto, using(crate::proofs::TurnLemmas::turn_way, crate::proofs::TurnLemmas::few_domains, crate::proofs::ListLemmas::fold_more))]
 fn take_round(alloc: Global, run: &mut Run) -> Result<(), AllocError>
     requires { IsUnderWay run.old }
     ensures { OnOk result (run.new ≡ round_taken run.old) }
@@ -81,6 +85,7 @@ fn take_round(alloc: Global, run: &mut Run) -> Result<(), AllocError>
 }
 
 // So many rounds, and one more.
+#[tactic(auto, using(crate::proofs::TurnLemmas::round_way, crate::proofs::ListLemmas::fold_more))]
 fn take_rounds(alloc: Global, run: &mut Run, count: usize) -> Result<(), AllocError>
     requires { IsUnderWay run.old }
     ensures { OnOk result (run.new ≡ rounds_taken (count + 1) run.old) }

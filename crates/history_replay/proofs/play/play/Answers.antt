@@ -1,7 +1,7 @@
 use Rattle.std.proofs.Common.{rules}
 use Rattle.history_replay.proofs.ExactLemmas.{not_legal}
 use Rattle.history_replay.proofs.PlayLemmas.{played_more}
-use Rattle.history_replay.proofs.play.play_history.Goals as goal
+use Rattle.history_replay.proofs.play.play.Goals as goal
 
 pub loop-entry-preserved : goal.loop-entry-preserved
 loop-entry-preserved c =
