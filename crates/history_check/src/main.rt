@@ -14,10 +14,11 @@ mod words;
 
 use bounded::Bounded;
 use heap_text::ScriptFault;
-use history_judge::{Judged, judge};
+use history_judge::{Judged, JudgedReplay, judge, judge_replay};
 use outer_io::{StdSink, StdSource};
 use std::alloc::Global;
-use std::io::{BufReader, BufWriter, ErrorKind, Write};
+use schedule_text::ReplayFault;
+use std::io::{BufRead, BufReader, BufWriter, ErrorKind, Write};
 use std::process::ExitCode;
 use std::{env, io};
 use words::{Asked, read_asked};
@@ -30,6 +31,7 @@ const GATHERED: usize = 65_536;
 enum Outcome {
     Usage,
     Judged(Judged),
+    Replay(JudgedReplay),
 }
 
 // The words behind the program's name.
@@ -66,18 +68,33 @@ fn asked(rt: &HostRuntime, alloc: Global) -> Result<Asked, Outcome>
     }
 }
 
-// Judges what standard input has.
-fn run(rt: &HostRuntime, asked: &Asked) -> io::Result<Judged>
+// The first line of a replay.
+const REPLAY: &[u8] = b"schedule 1\n";
+
+// Judges what standard input has: a replay, where its first line is that of one, and else a script.
+fn run(rt: &HostRuntime, asked: &Asked) -> io::Result<Outcome>
     requires { IsWithinLimits asked.now.sizes }
 {
     let alloc = rt.alloc();
-    let mut src = StdSource::make(BufReader::with_capacity(alloc, GATHERED, rt.stdin())?);
+    let mut input = BufReader::with_capacity(alloc, GATHERED, rt.stdin())?;
+    let is_replay = input.fill_buf()?.starts_with(REPLAY);
+    let mut src = StdSource::make(input);
     let mut out = StdSink::make(BufWriter::with_capacity(alloc, GATHERED, rt.stdout())?);
-    let mut search = Bounded::new(rt, asked.states);
-    let judged = judge(alloc, &asked.sizes, &mut src, &mut out, &mut search);
+    let outcome = if is_replay {
+        Outcome::Replay(judge_replay(alloc, &asked.sizes, &mut src, &mut out))
+    } else {
+        let mut search = Bounded::new(rt, asked.states);
+        Outcome::Judged(judge(
+            alloc,
+            &asked.sizes,
+            &mut src,
+            &mut out,
+            &mut search,
+        ))
+    };
     match out.flush() {
-        Ok(()) => Ok(judged),
-        Err(_) => Ok(Judged::WriteFault),
+        Ok(()) => Ok(outcome),
+        Err(_) => Ok(Outcome::Judged(Judged::WriteFault)),
     }
 }
 
@@ -96,21 +113,62 @@ fn tell_fault(rt: &HostRuntime, fault: ScriptFault) -> io::Result<()> {
     }
 }
 
+// Says what is wrong with a replay, as `camlheap` does.
+fn tell_replay_fault(rt: &HostRuntime, fault: ReplayFault) -> io::Result<()> {
+    match fault {
+        ReplayFault::Schedule { line } => eprintln!(rt; "schedule line {line}"),
+        ReplayFault::Script(fault) => tell_fault(rt, fault),
+        ReplayFault::NotReplayable { why } => eprintln!(rt; "not replayable: {why}"),
+        ReplayFault::Memory => eprintln!(rt; "out of memory"),
+    }
+}
+
+// Says what went wrong with a replay.
+fn tell_replay(rt: &HostRuntime, judged: JudgedReplay) -> io::Result<()> {
+    match judged {
+        JudgedReplay::Legal | JudgedReplay::Differs { .. } => Ok(()),
+        JudgedReplay::Replay(fault) => tell_replay_fault(rt, fault),
+        JudgedReplay::NoSeparator => tell_judged(rt, Judged::NoSeparator),
+        JudgedReplay::TooLong => tell_judged(rt, Judged::TooLong),
+        JudgedReplay::ReadFault => tell_judged(rt, Judged::ReadFault),
+        JudgedReplay::WriteFault => tell_judged(rt, Judged::WriteFault),
+        JudgedReplay::Memory => tell_judged(rt, Judged::Memory),
+    }
+}
+
+// Says what went wrong with a script.
+fn tell_judged(rt: &HostRuntime, judged: Judged) -> io::Result<()> {
+    match judged {
+        Judged::Legal | Judged::NoneFound | Judged::GaveUp => Ok(()),
+        Judged::Script(fault) => tell_fault(rt, fault),
+        Judged::NoSeparator => eprintln!(rt; "no line --- between the script and the output"),
+        Judged::TooLong => eprintln!(rt; "more than 1073741823 bytes"),
+        Judged::ReadFault => eprintln!(rt; "read fault"),
+        Judged::WriteFault => eprintln!(rt; "write fault"),
+        Judged::Memory => eprintln!(rt; "out of memory"),
+    }
+}
+
 // Says what went wrong.
 fn tell(rt: &HostRuntime, outcome: Outcome) -> io::Result<()> {
     match outcome {
         Outcome::Usage => {
             eprintln!(rt; "usage: history_check [--domains N] [--minor W] [--pools P] [--states S]")
         }
-        Outcome::Judged(Judged::Legal | Judged::NoneFound | Judged::GaveUp) => Ok(()),
-        Outcome::Judged(Judged::Script(fault)) => tell_fault(rt, fault),
-        Outcome::Judged(Judged::NoSeparator) => {
-            eprintln!(rt; "no line --- between the script and the output")
-        }
-        Outcome::Judged(Judged::TooLong) => eprintln!(rt; "more than 1073741823 bytes"),
-        Outcome::Judged(Judged::ReadFault) => eprintln!(rt; "read fault"),
-        Outcome::Judged(Judged::WriteFault) => eprintln!(rt; "write fault"),
-        Outcome::Judged(Judged::Memory) => eprintln!(rt; "out of memory"),
+        Outcome::Judged(judged) => tell_judged(rt, judged),
+        Outcome::Replay(judged) => tell_replay(rt, judged),
+    }
+}
+
+// The same of a replay.
+fn replay_number(judged: JudgedReplay) -> u8 {
+    match judged {
+        JudgedReplay::Legal => 0,
+        JudgedReplay::Replay(_) | JudgedReplay::NoSeparator | JudgedReplay::TooLong => 2,
+        JudgedReplay::ReadFault => 3,
+        JudgedReplay::WriteFault => 4,
+        JudgedReplay::Memory => 5,
+        JudgedReplay::Differs { .. } => 6,
     }
 }
 
@@ -125,13 +183,14 @@ fn status_number(outcome: Outcome) -> u8 {
         Outcome::Judged(Judged::Memory) => 5,
         Outcome::Judged(Judged::NoneFound) => 6,
         Outcome::Judged(Judged::GaveUp) => 7,
+        Outcome::Replay(judged) => replay_number(judged),
     }
 }
 
 fn main(rt: HostRuntime) -> ExitCode {
     let outcome = match asked(&rt, rt.alloc()) {
         Ok(asked) => match run(&rt, &asked) {
-            Ok(judged) => Outcome::Judged(judged),
+            Ok(outcome) => outcome,
             Err(error) => outcome_of(error, Outcome::Judged(Judged::ReadFault)),
         },
         Err(outcome) => outcome,

@@ -6,9 +6,11 @@ mod input;
 mod judged;
 mod judging;
 mod reading;
+mod replaying;
 mod show;
 mod writing;
 
 pub use explain::{Seek, Sought};
 pub use judged::Judged;
 pub use judging::judge;
+pub use replaying::{JudgedReplay, judge_replay};

@@ -1,0 +1,28 @@
+-- Two texts differ in no line exactly where they are the same.
+use Rattle.std.proofs.Common.{◌≡◌, ◌≢◌, ℕ, ◌+◌, Bool, true, false, cond, List, [], ◌∷◌, Option, Some, None, refl, sym, ap, ◌∙◌, arith}
+use Rattle.std.specs.Prelude.{◌==◌}
+use Rattle.std.proofs.lemmas.Bool.Decides.{nat_tests}
+use Rattle.schedule_replay.specs.Lines.{differs_from}
+
+same_head : (x y : ℕ) → (x == y) ≡ true → x ≡ y
+same_head x y is = grind (arith, nat_tests)
+
+pub none_same : (line : ℕ) (xs ys : List ℕ) → differs_from line xs ys ≡ None → ys ≡ xs
+none_same line [] [] none = refl
+none_same line [] (y ∷ ys) none = cc
+none_same line (x ∷ xs) [] none = cc
+none_same line (x ∷ xs) (y ∷ ys) none = go (x == y) refl none
+  where
+    go : (b : Bool) → (x == y) ≡ b → cond b (differs_from (cond (x == 10) (line + 1) line) xs ys) (Some line) ≡ None → y ∷ ys ≡ x ∷ xs
+    go true is none = let tail : ys ≡ xs = none_same (cond (x == 10) (line + 1) line) xs ys none in let head : x ≡ y = same_head x y is in cc
+    go false is none = cc
+
+self_head : (x : ℕ) → (x == x) ≡ true
+self_head x = grind (arith, nat_tests)
+
+same_none : (line : ℕ) (xs : List ℕ) → differs_from line xs xs ≡ None
+same_none line [] = refl
+same_none line (x ∷ xs) = rw (self_head x) (same_none (cond (x == 10) (line + 1) line) xs)
+
+pub some_other : (line k : ℕ) (xs ys : List ℕ) → differs_from line xs ys ≡ Some k → ys ≢ xs
+some_other line k xs ys some = λ same. let none : differs_from line xs ys ≡ None = ap (differs_from line xs) same ∙ same_none line xs in let clash : Some k ≡ None = sym some ∙ none in cc
