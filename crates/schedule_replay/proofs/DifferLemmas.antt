@@ -1,5 +1,5 @@
 -- Two texts differ in no line exactly where they are the same.
-use Rattle.std.proofs.Common.{◌≡◌, ◌≢◌, ℕ, ◌+◌, Bool, true, false, cond, List, [], ◌∷◌, Option, Some, None, refl, sym, ap, ◌∙◌, arith}
+use Rattle.std.proofs.Common.{◌≡◌, ◌≢◌, ℕ, zero, suc, ◌+◌, ◌<◌, drop, length, Bool, true, false, cond, List, [], ◌∷◌, Option, Some, None, refl, sym, ap, ◌∙◌, arith}
 use Rattle.std.specs.Prelude.{◌==◌}
 use Rattle.std.proofs.lemmas.Bool.Decides.{nat_tests}
 use Rattle.schedule_replay.specs.Lines.{differs_from}
@@ -26,3 +26,13 @@ same_none line (x ∷ xs) = rw (self_head x) (same_none (cond (x == 10) (line + 
 
 pub some_other : (line k : ℕ) (xs ys : List ℕ) → differs_from line xs ys ≡ Some k → ys ≢ xs
 some_other line k xs ys some = λ same. let none : differs_from line xs ys ≡ None = ap (differs_from line xs) same ∙ same_none line xs in let clash : Some k ≡ None = sym some ∙ none in cc
+
+short : (line i : ℕ) (xs rest : List ℕ) → i < length xs → length rest ≡ 0 → differs_from line (drop i xs) rest ≡ Some line
+short line i xs (y ∷ rest) below empty = absurd (omega (arith, empty))
+short line i [] [] below empty = absurd (omega (arith, below))
+short line zero (x ∷ xs) [] below empty = refl
+short line (suc i) (x ∷ xs) [] below empty = short line i xs [] (omega (arith, below)) refl
+
+-- a text that has ended differs in the line that is next
+pub ended_differs : (line i : ℕ) (xs ys rest : List ℕ) → i < length xs → length rest ≡ 0 → differs_from line (drop i xs) rest ≡ differs_from 1 xs ys → Some line ≡ differs_from 1 xs ys
+ended_differs line i xs ys rest below empty same = sym (short line i xs rest below empty) ∙ same

@@ -77,30 +77,60 @@ module _ (s : State) where
 
   pub stages : (answered : List Entry) → LegalFrom s (complete s answered) → IsLegalCollection answered
   stages answered legal =
-      let after_queued = legal_parts cut (all_queued cut) _ legal.1 in
-      let after_wiped = legal_parts sealed (all_wiped sealed) _ after_queued.1.1 in
-      let after_lasts = legal_parts wiped (all_lasts wiped) _ after_wiped.1 in
-      let after_answered = legal_parts (next lasts Collected) answered (Done ∷ []) after_lasts.1.1 in record {
-        begins = legal.0;
-        queues = after_queued.0;
-        seals = after_queued.1.0;
-        wipes = after_wiped.0;
-        takes = after_lasts.0;
-        collects = after_lasts.1.0;
-        answers = after_answered.0;
-        ends = after_answered.1.0;
+      let q : List Entry = all_queued cut in
+      let w : List Entry = all_wiped sealed in
+      let l : List Entry = all_lasts wiped in
+      let x1 : List Entry = Cut ∷ q in
+      let x2 : List Entry = x1 ++ (Seal ∷ w) in
+      let x3 : List Entry = x2 ++ l in
+      let x4 : List Entry = x3 ++ (Collected ∷ answered) in
+      let p4 = legal_parts s x4 (Done ∷ []) legal in
+      let p3 = legal_parts s x3 (Collected ∷ answered) p4.0 in
+      let p2 = legal_parts s x2 l p3.0 in
+      let p1 = legal_parts s x1 (Seal ∷ w) p2.0 in
+      let at2 : state_after s x2 ≡ wiped = state_after-append s x1 (Seal ∷ w) in
+      let at3 : state_after s x3 ≡ lasts = state_after-append s x2 l ∙ ap (λ t. state_after t l) at2 in
+      let at4 : state_after s x4 ≡ state_after (next lasts Collected) answered = state_after-append s x3 (Collected ∷ answered) ∙ ap (λ t. state_after t (Collected ∷ answered)) at3 in
+      let last2 : LegalFrom wiped l = subst (λ t. LegalFrom t l) at2 p2.1 in
+      let last3 : LegalFrom lasts (Collected ∷ answered) = subst (λ t. LegalFrom t (Collected ∷ answered)) at3 p3.1 in
+      let last4 : LegalFrom (state_after (next lasts Collected) answered) (Done ∷ []) = subst (λ t. LegalFrom t (Done ∷ [])) at4 p4.1 in record {
+        begins = p1.0.0;
+        queues = p1.0.1;
+        seals = p1.1.0;
+        wipes = p1.1.1;
+        takes = last2;
+        collects = last3.0;
+        answers = last3.1;
+        ends = last4.0;
       }
 
+-- made behind what is made
+behind_made : (p r : Played) (x y : List Entry) → r ≡ with_entries p x → with_entries r y ≡ with_entries p (x ++ y)
+behind_made p r x y is = ap (λ t. with_entries t y) is ∙ two_parts p x y
+
 -- made in eight parts
-pub all_parts : (p : Played) (a b c d e f g h : List Entry)
-    → with_entries (with_entries (with_entries (with_entries (with_entries (with_entries (with_entries (with_entries p a) b) c) d) e) f) g) h
-    ≡ with_entries p (a ++ b ++ c ++ d ++ e ++ f ++ g ++ h)
-all_parts p a b c d e f g h =
-    let q1 : Played = with_entries p a in
-    let q2 : Played = with_entries q1 b in
-    let q3 : Played = with_entries q2 c in
-    let q4 : Played = with_entries q3 d in
-    let q5 : Played = with_entries q4 e in
-    let q6 : Played = with_entries q5 f in
-    two_parts q6 g h ∙ two_parts q5 f (g ++ h) ∙ two_parts q4 e (f ++ g ++ h) ∙ two_parts q3 d (e ++ f ++ g ++ h)
-    ∙ two_parts q2 c (d ++ e ++ f ++ g ++ h) ∙ two_parts q1 b (c ++ d ++ e ++ f ++ g ++ h) ∙ two_parts p a (b ++ c ++ d ++ e ++ f ++ g ++ h)
+pub all_parts : (p : Played) (q w l a : List Entry)
+    → with_entries (with_entries (with_entries (with_entries (with_entries (with_entries (with_entries (with_entries p (Cut ∷ [])) q) (Seal ∷ [])) w) l) (Collected ∷ [])) a) (Done ∷ [])
+    ≡ with_entries p (Cut ∷ q ++ Seal ∷ w ++ l ++ Collected ∷ a ++ Done ∷ [])
+all_parts p q w l a =
+    let r2 : Played = with_entries (with_entries p (Cut ∷ [])) q in
+    let r4 : Played = with_entries (with_entries r2 (Seal ∷ [])) w in
+    let r5 : Played = with_entries r4 l in
+    let r7 : Played = with_entries (with_entries r5 (Collected ∷ [])) a in
+    let x1 : List Entry = Cut ∷ q in
+    let x2 : List Entry = x1 ++ (Seal ∷ w) in
+    let x3 : List Entry = x2 ++ l in
+    let x4 : List Entry = x3 ++ (Collected ∷ a) in
+    let e2 : r2 ≡ with_entries p x1 = two_parts p (Cut ∷ []) q in
+    let e4 : r4 ≡ with_entries p x2 = two_parts r2 (Seal ∷ []) w ∙ behind_made p r2 x1 (Seal ∷ w) e2 in
+    let e5 : r5 ≡ with_entries p x3 = behind_made p r4 x2 l e4 in
+    let e7 : r7 ≡ with_entries p x4 = two_parts r5 (Collected ∷ []) a ∙ behind_made p r5 x3 (Collected ∷ a) e5 in
+    behind_made p r7 x4 (Done ∷ []) e7
+
+-- the first of legal entries may be made, and then the others
+pub first_allowed : (p : Played) (es rest : List Entry) (e : Entry) → es ≡ e ∷ rest → LegalFrom p.state es → Allowed p.state e
+first_allowed p es rest e is legal = (subst (LegalFrom p.state) is legal).0
+
+pub rest_made : (p q r : Played) (es rest : List Entry) (e : Entry) → es ≡ e ∷ rest → r ≡ with_entries q (e ∷ []) → with_entries q es ≡ p → LegalFrom q.state es → (with_entries r rest ≡ p) × LegalFrom r.state rest
+rest_made p q r es rest e is made whole legal =
+    (ap (λ t. with_entries t rest) made ∙ two_parts q (e ∷ []) rest ∙ ap (with_entries q) (sym is) ∙ whole, subst (λ (t : Played). LegalFrom t.state rest) (sym made) (subst (LegalFrom q.state) is legal).1)

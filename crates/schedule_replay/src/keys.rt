@@ -79,7 +79,7 @@ fn push_domain(
     requires settled { reached.now.settled.items ≡ settled_reach state.now (queues state.now) }
     ensures { OnOk result (entries.new.items ≡ entries.old.items ++ wipes_of state.now (map (λ n. record { domain = domain; serial = n }) (range_with_len 1 count))) }
 {
-    'blocks: for before in 0..count {
+    'serials: for before in 0..count {
         let serial = before + 1;
         push_keys(alloc, state, reached, Label { domain, serial }, entries)?;
     }
@@ -105,10 +105,12 @@ fn push_all(
         serial: 0,
     };
     push_keys(alloc, state, reached, shared, entries)?;
-    'domains: for d in 0..state.sizes.domains {
-        let domains = &state.domains;
-        let count = domains.items[d as usize].serial;
-        push_domain(alloc, state, reached, d, count, entries)?;
+    let domains = &state.domains;
+    'domains: for d in 0..domains.items.len() {
+        // More domains than 32 bits count would fill more than all memory.
+        let domain = u32::try_from(d).map_err(|_| AllocError)?;
+        let count = domains.items[d].serial;
+        push_domain(alloc, state, reached, domain, count, entries)?;
     }
     Ok(())
 }

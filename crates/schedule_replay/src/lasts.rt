@@ -37,7 +37,8 @@ fn gone_lasts(
 {
     let domains = &state.domains;
     let domain = &domains.items[d];
-    gone_places(alloc, &state.graph, &domain.lasts, settled)
+    let places = gone_places(alloc, &state.graph, &domain.lasts, settled)?;
+    Ok(places)
 }
 
 // All that is queued, for each domain in turn, the newest first.
@@ -48,9 +49,12 @@ pub(crate) fn all_lasts(alloc: Global, heap: &SlowHeap) -> Result<Vec<Entry>, Al
     let settled = heap.settled_reach()?;
     let state = heap.state();
     let mut entries = Vec::new(alloc);
-    'domains: for d in 0..state.sizes.domains {
-        let places = gone_lasts(alloc, state, d as usize, &settled)?;
-        push_lasts(&mut entries, d, &places)?;
+    let domains = &state.domains;
+    'domains: for d in 0..domains.items.len() {
+        // More domains than 32 bits count would fill more than all memory.
+        let domain = u32::try_from(d).map_err(|_| AllocError)?;
+        let places = gone_lasts(alloc, state, d, &settled)?;
+        push_lasts(&mut entries, domain, &places)?;
     }
     Ok(entries)
 }

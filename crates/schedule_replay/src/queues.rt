@@ -48,9 +48,12 @@ pub(crate) fn all_queued(alloc: Global, heap: &SlowHeap) -> Result<Vec<Entry>, A
     let live = heap.reach()?;
     let state = heap.state();
     let mut entries = Vec::new(alloc);
-    'domains: for d in 0..state.sizes.domains {
-        let places = dead_finals(alloc, state, d as usize, &live)?;
-        push_queue(&mut entries, d, places)?;
+    let domains = &state.domains;
+    'domains: for d in 0..domains.items.len() {
+        // More domains than 32 bits count would fill more than all memory.
+        let domain = u32::try_from(d).map_err(|_| AllocError)?;
+        let places = dead_finals(alloc, state, d, &live)?;
+        push_queue(&mut entries, domain, places)?;
     }
     Ok(entries)
 }

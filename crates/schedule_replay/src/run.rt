@@ -95,12 +95,14 @@ impl<'a> Run<'a> {
     }
 
     // Makes entries, one behind the other.
-    #[tactic(auto, using(crate::proofs::EntryLemmas::one_more, crate::proofs::EntryLemmas::allowed_at))]
+    #[tactic(auto, using(crate::proofs::EntryLemmas::first_allowed, crate::proofs::EntryLemmas::rest_made))]
     fn make_all(&mut self, entries: Vec<Entry>) -> Result<(), AllocError>
         requires { LegalFrom self.old.state entries.items }
         ensures { OnOk result (self.new ≡ with_entries self.old entries.items) }
     {
-        'entries: for entry in entries {
+        let mut rest = entries;
+        'entries: while !rest.is_empty() {
+            let entry = rest.remove(0);
             self.make(entry)?;
         }
         Ok(())

@@ -5,5 +5,5 @@ use Rattle.schedule_replay.proofs.TakeLemmas.{label_at}
 use Rattle.schedule_replay.proofs.keys.push_domain.Given as goal
 
 -- the entries so far
-abbrev pub invariant-blocks : goal.invariant-blocks
-invariant-blocks c = c.entries.items ≡ c.fn.entries.items ++ wipes_of c.state (map (label_at c.domain) (range_with_len 1 c.before))
+abbrev pub invariant-serials : goal.invariant-serials
+invariant-serials c = c.entries.items ≡ c.fn.entries.items ++ wipes_of c.state (map (label_at c.domain) (range_with_len 1 c.before))
