@@ -2,3 +2,4 @@ mod InputLemmas
 mod TextLemmas
 mod VersionLemmas
 mod WritingLemmas
+pub mod ReplayLemmas

@@ -69,6 +69,7 @@ fn read_input<'a>(
 }
 
 // What is written of an output that is the expected one, or isn't, first in a line.
+#[tactic(auto, using(crate::proofs::ReplayLemmas::tells_same, crate::proofs::ReplayLemmas::tells_other))]
 fn tell(alloc: Global, difference: Option<usize>) -> Result<Verdict, AllocError>
     ensures { (z : declared_sizes) (bytes shown : List ℕ) (r : Replayed) → IsReplayInput z bytes r shown → difference ≡ differs_from 1 (scheduled_output z r) shown
         → IfOk result (λ v. TellsReplay z bytes v.judged v.text.items) }
@@ -99,6 +100,7 @@ fn tell(alloc: Global, difference: Option<usize>) -> Result<Verdict, AllocError>
 }
 
 // Where an output differs from what the scheduled history prints.
+#[tactic(auto, using(crate::proofs::ReplayLemmas::has_sections, crate::proofs::ReplayLemmas::is_plain))]
 fn difference_in(
     alloc: Global,
     sizes: &Sizes,
