@@ -15,7 +15,7 @@ use Rattle.heap_model.specs.Graph.{has_label, node_at}
 use Rattle.heap_model.specs.Reach.{reachable}
 use Rattle.heap_model.specs.WellFormed.{IsSound}
 use Rattle.schedule_laws.specs.Scheduled.{all_lasts, all_queued, all_wiped, dead_finals, gone_keys, gone_lasts, labels_in_order, places_where, queuing, wiping}
-use Rattle.schedule_replay.specs.Wipes.{wipes_of}
+use Rattle.schedule_replay.specs.Wipes.{label_at, wipes_of}
 use Rattle.schedule_replay.proofs.ListLemmas.{flat_map_more, map_more}
 
 -- right behind the cut, what may be queued of `finalise` is not reached now
@@ -43,9 +43,6 @@ wipes_append : (s : State) (xs ys : List Label) → wipes_of s (xs ++ ys) ≡ wi
 wipes_append s xs ys =
     ap (flat_map (λ l. wiping l (gone_keys s (node_at s.graph l)))) (filter-append (has_label (reach s)) xs ys)
     ∙ flat_map-append (λ l. wiping l (gone_keys s (node_at s.graph l))) (filter (has_label (reach s)) xs) (filter (has_label (reach s)) ys)
-
-abbrev pub label_at : ℕ → ℕ → Label
-label_at d n = record { domain = d; serial = n }
 
 pub wipes_more : (s : State) (old : List Entry) (d n : ℕ)
     → (old ++ wipes_of s (map (label_at d) (range_with_len 1 n))) ++ wipes_of s (label_at d (n + 1) ∷ []) ≡ old ++ wipes_of s (map (label_at d) (range_with_len 1 (n + 1)))

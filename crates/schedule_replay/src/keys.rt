@@ -5,7 +5,7 @@ ghost use Rattle.heap_model.specs.declared.label.Label.{Label as declared_label}
 ghost use Rattle.heap_model.specs.Domains.{domain_at, queues, reach as reach_of, settled_reach};
 ghost use Rattle.heap_model.specs.Graph.{has_label, node_at};
 ghost use Rattle.schedule_laws.specs.Scheduled.{all_wiped as wiped_in, gone_keys as gone_of, wiping};
-ghost use Rattle.schedule_replay.specs.Wipes.{wipes_of};
+ghost use Rattle.schedule_replay.specs.Wipes.{label_at, wipes_of};
 
 use crate::looks::{holds_label, node_of};
 use crate::places::key_places;
@@ -77,7 +77,7 @@ fn push_domain(
 ) -> Result<(), AllocError>
     requires live { reached.now.live.items ≡ reach_of state.now }
     requires settled { reached.now.settled.items ≡ settled_reach state.now (queues state.now) }
-    ensures { OnOk result (entries.new.items ≡ entries.old.items ++ wipes_of state.now (map (λ n. record { domain = domain; serial = n }) (range_with_len 1 count))) }
+    ensures { OnOk result (entries.new.items ≡ entries.old.items ++ wipes_of state.now (map (label_at domain) (range_with_len 1 count))) }
 {
     'serials: for before in 0..count {
         let serial = before + 1;

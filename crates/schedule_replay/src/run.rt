@@ -206,6 +206,7 @@ impl<'a> Run<'a> {
             return self.make(Entry::End { domain });
         };
         self.left[domain as usize] = rest;
-        self.make_command(alloc, domain, *command)
+        self.make_command(alloc, domain, *command)?;
+        Ok(())
     }
 }

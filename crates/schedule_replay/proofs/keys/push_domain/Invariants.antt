@@ -1,7 +1,6 @@
 use Rattle.std.proofs.Common.{◌≡◌, ◌++◌, map}
 use Rattle.std.specs.List.{range_with_len}
-use Rattle.schedule_replay.specs.Wipes.{wipes_of}
-use Rattle.schedule_replay.proofs.TakeLemmas.{label_at}
+use Rattle.schedule_replay.specs.Wipes.{label_at, wipes_of}
 use Rattle.schedule_replay.proofs.keys.push_domain.Given as goal
 
 -- the entries so far
