@@ -7,15 +7,16 @@ use Rattle.schedule_replay.specs.Lines.{differs_from}
 same_head : (x y : ℕ) → (x == y) ≡ true → x ≡ y
 same_head x y is = grind (arith, nat_tests)
 
+same_more : (b : Bool) (line x y : ℕ) (xs ys : List ℕ) → (x == y) ≡ b → (differs_from (cond (x == 10) (line + 1) line) xs ys ≡ None → ys ≡ xs)
+    → cond b (differs_from (cond (x == 10) (line + 1) line) xs ys) (Some line) ≡ None → y ∷ ys ≡ x ∷ xs
+same_more true line x y xs ys is rest none = let tail : ys ≡ xs = rest none in let head : x ≡ y = same_head x y is in cc
+same_more false line x y xs ys is rest none = cc
+
 pub none_same : (line : ℕ) (xs ys : List ℕ) → differs_from line xs ys ≡ None → ys ≡ xs
 none_same line [] [] none = refl
 none_same line [] (y ∷ ys) none = cc
 none_same line (x ∷ xs) [] none = cc
-none_same line (x ∷ xs) (y ∷ ys) none = go (x == y) refl none
-  where
-    go : (b : Bool) → (x == y) ≡ b → cond b (differs_from (cond (x == 10) (line + 1) line) xs ys) (Some line) ≡ None → y ∷ ys ≡ x ∷ xs
-    go true is none = let tail : ys ≡ xs = none_same (cond (x == 10) (line + 1) line) xs ys none in let head : x ≡ y = same_head x y is in cc
-    go false is none = cc
+none_same line (x ∷ xs) (y ∷ ys) none = same_more (x == y) line x y xs ys refl (none_same (cond (x == 10) (line + 1) line) xs ys) none
 
 self_head : (x : ℕ) → (x == x) ≡ true
 self_head x = grind (arith, nat_tests)

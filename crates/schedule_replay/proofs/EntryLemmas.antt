@@ -1,6 +1,6 @@
 -- Entries that are made one behind the other.
 use Rattle.std.proofs.Common.{◌≡◌, ℕ, zero, suc, ◌+◌, ◌<◌, ◌≤◌, List, [], ◌∷◌, ◌++◌, length, take, get_or, refl, sym, ap, ◌∙◌, subst, arith, append_assoc}
-use Rattle.std.specs.Prelude.{map}
+use Rattle.std.specs.Prelude.{map, slice_set}
 use Rattle.std.proofs.lemmas.List.{take_more}
 use Rattle.heap_model.specs.declared.command.Command.{Command}
 use Rattle.heap_model.specs.declared.command.Command.TheVariants.{FullMajor}
@@ -12,7 +12,7 @@ use Rattle.heap_model.specs.Domains.{queues}
 use Rattle.heap_model.specs.Entries.{Allowed, next, with_finals_open}
 use Rattle.heap_model.specs.History.{LegalFrom, state_after}
 use Rattle.heap_model.proofs.Histories.HistoryLemmas.{state_after-append}
-use Rattle.schedule_laws.specs.Scheduled.{Played, all_lasts, all_queued, all_wiped, complete, next_entries, with_entries}
+use Rattle.schedule_laws.specs.Scheduled.{Played, all_lasts, all_queued, all_wiped, behind, complete, left_of, next_entries, with_entries, with_next}
 
 -- made in two parts
 pub two_parts : (p : Played) (a b : List Entry) → with_entries (with_entries p a) b ≡ with_entries p (a ++ b)
@@ -134,3 +134,11 @@ first_allowed p es rest e is legal = (subst (LegalFrom p.state) is legal).0
 pub rest_made : (p q r : Played) (es rest : List Entry) (e : Entry) → es ≡ e ∷ rest → r ≡ with_entries q (e ∷ []) → with_entries q es ≡ p → LegalFrom q.state es → (with_entries r rest ≡ p) × LegalFrom r.state rest
 rest_made p q r es rest e is made whole legal =
     (ap (λ t. with_entries t rest) made ∙ two_parts q (e ∷ []) rest ∙ ap (with_entries q) (sym is) ∙ whole, subst (λ (t : Played). LegalFrom t.state rest) (sym made) (subst (LegalFrom q.state) is legal).1)
+
+-- the next command is made once the others are what is left
+pub next_made : (p q r : Played) (d : ℕ) (c : Command) (cs : List Command) → left_of p d ≡ c ∷ cs → q ≡ record p { left = slice_set p.left d cs }
+    → r ≡ with_entries q (next_entries q.state d (c ∷ [])) → r ≡ with_next p d
+next_made p q r d c cs left is made =
+    made ∙ ap (λ (t : Played). with_entries t (next_entries t.state d (c ∷ []))) is
+    ∙ ap (λ (es : List Entry). record (with_entries p es) { left = slice_set p.left d cs }) (sym (next_alone p.state d c cs))
+    ∙ ap (λ (l : List Command). record (with_entries p (next_entries p.state d l)) { left = slice_set p.left d (behind l) }) (sym left)

@@ -1,8 +1,8 @@
 -- A list of numbers with one more, and what is folded, filtered or mapped over it.
-use Rattle.std.proofs.Common.{◌≡◌, ℕ, zero, suc, ◌+◌, ◌<◌, ◌≤◌, Bool, true, false, cond, List, [], ◌∷◌, ◌++◌, length, take, get_or, map, filter, flat_map, fold, reverse, refl, sym, ap, ◌∙◌, subst, arith, append-nil}
+use Rattle.std.proofs.Common.{◌≡◌, ℕ, zero, suc, ◌+◌, ◌<◌, ◌≤◌, Bool, true, false, cond, List, [], ◌∷◌, ◌++◌, length, take, get_or, map, filter, flat_map, fold, reverse, set, refl, sym, ap, ◌∙◌, subst, arith, append-nil}
 use Rattle.std.specs.List.{range_with_len}
 use Rattle.std.proofs.lemmas.List.{take_more}
-use Rattle.std.proofs.lemmas.List.{map-append, reverse-append}
+use Rattle.std.proofs.lemmas.List.{map-append, map-set, reverse-append}
 use Rattle.std.proofs.lemmas.List.Elements.{filter-append}
 use Rattle.std.proofs.lemmas.List.Concat.{flat_map-append}
 use Rattle.std.proofs.lemmas.List.Sums.{fold-append}
@@ -42,3 +42,6 @@ map_take f xs i d below = ap (map f) (take_more xs i d below) ∙ map-append f (
 
 pub reverse_map : {A : Type 0} (f : ℕ → A) (p : ℕ) (ps : List ℕ) → map f (reverse (p ∷ ps)) ≡ map f (reverse ps) ++ f p ∷ []
 reverse_map f p ps = ap (map f) (reverse-append (p ∷ []) ps) ∙ map-append f (reverse ps) (p ∷ [])
+
+pub map_set : {A B : Type 0} (f : A → B) (xs : List A) (i : ℕ) (x : A) → map f (set xs i x) ≡ set (map f xs) i (f x)
+map_set f xs i x = map-set f xs i x

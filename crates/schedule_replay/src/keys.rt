@@ -1,5 +1,5 @@
 //! What a complete collection empties of ephemerons.
-ghost use Rattle.std.specs.Prelude.{◌≡◌, ◌++◌, ◌∷◌, [], cond, IfOk, OnOk, Some, filter, flat_map, map};
+ghost use Rattle.std.specs.Prelude.{◌≡◌, ◌<◌, ◌++◌, ◌∷◌, [], length, cond, IfOk, OnOk, Some, filter, flat_map, map};
 ghost use Rattle.std.specs.List.{range_with_len};
 ghost use Rattle.heap_model.specs.declared.label.Label.{Label as declared_label};
 ghost use Rattle.heap_model.specs.Domains.{domain_at, queues, reach as reach_of, settled_reach};
@@ -86,6 +86,15 @@ fn push_domain(
     Ok(())
 }
 
+// How many blocks a domain has made.
+fn serial_of(state: &State, d: usize) -> u32
+    requires { d < length state.now.domains }
+    ensures { result ≡ (domain_at state.now d).serial }
+{
+    let domains = &state.domains;
+    domains.items[d].serial
+}
+
 // Adds the entries that empty what is gone of the keys of all blocks.
 #[tactic(auto, using(crate::proofs::TakeLemmas::domain_more))]
 fn push_all(
@@ -109,7 +118,7 @@ fn push_all(
     'domains: for d in 0..domains.items.len() {
         // More domains than 32 bits count would fill more than all memory.
         let domain = u32::try_from(d).map_err(|_| AllocError)?;
-        let count = domains.items[d].serial;
+        let count = serial_of(state, d);
         push_domain(alloc, state, reached, domain, count, entries)?;
     }
     Ok(())

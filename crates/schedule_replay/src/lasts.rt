@@ -1,12 +1,13 @@
 //! What a complete collection queues of `finalise_last`.
 ghost use Rattle.std.specs.Prelude.{◌≡◌, ◌++◌, ◌<◌, IfOk, OnOk, length, map, reverse};
-ghost use Rattle.heap_model.specs.Domains.{queues, settled_reach};
+ghost use Rattle.heap_model.specs.Domains.{domain_at, queues, settled_reach};
 ghost use Rattle.schedule_laws.specs.Scheduled.{all_lasts as lasts_in, gone_lasts as gone_of};
 
 use crate::places::gone_places;
 use heap_model::entry::Entry;
 use heap_model::label::Label;
-use heap_model::state::State;
+use heap_model::sequence::Sequence;
+use heap_model::state::{LastFinaliser, State};
 use slow_heap::SlowHeap;
 use std::alloc::{AllocError, Global};
 
@@ -23,6 +24,15 @@ fn push_lasts(entries: &mut Vec<Entry>, domain: u32, places: &[u32]) -> Result<(
     Ok(())
 }
 
+// The registrations of a domain.
+fn lasts_of(state: &State, d: usize) -> &Sequence<LastFinaliser>
+    requires { d < length state.now.domains }
+    ensures { result.now ≡ (domain_at state.now d).lasts }
+{
+    let domains = &state.domains;
+    &domains.items[d].lasts
+}
+
 // The places of the registrations of a domain that may be queued.
 #[tactic(auto, using(crate::proofs::TakeLemmas::gone_is))]
 fn gone_lasts(
@@ -35,9 +45,8 @@ fn gone_lasts(
     requires settled { settled.now.items ≡ settled_reach state.now (queues state.now) }
     ensures { IfOk result (λ v. v.items ≡ gone_of state.now d) }
 {
-    let domains = &state.domains;
-    let domain = &domains.items[d];
-    let places = gone_places(alloc, &state.graph, &domain.lasts, settled)?;
+    let lasts = lasts_of(state, d);
+    let places = gone_places(alloc, &state.graph, lasts, settled)?;
     Ok(places)
 }
 

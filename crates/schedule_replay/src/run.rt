@@ -194,6 +194,23 @@ impl<'a> Run<'a> {
         self.collect(alloc, answered)
     }
 
+    // The commands of a domain that are left.
+    fn left_at(&self, domain: u32) -> &'a [Command]
+        requires { domain < length self.now.left }
+        ensures { result.now ≡ left_of self.now domain }
+    {
+        self.left[domain as usize]
+    }
+
+    // These commands of a domain are left.
+    #[tactic(auto, using(crate::proofs::ListLemmas::map_set))]
+    fn set_left(&mut self, domain: u32, rest: &'a [Command])
+        requires { domain < length self.old.left }
+        ensures { self.new ≡ record self.old { left = slice_set self.old.left domain rest.now } }
+    {
+        self.left[domain as usize] = rest;
+    }
+
     /// A domain makes its next command, or its end where none is left.
     #[tactic(auto, using(crate::proofs::EntryLemmas::next_alone))]
     pub(crate) fn make_next(&mut self, alloc: Global, domain: u32) -> Result<(), AllocError>
@@ -201,11 +218,11 @@ impl<'a> Run<'a> {
         requires legal { LegalFrom self.old.state (next_entries self.old.state domain (left_of self.old domain)) }
         ensures { OnOk result (self.new ≡ with_next self.old domain) }
     {
-        let left = self.left[domain as usize];
+        let left = self.left_at(domain);
         let Some((command, rest)) = left.split_first() else {
             return self.make(Entry::End { domain });
         };
-        self.left[domain as usize] = rest;
+        self.set_left(domain, rest);
         self.make_command(alloc, domain, *command)?;
         Ok(())
     }
