@@ -1,5 +1,5 @@
 -- A script that can be replayed neither spawns nor joins.
-use Rattle.std.proofs.Common.{◌≡◌, ℕ, zero, suc, ◌-◌, Bool, true, false, List, [], ◌∷◌, ◌++◌, length, replicate, refl, sym, ap, ◌∙◌}
+use Rattle.std.proofs.Common.{◌≡◌, ℕ, zero, suc, ◌-◌, Bool, true, false, List, [], ◌∷◌, ◌++◌, length, replicate, refl, ap, ◌∙◌}
 use Rattle.std.specs.Prelude.{◌==◌, ◌&&◌}
 use Rattle.std.specs.List.{list_all}
 use Rattle.std.proofs.lemmas.Bool.{and_parts}
@@ -45,7 +45,7 @@ pub plain_script : (newest : Version) (domains : ℕ) (script : Scripted) (bytes
 plain_script newest domains script bytes spelled older =
     ap (list_all (list_all is_one_entry)) spelled.script_is
     ∙ all_append (list_all is_one_entry) spelled.written (replicate (domains - length spelled.written) [])
-        (all_imply (list_all (is_writable script.version domains)) (list_all is_one_entry) spelled.written
-            (λ cs. all_imply (is_writable script.version domains) is_one_entry cs (λ c. plain_command script.version domains c older))
-            spelled.is_written.writable)
-        (none_left (domains - length spelled.written))
+    (all_imply (list_all (is_writable script.version domains)) (list_all is_one_entry) spelled.written
+    (λ cs. all_imply (is_writable script.version domains) is_one_entry cs (λ c. plain_command script.version domains c older))
+    spelled.is_written.writable)
+    (none_left (domains - length spelled.written))

@@ -1,5 +1,5 @@
 -- What a complete collection takes, read off lists of labels.
-use Rattle.std.proofs.Common.{◌≡◌, ℕ, suc, ◌+◌, ◌&&◌, not, true, false, Bool, cond, List, Option, Some, [], ◌∷◌, ◌++◌, map, filter, flat_map, reverse, refl, ap, sym, ◌∙◌, append_assoc, arith}
+use Rattle.std.proofs.Common.{◌≡◌, ℕ, ◌+◌, ◌&&◌, not, List, Option, Some, [], ◌∷◌, ◌++◌, map, filter, flat_map, reverse, ap, sym, ◌∙◌, append_assoc}
 use Rattle.std.specs.List.{list_all, range_with_len}
 use Rattle.std.proofs.lemmas.List.Elements.{filter-append}
 use Rattle.std.proofs.lemmas.List.Concat.{flat_map-append}
@@ -14,7 +14,7 @@ use Rattle.heap_model.specs.Entries.{ephe_holds, is_some_and}
 use Rattle.heap_model.specs.Graph.{has_label, node_at}
 use Rattle.heap_model.specs.Reach.{reachable}
 use Rattle.heap_model.specs.WellFormed.{IsSound}
-use Rattle.schedule_laws.specs.Scheduled.{all_lasts, all_queued, all_wiped, dead_finals, gone_keys, gone_lasts, labels_in_order, places_where, queuing, wiping}
+use Rattle.schedule_laws.specs.Scheduled.{all_lasts, all_queued, all_wiped, dead_finals, gone_keys, gone_lasts, places_where, queuing, wiping}
 use Rattle.schedule_replay.specs.Wipes.{label_at, wipes_of}
 use Rattle.schedule_replay.proofs.ListLemmas.{flat_map_more, map_more}
 

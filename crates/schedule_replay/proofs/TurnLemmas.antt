@@ -1,8 +1,8 @@
 -- The turns of a run keep it under way, and make only what may be made.
-use Rattle.std.proofs.Common.{◌≡◌, ℕ, zero, suc, ◌+◌, ◌<◌, ◌≤◌, Bool, true, false, List, [], ◌∷◌, ◌++◌, fold, length, length-set, get_or, replicate, refl, sym, ap, ◌∙◌, subst, arith}
+use Rattle.std.proofs.Common.{◌≡◌, ℕ, ◌<◌, ◌≤◌, Bool, true, false, List, [], ◌∷◌, fold, length, length-set, replicate, refl, sym, ap, ◌∙◌, subst, arith}
 use Rattle.std.proofs.Math.ListN.{get_or-eq_default}
 use Rattle.std.specs.Prelude.{Option, Some, None}
-use Rattle.std.specs.List.{range_with_len}
+use Rattle.heap_model.specs.declared.command.Command.{Command}
 use Rattle.heap_model.specs.declared.entry.Entry.{Entry}
 use Rattle.heap_model.specs.declared.entry.Entry.TheVariants.{Command as CommandOf, End, Cut, Queue, Seal, Wipe, Last as LastOf, Collected, Done, Ran}
 use Rattle.heap_model.specs.declared.graph.Node.{Node}
@@ -12,7 +12,7 @@ use Rattle.heap_model.specs.declared.state.Pending.TheVariants.{Fin, Last}
 use Rattle.heap_model.specs.declared.state.DomainState.{DomainState}
 use Rattle.heap_model.specs.declared.state.Sizes.{Sizes}
 use Rattle.heap_model.specs.declared.state.State.{State}
-use Rattle.heap_model.specs.Domains.{IsShaped, domain_at, no_domain, opening}
+use Rattle.heap_model.specs.Domains.{IsShaped, IsWithinLimits, domain_at, no_domain, opening}
 use Rattle.heap_model.specs.Entries.{after_run, next, wiped, with_wiped}
 use Rattle.heap_model.specs.Graph.{node_at}
 use Rattle.heap_model.specs.History.{LegalFrom, state_after}
@@ -20,9 +20,9 @@ use Rattle.heap_model.proofs.Commands.MoveLemmas.{outcome-sizes}
 use Rattle.heap_model.proofs.Histories.ShapeAfterLemmas.{shaped-history}
 use Rattle.schedule_laws.specs.declared.items.Item.{Item}
 use Rattle.schedule_laws.specs.declared.items.Item.TheVariants.{Turn, Collect}
-use Rattle.schedule_laws.specs.Scheduled.{Played, all_ended, behind, complete, domains_of, left_of, next_entries, take_item, take_round, take_turn, turn_on, with_entries, with_next}
-use Rattle.scheduled_runs.specs.Runs.{IsPlayed, Nothing}
-use Rattle.scheduled_runs.proofs.Turns.{IsReady, collects, entries_played, item_played, makes, run_all, turn_played, turns_played}
+use Rattle.schedule_laws.specs.Scheduled.{Played, all_ended, begun, behind, complete, domains_of, left_of, next_entries, take_item, take_round, take_turn, turn_on, with_entries, with_next}
+use Rattle.scheduled_runs.specs.Runs.{IsPlainScript, IsPlayed, Nothing}
+use Rattle.scheduled_runs.proofs.Turns.{collects, entries_played, item_played, makes, run_all, sections_plain, turn_played}
 use Rattle.schedule_replay.specs.UnderWay.{IsUnderWay}
 
 -- no entry changes the sizes
@@ -65,6 +65,15 @@ inside p d way below = let same = domain_count p way in omega (arith, same, belo
 pub few_domains : (p : Played) → IsUnderWay p → length p.state.domains ≤ 8
 few_domains p way = let same = domain_count p way in omega (arith, same, way.sections, way.limits.domains)
 
+-- a run begins under way
+pub begun_way : (z : Sizes) (script : List (List Command)) (p : Played) → IsWithinLimits z → length script ≡ z.domains → IsPlainScript script → p ≡ begun z script → IsUnderWay p
+begun_way z script p limits sections plain is = rw is record {
+  sizes = z;
+  limits = limits;
+  sections = sections;
+  played = record { legal = tt; state = refl; mode = refl; plain = sections_plain z script plain };
+}
+
 -- turns keep a run under way
 turn_sections : (p : Played) (d : ℕ) (b : Bool) → length (turn_on p d b).left ≡ length p.left
 turn_sections p d true = refl
@@ -90,6 +99,10 @@ collect_way p false is way = record {
 pub item_way : (p : Played) (i : Item) → IsUnderWay p → IsUnderWay (take_item p i)
 item_way p (Turn d) way = turn_way p d way
 item_way p Collect way = collect_way p (all_ended p.state) refl way
+
+pub items_way : (items : List Item) (p q : Played) → IsUnderWay p → q ≡ fold take_item p items → IsUnderWay q
+items_way [] p q way is = rw is way
+items_way (i ∷ items) p q way is = items_way items (take_item p i) q (item_way p i way) is
 
 pub turns_way : (ds : List ℕ) (p : Played) → IsUnderWay p → IsUnderWay (fold take_turn p ds)
 turns_way [] p way = way

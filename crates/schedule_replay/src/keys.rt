@@ -29,7 +29,12 @@ fn push_wipe(entries: &mut Vec<Entry>, label: Label, places: Vec<u32>) -> Result
 
 // The places of the keys of a block that are gone.
 #[tactic(auto, using(crate::proofs::TakeLemmas::keys_are))]
-fn gone_keys(alloc: Global, state: &State, l: Label, settled: &Vec<Label>) -> Result<Vec<u32>, AllocError>
+fn gone_keys(
+    alloc: Global,
+    state: &State,
+    l: Label,
+    settled: &Vec<Label>,
+) -> Result<Vec<u32>, AllocError>
     requires { settled.now.items ≡ settled_reach state.now (queues state.now) }
     ensures { IfOk result (λ v. v.items ≡ gone_of state.now (node_at state.now.graph l)) }
 {

@@ -1,4 +1,4 @@
-use Rattle.std.proofs.Common.{◌≡◌, ◌&&◌, List, not, ap, ◌∙◌}
+use Rattle.std.proofs.Common.{◌&&◌, List, not, ap, ◌∙◌}
 use Rattle.std.specs.List.{list_all}
 use Rattle.heap_model.specs.declared.state.LastFinaliser.{LastFinaliser}
 use Rattle.heap_model.specs.Entries.{ephe_holds}

@@ -1,8 +1,8 @@
-use Rattle.std.proofs.Common.{◌≡◌, ◌&&◌, not, filter}
+use Rattle.std.proofs.Common.{◌≡◌, not, filter}
 use Rattle.std.specs.Prelude.{slice_get}
-use Rattle.std.specs.List.{list_all, range_with_len}
-use Rattle.heap_model.specs.Graph.{has_label, node_at}
-use Rattle.heap_model.specs.Entries.{ephe_holds, is_some_and}
+use Rattle.std.specs.List.{range_with_len}
+use Rattle.heap_model.specs.Graph.{has_label}
+use Rattle.heap_model.specs.Entries.{is_some_and}
 use Rattle.schedule_replay.proofs.places.key_places.Given as goal
 
 -- the places so far

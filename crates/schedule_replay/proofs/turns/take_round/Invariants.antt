@@ -1,4 +1,4 @@
-use Rattle.std.proofs.Common.{◌≡◌, ◌≤◌, fold, length}
+use Rattle.std.proofs.Common.{◌≡◌, fold}
 use Rattle.std.specs.List.{range_with_len}
 use Rattle.schedule_laws.specs.Scheduled.{take_turn}
 use Rattle.schedule_replay.specs.UnderWay.{IsUnderWay}

@@ -1,5 +1,5 @@
-use Rattle.std.proofs.Common.{◌≡◌, [], ◌∷◌, ap, sym, ◌∙◌, subst}
-use Rattle.heap_model.specs.declared.entry.Entry.TheVariants.{Cut, Seal, Collected}
+use Rattle.std.proofs.Common.{[], ◌∷◌, ap, sym, ◌∙◌, subst}
+use Rattle.heap_model.specs.declared.entry.Entry.TheVariants.{Seal, Collected}
 use Rattle.heap_model.specs.Entries.{CollectedAllowed, DoneAllowed, SealAllowed}
 use Rattle.heap_model.specs.History.{LegalFrom}
 use Rattle.schedule_laws.specs.Scheduled.{Played, all_lasts, all_queued, all_wiped, with_entries}
