@@ -1,6 +1,5 @@
 -- What is told of the output of a replay.
-use Rattle.std.proofs.Common.{◌≡◌, ◌≢◌, ℕ, List, length, Some, None, refl, sym, ap, ◌∙◌}
-use Rattle.std.specs.Prelude.{Option}
+use Rattle.std.proofs.Common.{◌≡◌, ℕ, List, length, Some, None}
 use Rattle.heap_model.specs.declared.state.Sizes.{Sizes}
 use Rattle.heap_text.specs.declared.version.Version.TheVariants.{Three}
 use Rattle.heap_text.proofs.SpellsLemmas.{length-script}

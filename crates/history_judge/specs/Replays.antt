@@ -10,6 +10,7 @@ use Rattle.schedule_text.specs.Replays.{HasFault, Replayed, SpellsReplay}
 use Rattle.history_judge.specs.declared.replaying.JudgedReplay.{JudgedReplay}
 use Rattle.history_judge.specs.declared.replaying.JudgedReplay.TheVariants.{Legal, Differs, Replay, NoSeparator, TooLong, Memory, ReadFault, WriteFault}
 use Rattle.history_judge.specs.Input.{HasNoParts, HasParts}
+use Rattle.history_judge.specs.Reading.{ReadsAll}
 use Rattle.history_judge.specs.Writing.{AppendsFront}
 
 -- the bytes are a replay for a heap of these sizes, the line between, and an output
@@ -78,6 +79,14 @@ pub record WritesReplayFront (z : Sizes) (bytes : List ℕ) (before after : Opti
   pub text : List ℕ
   pub tells : TellsReplay z bytes judged text
   pub written : AppendsFront before after text
+
+-- the input was read to its end, and the text of its answer was written
+abbrev pub JudgesReplay : Sizes → JudgedReplay → Option (List ℕ) → Option (List ℕ) → Option (List ℕ) → Option (List ℕ) → Type 0
+JudgesReplay z judged left_before left_after before after = ReadsAll (λ bytes. WritesReplay z bytes judged before after) left_before left_after
+
+-- or a front part of it
+abbrev pub StopsReplay : Sizes → Option (List ℕ) → Option (List ℕ) → Option (List ℕ) → Option (List ℕ) → Type 0
+StopsReplay z left_before left_after before after = ReadsAll (λ bytes. WritesReplayFront z bytes before after) left_before left_after
 
 -- an answer that is written
 abbrev pub IsReplayTold : JudgedReplay → Type 0

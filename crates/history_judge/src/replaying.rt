@@ -1,14 +1,15 @@
 //! The judge of replays, from the bytes that are read to the bytes that are written.
-ghost use Rattle.std.specs.Prelude.{◌≡◌, ◌<◌, ◌≤◌, ℕ, List, IfOk, IfErr};
+ghost use Rattle.std.specs.Prelude.{◌≡◌, ◌<◌, ◌≤◌, ℕ, List, length, IfOk, IfErr};
 ghost use Rattle.heap_model.specs.Domains.{IsWithinLimits};
 ghost use Rattle.heap_model.specs.declared.state.Sizes.{Sizes as declared_sizes};
 ghost use Rattle.outer_io.specs.Faults.{Rose};
 ghost use Rattle.schedule_replay.specs.Lines.{differs_from};
-ghost use Rattle.schedule_text.specs.declared.replay.ReplayFault as declared_fault;
+ghost use Rattle.schedule_text.specs.declared.replay.ReplayFault.{ReplayFault as declared_fault};
 ghost use Rattle.schedule_text.specs.Replays.{Replayed};
-ghost use Rattle.history_judge.specs.Input.{HasNoParts, HasParts};
+ghost use Rattle.scheduled_runs.specs.Runs.{IsPlainScript};
+ghost use Rattle.history_judge.specs.Input.{HasNoParts};
 ghost use Rattle.history_judge.specs.Reading.{IsReadInPart, ReadsAll};
-ghost use Rattle.history_judge.specs.Replays.{IsOfReplay, IsReplayInput, IsReplayRefused, IsReplaySilent, IsReplayTold, RefusesReplay, TellsReplay, WritesReplay, WritesReplayFront, WrongReplay, other_text, same_text, scheduled_output};
+ghost use Rattle.history_judge.specs.Replays.{IsOfReplay, IsReplayInput, IsReplayRefused, IsReplaySilent, IsReplayTold, JudgesReplay, RefusesReplay, StopsReplay, TellsReplay, WritesReplay, WritesReplayFront, WrongReplay, other_text, same_text, scheduled_output};
 
 use crate::input::split_input;
 use crate::reading::{ReadStop, read_bytes};
@@ -68,39 +69,50 @@ fn read_input<'a>(
     }
 }
 
-// What is written of an output that is the expected one, or isn't, first in a line.
-#[tactic(auto, using(crate::proofs::ReplayLemmas::tells_same, crate::proofs::ReplayLemmas::tells_other))]
+// That an output is what the scheduled history prints.
+fn same(alloc: Global) -> Result<Vec<u8>, AllocError>
+    ensures { IfOk result (λ v. v.items ≡ same_text) }
+{
+    let mut text = Vec::new(alloc);
+    push(&mut text, b"legal\n")?;
+    Ok(text)
+}
+
+// That it isn't, first in this line.
+fn other(alloc: Global, line: u64) -> Result<Vec<u8>, AllocError>
+    ensures { IfOk result (λ v. v.items ≡ other_text line) }
+{
+    let mut text = Vec::new(alloc);
+    push_count(
+        &mut text,
+        b"not legal: line ",
+        line,
+        b" of the output is the first that the scheduled history prints otherwise\n",
+    )?;
+    Ok(text)
+}
+
+// What is written of an output that differs first in this line, if in any.
 fn tell(alloc: Global, difference: Option<usize>) -> Result<Verdict, AllocError>
     ensures { (z : declared_sizes) (bytes shown : List ℕ) (r : Replayed) → IsReplayInput z bytes r shown → difference ≡ differs_from 1 (scheduled_output z r) shown
         → IfOk result (λ v. TellsReplay z bytes v.judged v.text.items) }
 {
-    let mut text = Vec::new(alloc);
     match difference {
-        None => {
-            push(&mut text, b"legal\n")?;
-            Ok(Verdict {
-                text,
-                judged: JudgedReplay::Legal,
-            })
-        }
+        None => Ok(Verdict {
+            text: same(alloc)?,
+            judged: JudgedReplay::Legal,
+        }),
         Some(line) => {
             let line = line as u64;
-            push_count(
-                &mut text,
-                b"not legal: line ",
-                line,
-                b" of the output is the first that the scheduled history prints otherwise\n",
-            )?;
             Ok(Verdict {
-                text,
+                text: other(alloc, line)?,
                 judged: JudgedReplay::Differs { line },
             })
         }
     }
 }
 
-// Where an output differs from what the scheduled history prints.
-#[tactic(auto, using(crate::proofs::ReplayLemmas::has_sections, crate::proofs::ReplayLemmas::is_plain))]
+// In which line an output differs from what the scheduled history prints.
 fn difference_in(
     alloc: Global,
     sizes: &Sizes,
@@ -108,7 +120,8 @@ fn difference_in(
     shown: &[u8],
 ) -> Result<Option<usize>, AllocError>
     requires limits { IsWithinLimits sizes.now }
-    requires input { (bytes : List ℕ) × IsReplayInput sizes.now bytes replay.now shown.now }
+    requires sections { length replay.now.script.sections ≡ sizes.now.domains }
+    requires plain { IsPlainScript replay.now.script.sections }
     ensures { IfOk result (λ o. o ≡ differs_from 1 (scheduled_output sizes.now replay.now) shown.now) }
 {
     let expected = scheduled_text(alloc, sizes, &replay.script, replay.schedule.items())?;
@@ -116,6 +129,7 @@ fn difference_in(
 }
 
 // What is written of these bytes, and what is answered.
+#[tactic(auto, using(crate::proofs::ReplayLemmas::has_sections, crate::proofs::ReplayLemmas::is_plain))]
 fn verdict_on(alloc: Global, sizes: &Sizes, bytes: &[u8]) -> Result<Verdict, JudgedReplay>
     requires { IsWithinLimits sizes.now }
     ensures found { IfOk result (λ v. TellsReplay sizes.now bytes.now v.judged v.text.items) }
@@ -166,13 +180,13 @@ pub fn judge_replay<S: Source, K: Sink>(
 ) -> JudgedReplay
     requires { IsWithinLimits sizes.now }
     // What was written: `legal` where the scheduled history prints the output, and else the first line that differs.
-    ensures legal { result ≡ JudgedReplay.Legal → ReadsAll (λ bytes. WritesReplay sizes.now bytes JudgedReplay.Legal (K.written out.old) (K.written out.new)) (S.left src.old) (S.left src.new) }
-    ensures differs { (n : ℕ) → result ≡ JudgedReplay.Differs n → ReadsAll (λ bytes. WritesReplay sizes.now bytes (JudgedReplay.Differs n) (K.written out.old) (K.written out.new)) (S.left src.old) (S.left src.new) }
-    ensures cut { result ≡ JudgedReplay.WriteFault → ReadsAll (λ bytes. WritesReplayFront sizes.now bytes (K.written out.old) (K.written out.new)) (S.left src.old) (S.left src.new) }
+    ensures legal { result ≡ JudgedReplay.Legal → JudgesReplay sizes.now JudgedReplay.Legal (S.left src.old) (S.left src.new) (K.written out.old) (K.written out.new) }
+    ensures differs { (n : ℕ) → result ≡ JudgedReplay.Differs n → JudgesReplay sizes.now (JudgedReplay.Differs n) (S.left src.old) (S.left src.new) (K.written out.old) (K.written out.new) }
+    ensures cut { result ≡ JudgedReplay.WriteFault → StopsReplay sizes.now (S.left src.old) (S.left src.new) (K.written out.old) (K.written out.new) }
     ensures quiet { IsReplaySilent result → out.new ≡ out.old }
 
     // When each other answer comes.
-    ensures replay { (f : declared_fault.ReplayFault) → result ≡ JudgedReplay.Replay f → ReadsAll (λ bytes. WrongReplay sizes.now bytes f) (S.left src.old) (S.left src.new) }
+    ensures replay { (f : declared_fault) → result ≡ JudgedReplay.Replay f → ReadsAll (λ bytes. WrongReplay sizes.now bytes f) (S.left src.old) (S.left src.new) }
     ensures no_separator { result ≡ JudgedReplay.NoSeparator → ReadsAll HasNoParts (S.left src.old) (S.left src.new) }
     ensures too_long { result ≡ JudgedReplay.TooLong → IsReadInPart (S.left src.old) (S.left src.new) }
     ensures reads { S.faults src.old ≤ S.faults src.new }
