@@ -1,10 +1,12 @@
 //! Tells whether a runtime's output for a script is one that the definitions allow: reads the script, a line `---` and the
 //! output from standard input, and writes `legal` and the entries of a history that prints the output, or that no such
 //! history was found, or that the search was given up. With `--schedule` it writes the schedule of the turns of that history in
-//! its place.
+//! its place. In place of the script a replay may stand, a schedule and then the script: then it writes `legal` where the output is
+//! what the scheduled history prints, and else the first line that differs.
 //!
 //! The judge of `history_judge` does the work over the two streams. It says what is proved: `legal` is written only where a legal
-//! history makes the output, and then that history is. That there is none where none was found is shown by tests alone.
+//! history makes the output, and then that history is. That there is none where none was found is shown by tests alone. Of a
+//! replay both answers are proved.
 #![tactic(auto)]
 
 ghost use Rattle.std.specs.Prelude.{IfOk};
@@ -19,7 +21,7 @@ use history_judge::{Judged, JudgedReplay, TurnsJudged, judge, judge_replay, judg
 use outer_io::{Sink, Source, StdSink, StdSource};
 use schedule_text::ReplayFault;
 use std::alloc::Global;
-use std::io::{BufRead, BufReader, BufWriter, ErrorKind, Write};
+use std::io::{BufReader, BufWriter, ErrorKind, Read, Write};
 use std::process::ExitCode;
 use std::{env, io};
 use words::{Asked, read_asked};
@@ -93,14 +95,22 @@ fn judge_asked<S: Source, K: Sink>(
 // The first line of a replay.
 const REPLAY: &[u8] = b"schedule 1\n";
 
+// The first bytes, as many as the first line of a replay has, or all where there are fewer.
+fn front_of<R: Read>(alloc: Global, input: &mut R) -> io::Result<Vec<u8>> {
+    let mut front = Vec::new(alloc);
+    input.take(REPLAY.len() as u64).read_to_end(&mut front)?;
+    Ok(front)
+}
+
 // Judges what standard input has: a replay, where its first line is that of one, and else a script.
 fn run(rt: &HostRuntime, asked: &Asked) -> io::Result<Outcome>
     requires { IsWithinLimits asked.now.sizes }
 {
     let alloc = rt.alloc();
     let mut input = BufReader::with_capacity(alloc, GATHERED, rt.stdin())?;
-    let is_replay = input.fill_buf()?.starts_with(REPLAY);
-    let mut src = StdSource::make(input);
+    let front = front_of(alloc, &mut input)?;
+    let is_replay = front.as_slice() == REPLAY;
+    let mut src = StdSource::make(front.as_slice().chain(input));
     let mut out = StdSink::make(BufWriter::with_capacity(alloc, GATHERED, rt.stdout())?);
     let outcome = if is_replay {
         Outcome::Replay(judge_replay(alloc, &asked.sizes, &mut src, &mut out))
