@@ -51,16 +51,23 @@ struct Programs {
     checker: String,
 }
 
-/// A script and for how many domains it is.
+/// A script or a replay, and for how many domains it is.
 struct Script {
     text: String,
     domains: usize,
 }
 
+impl Script {
+    /// The word of the player that runs it.
+    fn word(&self) -> &'static str {
+        if self.text.starts_with("schedule ") { "replay" } else { "run" }
+    }
+}
+
 impl Programs {
     fn output(&self, script: &Script) -> String {
         let mut command = Command::new(&self.player);
-        command.args(["run", "--domains", &script.domains.to_string()]);
+        command.args([script.word(), "--domains", &script.domains.to_string()]);
         piped(&mut command, &script.text).expect("the program runs").0
     }
 
@@ -197,11 +204,44 @@ fn with_one_changed(programs: &Programs, count: u64) -> Counts {
     counts
 }
 
+/// A random replay: a schedule of up to 80 items, of which each tenth is a collection, and a script with no `major`.
+fn replay(seed: u64) -> Script {
+    let mut dice = Dice::new(seed);
+    let domains = 1 + seed as usize % 4;
+    let mut text = String::from("schedule 1\n");
+    for _ in 0..dice.below(80) {
+        match dice.below(10) {
+            0 => text.push_str("collect\n"),
+            _ => text.push_str(&format!("turn {}\n", dice.below(domains))),
+        }
+    }
+    text.push_str("end\n");
+    for line in random::script_for(&mut dice, &random::of_length(&[60; 4]), domains).lines() {
+        text.push_str(if line == "major" { "minor" } else { line });
+        text.push('\n');
+    }
+    Script { text, domains }
+}
+
+/// Judges the outputs of replays: as they were printed each must be legal, and with one reply changed none may be.
+fn replays(programs: &Programs, count: u64) -> [Counts; 2] {
+    let mut counts = [Counts::default(), Counts::default()];
+    for seed in 1..=count {
+        let script = replay(seed);
+        let output = programs.output(&script);
+        let other = spoilt(&output, seed);
+        counts[0].add(&script, &output, programs.judged(&script, &output), Some(LEGAL));
+        let wanted = if other == output { LEGAL } else { NONE_FOUND };
+        counts[1].add(&script, &other, programs.judged(&script, &other), Some(wanted));
+    }
+    counts
+}
+
 fn main() -> ExitCode {
     let words: Vec<String> = std::env::args().collect();
     let count = |at: usize| words.get(at).and_then(|word| word.parse::<u64>().ok());
     let (Some(player), Some(checker), Some(what), Some(count)) = (words.get(1), words.get(2), words.get(3), count(4)) else {
-        eprintln!("usage: check_outputs PLAYER CHECKER camlheap|ocaml|speed COUNT");
+        eprintln!("usage: check_outputs PLAYER CHECKER camlheap|replays|ocaml|speed COUNT");
         return ExitCode::from(1);
     };
     let programs = Programs {
@@ -210,6 +250,10 @@ fn main() -> ExitCode {
     };
     let all = match what.as_str() {
         "ocaml" => vec![("outputs of OCaml 5", as_printed(&programs, &random::OF_OCAML, None, count))],
+        "replays" => {
+            let [printed, changed] = replays(&programs, count);
+            vec![("replays as printed", printed), ("replays with one reply changed", changed)]
+        }
         "speed" => vec![
             ("three domains with 40 commands each", as_printed(&programs, &random::of_length(&[0, 0, 40]), Some(3), count)),
             ("one domain with 2,000 commands", as_printed(&programs, &random::of_length(&[2000]), Some(1), count)),

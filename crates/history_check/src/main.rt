@@ -1,10 +1,12 @@
 //! Tells whether a runtime's output for a script is one that the definitions allow: reads the script, a line `---` and the
 //! output from standard input, and writes `legal` and the entries of a history that prints the output, or that no such
 //! history was found, or that the search was given up. With `--schedule` it writes the schedule of the turns of that history in
-//! its place.
+//! its place. In place of the script a replay may stand, a schedule and then the script: then it writes `legal` where the output is
+//! what the scheduled history prints, and else the first line that differs.
 //!
 //! The judge of `history_judge` does the work over the two streams. It says what is proved: `legal` is written only where a legal
-//! history makes the output, and then that history is. That there is none where none was found is shown by tests alone.
+//! history makes the output, and then that history is. That there is none where none was found is shown by tests alone. Of a
+//! replay both answers are proved.
 #![tactic(auto)]
 
 ghost use Rattle.std.specs.Prelude.{IfOk};
@@ -15,10 +17,11 @@ mod words;
 
 use bounded::Bounded;
 use heap_text::ScriptFault;
-use history_judge::{Judged, TurnsJudged, judge, judge_turns};
+use history_judge::{Judged, JudgedReplay, TurnsJudged, judge, judge_replay, judge_turns};
 use outer_io::{Sink, Source, StdSink, StdSource};
+use schedule_text::ReplayFault;
 use std::alloc::Global;
-use std::io::{BufReader, BufWriter, ErrorKind, Write};
+use std::io::{BufReader, BufWriter, ErrorKind, Read, Write};
 use std::process::ExitCode;
 use std::{env, io};
 use words::{Asked, read_asked};
@@ -32,6 +35,7 @@ enum Outcome {
     Usage,
     Judged(Judged),
     NoSchedule,
+    Replay(JudgedReplay),
 }
 
 // The words behind the program's name.
@@ -88,14 +92,31 @@ fn judge_asked<S: Source, K: Sink>(
     }
 }
 
-// Judges what standard input has.
+// The first line of a replay.
+const REPLAY: &[u8] = b"schedule 1\n";
+
+// The first bytes, as many as the first line of a replay has, or all where there are fewer.
+fn front_of<R: Read>(alloc: Global, input: &mut R) -> io::Result<Vec<u8>> {
+    let mut front = Vec::new(alloc);
+    input.take(REPLAY.len() as u64).read_to_end(&mut front)?;
+    Ok(front)
+}
+
+// Judges what standard input has: a replay, where its first line is that of one, and else a script.
 fn run(rt: &HostRuntime, asked: &Asked) -> io::Result<Outcome>
     requires { IsWithinLimits asked.now.sizes }
 {
     let alloc = rt.alloc();
-    let mut src = StdSource::make(BufReader::with_capacity(alloc, GATHERED, rt.stdin())?);
+    let mut input = BufReader::with_capacity(alloc, GATHERED, rt.stdin())?;
+    let front = front_of(alloc, &mut input)?;
+    let is_replay = front.as_slice() == REPLAY;
+    let mut src = StdSource::make(front.as_slice().chain(input));
     let mut out = StdSink::make(BufWriter::with_capacity(alloc, GATHERED, rt.stdout())?);
-    let outcome = judge_asked(rt, asked, &mut src, &mut out);
+    let outcome = if is_replay {
+        Outcome::Replay(judge_replay(alloc, &asked.sizes, &mut src, &mut out))
+    } else {
+        judge_asked(rt, asked, &mut src, &mut out)
+    };
     match out.flush() {
         Ok(()) => Ok(outcome),
         Err(_) => Ok(Outcome::Judged(Judged::WriteFault)),
@@ -117,6 +138,42 @@ fn tell_fault(rt: &HostRuntime, fault: ScriptFault) -> io::Result<()> {
     }
 }
 
+// Says what is wrong with a replay, as `camlheap` does.
+fn tell_replay_fault(rt: &HostRuntime, fault: ReplayFault) -> io::Result<()> {
+    match fault {
+        ReplayFault::Schedule { line } => eprintln!(rt; "schedule line {line}"),
+        ReplayFault::Script(fault) => tell_fault(rt, fault),
+        ReplayFault::NotReplayable { why } => eprintln!(rt; "not replayable: {why}"),
+        ReplayFault::Memory => eprintln!(rt; "out of memory"),
+    }
+}
+
+// Says what went wrong with a replay.
+fn tell_replay(rt: &HostRuntime, judged: JudgedReplay) -> io::Result<()> {
+    match judged {
+        JudgedReplay::Legal | JudgedReplay::Differs { .. } => Ok(()),
+        JudgedReplay::Replay(fault) => tell_replay_fault(rt, fault),
+        JudgedReplay::NoSeparator => tell_judged(rt, Judged::NoSeparator),
+        JudgedReplay::TooLong => tell_judged(rt, Judged::TooLong),
+        JudgedReplay::ReadFault => tell_judged(rt, Judged::ReadFault),
+        JudgedReplay::WriteFault => tell_judged(rt, Judged::WriteFault),
+        JudgedReplay::Memory => tell_judged(rt, Judged::Memory),
+    }
+}
+
+// Says what went wrong with a script.
+fn tell_judged(rt: &HostRuntime, judged: Judged) -> io::Result<()> {
+    match judged {
+        Judged::Legal | Judged::NoneFound | Judged::GaveUp => Ok(()),
+        Judged::Script(fault) => tell_fault(rt, fault),
+        Judged::NoSeparator => eprintln!(rt; "no line --- between the script and the output"),
+        Judged::TooLong => eprintln!(rt; "more than 1073741823 bytes"),
+        Judged::ReadFault => eprintln!(rt; "read fault"),
+        Judged::WriteFault => eprintln!(rt; "write fault"),
+        Judged::Memory => eprintln!(rt; "out of memory"),
+    }
+}
+
 // Says what went wrong.
 fn tell(rt: &HostRuntime, outcome: Outcome) -> io::Result<()> {
     match outcome {
@@ -126,15 +183,20 @@ fn tell(rt: &HostRuntime, outcome: Outcome) -> io::Result<()> {
             )
         }
         Outcome::NoSchedule => eprintln!(rt; "history_check: the history has no schedule"),
-        Outcome::Judged(Judged::Legal | Judged::NoneFound | Judged::GaveUp) => Ok(()),
-        Outcome::Judged(Judged::Script(fault)) => tell_fault(rt, fault),
-        Outcome::Judged(Judged::NoSeparator) => {
-            eprintln!(rt; "no line --- between the script and the output")
-        }
-        Outcome::Judged(Judged::TooLong) => eprintln!(rt; "more than 1073741823 bytes"),
-        Outcome::Judged(Judged::ReadFault) => eprintln!(rt; "read fault"),
-        Outcome::Judged(Judged::WriteFault) => eprintln!(rt; "write fault"),
-        Outcome::Judged(Judged::Memory) => eprintln!(rt; "out of memory"),
+        Outcome::Judged(judged) => tell_judged(rt, judged),
+        Outcome::Replay(judged) => tell_replay(rt, judged),
+    }
+}
+
+// The same of a replay.
+fn replay_number(judged: JudgedReplay) -> u8 {
+    match judged {
+        JudgedReplay::Legal => 0,
+        JudgedReplay::Replay(_) | JudgedReplay::NoSeparator | JudgedReplay::TooLong => 2,
+        JudgedReplay::ReadFault => 3,
+        JudgedReplay::WriteFault => 4,
+        JudgedReplay::Memory => 5,
+        JudgedReplay::Differs { .. } => 6,
     }
 }
 
@@ -150,6 +212,7 @@ fn status_number(outcome: Outcome) -> u8 {
         Outcome::Judged(Judged::NoneFound) => 6,
         Outcome::Judged(Judged::GaveUp) => 7,
         Outcome::NoSchedule => 8,
+        Outcome::Replay(judged) => replay_number(judged),
     }
 }
 

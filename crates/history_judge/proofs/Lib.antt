@@ -3,3 +3,4 @@ mod TextLemmas
 mod TurnLemmas
 mod VersionLemmas
 mod WritingLemmas
+pub mod ReplayLemmas

@@ -1,5 +1,5 @@
 -- The turns of a history of calls, and what their schedule prints.
-use Rattle.std.proofs.Common.{◌≡◌, ◌≢◌, ℕ, Bool, true, false, eqb-true, IsTrue, ⊎_elim, List, [], ◌∷◌, ◌++◌, flat_map, map, Option, Some, None, refl, ap, ap₂, sym, ◌∙◌, subst, append_assoc, append-nil}
+use Rattle.std.proofs.Common.{◌≡◌, ◌≢◌, ℕ, true, false, eqb-true, IsTrue, ⊎_elim, List, [], ◌∷◌, ◌++◌, flat_map, map, Some, None, refl, ap, ap₂, sym, ◌∙◌, append_assoc, append-nil}
 use Rattle.std.specs.Prelude.{codes, decimal}
 use Rattle.std.specs.List.{list_all, list_any, range_with_len}
 use Rattle.heap_model.specs.declared.command.Command.{Command}

@@ -13,8 +13,7 @@ use Rattle.interleavings.specs.Turns.{is_call, turns_of}
 use Rattle.schedule_laws.specs.declared.items.Item.{Item}
 use Rattle.schedule_laws.specs.Scheduled.{scheduled}
 use Rattle.schedule_text.specs.Spelling.{spelling}
-use Rattle.history_judge.specs.declared.judged.Judged.{Judged}
-use Rattle.history_judge.specs.declared.judged.Judged.TheVariants.{Legal, WriteFault}
+use Rattle.history_judge.specs.declared.judged.Judged.TheVariants.{Legal}
 use Rattle.history_judge.specs.declared.scheduling.TurnsJudged.{TurnsJudged}
 use Rattle.history_judge.specs.declared.scheduling.TurnsJudged.TheVariants.{Printed, NoSchedule, Other}
 use Rattle.history_judge.specs.Answer.{ExplainsScript}

@@ -1,6 +1,5 @@
 -- The turns of a history, as a schedule has them.
-use Rattle.std.specs.Prelude.{◌≡◌, ℕ, Bool, true, false, ◌==◌, cond, List, [], ◌∷◌, ◌++◌, option_to_list, codes, flat_map, Option, Some, None}
-use Rattle.heap_model.specs.declared.command.Command.{Command}
+use Rattle.std.specs.Prelude.{ℕ, true, false, ◌==◌, cond, List, [], ◌∷◌, ◌++◌, option_to_list, codes, flat_map, Option, Some, None}
 use Rattle.heap_model.specs.declared.command.Command.TheVariants.{FullMajor}
 use Rattle.heap_model.specs.declared.entry.Entry.{Entry}
 use Rattle.heap_model.specs.declared.entry.Entry.TheVariants as entry

@@ -27,7 +27,12 @@ fn push_number(text: &mut Vec<u8>, number: u64) -> Result<(), AllocError>
 }
 
 // Puts a count at the end between two texts.
-fn push_count(text: &mut Vec<u8>, front: &[u8], count: u64, behind: &[u8]) -> Result<(), AllocError>
+pub(crate) fn push_count(
+    text: &mut Vec<u8>,
+    front: &[u8],
+    count: u64,
+    behind: &[u8],
+) -> Result<(), AllocError>
     ensures { OnOk result (text.new.items ≡ text.old.items ++ (front.now ++ decimal count ++ behind.now)) }
 {
     push(text, front)?;

@@ -23,15 +23,15 @@ use Rattle.heap_model.proofs.Histories.HistoryLemmas.{legal_append, state_after-
 use Rattle.schedule_laws.specs.declared.items.Item.{Item}
 use Rattle.schedule_laws.specs.declared.items.Item.TheVariants.{Turn, Collect}
 use Rattle.schedule_laws.specs.Scheduled.{Played, all_ended, begun, behind, complete, domains_of, left_of, next_entries, played, rounds_of, take_item, take_round, take_turn, turn_on, with_entries, with_next}
-use Rattle.scheduled_runs.specs.Runs.{IsPlainScript, MayAnswer, Nothing, One, ScheduledIsLegal, is_one_entry}
+use Rattle.scheduled_runs.specs.Runs.{IsPlainScript, IsPlayed, MayAnswer, Nothing, One, ScheduledIsLegal, is_one_entry}
 use Rattle.scheduled_runs.proofs.Completing.{complete_legal, complete_open}
 use Rattle.scheduled_runs.proofs.Owed.{none_owed}
 
 -- a domain runs, no collection is under way, and its queue is empty
-record IsReady (s : State) (d : ℕ) : Type 0 where
-  mode : s.mode ≡ Open
-  running : (domain_at s d).ended ≡ false
-  queue : (domain_at s d).queue ≡ []
+pub record IsReady (s : State) (d : ℕ) : Type 0 where
+  pub mode : s.mode ≡ Open
+  pub running : (domain_at s d).ended ≡ false
+  pub queue : (domain_at s d).queue ≡ []
 
 -- one finaliser has run
 record HasRun (s t : State) (d : ℕ) (rest : List Pending) : Type 0 where
@@ -52,7 +52,7 @@ has_run s d (Fin number l r) rest inside =
     record { mode = refl; ended = ap (λ (x : DomainState). x.ended) here ∙ ap (λ (x : DomainState). x.ended) first; queue = ap (λ (x : DomainState). x.queue) here ∙ ap (λ (x : DomainState). x.queue) first }
 
 -- all of them run
-run_all : (q : List Pending) (s : State) (d : ℕ) → (domain_at s d).queue ≡ q → s.mode ≡ Open → (domain_at s d).ended ≡ false → LegalFrom s (replicate (length q) (Ran d)) × IsReady (state_after s (replicate (length q) (Ran d))) d
+pub run_all : (q : List Pending) (s : State) (d : ℕ) → (domain_at s d).queue ≡ q → s.mode ≡ Open → (domain_at s d).ended ≡ false → LegalFrom s (replicate (length q) (Ran d)) × IsReady (state_after s (replicate (length q) (Ran d))) d
 run_all [] s d is mode running = (tt, record { mode = mode; running = running; queue = is })
 run_all (p ∷ rest) s d is mode running =
     let ran : HasRun s (next s (Ran d)) d rest = subst (λ q. HasRun s (after_run s d q) d rest) (sym is) (has_run s d p rest (inside_running s.domains d running)) in
@@ -60,14 +60,7 @@ run_all (p ∷ rest) s d is mode running =
     ((record { mode = mode; running = running; queue = λ e. let clash : p ∷ rest ≡ [] = sym is ∙ e in cc }, later.0), later.1)
 
 module _ (z : Sizes) where
-  -- how far a run has come is a history that the heap may have
-  record IsPlayed (p : Played) : Type 0 where
-    legal : Legal z p.history
-    state : p.state ≡ state_after (opening z) p.history
-    mode : p.state.mode ≡ Open
-    plain : (d : ℕ) → list_all is_one_entry (left_of p d) ≡ true
-
-  entries_played : (p : Played) (es : List Entry) → IsPlayed p → LegalFrom p.state es → (state_after p.state es).mode ≡ Open → IsPlayed (with_entries p es)
+  pub entries_played : (p : Played) (es : List Entry) → IsPlayed z p → LegalFrom p.state es → (state_after p.state es).mode ≡ Open → IsPlayed z (with_entries p es)
   entries_played p es is legal mode = record {
     legal = legal_append (opening z) p.history es is.legal (subst (λ s. LegalFrom s es) is.state legal);
     state = ap (λ s. state_after s es) is.state ∙ sym (state_after-append (opening z) p.history es);
@@ -76,16 +69,16 @@ module _ (z : Sizes) where
   }
 
   -- a complete collection
-  collects : (p : Played) (answered : List Entry) → IsPlayed p → MayAnswer p.state answered → LegalFrom p.state (complete p.state answered)
+  pub collects : (p : Played) (answered : List Entry) → IsPlayed z p → MayAnswer p.state answered → LegalFrom p.state (complete p.state answered)
   collects p answered is may =
       subst (λ s. LegalFrom s (complete s answered)) (sym is.state)
       (complete_legal z p.history is.legal (sym (ap (λ (s : State). s.mode) is.state) ∙ is.mode) answered (subst (λ s. MayAnswer s answered) is.state may))
 
   -- the next command, or the end
-  abbrev Makes : Played → ℕ → List Command → Type 0
+  abbrev pub Makes : Played → ℕ → List Command → Type 0
   Makes p d cs = LegalFrom p.state (next_entries p.state d cs) × ((state_after p.state (next_entries p.state d cs)).mode ≡ Open)
 
-  makes : (p : Played) (d : ℕ) (cs : List Command) → IsPlayed p → IsReady p.state d → list_all is_one_entry cs ≡ true → Makes p d cs
+  pub makes : (p : Played) (d : ℕ) (cs : List Command) → IsPlayed z p → IsReady p.state d → list_all is_one_entry cs ≡ true → Makes p d cs
   makes p d [] is ready plain = ((record { mode = ready.mode; running = ready.running; queue = ready.queue }, tt), ready.mode)
   makes p d (FullMajor ∷ cs) is ready plain =
       let owed : (domain_at p.state d).due ≡ 0 = subst (λ (s : State). (domain_at s d).queue ≡ [] → (domain_at s d).due ≡ 0) (sym is.state) (none_owed z p.history d) ready.queue in
@@ -100,7 +93,7 @@ module _ (z : Sizes) where
   rest_plain [] plain = plain
   rest_plain (c ∷ cs) plain = (and_parts (is_one_entry c) (list_all is_one_entry cs) plain).1
 
-  next_played : (p : Played) (d : ℕ) → IsPlayed p → IsReady p.state d → IsPlayed (with_next p d)
+  pub next_played : (p : Played) (d : ℕ) → IsPlayed z p → IsReady p.state d → IsPlayed z (with_next p d)
   next_played p d is ready =
       let made = makes p d (left_of p d) is ready (is.plain d) in
       let on = entries_played p (next_entries p.state d (left_of p d)) is made.0 made.1 in record {
@@ -110,42 +103,42 @@ module _ (z : Sizes) where
         plain = λ k. ⊎_elim (λ here. ap (list_all is_one_entry) here.1 ∙ rest_plain (left_of p d) (is.plain d)) (λ there. ap (list_all is_one_entry) there ∙ is.plain k) (set_cases p.left d (behind (left_of p d)) [] k);
       }
 
-  turn_played : (p : Played) (d : ℕ) → IsPlayed p → IsPlayed (take_turn p d)
+  pub turn_played : (p : Played) (d : ℕ) → IsPlayed z p → IsPlayed z (take_turn p d)
   turn_played p d is = go (domain_at p.state d).ended refl
     where
-      go : (b : Bool) → (domain_at p.state d).ended ≡ b → IsPlayed (turn_on p d b)
+      go : (b : Bool) → (domain_at p.state d).ended ≡ b → IsPlayed z (turn_on p d b)
       go true e = is
       go false e =
           let ran = run_all (domain_at p.state d).queue p.state d refl is.mode e in
           let runs : List Entry = replicate (length (domain_at p.state d).queue) (Ran d) in
           next_played (with_entries p runs) d (entries_played p runs is ran.0 ran.1.mode) ran.1
 
-  item_played : (p : Played) (i : Item) → IsPlayed p → IsPlayed (take_item p i)
+  pub item_played : (p : Played) (i : Item) → IsPlayed z p → IsPlayed z (take_item p i)
   item_played p (Turn d) is = turn_played p d is
   item_played p Collect is = go (all_ended p.state)
     where
-      go : (b : Bool) → IsPlayed (if b then p else with_entries p (complete p.state []))
+      go : (b : Bool) → IsPlayed z (if b then p else with_entries p (complete p.state []))
       go true = is
       go false = entries_played p (complete p.state []) is (collects p [] is Nothing) (complete_open p.state [])
 
-  items_played : (items : List Item) (p : Played) → IsPlayed p → IsPlayed (fold take_item p items)
+  items_played : (items : List Item) (p : Played) → IsPlayed z p → IsPlayed z (fold take_item p items)
   items_played [] p is = is
   items_played (i ∷ items) p is = items_played items (take_item p i) (item_played p i is)
 
-  turns_played : (ds : List ℕ) (p : Played) → IsPlayed p → IsPlayed (fold take_turn p ds)
+  pub turns_played : (ds : List ℕ) (p : Played) → IsPlayed z p → IsPlayed z (fold take_turn p ds)
   turns_played [] p is = is
   turns_played (d ∷ ds) p is = turns_played ds (take_turn p d) (turn_played p d is)
 
-  rounds_played : (ns : List ℕ) (p : Played) → IsPlayed p → IsPlayed (fold (λ q n. take_round q) p ns)
+  rounds_played : (ns : List ℕ) (p : Played) → IsPlayed z p → IsPlayed z (fold (λ q n. take_round q) p ns)
   rounds_played [] p is = is
   rounds_played (n ∷ ns) p is = rounds_played ns (take_round p) (turns_played (domains_of p.state) p is)
 
-  sections_plain : (script : List (List Command)) → IsPlainScript script → (d : ℕ) → list_all is_one_entry (slice_index_or script d []) ≡ true
+  pub sections_plain : (script : List (List Command)) → IsPlainScript script → (d : ℕ) → list_all is_one_entry (slice_index_or script d []) ≡ true
   sections_plain [] plain d = refl
   sections_plain (cs ∷ script) plain zero = (and_parts (list_all is_one_entry cs) (list_all (list_all is_one_entry) script) plain).0
   sections_plain (cs ∷ script) plain (suc d) = sections_plain script (and_parts (list_all is_one_entry cs) (list_all (list_all is_one_entry) script) plain).1 d
 
-  all_played : (script : List (List Command)) (items : List Item) → IsPlainScript script → IsPlayed (played z script items)
+  all_played : (script : List (List Command)) (items : List Item) → IsPlainScript script → IsPlayed z (played z script items)
   all_played script items plain = rounds_played (range_with_len 0 (rounds_of script)) (fold take_item (begun z script) items)
       (items_played items (begun z script) (record { legal = tt; state = refl; mode = refl; plain = sections_plain script plain }))
 

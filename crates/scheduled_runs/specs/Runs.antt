@@ -11,7 +11,7 @@ use Rattle.heap_model.specs.declared.state.State.{State}
 use Rattle.heap_model.specs.Domains.{domain_at, opening}
 use Rattle.heap_model.specs.History.{Legal, commands, state_after}
 use Rattle.schedule_laws.specs.declared.items.Item.{Item}
-use Rattle.schedule_laws.specs.Scheduled.{complete, scheduled}
+use Rattle.schedule_laws.specs.Scheduled.{Played, complete, left_of, scheduled}
 
 -- whether a command is one entry: all are but the four of sections that spawn and join, which stand for several
 abbrev pub is_one_entry : Command → Bool
@@ -24,6 +24,13 @@ is_one_entry c = true
 -- the script has no section that spawns or joins
 abbrev pub IsPlainScript : List (List Command) → Type 0
 IsPlainScript script = list_all (list_all is_one_entry) script ≡ true
+
+-- how far a run has come is a history that the heap may have, no collection is under way, and the commands that are left are each one entry
+pub record IsPlayed (z : Sizes) (p : Played) : Type 0 where
+  pub legal : Legal z p.history
+  pub state : p.state ≡ state_after (opening z) p.history
+  pub mode : p.state.mode ≡ Open
+  pub plain : (d : ℕ) → list_all is_one_entry (left_of p d) ≡ true
 
 -- what may stand where a complete collection is answered: nothing, or the `full_major` of a domain that runs and owes no finaliser
 pub data MayAnswer (s : State) : List Entry → Type 0 where

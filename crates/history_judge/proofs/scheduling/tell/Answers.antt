@@ -1,4 +1,4 @@
-use Rattle.std.proofs.Common.{ℕ, List, sym, subst}
+use Rattle.std.proofs.Common.{List, sym, subst}
 use Rattle.heap_model.specs.declared.entry.Entry.{Entry}
 use Rattle.history_judge.specs.Answer.{ExplainsScript, IsTrueAnswer}
 use Rattle.history_judge.specs.declared.explain.Explained.{Explained}
