@@ -8,3 +8,7 @@ pub mod GetLemmas
 pub mod MakeLemmas
 pub mod FieldLemmas
 pub mod TakeLemmas
+pub mod PlaceLemmas
+pub mod FreshLemmas
+pub mod PutLemmas
+pub mod PublishLemmas

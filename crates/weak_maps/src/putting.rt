@@ -1,0 +1,68 @@
+//! Bindings that are put.
+ghost use Rattle.std.specs.Prelude.{◌≡◌, ◌≢◌, ◌+◌, ◌<◌, ◌≤◌, cond};
+ghost use Rattle.weak_maps.specs.Beside.{refusals_by, writings_by};
+ghost use Rattle.weak_maps.specs.Puts.{MakesLeaf, Publishes};
+
+use crate::machine::{Machine, perform};
+use crate::replies::{is_full, is_yes};
+use heap_model::command::Command;
+use std::sync::Wait;
+
+// Makes a leaf of the key in a register, with the datum in another, into register 10. Tells whether the allocation wasn't
+// refused.
+fn make_leaf<M: Machine, R: Wait>(m: &mut M, rt: &R, key: u8, item: u8) -> bool
+    requires few { (key < 8) × (item < 8) }
+    requires label { 1 ≤ M.labels_left m.old }
+    requires room { 1 ≤ M.ephes_room m.old }
+    ensures sizes { M.sizes m.new ≡ M.sizes m.old }
+    ensures domain { M.domain m.new ≡ M.domain m.old }
+    ensures labels { M.labels_left m.old ≡ M.labels_left m.new + cond result 1 0 }
+    ensures room { M.ephes_room m.old ≤ M.ephes_room m.new + 1 }
+    ensures refused { refusals_by (M.domain m.old) (M.front m.new) ≡ refusals_by (M.domain m.old) (M.front m.old) + cond result 0 1 }
+    ensures written { writings_by (M.domain m.old) (M.front m.new) ≡ writings_by (M.domain m.old) (M.front m.old) }
+    ensures made { MakesLeaf (M.sizes m.old) (M.domain m.old) (M.front m.old) (M.front m.new) key item result }
+{
+    m.stands();
+    let made = perform(m, rt, Command::Ephe { dst: 10, keys: 1 });
+    if is_full(&made) {
+        return false;
+    }
+    let _datum = perform(m, rt, Command::SetData { ephe: 10, item });
+    let _key = perform(
+        m,
+        rt,
+        Command::SetKey {
+            ephe: 10,
+            index: 0,
+            item: key,
+        },
+    );
+    true
+}
+
+// Puts the leaf in register 10 into a field of the block in register 8, where that holds what register 9 holds. Tells whether
+// it did.
+fn publish<M: Machine, R: Wait>(m: &mut M, rt: &R, key: u8, index: u16) -> bool
+    requires few { key < 8 }
+    ensures sizes { M.sizes m.new ≡ M.sizes m.old }
+    ensures domain { M.domain m.new ≡ M.domain m.old }
+    ensures labels { M.labels_left m.new ≡ M.labels_left m.old }
+    ensures room { M.ephes_room m.old ≤ M.ephes_room m.new }
+    ensures given { refusals_by (M.domain m.old) (M.front m.new) ≡ refusals_by (M.domain m.old) (M.front m.old) }
+    ensures written { writings_by (M.domain m.old) (M.front m.new) ≡ writings_by (M.domain m.old) (M.front m.old) }
+    ensures published { Publishes (M.sizes m.old) (M.domain m.old) (M.front m.old) (M.front m.new) key index result }
+{
+    m.stands();
+    let _key = key;
+    let won = perform(
+        m,
+        rt,
+        Command::Cas {
+            block: 8,
+            index,
+            expected: 9,
+            item: 10,
+        },
+    );
+    is_yes(&won)
+}
