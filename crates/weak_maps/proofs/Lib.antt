@@ -12,3 +12,4 @@ pub mod PlaceLemmas
 pub mod FreshLemmas
 pub mod PutLemmas
 pub mod PublishLemmas
+pub mod FoundLemmas

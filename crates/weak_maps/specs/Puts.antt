@@ -1,5 +1,5 @@
 -- What a put needs and makes: where leaves stand, what a field binds at most, and a leaf in the making.
-use Rattle.std.specs.Prelude.{◌≡◌, ◌≢◌, ◌⊎◌, ◌<◌, ℕ, ◌+◌, Bool, true, false, List, [], ◌∷◌, ◌++◌, length, Option, Some, None, pos}
+use Rattle.std.specs.Prelude.{◌≡◌, ◌≢◌, ◌⊎◌, ◌<◌, ℕ, ◌+◌, Bool, true, false, cond, List, [], ◌∷◌, ◌++◌, length, Option, Some, None, pos}
 use Rattle.heap_model.specs.declared.label.Label.{Label}
 use Rattle.heap_model.specs.declared.entry.Entry.{Entry}
 use Rattle.heap_model.specs.declared.graph.Value.{Value}
@@ -7,8 +7,9 @@ use Rattle.heap_model.specs.declared.graph.Value.TheVariants.{Int, Block, Nothin
 use Rattle.heap_model.specs.declared.graph.Node.{Node}
 use Rattle.heap_model.specs.declared.graph.Node.TheVariants.{Ephe}
 use Rattle.heap_model.specs.declared.reply.Reply.{Reply}
+use Rattle.heap_model.specs.declared.reply.Reply.TheVariants as reply
 use Rattle.heap_model.specs.declared.state.Sizes.{Sizes}
-use Rattle.heap_model.specs.Graph.{Graph, node_at}
+use Rattle.heap_model.specs.Graph.{Graph, node_at, same_label}
 use Rattle.heap_model.specs.History.{IsPrefix}
 use Rattle.table_laws.specs.Thinning.{state_of}
 use Rattle.table_laws.specs.Stages.{graph_of}
@@ -17,7 +18,8 @@ use Rattle.map_laws.specs.Steps.{OthersRespect}
 use Rattle.map_laws.specs.Calls.{ChangesOne, Looks}
 use Rattle.map_laws.specs.Private.{IsPrivate}
 use Rattle.weak_maps.specs.Beside.{held_by}
-use Rattle.weak_maps.specs.Fields.{AtField}
+use Rattle.weak_maps.specs.Walks.{Looking}
+use Rattle.weak_maps.specs.Fields.{AtField, KeepsWalked}
 
 -- each leaf that binds a key stands on the key's way
 abbrev pub IsInPlace : ℕ → Graph → Label → Type 0
@@ -96,3 +98,28 @@ PublishesBy z d first front old new root k index rest shows field l v false = Pu
 abbrev pub Publishes : Sizes → ℕ → List Entry → List Entry → ℕ → ℕ → Bool → Type 0
 Publishes z d old new key index won = (first front : List Entry) (root k l : Label) (v : Value) (rest : ℕ) (shows : Reply) → held_by z d old key ≡ Block k → (field : AtField z d first front old root k index rest shows) → FieldBinds z front old field.v k
     → OwnBlock z d old root 10 l (Ephe (Some k ∷ []) v) → IsMap (graph_of z old) root → OthersRespect z root d old new → PublishesBy z d first front old new root k index rest shows field l v won
+
+-- the key that another's leaf has, or the key itself
+abbrev pub key_or : Label → Option Label → Label
+key_or k None = k
+key_or k (Some j) = j
+
+-- the block that a reply shows, but for this one
+abbrev pub other_block : Label → Reply → Option Label
+other_block k (reply.Block l) = cond (same_label l k) None (Some l)
+other_block k r = None
+
+-- a walk came to the field at which a key's way ends, so many blocks below where it began: what register 9 holds of it binds the key at most, or another key that is told
+pub record FieldFound (z : Sizes) (d : ℕ) (first now : List Entry) (root k : Label) (index rest depth : ℕ) (other : Option Label) : Type 0 where
+  pub shows : Reply
+  pub front : List Entry
+  pub field : AtField z d first front now root k index rest shows
+  pub deep : depth ≡ length field.p
+  pub binds : FieldBinds z front now field.v (key_or k other)
+  pub differs : (j : Label) → other ≡ Some j → j ≢ k
+  pub alive : (j : Label) → other ≡ Some j → bound_by (graph_of z front) j field.v ≢ None
+
+-- whatever map it is on, if others respect it
+abbrev pub FindsField : Sizes → ℕ → List Entry → List Entry → ℕ → Label → ℕ → ℕ → Reply → ℕ → ℕ → ℕ → Option Label → Type 0
+FindsField z d old new kr k index rest at_end index_now rest_now steps other = (first : List Entry) (root : Label) → held_by z d old kr ≡ Block k → Looking z root d first old → (x : AtField z d first old old root k index rest at_end) → OthersRespect z root d first new
+    → Looking z root d first new × KeepsWalked z d old new × FieldFound z d first new root k index_now rest_now (length x.p + steps) other
