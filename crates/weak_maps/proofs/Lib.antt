@@ -13,3 +13,4 @@ pub mod FreshLemmas
 pub mod PutLemmas
 pub mod PublishLemmas
 pub mod FoundLemmas
+pub mod RoomLemmas

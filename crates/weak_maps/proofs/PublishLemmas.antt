@@ -28,7 +28,7 @@ use Rattle.table_laws.specs.Thinning.{IsOutside, Thin, WasOutside, state_of}
 use Rattle.table_laws.specs.Stages.{graph_of}
 use Rattle.map_laws.specs.Tries.{at, inside, fields_of, bound_by, bound_in, found, is_leaf, low_digits, way_to, IsMap}
 use Rattle.map_laws.specs.Private.{IsPrivate}
-use Rattle.map_laws.specs.Steps.{Sets, SetsKey, OthersRespect, RespectsMap}
+use Rattle.map_laws.specs.Steps.{AllRespect, Sets, SetsKey, OthersRespect, RespectsMap}
 use Rattle.map_laws.specs.Calls.{PerformedBy, bound_after, registers_after}
 use Rattle.map_laws.proofs.CallLemmas.{cas_step, registers_kept}
 use Rattle.map_laws.proofs.FrontLemmas.{other_between, prefix_more, prefix_same, prefix_trans, walk_along}
@@ -46,12 +46,12 @@ use Rattle.weak_maps.proofs.FreshLemmas.{held_not_outside, map_by, next_is, own_
 use Rattle.weak_maps.proofs.GetLemmas.{grows_by}
 use Rattle.weak_maps.proofs.StayLemmas.{respects_within, stays_middle, stays_same, stays_twice}
 
--- a leaf of a key stays one while others go on
-leaf_along : (z : Sizes) (root : Label) (d : ℕ) (now between : List Entry) → NoneOf d between → OthersRespect z root d now (now ++ between) → (front : List Entry) (q : List ℕ) (l k : Label) → IsPrefix front now
-    → at (inside (graph_of z front)) q (Block root) ≡ Some (Block l) → is_leaf (node_at (graph_of z front) l) → IsLeafOf (graph_of z now) k l → IsLeafOf (graph_of z (now ++ between)) k l
-leaf_along z root d now between none respects front q l k before there leaf is = walk_along (λ h. IsLeafOf (graph_of z h) k l) now (now ++ between) (prefix_more now between)
+-- a leaf of a key stays one over a history whose entries respect a map
+leaf_all : (z : Sizes) (root : Label) (now new : List Entry) → IsPrefix now new → AllRespect z root now new → (front : List Entry) (q : List ℕ) (l k : Label) → IsPrefix front now
+    → at (inside (graph_of z front)) q (Block root) ≡ Some (Block l) → is_leaf (node_at (graph_of z front) l) → IsLeafOf (graph_of z now) k l → IsLeafOf (graph_of z new) k l
+leaf_all z root now new grows all front q l k before there leaf is = walk_along (λ h. IsLeafOf (graph_of z h) k l) now new grows
     (λ f e a b x. subst (λ (g : Graph). IsLeafOf g k l) (sym (graph_push z f e))
-    (go f e (λ n node. (respects f e a b (other_between d now between f e none a b)).leaves front q l n (prefix_trans front now f before a) there leaf node) x)) is
+    (go f e (λ n node. (all f e a b).leaves front q l n (prefix_trans front now f before a) there leaf node) x)) is
   where
     left : (P : Label → Type 0) (key : Option Label) (datum : Value) (o : Option Node) → ((key ≡ Some k) ⊎ (key ≡ None)) → Thin P (Ephe (key ∷ []) datum) o → (now_datum : Value) × ((o ≡ Some (Ephe (Some k ∷ []) now_datum)) ⊎ (o ≡ Some (Ephe (None ∷ []) now_datum)))
     left P key datum o (inl some) (inl same) = (datum, inl (same ∙ ap (λ (x : Option Label). Some (Ephe (x ∷ []) datum)) some))
@@ -63,11 +63,16 @@ leaf_along z root d now between none respects front q l k before there leaf is =
     go f e thins (datum, inr empty) = left (IsOutside (state_of z f)) None datum (node_at (next (state_of z f) e).graph l) (inr refl) (thins _ empty)
 
 -- so with what a field binds
+pub binds_all : (z : Sizes) (root : Label) (now new : List Entry) → IsPrefix now new → AllRespect z root now new → (front : List Entry) (q : List ℕ) (v : Value) (k : Label) → IsPrefix front now
+    → at (inside (graph_of z front)) q (Block root) ≡ Some v → FieldBinds z front now v k → FieldBinds z front new v k
+binds_all z root now new grows all front q (Int i) k before there x = record { binds = x.binds; leaf = x.leaf }
+binds_all z root now new grows all front q (Block l) k before there x = record { binds = leaf_all z root now new grows all front q l k before there (x.leaf l refl) x.binds; leaf = x.leaf }
+binds_all z root now new grows all front q Nothing k before there x = absurd x.binds
+
+-- while others go on
 pub binds_along : (z : Sizes) (root : Label) (d : ℕ) (now between : List Entry) → NoneOf d between → OthersRespect z root d now (now ++ between) → (front : List Entry) (q : List ℕ) (v : Value) (k : Label) → IsPrefix front now
     → at (inside (graph_of z front)) q (Block root) ≡ Some v → FieldBinds z front now v k → FieldBinds z front (now ++ between) v k
-binds_along z root d now between none respects front q (Int i) k before there x = record { binds = x.binds; leaf = x.leaf }
-binds_along z root d now between none respects front q (Block l) k before there x = record { binds = leaf_along z root d now between none respects front q l k before there (x.leaf l refl) x.binds; leaf = x.leaf }
-binds_along z root d now between none respects front q Nothing k before there x = absurd x.binds
+binds_along z root d now between none respects = binds_all z root now (now ++ between) (prefix_more now between) (λ f e a b. respects f e a b (other_between d now between f e none a b))
 
 pub binds_some : (g : Graph) (k : Label) (v : Value) → BindsOnly g k v → v ≢ Nothing
 binds_some g k (Int i) binds e = cc

@@ -19,7 +19,7 @@ use Rattle.map_laws.specs.Calls.{ChangesOne, Looks}
 use Rattle.map_laws.specs.Private.{IsPrivate}
 use Rattle.weak_maps.specs.Beside.{held_by}
 use Rattle.weak_maps.specs.Walks.{Looking}
-use Rattle.weak_maps.specs.Fields.{AtField, KeepsWalked}
+use Rattle.weak_maps.specs.Fields.{AtField, KeepsWalked, Stays}
 
 -- each leaf that binds a key stands on the key's way
 abbrev pub IsInPlace : ℕ → Graph → Label → Type 0
@@ -123,3 +123,24 @@ pub record FieldFound (z : Sizes) (d : ℕ) (first now : List Entry) (root k : L
 abbrev pub FindsField : Sizes → ℕ → List Entry → List Entry → ℕ → Label → ℕ → ℕ → Reply → ℕ → ℕ → ℕ → Option Label → Type 0
 FindsField z d old new kr k index rest at_end index_now rest_now steps other = (first : List Entry) (root : Label) → held_by z d old kr ≡ Block k → Looking z root d first old → (x : AtField z d first old old root k index rest at_end) → OthersRespect z root d first new
     → Looking z root d first new × KeepsWalked z d old new × FieldFound z d first new root k index_now rest_now (length x.p + steps) other
+
+-- room was made at a field, or another call wrote it first: either way the call goes on from the same block, with the leaf in the making
+pub record RoomMade (z : Sizes) (d : ℕ) (front old new : List Entry) (root k l : Label) (v : Value) : Type 0 where
+  pub on : GoesOn z root d old new
+  pub stays : Stays z root front new
+  pub leaf : OwnBlock z d new root 10 l (Ephe (Some k ∷ []) v)
+  pub keeps : (i : ℕ) → i ≢ 11 → held_by z d new i ≡ held_by z d old i
+
+-- or the allocation was refused
+pub record RoomRefused (z : Sizes) (d : ℕ) (old new : List Entry) (root : Label) : Type 0 where
+  pub on : GoesOn z root d old new
+  pub keeps : (i : ℕ) → held_by z d new i ≡ held_by z d old i
+
+abbrev pub MakesRoomBy : Sizes → ℕ → List Entry → List Entry → List Entry → Label → Label → Label → Value → Bool → Type 0
+MakesRoomBy z d front old new root k l v true = RoomMade z d front old new root k l v
+MakesRoomBy z d front old new root k l v false = RoomRefused z d old new root
+
+-- whatever map that is in, if others respect it, and the way to the other key goes on by this digit
+abbrev pub MakesRoom : Sizes → ℕ → List Entry → List Entry → ℕ → ℕ → ℕ → Bool → Type 0
+MakesRoom z d old new key index digit made = (first front : List Entry) (root k j l : Label) (v : Value) (rest : ℕ) (shows : Reply) → held_by z d old key ≡ Block k → (field : AtField z d first front old root k index rest shows) → FieldBinds z front old field.v j
+    → ((q : List ℕ) × (way_to z.domains j ≡ field.p ++ index ∷ digit ∷ q)) → OwnBlock z d old root 10 l (Ephe (Some k ∷ []) v) → IsMap (graph_of z old) root → OthersRespect z root d old new → MakesRoomBy z d front old new root k l v made

@@ -1,7 +1,8 @@
 //! Bindings that are put.
 ghost use Rattle.std.specs.Prelude.{◌≡◌, ◌≢◌, ◌+◌, ◌<◌, ◌≤◌, cond};
 ghost use Rattle.weak_maps.specs.Beside.{refusals_by, writings_by};
-ghost use Rattle.weak_maps.specs.Puts.{MakesLeaf, Publishes};
+ghost use Rattle.weak_maps.specs.Puts.{MakesLeaf, MakesRoom, Publishes};
+ghost use Rattle.map_laws.specs.Tries.{node_width};
 
 use crate::machine::{Machine, perform};
 use crate::replies::{is_full, is_yes};
@@ -65,4 +66,53 @@ fn publish<M: Machine, R: Wait>(m: &mut M, rt: &R, key: u8, index: u16) -> bool
         },
     );
     is_yes(&won)
+}
+
+// Puts the leaf of another key that register 9 holds one block deeper, into this field there, where the field of the block in
+// register 8 still holds it. Tells whether the allocation of that block wasn't refused. Register 11 is used between.
+fn make_room<M: Machine, R: Wait>(m: &mut M, rt: &R, key: u8, index: u16, digit: u16) -> bool
+    requires few { (key < 8) × (digit < node_width) }
+    requires label { 1 ≤ M.labels_left m.old }
+    ensures sizes { M.sizes m.new ≡ M.sizes m.old }
+    ensures domain { M.domain m.new ≡ M.domain m.old }
+    ensures labels { M.labels_left m.old ≡ M.labels_left m.new + cond result 1 0 }
+    ensures room { M.ephes_room m.old ≤ M.ephes_room m.new }
+    ensures refused { refusals_by (M.domain m.old) (M.front m.new) ≡ refusals_by (M.domain m.old) (M.front m.old) + cond result 0 1 }
+    ensures written { writings_by (M.domain m.old) (M.front m.new) ≡ writings_by (M.domain m.old) (M.front m.old) }
+    ensures made { MakesRoom (M.sizes m.old) (M.domain m.old) (M.front m.old) (M.front m.new) key index digit result }
+{
+    m.stands();
+    let _key = key;
+    let made = perform(
+        m,
+        rt,
+        Command::Alloc {
+            dst: 11,
+            tag: 0,
+            fields: 32,
+        },
+    );
+    if is_full(&made) {
+        return false;
+    }
+    let _leaf = perform(
+        m,
+        rt,
+        Command::Store {
+            block: 11,
+            index: digit,
+            item: 9,
+        },
+    );
+    let _deeper = perform(
+        m,
+        rt,
+        Command::Cas {
+            block: 8,
+            index,
+            expected: 9,
+            item: 11,
+        },
+    );
+    true
 }
