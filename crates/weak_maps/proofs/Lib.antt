@@ -14,3 +14,4 @@ pub mod PutLemmas
 pub mod PublishLemmas
 pub mod FoundLemmas
 pub mod RoomLemmas
+pub mod DigitLemmas

@@ -1,5 +1,5 @@
 -- What a put needs and makes: where leaves stand, what a field binds at most, and a leaf in the making.
-use Rattle.std.specs.Prelude.{◌≡◌, ◌≢◌, ◌⊎◌, ◌<◌, ℕ, ◌+◌, Bool, true, false, cond, List, [], ◌∷◌, ◌++◌, length, Option, Some, None, pos}
+use Rattle.std.specs.Prelude.{◌≡◌, ◌≢◌, ◌⊎◌, ◌<◌, ℕ, zero, suc, ◌+◌, ◌/◌, Bool, true, false, cond, List, [], ◌∷◌, ◌++◌, length, Option, Some, None, pos}
 use Rattle.heap_model.specs.declared.label.Label.{Label}
 use Rattle.heap_model.specs.declared.entry.Entry.{Entry}
 use Rattle.heap_model.specs.declared.graph.Value.{Value}
@@ -13,7 +13,7 @@ use Rattle.heap_model.specs.Graph.{Graph, node_at, same_label}
 use Rattle.heap_model.specs.History.{IsPrefix}
 use Rattle.table_laws.specs.Thinning.{state_of}
 use Rattle.table_laws.specs.Stages.{graph_of}
-use Rattle.map_laws.specs.Tries.{at, inside, bound_by, is_leaf, way_to, IsMap}
+use Rattle.map_laws.specs.Tries.{at, inside, bound_by, is_leaf, node_width, root_width, way_to, IsMap}
 use Rattle.map_laws.specs.Steps.{OthersRespect}
 use Rattle.map_laws.specs.Calls.{ChangesOne, Looks}
 use Rattle.map_laws.specs.Private.{IsPrivate}
@@ -144,3 +144,8 @@ MakesRoomBy z d front old new root k l v false = RoomRefused z d old new root
 abbrev pub MakesRoom : Sizes → ℕ → List Entry → List Entry → ℕ → ℕ → ℕ → Bool → Type 0
 MakesRoom z d old new key index digit made = (first front : List Entry) (root k j l : Label) (v : Value) (rest : ℕ) (shows : Reply) → held_by z d old key ≡ Block k → (field : AtField z d first front old root k index rest shows) → FieldBinds z front old field.v j
     → ((q : List ℕ) × (way_to z.domains j ≡ field.p ++ index ∷ digit ∷ q)) → OwnBlock z d old root 10 l (Ephe (Some k ∷ []) v) → IsMap (graph_of z old) root → OthersRespect z root d old new → MakesRoomBy z d front old new root k l v made
+
+-- what is left of a number below its first digit and so many others
+abbrev pub rest_of : ℕ → ℕ → ℕ
+rest_of n zero = n / root_width
+rest_of n (suc t) = rest_of n t / node_width
