@@ -241,7 +241,7 @@ module _ (z : Sizes) (limits : IsWithinLimits z) (root : Label) (d : ℕ) (first
       let y = field_load now new r i rest x.left x.p x.all x.way x.narrow x.l moved.1.0 x.held moved.0 moved.1.1 p respects looking in
       (y.0, y.1.0, y.2)
 
-  still_key : (old now : List Entry) (kr : ℕ) → kr < 8 → held_by z d old kr ≡ Block k → KeepsWalked z d old now → held_by z d now kr ≡ Block k
+  pub still_key : (old now : List Entry) (kr : ℕ) → kr < 8 → held_by z d old kr ≡ Block k → KeepsWalked z d old now → held_by z d now kr ≡ Block k
   still_key old now kr few key keeps = keeps kr (λ e. absurd (omega (arith, few, e))) (λ e. absurd (omega (arith, few, e))) (λ e. absurd (omega (arith, few, e))) ∙ key
 
   pub walk_key : (old now new : List Entry) (r : Reply) (i rest : ℕ) (s : Reply) (start n kr : ℕ) → kr < 8 → held_by z d old kr ≡ Block k → PerformedBy z d now new (GetKey 11 9 0) r → OthersRespect z root d first new → Walked z root d first k old now i rest s start n → IsBlock s → (r ≡ reply.BadType → ⊥)

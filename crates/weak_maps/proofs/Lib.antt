@@ -15,3 +15,5 @@ pub mod PublishLemmas
 pub mod FoundLemmas
 pub mod RoomLemmas
 pub mod DigitLemmas
+pub mod LeafLemmas
+pub mod TryLemmas

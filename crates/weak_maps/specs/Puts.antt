@@ -149,3 +149,30 @@ MakesRoom z d old new key index digit made = (first front : List Entry) (root k 
 abbrev pub rest_of : ℕ → ℕ → ℕ
 rest_of n zero = n / root_width
 rest_of n (suc t) = rest_of n t / node_width
+
+-- a leaf in the making stays the domain's own while a walk goes on, for whatever call and whatever map that is
+abbrev pub KeepsLeaf : Sizes → ℕ → List Entry → List Entry → ℕ → Label → ℕ → ℕ → Reply → Type 0
+KeepsLeaf z d old new kr k index rest at_end = (first : List Entry) (root l : Label) (v : Value) → held_by z d old kr ≡ Block k → Looking z root d first old → (x : AtField z d first old old root k index rest at_end) → OthersRespect z root d first new
+    → OwnBlock z d old root 10 l (Ephe (Some k ∷ []) v) → OwnBlock z d new root 10 l (Ephe (Some k ∷ []) v)
+
+-- a put stands at a field that it has just read, so many blocks below the root, with its leaf at hand
+pub record Putting (z : Sizes) (d : ℕ) (old now : List Entry) (root k : Label) (v : Value) (index rest : ℕ) (shows : Reply) (level : ℕ) : Type 0 where
+  pub on : GoesOn z root d old now
+  pub first : List Entry
+  pub since : IsPrefix old first
+  pub looking : Looking z root d first now
+  pub field : AtField z d first now now root k index rest shows
+  pub deep : level ≡ length field.p
+  pub keeps : (i : ℕ) → i < 8 → held_by z d now i ≡ held_by z d old i
+  pub l : Label
+  pub leaf : OwnBlock z d now root 10 l (Ephe (Some k ∷ []) v)
+
+-- it has come to the field at which the key's way ends
+pub record Arrived (z : Sizes) (d : ℕ) (old now : List Entry) (root k : Label) (v : Value) (index rest level : ℕ) (other : Option Label) : Type 0 where
+  pub on : GoesOn z root d old now
+  pub first : List Entry
+  pub since : IsPrefix old first
+  pub found : FieldFound z d first now root k index rest level other
+  pub keeps : (i : ℕ) → i < 8 → held_by z d now i ≡ held_by z d old i
+  pub l : Label
+  pub leaf : OwnBlock z d now root 10 l (Ephe (Some k ∷ []) v)

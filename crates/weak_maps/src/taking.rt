@@ -8,7 +8,7 @@ ghost use Rattle.map_laws.specs.Tries.{IsMap};
 ghost use Rattle.map_laws.specs.Steps.{OthersRespect};
 ghost use Rattle.weak_maps.specs.Beside.{held_by, refusals_by, writings_by};
 ghost use Rattle.weak_maps.specs.Fields.{Cleared, Finds};
-ghost use Rattle.weak_maps.specs.Puts.{FindsField};
+ghost use Rattle.weak_maps.specs.Puts.{FindsField, KeepsLeaf};
 ghost use Rattle.weak_maps.specs.Returns.{TakeReturns};
 
 use crate::digits::{node_index, number_of, root_index};
@@ -52,6 +52,7 @@ pub(crate) fn find<M: Machine, R: Wait>(
     ensures given { refusals_by (M.domain m.old) (M.front m.new) ≡ refusals_by (M.domain m.old) (M.front m.old) }
     ensures written { writings_by (M.domain m.old) (M.front m.new) ≡ writings_by (M.domain m.old) (M.front m.old) }
     ensures grows { IsPrefix (M.front m.old) (M.front m.new) }
+    ensures leaf { KeepsLeaf (M.sizes m.old) (M.domain m.old) (M.front m.old) (M.front m.new) key label.now from.index from.rest field }
     ensures field { FindsField (M.sizes m.old) (M.domain m.old) (M.front m.old) (M.front m.new) key label.now from.index from.rest field result.index result.rest result.steps result.other }
     ensures found { Finds (M.sizes m.old) (M.domain m.old) (M.front m.old) (M.front m.new) key label.now from.index from.rest field result.index result.rest result.mine }
 {
