@@ -94,9 +94,9 @@ abbrev pub PublishesBy : (z : Sizes) (d : ℕ) (first front old new : List Entry
 PublishesBy z d first front old new root k index rest shows field l v true = Published z d old new root k v
 PublishesBy z d first front old new root k index rest shows field l v false = PublishLost z d first front old new root k index rest shows field l v
 
--- whatever map that is in, if others respect it, and the register of the key holds it
-abbrev pub Publishes : Sizes → ℕ → List Entry → List Entry → ℕ → ℕ → Bool → Type 0
-Publishes z d old new key index won = (first front : List Entry) (root k l : Label) (v : Value) (rest : ℕ) (shows : Reply) → held_by z d old key ≡ Block k → (field : AtField z d first front old root k index rest shows) → FieldBinds z front old field.v k
+-- whatever map that is in, if others respect it, and a register holds the key
+abbrev pub Publishes : Sizes → ℕ → List Entry → List Entry → ℕ → Bool → Type 0
+Publishes z d old new index won = (first front : List Entry) (root k l : Label) (v : Value) (rest key : ℕ) (shows : Reply) → held_by z d old key ≡ Block k → (field : AtField z d first front old root k index rest shows) → FieldBinds z front old field.v k
     → OwnBlock z d old root 10 l (Ephe (Some k ∷ []) v) → IsMap (graph_of z old) root → OthersRespect z root d old new → PublishesBy z d first front old new root k index rest shows field l v won
 
 -- the key that another's leaf has, or the key itself
@@ -140,9 +140,9 @@ abbrev pub MakesRoomBy : Sizes → ℕ → List Entry → List Entry → List En
 MakesRoomBy z d front old new root k l v true = RoomMade z d front old new root k l v
 MakesRoomBy z d front old new root k l v false = RoomRefused z d old new root
 
--- whatever map that is in, if others respect it, and the way to the other key goes on by this digit
-abbrev pub MakesRoom : Sizes → ℕ → List Entry → List Entry → ℕ → ℕ → ℕ → Bool → Type 0
-MakesRoom z d old new key index digit made = (first front : List Entry) (root k j l : Label) (v : Value) (rest : ℕ) (shows : Reply) → held_by z d old key ≡ Block k → (field : AtField z d first front old root k index rest shows) → FieldBinds z front old field.v j
+-- whatever map that is in, if others respect it, a register holds the key, and the way to the other key goes on by this digit
+abbrev pub MakesRoom : Sizes → ℕ → List Entry → List Entry → ℕ → ℕ → Bool → Type 0
+MakesRoom z d old new index digit made = (first front : List Entry) (root k j l : Label) (v : Value) (rest key : ℕ) (shows : Reply) → key < 8 → held_by z d old key ≡ Block k → (field : AtField z d first front old root k index rest shows) → FieldBinds z front old field.v j
     → ((q : List ℕ) × (way_to z.domains j ≡ field.p ++ index ∷ digit ∷ q)) → OwnBlock z d old root 10 l (Ephe (Some k ∷ []) v) → IsMap (graph_of z old) root → OthersRespect z root d old new → MakesRoomBy z d front old new root k l v made
 
 -- what is left of a number below its first digit and so many others

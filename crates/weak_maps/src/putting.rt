@@ -43,18 +43,16 @@ fn make_leaf<M: Machine, R: Wait>(m: &mut M, rt: &R, key: u8, item: u8) -> bool
 
 // Puts the leaf in register 10 into a field of the block in register 8, where that holds what register 9 holds. Tells whether
 // it did.
-fn publish<M: Machine, R: Wait>(m: &mut M, rt: &R, key: u8, index: u16) -> bool
-    requires few { key < 8 }
+fn publish<M: Machine, R: Wait>(m: &mut M, rt: &R, index: u16) -> bool
     ensures sizes { M.sizes m.new ≡ M.sizes m.old }
     ensures domain { M.domain m.new ≡ M.domain m.old }
     ensures labels { M.labels_left m.new ≡ M.labels_left m.old }
     ensures room { M.ephes_room m.old ≤ M.ephes_room m.new }
     ensures given { refusals_by (M.domain m.old) (M.front m.new) ≡ refusals_by (M.domain m.old) (M.front m.old) }
     ensures written { writings_by (M.domain m.old) (M.front m.new) ≡ writings_by (M.domain m.old) (M.front m.old) }
-    ensures published { Publishes (M.sizes m.old) (M.domain m.old) (M.front m.old) (M.front m.new) key index result }
+    ensures published { Publishes (M.sizes m.old) (M.domain m.old) (M.front m.old) (M.front m.new) index result }
 {
     m.stands();
-    let _key = key;
     let won = perform(
         m,
         rt,
@@ -70,8 +68,8 @@ fn publish<M: Machine, R: Wait>(m: &mut M, rt: &R, key: u8, index: u16) -> bool
 
 // Puts the leaf of another key that register 9 holds one block deeper, into this field there, where the field of the block in
 // register 8 still holds it. Tells whether the allocation of that block wasn't refused. Register 11 is used between.
-fn make_room<M: Machine, R: Wait>(m: &mut M, rt: &R, key: u8, index: u16, digit: u16) -> bool
-    requires few { (key < 8) × (digit < node_width) }
+fn make_room<M: Machine, R: Wait>(m: &mut M, rt: &R, index: u16, digit: u16) -> bool
+    requires small { digit < node_width }
     requires label { 1 ≤ M.labels_left m.old }
     ensures sizes { M.sizes m.new ≡ M.sizes m.old }
     ensures domain { M.domain m.new ≡ M.domain m.old }
@@ -79,10 +77,9 @@ fn make_room<M: Machine, R: Wait>(m: &mut M, rt: &R, key: u8, index: u16, digit:
     ensures room { M.ephes_room m.old ≤ M.ephes_room m.new }
     ensures refused { refusals_by (M.domain m.old) (M.front m.new) ≡ refusals_by (M.domain m.old) (M.front m.old) + cond result 0 1 }
     ensures written { writings_by (M.domain m.old) (M.front m.new) ≡ writings_by (M.domain m.old) (M.front m.old) }
-    ensures made { MakesRoom (M.sizes m.old) (M.domain m.old) (M.front m.old) (M.front m.new) key index digit result }
+    ensures made { MakesRoom (M.sizes m.old) (M.domain m.old) (M.front m.old) (M.front m.new) index digit result }
 {
     m.stands();
-    let _key = key;
     let made = perform(
         m,
         rt,

@@ -25,7 +25,7 @@ returns-then-is_full-clause-made g c =
     let z : Sizes = g.M.Machine.sizes c.args.m.now in
     let d : ℕ = g.M.Machine.domain c.args.m.now in
     let old : List Entry = g.M.Machine.front c.args.m.now in
-    λ first front root k j l v rest shows key field binds way leaf map respects.
+    λ first front root k j l v rest register shows few key field binds way leaf map respects.
     room_refused z root d old _ c.perform-made.result c.perform-made.ensures.performed (c.is_full.ensures.full.0 c.if-is_full.true) map respects
 
 pub returns-clause-labels : goal.returns-clause-labels
@@ -72,7 +72,7 @@ returns-clause-made g c =
     let o1 : g.M.Machine.domain c.perform-made.new.m ≡ d = c.perform-made.ensures.domain in
     let s2 : g.M.Machine.sizes c.perform-leaf.new.m ≡ z = c.perform-leaf.ensures.sizes ∙ s1 in
     let o2 : g.M.Machine.domain c.perform-leaf.new.m ≡ d = c.perform-leaf.ensures.domain ∙ o1 in
-    λ first front root k j l v rest shows key field binds way leaf map respects.
-    room_made z c.stands.ensures.limits root d first front k j l v old n0 n1 new c.perform-made.result c.perform-leaf.result c.perform-deeper.result c.args.index rest c.args.digit shows c.args.key c.requires.few.0 c.requires.few.1
+    λ first front root k j l v rest register shows few key field binds way leaf map respects.
+    room_made z c.stands.ensures.limits root d first front k j l v old n0 n1 new c.perform-made.result c.perform-leaf.result c.perform-deeper.result c.args.index rest c.args.digit shows register few c.requires.small
     c.perform-made.ensures.performed (at_machine z _ d _ n0 n1 _ _ s1 o1 c.perform-leaf.ensures.performed) (at_machine z _ d _ n1 new _ _ s2 o2 c.perform-deeper.ensures.performed)
     (λ e. let clash : true ≡ false = sym (c.is_full.ensures.full.1 e) ∙ c.if-is_full.false in cc) respects map field binds leaf key way

@@ -19,10 +19,10 @@ returns-clause-published g c =
     let old : List Entry = g.M.Machine.front c.args.m.now in
     let new : List Entry = g.M.Machine.front c.perform-won.new.m in
     let p = c.perform-won.ensures.performed in
-    λ first front root k l v rest shows key field binds leaf map respects.
+    λ first front root k l v rest register shows key field binds leaf map respects.
     by_reply c.is_yes.result (λ b. PublishesBy z d first front old new root k c.args.index rest shows field l v b) (c.perform-won.result ≡ reply.Yes) c.is_yes.ensures.0 c.is_yes.ensures.1
-    (publish_won z c.stands.ensures.limits root d first front k l v old new c.perform-won.result c.args.index rest shows c.args.key p respects map field binds leaf key)
-    (publish_lost z c.stands.ensures.limits root d first front k l v old new c.perform-won.result c.args.index rest shows c.args.key p respects map field binds leaf key)
+    (publish_won z c.stands.ensures.limits root d first front k l v old new c.perform-won.result c.args.index rest shows register p respects map field binds leaf key)
+    (publish_lost z c.stands.ensures.limits root d first front k l v old new c.perform-won.result c.args.index rest shows register p respects map field binds leaf key)
   where
     by_reply : (b : Bool) (P : Bool → Type 0) (Q : Type 0) → (b ≡ true → Q) → (Q → b ≡ true) → (Q → P true) → ((Q → ⊥) → P false) → P b
     by_reply true P Q there back on_won on_lost = on_won (there refl)
