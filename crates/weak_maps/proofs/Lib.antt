@@ -17,3 +17,4 @@ pub mod RoomLemmas
 pub mod DigitLemmas
 pub mod LeafLemmas
 pub mod TryLemmas
+pub mod SettleLemmas

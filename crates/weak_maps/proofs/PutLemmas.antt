@@ -32,6 +32,10 @@ use Rattle.weak_maps.proofs.StayLemmas.{respects_within}
 pub goes_none : (z : Sizes) (root : Label) (d : ℕ) (old : List Entry) → IsMap (graph_of z old) root → GoesOn z root d old old
 goes_none z root d old map = record { looks = looks_none z root d old; grows = prefix_same old; map = map }
 
+-- two stretches
+pub goes_twice : (z : Sizes) (root : Label) (d : ℕ) (old now new : List Entry) → GoesOn z root d old now → GoesOn z root d now new → GoesOn z root d old new
+goes_twice z root d old now new first last = record { looks = looks_twice z root d old now new last.grows first.looks last.looks; grows = prefix_trans old now new first.grows last.grows; map = last.map }
+
 -- one command more
 pub goes_by : (z : Sizes) (root : Label) (d : ℕ) (old now new : List Entry) (c : Command) (r : Reply) → PerformedBy z d now new c r → GoesOn z root d old now → GoesOn z root d now new → GoesOn z root d old new
 goes_by z root d old now new c r p first last = record { looks = looks_twice z root d old now new last.grows first.looks last.looks; grows = prefix_trans old now new first.grows last.grows; map = last.map }

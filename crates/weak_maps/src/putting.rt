@@ -2,6 +2,7 @@
 ghost use Rattle.std.specs.Prelude.{◌≡◌, ◌≢◌, ◌+◌, ◌<◌, ◌≤◌, cond};
 ghost use Rattle.weak_maps.specs.Beside.{refusals_by, writings_by};
 ghost use Rattle.weak_maps.specs.Puts.{MakesLeaf, MakesRoom, Publishes};
+ghost use Rattle.heap_model.specs.History.{IsPrefix};
 ghost use Rattle.map_laws.specs.Tries.{node_width};
 
 use crate::machine::{Machine, perform};
@@ -50,6 +51,7 @@ fn publish<M: Machine, R: Wait>(m: &mut M, rt: &R, index: u16) -> bool
     ensures room { M.ephes_room m.old ≤ M.ephes_room m.new }
     ensures given { refusals_by (M.domain m.old) (M.front m.new) ≡ refusals_by (M.domain m.old) (M.front m.old) }
     ensures written { writings_by (M.domain m.old) (M.front m.new) ≡ writings_by (M.domain m.old) (M.front m.old) }
+    ensures grows { IsPrefix (M.front m.old) (M.front m.new) }
     ensures published { Publishes (M.sizes m.old) (M.domain m.old) (M.front m.old) (M.front m.new) index result }
 {
     m.stands();
@@ -77,6 +79,7 @@ fn make_room<M: Machine, R: Wait>(m: &mut M, rt: &R, index: u16, digit: u16) -> 
     ensures room { M.ephes_room m.old ≤ M.ephes_room m.new }
     ensures refused { refusals_by (M.domain m.old) (M.front m.new) ≡ refusals_by (M.domain m.old) (M.front m.old) + cond result 0 1 }
     ensures written { writings_by (M.domain m.old) (M.front m.new) ≡ writings_by (M.domain m.old) (M.front m.old) }
+    ensures grows { IsPrefix (M.front m.old) (M.front m.new) }
     ensures made { MakesRoom (M.sizes m.old) (M.domain m.old) (M.front m.old) (M.front m.new) index digit result }
 {
     m.stands();

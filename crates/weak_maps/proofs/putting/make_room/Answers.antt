@@ -5,6 +5,8 @@ use Rattle.heap_model.specs.declared.reply.Reply.TheVariants as reply
 use Rattle.weak_maps.specs.Beside.{refusals_by, writings_by}
 use Rattle.weak_maps.proofs.MachineLemmas.{at_machine, counted_by}
 use Rattle.weak_maps.proofs.RoomLemmas.{room_made, room_refused}
+use Rattle.map_laws.proofs.FrontLemmas.{prefix_trans}
+use Rattle.weak_maps.proofs.GetLemmas.{grows_by}
 use Rattle.weak_maps.proofs.putting.make_room.Goals as goal
 
 pub returns-then-is_full-clause-labels : goal.returns-then-is_full-clause-labels
@@ -76,3 +78,16 @@ returns-clause-made g c =
     room_made z c.stands.ensures.limits root d first front k j l v old n0 n1 new c.perform-made.result c.perform-leaf.result c.perform-deeper.result c.args.index rest c.args.digit shows register few c.requires.small
     c.perform-made.ensures.performed (at_machine z _ d _ n0 n1 _ _ s1 o1 c.perform-leaf.ensures.performed) (at_machine z _ d _ n1 new _ _ s2 o2 c.perform-deeper.ensures.performed)
     (λ e. let clash : true ≡ false = sym (c.is_full.ensures.full.1 e) ∙ c.if-is_full.false in cc) respects map field binds leaf key way
+
+pub returns-then-is_full-clause-grows : goal.returns-then-is_full-clause-grows
+returns-then-is_full-clause-grows g c = grows_by (g.M.Machine.sizes c.args.m.now) (g.M.Machine.domain c.args.m.now) (g.M.Machine.front c.args.m.now) (g.M.Machine.front c.perform-made.new.m) _ _ c.perform-made.ensures.performed
+
+pub returns-clause-grows : goal.returns-clause-grows
+returns-clause-grows g c =
+    let old : List Entry = g.M.Machine.front c.args.m.now in
+    let n0 : List Entry = g.M.Machine.front c.perform-made.new.m in
+    let n1 : List Entry = g.M.Machine.front c.perform-leaf.new.m in
+    let new : List Entry = g.M.Machine.front c.perform-deeper.new.m in
+    prefix_trans old n0 new (grows_by (g.M.Machine.sizes c.args.m.now) (g.M.Machine.domain c.args.m.now) old n0 _ _ c.perform-made.ensures.performed)
+    (prefix_trans n0 n1 new (grows_by (g.M.Machine.sizes c.perform-made.new.m) (g.M.Machine.domain c.perform-made.new.m) n0 n1 _ _ c.perform-leaf.ensures.performed)
+    (grows_by (g.M.Machine.sizes c.perform-leaf.new.m) (g.M.Machine.domain c.perform-leaf.new.m) n1 new _ _ c.perform-deeper.ensures.performed))

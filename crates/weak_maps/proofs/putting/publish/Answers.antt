@@ -10,6 +10,7 @@ use Rattle.heap_model.specs.declared.reply.Reply.TheVariants as reply
 use Rattle.heap_model.specs.declared.state.Sizes.{Sizes}
 use Rattle.weak_maps.specs.Puts.{PublishesBy}
 use Rattle.weak_maps.proofs.PublishLemmas.{publish_lost, publish_won}
+use Rattle.weak_maps.proofs.GetLemmas.{grows_by}
 use Rattle.weak_maps.proofs.putting.publish.Goals as goal
 
 pub returns-clause-published : goal.returns-clause-published
@@ -27,3 +28,6 @@ returns-clause-published g c =
     by_reply : (b : Bool) (P : Bool → Type 0) (Q : Type 0) → (b ≡ true → Q) → (Q → b ≡ true) → (Q → P true) → ((Q → ⊥) → P false) → P b
     by_reply true P Q there back on_won on_lost = on_won (there refl)
     by_reply false P Q there back on_won on_lost = on_lost (λ q. let clash : false ≡ true = back q in cc)
+
+pub returns-clause-grows : goal.returns-clause-grows
+returns-clause-grows g c = grows_by (g.M.Machine.sizes c.args.m.now) (g.M.Machine.domain c.args.m.now) (g.M.Machine.front c.args.m.now) (g.M.Machine.front c.perform-won.new.m) _ _ c.perform-won.ensures.performed
