@@ -3,3 +3,4 @@ pub mod Beside
 pub mod Walks
 pub mod Fields
 pub mod Returns
+pub mod Puts
