@@ -67,10 +67,12 @@ module _ (z : Sizes) (limits : IsWithinLimits z) (root : Label) (d : ℕ) (first
       go : (b : Bool) → same_label m k ≡ b → IsLeafOf g (key_or k (cond (same_label m k) None (Some m))) l × ((j : Label) → cond (same_label m k) None (Some m) ≡ Some j → j ≢ k)
       go true e = subst (λ (b : Bool). IsLeafOf g (key_or k (cond b None (Some m))) l × ((j : Label) → cond b None (Some m) ≡ Some j → j ≢ k)) (sym e)
           ((datum, inl (node ∙ ap (λ (x : Label). Some (Ephe (Some x ∷ []) datum)) (same_label-true m k e))), (λ j is. cc))
-      go false e = subst (λ (b : Bool). IsLeafOf g (key_or k (cond b None (Some m))) l × ((j : Label) → cond b None (Some m) ≡ Some j → j ≢ k)) (sym e)
-          ((datum, inl node), (λ j is same.
-          let there : m ≡ j = cc in
-          let clash : true ≡ false = sym (same_label_refl k) ∙ (ap (λ (x : Label). same_label x k) (sym (there ∙ same)) ∙ e) in cc))
+      go false e = subst (λ (b : Bool). IsLeafOf g (key_or k (cond b None (Some m))) l × ((j : Label) → cond b None (Some m) ≡ Some j → j ≢ k)) (sym e) (
+        (datum, inl node),
+        (λ j is same.
+            let there : m ≡ j = cc in
+            let clash : true ≡ false = sym (same_label_refl k) ∙ (ap (λ (x : Label). same_label x k) (sym (there ∙ same)) ∙ e) in cc),
+      )
 
   other_some : (key : Option Label) (j : Label) → other_block k (shown (key_value key)) ≡ Some j → key ≡ Some j
   other_some None j e = cc

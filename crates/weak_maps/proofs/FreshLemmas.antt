@@ -23,12 +23,12 @@ use Rattle.heap_model.proofs.Histories.FrontLemmas.{keeps_front}
 use Rattle.heap_model.proofs.Histories.NumberLemmas.{next_label-new, numbered_after, numbered_opening}
 use Rattle.heap_model.proofs.Histories.WellFormedLemmas.{wf_after, wf_opening}
 use Rattle.heap_model.proofs.Reach.ReachLemmas.{or_left}
-use Rattle.table_laws.specs.Thinning.{WasOutside, Thin, state_of}
+use Rattle.table_laws.specs.Thinning.{Thin, state_of}
 use Rattle.table_laws.specs.Stages.{graph_of}
 use Rattle.table_laws.proofs.CollectorLemmas.{outside_unheld}
 use Rattle.map_laws.specs.Tries.{at, inside, fields_of, is_leaf, IsMap}
 use Rattle.map_laws.specs.Private.{IsPrivate}
-use Rattle.map_laws.specs.Steps.{OthersRespect, RespectsMap}
+use Rattle.map_laws.specs.Steps.{OthersRespect, RespectsMap, WasUnreached}
 use Rattle.map_laws.specs.Calls.{Looks, PerformedBy, bound_after, registers_after}
 use Rattle.map_laws.proofs.CallLemmas.{legal_middle, made, registers_kept}
 use Rattle.map_laws.proofs.FrontLemmas.{other_between, prefix_more, prefix_same, prefix_trans, walk_along}
@@ -66,7 +66,7 @@ held_along z d now between front r none since until = walk_along (λ h. held_by 
     ap (λ (t : State). register t d r) (state_push z f e) ∙ (ap (λ (rs : List Value). get_or rs r Nothing) (keeps_next (state_of z f) e d other).registers ∙ same)) refl
 
 -- what a register holds all along isn't outside reach
-pub held_not_outside : (z : Sizes) (d : ℕ) (now between : List Entry) (k : Label) (r : ℕ) → NoneOf d between → held_by z d now r ≡ Block k → WasOutside z now (now ++ between) k → ⊥
+pub held_not_outside : (z : Sizes) (d : ℕ) (now between : List Entry) (k : Label) (r : ℕ) → NoneOf d between → held_by z d now r ≡ Block k → WasUnreached z now (now ++ between) k → ⊥
 held_not_outside z d now between k r none held w = outside_unheld (state_of z w.front) k w.outside d r (held_along z d now between w.front r none w.since w.until ∙ held)
 
 -- no register holds the label of a domain's next block
@@ -115,7 +115,7 @@ module _ (z : Sizes) (d : ℕ) (root : Label) (now new : List Entry) (c : Comman
   entry = CommandOf d c p.full
 
   -- up to a command of the domain
-  pub own_middle : (i : ℕ) (l : Label) (n : Node) → ((o : Option Node) → Thin (WasOutside z now mid) n o → o ≡ Some n) → OwnBlock z d now root i l n → OwnBlock z d mid root i l n
+  pub own_middle : (i : ℕ) (l : Label) (n : Node) → ((o : Option Node) → Thin (WasUnreached z now mid) n o → o ≡ Some n) → OwnBlock z d now root i l n → OwnBlock z d mid root i l n
   own_middle i l n stays x =
       let both = never_between z d root l now p.between p.others x.apart x.never x.private in record {
         held = ap (λ (rs : List Value). get_or rs i Nothing) (registers_kept z d now new c r p) ∙ x.held;

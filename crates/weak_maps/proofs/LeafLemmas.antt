@@ -14,10 +14,9 @@ use Rattle.heap_model.specs.declared.state.Sizes.{Sizes}
 use Rattle.heap_model.specs.Graph.{Graph, node_at}
 use Rattle.heap_model.specs.Domains.{IsWithinLimits}
 use Rattle.heap_model.specs.History.{IsPrefix}
-use Rattle.table_laws.specs.Thinning.{WasOutside}
 use Rattle.table_laws.specs.Stages.{graph_of}
 use Rattle.map_laws.specs.Tries.{node_width}
-use Rattle.map_laws.specs.Steps.{OthersRespect}
+use Rattle.map_laws.specs.Steps.{OthersRespect, WasUnreached}
 use Rattle.map_laws.specs.Calls.{PerformedBy, registers_after}
 use Rattle.map_laws.proofs.CallLemmas.{copy_step, from_middle}
 use Rattle.map_laws.proofs.FrontLemmas.{prefix_same, prefix_trans}
@@ -43,7 +42,7 @@ module _ (z : Sizes) (limits : IsWithinLimits z) (root : Label) (d : ℕ) (first
       let entry : Entry = CommandOf d c p.full in
       let quiet : graph_of z (mid ++ entry ∷ []) ≡ graph_of z mid = looking.quiet mid entry (prefix_trans first now mid since (since_old z d now new c r p)) (prefix_trans (mid ++ entry ∷ []) new last (from_middle z d now new c r p) until) (eq-eqb d d refl) in
       let same : graph_of z new ≡ graph_of z mid = ap (graph_of z) p.appends ∙ quiet in
-      let there = own_middle z d root now new c r p 10 l (Ephe (Some k ∷ []) v) (λ o. thin_held (WasOutside z now mid) k v o (held_not_outside z d now p.between k kr p.others key)) leaf in
+      let there = own_middle z d root now new c r p 10 l (Ephe (Some k ∷ []) v) (λ o. thin_held (WasUnreached z now mid) k v o (held_not_outside z d now p.between k kr p.others key)) leaf in
       let count = sixteen z d now new c r p limits in
       let past : held_by z d now 16 ≡ Nothing = get_or_past (registers_after z d now) 16 Nothing (omega (arith, count)) in
       own_on z d root now new c r p 10 l (Ephe (Some k ∷ []) v) (Ephe (Some k ∷ []) v) 16 there (λ j is. let clash : false ≡ true = sym (free j) ∙ is in cc) (λ e. let clash : Nothing ≡ Block l = sym past ∙ e in cc) ten

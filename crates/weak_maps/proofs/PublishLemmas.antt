@@ -24,11 +24,11 @@ use Rattle.heap_model.specs.Fronts.{NoneOf}
 use Rattle.heap_model.specs.History.{IsPrefix, is_entry_of}
 use Rattle.heap_model.proofs.Commands.LeavesLemmas.{takes_plain}
 use Rattle.heap_model.proofs.Graphs.GraphLemmas.{same_label-true, same_label-false, same_label_refl}
-use Rattle.table_laws.specs.Thinning.{IsOutside, Thin, WasOutside, state_of}
+use Rattle.table_laws.specs.Thinning.{IsOutside, Thin, state_of}
 use Rattle.table_laws.specs.Stages.{graph_of}
 use Rattle.map_laws.specs.Tries.{at, inside, fields_of, bound_by, bound_in, found, is_leaf, low_digits, way_to, IsMap}
 use Rattle.map_laws.specs.Private.{IsPrivate}
-use Rattle.map_laws.specs.Steps.{AllRespect, Sets, SetsKey, OthersRespect, RespectsMap}
+use Rattle.map_laws.specs.Steps.{AllRespect, Sets, SetsKey, OthersRespect, RespectsMap, WasUnreached}
 use Rattle.map_laws.specs.Calls.{PerformedBy, bound_after, registers_after}
 use Rattle.map_laws.proofs.CallLemmas.{cas_step, registers_kept}
 use Rattle.map_laws.proofs.FrontLemmas.{other_between, prefix_more, prefix_same, prefix_trans, walk_along}
@@ -166,7 +166,7 @@ module _ (z : Sizes) (limits : IsWithinLimits z) (root : Label) (d : ℕ) (first
   binds = binds_along z root d now p.between p.others (respects_within z root d now new now mid (prefix_same now) (until_new z d now new c r p) respects) front (x.p ++ i ∷ []) x.v k x.until x.was field
 
   leaf_mid : OwnBlock z d mid root 10 l (Ephe (Some k ∷ []) v)
-  leaf_mid = own_middle z d root now new c r p 10 l (Ephe (Some k ∷ []) v) (λ o. thin_held (WasOutside z now mid) k v o (held_not_outside z d now p.between k kr p.others key)) leaf
+  leaf_mid = own_middle z d root now new c r p 10 l (Ephe (Some k ∷ []) v) (λ o. thin_held (WasUnreached z now mid) k v o (held_not_outside z d now p.between k kr p.others key)) leaf
 
   abbrev h : Graph
   h = with_node g x.l (Plain node.0 (set fields i (Block l)))
@@ -193,26 +193,29 @@ module _ (z : Sizes) (limits : IsWithinLimits z) (root : Label) (d : ℕ) (first
       let none : p.full ≡ false = not_refused z d now new c r p refl in
       let here : state_of z new ≡ next (state_of z mid) (CommandOf d c false) = left_is z d now new c r p ∙ ap (λ b. next (state_of z mid) (CommandOf d c b)) none in record {
         on = record { looks = on.0; grows = grows; map = on.1 };
-        at = (record {
-          p = x.p;
-          left = x.left;
-          all = x.all;
-          way = x.way;
-          l = x.l;
-          held = keeps 8 ∙ x.held;
-          v = x.v;
-          holds = keeps 9 ∙ x.holds;
-          shows = x.shows;
-          since = x.since;
-          until = prefix_trans front now new x.until grows;
-          there = x.there;
-          fields = x.fields;
-          plain = x.plain;
-          was = x.was;
-          narrow = x.narrow;
-          map = x.map;
-          stays = stays_same z root front mid new lost.1.0 stay;
-        }, refl);
+        at = (
+          record {
+            p = x.p;
+            left = x.left;
+            all = x.all;
+            way = x.way;
+            l = x.l;
+            held = keeps 8 ∙ x.held;
+            v = x.v;
+            holds = keeps 9 ∙ x.holds;
+            shows = x.shows;
+            since = x.since;
+            until = prefix_trans front now new x.until grows;
+            there = x.there;
+            fields = x.fields;
+            plain = x.plain;
+            was = x.was;
+            narrow = x.narrow;
+            map = x.map;
+            stays = stays_same z root front mid new lost.1.0 stay;
+          },
+          refl,
+        );
         leaf = own_kept z d root now new c r p 10 l (Ephe (Some k ∷ []) v) (Ephe (Some k ∷ []) v) leaf_mid (subst (λ (t : State). IsPrivate t d l) (sym here) private) (keeps 10) (ap (λ (m : Graph). node_at m l) lost.1.0 ∙ leaf_mid.node);
         keeps = keeps;
       })

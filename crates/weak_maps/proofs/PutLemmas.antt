@@ -14,10 +14,9 @@ use Rattle.heap_model.specs.Graph.{Graph, node_at, with_node}
 use Rattle.heap_model.specs.Domains.{IsWithinLimits}
 use Rattle.heap_model.specs.History.{IsPrefix}
 use Rattle.heap_model.proofs.Graphs.GraphLemmas.{node_at-with_node_same}
-use Rattle.table_laws.specs.Thinning.{WasOutside}
 use Rattle.table_laws.specs.Stages.{graph_of}
 use Rattle.map_laws.specs.Tries.{IsMap}
-use Rattle.map_laws.specs.Steps.{OthersRespect}
+use Rattle.map_laws.specs.Steps.{OthersRespect, WasUnreached}
 use Rattle.map_laws.specs.Calls.{PerformedBy}
 use Rattle.map_laws.proofs.CallLemmas.{ephe_step, made, set_data_step, set_key_step}
 use Rattle.map_laws.proofs.FrontLemmas.{prefix_same, prefix_trans}
@@ -100,7 +99,7 @@ module _ (z : Sizes) (limits : IsWithinLimits z) (root : Label) (d : ℕ) where
 
     second : Second
     second =
-        let x = own_middle z d root n0 n1 (SetData 10 item) r1 p1 10 l (Ephe (None ∷ []) Nothing) (thin_empty (WasOutside z n0 (n0 ++ p1.between)) Nothing) first.2 in
+        let x = own_middle z d root n0 n1 (SetData 10 item) r1 p1 10 l (Ephe (None ∷ []) Nothing) (thin_empty (WasUnreached z n0 (n0 ++ p1.between)) Nothing) first.2 in
         let is : held_by z d n0 item ≡ v = first.1 item (λ e. absurd (omega (arith, few_item, e))) in
         let all = set_data_step z d n0 n1 r1 10 item p1 l v None Nothing first.2.held is some x.node in
         let on = writes_on z d root n0 n1 (SetData 10 item) r1 p1 e1 first.0.map 10 l (Ephe (None ∷ []) Nothing) (Ephe (None ∷ []) v) x all.0 in (
@@ -114,7 +113,7 @@ module _ (z : Sizes) (limits : IsWithinLimits z) (root : Label) (d : ℕ) where
     -- the key
     pub leaf_made : LeafMade z d old n2 root k v
     leaf_made =
-        let x = own_middle z d root n1 n2 (SetKey 10 0 key) r2 p2 10 l (Ephe (None ∷ []) v) (thin_empty (WasOutside z n1 (n1 ++ p2.between)) v) second.2 in
+        let x = own_middle z d root n1 n2 (SetKey 10 0 key) r2 p2 10 l (Ephe (None ∷ []) v) (thin_empty (WasUnreached z n1 (n1 ++ p2.between)) v) second.2 in
         let is : held_by z d n1 key ≡ held_by z d old key = second.1 key ∙ first.1 key (λ e. absurd (omega (arith, few_key, e))) in
         let all = set_key_step z d n1 n2 r2 10 key p2 l k None v second.2.held (is ∙ holds_key) x.node in
         let on = writes_on z d root n1 n2 (SetKey 10 0 key) r2 p2 e2 second.0.map 10 l (Ephe (None ∷ []) v) (Ephe (Some k ∷ []) v) x all.0 in record {

@@ -22,10 +22,10 @@ use Rattle.heap_model.specs.Entries.{next}
 use Rattle.heap_model.specs.History.{IsPrefix, is_entry_of}
 use Rattle.heap_model.proofs.Commands.FrameLemmas.{label_cases}
 use Rattle.heap_model.proofs.Graphs.GraphLemmas.{node_at-append_old, node_at-with_node_other, node_at-with_node_same}
-use Rattle.table_laws.specs.Thinning.{WasOutside, state_of}
+use Rattle.table_laws.specs.Thinning.{state_of}
 use Rattle.table_laws.specs.Stages.{graph_of}
 use Rattle.map_laws.specs.Tries.{at, inside, fields_of, bound_by, found, node_width, way_length, way_to, IsMap}
-use Rattle.map_laws.specs.Steps.{AllRespect, Deepens, GoesDeeper, OthersRespect, RespectsMap}
+use Rattle.map_laws.specs.Steps.{AllRespect, Deepens, GoesDeeper, OthersRespect, RespectsMap, WasUnreached}
 use Rattle.map_laws.specs.Calls.{PerformedBy, Looks, bound_after, registers_after}
 use Rattle.map_laws.proofs.CallLemmas.{alloc_step, cas_step, made, store_step}
 use Rattle.map_laws.proofs.DeepenLemmas.{deepen_keeps}
@@ -130,7 +130,7 @@ module _ (z : Sizes) (limits : IsWithinLimits z) (root : Label) (d : ℕ) (first
       (λ granted.
       let on = makes_on z d root now n0 (Alloc 11 0 32) r0 p0 e0 map (b, blank) granted.2.0 in
       let keeps : (m : ℕ) → m ≢ 11 → held_by z d n0 m ≡ held_by z d now m = set_other z d now n0 11 (Block b) granted.2.1 in
-      let leaf_mid = own_middle z d root now n0 (Alloc 11 0 32) r0 p0 10 l mine (λ o. thin_held (WasOutside z now (now ++ p0.between)) k v o (held_not_outside z d now p0.between k kr p0.others key)) leaf in (
+      let leaf_mid = own_middle z d root now n0 (Alloc 11 0 32) r0 p0 10 l mine (λ o. thin_held (WasUnreached z now (now ++ p0.between)) k v o (held_not_outside z d now p0.between k kr p0.others key)) leaf in (
         record { looks = on.0; grows = g0; map = on.1 },
         keeps,
         own_born z d root now n0 (Alloc 11 0 32) r0 p0 11 blank (λ m is. let clash : false ≡ true = is in cc) (map_mid z d root now n0 (Alloc 11 0 32) r0 p0 e0 map) granted.1 granted.2.0
@@ -153,8 +153,8 @@ module _ (z : Sizes) (limits : IsWithinLimits z) (root : Label) (d : ℕ) (first
   stored : Stored
   stored =
       let mid : List Entry = n0 ++ p1.between in
-      let inner = own_middle z d root n0 n1 (Store 11 digit 9) r1 p1 11 b blank (thin_plain (WasOutside z n0 mid) 0 (replicate node_width (Int (pos 0)))) first_made.2 in
-      let leaf_mid = own_middle z d root n0 n1 (Store 11 digit 9) r1 p1 10 l mine (λ o. thin_held (WasOutside z n0 mid) k v o (held_not_outside z d n0 p1.between k kr p1.others key0)) first_made.3 in
+      let inner = own_middle z d root n0 n1 (Store 11 digit 9) r1 p1 11 b blank (thin_plain (WasUnreached z n0 mid) 0 (replicate node_width (Int (pos 0)))) first_made.2 in
+      let leaf_mid = own_middle z d root n0 n1 (Store 11 digit 9) r1 p1 10 l mine (λ o. thin_held (WasUnreached z n0 mid) k v o (held_not_outside z d n0 p1.between k kr p1.others key0)) first_made.3 in
       let below : digit < length (replicate node_width (Int (pos 0))) = subst (λ (m : ℕ). digit < m) (sym (length-replicate node_width (Int (pos 0)))) small in
       let all = store_step z d n0 n1 r1 11 digit 9 p1 b 0 (replicate node_width (Int (pos 0))) x.v (get_or (replicate node_width (Int (pos 0))) digit Nothing) first_made.2.held inner.node (slice_get-get_or (replicate node_width (Int (pos 0))) digit Nothing below) nine0 (binds_some (graph_of z now) j x.v field.binds) in
       let on = writes_on z d root n0 n1 (Store 11 digit 9) r1 p1 e1 first_made.0.map 11 b blank (Plain 0 filled) inner all.0 in
@@ -214,10 +214,10 @@ module _ (z : Sizes) (limits : IsWithinLimits z) (root : Label) (d : ℕ) (first
       (binds_all z root now n1 stored.0.grows all_then front (x.p ++ i ∷ []) x.v j x.until x.was field)
 
   inner : OwnBlock z d mid root 11 b (Plain 0 filled)
-  inner = own_middle z d root n1 new (Cas 8 i 9 11) r2 p2 11 b (Plain 0 filled) (thin_plain (WasOutside z n1 mid) 0 filled) stored.2
+  inner = own_middle z d root n1 new (Cas 8 i 9 11) r2 p2 11 b (Plain 0 filled) (thin_plain (WasUnreached z n1 mid) 0 filled) stored.2
 
   leaf_then : OwnBlock z d mid root 10 l mine
-  leaf_then = own_middle z d root n1 new (Cas 8 i 9 11) r2 p2 10 l mine (λ o. thin_held (WasOutside z n1 mid) k v o (held_not_outside z d n1 p2.between k kr p2.others (stored.1 kr (λ e. absurd (omega (arith, few, e))) ∙ key))) stored.3
+  leaf_then = own_middle z d root n1 new (Cas 8 i 9 11) r2 p2 10 l mine (λ o. thin_held (WasUnreached z n1 mid) k v o (held_not_outside z d n1 p2.between k kr p2.others (stored.1 kr (λ e. absurd (omega (arith, few, e))) ∙ key))) stored.3
 
   abbrev h : Graph
   h = with_node g x.l (Plain node.0 (set fields i (Block b)))

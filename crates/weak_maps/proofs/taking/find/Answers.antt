@@ -122,9 +122,12 @@ returns-then-not-is_block-clause-field g c =
     let z : Sizes = g.M.Machine.sizes c.args.m.now in
     let d : ℕ = g.M.Machine.domain c.args.m.now in
     λ first root key looking x respects.
-    let w = c.levels.invariant.walk first root key looking x respects in
-    (w.0, w.1, subst (λ (n : ℕ). FieldFound z d first (g.M.Machine.front c.levels.m) root c.args.label.now c.levels.index c.levels.rest (length x.p + n) None) (sym c.levels.invariant.steps)
-    (found_free z c.stands.ensures.limits root d first c.args.label.now _ c.levels.index c.levels.rest c.levels.at _ w.2.0 w.2.1 (λ is. let clash : true ≡ false = sym (c.is_block.ensures.1 is) ∙ c.if-not-is_block.true in cc)))
+    let w = c.levels.invariant.walk first root key looking x respects in (
+      w.0,
+      w.1,
+      subst (λ (n : ℕ). FieldFound z d first (g.M.Machine.front c.levels.m) root c.args.label.now c.levels.index c.levels.rest (length x.p + n) None) (sym c.levels.invariant.steps)
+          (found_free z c.stands.ensures.limits root d first c.args.label.now _ c.levels.index c.levels.rest c.levels.at _ w.2.0 w.2.1 (λ is. let clash : true ≡ false = sym (c.is_block.ensures.1 is) ∙ c.if-not-is_block.true in cc)),
+    )
 
 pub returns-then-not-is_other_kind-clause-field : goal.returns-then-not-is_other_kind-clause-field
 returns-then-not-is_other_kind-clause-field g c =
@@ -137,9 +140,11 @@ returns-then-not-is_other_kind-clause-field g c =
     λ first root key looking x respects.
     let w = c.levels.invariant.walk first root key looking x (respects_within z root d first n0 first now (prefix_same first) (grows_by z d now n0 _ _ p) respects) in
     let f = found_leaf z c.stands.ensures.limits root d first c.args.label.now now n0 c.perform-found.result c.levels.index c.levels.rest c.levels.at _ p respects w.0 w.2.0 w.2.1 (c.is_block.ensures.0 c.if-not-is_block.false)
-    (λ e. let clash : true ≡ false = sym (c.is_other_kind.ensures.1 e) ∙ c.if-not-is_other_kind.true in cc) in
-    (f.0, (λ j e8 e9 e11. f.1 j e11 ∙ w.1 j e8 e9 e11),
-    subst (λ (y : ℕ × Option Label). FieldFound z d first n0 root c.args.label.now c.levels.index c.levels.rest (length x.p + y.0) y.1) (λ i. (sym c.levels.invariant.steps i, sym c.other_than.ensures i)) f.2)
+    (λ e. let clash : true ≡ false = sym (c.is_other_kind.ensures.1 e) ∙ c.if-not-is_other_kind.true in cc) in (
+      f.0,
+      (λ j e8 e9 e11. f.1 j e11 ∙ w.1 j e8 e9 e11),
+      subst (λ (y : ℕ × Option Label). FieldFound z d first n0 root c.args.label.now c.levels.index c.levels.rest (length x.p + y.0) y.1) (λ i. (sym c.levels.invariant.steps i, sym c.other_than.ensures i)) f.2,
+    )
 
 pub returns-then-not-is_block-clause-leaf : goal.returns-then-not-is_block-clause-leaf
 returns-then-not-is_block-clause-leaf g c = c.levels.invariant.leaf
