@@ -1,5 +1,5 @@
 -- The digit by which the way to another key goes on, where a leaf of it stands on the way to a key.
-use Rattle.std.proofs.Common.{◌≡◌, ◌≢◌, ◌⊎◌, ℕ, zero, suc, ◌+◌, ◌/◌, ◌%◌, ◌<◌, ◌≤◌, List, [], ◌∷◌, ◌++◌, length, refl, ap, sym, ◌∙◌, subst, arith, append_assoc, length-append}
+use Rattle.std.proofs.Common.{◌≡◌, ◌≢◌, ℕ, zero, suc, ◌+◌, ◌/◌, ◌%◌, ◌≤◌, List, [], ◌∷◌, ◌++◌, length, refl, ap, sym, ◌∙◌, arith, append_assoc, length-append}
 use Rattle.heap_model.specs.declared.label.Label.{Label}
 use Rattle.map_laws.specs.Tries.{low_digits, number_of, root_width, node_width, way_length, way_to, IsLabelOf}
 use Rattle.map_laws.proofs.WayLemmas.{ways_part}

@@ -1,5 +1,5 @@
 -- The walk of a call to the field at which a key's way ends, command by command.
-use Rattle.std.proofs.Common.{◌≡◌, ◌≢◌, ◌⊎◌, inl, inr, ⊎_elim, ℕ, zero, suc, ◌+◌, ◌<◌, ◌≤◌, ◌/◌, ◌%◌, Bool, true, false, List, [], ◌∷◌, ◌++◌, length, get_or, set, Option, Some, None, refl, ap, sym, ◌∙◌, subst, arith, append_assoc, append-nil, length-append}
+use Rattle.std.proofs.Common.{◌≡◌, ◌≢◌, ◌⊎◌, inl, inr, ⊎_elim, ℕ, zero, suc, ◌+◌, ◌<◌, ◌/◌, ◌%◌, Bool, true, false, List, [], ◌∷◌, ◌++◌, length, Option, Some, None, refl, ap, sym, ◌∙◌, subst, arith, append_assoc, length-append}
 use Rattle.heap_model.specs.declared.label.Label.{Label}
 use Rattle.heap_model.specs.declared.command.Command.{Command}
 use Rattle.heap_model.specs.declared.command.Command.TheVariants.{Copy, Load, GetKey}
@@ -7,26 +7,25 @@ use Rattle.heap_model.specs.declared.entry.Entry.{Entry}
 use Rattle.heap_model.specs.declared.reply.Reply.{Reply}
 use Rattle.heap_model.specs.declared.reply.Reply.TheVariants as reply
 use Rattle.heap_model.specs.declared.graph.Value.{Value}
-use Rattle.heap_model.specs.declared.graph.Value.TheVariants.{Int, Block, Nothing}
-use Rattle.heap_model.specs.declared.graph.Node.TheVariants.{Plain, Ephe}
+use Rattle.heap_model.specs.declared.graph.Value.TheVariants.{Block}
+use Rattle.heap_model.specs.declared.graph.Node.TheVariants.{Ephe}
 use Rattle.heap_model.specs.declared.state.Sizes.{Sizes}
 use Rattle.heap_model.specs.Graph.{Graph, node_at}
 use Rattle.heap_model.specs.Domains.{IsWithinLimits}
 use Rattle.heap_model.specs.Commands.{shown, key_value}
-use Rattle.heap_model.specs.History.{IsPrefix}
 use Rattle.table_laws.specs.Stages.{graph_of}
 use Rattle.table_laws.proofs.StageLemmas.{prefix_trans}
 use Rattle.map_laws.specs.Tries.{at, inside, fields_of, bound_by, is_leaf, IsSlot, low_digits, number_of, way_to, way_length, width_at, root_width, node_width, IsMap}
 use Rattle.map_laws.specs.Steps.{OthersRespect}
-use Rattle.map_laws.specs.Calls.{PerformedBy, bound_after, registers_after}
+use Rattle.map_laws.specs.Calls.{PerformedBy, bound_after}
 use Rattle.map_laws.proofs.CallLemmas.{copy_step, get_key_step, get_key_plain_step}
 use Rattle.weak_maps.specs.Commands.{IsBlock}
 use Rattle.weak_maps.specs.Beside.{held_by}
-use Rattle.weak_maps.specs.Walks.{HoldsLeaf, LeafTells, Looking}
+use Rattle.weak_maps.specs.Walks.{LeafTells, Looking}
 use Rattle.weak_maps.specs.Fields.{AtField, FoundBy, FoundMine, FoundNone, KeepsWalked, Stays, Walked}
-use Rattle.weak_maps.proofs.BesideLemmas.{sixteen, set_here, set_other, same_held, since_old, until_new}
+use Rattle.weak_maps.proofs.BesideLemmas.{sixteen, set_here, set_other, same_held}
 use Rattle.weak_maps.proofs.StayLemmas.{leaf_middle, looking_on, prefix_same, stays_middle, stays_same, stays_twice}
-use Rattle.weak_maps.proofs.DescendLemmas.{at_one, below_root, below_width, block_of, leaf_none, leaf_tells, loads_inner, none_bound, plain_node, shown_no_type, way_ends}
+use Rattle.weak_maps.proofs.DescendLemmas.{below_root, below_width, block_of, leaf_none, leaf_tells, loads_inner, none_bound, plain_node, shown_no_type, way_ends}
 use Rattle.weak_maps.proofs.GetLemmas.{grows_by}
 
 stays_here : (z : Sizes) (root : Label) (a : List Entry) → IsMap (graph_of z a) root → Stays z root a a

@@ -1,5 +1,5 @@
 -- A block in the making is its maker's, command by command.
-use Rattle.std.proofs.Common.{◌≡◌, ◌≢◌, ◌⊎◌, inl, inr, ⊎_elim, ℕ, ◌+◌, ◌<◌, Bool, true, false, IsTrue, List, [], ◌∷◌, ◌++◌, length, get_or, set, option_to_list, Option, Some, None, refl, ap, sym, ◌∙◌, subst, arith}
+use Rattle.std.proofs.Common.{◌≡◌, ◌≢◌, ◌⊎◌, inl, inr, ⊎_elim, ℕ, ◌+◌, true, false, IsTrue, List, [], ◌∷◌, ◌++◌, get_or, option_to_list, Option, Some, None, refl, ap, sym, ◌∙◌, subst}
 use Rattle.heap_model.specs.declared.label.Label.{Label}
 use Rattle.heap_model.specs.declared.command.Command.{Command}
 use Rattle.heap_model.specs.declared.entry.Entry.{Entry}
@@ -29,16 +29,16 @@ use Rattle.table_laws.proofs.CollectorLemmas.{outside_unheld}
 use Rattle.map_laws.specs.Tries.{at, inside, fields_of, is_leaf, IsMap}
 use Rattle.map_laws.specs.Private.{IsPrivate}
 use Rattle.map_laws.specs.Steps.{OthersRespect, RespectsMap, WasUnreached}
-use Rattle.map_laws.specs.Calls.{Looks, PerformedBy, bound_after, registers_after}
+use Rattle.map_laws.specs.Calls.{Looks, PerformedBy}
 use Rattle.map_laws.proofs.CallLemmas.{legal_middle, made, registers_kept}
 use Rattle.map_laws.proofs.FrontLemmas.{other_between, prefix_more, prefix_same, prefix_trans, walk_along}
 use Rattle.map_laws.proofs.MapLemmas.{map_stays}
-use Rattle.map_laws.proofs.OwnLemmas.{IsApart, apart_respects, apart_untouched, fresh_respects, fresh_untouched, leaf_stays, looks_once, reading_respects, reading_untouched, untouched_keeps}
+use Rattle.map_laws.proofs.OwnLemmas.{apart_respects, apart_untouched, fresh_respects, fresh_untouched, leaf_stays, looks_once, reading_respects, reading_untouched, untouched_keeps}
 use Rattle.map_laws.proofs.PrivateLemmas.{born, is_item, private_between, private_born, private_left, private_outside, private_own}
 use Rattle.map_laws.proofs.RespectLemmas.{state_push}
 use Rattle.weak_maps.specs.Beside.{held_by}
 use Rattle.weak_maps.specs.Puts.{OwnBlock}
-use Rattle.weak_maps.proofs.BesideLemmas.{left_is, same_held}
+use Rattle.weak_maps.proofs.BesideLemmas.{left_is}
 use Rattle.weak_maps.proofs.StayLemmas.{stays_middle}
 
 -- a front of a history with one entry more is one of it, or all

@@ -4,22 +4,21 @@ use Rattle.heap_model.specs.declared.label.Label.{Label}
 use Rattle.heap_model.specs.declared.entry.Entry.{Entry}
 use Rattle.heap_model.specs.declared.graph.Value.{Value}
 use Rattle.heap_model.specs.declared.graph.Value.TheVariants.{Int, Block, Nothing}
-use Rattle.heap_model.specs.declared.graph.Node.{Node}
 use Rattle.heap_model.specs.declared.graph.Node.TheVariants.{Plain, Ephe}
 use Rattle.heap_model.specs.declared.state.Sizes.{Sizes}
 use Rattle.heap_model.specs.declared.state.State.{State}
 use Rattle.heap_model.specs.Graph.{Graph, node_at}
 use Rattle.heap_model.specs.Entries.{next}
 use Rattle.heap_model.specs.History.{IsPrefix}
-use Rattle.table_laws.specs.Thinning.{IsOutside, Thin, state_of}
+use Rattle.table_laws.specs.Thinning.{IsOutside, state_of}
 use Rattle.table_laws.specs.Stages.{graph_of}
-use Rattle.map_laws.specs.Tries.{at, inside, fields_of, bound_by, bound_in, is_leaf, node_width, way_to, IsMap, IsSlot}
+use Rattle.map_laws.specs.Tries.{at, inside, fields_of, bound_by, bound_in, is_leaf, node_width, way_to, IsMap}
 use Rattle.map_laws.specs.Steps.{WritesField, Sets, Deepens, Clears, MapStep, Untouched, SetsKey, GoesDeeper, ClearsField, TakesKeys, IsThinned, AllRespect}
 use Rattle.map_laws.proofs.WalkLemmas.{Walk, set_same, set_else, same_number, at_step, at_stop}
 use Rattle.map_laws.proofs.SetLemmas.{block_is, binds_same, now_inside, others_inside, still_end, was_inside}
 use Rattle.map_laws.proofs.MapLemmas.{NoLabel, at_same, untouched_thinned}
 use Rattle.map_laws.proofs.RespectLemmas.{graph_push, map_between}
-use Rattle.map_laws.proofs.FrontLemmas.{prefix_before, prefix_trans, walk_along}
+use Rattle.map_laws.proofs.FrontLemmas.{prefix_before, walk_along}
 use Rattle.map_laws.proofs.TreeLemmas.{leads_nowhere}
 use Rattle.weak_maps.specs.Puts.{IsInPlace}
 use Rattle.weak_maps.proofs.DescendLemmas.{leaf_node, plain_node}

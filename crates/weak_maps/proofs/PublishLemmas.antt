@@ -1,5 +1,5 @@
 -- The compare-and-set by which a leaf comes into a map.
-use Rattle.std.proofs.Common.{◌≡◌, ◌≢◌, ◌⊎◌, inl, inr, ⊎_elim, ℕ, ◌+◌, ◌<◌, Bool, true, false, cond, List, [], ◌∷◌, ◌++◌, length, get_or, set, slice_get, pos, Option, Some, None, refl, ap, sym, ◌∙◌, subst, arith, eq-eqb}
+use Rattle.std.proofs.Common.{◌≡◌, ◌≢◌, ◌⊎◌, inl, inr, ⊎_elim, ℕ, ◌<◌, Bool, true, false, cond, List, [], ◌∷◌, ◌++◌, length, get_or, set, slice_get, Option, Some, None, refl, ap, sym, ◌∙◌, subst, eq-eqb}
 use Rattle.std.proofs.lemmas.Option.{slice_get-get_or}
 use Rattle.std.proofs.lemmas.Bool.Decides.{Decides-int_eq}
 use Rattle.heap_model.specs.declared.label.Label.{Label}
@@ -21,12 +21,12 @@ use Rattle.heap_model.specs.Domains.{IsWithinLimits, register}
 use Rattle.heap_model.specs.Commands.{Outcome, at_field, block_in, exchanged, outcome, same_value, written_where, after_command}
 use Rattle.heap_model.specs.Entries.{next}
 use Rattle.heap_model.specs.Fronts.{NoneOf}
-use Rattle.heap_model.specs.History.{IsPrefix, is_entry_of}
+use Rattle.heap_model.specs.History.{IsPrefix}
 use Rattle.heap_model.proofs.Commands.LeavesLemmas.{takes_plain}
 use Rattle.heap_model.proofs.Graphs.GraphLemmas.{same_label-true, same_label-false, same_label_refl}
 use Rattle.table_laws.specs.Thinning.{IsOutside, Thin, state_of}
 use Rattle.table_laws.specs.Stages.{graph_of}
-use Rattle.map_laws.specs.Tries.{at, inside, fields_of, bound_by, bound_in, found, is_leaf, low_digits, way_to, IsMap}
+use Rattle.map_laws.specs.Tries.{at, inside, fields_of, bound_by, bound_in, found, is_leaf, low_digits, IsMap}
 use Rattle.map_laws.specs.Private.{IsPrivate}
 use Rattle.map_laws.specs.Steps.{AllRespect, Sets, SetsKey, OthersRespect, RespectsMap, WasUnreached}
 use Rattle.map_laws.specs.Calls.{PerformedBy, bound_after, registers_after}
@@ -38,7 +38,7 @@ use Rattle.map_laws.proofs.RespectLemmas.{graph_push}
 use Rattle.map_laws.proofs.SetLemmas.{set_binds}
 use Rattle.weak_maps.specs.Beside.{held_by}
 use Rattle.weak_maps.specs.Fields.{AtField, Stays}
-use Rattle.weak_maps.specs.Puts.{BindsOnly, FieldBinds, GoesOn, IsLeafOf, OwnBlock, Published, PublishLost}
+use Rattle.weak_maps.specs.Puts.{BindsOnly, FieldBinds, IsLeafOf, OwnBlock, Published, PublishLost}
 use Rattle.weak_maps.proofs.BesideLemmas.{left_is, same_held, until_new}
 use Rattle.weak_maps.proofs.CountLemmas.{not_refused}
 use Rattle.weak_maps.proofs.DescendLemmas.{plain_node}

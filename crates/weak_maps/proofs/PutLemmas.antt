@@ -1,5 +1,5 @@
 -- What a put makes before it is published: the leaf.
-use Rattle.std.proofs.Common.{◌≡◌, ◌≢◌, ◌⊎◌, inl, inr, ⊎_elim, ℕ, ◌+◌, ◌<◌, Bool, true, false, eqb, eqb-true, List, [], ◌∷◌, ◌++◌, length, get_or, set, Option, Some, None, refl, ap, sym, ◌∙◌, subst, arith}
+use Rattle.std.proofs.Common.{◌≡◌, ◌≢◌, ⊎_elim, ℕ, ◌<◌, true, false, eqb-true, List, [], ◌∷◌, ◌++◌, Some, None, ap, sym, ◌∙◌, arith}
 use Rattle.heap_model.specs.declared.label.Label.{Label}
 use Rattle.heap_model.specs.declared.command.Command.{Command}
 use Rattle.heap_model.specs.declared.command.Command.TheVariants.{Ephe as NewEphe, SetKey, SetData}
@@ -10,7 +10,7 @@ use Rattle.heap_model.specs.declared.graph.Value.{Value}
 use Rattle.heap_model.specs.declared.graph.Value.TheVariants.{Block, Nothing}
 use Rattle.heap_model.specs.declared.graph.Node.TheVariants.{Ephe}
 use Rattle.heap_model.specs.declared.state.Sizes.{Sizes}
-use Rattle.heap_model.specs.Graph.{Graph, node_at, with_node}
+use Rattle.heap_model.specs.Graph.{Graph, node_at}
 use Rattle.heap_model.specs.Domains.{IsWithinLimits}
 use Rattle.heap_model.specs.History.{IsPrefix}
 use Rattle.heap_model.proofs.Graphs.GraphLemmas.{node_at-with_node_same}
@@ -24,7 +24,7 @@ use Rattle.map_laws.proofs.OwnLemmas.{looks_none, looks_twice}
 use Rattle.weak_maps.specs.Beside.{held_by}
 use Rattle.weak_maps.specs.Puts.{GoesOn, LeafMade, LeafRefused, OwnBlock}
 use Rattle.weak_maps.proofs.BesideLemmas.{sixteen, set_here, set_other, same_held}
-use Rattle.weak_maps.proofs.FreshLemmas.{held_not_outside, makes_on, map_mid, not_held_before, own_born, own_middle, own_on, reads_on, thin_empty, thin_held, writes_on}
+use Rattle.weak_maps.proofs.FreshLemmas.{makes_on, map_mid, not_held_before, own_born, own_middle, own_on, reads_on, thin_empty, writes_on}
 use Rattle.weak_maps.proofs.GetLemmas.{grows_by}
 use Rattle.weak_maps.proofs.StayLemmas.{respects_within}
 

@@ -1,9 +1,8 @@
 -- Room is made at a field: a leaf of another key goes one block deeper.
-use Rattle.std.proofs.Common.{◌≡◌, ◌≢◌, ◌⊎◌, inl, inr, ⊎_elim, ℕ, ◌+◌, ◌<◌, Bool, true, false, eqb, eqb-true, eq-eqb, cond, List, [], ◌∷◌, ◌++◌, length, get_or, set, replicate, slice_get, pos, Option, Some, None, refl, ap, sym, ◌∙◌, subst, arith, length-append}
+use Rattle.std.proofs.Common.{◌≡◌, ◌≢◌, ◌⊎◌, ⊎_elim, ℕ, ◌+◌, ◌<◌, true, false, eqb-true, List, [], ◌∷◌, ◌++◌, length, get_or, set, replicate, pos, Some, ap, sym, ◌∙◌, subst, arith, length-append}
 use Rattle.std.proofs.lemmas.Option.{slice_get-get_or}
 use Rattle.std.proofs.lemmas.List.{length-replicate}
 use Rattle.heap_model.specs.declared.label.Label.{Label}
-use Rattle.heap_model.specs.declared.command.Command.{Command}
 use Rattle.heap_model.specs.declared.command.Command.TheVariants.{Alloc, Cas, Store}
 use Rattle.heap_model.specs.declared.entry.Entry.{Entry}
 use Rattle.heap_model.specs.declared.entry.Entry.TheVariants.{Command as CommandOf}
@@ -14,19 +13,18 @@ use Rattle.heap_model.specs.declared.graph.Value.TheVariants.{Int, Block, Nothin
 use Rattle.heap_model.specs.declared.graph.Node.{Node}
 use Rattle.heap_model.specs.declared.graph.Node.TheVariants.{Plain, Ephe}
 use Rattle.heap_model.specs.declared.state.Sizes.{Sizes}
-use Rattle.heap_model.specs.declared.state.State.{State}
 use Rattle.heap_model.specs.Graph.{Graph, node_at, with_node}
 use Rattle.heap_model.specs.Domains.{IsWithinLimits}
 use Rattle.heap_model.specs.Commands.{same_value}
 use Rattle.heap_model.specs.Entries.{next}
-use Rattle.heap_model.specs.History.{IsPrefix, is_entry_of}
+use Rattle.heap_model.specs.History.{IsPrefix}
 use Rattle.heap_model.proofs.Commands.FrameLemmas.{label_cases}
 use Rattle.heap_model.proofs.Graphs.GraphLemmas.{node_at-append_old, node_at-with_node_other, node_at-with_node_same}
 use Rattle.table_laws.specs.Thinning.{state_of}
 use Rattle.table_laws.specs.Stages.{graph_of}
-use Rattle.map_laws.specs.Tries.{at, inside, fields_of, bound_by, found, node_width, way_length, way_to, IsMap}
+use Rattle.map_laws.specs.Tries.{at, inside, fields_of, found, node_width, way_length, way_to, IsMap}
 use Rattle.map_laws.specs.Steps.{AllRespect, Deepens, GoesDeeper, OthersRespect, RespectsMap, WasUnreached}
-use Rattle.map_laws.specs.Calls.{PerformedBy, Looks, bound_after, registers_after}
+use Rattle.map_laws.specs.Calls.{PerformedBy, Looks, registers_after}
 use Rattle.map_laws.proofs.CallLemmas.{alloc_step, cas_step, made, store_step}
 use Rattle.map_laws.proofs.DeepenLemmas.{deepen_keeps}
 use Rattle.map_laws.proofs.FrontLemmas.{prefix_same, prefix_trans}
@@ -36,7 +34,7 @@ use Rattle.map_laws.proofs.RespectLemmas.{graph_push, map_after, place_after, re
 use Rattle.weak_maps.specs.Beside.{held_by}
 use Rattle.weak_maps.specs.Fields.{AtField, Stays}
 use Rattle.weak_maps.specs.Puts.{FieldBinds, GoesOn, OwnBlock, RoomMade, RoomRefused}
-use Rattle.weak_maps.proofs.BesideLemmas.{left_is, same_held, set_here, set_other, sixteen, until_new}
+use Rattle.weak_maps.proofs.BesideLemmas.{same_held, set_here, set_other, sixteen, until_new}
 use Rattle.weak_maps.proofs.DescendLemmas.{plain_node}
 use Rattle.weak_maps.proofs.FreshLemmas.{held_not_outside, makes_on, map_by, map_mid, next_is, not_held_before, own_born, own_middle, own_on, reads_on, thin_held, thin_plain, writes_on}
 use Rattle.weak_maps.proofs.GetLemmas.{grows_by}

@@ -1,5 +1,5 @@
 -- One try of a put.
-use Rattle.std.proofs.Common.{◌≡◌, ◌≢◌, ◌⊎◌, inl, inr, ℕ, ◌+◌, ◌<◌, ◌^◌, ◌%◌, Bool, true, false, cond, List, [], ◌∷◌, ◌++◌, length, Option, Some, None, refl, ap, sym, ◌∙◌, subst, arith}
+use Rattle.std.proofs.Common.{◌≡◌, ◌≢◌, inl, inr, ℕ, ◌+◌, ◌<◌, ◌^◌, ◌%◌, Bool, true, false, cond, List, [], ◌∷◌, Option, Some, None, refl, ap, ◌∙◌, subst, arith, min}
 use Rattle.heap_model.specs.declared.label.Label.{Label}
 use Rattle.heap_model.specs.declared.command.Command.TheVariants.{Load}
 use Rattle.heap_model.specs.declared.entry.Entry.{Entry}
@@ -10,27 +10,31 @@ use Rattle.heap_model.specs.declared.graph.Value.TheVariants.{Int, Block, Nothin
 use Rattle.heap_model.specs.declared.graph.Node.{Node}
 use Rattle.heap_model.specs.declared.graph.Node.TheVariants.{Plain, Raw, Ephe}
 use Rattle.heap_model.specs.declared.state.Sizes.{Sizes}
-use Rattle.heap_model.specs.Graph.{Graph, same_label, node_at}
+use Rattle.heap_model.specs.Graph.{same_label, node_at}
 use Rattle.heap_model.specs.Domains.{IsWithinLimits, opening}
 use Rattle.heap_model.specs.History.{IsPrefix, Legal}
 use Rattle.heap_model.proofs.Graphs.GraphLemmas.{same_label-true}
 use Rattle.table_laws.specs.Stages.{graph_of}
 use Rattle.table_laws.proofs.StepLemmas.{legal_parts}
-use Rattle.map_laws.specs.Tries.{bound_by, bound_in, node_width, number_of, way_to, IsLabelOf, IsMap}
+use Rattle.map_laws.specs.Tries.{bound_by, bound_in, node_width, number_of, IsLabelOf, IsMap}
 use Rattle.map_laws.specs.Steps.{OthersRespect}
 use Rattle.map_laws.specs.Calls.{PerformedBy, PutsOrFull}
 use Rattle.map_laws.proofs.FrontLemmas.{prefix_same}
+use Rattle.map_laws.proofs.RespectLemmas.{respect_both}
 use Rattle.map_laws.proofs.LabelLemmas.{held_below, key_below}
 use Rattle.weak_maps.specs.Beside.{held_by}
 use Rattle.weak_maps.specs.Fields.{Cleared}
-use Rattle.weak_maps.specs.Puts.{Arrived, IsInPlace, MakesRoom, Publishes, Putting, rest_of}
+use Rattle.weak_maps.specs.Puts.{Arrived, FindsField, IsInPlace, KeepsLeaf, MakesRoom, Publishes, Putting, rest_of}
+use Rattle.weak_maps.specs.declared.putting.Try.{Try}
+use Rattle.weak_maps.specs.Settles.{SettledBy, Settles}
 use Rattle.weak_maps.specs.Returns.{TakeLeaves}
 use Rattle.weak_maps.proofs.GetLemmas.{grows_by}
+use Rattle.weak_maps.proofs.PlaceLemmas.{place_after}
 use Rattle.weak_maps.proofs.PutLemmas.{goes_twice}
 use Rattle.weak_maps.proofs.RoomLemmas.{goes_all, stays_all}
 use Rattle.weak_maps.proofs.StayLemmas.{respects_within, stays_twice}
 use Rattle.weak_maps.proofs.TakeLemmas.{cleared_grows}
-use Rattle.weak_maps.proofs.TryLemmas.{put_digit, put_done, put_ended, put_read}
+use Rattle.weak_maps.proofs.TryLemmas.{put_arrives, put_digit, put_done, put_ended, put_read}
 
 -- a leaf that binds a key is one of it
 bound_node : (o : Option Node) (j : Label) → bound_in j o ≢ None → (datum : Value) × (o ≡ Some (Ephe (Some j ∷ []) datum))
@@ -104,3 +108,22 @@ module _ (z : Sizes) (limits : IsWithinLimits z) (root : Label) (d : ℕ) (old n
       let x = makes t.first t.found.front root k j t.l v rest kr t.found.shows few (t.keeps kr few ∙ key) t.found.field t.found.binds way t.leaf t.on.map others in
       put_read z limits root d old k v kr few key t.found.front now n1 new t.first r i rest t.found.shows level t.found.field t.found.deep (goes_twice z root d old now n1 t.on x.on) x.stays (x.keeps 8 (λ e. absurd (omega (arith, e))))
       (λ m small. x.keeps m (λ e. absurd (omega (arith, small, e))) ∙ t.keeps m small) t.l x.leaf p respects
+
+-- a search from a field that was read, and what the try there leads to
+pub put_settles : (z : Sizes) (limits : IsWithinLimits z) (root : Label) (d : ℕ) (old : List Entry) (k : Label) (v : Value) (kr : ℕ) → kr < 8 → held_by z d old kr ≡ Block k → (now n0 new : List Entry) (i rest i2 rest2 level steps sum : ℕ) (s : Reply) (other : Option Label) (try : Try) → sum ≡ min (level + steps) 255
+    → (OthersRespect z root d old now → Putting z d old now root k v i rest s level) → FindsField z d now n0 kr k i rest s i2 rest2 steps other → KeepsLeaf z d now n0 kr k i rest s → IsPrefix now n0 → Settles z d n0 new k i2 rest2 sum other try → IsPrefix n0 new
+    → IsMap (graph_of z old) root → IsInPlace z.domains (graph_of z old) root → OthersRespect z root d old new → SettledBy z d old new root k v i2 rest2 sum try
+put_settles z limits root d old k v kr few key now n0 new i rest i2 rest2 level steps sum s other try is putting finds own grows settles later map placed respects =
+    let e0 = respects_within z root d old new old n0 (prefix_same old) later respects in
+    let e1 = respects_within z root d old n0 old now (prefix_same old) grows e0 in
+    let t = put_arrives z limits root d old k v kr few key now n0 i rest i2 rest2 level steps s other (putting e1) finds own grows e0 in
+    let deep = t.found.deep in
+    let all = t.found.field.all in
+    let exact : level + steps ≡ sum = omega (arith, is, deep, all) in
+    settles old root v kr few key map placed (subst (λ (n : ℕ). Arrived z d old n0 root k v i2 rest2 n other) exact t) respects
+
+-- whatever is answered, each leaf stands on its key's way still
+pub put_placed : (z : Sizes) (root : Label) (d : ℕ) (old new : List Entry) (k : Label) (v : Value) (r : Reply) → IsPrefix old new → IsMap (graph_of z old) root → IsInPlace z.domains (graph_of z old) root → OthersRespect z root d old new → PutsOrFull z root d old new k v r
+    → IsInPlace z.domains (graph_of z new) root
+put_placed z root d old new k v r grows map placed respects (inl (is, (before, x))) = place_after z root old new grows (respect_both z root d old new respects x.respects) map placed
+put_placed z root d old new k v r grows map placed respects (inr (is, x)) = place_after z root old new grows (respect_both z root d old new respects x.respects) map placed

@@ -1,5 +1,5 @@
 -- The tries of a put, from a field that was read to the next.
-use Rattle.std.proofs.Common.{◌≡◌, ◌≢◌, ◌⊎◌, inl, inr, ⊎_elim, ℕ, ◌+◌, ◌<◌, ◌≤◌, ◌%◌, ◌/◌, Bool, true, false, List, [], ◌∷◌, ◌++◌, length, Option, Some, None, refl, ap, sym, ◌∙◌, subst, arith, append_assoc}
+use Rattle.std.proofs.Common.{◌≡◌, ◌≢◌, ℕ, ◌+◌, ◌<◌, ◌%◌, ◌/◌, List, [], ◌∷◌, ◌++◌, length, Option, Some, None, refl, ap, sym, ◌∙◌, subst, arith}
 use Rattle.heap_model.specs.declared.label.Label.{Label}
 use Rattle.heap_model.specs.declared.command.Command.TheVariants.{Copy, Load}
 use Rattle.heap_model.specs.declared.entry.Entry.{Entry}
@@ -8,7 +8,6 @@ use Rattle.heap_model.specs.declared.graph.Value.{Value}
 use Rattle.heap_model.specs.declared.graph.Value.TheVariants.{Int, Block, Nothing}
 use Rattle.heap_model.specs.declared.graph.Node.TheVariants.{Ephe}
 use Rattle.heap_model.specs.declared.state.Sizes.{Sizes}
-use Rattle.heap_model.specs.Graph.{node_at}
 use Rattle.heap_model.specs.Domains.{IsWithinLimits}
 use Rattle.heap_model.specs.History.{IsPrefix}
 use Rattle.table_laws.specs.Stages.{graph_of}
@@ -22,7 +21,7 @@ use Rattle.map_laws.proofs.RespectLemmas.{respect_within}
 use Rattle.weak_maps.specs.Beside.{held_by}
 use Rattle.weak_maps.specs.Walks.{Looking, OwnQuiet}
 use Rattle.weak_maps.specs.Fields.{AtField, Cleared, Stays}
-use Rattle.weak_maps.specs.Puts.{Arrived, FieldFound, FindsField, GoesOn, IsInPlace, KeepsLeaf, LeafMade, OwnBlock, Published, PublishLost, Putting, RoomMade, rest_of}
+use Rattle.weak_maps.specs.Puts.{Arrived, FieldFound, FindsField, GoesOn, IsInPlace, KeepsLeaf, LeafMade, OwnBlock, Published, Putting, rest_of}
 use Rattle.weak_maps.specs.Returns.{TakeLeaves}
 use Rattle.weak_maps.proofs.BesideLemmas.{set_here, set_other, sixteen}
 use Rattle.weak_maps.proofs.DescendLemmas.{below_root}
@@ -32,7 +31,7 @@ use Rattle.weak_maps.proofs.GetLemmas.{grows_by}
 use Rattle.weak_maps.proofs.LeafLemmas.{leaf_on}
 use Rattle.weak_maps.proofs.PlaceLemmas.{place_after}
 use Rattle.weak_maps.proofs.RoomLemmas.{goes_all}
-use Rattle.weak_maps.proofs.StayLemmas.{looking_from, looking_on, quiet_looks, respects_within, stays_twice}
+use Rattle.weak_maps.proofs.StayLemmas.{looking_from, looking_on, quiet_looks, respects_within}
 use Rattle.weak_maps.proofs.TakeLemmas.{cleared_clean, cleared_grows, cleared_keeps, cleared_looking}
 
 -- entries that change no block, from a later front on

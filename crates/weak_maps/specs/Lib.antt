@@ -4,3 +4,4 @@ pub mod Walks
 pub mod Fields
 pub mod Returns
 pub mod Puts
+pub mod Settles

@@ -1,4 +1,4 @@
-use Rattle.std.proofs.Common.{◌≡◌, ◌∙◌, ℕ, suc, ◌+◌, ◌/◌, refl, sym, ap, arith, rules}
+use Rattle.std.proofs.Common.{◌≡◌, ◌∙◌, ℕ, suc, ◌+◌, ◌/◌, refl, ap, arith}
 use Rattle.map_laws.specs.Tries.{node_width}
 use Rattle.weak_maps.specs.Puts.{rest_of}
 use Rattle.weak_maps.proofs.digits.rest_below.Goals as goal
