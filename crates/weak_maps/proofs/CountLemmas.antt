@@ -1,5 +1,5 @@
 -- How many entries of a domain are refused, and how many write, once one command more is made.
-use Rattle.std.proofs.Common.{◌≡◌, ℕ, ◌+◌, Bool, true, false, cond, ◌==◌, eq-eqb, IsTrue, List, [], ◌∷◌, ◌++◌, refl, ap, sym, subst, ◌∙◌, arith}
+use Rattle.std.proofs.Common.{◌≡◌, ℕ, ◌+◌, Bool, true, false, cond, ◌==◌, eq-eqb, List, [], ◌∷◌, ◌++◌, refl, ap, sym, subst, ◌∙◌, arith}
 use Rattle.heap_model.specs.declared.command.Command as declared_command
 use Rattle.heap_model.specs.declared.entry.Entry.{Entry}
 use Rattle.heap_model.specs.declared.entry.Entry.TheVariants.{Command}
@@ -8,11 +8,11 @@ use Rattle.heap_model.specs.declared.reply.Reply.TheVariants as reply
 use Rattle.heap_model.specs.declared.reply.Applied.TheVariants.{Replied}
 use Rattle.heap_model.specs.declared.state.Sizes.{Sizes}
 use Rattle.heap_model.specs.declared.state.State.{State}
-use Rattle.heap_model.specs.Commands.{is_allocation, outcome, CommandAllowed, FullOnlyWhereAllowed, MayBeFull}
+use Rattle.heap_model.specs.Commands.{is_allocation, outcome, FullOnlyWhereAllowed, MayBeFull}
 use Rattle.heap_model.specs.Domains.{opening}
 use Rattle.heap_model.specs.Entries.{reply as reply_of}
 use Rattle.heap_model.specs.Fronts.{NoneOf}
-use Rattle.heap_model.specs.History.{Legal, LegalFrom, state_after, is_entry_of}
+use Rattle.heap_model.specs.History.{Legal, LegalFrom, is_entry_of}
 use Rattle.heap_model.proofs.Histories.FrontLemmas.{none_cons}
 use Rattle.command_counts.specs.Counts.{blocks_of, labels_given, labels_of}
 use Rattle.table_laws.specs.Thinning.{state_of}

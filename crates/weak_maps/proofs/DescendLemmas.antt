@@ -1,5 +1,5 @@
 -- The walk of a call to the end of a key's way, command by command.
-use Rattle.std.proofs.Common.{◌≡◌, ◌≢◌, ◌⊎◌, inl, inr, ⊎_elim, ℕ, zero, suc, ◌+◌, ◌<◌, ◌≤◌, ◌/◌, ◌%◌, Bool, true, false, List, [], ◌∷◌, ◌++◌, length, get_or, set, slice_get, Option, Some, None, refl, ap, sym, ◌∙◌, subst, arith, append_assoc, append-nil, length-append, cond}
+use Rattle.std.proofs.Common.{◌≡◌, ◌≢◌, ◌⊎◌, inl, inr, ⊎_elim, ℕ, zero, suc, ◌<◌, ◌/◌, ◌%◌, Bool, true, false, List, [], ◌∷◌, ◌++◌, length, get_or, Option, Some, None, refl, ap, sym, ◌∙◌, subst, arith, append_assoc, length-append, cond}
 use Rattle.std.proofs.lemmas.Option.{slice_get-get_or}
 use Rattle.heap_model.specs.declared.label.Label.{Label}
 use Rattle.heap_model.specs.declared.command.Command.TheVariants.{Load}
@@ -15,18 +15,18 @@ use Rattle.heap_model.specs.Graph.{Graph, same_label, node_at}
 use Rattle.heap_model.specs.Domains.{IsWithinLimits}
 use Rattle.heap_model.specs.Commands.{shown}
 use Rattle.heap_model.specs.History.{IsPrefix}
-use Rattle.heap_model.proofs.Graphs.GraphLemmas.{same_label-true, same_label-false, same_label_refl}
+use Rattle.heap_model.proofs.Graphs.GraphLemmas.{same_label-true, same_label_refl}
 use Rattle.table_laws.specs.Stages.{graph_of}
 use Rattle.table_laws.proofs.StageLemmas.{prefix_trans}
-use Rattle.map_laws.specs.Tries.{at, ends, inside, fields_of, found, bound_by, bound_in, is_leaf, IsSlot, low_digits, digits, number_of, way_to, way_length, width_at, root_width, node_width, IsMap}
+use Rattle.map_laws.specs.Tries.{at, ends, inside, fields_of, found, bound_by, bound_in, is_leaf, IsSlot, low_digits, number_of, way_to, way_length, width_at, root_width, node_width, IsMap}
 use Rattle.map_laws.specs.Steps.{OthersRespect}
-use Rattle.map_laws.specs.Calls.{PerformedBy, bound_after}
+use Rattle.map_laws.specs.Calls.{PerformedBy}
 use Rattle.map_laws.proofs.CallLemmas.{load_step, load_leaf_step}
 use Rattle.map_laws.proofs.WalkLemmas.{Walk, ends_at, at_step, at_stop}
 use Rattle.map_laws.proofs.SetLemmas.{stays}
 use Rattle.weak_maps.specs.Commands.{IsBlock}
 use Rattle.weak_maps.specs.Beside.{held_by}
-use Rattle.weak_maps.specs.Walks.{KeepsButEight, Looking, Descends, LeafTells, Meets, HoldsLeaf, Met}
+use Rattle.weak_maps.specs.Walks.{Looking, Descends, LeafTells, Meets, Met}
 use Rattle.weak_maps.proofs.BesideLemmas.{sixteen, set_here, set_other, same_held, since_old, until_new}
 use Rattle.weak_maps.proofs.StayLemmas.{prefix_same, leaf_middle, looking_from, looking_on, stays_middle}
 use Rattle.weak_maps.specs.Fields.{Stays}

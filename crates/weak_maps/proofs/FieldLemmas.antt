@@ -1,5 +1,5 @@
 -- The walk of a call to the field at which a key's way ends, command by command.
-use Rattle.std.proofs.Common.{◌≡◌, ◌≢◌, ◌⊎◌, inl, inr, ⊎_elim, ℕ, zero, suc, ◌+◌, ◌<◌, ◌≤◌, ◌/◌, ◌%◌, Bool, true, false, List, [], ◌∷◌, ◌++◌, length, get_or, set, Option, Some, None, refl, ap, sym, ◌∙◌, subst, arith, append_assoc, append-nil, length-append}
+use Rattle.std.proofs.Common.{◌≡◌, ◌≢◌, ◌⊎◌, inl, inr, ⊎_elim, ℕ, zero, suc, ◌+◌, ◌<◌, ◌/◌, ◌%◌, Bool, true, false, List, [], ◌∷◌, ◌++◌, length, Option, Some, None, refl, ap, sym, ◌∙◌, subst, arith, append_assoc, length-append}
 use Rattle.heap_model.specs.declared.label.Label.{Label}
 use Rattle.heap_model.specs.declared.command.Command.{Command}
 use Rattle.heap_model.specs.declared.command.Command.TheVariants.{Copy, Load, GetKey}
@@ -7,26 +7,25 @@ use Rattle.heap_model.specs.declared.entry.Entry.{Entry}
 use Rattle.heap_model.specs.declared.reply.Reply.{Reply}
 use Rattle.heap_model.specs.declared.reply.Reply.TheVariants as reply
 use Rattle.heap_model.specs.declared.graph.Value.{Value}
-use Rattle.heap_model.specs.declared.graph.Value.TheVariants.{Int, Block, Nothing}
-use Rattle.heap_model.specs.declared.graph.Node.TheVariants.{Plain, Ephe}
+use Rattle.heap_model.specs.declared.graph.Value.TheVariants.{Block}
+use Rattle.heap_model.specs.declared.graph.Node.TheVariants.{Ephe}
 use Rattle.heap_model.specs.declared.state.Sizes.{Sizes}
 use Rattle.heap_model.specs.Graph.{Graph, node_at}
 use Rattle.heap_model.specs.Domains.{IsWithinLimits}
 use Rattle.heap_model.specs.Commands.{shown, key_value}
-use Rattle.heap_model.specs.History.{IsPrefix}
 use Rattle.table_laws.specs.Stages.{graph_of}
 use Rattle.table_laws.proofs.StageLemmas.{prefix_trans}
 use Rattle.map_laws.specs.Tries.{at, inside, fields_of, bound_by, is_leaf, IsSlot, low_digits, number_of, way_to, way_length, width_at, root_width, node_width, IsMap}
 use Rattle.map_laws.specs.Steps.{OthersRespect}
-use Rattle.map_laws.specs.Calls.{PerformedBy, bound_after, registers_after}
+use Rattle.map_laws.specs.Calls.{PerformedBy, bound_after}
 use Rattle.map_laws.proofs.CallLemmas.{copy_step, get_key_step, get_key_plain_step}
 use Rattle.weak_maps.specs.Commands.{IsBlock}
 use Rattle.weak_maps.specs.Beside.{held_by}
-use Rattle.weak_maps.specs.Walks.{HoldsLeaf, LeafTells, Looking}
+use Rattle.weak_maps.specs.Walks.{LeafTells, Looking}
 use Rattle.weak_maps.specs.Fields.{AtField, FoundBy, FoundMine, FoundNone, KeepsWalked, Stays, Walked}
-use Rattle.weak_maps.proofs.BesideLemmas.{sixteen, set_here, set_other, same_held, since_old, until_new}
+use Rattle.weak_maps.proofs.BesideLemmas.{sixteen, set_here, set_other, same_held}
 use Rattle.weak_maps.proofs.StayLemmas.{leaf_middle, looking_on, prefix_same, stays_middle, stays_same, stays_twice}
-use Rattle.weak_maps.proofs.DescendLemmas.{at_one, below_root, below_width, block_of, leaf_none, leaf_tells, loads_inner, none_bound, plain_node, shown_no_type, way_ends}
+use Rattle.weak_maps.proofs.DescendLemmas.{below_root, below_width, block_of, leaf_none, leaf_tells, loads_inner, none_bound, plain_node, shown_no_type, way_ends}
 use Rattle.weak_maps.proofs.GetLemmas.{grows_by}
 
 stays_here : (z : Sizes) (root : Label) (a : List Entry) → IsMap (graph_of z a) root → Stays z root a a
@@ -241,18 +240,18 @@ module _ (z : Sizes) (limits : IsWithinLimits z) (root : Label) (d : ℕ) (first
       let y = field_load now new r i rest x.left x.p x.all x.way x.narrow x.l moved.1.0 x.held moved.0 moved.1.1 p respects looking in
       (y.0, y.1.0, y.2)
 
-  still_key : (old now : List Entry) (kr : ℕ) → kr < 8 → held_by z d old kr ≡ Block k → KeepsWalked z d old now → held_by z d now kr ≡ Block k
+  pub still_key : (old now : List Entry) (kr : ℕ) → kr < 8 → held_by z d old kr ≡ Block k → KeepsWalked z d old now → held_by z d now kr ≡ Block k
   still_key old now kr few key keeps = keeps kr (λ e. absurd (omega (arith, few, e))) (λ e. absurd (omega (arith, few, e))) (λ e. absurd (omega (arith, few, e))) ∙ key
 
-  pub walk_key : (old now new : List Entry) (r : Reply) (i rest : ℕ) (s : Reply) (n kr : ℕ) → kr < 8 → held_by z d old kr ≡ Block k → PerformedBy z d now new (GetKey 11 9 0) r → OthersRespect z root d first new → Walked z root d first k old now i rest s n → IsBlock s → (r ≡ reply.BadType → ⊥)
+  pub walk_key : (old now new : List Entry) (r : Reply) (i rest : ℕ) (s : Reply) (start n kr : ℕ) → kr < 8 → held_by z d old kr ≡ Block k → PerformedBy z d now new (GetKey 11 9 0) r → OthersRespect z root d first new → Walked z root d first k old now i rest s start n → IsBlock s → (r ≡ reply.BadType → ⊥)
       → (mine : Bool) → (mine ≡ true → r ≡ reply.Block k) → (r ≡ reply.Block k → mine ≡ true) → Looking z root d first new × KeepsWalked z d old new × FoundBy z d first new root k i rest mine
-  walk_key old now new r i rest s n kr few key p respects w is other mine there back =
+  walk_key old now new r i rest s start n kr few key p respects w is other mine there back =
       ⊎_elim (λ inner. absurd (other inner.0)) (λ leaf. (leaf.1, (λ j e8 e9 e11. leaf.2 j e8 e9 e11 ∙ w.1 j e8 e9 e11), leaf.3 mine there back))
       (field_key kr now new r i rest s p respects w.0 w.2.0 is (still_key old now kr few key w.1))
 
-  pub walk_down : (old now n0 n1 new : List Entry) (r r1 r2 : Reply) (i rest : ℕ) (s : Reply) (n kr : ℕ) → kr < 8 → held_by z d old kr ≡ Block k → PerformedBy z d now n0 (GetKey 11 9 0) r → PerformedBy z d n0 n1 (Copy 8 9) r1 → PerformedBy z d n1 new (Load 9 8 (rest % node_width)) r2
-      → OthersRespect z root d first n0 → OthersRespect z root d first n1 → OthersRespect z root d first new → Walked z root d first k old now i rest s n → IsBlock s → r ≡ reply.BadType → Walked z root d first k old new (rest % node_width) (rest / node_width) r2 (n + 1)
-  walk_down old now n0 n1 new r r1 r2 i rest s n kr few key p p1 p2 e0 e1 respects w is kind =
+  pub walk_down : (old now n0 n1 new : List Entry) (r r1 r2 : Reply) (i rest : ℕ) (s : Reply) (start n kr : ℕ) → kr < 8 → held_by z d old kr ≡ Block k → PerformedBy z d now n0 (GetKey 11 9 0) r → PerformedBy z d n0 n1 (Copy 8 9) r1 → PerformedBy z d n1 new (Load 9 8 (rest % node_width)) r2
+      → OthersRespect z root d first n0 → OthersRespect z root d first n1 → OthersRespect z root d first new → Walked z root d first k old now i rest s start n → IsBlock s → r ≡ reply.BadType → Walked z root d first k old new (rest % node_width) (rest / node_width) r2 start (n + 1)
+  walk_down old now n0 n1 new r r1 r2 i rest s start n kr few key p p1 p2 e0 e1 respects w is kind =
       ⊎_elim
       (λ inner.
       let x = inner.3.0 in
@@ -262,5 +261,5 @@ module _ (z : Sizes) (limits : IsWithinLimits z) (root : Label) (d : ℕ) (first
       (field_key kr now n0 r i rest s p e0 w.0 w.2.0 is (still_key old now kr few key w.1))
 
   -- no walk comes down so far
-  pub walk_ends : (old now : List Entry) (i rest : ℕ) (s : Reply) (n : ℕ) → n ≡ way_length → Walked z root d first k old now i rest s n → ⊥
-  walk_ends old now i rest s n all w = let low = w.2.1 in let long = w.2.0.all in omega (arith, all, low, long)
+  pub walk_ends : (old now : List Entry) (i rest : ℕ) (s : Reply) (start n : ℕ) → n ≡ way_length → Walked z root d first k old now i rest s start n → ⊥
+  walk_ends old now i rest s start n all w = let low = w.2.1 in let long = w.2.0.all in omega (arith, all, low, long)

@@ -1,5 +1,5 @@
 -- What `map_get` answers and leaves, command by command.
-use Rattle.std.proofs.Common.{◌≡◌, ◌≢◌, ◌⊎◌, inl, inr, ⊎_elim, ℕ, ◌+◌, ◌<◌, Bool, true, false, List, [], ◌∷◌, ◌++◌, length, get_or, set, Option, Some, None, refl, ap, sym, ◌∙◌, subst, arith}
+use Rattle.std.proofs.Common.{◌≡◌, ◌≢◌, ℕ, ◌<◌, true, List, [], ◌∷◌, ◌++◌, Option, Some, None, refl, ap, sym, ◌∙◌, subst, arith}
 use Rattle.heap_model.specs.declared.label.Label.{Label}
 use Rattle.heap_model.specs.declared.command.Command.{Command}
 use Rattle.heap_model.specs.declared.command.Command.TheVariants.{Forget, GetKey, GetData}
@@ -16,13 +16,12 @@ use Rattle.heap_model.specs.Commands.{shown, key_value}
 use Rattle.heap_model.specs.History.{IsPrefix}
 use Rattle.table_laws.specs.Stages.{graph_of}
 use Rattle.table_laws.proofs.StageLemmas.{prefix_trans}
-use Rattle.map_laws.specs.Tries.{IsMap}
 use Rattle.map_laws.specs.Steps.{OthersRespect}
-use Rattle.map_laws.specs.Calls.{GetAnswers, PerformedBy, bound_after, registers_after, value_of}
+use Rattle.map_laws.specs.Calls.{PerformedBy, bound_after, value_of}
 use Rattle.map_laws.proofs.CallLemmas.{forget_step, get_key_step, get_data_step}
 use Rattle.weak_maps.specs.Beside.{held_by}
 use Rattle.weak_maps.specs.Walks.{Emptied, HoldsLeaf, KeepsButEight, LeafTells, Looking, Meets, Met}
-use Rattle.weak_maps.specs.Returns.{GetLeaves, GetReturns}
+use Rattle.weak_maps.specs.Returns.{GetReturns}
 use Rattle.weak_maps.proofs.BesideLemmas.{sixteen, set_here, set_other, since_old, until_new}
 use Rattle.weak_maps.proofs.StayLemmas.{leaf_middle, looking_on, prefix_same, quiet_looks, respects_within}
 

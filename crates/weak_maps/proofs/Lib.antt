@@ -8,3 +8,13 @@ pub mod GetLemmas
 pub mod MakeLemmas
 pub mod FieldLemmas
 pub mod TakeLemmas
+pub mod PlaceLemmas
+pub mod FreshLemmas
+pub mod PutLemmas
+pub mod PublishLemmas
+pub mod FoundLemmas
+pub mod RoomLemmas
+pub mod DigitLemmas
+pub mod LeafLemmas
+pub mod TryLemmas
+pub mod SettleLemmas

@@ -1,17 +1,24 @@
 -- What a machine promised before one of its numbers was seen to be the same.
 use Rattle.std.proofs.Common.{◌≡◌, ℕ, ◌+◌, List, ap, subst}
-use Rattle.std.proofs.Common.{Bool, true, false, not, refl, sym}
+use Rattle.std.proofs.Common.{Bool, true, false, not, refl, sym, ◌∙◌, ◌≢◌, Option}
 use Rattle.heap_model.specs.declared.label.Label.{Label}
 use Rattle.heap_model.specs.declared.graph.Value.{Value}
-use Rattle.heap_model.specs.declared.graph.Value.TheVariants.{Block}
+use Rattle.heap_model.specs.declared.graph.Value.TheVariants.{Block, Int, Nothing}
 use Rattle.heap_model.specs.declared.command.Command.{Command}
 use Rattle.heap_model.specs.declared.entry.Entry.{Entry}
 use Rattle.heap_model.specs.declared.reply.Reply.{Reply}
+use Rattle.heap_model.specs.declared.reply.Reply.TheVariants as reply
+use Rattle.heap_model.specs.Commands.{shown}
 use Rattle.heap_model.specs.declared.state.Sizes.{Sizes}
-use Rattle.map_laws.specs.Calls.{PerformedBy}
+use Rattle.table_laws.specs.Stages.{graph_of}
+use Rattle.map_laws.specs.Calls.{PerformedBy, PutsOrFull}
 use Rattle.weak_maps.specs.Walks.{Descended, Emptied}
 use Rattle.weak_maps.specs.Fields.{Cleared, Finds}
-use Rattle.weak_maps.specs.Returns.{GetReturns, TakeReturns}
+use Rattle.weak_maps.specs.Beside.{held_by}
+use Rattle.weak_maps.specs.declared.putting.Try.{Try}
+use Rattle.weak_maps.specs.Puts.{FindsField, IsInPlace, KeepsLeaf, MakesLeaf}
+use Rattle.weak_maps.specs.Settles.{Settles}
+use Rattle.weak_maps.specs.Returns.{GetReturns, PutReturns, TakeLeaves, TakeReturns}
 
 pub at_machine : (z now : Sizes) (d e : ℕ) (old new : List Entry) (c : Command) (r : Reply) → now ≡ z → e ≡ d → PerformedBy now e old new c r → PerformedBy z d old new c r
 at_machine z now d e old new c r sizes domain p = subst (λ (w : Sizes × ℕ). PerformedBy w.0 w.1 old new c r) (λ i. (sizes i, domain i)) p
@@ -44,6 +51,31 @@ finds_at z now d e old new kr k i rest s i2 rest2 a b sizes domain is x = subst 
 
 pub taken_at : (z : Sizes) (d : ℕ) (old new : List Entry) (root : Label) (v : Value) (k : Label) (r : Reply) → v ≡ Block k → TakeReturns z d old new root (Block k) r → TakeReturns z d old new root v r
 taken_at z d old new root v k r held x = subst (λ (w : Value). TakeReturns z d old new root w r) (sym held) x
+
+-- and with what a put is made of
+pub leaf_at : (z now : Sizes) (d e : ℕ) (old first new : List Entry) (kr item : ℕ) (a b : Bool) → now ≡ z → e ≡ d → first ≡ old → b ≡ a → MakesLeaf now e first new kr item b → MakesLeaf z d old new kr item a
+leaf_at z now d e old first new kr item a b sizes domain front is x = subst (λ (w : Sizes × ℕ × List Entry × Bool). MakesLeaf w.0 w.1 w.2 new kr item w.3) (λ i. (sizes i, domain i, front i, is i)) x
+
+pub field_at : (z now : Sizes) (d e : ℕ) (old new : List Entry) (kr : ℕ) (k : Label) (i rest : ℕ) (s : Reply) (i2 rest2 steps : ℕ) (other : Option Label) → now ≡ z → e ≡ d → FindsField now e old new kr k i rest s i2 rest2 steps other → FindsField z d old new kr k i rest s i2 rest2 steps other
+field_at z now d e old new kr k i rest s i2 rest2 steps other sizes domain x = subst (λ (w : Sizes × ℕ). FindsField w.0 w.1 old new kr k i rest s i2 rest2 steps other) (λ j. (sizes j, domain j)) x
+
+pub keeps_at : (z now : Sizes) (d e : ℕ) (old new : List Entry) (kr : ℕ) (k : Label) (i rest : ℕ) (s : Reply) → now ≡ z → e ≡ d → KeepsLeaf now e old new kr k i rest s → KeepsLeaf z d old new kr k i rest s
+keeps_at z now d e old new kr k i rest s sizes domain x = subst (λ (w : Sizes × ℕ). KeepsLeaf w.0 w.1 old new kr k i rest s) (λ j. (sizes j, domain j)) x
+
+pub settles_at : (z now : Sizes) (d e : ℕ) (old new : List Entry) (k : Label) (i rest level : ℕ) (other : Option Label) (a b : Try) → now ≡ z → e ≡ d → b ≡ a → Settles now e old new k i rest level other b → Settles z d old new k i rest level other a
+settles_at z now d e old new k i rest level other a b sizes domain is x = subst (λ (w : Sizes × ℕ × Try). Settles w.0 w.1 old new k i rest level other w.2) (λ j. (sizes j, domain j, is j)) x
+
+pub put_at : (z : Sizes) (d : ℕ) (old new : List Entry) (root : Label) (v w : Value) (k : Label) (r : Reply) → v ≡ Block k → w ≢ Nothing → PutsOrFull z root d old new k w r × TakeLeaves z d old new root → IsInPlace z.domains (graph_of z new) root → PutReturns z d old new root v w r
+put_at z d old new root v w k r held some x placed = subst (λ (u : Value). PutReturns z d old new root u w r) (sym held) (of w some x)
+  where
+    of : (u : Value) → u ≢ Nothing → PutsOrFull z root d old new k u r × TakeLeaves z d old new root → PutReturns z d old new root (Block k) u r
+    of (Int a) is y = (y.0, y.1, placed)
+    of (Block l) is y = (y.0, y.1, placed)
+    of Nothing is y = absurd (is refl)
+
+-- a register whose reply isn't empty holds something
+pub shows_some : (z now : Sizes) (d e : ℕ) (old first : List Entry) (item : ℕ) (r : Reply) → now ≡ z → e ≡ d → first ≡ old → r ≡ shown (held_by now e first item) → (r ≡ reply.Empty → ⊥) → held_by z d old item ≢ Nothing
+shows_some z now d e old first item r sizes domain front is some holds = some (is ∙ (ap (λ (w : Sizes × ℕ × List Entry). shown (held_by w.0 w.1 w.2 item)) (λ i. (sizes i, domain i, front i)) ∙ ap shown holds))
 
 -- what isn't so
 pub not_so : (b : Bool) → not b ≡ true → b ≡ false

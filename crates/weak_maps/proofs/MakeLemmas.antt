@@ -1,5 +1,5 @@
 -- A map that is made.
-use Rattle.std.proofs.Common.{◌≡◌, ◌≢◌, ◌⊎◌, inl, inr, ⊎_elim, ℕ, zero, suc, ◌+◌, ◌<◌, Bool, true, false, List, [], ◌∷◌, ◌++◌, length, get_or, set, replicate, pos, Option, Some, None, refl, ap, sym, ◌∙◌, subst, arith}
+use Rattle.std.proofs.Common.{◌≡◌, ◌⊎◌, inl, inr, ⊎_elim, ℕ, zero, suc, ◌<◌, List, [], ◌∷◌, ◌++◌, length, get_or, replicate, pos, Some, None, refl, ap, sym, ◌∙◌, subst, arith}
 use Rattle.std.proofs.lemmas.List.{length-replicate}
 use Rattle.heap_model.specs.declared.label.Label.{Label}
 use Rattle.heap_model.specs.declared.command.Command.TheVariants.{Alloc}
@@ -14,13 +14,12 @@ use Rattle.heap_model.specs.Commands.{new_plain}
 use Rattle.heap_model.proofs.Graphs.GraphLemmas.{node_at-append_new}
 use Rattle.table_laws.specs.Stages.{graph_of}
 use Rattle.map_laws.specs.Tries.{at, ends, inside, fields_of, found, bound_by, bound_in, IsSlot, way_to, root_width, width_at, way_length, IsMap}
-use Rattle.map_laws.specs.Calls.{PerformedBy, registers_after}
-use Rattle.map_laws.proofs.WalkLemmas.{Walk, at_step, at_stop, ends_step}
+use Rattle.map_laws.specs.Calls.{PerformedBy}
+use Rattle.map_laws.proofs.WalkLemmas.{at_step, at_stop, ends_step}
 use Rattle.map_laws.proofs.SetLemmas.{stays}
 use Rattle.map_laws.proofs.CallLemmas.{made, alloc_step}
-use Rattle.weak_maps.specs.Beside.{held_by}
-use Rattle.weak_maps.specs.Walks.{OwnQuiet}
-use Rattle.weak_maps.specs.Returns.{MakesMap, MakesNone, MakeReturns}
+use Rattle.weak_maps.specs.Puts.{IsInPlace}
+use Rattle.weak_maps.specs.Returns.{MakeReturns}
 use Rattle.weak_maps.proofs.BesideLemmas.{sixteen, set_here, set_other, same_held, since_old, until_new}
 use Rattle.weak_maps.proofs.StayLemmas.{no_entry, quiet_on}
 
@@ -76,6 +75,13 @@ module _ (g : Graph) (root : Label) (node : node_at g root ≡ Some (new_plain 0
       go [] = ap (bound_in k) node
       go (i ∷ is) = ap (bound_by g k) (ends_step (inside g) i is (Block root) zeros plain ∙ stays (inside g) is (get_or zeros i Nothing) (field_ends i)) ∙ field_unbound k i
 
+  -- a leaf that binds a key would stand behind a field of the root, but those are 0
+  pub new_placed : (n : ℕ) → IsInPlace n g root
+  new_placed n p l k there binds = ⊎_elim
+      (λ root_is. absurd (binds (ap (bound_by g k) root_is.1 ∙ ap (bound_in k) node)))
+      (λ field. absurd (binds (ap (bound_by g k) field.1 ∙ field_unbound k field.0)))
+      (leads p (Block l) there)
+
 pub made_map : (z : Sizes) (limits : IsWithinLimits z) (d : ℕ) (old new : List Entry) (r : Reply) (dst : ℕ) → dst < 8 → PerformedBy z d old new (Alloc dst 0 512) r → MakeReturns z d old new dst r
 made_map z limits d old new r dst few p = ⊎_elim
     (λ refused. inr (
@@ -94,6 +100,7 @@ made_map z limits d old new r dst few p = ⊎_elim
       record {
         map = new_map (graph_of z new) l node;
         empty = new_empty (graph_of z new) l node z.domains;
+        placed = new_placed (graph_of z new) l node z.domains;
         holds = set_here z d old new dst (Block l) granted.2.1 (sixteen z d old new (Alloc dst 0 512) r p limits) (omega (arith, few));
         keeps = set_other z d old new dst (Block l) granted.2.1;
         front = old ++ p.between;

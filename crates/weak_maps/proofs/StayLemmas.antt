@@ -1,5 +1,5 @@
 -- While others respect a map it is a map still, its blocks stand where they stood, and a leaf that was met tells of a key what it told.
-use Rattle.std.proofs.Common.{◌≡◌, ◌≢◌, ◌⊎◌, inl, inr, ⊎_elim, ℕ, ◌+◌, ◌<◌, Bool, true, false, List, [], ◌∷◌, ◌++◌, length, get_or, Option, Some, None, refl, ap, sym, ◌∙◌, subst, append_assoc, append-nil, length-append, arith}
+use Rattle.std.proofs.Common.{◌≡◌, inl, inr, ⊎_elim, ℕ, List, [], ◌∷◌, ◌++◌, length, get_or, Option, Some, None, refl, ap, sym, ◌∙◌, subst, append_assoc, append-nil, length-append, arith}
 use Rattle.heap_model.specs.declared.label.Label.{Label}
 use Rattle.heap_model.specs.declared.command.Command.{Command}
 use Rattle.heap_model.specs.declared.entry.Entry.{Entry}
@@ -8,14 +8,14 @@ use Rattle.heap_model.specs.declared.reply.Reply.{Reply}
 use Rattle.heap_model.specs.declared.graph.Value.{Value}
 use Rattle.heap_model.specs.declared.graph.Value.TheVariants.{Block, Nothing}
 use Rattle.heap_model.specs.declared.graph.Node.{Node}
-use Rattle.heap_model.specs.declared.graph.Node.TheVariants.{Plain, Raw, Ephe}
+use Rattle.heap_model.specs.declared.graph.Node.TheVariants.{Ephe}
 use Rattle.heap_model.specs.declared.state.Sizes.{Sizes}
 use Rattle.heap_model.specs.declared.state.State.{State}
 use Rattle.heap_model.specs.Graph.{Graph, node_at}
 use Rattle.heap_model.specs.Domains.{register, opening}
 use Rattle.heap_model.specs.Entries.{next}
 use Rattle.heap_model.specs.Fronts.{NoneOf}
-use Rattle.heap_model.specs.History.{IsPrefix, is_entry_of}
+use Rattle.heap_model.specs.History.{IsPrefix}
 use Rattle.heap_model.proofs.Commands.FrameLemmas.{keeps_next}
 use Rattle.heap_model.proofs.Histories.FrontLemmas.{none_cons}
 use Rattle.heap_model.proofs.Histories.HistoryLemmas.{state_after-push}

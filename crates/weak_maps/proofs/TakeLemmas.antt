@@ -1,5 +1,5 @@
 -- What `map_take` answers and leaves: the compare-and-set by which a binding goes.
-use Rattle.std.proofs.Common.{◌≡◌, ◌≢◌, ◌⊎◌, inl, inr, ⊎_elim, ℕ, zero, suc, ◌+◌, ◌/◌, ◌%◌, ◌<◌, ◌≤◌, Bool, true, false, cond, List, [], ◌∷◌, ◌++◌, length, get_or, set, pos, Option, Some, None, refl, ap, sym, ◌∙◌, subst, arith, append_assoc, append-nil, eq-eqb}
+use Rattle.std.proofs.Common.{◌≡◌, ◌≢◌, ◌⊎◌, inl, inr, ⊎_elim, ℕ, ◌+◌, ◌/◌, ◌%◌, ◌<◌, ◌≤◌, Bool, true, false, cond, List, [], ◌∷◌, ◌++◌, length, get_or, set, pos, Option, Some, None, refl, ap, sym, ◌∙◌, subst, arith, append_assoc, eq-eqb}
 use Rattle.std.proofs.lemmas.Option.{slice_get-get_or}
 use Rattle.heap_model.specs.declared.label.Label.{Label}
 use Rattle.heap_model.specs.declared.command.Command.{Command}
@@ -18,8 +18,8 @@ use Rattle.heap_model.specs.Graph.{Graph, same_label, node_at, with_node}
 use Rattle.heap_model.specs.Domains.{IsWithinLimits, opening}
 use Rattle.heap_model.specs.Commands.{same_value}
 use Rattle.heap_model.specs.Entries.{next}
-use Rattle.heap_model.specs.Fronts.{Grew, NoneOf, shape_of, EpheShape, PlainShape}
-use Rattle.heap_model.specs.History.{IsPrefix, is_entry_of, state_after}
+use Rattle.heap_model.specs.Fronts.{Grew, shape_of, EpheShape, PlainShape}
+use Rattle.heap_model.specs.History.{IsPrefix, state_after}
 use Rattle.heap_model.proofs.Commands.FrameLemmas.{grew_after, grew_next, grew_same, label_cases}
 use Rattle.heap_model.proofs.Graphs.GraphLemmas.{same_label-true, same_label-false, same_label_refl, node_at-with_node_other}
 use Rattle.heap_model.proofs.Histories.HistoryLemmas.{state_after-push}
@@ -27,21 +27,21 @@ use Rattle.table_laws.specs.Thinning.{IsOutside, Thin, state_of}
 use Rattle.table_laws.specs.Stages.{graph_of}
 use Rattle.table_laws.proofs.ChangeLemmas.{thin_is}
 use Rattle.table_laws.proofs.StageLemmas.{prefix_trans}
-use Rattle.map_laws.specs.Tries.{at, inside, fields_of, found, bound_by, bound_in, is_leaf, low_digits, number_of, root_width, way_to, width_at, IsMap}
-use Rattle.map_laws.specs.Steps.{Sets, SetsKey, MapStep, OthersRespect, OwnRespect, RespectsMap, SparesLeaves}
-use Rattle.map_laws.specs.Calls.{ChangesOne, OwnKeep, PerformedBy, TakeAnswers, bound_after, registers_after}
+use Rattle.map_laws.specs.Tries.{at, inside, fields_of, found, bound_by, bound_in, is_leaf, low_digits, number_of, root_width, way_to, IsMap}
+use Rattle.map_laws.specs.Steps.{Sets, SetsKey, OthersRespect, RespectsMap, SparesLeaves}
+use Rattle.map_laws.specs.Calls.{ChangesOne, OwnKeep, PerformedBy, bound_after, registers_after}
 use Rattle.map_laws.proofs.CallLemmas.{cas_step, forget_step, put_step}
 use Rattle.map_laws.proofs.WalkLemmas.{same_number}
 use Rattle.map_laws.proofs.FrontLemmas.{before_or_behind}
 use Rattle.map_laws.proofs.MapLemmas.{map_stays}
 use Rattle.map_laws.proofs.SetLemmas.{set_binds}
 use Rattle.weak_maps.specs.Beside.{held_by}
-use Rattle.weak_maps.specs.Walks.{HoldsLeaf, LeafTells, Looking, OwnQuiet}
-use Rattle.weak_maps.specs.Fields.{AtField, Cleared, Finds, FoundBy, FoundMine, FoundNone, Stays, Taking}
-use Rattle.weak_maps.specs.Returns.{TakeLeaves, TakeReturns}
-use Rattle.weak_maps.proofs.BesideLemmas.{sixteen, set_here, set_other, same_held, since_old, until_new, left_is}
+use Rattle.weak_maps.specs.Walks.{HoldsLeaf, Looking, OwnQuiet}
+use Rattle.weak_maps.specs.Fields.{AtField, Cleared, Finds, FoundBy, Stays, Taking}
+use Rattle.weak_maps.specs.Returns.{TakeReturns}
+use Rattle.weak_maps.proofs.BesideLemmas.{sixteen, set_here, set_other, same_held, since_old, left_is}
 use Rattle.weak_maps.proofs.EntryLemmas.{own_entry}
-use Rattle.weak_maps.proofs.StayLemmas.{leaf_middle, looking_from, looking_on, no_entry, prefix_same, quiet_looks, quiet_respects, respects_within, stays_middle, stays_twice}
+use Rattle.weak_maps.proofs.StayLemmas.{leaf_middle, looking_from, looking_on, no_entry, prefix_same, quiet_looks, respects_within, stays_middle, stays_twice}
 use Rattle.weak_maps.proofs.DescendLemmas.{at_one, plain_node, way_ends}
 use Rattle.weak_maps.proofs.GetLemmas.{grows_by}
 use Rattle.weak_maps.proofs.FieldLemmas.{field_again, field_begins, field_on}

@@ -1,10 +1,10 @@
 -- Where a call stands that is to write the field at which a key's way ends.
-use Rattle.std.specs.Prelude.{◌≡◌, ◌≢◌, ◌<◌, ◌≤◌, ℕ, suc, ◌+◌, Bool, true, false, pos, List, [], ◌∷◌, ◌++◌, length, Option, Some, None}
+use Rattle.std.specs.Prelude.{◌≡◌, ◌≢◌, ◌<◌, ℕ, suc, ◌+◌, Bool, true, false, pos, List, [], ◌∷◌, ◌++◌, length, Some, None}
 use Rattle.heap_model.specs.declared.label.Label.{Label}
 use Rattle.heap_model.specs.declared.command.Command.TheVariants.{Forget}
 use Rattle.heap_model.specs.declared.entry.Entry.{Entry}
 use Rattle.heap_model.specs.declared.graph.Value.{Value}
-use Rattle.heap_model.specs.declared.graph.Value.TheVariants.{Block, Int, Nothing}
+use Rattle.heap_model.specs.declared.graph.Value.TheVariants.{Block, Int}
 use Rattle.heap_model.specs.declared.reply.Reply.{Reply}
 use Rattle.heap_model.specs.declared.state.Sizes.{Sizes}
 use Rattle.heap_model.specs.Commands.{shown}
@@ -47,9 +47,9 @@ pub record AtField (z : Sizes) (d : ℕ) (first front now : List Entry) (root k 
 abbrev pub KeepsWalked : Sizes → ℕ → List Entry → List Entry → Type 0
 KeepsWalked z d old new = (i : ℕ) → i ≢ 8 → i ≢ 9 → i ≢ 11 → held_by z d new i ≡ held_by z d old i
 
--- in the midst of a walk from a field on, which has come down so many blocks
-abbrev pub Walked : Sizes → Label → ℕ → List Entry → Label → List Entry → List Entry → ℕ → ℕ → Reply → ℕ → Type 0
-Walked z root d first k old now i rest s n = Looking z root d first now × KeepsWalked z d old now × ((x : AtField z d first now now root k i rest s) × (n ≤ length x.p))
+-- in the midst of a walk from a field on, of which the block stood so many steps below the root, and which has come down so many blocks
+abbrev pub Walked : Sizes → Label → ℕ → List Entry → Label → List Entry → List Entry → ℕ → ℕ → Reply → ℕ → ℕ → Type 0
+Walked z root d first k old now i rest s start n = Looking z root d first now × KeepsWalked z d old now × ((x : AtField z d first now now root k i rest s) × (start + n ≡ length x.p))
 
 -- the field at which a key's way ends held a leaf of the key, which register 9 holds, or the key wasn't bound at a front
 pub record FoundMine (z : Sizes) (d : ℕ) (first now : List Entry) (root k : Label) (index rest : ℕ) : Type 0 where

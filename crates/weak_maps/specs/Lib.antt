@@ -3,3 +3,5 @@ pub mod Beside
 pub mod Walks
 pub mod Fields
 pub mod Returns
+pub mod Puts
+pub mod Settles

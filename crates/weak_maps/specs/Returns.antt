@@ -3,7 +3,7 @@ use Rattle.std.specs.Prelude.{◌≡◌, ◌≢◌, ◌⊎◌, ◌<◌, ◌≤�
 use Rattle.heap_model.specs.declared.label.Label.{Label}
 use Rattle.heap_model.specs.declared.entry.Entry.{Entry}
 use Rattle.heap_model.specs.declared.graph.Value.{Value}
-use Rattle.heap_model.specs.declared.graph.Value.TheVariants.{Block, Nothing}
+use Rattle.heap_model.specs.declared.graph.Value.TheVariants.{Block, Int, Nothing}
 use Rattle.heap_model.specs.declared.reply.Reply.{Reply}
 use Rattle.heap_model.specs.declared.reply.Reply.TheVariants as reply
 use Rattle.heap_model.specs.declared.state.Sizes.{Sizes}
@@ -12,9 +12,10 @@ use Rattle.heap_model.specs.Commands.{new_plain, shown}
 use Rattle.heap_model.specs.History.{IsPrefix}
 use Rattle.table_laws.specs.Stages.{graph_of}
 use Rattle.map_laws.specs.Tries.{IsMap, root_width}
-use Rattle.map_laws.specs.Calls.{GetAnswers, TakeAnswers, bound_after}
+use Rattle.map_laws.specs.Calls.{GetAnswers, PutAnswers, TakeAnswers, bound_after}
 use Rattle.weak_maps.specs.Beside.{held_by}
 use Rattle.weak_maps.specs.Walks.{OwnQuiet}
+use Rattle.weak_maps.specs.Puts.{IsInPlace}
 
 -- what `map_get` leaves: the map is one still, no block was changed by the domain, the register of the answer holds what the reply shows, register 8 nothing, and the others what they held
 pub record GetLeaves (z : Sizes) (d : ℕ) (old new : List Entry) (root : Label) (dst : ℕ) (r : Reply) : Type 0 where
@@ -33,6 +34,7 @@ GetReturns z d old new root dst key r = GetAnswers z root d old new key r
 pub record MakesMap (z : Sizes) (d : ℕ) (old new : List Entry) (dst : ℕ) (root : Label) : Type 0 where
   pub map : IsMap (graph_of z new) root
   pub empty : (k : Label) → bound_after z root new k ≡ None
+  pub placed : IsInPlace z.domains (graph_of z new) root
   pub holds : held_by z d new dst ≡ Block root
   pub keeps : (i : ℕ) → i ≢ dst → held_by z d new i ≡ held_by z d old i
   pub front : List Entry
@@ -49,7 +51,7 @@ pub record MakesNone (z : Sizes) (d : ℕ) (old new : List Entry) : Type 0 where
 abbrev pub MakeReturns : Sizes → ℕ → List Entry → List Entry → ℕ → Reply → Type 0
 MakeReturns z d old new dst r = ((root : Label) × (r ≡ reply.Block root) × MakesMap z d old new dst root) ⊎ ((r ≡ reply.Full) × MakesNone z d old new)
 
--- what `map_take` leaves: the map is one still, registers 8 to 11 hold nothing, and the others what they held
+-- what `map_take` and `map_put` leave: the map is one still, registers 8 to 11 hold nothing, and the others what they held
 pub record TakeLeaves (z : Sizes) (d : ℕ) (old new : List Entry) (root : Label) : Type 0 where
   pub map : IsMap (graph_of z new) root
   pub clean : (i : ℕ) → 8 ≤ i → i ≤ 11 → held_by z d new i ≡ Nothing
@@ -59,3 +61,9 @@ pub record TakeLeaves (z : Sizes) (d : ℕ) (old new : List Entry) (root : Label
 abbrev pub TakeReturns : Sizes → ℕ → List Entry → List Entry → Label → Value → Reply → Type 0
 TakeReturns z d old new root (Block k) r = TakeAnswers z root d old new (Block k) r × TakeLeaves z d old new root
 TakeReturns z d old new root key r = TakeAnswers z root d old new key r
+
+-- `map_put`, by what the registers of the key and of the datum hold. Each leaf that binds a key stands on its key's way still
+abbrev pub PutReturns : Sizes → ℕ → List Entry → List Entry → Label → Value → Value → Reply → Type 0
+PutReturns z d old new root (Block k) (Int i) r = PutAnswers z root d old new (Block k) (Int i) r × TakeLeaves z d old new root × IsInPlace z.domains (graph_of z new) root
+PutReturns z d old new root (Block k) (Block l) r = PutAnswers z root d old new (Block k) (Block l) r × TakeLeaves z d old new root × IsInPlace z.domains (graph_of z new) root
+PutReturns z d old new root key v r = PutAnswers z root d old new key v r

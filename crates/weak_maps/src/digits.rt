@@ -1,5 +1,6 @@
 //! The way to a key: the digits of its number.
-ghost use Rattle.std.specs.Prelude.{◌≡◌, ◌≤◌, ◌%◌};
+ghost use Rattle.std.specs.Prelude.{◌≡◌, ◌≤◌, ◌<◌, ◌%◌, ◌^◌};
+ghost use Rattle.weak_maps.specs.Puts.{rest_of};
 ghost use Rattle.map_laws.specs.Tries.{node_width, number_of as number_in, root_width};
 
 use heap_model::label::Label;
@@ -24,4 +25,23 @@ pub(crate) fn node_index(rest: u64) -> u16
     ensures { result ≡ rest % node_width }
 {
     (rest % 32) as u16
+}
+
+// What is left of a number below its first digit and so many others.
+pub(crate) fn rest_below(number: u64, level: u8) -> u64
+    ensures { result ≡ rest_of number level }
+{
+    let mut rest = number / 512;
+    'levels: for _ in 0..level {
+        rest /= 32;
+    }
+    rest
+}
+
+// The serial of a label is a number of 32 bits.
+pub(crate) fn serial_of(key: &Label) -> u32
+    ensures serial { result ≡ key.now.serial }
+    ensures range { key.now.serial < 2 ^ 32 }
+{
+    key.serial
 }

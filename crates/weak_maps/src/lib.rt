@@ -5,5 +5,6 @@ mod digits;
 pub mod getting;
 pub mod machine;
 pub mod making;
+pub mod putting;
 pub mod replies;
 pub mod taking;

@@ -3,6 +3,7 @@ ghost use Rattle.std.specs.Prelude.{◌≡◌, ◌↔◌, cond, true};
 ghost use Rattle.heap_model.specs.declared.reply.Reply.TheVariants as variant;
 ghost use Rattle.table_laws.specs.Performing.{full_of};
 ghost use Rattle.weak_maps.specs.Commands.{IsBlock};
+ghost use Rattle.weak_maps.specs.Puts.{other_block};
 
 use heap_model::label::Label;
 use heap_model::reply::Reply;
@@ -24,6 +25,22 @@ pub(crate) fn is_this(reply: &Reply, label: &Label) -> bool
     match reply {
         Reply::Block(shown) => shown.domain == label.domain && shown.serial == label.serial,
         _ => false,
+    }
+}
+
+// The block that a reply shows, but for this one.
+pub(crate) fn other_than(reply: &Reply, label: &Label) -> Option<Label>
+    ensures { result ≡ other_block label.now reply.now }
+{
+    match reply {
+        Reply::Block(shown) => {
+            if shown.domain == label.domain && shown.serial == label.serial {
+                None
+            } else {
+                Some(*shown)
+            }
+        }
+        _ => None,
     }
 }
 

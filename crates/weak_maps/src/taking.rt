@@ -8,11 +8,12 @@ ghost use Rattle.map_laws.specs.Tries.{IsMap};
 ghost use Rattle.map_laws.specs.Steps.{OthersRespect};
 ghost use Rattle.weak_maps.specs.Beside.{held_by, refusals_by, writings_by};
 ghost use Rattle.weak_maps.specs.Fields.{Cleared, Finds};
+ghost use Rattle.weak_maps.specs.Puts.{FindsField, KeepsLeaf};
 ghost use Rattle.weak_maps.specs.Returns.{TakeReturns};
 
 use crate::digits::{node_index, number_of, root_index};
 use crate::machine::{Machine, perform};
-use crate::replies::{is_block, is_other_kind, is_this, is_yes};
+use crate::replies::{is_block, is_other_kind, is_this, is_yes, other_than};
 use heap_model::command::Command;
 use heap_model::label::Label;
 use heap_model::reply::Reply;
@@ -25,8 +26,12 @@ pub struct Search {
     pub index: u16,
     /// The number whose digits are the rest of the key's way.
     pub rest: u64,
+    /// How many blocks the search came down.
+    pub steps: u8,
     /// Whether register 9 holds a leaf of the key.
     pub mine: bool,
+    /// The key of a leaf of another key that register 9 holds.
+    pub other: Option<Label>,
 }
 
 // Goes on from a field on a key's way, whose block is in register 8 and what it held in register 9, to the one at which the
@@ -47,18 +52,23 @@ pub(crate) fn find<M: Machine, R: Wait>(
     ensures given { refusals_by (M.domain m.old) (M.front m.new) ≡ refusals_by (M.domain m.old) (M.front m.old) }
     ensures written { writings_by (M.domain m.old) (M.front m.new) ≡ writings_by (M.domain m.old) (M.front m.old) }
     ensures grows { IsPrefix (M.front m.old) (M.front m.new) }
+    ensures leaf { KeepsLeaf (M.sizes m.old) (M.domain m.old) (M.front m.old) (M.front m.new) key label.now from.index from.rest field }
+    ensures field { FindsField (M.sizes m.old) (M.domain m.old) (M.front m.old) (M.front m.new) key label.now from.index from.rest field result.index result.rest result.steps result.other }
     ensures found { Finds (M.sizes m.old) (M.domain m.old) (M.front m.old) (M.front m.new) key label.now from.index from.rest field result.index result.rest result.mine }
 {
     m.stands();
     let mut index = from.index;
     let mut rest = from.rest;
+    let mut steps = 0u8;
     let mut at = field;
     'levels: for _ in 0..7u8 {
         if !is_block(&at) {
             return Search {
                 index,
                 rest,
+                steps,
                 mine: false,
+                other: None,
             };
         }
         let found = perform(
@@ -74,12 +84,15 @@ pub(crate) fn find<M: Machine, R: Wait>(
             return Search {
                 index,
                 rest,
+                steps,
                 mine: is_this(&found, label),
+                other: other_than(&found, label),
             };
         }
         let _down = perform(m, rt, Command::Copy { dst: 8, src: 9 });
         index = node_index(rest);
         rest /= 32;
+        steps += 1;
         at = perform(
             m,
             rt,
@@ -93,7 +106,9 @@ pub(crate) fn find<M: Machine, R: Wait>(
     Search {
         index,
         rest,
+        steps,
         mine: false,
+        other: None,
     }
 }
 
@@ -149,7 +164,9 @@ pub fn map_take<M: Machine, R: Wait>(m: &mut M, rt: &R, map: u8, key: u8) -> Rep
     let mut from = Search {
         index: root_index(number),
         rest: number / 512,
+        steps: 0,
         mine: false,
+        other: None,
     };
     'tries: for _ in rt.forever() {
         from = find(m, rt, key, &label, from, at);

@@ -1,11 +1,11 @@
-use Rattle.std.proofs.Common.{◌≡◌, ◌∙◌, ℕ, ◌+◌, List, true, false, sym, refl, arith}
+use Rattle.std.proofs.Common.{◌≡◌, ◌∙◌, ℕ, List, true, false, sym, refl}
 use Rattle.heap_model.specs.declared.entry.Entry.{Entry}
 use Rattle.heap_model.specs.declared.graph.Value.TheVariants.{Block}
 use Rattle.heap_model.specs.declared.state.Sizes.{Sizes}
 use Rattle.heap_model.specs.declared.reply.Reply.TheVariants as reply
-use Rattle.weak_maps.specs.Beside.{held_by, refusals_by, writings_by}
+use Rattle.weak_maps.specs.Beside.{held_by}
 use Rattle.weak_maps.specs.Walks.{Descended}
-use Rattle.weak_maps.proofs.MachineLemmas.{at_machine, counted_by, descended_at, emptied_at, returned_at}
+use Rattle.weak_maps.proofs.MachineLemmas.{at_machine, descended_at, emptied_at, returned_at}
 use Rattle.weak_maps.proofs.GetLemmas.{got_datum, got_missed, got_other, shown_label}
 use Rattle.weak_maps.proofs.getting.map_get.Goals as goal
 

@@ -1,4 +1,4 @@
-use Rattle.std.proofs.Common.{◌≡◌, ◌∙◌, ℕ, arith}
+use Rattle.std.proofs.Common.{ℕ, arith}
 use Rattle.heap_model.specs.declared.state.Sizes.{Sizes}
 use Rattle.weak_maps.specs.Beside.{refusals_by, writings_by}
 use Rattle.weak_maps.proofs.MachineLemmas.{at_machine, counted_by}

@@ -1,4 +1,3 @@
-use Rattle.std.proofs.Common.{◌≡◌}
 use Rattle.weak_maps.proofs.MakeLemmas.{made_map}
 use Rattle.weak_maps.proofs.making.map_make.Goals as goal
 

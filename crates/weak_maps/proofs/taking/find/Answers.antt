@@ -1,16 +1,20 @@
-use Rattle.std.proofs.Common.{◌≡◌, ◌∙◌, ℕ, ◌+◌, ◌/◌, ◌%◌, List, true, false, refl, sym, ap, subst, arith, rules}
+use Rattle.std.proofs.Common.{◌≡◌, ◌∙◌, ℕ, ◌+◌, ◌/◌, List, length, Option, None, true, false, refl, sym, ap, subst, arith, rules}
 use Rattle.heap_model.specs.declared.command.Command.TheVariants.{Load}
 use Rattle.heap_model.specs.declared.entry.Entry.{Entry}
 use Rattle.heap_model.specs.declared.state.Sizes.{Sizes}
 use Rattle.map_laws.specs.Calls.{PerformedBy}
 use Rattle.map_laws.specs.Tries.{node_width}
 use Rattle.table_laws.proofs.StageLemmas.{prefix_trans}
-use Rattle.weak_maps.specs.Beside.{refusals_by, writings_by}
-use Rattle.weak_maps.specs.Fields.{Walked}
+use Rattle.weak_maps.specs.Beside.{held_by, refusals_by, writings_by}
+use Rattle.heap_model.specs.declared.label.Label.{Label}
+use Rattle.weak_maps.specs.Fields.{KeepsWalked, Walked}
+use Rattle.weak_maps.specs.Puts.{FieldFound}
 use Rattle.weak_maps.proofs.StayLemmas.{prefix_same, respects_within}
 use Rattle.weak_maps.proofs.MachineLemmas.{at_machine, counted_by}
 use Rattle.weak_maps.proofs.GetLemmas.{grows_by}
-use Rattle.weak_maps.proofs.FieldLemmas.{field_none, walk_down, walk_ends, walk_key}
+use Rattle.weak_maps.proofs.FieldLemmas.{field_none, still_key, walk_down, walk_ends, walk_key}
+use Rattle.weak_maps.proofs.LeafLemmas.{leaf_down, leaf_read}
+use Rattle.weak_maps.proofs.FoundLemmas.{found_free, found_leaf}
 use Rattle.weak_maps.proofs.taking.find.Goals as goal
 
 pub levels-init : goal.levels-init
@@ -21,7 +25,9 @@ levels-init g c = record {
   room = omega arith;
   given = refl;
   written = refl;
+  steps = refl;
   grows = prefix_same _;
+  leaf = λ first root l v key looking x respects leaf. leaf;
   walk = λ first root key looking x respects. (looking, (λ j e8 e9 e11. refl), (x, omega arith));
 }
 
@@ -43,7 +49,7 @@ returns-then-not-is_other_kind-clause-found g c =
     let p = at_machine z _ d _ now n0 _ _ c.levels.invariant.same c.levels.invariant.own c.perform-found.ensures.performed in
     λ first root key looking x respects.
     let w = c.levels.invariant.walk first root key looking x (respects_within z root d first n0 first now (prefix_same first) (grows_by z d now n0 _ _ p) respects) in
-    walk_key z c.stands.ensures.limits root d first c.args.label.now old now n0 c.perform-found.result c.levels.index c.levels.rest c.levels.at _ c.args.key c.requires.few key p respects w (c.is_block.ensures.0 c.if-not-is_block.false)
+    walk_key z c.stands.ensures.limits root d first c.args.label.now old now n0 c.perform-found.result c.levels.index c.levels.rest c.levels.at _ _ c.args.key c.requires.few key p respects w (c.is_block.ensures.0 c.if-not-is_block.false)
     (λ e. let clash : true ≡ false = sym (c.is_other_kind.ensures.1 e) ∙ c.if-not-is_other_kind.true in cc) c.is_this.result c.is_this.ensures.0 c.is_this.ensures.1
 
 pub levels-preserved : goal.levels-preserved
@@ -93,13 +99,81 @@ levels-preserved g c =
       room = omega (arith, r0, r1, r2, r3);
       given = omega (arith, f0, f1, f2, f3, k1, k2, k3);
       written = omega (arith, w0, w1, w2, w3);
+      steps = ap (λ (n : ℕ). n + 1) c.levels.invariant.steps;
       grows = prefix_trans old now new c.levels.invariant.grows g2;
+      leaf = λ first root l v key looking x respects leaf.
+          let early = respects_within z root d first new first now (prefix_same first) g2 respects in
+          let w = c.levels.invariant.walk first root key looking x early in
+          let after = walk_down z c.stands.ensures.limits root d first c.args.label.now old now n0 n1 new c.perform-found.result c.perform-down.result c.perform-at.result c.levels.index c.levels.rest c.levels.at (length x.p) c.levels.counter c.args.key c.requires.few key p0 p1 p2
+          (respects_within z root d first new first n0 (prefix_same first) g0 respects) (respects_within z root d first new first n1 (prefix_same first) g1 respects) respects w (c.is_block.ensures.0 c.if-not-is_block.false) (c.is_other_kind.ensures.0 c.if-not-is_other_kind.false) in
+          let ten : (h : List Entry) → KeepsWalked z d old h → held_by z d h 10 ≡ held_by z d old 10 = λ h keeps. keeps 10 (λ e. absurd (omega (arith, e))) (λ e. absurd (omega (arith, e))) (λ e. absurd (omega (arith, e))) in
+          leaf_down z c.stands.ensures.limits root d first c.args.label.now l v now n0 c.perform-found.result c.levels.index c.levels.rest c.levels.at c.args.key p0 (respects_within z root d first new first n0 (prefix_same first) g0 respects) w.0 w.2.0
+          (c.is_block.ensures.0 c.if-not-is_block.false) (still_key z c.stands.ensures.limits root d first c.args.label.now old now c.args.key c.requires.few key w.1) c.requires.few n1 new c.perform-down.result c.perform-at.result p1 p2 after.0 (ten new after.1 ∙ sym (ten now w.1))
+          (c.levels.invariant.leaf first root l v key looking x early leaf);
       walk = λ first root key looking x respects.
-          subst (λ (n : ℕ). Walked z root d first c.args.label.now old new n (c.levels.rest / node_width) c.perform-at.result (c.levels.counter + 1)) (sym c.node_index-index.ensures)
-          (walk_down z c.stands.ensures.limits root d first c.args.label.now old now n0 n1 new c.perform-found.result c.perform-down.result c.perform-at.result c.levels.index c.levels.rest c.levels.at c.levels.counter c.args.key c.requires.few key p0 p1 p2
+          subst (λ (n : ℕ). Walked z root d first c.args.label.now old new n (c.levels.rest / node_width) c.perform-at.result (length x.p) (c.levels.counter + 1)) (sym c.node_index-index.ensures)
+          (walk_down z c.stands.ensures.limits root d first c.args.label.now old now n0 n1 new c.perform-found.result c.perform-down.result c.perform-at.result c.levels.index c.levels.rest c.levels.at _ c.levels.counter c.args.key c.requires.few key p0 p1 p2
           (respects_within z root d first new first n0 (prefix_same first) g0 respects) (respects_within z root d first new first n1 (prefix_same first) g1 respects) respects
           (c.levels.invariant.walk first root key looking x (respects_within z root d first new first now (prefix_same first) g2 respects)) (c.is_block.ensures.0 c.if-not-is_block.false) (c.is_other_kind.ensures.0 c.if-not-is_other_kind.false));
     }
+
+pub returns-then-not-is_block-clause-field : goal.returns-then-not-is_block-clause-field
+returns-then-not-is_block-clause-field g c =
+    let z : Sizes = g.M.Machine.sizes c.args.m.now in
+    let d : ℕ = g.M.Machine.domain c.args.m.now in
+    λ first root key looking x respects.
+    let w = c.levels.invariant.walk first root key looking x respects in (
+      w.0,
+      w.1,
+      subst (λ (n : ℕ). FieldFound z d first (g.M.Machine.front c.levels.m) root c.args.label.now c.levels.index c.levels.rest (length x.p + n) None) (sym c.levels.invariant.steps)
+          (found_free z c.stands.ensures.limits root d first c.args.label.now _ c.levels.index c.levels.rest c.levels.at _ w.2.0 w.2.1 (λ is. let clash : true ≡ false = sym (c.is_block.ensures.1 is) ∙ c.if-not-is_block.true in cc)),
+    )
+
+pub returns-then-not-is_other_kind-clause-field : goal.returns-then-not-is_other_kind-clause-field
+returns-then-not-is_other_kind-clause-field g c =
+    let z : Sizes = g.M.Machine.sizes c.args.m.now in
+    let d : ℕ = g.M.Machine.domain c.args.m.now in
+    let old : List Entry = g.M.Machine.front c.args.m.now in
+    let now : List Entry = g.M.Machine.front c.levels.m in
+    let n0 : List Entry = g.M.Machine.front c.perform-found.new.m in
+    let p = at_machine z _ d _ now n0 _ _ c.levels.invariant.same c.levels.invariant.own c.perform-found.ensures.performed in
+    λ first root key looking x respects.
+    let w = c.levels.invariant.walk first root key looking x (respects_within z root d first n0 first now (prefix_same first) (grows_by z d now n0 _ _ p) respects) in
+    let f = found_leaf z c.stands.ensures.limits root d first c.args.label.now now n0 c.perform-found.result c.levels.index c.levels.rest c.levels.at _ p respects w.0 w.2.0 w.2.1 (c.is_block.ensures.0 c.if-not-is_block.false)
+    (λ e. let clash : true ≡ false = sym (c.is_other_kind.ensures.1 e) ∙ c.if-not-is_other_kind.true in cc) in (
+      f.0,
+      (λ j e8 e9 e11. f.1 j e11 ∙ w.1 j e8 e9 e11),
+      subst (λ (y : ℕ × Option Label). FieldFound z d first n0 root c.args.label.now c.levels.index c.levels.rest (length x.p + y.0) y.1) (λ i. (sym c.levels.invariant.steps i, sym c.other_than.ensures i)) f.2,
+    )
+
+pub returns-then-not-is_block-clause-leaf : goal.returns-then-not-is_block-clause-leaf
+returns-then-not-is_block-clause-leaf g c = c.levels.invariant.leaf
+
+pub returns-clause-leaf : goal.returns-clause-leaf
+returns-clause-leaf g c = c.levels.invariant.leaf
+
+pub returns-then-not-is_other_kind-clause-leaf : goal.returns-then-not-is_other_kind-clause-leaf
+returns-then-not-is_other_kind-clause-leaf g c =
+    let z : Sizes = g.M.Machine.sizes c.args.m.now in
+    let d : ℕ = g.M.Machine.domain c.args.m.now in
+    let old : List Entry = g.M.Machine.front c.args.m.now in
+    let now : List Entry = g.M.Machine.front c.levels.m in
+    let n0 : List Entry = g.M.Machine.front c.perform-found.new.m in
+    let p = at_machine z _ d _ now n0 _ _ c.levels.invariant.same c.levels.invariant.own c.perform-found.ensures.performed in
+    λ first root l v key looking x respects leaf.
+    let early = respects_within z root d first n0 first now (prefix_same first) (grows_by z d now n0 _ _ p) respects in
+    let w = c.levels.invariant.walk first root key looking x early in
+    leaf_read z c.stands.ensures.limits root d first c.args.label.now l v now n0 c.perform-found.result c.levels.index c.levels.rest c.levels.at c.args.key p respects w.0 w.2.0
+    (c.is_block.ensures.0 c.if-not-is_block.false) (still_key z c.stands.ensures.limits root d first c.args.label.now old now c.args.key c.requires.few key w.1) c.requires.few (c.levels.invariant.leaf first root l v key looking x early leaf)
+
+pub returns-clause-field : goal.returns-clause-field
+returns-clause-field g c =
+    let z : Sizes = g.M.Machine.sizes c.args.m.now in
+    let d : ℕ = g.M.Machine.domain c.args.m.now in
+    let old : List Entry = g.M.Machine.front c.args.m.now in
+    let all : c.levels.counter ≡ 7 = search rules in
+    λ first root key looking x respects.
+    absurd (walk_ends z c.stands.ensures.limits root d first c.args.label.now old _ c.levels.index c.levels.rest c.levels.at _ c.levels.counter all (c.levels.invariant.walk first root key looking x respects))
 
 pub returns-clause-found : goal.returns-clause-found
 returns-clause-found g c =
@@ -108,7 +182,7 @@ returns-clause-found g c =
     let old : List Entry = g.M.Machine.front c.args.m.now in
     let all : c.levels.counter ≡ 7 = search rules in
     λ first root key looking x respects.
-    absurd (walk_ends z c.stands.ensures.limits root d first c.args.label.now old _ c.levels.index c.levels.rest c.levels.at c.levels.counter all (c.levels.invariant.walk first root key looking x respects))
+    absurd (walk_ends z c.stands.ensures.limits root d first c.args.label.now old _ c.levels.index c.levels.rest c.levels.at _ c.levels.counter all (c.levels.invariant.walk first root key looking x respects))
 
 pub returns-then-not-is_other_kind-clause-grows : goal.returns-then-not-is_other_kind-clause-grows
 returns-then-not-is_other_kind-clause-grows g c =

@@ -1,16 +1,15 @@
-use Rattle.std.proofs.Common.{◌≡◌, ◌∙◌, ℕ, ◌+◌, ◌/◌, ◌%◌, Bool, List, true, false, refl, sym, ap, subst, arith}
-use Rattle.heap_model.specs.declared.command.Command.TheVariants.{Cas, Load}
+use Rattle.std.proofs.Common.{◌≡◌, ◌∙◌, ℕ, ◌/◌, ◌%◌, List, true, false, sym, ap, subst, arith}
+use Rattle.heap_model.specs.declared.command.Command.TheVariants.{Load}
 use Rattle.heap_model.specs.declared.entry.Entry.{Entry}
 use Rattle.heap_model.specs.declared.graph.Value.TheVariants.{Block}
 use Rattle.heap_model.specs.declared.reply.Reply.TheVariants as reply
 use Rattle.heap_model.specs.declared.state.Sizes.{Sizes}
 use Rattle.map_laws.specs.Calls.{PerformedBy}
 use Rattle.map_laws.specs.Tries.{number_of, root_width}
-use Rattle.table_laws.proofs.StageLemmas.{prefix_trans}
 use Rattle.weak_maps.specs.Beside.{held_by, refusals_by, writings_by}
 use Rattle.weak_maps.specs.Fields.{Finds, Taking}
 use Rattle.weak_maps.proofs.MachineLemmas.{at_machine, cleared_at, counted_by, finds_at, not_so, performed_from, so_then, taken_at}
-use Rattle.weak_maps.proofs.GetLemmas.{grows_by, shown_label}
+use Rattle.weak_maps.proofs.GetLemmas.{shown_label}
 use Rattle.weak_maps.proofs.TakeLemmas.{cleared_grows, take_again, take_begins, take_done, take_missed}
 use Rattle.weak_maps.proofs.taking.map_take.Goals as goal
 

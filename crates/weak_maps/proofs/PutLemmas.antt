@@ -1,0 +1,126 @@
+-- What a put makes before it is published: the leaf.
+use Rattle.std.proofs.Common.{◌≡◌, ◌≢◌, ⊎_elim, ℕ, ◌<◌, true, false, eqb-true, List, [], ◌∷◌, ◌++◌, Some, None, ap, sym, ◌∙◌, arith}
+use Rattle.heap_model.specs.declared.label.Label.{Label}
+use Rattle.heap_model.specs.declared.command.Command.{Command}
+use Rattle.heap_model.specs.declared.command.Command.TheVariants.{Ephe as NewEphe, SetKey, SetData}
+use Rattle.heap_model.specs.declared.entry.Entry.{Entry}
+use Rattle.heap_model.specs.declared.reply.Reply.{Reply}
+use Rattle.heap_model.specs.declared.reply.Reply.TheVariants as reply
+use Rattle.heap_model.specs.declared.graph.Value.{Value}
+use Rattle.heap_model.specs.declared.graph.Value.TheVariants.{Block, Nothing}
+use Rattle.heap_model.specs.declared.graph.Node.TheVariants.{Ephe}
+use Rattle.heap_model.specs.declared.state.Sizes.{Sizes}
+use Rattle.heap_model.specs.Graph.{Graph, node_at}
+use Rattle.heap_model.specs.Domains.{IsWithinLimits}
+use Rattle.heap_model.specs.History.{IsPrefix}
+use Rattle.heap_model.proofs.Graphs.GraphLemmas.{node_at-with_node_same}
+use Rattle.table_laws.specs.Stages.{graph_of}
+use Rattle.map_laws.specs.Tries.{IsMap}
+use Rattle.map_laws.specs.Steps.{OthersRespect, WasUnreached}
+use Rattle.map_laws.specs.Calls.{PerformedBy}
+use Rattle.map_laws.proofs.CallLemmas.{ephe_step, made, set_data_step, set_key_step}
+use Rattle.map_laws.proofs.FrontLemmas.{prefix_same, prefix_trans}
+use Rattle.map_laws.proofs.OwnLemmas.{looks_none, looks_twice}
+use Rattle.weak_maps.specs.Beside.{held_by}
+use Rattle.weak_maps.specs.Puts.{GoesOn, LeafMade, LeafRefused, OwnBlock}
+use Rattle.weak_maps.proofs.BesideLemmas.{sixteen, set_here, set_other, same_held}
+use Rattle.weak_maps.proofs.FreshLemmas.{makes_on, map_mid, not_held_before, own_born, own_middle, own_on, reads_on, thin_empty, writes_on}
+use Rattle.weak_maps.proofs.GetLemmas.{grows_by}
+use Rattle.weak_maps.proofs.StayLemmas.{respects_within}
+
+pub goes_none : (z : Sizes) (root : Label) (d : ℕ) (old : List Entry) → IsMap (graph_of z old) root → GoesOn z root d old old
+goes_none z root d old map = record { looks = looks_none z root d old; grows = prefix_same old; map = map }
+
+-- two stretches
+pub goes_twice : (z : Sizes) (root : Label) (d : ℕ) (old now new : List Entry) → GoesOn z root d old now → GoesOn z root d now new → GoesOn z root d old new
+goes_twice z root d old now new first last = record { looks = looks_twice z root d old now new last.grows first.looks last.looks; grows = prefix_trans old now new first.grows last.grows; map = last.map }
+
+-- one command more
+pub goes_by : (z : Sizes) (root : Label) (d : ℕ) (old now new : List Entry) (c : Command) (r : Reply) → PerformedBy z d now new c r → GoesOn z root d old now → GoesOn z root d now new → GoesOn z root d old new
+goes_by z root d old now new c r p first last = record { looks = looks_twice z root d old now new last.grows first.looks last.looks; grows = prefix_trans old now new first.grows last.grows; map = last.map }
+
+module _ (z : Sizes) (limits : IsWithinLimits z) (root : Label) (d : ℕ) where
+  -- the allocation is refused
+  pub leaf_refused : (old new : List Entry) (r : Reply) → PerformedBy z d old new (NewEphe 10 1) r → r ≡ reply.Full → IsMap (graph_of z old) root → OthersRespect z root d old new → LeafRefused z d old new root
+  leaf_refused old new r p full map respects = ⊎_elim
+      (λ refused.
+      let on = reads_on z d root old new (NewEphe 10 1) r p respects map refused.1.0 in record {
+        on = record { looks = on.0; grows = grows_by z d old new (NewEphe 10 1) r p; map = on.1 };
+        keeps = same_held z d old new refused.1.1;
+      })
+      (λ granted. let clash : reply.Block (made z d old new (NewEphe 10 1) r p) ≡ reply.Full = sym granted.2.2 ∙ full in cc)
+      (ephe_step z d old new r 10 p)
+
+  module _ (old n0 n1 n2 : List Entry) (r0 r1 r2 : Reply) (key item : ℕ) (few_key : key < 8) (few_item : item < 8) (k : Label) (holds_key : held_by z d old key ≡ Block k) (some : held_by z d old item ≢ Nothing)
+      (map : IsMap (graph_of z old) root) (p0 : PerformedBy z d old n0 (NewEphe 10 1) r0) (p1 : PerformedBy z d n0 n1 (SetData 10 item) r1) (p2 : PerformedBy z d n1 n2 (SetKey 10 0 key) r2)
+      (other : r0 ≡ reply.Full → ⊥) (respects : OthersRespect z root d old n2) where
+    abbrev l : Label
+    l = made z d old n0 (NewEphe 10 1) r0 p0
+
+    abbrev v : Value
+    v = held_by z d old item
+
+    g2 : IsPrefix n1 n2
+    g2 = grows_by z d n1 n2 (SetKey 10 0 key) r2 p2
+
+    g1 : IsPrefix n0 n1
+    g1 = grows_by z d n0 n1 (SetData 10 item) r1 p1
+
+    g0 : IsPrefix old n0
+    g0 = grows_by z d old n0 (NewEphe 10 1) r0 p0
+
+    e0 : OthersRespect z root d old n0
+    e0 = respects_within z root d old n2 old n0 (prefix_same old) (prefix_trans n0 n1 n2 g1 g2) respects
+
+    e1 : OthersRespect z root d n0 n1
+    e1 = respects_within z root d old n2 n0 n1 g0 g2 respects
+
+    e2 : OthersRespect z root d n1 n2
+    e2 = respects_within z root d old n2 n1 n2 (prefix_trans old n0 n1 g0 g1) (prefix_same n2) respects
+
+    abbrev First : Type 0
+    First = GoesOn z root d old n0 × ((i : ℕ) → i ≢ 10 → held_by z d n0 i ≡ held_by z d old i) × OwnBlock z d n0 root 10 l (Ephe (None ∷ []) Nothing)
+
+    first : First
+    first = ⊎_elim
+        (λ refused. absurd (other refused.1.2))
+        (λ granted.
+        let on = makes_on z d root old n0 (NewEphe 10 1) r0 p0 e0 map (l, Ephe (None ∷ []) Nothing) granted.2.0 in (
+          record { looks = on.0; grows = g0; map = on.1 },
+          set_other z d old n0 10 (Block l) granted.2.1,
+          own_born z d root old n0 (NewEphe 10 1) r0 p0 10 (Ephe (None ∷ []) Nothing) (λ j is. let clash : false ≡ true = is in cc) (map_mid z d root old n0 (NewEphe 10 1) r0 p0 e0 map) granted.1 granted.2.0
+              (set_here z d old n0 10 (Block l) granted.2.1 (sixteen z d old n0 (NewEphe 10 1) r0 p0 limits) (omega arith)),
+        ))
+        (ephe_step z d old n0 r0 10 p0)
+
+    -- the datum
+    abbrev Second : Type 0
+    Second = GoesOn z root d old n1 × ((i : ℕ) → held_by z d n1 i ≡ held_by z d n0 i) × OwnBlock z d n1 root 10 l (Ephe (None ∷ []) v)
+
+    second : Second
+    second =
+        let x = own_middle z d root n0 n1 (SetData 10 item) r1 p1 10 l (Ephe (None ∷ []) Nothing) (thin_empty (WasUnreached z n0 (n0 ++ p1.between)) Nothing) first.2 in
+        let is : held_by z d n0 item ≡ v = first.1 item (λ e. absurd (omega (arith, few_item, e))) in
+        let all = set_data_step z d n0 n1 r1 10 item p1 l v None Nothing first.2.held is some x.node in
+        let on = writes_on z d root n0 n1 (SetData 10 item) r1 p1 e1 first.0.map 10 l (Ephe (None ∷ []) Nothing) (Ephe (None ∷ []) v) x all.0 in (
+          goes_by z root d old n0 n1 (SetData 10 item) r1 p1 first.0 (record { looks = on.0; grows = g1; map = on.1 }),
+          same_held z d n0 n1 all.1,
+          own_on z d root n0 n1 (SetData 10 item) r1 p1 10 l (Ephe (None ∷ []) Nothing) (Ephe (None ∷ []) v) item x (λ j e. sym (eqb-true item j e))
+              (λ e. not_held_before z d root old n0 (NewEphe 10 1) r0 p0 item (sym is ∙ e)) (same_held z d n0 n1 all.1 10)
+              (ap (λ (g : Graph). node_at g l) all.0 ∙ node_at-with_node_same (graph_of z (n0 ++ p1.between)) l (Ephe (None ∷ []) v) (Ephe (None ∷ []) Nothing) x.node),
+        )
+
+    -- the key
+    pub leaf_made : LeafMade z d old n2 root k v
+    leaf_made =
+        let x = own_middle z d root n1 n2 (SetKey 10 0 key) r2 p2 10 l (Ephe (None ∷ []) v) (thin_empty (WasUnreached z n1 (n1 ++ p2.between)) v) second.2 in
+        let is : held_by z d n1 key ≡ held_by z d old key = second.1 key ∙ first.1 key (λ e. absurd (omega (arith, few_key, e))) in
+        let all = set_key_step z d n1 n2 r2 10 key p2 l k None v second.2.held (is ∙ holds_key) x.node in
+        let on = writes_on z d root n1 n2 (SetKey 10 0 key) r2 p2 e2 second.0.map 10 l (Ephe (None ∷ []) v) (Ephe (Some k ∷ []) v) x all.0 in record {
+          on = goes_by z root d old n1 n2 (SetKey 10 0 key) r2 p2 second.0 (record { looks = on.0; grows = g2; map = on.1 });
+          keeps = λ i apart. same_held z d n1 n2 all.1 i ∙ (second.1 i ∙ first.1 i apart);
+          l = l;
+          leaf = own_on z d root n1 n2 (SetKey 10 0 key) r2 p2 10 l (Ephe (None ∷ []) v) (Ephe (Some k ∷ []) v) key x (λ j e. sym (eqb-true key j e))
+              (λ e. not_held_before z d root old n0 (NewEphe 10 1) r0 p0 key (sym is ∙ e)) (same_held z d n1 n2 all.1 10)
+              (ap (λ (g : Graph). node_at g l) all.0 ∙ node_at-with_node_same (graph_of z (n1 ++ p2.between)) l (Ephe (Some k ∷ []) v) (Ephe (None ∷ []) v) x.node);
+        }

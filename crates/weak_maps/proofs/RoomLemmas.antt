@@ -1,0 +1,275 @@
+-- Room is made at a field: a leaf of another key goes one block deeper.
+use Rattle.std.proofs.Common.{◌≡◌, ◌≢◌, ◌⊎◌, ⊎_elim, ℕ, ◌+◌, ◌<◌, true, false, eqb-true, List, [], ◌∷◌, ◌++◌, length, get_or, set, replicate, pos, Some, ap, sym, ◌∙◌, subst, arith, length-append}
+use Rattle.std.proofs.lemmas.Option.{slice_get-get_or}
+use Rattle.std.proofs.lemmas.List.{length-replicate}
+use Rattle.heap_model.specs.declared.label.Label.{Label}
+use Rattle.heap_model.specs.declared.command.Command.TheVariants.{Alloc, Cas, Store}
+use Rattle.heap_model.specs.declared.entry.Entry.{Entry}
+use Rattle.heap_model.specs.declared.entry.Entry.TheVariants.{Command as CommandOf}
+use Rattle.heap_model.specs.declared.reply.Reply.{Reply}
+use Rattle.heap_model.specs.declared.reply.Reply.TheVariants as reply
+use Rattle.heap_model.specs.declared.graph.Value.{Value}
+use Rattle.heap_model.specs.declared.graph.Value.TheVariants.{Int, Block, Nothing}
+use Rattle.heap_model.specs.declared.graph.Node.{Node}
+use Rattle.heap_model.specs.declared.graph.Node.TheVariants.{Plain, Ephe}
+use Rattle.heap_model.specs.declared.state.Sizes.{Sizes}
+use Rattle.heap_model.specs.Graph.{Graph, node_at, with_node}
+use Rattle.heap_model.specs.Domains.{IsWithinLimits}
+use Rattle.heap_model.specs.Commands.{same_value}
+use Rattle.heap_model.specs.Entries.{next}
+use Rattle.heap_model.specs.History.{IsPrefix}
+use Rattle.heap_model.proofs.Commands.FrameLemmas.{label_cases}
+use Rattle.heap_model.proofs.Graphs.GraphLemmas.{node_at-append_old, node_at-with_node_other, node_at-with_node_same}
+use Rattle.table_laws.specs.Thinning.{state_of}
+use Rattle.table_laws.specs.Stages.{graph_of}
+use Rattle.map_laws.specs.Tries.{at, inside, fields_of, found, node_width, way_length, way_to, IsMap}
+use Rattle.map_laws.specs.Steps.{AllRespect, Deepens, GoesDeeper, OthersRespect, RespectsMap, WasUnreached}
+use Rattle.map_laws.specs.Calls.{PerformedBy, Looks, registers_after}
+use Rattle.map_laws.proofs.CallLemmas.{alloc_step, cas_step, made, store_step}
+use Rattle.map_laws.proofs.DeepenLemmas.{deepen_keeps}
+use Rattle.map_laws.proofs.FrontLemmas.{prefix_same, prefix_trans}
+use Rattle.map_laws.proofs.OwnLemmas.{looks_once, plain_spares}
+use Rattle.map_laws.proofs.PrivateLemmas.{private_outside}
+use Rattle.map_laws.proofs.RespectLemmas.{graph_push, map_after, place_after, respect_both}
+use Rattle.weak_maps.specs.Beside.{held_by}
+use Rattle.weak_maps.specs.Fields.{AtField, Stays}
+use Rattle.weak_maps.specs.Puts.{FieldBinds, GoesOn, OwnBlock, RoomMade, RoomRefused}
+use Rattle.weak_maps.proofs.BesideLemmas.{same_held, set_here, set_other, sixteen, until_new}
+use Rattle.weak_maps.proofs.DescendLemmas.{plain_node}
+use Rattle.weak_maps.proofs.FreshLemmas.{held_not_outside, makes_on, map_by, map_mid, next_is, not_held_before, own_born, own_middle, own_on, reads_on, thin_held, thin_plain, writes_on}
+use Rattle.weak_maps.proofs.GetLemmas.{grows_by}
+use Rattle.weak_maps.proofs.PublishLemmas.{binds_all, binds_along, binds_end, binds_other, binds_some, value_same}
+use Rattle.weak_maps.proofs.PutLemmas.{goes_by}
+use Rattle.weak_maps.proofs.StayLemmas.{respects_within, stays_middle, stays_twice}
+
+-- over a history whose entries respect a map its blocks stay
+pub stays_all : (z : Sizes) (root : Label) (old new : List Entry) → IsPrefix old new → AllRespect z root old new → IsMap (graph_of z old) root → Stays z root old new
+stays_all z root old new grows all map = record { map = map_after z root old new grows all map; block = λ q u fields there plain. place_after z root old new grows all map q u fields there plain }
+
+pub goes_all : (z : Sizes) (root : Label) (d : ℕ) (old new : List Entry) → OthersRespect z root d old new → GoesOn z root d old new → AllRespect z root old new
+goes_all z root d old new others on = respect_both z root d old new others on.looks.respects
+
+-- how long the part of a way is behind which two digits are left
+two_left : (n : ℕ) (j : Label) (p : List ℕ) (i digit : ℕ) (q : List ℕ) → way_to n j ≡ p ++ i ∷ digit ∷ q → length p + 1 < way_length
+two_left n j p i digit q way =
+    let whole : way_length ≡ length (p ++ i ∷ digit ∷ q) = ap length way in
+    let parts = length-append p (i ∷ digit ∷ q) in
+    omega (arith, whole, parts)
+
+-- the allocation is refused
+pub room_refused : (z : Sizes) (root : Label) (d : ℕ) (old new : List Entry) (r : Reply) → PerformedBy z d old new (Alloc 11 0 32) r → r ≡ reply.Full → IsMap (graph_of z old) root → OthersRespect z root d old new → RoomRefused z d old new root
+room_refused z root d old new r p full map respects = ⊎_elim
+    (λ refused.
+    let on = reads_on z d root old new (Alloc 11 0 32) r p respects map refused.1.0 in record {
+      on = record { looks = on.0; grows = grows_by z d old new (Alloc 11 0 32) r p; map = on.1 };
+      keeps = same_held z d old new refused.1.1;
+    })
+    (λ granted. let clash : reply.Block (made z d old new (Alloc 11 0 32) r p) ≡ reply.Full = sym granted.2.2 ∙ full in cc)
+    (alloc_step z d old new r 11 0 32 p)
+
+module _ (z : Sizes) (limits : IsWithinLimits z) (root : Label) (d : ℕ) (first front : List Entry) (k j l : Label) (v : Value) (now n0 n1 new : List Entry) (r0 r1 r2 : Reply) (i rest digit : ℕ) (s : Reply) (kr : ℕ) (few : kr < 8) (small : digit < node_width)
+    (p0 : PerformedBy z d now n0 (Alloc 11 0 32) r0) (p1 : PerformedBy z d n0 n1 (Store 11 digit 9) r1) (p2 : PerformedBy z d n1 new (Cas 8 i 9 11) r2) (granted_it : r0 ≡ reply.Full → ⊥) (respects : OthersRespect z root d now new) (map : IsMap (graph_of z now) root)
+    (x : AtField z d first front now root k i rest s) (field : FieldBinds z front now x.v j) (leaf : OwnBlock z d now root 10 l (Ephe (Some k ∷ []) v)) (key : held_by z d now kr ≡ Block k) (way : (q : List ℕ) × (way_to z.domains j ≡ x.p ++ i ∷ digit ∷ q)) where
+  abbrev b : Label
+  b = made z d now n0 (Alloc 11 0 32) r0 p0
+
+  abbrev blank : Node
+  blank = Plain 0 (replicate node_width (Int (pos 0)))
+
+  abbrev filled : List Value
+  filled = set (replicate node_width (Int (pos 0))) digit x.v
+
+  abbrev mine : Node
+  mine = Ephe (Some k ∷ []) v
+
+  g2 : IsPrefix n1 new
+  g2 = grows_by z d n1 new (Cas 8 i 9 11) r2 p2
+
+  g1 : IsPrefix n0 n1
+  g1 = grows_by z d n0 n1 (Store 11 digit 9) r1 p1
+
+  g0 : IsPrefix now n0
+  g0 = grows_by z d now n0 (Alloc 11 0 32) r0 p0
+
+  e0 : OthersRespect z root d now n0
+  e0 = respects_within z root d now new now n0 (prefix_same now) (prefix_trans n0 n1 new g1 g2) respects
+
+  e1 : OthersRespect z root d n0 n1
+  e1 = respects_within z root d now new n0 n1 g0 g2 respects
+
+  e01 : OthersRespect z root d now n1
+  e01 = respects_within z root d now new now n1 (prefix_same now) g2 respects
+
+  e2 : OthersRespect z root d n1 new
+  e2 = respects_within z root d now new n1 new (prefix_trans now n0 n1 g0 g1) (prefix_same new) respects
+
+  -- the leaf in the making is neither the block nor what the field held
+  here : (at (inside (graph_of z now)) x.p (Block root) ≡ Some (Block x.l)) × ((left : List Value) × (inside (graph_of z now) (Block x.l) ≡ Some left))
+  here = x.stays.block x.p (Block x.l) x.fields x.there x.plain
+
+  not_block : x.l ≢ l
+  not_block same =
+      let n = plain_node (node_at (graph_of z now) x.l) here.1.0 here.1.1 in
+      let clash : Some (Plain n.0 here.1.0) ≡ Some mine = sym n.1 ∙ (ap (node_at (graph_of z now)) same ∙ leaf.node) in cc
+
+  not_eight : held_by z d now 8 ≢ Block l
+  not_eight is = not_block (let both : Block x.l ≡ Block l = sym x.held ∙ is in let same : x.l ≡ l = cc in same)
+
+  not_nine : x.v ≢ Block l
+  not_nine is = leaf.never front (x.p ++ i ∷ []) x.until (x.was ∙ ap Some is) (field.leaf l is)
+
+  -- the block is made
+  abbrev Made : Type 0
+  Made = GoesOn z root d now n0 × ((m : ℕ) → m ≢ 11 → held_by z d n0 m ≡ held_by z d now m) × OwnBlock z d n0 root 11 b blank × OwnBlock z d n0 root 10 l mine
+
+  first_made : Made
+  first_made = ⊎_elim
+      (λ refused. absurd (granted_it refused.1.2))
+      (λ granted.
+      let on = makes_on z d root now n0 (Alloc 11 0 32) r0 p0 e0 map (b, blank) granted.2.0 in
+      let keeps : (m : ℕ) → m ≢ 11 → held_by z d n0 m ≡ held_by z d now m = set_other z d now n0 11 (Block b) granted.2.1 in
+      let leaf_mid = own_middle z d root now n0 (Alloc 11 0 32) r0 p0 10 l mine (λ o. thin_held (WasUnreached z now (now ++ p0.between)) k v o (held_not_outside z d now p0.between k kr p0.others key)) leaf in (
+        record { looks = on.0; grows = g0; map = on.1 },
+        keeps,
+        own_born z d root now n0 (Alloc 11 0 32) r0 p0 11 blank (λ m is. let clash : false ≡ true = is in cc) (map_mid z d root now n0 (Alloc 11 0 32) r0 p0 e0 map) granted.1 granted.2.0
+            (set_here z d now n0 11 (Block b) granted.2.1 (sixteen z d now n0 (Alloc 11 0 32) r0 p0 limits) (omega arith)),
+        own_on z d root now n0 (Alloc 11 0 32) r0 p0 10 l mine mine 8 leaf_mid (λ m is. let clash : false ≡ true = is in cc) not_eight (keeps 10 (λ e. absurd (omega (arith, e))))
+            (ap (λ (g : Graph). node_at g l) granted.2.0 ∙ node_at-append_old (graph_of z (now ++ p0.between)) (b, blank) l mine leaf_mid.node),
+      ))
+      (alloc_step z d now n0 r0 11 0 32 p0)
+
+  key0 : held_by z d n0 kr ≡ Block k
+  key0 = first_made.1 kr (λ e. absurd (omega (arith, few, e))) ∙ key
+
+  nine0 : held_by z d n0 9 ≡ x.v
+  nine0 = first_made.1 9 (λ e. absurd (omega (arith, e))) ∙ x.holds
+
+  -- and gets the other leaf
+  abbrev Stored : Type 0
+  Stored = GoesOn z root d now n1 × ((m : ℕ) → m ≢ 11 → held_by z d n1 m ≡ held_by z d now m) × OwnBlock z d n1 root 11 b (Plain 0 filled) × OwnBlock z d n1 root 10 l mine
+
+  stored : Stored
+  stored =
+      let mid : List Entry = n0 ++ p1.between in
+      let inner = own_middle z d root n0 n1 (Store 11 digit 9) r1 p1 11 b blank (thin_plain (WasUnreached z n0 mid) 0 (replicate node_width (Int (pos 0)))) first_made.2 in
+      let leaf_mid = own_middle z d root n0 n1 (Store 11 digit 9) r1 p1 10 l mine (λ o. thin_held (WasUnreached z n0 mid) k v o (held_not_outside z d n0 p1.between k kr p1.others key0)) first_made.3 in
+      let below : digit < length (replicate node_width (Int (pos 0))) = subst (λ (m : ℕ). digit < m) (sym (length-replicate node_width (Int (pos 0)))) small in
+      let all = store_step z d n0 n1 r1 11 digit 9 p1 b 0 (replicate node_width (Int (pos 0))) x.v (get_or (replicate node_width (Int (pos 0))) digit Nothing) first_made.2.held inner.node (slice_get-get_or (replicate node_width (Int (pos 0))) digit Nothing below) nine0 (binds_some (graph_of z now) j x.v field.binds) in
+      let on = writes_on z d root n0 n1 (Store 11 digit 9) r1 p1 e1 first_made.0.map 11 b blank (Plain 0 filled) inner all.0 in
+      let keeps : (m : ℕ) → held_by z d n1 m ≡ held_by z d n0 m = same_held z d n0 n1 all.1 in
+      let apart : l ≢ b = λ same. (let clash : Some mine ≡ Some blank = sym leaf_mid.node ∙ (ap (node_at (graph_of z mid)) same ∙ inner.node) in cc) in (
+        goes_by z root d now n0 n1 (Store 11 digit 9) r1 p1 first_made.0 (record { looks = on.0; grows = g1; map = on.1 }),
+        (λ m other. keeps m ∙ first_made.1 m other),
+        own_on z d root n0 n1 (Store 11 digit 9) r1 p1 11 b blank (Plain 0 filled) 9 inner (λ m e. sym (eqb-true 9 m e))
+            (λ e. not_held_before z d root now n0 (Alloc 11 0 32) r0 p0 9 (x.holds ∙ (sym nine0 ∙ e))) (keeps 11)
+            (ap (λ (g : Graph). node_at g b) all.0 ∙ node_at-with_node_same (graph_of z mid) b (Plain 0 filled) blank inner.node),
+        own_on z d root n0 n1 (Store 11 digit 9) r1 p1 10 l mine mine 9 leaf_mid (λ m e. sym (eqb-true 9 m e)) (λ e. not_nine (sym nine0 ∙ e)) (keeps 10)
+            (ap (λ (g : Graph). node_at g l) all.0 ∙ (node_at-with_node_other (graph_of z mid) b l (Plain 0 filled) apart ∙ leaf_mid.node)),
+      )
+
+  -- up to the compare-and-set
+  abbrev mid : List Entry
+  mid = n1 ++ p2.between
+
+  abbrev entry : Entry
+  entry = CommandOf d (Cas 8 i 9 11) p2.full
+
+  abbrev g : Graph
+  g = graph_of z mid
+
+  all_then : AllRespect z root now n1
+  all_then = goes_all z root d now n1 e01 stored.0
+
+  stay_then : Stays z root front n1
+  stay_then = stays_twice z root front now n1 x.stays (stays_all z root now n1 stored.0.grows all_then map)
+
+  mid_map : IsMap g root
+  mid_map = map_mid z d root n1 new (Cas 8 i 9 11) r2 p2 e2 stored.0.map
+
+  moved_then : (at (inside (graph_of z n1)) x.p (Block root) ≡ Some (Block x.l)) × ((left : List Value) × (inside (graph_of z n1) (Block x.l) ≡ Some left))
+  moved_then = stay_then.block x.p (Block x.l) x.fields x.there x.plain
+
+  e2_mid : OthersRespect z root d n1 mid
+  e2_mid = respects_within z root d n1 new n1 mid (prefix_same n1) (until_new z d n1 new (Cas 8 i 9 11) r2 p2) e2
+
+  moved : (at (inside g) x.p (Block root) ≡ Some (Block x.l)) × ((left : List Value) × (inside g (Block x.l) ≡ Some left))
+  moved = (stays_middle z root d n1 n1 new (Cas 8 i 9 11) r2 p2 e2 (prefix_same n1) stored.0.map).block x.p (Block x.l) moved_then.1.0 moved_then.0 moved_then.1.1
+
+  abbrev fields : List Value
+  fields = moved.1.0
+
+  node : (tag : ℕ) × (node_at g x.l ≡ Some (Plain tag fields))
+  node = plain_node (node_at g x.l) fields moved.1.1
+
+  below_then : i < length fields
+  below_then = subst (λ (m : ℕ). i < m) (sym (mid_map.wide x.p (Block x.l) fields moved.0 moved.1.1)) x.narrow
+
+  abbrev was : Value
+  was = get_or fields i Nothing
+
+  binds : FieldBinds z front mid x.v j
+  binds = binds_along z root d n1 p2.between p2.others e2_mid front (x.p ++ i ∷ []) x.v j (prefix_trans front now n1 x.until stored.0.grows) x.was
+      (binds_all z root now n1 stored.0.grows all_then front (x.p ++ i ∷ []) x.v j x.until x.was field)
+
+  inner : OwnBlock z d mid root 11 b (Plain 0 filled)
+  inner = own_middle z d root n1 new (Cas 8 i 9 11) r2 p2 11 b (Plain 0 filled) (thin_plain (WasUnreached z n1 mid) 0 filled) stored.2
+
+  leaf_then : OwnBlock z d mid root 10 l mine
+  leaf_then = own_middle z d root n1 new (Cas 8 i 9 11) r2 p2 10 l mine (λ o. thin_held (WasUnreached z n1 mid) k v o (held_not_outside z d n1 p2.between k kr p2.others (stored.1 kr (λ e. absurd (omega (arith, few, e))) ∙ key))) stored.3
+
+  abbrev h : Graph
+  h = with_node g x.l (Plain node.0 (set fields i (Block b)))
+
+  took : ((same_value was x.v ≡ true) × ((graph_of z new ≡ h) × (registers_after z d new ≡ registers_after z d n1) × (r2 ≡ reply.Yes)))
+      ⊎ ((same_value was x.v ≡ false) × ((graph_of z new ≡ g) × (registers_after z d new ≡ registers_after z d n1) × (r2 ≡ reply.No)))
+  took = cas_step z d n1 new r2 8 i 9 11 p2 x.l node.0 fields x.v (Block b) was (stored.1 8 (λ e. absurd (omega (arith, e))) ∙ x.held) node.1 (slice_get-get_or fields i Nothing below_then) (stored.1 9 (λ e. absurd (omega (arith, e))) ∙ x.holds)
+      (binds_some g j x.v binds.binds) stored.2.held (λ e. cc)
+
+  -- what is left behind it
+  leaf_kept : ((m : ℕ) → held_by z d new m ≡ held_by z d n1 m) → node_at (graph_of z new) l ≡ Some mine → OwnBlock z d new root 10 l mine
+  leaf_kept keeps is = own_on z d root n1 new (Cas 8 i 9 11) r2 p2 10 l mine mine 11 leaf_then (λ m e. sym (eqb-true 11 m e))
+      (λ e. let both : Block b ≡ Block l = sym stored.2.held ∙ e in let same : b ≡ l = cc in let clash : Some (Plain 0 filled) ≡ Some mine = sym inner.node ∙ (ap (node_at g) same ∙ leaf_then.node) in cc) (keeps 10) is
+
+  leaves : (on : Looks z root d n1 new × IsMap (graph_of z new) root) → ((m : ℕ) → held_by z d new m ≡ held_by z d n1 m) → node_at (graph_of z new) l ≡ Some mine → RoomMade z d front now new root k l v
+  leaves on keeps is =
+      let whole = goes_by z root d now n1 new (Cas 8 i 9 11) r2 p2 stored.0 (record { looks = on.0; grows = g2; map = on.1 }) in record {
+        on = whole;
+        stays = stays_twice z root front now new x.stays (stays_all z root now new whole.grows (goes_all z root d now new respects whole) map);
+        leaf = leaf_kept keeps is;
+        keeps = λ m2 other. keeps m2 ∙ stored.1 m2 other;
+      }
+
+  module _ (same : same_value was x.v ≡ true) (graph : graph_of z new ≡ h) where
+    is : (next (state_of z mid) entry).graph ≡ h
+    is = next_is z d root n1 new (Cas 8 i 9 11) r2 p2 h graph
+
+    deepens : Deepens z.domains g (next (state_of z mid) entry).graph root
+    deepens = record {
+      p = x.p;
+      i = i;
+      j = digit;
+      held = x.v;
+      block = b;
+      writes = record { block = x.l; tag = node.0; fields = fields; there = moved.0; node = node.1; below = below_then; was = value_same was x.v same; end = binds_end g j x.v binds.binds; now = is };
+      inner = ap fields_of inner.node;
+      small = small;
+      low = two_left z.domains j x.p i digit way.0 way.1;
+      fresh = private_outside z d b root mid inner.private inner.apart;
+      next = λ m some. label_cases ((q : List ℕ) × (way_to z.domains m ≡ x.p ++ i ∷ digit ∷ q)) m j (λ e. (way.0, ap (way_to z.domains) e ∙ way.1)) (λ other. absurd (some (binds_other g j m x.v other binds.binds)));
+    }
+
+    own : RespectsMap z root mid entry
+    own = record { step = GoesDeeper deepens; leaves = plain_spares z root mid entry x.l node.0 fields (Plain node.0 (set fields i (Block b))) node.1 is }
+
+    deepened : Looks z root d n1 new × IsMap (graph_of z new) root
+    deepened = (
+      looks_once z root d n1 new (Cas 8 i 9 11) r2 p2 own (λ m. ap (λ (y : Graph). found z.domains y root m) (graph_push z mid entry) ∙ deepen_keeps z.domains g (next (state_of z mid) entry).graph root mid_map deepens m),
+      map_by z d root n1 new (Cas 8 i 9 11) r2 p2 e2 stored.0.map own,
+    )
+
+  pub room_made : RoomMade z d front now new root k l v
+  room_made = ⊎_elim
+      (λ won. leaves (deepened won.0 won.1.0) (same_held z d n1 new won.1.1)
+      (ap (λ (y : Graph). node_at y l) won.1.0 ∙ (node_at-with_node_other g x.l l (Plain node.0 (set fields i (Block b))) (λ e. not_block (sym e)) ∙ leaf_then.node)))
+      (λ lost. leaves (reads_on z d root n1 new (Cas 8 i 9 11) r2 p2 e2 stored.0.map lost.1.0) (same_held z d n1 new lost.1.1) (ap (λ (y : Graph). node_at y l) lost.1.0 ∙ leaf_then.node))
+      took

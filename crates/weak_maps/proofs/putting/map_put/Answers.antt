@@ -1,0 +1,166 @@
+use Rattle.std.proofs.Common.{◌≡◌, ◌≢◌, inr, ◌∙◌, ℕ, ◌+◌, ◌/◌, ◌%◌, ◌≤◌, Bool, cond, List, true, false, refl, sym, ap, subst, arith}
+use Rattle.heap_model.specs.declared.command.Command.TheVariants.{Load}
+use Rattle.heap_model.specs.declared.entry.Entry.{Entry}
+use Rattle.heap_model.specs.declared.graph.Value.{Value}
+use Rattle.heap_model.specs.declared.graph.Value.TheVariants.{Block, Nothing}
+use Rattle.heap_model.specs.declared.reply.Reply.TheVariants as reply
+use Rattle.heap_model.specs.declared.state.Sizes.{Sizes}
+use Rattle.map_laws.specs.Calls.{PerformedBy, PutsOrFull}
+use Rattle.map_laws.specs.Tries.{number_of, root_width}
+use Rattle.map_laws.proofs.FrontLemmas.{prefix_same, prefix_trans}
+use Rattle.weak_maps.specs.declared.putting.Try.TheVariants.{Over, Again}
+use Rattle.weak_maps.specs.Beside.{held_by, refusals_by, writings_by}
+use Rattle.weak_maps.specs.Puts.{Putting}
+use Rattle.weak_maps.specs.Settles.{refused_by, rooms_left}
+use Rattle.weak_maps.proofs.MachineLemmas.{at_machine, cleared_at, counted_by, field_at, keeps_at, leaf_at, put_at, settles_at, shows_some}
+use Rattle.weak_maps.proofs.GetLemmas.{grows_by, shown_label}
+use Rattle.weak_maps.proofs.SettleLemmas.{put_placed, put_settles}
+use Rattle.weak_maps.proofs.StayLemmas.{respects_within}
+use Rattle.weak_maps.proofs.TakeLemmas.{cleared_grows}
+use Rattle.weak_maps.proofs.TryLemmas.{put_begins, put_ended}
+use Rattle.weak_maps.proofs.putting.map_put.Goals as goal
+
+pub returns-then-not-make_leaf-clause-answer : goal.returns-then-not-make_leaf-clause-answer
+returns-then-not-make_leaf-clause-answer g c =
+    let z : Sizes = g.M.Machine.sizes c.args.m.now in
+    let d : ℕ = g.M.Machine.domain c.args.m.now in
+    let old : List Entry = g.M.Machine.front c.args.m.now in
+    let k = c.in-Block.label in
+    let n0 : List Entry = g.M.Machine.front c.make_leaf.new.m in
+    let new : List Entry = g.M.Machine.front c.clear.new.m in
+    let s0 : g.M.Machine.sizes c.show-datum.new.self ≡ z = c.show-datum.ensures.sizes ∙ c.show.ensures.sizes in
+    let o0 : g.M.Machine.domain c.show-datum.new.self ≡ d = c.show-datum.ensures.domain ∙ c.show.ensures.domain in
+    let f0 : g.M.Machine.front c.show-datum.new.self ≡ old = c.show-datum.ensures.front ∙ c.show.ensures.front in
+    let key : held_by z d old c.args.key ≡ Block k = shown_label _ _ (sym c.show.ensures.reply ∙ c.in-Block.is) in
+    let some : held_by z d old c.args.item ≢ Nothing = shows_some z _ d _ old _ c.args.item c.show-datum.result c.show.ensures.sizes c.show.ensures.domain c.show.ensures.front c.show-datum.ensures.reply (λ e. let clash : true ≡ false = sym (c.is_empty.ensures.1 e) ∙ c.if-is_empty.false in cc) in
+    let makes = leaf_at z _ d _ old _ n0 c.args.key c.args.item false _ s0 o0 f0 c.if-not-make_leaf.true c.make_leaf.ensures.made in
+    let x = cleared_at z _ d _ n0 _ (c.make_leaf.ensures.sizes ∙ s0) (c.make_leaf.ensures.domain ∙ o0) c.clear.ensures.cleared in
+    λ root held map placed respects.
+    let y = makes root k key some map (respects_within z root d old new old n0 (prefix_same old) (cleared_grows z d n0 new x) respects) in
+    let ended = put_ended z c.stands.ensures.limits root d old k (held_by z d old c.args.item) c.args.key c.requires.few.1 key n0 new y.on (λ j small. y.keeps j) x respects in
+    let answer : PutsOrFull z root d old new k (held_by z d old c.args.item) reply.Full = inr (refl, ended.0) in
+    put_at z d old new root _ _ k reply.Full key some (answer, ended.1) (put_placed z root d old new k _ reply.Full (prefix_trans old n0 new y.on.grows (cleared_grows z d n0 new x)) map placed respects answer)
+
+pub tries-init : goal.tries-init
+tries-init g c =
+    let z : Sizes = g.M.Machine.sizes c.args.m.now in
+    let d : ℕ = g.M.Machine.domain c.args.m.now in
+    let old : List Entry = g.M.Machine.front c.args.m.now in
+    let k = c.in-Block.label in
+    let v : Value = held_by z d old c.args.item in
+    let n0 : List Entry = g.M.Machine.front c.make_leaf.new.m in
+    let n1 : List Entry = g.M.Machine.front c.perform-root.new.m in
+    let new : List Entry = g.M.Machine.front c.read_again-at.new.m in
+    let s0 : g.M.Machine.sizes c.show-datum.new.self ≡ z = c.show-datum.ensures.sizes ∙ c.show.ensures.sizes in
+    let o0 : g.M.Machine.domain c.show-datum.new.self ≡ d = c.show-datum.ensures.domain ∙ c.show.ensures.domain in
+    let f0 : g.M.Machine.front c.show-datum.new.self ≡ old = c.show-datum.ensures.front ∙ c.show.ensures.front in
+    let s1 : g.M.Machine.sizes c.make_leaf.new.m ≡ z = c.make_leaf.ensures.sizes ∙ s0 in
+    let o1 : g.M.Machine.domain c.make_leaf.new.m ≡ d = c.make_leaf.ensures.domain ∙ o0 in
+    let s2 : g.M.Machine.sizes c.perform-root.new.m ≡ z = c.perform-root.ensures.sizes ∙ s1 in
+    let o2 : g.M.Machine.domain c.perform-root.new.m ≡ d = c.perform-root.ensures.domain ∙ o1 in
+    let key : held_by z d old c.args.key ≡ Block k = shown_label _ _ (sym c.show.ensures.reply ∙ c.in-Block.is) in
+    let some : v ≢ Nothing = shows_some z _ d _ old _ c.args.item c.show-datum.result c.show.ensures.sizes c.show.ensures.domain c.show.ensures.front c.show-datum.ensures.reply (λ e. let clash : true ≡ false = sym (c.is_empty.ensures.1 e) ∙ c.if-is_empty.false in cc) in
+    let makes = leaf_at z _ d _ old _ n0 c.args.key c.args.item true _ s0 o0 f0 c.if-not-make_leaf.false c.make_leaf.ensures.made in
+    let same : c.number_of-number.result ≡ number_of z.domains k = c.number_of-number.ensures.number ∙ ap (λ (n : ℕ). number_of n k) (c.domains.ensures ∙ ap (λ (y : Sizes). y.domains) s1) in
+    let p1 = at_machine z _ d _ n0 n1 _ _ s1 o1 c.perform-root.ensures.performed in
+    let q2 = at_machine z _ d _ n1 new _ _ s2 o2 c.read_again-at.ensures.read in
+    let p2 = subst (λ (n : ℕ). PerformedBy z d n1 new (Load 9 8 n) c.read_again-at.result) (c.root_index.ensures ∙ ap (λ (n : ℕ). n % root_width) same) q2 in
+    let later = prefix_trans n0 n1 new (grows_by z d n0 n1 _ _ p1) (grows_by z d n1 new _ _ p2) in
+    let l0 = c.show.ensures.labels in
+    let l1 = c.show-datum.ensures.labels in
+    let l2 = c.make_leaf.ensures.labels ∙ ap (λ (b : Bool). g.M.Machine.labels_left c.make_leaf.new.m + cond b 1 0) c.if-not-make_leaf.false in
+    let l3 = c.perform-root.ensures.labels in
+    let l4 = c.read_again-at.ensures.labels in
+    let r0 = c.show.ensures.room in
+    let r1 = c.show-datum.ensures.room in
+    let r2 = c.make_leaf.ensures.room in
+    let r3 = c.perform-root.ensures.room in
+    let r4 = c.read_again-at.ensures.room in
+    let h0 = ap (refusals_by d) f0 in
+    let h1 = counted_by refusals_by d _ _ _ n0 o0 (c.make_leaf.ensures.refused ∙ ap (λ (b : Bool). refusals_by (g.M.Machine.domain c.show-datum.new.self) (g.M.Machine.front c.show-datum.new.self) + cond b 0 1) c.if-not-make_leaf.false) in
+    let h2 = counted_by refusals_by d _ _ n0 n1 o1 c.perform-root.ensures.refused in
+    let h3 = subst (λ (e : ℕ). refusals_by e new ≡ refusals_by e n1) o2 c.read_again-at.ensures.given in
+    let k2 = c.perform-root.ensures.given in
+    let w0 = ap (writings_by d) f0 in
+    let w1 = subst (λ (e : ℕ). writings_by e n0 ≡ writings_by e (g.M.Machine.front c.show-datum.new.self)) o0 c.make_leaf.ensures.written in
+    let w2 = counted_by writings_by d _ _ n0 n1 o1 c.perform-root.ensures.written in
+    let w3 = subst (λ (e : ℕ). writings_by e new ≡ writings_by e n1) o2 c.read_again-at.ensures.written in record {
+      same = c.read_again-at.ensures.sizes ∙ s2;
+      own = c.read_again-at.ensures.domain ∙ o2;
+      labels = omega (arith, l0, l1, l2, l3, l4);
+      fewer = omega (arith, l0, l1, l2, l3, l4);
+      room = omega (arith, r0, r1, r2, r3, r4);
+      refused = omega (arith, h0, h1, h2, h3, k2);
+      written = omega (arith, w0, w1, w2, w3);
+      walk = λ root held map placed respects.
+          subst (λ (w : ℕ × ℕ). Putting z d old new root k v w.0 (w.1 / root_width) c.read_again-at.result 0) (λ i. ((sym (c.root_index-2.ensures ∙ ap (λ (n : ℕ). n % root_width) same)) i, sym same i))
+          (put_begins z c.stands.ensures.limits root d old k v c.args.key c.requires.few.1 key n0 n1 new c.perform-root.result c.read_again-at.result c.args.map c.requires.few.0 held (makes root k key some map (respects_within z root d old new old n0 (prefix_same old) later respects)) p1 p2 respects);
+    }
+
+pub returns-in-Over-clause-answer : goal.returns-in-Over-clause-answer
+returns-in-Over-clause-answer g c =
+    let z : Sizes = g.M.Machine.sizes c.args.m.now in
+    let d : ℕ = g.M.Machine.domain c.args.m.now in
+    let old : List Entry = g.M.Machine.front c.args.m.now in
+    let k = c.in-Block.label in
+    let v : Value = held_by z d old c.args.item in
+    let now : List Entry = g.M.Machine.front c.tries.m in
+    let n0 : List Entry = g.M.Machine.front c.find-from.new.m in
+    let new : List Entry = g.M.Machine.front c.settle.new.m in
+    let s0 : g.M.Machine.sizes c.tries.m ≡ z = c.tries.invariant.same in
+    let o0 : g.M.Machine.domain c.tries.m ≡ d = c.tries.invariant.own in
+    let s1 : g.M.Machine.sizes c.find-from.new.m ≡ z = c.find-from.ensures.sizes ∙ s0 in
+    let o1 : g.M.Machine.domain c.find-from.new.m ≡ d = c.find-from.ensures.domain ∙ o0 in
+    let key : held_by z d old c.args.key ≡ Block k = shown_label _ _ (sym c.show.ensures.reply ∙ c.in-Block.is) in
+    let some : v ≢ Nothing = shows_some z _ d _ old _ c.args.item c.show-datum.result c.show.ensures.sizes c.show.ensures.domain c.show.ensures.front c.show-datum.ensures.reply (λ e. let clash : true ≡ false = sym (c.is_empty.ensures.1 e) ∙ c.if-is_empty.false in cc) in
+    let finds = field_at z _ d _ now n0 c.args.key k _ _ _ _ _ _ _ s0 o0 c.find-from.ensures.field in
+    let own = keeps_at z _ d _ now n0 c.args.key k _ _ _ s0 o0 c.find-from.ensures.leaf in
+    let settles = settles_at z _ d _ n0 new k _ _ _ _ (Over c.in-Over.answer) _ s1 o1 c.in-Over.is c.settle.ensures.settled in
+    let later = prefix_trans now n0 new c.find-from.ensures.grows c.settle.ensures.grows in
+    λ root held map placed respects.
+    let t = c.tries.invariant.walk root held map placed (respects_within z root d old new old now (prefix_same old) later respects) in
+    let x = put_settles z c.stands.ensures.limits root d old k v c.args.key c.requires.few.1 key now n0 new _ _ _ _ c.tries.level c.find-from.result.steps c.saturating_add-level.result c.tries.at _ (Over c.in-Over.answer) c.saturating_add-level.ensures (c.tries.invariant.walk root held map placed) finds own c.find-from.ensures.grows settles c.settle.ensures.grows map placed respects in
+    put_at z d old new root _ _ k c.in-Over.answer key some x (put_placed z root d old new k v c.in-Over.answer (prefix_trans old now new t.on.grows later) map placed respects x.0)
+
+pub tries-preserved : goal.tries-preserved
+tries-preserved g c =
+    let z : Sizes = g.M.Machine.sizes c.args.m.now in
+    let d : ℕ = g.M.Machine.domain c.args.m.now in
+    let old : List Entry = g.M.Machine.front c.args.m.now in
+    let k = c.in-Block.label in
+    let v : Value = held_by z d old c.args.item in
+    let now : List Entry = g.M.Machine.front c.tries.m in
+    let n0 : List Entry = g.M.Machine.front c.find-from.new.m in
+    let new : List Entry = g.M.Machine.front c.settle.new.m in
+    let s0 : g.M.Machine.sizes c.tries.m ≡ z = c.tries.invariant.same in
+    let o0 : g.M.Machine.domain c.tries.m ≡ d = c.tries.invariant.own in
+    let s1 : g.M.Machine.sizes c.find-from.new.m ≡ z = c.find-from.ensures.sizes ∙ s0 in
+    let o1 : g.M.Machine.domain c.find-from.new.m ≡ d = c.find-from.ensures.domain ∙ o0 in
+    let key : held_by z d old c.args.key ≡ Block k = shown_label _ _ (sym c.show.ensures.reply ∙ c.in-Block.is) in
+    let finds = field_at z _ d _ now n0 c.args.key k _ _ _ _ _ _ _ s0 o0 c.find-from.ensures.field in
+    let own = keeps_at z _ d _ now n0 c.args.key k _ _ _ s0 o0 c.find-from.ensures.leaf in
+    let settles = settles_at z _ d _ n0 new k _ _ _ _ (Again c.in-Again.shows c.in-Again.left) _ s1 o1 c.in-Again.is c.settle.ensures.settled in
+    let l0 = c.tries.invariant.labels in
+    let l1 = c.find-from.ensures.labels in
+    let l2 = subst (λ (n : ℕ). g.M.Machine.labels_left c.find-from.new.m + n ≤ g.M.Machine.labels_left c.settle.new.m + c.tries.rooms) (ap rooms_left c.in-Again.is) c.settle.ensures.labels in
+    let m0 = c.tries.invariant.fewer in
+    let m2 = c.settle.ensures.fewer in
+    let r0 = c.tries.invariant.room in
+    let r1 = c.find-from.ensures.room in
+    let r2 = c.settle.ensures.room in
+    let f0 = c.tries.invariant.refused in
+    let f1 = subst (λ (e : ℕ). refusals_by e n0 ≡ refusals_by e now) o0 c.find-from.ensures.given in
+    let f2 = subst (λ (w : ℕ × ℕ). refusals_by w.0 new ≤ refusals_by w.0 n0 + w.1) (λ i. (o1 i, (ap refused_by c.in-Again.is) i)) c.settle.ensures.refused in
+    let w0 = c.tries.invariant.written in
+    let w1 = subst (λ (e : ℕ). writings_by e n0 ≡ writings_by e now) o0 c.find-from.ensures.written in
+    let w2 = subst (λ (e : ℕ). writings_by e new ≡ writings_by e n0) o1 c.settle.ensures.written in record {
+      same = c.settle.ensures.sizes ∙ s1;
+      own = c.settle.ensures.domain ∙ o1;
+      labels = omega (arith, l0, l1, l2);
+      fewer = omega (arith, m0, l1, m2);
+      room = omega (arith, r0, r1, r2);
+      refused = omega (arith, f0, f1, f2);
+      written = omega (arith, w0, w1, w2);
+      walk = λ root held map placed respects.
+          put_settles z c.stands.ensures.limits root d old k v c.args.key c.requires.few.1 key now n0 new _ _ _ _ c.tries.level c.find-from.result.steps c.saturating_add-level.result c.tries.at _ (Again c.in-Again.shows c.in-Again.left) c.saturating_add-level.ensures (c.tries.invariant.walk root held map placed) finds own c.find-from.ensures.grows settles c.settle.ensures.grows map placed respects;
+    }

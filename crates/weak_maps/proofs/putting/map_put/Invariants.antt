@@ -1,0 +1,23 @@
+use Rattle.std.proofs.Common.{◌≡◌, ◌≤◌, ◌+◌}
+use Rattle.heap_model.specs.declared.label.Label.{Label}
+use Rattle.heap_model.specs.declared.graph.Value.TheVariants.{Block}
+use Rattle.table_laws.specs.Stages.{graph_of}
+use Rattle.map_laws.specs.Tries.{IsMap}
+use Rattle.map_laws.specs.Steps.{OthersRespect}
+use Rattle.weak_maps.specs.Beside.{held_by, refusals_by, writings_by}
+use Rattle.weak_maps.specs.Puts.{IsInPlace, Putting}
+use Rattle.weak_maps.proofs.putting.map_put.Given as goal
+
+abbrev pub invariant-tries : goal.invariant-tries
+invariant-tries g l = record {
+  same : g.M.Machine.sizes l.m ≡ g.M.Machine.sizes l.fn.m;
+  own : g.M.Machine.domain l.m ≡ g.M.Machine.domain l.fn.m;
+  labels : g.M.Machine.labels_left l.fn.m + l.rooms ≤ g.M.Machine.labels_left l.m + 7;
+  fewer : g.M.Machine.labels_left l.m ≤ g.M.Machine.labels_left l.fn.m;
+  room : g.M.Machine.ephes_room l.fn.m ≤ g.M.Machine.ephes_room l.m + 1;
+  refused : refusals_by (g.M.Machine.domain l.fn.m) (g.M.Machine.front l.m) ≤ refusals_by (g.M.Machine.domain l.fn.m) (g.M.Machine.front l.fn.m);
+  written : writings_by (g.M.Machine.domain l.fn.m) (g.M.Machine.front l.m) ≡ writings_by (g.M.Machine.domain l.fn.m) (g.M.Machine.front l.fn.m);
+  walk : (root : Label) → held_by (g.M.Machine.sizes l.fn.m) (g.M.Machine.domain l.fn.m) (g.M.Machine.front l.fn.m) l.map ≡ Block root → IsMap (graph_of (g.M.Machine.sizes l.fn.m) (g.M.Machine.front l.fn.m)) root
+      → IsInPlace (g.M.Machine.sizes l.fn.m).domains (graph_of (g.M.Machine.sizes l.fn.m) (g.M.Machine.front l.fn.m)) root → OthersRespect (g.M.Machine.sizes l.fn.m) root (g.M.Machine.domain l.fn.m) (g.M.Machine.front l.fn.m) (g.M.Machine.front l.m)
+      → Putting (g.M.Machine.sizes l.fn.m) (g.M.Machine.domain l.fn.m) (g.M.Machine.front l.fn.m) (g.M.Machine.front l.m) root l.label (held_by (g.M.Machine.sizes l.fn.m) (g.M.Machine.domain l.fn.m) (g.M.Machine.front l.fn.m) l.item) l.from.index l.from.rest l.at l.level;
+}

@@ -1,0 +1,78 @@
+use Rattle.std.proofs.Common.{◌≡◌, ◌∙◌, ℕ, ◌%◌, Bool, List, Option, None, true, false, ap, subst}
+use Rattle.heap_model.specs.declared.entry.Entry.{Entry}
+use Rattle.heap_model.specs.declared.label.Label.{Label}
+use Rattle.heap_model.specs.declared.state.Sizes.{Sizes}
+use Rattle.map_laws.specs.Tries.{node_width, number_of}
+use Rattle.weak_maps.specs.Puts.{Arrived, MakesRoom, Publishes, rest_of}
+use Rattle.weak_maps.proofs.MachineLemmas.{at_machine, cleared_at}
+use Rattle.weak_maps.proofs.SettleLemmas.{settle_again, settle_done, settle_full, settle_lost, settle_spent}
+use Rattle.weak_maps.proofs.putting.settle.Goals as goal
+
+pub returns-then-publish-clause-settled : goal.returns-then-publish-clause-settled
+returns-then-publish-clause-settled g c =
+    let z : Sizes = g.M.Machine.sizes c.args.m.now in
+    let d : ℕ = g.M.Machine.domain c.args.m.now in
+    let now : List Entry = g.M.Machine.front c.args.m.now in
+    let n1 : List Entry = g.M.Machine.front c.publish.new.m in
+    let k : Label = c.args.label.now in
+    let other : c.args.from.other ≡ None = c.in_default.is in
+    let x = cleared_at z _ d _ n1 _ c.publish.ensures.sizes c.publish.ensures.domain c.clear.ensures.cleared in
+    let publishes = subst (λ (b : Bool). Publishes z d now n1 c.args.from.index b) c.if-publish.true c.publish.ensures.published in
+    λ old root v key few held map placed t respects.
+    settle_done z c.stands.ensures.limits root d old now k v key few held c.stands.ensures.legal c.args.from.index c.args.from.rest c.args.level n1 _
+    (subst (λ (o : Option Label). Arrived z d old now root k v c.args.from.index c.args.from.rest c.args.level o) other t) publishes c.publish.ensures.grows x respects
+
+pub returns-in_default-clause-settled : goal.returns-in_default-clause-settled
+returns-in_default-clause-settled g c =
+    let z : Sizes = g.M.Machine.sizes c.args.m.now in
+    let d : ℕ = g.M.Machine.domain c.args.m.now in
+    let now : List Entry = g.M.Machine.front c.args.m.now in
+    let n1 : List Entry = g.M.Machine.front c.publish.new.m in
+    let k : Label = c.args.label.now in
+    let other : c.args.from.other ≡ None = c.in_default.is in
+    let p = at_machine z _ d _ n1 _ _ _ c.publish.ensures.sizes c.publish.ensures.domain c.read_again-shows.ensures.read in
+    let publishes = subst (λ (b : Bool). Publishes z d now n1 c.args.from.index b) c.if-publish.false c.publish.ensures.published in
+    λ old root v key few held map placed t respects.
+    settle_lost z c.stands.ensures.limits root d old now k v key few held c.stands.ensures.legal c.args.from.index c.args.from.rest c.args.level n1 _ _
+    (subst (λ (o : Option Label). Arrived z d old now root k v c.args.from.index c.args.from.rest c.args.level o) other t) publishes c.publish.ensures.grows p respects
+
+pub returns-then-rooms-eq0-clause-settled : goal.returns-then-rooms-eq0-clause-settled
+returns-then-rooms-eq0-clause-settled g c =
+    λ old root v key few held map placed t respects.
+    settle_spent (g.M.Machine.sizes c.args.m.now) c.stands.ensures.limits root (g.M.Machine.domain c.args.m.now) old (g.M.Machine.front c.args.m.now) c.args.label.now v key few held c.stands.ensures.legal _ _ _ _ _ t c.clear-then-rooms-eq0.ensures.cleared respects
+
+pub returns-then-not-make_room-clause-settled : goal.returns-then-not-make_room-clause-settled
+returns-then-not-make_room-clause-settled g c =
+    let z : Sizes = g.M.Machine.sizes c.args.m.now in
+    let d : ℕ = g.M.Machine.domain c.args.m.now in
+    let now : List Entry = g.M.Machine.front c.args.m.now in
+    let n1 : List Entry = g.M.Machine.front c.make_room.new.m in
+    let k : Label = c.args.label.now in
+    let j : Label = c.in-Some.other in
+    let x = cleared_at z _ d _ n1 _ c.make_room.ensures.sizes c.make_room.ensures.domain c.clear-then-not-make_room.ensures.cleared in
+    let number : c.number_of.result ≡ number_of z.domains j = c.number_of.ensures.number ∙ ap (λ (n : ℕ). number_of n j) c.domains.ensures in
+    let digit : c.node_index.result ≡ rest_of (number_of z.domains j) c.args.level % node_width = c.node_index.ensures ∙ ap (λ (n : ℕ). n % node_width) (c.rest_below-rest.ensures ∙ ap (λ (n : ℕ). rest_of n c.args.level) number) in
+    let made : c.make_room.result ≡ false = c.if-not-make_room.true in
+    let makes = subst (λ (w : ℕ × Bool). MakesRoom z d now n1 c.args.from.index w.0 w.1) (λ i. (digit i, made i)) c.make_room.ensures.made in
+    λ old root v key few held map placed t respects.
+    settle_full z c.stands.ensures.limits root d old now k v key few held c.stands.ensures.legal c.args.from.index c.args.from.rest c.args.level n1 _ j
+    (subst (λ (o : Option Label). Arrived z d old now root k v c.args.from.index c.args.from.rest c.args.level o) c.in-Some.is t)
+    c.serial_of-serial.ensures.range c.serial_of-other_serial.ensures.range map placed makes c.make_room.ensures.grows x respects
+
+pub returns-clause-settled : goal.returns-clause-settled
+returns-clause-settled g c =
+    let z : Sizes = g.M.Machine.sizes c.args.m.now in
+    let d : ℕ = g.M.Machine.domain c.args.m.now in
+    let now : List Entry = g.M.Machine.front c.args.m.now in
+    let n1 : List Entry = g.M.Machine.front c.make_room.new.m in
+    let k : Label = c.args.label.now in
+    let j : Label = c.in-Some.other in
+    let p = at_machine z _ d _ n1 _ _ _ c.make_room.ensures.sizes c.make_room.ensures.domain c.read_again-shows-2.ensures.read in
+    let number : c.number_of.result ≡ number_of z.domains j = c.number_of.ensures.number ∙ ap (λ (n : ℕ). number_of n j) c.domains.ensures in
+    let digit : c.node_index.result ≡ rest_of (number_of z.domains j) c.args.level % node_width = c.node_index.ensures ∙ ap (λ (n : ℕ). n % node_width) (c.rest_below-rest.ensures ∙ ap (λ (n : ℕ). rest_of n c.args.level) number) in
+    let made : c.make_room.result ≡ true = c.if-not-make_room.false in
+    let makes = subst (λ (w : ℕ × Bool). MakesRoom z d now n1 c.args.from.index w.0 w.1) (λ i. (digit i, made i)) c.make_room.ensures.made in
+    λ old root v key few held map placed t respects.
+    settle_again z c.stands.ensures.limits root d old now k v key few held c.stands.ensures.legal c.args.from.index c.args.from.rest c.args.level n1 _ _ j
+    (subst (λ (o : Option Label). Arrived z d old now root k v c.args.from.index c.args.from.rest c.args.level o) c.in-Some.is t)
+    c.serial_of-serial.ensures.range c.serial_of-other_serial.ensures.range map placed makes c.make_room.ensures.grows p respects

@@ -1,0 +1,37 @@
+-- What one try of a put leads to.
+use Rattle.std.specs.Prelude.{◌≡◌, ◌<◌, ℕ, List, Option}
+use Rattle.heap_model.specs.declared.label.Label.{Label}
+use Rattle.heap_model.specs.declared.entry.Entry.{Entry}
+use Rattle.heap_model.specs.declared.graph.Value.{Value}
+use Rattle.heap_model.specs.declared.graph.Value.TheVariants.{Block}
+use Rattle.heap_model.specs.declared.state.Sizes.{Sizes}
+use Rattle.table_laws.specs.Performing.{full_of}
+use Rattle.table_laws.specs.Stages.{graph_of}
+use Rattle.map_laws.specs.Tries.{IsMap}
+use Rattle.map_laws.specs.Steps.{OthersRespect}
+use Rattle.map_laws.specs.Calls.{PutsOrFull}
+use Rattle.weak_maps.specs.declared.putting.Try.{Try}
+use Rattle.weak_maps.specs.declared.putting.Try.TheVariants.{Over, Again}
+use Rattle.weak_maps.specs.Beside.{held_by}
+use Rattle.weak_maps.specs.Puts.{Arrived, IsInPlace, Putting}
+use Rattle.weak_maps.specs.Returns.{TakeLeaves}
+
+-- how many blocks more may be made
+abbrev pub rooms_left : Try → ℕ
+rooms_left (Over r) = 0
+rooms_left (Again shows rooms) = rooms
+
+-- how many commands were refused at most
+abbrev pub refused_by : Try → ℕ
+refused_by (Over r) = full_of r
+refused_by (Again shows rooms) = 0
+
+-- the call is over, or it stands at the field again
+abbrev pub SettledBy : Sizes → ℕ → List Entry → List Entry → Label → Label → Value → ℕ → ℕ → ℕ → Try → Type 0
+SettledBy z d old new root k v index rest level (Over r) = PutsOrFull z root d old new k v r × TakeLeaves z d old new root
+SettledBy z d old new root k v index rest level (Again shows rooms) = Putting z d old new root k v index rest shows level
+
+-- for whatever call it goes on and whatever map that is on, if others respect it
+abbrev pub Settles : Sizes → ℕ → List Entry → List Entry → Label → ℕ → ℕ → ℕ → Option Label → Try → Type 0
+Settles z d now new k index rest level other try = (old : List Entry) (root : Label) (v : Value) (key : ℕ) → key < 8 → held_by z d old key ≡ Block k → IsMap (graph_of z old) root → IsInPlace z.domains (graph_of z old) root
+    → Arrived z d old now root k v index rest level other → OthersRespect z root d old new → SettledBy z d old new root k v index rest level try

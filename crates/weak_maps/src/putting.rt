@@ -1,0 +1,267 @@
+//! Bindings that are put.
+ghost use Rattle.std.specs.Prelude.{◌≡◌, ◌≢◌, ◌+◌, ◌<◌, ◌≤◌, cond};
+ghost use Rattle.heap_model.specs.declared.command.Command.TheVariants as command;
+ghost use Rattle.heap_model.specs.declared.graph.Value.TheVariants.{Block};
+ghost use Rattle.heap_model.specs.declared.label.Label as labels;
+ghost use Rattle.heap_model.specs.History.{IsPrefix};
+ghost use Rattle.table_laws.specs.Performing.{full_of};
+ghost use Rattle.table_laws.specs.Stages.{graph_of};
+ghost use Rattle.map_laws.specs.Calls.{PerformedBy};
+ghost use Rattle.map_laws.specs.Steps.{OthersRespect};
+ghost use Rattle.map_laws.specs.Tries.{node_width, IsMap};
+ghost use Rattle.weak_maps.specs.Beside.{held_by, refusals_by, writings_by};
+ghost use Rattle.weak_maps.specs.Puts.{IsInPlace, MakesLeaf, MakesRoom, Publishes};
+ghost use Rattle.weak_maps.specs.Returns.{PutReturns};
+ghost use Rattle.weak_maps.specs.Settles.{refused_by, rooms_left, Settles};
+
+use crate::digits::{node_index, number_of, rest_below, root_index, serial_of};
+use crate::machine::{Machine, perform};
+use crate::replies::{is_empty, is_full, is_yes};
+use crate::taking::{Search, clear, find};
+use heap_model::command::Command;
+use heap_model::label::Label;
+use heap_model::reply::Reply;
+use std::sync::Wait;
+
+/// What a try of a put led to.
+#[derive(Clone, Copy, Debug, PartialEq, Eq)]
+pub enum Try {
+    /// The call is over, with this answer.
+    Over(Reply),
+    /// The call goes on from the same field, which shows this. So many blocks more may be made.
+    Again { shows: Reply, rooms: u8 },
+}
+
+// Makes a leaf of the key in a register, with the datum in another, into register 10. Tells whether the allocation wasn't
+// refused.
+fn make_leaf<M: Machine, R: Wait>(m: &mut M, rt: &R, key: u8, item: u8) -> bool
+    requires few { (key < 8) × (item < 8) }
+    requires label { 1 ≤ M.labels_left m.old }
+    requires room { 1 ≤ M.ephes_room m.old }
+    ensures sizes { M.sizes m.new ≡ M.sizes m.old }
+    ensures domain { M.domain m.new ≡ M.domain m.old }
+    ensures labels { M.labels_left m.old ≡ M.labels_left m.new + cond result 1 0 }
+    ensures room { M.ephes_room m.old ≤ M.ephes_room m.new + 1 }
+    ensures refused { refusals_by (M.domain m.old) (M.front m.new) ≡ refusals_by (M.domain m.old) (M.front m.old) + cond result 0 1 }
+    ensures written { writings_by (M.domain m.old) (M.front m.new) ≡ writings_by (M.domain m.old) (M.front m.old) }
+    ensures made { MakesLeaf (M.sizes m.old) (M.domain m.old) (M.front m.old) (M.front m.new) key item result }
+{
+    m.stands();
+    let made = perform(m, rt, Command::Ephe { dst: 10, keys: 1 });
+    if is_full(&made) {
+        return false;
+    }
+    let _datum = perform(m, rt, Command::SetData { ephe: 10, item });
+    let _key = perform(
+        m,
+        rt,
+        Command::SetKey {
+            ephe: 10,
+            index: 0,
+            item: key,
+        },
+    );
+    true
+}
+
+// Puts the leaf in register 10 into a field of the block in register 8, where that holds what register 9 holds. Tells whether
+// it did.
+fn publish<M: Machine, R: Wait>(m: &mut M, rt: &R, index: u16) -> bool
+    ensures sizes { M.sizes m.new ≡ M.sizes m.old }
+    ensures domain { M.domain m.new ≡ M.domain m.old }
+    ensures labels { M.labels_left m.new ≡ M.labels_left m.old }
+    ensures room { M.ephes_room m.old ≤ M.ephes_room m.new }
+    ensures given { refusals_by (M.domain m.old) (M.front m.new) ≡ refusals_by (M.domain m.old) (M.front m.old) }
+    ensures written { writings_by (M.domain m.old) (M.front m.new) ≡ writings_by (M.domain m.old) (M.front m.old) }
+    ensures grows { IsPrefix (M.front m.old) (M.front m.new) }
+    ensures published { Publishes (M.sizes m.old) (M.domain m.old) (M.front m.old) (M.front m.new) index result }
+{
+    m.stands();
+    let won = perform(
+        m,
+        rt,
+        Command::Cas {
+            block: 8,
+            index,
+            expected: 9,
+            item: 10,
+        },
+    );
+    is_yes(&won)
+}
+
+// Puts the leaf of another key that register 9 holds one block deeper, into this field there, where the field of the block in
+// register 8 still holds it. Tells whether the allocation of that block wasn't refused. Register 11 is used between.
+fn make_room<M: Machine, R: Wait>(m: &mut M, rt: &R, index: u16, digit: u16) -> bool
+    requires small { digit < node_width }
+    requires label { 1 ≤ M.labels_left m.old }
+    ensures sizes { M.sizes m.new ≡ M.sizes m.old }
+    ensures domain { M.domain m.new ≡ M.domain m.old }
+    ensures labels { M.labels_left m.old ≡ M.labels_left m.new + cond result 1 0 }
+    ensures room { M.ephes_room m.old ≤ M.ephes_room m.new }
+    ensures refused { refusals_by (M.domain m.old) (M.front m.new) ≡ refusals_by (M.domain m.old) (M.front m.old) + cond result 0 1 }
+    ensures written { writings_by (M.domain m.old) (M.front m.new) ≡ writings_by (M.domain m.old) (M.front m.old) }
+    ensures grows { IsPrefix (M.front m.old) (M.front m.new) }
+    ensures made { MakesRoom (M.sizes m.old) (M.domain m.old) (M.front m.old) (M.front m.new) index digit result }
+{
+    m.stands();
+    let made = perform(
+        m,
+        rt,
+        Command::Alloc {
+            dst: 11,
+            tag: 0,
+            fields: 32,
+        },
+    );
+    if is_full(&made) {
+        return false;
+    }
+    let _leaf = perform(
+        m,
+        rt,
+        Command::Store {
+            block: 11,
+            index: digit,
+            item: 9,
+        },
+    );
+    let _deeper = perform(
+        m,
+        rt,
+        Command::Cas {
+            block: 8,
+            index,
+            expected: 9,
+            item: 11,
+        },
+    );
+    true
+}
+
+// Reads into register 9, once more, the field of the block in register 8 to which a search came.
+fn read_again<M: Machine, R: Wait>(m: &mut M, rt: &R, index: u16) -> Reply
+    ensures sizes { M.sizes m.new ≡ M.sizes m.old }
+    ensures domain { M.domain m.new ≡ M.domain m.old }
+    ensures labels { M.labels_left m.new ≡ M.labels_left m.old }
+    ensures room { M.ephes_room m.old ≤ M.ephes_room m.new }
+    ensures given { refusals_by (M.domain m.old) (M.front m.new) ≡ refusals_by (M.domain m.old) (M.front m.old) }
+    ensures written { writings_by (M.domain m.old) (M.front m.new) ≡ writings_by (M.domain m.old) (M.front m.old) }
+    ensures read { PerformedBy (M.sizes m.old) (M.domain m.old) (M.front m.old) (M.front m.new) (command.Load 9 8 index) result }
+{
+    perform(
+        m,
+        rt,
+        Command::Load {
+            dst: 9,
+            src: 8,
+            index,
+        },
+    )
+}
+
+// Publishes the leaf in register 10 in the field to which a search came, so many blocks below the root, or makes room there
+// where another key's leaf is in the way. So many blocks may be made.
+fn settle<M: Machine, R: Wait>(
+    m: &mut M,
+    rt: &R,
+    label: &Label,
+    from: Search,
+    level: u8,
+    rooms: u8,
+) -> Try
+    requires labels { rooms ≤ M.labels_left m.old }
+    ensures sizes { M.sizes m.new ≡ M.sizes m.old }
+    ensures domain { M.domain m.new ≡ M.domain m.old }
+    ensures labels { M.labels_left m.old + rooms_left result ≤ M.labels_left m.new + rooms }
+    ensures fewer { M.labels_left m.new ≤ M.labels_left m.old }
+    ensures room { M.ephes_room m.old ≤ M.ephes_room m.new }
+    ensures refused { refusals_by (M.domain m.old) (M.front m.new) ≤ refusals_by (M.domain m.old) (M.front m.old) + refused_by result }
+    ensures written { writings_by (M.domain m.old) (M.front m.new) ≡ writings_by (M.domain m.old) (M.front m.old) }
+    ensures grows { IsPrefix (M.front m.old) (M.front m.new) }
+    ensures settled { Settles (M.sizes m.old) (M.domain m.old) (M.front m.old) (M.front m.new) label.now from.index from.rest level from.other result }
+{
+    m.stands();
+    let _serial = serial_of(label);
+    let Some(other) = from.other else {
+        if publish(m, rt, from.index) {
+            clear(m, rt);
+            return Try::Over(Reply::Done);
+        }
+        let shows = read_again(m, rt, from.index);
+        return Try::Again { shows, rooms };
+    };
+    if rooms == 0 {
+        clear(m, rt);
+        return Try::Over(Reply::Full);
+    }
+    let _other_serial = serial_of(&other);
+    let rest = rest_below(number_of(m.domains(), &other), level);
+    if !make_room(m, rt, from.index, node_index(rest)) {
+        clear(m, rt);
+        return Try::Over(Reply::Full);
+    }
+    let shows = read_again(m, rt, from.index);
+    Try::Again {
+        shows,
+        rooms: rooms - 1,
+    }
+}
+
+/// Binds the key in a register to what another holds, in the map in a third. Answers `type` exactly where the key's register
+/// holds no label or the other nothing, and then changes nothing; `full` where an allocation was refused, or where six
+/// blocks that were made for room lost their field to other domains: then no binding was changed; and else that it is done:
+/// an entry of the call bound the key, and changed no other key. Registers are below 8. Registers 8 to 11 hold nothing
+/// afterwards, but for `type`. Other domains may use the map meanwhile, by its calls. Where one of them wins a field, the call
+/// tries again. At most a leaf and six blocks are made.
+pub fn map_put<M: Machine, R: Wait>(m: &mut M, rt: &R, map: u8, key: u8, item: u8) -> Reply
+    requires few { (map < 8) × (key < 8) × (item < 8) }
+    requires labels { 7 ≤ M.labels_left m.old }
+    requires room { 1 ≤ M.ephes_room m.old }
+    ensures sizes { M.sizes m.new ≡ M.sizes m.old }
+    ensures domain { M.domain m.new ≡ M.domain m.old }
+    ensures labels { (M.labels_left m.new ≤ M.labels_left m.old) × (M.labels_left m.old ≤ M.labels_left m.new + 7) }
+    ensures room { M.ephes_room m.old ≤ M.ephes_room m.new + 1 }
+    ensures refused { refusals_by (M.domain m.old) (M.front m.new) ≤ refusals_by (M.domain m.old) (M.front m.old) + full_of result }
+    ensures written { writings_by (M.domain m.old) (M.front m.new) ≡ writings_by (M.domain m.old) (M.front m.old) }
+    ensures answer { (root : labels.Label) → held_by (M.sizes m.old) (M.domain m.old) (M.front m.old) map ≡ Block root → IsMap (graph_of (M.sizes m.old) (M.front m.old)) root
+        → IsInPlace (M.sizes m.old).domains (graph_of (M.sizes m.old) (M.front m.old)) root → OthersRespect (M.sizes m.old) root (M.domain m.old) (M.front m.old) (M.front m.new)
+        → PutReturns (M.sizes m.old) (M.domain m.old) (M.front m.old) (M.front m.new) root (held_by (M.sizes m.old) (M.domain m.old) (M.front m.old) key) (held_by (M.sizes m.old) (M.domain m.old) (M.front m.old) item) result }
+{
+    m.stands();
+    let Reply::Block(label) = m.show(key) else {
+        return Reply::BadType;
+    };
+    let datum = m.show(item);
+    if is_empty(&datum) {
+        return Reply::BadType;
+    }
+    if !make_leaf(m, rt, key, item) {
+        clear(m, rt);
+        return Reply::Full;
+    }
+    let number = number_of(m.domains(), &label);
+    let _root = perform(m, rt, Command::Copy { dst: 8, src: map });
+    let mut at = read_again(m, rt, root_index(number));
+    let mut from = Search {
+        index: root_index(number),
+        rest: number / 512,
+        steps: 0,
+        mine: false,
+        other: None,
+    };
+    let mut level = 0u8;
+    let mut rooms = 6u8;
+    'tries: for _ in rt.forever() {
+        from = find(m, rt, key, &label, from, at);
+        level = level.saturating_add(from.steps);
+        match settle(m, rt, &label, from, level, rooms) {
+            Try::Over(answer) => return answer,
+            Try::Again { shows, rooms: left } => {
+                at = shows;
+                rooms = left;
+            }
+        }
+    }
+    unreachable!()
+}
