@@ -54,7 +54,7 @@ pub fn allows(
     replies: &[LineReply],
     gone: &[Gone],
 ) -> Result<bool, AllocError>
-    ensures { IfOk result (λ yes. IsTrue yes → ((z : Sizes) → MachineAnswers z lines.now replies.now)) }
+    ensures may { IfOk result (λ yes. IsTrue yes → ((z : Sizes) → MachineAnswers z lines.now replies.now)) }
 {
     if lines.len() != replies.len() {
         return Ok(false);

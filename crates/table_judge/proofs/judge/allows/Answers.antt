@@ -8,7 +8,7 @@ loop-i-preserved c =
     runs_more c.args.lines.now c.args.replies.now c.loop-i.i _ c.loop-i.machine c.step.new.machine c.line_at-line.result c.reply_at-reply.result refl (sym c.line_at-line.ensures) (sym c.reply_at-reply.ensures) made c.loop-i.invariant
 
 pub returns : goal.returns
-returns c = λ yes z.
+returns c =
     let few : length c.args.lines.now ≤ c.loop-i.i = search rules in
     let fewer : length c.args.replies.now ≤ c.loop-i.i = search rules in
-    runs_last c.args.lines.now c.args.replies.now c.loop-i.i c.loop-i.machine few fewer c.loop-i.invariant z
+    record { may = λ yes z. runs_last c.args.lines.now c.args.replies.now c.loop-i.i c.loop-i.machine few fewer c.loop-i.invariant z }
