@@ -1,0 +1,3 @@
+mod GoneLemmas
+mod EffectLemmas
+mod RunLemmas

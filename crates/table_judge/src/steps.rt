@@ -1,0 +1,185 @@
+//! What lines answer and leave, once what goes has gone.
+ghost use Rattle.std.specs.Prelude.{◌≡◌, IfOk, IsTrue};
+ghost use Rattle.table_machine.specs.Machine.{AllGone, Deletes, Effect, IsNew, Shows};
+ghost use Rattle.table_laws.specs.Structures.{datum_at};
+ghost use Rattle.table_text.specs.declared.line.TableLine.TheVariants.{Count, Del, Forget, FullMajor, Get, GetWeak, Key, Put, SetWeak};
+
+use crate::bindings::{are_held, datum_of};
+use crate::machine::Machine;
+use crate::places::{are_kept, is_held};
+use heap_model::graph::Value;
+use heap_model::label::Label;
+use std::alloc::{AllocError, Global};
+use table_machine::LineReply;
+use table_text::TableLine;
+
+// Whether the label is nowhere in the machine.
+fn is_new(machine: &Machine, label: Label) -> bool
+    ensures { IsTrue result → IsNew machine.now label }
+{
+    if is_held(&machine.registers, label) || is_held(&machine.slots, label) {
+        return false;
+    }
+    match datum_of(&machine.bindings, label) {
+        None => true,
+        Some(_) => false,
+    }
+}
+
+fn make_key(machine: &mut Machine, reg: u8, label: Label, reply: LineReply) -> bool
+    ensures { IsTrue result → Effect machine.old (Key reg) reply machine.new }
+{
+    if !matches!(reply, LineReply::Done) || !is_new(machine, label) {
+        return false;
+    }
+    machine.hold(reg, Some(label));
+    true
+}
+
+fn forget(machine: &mut Machine, reg: u8, reply: LineReply) -> bool
+    ensures { IsTrue result → Effect machine.old (Forget reg) reply machine.new }
+{
+    machine.hold(reg, None);
+    matches!(reply, LineReply::Done)
+}
+
+#[tactic(auto, using(crate::proofs::EffectLemmas::with_none, crate::proofs::EffectLemmas::with_some, crate::proofs::EffectLemmas::binds))]
+fn put(
+    machine: &mut Machine,
+    alloc: Global,
+    reg: u8,
+    value: i64,
+    reply: LineReply,
+) -> Result<bool, AllocError>
+    ensures { IfOk result (λ yes. IsTrue yes → Effect machine.old (Put reg value) reply machine.new) }
+{
+    let Some(key) = machine.key_in(reg) else {
+        return Ok(matches!(reply, LineReply::BadType));
+    };
+    machine.bind(alloc, key, value)?;
+    Ok(matches!(reply, LineReply::Done))
+}
+
+// Whether a look-up answers so.
+fn shows(found: Option<Value>, reply: LineReply) -> bool
+    ensures { IsTrue result → Shows found reply }
+{
+    match (found, reply) {
+        (Some(Value::Int(value)), LineReply::Number(told)) => value == told,
+        (None, LineReply::Empty) => true,
+        _ => false,
+    }
+}
+
+#[tactic(auto, using(crate::proofs::EffectLemmas::with_none, crate::proofs::EffectLemmas::with_some))]
+fn get(machine: &Machine, reg: u8, reply: LineReply) -> bool
+    ensures { IsTrue result → Effect machine.now (Get reg) reply machine.now }
+{
+    match machine.key_in(reg) {
+        Some(key) => shows(datum_of(&machine.bindings, key), reply),
+        None => matches!(reply, LineReply::BadType),
+    }
+}
+
+// Takes out the binding of a key, if there is one.
+fn delete(
+    machine: &mut Machine,
+    alloc: Global,
+    key: Label,
+    reply: LineReply,
+) -> Result<bool, AllocError>
+    ensures { IfOk result (λ yes. IsTrue yes → Deletes key machine.old reply machine.new (datum_at machine.old.bindings key)) }
+{
+    match datum_of(&machine.bindings, key) {
+        None => Ok(matches!(reply, LineReply::Empty)),
+        Some(_) => {
+            machine.unbind(alloc, key)?;
+            Ok(matches!(reply, LineReply::Done))
+        }
+    }
+}
+
+#[tactic(auto, using(crate::proofs::EffectLemmas::with_none, crate::proofs::EffectLemmas::with_some))]
+fn del(machine: &mut Machine, alloc: Global, reg: u8, reply: LineReply) -> Result<bool, AllocError>
+    ensures { IfOk result (λ yes. IsTrue yes → Effect machine.old (Del reg) reply machine.new) }
+{
+    match machine.key_in(reg) {
+        Some(key) => delete(machine, alloc, key, reply),
+        None => Ok(matches!(reply, LineReply::BadType)),
+    }
+}
+
+#[tactic(auto, using(crate::proofs::EffectLemmas::with_none, crate::proofs::EffectLemmas::with_some))]
+fn set_weak(machine: &mut Machine, slot: u8, reg: u8, reply: LineReply) -> bool
+    ensures { IsTrue result → Effect machine.old (SetWeak slot reg) reply machine.new }
+{
+    let Some(key) = machine.key_in(reg) else {
+        return matches!(reply, LineReply::BadType);
+    };
+    machine.set_slot(slot, key);
+    matches!(reply, LineReply::Done)
+}
+
+fn get_weak(machine: &mut Machine, dst: u8, slot: u8, reply: LineReply) -> bool
+    ensures { IsTrue result → Effect machine.old (GetWeak dst slot) reply machine.new }
+{
+    let Some(held) = machine.slot(slot) else {
+        return false;
+    };
+    machine.hold(dst, held);
+    match held {
+        Some(_) => matches!(reply, LineReply::Yes),
+        None => matches!(reply, LineReply::Empty),
+    }
+}
+
+fn count(machine: &Machine, reply: LineReply) -> bool
+    ensures { IsTrue result → Effect machine.now Count reply machine.now }
+{
+    match reply {
+        LineReply::Counted(number) => number as usize == machine.bindings.len(),
+        _ => false,
+    }
+}
+
+// Whether registers hold all keys that are anywhere.
+fn is_all_held(machine: &Machine) -> bool
+    ensures { IsTrue result → AllGone machine.now }
+{
+    if !are_held(&machine.registers, &machine.bindings) {
+        return false;
+    }
+    are_kept(&machine.registers, &machine.slots)
+}
+
+fn full_major(machine: &Machine, reply: LineReply) -> bool
+    ensures { IsTrue result → Effect machine.now FullMajor reply machine.now }
+{
+    match reply {
+        LineReply::Done => is_all_held(machine),
+        _ => false,
+    }
+}
+
+/// Makes a line, and answers whether it may be answered so. A key that it makes has this label.
+pub(crate) fn make_line(
+    machine: &mut Machine,
+    alloc: Global,
+    line: TableLine,
+    label: Label,
+    reply: LineReply,
+) -> Result<bool, AllocError>
+    ensures { IfOk result (λ yes. IsTrue yes → Effect machine.old line reply machine.new) }
+{
+    match line {
+        TableLine::Key { reg } => Ok(make_key(machine, reg, label, reply)),
+        TableLine::Forget { reg } => Ok(forget(machine, reg, reply)),
+        TableLine::Put { reg, value } => put(machine, alloc, reg, value, reply),
+        TableLine::Get { reg } => Ok(get(machine, reg, reply)),
+        TableLine::Del { reg } => del(machine, alloc, reg, reply),
+        TableLine::SetWeak { slot, reg } => Ok(set_weak(machine, slot, reg, reply)),
+        TableLine::GetWeak { dst, slot } => Ok(get_weak(machine, dst, slot, reply)),
+        TableLine::Count => Ok(count(machine, reply)),
+        TableLine::FullMajor => Ok(full_major(machine, reply)),
+    }
+}
