@@ -177,6 +177,7 @@ fn settle<M: Machine, R: Wait>(
     ensures fewer { M.labels_left m.new ≤ M.labels_left m.old }
     ensures room { M.ephes_room m.old ≤ M.ephes_room m.new }
     ensures refused { refusals_by (M.domain m.old) (M.front m.new) ≤ refusals_by (M.domain m.old) (M.front m.old) + refused_by result }
+    ensures given { refusals_by (M.domain m.old) (M.front m.old) ≤ refusals_by (M.domain m.old) (M.front m.new) }
     ensures written { writings_by (M.domain m.old) (M.front m.new) ≡ writings_by (M.domain m.old) (M.front m.old) }
     ensures grows { IsPrefix (M.front m.old) (M.front m.new) }
     ensures settled { Settles (M.sizes m.old) (M.domain m.old) (M.front m.old) (M.front m.new) label.now from.index from.rest level from.other result }
@@ -223,6 +224,7 @@ pub fn map_put<M: Machine, R: Wait>(m: &mut M, rt: &R, map: u8, key: u8, item: u
     ensures labels { (M.labels_left m.new ≤ M.labels_left m.old) × (M.labels_left m.old ≤ M.labels_left m.new + 7) }
     ensures room { M.ephes_room m.old ≤ M.ephes_room m.new + 1 }
     ensures refused { refusals_by (M.domain m.old) (M.front m.new) ≤ refusals_by (M.domain m.old) (M.front m.old) + full_of result }
+    ensures given { refusals_by (M.domain m.old) (M.front m.old) ≤ refusals_by (M.domain m.old) (M.front m.new) }
     ensures written { writings_by (M.domain m.old) (M.front m.new) ≡ writings_by (M.domain m.old) (M.front m.old) }
     ensures answer { (root : labels.Label) → held_by (M.sizes m.old) (M.domain m.old) (M.front m.old) map ≡ Block root → IsMap (graph_of (M.sizes m.old) (M.front m.old)) root
         → IsInPlace (M.sizes m.old).domains (graph_of (M.sizes m.old) (M.front m.old)) root → OthersRespect (M.sizes m.old) root (M.domain m.old) (M.front m.old) (M.front m.new)
