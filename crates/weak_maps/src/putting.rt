@@ -28,8 +28,13 @@ use std::sync::Wait;
 pub enum Try {
     /// The call is over, with this answer.
     Over(Reply),
-    /// The call goes on from the same field, which shows this. So many blocks more may be made.
-    Again { shows: Reply, rooms: u8 },
+    /// The call goes on from the same field.
+    Again {
+        /// What the field holds now.
+        shows: Reply,
+        /// How many blocks more may be made.
+        rooms: u8,
+    },
 }
 
 // Makes a leaf of the key in a register, with the datum in another, into register 10. Tells whether the allocation wasn't
@@ -209,12 +214,13 @@ fn settle<M: Machine, R: Wait>(
     }
 }
 
-/// Binds the key in a register to what another holds, in the map in a third. Answers `type` exactly where the key's register
-/// holds no label or the other nothing, and then changes nothing; `full` where an allocation was refused, or where six
-/// blocks that were made for room lost their field to other domains: then no binding was changed; and else that it is done:
-/// an entry of the call bound the key, and changed no other key. Registers are below 8. Registers 8 to 11 hold nothing
-/// afterwards, but for `type`. Other domains may use the map meanwhile, by its calls. Where one of them wins a field, the call
-/// tries again. At most a leaf and six blocks are made.
+/// Binds the key in a register to what another holds, in the map in a third, whose leaves each stand on their key's way.
+/// Answers `type` exactly where the key's register holds no label or the other nothing, and then changes nothing; `full` where
+/// an allocation was refused, or where six blocks were made for room and another key's leaf is in the way still, as it may be
+/// where other domains won fields: then no binding was changed; and else that it is done: an entry of the call bound the key,
+/// and changed no other key. Registers are below 8. Registers 8 to 11 hold nothing afterwards, but for `type`. Other domains
+/// may use the map meanwhile, by its calls. Where one of them wins a field, the call tries again. It makes a leaf and at most
+/// six blocks.
 pub fn map_put<M: Machine, R: Wait>(m: &mut M, rt: &R, map: u8, key: u8, item: u8) -> Reply
     requires few { (map < 8) × (key < 8) × (item < 8) }
     requires labels { 7 ≤ M.labels_left m.old }
