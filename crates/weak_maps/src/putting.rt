@@ -28,8 +28,13 @@ use std::sync::Wait;
 pub enum Try {
     /// The call is over, with this answer.
     Over(Reply),
-    /// The call goes on from the same field, which shows this. So many blocks more may be made.
-    Again { shows: Reply, rooms: u8 },
+    /// The call goes on from the same field.
+    Again {
+        /// What the field holds now.
+        shows: Reply,
+        /// How many blocks more may be made.
+        rooms: u8,
+    },
 }
 
 // Makes a leaf of the key in a register, with the datum in another, into register 10. Tells whether the allocation wasn't
@@ -177,6 +182,7 @@ fn settle<M: Machine, R: Wait>(
     ensures fewer { M.labels_left m.new ≤ M.labels_left m.old }
     ensures room { M.ephes_room m.old ≤ M.ephes_room m.new }
     ensures refused { refusals_by (M.domain m.old) (M.front m.new) ≤ refusals_by (M.domain m.old) (M.front m.old) + refused_by result }
+    ensures given { refusals_by (M.domain m.old) (M.front m.old) ≤ refusals_by (M.domain m.old) (M.front m.new) }
     ensures written { writings_by (M.domain m.old) (M.front m.new) ≡ writings_by (M.domain m.old) (M.front m.old) }
     ensures grows { IsPrefix (M.front m.old) (M.front m.new) }
     ensures settled { Settles (M.sizes m.old) (M.domain m.old) (M.front m.old) (M.front m.new) label.now from.index from.rest level from.other result }
@@ -208,12 +214,13 @@ fn settle<M: Machine, R: Wait>(
     }
 }
 
-/// Binds the key in a register to what another holds, in the map in a third. Answers `type` exactly where the key's register
-/// holds no label or the other nothing, and then changes nothing; `full` where an allocation was refused, or where six
-/// blocks that were made for room lost their field to other domains: then no binding was changed; and else that it is done:
-/// an entry of the call bound the key, and changed no other key. Registers are below 8. Registers 8 to 11 hold nothing
-/// afterwards, but for `type`. Other domains may use the map meanwhile, by its calls. Where one of them wins a field, the call
-/// tries again. At most a leaf and six blocks are made.
+/// Binds the key in a register to what another holds, in the map in a third, whose leaves each stand on their key's way.
+/// Answers `type` exactly where the key's register holds no label or the other nothing, and then changes nothing; `full` where
+/// an allocation was refused, or where six blocks were made for room and another key's leaf is in the way still, as it may be
+/// where other domains won fields: then no binding was changed; and else that it is done: an entry of the call bound the key,
+/// and changed no other key. Registers are below 8. Registers 8 to 11 hold nothing afterwards, but for `type`. Other domains
+/// may use the map meanwhile, by its calls. Where one of them wins a field, the call tries again. It makes a leaf and at most
+/// six blocks.
 pub fn map_put<M: Machine, R: Wait>(m: &mut M, rt: &R, map: u8, key: u8, item: u8) -> Reply
     requires few { (map < 8) × (key < 8) × (item < 8) }
     requires labels { 7 ≤ M.labels_left m.old }
@@ -223,6 +230,7 @@ pub fn map_put<M: Machine, R: Wait>(m: &mut M, rt: &R, map: u8, key: u8, item: u
     ensures labels { (M.labels_left m.new ≤ M.labels_left m.old) × (M.labels_left m.old ≤ M.labels_left m.new + 7) }
     ensures room { M.ephes_room m.old ≤ M.ephes_room m.new + 1 }
     ensures refused { refusals_by (M.domain m.old) (M.front m.new) ≤ refusals_by (M.domain m.old) (M.front m.old) + full_of result }
+    ensures given { refusals_by (M.domain m.old) (M.front m.old) ≤ refusals_by (M.domain m.old) (M.front m.new) }
     ensures written { writings_by (M.domain m.old) (M.front m.new) ≡ writings_by (M.domain m.old) (M.front m.old) }
     ensures answer { (root : labels.Label) → held_by (M.sizes m.old) (M.domain m.old) (M.front m.old) map ≡ Block root → IsMap (graph_of (M.sizes m.old) (M.front m.old)) root
         → IsInPlace (M.sizes m.old).domains (graph_of (M.sizes m.old) (M.front m.old)) root → OthersRespect (M.sizes m.old) root (M.domain m.old) (M.front m.old) (M.front m.new)

@@ -91,6 +91,7 @@ tries-init g c =
       fewer = omega (arith, l0, l1, l2, l3, l4);
       room = omega (arith, r0, r1, r2, r3, r4);
       refused = omega (arith, h0, h1, h2, h3, k2);
+      given = omega (arith, h0, h1, h2, h3, k2);
       written = omega (arith, w0, w1, w2, w3);
       walk = λ root held map placed respects.
           subst (λ (w : ℕ × ℕ). Putting z d old new root k v w.0 (w.1 / root_width) c.read_again-at.result 0) (λ i. ((sym (c.root_index-2.ensures ∙ ap (λ (n : ℕ). n % root_width) same)) i, sym same i))
@@ -149,6 +150,8 @@ tries-preserved g c =
     let r1 = c.find-from.ensures.room in
     let r2 = c.settle.ensures.room in
     let f0 = c.tries.invariant.refused in
+    let j0 = c.tries.invariant.given in
+    let j2 = subst (λ (e : ℕ). refusals_by e n0 ≤ refusals_by e new) o1 c.settle.ensures.given in
     let f1 = subst (λ (e : ℕ). refusals_by e n0 ≡ refusals_by e now) o0 c.find-from.ensures.given in
     let f2 = subst (λ (w : ℕ × ℕ). refusals_by w.0 new ≤ refusals_by w.0 n0 + w.1) (λ i. (o1 i, (ap refused_by c.in-Again.is) i)) c.settle.ensures.refused in
     let w0 = c.tries.invariant.written in
@@ -160,6 +163,7 @@ tries-preserved g c =
       fewer = omega (arith, m0, l1, m2);
       room = omega (arith, r0, r1, r2);
       refused = omega (arith, f0, f1, f2);
+      given = omega (arith, j0, f1, j2);
       written = omega (arith, w0, w1, w2);
       walk = λ root held map placed respects.
           put_settles z c.stands.ensures.limits root d old k v c.args.key c.requires.few.1 key now n0 new _ _ _ _ c.tries.level c.find-from.result.steps c.saturating_add-level.result c.tries.at _ (Again c.in-Again.shows c.in-Again.left) c.saturating_add-level.ensures (c.tries.invariant.walk root held map placed) finds own c.find-from.ensures.grows settles c.settle.ensures.grows map placed respects;
