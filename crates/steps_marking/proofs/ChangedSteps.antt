@@ -205,7 +205,7 @@ module _ (k : Config) (s : Words) (r : Rule k s) (id : ℕ) (hist : List Entry) 
 
     -- who has arrived in a phase of marking may have swept
     sweeps_on : (z : DomainView) → SweepsIn r.account.tenancy c z → SweepsIn r.account.tenancy c' z
-    sweeps_on z u = record { listed = u.listed; places = u.places; anew = λ e. absurd (let clash : Mark ≡ Lasts = sym kind_is ∙ e in cc); reaps = u.reaps }
+    sweeps_on z u = record { listed = u.listed; places = u.places; anew = λ e. absurd (let clash : Mark ≡ Lasts = sym kind_is ∙ e in cc); reaps = u.reaps; below = u.below }
 
     pub forget_rule : Rule k record { words = ws; homes = s.homes; views = set s.views id (one k hist (with_share x forgets)) }
     forget_rule = shifts k s r id hist x at forgets anew ws record {
@@ -217,7 +217,7 @@ module _ (k : Config) (s : Words) (r : Rule k s) (id : ℕ) (hist : List Entry) 
       cycle = cycle;
       sharing = own_sharing;
       sharings = others_sharing;
-      sweeps = let u = sweeps_on x good.sweeps in record { listed = u.listed; places = u.places; anew = u.anew; reaps = u.reaps };
+      sweeps = let u = sweeps_on x good.sweeps in record { listed = u.listed; places = u.places; anew = u.anew; reaps = u.reaps; below = u.below };
       others_sweep = λ z _ h. sweeps_on z h.sweeps;
     }
 
