@@ -26,7 +26,8 @@ use Rattle.steps_pauses.specs.Pauses.{kind_in, arrived_view, entry_of, progress_
 use Rattle.steps_promote.specs.Promotion.{reset_view}
 use Rattle.safepoint.specs.Looks.{PassedBarrier}
 use Rattle.heap_rule.specs.declared.phase.Progress.{Progress}
-use Rattle.pause_phases.specs.Sharing.{SharesIn, with_shared}
+use Rattle.pause_phases.specs.Sharing.{SharesIn, gave_back, with_shared}
+use Rattle.sweeper.specs.Emptiness.{sunk}
 use Rattle.pause_phases.specs.Leading.{LeadsOn}
 use Rattle.pause_phases.specs.declared.decider.Decider.{Decider}
 use Rattle.heap_rule.specs.declared.view.Finalisers.{Finalisers}
@@ -232,19 +233,19 @@ pub answer_knows : (k : Config) (b y : DomainView) (live : Bool) (blocks : ℕ) 
 answer_knows k b y live blocks o p a knows = answered_knows k a.0 y live blocks o p a.2 (knows_on b a.0 p (ap (λ (v : DomainView). v.own.number) a.1.view) (ap (λ (v : DomainView). v.seen.share.progress) a.1.view) knows)
 
 -- who comes to a phase in which a collection is answered, and leaves it with this front
-answer_past : (k : Config) (x begun y : DomainView) (front : List Entry) → ComesToAnswer k x begun → y ≡ arrived_view (with_front begun front) → HasLeft k Answer y
+answer_past : (k : Config) (x begun y : DomainView) (front : List Entry) → ComesToAnswer k x begun → y ≡ gave_back (with_front begun front) y → HasLeft k Answer y
 answer_past k x begun y front c is =
     let arrivals : y.own.arrivals ≡ x.own.arrivals + 1 = ap (λ (v : DomainView). v.own.arrivals) is ∙ ap (λ (v : DomainView). v.own.arrivals + 1) c.passed.view in record {
-      past = λ _. later_past k Answer begun y (keeps_as begun y _ is refl refl refl refl (same_held begun)) (arrived_void y (with_front begun front) is) (λ e. cc) (λ e. cc) (λ e. cc) (λ e. cc) c.ready;
+      past = λ _. later_past k Answer begun y (keeps_as begun y _ is refl refl refl refl (same_held begun)) (arrived_void y (sunk (with_front begun front) y) is) (λ e. cc) (λ e. cc) (λ e. cc) (λ e. cc) c.ready;
       ready = λ again _. absurd (not_both y.own.arrivals again (subst IsOdd (sym arrivals) (even_next x.own.arrivals c.even)));
     }
 
 -- its run stands between two turns then
 pub answer_between : (h : SharedHeap) (x begun : DomainView) (new : Token) (front : List Entry) (asked : Option ℕ) (collected : Bool) (progress : Progress) → IsIn new h → HasNothingPending x → ComesToAnswer h.config x begun
-    → new.view ≡ arrived_view (with_front begun front) → (collected ≡ true → IsFresh h.config new.view) → KnowsProgress progress new.view → IsBetween (Some Answer) asked collected progress new
+    → new.view ≡ gave_back (with_front begun front) new.view → (collected ≡ true → IsFresh h.config new.view) → KnowsProgress progress new.view → IsBetween (Some Answer) asked collected progress new
 answer_between h x begun new front asked collected progress i quiet c is fresh knows = record {
   stands = ap (λ (v : DomainView). v.seen.stage) is ∙ ap Gone (ap kind_in c.stage);
-  quiet = arrived_quiet (with_front begun front) new.view is (looked_quiet h.config x begun c.passed quiet).unprepared;
+  quiet = arrived_quiet (sunk (with_front begun front) new.view) new.view is (looked_quiet h.config x begun c.passed quiet).unprepared;
   even = λ none. cc;
   remembers = λ none. cc;
   emptied = λ none. cc;
@@ -258,7 +259,7 @@ gives_moves h old new a i g =
     let passed = g.comes.passed in
     let number : g.begun.own.number ≡ old.view.own.number = ap (λ (z : DomainView). z.own.number) passed.view in
     let front : List Entry = new.view.seen.front in
-    view_moves h old new (arrived_view (with_front g.begun front)) a i g.view number (ap (λ (z : DomainView). z.own.serial) passed.view) (ap (λ (z : DomainView). z.own.ephemerons) passed.view) (ap (λ (z : DomainView). z.own.finalisers) passed.view) (ap (λ (z : DomainView). z.seen.made) passed.view) (ap (λ (z : DomainView). z.seen.hunt) passed.view)
+    view_moves h old new (gave_back (with_front g.begun front) new.view) a i g.view number (ap (λ (z : DomainView). z.own.serial) passed.view) (ap (λ (z : DomainView). z.own.ephemerons) passed.view) (ap (λ (z : DomainView). z.own.finalisers) passed.view) (ap (λ (z : DomainView). z.seen.made) passed.view) (ap (λ (z : DomainView). z.seen.hunt) passed.view)
     (front_trans old.view.own.number front g.begun.seen.front old.view.seen.front (subst (λ (d : ℕ). IsFrontOf d front g.begun.seen.front) number g.seen) passed.seen)
 
 pub gives_between : (h : SharedHeap) (old new : Token) (asked : Option ℕ) (collected : Bool) (progress : Progress) → IsIn new h → HasNothingPending old.view → GivesBack h.config old.view new.view → KnowsProgress progress new.view → IsBetween (Some Answer) asked collected progress new

@@ -62,7 +62,7 @@ fn visit_pool(
     }
 }
 
-// The same for all pools, and then the store of the changed word, where the domain has marked a block.
+// The same for all pools below the top, and then the store of the changed word, where the domain has marked a block.
 fn walk_pools(heap: &Heap, dom: &mut Domain, trail: &mut Trail, waiting: &mut Waiting)
     requires here { IsIn dom.old heap.now }
     requires stage { dom.old.view.seen.stage ≡ In Mark }
@@ -70,14 +70,14 @@ fn walk_pools(heap: &Heap, dom: &mut Domain, trail: &mut Trail, waiting: &mut Wa
     requires idle { dom.old.view.seen.share.scan ≡ Idle }
     requires told { dom.old.view.seen.share.owes ≡ false }
     ensures here { IsIn dom.new heap.now }
-    ensures walked { AllWalked heap.now.config dom.old.view dom.new.view }
+    ensures walked { AllWalked dom.old.view dom.new.view }
 {
     trail.clear();
     waiting.start(0);
-    let pools = heap.config().pools;
+    let top = dom.swept().top;
     let colours = colours_now(heap, dom);
     let mut darkened = false;
-    for pool in 0..pools {
+    for pool in 0..top {
         darkened |= visit_pool(heap, dom, pool, colours, trail, waiting);
     }
     if darkened {
@@ -105,7 +105,7 @@ pub fn mark_round(heap: &Heap, dom: &mut Domain, hints: &mut Hints)
     requires idle { dom.old.view.seen.share.scan ≡ Idle }
     requires told { dom.old.view.seen.share.owes ≡ false }
     ensures here { IsIn dom.new heap.now }
-    ensures walked { AllWalked heap.now.config dom.old.view dom.new.view }
+    ensures walked { AllWalked dom.old.view dom.new.view }
     ensures notes { NotesOn hints.old hints.new }
     ensures takes { TakesOwn hints.old hints.new }
 {

@@ -287,10 +287,10 @@ module _ (k : Config) (who : Decider) (x : DomainView) where
         (changed_may y.seen.share found Rounds Clean knows none (λ e. cc) (λ _. same_cut ∙ second) (inr refl) (λ e. cc) (λ e. cc) (λ e. cc))
 
   -- the list of free pools, where it was seen to and nothing else done since
-  list_as : (y z : DomainView) → z.seen.listing ≡ y.seen.listing → z.seen.stage ≡ y.seen.stage → z.own.number ≡ y.own.number → NamesAll k y → NamesAll k z
-  list_as y z same stage number = ⊎_elim
+  list_as : (y z : DomainView) → z.seen.listing ≡ y.seen.listing → NamesAll k y → NamesAll k z
+  list_as y z same = ⊎_elim
       (λ (l : HasList k y). inl (record { owners = l.owners; all = l.all; listing = same ∙ l.listing }))
-      (λ (l : ListStays k y). inr (record { leads = record { first = number ∙ l.leads.first; stage = stage ∙ l.leads.stage }; list = l.list; listing = same ∙ l.listing; some = l.some; at = l.at; cursor_is = l.cursor_is; low = l.low }))
+      (λ (l : ListStays k y). inr (record { list = l.list; listing = same ∙ l.listing; some = l.some; at = l.at; cursor_is = l.cursor_is; low = l.low }))
 
   -- what comes after Sweep, by whether garbage was left of an earlier pause, whether a cycle begins, and whether the one that ended began in this pause
   abbrev after_sweep : Bool → Bool → Bool → Kind
@@ -327,7 +327,7 @@ module _ (k : Config) (who : Decider) (x : DomainView) where
             findings = wishes;
             chosen = chosen;
             may = subst (λ (s : Share). MayFollow s Reset next) (sym share_is) (subst (MayFollow share Reset) (sym chosen) (reset_may share p.armed (finishes who found) b p.unswept knows_all));
-            list = λ _. list_as y u listed (ap (λ (w : DomainView). w.seen.stage) view ∙ sym (ap (λ (w : DomainView). w.seen.stage) lists)) (ap (λ (w : DomainView). w.own.number) view ∙ sym (ap (λ (w : DomainView). w.own.number) lists)) list;
+            list = λ _. list_as y u listed list;
             set_back = λ e. absurd (reset_copies p.armed (finishes who found) b p.unswept (sym chosen ∙ e));
             progress_is = ap (λ (s : Share). s.progress) share_is ∙ progress;
             view = opened_as x u two_notes _ y.seen.listing share view in_order;
@@ -348,7 +348,7 @@ module _ (k : Config) (who : Decider) (x : DomainView) where
       findings = wishes;
       chosen = chosen;
       may = subst (λ (s : Share). MayFollow s Sweep next) (sym (ap (λ (w : DomainView). w.seen.share) is)) may;
-      list = λ _. list_as y z (ap (λ (w : DomainView). w.seen.listing) is) (ap (λ (w : DomainView). w.seen.stage) told) (ap (λ (w : DomainView). w.own.number) told) list;
+      list = λ _. list_as y z (ap (λ (w : DomainView). w.seen.listing) is) list;
       set_back = λ e. absurd (copies e);
       progress_is = ap (λ (w : DomainView). w.seen.share.progress) is;
       view = opened_as x z two_notes _ y.seen.listing x.seen.share is (in_order ∙ ap (λ (b : Bool). x.seen.notes ++ (if b then Listed free ∷ Want found ∷ [] else [])) (sym owed));
@@ -460,17 +460,17 @@ module _ (k : Config) (who : Decider) (x : DomainView) where
         (λ e. cc)
 
     -- or the domains run, and free it as they do
-    pub lasts_run : (z : DomainView) (free : ℕ) → completes who found ≡ false → ListsFree free (knowing_armed y3 false) z → HasList k z → Opens k who x z Lasts Run
+    pub lasts_run : (z : DomainView) (free : ℕ) → completes who found ≡ false → ListsFree free (knowing_armed y3 false) z → NamesAll k z → Opens k who x z Lasts Run
     lasts_run z free part lists list =
         let share : Share = record turned_share { armed = Some false } in
         let view : z ≡ opened x ((x.seen.notes ++ Want found ∷ []) ++ Listed free ∷ []) z.seen.listing share = lists ∙ ap (λ (w : DomainView). noted (with_listing (knowing_armed w false) z.seen.listing) (Listed free)) turned_is in
         decides Lasts Run (wished found free) z share (lasts_decides Run free (inr refl) (ap (λ (b : Bool). if b then Sweep else Run) (sym part)) (λ e. cc))
         (view ∙ ap (λ (n : List Note). opened x n z.seen.listing share) (append_assoc x.seen.notes (Want found ∷ []) (Listed free ∷ []))) refl
         (runs_may share Lasts record { rotated = λ _. refl; on = λ e. cc; over = λ _. refl; freed = λ e. cc })
-        (λ _. inl list)
+        (λ _. list)
 
   -- before the domains run the armed word and the list are written
-  module _ (y z : DomainView) (armed : Bool) (free : ℕ) (lists : ListsFree free (knowing_armed y armed) z) (list : HasList k z) where
+  module _ (y z : DomainView) (armed : Bool) (free : ℕ) (lists : ListsFree free (knowing_armed y armed) z) (list : NamesAll k z) where
     abbrev armed_share : Share
     armed_share = record x.seen.share { armed = Some armed }
 
@@ -481,10 +481,10 @@ module _ (k : Config) (who : Decider) (x : DomainView) where
     roots_run found told part is = decides Roots Run (wished found free) z armed_share record { follows = inr refl; chosen = ap (λ (b : Bool). if b then Mark else Run) (sym part); copies = λ e. cc }
         (armed_view (x.seen.notes ++ Want found ∷ []) told ∙ ap (λ (n : List Note). opened x n z.seen.listing armed_share) (append_assoc x.seen.notes (Want found ∷ []) (Listed free ∷ []))) refl
         (runs_may armed_share Roots record { rotated = λ e. cc; on = λ _. ap Some is; over = ⊎_elim (λ (e : Roots ≡ Lasts). cc) (λ (e : Roots ≡ Answer). cc); freed = λ e. cc })
-        (λ _. inl list)
+        (λ _. list)
 
     pub answer_runs : y ≡ x → armed ≡ false → Opens k who x z Answer Run
     answer_runs told is = decides Answer Run (wished 0 free) z armed_share record { follows = refl; chosen = refl; copies = λ e. cc }
         (armed_view x.seen.notes told) refl
         (runs_may armed_share Answer record { rotated = λ e. cc; on = λ e. cc; over = λ _. ap Some is; freed = λ e. cc })
-        (λ _. inl list)
+        (λ _. list)

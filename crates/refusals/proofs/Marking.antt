@@ -30,9 +30,9 @@ no_queued_block_is_left x y i a m holds left = left (m.queued i a holds)
 pub no_newly_queued_block_is_left : (x y : DomainView) (i a : ℕ) → AllQueueRooted x y → held_at y.own.finalisers (Queue i) ≡ Some a → (IsQueueRoot y i → ⊥) → ⊥
 no_newly_queued_block_is_left x y i a m holds left = left (m.queued i a holds)
 
--- a round of marking goes to the last pool, and leaves no store of the changed word owed
-pub a_round_pays_the_changed_word : (k : Config) (x y : DomainView) → AllWalked k x y → y.seen.share.owes ≡ true → ⊥
-a_round_pays_the_changed_word k x y w owes = let e : true ≡ false = sym owes ∙ w.told in cc
+-- a round of marking goes to the last own pool, and leaves no store of the changed word owed
+pub a_round_pays_the_changed_word : (x y : DomainView) → AllWalked x y → y.seen.share.owes ≡ true → ⊥
+a_round_pays_the_changed_word x y w owes = let e : true ≡ false = sym owes ∙ w.told in cc
 
 -- no head says that its block is scanned while a field of it is left
 pub no_field_is_left_unscanned : (x : DomainView) (at new block done size word : ℕ) (site : Site) → ScannedMay x at new site → x.seen.share.scan ≡ Reads block done size word → done < size → ⊥
@@ -90,6 +90,6 @@ no_slice_goes_further k most count x y s more = let few = s.few in omega (arith,
 pub an_own_sweep_leaves_no_pool : (k : Config) (x y : DomainView) → SweptAll k x y → y.own.swept.spot.pool < k.pools → ⊥
 an_own_sweep_leaves_no_pool k x y s left = let done = s.done in omega (arith, done, left)
 
--- what lives in the last pool is counted too
-pub counting_ends_behind_the_last_pool : (k : Config) (x y : DomainView) → CountedLive k x y → y.seen.share.counted_to.pool < k.pools → ⊥
-counting_ends_behind_the_last_pool k x y c left = let whole = c.whole in omega (arith, whole, left)
+-- what lives in the last own pool is counted too
+pub counting_ends_behind_the_last_pool : (x y : DomainView) → CountedLive x y → y.seen.share.counted_to.pool < x.own.swept.top → ⊥
+counting_ends_behind_the_last_pool x y c left = let whole = c.whole in omega (arith, whole, left)
