@@ -402,7 +402,7 @@ module _ (k : Config) (limits : IsWithinLimits (sizes_in k)) (words : List ℕ) 
           took_back = λ kind leads last. absurd (run_leads kind leads);
           set_back = λ h. absurd (run_leads Run h.0);
           sharing = record {
-            telling = record { owes = λ _. refl; seen = λ _. refl; fresh = λ e. cc; forgotten = λ e. cc; colours = λ c e. cc };
+            telling = record { owes = λ _. record { owes = refl; follows = λ a is. is }; seen = λ _. refl; fresh = λ e. cc; forgotten = λ e. cc; colours = λ c e. cc };
             leading = record { changed = λ v e. cc; found_blocks = λ v e. cc; found_words = λ v e. cc; rotated = λ _ e. refl; turned = λ e. cc; pass = λ _. refl; whole = λ _. refl; armed = λ b e. cc; unswept = λ _. refl; under_way = λ _ _. refl };
             knows = inl refl;
             adds = record { blocks = λ e _. refl; words = λ e _. refl; own = λ e _ f. cc };

@@ -196,6 +196,7 @@ pub record ArrivedAs (p : Pause) (w : Shares) (d : ℕ) : Type 0 where
 pub record IsStart (w : Shares) (d : ℕ) : Type 0 where
   pub waits : w.arrived d ≡ false
   pub paid : w.owes d ≡ false
+  pub settled : w.follows d ≡ (λ a. false)
   pub blind : w.seen d ≡ (λ a. false)
 
 -- the pauses tell which kind's facts hold, and who has arrived: in an even phase those of its kind, in an odd one those of the kind before it
@@ -266,9 +267,14 @@ seen_by (a ∷ rest) b = b == a || seen_by rest b
 abbrev pub IsIdle : Share → Type 0
 IsIdle share = share ≡ record fresh_share { colours = share.colours; changed = share.changed; blocks = share.blocks; words = share.words; rotated = share.rotated; progress = share.progress; armed = share.armed; known = share.known; weak = share.weak; reaping = share.reaping; swept = share.swept }
 
+-- what a domain's view tells of the blocks that it has darkened: whether it owes a store of the changed word, and that those which it follows are on its account
+pub record OwesAs (due : Bool) (followed : ℕ → Bool) (told : Bool) (account : List ℕ) : Type 0 where
+  pub owes : due ≡ told
+  pub follows : (a : ℕ) → IsTrue (followed a) → IsTrue (seen_by account a)
+
 -- Cycle, of one domain: until it arrives its view tells its share, and then it has forgotten it. Domain 0 alone knows of the colours in an odd phase
 pub record Telling (means : Colours) (w : Shares) (d : ℕ) (share : Share) : Type 0 where
-  pub owes : w.arrived d ≡ false → w.owes d ≡ share.owes
+  pub owes : w.arrived d ≡ false → OwesAs (w.owes d) (w.follows d) share.owes share.account
   pub seen : w.arrived d ≡ false → w.seen d ≡ seen_by share.places_seen
   pub fresh : w.arrived d ≡ true → IsIdle share
   pub forgotten : w.arrived d ≡ true → d ≢ 0 → share.colours ≡ None

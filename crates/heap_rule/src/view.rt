@@ -357,6 +357,8 @@ pub struct Share {
     pub rotated: bool,
     /// Whether it has still to store that it darkened a block.
     pub owes: bool,
+    /// The blocks that it has darkened in Mark, and doesn't know to be scanned since.
+    pub account: LinkedList<u32>,
     /// The own places at which it has found what the phase asks.
     pub places_seen: LinkedList<u32>,
     /// The head that it found last.
