@@ -1,13 +1,13 @@
 -- The marking ends: each phase of it that asks for another one has marked a block more.
-use Rattle.std.proofs.Common.{◌≡◌, ℕ, ◌+◌, ◌*◌, ◌<◌, ◌≤◌, Bool, true, false, cond, ◌||◌, ◌==◌, ◌⊎◌, IsTrue, List, [], ◌∷◌, length, inl, inr, ⊎_elim, refl, sym, ap, ◌∙◌, subst, arith}
-use Rattle.std.proofs.lemmas.Bool.{cases_eq, false≢true}
+use Rattle.std.proofs.Common.{◌≡◌, ℕ, ◌+◌, ◌*◌, ◌<◌, ◌≤◌, Bool, true, false, cond, ◌==◌, ◌⊎◌, IsTrue, List, [], ◌∷◌, length, inl, inr, ⊎_elim, refl, sym, ap, ◌∙◌, subst, arith}
+use Rattle.std.proofs.lemmas.Bool.{false≢true}
 use Rattle.heap_model.specs.declared.label.Label.{Label}
 use Rattle.heap_model.specs.Graph.{has_label, same_label}
 use Rattle.heap_model.proofs.Graphs.GraphLemmas.{same_label-true, same_label_refl}
 use Rattle.heap_model.proofs.Reach.ReachLemmas.{or_cases, or_left}
 use Rattle.cycle_laws.specs.Marks.{Marks, darkened}
 use Rattle.cycle_laws.specs.Shares.{Shares, again, arrives, at_domain, no_shares, owing, sees, stored_changed}
-use Rattle.cycle_laws.specs.Ending.{Answering, Cleaning, Deciding, First, Freeing, GoesOn, Halted, IsGrowing, Leaving, MarkedSince, Marking, Place, Promoting, Queueing, Resetting, Rooting, Rounding, Running, Second, Turn, leads_to, pause_left, phases_left, unmarked_of}
+use Rattle.cycle_laws.specs.Ending.{Answering, Cleaning, Deciding, First, Freeing, GoesOn, Halted, IsGrowing, Leaving, MarkedSince, Marking, Place, Promoting, Queueing, Resetting, Rooting, Rounding, Running, Second, leads_to, pause_left, unmarked_of}
 use Rattle.cycle_laws.proofs.Tracing.{darkened_more, never}
 
 -- where more is marked no more is unmarked
@@ -128,11 +128,8 @@ nearer all was now (First Marking) false on few less = omega (arith, less)
 nearer all was now (First Rounding) true on few less = omega (arith, less)
 nearer all was now (First Rounding) false on few less = omega (arith, less, few)
 nearer all was now Deciding changed on few less = omega arith
-nearer all was now Queueing changed on few less = second changed less
-  where
-    second : (b : Bool) → Fewer b was now → 5 + (now * 2 + 1) < 7 + all * 2
-    second true fall = omega (arith, fall, few)
-    second false fall = omega (arith, fall, few)
+nearer all was now Queueing true on few less = omega (arith, less, few)
+nearer all was now Queueing false on few less = omega arith
 nearer all was now (Second Marking) true on few less = omega (arith, less)
 nearer all was now (Second Marking) false on few less = omega (arith, less)
 nearer all was now (Second Rounding) true on few less = omega (arith, less)
