@@ -127,11 +127,8 @@ nearer all was now (First Marking) false on few less = omega (arith, less)
 nearer all was now (First Rounding) true on few less = omega (arith, less)
 nearer all was now (First Rounding) false on few less = omega (arith, less, few)
 nearer all was now Deciding changed on few less = omega arith
-nearer all was now Queueing changed on few less = second changed less
-  where
-    second : (b : Bool) → Fewer b was now → 5 + (now * 2 + 1) < 7 + all * 2
-    second true fall = omega (arith, fall, few)
-    second false fall = omega (arith, fall, few)
+nearer all was now Queueing true on few less = omega (arith, less, few)
+nearer all was now Queueing false on few less = omega arith
 nearer all was now (Second Marking) true on few less = omega (arith, less)
 nearer all was now (Second Marking) false on few less = omega (arith, less)
 nearer all was now (Second Rounding) true on few less = omega (arith, less)

@@ -48,13 +48,18 @@ pub record Arrives (c : Cycle) (d : ℕ) : Type 0 where
 -- the steps of Roots, Mark and Rounds
 pub record DarkeningSteps : Type 0 where
   -- Roots: a root is darkened, and a domain arrives whose roots are marked
-  pub roots_darkens : (pass : Pass) (n : ℕ) (s : State) (c : Cycle) → InPhase (Roots pass) n s c → (d k a : ℕ) (l : Label) → Darkens n s c d k a l
-      → InPhase (Roots pass) n s (with_marks c (darkened c.marks l))
-  pub roots_arrives : (pass : Pass) (n : ℕ) (s : State) (c : Cycle) → InPhase (Roots pass) n s c → (d : ℕ) → RootsMarked s c.marks.marked d
-      → InPhase (Roots pass) n s (with_shares c (arrives c.shares d))
-  -- in the second pass only its queue has grown, so it suffices that this is marked
-  pub queued_arrives : (n : ℕ) (s : State) (c : Cycle) → InPhase (Roots Second) n s c → (d : ℕ) → HoldsRoots (filter_map pending_label (domain_at s d).queue) c.marks.marked
-      → InPhase (Roots Second) n s (with_shares c (arrives c.shares d))
+  pub roots_darkens : (n : ℕ) (s : State) (c : Cycle) → InPhase (Roots First) n s c → (d k a : ℕ) (l : Label) → Darkens n s c d k a l
+      → InPhase (Roots First) n s (with_marks c (darkened c.marks l))
+  pub roots_arrives : (n : ℕ) (s : State) (c : Cycle) → InPhase (Roots First) n s c → (d : ℕ) → RootsMarked s c.marks.marked d
+      → InPhase (Roots First) n s (with_shares c (arrives c.shares d))
+  -- in the second pass who darkens a root owes a store of the changed word, and makes it
+  pub queued_darkens : (n : ℕ) (s : State) (c : Cycle) → InPhase (Roots Second) n s c → (d k a : ℕ) (l : Label) → Darkens n s c d k a l
+      → InPhase (Roots Second) n s (with_shares (with_marks c (darkened c.marks l)) (owing c.shares d))
+  pub queued_stores : (n : ℕ) (s : State) (c : Cycle) → InPhase (Roots Second) n s c → (d : ℕ)
+      → InPhase (Roots Second) n s (with_shares c (stored_changed c.shares d))
+  -- a domain arrives there once it owes nothing; of its roots only its queue has grown, so it suffices that this is marked
+  pub queued_arrives : (n : ℕ) (s : State) (c : Cycle) → InPhase (Roots Second) n s c → (d : ℕ) → c.shares.owes d ≡ false
+      → HoldsRoots (filter_map pending_label (domain_at s d).queue) c.marks.marked → InPhase (Roots Second) n s (with_shares c (arrives c.shares d))
   -- Mark: a domain darkens a block, in whosever pool it lies, and follows it
   pub mark_darkens : (pass : Pass) (n : ℕ) (s : State) (c : Cycle) → InPhase (Mark pass) n s c → OnePlaceEach c.layout → (d k a : ℕ) (l : Label) → Darkens n s c d k a l
       → InPhase (Mark pass) n s (with_shares (with_marks c (darkened c.marks l)) (following c.shares d a))
@@ -145,7 +150,9 @@ pub record PhaseSteps : Type 0 where
       → Allowed s Cut × InPhase Decide n (next s Cut) (record c { shares = no_shares; left = λ d. length (domain_at s d).finals })
   pub decide_queued : (n : ℕ) (s : State) (c : Cycle) → n ≡ length s.domains → InPhase Decide n s c → AllArrived n c.shares
       → InPhase (Roots Second) n s (with_shares c no_shares)
-  -- the Seal, to Clean, and from there to Lasts
+  -- the Seal, to Clean, also at once where the queues keep nothing alive that was unmarked; and from there to Lasts
+  pub queued_clean : (n : ℕ) (s : State) (c : Cycle) → n ≡ length s.domains → InPhase (Roots Second) n s c → AllArrived n c.shares → c.shares.changed ≡ false
+      → Allowed s Seal × InPhase Clean n (next s Seal) (with_shares c no_shares)
   pub rounds_clean : (n : ℕ) (s : State) (c : Cycle) → InPhase (Rounds Second) n s c → AllArrived n c.shares → c.shares.changed ≡ false
       → Allowed s Seal × InPhase Clean n (next s Seal) (with_shares c no_shares)
   pub clean_lasts : (n : ℕ) (s : State) (c : Cycle) → InPhase Clean n s c → AllArrived n c.shares

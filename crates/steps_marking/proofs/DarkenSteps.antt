@@ -68,6 +68,7 @@ collects Answer n none = n
 abbrev owing_on : Kind → (ℕ → Bool) → ℕ → ℕ → Bool
 owing_on Mark owes d = at_domain owes d true
 owing_on Rounds owes d = at_domain owes d true
+owing_on Queued owes d = at_domain owes d true
 owing_on _ owes d = owes
 
 owing_others : (kind : Kind) (owes : ℕ → Bool) (d z : ℕ) → z ≢ d → owing_on kind owes d z ≡ owes z
@@ -78,7 +79,7 @@ owing_others Roots owes d z other = refl
 owing_others Mark owes d z other = at_other owes d true z other
 owing_others Rounds owes d z other = at_other owes d true z other
 owing_others Decide owes d z other = refl
-owing_others Queued owes d z other = refl
+owing_others Queued owes d z other = at_other owes d true z other
 owing_others Clean owes d z other = refl
 owing_others Lasts owes d z other = refl
 owing_others Sweep owes d z other = refl
@@ -92,7 +93,7 @@ owing_own Roots owes d own e = e
 owing_own Mark owes d own e = at_same owes d true
 owing_own Rounds owes d own e = at_same owes d true
 owing_own Decide owes d own e = e
-owing_own Queued owes d own e = e
+owing_own Queued owes d own e = at_same owes d true
 owing_own Clean owes d own e = e
 owing_own Lasts owes d own e = e
 owing_own Sweep owes d own e = e
@@ -189,7 +190,7 @@ module _ (k : Config) (s : Words) (r : Rule k s) (id : ℕ) (hist : List Entry) 
     dark_facts Promote n f = absurd n
     dark_facts Reset n f = absurd n
     dark_facts Roots n f =
-        let after = darkening_steps.roots_darkens laws.First k.domains now cyc f.0 d darkens.0 a p.label darkens.1 in
+        let after = darkening_steps.roots_darkens k.domains now cyc f.0 d darkens.0 a p.label darkens.1 in
         (darkens_as (λ z. InPhase (laws.Roots laws.First) k.domains now (with_marks cyc z)) m p.label done (λ e. darkening_steps.roots_scans laws.First k.domains now _ after p.label (nothing_unmarked e)) after, record { unchanged = f.1.unchanged; unrotated = f.1.unrotated })
     dark_facts Mark n f =
         let after = darkening_steps.mark_darkens_other c.pass k.domains now cyc f.0 d darkens.0 a p.label darkens.1 in
@@ -199,8 +200,8 @@ module _ (k : Config) (s : Words) (r : Rule k s) (id : ℕ) (hist : List Entry) 
         (darkens_as (λ z. InPhase (laws.Rounds c.pass) k.domains now (with_shares (with_marks cyc z) (owing cyc.shares d))) m p.label done (λ e. darkening_steps.rounds_scans c.pass k.domains now _ after p.label (nothing_unmarked e)) after, f.1)
     dark_facts Decide n f = absurd n
     dark_facts Queued n f =
-        let after = darkening_steps.roots_darkens laws.Second k.domains now cyc f.0 d darkens.0 a p.label darkens.1 in
-        (darkens_as (λ z. InPhase (laws.Roots laws.Second) k.domains now (with_marks cyc z)) m p.label done (λ e. darkening_steps.roots_scans laws.Second k.domains now _ after p.label (nothing_unmarked e)) after, record { unchanged = f.1.unchanged; unrotated = f.1.unrotated })
+        let after = darkening_steps.queued_darkens k.domains now cyc f.0 d darkens.0 a p.label darkens.1 in
+        (darkens_as (λ z. InPhase (laws.Roots laws.Second) k.domains now (with_shares (with_marks cyc z) (owing cyc.shares d))) m p.label done (λ e. darkening_steps.roots_scans laws.Second k.domains now _ after p.label (nothing_unmarked e)) after, f.1)
     dark_facts Clean n f = absurd n
     dark_facts Lasts n f = absurd n
     dark_facts Sweep n f = absurd n

@@ -32,7 +32,7 @@ use Rattle.heap_rule.specs.declared.view.Scan.TheVariants.{Idle, Reads}
 use Rattle.heap_rule.specs.declared.view.Share.{Share}
 use Rattle.heap_rule.specs.Layout.{before_heap, heap_words, at_address}
 use Rattle.heap_rule.specs.Places.{Debt, HasValue, Live, Place, Stands, WordStands, colour_in, head_of, values_of}
-use Rattle.heap_rule.specs.Cycles.{Cycling, Facts, IsCollecting, Knowing, Refers, Scanned, Scans, cycle_of, seen_by}
+use Rattle.heap_rule.specs.Cycles.{Cycling, Facts, HasNoCycle, IsCollecting, Knowing, Refers, Scanned, Scans, cycle_of, seen_by}
 use Rattle.heap_rule.specs.Raw.{MayStep, MayStore}
 use Rattle.heap_rule.specs.Rule.{Rule, state_of}
 use Rattle.heap_rule.specs.Views.{one}
@@ -41,18 +41,33 @@ use Rattle.heap_rule.proofs.Keeps.{Words, my_good, unmoved}
 use Rattle.heap_rule.proofs.Lists.{got_there}
 use Rattle.heap_rule.proofs.Values.{address_of, packable, stands_block}
 use Rattle.steps_marking.specs.Looks.{with_share}
-use Rattle.steps_marking.specs.Marking.{ChangedMay, ChangedTold, IsChanging, ScanMay, ScanTold, ScannedMay, ScannedTold, scanned_on, Site, Anywhere, Next, LiesAt, places_seen_on, walk_on}
+use Rattle.steps_marking.specs.Marking.{ChangedMay, ChangedTold, IsChanging, IsScanning, ScanMay, ScanTold, ScannedMay, ScannedTold, scanned_on, Site, Anywhere, Next, LiesAt, places_seen_on, walk_on}
 use Rattle.steps_marking.proofs.Colouring.{words_same, Recolourable}
 use Rattle.steps_marking.proofs.Learning.{at_other, at_same, bare, held, kind_here, knows_more, known, looks_same, looks_still, queue_still, shifts_more, whole_in}
 use Rattle.steps_marking.proofs.Recolouring.{Recolours, known_still, recolours}
 use Rattle.heap_rule.specs.declared.phase.Stage.TheVariants.{In}
-use Rattle.steps_marking.proofs.WalkSteps.{changing_cycle, own_place, seen_next, next_is, next_other, next_walked}
+use Rattle.steps_marking.proofs.WalkSteps.{scanning_cycle, own_place, seen_next, next_is, next_other, next_walked}
 use Rattle.steps_marking.proofs.Layouts.{labelled}
 use Rattle.heap_rule.specs.Pools.{owned, blocks_of, IsBefore, place_in}
 use Rattle.std.proofs.lemmas.Option.{none-some, same_Some}
 use Rattle.heap_rule.proofs.Stages.{waits_in}
 use Rattle.heap_rule.specs.Ephemerons.{ephemeron_of}
 use Rattle.heap_rule.proofs.EphemeronLemmas.{found_value}
+
+-- where the changed word is stored a collection is under way
+changing_cycle : (kind : Kind) → IsChanging kind → HasNoCycle kind → ⊥
+changing_cycle Run n none = n
+changing_cycle Promote n none = n
+changing_cycle Reset n none = n
+changing_cycle Roots n none = n
+changing_cycle Mark n none = none
+changing_cycle Rounds n none = none
+changing_cycle Decide n none = n
+changing_cycle Queued n none = none
+changing_cycle Clean n none = n
+changing_cycle Lasts n none = n
+changing_cycle Sweep n none = n
+changing_cycle Answer n none = n
 
 -- the value in the next field was read
 module _ (live : Live) (graph : Graph) (m : Marks) (block done size head : ℕ) (f : Scanned live graph m block done size head) (v : Value) (there : slice_get f.fields done ≡ Some v) where
@@ -111,8 +126,8 @@ module _ (k : Config) (s : Words) (r : Rule k s) (id : ℕ) (hist : List Entry) 
   kn : Knowing k live r.account.tenancy.holder now.graph m s.words d x.own.registers sh
   kn = known k s r id hist x at
 
-  in_mark : (kind : Kind) → x.seen.stage ≡ In kind → IsChanging kind → IsCollecting x.seen.stage
-  in_mark kind is changing = subst IsCollecting (sym is) (changing_cycle kind changing)
+  in_mark : (kind : Kind) → x.seen.stage ≡ In kind → IsScanning kind → IsCollecting x.seen.stage
+  in_mark kind is scanning = subst IsCollecting (sym is) (scanning_cycle kind scanning)
 
   -- the next field
   module _ (a : ℕ) (may : ScanMay x a) where
@@ -123,7 +138,7 @@ module _ (k : Config) (s : Words) (r : Rule k s) (id : ℕ) (hist : List Entry) 
     field = got_there f.fields may.done (let n : ℕ = length f.fields in let e : n ≡ may.size = f.size_is in let h = may.more in omega arith)
 
     not_clean : c.kind ≡ Clean → ⊥
-    not_clean e = subst IsChanging (sym (kind_here k s r id hist x at may.kind may.stage) ∙ e) may.changing
+    not_clean e = subst IsScanning (sym (kind_here k s r id hist x at may.kind may.stage) ∙ e) may.scanning
 
     stands : WordStands live (at_address k s.words (may.block + 2 + may.done)) field.0
     stands =
@@ -133,21 +148,21 @@ module _ (k : Config) (s : Words) (r : Rule k s) (id : ℕ) (hist : List Entry) 
         (λ (e : (f.fields ≡ []) × (fields_of (node_at now.graph f.place.label) ≡ [])). absurd (let none : length f.fields ≡ 0 = ap (λ (z : List Value). length z) e.0 in let n : ℕ = length f.fields in let z : n ≡ 0 = none in let y : n ≡ may.size = f.size_is in let h = may.more in omega arith))
         f.node in
         let is : found.node ≡ Plain f.tag f.fields = same_Some found.node (Plain f.tag f.fields) (sym found.there ∙ plain) in
-        found_value k c.paint live now.graph s.words may.block f.place found (whole_in k s r id hist x at not_clean f.place.label) may.done field.0 (subst (λ (o : Option Debt). HasValue o may.done) (sym (bare k s r id hist x at (in_mark may.kind may.stage may.changing) may.block f.place f.lives).no_debt) tt) (ap (λ (n : Node). slice_get (values_of n) may.done) is ∙ field.1)
+        found_value k c.paint live now.graph s.words may.block f.place found (whole_in k s r id hist x at not_clean f.place.label) may.done field.0 (subst (λ (o : Option Debt). HasValue o may.done) (sym (bare k s r id hist x at (in_mark may.kind may.stage may.scanning) may.block f.place f.lives).no_debt) tt) (ap (λ (n : Node). slice_get (values_of n) may.done) is ∙ field.1)
 
     share' : Share
     share' = record sh { scan = scanned_on sh.scan stands.value }
 
     scan_rule : Rule k record { words = s.words; homes = s.homes; views = set s.views id (one k hist (with_share x share')) }
     unfolding share'
-    scan_rule = knows_more k s r id hist x at (in_mark may.kind may.stage may.changing) (held share') refl refl record {
+    scan_rule = knows_more k s r id hist x at (in_mark may.kind may.stage may.scanning) (held share') refl refl record {
       found_head = kn.found_head;
       scan = subst (λ (z : Scan). Scans live now.graph m (scanned_on z stands.value)) (sym may.scan) (read_on live now.graph m may.block may.done may.size may.head f field.0 field.1 stands.value stands.stands);
       walked = kn.walked;
       own_pool = kn.own_pool;
       rooted = kn.rooted;
       marked = kn.marked;
-      looking = looks_still k s r id hist x at (in_mark may.kind may.stage may.changing) m (held share') (λ _. refl) refl (λ b e. absurd (none-some b (sym (no_ephemeron sh.scan may.block may.done may.size may.head stands.value may.scan) ∙ e)));
+      looking = looks_still k s r id hist x at (in_mark may.kind may.stage may.scanning) m (held share') (λ _. refl) refl (λ b e. absurd (none-some b (sym (no_ephemeron sh.scan may.block may.done may.size may.head stands.value may.scan) ∙ e)));
     }
 
     scan_told : ScanTold k x (at_address k s.words a) (with_share x share')
@@ -190,7 +205,7 @@ module _ (k : Config) (s : Words) (r : Rule k s) (id : ℕ) (hist : List Entry) 
     kind_is = kind_here k s r id hist x at may.kind may.stage
 
     unclean : c.kind ≡ Clean → ⊥
-    unclean e = subst IsChanging (sym kind_is ∙ e) may.changing
+    unclean e = subst IsScanning (sym kind_is ∙ e) may.scanning
 
     abbrev scanned_words : List ℕ
     scanned_words = set s.words (before_heap k + a) new
@@ -223,7 +238,7 @@ module _ (k : Config) (s : Words) (r : Rule k s) (id : ℕ) (hist : List Entry) 
     rounds_facts Anywhere lies is f = (darkening_steps.rounds_scans c.pass k.domains now (cycle_of k live r.account.tenancy.holder c) f.0 p.label fields_marked, f.1)
     rounds_facts (Next pool class slot) lies is f = cc
 
-    scanned_facts : (kind : Kind) → IsChanging kind → (t : Site) (lies : LiesAt t x a) → (kind ≡ Rounds → t ≡ Anywhere) → Facts kind k now live r.account.tenancy c s.words
+    scanned_facts : (kind : Kind) → IsScanning kind → (t : Site) (lies : LiesAt t x a) → (kind ≡ Rounds → t ≡ Anywhere) → Facts kind k now live r.account.tenancy c s.words
         → Facts kind k now live r.account.tenancy (record c { paint = record c.paint { marks = m' }; shares = record c.shares { seen = seen_on t lies } }) scanned_words
     scanned_facts Run n t lies is f = absurd n
     scanned_facts Promote n t lies is f = absurd n
@@ -250,17 +265,17 @@ module _ (k : Config) (s : Words) (r : Rule k s) (id : ℕ) (hist : List Entry) 
     walked_on Anywhere lies = kn.walked
     walked_on (Next pool class slot) lies = next_walked k s r id hist x at a pool class slot lies
 
-    recoloured : Recolours k s r id hist x at (in_mark may.kind may.stage may.changing) a p new m' c.shares.owes (seen_on site may.lies) (held done) sh.waiting
+    recoloured : Recolours k s r id hist x at (in_mark may.kind may.stage may.scanning) a p new m' c.shares.owes (seen_on site may.lies) (held done) sh.waiting
     recoloured =
         let cs : Colours = c.paint.colours in
         let is : m.marked p.label ≡ true = g.marked in
-        let n = known_still k s r id hist x at (in_mark may.kind may.stage may.changing) a p new m' g.lives g.marked (λ l h. h) in record {
+        let n = known_still k s r id hist x at (in_mark may.kind may.stage may.scanning) a p new m' g.lives g.marked (λ l h. h) in record {
           lives = g.lives;
           here = record {
             scanned = true;
             packs = may.marks ∙ (ap (λ (z : Colours). head_word (head_of None may.shape z.marked true)) means ∙ (ap (λ (z : Shape). head_word (head_of None z cs.marked true)) (sym same.shape)
                 ∙ (sym (ap (λ (b : Bool). head_word (head_of None p.shape (cond b cs.marked cs.unmarked) true)) is)
-                ∙ sym (ap (λ (o : Option ℕ). head_word (head_of o p.shape (colour_in (record c.paint { marks = m' }) p.label) true)) (bare k s r id hist x at (in_mark may.kind may.stage may.changing) a p g.lives).no_forward))));
+                ∙ sym (ap (λ (o : Option ℕ). head_word (head_of o p.shape (colour_in (record c.paint { marks = m' }) p.label) true)) (bare k s r id hist x at (in_mark may.kind may.stage may.scanning) a p g.lives).no_forward))));
             tells = λ _ _. is_scanned;
           };
           elsewhere = λ l differ. (refl, ap (λ (b : Bool). b || m.scanned l) (same_label-false p.label l differ));
@@ -268,16 +283,16 @@ module _ (k : Config) (s : Words) (r : Rule k s) (id : ℕ) (hist : List Entry) 
           more = λ l h. h;
           still = λ e. absurd (unclean e);
           facts = subst (λ (kind : Kind). Facts kind k now live r.account.tenancy (record c { paint = record c.paint { marks = m' }; shares = record c.shares { seen = seen_on site may.lies } }) scanned_words) (sym kind_is)
-              (scanned_facts may.kind may.changing site may.lies may.anywhere (subst (λ (kind : Kind). Facts kind k now live r.account.tenancy c s.words) kind_is r.whole.cycle.facts));
+              (scanned_facts may.kind may.scanning site may.lies may.anywhere (subst (λ (kind : Kind). Facts kind k now live r.account.tenancy c s.words) kind_is r.whole.cycle.facts));
           others = λ z other. (refl, seen_others site may.lies z other);
           owes_is = (my_good k s r id hist x at).sharing.telling.owes waits;
           seen_is = seen_here site may.lies;
-          knows = record { found_head = n.found_head; scan = tt; walked = walked_on site may.lies; own_pool = n.own_pool; rooted = n.rooted; marked = n.marked; looking = looks_still k s r id hist x at (in_mark may.kind may.stage may.changing) m' (held done) (λ e. absurd (unclean e)) refl (λ b e. absurd (none-some b e)) };
-          queued = queue_still k s r id hist x at (in_mark may.kind may.stage may.changing) m' (λ l h. h);
+          knows = record { found_head = n.found_head; scan = tt; walked = walked_on site may.lies; own_pool = n.own_pool; rooted = n.rooted; marked = n.marked; looking = looks_still k s r id hist x at (in_mark may.kind may.stage may.scanning) m' (held done) (λ e. absurd (unclean e)) refl (λ b e. absurd (none-some b e)) };
+          queued = queue_still k s r id hist x at (in_mark may.kind may.stage may.scanning) m' (λ l h. h);
         }
 
     scanned_rule : Rule k record { words = scanned_words; homes = s.homes; views = set s.views id (one k hist (with_share x done)) }
-    scanned_rule = recolours k s r id hist x at (in_mark may.kind may.stage may.changing) a p new m' c.shares.owes (seen_on site may.lies) (held done) sh.waiting recoloured
+    scanned_rule = recolours k s r id hist x at (in_mark may.kind may.stage may.scanning) a p new m' c.shares.owes (seen_on site may.lies) (held done) sh.waiting recoloured
 
   -- the changed word
   module _ (may : ChangedMay x) where
@@ -295,7 +310,7 @@ module _ (k : Config) (s : Words) (r : Rule k s) (id : ℕ) (hist : List Entry) 
     stored_facts Mark n f = (darkening_steps.mark_stores c.pass k.domains now (cycle_of k live r.account.tenancy.holder c) f.0 d, f.1)
     stored_facts Rounds n f = (darkening_steps.rounds_stores c.pass k.domains now (cycle_of k live r.account.tenancy.holder c) f.0 d, f.1)
     stored_facts Decide n f = absurd n
-    stored_facts Queued n f = absurd n
+    stored_facts Queued n f = (darkening_steps.queued_stores k.domains now (cycle_of k live r.account.tenancy.holder c) f.0 d, f.1)
     stored_facts Clean n f = absurd n
     stored_facts Lasts n f = absurd n
     stored_facts Sweep n f = absurd n

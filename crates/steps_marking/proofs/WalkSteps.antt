@@ -37,7 +37,7 @@ use Rattle.heap_rule.proofs.Controls.{untouched_same}
 use Rattle.heap_rule.proofs.Keeps.{Words, my_good, unmoved}
 use Rattle.heap_rule.proofs.OwnPlaces.{owned_same}
 use Rattle.steps_marking.specs.Looks.{with_share}
-use Rattle.steps_marking.specs.Marking.{IsChanging, GreyMay, GreyTold, IsGrey, IsScanned, IsUnmarked, IsNext, MarkMay, MarkTold, OwnMay, OwnTold, begun, behind, fields_in}
+use Rattle.steps_marking.specs.Marking.{IsScanning, GreyMay, GreyTold, IsGrey, IsScanned, IsUnmarked, IsNext, MarkMay, MarkTold, OwnMay, OwnTold, begun, behind, fields_in}
 use Rattle.steps_marking.proofs.Colouring.{BareHead, bare_head, marked_colour, no_fields, unmarked_colour}
 use Rattle.steps_marking.proofs.Layouts.{labelled, owner_of_place, whose}
 use Rattle.steps_marking.proofs.Learning.{at_other, at_same, bare, held, kind_here, knows_more, known, looks_same, looks_still, not_promoting, shifts_more}
@@ -70,19 +70,19 @@ before_behind pool class slot q i inside before =
     (subst (IsBefore q i) (next_behind pool class slot (lt_of_not-le more)) before))
 
 -- in these kinds a collection is under way
-pub changing_cycle : (kind : Kind) → IsChanging kind → HasNoCycle kind → ⊥
-changing_cycle Run n none = n
-changing_cycle Promote n none = n
-changing_cycle Reset n none = n
-changing_cycle Roots n none = n
-changing_cycle Mark n none = none
-changing_cycle Rounds n none = none
-changing_cycle Decide n none = n
-changing_cycle Queued n none = n
-changing_cycle Clean n none = n
-changing_cycle Lasts n none = n
-changing_cycle Sweep n none = n
-changing_cycle Answer n none = n
+pub scanning_cycle : (kind : Kind) → IsScanning kind → HasNoCycle kind → ⊥
+scanning_cycle Run n none = n
+scanning_cycle Promote n none = n
+scanning_cycle Reset n none = n
+scanning_cycle Roots n none = n
+scanning_cycle Mark n none = none
+scanning_cycle Rounds n none = none
+scanning_cycle Decide n none = n
+scanning_cycle Queued n none = n
+scanning_cycle Clean n none = n
+scanning_cycle Lasts n none = n
+scanning_cycle Sweep n none = n
+scanning_cycle Answer n none = n
 
 module _ (k : Config) (s : Words) (r : Rule k s) (id : ℕ) (hist : List Entry) (x : DomainView) (at : get_elem? s.views id ≡ some (one k hist x)) where
   abbrev now : model.State
@@ -326,7 +326,7 @@ module _ (k : Config) (s : Words) (r : Rule k s) (id : ℕ) (hist : List Entry) 
     pub grey_looks : (y : DomainView) × After y × GreyTold a x (at_address k s.words a) y
     grey_looks =
         let t = kn.marked a may.marked in
-        let collecting : IsCollecting x.seen.stage = subst IsCollecting (sym may.stage) (changing_cycle may.kind may.changing) in ⊎_elim
+        let collecting : IsCollecting x.seen.stage = subst IsCollecting (sym may.stage) (scanning_cycle may.kind may.scanning) in ⊎_elim
         (λ h. (
           x,
           knows_more k s r id hist x at collecting (held sh) refl refl record { found_head = kn.found_head; scan = kn.scan; walked = kn.walked; own_pool = kn.own_pool; rooted = kn.rooted; marked = kn.marked; looking = looks_same k s r id hist x at collecting (held sh) refl refl },

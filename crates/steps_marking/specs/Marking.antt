@@ -32,10 +32,17 @@ IsDarkening Rounds = Unit {0}
 IsDarkening Queued = Unit {0}
 IsDarkening _ = ⊥
 
--- in these kinds the changed word is stored
+-- in these kinds blocks are scanned
+abbrev pub IsScanning : Kind → Type 0
+IsScanning Mark = Unit {0}
+IsScanning Rounds = Unit {0}
+IsScanning _ = ⊥
+
+-- and in these the changed word is stored
 abbrev pub IsChanging : Kind → Type 0
 IsChanging Mark = Unit {0}
 IsChanging Rounds = Unit {0}
+IsChanging Queued = Unit {0}
 IsChanging _ = ⊥
 
 -- the word is the head of an unmarked block, of a marked one, and of one that is scanned
@@ -136,10 +143,11 @@ pub record DarkenMay (x : DomainView) (at old new : ℕ) (reason : Reason) : Typ
   pub marks : HeadIs None unmarked.shape colours.marked (needs_no_scan unmarked.shape) new
   pub reason_is : Warrants reason x at
 
--- whoever darkens a block in Mark or in Rounds owes a store of the changed word
+-- whoever darkens a block in Mark, in Rounds or in Queued owes a store of the changed word
 abbrev pub owes_on : Kind → Bool → Bool
 owes_on Mark owes = true
 owes_on Rounds owes = true
+owes_on Queued owes = true
 owes_on _ owes = owes
 
 -- a domain has darkened a block
@@ -205,7 +213,7 @@ pub record MarkTold (at pool class slot : ℕ) (x : DomainView) (found : ℕ) (y
 pub record GreyMay (x : DomainView) (at : ℕ) : Type 0 where
   pub kind : Kind
   pub stage : x.seen.stage ≡ In kind
-  pub changing : IsChanging kind
+  pub scanning : IsScanning kind
   pub marked : IsTrue (seen_by x.seen.share.marked at)
   pub colours : Colours
   pub known : x.seen.share.colours ≡ Some colours
@@ -220,7 +228,7 @@ pub record GreyTold (at : ℕ) (x : DomainView) (found : ℕ) (y : DomainView) :
 pub record ScanMay (x : DomainView) (at : ℕ) : Type 0 where
   pub kind : Kind
   pub stage : x.seen.stage ≡ In kind
-  pub changing : IsChanging kind
+  pub scanning : IsScanning kind
   pub block : ℕ
   pub done : ℕ
   pub size : ℕ
@@ -264,7 +272,7 @@ walk_on (Next pool class slot) walk = behind pool class slot
 pub record ScannedMay (x : DomainView) (at new : ℕ) (site : Site) : Type 0 where
   pub kind : Kind
   pub stage : x.seen.stage ≡ In kind
-  pub changing : IsChanging kind
+  pub scanning : IsScanning kind
   pub anywhere : kind ≡ Rounds → site ≡ Anywhere
   pub size : ℕ
   pub word : ℕ
@@ -279,7 +287,7 @@ pub record ScannedMay (x : DomainView) (at new : ℕ) (site : Site) : Type 0 whe
 abbrev pub ScannedTold : ℕ → Site → DomainView → ℕ → DomainView → Type 0
 ScannedTold at site x found y = y ≡ with_share x (record x.seen.share { scan = Idle; places_seen = places_seen_on site at x.seen.share.places_seen; walk = walk_on site x.seen.share.walk })
 
--- in Mark and in Rounds, 1 is stored in the changed word
+-- in Mark, in Rounds and in Queued, 1 is stored in the changed word
 pub record ChangedMay (x : DomainView) : Type 0 where
   pub kind : Kind
   pub stage : x.seen.stage ≡ In kind

@@ -357,12 +357,12 @@ module _ (k : Config) (s : Words) (r : Rule k s) (id : ℕ) (hist : List Entry) 
     facts_in Run here is f = between_in Run here is f
     facts_in Promote here is f = between_in Promote here is f
     facts_in Reset here is f = between_in Reset here is f
-    facts_in Roots here is f = (darkening_steps.roots_arrives laws.First k.domains state cyc f.0 d (roots_done (subst IsRooting (sym is) tt) waits here), plain_in f.1 Roots)
+    facts_in Roots here is f = (darkening_steps.roots_arrives k.domains state cyc f.0 d (roots_done (subst IsRooting (sym is) tt) waits here), plain_in f.1 Roots)
     facts_in Mark here is f = (darkening_steps.mark_arrives c.pass k.domains state cyc f.0 d (done_arrives (done.told (inl here)) (done.walked here)), f.1)
     facts_in Rounds here is f = (darkening_steps.rounds_arrives c.pass k.domains state seeing (sees_rounds here f.0) d (record { paid = paid (done.told (inr (inl here))); all = own_seen }), f.1)
     facts_in Decide here is f = (taking_steps.decide_arrives k.domains state cyc f.0 d (all_decided is here), plain_in f.1 Decide)
-    facts_in Queued here is f = (darkening_steps.queued_arrives k.domains state cyc f.0 d (queue_done (subst IsRooting (sym is) tt) waits (inr here)), plain_in f.1 Queued)
-    facts_in Clean here is f = (taking_steps.clean_arrives k.domains state seeing (sees_clean here f.0) d (record { paid = paid (done.told (inr (inr here))); all = own_seen }), plain_in f.1 Clean)
+    facts_in Queued here is f = (darkening_steps.queued_arrives k.domains state cyc f.0 d (paid (done.told (inr (inr (inl here))))) (queue_done (subst IsRooting (sym is) tt) waits (inr here)), f.1)
+    facts_in Clean here is f = (taking_steps.clean_arrives k.domains state seeing (sees_clean here f.0) d (record { paid = paid (done.told (inr (inr (inr here)))); all = own_seen }), plain_in f.1 Clean)
     facts_in Lasts here is f = record {
       facts = taking_steps.lasts_arrives k.domains state (swept_of k r.account.live t.holder c) f.facts d (all_settled is here);
       unchanged = f.unchanged;

@@ -80,7 +80,7 @@ armed_led Roots next f none armed known same on over freed = ⊎_elim
 armed_led Mark next f none armed known same on over freed = absurd (⊎_elim (λ (e : next ≡ Mark). subst HasNoCycle e none) (λ (e : next ≡ Rounds). subst HasNoCycle e none) f)
 armed_led Rounds next f none armed known same on over freed = absurd (⊎_elim (λ (e : next ≡ Mark). subst HasNoCycle e none) (⊎_elim (λ (e : next ≡ Decide). subst HasNoCycle e none) (λ (e : next ≡ Clean). subst HasNoCycle e none)) f)
 armed_led Decide next f none armed known same on over freed = absurd (subst HasNoCycle f none)
-armed_led Queued next f none armed known same on over freed = absurd (subst HasNoCycle f none)
+armed_led Queued next f none armed known same on over freed = absurd (⊎_elim (λ (e : next ≡ Mark). subst HasNoCycle e none) (λ (e : next ≡ Clean). subst HasNoCycle e none) f)
 armed_led Clean next f none armed known same on over freed = absurd (subst HasNoCycle f none)
 armed_led Lasts next f none armed known same on over freed = ⊎_elim
     (λ (e : next ≡ Sweep). absurd (subst HasNoCycle e none))
@@ -130,6 +130,7 @@ follows_promote a b f e = from a (subst (Follows a) e f)
     from Mark f = ⊎_elim (λ (e : Promote ≡ Mark). absurd (let h : Promote ≡ Mark = e in cc)) (λ (e : Promote ≡ Rounds). absurd (let h : Promote ≡ Rounds = e in cc)) f
     from Rounds f = ⊎_elim (λ (e : Promote ≡ Mark). absurd (let h : Promote ≡ Mark = e in cc))
         (λ q. ⊎_elim (λ (e : Promote ≡ Decide). absurd (let h : Promote ≡ Decide = e in cc)) (λ (e : Promote ≡ Clean). absurd (let h : Promote ≡ Clean = e in cc)) q) f
+    from Queued f = ⊎_elim (λ (e : Promote ≡ Mark). absurd (let h : Promote ≡ Mark = e in cc)) (λ (e : Promote ≡ Clean). absurd (let h : Promote ≡ Clean = e in cc)) f
     from Lasts f = ⊎_elim (λ (e : Promote ≡ Sweep). absurd (let h : Promote ≡ Sweep = e in cc)) (λ (e : Promote ≡ Run). absurd (let h : Promote ≡ Run = e in cc)) f
     from Sweep f = ⊎_elim (λ (e : Promote ≡ Run). absurd (let h : Promote ≡ Run = e in cc))
         (λ q. ⊎_elim (λ (e : Promote ≡ Answer). absurd (let h : Promote ≡ Answer = e in cc)) (λ (e : Promote ≡ Roots). absurd (let h : Promote ≡ Roots = e in cc)) q) f
@@ -146,6 +147,7 @@ follows_reset a b f e = from a (subst (Follows a) e f)
     from Mark f = ⊎_elim (λ (e : Reset ≡ Mark). absurd (let h : Reset ≡ Mark = e in cc)) (λ (e : Reset ≡ Rounds). absurd (let h : Reset ≡ Rounds = e in cc)) f
     from Rounds f = ⊎_elim (λ (e : Reset ≡ Mark). absurd (let h : Reset ≡ Mark = e in cc))
         (λ q. ⊎_elim (λ (e : Reset ≡ Decide). absurd (let h : Reset ≡ Decide = e in cc)) (λ (e : Reset ≡ Clean). absurd (let h : Reset ≡ Clean = e in cc)) q) f
+    from Queued f = ⊎_elim (λ (e : Reset ≡ Mark). absurd (let h : Reset ≡ Mark = e in cc)) (λ (e : Reset ≡ Clean). absurd (let h : Reset ≡ Clean = e in cc)) f
     from Lasts f = ⊎_elim (λ (e : Reset ≡ Sweep). absurd (let h : Reset ≡ Sweep = e in cc)) (λ (e : Reset ≡ Run). absurd (let h : Reset ≡ Run = e in cc)) f
     from Sweep f = ⊎_elim (λ (e : Reset ≡ Run). absurd (let h : Reset ≡ Run = e in cc))
         (λ q. ⊎_elim (λ (e : Reset ≡ Answer). absurd (let h : Reset ≡ Answer = e in cc)) (λ (e : Reset ≡ Roots). absurd (let h : Reset ≡ Roots = e in cc)) q) f
@@ -277,7 +279,7 @@ module _ (k : Config) (s : Words) (r : Rule k s) (id : ℕ) (hist : List Entry) 
     full = whole;
     quiet = λ h. flag_zero c.shares.changed (l.changed 0 (knows.unchanged h)).2;
     first = λ h. l.pass may.leads ∙ ap pass_of (knows.first h);
-    second = λ h. l.pass may.leads ∙ ap pass_of (knows.second h);
+    second = λ g h. l.pass may.leads ∙ ap pass_of (knows.second g h);
     rotated = λ h. l.rotated may.leads (kind_is ∙ h) ∙ knows.rotated h;
     no_blocks = λ h. (l.found_blocks 0 (knows.set_back h).0).1;
     no_words = λ h. (l.found_words 0 (knows.set_back h).1).1;

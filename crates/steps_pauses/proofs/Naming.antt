@@ -115,6 +115,7 @@ record Ways (P : Kind → Kind → Type 0) : Type 0 where
   seal : P Rounds Clean
   queued : P Decide Queued
   second : P Queued Mark
+  at_once : P Queued Clean
   lasts : P Clean Lasts
   sweep : P Lasts Sweep
   leaves : P Lasts Run
@@ -133,7 +134,7 @@ each_way P w Mark next f = ⊎_elim (λ (e : next ≡ Mark). subst (P Mark) (sym
 each_way P w Rounds next f = ⊎_elim (λ (e : next ≡ Mark). subst (P Rounds) (sym e) w.back)
     (λ q. ⊎_elim (λ (e : next ≡ Decide). subst (P Rounds) (sym e) w.cut) (λ (e : next ≡ Clean). subst (P Rounds) (sym e) w.seal) q) f
 each_way P w Decide next f = subst (P Decide) (sym f) w.queued
-each_way P w Queued next f = subst (P Queued) (sym f) w.second
+each_way P w Queued next f = ⊎_elim (λ (e : next ≡ Mark). subst (P Queued) (sym e) w.second) (λ (e : next ≡ Clean). subst (P Queued) (sym e) w.at_once) f
 each_way P w Clean next f = subst (P Clean) (sym f) w.lasts
 each_way P w Lasts next f = ⊎_elim (λ (e : next ≡ Sweep). subst (P Lasts) (sym e) w.sweep) (λ (e : next ≡ Run). subst (P Lasts) (sym e) w.leaves) f
 each_way P w Sweep next f = ⊎_elim (λ (e : next ≡ Run). subst (P Sweep) (sym e) w.done)
@@ -166,7 +167,7 @@ pub record Ready (k : Config) (live : Live) (graph : Graph) (last next : Kind) (
   pub full : (l : Label) → c.paint.emptied l ≡ []
   pub quiet : (next ≡ Rounds) ⊎ ((next ≡ Decide) ⊎ (next ≡ Clean)) → c.shares.changed ≡ false
   pub first : next ≡ Decide → c.pass ≡ laws.First
-  pub second : next ≡ Clean → c.pass ≡ laws.Second
+  pub second : last ≡ Rounds → next ≡ Clean → c.pass ≡ laws.Second
   pub rotated : last ≡ Lasts → IsTrue c.rotated
   pub no_blocks : next ≡ Sweep → live_blocks words ≡ 0
   pub no_words : next ≡ Sweep → live_words words ≡ 0
@@ -403,7 +404,7 @@ module _ (k : Config) (log : List Entry) (live : Live) (t : Tenancy) (c : Cyclin
         unturned = λ e. cc;
         uncounted = λ e. cc;
       };
-      seal = λ r f full. let quiet = r.quiet (inr (inr refl)) in let row = phase_steps.rounds_clean k.domains s cyc (subst (λ (pass : laws.Pass). laws.InPhase (laws.Rounds pass) k.domains s cyc) (r.second refl) f.0) all quiet in record {
+      seal = λ r f full. let quiet = r.quiet (inr (inr refl)) in let row = phase_steps.rounds_clean k.domains s cyc (subst (λ (pass : laws.Pass). laws.InPhase (laws.Rounds pass) k.domains s cyc) (r.second refl refl) f.0) all quiet in record {
         allowed = λ e is. the_entry (Allowed s) Seal e is row.0;
         facts = (quietly (laws.InPhase laws.Clean k.domains (state_next s Seal)) Rounds Clean quiet row.1, record { unchanged = quiet; unrotated = f.1 });
         full = full_kind k (log ++ Seal ∷ []) live t.holder t.fresh t.garbage homes Rounds Clean (λ _ e. cc) (full_stays k log live t.holder t.fresh t.garbage homes Rounds Seal refl full);
@@ -414,7 +415,7 @@ module _ (k : Config) (log : List Entry) (live : Live) (t : Tenancy) (c : Cyclin
       };
       queued = λ r f full. record {
         allowed = λ e is. absurd (none-some e is);
-        facts = (quietly (laws.InPhase (laws.Roots laws.Second) k.domains s) Decide Queued f.1.unchanged (phase_steps.decide_queued k.domains s cyc count f.0 all), record { unchanged = f.1.unchanged; unrotated = f.1.unrotated });
+        facts = (quietly (laws.InPhase (laws.Roots laws.Second) k.domains s) Decide Queued f.1.unchanged (phase_steps.decide_queued k.domains s cyc count f.0 all), f.1.unrotated);
         full = full_kind k log live t.holder t.fresh t.garbage homes Decide Queued (λ _ e. cc) full;
         clean = none;
         left = λ is. absurd (never_left Decide r.kind (λ h. h) (λ e. cc) is);
@@ -423,8 +424,17 @@ module _ (k : Config) (log : List Entry) (live : Live) (t : Tenancy) (c : Cyclin
       };
       second = λ r f full. record {
         allowed = λ e is. absurd (none-some e is);
-        facts = (phase_steps.roots_mark laws.Second k.domains s cyc count f.0 all c.shares.changed, f.1.unrotated);
+        facts = (phase_steps.roots_mark laws.Second k.domains s cyc count f.0 all c.shares.changed, f.1);
         full = full_kind k log live t.holder t.fresh t.garbage homes Queued Mark (λ _ e. cc) full;
+        clean = none;
+        left = λ is. absurd (never_left Queued r.kind (λ h. h) (λ e. cc) is);
+        unturned = λ e. cc;
+        uncounted = λ e. cc;
+      };
+      at_once = λ r f full. let quiet = r.quiet (inr (inr refl)) in let row = phase_steps.queued_clean k.domains s cyc count f.0 all quiet in record {
+        allowed = λ e is. the_entry (Allowed s) Seal e is row.0;
+        facts = (quietly (laws.InPhase laws.Clean k.domains (state_next s Seal)) Queued Clean quiet row.1, record { unchanged = quiet; unrotated = f.1 });
+        full = full_kind k (log ++ Seal ∷ []) live t.holder t.fresh t.garbage homes Queued Clean (λ _ e. cc) (full_stays k log live t.holder t.fresh t.garbage homes Queued Seal refl full);
         clean = none;
         left = λ is. absurd (never_left Queued r.kind (λ h. h) (λ e. cc) is);
         unturned = λ e. cc;

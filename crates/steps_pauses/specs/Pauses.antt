@@ -68,9 +68,9 @@ ArrivesFrom d (Leads kind) = d ≢ 0
 ArrivesFrom d (Led kind) = Unit {0}
 ArrivesFrom d (Gone kind) = ⊥
 
--- a domain that arrives from here has looked at own places, and may have darkened a block
+-- a domain that arrives from here has looked at own places or at its queue, and may have darkened a block
 abbrev pub Traces : Stage → Type 0
-Traces stage = (stage ≡ In Mark) ⊎ ((stage ≡ In Rounds) ⊎ (stage ≡ In Clean))
+Traces stage = (stage ≡ In Mark) ⊎ ((stage ≡ In Rounds) ⊎ ((stage ≡ In Queued) ⊎ (stage ≡ In Clean)))
 
 -- What a domain has done of a phase of a collection in which it arrives. Of a phase without one nothing is asked
 pub record HasDone (k : Config) (x : DomainView) : Type 0 where
@@ -187,6 +187,7 @@ ClearTold x found y = y ≡ noted x Cleared
 abbrev pub entry_of : Bool → Kind → Kind → Option Entry
 entry_of unswept Rounds Decide = Some Cut
 entry_of unswept Rounds Clean = Some Seal
+entry_of unswept Queued Clean = Some Seal
 entry_of unswept Lasts Run = Some Done
 entry_of unswept Sweep Answer = Some Collected
 entry_of unswept Sweep Roots = cond unswept None (Some Done)
@@ -227,11 +228,11 @@ unswept_after _ _ unswept = unswept
 abbrev pub progress_after : Kind → Kind → Progress → Progress
 progress_after last next p = record { cut = cut_in last p.cut; whole = whole_after last next p.whole; unswept = unswept_after last next p.unswept; armed = armed_after last next p.armed }
 
--- What domain 0 knows as it names the next kind. It leaves the marking when it has found that nothing was changed, to one side before the cut is made, to the other after it. It leaves Lasts once it has rotated the colours. Where garbage is freed next it has set the live words back. The domains run again beside the cycle where it has stored so in the armed word; one that goes on is finished, and another begins where none does, and no garbage of the last one is left: where some is, it is freed first. After a collection it has taken the armed word back. A collection is answered where it began in this pause
+-- What domain 0 knows as it names the next kind. It leaves the marking when it has found that nothing was changed, to one side before the cut is made, to the other after it; and so it leaves Queued to the other side at once. It leaves Lasts once it has rotated the colours. Where garbage is freed next it has set the live words back. The domains run again beside the cycle where it has stored so in the armed word; one that goes on is finished, and another begins where none does, and no garbage of the last one is left: where some is, it is freed first. After a collection it has taken the armed word back. A collection is answered where it began in this pause
 pub record MayFollow (share : Share) (last next : Kind) : Type 0 where
   pub unchanged : (next ≡ Rounds) ⊎ ((next ≡ Decide) ⊎ (next ≡ Clean)) → share.changed ≡ Some 0
   pub first : next ≡ Decide → share.progress.cut ≡ false
-  pub second : next ≡ Clean → share.progress.cut ≡ true
+  pub second : last ≡ Rounds → next ≡ Clean → share.progress.cut ≡ true
   pub rotated : last ≡ Lasts → share.rotated ≡ true
   pub set_back : next ≡ Sweep → (share.blocks ≡ Some 0) × (share.words ≡ Some 0)
   pub goes_on : last ≡ Roots → next ≡ Run → share.armed ≡ Some true
