@@ -415,6 +415,6 @@ module _ (k : Config) (limits : IsWithinLimits (sizes_in k)) (words : List ℕ) 
             own = λ a is. absurd (let e : false ≡ true = is in cc);
             lives = λ a is. absurd (let e : false ≡ true = is in cc);
           };
-          sweeps = record { listed = λ i a low got. refl; places = λ q c slot is inside before. refl; anew = λ kind. cc; reaps = tt };
+          sweeps = record { listed = λ i a low got. refl; places = λ q c slot is inside before. refl; anew = λ kind. cc; reaps = tt; below = λ q c is. let o = holder_at q x c is in let e : q ≡ 0 = o.0 in omega arith };
         }));
       }

@@ -83,7 +83,7 @@ abbrev pub first_spare : ℕ → Option Spare
 first_spare zero = Some (record { pool = 0; class = 3; slot = 1 })
 first_spare (suc d) = None
 
--- a domain at the start: register 0 holds the shared block, which is at the address 1
+-- a domain at the start: register 0 holds the shared block, which is at the address 1, in pool 0
 abbrev pub opening_view : Config → ℕ → DomainView
 opening_view k d = record {
   own = record {
@@ -98,7 +98,7 @@ opening_view k d = record {
     pending = record { items = []; room = pending_room k };
     ephemerons = record { items = []; room = k.ephes };
     finalisers = no_finalisers k.finals;
-    swept = record { listed = 0; spot = record { pool = k.pools; slot = 0 } };
+    swept = record { listed = 0; spot = record { pool = k.pools; slot = 0 }; top = 1 };
   };
   seen = record { front = []; made = []; stage = In Run; notes = []; hunt = Rests; free = []; spare = first_spare d; listing = None; copying = record { met = []; pending = []; copied = [] }; remembered = []; share = fresh_share };
 }

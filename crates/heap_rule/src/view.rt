@@ -77,6 +77,8 @@ pub struct Spare {
 pub struct Swept {
     pub listed: usize,
     pub spot: Spot,
+    /// All own pools lie below this one, so walks over own pools end here.
+    pub top: u32,
 }
 
 /// How far a domain is in sweeping a pool.
@@ -89,7 +91,8 @@ pub enum Reaping {
     AtGarbage { pool: u32, class: u32, slot: u32 },
 }
 
-/// The list of free pools, while domain 0 looks at it, or writes it anew.
+/// What a domain knows of the list of free pools: domain 0 while it looks at it, or writes it anew, and one that gives pools
+/// back, that it names none.
 pub struct Listing {
     /// The owner words that it found, from pool 0 on.
     pub owners: LinkedList<u64>,
