@@ -377,6 +377,9 @@ pub struct Share {
     pub marked: LinkedList<u32>,
     /// How many blocks it has darkened in the phase.
     pub darkenings: u64,
+    /// At most so many blocks of the pools weren't marked when the present phase of the marking began, as
+    /// domain 0 has it.
+    pub unmarked: u64,
     /// The own blocks that it has counted, up to this place of the pools, and the words that they have.
     pub counted: LinkedList<u32>,
     pub counted_to: Spot,

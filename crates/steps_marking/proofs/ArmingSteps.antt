@@ -66,6 +66,7 @@ module _ (k : Config) (s : Words) (r : Rule k s) (id : ℕ) (hist : List Entry) 
       armed = λ b e. (may, sym (same_Some c.armed b e));
       unswept = h.leading.unswept;
       under_way = h.leading.under_way;
+      unmarked = h.leading.unmarked;
     };
     knows = ⊎_elim
         (λ (q : IsIdle x.seen.share). inl (ap (λ (z : Share). record z { armed = Some c.armed }) q))

@@ -77,6 +77,7 @@ module _ (k : Config) (s : Words) (r : Rule k s) (id : ℕ) (hist : List Entry) 
         armed = l.armed;
         unswept = l.unswept;
         under_way = l.under_way;
+        unmarked = l.unmarked;
       };
       knows = inl (ap (λ (z : Share). record z { changed = Some (changed_word s.words) }) (idle (Leads may.last) may.stage tt));
       adds = record { blocks = a.blocks; words = a.words; own = a.own };
@@ -167,6 +168,7 @@ module _ (k : Config) (s : Words) (r : Rule k s) (id : ℕ) (hist : List Entry) 
         armed = l.armed;
         unswept = l.unswept;
         under_way = l.under_way;
+        unmarked = l.unmarked;
       };
       knows = inl (ap (λ (z : Share). record z { changed = Some 0 }) (idle (Led Mark) may.stage tt));
       adds = record { blocks = λ e _. a.blocks e start.waits; words = λ e _. a.words e start.waits; own = λ e _. a.own e start.waits };
@@ -195,6 +197,7 @@ module _ (k : Config) (s : Words) (r : Rule k s) (id : ℕ) (hist : List Entry) 
         armed = l.armed;
         unswept = l.unswept;
         under_way = l.under_way;
+        unmarked = l.unmarked;
       };
       knows = knows_words k r.account.live r.account.tenancy.holder state.graph c.paint.marks s.words ws z.own.number z.own.registers z.seen.stage z.seen.share (heap_untouched k s.words ws untouched) g.sharing.knows;
       adds = record { blocks = λ e _. a.blocks e start.waits; words = λ e _. a.words e start.waits; own = λ e _. a.own e start.waits };

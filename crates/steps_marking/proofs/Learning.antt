@@ -428,6 +428,7 @@ module _ (k : Config) (s : Words) (r : Rule k s) (id : ℕ) (hist : List Entry) 
         armed = l.armed;
         unswept = l.unswept;
         under_way = l.under_way;
+        unmarked = l.unmarked;
       }
 
       -- nobody runs
@@ -446,7 +447,7 @@ module _ (k : Config) (s : Words) (r : Rule k s) (id : ℕ) (hist : List Entry) 
               forgotten = λ up. absurd (true≢false (sym up ∙ waits));
               colours = g.sharing.telling.colours;
             };
-            leading = record { changed = l.changed; found_blocks = l.found_blocks; found_words = l.found_words; rotated = l.rotated; turned = l.turned; pass = l.pass; whole = l.whole; armed = l.armed; unswept = l.unswept; under_way = l.under_way };
+            leading = record { changed = l.changed; found_blocks = l.found_blocks; found_words = l.found_words; rotated = l.rotated; turned = l.turned; pass = l.pass; whole = l.whole; armed = l.armed; unswept = l.unswept; under_way = l.under_way; unmarked = l.unmarked };
             knows = inr (
               collecting,
               record {

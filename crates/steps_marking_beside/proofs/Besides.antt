@@ -127,6 +127,7 @@ module _ (k : Config) (s : Words) (r : Rule k s) (id : ℕ) (hist : List Entry) 
       armed = u.armed;
       unswept = u.unswept;
       under_way = u.under_way;
+      unmarked = u.unmarked;
     }
 
     own_sharing : Sharing k all' words' y.own.number y.own.registers y.own.finalisers y.own.ephemerons.items y.seen.stage y.seen.share
@@ -136,7 +137,7 @@ module _ (k : Config) (s : Words) (r : Rule k s) (id : ℕ) (hist : List Entry) 
         let l = leading_on x sh g.leading in
         let idle : IsIdle y.seen.share = ap (λ (z : Share). aware z known' weak') (idle_here k s r id hist x at Run tt runs) in record {
           telling = record { owes = t.owes; seen = t.seen; fresh = λ _. idle; forgotten = t.forgotten; colours = t.colours };
-          leading = record { changed = l.changed; found_blocks = l.found_blocks; found_words = l.found_words; rotated = l.rotated; turned = l.turned; pass = l.pass; whole = l.whole; armed = l.armed; unswept = l.unswept; under_way = l.under_way };
+          leading = record { changed = l.changed; found_blocks = l.found_blocks; found_words = l.found_words; rotated = l.rotated; turned = l.turned; pass = l.pass; whole = l.whole; armed = l.armed; unswept = l.unswept; under_way = l.under_way; unmarked = l.unmarked };
           knows = inl idle;
           adds = adds_nothing live c' y.own.number y.seen.share none;
           looks = looks_idle live holder now.graph m' c.paint.emptied y.own.number y.own.ephemerons.items y.seen.stage y.seen.share idle unmissed;

@@ -18,7 +18,7 @@ use Rattle.heap_rule.specs.declared.view.Copying.{Copying}
 use Rattle.heap_rule.specs.declared.view.DomainView.{DomainView}
 use Rattle.heap_rule.specs.declared.view.Share.{Share}
 use Rattle.heap_rule.specs.Copies.{nothing_copied, Promoting, Resetting, IsEmptying}
-use Rattle.heap_rule.specs.Cycles.{Cycling, Cycled, Facts, HasNoCycle, Told, IsIdle, seen_by, pass_of}
+use Rattle.heap_rule.specs.Cycles.{Cycling, Cycled, Facts, HasNoCycle, Told, IsIdle, IsMarking, IsNamed, seen_by, pass_of}
 use Rattle.heap_rule.specs.Layout.{heap_words, before_heap, barrier, plan, want, listed, cursor, listed_pool}
 use Rattle.heap_rule.specs.Limits.{sizes_in}
 use Rattle.heap_rule.specs.Phases.{code, Follows, flag, is_over, IsEven, Pause, Phases, AtStage, IsInPause}
@@ -41,7 +41,8 @@ use Rattle.heap_model.specs.declared.label.Label.{Label}
 use Rattle.heap_rule.proofs.EphemeronLemmas.{looks_idle}
 use Rattle.heap_rule.proofs.FinaliserLemmas.{paired_length}
 use Rattle.steps_pauses.proofs.Arriving.{whole_all}
-use Rattle.steps_pauses.specs.Pauses.{kind_in, armed_after, entry_of, cut_in, progress_after, unswept_after, whole_after, MayFollow, NamesFree, KeepsNames, LeadMay, LeadTold}
+use Rattle.steps_pauses.proofs.Growing.{grown_by, grows_led}
+use Rattle.steps_pauses.specs.Pauses.{kind_in, armed_after, entry_of, cut_in, progress_after, asks_again, unmarked_after, unswept_after, whole_after, MayFollow, NamesFree, KeepsNames, LeadMay, LeadTold}
 use Rattle.steps_pauses.proofs.CollectorEntries.{OfCollector, entry_of_collector, keeps_left, work_left, graph_left, front_then, after_logged, legal_logged, knows_logged, seen_then}
 use Rattle.steps_pauses.proofs.Naming.{left_by, logged, pass_in, left_in, led_cycle, Ready, Way, led_way}
 use Rattle.steps_pauses.proofs.Sizes.{domains_of}
@@ -90,7 +91,7 @@ armed_led Sweep next f none armed known same on over freed = ⊎_elim
     (⊎_elim (λ (e : next ≡ Answer). absurd (subst HasNoCycle e none)) (λ (e : next ≡ Roots). absurd (subst HasNoCycle e none))) f
 armed_led Answer next f none armed known same on over freed = subst (λ (n : Kind). armed ≡ armed_after Answer n known) (sym f) (over (inr refl) f)
 
-flag_zero : (b : Bool) → 0 ≡ flag b → b ≡ false
+pub flag_zero : (b : Bool) → 0 ≡ flag b → b ≡ false
 flag_zero true e = absurd (omega arith)
 flag_zero false e = refl
 
@@ -200,7 +201,7 @@ module _ (k : Config) (s : Words) (r : Rule k s) (id : ℕ) (hist : List Entry) 
   o = entry_of c.unswept last next
 
   abbrev y : DomainView
-  y = record x { seen = record x.seen { front = front_then x.seen.front r.account.log o; stage = Led next; share = record fresh_share { progress = progress_after last next x.seen.share.progress } } }
+  y = record x { seen = record x.seen { front = front_then x.seen.front r.account.log o; stage = Led next; share = record fresh_share { progress = progress_after last next x.seen.share.progress; unmarked = unmarked_after k last x.seen.share.changed x.seen.share.unmarked } } }
 
   good : Good k r.account s.words x
   good = my_good k s r id hist x at
@@ -243,7 +244,7 @@ module _ (k : Config) (s : Words) (r : Rule k s) (id : ℕ) (hist : List Entry) 
   facts = subst (λ (kind : Kind). Facts kind k state live tenancy c s.words) kind_is r.whole.cycle.facts
 
   abbrev c' : Cycling
-  c' = led_cycle k live last next state c
+  c' = record (led_cycle k live last next state c) { unmarked = unmarked_after k last x.seen.share.changed x.seen.share.unmarked }
 
   counted : k.domains ≡ length state.domains
   counted = sym (domains_of k r.account.log r.limits)
@@ -336,6 +337,16 @@ module _ (k : Config) (s : Words) (r : Rule k s) (id : ℕ) (hist : List Entry) 
     leader = λ i e a. refl;
   }
 
+  -- the next kind wasn't named, and domain 0 stands in the phase
+  unnamed : IsNamed t → ⊥
+  unnamed h = true≢false (sym h.2 ∙ before.2 may.leads)
+
+  stands : t.arrived 0 ≡ t.phase
+  stands = ap t.arrived (sym may.leads) ∙ (sym good.staged.arrivals ∙ before.0)
+
+  knows_changed : (v : ℕ) → x.seen.share.changed ≡ Some v → v ≡ flag c.shares.changed
+  knows_changed v is = (good.sharing.leading.changed v is).2
+
   cycle_led : Cycled k (state_of k log') live t' tenancy c' ws
   cycle_led = let w = r.whole.cycle in record {
     armed_is = same_cycle.armed_same ∙ w.armed_is;
@@ -353,6 +364,7 @@ module _ (k : Config) (s : Words) (r : Rule k s) (id : ℕ) (hist : List Entry) 
     };
     unswept = way.left;
     whole = λ l. inl (whole l);
+    grows = grows_led k live t c w.grows unnamed x.seen.share.changed x.seen.share.unmarked knows_changed (good.sharing.leading.unmarked may.leads) last next state kind_is j odd stands (λ rounds. ready.quiet (inl rounds)) t'.kinds;
   }
 
   -- each domain has all its registrations left to look at, where it is to look at them
@@ -391,6 +403,7 @@ module _ (k : Config) (s : Words) (r : Rule k s) (id : ℕ) (hist : List Entry) 
       armed = λ b e. cc;
       unswept = λ first. ap (unswept_after last next) (good.sharing.leading.unswept first);
       under_way = λ _ none. armed_led last next follows none c.armed x.seen.share.progress.armed under_way ready.goes_on ready.over (λ g h. (r.whole.cycle.unswept (ready.freed g h)).unarmed);
+      unmarked = λ _. refl;
     };
     knows = inl refl;
     adds = record { blocks = λ e _. (way.uncounted e x.own.number).0; words = λ e _. (way.uncounted e x.own.number).1; own = λ _ _ e. cc };
@@ -425,6 +438,7 @@ module _ (k : Config) (s : Words) (r : Rule k s) (id : ℕ) (hist : List Entry) 
           armed = l.armed;
           unswept = λ first. absurd (apart first);
           under_way = λ first. absurd (apart first);
+          unmarked = λ first. absurd (apart first);
         };
         knows = inl idle;
         adds = record {
@@ -587,12 +601,16 @@ module _ (k : Config) (s : Words) (r : Rule k s) (id : ℕ) (hist : List Entry) 
   entry_known : o ≡ entry_of x.seen.share.progress.unswept last next
   entry_known = ap (λ (u : Bool). entry_of u last next) (good.sharing.leading.unswept may.leads)
 
+  grown : IsMarking last → asks_again x.seen.share.changed ≤ x.seen.share.unmarked
+  grown marking = grown_by k live t c r.whole.cycle.grows unnamed x.seen.share.changed x.seen.share.unmarked knows_changed (good.sharing.leading.unmarked may.leads) (subst IsMarking (sym kind_is) marking)
+
   fronted : (p : Option Entry) → o ≡ p → LeadTold k next x new y
   fronted None is = record {
     seen = seen_then k s r id hist x at o collector;
     stays = λ _. ap (front_then x.seen.front r.account.log) is;
     made = λ e f. let clash : ◌≡◌ {A = Option Entry} None (Some e) = sym is ∙ (entry_known ∙ f) in cc;
     view = refl;
+    grown = grown;
   }
   fronted (Some d) is = record {
     seen = seen_then k s r id hist x at o collector;
@@ -605,6 +623,7 @@ module _ (k : Config) (s : Words) (r : Rule k s) (id : ℕ) (hist : List Entry) 
       legal = subst (λ (p : Option Entry). Legal (sizes_in k) (front_then x.seen.front r.account.log p)) (sym f) (subst (λ (p : Option Entry). Legal (sizes_in k) (logged r.account.log p)) f (legal_logged k s r id hist x at o way.allowed));
     };
     view = refl;
+    grown = grown;
   }
 
   pub led_told : LeadTold k next x new y

@@ -170,6 +170,7 @@ module _ (k : Config) (s : Words) (r : Rule k s) (id : ℕ) (hist : List Entry) 
           armed = g.leading.armed;
           unswept = g.leading.unswept;
           under_way = g.leading.under_way;
+          unmarked = g.leading.unmarked;
         };
         knows = inr (
           collecting,
@@ -193,6 +194,7 @@ module _ (k : Config) (s : Words) (r : Rule k s) (id : ℕ) (hist : List Entry) 
           armed = q.leading.armed;
           unswept = q.leading.unswept;
           under_way = q.leading.under_way;
+          unmarked = q.leading.unmarked;
         };
         knows = ⊎_elim
             (λ (u : IsIdle z.seen.share). inl u)

@@ -352,6 +352,7 @@ module _ (k : Config) (s : Words) (r : Rule k s) (id : ℕ) (hist : List Entry) 
       armed = g.leading.armed;
       unswept = g.leading.unswept;
       under_way = g.leading.under_way;
+      unmarked = g.leading.unmarked;
     };
     knows = inl idle';
     adds = record { blocks = λ e _. absurd (no_sweep e); words = λ e _. absurd (no_sweep e); own = λ e _ _. absurd (no_sweep e) };
@@ -383,6 +384,7 @@ module _ (k : Config) (s : Words) (r : Rule k s) (id : ℕ) (hist : List Entry) 
           armed = g.leading.armed;
           unswept = g.leading.unswept;
           under_way = g.leading.under_way;
+          unmarked = g.leading.unmarked;
         };
         knows = inl (g.telling.fresh gone);
         adds = record { blocks = λ e _. absurd (no_sweep e); words = λ e _. absurd (no_sweep e); own = λ e _ _. absurd (no_sweep e) };
