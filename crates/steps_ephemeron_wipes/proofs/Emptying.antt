@@ -427,6 +427,7 @@ module _ (k : Config) (s : Words) (r : Rule k s) (id : ℕ) (hist : List Entry) 
             leaves = record { none = was.leaves.none; dead = was.leaves.dead; head = λ a is. absurd (true≢false (sym is ∙ no_garbage a)); unprepared = was.leaves.unprepared; owned = was.leaves.owned };
             unswept = was.unswept;
             whole = λ l. whole' l;
+            grows = record { few = was.grows.few; since = was.grows.since; named = was.grows.named; cleared = was.grows.cleared };
           }
         where
           missing : (l : Label) → p.label ≡ l → MissesKeys live T.holder c' l

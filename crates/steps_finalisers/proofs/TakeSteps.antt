@@ -114,6 +114,7 @@ module _ (k : Config) (s : Words) (r : Rule k s) (id : ℕ) (hist : List Entry) 
         leaves = record { none = was.leaves.none; dead = was.leaves.dead; head = was.leaves.head; unprepared = was.leaves.unprepared; owned = was.leaves.owned };
         unswept = was.unswept;
         whole = λ l. inl (⊎_elim (λ (e : c.paint.emptied l ≡ []). e) (λ (h : MissesKeys live t.holder c l). absurd (not_clean (sym kind_is ∙ h.clean))) (was.whole l));
+        grows = record { few = was.grows.few; since = was.grows.since; named = was.grows.named; cleared = was.grows.cleared };
       }
 
       leading' : (z : DomainView) (share : Share) → Leading c s.words z.own.number z.seen.stage share → Leading c' s.words z.own.number z.seen.stage share

@@ -19,6 +19,7 @@ use Rattle.heap_rule.specs.Places.{Live}
 use Rattle.heap_rule.specs.Pools.{Grid, Holder, Hunter}
 use Rattle.heap_rule.specs.Rule.{Account, AllFound, Area, Good, Making, Rule, Sharing, state_of}
 use Rattle.heap_rule.specs.Views.{one}
+use Rattle.heap_rule.proofs.Growing.{grows_none, no_marking}
 use Rattle.heap_rule.proofs.Advancing.{underway_here}
 use Rattle.heap_rule.proofs.BesideLemmas.{Endures, runs_on}
 use Rattle.heap_rule.proofs.EphemeronLemmas.{looks_idle}
@@ -113,6 +114,7 @@ module _ (k : Config) (s : Words) (r : Rule k s) (id : ℕ) (hist : List Entry) 
       leaves = record { none = w.leaves.none; dead = w.leaves.dead; head = λ a is. absurd (true≢false (sym is ∙ no_garbage a)); unprepared = w.leaves.unprepared; owned = w.leaves.owned };
       unswept = w.unswept;
       whole = λ l. inl (unmissed l);
+      grows = grows_none k live r.account.pause c' (no_marking c.kind none);
     }
 
     leading_on : (z : DomainView) (share : Share) → Leading c s.words z.own.number z.seen.stage share → Leading c' words' z.own.number z.seen.stage share

@@ -155,6 +155,7 @@ module _ (k : Config) (s : Words) (r : Rule k s) (id : ℕ) (hist : List Entry) 
     leaves = z.leaves;
     unswept = z.unswept;
     whole = z.whole;
+    grows = z.grows;
   }
 
   stands_still : (z : DomainView) → Stood live now z → Stood live (state_of k log') z

@@ -85,6 +85,7 @@ module _ (k : Config) (s : Words) (r : Rule k s) (id : ℕ) (hist : List Entry) 
     leaves = record { none = y.leaves.none; dead = y.leaves.dead; head = λ a is_dead. let h = y.leaves.head a is_dead in (h.0, h.1, heap k s r id hist x at i 0 is a ∙ h.2); unprepared = y.leaves.unprepared; owned = y.leaves.owned };
     unswept = y.unswept;
     whole = y.whole;
+    grows = y.grows;
   }
 
   -- nobody else knows of what lives

@@ -297,6 +297,7 @@ module _ (k : Config) (s : Words) (r : Rule k s) (id : ℕ) (hist : List Entry) 
     };
     unswept = z.unswept;
     whole = z.whole;
+    grows = z.grows;
   }
 
   still_free : (b : ℕ) → at_address k s.words b ≡ 0 → at_address k words' b ≡ 0
