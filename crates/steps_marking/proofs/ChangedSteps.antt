@@ -1,5 +1,6 @@
 -- Domain 0 finds the changed word, and sets it back, in an odd phase.
-use Rattle.std.proofs.Common.{◌≡◌, ◌≢◌, ℕ, ◌+◌, false, List, set, length, length-set, get_or-set_same, get_or-set_other, Some, None, sym, refl, ap, ◌∙◌, subst, inl, ⊎_elim, arith, true≢false, ◌≤◌, [], inr}
+use Rattle.std.proofs.Common.{◌≡◌, ◌≢◌, ℕ, ◌+◌, false, List, set, length, length-set, get_or-set_same, get_or-set_other, Some, sym, refl, ap, ◌∙◌, subst, inl, ⊎_elim, arith, true≢false, ◌≤◌, [], inr}
+use Rattle.std.proofs.lemmas.Bool.{false≢true}
 use mathlib.Core.Option.{some}
 use lib.ListN.{get_elem?}
 use Rattle.atomic_table.specs.Table.{keeps}
@@ -129,7 +130,7 @@ module _ (k : Config) (s : Words) (r : Rule k s) (id : ℕ) (hist : List Entry) 
       told = record {
         even = λ j e. absurd (not_both r.account.pause.phase (j, e) (here.1.0, here.1.1));
         odd = λ j e f. absurd (true≢false (sym here.3 ∙ f));
-        led = λ j e f. ((y.told.led j e f).0, λ d. record { waits = refl; paid = refl; blind = refl });
+        led = λ j e f. ((y.told.led j e f).0, λ d. record { waits = refl; paid = refl; settled = refl; blind = refl });
       };
       leaves = record {
         none = y.leaves.none;
@@ -151,7 +152,7 @@ module _ (k : Config) (s : Words) (r : Rule k s) (id : ℕ) (hist : List Entry) 
     own_sharing : Sharing k (record r.account { cycling = c' }) ws x.own.number x.own.registers x.own.finalisers x.own.ephemerons.items x.seen.stage forgets
     own_sharing = let t = good.sharing.telling in let l = good.sharing.leading in let a = good.sharing.adds in let start = told.1 x.own.number in record {
       telling = record {
-        owes = λ _. sym start.paid ∙ t.owes start.waits;
+        owes = λ _. record { owes = sym start.paid ∙ (t.owes start.waits).owes; follows = λ a is. absurd (false≢true is) };
         seen = λ _. sym start.blind ∙ t.seen start.waits;
         fresh = λ up. absurd (true≢false (sym up));
         forgotten = λ up. absurd (true≢false (sym up));
@@ -180,7 +181,7 @@ module _ (k : Config) (s : Words) (r : Rule k s) (id : ℕ) (hist : List Entry) 
     others_sharing : (z : DomainView) → z.own.number ≢ x.own.number → Good k r.account s.words z → Sharing k (record r.account { cycling = c' }) ws z.own.number z.own.registers z.own.finalisers z.own.ephemerons.items z.seen.stage z.seen.share
     others_sharing z other g = let t = g.sharing.telling in let l = g.sharing.leading in let a = g.sharing.adds in let start = told.1 z.own.number in record {
       telling = record {
-        owes = λ _. sym start.paid ∙ t.owes start.waits;
+        owes = λ _. record { owes = sym start.paid ∙ (t.owes start.waits).owes; follows = λ a is. absurd (false≢true is) };
         seen = λ _. sym start.blind ∙ t.seen start.waits;
         fresh = λ up. absurd (true≢false (sym up));
         forgotten = λ up. absurd (true≢false (sym up));
