@@ -144,6 +144,12 @@ module _ (k : Config) (s : Words) (r : Rule k s) (id : ℕ) (hist : List Entry) 
           (λ (e : c.paint.emptied l ≡ []). inl e)
           (λ (h : MissesKeys r.account.live r.account.tenancy.holder c l). inr record { clean = h.clean; domain = h.domain; waits = refl; address = h.address; own = h.own; place = h.place; lives = h.lives; label = h.label })
           (y.whole l);
+      grows = record {
+        few = y.grows.few;
+        since = λ _ unnamed. absurd (unnamed (here.1.0, here.1.1, here.3));
+        named = y.grows.named;
+        cleared = λ _ _ _. refl;
+      };
     }
 
     running : (z : DomainView) → Good k r.account s.words z → RunsBeside k r.account.live r.account.tenancy.holder c.armed c.past c.paint.marks.marked ws z.own.number z.seen.stage z.seen.share
@@ -209,7 +215,7 @@ module _ (k : Config) (s : Words) (r : Rule k s) (id : ℕ) (hist : List Entry) 
 
     -- who has arrived in a phase of marking may have swept
     sweeps_on : (z : DomainView) → SweepsIn r.account.tenancy c z → SweepsIn r.account.tenancy c' z
-    sweeps_on z u = record { listed = u.listed; places = u.places; anew = λ e. absurd (let clash : Mark ≡ Lasts = sym kind_is ∙ e in cc); reaps = u.reaps }
+    sweeps_on z u = record { listed = u.listed; places = u.places; anew = λ e. absurd (let clash : Mark ≡ Lasts = sym kind_is ∙ e in cc); below = u.below; reaps = u.reaps }
 
     pub forget_rule : Rule k record { words = ws; homes = s.homes; views = set s.views id (one k hist (with_share x forgets)) }
     forget_rule = shifts k s r id hist x at forgets anew ws record {
@@ -221,7 +227,7 @@ module _ (k : Config) (s : Words) (r : Rule k s) (id : ℕ) (hist : List Entry) 
       cycle = cycle;
       sharing = own_sharing;
       sharings = others_sharing;
-      sweeps = let u = sweeps_on x good.sweeps in record { listed = u.listed; places = u.places; anew = u.anew; reaps = u.reaps };
+      sweeps = let u = sweeps_on x good.sweeps in record { listed = u.listed; places = u.places; anew = u.anew; below = u.below; reaps = u.reaps };
       others_sweep = λ z _ h. sweeps_on z h.sweeps;
     }
 

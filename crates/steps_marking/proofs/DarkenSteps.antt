@@ -26,6 +26,9 @@ use Rattle.cycle_laws.specs.Shares.{at_domain, following, owing}
 use Rattle.cycle_laws.specs.CycleLaws.{Darkens}
 use Rattle.cycle_laws.proofs.Tracing.{darkened_more, darkens_as, scanned_else, scanned_here}
 use Rattle.cycle_laws.proofs.Cycling.{darkening_steps}
+use Rattle.cycle_laws.specs.Ending.{IsGrowing}
+use Rattle.cycle_laws.proofs.Ending.{owing_grows}
+use Rattle.heap_rule.proofs.Growing.{pooled}
 use Rattle.heap_rule.specs.declared.config.Config.{Config}
 use Rattle.heap_rule.specs.declared.phase.Kind.{Kind}
 use Rattle.heap_rule.specs.declared.phase.Kind.TheVariants.{Run, Promote, Reset, Roots, Mark, Rounds, Decide, Queued, Clean, Lasts, Sweep, Answer}
@@ -34,7 +37,7 @@ use Rattle.heap_rule.specs.declared.view.Share.{Share}
 use Rattle.heap_rule.specs.Limits.{sizes_in}
 use Rattle.heap_rule.specs.Layout.{before_heap, at_address}
 use Rattle.heap_rule.specs.Places.{IsHeadOf, IsOldAt, Place, colour_in, head_of, needs_no_scan}
-use Rattle.heap_rule.specs.Cycles.{Cycling, Facts, HasNoCycle, IsCollecting, OwesAs, cycle_of, seen_by}
+use Rattle.heap_rule.specs.Cycles.{Cycling, Facts, HasNoCycle, IsCollecting, OwesAs, cycle_of, seen_by, IsMarking, pool_labels}
 use Rattle.heap_rule.specs.Raw.{MayStep}
 use Rattle.heap_rule.specs.Rule.{Rule, state_of}
 use Rattle.heap_rule.specs.Views.{one}
@@ -44,7 +47,7 @@ use Rattle.steps_marking.specs.Marking.{DarkenMay, DarkenTold, IsDarkening, dark
 use Rattle.steps_marking.proofs.Colouring.{BareHead, Recolourable, bare_head, no_fields, unmarked_by, words_same}
 use Rattle.steps_marking.proofs.TargetSteps.{goes_on}
 use Rattle.steps_marking.proofs.Layouts.{label_there, owner_of_place}
-use Rattle.steps_marking.proofs.Learning.{at_other, at_same, bare, held, kind_here, known, lies_old, one_place}
+use Rattle.steps_marking.proofs.Learning.{at_other, at_same, bare, held, kind_here, known, lies_old, one_place, unnamed}
 use Rattle.steps_marking.proofs.Recolouring.{Recolours, known_still, recolours}
 use Rattle.steps_marking.proofs.Targets.{Target, datum_facts, moved_knows, sees_on, sees_others, sees_own, target, waiting_moved}
 use Rattle.heap_rule.proofs.Stages.{waits_in}
@@ -270,6 +273,28 @@ module _ (k : Config) (s : Words) (r : Rule k s) (id : ℕ) (hist : List Entry) 
     abbrev share' : Share
     share' = darkening may.kind reason a x.seen.share
 
+    -- in the marking the block that is darkened was unmarked, and lies in a pool
+    grown : (kind : Kind) → IsMarking c.kind → IsMarking kind → IsGrowing (pool_labels k r.account.live) c.before m'.marked (record c.shares { owes = owing_on kind c.shares.owes d })
+    grown kind now_marking = go kind
+      where
+        owed : IsGrowing (pool_labels k r.account.live) c.before (darkened m p.label).marked (owing c.shares d)
+        owed = owing_grows (pool_labels k r.account.live) c.before m c.shares (r.whole.cycle.grows.since now_marking (unnamed k s r id hist x at collecting)) d p.label unmarked
+            (pooled k r.account.tenancy s.words r.account.live r.whole.pools r.whole.grid a p aim.lives old_at)
+
+        go : (kind : Kind) → IsMarking kind → IsGrowing (pool_labels k r.account.live) c.before m'.marked (record c.shares { owes = owing_on kind c.shares.owes d })
+        go Mark marking = record { stays = owed.stays; changed = owed.changed; owing = owed.owing }
+        go Rounds marking = record { stays = owed.stays; changed = owed.changed; owing = owed.owing }
+        go Run marking = absurd marking
+        go Promote marking = absurd marking
+        go Reset marking = absurd marking
+        go Roots marking = absurd marking
+        go Decide marking = absurd marking
+        go Queued marking = absurd marking
+        go Clean marking = absurd marking
+        go Lasts marking = absurd marking
+        go Sweep marking = absurd marking
+        go Answer marking = absurd marking
+
     recoloured : Recolours k s r id hist x at collecting a p new m' (owing_on may.kind c.shares.owes d) (following_on may.kind c.shares.follows d a) (sees_on k s r id hist x at reason a may.reason_is) (held share') (waiting_on reason x.seen.share.waiting)
     recoloured = let cs : Colours = c.paint.colours in record {
       lives = aim.lives;
@@ -294,6 +319,7 @@ module _ (k : Config) (s : Words) (r : Rule k s) (id : ℕ) (hist : List Entry) 
       seen_is = sees_own k s r id hist x at reason a may.reason_is ((my_good k s r id hist x at).sharing.telling.seen (waits_in k s r id hist x at may.kind may.stage));
       knows = moved_knows k s r id hist x at collecting a p aim.lives m' words' is_dark not_clean (known_still k s r id hist x at collecting a p new m' aim.lives is_dark (darkened_more m p.label)) reason may.reason_is (owes_on may.kind x.seen.share.owes) (account_on may.kind a x.seen.share.account) (x.seen.share.darkenings + 1);
       queued = waiting_moved k s r id hist x at collecting a p aim.lives m' is_dark (darkened_more m p.label) reason may.reason_is;
+      grows = λ marking. let g = grown may.kind marking (subst IsMarking kind_is marking) in record { stays = g.stays; changed = g.changed; owing = g.owing };
     }
 
     won_rule : Rule k record { words = words'; homes = s.homes; views = set s.views id (one k hist (with_share x share')) }

@@ -9,6 +9,7 @@ use Rattle.heap_model.specs.declared.state.State as model
 use Rattle.cycle_laws.specs.Marks.{Marks}
 use Rattle.cycle_laws.specs.Shares.{OnePlaceEach, Shares, at_domain}
 use Rattle.heap_words.specs.declared.value.Value.TheVariants.{Ref}
+use Rattle.cycle_laws.specs.Ending.{IsGrowing}
 use Rattle.heap_rule.specs.declared.config.Config.{Config}
 use Rattle.heap_rule.specs.declared.phase.Kind.{Kind}
 use Rattle.heap_rule.specs.declared.phase.Kind.TheVariants.{Run, Promote, Clean}
@@ -30,7 +31,7 @@ use Rattle.heap_rule.specs.Pools.{Holder, IsBefore, IsLeading, blocks_of, owned,
 use Rattle.heap_rule.specs.declared.view.Held.TheVariants.{Queue}
 use Rattle.heap_rule.specs.Deciding.{IsRooting}
 use Rattle.heap_rule.specs.Finalisers.{held_at}
-use Rattle.heap_rule.specs.Cycles.{Cycled, Cycling, Facts, HasNoCycle, IsCollecting, IsIdle, IsMarkedAt, Knowing, Leading, OwesAs, Scans, Told, layout_of, seen_by, Scanned, MissesKeys, KeysAt}
+use Rattle.heap_rule.specs.Cycles.{Cycled, Cycling, Facts, HasNoCycle, IsCollecting, IsIdle, IsMarkedAt, Knowing, Leading, OwesAs, Scans, Told, layout_of, seen_by, Scanned, MissesKeys, KeysAt, IsMarking, IsNamed, pool_labels}
 use Rattle.heap_rule.specs.Rule.{Account, Good, Rule, Sharing, state_of}
 use Rattle.heap_rule.specs.Sweeping.{SweepsIn}
 use Rattle.heap_rule.specs.Views.{one}
@@ -315,6 +316,18 @@ module _ (k : Config) (s : Words) (r : Rule k s) (id : ℕ) (hist : List Entry) 
     pub waits : c.shares.arrived d ≡ false
     waits = waits_in k s r id hist x at in_kind.kind in_kind.stage
 
+    -- the phase is even, so the next kind isn't named
+    pub unnamed : IsNamed r.account.pause → ⊥
+    unnamed named = not_both r.account.pause.phase even (named.0, named.1)
+
+    -- What a step of the marking owes: where the changed word is set, or a domain owes a store of it, a block was marked in this phase
+    abbrev pub GrowsBy : Marks → Bool → (ℕ → Bool) → Type 0
+    GrowsBy m' changed owes = IsMarking c.kind → IsGrowing (pool_labels k live) c.before m'.marked (record c.shares { changed = changed; owes = owes })
+
+    -- where it changes none of these it owes nothing
+    pub grows_still : GrowsBy m c.shares.changed c.shares.owes
+    grows_still marking = let g = r.whole.cycle.grows.since marking unnamed in record { stays = g.stays; changed = g.changed; owing = g.owing }
+
     pub none_runs : c.kind ≡ Run → ⊥
     none_runs e = in_kind.under_way (subst HasNoCycle (sym e ∙ kind_here in_kind.kind in_kind.stage) tt)
 
@@ -396,6 +409,7 @@ module _ (k : Config) (s : Words) (r : Rule k s) (id : ℕ) (hist : List Entry) 
       pub seen_is : seen d ≡ seen_by h.places_seen
       pub knows : Knows m' words' h
       pub queued : QueueMarked m' waiting
+      pub grows : GrowsBy m' changed owes
 
     module _ (m' : Marks) (changed : Bool) (owes : ℕ → Bool) (follows seen : ℕ → ℕ → Bool) (h : Held) (waiting : List ℕ) (words' : List ℕ) (o : Learns m' changed owes follows seen h waiting words') where
       abbrev c' : Cycling
@@ -431,6 +445,12 @@ module _ (k : Config) (s : Words) (r : Rule k s) (id : ℕ) (hist : List Entry) 
             (λ (e : c.paint.emptied l ≡ []). inl e)
             (λ (h : MissesKeys live holder c l). inr record { clean = h.clean; domain = h.domain; waits = h.waits; address = h.address; own = h.own; place = h.place; lives = h.lives; label = h.label })
             (y.whole l);
+        grows = record {
+          few = y.grows.few;
+          since = λ marking _. let g = o.grows marking in record { stays = g.stays; changed = g.changed; owing = g.owing };
+          named = λ _ named. absurd (unnamed named);
+          cleared = λ _ named _. absurd (unnamed named);
+        };
       }
 
       leading' : (z : DomainView) (share : Share) → Staged r.account.pause z → Leading c s.words z.own.number z.seen.stage share → Leading c' words' z.own.number z.seen.stage share
@@ -523,14 +543,15 @@ module _ (k : Config) (s : Words) (r : Rule k s) (id : ℕ) (hist : List Entry) 
       seen_is = t.seen waits ∙ places_seen;
       knows = n;
       queued = queue_still m (λ l is. is);
+      grows = grows_still;
     }) g.sweeps
 
     -- and one that leaves the heap's words and what is marked
     pub shifts_queue : (waiting : List ℕ) → QueueMarked m waiting → (changed : Bool) (owes : ℕ → Bool) (follows seen : ℕ → ℕ → Bool) (h : Held) (words' : List ℕ) → Untouched s.words words' → get_or words' 0 0 ≡ get_or s.words 0 0 → get_or words' 1 0 ≡ get_or s.words 1 0 → get_or words' 2 0 ≡ get_or s.words 2 0
-        → changed_word words' ≡ flag changed → Facts c.kind k now live r.account.tenancy (record c { shares = record c.shares { changed = changed; owes = owes; follows = follows; seen = seen } }) words'
+        → changed_word words' ≡ flag changed → Facts c.kind k now live r.account.tenancy (record c { shares = record c.shares { changed = changed; owes = owes; follows = follows; seen = seen } }) words' → GrowsBy m changed owes
         → ((z : ℕ) → z ≢ d → (owes z ≡ c.shares.owes z) × (follows z ≡ c.shares.follows z) × (seen z ≡ c.shares.seen z)) → OwesAs (owes d) (follows d) h.owes h.account → seen d ≡ seen_by h.places_seen → Knows m words' h
         → get_or words' 8 0 ≡ get_or s.words 8 0 → Rule k record { words = words'; homes = s.homes; views = set s.views id (one k hist (with_share x (holding (record sh { waiting = waiting }) h))) }
-    shifts_queue waiting queued changed owes follows seen h words' u want_same barrier_same plan_same changed_is facts others owes_is seen_is knows ended_same =
+    shifts_queue waiting queued changed owes follows seen h words' u want_same barrier_same plan_same changed_is facts grows others owes_is seen_is knows ended_same =
         let o : Learns m changed owes follows seen h waiting words' = record {
           armed_same = u.1 4 (omega arith) (λ e. omega arith);
           colours_same = u.1 5 (omega arith) (λ e. omega arith);
@@ -547,6 +568,7 @@ module _ (k : Config) (s : Words) (r : Rule k s) (id : ℕ) (hist : List Entry) 
           seen_is = seen_is;
           knows = knows;
           queued = queued;
+          grows = grows;
         } in shifts (holding (record sh { waiting = waiting }) h) (record c.shares { changed = changed; owes = owes; follows = follows; seen = seen }) words' record {
           untouched = u;
           want_same = want_same;
@@ -562,7 +584,7 @@ module _ (k : Config) (s : Words) (r : Rule k s) (id : ℕ) (hist : List Entry) 
 
     -- also where it goes to no place of its queue
     pub shifts_more : (changed : Bool) (owes : ℕ → Bool) (follows seen : ℕ → ℕ → Bool) (h : Held) (words' : List ℕ) → Untouched s.words words' → get_or words' 0 0 ≡ get_or s.words 0 0 → get_or words' 1 0 ≡ get_or s.words 1 0 → get_or words' 2 0 ≡ get_or s.words 2 0
-        → changed_word words' ≡ flag changed → Facts c.kind k now live r.account.tenancy (record c { shares = record c.shares { changed = changed; owes = owes; follows = follows; seen = seen } }) words'
+        → changed_word words' ≡ flag changed → Facts c.kind k now live r.account.tenancy (record c { shares = record c.shares { changed = changed; owes = owes; follows = follows; seen = seen } }) words' → GrowsBy m changed owes
         → ((z : ℕ) → z ≢ d → (owes z ≡ c.shares.owes z) × (follows z ≡ c.shares.follows z) × (seen z ≡ c.shares.seen z)) → OwesAs (owes d) (follows d) h.owes h.account → seen d ≡ seen_by h.places_seen → Knows m words' h
         → get_or words' 8 0 ≡ get_or s.words 8 0 → Rule k record { words = words'; homes = s.homes; views = set s.views id (one k hist (with_share x (holding sh h))) }
     shifts_more = shifts_queue sh.waiting (queue_still m (λ l is. is))

@@ -24,7 +24,7 @@ use Rattle.heap_rule.proofs.Lots.{head_full, head_some}
 use Rattle.heap_rule.proofs.Values.{extent_large}
 use Rattle.heap_rule.proofs.Keeps.{Words, my_good, more_same, remakes, knows_front, control_set, controls_kept, opened_words, owes_as, resting_as, resting_lists, room_words, hunter_as}
 use Rattle.steps_marking.specs.Looks.{with_share}
-use Rattle.steps_marking.proofs.Learning.{Held, Learns, cycle', holding, sharing', sharings', bare, rests_here, knowing_on, known, Knows, lies_old, QueueMarked}
+use Rattle.steps_marking.proofs.Learning.{Held, Learns, cycle', holding, sharing', sharings', bare, rests_here, knowing_on, known, Knows, lies_old, QueueMarked, GrowsBy}
 use Rattle.cycle_laws.proofs.Tracing.{More}
 use Rattle.heap_rule.specs.declared.phase.Kind.TheVariants.{Clean}
 
@@ -62,6 +62,7 @@ module _ (k : Config) (s : Words) (r : Rule k s) (id : ℕ) (hist : List Entry) 
     pub seen_is : seen x.own.number ≡ seen_by h.places_seen
     pub knows : Knows k s r id hist x at collecting m' (set s.words (before_heap k + a) new) h
     pub queued : QueueMarked k s r id hist x at collecting m' waiting
+    pub grows : GrowsBy k s r id hist x at collecting m' r.account.cycling.shares.changed owes
 
   module _ (a : ℕ) (p : Place) (new : ℕ) (m' : Marks) (owes : ℕ → Bool) (follows seen : ℕ → ℕ → Bool) (h : Held) (waiting : List ℕ) (o : Recolours a p new m' owes follows seen h waiting) where
     abbrev words' : List ℕ
@@ -105,6 +106,7 @@ module _ (k : Config) (s : Words) (r : Rule k s) (id : ℕ) (hist : List Entry) 
       seen_is = o.seen_is;
       knows = o.knows;
       queued = o.queued;
+      grows = o.grows;
     }
 
     was_full : at_address k s.words a ≢ 0

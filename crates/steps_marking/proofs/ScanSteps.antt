@@ -25,6 +25,7 @@ use Rattle.cycle_laws.specs.Progress.{FieldsDone}
 use Rattle.cycle_laws.specs.Shares.{at_domain}
 use Rattle.cycle_laws.proofs.Cycling.{darkening_steps}
 use Rattle.cycle_laws.proofs.Progressing.{fields_next, fields_end}
+use Rattle.cycle_laws.proofs.Ending.{stored_grows}
 use Rattle.heap_rule.specs.declared.config.Config.{Config}
 use Rattle.heap_rule.specs.declared.phase.Kind.{Kind}
 use Rattle.heap_rule.specs.declared.phase.Kind.TheVariants.{Run, Promote, Reset, Roots, Mark, Rounds, Decide, Queued, Clean, Lasts, Sweep, Answer}
@@ -34,7 +35,7 @@ use Rattle.heap_rule.specs.declared.view.Scan.TheVariants.{Idle, Reads}
 use Rattle.heap_rule.specs.declared.view.Share.{Share}
 use Rattle.heap_rule.specs.Layout.{before_heap, heap_words, at_address}
 use Rattle.heap_rule.specs.Places.{Debt, HasValue, Live, Place, Stands, WordStands, colour_in, head_of, values_of}
-use Rattle.heap_rule.specs.Cycles.{Cycling, Facts, HasNoCycle, IsCollecting, Knowing, Refers, Scanned, Scans, cycle_of, seen_by, OwesAs}
+use Rattle.heap_rule.specs.Cycles.{Cycling, Facts, HasNoCycle, IsCollecting, Knowing, Refers, Scanned, Scans, cycle_of, seen_by, OwesAs, pool_labels}
 use Rattle.heap_rule.specs.Raw.{MayStep, MayStore}
 use Rattle.heap_rule.specs.Rule.{Rule, state_of}
 use Rattle.heap_rule.specs.Views.{one}
@@ -45,7 +46,7 @@ use Rattle.heap_rule.proofs.Values.{address_of, packable, stands_block}
 use Rattle.steps_marking.specs.Looks.{with_share}
 use Rattle.steps_marking.specs.Marking.{ChangedMay, ChangedTold, IsChanging, IsScanning, ScanMay, ScanTold, ScannedMay, ScannedTold, scanned_on, Site, Anywhere, Next, LiesAt, places_seen_on, walk_on, settled}
 use Rattle.steps_marking.proofs.Colouring.{words_same, Recolourable}
-use Rattle.steps_marking.proofs.Learning.{at_other, at_same, bare, held, kind_here, knows_more, known, looks_same, looks_still, queue_still, shifts_more, whole_in}
+use Rattle.steps_marking.proofs.Learning.{at_other, at_same, bare, held, kind_here, knows_more, known, looks_same, looks_still, queue_still, shifts_more, whole_in, grows_still, unnamed}
 use Rattle.steps_marking.proofs.Recolouring.{Recolours, known_still, recolours}
 use Rattle.heap_rule.specs.declared.phase.Stage.TheVariants.{In}
 use Rattle.steps_marking.proofs.WalkSteps.{scanning_cycle, own_place, seen_next, next_is, next_other, next_walked, settles_at, settles_other, settles_own}
@@ -307,6 +308,7 @@ module _ (k : Config) (s : Words) (r : Rule k s) (id : ℕ) (hist : List Entry) 
           seen_is = seen_here site may.lies;
           knows = record { found_head = n.found_head; scan = tt; walked = walked_on site may.lies; own_pool = n.own_pool; rooted = n.rooted; marked = n.marked; looking = looks_still k s r id hist x at (in_mark may.kind may.stage may.scanning) m' (held done) (λ e. absurd (unclean e)) refl (λ b e. absurd (none-some b e)) };
           queued = queue_still k s r id hist x at (in_mark may.kind may.stage may.scanning) m' (λ l h. h);
+          grows = grows_still k s r id hist x at (in_mark may.kind may.stage may.scanning);
         }
 
     scanned_rule : Rule k record { words = scanned_words; homes = s.homes; views = set s.views id (one k hist (with_share x done)) }
@@ -350,6 +352,7 @@ module _ (k : Config) (s : Words) (r : Rule k s) (id : ℕ) (hist : List Entry) 
         shifts_more k s r id hist x at collecting true owes1 follows1 c.shares.seen (held paid) words1 u (other 0 (λ e. omega arith)) (other 1 (λ e. omega arith)) (other 2 (λ e. omega arith))
         (get_or-set_same s.words 3 1 0 spot)
         (subst (λ (kind : Kind). Facts kind k now live r.account.tenancy (record c { shares = record c.shares { changed = true; owes = owes1; follows = follows1 } }) words1) (sym kind_is) (stored_facts may.kind may.changing (subst (λ (kind : Kind). Facts kind k now live r.account.tenancy c s.words) kind_is r.whole.cycle.facts)))
+        (λ marking. let g = stored_grows (pool_labels k live) c.before m c.shares (r.whole.cycle.grows.since marking (unnamed k s r id hist x at collecting)) d (((my_good k s r id hist x at).sharing.telling.owes (waits_in k s r id hist x at may.kind may.stage)).owes ∙ may.owes) in record { stays = g.stays; changed = g.changed; owing = g.owing })
         (λ z differ. (at_other c.shares.owes d false z differ, at_other c.shares.follows d (λ b. false) z differ, refl))
         (record { owes = at_same c.shares.owes d false; follows = λ b is. subst (λ (g : ℕ → Bool). IsTrue (g b)) (at_same c.shares.follows d (λ b. false)) is })
         ((my_good k s r id hist x at).sharing.telling.seen (waits_in k s r id hist x at may.kind may.stage))

@@ -37,10 +37,10 @@ use Rattle.heap_rule.proofs.Controls.{untouched_same}
 use Rattle.heap_rule.proofs.Keeps.{Words, my_good, unmoved}
 use Rattle.heap_rule.proofs.OwnPlaces.{owned_same}
 use Rattle.steps_marking.specs.Looks.{with_share}
-use Rattle.steps_marking.specs.Marking.{IsScanning, GreyMay, GreyTold, IsGrey, IsScanned, IsUnmarked, IsNext, MarkMay, MarkTold, OwnMay, OwnTold, begun, behind, fields_in, IsChanging, settled}
+use Rattle.steps_marking.specs.Marking.{IsScanning, GreyMay, GreyTold, IsGrey, IsScanned, IsUnmarked, IsNext, MarkMay, MarkTold, OwnMay, OwnTold, begun, behind, fields_in, settled}
 use Rattle.steps_marking.proofs.Colouring.{BareHead, bare_head, marked_colour, no_fields, unmarked_colour}
 use Rattle.steps_marking.proofs.Layouts.{labelled, owner_of_place, whose}
-use Rattle.steps_marking.proofs.Learning.{at_other, at_same, bare, held, kind_here, knows_more, known, looks_same, looks_still, not_promoting, shifts_more}
+use Rattle.steps_marking.proofs.Learning.{at_other, at_same, bare, held, kind_here, knows_more, known, looks_same, looks_still, not_promoting, shifts_more, grows_still}
 use Rattle.steps_marking.proofs.Unswept.{none_unswept}
 use Rattle.std.proofs.lemmas.Option.{none-some, same_Some}
 use Rattle.heap_rule.proofs.Stages.{waits_in}
@@ -282,6 +282,7 @@ module _ (k : Config) (s : Words) (r : Rule k s) (id : ℕ) (hist : List Entry) 
               (λ l e is. let u = labelled k live a l e in subst (λ (z : Label). IsTrue (m.scanned z)) u.label (quiet u.place u.lives (subst (λ (z : Label). IsTrue (m.marked z)) (sym u.label) is))),
           facts.1,
         ))
+        (grows_still k s r id hist x at collecting)
         (λ z other. (refl, refl, next_other a pool class slot may.place z other))
         (t.owes waits)
         (next_is a pool class slot may.place waits)
@@ -347,7 +348,7 @@ module _ (k : Config) (s : Words) (r : Rule k s) (id : ℕ) (hist : List Entry) 
   -- the head of a block that is known to be marked
   module _ (a : ℕ) (may : GreyMay x a) where
     -- the block is scanned
-    settled_facts : (p : Place) → live a ≡ Some p → m.scanned p.label ≡ true → (kind : Kind) → IsChanging kind → Facts kind k now live r.account.tenancy c s.words → Facts kind k now live r.account.tenancy (record c { shares = record c.shares { follows = settles_at a } }) s.words
+    settled_facts : (p : Place) → live a ≡ Some p → m.scanned p.label ≡ true → (kind : Kind) → IsScanning kind → Facts kind k now live r.account.tenancy c s.words → Facts kind k now live r.account.tenancy (record c { shares = record c.shares { follows = settles_at a } }) s.words
     settled_facts p lives done Run n f = absurd n
     settled_facts p lives done Promote n f = absurd n
     settled_facts p lives done Reset n f = absurd n
@@ -374,11 +375,12 @@ module _ (k : Config) (s : Words) (r : Rule k s) (id : ℕ) (hist : List Entry) 
         let t = (my_good k s r id hist x at).sharing.telling in
         let waits : c.shares.arrived d ≡ false = waits_in k s r id hist x at may.kind may.stage in
         let kind_is : c.kind ≡ may.kind = kind_here k s r id hist x at may.kind may.stage in
-        let collecting : IsCollecting x.seen.stage = subst IsCollecting (sym may.stage) (changing_cycle may.kind may.changing) in
+        let collecting : IsCollecting x.seen.stage = subst IsCollecting (sym may.stage) (scanning_cycle may.kind may.scanning) in
         let o : OwesAs (c.shares.owes d) (c.shares.follows d) sh.owes sh.account = t.owes waits in
         shifts_more k s r id hist x at collecting c.shares.changed c.shares.owes (settles_at a) c.shares.seen (held less) s.words (untouched_same s.words) refl refl refl r.whole.cycle.changed_is
         (subst (λ (kind : Kind). Facts kind k now live r.account.tenancy (record c { shares = record c.shares { follows = settles_at a } }) s.words) (sym kind_is)
-        (settled_facts p lives done may.kind may.changing (subst (λ (kind : Kind). Facts kind k now live r.account.tenancy c s.words) kind_is r.whole.cycle.facts)))
+        (settled_facts p lives done may.kind may.scanning (subst (λ (kind : Kind). Facts kind k now live r.account.tenancy c s.words) kind_is r.whole.cycle.facts)))
+        (grows_still k s r id hist x at collecting)
         (λ z other. (refl, settles_other a z other, refl))
         (record { owes = o.owes; follows = settles_own a o.follows })
         (t.seen waits)
