@@ -20,7 +20,7 @@ use Rattle.heap_rule.specs.Limits.{sizes_in}
 use Rattle.heap_rule.specs.Places.{Place, Live, Settled}
 use Rattle.heap_rule.specs.Copies.{nothing_copied, Promoting, Cleared as Clears, AllCleared, Emptied, Rooted, IsEmptying, Resetting}
 use Rattle.heap_rule.specs.Phases.{code, Follows, sum_of, IsEven, IsOdd, Pause, Phases, LeftOdd, AtStage, Staged, Unwished}
-use Rattle.heap_rule.specs.Pools.{OwnPlace, Stock, Tenancy, nobody, drawn, drawn_in, place_in, limit_of, Reserved, RunsNext, DrawsAlone, NoneCameBack, Covered, Drawers, Hunts, no_stock}
+use Rattle.heap_rule.specs.Pools.{OwnPlace, Stock, Tenancy, nobody, drawn, drawn_in, place_in, limit_of, Reserved, RunsNext, Covered, Drawers, Hunts, no_stock}
 use Rattle.heap_rule.specs.Room.{spent_stock, drawn_in_all, Room, IsUnused, Drawable}
 use Rattle.heap_rule.specs.Rule.{Good, Rule}
 use Rattle.heap_rule.specs.Views.{one, Tells}
@@ -341,7 +341,7 @@ module _ (k : Config) (s : Words) (r : Rule k s) (id : ℕ) (hist : List Entry) 
 
   -- what it knows of garbage stays
   own_sweeps : SweepsIn tenancy cycling' y
-  own_sweeps = let h = sweeps_gone tenancy r.account.cycling x (λ kind is. kind_now k pause r.account.cycling x kind is good.staged r.whole.cycle.told) may.done.anew good.sweeps in record { listed = h.listed; places = h.places; anew = h.anew; reaps = h.reaps }
+  own_sweeps = let h = sweeps_gone tenancy r.account.cycling x (λ kind is. kind_now k pause r.account.cycling x kind is good.staged r.whole.cycle.told) may.done.anew good.sweeps in record { listed = h.listed; places = h.places; anew = h.anew; reaps = h.reaps; below = h.below }
 
   through : (pause' : Pause) (claims' : ℕ → ℕ) → Parts pause' claims' → Rule k record { words = words'; homes = s.homes; views = set s.views id (one k hist y) }
   through pause' claims' p = turns k s r id hist x at move pause' (counting claims') cycling' r.account.homes words' record {
@@ -544,18 +544,8 @@ module _ (k : Config) (s : Words) (r : Rule k s) (id : ℕ) (hist : List Entry) 
         (λ (h : (j : ℕ) × (pause.phase + 1 ≡ j * 2 + 1) × (false ≡ true) × (pause.kinds (j + 1) ≡ Run)). absurd (true≢false (sym h.2)))
         runs)
 
-    -- and pools are only drawn next where he named such a kind, or the phase was one
-    drew_alone : NoneCameBack next → NoneCameBack pause
-    drew_alone came = ⊎_elim
-        (λ (h : (j : ℕ) × (pause.phase + 1 ≡ j * 2) × DrawsAlone (pause.kinds j)). half_before {A = NoneCameBack pause} h.0 pause.phase h.1 (λ i odd more. inr (inr (i, odd, led_is i odd, subst (λ (n : ℕ). DrawsAlone (pause.kinds n)) (sym more) h.2))))
-        (λ rest. ⊎_elim
-        (λ (h : (j : ℕ) × (pause.phase + 1 ≡ j * 2 + 1) × (false ≡ false) × DrawsAlone (pause.kinds j)). inl (h.0, even_before pause.phase h.0 h.1, h.3))
-        (λ (h : (j : ℕ) × (pause.phase + 1 ≡ j * 2 + 1) × (false ≡ true) × DrawsAlone (pause.kinds (j + 1))). absurd (true≢false (sym h.2)))
-        rest)
-        came
-
     next_covered : Covered k next tenancy words'
-    next_covered is = still_covered (⊎_elim (λ (h : RunsNext next). inl (was_next h)) (λ (h : NoneCameBack next × (listed words' ≢ 0)). inr (drew_alone h.0, h.1)) is)
+    next_covered is = still_covered (⊎_elim (λ (h : RunsNext next). inl (was_next h)) (λ some. inr some) is)
 
     -- the domains leave Promote: the blocks of the minor areas are dropped
     promoted : Promoting pause → Rule k record { words = words'; homes = s.homes; views = set s.views id (one k hist y) }

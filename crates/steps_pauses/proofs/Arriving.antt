@@ -113,7 +113,7 @@ arrived_else (Gone kind) owner w d z other up = up
 
 -- so it knows of garbage what it knew
 pub sweeps_else : (st : Stage) (t : Tenancy) (c : Cycling) (d : ℕ) (z : DomainView) → z.own.number ≢ d → SweepsIn t c z → SweepsIn t (arrived_cycle st t.holder c d) z
-sweeps_else st t c d z other h = record { listed = h.listed; places = h.places; anew = λ lasts up. h.anew lasts (arrived_else st (owner_at t.holder) c.shares d z.own.number other up); reaps = h.reaps }
+sweeps_else st t c d z other h = record { listed = h.listed; places = h.places; anew = λ lasts up. h.anew lasts (arrived_else st (owner_at t.holder) c.shares d z.own.number other up); reaps = h.reaps; below = h.below }
 
 -- and so does who arrives. In Lasts it is to sweep everything
 arrived_own : (st : Stage) (owner : ℕ → Option ℕ) (w : Shares) (d : ℕ) → (arrived_in st owner w d).arrived d ≡ true → (w.arrived d ≡ true) ⊎ ((kind : Kind) × (st ≡ In kind))
@@ -122,7 +122,7 @@ arrived_own (Leads kind) owner w d up = inl up
 arrived_own (Led kind) owner w d up = inl up
 arrived_own (Gone kind) owner w d up = inl up
 
-pub sweeps_gone : (t : Tenancy) (c : Cycling) (x : DomainView) → ((kind : Kind) → x.seen.stage ≡ In kind → c.kind ≡ kind) → (x.seen.stage ≡ In Lasts → x.own.swept ≡ nothing_swept) → SweepsIn t c x
+pub sweeps_gone : (t : Tenancy) (c : Cycling) (x : DomainView) → ((kind : Kind) → x.seen.stage ≡ In kind → c.kind ≡ kind) → (x.seen.stage ≡ In Lasts → x.own.swept ≡ nothing_swept x.own.swept.top) → SweepsIn t c x
     → Sweeps t.holder t.garbage c.kind (arrived_in x.seen.stage (owner_at t.holder) c.shares x.own.number).arrived x.own.number x.own.ephemerons.items x.own.swept Outside
 sweeps_gone t c x now anew h = record {
   listed = h.listed;
@@ -132,6 +132,7 @@ sweeps_gone t c x now anew h = record {
       (λ (here : (kind : Kind) × (x.seen.stage ≡ In kind)). anew (here.1 ∙ ap In (sym (now here.0 here.1) ∙ lasts)))
       (arrived_own x.seen.stage (owner_at t.holder) c.shares x.own.number up);
   reaps = tt;
+  below = h.below;
 }
 
 leading_gone : (st : Stage) (holder : ℕ → Holder) (c : Cycling) (words : List ℕ) (d z : ℕ) (stage : Stage) (share : Share) → Leading c words z stage share → Leading (arrived_cycle st holder c d) words z stage share

@@ -27,7 +27,7 @@ use Rattle.heap_rule.specs.Beside.{IsUnaware, is_weak}
 use Rattle.heap_rule.proofs.BesideLemmas.{runs_unaware, unaware_of}
 use Rattle.steps_pauses.proofs.BesideRows.{AllOld, marks_same, past_owes}
 use Rattle.steps_pauses.proofs.Repainting.{repainted}
-use Rattle.heap_rule.specs.Pools.{Tenancy, nobody, owner_word, limit_of, DrawsAlone, NoneCameBack, Covered, KeepsReserve}
+use Rattle.heap_rule.specs.Pools.{Tenancy, nobody, owner_word, limit_of, Covered, KeepsReserve}
 use Rattle.heap_rule.specs.Deciding.{Deciding}
 use Rattle.heap_rule.specs.Finalisers.{StandsFinal, StandsLast}
 use Rattle.heap_rule.specs.Rule.{Account, AllFound, Good, Rule, Sharing, Stood, state_of}
@@ -135,23 +135,6 @@ follows_promote a b f e = from a (subst (Follows a) e f)
     from Lasts f = ⊎_elim (λ (e : Promote ≡ Sweep). absurd (let h : Promote ≡ Sweep = e in cc)) (λ (e : Promote ≡ Run). absurd (let h : Promote ≡ Run = e in cc)) f
     from Sweep f = ⊎_elim (λ (e : Promote ≡ Run). absurd (let h : Promote ≡ Run = e in cc))
         (λ q. ⊎_elim (λ (e : Promote ≡ Answer). absurd (let h : Promote ≡ Answer = e in cc)) (λ (e : Promote ≡ Roots). absurd (let h : Promote ≡ Roots = e in cc)) q) f
-    from _ f = cc
-
-follows_reset : (a b : Kind) → Follows a b → b ≡ Reset → a ≡ Promote
-follows_reset a b f e = from a (subst (Follows a) e f)
-  where
-    from : (a : Kind) → Follows a Reset → a ≡ Promote
-    from Promote f = refl
-    from Reset f = ⊎_elim (λ (e : Reset ≡ Run). absurd (let h : Reset ≡ Run = e in cc))
-        (λ q. ⊎_elim (λ (e : Reset ≡ Roots). absurd (let h : Reset ≡ Roots = e in cc)) (λ q. ⊎_elim (λ (e : Reset ≡ Mark). absurd (let h : Reset ≡ Mark = e in cc)) (λ (e : Reset ≡ Sweep). absurd (let h : Reset ≡ Sweep = e in cc)) q) q) f
-    from Roots f = ⊎_elim (λ (e : Reset ≡ Mark). absurd (let h : Reset ≡ Mark = e in cc)) (λ (e : Reset ≡ Run). absurd (let h : Reset ≡ Run = e in cc)) f
-    from Mark f = ⊎_elim (λ (e : Reset ≡ Mark). absurd (let h : Reset ≡ Mark = e in cc)) (λ (e : Reset ≡ Rounds). absurd (let h : Reset ≡ Rounds = e in cc)) f
-    from Rounds f = ⊎_elim (λ (e : Reset ≡ Mark). absurd (let h : Reset ≡ Mark = e in cc))
-        (λ q. ⊎_elim (λ (e : Reset ≡ Decide). absurd (let h : Reset ≡ Decide = e in cc)) (λ (e : Reset ≡ Clean). absurd (let h : Reset ≡ Clean = e in cc)) q) f
-    from Queued f = ⊎_elim (λ (e : Reset ≡ Mark). absurd (let h : Reset ≡ Mark = e in cc)) (λ (e : Reset ≡ Clean). absurd (let h : Reset ≡ Clean = e in cc)) f
-    from Lasts f = ⊎_elim (λ (e : Reset ≡ Sweep). absurd (let h : Reset ≡ Sweep = e in cc)) (λ (e : Reset ≡ Run). absurd (let h : Reset ≡ Run = e in cc)) f
-    from Sweep f = ⊎_elim (λ (e : Reset ≡ Run). absurd (let h : Reset ≡ Run = e in cc))
-        (λ q. ⊎_elim (λ (e : Reset ≡ Answer). absurd (let h : Reset ≡ Answer = e in cc)) (λ (e : Reset ≡ Roots). absurd (let h : Reset ≡ Roots = e in cc)) q) f
     from _ f = cc
 
 pub led_leads : (kind other : Kind) → ◌≡◌ {A = Stage} (Led kind) (Leads other) → ⊥
@@ -467,13 +450,12 @@ module _ (k : Config) (s : Words) (r : Rule k s) (id : ℕ) (hist : List Entry) 
       (at.0, below, lists.names at.0 q at.1, inl (subst (λ (n : ℕ). n ≤ at.0) (sym (lists.found 0 names.rewound)) zero-le))
 
   -- where the list was whole it is so
-  stayed : DrawsAlone last → listed ws ≢ 0 → (q : ℕ) → q < k.pools → tenancy.holder q ≡ nobody → (i : ℕ) × (i < listed ws) × (listed_pool ws i ≡ q) × ((cursor ws ≤ i) ⊎ (limit_of k (listed ws) ≤ i))
-  stayed draws listing = covered_untouched k t tenancy s.words ws untouched r.whole.pools r.whole.covered
-      (inr (inr (inl (j, odd, before.2 may.leads, subst DrawsAlone (sym before.1.2) draws)), listing))
+  stayed : listed ws ≢ 0 → (q : ℕ) → q < k.pools → tenancy.holder q ≡ nobody → (i : ℕ) × (i < listed ws) × (listed_pool ws i ≡ q) × ((cursor ws ≤ i) ⊎ (limit_of k (listed ws) ≤ i))
+  stayed listing = covered_untouched k t tenancy s.words ws untouched r.whole.pools r.whole.covered (inr listing)
 
   -- the list that stays was whole
   kept_free : KeepsNames k x → (q : ℕ) → q < k.pools → tenancy.holder q ≡ nobody → (i : ℕ) × (i < listed ws) × (listed_pool ws i ≡ q) × ((cursor ws ≤ i) ⊎ (limit_of k (listed ws) ≤ i))
-  kept_free keeps = stayed (inr (inr (ap kind_in keeps.stage))) (λ none. keeps.some (sym ((resting_untouched k s.words ws x untouched good.resting).lists keeps.list keeps.listing).count ∙ none))
+  kept_free keeps = stayed (λ none. keeps.some (sym ((resting_untouched k s.words ws x untouched good.resting).lists keeps.list keeps.listing).count ∙ none))
 
   -- where the domains run next
   runs_free : next ≡ Run → (q : ℕ) → q < k.pools → tenancy.holder q ≡ nobody → (i : ℕ) × (i < listed ws) × (listed_pool ws i ≡ q) × ((cursor ws ≤ i) ⊎ (limit_of k (listed ws) ≤ i))
@@ -484,17 +466,7 @@ module _ (k : Config) (s : Words) (r : Rule k s) (id : ℕ) (hist : List Entry) 
       (⊎_elim
       (λ (h : (i : ℕ) × (t.phase ≡ i * 2) × (t'.kinds i ≡ Run)). absurd (no_even (h.0, h.1)))
       (λ (h : (i : ℕ) × (t.phase ≡ i * 2 + 1) × (true ≡ true) × (t'.kinds (i + 1) ≡ Run)). runs_free (sym (named h.0 h.1) ∙ h.3)))
-      (λ (came : NoneCameBack t' × (listed ws ≢ 0)). ⊎_elim
-      (λ (h : (i : ℕ) × (t.phase ≡ i * 2) × DrawsAlone (t'.kinds i)). absurd (no_even (h.0, h.1)))
-      (⊎_elim
-      (λ (h : (i : ℕ) × (t.phase ≡ i * 2 + 1) × (true ≡ false) × DrawsAlone (t'.kinds i)). absurd (true≢false h.2))
-      (λ (h : (i : ℕ) × (t.phase ≡ i * 2 + 1) × (true ≡ true) × DrawsAlone (t'.kinds (i + 1))). ⊎_elim
-      (λ (runs : next ≡ Run). runs_free runs)
-      (⊎_elim
-      (λ (copies : next ≡ Promote). stayed (inl (follows_promote last next follows copies)) came.1)
-      (λ (resets : next ≡ Reset). stayed (inr (inl (follows_reset last next follows resets))) came.1))
-      (subst DrawsAlone (named h.0 h.1) h.3)))
-      came.0)
+      stayed
 
   -- and there the cursor isn't in the reserve
   led_low : next ≡ Run → cursor ws ≤ limit_of k (listed ws)
@@ -564,7 +536,7 @@ module _ (k : Config) (s : Words) (r : Rule k s) (id : ℕ) (hist : List Entry) 
           hunt = λ _. rest.hunt (λ takes. ⊎_elim stays (λ e. leads_promotes last (sym stage_is ∙ e)) takes);
           free = λ _. rest.free stays;
           spare = λ _. rest.spare stays;
-          lists = λ l e. let z = rest.lists l e in record { first = z.first; leads = tt; few = z.few; owners = z.owners; names = z.names; count = z.count; found = z.found };
+          lists = λ l e. let z = rest.lists l e in record { who = may.leads; few = z.few; owners = z.owners; names = z.names; count = z.count; found = z.found };
         };
         took_back = λ kind leads _. absurd (led_leads next kind leads);
         owes = owes_rests k live x y refl quiet (ap (λ (u : Copying). u.pending) quiet) refl good.owes;
@@ -572,7 +544,7 @@ module _ (k : Config) (s : Words) (r : Rule k s) (id : ℕ) (hist : List Entry) 
         set_back = λ back. absurd (led_leads next Run back.0);
         sharing = sharing_led;
         listed = record { all = good.listed.all; own = good.listed.own; lives = good.listed.lives };
-        sweeps = record { listed = good.sweeps.listed; places = good.sweeps.places; anew = λ _ e. cc; reaps = tt };
+        sweeps = record { listed = good.sweeps.listed; places = good.sweeps.places; anew = λ _ e. cc; reaps = tt; below = good.sweeps.below };
       }
       (λ z below other h. record {
         stood = stood_left z h.stood;
@@ -594,7 +566,7 @@ module _ (k : Config) (s : Words) (r : Rule k s) (id : ℕ) (hist : List Entry) 
         set_back = λ back. low_untouched k s.words ws untouched (h.set_back back);
         sharing = sharings_led z below other h;
         listed = h.listed;
-        sweeps = record { listed = h.sweeps.listed; places = h.sweeps.places; anew = λ _ e. cc; reaps = h.sweeps.reaps };
+        sweeps = record { listed = h.sweeps.listed; places = h.sweeps.places; anew = λ _ e. cc; reaps = h.sweeps.reaps; below = h.sweeps.below };
       })
 
   -- what is told of it

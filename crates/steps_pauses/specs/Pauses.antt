@@ -81,11 +81,11 @@ pub record HasDone (k : Config) (x : DomainView) : Type 0 where
   -- it owes no store of the changed word
   pub told : Traces x.seen.stage → x.seen.share.owes ≡ false
   -- it has been at each own place
-  pub walked : x.seen.stage ≡ In Mark → k.pools ≤ x.seen.share.walk.pool
+  pub walked : x.seen.stage ≡ In Mark → x.own.swept.top ≤ x.seen.share.walk.pool
   -- it has swept each own place
   pub swept : x.seen.stage ≡ In Sweep → k.pools ≤ x.own.swept.spot.pool
   -- it is to sweep them all once the colours are rotated
-  pub anew : x.seen.stage ≡ In Lasts → x.own.swept ≡ nothing_swept
+  pub anew : x.seen.stage ≡ In Lasts → x.own.swept ≡ nothing_swept x.own.swept.top
   -- it has been at each ephemeron of its list
   pub looked : (x.seen.stage ≡ In Rounds) ⊎ (x.seen.stage ≡ In Clean) → (a : ℕ) → IsTrue (seen_by x.own.ephemerons.items a) → IsTrue (seen_by x.seen.share.places_seen a)
   -- it empties the keys of none
@@ -95,7 +95,7 @@ pub record HasDone (k : Config) (x : DomainView) : Type 0 where
   -- and so at each of `finalise_last`
   pub settled : x.seen.stage ≡ In Lasts → x.seen.share.kept ≡ length x.own.finalisers.lasts.items
   -- its pools hold blocks
-  pub held : (x.seen.stage ≡ In Sweep) ⊎ (x.seen.stage ≡ In Answer) → k.pools ≤ x.seen.share.held
+  pub held : (x.seen.stage ≡ In Sweep) ⊎ (x.seen.stage ≡ In Answer) → x.own.swept.top ≤ x.seen.share.held
   -- it has added what it has counted
   pub added : x.seen.stage ≡ In Sweep → (x.seen.share.added_blocks ≡ true) × (x.seen.share.added_words ≡ true)
 
@@ -263,11 +263,10 @@ pub record NamesFree (k : Config) (x : DomainView) : Type 0 where
   pub count : length list.names ≡ list.listed
   pub free : (q : ℕ) → slice_get list.owners q ≡ Some 0 → (i : ℕ) × (slice_get list.names i ≡ Some q)
 
--- domain 0 has looked at the list in this phase, behind Reset: pools are listed, and the cursor isn't in the reserve
+-- domain 0 has looked at the list in this phase: pools are listed, so none has come back, and the cursor isn't in the reserve
 pub record KeepsNames (k : Config) (x : DomainView) : Type 0 where
   pub list : Listing
   pub listing : x.seen.listing ≡ Some list
-  pub stage : x.seen.stage ≡ Leads Reset
   pub some : list.listed ≢ 0
   pub at : ℕ
   pub cursor_is : list.cursor ≡ Some at

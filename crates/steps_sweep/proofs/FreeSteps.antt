@@ -375,6 +375,7 @@ module _ (k : Config) (s : Words) (r : Rule k s) (id : ℕ) (hist : List Entry) 
         (before_behind pool class slot q i (λ same. subst (λ (z : ℕ). i < blocks_of z) (class_is same) below) before);
     anew = λ _ up. absurd (true≢false (sym up ∙ waits k s r id hist x at may.stage));
     reaps = own;
+    below = w.below;
   }
 
   -- another domain is at another place
@@ -389,6 +390,7 @@ module _ (k : Config) (s : Words) (r : Rule k s) (id : ℕ) (hist : List Entry) 
     places = λ q cl i is below before. still_clean (place_in q cl i) (w.places q cl i is below before);
     anew = w.anew;
     reaps = reaps_else z other z.seen.share.reaping w.reaps;
+    below = w.below;
   }
 
   pub free_rule : Rule k record { words = words'; homes = s.homes; views = set s.views id (one k hist y) }

@@ -258,11 +258,12 @@ module _ (k : Config) (s : Words) (r : Rule k s) (id : ℕ) (hist : List Entry) 
 
   -- all domains are to sweep all their places
   sweeps' : (z : DomainView) → IsTrue (c.shares.arrived z.own.number) → Good k r.account s.words z → SweepsIn t' c' z
-  sweeps' z gone g = let none : z.own.swept ≡ nothing_swept = g.sweeps.anew kind_is gone in record {
+  sweeps' z gone g = let none : z.own.swept ≡ nothing_swept z.own.swept.top = g.sweeps.anew kind_is gone in record {
     listed = λ i a low got. absurd (let n : ℕ = z.own.swept.listed in let e : n ≡ 0 = ap (λ (w : Swept). w.listed) none in let l : i < n = low in omega arith);
     places = λ q class slot is inside before. absurd (none_before q slot (subst (IsBefore q slot) (ap (λ (w : Swept). w.spot) none) before));
     anew = g.sweeps.anew;
     reaps = reaps_none z.own.number z.seen.share.reaping g.sweeps.reaps;
+    below = g.sweeps.below;
   } where
     reaps_none : (e : ℕ) (reaping : Reaping) → Reaps t.holder t.garbage e reaping → Reaps t.holder garbage' e reaping
     reaps_none e Outside w = tt
@@ -425,7 +426,7 @@ module _ (k : Config) (s : Words) (r : Rule k s) (id : ℕ) (hist : List Entry) 
     listed_own = listed' x good;
     listeds = λ z _ g. listed' z g;
     left = garbage_left;
-    sweeps = let w = sweeps' x (told.1 d (mine k s r id hist x at).inside) good in record { listed = w.listed; places = w.places; anew = w.anew; reaps = w.reaps };
+    sweeps = let w = sweeps' x (told.1 d (mine k s r id hist x at).inside) good in record { listed = w.listed; places = w.places; anew = w.anew; reaps = w.reaps; below = w.below };
     others_sweep = λ z below _ g. sweeps' z (told.1 z.own.number below) g;
   }
 
