@@ -272,12 +272,12 @@ starts_to (suc n) = (n * 4 + 1) ∷ starts_to n
 abbrev pub pool_labels : Config → Live → List Label
 pool_labels k live = labels_in live (starts_to (k.pools * 1024))
 
--- Each phase of the marking that asks for another one marks a block. From where the phase is named until it begins nothing is marked, and once domain 0 has arrived the changed word is 0
+-- Each phase of the marking that asks for another one marks a block. From where the phase is named until it begins nothing is marked, and once domain 0 has arrived the changed word is 0, as it is where Rounds is named
 pub record Grows (k : Config) (live : Live) (p : Pause) (c : Cycling) : Type 0 where
   pub few : IsMarking c.kind → unmarked_of (pool_labels k live) c.before ≤ c.unmarked
   pub since : IsMarking c.kind → (IsNamed p → ⊥) → IsGrowing (pool_labels k live) c.before c.paint.marks.marked c.shares
   pub named : IsMarking c.kind → IsNamed p → (l : Label) → IsTrue (c.before l) → IsTrue (c.paint.marks.marked l)
-  pub cleared : IsMarking c.kind → IsNamed p → p.arrived 0 ≡ p.phase + 1 → c.shares.changed ≡ false
+  pub cleared : IsMarking c.kind → IsNamed p → (p.arrived 0 ≡ p.phase + 1) ⊎ (c.kind ≡ Rounds) → c.shares.changed ≡ false
 
 -- Cycle: the control words tell it, and the facts of the phase hold
 pub record Cycled (k : Config) (s : model.State) (live : Live) (p : Pause) (t : Tenancy) (c : Cycling) (words : List ℕ) : Type 0 where

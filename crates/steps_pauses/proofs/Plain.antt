@@ -46,7 +46,7 @@ arrived_closes k x found may y fits told =
     let few : n < 2 ^ 60 = may.few in record {
       can_write = let g : n + 1 < 2 ^ 64 = omega arith in g;
       written = λ after is. own ∙ sym is;
-      fits = subst (OwnFits k) (sym own) record { number = fits.number; used = fits.used; registers = fits.registers; looked = fits.looked; remembered = fits.remembered; prepared = fits.prepared; pending = no_more (x.own.pending.room + length x.own.pending.items) ∙ fits.pending; ephemerons = fits.ephemerons; finalisers = fits.finalisers; swept = fits.swept };
+      fits = subst (OwnFits k) (sym own) record { number = fits.number; used = fits.used; registers = fits.registers; looked = fits.looked; remembered = fits.remembered; remembered_room = fits.remembered_room; prepared = fits.prepared; pending = no_more (x.own.pending.room + length x.own.pending.items) ∙ fits.pending; ephemerons = fits.ephemerons; finalisers = fits.finalisers; swept = fits.swept };
       once = λ _. inl (record { front = front_same x y (ap (λ (z : DomainView). z.seen.front) told); registers = ap (λ (o : Own). o.registers) own; used = ap (λ (o : Own). o.used) own; serial = ap (λ (o : Own). o.serial) own });
     }
 
@@ -76,7 +76,7 @@ pub end_closes : (k : Config) (x : DomainView) (found : ℕ) → Closes k x foun
 end_closes k x found y fits told = let own : y.own ≡ ended_own x.own = ap (λ (z : DomainView). z.own) told.view in record {
   can_write = tt;
   written = λ after is. own ∙ sym is;
-  fits = subst (OwnFits k) (sym own) record { number = fits.number; used = fits.used; registers = subst (λ (o : Own). Holds k o.registers) own told.holds; looked = fits.looked; remembered = fits.remembered; prepared = fits.prepared; pending = fits.pending; ephemerons = fits.ephemerons; finalisers = cleared_fit k x.own fits.finalisers; swept = fits.swept };
+  fits = subst (OwnFits k) (sym own) record { number = fits.number; used = fits.used; registers = subst (λ (o : Own). Holds k o.registers) own told.holds; looked = fits.looked; remembered = fits.remembered; remembered_room = fits.remembered_room; prepared = fits.prepared; pending = fits.pending; ephemerons = fits.ephemerons; finalisers = cleared_fit k x.own fits.finalisers; swept = fits.swept };
   once = λ _. inr (record { entry = End x.own.number; answer = Silent; answers = told.answers });
 }
 

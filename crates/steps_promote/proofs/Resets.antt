@@ -128,6 +128,6 @@ pub reset_closes : (k : Config) (x : DomainView) (found a : ℕ) → ResetMay k 
 reset_closes k x found a may y fits told = let own = ap (λ (z : DomainView). z.own) told.view in record {
   can_write = tt;
   written = λ after wrote. own ∙ sym wrote;
-  fits = subst (λ (z : DomainView). OwnFits k z.own) (sym told.view) record { number = fits.number; used = omega arith; registers = fits.registers; looked = fits.looked; remembered = λ i b e. cc; prepared = fits.prepared; pending = fits.pending; ephemerons = fits.ephemerons; finalisers = fits.finalisers; swept = fits.swept };
+  fits = subst (λ (z : DomainView). OwnFits k z.own) (sym told.view) record { number = fits.number; used = omega arith; registers = fits.registers; looked = fits.looked; remembered = λ i b e. cc; remembered_room = no_more (x.own.remembered.room + length x.own.remembered.items) ∙ fits.remembered_room; prepared = fits.prepared; pending = fits.pending; ephemerons = fits.ephemerons; finalisers = fits.finalisers; swept = fits.swept };
   once = λ runs. absurd (let e : ◌≡◌ {A = Stage} (In Reset) (In Run) = sym may.stage ∙ runs in cc);
 }
