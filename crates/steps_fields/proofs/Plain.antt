@@ -1,5 +1,5 @@
 -- What the step calls tell of a token's plain data: it is what their changes make of it.
-use Rattle.std.proofs.Common.{true, false, zero, suc, ◌∷◌, inl, inr, ◌≡◌, ◌+◌, ◌<◌, ◌≤◌, ℕ, Bool, List, [], length, sym, ap, ◌∙◌, subst, lt_of_not-le}
+use Rattle.std.proofs.Common.{true, false, zero, suc, ◌∷◌, ◌++◌, inl, inr, ◌≡◌, ◌+◌, ◌-◌, ◌<◌, ◌≤◌, ℕ, Bool, List, [], length, length-append, refl, sym, ap, ◌∙◌, subst, lt_of_not-le, arith}
 use mathlib.Core.Logic.{dite}
 use native.Mathlib.Decide.{dec_le}
 use Rattle.heap_model.specs.declared.entry.Entry.{Entry}

@@ -1,5 +1,5 @@
 -- A collection of the major heap where a domain arrives.
-use Rattle.std.proofs.Common.{◌≡◌, ◌≢◌, ℕ, ◌+◌, ◌*◌, ◌<◌, ◌≤◌, ◌⊎◌, Bool, true, false, true≢false, List, [], sym, refl, ap, ◌∙◌, subst, inl, inr, ⊎_elim, arith, ◌==◌, Option, Some, None}
+use Rattle.std.proofs.Common.{◌≡◌, ◌≢◌, ℕ, ◌+◌, ◌*◌, ◌<◌, ◌≤◌, ◌⊎◌, Bool, true, false, true≢false, IsTrue, List, [], sym, refl, ap, ◌∙◌, subst, inl, inr, ⊎_elim, arith, ◌==◌, Option, Some, None}
 use mathlib.Core.Logic.{dite}
 use native.Mathlib.Decide.{ℕ_discrete}
 use Rattle.heap_model.specs.declared.state.State as model
@@ -145,7 +145,7 @@ module _ (k : Config) (t : Pause) (kind : Kind) (owner : ℕ → Option ℕ) (me
   -- in an odd phase the domain has either arrived in the one before, or has done nothing in the next
   odd_telling : (share : Share) (j : ℕ) → t.phase ≡ j * 2 + 1 → Telling means w d (voided share)
   odd_telling share j odd = ⊎_elim
-      (λ (e : t.led ≡ true). let start = (told.led j odd e).1 d in record { owes = λ _. start.paid; seen = λ _. start.blind; fresh = λ _. refl; forgotten = λ _ _. refl; colours = λ c f. cc })
+      (λ (e : t.led ≡ true). let start = (told.led j odd e).1 d in record { owes = λ _. record { owes = start.paid; follows = λ a is. subst (λ (f : ℕ → Bool). IsTrue (f a)) start.settled is }; seen = λ _. start.blind; fresh = λ _. refl; forgotten = λ _ _. refl; colours = λ c f. cc })
       (λ (e : t.led ≡ false). let gone : w.arrived d ≡ true = (told.odd j odd e).1 d below in record { owes = λ f. absurd (clash (w.arrived d) gone f); seen = λ f. absurd (clash (w.arrived d) gone f); fresh = λ _. refl; forgotten = λ _ _. refl; colours = λ c f. cc })
       (either_bool t.led)
 

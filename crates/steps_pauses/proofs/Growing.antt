@@ -1,8 +1,9 @@
 -- A phase of the marking that asks for another one has marked a block: so it stays where a domain arrives, where a phase begins, and where the next kind is named.
-use Rattle.std.proofs.Common.{◌≡◌, ◌≢◌, ℕ, zero, suc, ◌+◌, ◌*◌, ◌-◌, ◌<◌, ◌≤◌, ◌⊎◌, Bool, true, false, IsTrue, List, Option, Some, None, inl, inr, ⊎_elim, refl, sym, ap, ◌∙◌, subst, arith}
+use Rattle.std.proofs.Common.{◌≡◌, ◌≢◌, ℕ, ◌+◌, ◌*◌, ◌<◌, ◌≤◌, ◌⊎◌, Bool, true, false, IsTrue, List, Option, Some, None, inl, inr, ⊎_elim, refl, sym, ap, ◌∙◌, subst, arith}
 use Rattle.std.proofs.lemmas.Bool.{false≢true}
 use Rattle.heap_model.specs.declared.label.Label.{Label}
 use Rattle.heap_model.specs.declared.state.State as model
+use Rattle.heap_model.specs.declared.state.Mode.TheVariants.{Sealed}
 use Rattle.cycle_laws.specs.Ending.{IsGrowing, unmarked_of}
 use Rattle.cycle_laws.specs.Shares.{Shares}
 use Rattle.cycle_laws.proofs.Ending.{fewer_unmarked, none_unmarked}
@@ -11,10 +12,10 @@ use Rattle.heap_rule.specs.declared.phase.Kind.{Kind}
 use Rattle.heap_rule.specs.declared.phase.Kind.TheVariants.{Run, Promote, Reset, Roots, Mark, Rounds, Decide, Queued, Clean, Lasts, Sweep, Answer}
 use Rattle.heap_rule.specs.declared.phase.Stage.{Stage}
 use Rattle.heap_rule.specs.declared.phase.Stage.TheVariants.{In, Leads, Led, Gone}
-use Rattle.heap_rule.specs.Cycles.{Cycling, Grows, IsMarking, IsNamed, Told, owner_at, pool_labels}
+use Rattle.heap_rule.specs.Cycles.{Cycling, EndsCycle, Facts, FreesFor, IsBetween, IsPlain, IsSwept, Grows, IsMarking, IsNamed, Told, owner_at, pool_labels}
 use Rattle.heap_rule.specs.Phases.{AtStage, Pause, flag}
 use Rattle.heap_rule.specs.Places.{Live}
-use Rattle.heap_rule.specs.Pools.{Holder}
+use Rattle.heap_rule.specs.Pools.{Holder, Tenancy}
 use Rattle.heap_rule.proofs.Growing.{few_pooled}
 use Rattle.steps_pauses.specs.Pauses.{ArrivesFrom, asks_again, unmarked_after}
 use Rattle.steps_pauses.proofs.Arriving.{arrived_cycle, arrived_in, same_changed}
@@ -87,6 +88,39 @@ module _ (k : Config) (live : Live) (holder : ℕ → Holder) (t : Pause) (c : C
         cleared = λ _ named _. absurd (unnamed_turned named);
       }
 
+-- how many blocks aren't marked is no matter of the facts
+abbrev with_unmarked : Cycling → ℕ → Cycling
+with_unmarked c n = record c { unmarked = n }
+
+ends_unmarked : (k : Config) (s : model.State) (live : Live) (holder : ℕ → Holder) (c : Cycling) (n : ℕ) → EndsCycle k s live holder c → EndsCycle k s live holder (with_unmarked c n)
+ends_unmarked k s live holder c n e = record { facts = e.facts; rotated = e.rotated }
+
+swept_unmarked : (k : Config) (s : model.State) (live : Live) (holder : ℕ → Holder) (c : Cycling) (words : List ℕ) (n : ℕ) → IsSwept k s live holder c words → IsSwept k s live holder (with_unmarked c n) words
+swept_unmarked k s live holder c words n f = record { all_marked = f.all_marked; unmarked = f.unmarked; unchanged = f.unchanged; counted = f.counted }
+
+frees_unmarked : (k : Config) (s : model.State) (live : Live) (holder : ℕ → Holder) (c : Cycling) (n : ℕ) → FreesFor k s live holder c → FreesFor k s live holder (with_unmarked c n)
+frees_unmarked k s live holder c n f = ⊎_elim (λ (h : (s.mode ≡ Sealed) × EndsCycle k s live holder c × (c.unswept ≡ false)). inl (h.0, ends_unmarked k s live holder c n h.1, h.2)) (λ h. inr h) f
+
+between_unmarked : (k : Config) (s : model.State) (live : Live) (c : Cycling) (n : ℕ) → IsBetween k s live c → IsBetween k s live (with_unmarked c n)
+between_unmarked k s live c n b = record { mode = b.mode; unmarked = b.unmarked; beside = b.beside; unchanged = b.unchanged; unrotated = b.unrotated }
+
+plain_unmarked : (c : Cycling) (n : ℕ) → IsPlain c → IsPlain (with_unmarked c n)
+plain_unmarked c n p = record { unchanged = p.unchanged; unrotated = p.unrotated }
+
+pub facts_unmarked : (kind : Kind) (k : Config) (s : model.State) (live : Live) (t : Tenancy) (c : Cycling) (words : List ℕ) (n : ℕ) → Facts kind k s live t c words → Facts kind k s live t (with_unmarked c n) words
+facts_unmarked Run k s live t c words n f = between_unmarked k s live c n f
+facts_unmarked Promote k s live t c words n f = between_unmarked k s live c n f
+facts_unmarked Reset k s live t c words n f = between_unmarked k s live c n f
+facts_unmarked Roots k s live t c words n f = (f.0, plain_unmarked c n f.1)
+facts_unmarked Mark k s live t c words n f = f
+facts_unmarked Rounds k s live t c words n f = f
+facts_unmarked Decide k s live t c words n f = (f.0, plain_unmarked c n f.1)
+facts_unmarked Queued k s live t c words n f = f
+facts_unmarked Clean k s live t c words n f = (f.0, plain_unmarked c n f.1)
+facts_unmarked Lasts k s live t c words n f = record { facts = f.facts; unchanged = f.unchanged; stays = f.stays; turned = λ is. let r = f.turned is in record { all_marked = r.all_marked; unmarked = r.unmarked; gone = r.gone } }
+facts_unmarked Sweep k s live t c words n f = record { since = frees_unmarked k s live t.holder c n f.since; swept = swept_unmarked k s live t.holder c words n f.swept; clear = f.clear; all_counted = f.all_counted }
+facts_unmarked Answer k s live t c words n f = record { mode = f.mode; whole = f.whole; ends = ends_unmarked k s live t.holder c n f.ends; swept = swept_unmarked k s live t.holder c words n f.swept; clean = f.clean; all_counted = f.all_counted; held = f.held }
+
 -- a word that asks for another phase is 1
 asks_flag : (b : Bool) (v : ℕ) → v ≡ flag b → (b ≡ true) × (asks_again (Some v) ≡ 1) ⊎ (asks_again (Some v) ≡ 0)
 asks_flag true v is = inl (refl, ap (λ (n : ℕ). asks_again (Some n)) is)
@@ -137,13 +171,13 @@ module _ (k : Config) (live : Live) (t : Pause) (c : Cycling) (g : Grows k live 
 
   -- what was marked as a phase of the marking begins is what is marked as it is named
   module _ (last next : Kind) (s : model.State) (is : c.kind ≡ last) (j : ℕ) (odd : t.phase ≡ j * 2 + 1) (stands : t.arrived 0 ≡ t.phase) (quiet : next ≡ Rounds → c.shares.changed ≡ false) (kinds' : ℕ → Kind) where
-    abbrev c' : Cycling
-    c' = record (led_cycle k live last next s c) { unmarked = unmarked_after k last changed unmarked }
+    abbrev named_cycle : Cycling
+    named_cycle = record (led_cycle k live last next s c) { unmarked = unmarked_after k last changed unmarked }
 
-    abbrev t' : Pause
-    t' = record t { kinds = kinds'; led = true }
+    abbrev named_pause : Pause
+    named_pause = record t { kinds = kinds'; led = true }
 
-    marking_led : (kind : Kind) → next ≡ kind → IsMarking kind → (unmarked_of (pool_labels k live) c'.before ≤ c'.unmarked) × ((l : Label) → IsTrue (c'.before l) → IsTrue (c'.paint.marks.marked l))
+    marking_led : (kind : Kind) → next ≡ kind → IsMarking kind → (unmarked_of (pool_labels k live) named_cycle.before ≤ named_cycle.unmarked) × ((l : Label) → IsTrue (named_cycle.before l) → IsTrue (named_cycle.paint.marks.marked l))
     marking_led Mark e marking = subst (λ (n : Kind). (unmarked_of (pool_labels k live) (led_cycle k live last n s c).before ≤ unmarked_after k last changed unmarked) × ((l : Label) → IsTrue ((led_cycle k live last n s c).before l) → IsTrue ((led_cycle k live last n s c).paint.marks.marked l))) (sym e) (led_few last Mark s is, λ l m. m)
     marking_led Rounds e marking = subst (λ (n : Kind). (unmarked_of (pool_labels k live) (led_cycle k live last n s c).before ≤ unmarked_after k last changed unmarked) × ((l : Label) → IsTrue ((led_cycle k live last n s c).before l) → IsTrue ((led_cycle k live last n s c).paint.marks.marked l))) (sym e) (led_few last Rounds s is, λ l m. m)
     marking_led Run e marking = absurd marking
@@ -157,7 +191,7 @@ module _ (k : Config) (live : Live) (t : Pause) (c : Cycling) (g : Grows k live 
     marking_led Sweep e marking = absurd marking
     marking_led Answer e marking = absurd marking
 
-    pub grows_led : Grows k live t' c'
+    pub grows_led : Grows k live named_pause named_cycle
     grows_led = record {
       few = λ marking. (marking_led next refl marking).0;
       since = λ _ unnamed. absurd (unnamed (j, odd, refl));

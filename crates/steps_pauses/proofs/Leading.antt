@@ -1,5 +1,6 @@
 -- Domain 0 names the next kind of phase, and the collector's entry stands, if there is one.
 use Rattle.std.proofs.Common.{◌≡◌, ◌≢◌, ℕ, ◌+◌, ◌*◌, ◌<◌, ◌≤◌, ◌⊎◌, Bool, true, false, true≢false, IsTrue, List, [], length, get_or, slice_get, set, Option, Some, None, sym, refl, ap, ◌∙◌, subst, inl, inr, ⊎_elim, arith, zero-le, length-set, get_or-set_same, get_or-set_other}
+use Rattle.std.proofs.lemmas.Bool.{false≢true}
 use Rattle.std.proofs.lemmas.Option.{slice_get-get_or, slice_get_within}
 use mathlib.Core.Option.{some}
 use lib.ListN.{get_elem?}
@@ -41,7 +42,7 @@ use Rattle.heap_model.specs.declared.label.Label.{Label}
 use Rattle.heap_rule.proofs.EphemeronLemmas.{looks_idle}
 use Rattle.heap_rule.proofs.FinaliserLemmas.{paired_length}
 use Rattle.steps_pauses.proofs.Arriving.{whole_all}
-use Rattle.steps_pauses.proofs.Growing.{grown_by, grows_led}
+use Rattle.steps_pauses.proofs.Growing.{facts_unmarked, grown_by, grows_led}
 use Rattle.steps_pauses.specs.Pauses.{kind_in, armed_after, entry_of, cut_in, progress_after, asks_again, unmarked_after, unswept_after, whole_after, MayFollow, NamesFree, KeepsNames, LeadMay, LeadTold}
 use Rattle.steps_pauses.proofs.CollectorEntries.{OfCollector, entry_of_collector, keeps_left, work_left, graph_left, front_then, after_logged, legal_logged, knows_logged, seen_then}
 use Rattle.steps_pauses.proofs.Naming.{left_by, logged, pass_in, left_in, led_cycle, Ready, Way, led_way}
@@ -57,7 +58,7 @@ told_led : (k : Config) (p : Pause) (j : ℕ) (next : Kind) (changed : Bool) →
 told_led k p j next changed odd = record {
   even = λ i e. absurd (let f : p.phase ≡ i * 2 = e in let g : p.phase ≡ j * 2 + 1 = odd in omega arith);
   odd = λ i e f. absurd (true≢false f);
-  led = λ i e _. let same : i ≡ j = (let f : p.phase ≡ i * 2 + 1 = e in let g : p.phase ≡ j * 2 + 1 = odd in omega arith) in (ap (λ (n : ℕ). over (j + 1) next p.kinds (n + 1)) same ∙ over_here (j + 1) next p.kinds, λ d. record { waits = refl; paid = refl; blind = refl });
+  led = λ i e _. let same : i ≡ j = (let f : p.phase ≡ i * 2 + 1 = e in let g : p.phase ≡ j * 2 + 1 = odd in omega arith) in (ap (λ (n : ℕ). over (j + 1) next p.kinds (n + 1)) same ∙ over_here (j + 1) next p.kinds, λ d. record { waits = refl; paid = refl; settled = refl; blind = refl });
 }
 
 -- domain 0 knows the pass by whether the cut is made
@@ -336,7 +337,7 @@ module _ (k : Config) (s : Words) (r : Rule k s) (id : ℕ) (hist : List Entry) 
     meanings = w.meanings;
     colours_are = same_cycle.colours_same ∙ w.colours_are;
     changed_is = same_cycle.changed_same ∙ w.changed_is;
-    facts = facts_words next k (state_of k log') live tenancy c' s.words ws same_cycle (subst (λ (z : model.State). Facts next k z live tenancy c' s.words) (sym after) way.facts);
+    facts = facts_words next k (state_of k log') live tenancy c' s.words ws same_cycle (subst (λ (z : model.State). Facts next k z live tenancy c' s.words) (sym after) (facts_unmarked next k (left_by state o) live tenancy (led_cycle k live last next state c) s.words (unmarked_after k last x.seen.share.changed x.seen.share.unmarked) way.facts));
     told = told_led k t j next c.shares.changed odd;
     leaves = record {
       none = way.clean;
@@ -374,7 +375,7 @@ module _ (k : Config) (s : Words) (r : Rule k s) (id : ℕ) (hist : List Entry) 
 
   sharing_led : Sharing k account' ws y.own.number y.own.registers y.own.finalisers y.own.ephemerons.items y.seen.stage y.seen.share
   sharing_led = record {
-    telling = record { owes = λ _. refl; seen = λ _. refl; fresh = λ _. refl; forgotten = λ _ _. refl; colours = λ v e. cc };
+    telling = record { owes = λ _. record { owes = refl; follows = λ a is. is }; seen = λ _. refl; fresh = λ _. refl; forgotten = λ _ _. refl; colours = λ v e. cc };
     leading = record {
       changed = λ v e. cc;
       found_blocks = λ v e. cc;
@@ -404,7 +405,7 @@ module _ (k : Config) (s : Words) (r : Rule k s) (id : ℕ) (hist : List Entry) 
       let gone : c.shares.arrived z.own.number ≡ true = ended_kind.1 z.own.number below in
       let idle : IsIdle z.seen.share = tells.fresh gone in record {
         telling = record {
-          owes = λ _. sym (ap (λ (u : Share). u.owes) idle);
+          owes = λ _. record { owes = sym (ap (λ (u : Share). u.owes) idle); follows = λ a is. absurd (false≢true is) };
           seen = λ _. sym (ap (λ (u : Share). seen_by u.places_seen) idle);
           fresh = λ _. idle;
           forgotten = λ _ _. tells.forgotten gone apart;

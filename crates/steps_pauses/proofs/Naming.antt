@@ -210,6 +210,10 @@ module _ (k : Config) (log : List Entry) (live : Live) (t : Tenancy) (c : Cyclin
     abbrev resumed : laws.Cycle
     resumed = record cyc { whole = false; marks = restricted c.paint.marks (lies_in_pool k live) }
 
+    -- the facts of Mark say nothing of what was marked before
+    marking_from : (pass : laws.Pass) (s : model.State) (z : laws.Cycle) (before : Label → Bool) → laws.InPhase (laws.Mark pass) k.domains s z → laws.InPhase (laws.Mark pass) k.domains s (record z { before = before })
+    marking_from pass s z before f = record { known = f.known; whole = f.whole; passed = f.passed; mark = f.mark }
+
     -- shares that begin anew with a changed word of 0
     quietly : (P : laws.Cycle → Type 0) (last next : Kind) → c.shares.changed ≡ false → P (record (cycle_of k live t.holder (led_cycle k live last next s c)) { shares = no_shares }) → P (cycle_of k live t.holder (led_cycle k live last next s c))
     quietly P last next unchanged p = subst (λ (b : Bool). P (record (cycle_of k live t.holder (led_cycle k live last next s c)) { shares = reset_shares b })) (sym unchanged) p
@@ -323,7 +327,7 @@ module _ (k : Config) (log : List Entry) (live : Live) (t : Tenancy) (c : Cyclin
       finishes = λ r f full. let u = goes_beside Reset r.kind f (r.finishes refl refl) in let old : AllOld k live = r.emptied (λ e. cc) in record {
         allowed = λ e is. absurd (none-some e is);
         facts = (
-          phase_steps.goes_on k.domains s resumed refl f.mode (all_owned k s live t.holder c count all u old lots owners) (under_way k s live t.holder c count all u old words r.bare r.found r.full) c.shares.changed,
+          marking_from laws.First s _ (marks_in k live Reset Mark s c.paint.marks).marked (phase_steps.goes_on k.domains s resumed refl f.mode (all_owned k s live t.holder c count all u old lots owners) (under_way k s live t.holder c count all u old words r.bare r.found r.full) c.shares.changed),
           f.unrotated,
         );
         full = full_kind k log live t.holder t.fresh t.garbage homes Reset Mark (λ _ e. cc) full;
@@ -363,7 +367,7 @@ module _ (k : Config) (log : List Entry) (live : Live) (t : Tenancy) (c : Cyclin
       };
       roots = λ r f full. record {
         allowed = λ e is. absurd (none-some e is);
-        facts = (phase_steps.roots_mark laws.First k.domains s cyc count f.0 all c.shares.changed, f.1.unrotated);
+        facts = (marking_from laws.First s _ c.paint.marks.marked (phase_steps.roots_mark laws.First k.domains s cyc count f.0 all c.shares.changed), f.1.unrotated);
         full = full_kind k log live t.holder t.fresh t.garbage homes Roots Mark (λ _ e. cc) full;
         clean = none;
         left = λ is. absurd (never_left Roots r.kind (λ h. h) (λ e. cc) is);
@@ -372,7 +376,7 @@ module _ (k : Config) (log : List Entry) (live : Live) (t : Tenancy) (c : Cyclin
       };
       again = λ r f full. record {
         allowed = λ e is. absurd (none-some e is);
-        facts = (phase_steps.mark_mark c.pass k.domains s cyc f.0 c.shares.changed, f.1);
+        facts = (marking_from c.pass s _ c.paint.marks.marked (phase_steps.mark_mark c.pass k.domains s cyc f.0 c.shares.changed), f.1);
         full = full_kind k log live t.holder t.fresh t.garbage homes Mark Mark (λ _ e. cc) full;
         clean = none;
         left = λ is. absurd (never_left Mark r.kind (λ h. h) (λ e. cc) is);
@@ -390,7 +394,7 @@ module _ (k : Config) (log : List Entry) (live : Live) (t : Tenancy) (c : Cyclin
       };
       back = λ r f full. record {
         allowed = λ e is. absurd (none-some e is);
-        facts = (phase_steps.rounds_mark c.pass k.domains s cyc f.0 c.shares.changed, f.1);
+        facts = (marking_from c.pass s _ c.paint.marks.marked (phase_steps.rounds_mark c.pass k.domains s cyc f.0 c.shares.changed), f.1);
         full = full_kind k log live t.holder t.fresh t.garbage homes Rounds Mark (λ _ e. cc) full;
         clean = none;
         left = λ is. absurd (never_left Rounds r.kind (λ h. h) (λ e. cc) is);
@@ -426,7 +430,7 @@ module _ (k : Config) (log : List Entry) (live : Live) (t : Tenancy) (c : Cyclin
       };
       second = λ r f full. record {
         allowed = λ e is. absurd (none-some e is);
-        facts = (phase_steps.roots_mark laws.Second k.domains s cyc count f.0 all c.shares.changed, f.1);
+        facts = (marking_from laws.Second s _ c.paint.marks.marked (phase_steps.roots_mark laws.Second k.domains s cyc count f.0 all c.shares.changed), f.1);
         full = full_kind k log live t.holder t.fresh t.garbage homes Queued Mark (λ _ e. cc) full;
         clean = none;
         left = λ is. absurd (never_left Queued r.kind (λ h. h) (λ e. cc) is);

@@ -10,7 +10,6 @@ use Rattle.heap_model.specs.declared.entry.Entry.{Entry}
 use Rattle.heap_model.specs.declared.label.Label.{Label}
 use Rattle.heap_model.specs.declared.state.Mode.TheVariants.{Open, Cut as CutMode}
 use Rattle.heap_model.specs.declared.state.State as model
-use Rattle.heap_model.proofs.Histories.FrontLemmas.{front_whole}
 use Rattle.cycle_laws.specs.Cycle as laws
 use Rattle.heap_rule.specs.declared.config.Config.{Config}
 use Rattle.heap_rule.specs.declared.view.DomainView.{DomainView}

@@ -68,18 +68,16 @@ ArrivesFrom d (Leads kind) = d ≢ 0
 ArrivesFrom d (Led kind) = Unit {0}
 ArrivesFrom d (Gone kind) = ⊥
 
--- a domain that arrives from here has looked at own places or at its queue, and may have darkened a block
-abbrev pub Traces : Stage → Type 0
-Traces stage = (stage ≡ In Mark) ⊎ ((stage ≡ In Rounds) ⊎ ((stage ≡ In Queued) ⊎ (stage ≡ In Clean)))
-
 -- What a domain has done of a phase of a collection in which it arrives. Of a phase without one nothing is asked
 pub record HasDone (k : Config) (x : DomainView) : Type 0 where
   -- it has marked what its registers hold
   pub rooted : x.seen.stage ≡ In Roots → (r a : ℕ) → r < 16 → value_at x.own.registers r ≡ Ref a → IsTrue (list_any (λ q. q == r) x.seen.share.roots)
   -- and the blocks that its queue keeps alive
   pub queued : (x.seen.stage ≡ In Roots) ⊎ (x.seen.stage ≡ In Queued) → (i a : ℕ) → held_at x.own.finalisers (Queue i) ≡ Some a → IsTrue (seen_by x.seen.share.waiting i)
+  -- each block that it has darkened is scanned, or it has stored the changed word since
+  pub followed : x.seen.stage ≡ In Mark → x.seen.share.account ≡ []
   -- it owes no store of the changed word
-  pub told : Traces x.seen.stage → x.seen.share.owes ≡ false
+  pub told : (x.seen.stage ≡ In Rounds) ⊎ (x.seen.stage ≡ In Queued) → x.seen.share.owes ≡ false
   -- it has been at each own place
   pub walked : x.seen.stage ≡ In Mark → x.own.swept.top ≤ x.seen.share.walk.pool
   -- it has swept each own place

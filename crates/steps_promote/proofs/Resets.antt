@@ -123,6 +123,9 @@ reset_may k x word a new place may fits slots id hist s r _ at _ =
       (record { view = refl; holds_old = refers_old k s r id hist x at may.stage }, refl),
     )
 
+no_more : (n : ℕ) → n + 0 ≡ n
+no_more n = omega arith
+
 -- it closes where the area's use and the list were set back
 pub reset_closes : (k : Config) (x : DomainView) (found a : ℕ) → ResetMay k x a → Closes k x found (ResetTold k) CanLeave Resets
 reset_closes k x found a may y fits told = let own = ap (λ (z : DomainView). z.own) told.view in record {
