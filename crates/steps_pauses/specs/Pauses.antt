@@ -162,8 +162,9 @@ pub record Begun (k : Config) (x : DomainView) (found : ℕ) (y : DomainView) : 
   pub mode : (next : Kind) → y.seen.stage ≡ In next → IsModeOf next (state_of k y.seen.front).mode
   pub view : y ≡ record x { seen = record x.seen { front = y.seen.front; stage = y.seen.stage; notes = x.seen.notes ++ Barrier found ∷ [] } }
 
--- a load of the barrier word by a domain that has arrived
+-- a load of the barrier word by a domain that has arrived. One that is alone finds what it has counted itself
 pub record LookTold (k : Config) (x : DomainView) (found : ℕ) (y : DomainView) : Type 0 where
+  pub alone : k.domains ≡ 1 → found ≡ x.own.arrivals
   pub waits : found < x.own.arrivals * k.domains → y ≡ noted x (Barrier found)
   pub begun : x.own.arrivals * k.domains ≤ found → Begun k x found y
 
