@@ -60,6 +60,10 @@ with_roots x y = with_share x (record x.seen.share { colours = y.seen.share.colo
 abbrev pub with_queue : DomainView → DomainView → DomainView
 with_queue x y = with_share x (record x.seen.share { colours = y.seen.share.colours; found_head = y.seen.share.found_head; waiting = y.seen.share.waiting; marked = y.seen.share.marked; darkenings = y.seen.share.darkenings })
 
+-- the domain where it owes a store of the changed word, or doesn't
+abbrev pub owing : Bool → DomainView → DomainView
+owing owes x = with_share x (record x.seen.share { owes = owes })
+
 -- the domain is done with a register, and with those with which it was before
 pub record Rooted (register : ℕ) (x y : DomainView) : Type 0 where
   pub view : y ≡ with_roots x y
@@ -67,9 +71,9 @@ pub record Rooted (register : ℕ) (x y : DomainView) : Type 0 where
   pub done : (a : ℕ) → value_at x.own.registers register ≡ Ref a → IsRoot y register
   pub before : (r : ℕ) → IsRoot x r → IsRoot y r
 
--- the domain is done with a place of its queue, and with those with which it was before
-pub record QueueRooted (place : ℕ) (x y : DomainView) : Type 0 where
-  pub view : y ≡ with_queue x y
+-- the domain is done with a place of its queue, and with those with which it was before; and it has darkened a block, or not
+pub record QueueRooted (place : ℕ) (won : Bool) (x y : DomainView) : Type 0 where
+  pub view : y ≡ with_queue (owing (owes_after x.seen.stage won x.seen.share.owes) x) y
   pub colours : y.seen.share.colours ≡ x.seen.share.colours
   pub done : (a : ℕ) → held_at x.own.finalisers (Queue place) ≡ Some a → IsQueueRoot y place
   pub before : (i : ℕ) → IsQueueRoot x i → IsQueueRoot y i
