@@ -17,14 +17,14 @@ use Rattle.heap_model.specs.Entries.{Allowed, next, is_some_and, is_rising, is_s
 use Rattle.heap_model.proofs.Collections.CutLemmas.{part_same}
 use Rattle.heap_model.proofs.Reach.ReachLemmas.{has-append_left}
 use Rattle.cycle_laws.specs.Marks.{Marks, darkened, with_scanned, FieldsMarked, KeysMarked, DataMarked, NoneGrey, DataFollows, IsWhole}
-use Rattle.cycle_laws.specs.Shares.{Layout, OnePlaceEach, Shares, reset_shares, no_shares, at_domain, again, owing, stored_changed, sees, arrives, AllArrived, AllOwned}
-use Rattle.cycle_laws.specs.Queueing.{RootsMarked, InRoots, IsDecided}
+use Rattle.cycle_laws.specs.Shares.{Layout, OnePlaceEach, reset_shares, no_shares, at_domain, owing, following, settles, stored_changed, sees, arrives, AllArrived, AllOwned, Shares}
+use Rattle.cycle_laws.specs.Queueing.{RootsMarked, IsDecided, InRoots}
 use Rattle.cycle_laws.specs.Taking.{LeadsToMarked}
-use Rattle.cycle_laws.specs.Cycle.{Cycle, Pass, First, Second, Roots, Mark, Rounds, Decide, Clean, Lasts, Sweep, WholeFrom, Passed, IsPastDecide, IsRooted, IsUnderWay, Known, InPhase, with_shares, with_marks}
-use Rattle.cycle_laws.specs.CycleLaws.{Darkens, Arrives, DarkeningSteps, TakingSteps, PhaseSteps}
+use Rattle.cycle_laws.specs.Cycle.{Cycle, Pass, First, Second, Roots, Mark, Rounds, Decide, Clean, Lasts, Sweep, WholeFrom, Passed, IsRooted, IsUnderWay, Known, InPhase, with_shares, with_marks, IsPastDecide}
+use Rattle.cycle_laws.specs.CycleLaws.{Darkens, SeesAll, ArrivesMarking, Arrives, DarkeningSteps, TakingSteps, PhaseSteps}
 use Rattle.cycle_laws.proofs.LookingBack.{through_looks, through_arrives}
 use Rattle.cycle_laws.proofs.Tracing.{More, holds_more, darkened_more, never, held_fields, darken_traced, darken_whole, scan_traced, closed_when}
-use Rattle.cycle_laws.proofs.Sharing.{at_cases, owned_darkened, mark_start, mark_darkens_own as shares_darken_own, mark_darkens_other as shares_darken_other, mark_scans as shares_scan, mark_stores as shares_store, mark_sees, mark_arrives as shares_arrive, mark_end, rounds_start, rounds_darkens as rounds_darken, rounds_scans as rounds_scan, rounds_stores as rounds_store, rounds_sees, rounds_arrives as rounds_arrive, rounds_end}
+use Rattle.cycle_laws.proofs.Sharing.{at_cases, owned_darkened, mark_start, mark_darkens as shares_darken, mark_settles as shares_settle, mark_scans as shares_scan, mark_stores as shares_store, mark_sees, mark_arrives as shares_arrive, mark_end, rounds_start, rounds_darkens as rounds_darken, rounds_scans as rounds_scan, rounds_stores as rounds_store, rounds_sees, rounds_arrives as rounds_arrive, rounds_end}
 use Rattle.cycle_laws.proofs.Covering.{cover_darkens, cover_scans, cover_closed}
 use Rattle.cycle_laws.proofs.DomainParts.{part_has, roots_end}
 use Rattle.cycle_laws.proofs.Deciding as deciding
@@ -141,20 +141,21 @@ module _ (pass : Pass) (n : ℕ) (s : State) (c : Cycle) where
 
   -- Mark
   module _ (i : InPhase (Mark pass) n s c) where
-    pub mark_darkens_own : OnePlaceEach c.layout → (d a : ℕ) (l : Label) → Darkens n s c d d a l → InPhase (Mark pass) n s (with_shares (with_marks c (darkened c.marks l)) (again c.shares d a))
-    mark_darkens_own one d a l may = record {
-      known = known_darkens s c.layout c.marks l pass a may.lives i.known;
-      whole = whole_darkens d d a l may i.whole;
-      passed = passed_more pass s c.whole c.marks.marked (darkened c.marks l).marked (darkened_more c.marks l) i.passed;
-      mark = shares_darken_own n c.layout c.marks c.shares i.mark one d a l may.inside may.lives may.owned may.acts;
-    }
-
-    pub mark_darkens_other : (d k a : ℕ) (l : Label) → Darkens n s c d k a l → InPhase (Mark pass) n s (with_shares (with_marks c (darkened c.marks l)) (owing c.shares d))
-    mark_darkens_other d k a l may = record {
+    pub mark_darkens : OnePlaceEach c.layout → (d k a : ℕ) (l : Label) → Darkens n s c d k a l → InPhase (Mark pass) n s (with_shares (with_marks c (darkened c.marks l)) (following c.shares d a))
+    mark_darkens one d k a l may = record {
       known = known_darkens s c.layout c.marks l pass a may.lives i.known;
       whole = whole_darkens d k a l may i.whole;
       passed = passed_more pass s c.whole c.marks.marked (darkened c.marks l).marked (darkened_more c.marks l) i.passed;
-      mark = shares_darken_other n c.layout c.marks c.shares i.mark d k a l may.inside may.owner_inside may.lives may.owned may.acts;
+      mark = shares_darken n c.layout c.marks c.shares i.mark one d k a l may.inside may.owner_inside may.lives may.owned may.unmarked may.acts;
+    }
+
+    pub mark_settles : (d a : ℕ) → ((l : Label) → c.layout.live a ≡ Some l → IsTrue (c.marks.marked l) → IsTrue (c.marks.scanned l))
+        → InPhase (Mark pass) n s (with_shares c (settles c.shares d a))
+    mark_settles d a scanned = record {
+      known = i.known;
+      whole = i.whole;
+      passed = i.passed;
+      mark = shares_settle n c.layout c.marks c.shares i.mark d a scanned;
     }
 
     pub mark_scans : (l : Label) → FieldsMarked s.graph c.marks.marked l → InPhase (Mark pass) n s (with_marks c (with_scanned c.marks l))
@@ -182,12 +183,12 @@ module _ (pass : Pass) (n : ℕ) (s : State) (c : Cycle) where
       mark = mark_sees n c.layout c.marks c.shares i.mark d a at scanned;
     }
 
-    pub mark_arrives : (d : ℕ) → Arrives c d → InPhase (Mark pass) n s (with_shares c (arrives c.shares d))
+    pub mark_arrives : (d : ℕ) → ArrivesMarking c d → InPhase (Mark pass) n s (with_shares c (arrives c.shares d))
     mark_arrives d may = record {
       known = i.known;
       whole = i.whole;
       passed = i.passed;
-      mark = shares_arrive n c.layout c.marks c.shares i.mark d may.paid may.all;
+      mark = shares_arrive n c.layout c.marks c.shares i.mark d may.settled may.all;
     }
 
     -- to Mark again, and to Rounds
@@ -231,6 +232,14 @@ module _ (pass : Pass) (n : ℕ) (s : State) (c : Cycle) where
       whole = i.whole;
       passed = i.passed;
       rounds = rounds_store n c.layout s.graph c.before c.marks c.shares i.rounds d;
+    }
+
+    pub rounds_settles : (d a : ℕ) → InPhase (Rounds pass) n s (with_shares c (settles c.shares d a))
+    rounds_settles d a = record {
+      known = i.known;
+      whole = i.whole;
+      passed = i.passed;
+      rounds = let r = i.rounds in record { shares = record { own = r.shares.own; all = r.shares.all }; owned = r.owned; paid = r.paid; stays = r.stays; scanned = r.scanned; same = λ quiet. r.same (record { unchanged = quiet.unchanged; paid = quiet.paid }); data_marked = r.data_marked };
     }
 
     pub rounds_looks : (d a : ℕ) → c.layout.owner a ≡ Some d → ((l : Label) → c.layout.live a ≡ Some l → IsTrue (c.before l) → KeysMarked s.graph c.before l → DataMarked s.graph c.marks.marked l)
@@ -478,9 +487,9 @@ module _ (n : ℕ) (s : State) (c : Cycle) where
       stays = i.stays;
     }
 
-    pub clean_arrives : (d : ℕ) → Arrives c d → InPhase Clean n s (with_shares c (arrives c.shares d))
-    clean_arrives d may = record {
-      clean = cleaning.clean_arrives n c.layout s c.marks.marked c.shares i.clean d may.paid may.all;
+    pub clean_arrives : (d : ℕ) → SeesAll c d → InPhase Clean n s (with_shares c (arrives c.shares d))
+    clean_arrives d all = record {
+      clean = cleaning.clean_arrives n c.layout s c.marks.marked c.shares i.clean d all;
       whole = i.whole;
       waiting = i.waiting;
       stays = i.stays;
@@ -579,8 +588,8 @@ darkening_steps = record {
   queued_darkens = queued_darkens;
   queued_stores = queued_stores;
   queued_arrives = queued_arrives;
-  mark_darkens_own = mark_darkens_own;
-  mark_darkens_other = mark_darkens_other;
+  mark_darkens = mark_darkens;
+  mark_settles = mark_settles;
   mark_scans = mark_scans;
   roots_scans = roots_scans;
   rounds_scans = rounds_scans;
@@ -588,6 +597,7 @@ darkening_steps = record {
   mark_looks = mark_looks;
   mark_arrives = mark_arrives;
   rounds_darkens = rounds_darkens;
+  rounds_settles = rounds_settles;
   rounds_stores = rounds_stores;
   rounds_looks = rounds_looks;
   rounds_arrives = rounds_arrives;

@@ -1,5 +1,5 @@
 -- Garbage stays where a step neither frees it nor makes any, and so does what a domain knows of it.
-use Rattle.std.proofs.Common.{◌≡◌, ℕ, ◌+◌, ◌*◌, ◌<◌, ◌≤◌, Bool, true, false, true≢false, IsTrue, List, Some, None, sym, refl, ap, ◌∙◌, subst, arith, ⊎_elim, inl, inr}
+use Rattle.std.proofs.Common.{◌≡◌, ℕ, ◌+◌, ◌*◌, ◌<◌, ◌≤◌, ◌⊎◌, Bool, true, false, true≢false, IsTrue, List, Some, None, sym, refl, ap, ◌∙◌, subst, arith, ⊎_elim, inl, inr}
 use Rattle.std.proofs.lemmas.Bool.{cases_Bool}
 use Rattle.heap_model.specs.Domains.{class_count}
 use Rattle.heap_rule.specs.declared.config.Config.{Config}
@@ -55,10 +55,11 @@ module _ (k : Config) (live : Live) (t : Tenancy) (c : Cycling) (words : List �
       owned = λ a is. let o = l.owned a (was a is) in (o.0, own_place_on t.holder t'.holder a o.0 (λ q b e. g.held q o.0 b e) o.1);
     }
 
-    -- what a domain knows of it
-    pub sweeps_on : Pools k t words → ((q d b : ℕ) → t'.holder q ≡ owned d b → b < class_count) → (kind : Kind) (arrived : ℕ → Bool) (d : ℕ) (items : List ℕ) (swept : Swept) (reaping : Reaping)
-        → Sweeps t.holder t.garbage kind arrived d items swept reaping → Sweeps t'.holder t'.garbage kind arrived d items swept reaping
-    sweeps_on pools few kind arrived d items swept reaping s = record {
+    -- what a domain knows of it, whose own pools lie below another top now
+    pub sweeps_on : Pools k t words → ((q d b : ℕ) → t'.holder q ≡ owned d b → b < class_count) → (kind : Kind) (arrived : ℕ → Bool) (d : ℕ) (items : List ℕ) (swept : Swept) (reaping : Reaping) (top : ℕ)
+        → swept.top ≤ top → ((q b : ℕ) → t'.holder q ≡ owned d b → (t.holder q ≡ owned d b) ⊎ (q < top))
+        → Sweeps t.holder t.garbage kind arrived d items swept reaping → Sweeps t'.holder t'.garbage kind arrived d items (record swept { top = top }) reaping
+    sweeps_on pools few kind arrived d items swept reaping top higher gained s = record {
       listed = λ i a low got. g.same a ∙ s.listed i a low got;
       places = λ q b slot is inside before. g.same (place_in q b slot) ∙ ⊎_elim
           (λ (dead : IsTrue (t.garbage (place_in q b slot))).
@@ -69,8 +70,9 @@ module _ (k : Config) (live : Live) (t : Tenancy) (c : Cycling) (words : List �
           s.places q b slot (ap t.holder pool ∙ (o.owned_is ∙ ap (λ (z : ℕ × ℕ). owned z.0 z.1) (λ j. (same.0 j, same.1 j)))) inside before)
           (λ (clean : t.garbage (place_in q b slot) ≡ false). clean)
           (cases_Bool (t.garbage (place_in q b slot)));
-      anew = s.anew;
+      anew = λ e up. ap (λ (w : Swept). record w { top = top }) (s.anew e up);
       reaps = reaps_on reaping s.reaps;
+      below = λ q b is. ⊎_elim (λ (was : t.holder q ≡ owned d b). let old = s.below q b was in omega arith) (λ (low : q < top). low) (gained q b is);
     } where
       reaps_on : (r : Reaping) → Reaps t.holder t.garbage d r → Reaps t'.holder t'.garbage d r
       reaps_on Outside r = tt

@@ -39,14 +39,14 @@ use Rattle.heap_rule.specs.Places.{Debt, Place, Live, Stands, Placed, Spread, Se
 use Rattle.heap_rule.specs.Copies.{nothing_copied, known, Owes, IsField, Recalls, Copies, Promoting, IsOldValue, Rooted, ListsCopy, Resetting, IsEmptying}
 use Rattle.heap_rule.specs.Changes.{value_at}
 use Rattle.heap_rule.specs.Views.{EachView, AllDomains, IsSeated, Knows, one}
-use Rattle.heap_rule.specs.declared.phase.Kind.TheVariants.{Run, Promote}
+use Rattle.heap_rule.specs.declared.phase.Kind.TheVariants.{Run, Promote, Sweep, Answer}
 use Rattle.heap_rule.specs.declared.phase.Stage.{Stage}
 use Rattle.heap_rule.specs.declared.phase.Stage.TheVariants.{In, Leads, Led, Gone}
 use Rattle.heap_rule.specs.Phases.{Pause, Phases, sum_of, IsEven, AtStage, Staged, IsInPause, Still, Agree, flag, is_over, TookBack, HasSetBack, last_note}
 use Rattle.heap_rule.specs.Rule.{state_of, AllFound, Stood, Area, Making, Account, Good, Sharing, Whole, Rule}
 use Rattle.heap_rule.specs.Cycles.{Cycling, Cycled, Telling, Leading, HasNoCycle, IsBetween, IsIdle}
 use Rattle.heap_rule.proofs.PauseFacts.{called_still, not_both, agree, nobody_paused, staged_as, run_promoting, run_resetting, kind_differs}
-use Rattle.heap_rule.specs.Sweeping.{SweepsIn}
+use Rattle.heap_rule.specs.Sweeping.{Sweeps, SweepsIn}
 use Rattle.heap_rule.proofs.Garbage.{KeepsGarbage, garbage_same, sweeps_on}
 use Rattle.heap_rule.proofs.Sharings.{SameCycle, KeepsUnderway, with_past, with_weak, leading_past, telling_weak, leading_weak, kind_now, cycle_between, facts_between, leading_words, leading_as, telling_as, idle_in, idle_beside, takes_kind, adds_nothing}
 use Rattle.heap_rule.proofs.BesideLemmas.{Endures, all_known_on, runs_on, runs_as, knows_weak}
@@ -57,7 +57,7 @@ use Rattle.cycle_laws.specs.Beside.{Snapshot}
 use Rattle.heap_rule.specs.Room.{spent_stock, count, drawn_in_all, copied_words, Room, IsUnused, Opened, Drawable}
 use Rattle.heap_model.specs.Domains.{class_count, reserve}
 use Rattle.heap_rule.specs.Layout.{heap_words, at_address}
-use Rattle.heap_rule.specs.Pools.{Holder, Stock, Reserved, NoneCameBack, IsListWhole, Covered, Takes, IsCopying, Latest, DrawsFor, prepared_at, size_of, Tenancy, drawn, owned, Pools, Grid, Drawers, IsLeading, Lists, Resting, Hunts, Hunter, drawn_in, hunting_free, spot_at, IsBefore, IsFree, limit_of}
+use Rattle.heap_rule.specs.Pools.{Holder, Stock, Reserved, IsListWhole, IsReturning, KnowsList, Covered, Takes, IsCopying, Latest, DrawsFor, prepared_at, size_of, Tenancy, drawn, owned, Pools, Grid, Drawers, IsLeading, Lists, Resting, Hunts, Hunter, drawn_in, hunting_below, spot_at, IsBefore, IsFree, limit_of}
 use Rattle.heap_rule.specs.Standing.{with_front}
 use Rattle.heap_rule.specs.Ephemerons.{IsEpheAt, Listed}
 use Rattle.heap_rule.specs.Finalisers.{RefersOld}
@@ -264,6 +264,24 @@ nobody_leads t x z takes sx sz leads =
     let beside : (kind : Kind) → x.seen.stage ≡ In kind → ⊥ = (λ kind is. in_alone kind z.seen.stage (agree t x.own.number z.own.number x.own.arrivals z.own.arrivals (In kind) z.seen.stage (subst (AtStage t x.own.number x.own.arrivals) is sx.stage) sz.stage) leads) in
     ⊎_elim (beside Run) (beside Promote) takes
 
+-- and nobody knows of the list of free pools then
+lists_alone : (kind : Kind) → (IsReturning kind → ⊥) → (d : ℕ) (y : Stage) (l : Listing) → Agree (In kind) y → KnowsList d y l → ⊥
+lists_alone kind draws d (In v) l a is = draws (subst IsReturning (sym a) is.0)
+lists_alone kind draws d (Leads v) l a is = a
+lists_alone kind draws d (Led v) l a is = a
+lists_alone kind draws d (Gone v) l a is = is
+
+pub nobody_lists : (t : Pause) (x z : DomainView) (l : Listing) → Takes x.seen.stage → Staged t x → Staged t z → KnowsList z.own.number z.seen.stage l → ⊥
+nobody_lists t x z l takes sx sz knows =
+    let beside : (kind : Kind) → (IsReturning kind → ⊥) → x.seen.stage ≡ In kind → ⊥ = (λ kind draws is. lists_alone kind draws z.own.number z.seen.stage l (agree t x.own.number z.own.number x.own.arrivals z.own.arrivals (In kind) z.seen.stage (subst (AtStage t x.own.number x.own.arrivals) is sx.stage) sz.stage) knows) in
+    ⊎_elim (beside Run (⊎_elim (λ e. cc) (λ e. cc))) (beside Promote (⊎_elim (λ e. cc) (λ e. cc))) takes
+
+takes_lists : (d : ℕ) (stage : Stage) (l : Listing) → Takes stage → KnowsList d stage l → ⊥
+takes_lists d stage l takes knows = ⊎_elim
+    (λ (h : stage ≡ In Run). ⊎_elim (λ (e : Run ≡ Sweep). cc) (λ (e : Run ≡ Answer). cc) (subst (λ (y : Stage). KnowsList d y l) h knows).0)
+    (λ (h : stage ≡ In Promote). ⊎_elim (λ (e : Promote ≡ Sweep). cc) (λ (e : Promote ≡ Answer). cc) (subst (λ (y : Stage). KnowsList d y l) h knows).0)
+    takes
+
 -- the phase of a domain that takes blocks is an even one
 pub takes_even : (t : Pause) (x : DomainView) → Takes x.seen.stage → Staged t x → IsEven t.phase
 takes_even t x takes s =
@@ -283,7 +301,7 @@ resting_takes k words words' x y takes still free spare listing r = record {
   hunt = λ n. absurd (n still);
   free = free;
   spare = spare;
-  lists = λ l e. absurd (takes_leads x.seen.stage takes (r.lists l (sym listing ∙ e)).leads);
+  lists = λ l e. absurd (takes_lists x.own.number x.seen.stage l takes (r.lists l (sym listing ∙ e)).who);
 }
 
 pub resting_runs : (k : Config) (words words' : List ℕ) (x y : DomainView) → x.seen.stage ≡ In Run → y.seen.stage ≡ In Run → y.seen.listing ≡ x.seen.listing → Resting k words x → Resting k words' y
@@ -294,7 +312,7 @@ resting_other k t words words' x z takes sx sz r = record {
   hunt = r.hunt;
   free = r.free;
   spare = r.spare;
-  lists = λ l e. absurd (nobody_leads t x z takes sx sz (r.lists l e).leads);
+  lists = λ l e. absurd (nobody_lists t x z l takes sx sz (r.lists l e).who);
 }
 
 -- nobody copies while a domain runs
@@ -346,8 +364,7 @@ opened_words k live words words' same o a q lives young = subst (λ (n : ℕ). r
 pub lists_same : (k : Config) (words words' : List ℕ) (number : ℕ) (stage : Stage) (l : Listing) → listed words' ≡ listed words → cursor words' ≡ cursor words → ((i : ℕ) → i < k.pools → listed_pool words' i ≡ listed_pool words i) → ((q : ℕ) → q < k.pools → owner_of k words' q ≡ owner_of k words q)
     → Lists k words number stage l → Lists k words' number stage l
 lists_same k words words' number stage l count asked list owner s = record {
-  first = s.first;
-  leads = s.leads;
+  who = s.who;
   few = s.few;
   owners = λ q w got. owner q (within (length l.owners) q s.few.0 (slice_get_within l.owners q w got)) ∙ s.owners q w got;
   names = λ i q got. list i (within (length l.names) i s.few.1 (slice_get_within l.names i q got)) ∙ s.names i q got;
@@ -398,7 +415,7 @@ pools_same k t words words' c s = pools_words k t words words' (c 6 (omega arith
 
 -- the list is whole where it was
 pub whole_words : (p : Pause) (words words' : List ℕ) → listed words' ≡ listed words → IsListWhole p words' → IsListWhole p words
-whole_words p words words' counts is = ⊎_elim (λ h. inl h) (λ (h : NoneCameBack p × (listed words' ≢ 0)). inr (h.0, λ e. h.1 (counts ∙ e))) is
+whole_words p words words' counts is = ⊎_elim (λ h. inl h) (λ (some : listed words' ≢ 0). inr (λ e. some (counts ∙ e))) is
 
 -- and each pool that is nobody's is listed as it was
 pub covered_words : (k : Config) (p : Pause) (t : Tenancy) (words words' : List ℕ) → listed words' ≡ listed words → cursor words' ≡ cursor words → ((i : ℕ) → i < k.pools → listed_pool words' i ≡ listed_pool words i) → listed words ≤ k.pools → Covered k p t words → Covered k p t words'
@@ -861,8 +878,8 @@ module _ (k : Config) (s : Words) (r : Rule k s) (id : ℕ) (hist : List Entry) 
     sweeps = my_good.sweeps;
   }
 
-  -- What a step owes that changes the holders of pools or what the domain knows of them. No entry stands and nothing comes to live or moves
-  pub record Holds (looked : List Spot) (hunt : Hunt) (free : List ℕ) (words' : List ℕ) (t' : Tenancy) : Type 0 where
+  -- What a step owes that changes the holders of pools or what the domain knows of them. No entry stands and nothing comes to live or moves. A pool becomes the domain's own below the top alone
+  pub record Holds (top : ℕ) (looked : List Spot) (hunt : Hunt) (free : List ℕ) (words' : List ℕ) (t' : Tenancy) : Type 0 where
     pub takes : Takes x.seen.stage
     pub known_free : x.seen.stage ≢ In Run → free ≡ []
     pub wide : length words' ≡ length s.words
@@ -883,20 +900,23 @@ module _ (k : Config) (s : Words) (r : Rule k s) (id : ℕ) (hist : List Entry) 
     pub grid : Grid k t' r.account.live words'
     pub drawers : Drawers r.account.pause t'
     pub makings : (z : DomainView) → Making k s.words z → Making k words' z
-    pub hunter : Hunter k t' words' (hunting_free x looked hunt free)
+    pub hunter : Hunter k t' words' (hunting_below x top looked hunt free)
     pub hunters : (z : DomainView) → z.own.number ≢ x.own.number → Good k r.account s.words z → Hunter k t' words' z
     pub listeds : (z : DomainView) → Good k r.account s.words z → Listed r.account.live t'.holder t'.garbage z.own.number z.own.ephemerons.items
+    pub higher : x.own.swept.top ≤ top
+    pub gained : (q d c : ℕ) → t'.holder q ≡ owned d c → (r.account.tenancy.holder q ≡ owned d c) ⊎ ((d ≡ x.own.number) × (q < top))
 
-  pub holds_again : (looked : List Spot) (hunt : Hunt) (free : List ℕ) (words' : List ℕ) (t' : Tenancy) → Holds looked hunt free words' t' → Rule k record { words = words'; homes = s.homes; views = set s.views id (one k hist (hunting_free x looked hunt free)) }
-  holds_again looked hunt free words' t' o =
+  pub holds_again : (top : ℕ) (looked : List Spot) (hunt : Hunt) (free : List ℕ) (words' : List ℕ) (t' : Tenancy) → Holds top looked hunt free words' t' → Rule k record { words = words'; homes = s.homes; views = set s.views id (one k hist (hunting_below x top looked hunt free)) }
+  holds_again top looked hunt free words' t' o =
       let own_making = o.makings x my_good.making in
       let in_kind = takes_kind x.seen.stage o.takes in
       let all' : Account = record r.account { tenancy = t' } in
       let past : Snapshot = r.account.cycling.past in
       let endures : Endures k r.account.live r.account.live r.account.tenancy.holder t'.holder r.account.cycling.paint.marks.marked r.account.cycling.paint.marks.marked s.words words' = record { more = λ a p e. record { place = p; lives = e; label = refl; shape = refl }; held = o.garbage.held; stays = λ l is. is; heads = λ a p e. inl (o.heads a p e) } in
-      let sweeps_then : (z : DomainView) → SweepsIn r.account.tenancy r.account.cycling z → SweepsIn t' r.account.cycling z =
+      let sweeps_then : (z : DomainView) (high : ℕ) → z.own.swept.top ≤ high → ((q c : ℕ) → t'.holder q ≡ owned z.own.number c → (r.account.tenancy.holder q ≡ owned z.own.number c) ⊎ (q < high)) → SweepsIn r.account.tenancy r.account.cycling z
+      → Sweeps t'.holder t'.garbage r.account.cycling.kind r.account.cycling.shares.arrived z.own.number z.own.ephemerons.items (record z.own.swept { top = high }) z.seen.share.reaping =
       (λ z. sweeps_on k r.account.live r.account.tenancy r.account.cycling s.words r.whole.cycle.leaves r.account.live t' words' o.garbage r.whole.pools (λ q d c e. (o.pools.owned_by q d c e).2) r.account.cycling.kind r.account.cycling.shares.arrived z.own.number z.own.ephemerons.items z.own.swept z.seen.share.reaping) in
-      remakes (hunting_free x looked hunt free) (record r.account { tenancy = t' }) words'
+      remakes (hunting_below x top looked hunt free) (record r.account { tenancy = t' }) words'
       record {
         wide = o.wide ∙ r.whole.wide;
         legal = r.whole.legal;
@@ -922,7 +942,7 @@ module _ (k : Config) (s : Words) (r : Rule k s) (id : ℕ) (hist : List Entry) 
         drawable = takes_drawable k r.account.pause words' x o.takes my_good.staged;
         cycle = cycle_here in_kind.0 in_kind.1 in_kind.2 now r.account.live t' r.account.cycling.past words' refl o.garbage o.cycle (λ is u. u);
       }
-      (knows_front (hunting_free x looked hunt free) refl (inl refl))
+      (knows_front (hunting_below x top looked hunt free) refl (inl refl))
       record {
         stood = record { wide = my_good.stood.wide; each = my_good.stood.each; serial = my_good.stood.serial; enrolled = my_good.stood.enrolled };
         area = record { room = my_good.area.room; free = my_good.area.free; classes = my_good.area.classes };
@@ -930,16 +950,16 @@ module _ (k : Config) (s : Words) (r : Rule k s) (id : ℕ) (hist : List Entry) 
         staged = record { arrivals = my_good.staged.arrivals; stage = my_good.staged.stage };
         still = my_good.still;
         hunter = o.hunter;
-        resting = resting_takes k s.words words' x (hunting_free x looked hunt free) o.takes o.takes o.known_free my_good.resting.spare refl my_good.resting;
+        resting = resting_takes k s.words words' x (hunting_below x top looked hunt free) o.takes o.takes o.known_free my_good.resting.spare refl my_good.resting;
         took_back = λ kind leads last. o.want ∙ my_good.took_back kind leads last;
-        owes = owes_as k r.account.live x (hunting_free x looked hunt free) refl refl refl refl my_good.owes;
+        owes = owes_as k r.account.live x (hunting_below x top looked hunt free) refl refl refl refl my_good.owes;
         rooted = my_good.rooted;
         set_back = λ h. absurd (takes_leads x.seen.stage o.takes (subst IsLeading (sym h.0) tt));
-        sharing = sharing_here in_kind.0 in_kind.1 in_kind.2 all' words' past x.seen.share.weak (hunting_free x looked hunt free) refl o.cycle refl refl refl (runs_here all' words' refl x (λ _. endures) my_good);
+        sharing = sharing_here in_kind.0 in_kind.1 in_kind.2 all' words' past x.seen.share.weak (hunting_below x top looked hunt free) refl o.cycle refl refl refl (runs_here all' words' refl x (λ _. endures) my_good);
         listed = let l = o.listeds x my_good in record { all = l.all; own = l.own; lives = l.lives };
-        sweeps = sweeps_then x my_good.sweeps;
+        sweeps = sweeps_then x top o.higher (λ q c e. ⊎_elim inl (λ new. inr new.1) (o.gained q x.own.number c e)) my_good.sweeps;
       }
-      (λ z _ other g. record { stood = g.stood; area = g.area; making = o.makings z g.making; staged = g.staged; still = g.still; hunter = o.hunters z other g; resting = resting_other k r.account.pause s.words words' x z o.takes my_good.staged g.staged g.resting; took_back = λ kind leads last. o.want ∙ g.took_back kind leads last; owes = g.owes; rooted = g.rooted; set_back = λ h. absurd (nobody_leads r.account.pause x z o.takes my_good.staged g.staged (subst IsLeading (sym h.0) tt)); sharing = sharings_here in_kind.0 in_kind.1 in_kind.2 all' words' past refl o.cycle z g (runs_here all' words' refl z (λ _. endures) g); listed = o.listeds z g; sweeps = sweeps_then z g.sweeps })
+      (λ z _ other g. record { stood = g.stood; area = g.area; making = o.makings z g.making; staged = g.staged; still = g.still; hunter = o.hunters z other g; resting = resting_other k r.account.pause s.words words' x z o.takes my_good.staged g.staged g.resting; took_back = λ kind leads last. o.want ∙ g.took_back kind leads last; owes = g.owes; rooted = g.rooted; set_back = λ h. absurd (nobody_leads r.account.pause x z o.takes my_good.staged g.staged (subst IsLeading (sym h.0) tt)); sharing = sharings_here in_kind.0 in_kind.1 in_kind.2 all' words' past refl o.cycle z g (runs_here all' words' refl z (λ _. endures) g); listed = o.listeds z g; sweeps = sweeps_then z z.own.swept.top (let n : ℕ = z.own.swept.top in let same : n ≤ n = omega arith in same) (λ q c e. inl (⊎_elim (λ was. was) (λ new. absurd (other new.0)) (o.gained q z.own.number c e))) g.sweeps })
 
 -- a load leaves the words as they were
 pub unmoved : (k : Config) (s : Words) (at : ℕ) (views : List View) → Rule k record { words = s.words; homes = s.homes; views = views }

@@ -32,6 +32,9 @@ nowhere_at zero c = refl
 nowhere_at (suc n) zero = refl
 nowhere_at (suc n) (suc c) = nowhere_at n c
 
+some_pool : (k : Config) → IsWithinLimits (sizes_in k) → 1 ≤ k.pools
+some_pool k limits = let p = limits.some_pools in omega arith
+
 pub looks_first : (k : Config) → LooksWithin k (replicate class_count (record { pool = 0; slot = 0 }))
 looks_first k = record {
   wide = refl;
@@ -97,6 +100,6 @@ first_seat k n own me is e limits inside = subst (λ (m : Own × Me (Unit {0}) V
     pending = omega arith;
     ephemerons = λ i a e. absurd (no_item [] i a refl e);
     finalisers = fit_first k;
-    swept = record { pool = (let n : ℕ = k.pools in let g : n ≤ n = omega arith in g); slot = omega arith };
+    swept = record { pool = (let n : ℕ = k.pools in let g : n ≤ n = omega arith in g); slot = omega arith; top = some_pool k limits };
   };
 }

@@ -10,9 +10,9 @@ use Rattle.heap_rule.specs.declared.view.Spare.{Spare}
 use Rattle.heap_rule.specs.declared.view.Spot.{Spot}
 use Rattle.heap_rule.specs.declared.view.DomainView.{DomainView}
 use Rattle.heap_rule.specs.declared.phase.Kind.{Kind}
-use Rattle.heap_rule.specs.declared.phase.Kind.TheVariants.{Run, Promote, Reset}
+use Rattle.heap_rule.specs.declared.phase.Kind.TheVariants.{Run, Promote, Sweep, Answer}
 use Rattle.heap_rule.specs.declared.phase.Stage.{Stage}
-use Rattle.heap_rule.specs.declared.phase.Stage.TheVariants.{In, Leads, Led}
+use Rattle.heap_rule.specs.declared.phase.Stage.TheVariants.{In, Leads, Led, Gone}
 use Rattle.heap_rule.specs.Limits.{sizes_in}
 use Rattle.heap_rule.specs.Layout.{at_address, listed_pool, owner_of, listed, cursor}
 use Rattle.heap_rule.specs.Places.{Place, Live, extent}
@@ -94,17 +94,9 @@ Reserved k p t words = KeepsReserve p → (i : ℕ) → i < listed words → lim
 abbrev pub RunsNext : Pause → Type 0
 RunsNext p = ((j : ℕ) × (p.phase ≡ j * 2) × (p.kinds j ≡ Run)) ⊎ ((j : ℕ) × (p.phase ≡ j * 2 + 1) × (p.led ≡ true) × (p.kinds (j + 1) ≡ Run))
 
--- while domains run, copy and reset their minor areas pools are drawn, and none comes back
-abbrev pub DrawsAlone : Kind → Type 0
-DrawsAlone kind = (kind ≡ Run) ⊎ ((kind ≡ Promote) ⊎ (kind ≡ Reset))
-
--- none has come back since domains ran: such a phase goes on, or is over and nothing else was named, or is named
-abbrev pub NoneCameBack : Pause → Type 0
-NoneCameBack p = ((j : ℕ) × (p.phase ≡ j * 2) × DrawsAlone (p.kinds j)) ⊎ (((j : ℕ) × (p.phase ≡ j * 2 + 1) × (p.led ≡ false) × DrawsAlone (p.kinds j)) ⊎ ((j : ℕ) × (p.phase ≡ j * 2 + 1) × (p.led ≡ true) × DrawsAlone (p.kinds (j + 1))))
-
--- the list of free pools is whole: the domains run, or run next, or none has come back since, and it isn't written anew, for then it names none
+-- the list of free pools is whole: the domains run, or run next, or some are listed. While it is written anew it names none, and before a pool comes back it is emptied
 abbrev pub IsListWhole : Pause → List ℕ → Type 0
-IsListWhole p words = RunsNext p ⊎ (NoneCameBack p × (listed words ≢ 0))
+IsListWhole p words = RunsNext p ⊎ (listed words ≢ 0)
 
 -- then each pool that is nobody's is listed, behind the cursor or in the reserve
 abbrev pub Covered : Config → Pause → Tenancy → List ℕ → Type 0
@@ -203,17 +195,31 @@ IsLeading (Leads kind) = Unit {0}
 IsLeading (Led kind) = Unit {0}
 IsLeading _ = ⊥
 
--- domain 0 looks at the list of free pools or writes it anew: these are the owner words of the first pools, the first places of the list, how many are listed, and where the cursor stands, once that is known
+-- in these phases domains give pools back
+abbrev pub IsReturning : Kind → Type 0
+IsReturning kind = (kind ≡ Sweep) ⊎ (kind ≡ Answer)
+
+-- no pool is listed, no owner word is found and no place of the list is written so far
+abbrev pub no_listing : Listing
+no_listing = record { owners = []; names = []; cursor = None; listed = 0 }
+
+-- who may know of the list of free pools: domain 0, in an odd phase, in which it looks at it or writes it anew; and a domain that gives pools back, of which it knows that it names none
+abbrev pub KnowsList : ℕ → Stage → Listing → Type 0
+KnowsList d (Leads kind) l = d ≡ 0
+KnowsList d (Led kind) l = d ≡ 0
+KnowsList d (In kind) l = IsReturning kind × (l ≡ no_listing)
+KnowsList d (Gone kind) l = ⊥
+
+-- what a domain knows of the list: these are the owner words of the first pools, the first places of the list, how many are listed, and where the cursor stands, once that is known
 pub record Lists (k : Config) (words : List ℕ) (number : ℕ) (stage : Stage) (l : Listing) : Type 0 where
-  pub first : number ≡ 0
-  pub leads : IsLeading stage
+  pub who : KnowsList number stage l
   pub few : (length l.owners ≤ k.pools) × (length l.names ≤ k.pools)
   pub owners : (q w : ℕ) → slice_get l.owners q ≡ Some w → owner_of k words q ≡ w
   pub names : (i q : ℕ) → slice_get l.names i ≡ Some q → listed_pool words i ≡ q
   pub count : listed words ≡ l.listed
   pub found : (c : ℕ) → l.cursor ≡ Some c → cursor words ≡ c
 
--- a domain that neither runs nor copies takes no block. Where it doesn't run it knows nothing of how many pools are free, and of no free place. Only domain 0 writes the list, in an odd phase
+-- a domain that neither runs nor copies takes no block. Where it doesn't run it knows nothing of how many pools are free, and of no free place
 pub record Resting (k : Config) (words : List ℕ) (x : DomainView) : Type 0 where
   pub hunt : (Takes x.seen.stage → ⊥) → x.seen.hunt ≡ Rests
   pub free : x.seen.stage ≢ In Run → x.seen.free ≡ []
@@ -223,6 +229,10 @@ pub record Resting (k : Config) (words : List ℕ) (x : DomainView) : Type 0 whe
 -- the domain with other places looked at, and further on in taking a block
 abbrev pub hunting_free : DomainView → List Spot → Hunt → List ℕ → DomainView
 hunting_free x looked hunt free = record x { own = record x.own { looked = looked }; seen = record x.seen { hunt = hunt; free = free } }
+
+-- and with its own pools below this one
+abbrev pub hunting_below : DomainView → ℕ → List Spot → Hunt → List ℕ → DomainView
+hunting_below x top looked hunt free = record x { own = record x.own { looked = looked; swept = record x.own.swept { top = top } }; seen = record x.seen { hunt = hunt; free = free } }
 
 abbrev pub hunting : DomainView → List Spot → Hunt → DomainView
 hunting x looked hunt = hunting_free x looked hunt x.seen.free

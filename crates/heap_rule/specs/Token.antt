@@ -50,10 +50,11 @@ pub record LooksWithin (k : Config) (looked : List Spot) : Type 0 where
   pub wide : length looked ≡ class_count
   pub within : (class : ℕ) → class < class_count → ((spot_at looked class).pool ≤ k.pools) × ((spot_at looked class).slot < blocks_of class)
 
--- how far the own pools were swept lies within the pools
+-- how far the own pools were swept lies within the pools, and so do the pools below which these lie
 pub record SweptWithin (k : Config) (swept : Swept) : Type 0 where
   pub pool : swept.spot.pool ≤ k.pools
   pub slot : swept.spot.slot < 1024
+  pub top : swept.top ≤ k.pools
 
 -- addresses of the heap
 abbrev pub AllInHeap : Config → List ℕ → Type 0

@@ -93,6 +93,7 @@ impl Domain {
                         pool: config.pools,
                         slot: 0,
                     },
+                    top: 1,
                 },
             },
         })

@@ -352,6 +352,7 @@ module _ (k : Config) (s : Words) (r : Rule k s) (id : ℕ) (hist : List Entry) 
             armed = l.armed;
             unswept = l.unswept;
             under_way = l.under_way;
+            unmarked = l.unmarked;
           }
 
       -- nobody runs
@@ -391,7 +392,7 @@ module _ (k : Config) (s : Words) (r : Rule k s) (id : ℕ) (hist : List Entry) 
       sharing' : Sharing k all' words' d x.own.registers x.own.finalisers items x.seen.stage share'
       sharing' = let g = good.sharing in let t = g.telling in let l = leading_on x sh good.staged g.leading in record {
         telling = record { owes = t.owes; seen = λ _. o.seen_is; fresh = λ gone. absurd (true≢false (sym gone ∙ up)); forgotten = λ gone. absurd (true≢false (sym gone ∙ up)); colours = t.colours };
-        leading = record { changed = l.changed; found_blocks = l.found_blocks; found_words = l.found_words; rotated = l.rotated; turned = l.turned; pass = l.pass; whole = l.whole; armed = l.armed; unswept = l.unswept; under_way = l.under_way };
+        leading = record { changed = l.changed; found_blocks = l.found_blocks; found_words = l.found_words; rotated = l.rotated; turned = l.turned; pass = l.pass; whole = l.whole; armed = l.armed; unswept = l.unswept; under_way = l.under_way; unmarked = l.unmarked };
         knows = inr (collecting, own_knowing);
         adds = record { blocks = g.adds.blocks; words = g.adds.words; own = g.adds.own };
         looks = record {
@@ -426,6 +427,7 @@ module _ (k : Config) (s : Words) (r : Rule k s) (id : ℕ) (hist : List Entry) 
             leaves = record { none = was.leaves.none; dead = was.leaves.dead; head = λ a is. absurd (true≢false (sym is ∙ no_garbage a)); unprepared = was.leaves.unprepared; owned = was.leaves.owned };
             unswept = was.unswept;
             whole = λ l. whole' l;
+            grows = record { few = was.grows.few; since = was.grows.since; named = was.grows.named; cleared = was.grows.cleared };
           }
         where
           missing : (l : Label) → p.label ≡ l → MissesKeys live T.holder c' l

@@ -18,11 +18,14 @@ use Rattle.heap_words.specs.declared.colours.Colours.{Colours}
 use Rattle.heap_words.specs.declared.value.Value as held_value
 use Rattle.heap_words.specs.declared.value.Value.TheVariants.{Int as IntWord, Ref, Nothing as NothingWord}
 use Rattle.heap_words.specs.Heads.{head_word}
+use Rattle.cycle_laws.specs.Cycle as laws
+use Rattle.cycle_laws.specs.Cycle.{InPhase}
 use Rattle.cycle_laws.specs.Marks.{Marks, with_scanned, fields_of, FieldsMarked}
 use Rattle.cycle_laws.specs.Progress.{FieldsDone}
 use Rattle.cycle_laws.specs.Shares.{at_domain}
 use Rattle.cycle_laws.proofs.Cycling.{darkening_steps}
 use Rattle.cycle_laws.proofs.Progressing.{fields_next, fields_end}
+use Rattle.cycle_laws.proofs.Ending.{stored_grows}
 use Rattle.heap_rule.specs.declared.config.Config.{Config}
 use Rattle.heap_rule.specs.declared.phase.Kind.{Kind}
 use Rattle.heap_rule.specs.declared.phase.Kind.TheVariants.{Run, Promote, Reset, Roots, Mark, Rounds, Decide, Queued, Clean, Lasts, Sweep, Answer}
@@ -32,7 +35,7 @@ use Rattle.heap_rule.specs.declared.view.Scan.TheVariants.{Idle, Reads}
 use Rattle.heap_rule.specs.declared.view.Share.{Share}
 use Rattle.heap_rule.specs.Layout.{before_heap, heap_words, at_address}
 use Rattle.heap_rule.specs.Places.{Debt, HasValue, Live, Place, Stands, WordStands, colour_in, head_of, values_of}
-use Rattle.heap_rule.specs.Cycles.{Cycling, Facts, HasNoCycle, IsCollecting, Knowing, Refers, Scanned, Scans, cycle_of, seen_by}
+use Rattle.heap_rule.specs.Cycles.{Cycling, Facts, HasNoCycle, IsCollecting, Knowing, Refers, Scanned, Scans, cycle_of, seen_by, OwesAs, pool_labels}
 use Rattle.heap_rule.specs.Raw.{MayStep, MayStore}
 use Rattle.heap_rule.specs.Rule.{Rule, state_of}
 use Rattle.heap_rule.specs.Views.{one}
@@ -41,12 +44,12 @@ use Rattle.heap_rule.proofs.Keeps.{Words, my_good, unmoved}
 use Rattle.heap_rule.proofs.Lists.{got_there}
 use Rattle.heap_rule.proofs.Values.{address_of, packable, stands_block}
 use Rattle.steps_marking.specs.Looks.{with_share}
-use Rattle.steps_marking.specs.Marking.{ChangedMay, ChangedTold, IsChanging, IsScanning, ScanMay, ScanTold, ScannedMay, ScannedTold, scanned_on, Site, Anywhere, Next, LiesAt, places_seen_on, walk_on}
+use Rattle.steps_marking.specs.Marking.{ChangedMay, ChangedTold, IsChanging, IsScanning, ScanMay, ScanTold, ScannedMay, ScannedTold, scanned_on, Site, Anywhere, Next, LiesAt, places_seen_on, walk_on, settled}
 use Rattle.steps_marking.proofs.Colouring.{words_same, Recolourable}
-use Rattle.steps_marking.proofs.Learning.{at_other, at_same, bare, held, kind_here, knows_more, known, looks_same, looks_still, queue_still, shifts_more, whole_in}
+use Rattle.steps_marking.proofs.Learning.{at_other, at_same, bare, held, kind_here, knows_more, known, looks_same, looks_still, queue_still, shifts_more, whole_in, grows_still, unnamed}
 use Rattle.steps_marking.proofs.Recolouring.{Recolours, known_still, recolours}
 use Rattle.heap_rule.specs.declared.phase.Stage.TheVariants.{In}
-use Rattle.steps_marking.proofs.WalkSteps.{scanning_cycle, own_place, seen_next, next_is, next_other, next_walked}
+use Rattle.steps_marking.proofs.WalkSteps.{scanning_cycle, own_place, seen_next, next_is, next_other, next_walked, settles_at, settles_other, settles_own}
 use Rattle.steps_marking.proofs.Layouts.{labelled}
 use Rattle.heap_rule.specs.Pools.{owned, blocks_of, IsBefore, place_in}
 use Rattle.std.proofs.lemmas.Option.{none-some, same_Some}
@@ -211,7 +214,7 @@ module _ (k : Config) (s : Words) (r : Rule k s) (id : ℕ) (hist : List Entry) 
     scanned_words = set s.words (before_heap k + a) new
 
     abbrev done : Share
-    done = record sh { scan = Idle; places_seen = places_seen_on site a sh.places_seen; walk = walk_on site sh.walk }
+    done = record sh { scan = Idle; account = settled a sh.account; places_seen = places_seen_on site a sh.places_seen; walk = walk_on site sh.walk }
 
     abbrev seen_on : (t : Site) → LiesAt t x a → ℕ → ℕ → Bool
     seen_on Anywhere lies = c.shares.seen
@@ -220,26 +223,42 @@ module _ (k : Config) (s : Words) (r : Rule k s) (id : ℕ) (hist : List Entry) 
     is_scanned : m'.scanned p.label ≡ true
     is_scanned = ap (λ (b : Bool). b || m.scanned p.label) (same_label_refl p.label)
 
-    -- where the place is the next of the walk, no block is grey there any more
-    mark_facts : (t : Site) (lies : LiesAt t x a) → Facts Mark k now live r.account.tenancy c s.words
-        → Facts Mark k now live r.account.tenancy (record c { paint = record c.paint { marks = m' }; shares = record c.shares { seen = seen_on t lies } }) scanned_words
-    mark_facts Anywhere lies f = (darkening_steps.mark_scans c.pass k.domains now (cycle_of k live r.account.tenancy.holder c) f.0 p.label fields_marked, f.1)
-    mark_facts (Next pool class slot) lies f =
-        let c1 : Cycling = record c { paint = record c.paint { marks = m' } } in (
-          darkening_steps.mark_looks c.pass k.domains now (cycle_of k live r.account.tenancy.holder c1) (darkening_steps.mark_scans c.pass k.domains now (cycle_of k live r.account.tenancy.holder c) f.0 p.label fields_marked) d a
-              (own_place k s r id hist x at a pool class slot lies)
-              (λ l e is. let u = labelled k live a l e in let same : p ≡ u.place = ap (λ (o : Option Place). unwrap_or o p) (sym g.lives ∙ u.lives) in
-              subst (λ (z : Label). IsTrue (m'.scanned z)) (ap (λ (z : Place). z.label) same ∙ u.label) is_scanned),
-          f.1,
-        )
+    abbrev follows' : ℕ → ℕ → Bool
+    follows' = settles_at k s r id hist x at a
+
+    abbrev scanned_cycle : (t : Site) → LiesAt t x a → Cycling
+    scanned_cycle t lies = record c { paint = record c.paint { marks = m' }; shares = record c.shares { follows = follows'; seen = seen_on t lies } }
+
+    abbrev settled_cycle : Cycling
+    settled_cycle = record c { paint = record c.paint { marks = m' }; shares = record c.shares { follows = follows' } }
+
+    abbrev IsMarking : Cycling → Type 0
+    IsMarking z = InPhase (laws.Mark c.pass) k.domains now (cycle_of k live r.account.tenancy.holder z)
+
+    scanned_there : (l : Label) → (cycle_of k live r.account.tenancy.holder c).layout.live a ≡ Some l → IsTrue (m'.scanned l)
+    scanned_there l e = let u = labelled k live a l e in let same : p ≡ u.place = ap (λ (o : Option Place). unwrap_or o p) (sym g.lives ∙ u.lives) in
+        subst (λ (z : Label). IsTrue (m'.scanned z)) (ap (λ (z : Place). z.label) same ∙ u.label) is_scanned
+
+    -- the domain follows the block no more; where the place is the next of the walk, no block is grey there any more
+    mark_facts : (t : Site) (lies : LiesAt t x a) → Facts Mark k now live r.account.tenancy c s.words → Facts Mark k now live r.account.tenancy (scanned_cycle t lies) scanned_words
+    mark_facts t lies f =
+        let c1 : Cycling = record c { paint = record c.paint { marks = m' } } in
+        let after = darkening_steps.mark_scans c.pass k.domains now (cycle_of k live r.account.tenancy.holder c) f.0 p.label fields_marked in
+        (looked t lies (darkening_steps.mark_settles c.pass k.domains now (cycle_of k live r.account.tenancy.holder c1) after d a (λ l e _. scanned_there l e)), f.1)
+      where
+        looked : (u : Site) (v : LiesAt u x a) → IsMarking settled_cycle → IsMarking (scanned_cycle u v)
+        looked Anywhere v i = i
+        looked (Next pool class slot) v i = darkening_steps.mark_looks c.pass k.domains now (cycle_of k live r.account.tenancy.holder settled_cycle) i d a (own_place k s r id hist x at a pool class slot v) (λ l e _. scanned_there l e)
 
     rounds_facts : (t : Site) (lies : LiesAt t x a) → t ≡ Anywhere → Facts Rounds k now live r.account.tenancy c s.words
-        → Facts Rounds k now live r.account.tenancy (record c { paint = record c.paint { marks = m' }; shares = record c.shares { seen = seen_on t lies } }) scanned_words
-    rounds_facts Anywhere lies is f = (darkening_steps.rounds_scans c.pass k.domains now (cycle_of k live r.account.tenancy.holder c) f.0 p.label fields_marked, f.1)
+        → Facts Rounds k now live r.account.tenancy (scanned_cycle t lies) scanned_words
+    rounds_facts Anywhere lies is f =
+        let c1 : Cycling = record c { paint = record c.paint { marks = m' } } in
+        (darkening_steps.rounds_settles c.pass k.domains now (cycle_of k live r.account.tenancy.holder c1) (darkening_steps.rounds_scans c.pass k.domains now (cycle_of k live r.account.tenancy.holder c) f.0 p.label fields_marked) d a, f.1)
     rounds_facts (Next pool class slot) lies is f = cc
 
     scanned_facts : (kind : Kind) → IsScanning kind → (t : Site) (lies : LiesAt t x a) → (kind ≡ Rounds → t ≡ Anywhere) → Facts kind k now live r.account.tenancy c s.words
-        → Facts kind k now live r.account.tenancy (record c { paint = record c.paint { marks = m' }; shares = record c.shares { seen = seen_on t lies } }) scanned_words
+        → Facts kind k now live r.account.tenancy (scanned_cycle t lies) scanned_words
     scanned_facts Run n t lies is f = absurd n
     scanned_facts Promote n t lies is f = absurd n
     scanned_facts Reset n t lies is f = absurd n
@@ -265,7 +284,7 @@ module _ (k : Config) (s : Words) (r : Rule k s) (id : ℕ) (hist : List Entry) 
     walked_on Anywhere lies = kn.walked
     walked_on (Next pool class slot) lies = next_walked k s r id hist x at a pool class slot lies
 
-    recoloured : Recolours k s r id hist x at (in_mark may.kind may.stage may.scanning) a p new m' c.shares.owes (seen_on site may.lies) (held done) sh.waiting
+    recoloured : Recolours k s r id hist x at (in_mark may.kind may.stage may.scanning) a p new m' c.shares.owes follows' (seen_on site may.lies) (held done) sh.waiting
     recoloured =
         let cs : Colours = c.paint.colours in
         let is : m.marked p.label ≡ true = g.marked in
@@ -282,17 +301,18 @@ module _ (k : Config) (s : Words) (r : Rule k s) (id : ℕ) (hist : List Entry) 
           marked = g.marked;
           more = λ l h. h;
           still = λ e. absurd (unclean e);
-          facts = subst (λ (kind : Kind). Facts kind k now live r.account.tenancy (record c { paint = record c.paint { marks = m' }; shares = record c.shares { seen = seen_on site may.lies } }) scanned_words) (sym kind_is)
+          facts = subst (λ (kind : Kind). Facts kind k now live r.account.tenancy (scanned_cycle site may.lies) scanned_words) (sym kind_is)
               (scanned_facts may.kind may.scanning site may.lies may.anywhere (subst (λ (kind : Kind). Facts kind k now live r.account.tenancy c s.words) kind_is r.whole.cycle.facts));
-          others = λ z other. (refl, seen_others site may.lies z other);
-          owes_is = (my_good k s r id hist x at).sharing.telling.owes waits;
+          others = λ z other. (refl, settles_other k s r id hist x at a z other, seen_others site may.lies z other);
+          owes_is = let o : OwesAs (c.shares.owes d) (c.shares.follows d) sh.owes sh.account = (my_good k s r id hist x at).sharing.telling.owes waits in record { owes = o.owes; follows = settles_own k s r id hist x at a o.follows };
           seen_is = seen_here site may.lies;
           knows = record { found_head = n.found_head; scan = tt; walked = walked_on site may.lies; own_pool = n.own_pool; rooted = n.rooted; marked = n.marked; looking = looks_still k s r id hist x at (in_mark may.kind may.stage may.scanning) m' (held done) (λ e. absurd (unclean e)) refl (λ b e. absurd (none-some b e)) };
           queued = queue_still k s r id hist x at (in_mark may.kind may.stage may.scanning) m' (λ l h. h);
+          grows = grows_still k s r id hist x at (in_mark may.kind may.stage may.scanning);
         }
 
     scanned_rule : Rule k record { words = scanned_words; homes = s.homes; views = set s.views id (one k hist (with_share x done)) }
-    scanned_rule = recolours k s r id hist x at (in_mark may.kind may.stage may.scanning) a p new m' c.shares.owes (seen_on site may.lies) (held done) sh.waiting recoloured
+    scanned_rule = recolours k s r id hist x at (in_mark may.kind may.stage may.scanning) a p new m' c.shares.owes follows' (seen_on site may.lies) (held done) sh.waiting recoloured
 
   -- the changed word
   module _ (may : ChangedMay x) where
@@ -302,7 +322,10 @@ module _ (k : Config) (s : Words) (r : Rule k s) (id : ℕ) (hist : List Entry) 
     abbrev owes1 : ℕ → Bool
     owes1 = at_domain c.shares.owes d false
 
-    stored_facts : (kind : Kind) → IsChanging kind → Facts kind k now live r.account.tenancy c s.words → Facts kind k now live r.account.tenancy (record c { shares = record c.shares { changed = true; owes = owes1 } }) words1
+    abbrev follows1 : ℕ → ℕ → Bool
+    follows1 = at_domain c.shares.follows d (λ b. false)
+
+    stored_facts : (kind : Kind) → IsChanging kind → Facts kind k now live r.account.tenancy c s.words → Facts kind k now live r.account.tenancy (record c { shares = record c.shares { changed = true; owes = owes1; follows = follows1 } }) words1
     stored_facts Run n f = absurd n
     stored_facts Promote n f = absurd n
     stored_facts Reset n f = absurd n
@@ -317,7 +340,7 @@ module _ (k : Config) (s : Words) (r : Rule k s) (id : ℕ) (hist : List Entry) 
     stored_facts Answer n f = absurd n
 
     abbrev paid : Share
-    paid = record sh { owes = false }
+    paid = record sh { owes = false; account = [] }
 
     stored_rule : Rule k record { words = words1; homes = s.homes; views = set s.views id (one k hist (with_share x paid)) }
     stored_rule =
@@ -326,11 +349,12 @@ module _ (k : Config) (s : Words) (r : Rule k s) (id : ℕ) (hist : List Entry) 
         let other : (i : ℕ) → i ≢ 3 → get_or words1 i 0 ≡ get_or s.words i 0 = (λ i differ. get_or-set_other s.words 3 i 1 0 differ) in
         let spot : 3 < length s.words = (let w : ℕ = heap_words k in let b : ℕ = before_heap k in let e : length s.words ≡ 1 + b + w = r.whole.wide in let o : 10 ≤ b = omega arith in omega arith) in
         let u : Untouched s.words words1 = (length-set s.words 3 1, λ i low not_ended. other i (λ e. omega arith)) in
-        shifts_more k s r id hist x at collecting true owes1 c.shares.seen (held paid) words1 u (other 0 (λ e. omega arith)) (other 1 (λ e. omega arith)) (other 2 (λ e. omega arith))
+        shifts_more k s r id hist x at collecting true owes1 follows1 c.shares.seen (held paid) words1 u (other 0 (λ e. omega arith)) (other 1 (λ e. omega arith)) (other 2 (λ e. omega arith))
         (get_or-set_same s.words 3 1 0 spot)
-        (subst (λ (kind : Kind). Facts kind k now live r.account.tenancy (record c { shares = record c.shares { changed = true; owes = owes1 } }) words1) (sym kind_is) (stored_facts may.kind may.changing (subst (λ (kind : Kind). Facts kind k now live r.account.tenancy c s.words) kind_is r.whole.cycle.facts)))
-        (λ z differ. (at_other c.shares.owes d false z differ, refl))
-        (at_same c.shares.owes d false)
+        (subst (λ (kind : Kind). Facts kind k now live r.account.tenancy (record c { shares = record c.shares { changed = true; owes = owes1; follows = follows1 } }) words1) (sym kind_is) (stored_facts may.kind may.changing (subst (λ (kind : Kind). Facts kind k now live r.account.tenancy c s.words) kind_is r.whole.cycle.facts)))
+        (λ marking. let g = stored_grows (pool_labels k live) c.before m c.shares (r.whole.cycle.grows.since marking (unnamed k s r id hist x at collecting)) d (((my_good k s r id hist x at).sharing.telling.owes (waits_in k s r id hist x at may.kind may.stage)).owes ∙ may.owes) in record { stays = g.stays; changed = g.changed; owing = g.owing })
+        (λ z differ. (at_other c.shares.owes d false z differ, at_other c.shares.follows d (λ b. false) z differ, refl))
+        (record { owes = at_same c.shares.owes d false; follows = λ b is. subst (λ (g : ℕ → Bool). IsTrue (g b)) (at_same c.shares.follows d (λ b. false)) is })
         ((my_good k s r id hist x at).sharing.telling.seen (waits_in k s r id hist x at may.kind may.stage))
         record {
           found_head = λ g q e lives. ⊎_elim (λ (same : at_address k s.words g.address ≡ g.word). inl (other (before_heap k + g.address) (λ e. omega arith) ∙ same)) (λ is. inr is) (kn.found_head g q e lives);
@@ -350,10 +374,10 @@ scan_may k x word a place may fits slots id hist s r _ at _ =
 
 pub scanned_may : (k : Config) (x : DomainView) (word a new : ℕ) (site : Site) → word ≡ before_heap k + a → ScannedMay x a new site → MayStore k x word new (ScannedTold a site)
 scanned_may k x word a new site place may fits slots id hist s r _ at _ =
-    let y : DomainView = with_share x (record x.seen.share { scan = Idle; places_seen = places_seen_on site a x.seen.share.places_seen; walk = walk_on site x.seen.share.walk }) in
+    let y : DomainView = with_share x (record x.seen.share { scan = Idle; account = settled a x.seen.share.account; places_seen = places_seen_on site a x.seen.share.places_seen; walk = walk_on site x.seen.share.walk }) in
     (one k hist y, keeps, tt, subst (λ (n : ℕ). Rule k record { words = set s.words n new; homes = s.homes; views = set s.views id (one k hist y) }) (sym place) (scanned_rule k s r id hist x at a new site may), (refl, refl))
 
 pub changed_may : (k : Config) (x : DomainView) → ChangedMay x → MayStore k x 3 1 ChangedTold
 changed_may k x may fits slots id hist s r _ at _ =
-    let y : DomainView = with_share x (record x.seen.share { owes = false }) in
+    let y : DomainView = with_share x (record x.seen.share { owes = false; account = [] }) in
     (one k hist y, keeps, tt, stored_rule k s r id hist x at may, (refl, refl))

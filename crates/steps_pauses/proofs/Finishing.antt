@@ -187,13 +187,13 @@ module _ (k : Config) (s : Words) (r : Rule k s) (id : ℕ) (hist : List Entry) 
     paid none = good.sharing.telling.owes waits ∙ none
 
     -- it has seen all own places
-    all_seen : k.pools ≤ x.seen.share.walk.pool → (a : ℕ) → owner a ≡ Some d → IsTrue (c.shares.seen d a)
+    all_seen : x.own.swept.top ≤ x.seen.share.walk.pool → (a : ℕ) → owner a ≡ Some d → IsTrue (c.shares.seen d a)
     all_seen through a is =
         let o = own_place t.holder (λ q e class h. (r.whole.pools.owned_by q e class h).2) d a is in
-        let low : o.pool < k.pools = (r.whole.pools.owned_by o.pool d o.class o.owned_is).0 in
+        let low : o.pool < x.own.swept.top = good.sweeps.below o.pool o.class o.owned_is in
         let w : ℕ = x.seen.share.walk.pool in
         let p : ℕ = o.pool in
-        let m : ℕ = k.pools in
+        let m : ℕ = x.own.swept.top in
         let before : p < w = (let l : p < m = low in let h : m ≤ w = through in omega arith) in
         let seen : IsTrue (seen_by x.seen.share.places_seen a) = subst (λ (b : ℕ). IsTrue (seen_by x.seen.share.places_seen b)) (sym o.begins) (been o.pool o.class o.slot o.owned_is o.inside (inl before)) in
         subst (λ (f : ℕ → Bool). IsTrue (f a)) (sym (good.sharing.telling.seen waits)) seen
@@ -202,7 +202,7 @@ module _ (k : Config) (s : Words) (r : Rule k s) (id : ℕ) (hist : List Entry) 
     abbrev after : Kind → Cycling
     after kind = arrived_cycle (In kind) t.holder c d
 
-    done_arrives : x.seen.share.owes ≡ false → k.pools ≤ x.seen.share.walk.pool → Arrives (cycle_of k r.account.live t.holder c) d
+    done_arrives : x.seen.share.owes ≡ false → x.own.swept.top ≤ x.seen.share.walk.pool → Arrives (cycle_of k r.account.live t.holder c) d
     done_arrives none through = record { paid = paid none; all = all_seen through }
 
     -- where there is nothing to look at it has seen all own places
@@ -393,7 +393,7 @@ module _ (k : Config) (s : Words) (r : Rule k s) (id : ℕ) (hist : List Entry) 
       clean = f.clean;
       all_counted = f.all_counted;
       held = λ q e class gone owns. ⊎_elim
-          (λ z. has_block q class (owns ∙ ap (λ (n : ℕ). owned n class) z.0) (let p : ℕ = k.pools in let w : ℕ = x.seen.share.held in let far : p ≤ w = done.held (inr here) in let low : q < p = (r.whole.pools.owned_by q e class owns).0 in let h : q < w = omega arith in h))
+          (λ z. has_block q class (owns ∙ ap (λ (n : ℕ). owned n class) z.0) (let p : ℕ = x.own.swept.top in let w : ℕ = x.seen.share.held in let far : p ≤ w = done.held (inr here) in let low : q < p = good.sweeps.below q class (owns ∙ ap (λ (n : ℕ). owned n class) z.0) in let h : q < w = omega arith in h))
           (λ z. f.held q e class (sym z.1 ∙ gone) owns)
           (at_cases c.shares.arrived d true e);
     }

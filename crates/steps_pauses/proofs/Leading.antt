@@ -18,7 +18,7 @@ use Rattle.heap_rule.specs.declared.view.Copying.{Copying}
 use Rattle.heap_rule.specs.declared.view.DomainView.{DomainView}
 use Rattle.heap_rule.specs.declared.view.Share.{Share}
 use Rattle.heap_rule.specs.Copies.{nothing_copied, Promoting, Resetting, IsEmptying}
-use Rattle.heap_rule.specs.Cycles.{Cycling, Cycled, Facts, HasNoCycle, Told, IsIdle, seen_by, pass_of}
+use Rattle.heap_rule.specs.Cycles.{Cycling, Cycled, Facts, HasNoCycle, Told, IsIdle, IsMarking, IsNamed, seen_by, pass_of}
 use Rattle.heap_rule.specs.Layout.{heap_words, before_heap, barrier, plan, want, listed, cursor, listed_pool}
 use Rattle.heap_rule.specs.Limits.{sizes_in}
 use Rattle.heap_rule.specs.Phases.{code, Follows, flag, is_over, IsEven, Pause, Phases, AtStage, IsInPause}
@@ -27,7 +27,7 @@ use Rattle.heap_rule.specs.Beside.{IsUnaware, is_weak}
 use Rattle.heap_rule.proofs.BesideLemmas.{runs_unaware, unaware_of}
 use Rattle.steps_pauses.proofs.BesideRows.{AllOld, marks_same, past_owes}
 use Rattle.steps_pauses.proofs.Repainting.{repainted}
-use Rattle.heap_rule.specs.Pools.{Tenancy, nobody, owner_word, limit_of, DrawsAlone, NoneCameBack, Covered, KeepsReserve}
+use Rattle.heap_rule.specs.Pools.{Tenancy, nobody, owner_word, limit_of, Covered, KeepsReserve}
 use Rattle.heap_rule.specs.Deciding.{Deciding}
 use Rattle.heap_rule.specs.Finalisers.{StandsFinal, StandsLast}
 use Rattle.heap_rule.specs.Rule.{Account, AllFound, Good, Rule, Sharing, Stood, state_of}
@@ -41,7 +41,8 @@ use Rattle.heap_model.specs.declared.label.Label.{Label}
 use Rattle.heap_rule.proofs.EphemeronLemmas.{looks_idle}
 use Rattle.heap_rule.proofs.FinaliserLemmas.{paired_length}
 use Rattle.steps_pauses.proofs.Arriving.{whole_all}
-use Rattle.steps_pauses.specs.Pauses.{kind_in, armed_after, entry_of, cut_in, progress_after, unswept_after, whole_after, MayFollow, NamesFree, KeepsNames, LeadMay, LeadTold}
+use Rattle.steps_pauses.proofs.Growing.{grown_by, grows_led}
+use Rattle.steps_pauses.specs.Pauses.{kind_in, armed_after, entry_of, cut_in, progress_after, asks_again, unmarked_after, unswept_after, whole_after, MayFollow, NamesFree, KeepsNames, LeadMay, LeadTold}
 use Rattle.steps_pauses.proofs.CollectorEntries.{OfCollector, entry_of_collector, keeps_left, work_left, graph_left, front_then, after_logged, legal_logged, knows_logged, seen_then}
 use Rattle.steps_pauses.proofs.Naming.{left_by, logged, pass_in, left_in, led_cycle, Ready, Way, led_way}
 use Rattle.steps_pauses.proofs.Sizes.{domains_of}
@@ -90,7 +91,7 @@ armed_led Sweep next f none armed known same on over freed = ⊎_elim
     (⊎_elim (λ (e : next ≡ Answer). absurd (subst HasNoCycle e none)) (λ (e : next ≡ Roots). absurd (subst HasNoCycle e none))) f
 armed_led Answer next f none armed known same on over freed = subst (λ (n : Kind). armed ≡ armed_after Answer n known) (sym f) (over (inr refl) f)
 
-flag_zero : (b : Bool) → 0 ≡ flag b → b ≡ false
+pub flag_zero : (b : Bool) → 0 ≡ flag b → b ≡ false
 flag_zero true e = absurd (omega arith)
 flag_zero false e = refl
 
@@ -134,23 +135,6 @@ follows_promote a b f e = from a (subst (Follows a) e f)
     from Lasts f = ⊎_elim (λ (e : Promote ≡ Sweep). absurd (let h : Promote ≡ Sweep = e in cc)) (λ (e : Promote ≡ Run). absurd (let h : Promote ≡ Run = e in cc)) f
     from Sweep f = ⊎_elim (λ (e : Promote ≡ Run). absurd (let h : Promote ≡ Run = e in cc))
         (λ q. ⊎_elim (λ (e : Promote ≡ Answer). absurd (let h : Promote ≡ Answer = e in cc)) (λ (e : Promote ≡ Roots). absurd (let h : Promote ≡ Roots = e in cc)) q) f
-    from _ f = cc
-
-follows_reset : (a b : Kind) → Follows a b → b ≡ Reset → a ≡ Promote
-follows_reset a b f e = from a (subst (Follows a) e f)
-  where
-    from : (a : Kind) → Follows a Reset → a ≡ Promote
-    from Promote f = refl
-    from Reset f = ⊎_elim (λ (e : Reset ≡ Run). absurd (let h : Reset ≡ Run = e in cc))
-        (λ q. ⊎_elim (λ (e : Reset ≡ Roots). absurd (let h : Reset ≡ Roots = e in cc)) (λ q. ⊎_elim (λ (e : Reset ≡ Mark). absurd (let h : Reset ≡ Mark = e in cc)) (λ (e : Reset ≡ Sweep). absurd (let h : Reset ≡ Sweep = e in cc)) q) q) f
-    from Roots f = ⊎_elim (λ (e : Reset ≡ Mark). absurd (let h : Reset ≡ Mark = e in cc)) (λ (e : Reset ≡ Run). absurd (let h : Reset ≡ Run = e in cc)) f
-    from Mark f = ⊎_elim (λ (e : Reset ≡ Mark). absurd (let h : Reset ≡ Mark = e in cc)) (λ (e : Reset ≡ Rounds). absurd (let h : Reset ≡ Rounds = e in cc)) f
-    from Rounds f = ⊎_elim (λ (e : Reset ≡ Mark). absurd (let h : Reset ≡ Mark = e in cc))
-        (λ q. ⊎_elim (λ (e : Reset ≡ Decide). absurd (let h : Reset ≡ Decide = e in cc)) (λ (e : Reset ≡ Clean). absurd (let h : Reset ≡ Clean = e in cc)) q) f
-    from Queued f = ⊎_elim (λ (e : Reset ≡ Mark). absurd (let h : Reset ≡ Mark = e in cc)) (λ (e : Reset ≡ Clean). absurd (let h : Reset ≡ Clean = e in cc)) f
-    from Lasts f = ⊎_elim (λ (e : Reset ≡ Sweep). absurd (let h : Reset ≡ Sweep = e in cc)) (λ (e : Reset ≡ Run). absurd (let h : Reset ≡ Run = e in cc)) f
-    from Sweep f = ⊎_elim (λ (e : Reset ≡ Run). absurd (let h : Reset ≡ Run = e in cc))
-        (λ q. ⊎_elim (λ (e : Reset ≡ Answer). absurd (let h : Reset ≡ Answer = e in cc)) (λ (e : Reset ≡ Roots). absurd (let h : Reset ≡ Roots = e in cc)) q) f
     from _ f = cc
 
 pub led_leads : (kind other : Kind) → ◌≡◌ {A = Stage} (Led kind) (Leads other) → ⊥
@@ -200,7 +184,7 @@ module _ (k : Config) (s : Words) (r : Rule k s) (id : ℕ) (hist : List Entry) 
   o = entry_of c.unswept last next
 
   abbrev y : DomainView
-  y = record x { seen = record x.seen { front = front_then x.seen.front r.account.log o; stage = Led next; share = record fresh_share { progress = progress_after last next x.seen.share.progress } } }
+  y = record x { seen = record x.seen { front = front_then x.seen.front r.account.log o; stage = Led next; share = record fresh_share { progress = progress_after last next x.seen.share.progress; unmarked = unmarked_after k last x.seen.share.changed x.seen.share.unmarked } } }
 
   good : Good k r.account s.words x
   good = my_good k s r id hist x at
@@ -243,7 +227,7 @@ module _ (k : Config) (s : Words) (r : Rule k s) (id : ℕ) (hist : List Entry) 
   facts = subst (λ (kind : Kind). Facts kind k state live tenancy c s.words) kind_is r.whole.cycle.facts
 
   abbrev c' : Cycling
-  c' = led_cycle k live last next state c
+  c' = record (led_cycle k live last next state c) { unmarked = unmarked_after k last x.seen.share.changed x.seen.share.unmarked }
 
   counted : k.domains ≡ length state.domains
   counted = sym (domains_of k r.account.log r.limits)
@@ -336,6 +320,16 @@ module _ (k : Config) (s : Words) (r : Rule k s) (id : ℕ) (hist : List Entry) 
     leader = λ i e a. refl;
   }
 
+  -- the next kind wasn't named, and domain 0 stands in the phase
+  unnamed : IsNamed t → ⊥
+  unnamed h = true≢false (sym h.2 ∙ before.2 may.leads)
+
+  stands : t.arrived 0 ≡ t.phase
+  stands = ap t.arrived (sym may.leads) ∙ (sym good.staged.arrivals ∙ before.0)
+
+  knows_changed : (v : ℕ) → x.seen.share.changed ≡ Some v → v ≡ flag c.shares.changed
+  knows_changed v is = (good.sharing.leading.changed v is).2
+
   cycle_led : Cycled k (state_of k log') live t' tenancy c' ws
   cycle_led = let w = r.whole.cycle in record {
     armed_is = same_cycle.armed_same ∙ w.armed_is;
@@ -353,6 +347,7 @@ module _ (k : Config) (s : Words) (r : Rule k s) (id : ℕ) (hist : List Entry) 
     };
     unswept = way.left;
     whole = λ l. inl (whole l);
+    grows = grows_led k live t c w.grows unnamed x.seen.share.changed x.seen.share.unmarked knows_changed (good.sharing.leading.unmarked may.leads) last next state kind_is j odd stands (λ rounds. ready.quiet (inl rounds)) t'.kinds;
   }
 
   -- each domain has all its registrations left to look at, where it is to look at them
@@ -391,6 +386,7 @@ module _ (k : Config) (s : Words) (r : Rule k s) (id : ℕ) (hist : List Entry) 
       armed = λ b e. cc;
       unswept = λ first. ap (unswept_after last next) (good.sharing.leading.unswept first);
       under_way = λ _ none. armed_led last next follows none c.armed x.seen.share.progress.armed under_way ready.goes_on ready.over (λ g h. (r.whole.cycle.unswept (ready.freed g h)).unarmed);
+      unmarked = λ _. refl;
     };
     knows = inl refl;
     adds = record { blocks = λ e _. (way.uncounted e x.own.number).0; words = λ e _. (way.uncounted e x.own.number).1; own = λ _ _ e. cc };
@@ -425,6 +421,7 @@ module _ (k : Config) (s : Words) (r : Rule k s) (id : ℕ) (hist : List Entry) 
           armed = l.armed;
           unswept = λ first. absurd (apart first);
           under_way = λ first. absurd (apart first);
+          unmarked = λ first. absurd (apart first);
         };
         knows = inl idle;
         adds = record {
@@ -453,13 +450,12 @@ module _ (k : Config) (s : Words) (r : Rule k s) (id : ℕ) (hist : List Entry) 
       (at.0, below, lists.names at.0 q at.1, inl (subst (λ (n : ℕ). n ≤ at.0) (sym (lists.found 0 names.rewound)) zero-le))
 
   -- where the list was whole it is so
-  stayed : DrawsAlone last → listed ws ≢ 0 → (q : ℕ) → q < k.pools → tenancy.holder q ≡ nobody → (i : ℕ) × (i < listed ws) × (listed_pool ws i ≡ q) × ((cursor ws ≤ i) ⊎ (limit_of k (listed ws) ≤ i))
-  stayed draws listing = covered_untouched k t tenancy s.words ws untouched r.whole.pools r.whole.covered
-      (inr (inr (inl (j, odd, before.2 may.leads, subst DrawsAlone (sym before.1.2) draws)), listing))
+  stayed : listed ws ≢ 0 → (q : ℕ) → q < k.pools → tenancy.holder q ≡ nobody → (i : ℕ) × (i < listed ws) × (listed_pool ws i ≡ q) × ((cursor ws ≤ i) ⊎ (limit_of k (listed ws) ≤ i))
+  stayed listing = covered_untouched k t tenancy s.words ws untouched r.whole.pools r.whole.covered (inr listing)
 
   -- the list that stays was whole
   kept_free : KeepsNames k x → (q : ℕ) → q < k.pools → tenancy.holder q ≡ nobody → (i : ℕ) × (i < listed ws) × (listed_pool ws i ≡ q) × ((cursor ws ≤ i) ⊎ (limit_of k (listed ws) ≤ i))
-  kept_free keeps = stayed (inr (inr (ap kind_in keeps.stage))) (λ none. keeps.some (sym ((resting_untouched k s.words ws x untouched good.resting).lists keeps.list keeps.listing).count ∙ none))
+  kept_free keeps = stayed (λ none. keeps.some (sym ((resting_untouched k s.words ws x untouched good.resting).lists keeps.list keeps.listing).count ∙ none))
 
   -- where the domains run next
   runs_free : next ≡ Run → (q : ℕ) → q < k.pools → tenancy.holder q ≡ nobody → (i : ℕ) × (i < listed ws) × (listed_pool ws i ≡ q) × ((cursor ws ≤ i) ⊎ (limit_of k (listed ws) ≤ i))
@@ -470,17 +466,7 @@ module _ (k : Config) (s : Words) (r : Rule k s) (id : ℕ) (hist : List Entry) 
       (⊎_elim
       (λ (h : (i : ℕ) × (t.phase ≡ i * 2) × (t'.kinds i ≡ Run)). absurd (no_even (h.0, h.1)))
       (λ (h : (i : ℕ) × (t.phase ≡ i * 2 + 1) × (true ≡ true) × (t'.kinds (i + 1) ≡ Run)). runs_free (sym (named h.0 h.1) ∙ h.3)))
-      (λ (came : NoneCameBack t' × (listed ws ≢ 0)). ⊎_elim
-      (λ (h : (i : ℕ) × (t.phase ≡ i * 2) × DrawsAlone (t'.kinds i)). absurd (no_even (h.0, h.1)))
-      (⊎_elim
-      (λ (h : (i : ℕ) × (t.phase ≡ i * 2 + 1) × (true ≡ false) × DrawsAlone (t'.kinds i)). absurd (true≢false h.2))
-      (λ (h : (i : ℕ) × (t.phase ≡ i * 2 + 1) × (true ≡ true) × DrawsAlone (t'.kinds (i + 1))). ⊎_elim
-      (λ (runs : next ≡ Run). runs_free runs)
-      (⊎_elim
-      (λ (copies : next ≡ Promote). stayed (inl (follows_promote last next follows copies)) came.1)
-      (λ (resets : next ≡ Reset). stayed (inr (inl (follows_reset last next follows resets))) came.1))
-      (subst DrawsAlone (named h.0 h.1) h.3)))
-      came.0)
+      stayed
 
   -- and there the cursor isn't in the reserve
   led_low : next ≡ Run → cursor ws ≤ limit_of k (listed ws)
@@ -550,7 +536,7 @@ module _ (k : Config) (s : Words) (r : Rule k s) (id : ℕ) (hist : List Entry) 
           hunt = λ _. rest.hunt (λ takes. ⊎_elim stays (λ e. leads_promotes last (sym stage_is ∙ e)) takes);
           free = λ _. rest.free stays;
           spare = λ _. rest.spare stays;
-          lists = λ l e. let z = rest.lists l e in record { first = z.first; leads = tt; few = z.few; owners = z.owners; names = z.names; count = z.count; found = z.found };
+          lists = λ l e. let z = rest.lists l e in record { who = may.leads; few = z.few; owners = z.owners; names = z.names; count = z.count; found = z.found };
         };
         took_back = λ kind leads _. absurd (led_leads next kind leads);
         owes = owes_rests k live x y refl quiet (ap (λ (u : Copying). u.pending) quiet) refl good.owes;
@@ -558,7 +544,7 @@ module _ (k : Config) (s : Words) (r : Rule k s) (id : ℕ) (hist : List Entry) 
         set_back = λ back. absurd (led_leads next Run back.0);
         sharing = sharing_led;
         listed = record { all = good.listed.all; own = good.listed.own; lives = good.listed.lives };
-        sweeps = record { listed = good.sweeps.listed; places = good.sweeps.places; anew = λ _ e. cc; reaps = tt };
+        sweeps = record { listed = good.sweeps.listed; places = good.sweeps.places; anew = λ _ e. cc; reaps = tt; below = good.sweeps.below };
       }
       (λ z below other h. record {
         stood = stood_left z h.stood;
@@ -580,12 +566,15 @@ module _ (k : Config) (s : Words) (r : Rule k s) (id : ℕ) (hist : List Entry) 
         set_back = λ back. low_untouched k s.words ws untouched (h.set_back back);
         sharing = sharings_led z below other h;
         listed = h.listed;
-        sweeps = record { listed = h.sweeps.listed; places = h.sweeps.places; anew = λ _ e. cc; reaps = h.sweeps.reaps };
+        sweeps = record { listed = h.sweeps.listed; places = h.sweeps.places; anew = λ _ e. cc; reaps = h.sweeps.reaps; below = h.sweeps.below };
       })
 
   -- what is told of it
   entry_known : o ≡ entry_of x.seen.share.progress.unswept last next
   entry_known = ap (λ (u : Bool). entry_of u last next) (good.sharing.leading.unswept may.leads)
+
+  grown : IsMarking last → asks_again x.seen.share.changed ≤ x.seen.share.unmarked
+  grown marking = grown_by k live t c r.whole.cycle.grows unnamed x.seen.share.changed x.seen.share.unmarked knows_changed (good.sharing.leading.unmarked may.leads) (subst IsMarking (sym kind_is) marking)
 
   fronted : (p : Option Entry) → o ≡ p → LeadTold k next x new y
   fronted None is = record {
@@ -593,6 +582,7 @@ module _ (k : Config) (s : Words) (r : Rule k s) (id : ℕ) (hist : List Entry) 
     stays = λ _. ap (front_then x.seen.front r.account.log) is;
     made = λ e f. let clash : ◌≡◌ {A = Option Entry} None (Some e) = sym is ∙ (entry_known ∙ f) in cc;
     view = refl;
+    grown = grown;
   }
   fronted (Some d) is = record {
     seen = seen_then k s r id hist x at o collector;
@@ -605,6 +595,7 @@ module _ (k : Config) (s : Words) (r : Rule k s) (id : ℕ) (hist : List Entry) 
       legal = subst (λ (p : Option Entry). Legal (sizes_in k) (front_then x.seen.front r.account.log p)) (sym f) (subst (λ (p : Option Entry). Legal (sizes_in k) (logged r.account.log p)) f (legal_logged k s r id hist x at o way.allowed));
     };
     view = refl;
+    grown = grown;
   }
 
   pub led_told : LeadTold k next x new y

@@ -54,11 +54,12 @@ pass_in Queued pass = laws.Second
 pass_in _ pass = pass
 
 -- what was marked before, as a phase begins. Where garbage that is left is freed all that lives is counted
-abbrev before_in : Kind → Kind → Cycling → Label → Bool
-before_in Reset Sweep c = λ l. true
-before_in last Rounds c = c.paint.marks.marked
-before_in last Lasts c = c.paint.marks.marked
-before_in last _ c = c.before
+abbrev before_in : Kind → Kind → (Label → Bool) → (Label → Bool) → Label → Bool
+before_in last Mark now was = now
+before_in last Rounds now was = now
+before_in last Lasts now was = now
+before_in Reset Sweep now was = λ l. true
+before_in last _ now was = was
 
 -- how many registrations are left to look at
 abbrev pub left_in : Kind → model.State → (ℕ → ℕ) → ℕ → ℕ
@@ -88,7 +89,8 @@ led_cycle k live last next s c = record {
   pass = pass_in last c.pass;
   paint = record c.paint { marks = marks_in k live last next s c.paint.marks };
   shares = reset_shares c.shares.changed;
-  before = before_in last next c;
+  before = before_in last next (marks_in k live last next s c.paint.marks).marked c.before;
+  unmarked = c.unmarked;
   left = left_in next s c.left;
   rotated = rotated_in next c.rotated;
   counts = counts_in next c.counts;

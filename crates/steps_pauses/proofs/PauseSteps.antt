@@ -22,7 +22,7 @@ use Rattle.heap_rule.specs.declared.phase.Note.{Note}
 use Rattle.heap_rule.specs.declared.phase.Note.TheVariants.{Want, Asked, Barrier, Ended, Cleared, SetBack}
 use Rattle.heap_rule.specs.Layout.{heap_words, before_heap, barrier, ended_word, want}
 use Rattle.heap_rule.specs.Phases.{code, Follows, Comes, sum_of, is_over, IsEven, IsOdd, Pause, Phases, LeftOdd, AtStage, Staged, Still, IsInPause, TookBack, HasSetBack, Unwished, last_note}
-use Rattle.heap_rule.specs.Pools.{Tenancy, IsLeading}
+use Rattle.heap_rule.specs.Pools.{Tenancy, IsLeading, KnowsList}
 use Rattle.heap_rule.specs.Places.{Live, Shows}
 use Rattle.heap_rule.specs.Changes.{value_at}
 use Rattle.heap_rule.specs.Standing.{ShowsRegisters}
@@ -176,7 +176,7 @@ looked_at k id hist x gone s r at =
           hunt = λ n. rest.hunt (λ takes. ⊎_elim stays (λ e. gone_promotes (kind_in x.seen.stage) (sym gone ∙ e)) takes);
           free = λ n. rest.free stays;
           spare = λ n. rest.spare stays;
-          lists = λ l e. absurd (subst IsLeading gone (rest.lists l e).leads);
+          lists = λ l e. absurd (subst (λ (st : Stage). KnowsList x.own.number st l) gone (rest.lists l e).who);
         };
         others = λ z _ _ its. its;
         unwished = r.whole.unwished;

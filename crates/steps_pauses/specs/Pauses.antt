@@ -1,6 +1,6 @@
 -- What the steps of a pause ask and tell.
 use Rattle.heap_rule.specs.Sweeping.{nothing_swept}
-use Rattle.std.specs.Prelude.{cond, ◌≡◌, ◌≢◌, ℕ, ◌+◌, ◌*◌, ◌^◌, ◌<◌, ◌≤◌, ◌⊎◌, true, List, [], ◌∷◌, ◌++◌, length, replicate, slice_get, Some, None, IsTrue, false, ◌==◌, Bool, Option}
+use Rattle.std.specs.Prelude.{cond, ◌≡◌, ◌≢◌, ℕ, suc, ◌+◌, ◌*◌, ◌-◌, ◌^◌, ◌<◌, ◌≤◌, ◌⊎◌, true, List, [], ◌∷◌, ◌++◌, length, replicate, slice_get, Some, None, IsTrue, false, ◌==◌, Bool, Option}
 use Rattle.heap_model.specs.Domains.{class_count}
 use Rattle.heap_model.specs.declared.entry.Entry.TheVariants.{End, Cut, Seal, Collected, Done}
 use Rattle.heap_model.specs.declared.reply.Applied.TheVariants.{Silent}
@@ -32,7 +32,7 @@ use Rattle.heap_rule.specs.declared.phase.Kind.TheVariants.{Run, Promote, Reset,
 use Rattle.heap_rule.specs.Views.{fresh_share, voided}
 use Rattle.std.specs.List.{list_any}
 use Rattle.heap_rule.specs.Changes.{value_at}
-use Rattle.heap_rule.specs.Cycles.{seen_by}
+use Rattle.heap_rule.specs.Cycles.{IsMarking, seen_by}
 use Rattle.heap_rule.specs.Finalisers.{held_at}
 use Rattle.heap_model.specs.declared.entry.Entry.{Entry}
 use Rattle.heap_rule.specs.declared.view.Share.{Share}
@@ -81,11 +81,11 @@ pub record HasDone (k : Config) (x : DomainView) : Type 0 where
   -- it owes no store of the changed word
   pub told : Traces x.seen.stage → x.seen.share.owes ≡ false
   -- it has been at each own place
-  pub walked : x.seen.stage ≡ In Mark → k.pools ≤ x.seen.share.walk.pool
+  pub walked : x.seen.stage ≡ In Mark → x.own.swept.top ≤ x.seen.share.walk.pool
   -- it has swept each own place
   pub swept : x.seen.stage ≡ In Sweep → k.pools ≤ x.own.swept.spot.pool
   -- it is to sweep them all once the colours are rotated
-  pub anew : x.seen.stage ≡ In Lasts → x.own.swept ≡ nothing_swept
+  pub anew : x.seen.stage ≡ In Lasts → x.own.swept ≡ nothing_swept x.own.swept.top
   -- it has been at each ephemeron of its list
   pub looked : (x.seen.stage ≡ In Rounds) ⊎ (x.seen.stage ≡ In Clean) → (a : ℕ) → IsTrue (seen_by x.own.ephemerons.items a) → IsTrue (seen_by x.seen.share.places_seen a)
   -- it empties the keys of none
@@ -95,7 +95,7 @@ pub record HasDone (k : Config) (x : DomainView) : Type 0 where
   -- and so at each of `finalise_last`
   pub settled : x.seen.stage ≡ In Lasts → x.seen.share.kept ≡ length x.own.finalisers.lasts.items
   -- its pools hold blocks
-  pub held : (x.seen.stage ≡ In Sweep) ⊎ (x.seen.stage ≡ In Answer) → k.pools ≤ x.seen.share.held
+  pub held : (x.seen.stage ≡ In Sweep) ⊎ (x.seen.stage ≡ In Answer) → x.own.swept.top ≤ x.seen.share.held
   -- it has added what it has counted
   pub added : x.seen.stage ≡ In Sweep → (x.seen.share.added_blocks ≡ true) × (x.seen.share.added_words ≡ true)
 
@@ -228,6 +228,17 @@ unswept_after _ _ unswept = unswept
 abbrev pub progress_after : Kind → Kind → Progress → Progress
 progress_after last next p = record { cut = cut_in last p.cut; whole = whole_after last next p.whole; unswept = unswept_after last next p.unswept; armed = armed_after last next p.armed }
 
+-- whether a word asks for another phase of the marking
+abbrev pub asks_again : Option ℕ → ℕ
+asks_again (Some (suc n)) = 1
+asks_again other = 0
+
+-- at most so many blocks of the pools aren't marked once a kind was named after another: behind a phase of the marking that asks for another one, one fewer than before it
+abbrev pub unmarked_after : Config → Kind → Option ℕ → ℕ → ℕ
+unmarked_after k Mark changed unmarked = unmarked - asks_again changed
+unmarked_after k Rounds changed unmarked = unmarked - asks_again changed
+unmarked_after k last changed unmarked = k.pools * 1024
+
 -- What domain 0 knows as it names the next kind. It leaves the marking when it has found that nothing was changed, to one side before the cut is made, to the other after it; and so it leaves Queued to the other side at once. It leaves Lasts once it has rotated the colours. Where garbage is freed next it has set the live words back. The domains run again beside the cycle where it has stored so in the armed word; one that goes on is finished, and another begins where none does, and no garbage of the last one is left: where some is, it is freed first. After a collection it has taken the armed word back. A collection is answered where it began in this pause
 pub record MayFollow (share : Share) (last next : Kind) : Type 0 where
   pub unchanged : (next ≡ Rounds) ⊎ ((next ≡ Decide) ⊎ (next ≡ Clean)) → share.changed ≡ Some 0
@@ -252,11 +263,10 @@ pub record NamesFree (k : Config) (x : DomainView) : Type 0 where
   pub count : length list.names ≡ list.listed
   pub free : (q : ℕ) → slice_get list.owners q ≡ Some 0 → (i : ℕ) × (slice_get list.names i ≡ Some q)
 
--- domain 0 has looked at the list in this phase, behind Reset: pools are listed, and the cursor isn't in the reserve
+-- domain 0 has looked at the list in this phase: pools are listed, so none has come back, and the cursor isn't in the reserve
 pub record KeepsNames (k : Config) (x : DomainView) : Type 0 where
   pub list : Listing
   pub listing : x.seen.listing ≡ Some list
-  pub stage : x.seen.stage ≡ Leads Reset
   pub some : list.listed ≢ 0
   pub at : ℕ
   pub cursor_is : list.cursor ≡ Some at
@@ -287,7 +297,8 @@ pub record LeadTold (k : Config) (next : Kind) (x : DomainView) (found : ℕ) (y
   pub seen : IsFrontOf x.own.number y.seen.front x.seen.front
   pub stays : entry_of x.seen.share.progress.unswept (kind_in x.seen.stage) next ≡ None → y.seen.front ≡ x.seen.front
   pub made : (e : Entry) → entry_of x.seen.share.progress.unswept (kind_in x.seen.stage) next ≡ Some e → EndsWith k x y e
-  pub view : y ≡ record x { seen = record x.seen { front = y.seen.front; stage = Led next; share = record fresh_share { progress = progress_after (kind_in x.seen.stage) next x.seen.share.progress } } }
+  pub view : y ≡ record x { seen = record x.seen { front = y.seen.front; stage = Led next; share = record fresh_share { progress = progress_after (kind_in x.seen.stage) next x.seen.share.progress; unmarked = unmarked_after k (kind_in x.seen.stage) x.seen.share.changed x.seen.share.unmarked } } }
+  pub grown : IsMarking (kind_in x.seen.stage) → asks_again x.seen.share.changed ≤ x.seen.share.unmarked
 
 -- the token's own data after the end of a trace: the registers hold nothing, and nothing is registered
 abbrev pub ended_own : Own → Own

@@ -24,6 +24,7 @@ use Rattle.heap_rule.specs.Pools.{Holder, nobody, drawn, owned, owner_word, Stoc
 use Rattle.heap_rule.specs.Phases.{Phases, AtStage, sum_of}
 use Rattle.steps_pools.specs.Takes.{with_hunt, found_free, HasNoDraw, LeavesSpare, NoneFree}
 use Rattle.heap_rule.proofs.Update.{over, over_here, over_else}
+use Rattle.steps_pools.proofs.Tops.{low_same}
 use Rattle.heap_rule.proofs.Keeps.{Words, mine, my_good, phases_words, holds_again, room_words, whole_words, run_copying}
 use Rattle.heap_rule.proofs.PauseFacts.{run_promoting, promote_now}
 use Rattle.heap_rule.proofs.Controls.{sum_one}
@@ -162,7 +163,9 @@ module _ (k : Config) (s : Words) (r : Rule k s) (id : ℕ) (hist : List Entry) 
 
   -- a load that tells more of the pools
   pub knows : (looked : List Spot) (h : Hunt) → Hunter k t s.words (hunting x looked h) → Rule k record { words = s.words; homes = s.homes; views = set s.views id (one k hist (hunting x looked h)) }
-  knows looked h own = holds_again k s r id hist x at looked h x.seen.free s.words t record {
+  knows looked h own = holds_again k s r id hist x at x.own.swept.top looked h x.seen.free s.words t record {
+    higher = low_same x.own.swept.top;
+    gained = λ q e b is. inl is;
     takes = takes;
     known_free = known_free;
     wide = refl;
@@ -194,7 +197,9 @@ module _ (k : Config) (s : Words) (r : Rule k s) (id : ℕ) (hist : List Entry) 
 
   -- no more pools are free than a look found, and the domain takes none
   looked_rule : x.seen.stage ≡ In Run → HasNoDraw x → (f : ℕ) → BoundsFree (listed s.words) (cursor s.words) f → Rule k record { words = s.words; homes = s.homes; views = set s.views id (one k hist (found_free x f Rests)) }
-  looked_rule runs none f bounds = holds_again k s r id hist x at x.own.looked Rests (f ∷ x.seen.free) s.words t record {
+  looked_rule runs none f bounds = holds_again k s r id hist x at x.own.swept.top x.own.looked Rests (f ∷ x.seen.free) s.words t record {
+    higher = low_same x.own.swept.top;
+    gained = λ q e b is. inl is;
     takes = takes;
     known_free = λ stays. absurd (stays runs);
     wide = refl;
@@ -242,7 +247,9 @@ module _ (k : Config) (s : Words) (r : Rule k s) (id : ℕ) (hist : List Entry) 
   asks_rule runs n is below =
       let counts : listed s.words ≡ n = subst (Hunts k t s.words me) is hunter.hunt in
       let t' : Tenancy = record t { asking = over me 1 t.asking } in
-      holds_again k s r id hist x at x.own.looked (Asks n) ((n - cursor s.words) ∷ x.seen.free) s.words t' record {
+      holds_again k s r id hist x at x.own.swept.top x.own.looked (Asks n) ((n - cursor s.words) ∷ x.seen.free) s.words t' record {
+        higher = low_same x.own.swept.top;
+        gained = λ q e b is. inl is;
         takes = takes;
         known_free = λ stays. absurd (stays runs);
         wide = refl;
@@ -355,7 +362,9 @@ module _ (k : Config) (s : Words) (r : Rule k s) (id : ℕ) (hist : List Entry) 
 
     -- it found none
     pub late_rule : x.seen.stage ≡ In Run → (n : ℕ) → x.seen.hunt ≡ Asks n → limit_of k n ≤ c → Rule k record { words = words1; homes = s.homes; views = set s.views id (one k hist (found_free x (n - limit_of k n) Rests)) }
-    late_rule runs n is past = holds_again k s r id hist x at x.own.looked Rests ((n - limit_of k n) ∷ x.seen.free) words1 (record t { asking = asking' }) record {
+    late_rule runs n is past = holds_again k s r id hist x at x.own.swept.top x.own.looked Rests ((n - limit_of k n) ∷ x.seen.free) words1 (record t { asking = asking' }) record {
+      higher = low_same x.own.swept.top;
+      gained = λ q e b is. inl is;
       takes = takes;
       known_free = λ stays. absurd (stays runs);
       wide = length-set s.words 7 (c + 1);
@@ -473,8 +482,8 @@ module _ (k : Config) (s : Words) (r : Rule k s) (id : ℕ) (hist : List Entry) 
       nobody_was : (q : ℕ) → t1.holder q ≡ nobody → t.holder q ≡ nobody
       nobody_was q none = sym (else1 q (is_drawn q none)) ∙ none
 
-      owned_before : (q b : ℕ) → t1.holder q ≡ owned me b → t.holder q ≡ owned me b
-      owned_before q b e = dite (ℕ_discrete q pool) (λ same. absurd (drawn_owned me me b (sym (over_here pool (drawn me) t.holder) ∙ (ap t1.holder (sym same) ∙ e)))) (λ other. sym (else1 q other) ∙ e)
+      owned_was : (q e b : ℕ) → t1.holder q ≡ owned e b → t.holder q ≡ owned e b
+      owned_was q e b is = dite (ℕ_discrete q pool) (λ same. absurd (drawn_owned me e b (sym (over_here pool (drawn me) t.holder) ∙ (ap t1.holder (sym same) ∙ is)))) (λ other. sym (else1 q other) ∙ is)
 
       owned_after : (q b : ℕ) → t.holder q ≡ owned me b → t1.holder q ≡ owned me b
       owned_after q b e = else1 q (λ same. (nobody_not me).not_owned b (sym was ∙ (ap t.holder (sym same) ∙ e))) ∙ e
@@ -508,13 +517,13 @@ module _ (k : Config) (s : Words) (r : Rule k s) (id : ℕ) (hist : List Entry) 
       full1 : Fullness k r.account.log r.account.live t1.holder t1.fresh t1.garbage r.account.homes r.account.cycling.kind
       full1 =
           let f = r.whole.full in
-          let was_owned : (q e b : ℕ) → t1.holder q ≡ owned e b → t.holder q ≡ owned e b = (λ q e b is. dite (ℕ_discrete q pool) (λ same. absurd (drawn_owned me e b (sym (over_here pool (drawn me) t.holder) ∙ (ap t1.holder (sym same) ∙ is)))) (λ other. sym (else1 q other) ∙ is)) in record {
+          record {
             kept = f.kept;
-            low = λ q e b slot p is. f.low q e b slot p (was_owned q e b is);
+            low = λ q e b slot p is. f.low q e b slot p (owned_was q e b is);
             young = f.young;
             made = f.made;
-            left = λ q e b slot is. f.left q e b slot (was_owned q e b is);
-            owned = λ goes q e b is. let old = was_owned q e b is in dite (ℕ_discrete e me)
+            left = λ q e b slot is. f.left q e b slot (owned_was q e b is);
+            owned = λ goes q e b is. let old = owned_was q e b is in dite (ℕ_discrete e me)
                 (λ own. dite (ℕ_discrete b class)
                 (λ same. inr (filled q (subst (λ (m : ℕ × ℕ). t.holder q ≡ owned m.0 m.1) (λ i. (own i, same i)) old)))
                 (λ other. subst (λ (m : ℕ). (t1.fresh m b ≡ Some q) ⊎ HoldsKept (kept_labels (sizes_in k) r.account.log) r.account.homes q) (sym own)
@@ -530,7 +539,9 @@ module _ (k : Config) (s : Words) (r : Rule k s) (id : ℕ) (hist : List Entry) 
       pub draws_rule : Room k r.account.live r.account.pause stock words1 → IsUnused r.account.pause stock → ((d : ℕ) → d ≢ me → SameStock t.stock stock d)
           → (KeepsReserve r.account.pause → c < limit_of k (listed s.words)) → ((b : ℕ) → b < class_count → 0 < stock.drawn me b → (class ≡ b) ⊎ Latest k t1 words1 me b)
           → Rule k record { words = words1; homes = s.homes; views = set s.views id (one k hist (with_hunt x (Draws c pool class 0))) }
-      draws_rule room unused stocks unreserved supply = holds_again k s r id hist x at x.own.looked (Draws c pool class 0) x.seen.free words1 t1 record {
+      draws_rule room unused stocks unreserved supply = holds_again k s r id hist x at x.own.swept.top x.own.looked (Draws c pool class 0) x.seen.free words1 t1 record {
+        higher = low_same x.own.swept.top;
+        gained = λ q e b is. inl (owned_was q e b is);
         takes = takes;
         known_free = known_free;
         wide = length-set s.words 7 (c + 1);
@@ -572,9 +583,9 @@ module _ (k : Config) (s : Words) (r : Rule k s) (id : ℕ) (hist : List Entry) 
           free = λ f e. free_later k s.words words1 agrees.count cursor_grows f (hunter.free f e);
           drawn_alone = λ q e. dite (ℕ_discrete q pool) (λ same. ap Some (sym same)) (λ other. absurd (nothing_drawn q (sym (else1 q other) ∙ e)));
           spare = λ u e. let f = hunter.spare u e in record { own_is = owned_after u.pool u.class f.own_is; inside = f.inside; free = agrees.heap (place_in u.pool u.class u.slot) (omega arith) ∙ f.free };
-          taken = λ q b slot e inside low z. hunter.taken q b slot (owned_before q b e) inside low (sym (agrees.heap (place_in q b slot) (omega arith)) ∙ z);
+          taken = λ q b slot e inside low z. hunter.taken q b slot (owned_was q me b e) inside low (sym (agrees.heap (place_in q b slot) (omega arith)) ∙ z);
           holds = λ b a below e. let u = hunter.holds b a below e in (u.0, (u.1.0, u.1.1, owned_after u.1.0 b u.1.2, u.1.3, u.1.4));
-          prepared = λ q b slot e inside z. hunter.prepared q b slot (owned_before q b e) inside z;
+          prepared = λ q b slot e inside z. hunter.prepared q b slot (owned_was q me b e) inside z;
           claims = hunter.claims ∙ sym (ap (λ (f : ℕ → ℕ). f me) same_claims);
           supply = supply;
         };

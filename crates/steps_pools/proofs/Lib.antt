@@ -1,3 +1,4 @@
+pub mod Tops
 pub mod Sizes
 pub mod Plain
 pub mod DrawSteps

@@ -9,10 +9,11 @@ use Rattle.atomic_table.specs.Table.{Me, keeps}
 use Rattle.heap_model.specs.declared.entry.Entry.{Entry}
 use Rattle.heap_rule.specs.declared.config.Config.{Config}
 use Rattle.heap_rule.specs.declared.phase.Kind.{Kind}
-use Rattle.heap_rule.specs.declared.phase.Kind.TheVariants.{Run, Reset}
+use Rattle.heap_rule.specs.declared.phase.Kind.TheVariants.{Run}
 use Rattle.heap_rule.specs.declared.phase.Note.{Note}
 use Rattle.heap_rule.specs.declared.phase.Note.TheVariants.{Cleared, Listed, SetBack}
-use Rattle.heap_rule.specs.declared.phase.Stage.TheVariants.{Leads}
+use Rattle.heap_rule.specs.declared.phase.Stage.{Stage}
+use Rattle.heap_rule.specs.declared.phase.Stage.TheVariants.{In, Leads, Led, Gone}
 use Rattle.heap_rule.specs.declared.view.DomainView.{DomainView}
 use Rattle.heap_rule.specs.declared.view.Hunt.TheVariants.{Rests}
 use Rattle.heap_rule.specs.declared.view.Listing.{Listing}
@@ -21,19 +22,19 @@ use Rattle.heap_rule.specs.Layout.{heap_words, before_heap, table_words, listed,
 use Rattle.heap_rule.specs.Places.{Place}
 use Rattle.heap_rule.specs.Copies.{Promoting}
 use Rattle.heap_rule.specs.Room.{Drawable}
-use Rattle.heap_rule.specs.Phases.{Pause, AtStage, Staged, IsOdd, sum_of, last_note, HasSetBack}
-use Rattle.heap_rule.specs.Pools.{Holder, nobody, drawn, owned, owner_word, Tenancy, Takes, Pools, Reserved, RunsNext, NoneCameBack, IsListWhole, Covered, KeepsReserve, IsLeading, Lists, Hunts, Hunter, Latest, DrawsFor, drawn_in, limit_of, place_in}
+use Rattle.heap_rule.specs.Phases.{Agree, Pause, AtStage, Staged, IsOdd, sum_of, last_note, HasSetBack}
+use Rattle.heap_rule.specs.Pools.{Holder, nobody, drawn, owned, owner_word, Tenancy, Takes, Pools, Reserved, RunsNext, IsListWhole, KnowsList, no_listing, Covered, KeepsReserve, Lists, Hunts, Hunter, Latest, DrawsFor, drawn_in, limit_of, place_in}
 use Rattle.heap_rule.specs.Raw.{MayStep, MayStore}
 use Rattle.heap_rule.specs.Rule.{state_of, Good, Rule}
 use Rattle.heap_rule.specs.Standing.{noted}
 use Rattle.heap_rule.specs.Views.{one}
 use Rattle.heap_rule.proofs.Holders.{SameHeap, found_heap, making_heap, grid_heap, sum_small}
 use Rattle.heap_rule.proofs.Keeps.{Words, my_good, remakes, looks, knows_front, phases_words, room_words, opened_words, whole_words, hunter_as, owes_as, takes_even, unmoved}
-use Rattle.heap_rule.proofs.PauseFacts.{not_both}
+use Rattle.heap_rule.proofs.PauseFacts.{agree, not_both}
 use Rattle.heap_rule.proofs.Controls.{last_note_end, sharing_words}
 use Rattle.heap_rule.proofs.Lists.{got_below, got_end}
 use Rattle.heap_rule.proofs.Notes.{IsLook, listed_note}
-use Rattle.steps_pools.specs.Listings.{with_listing, further, relisted, found_owner, named, cursor_at, with_cursor, listed_as, no_listing, IsLeader, LeadsBehind, IsLooker, CountedTold, HasCounted, IsAbove, noted_set_back, noted_left, CursorLookTold, KeepLookTold, CursorCutTold, Empties, EmptiedTold, LookMay, LookedTold, NameMay, NamedTold, SetBackTold, CloseMay, ListedAsTold, free_pools}
+use Rattle.steps_pools.specs.Listings.{with_listing, further, relisted, found_owner, named, cursor_at, with_cursor, listed_as, IsLeader, LeadsBehind, IsLooker, CountedTold, HasCounted, IsCounted, IsAbove, noted_set_back, noted_left, CursorLookTold, KeepLookTold, CursorCutTold, Empties, EmptiedTold, LookMay, LookedTold, NameMay, NamedTold, SetBackTold, CloseMay, ListedAsTold, free_pools}
 use Rattle.steps_pools.proofs.FreePools.{IsFree, free_there, free_once, free_all}
 use Rattle.steps_pools.proofs.DrawSteps.{draws_none, latest_words}
 use Rattle.heap_rule.proofs.Sharings.{SameCycle, cycle_words}
@@ -53,6 +54,17 @@ rests_hunter k t words words' z same rests free h = record {
   supply = λ c few some. ⊎_elim (λ (u : DrawsFor c z.seen.hunt). absurd (draws_none c z.seen.hunt (ap drawn_in rests) u))
       (λ (l : Latest k t words z.own.number c). inr (latest_words k t words words' z.own.number c (λ q slot is inside. same (place_in q c slot) (omega arith)) l)) (h.supply c few some);
 }
+
+-- domain 0 may know of the list in an odd phase
+knows_list : (x : DomainView) (kind : Kind) (l : Listing) → x.own.number ≡ 0 → x.seen.stage ≡ Leads kind → KnowsList x.own.number x.seen.stage l
+knows_list x kind l first stage = subst (λ (y : Stage). KnowsList x.own.number y l) (sym stage) first
+
+-- and no other domain does then
+leads_alone : (kind : Kind) (d : ℕ) (y : Stage) (l : Listing) → d ≢ 0 → Agree (Leads kind) y → KnowsList d y l → ⊥
+leads_alone kind d (In v) l other a is = a
+leads_alone kind d (Leads v) l other a is = other is
+leads_alone kind d (Led v) l other a is = other is
+leads_alone kind d (Gone v) l other a is = is
 
 -- the words that are written: the count of listed pools, the cursor, and the list
 abbrev pub IsOfList : Config → ℕ → Type 0
@@ -97,7 +109,7 @@ module _ (k : Config) (s : Words) (r : Rule k s) (id : ℕ) (hist : List Entry) 
 
   -- and while no pool is listed nothing is said of the list
   pub covers_none : (words' : List ℕ) → listed words' ≡ 0 → Covered k pause t words'
-  covers_none words' none is = absurd (⊎_elim not_next (λ (h : NoneCameBack pause × (listed words' ≢ 0)). h.1 none) is)
+  covers_none words' none is = absurd (⊎_elim not_next (λ (some : listed words' ≢ 0). some none) is)
 
   -- nothing is said of the cursor yet
   undrawable : (words' : List ℕ) → Drawable k pause words'
@@ -110,30 +122,40 @@ module _ (k : Config) (s : Words) (r : Rule k s) (id : ℕ) (hist : List Entry) 
   pub not_promoting : Promoting pause → ⊥
   not_promoting p = not_both pause.phase (p.0, p.1) odd
 
-  leads : IsLeading x.seen.stage
-  leads = subst IsLeading (sym stage) tt
+  -- so no other domain knows of the list
+  others_none : (words' : List ℕ) (z : DomainView) → z.own.number ≢ x.own.number → Good k r.account s.words z → (l : Listing) → z.seen.listing ≡ Some l → Lists k words' z.own.number z.seen.stage l
+  others_none words' z other g l e = absurd (leads_alone last z.own.number z.seen.stage l (λ same. other (same ∙ sym first))
+      (agree pause x.own.number z.own.number x.own.arrivals z.own.arrivals (Leads last) z.seen.stage (subst (AtStage pause x.own.number x.own.arrivals) stage good.staged.stage) g.staged.stage)
+      (g.resting.lists l e).who)
 
+-- a step on the count of listed pools, the cursor or the list, while no domain takes blocks
+module _ (k : Config) (s : Words) (r : Rule k s) (id : ℕ) (hist : List Entry) (x : DomainView) (at : get_elem? s.views id ≡ some (one k hist x)) (calm : Promoting r.account.pause → ⊥) (idle : (z : DomainView) → Staged r.account.pause z → Takes z.seen.stage → ⊥) where
   -- what such a step owes
   pub record Relists (listing : Option Listing) (notes : List Note) (words' : List ℕ) : Type 0 where
     pub wide : length words' ≡ length s.words
     pub every : (a : ℕ) → at_address k words' a ≡ at_address k s.words a
     pub control : (i : ℕ) → (i < 6) ⊎ ((8 ≤ i) × (i ≤ 10)) → get_or words' i 0 ≡ get_or s.words i 0
-    pub pools : Pools k t words'
+    pub pools : Pools k r.account.tenancy words'
     pub lists : (l : Listing) → listing ≡ Some l → Lists k words' x.own.number x.seen.stage l
     pub listed_young : (a : ℕ) (q : Place) → r.account.live a ≡ Some q → k.pools * 4096 < a → listed words' ≡ listed s.words
-    pub reserved : Reserved k pause t words'
-    pub covered : Covered k pause t words'
+    pub reserved : Reserved k r.account.pause r.account.tenancy words'
+    pub covered : Covered k r.account.pause r.account.tenancy words'
     pub took_back : last_note notes ≡ Some Cleared → last_note x.seen.notes ≡ Some Cleared
     pub set_back : x.seen.stage ≡ Leads Run → last_note notes ≡ Some SetBack → cursor words' ≤ limit_of k (listed words')
-    pub others_set_back : (z : DomainView) → Staged pause z → HasSetBack z → cursor s.words ≤ limit_of k (listed s.words) → cursor words' ≤ limit_of k (listed words')
+    pub drawable : Drawable k r.account.pause words'
+    pub others : (z : DomainView) → z.own.number ≢ x.own.number → Good k r.account s.words z → (l : Listing) → z.seen.listing ≡ Some l → Lists k words' z.own.number z.seen.stage l
+    pub others_set_back : (z : DomainView) → Staged r.account.pause z → HasSetBack z → cursor s.words ≤ limit_of k (listed s.words) → cursor words' ≤ limit_of k (listed words')
 
   pub relists : (listing : Option Listing) (notes : List Note) (words' : List ℕ) → Relists listing notes words' → Rule k record { words = words'; homes = s.homes; views = set s.views id (one k hist (listing_notes x listing notes)) }
   relists listing notes words' o =
       let y : DomainView = listing_notes x listing notes in
+      let t : Tenancy = r.account.tenancy in
+      let pause : Pause = r.account.pause in
+      let good : Good k r.account s.words x = my_good k s r id hist x at in
       let heap : SameHeap k s.words words' = (λ a _. o.every a) in
       let same : SameCycle s.words words' = record { armed_same = o.control 4 (inl (omega arith)); colours_same = o.control 5 (inl (omega arith)); changed_same = o.control 3 (inl (omega arith)); blocks_same = o.control 9 (inr (omega arith, omega arith)); words_same = o.control 10 (inr (omega arith, omega arith)) } in
       let making = making_heap k s.words words' x heap good.making in
-      let own_stays : Takes x.seen.stage → ⊥ = nobody_takes x good.staged in
+      let own_stays : Takes x.seen.stage → ⊥ = idle x good.staged in
       let h = rests_hunter k t s.words words' x heap (good.resting.hunt own_stays) (good.resting.free (λ e. own_stays (inl e))) good.hunter in
       remakes k s r id hist x at y r.account words'
       record {
@@ -155,10 +177,10 @@ module _ (k : Config) (s : Words) (r : Rule k s) (id : ℕ) (hist : List Entry) 
         covered = o.covered;
         grid = grid_heap k t r.account.live s.words words' heap r.whole.grid;
         drawers = r.whole.drawers;
-        room = room_words k r.account.live pause t.stock s.words words' (λ p. absurd (not_promoting p)) r.whole.room;
+        room = room_words k r.account.live pause t.stock s.words words' (λ p. absurd (calm p)) r.whole.room;
         unused = r.whole.unused;
         opened = opened_words k r.account.live s.words words' o.listed_young r.whole.opened;
-        drawable = undrawable words';
+        drawable = o.drawable;
         cycle = cycle_words k (state_of k r.account.log) r.account.live pause t r.account.cycling s.words words' same o.every r.whole.cycle;
       }
       (knows_front k s r id hist x at y refl (inl refl))
@@ -184,8 +206,8 @@ module _ (k : Config) (s : Words) (r : Rule k s) (id : ℕ) (hist : List Entry) 
         making = making_heap k s.words words' z heap g.making;
         staged = g.staged;
         still = g.still;
-        hunter = let stays : Takes z.seen.stage → ⊥ = nobody_takes z g.staged in rests_hunter k t s.words words' z heap (g.resting.hunt stays) (g.resting.free (λ e. stays (inl e))) g.hunter;
-        resting = record { hunt = g.resting.hunt; free = g.resting.free; spare = g.resting.spare; lists = λ l e. absurd (other ((g.resting.lists l e).first ∙ sym first)) };
+        hunter = let stays : Takes z.seen.stage → ⊥ = idle z g.staged in rests_hunter k t s.words words' z heap (g.resting.hunt stays) (g.resting.free (λ e. stays (inl e))) g.hunter;
+        resting = record { hunt = g.resting.hunt; free = g.resting.free; spare = g.resting.spare; lists = o.others z other g };
         took_back = λ kind leads last. o.control 0 (inl (omega arith)) ∙ g.took_back kind leads last;
         owes = g.owes;
         rooted = g.rooted;
@@ -275,7 +297,9 @@ module _ (k : Config) (s : Words) (r : Rule k s) (id : ℕ) (hist : List Entry) 
   -- a store of one of these words, or a load
   relists_noting : (listing : Option Listing) (notes : List Note) (words' : List ℕ) → (last_note notes ≡ Some Cleared → last_note x.seen.notes ≡ Some Cleared) → length words' ≡ length s.words → ((a : ℕ) → at_address k words' a ≡ at_address k s.words a) → ((i : ℕ) → (i < 6) ⊎ ((8 ≤ i) × (i ≤ 10)) → get_or words' i 0 ≡ get_or s.words i 0) → Pools k T words' → Covered k r.account.pause T words' → ((l : Listing) → listing ≡ Some l → Lists k words' x.own.number x.seen.stage l)
       → Rule k record { words = words'; homes = s.homes; views = set s.views id (one k hist (listing_notes x listing notes)) }
-  relists_noting listing notes words' took_back wide every control pools covered lists = relists k s r id hist x at leader.last leader.first leader.stage listing notes words' record {
+  relists_noting listing notes words' took_back wide every control pools covered lists = relists k s r id hist x at (not_promoting k s r id hist x at leader.last leader.first leader.stage) (nobody_takes k s r id hist x at leader.last leader.first leader.stage) listing notes words' record {
+    drawable = undrawable k s r id hist x at leader.last leader.first leader.stage words';
+    others = others_none k s r id hist x at leader.last leader.first leader.stage words';
     wide = wide;
     every = every;
     control = control;
@@ -308,9 +332,6 @@ module _ (k : Config) (s : Words) (r : Rule k s) (id : ℕ) (hist : List Entry) 
     pub stores_noting : (n : Note) → IsLook n → (listing : Option Listing) → Pools k T ws0 → Covered k r.account.pause T ws0 → ((l : Listing) → listing ≡ Some l → Lists k ws0 x.own.number x.seen.stage l) → Rule k record { words = ws0; homes = s.homes; views = set s.views id (one k hist (noted (with_listing x listing) n)) }
     stores_noting n look listing pools covered lists = relists_noting listing (x.seen.notes ++ n ∷ []) ws0 (λ e. absurd (look.not_cleared (sym (last_note_end x.seen.notes n) ∙ e))) (length-set s.words j new) (every k s r j new of_list) (control k s r j new of_list) pools covered lists
 
-  leads_now : IsLeading x.seen.stage
-  leads_now = subst IsLeading (sym leader.stage) tt
-
   -- the list is emptied
   pub empties_rule : Rule k record { words = set s.words 6 0; homes = s.homes; views = set s.views id (one k hist (with_listing x (Some no_listing))) }
   empties_rule =
@@ -319,8 +340,7 @@ module _ (k : Config) (s : Words) (r : Rule k s) (id : ℕ) (hist : List Entry) 
       let low : cursor (set s.words 6 0) ≤ cursor s.words = subst (λ (n : ℕ). n ≤ cursor s.words) (sym same) (let c : ℕ = cursor s.words in let o : c ≤ c = omega arith in o) in
       let p : ℕ = k.pools in
       stores 6 0 (inl refl) (Some no_listing) (emptied k s r 6 0 (inl refl) none low) none (λ l e. subst (Lists k (set s.words 6 0) x.own.number x.seen.stage) (same_Some no_listing l e) record {
-        first = leader.first;
-        leads = leads_now;
+        who = knows_list x leader.last no_listing leader.first leader.stage;
         few = let o : 0 ≤ p = omega arith in (o, o);
         owners = λ q w got. cc;
         names = λ i q got. cc;
@@ -335,8 +355,7 @@ module _ (k : Config) (s : Words) (r : Rule k s) (id : ℕ) (hist : List Entry) 
     -- one owner word more is found
     pub finds_rule : length l.owners < k.pools → Rule k record { words = s.words; homes = s.homes; views = set s.views id (one k hist (with_listing x (Some (found_owner (owner_of k s.words (length l.owners)) l)))) }
     finds_rule inside = let word : ℕ = owner_of k s.words (length l.owners) in let after : Listing = found_owner word l in relists_empty (Some after) s.words refl (λ a. refl) (λ i low. refl) r.whole.pools r.whole.covered (λ m e. subst (Lists k s.words x.own.number x.seen.stage) (same_Some after m e) record {
-      first = known.first;
-      leads = known.leads;
+      who = knows_list x leader.last after leader.first leader.stage;
       few = (subst (λ (n : ℕ). n ≤ k.pools) (sym (length-append l.owners (word ∷ []))) (let n : ℕ = length l.owners in let i : n < k.pools = inside in let o : n + 1 ≤ k.pools = omega arith in o), known.few.1);
       owners = λ q w got. ⊎_elim (λ (g : slice_get l.owners q ≡ Some w). known.owners q w g) (λ (g : (q ≡ length l.owners) × (word ≡ w)). ap (owner_of k s.words) g.0 ∙ g.1) (got_end l.owners word w q got);
       names = known.names;
@@ -359,8 +378,7 @@ module _ (k : Config) (s : Words) (r : Rule k s) (id : ℕ) (hist : List Entry) 
           let asked : cursor w1 ≡ cursor s.words = elsewhere k s r j new of_list 7 (λ e. omega arith) in
           let low : cursor w1 ≤ cursor s.words = subst (λ (c : ℕ). c ≤ cursor s.words) (sym asked) (let c : ℕ = cursor s.words in let o : c ≤ c = omega arith in o) in
           stores j new of_list (Some (named new l)) (emptied k s r j new of_list (count ∙ none) low) (count ∙ none) (λ m e. subst (Lists k w1 x.own.number x.seen.stage) (same_Some (named new l) m e) record {
-            first = known.first;
-            leads = known.leads;
+            who = knows_list x leader.last (named new l) leader.first leader.stage;
             few = (known.few.0, subst (λ (c : ℕ). c ≤ k.pools) (sym (length-append l.names (new ∷ []))) (let i : n < k.pools = inside in let o : n + 1 ≤ k.pools = omega arith in o));
             owners = λ q w got. owners_same k s r j new of_list q ∙ known.owners q w got;
             names = λ i q got. ⊎_elim (λ (g : slice_get l.names i ≡ Some q). let below : i < n = got_below l.names i q g in elsewhere k s r j new of_list (11 + i) (λ e. omega arith) ∙ known.names i q g)
@@ -378,8 +396,7 @@ module _ (k : Config) (s : Words) (r : Rule k s) (id : ℕ) (hist : List Entry) 
           let zero_is : cursor w1 ≡ 0 = here k s r 7 0 of_list in
           let low : cursor w1 ≤ cursor s.words = subst (λ (c : ℕ). c ≤ cursor s.words) (sym zero_is) (let c : ℕ = cursor s.words in let o : 0 ≤ c = omega arith in o) in
           stores 7 0 of_list (Some (cursor_at 0 l)) (emptied k s r 7 0 of_list (count ∙ none) low) (count ∙ none) (λ m e. subst (Lists k w1 x.own.number x.seen.stage) (same_Some (cursor_at 0 l) m e) record {
-            first = known.first;
-            leads = known.leads;
+            who = knows_list x leader.last (cursor_at 0 l) leader.first leader.stage;
             few = known.few;
             owners = λ q w got. owners_same k s r 7 0 of_list q ∙ known.owners q w got;
             names = λ i q got. elsewhere k s r 7 0 of_list (11 + i) (λ e. omega arith) ∙ known.names i q got;
@@ -452,8 +469,7 @@ module _ (k : Config) (s : Words) (r : Rule k s) (id : ℕ) (hist : List Entry) 
               one_each = pools.one_each;
               asked = subst (λ (c : ℕ). c + sum_of T.asking k.domains ≤ k.pools + k.domains) (sym asked_same) pools.asked;
             } (λ _. closed_covers) (λ m e. subst (Lists k w2 x.own.number x.seen.stage) (same_Some (listed_as n l) m e) record {
-              first = known.first;
-              leads = known.leads;
+              who = knows_list x leader.last (listed_as n l) leader.first leader.stage;
               few = known.few;
               owners = λ q w got. owners_same k s r 6 n of_list q ∙ known.owners q w got;
               names = λ i q got. elsewhere k s r 6 n of_list (11 + i) (λ e. omega arith) ∙ known.names i q got;
@@ -469,7 +485,9 @@ module _ (k : Config) (s : Words) (r : Rule k s) (id : ℕ) (hist : List Entry) 
   -- a look at these words, which may leave a note
   looks_at : (l : Listing) (notes : List Note) → Lists k s.words x.own.number x.seen.stage l → (last_note notes ≡ Some Cleared → last_note x.seen.notes ≡ Some Cleared) → (x.seen.stage ≡ Leads Run → last_note notes ≡ Some SetBack → cursor s.words ≤ limit_of k (listed s.words))
       → Rule k record { words = s.words; homes = s.homes; views = set s.views id (one k hist (listing_notes x (Some l) notes)) }
-  looks_at l notes lists took_back set_back = relists k s r id hist x at last leads.first leads.stage (Some l) notes s.words record {
+  looks_at l notes lists took_back set_back = relists k s r id hist x at (not_promoting k s r id hist x at last leads.first leads.stage) (nobody_takes k s r id hist x at last leads.first leads.stage) (Some l) notes s.words record {
+    drawable = undrawable k s r id hist x at last leads.first leads.stage s.words;
+    others = others_none k s r id hist x at last leads.first leads.stage s.words;
     wide = refl;
     every = λ a. refl;
     control = λ i low. refl;
@@ -486,8 +504,7 @@ module _ (k : Config) (s : Words) (r : Rule k s) (id : ℕ) (hist : List Entry) 
   -- so many pools are listed
   pub counts_rule : Rule k record { words = s.words; homes = s.homes; views = set s.views id (one k hist (with_listing x (Some (listed_as (listed s.words) no_listing)))) }
   counts_rule = looks_at (listed_as (listed s.words) no_listing) x.seen.notes record {
-    first = leads.first;
-    leads = subst IsLeading (sym leads.stage) tt;
+    who = knows_list x last (listed_as (listed s.words) no_listing) leads.first leads.stage;
     few = (let p : ℕ = k.pools in let o : 0 ≤ p = omega arith in (o, o));
     owners = λ q w got. cc;
     names = λ i q got. cc;
@@ -504,7 +521,7 @@ module _ (k : Config) (s : Words) (r : Rule k s) (id : ℕ) (hist : List Entry) 
     seen_list = cursor_at (cursor s.words) l
 
     seen_lists : Lists k s.words x.own.number x.seen.stage seen_list
-    seen_lists = record { first = counted.first; leads = counted.leads; few = counted.few; owners = counted.owners; names = counted.names; count = counted.count; found = λ c e. same_Some (cursor s.words) c e }
+    seen_lists = record { who = knows_list x last seen_list leads.first leads.stage; few = counted.few; owners = counted.owners; names = counted.names; count = counted.count; found = λ c e. same_Some (cursor s.words) c e }
 
     pub sees_rule : Rule k record { words = s.words; homes = s.homes; views = set s.views id (one k hist (with_listing x (Some seen_list))) }
     sees_rule = looks_at seen_list x.seen.notes seen_lists (λ e. e) (λ stage noted. good_looker.set_back (stage, noted))
@@ -573,7 +590,9 @@ module _ (k : Config) (s : Words) (r : Rule k s) (id : ℕ) (hist : List Entry) 
   pub cuts_rule : Rule k record { words = ws7; homes = s.homes; views = set s.views id (one k hist (noted_set_back (with_listing x (Some (cursor_at limit l))))) }
   cuts_rule =
       let pools = r.whole.pools in
-      relists k s r id hist x at Run opener.first opener.stage (Some (cursor_at limit l)) (x.seen.notes ++ SetBack ∷ []) ws7 record {
+      relists k s r id hist x at (not_promoting k s r id hist x at Run opener.first opener.stage) (nobody_takes k s r id hist x at Run opener.first opener.stage) (Some (cursor_at limit l)) (x.seen.notes ++ SetBack ∷ []) ws7 record {
+        drawable = undrawable k s r id hist x at Run opener.first opener.stage ws7;
+        others = others_none k s r id hist x at Run opener.first opener.stage ws7;
         wide = length-set s.words 7 limit;
         every = every k s r 7 limit of_seven;
         control = control k s r 7 limit of_seven;
@@ -593,8 +612,7 @@ module _ (k : Config) (s : Words) (r : Rule k s) (id : ℕ) (hist : List Entry) 
               let g : z + u ≤ k.pools + k.domains = omega arith in subst (λ (c : ℕ). c + u ≤ k.pools + k.domains) (sym cursor_is) g;
         };
         lists = λ m e. subst (Lists k ws7 x.own.number x.seen.stage) (same_Some (cursor_at limit l) m e) record {
-          first = known_list.first;
-          leads = known_list.leads;
+          who = knows_list x Run (cursor_at limit l) opener.first opener.stage;
           few = known_list.few;
           owners = λ q w got. owners_same k s r 7 limit of_seven q ∙ known_list.owners q w got;
           names = λ i q got. list_same i ∙ known_list.names i q got;
@@ -687,12 +705,12 @@ cursor_look_may k x count may fits slots id h s r _ at _ = dite (dec_le (cursor 
     (λ high. let y : DomainView = with_cursor x (cursor s.words) in
     (one k h y, keeps, tt, unmoved k s 7 (set s.views id (one k h y)) (look_leaves k x Run count may s r id h at), (record { low = λ l. absurd (high l); high = λ b. refl }, refl)))
 
-pub keep_look_may : (k : Config) (x : DomainView) (count : ℕ) → HasCounted Reset x count → MayStep k x 7 (λ n. n) (KeepLookTold k count)
+pub keep_look_may : (k : Config) (x : DomainView) (count : ℕ) → IsCounted x count → MayStep k x 7 (λ n. n) (KeepLookTold k count)
 keep_look_may k x count may fits slots id h s r _ at _ = dite (dec_le (cursor s.words) (limit_of k count))
     (λ low. let y : DomainView = noted_left count (cursor s.words) x in
-    (one k h y, keeps, tt, unmoved k s 7 (set s.views id (one k h y)) (look_notes k x Reset count may s r id h at (Listed (count - cursor s.words)) (λ e. cc) (λ e. cc)), (record { low = λ l. refl; high = λ b. absurd (not-le_of_lt b low) }, refl)))
+    (one k h y, keeps, tt, unmoved k s 7 (set s.views id (one k h y)) (look_notes k x may.0 count may.1 s r id h at (Listed (count - cursor s.words)) (λ e. cc) (λ e. cc)), (record { low = λ l. refl; high = λ b. absurd (not-le_of_lt b low) }, refl)))
     (λ high. let y : DomainView = with_cursor x (cursor s.words) in
-    (one k h y, keeps, tt, unmoved k s 7 (set s.views id (one k h y)) (look_leaves k x Reset count may s r id h at), (record { low = λ l. absurd (high l); high = λ b. refl }, refl)))
+    (one k h y, keeps, tt, unmoved k s 7 (set s.views id (one k h y)) (look_leaves k x may.0 count may.1 s r id h at), (record { low = λ l. absurd (high l); high = λ b. refl }, refl)))
 
 pub cut_may : (k : Config) (x : DomainView) (n new : ℕ) → IsAbove k x n → new ≡ limit_of k n → MayStore k x 7 new CursorCutTold
 cut_may k x n new may is fits slots id h s r _ at _ =

@@ -390,6 +390,7 @@ module _ (k : Config) (s : Words) (r : Rule k s) (id : ℕ) (hist : List Entry) 
     places = w.places;
     anew = w.anew;
     reaps = w.reaps;
+    below = w.below;
   }
 
   in_pool : A ≤ pool * 4096 + 4096

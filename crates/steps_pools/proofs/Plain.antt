@@ -1,5 +1,5 @@
 -- What the steps on pools tell of a token's own data.
-use Rattle.std.proofs.Common.{◌≡◌, ◌+◌, ◌^◌, ◌<◌, ◌≤◌, ℕ, zero, suc, List, [], ◌∷◌, ◌++◌, length, set, None, sym, ap, ◌∙◌, subst, arith, lt_of_not-le, length-set, get_or-set_same, get_or-set_other, inl, inr}
+use Rattle.std.proofs.Common.{◌≡◌, ◌+◌, ◌^◌, ◌<◌, ◌≤◌, ℕ, zero, suc, List, [], ◌∷◌, ◌++◌, length, set, None, refl, sym, ap, ◌∙◌, subst, arith, lt_of_not-le, length-set, get_or-set_same, get_or-set_other, inl, inr}
 use mathlib.Core.Logic.{dite}
 use native.Mathlib.Decide.{dec_le, ℕ_discrete}
 use Rattle.heap_model.specs.Domains.{class_count, IsWithinLimits}
@@ -17,6 +17,9 @@ use Rattle.heap_rule.specs.Limits.{sizes_in}
 use Rattle.heap_rule.specs.Pools.{blocks_of, owned, owner_word, limit_of, spot_at, hunting}
 use Rattle.heap_rule.specs.Raw.{Closes, StepsOnce}
 use Rattle.heap_rule.specs.Finalisers.{FinalisersFit}
+use Rattle.steps_pools.specs.Writes.{pool_after}
+use Rattle.steps_pools.specs.Takes.{looked_to}
+use Rattle.steps_pools.proofs.Tops.{above_within, after_within}
 use Rattle.heap_rule.specs.Token.{AllInHeap, LooksWithin, OwnFits, SweptWithin, next_label}
 use Rattle.heap_rule.proofs.ChangeLemmas.{changed_only}
 use Rattle.heap_rule.proofs.Classes.{some_block}
@@ -105,23 +108,24 @@ owned_closes k x new pool class inside few limits y fits told =
     let own = ap (λ (z : DomainView). z.own) told.view in record {
       can_write = (few_pools k pool limits inside, few);
       written = λ after is. own ∙ sym is;
-      fits = looking_fits k x y class (record { pool = pool; slot = 0 }) fits own (let i = inside in omega arith) (some_block class few).0;
-      once = looking_once k x y _ _ told.view;
+      fits = subst (OwnFits k) (sym own) (let looks = looking_fits k x (looked_to x class (record { pool = pool; slot = 0 }) x.seen.hunt) class (record { pool = pool; slot = 0 }) fits refl (let i = inside in omega arith) (some_block class few).0 in
+          record { number = fits.number; used = fits.used; registers = fits.registers; looked = looks.looked; remembered = fits.remembered; prepared = fits.prepared; pending = fits.pending; ephemerons = fits.ephemerons; finalisers = fits.finalisers; swept = record { pool = fits.swept.pool; slot = fits.swept.slot; top = above_within k.pools x.own.swept.top pool inside fits.swept.top } });
+      once = λ _. inl (record { front = front_same x y (ap (λ (z : DomainView). z.seen.front) told.view); registers = ap (λ (z : DomainView). z.own.registers) told.view; used = ap (λ (z : DomainView). z.own.used) told.view; serial = ap (λ (z : DomainView). z.own.serial) told.view });
     }
 
-pub owner_closes : (k : Config) (x : DomainView) (found pool class : ℕ) → pool < k.pools → class < class_count → IsWithinLimits (sizes_in k) → Closes k x found (OwnerTold pool class) (λ _. CanLook pool class) (PassesPool pool class found)
-owner_closes k x found pool class inside few limits y fits told = record {
+pub owner_closes : (k : Config) (x : DomainView) (found pools pool class : ℕ) → pools ≡ k.pools → pool < k.pools → class < class_count → IsWithinLimits (sizes_in k) → Closes k x found (OwnerTold k pool class) (λ _. CanLook pool class) (PassesPool pools pool class found)
+owner_closes k x found pools pool class all inside few limits = subst (λ (n : ℕ). Closes k x found (OwnerTold k pool class) (λ _. CanLook pool class) (PassesPool n pool class found)) (sym all) (λ y fits told. record {
   can_write = (few_pools k pool limits inside, few);
   written = λ after is. dite (ℕ_discrete found (owner_word (owned x.own.number class)))
       (λ own. ap (λ (z : DomainView). z.own) (told.own own) ∙ sym (is.own_pool own))
       (λ other. ap (λ (z : DomainView). z.own) (told.other other) ∙ sym (is.other other));
   fits = dite (ℕ_discrete found (owner_word (owned x.own.number class)))
       (λ own. subst (OwnFits k) (sym (ap (λ (z : DomainView). z.own) (told.own own))) fits)
-      (λ other. looking_fits k x y class (record { pool = pool + 1; slot = 0 }) fits (ap (λ (z : DomainView). z.own) (told.other other)) (let i = inside in omega arith) (some_block class few).0);
+      (λ other. looking_fits k x y class (record { pool = pool_after k.pools x.own.swept.top pool; slot = 0 }) fits (ap (λ (z : DomainView). z.own) (told.other other)) (after_within k.pools x.own.swept.top pool inside) (some_block class few).0);
   once = dite (ℕ_discrete found (owner_word (owned x.own.number class)))
       (λ own. looking_once k x y _ _ (told.own own))
       (λ other. looking_once k x y _ _ (told.other other));
-}
+})
 
 pub place_closes : (k : Config) (x : DomainView) (found pool class slot : ℕ) → pool < k.pools → class < class_count → slot < blocks_of class → IsWithinLimits (sizes_in k)
     → Closes k x found (PlaceTold pool class slot) (λ _. CanLook pool class × (slot < blocks_of class)) (PassesPlace pool class slot found)

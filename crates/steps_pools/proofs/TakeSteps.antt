@@ -17,7 +17,8 @@ use Rattle.heap_rule.specs.Views.{one, Tells}
 use Rattle.heap_rule.specs.Raw.{MayStep, MayStore}
 use Rattle.heap_rule.specs.Rule.{Rule}
 use Rattle.heap_rule.specs.Pools.{Takes, owned, owner_word, Hunts, drawn_in, place_in, blocks_of, limit_of}
-use Rattle.steps_pools.specs.Takes.{with_hunt, found_free, looked_to, HasNoDraw, ListedTold, CursorTold, YoungMay, YoungTold, CursorAddTold, CopyDrawMay, CopyDrawTold, ListMay, ListTold, ClearMay, ClearTold, OwnedTold, FillTold, cleared_more, OwnerMay, OwnerLoadMay, OwnerTold, PlaceMay, PlaceTold, FillMay, filled, NoneFree}
+use Rattle.steps_pools.specs.Writes.{pool_after}
+use Rattle.steps_pools.specs.Takes.{with_hunt, found_free, looked_to, owning_pool, HasNoDraw, ListedTold, CursorTold, YoungMay, YoungTold, CursorAddTold, CopyDrawMay, CopyDrawTold, ListMay, ListTold, ClearMay, ClearTold, OwnedTold, FillTold, cleared_more, OwnerMay, OwnerLoadMay, OwnerTold, PlaceMay, PlaceTold, FillMay, filled, NoneFree}
 use Rattle.heap_rule.proofs.Keeps.{unmoved, looks, mine, my_good}
 use Rattle.steps_pools.proofs.DrawSteps.{hunter, leaves_spare, listed_rule, asks_rule, rests_rule, young_rule, past_bounds, add_whole, add_late_rule, add_draws_rule, add_place_inside, add_pool_inside, copy_whole, copy_draws_rule, copy_place_inside, copy_pool_inside}
 use Rattle.steps_pools.proofs.Rooms.{all_used, pool_left}
@@ -120,23 +121,23 @@ clear_may k x takes word a new pool class cleared here may fits slots id h = cle
 owns : (k : Config) (slots id word : ℕ) (hist : List Entry) (x : DomainView) (takes : Takes x.seen.stage) (new pool class : ℕ) → length x.own.looked ≡ class_count → OwnerMay k x word new pool class
     → Allows (Rule k) slots id (one k hist x, []) word (λ _. new) (λ _. Tells (OwnedTold pool class) (one k hist x, []) new)
 owns k slots id word hist x takes new pool class wide may s r _ at _ =
-    let y : DomainView = looked_to x class (record { pool = pool; slot = 0 }) (Fills pool class 0 []) in
+    let y : DomainView = owning_pool x class pool (Fills pool class 0 []) in
     (one k hist y, keeps, tt, subst (λ (n : ℕ × ℕ). Rule k record { words = set s.words n.0 n.1; homes = s.homes; views = set s.views id (one k hist y) }) (λ i. (sym may.word i, sym may.signs i)) (owns_rule k s r id hist x at takes may.place pool class may.hunt may.none_free wide), (record { wide = wide; view = refl }, refl))
 
 pub owner_may : (k : Config) (x : DomainView) (takes : Takes x.seen.stage) (word new pool class : ℕ) → OwnerMay k x word new pool class → MayStore k x word new (OwnedTold pool class)
 owner_may k x takes word new pool class may fits slots id h = owns k slots id word h x takes new pool class fits.looked.wide may
 
-owners : (k : Config) (slots id word : ℕ) (hist : List Entry) (x : DomainView) (takes : Takes x.seen.stage) (pool class : ℕ) → length x.own.looked ≡ class_count → OwnerLoadMay k x word pool class → Allows (Rule k) slots id (one k hist x, []) word (λ n. n) (Tells (OwnerTold pool class) (one k hist x, []))
+owners : (k : Config) (slots id word : ℕ) (hist : List Entry) (x : DomainView) (takes : Takes x.seen.stage) (pool class : ℕ) → length x.own.looked ≡ class_count → OwnerLoadMay k x word pool class → Allows (Rule k) slots id (one k hist x, []) word (λ n. n) (Tells (OwnerTold k pool class) (one k hist x, []))
 owners k slots id word hist x takes pool class wide may s r _ at _ =
     let found : ℕ = owner_of k s.words pool in
     let found_is : get_or s.words word 0 ≡ found = ap (λ (n : ℕ). get_or s.words n 0) may.word in
     dite (ℕ_discrete found (owner_word (owned x.own.number class)))
     (λ own. let y : DomainView = with_hunt x (Walks pool class) in
     (one k hist y, keeps, tt, unmoved k s word (set s.views id (one k hist y)) (walks_rule k s r id hist x at takes pool class may.inside may.of_class may.at_rest own), (record { wide = wide; own = λ e. refl; other = λ n. absurd (n (found_is ∙ own)) }, refl)))
-    (λ other. let y : DomainView = looked_to x class (record { pool = pool + 1; slot = 0 }) Rests in
+    (λ other. let y : DomainView = looked_to x class (record { pool = pool_after k.pools x.own.swept.top pool; slot = 0 }) Rests in
     (one k hist y, keeps, tt, unmoved k s word (set s.views id (one k hist y)) (passes_rule k s r id hist x at takes pool class may.inside may.of_class may.at_rest other may.next wide), (record { wide = wide; own = λ e. absurd (other (sym found_is ∙ e)); other = λ n. refl }, refl)))
 
-pub owner_load_may : (k : Config) (x : DomainView) (takes : Takes x.seen.stage) (word pool class : ℕ) → OwnerLoadMay k x word pool class → MayStep k x word (λ n. n) (OwnerTold pool class)
+pub owner_load_may : (k : Config) (x : DomainView) (takes : Takes x.seen.stage) (word pool class : ℕ) → OwnerLoadMay k x word pool class → MayStep k x word (λ n. n) (OwnerTold k pool class)
 owner_load_may k x takes word pool class may fits slots id h = owners k slots id word h x takes pool class fits.looked.wide may
 
 places : (k : Config) (slots id word : ℕ) (hist : List Entry) (x : DomainView) (takes : Takes x.seen.stage) (a pool class slot : ℕ) → word ≡ before_heap k + a → length x.own.looked ≡ class_count → PlaceMay x a pool class slot → Allows (Rule k) slots id (one k hist x, []) word (λ n. n) (Tells (PlaceTold pool class slot) (one k hist x, []))

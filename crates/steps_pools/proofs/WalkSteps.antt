@@ -21,7 +21,10 @@ use Rattle.steps_pools.specs.Takes.{with_hunt, looked_to, NoneFree}
 use Rattle.heap_rule.proofs.Update.{over, over_here, over_else}
 use Rattle.heap_rule.proofs.Lists.{got_end, got_below}
 use Rattle.heap_rule.proofs.Values.{extent_large}
-use Rattle.heap_rule.proofs.Keeps.{Words, mine, more_same, phases_words, phases_same, cycle_control, control_set, controls_kept, pools_same, covered_words, room_words, holds_again, garbage_here}
+use Rattle.steps_pools.specs.Takes.{owning_pool}
+use Rattle.steps_pools.specs.Writes.{pool_after, top_above}
+use Rattle.steps_pools.proofs.Tops.{above_top, before_after, low_same}
+use Rattle.heap_rule.proofs.Keeps.{Words, my_good, mine, more_same, phases_words, phases_same, cycle_control, control_set, controls_kept, pools_same, covered_words, room_words, holds_again, garbage_here}
 use Rattle.heap_rule.proofs.Classes.{size_least, some_block, slot_below, slot_inside}
 use Rattle.heap_rule.proofs.Beside.{found_beside, making_beside}
 use Rattle.heap_rule.proofs.EphemeronLemmas.{own_place_on}
@@ -92,7 +95,7 @@ module _ (k : Config) (s : Words) (r : Rule k s) (id : ℕ) (hist : List Entry) 
 
     -- the pool isn't the domain's, of this class
     abbrev past : Spot
-    past = record { pool = pool + 1; slot = 0 }
+    past = record { pool = pool_after k.pools x.own.swept.top pool; slot = 0 }
 
     pub passes_rule : drawn_in x.seen.hunt ≡ None → word ≢ owner_word (owned d class) → (spot_at x.own.looked class).pool ≡ pool → length x.own.looked ≡ class_count
         → Rule k record { words = s.words; homes = s.homes; views = set s.views id (one k hist (looked_to x class past Rests)) }
@@ -102,8 +105,8 @@ module _ (k : Config) (s : Words) (r : Rule k s) (id : ℕ) (hist : List Entry) 
         let mine_is : T.holder q ≡ owned d class = is ∙ ap (owned d) same in
         let other : q ≢ pool = (λ here. differ (P.owners pool inside ∙ ap owner_word (sym (ap T.holder here) ∙ mine_is))) in
         H.taken q c slot is below (⊎_elim
-        (λ (h : q < pool + 1). inl (subst (λ (m : ℕ). q < m) (sym from ∙ ap (λ (m : ℕ). (spot_at x.own.looked m).pool) (sym same)) (let o : q ≢ pool = other in omega arith)))
-        (λ (h : (q ≡ pool + 1) × (slot < 0)). absurd (let l = h.1 in omega arith))
+        (λ (h : q < past.pool). inl (subst (λ (m : ℕ). q < m) (sym from ∙ ap (λ (m : ℕ). (spot_at x.own.looked m).pool) (sym same)) (before_after k.pools x.own.swept.top pool q h ((my_good k s r id hist x at).sweeps.below q c is) other)))
+        (λ (h : (q ≡ past.pool) × (slot < 0)). absurd (let l = h.1 in omega arith))
         (subst (λ (m : Spot). IsBefore q slot m) (spot_same x.own.looked class c past same few wide) seen)))
         (λ other. H.taken q c slot is below (subst (λ (m : Spot). IsBefore q slot m) (spot_other x.own.looked class c past other) seen)))
         H.free H)
@@ -224,7 +227,9 @@ module _ (k : Config) (s : Words) (r : Rule k s) (id : ℕ) (hist : List Entry) 
       spot = let h = high in let i = drew.inside in let w : ℕ = k.domains * k.minor_words in let wide : length s.words ≡ table_words k = r.whole.wide in omega arith
 
       pub clears_rule : Rule k record { words = ws; homes = s.homes; views = set s.views id (one k hist (with_hunt x (Draws place pool class (cleared + 1)))) }
-      clears_rule = let controls = controls_kept k s r id hist x at ws (control_set k s.words A 0 (omega arith)) in holds_again k s r id hist x at x.own.looked (Draws place pool class (cleared + 1)) x.seen.free ws T record {
+      clears_rule = let controls = controls_kept k s r id hist x at ws (control_set k s.words A 0 (omega arith)) in holds_again k s r id hist x at x.own.swept.top x.own.looked (Draws place pool class (cleared + 1)) x.seen.free ws T record {
+        higher = low_same x.own.swept.top;
+        gained = λ q e b is. inl is;
         takes = takes;
         known_free = known_free k s r id hist x at takes;
         listed_same = control_set k s.words A 0 (omega arith) 6 (omega arith);
@@ -467,8 +472,12 @@ module _ (k : Config) (s : Words) (r : Rule k s) (id : ℕ) (hist : List Entry) 
       lives = g.listed.lives;
     }
 
-    pub owns_rule : Rule k record { words = words2; homes = s.homes; views = set s.views id (one k hist (looked_to x class from_here (Fills pool class 0 []))) }
-    owns_rule = holds_again k s r id hist x at looked2 (Fills pool class 0 []) x.seen.free words2 t2 record {
+    pub owns_rule : Rule k record { words = words2; homes = s.homes; views = set s.views id (one k hist (owning_pool x class pool (Fills pool class 0 []))) }
+    owns_rule = holds_again k s r id hist x at (top_above x.own.swept.top pool) looked2 (Fills pool class 0 []) x.seen.free words2 t2 record {
+      higher = (above_top x.own.swept.top pool).0;
+      gained = λ q e c is. dite (ℕ_discrete q pool)
+          (λ same. let o = owned_same d e class c (sym here2 ∙ (ap t2.holder (sym same) ∙ is)) in inr (sym o.0, subst (λ (m : ℕ). m < top_above x.own.swept.top pool) (sym same) (above_top x.own.swept.top pool).1))
+          (λ other. inl (sym (else2 q other) ∙ is));
       takes = takes;
       known_free = known_free k s r id hist x at takes;
       listed_same = agrees.count;
@@ -638,7 +647,9 @@ module _ (k : Config) (s : Words) (r : Rule k s) (id : ℕ) (hist : List Entry) 
       below_end = let y : ℕ = size_of class in let f : m + 1 < y = room in let p : ℕ = place_in pool class slot in let g : p + 1 + m < p + y = omega arith in g
 
       pub fills_rule : Rule k record { words = ws3; homes = s.homes; views = set s.views id (one k hist (with_hunt x (Fills pool class slot (made ++ new ∷ [])))) }
-      fills_rule = let controls = controls_kept k s r id hist x at ws3 (control_set k s.words B new (omega arith)) in holds_again k s r id hist x at x.own.looked (Fills pool class slot (made ++ new ∷ [])) x.seen.free ws3 T record {
+      fills_rule = let controls = controls_kept k s r id hist x at ws3 (control_set k s.words B new (omega arith)) in holds_again k s r id hist x at x.own.swept.top x.own.looked (Fills pool class slot (made ++ new ∷ [])) x.seen.free ws3 T record {
+        higher = low_same x.own.swept.top;
+        gained = λ q e b is. inl is;
         takes = takes;
         known_free = known_free k s r id hist x at takes;
         listed_same = control_set k s.words B new (omega arith) 6 (omega arith);

@@ -2,13 +2,13 @@
 use Rattle.std.specs.Prelude.{◌≡◌, ◌≢◌, ◌⊎◌, ℕ, ◌+◌, ◌-◌, ◌<◌, ◌≤◌, ◌==◌, if◌then◌else◌, List, [], ◌∷◌, ◌++◌, length, Option, Some, None}
 use Rattle.heap_rule.specs.declared.config.Config.{Config}
 use Rattle.heap_rule.specs.declared.phase.Kind.{Kind}
-use Rattle.heap_rule.specs.declared.phase.Kind.TheVariants.{Run, Reset}
+use Rattle.heap_rule.specs.declared.phase.Kind.TheVariants.{Run}
 use Rattle.heap_rule.specs.declared.phase.Note.TheVariants.{Listed, SetBack}
 use Rattle.heap_rule.specs.declared.phase.Stage.TheVariants.{Leads}
 use Rattle.heap_rule.specs.declared.view.DomainView.{DomainView}
 use Rattle.heap_rule.specs.declared.view.Listing.{Listing}
 use Rattle.heap_rule.specs.Copies.{IsEmptying}
-use Rattle.heap_rule.specs.Pools.{limit_of}
+use Rattle.heap_rule.specs.Pools.{limit_of, no_listing}
 use Rattle.heap_rule.specs.Standing.{noted}
 
 -- the pools, numbered from q on, whose owner words say nobody, rising
@@ -51,10 +51,7 @@ pub record IsLeader (x : DomainView) : Type 0 where
   pub stage : x.seen.stage ≡ Leads last
   pub empty : IsEmptying last
 
--- no pool is listed, no owner word is found and no place of the list is written so far
-abbrev pub no_listing : Listing
-no_listing = record { owners = []; names = []; cursor = None; listed = 0 }
-
+-- no pool is listed any more
 abbrev pub EmptiedTold : DomainView → ℕ → DomainView → Type 0
 EmptiedTold x new y = y ≡ with_listing x (Some no_listing)
 
@@ -112,7 +109,11 @@ CursorCutTold x new y = y ≡ noted_set_back (with_cursor x new)
 abbrev pub noted_left : ℕ → ℕ → DomainView → DomainView
 noted_left count found x = noted (with_cursor x found) (Listed (count - found))
 
--- a load of the cursor behind Reset: up to the limit the list names all free pools still, and the domain notes how many
+-- whatever that was
+abbrev pub IsCounted : DomainView → ℕ → Type 0
+IsCounted x count = (kind : Kind) × HasCounted kind x count
+
+-- a load of the cursor where pools are listed: up to the limit the list names all free pools still, and the domain notes how many
 pub record KeepLookTold (k : Config) (count : ℕ) (x : DomainView) (found : ℕ) (y : DomainView) : Type 0 where
   pub low : found ≤ limit_of k count → y ≡ noted_left count found x
   pub high : limit_of k count < found → y ≡ with_cursor x found
@@ -166,9 +167,8 @@ pub record HasList (k : Config) (x : DomainView) : Type 0 where
   pub all : length owners ≡ k.pools
   pub listing : x.seen.listing ≡ Some (record { owners = owners; names = free_pools owners; cursor = Some 0; listed = length (free_pools owners) })
 
--- behind Reset it knows that pools are listed, and that the cursor stands in none of the reserve: so the list names each free pool still, behind the cursor
+-- it knows that pools are listed, and that the cursor stands in none of the reserve: so the list names each free pool still, behind the cursor
 pub record ListStays (k : Config) (x : DomainView) : Type 0 where
-  pub leads : LeadsBehind Reset x
   pub list : Listing
   pub listing : x.seen.listing ≡ Some list
   pub some : list.listed ≢ 0

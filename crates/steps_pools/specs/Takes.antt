@@ -22,9 +22,10 @@ use Rattle.heap_rule.specs.Copies.{known}
 use Rattle.heap_rule.specs.Limits.{sizes_in}
 use Rattle.heap_rule.specs.Places.{Place, IsNewHead, class_words}
 use Rattle.heap_rule.specs.Changes.{changed, FitChanges}
-use Rattle.heap_rule.specs.Pools.{size_of, blocks_of, place_in, owner_word, owned, limit_of, drawn_in, prepared_at, spot_at, hunting_free, hunting}
+use Rattle.heap_rule.specs.Pools.{size_of, blocks_of, place_in, owner_word, owned, limit_of, drawn_in, prepared_at, spot_at, hunting_free, hunting_below, hunting}
 use Rattle.heap_rule.specs.Token.{next_label}
 use Rattle.heap_rule.specs.Standing.{Acts}
+use Rattle.steps_pools.specs.Writes.{pool_after, top_above}
 use Rattle.heap_rule.specs.Token.{Holds}
 
 -- the domain further on in taking a block
@@ -146,10 +147,14 @@ pub record OwnerMay (k : Config) (x : DomainView) (at new pool class : ℕ) : Ty
   pub signs : new ≡ owner_word (owned x.own.number class)
   pub none_free : NoneFree k x class
 
+-- a pool is the domain's own, and its places are looked at first
+abbrev pub owning_pool : DomainView → ℕ → ℕ → Hunt → DomainView
+owning_pool x class pool hunt = hunting_below x (top_above x.own.swept.top pool) (slice_set x.own.looked class (record { pool = pool; slot = 0 })) hunt x.seen.free
+
 -- the pool is the domain's, and its first place is taken
 pub record OwnedTold (pool class : ℕ) (x : DomainView) (new : ℕ) (y : DomainView) : Type 0 where
   pub wide : length x.own.looked ≡ class_count
-  pub view : y ≡ looked_to x class (record { pool = pool; slot = 0 }) (Fills pool class 0 [])
+  pub view : y ≡ owning_pool x class pool (Fills pool class 0 [])
 
 -- a load of the owner of the pool in which the places of the class are looked at next
 pub record OwnerLoadMay (k : Config) (x : DomainView) (at pool class : ℕ) : Type 0 where
@@ -159,10 +164,10 @@ pub record OwnerLoadMay (k : Config) (x : DomainView) (at pool class : ℕ) : Ty
   pub of_class : class < class_count
   pub next : (spot_at x.own.looked class).pool ≡ pool
 
-pub record OwnerTold (pool class : ℕ) (x : DomainView) (found : ℕ) (y : DomainView) : Type 0 where
+pub record OwnerTold (k : Config) (pool class : ℕ) (x : DomainView) (found : ℕ) (y : DomainView) : Type 0 where
   pub wide : length x.own.looked ≡ class_count
   pub own : found ≡ owner_word (owned x.own.number class) → y ≡ with_hunt x (Walks pool class)
-  pub other : found ≢ owner_word (owned x.own.number class) → y ≡ looked_to x class (record { pool = pool + 1; slot = 0 }) Rests
+  pub other : found ≢ owner_word (owned x.own.number class) → y ≡ looked_to x class (record { pool = pool_after k.pools x.own.swept.top pool; slot = 0 }) Rests
 
 -- a load of the head at the next place of an own pool
 pub record PlaceMay (x : DomainView) (at pool class slot : ℕ) : Type 0 where

@@ -17,4 +17,5 @@ pub use taking::{
 };
 pub use walking::{
     class_blocks, class_size, owner_load, owner_word, place_address, place_behind, place_load,
+    pool_after,
 };

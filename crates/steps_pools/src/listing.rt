@@ -2,8 +2,8 @@
 ghost use Rattle.heap_rule.specs.Token.{IsIn};
 ghost use Rattle.std.specs.Prelude.{◌≡◌};
 ghost use Rattle.heap_rule.specs.Pools.{limit_of};
-ghost use Rattle.heap_rule.specs.declared.phase.Kind.TheVariants.{Run, Reset};
-ghost use Rattle.steps_pools.specs.Listings.{IsLeader, IsLooker, CountedTold, HasCounted, IsAbove, CursorLookTold, KeepLookTold, CursorCutTold, Empties, EmptiedTold, LookMay, LookedTold, NameMay, NamedTold, SetBackTold, CloseMay, ListedAsTold};
+ghost use Rattle.heap_rule.specs.declared.phase.Kind.TheVariants.{Run};
+ghost use Rattle.steps_pools.specs.Listings.{IsLeader, IsLooker, CountedTold, HasCounted, IsCounted, IsAbove, CursorLookTold, KeepLookTold, CursorCutTold, Empties, EmptiedTold, LookMay, LookedTold, NameMay, NamedTold, SetBackTold, CloseMay, ListedAsTold};
 
 use heap_rule::{CURSOR, Change, Domain, Heap, LISTED, Leaving, Own, Writing, raw_load, raw_store};
 use std::marker::Brand;
@@ -45,11 +45,11 @@ pub fn cursor_look(heap: &Heap, dom: &mut Domain, count: u32) -> u64
     raw_load::<Brand, Cutting>(heap, dom, CURSOR, &Cutting { count }, &[])
 }
 
-/// A load of the cursor by domain 0, behind Reset, where so many pools are listed. Where it is not above the limit, the
-/// list names all free pools still, and the domain notes how many. Answers the cursor.
+/// A load of the cursor by domain 0, in an odd phase, where so many pools are listed. Where some are, and it is not above the
+/// limit, the list names all free pools still, and the domain notes how many. Answers the cursor.
 pub fn keep_look(heap: &Heap, dom: &mut Domain, count: u32) -> u64
     requires here { IsIn dom.old heap.now }
-    requires counted { HasCounted Reset dom.old.view count }
+    requires counted { IsCounted dom.old.view count }
     ensures here { IsIn dom.new heap.now }
     ensures told { KeepLookTold heap.now.config count dom.old.view result dom.new.view }
 {

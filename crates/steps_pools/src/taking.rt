@@ -37,7 +37,7 @@ impl Writing for Asking {
     fn write(&self, _found: u64, _changes: &[Change], _own: &mut Own) {}
 }
 
-// The places of a class are looked at from a pool on.
+// A pool is the domain's own, and the places of its class are looked at from it on.
 #[derive(Clone, Copy)]
 struct Owning {
     pool: u32,
@@ -56,6 +56,9 @@ impl Writing for Owning {
             pool: self.pool,
             slot: 0,
         };
+        if self.pool >= own.swept.top {
+            own.swept.top = self.pool + 1;
+        }
     }
 }
 

@@ -5,6 +5,7 @@ ghost use Rattle.heap_rule.specs.Pools.{Takes, size_of, blocks_of, place_in};
 ghost use Rattle.heap_rule.specs.Standing.{IsInHeap};
 ghost use Rattle.steps_pools.specs.Takes.{OwnerLoadMay, OwnerTold, PlaceMay, PlaceTold};
 ghost use Rattle.heap_rule.specs.Token.{IsIn};
+ghost use Rattle.steps_pools.specs.Writes.{pool_after};
 
 use heap_rule::{Change, Domain, Heap, Own, Spot, Writing, raw_load};
 use size_classes::POOL_WORDS;
@@ -68,9 +69,19 @@ pub fn place_behind(pool: u32, class: u32, slot: u32) -> Spot
     }
 }
 
-// The pool is passed where its owner word isn't the domain's.
+/// Where a walk over own pools, which lie below `top`, goes on behind a pool: in the next one, or behind the last one of
+/// the heap's `pools`, where no own pool is left.
+pub fn pool_after(pools: u32, top: u32, pool: u32) -> u32
+    requires inside { pool < 2048 }
+    ensures { result ≡ pool_after pools top pool }
+{
+    if pool + 1 < top { pool + 1 } else { pools }
+}
+
+// The pool is passed where its owner word isn't the domain's, and so are those behind it where no own pool is left.
 #[derive(Clone, Copy)]
 struct PassingPool {
+    pools: u32,
     pool: u32,
     class: u32,
 }
@@ -80,12 +91,12 @@ impl Writing for PassingPool {
 
     ghost can = { λ s _ _ _. CanLook s.pool s.class };
 
-    ghost writes = { λ s found _ own after. PassesPool s.pool s.class found own after };
+    ghost writes = { λ s found _ own after. PassesPool s.pools s.pool s.class found own after };
 
     fn write(&self, found: u64, _changes: &[Change], own: &mut Own) {
         if found != owner_word(own.number, self.class) {
             own.looked[self.class as usize] = Spot {
-                pool: self.pool + 1,
+                pool: pool_after(self.pools, own.swept.top, self.pool),
                 slot: 0,
             };
         }
@@ -116,17 +127,22 @@ impl Writing for PassingPlace {
     }
 }
 
-/// A load of the owner of the pool in which the places of the class are looked at next. Answers
-/// whether it is the domain's, for blocks of the class.
+/// A load of the owner of the pool in which the places of the class are looked at next. Where it isn't the domain's, for
+/// blocks of the class, it is passed, and so are the pools behind it where no own pool is left. Answers the word.
 pub fn owner_load(heap: &Heap, dom: &mut Domain, at: u32, pool: u32, class: u32) -> u64
     requires here { IsIn dom.old heap.now }
     requires may { OwnerLoadMay heap.now.config dom.old.view at pool class }
     requires takes { Takes dom.old.view.seen.stage }
     ensures here { IsIn dom.new heap.now }
-    ensures told { OwnerTold pool class dom.old.view result dom.new.view }
+    ensures told { OwnerTold heap.now.config pool class dom.old.view result dom.new.view }
 {
-    let _limits = heap.config();
-    raw_load::<Brand, PassingPool>(heap, dom, at as usize, &PassingPool { pool, class }, &[])
+    let limits = heap.config();
+    let passing = PassingPool {
+        pools: limits.pools,
+        pool,
+        class,
+    };
+    raw_load::<Brand, PassingPool>(heap, dom, at as usize, &passing, &[])
 }
 
 /// A load of the head at the next place of an own pool. Answers the head's word.

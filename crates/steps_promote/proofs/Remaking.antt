@@ -1,5 +1,5 @@
 -- What all steps of copying share: the rule holds again where the places, the pools and each domain meet it.
-use Rattle.std.proofs.Common.{◌≡◌, ◌≢◌, ℕ, ◌+◌, ◌*◌, ◌<◌, Bool, true, false, cond, IsTrue, List, length, set, Some, sym, ap, ◌∙◌, subst, inl, inr, ⊎_elim, arith, refl}
+use Rattle.std.proofs.Common.{◌≤◌, ◌≡◌, ◌≢◌, ℕ, ◌+◌, ◌*◌, ◌<◌, Bool, true, false, cond, IsTrue, List, length, set, Some, sym, ap, ◌∙◌, subst, inl, inr, ⊎_elim, arith, refl}
 use Rattle.std.proofs.lemmas.Option.{none-some}
 use Rattle.heap_rule.specs.declared.view.Spare.{Spare}
 use mathlib.Core.Option.{some}
@@ -120,7 +120,7 @@ module _ (k : Config) (s : Words) (r : Rule k s) (id : ℕ) (hist : List Entry) 
       let all' : Account = record r.account { live = live'; tenancy = t'; homes = homes' } in
       let c : Cycling = r.account.cycling in
       let sweeps_then : (z : DomainView) → SweepsIn r.account.tenancy c z → SweepsIn t' c z =
-      (λ z. sweeps_on k r.account.live r.account.tenancy c s.words r.whole.cycle.leaves live' t' words' o.garbage r.whole.pools (λ q d b e. (o.pools.owned_by q d b e).2) c.kind c.shares.arrived z.own.number z.own.ephemerons.items z.own.swept z.seen.share.reaping) in
+      (λ z. sweeps_on k r.account.live r.account.tenancy c s.words r.whole.cycle.leaves live' t' words' o.garbage r.whole.pools (λ q d b e. (o.pools.owned_by q d b e).2) c.kind c.shares.arrived z.own.number z.own.ephemerons.items z.own.swept z.seen.share.reaping z.own.swept.top (let n : ℕ = z.own.swept.top in let same : n ≤ n = omega arith in same) (λ q c e. inl (sym (o.holders q) ∙ e))) in
       let marked : Label → Bool = c.paint.marks.marked in
       let copies_now : c.kind ≡ Promote = kind_now k r.account.pause c x Promote promotes g.staged r.whole.cycle.told in
       let keeps : KeepsUnderway k now now r.account.live live' c c.past = (λ is u. record {

@@ -145,6 +145,7 @@ module _ (k : Config) (s : Words) (r : Rule k s) (id : ℕ) (hist : List Entry) 
       leaves = record { none = y.leaves.none; dead = y.leaves.dead; head = λ a dead. let h = y.leaves.head a dead in (h.0, h.1, heap k s r id hist x at i v is a ∙ h.2); unprepared = y.leaves.unprepared; owned = y.leaves.owned };
       unswept = y.unswept;
       whole = λ l. inl (whole_in k s r id hist x at (λ e. let same : Sweep ≡ Clean = sym kind_is ∙ e in cc) l);
+      grows = record { few = y.grows.few; since = y.grows.since; named = y.grows.named; cleared = y.grows.cleared };
     }
 
     -- nobody runs
@@ -170,6 +171,7 @@ module _ (k : Config) (s : Words) (r : Rule k s) (id : ℕ) (hist : List Entry) 
           armed = g.leading.armed;
           unswept = g.leading.unswept;
           under_way = g.leading.under_way;
+          unmarked = g.leading.unmarked;
         };
         knows = inr (
           collecting,
@@ -193,6 +195,7 @@ module _ (k : Config) (s : Words) (r : Rule k s) (id : ℕ) (hist : List Entry) 
           armed = q.leading.armed;
           unswept = q.leading.unswept;
           under_way = q.leading.under_way;
+          unmarked = q.leading.unmarked;
         };
         knows = ⊎_elim
             (λ (u : IsIdle z.seen.share). inl u)
@@ -222,7 +225,7 @@ module _ (k : Config) (s : Words) (r : Rule k s) (id : ℕ) (hist : List Entry) 
   weigh a p there = let g = r.whole.found a p there in ap (λ o. option_map_or words_of o 0) g.there ∙ (words_of_shape g.node ∙ ap extent g.shape)
 
   -- the blocks
-  module _ (amount : ℕ) (may : BlocksAddMay k x amount) where
+  module _ (amount : ℕ) (may : BlocksAddMay x amount) where
     abbrev own' : ℕ → List Label
     own' = at_domain c.counts.own d tl
 
@@ -303,8 +306,8 @@ module _ (k : Config) (s : Words) (r : Rule k s) (id : ℕ) (hist : List Entry) 
       own_all a l there owner =
           let u = labelled k live a l there in
           let o = own_place holder (λ q e b h. (r.whole.pools.owned_by q e b h).2) d a owner in
-          let low : o.pool < k.pools = (r.whole.pools.owned_by o.pool d o.class o.owned_is).0 in
-          let before : o.pool < sh.counted_to.pool = (let q : ℕ = o.pool in let m : ℕ = k.pools in let w : ℕ = sh.counted_to.pool in let g : q < m = low in let h : m ≤ w = may.whole in omega arith) in
+          let low : o.pool < x.own.swept.top = (my_good k s r id hist x at).sweeps.below o.pool o.class o.owned_is in
+          let before : o.pool < sh.counted_to.pool = (let q : ℕ = o.pool in let m : ℕ = x.own.swept.top in let w : ℕ = sh.counted_to.pool in let g : q < m = low in let h : m ≤ w = may.whole in omega arith) in
           let is_counted : IsTrue (seen_by sh.counted (place_in o.pool o.class o.slot)) = kn.counted.all o.pool o.class o.slot u.place o.owned_is o.inside (inl before) (ap live (sym o.begins) ∙ u.lives) in
           subst (λ (z : Label). IsTrue (has_label tl z)) u.label (label_among live sh.counted a u.place (subst (λ (b : ℕ). IsTrue (seen_by sh.counted b)) (sym o.begins) is_counted) u.lives)
 
@@ -385,7 +388,7 @@ module _ (k : Config) (s : Words) (r : Rule k s) (id : ℕ) (hist : List Entry) 
       others = λ e differs. (refl, at_other c.counts.words d true e differs, refl);
     }
 
-pub blocks_add_may : (k : Config) (x : DomainView) (amount : ℕ) → BlocksAddMay k x amount → MayStep k x 9 (λ n. (n + amount) % 2 ^ 64) BlocksAdded
+pub blocks_add_may : (k : Config) (x : DomainView) (amount : ℕ) → BlocksAddMay x amount → MayStep k x 9 (λ n. (n + amount) % 2 ^ 64) BlocksAdded
 blocks_add_may k x amount may fits slots id hist s r _ at _ = (one k hist (with_share x (record x.seen.share { added_blocks = true })), keeps, tt, blocks_rule k s r id hist x at may.stage amount may, (refl, refl))
 
 pub blocks_add_closes : (k : Config) (x : DomainView) (found : ℕ) → Closes k x found BlocksAdded CanLeave Leaves

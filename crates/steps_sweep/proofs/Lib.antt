@@ -18,6 +18,7 @@ pub mod CountSteps
 pub mod CountedPlaces
 pub mod AddSteps
 pub mod HoldSteps
+pub mod VoidSteps
 pub mod Returned
 pub mod ReturnSteps
 pub mod LiveCounts

@@ -84,7 +84,7 @@ module _ (k : Config) (s : Words) (r : Rule k s) (id : ℕ) (hist : List Entry) 
       (λ other. good.sweeps.listed j b (let m : ℕ = x.own.swept.listed in let f : m ≡ i = may.next in let n : j ≢ i = other in let l : j < i + 1 = low in let g : j < m = omega arith in g) got)
 
   passes : IsEpheAt live a → After (record x { own = pruned_to i x.own })
-  passes e = let w = good.sweeps in sweeps_rule k s r id hist x at (record x.own.swept { listed = i + 1 }) sh.reaping sh.swept record { listed = none_dead e; places = w.places; anew = λ _ up. absurd (true≢false (sym up ∙ waits k s r id hist x at may.stage)); reaps = w.reaps }
+  passes e = let w = good.sweeps in sweeps_rule k s r id hist x at (record x.own.swept { listed = i + 1 }) sh.reaping sh.swept record { listed = none_dead e; places = w.places; anew = λ _ up. absurd (true≢false (sym up ∙ waits k s r id hist x at may.stage)); reaps = w.reaps; below = w.below }
 
   -- it is garbage: it is listed no more
   abbrev shorter : Bounded ℕ
@@ -150,7 +150,7 @@ module _ (k : Config) (s : Words) (r : Rule k s) (id : ℕ) (hist : List Entry) 
       listed_own = listed_own;
       listeds = λ z _ g. g.listed;
       left = r.whole.full.left;
-      sweeps = let w = good.sweeps in record { listed = λ j b low got. w.listed j b low (sym (before items i a may.listed j (let m : ℕ = x.own.swept.listed in let f : m ≡ i = may.next in let l : j < m = low in let g : j < i = omega arith in g)) ∙ got); places = w.places; anew = w.anew; reaps = w.reaps };
+      sweeps = let w = good.sweeps in record { listed = λ j b low got. w.listed j b low (sym (before items i a may.listed j (let m : ℕ = x.own.swept.listed in let f : m ≡ i = may.next in let l : j < m = low in let g : j < i = omega arith in g)) ∙ got); places = w.places; anew = w.anew; reaps = w.reaps; below = w.below };
       others_sweep = λ z _ _ g. g.sweeps;
     }
 
@@ -212,7 +212,7 @@ module _ (k : Config) (x : DomainView) (found a i garbage : ℕ) (may : PruneMay
     can_write = (may.listed, may.next);
     written = written y told;
     fits = ⊎_elim
-        (λ e. subst (OwnFits k) (sym (ap (λ (z : DomainView). z.own) e)) (swept_fits k x.own (record x.own.swept { listed = i + 1 }) (record { pool = fits.swept.pool; slot = fits.swept.slot }) fits))
+        (λ e. subst (OwnFits k) (sym (ap (λ (z : DomainView). z.own) e)) (swept_fits k x.own (record x.own.swept { listed = i + 1 }) (record { pool = fits.swept.pool; slot = fits.swept.slot; top = fits.swept.top }) fits))
         (λ e. subst (OwnFits k) (sym (ap (λ (z : DomainView). z.own) e)) (still_fits fits))
         (view_or y told);
     once = ⊎_elim

@@ -7,27 +7,25 @@ use Rattle.atomic_table.specs.Table.{keeps}
 use Rattle.heap_model.specs.declared.entry.Entry.{Entry}
 use Rattle.heap_rule.specs.declared.view.Reaping.TheVariants.{Outside}
 use Rattle.heap_rule.specs.declared.config.Config.{Config}
-use Rattle.heap_rule.specs.declared.phase.Kind.{Kind}
-use Rattle.heap_rule.specs.declared.phase.Kind.TheVariants.{Run, Sweep, Answer}
-use Rattle.heap_rule.specs.declared.phase.Stage.TheVariants.{In}
 use Rattle.heap_rule.specs.declared.view.DomainView.{DomainView}
 use Rattle.heap_rule.specs.Beside.{RunsBeside}
 use Rattle.heap_rule.specs.Cycles.{Cycling, IsCollecting, IsIdle, Knowing}
 use Rattle.heap_rule.specs.Layout.{cursor, listed}
-use Rattle.heap_rule.specs.Phases.{AtStage, Staged}
-use Rattle.heap_rule.specs.Pools.{Covered, DrawsAlone, NoneCameBack, Holder, Hunter, Hunts, Resting, Stock, Tenancy, limit_of}
+use Rattle.heap_rule.specs.Phases.{Staged}
+use Rattle.heap_rule.specs.Pools.{Covered, Holder, Hunter, Hunts, Resting, Stock, Tenancy, limit_of, no_listing}
 use Rattle.heap_rule.specs.Raw.{CanLeave, Closes, Leaves, MayStore}
 use Rattle.heap_rule.specs.Rule.{Account, Good, Rule, Sharing, state_of}
 use Rattle.heap_rule.specs.Views.{one}
 use Rattle.heap_rule.proofs.Holders.{NotOf, found_agrees, free_later, hunter_agree, making_agrees, nobody_not, owned_not, same_over, stock_self}
 use Rattle.heap_rule.proofs.Keeps.{Words, knows_front, my_good, opened_words, owes_as, phases_words, remakes, room_words}
-use Rattle.heap_rule.proofs.PauseFacts.{kind_differs, not_both}
+use Rattle.heap_rule.proofs.PauseFacts.{not_both}
 use Rattle.heap_rule.proofs.Sharings.{leading_words}
 use Rattle.steps_marking.specs.Looks.{with_share}
-use Rattle.steps_marking.proofs.Learning.{even, leads_odd, none_runs, rests_here, waits}
+use Rattle.steps_marking.proofs.Learning.{even, none_runs, rests_here, waits}
 use Rattle.steps_marking.proofs.Pausing.{paused_on}
 use Rattle.steps_marking.proofs.Plain.{share_closes}
 use Rattle.steps_sweep.specs.Returning.{ReturnMay, ReturnTold}
+use Rattle.steps_sweep.proofs.VoidSteps.{no_leader, not_whole, void_known}
 use Rattle.steps_sweep.proofs.Returned.{agrees, calm, collecting, cycle', drawers', drawn_was, full', grid', is_own, knowing_other, knowing_own, listed', no_prepared, other_word, own_was, owned_was, pools', reserved', same_cursor, same_cycle, share', t', words', sweeps', reaps_else}
 
 module _ (k : Config) (s : Words) (r : Rule k s) (id : ℕ) (hist : List Entry) (x : DomainView) (at : get_elem? s.views id ≡ some (one k hist x)) (word pool class : ℕ) (may : ReturnMay k x word pool class) where
@@ -76,32 +74,17 @@ module _ (k : Config) (s : Words) (r : Rule k s) (id : ℕ) (hist : List Entry) 
   even_here : (j : ℕ) → r.account.pause.phase ≡ j * 2 + 1 → ⊥
   even_here j e = not_both r.account.pause.phase (even k s r id hist x at collects) (j, e)
 
-  -- pools aren't only drawn in a phase in which it gives some back
-  stands : (kind : Kind) × (x.seen.stage ≡ In kind) × (DrawsAlone kind → ⊥)
-  stands = ⊎_elim (λ (h : (x.seen.stage ≡ In Sweep) × (k.pools ≤ x.own.swept.spot.pool)). (Sweep, h.0, ⊎_elim (λ e. cc) (⊎_elim (λ e. cc) (λ e. cc)))) (λ (h : x.seen.stage ≡ In Answer). (Answer, h, ⊎_elim (λ e. cc) (⊎_elim (λ e. cc) (λ e. cc)))) may.returns
-
-  draws_here : (j : ℕ) → r.account.pause.phase ≡ j * 2 → DrawsAlone (r.account.pause.kinds j) → ⊥
-  draws_here j is draws =
-      let a = subst (AtStage r.account.pause d x.own.arrivals) stands.1 good.staged.stage in
-      stands.2 (subst DrawsAlone (kind_differs r.account.pause j a.1.0 r.account.pause.phase (r.account.pause.kinds j) stands.0 is a.1.1 refl a.1.2) draws)
+  -- no pool is listed
+  none_listed : listed ws ≡ 0
+  none_listed = counts.0 ∙ (good.resting.lists no_listing may.void).count
 
   -- so the list isn't whole
   covered' : Covered k r.account.pause after ws
-  covered' whole = absurd (⊎_elim
-      (⊎_elim
-      (λ (h : (j : ℕ) × (r.account.pause.phase ≡ j * 2) × (r.account.pause.kinds j ≡ Run)). draws_here h.0 h.1 (inl h.2))
-      (λ (h : (j : ℕ) × (r.account.pause.phase ≡ j * 2 + 1) × (r.account.pause.led ≡ true) × (r.account.pause.kinds (j + 1) ≡ Run)). even_here h.0 h.1))
-      (λ (came : NoneCameBack r.account.pause × (listed ws ≢ 0)). ⊎_elim
-      (λ (h : (j : ℕ) × (r.account.pause.phase ≡ j * 2) × DrawsAlone (r.account.pause.kinds j)). draws_here h.0 h.1 h.2)
-      (⊎_elim
-      (λ (h : (j : ℕ) × (r.account.pause.phase ≡ j * 2 + 1) × (r.account.pause.led ≡ false) × DrawsAlone (r.account.pause.kinds j)). even_here h.0 h.1)
-      (λ (h : (j : ℕ) × (r.account.pause.phase ≡ j * 2 + 1) × (r.account.pause.led ≡ true) × DrawsAlone (r.account.pause.kinds (j + 1))). even_here h.0 h.1))
-      came.0)
-      whole)
+  covered' whole = absurd (not_whole k s r id hist x at may.returns ws none_listed whole)
 
-  -- nobody writes the list
-  lists_none : (z : DomainView) → Staged r.account.pause z → Resting k s.words z → Resting k ws z
-  lists_none z staged rest = record { hunt = rest.hunt; free = rest.free; spare = rest.spare; lists = λ l e. absurd (leads_odd r.account.pause z.own.number z.own.arrivals z.seen.stage (even k s r id hist x at collects) staged.stage (rest.lists l e).leads) }
+  -- and who knows of it knows that
+  lists_void : (z : DomainView) → Staged r.account.pause z → Resting k s.words z → Resting k ws z
+  lists_void z staged rest = let n = no_leader k s r id hist x at may.returns z staged in record { hunt = rest.hunt; free = rest.free; spare = rest.spare; lists = λ l e. void_known k s.words ws z.own.number z.seen.stage l none_listed n.0 n.1 (rest.lists l e) }
 
   hunter' : Hunter k after ws y
   hunter' = let h = good.hunter in let was = owned_was k s r id hist x at word pool class may in let same = agrees k s r id hist x at word pool class may in let none = no_prepared k s r id hist x at word pool class may in record {
@@ -130,7 +113,7 @@ module _ (k : Config) (s : Words) (r : Rule k s) (id : ℕ) (hist : List Entry) 
       let l = leading_words c s.words ws d x.seen.stage x.seen.share (same_cycle k s r id hist x at word pool class may) g.leading in
       let up = waits k s r id hist x at collects in record {
         telling = record { owes = g.telling.owes; seen = g.telling.seen; fresh = λ gone. absurd (true≢false (sym gone ∙ up)); forgotten = λ gone. absurd (true≢false (sym gone ∙ up)); colours = g.telling.colours };
-        leading = record { changed = l.changed; found_blocks = l.found_blocks; found_words = l.found_words; rotated = l.rotated; turned = l.turned; pass = l.pass; whole = l.whole; armed = l.armed; unswept = l.unswept; under_way = l.under_way };
+        leading = record { changed = l.changed; found_blocks = l.found_blocks; found_words = l.found_words; rotated = l.rotated; turned = l.turned; pass = l.pass; whole = l.whole; armed = l.armed; unswept = l.unswept; under_way = l.under_way; unmarked = l.unmarked };
         knows = inr (collects, knowing_own k s r id hist x at word pool class may);
         adds = record { blocks = g.adds.blocks; words = g.adds.words; own = g.adds.own };
         looks = record { at_own = g.looks.at_own; cleans = g.looks.cleans; emptied_is = λ a p own lives. g.looks.emptied_is a p (own_was k s r id hist x at word pool class may a d own) lives };
@@ -157,7 +140,7 @@ module _ (k : Config) (s : Words) (r : Rule k s) (id : ℕ) (hist : List Entry) 
       let g = good in
       let same = agrees k s r id hist x at word pool class may in
       let own_making = making_agrees k s.words ws x same g.making in
-      let own_rest = lists_none x g.staged g.resting in
+      let own_rest = lists_void x g.staged g.resting in
       remakes k s r id hist x at y all' ws
       record {
         wide = length-set s.words (11 + k.pools + pool) 0 ∙ r.whole.wide;
@@ -199,7 +182,7 @@ module _ (k : Config) (s : Words) (r : Rule k s) (id : ℕ) (hist : List Entry) 
         set_back = λ b. low_kept (g.set_back b);
         sharing = sharing';
         listed = let l = listed' k s r id hist x at word pool class may d x.own.ephemerons.items g.listed in record { all = l.all; own = l.own; lives = l.lives };
-        sweeps = let w = sweeps' k s r id hist x at word pool class may x Outside tt g.sweeps in record { listed = w.listed; places = w.places; anew = w.anew; reaps = w.reaps };
+        sweeps = let w = sweeps' k s r id hist x at word pool class may x Outside tt g.sweeps in record { listed = w.listed; places = w.places; anew = w.anew; reaps = w.reaps; below = w.below };
       }
       (λ z _ differs h. record {
         stood = h.stood;
@@ -208,7 +191,7 @@ module _ (k : Config) (s : Words) (r : Rule k s) (id : ℕ) (hist : List Entry) 
         staged = h.staged;
         still = h.still;
         hunter = hunters z differs h;
-        resting = lists_none z h.staged h.resting;
+        resting = lists_void z h.staged h.resting;
         took_back = λ kind leads last. want ∙ h.took_back kind leads last;
         owes = h.owes;
         rooted = h.rooted;

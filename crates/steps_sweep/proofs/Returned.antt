@@ -216,7 +216,7 @@ module _ (k : Config) (s : Words) (r : Rule k s) (id : ℕ) (hist : List Entry) 
 
   -- what a domain knows of garbage stays
   pub sweeps' : (z : DomainView) (reaping : Reaping) → Reaps t'.holder t'.garbage z.own.number reaping → SweepsIn T c z → Sweeps t'.holder t'.garbage c.kind c.shares.arrived z.own.number z.own.ephemerons.items z.own.swept reaping
-  sweeps' z reaping is w = record { listed = w.listed; places = λ q cl slot own. w.places q cl slot (owned_was q z.own.number cl own).1; anew = w.anew; reaps = is }
+  sweeps' z reaping is w = record { listed = w.listed; places = λ q cl slot own. w.places q cl slot (owned_was q z.own.number cl own).1; anew = w.anew; reaps = is; below = λ q cl own. w.below q cl (owned_was q z.own.number cl own).1 }
 
   pub reaps_else : (e : ℕ) → e ≢ d → (reaping : Reaping) → Reaps T.holder T.garbage e reaping → Reaps t'.holder t'.garbage e reaping
   reaps_else e other Outside w = tt
@@ -320,6 +320,7 @@ module _ (k : Config) (s : Words) (r : Rule k s) (id : ℕ) (hist : List Entry) 
     leaves = record { none = y.leaves.none; dead = y.leaves.dead; head = λ a is. let h = y.leaves.head a is in (h.0, h.1, agrees.heap a (garbage_low a is) ∙ h.2); unprepared = y.leaves.unprepared; owned = garbage_lies };
     unswept = y.unswept;
     whole = λ l. inl (whole_in k s r id hist x at not_clean l);
+    grows = y.grows;
   }
 
   -- what domains have counted is theirs still

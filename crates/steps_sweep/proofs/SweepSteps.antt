@@ -20,6 +20,8 @@ use Rattle.heap_rule.specs.Layout.{at_address, before_heap, owner_of}
 use Rattle.heap_rule.specs.Pools.{Holder, IsBefore, blocks_of, owned, owner_word, place_in}
 use Rattle.heap_rule.specs.Raw.{MayStep}
 use Rattle.heap_rule.specs.Rule.{Rule, Sharing, state_of}
+use Rattle.steps_pools.specs.Writes.{pool_after}
+use Rattle.steps_pools.proofs.Tops.{before_after}
 use Rattle.heap_rule.specs.Sweeping.{Reaps, SweepsIn, nothing_swept}
 use Rattle.heap_rule.specs.Views.{one}
 use Rattle.heap_rule.proofs.Keeps.{Words, control_same, controls_kept, hunter_as, my_good, unmoved, writes}
@@ -59,7 +61,7 @@ module _ (k : Config) (s : Words) (r : Rule k s) (id : ℕ) (hist : List Entry) 
   sharing_on : (reaping : Reaping) (places : List Spot) → Sharing k r.account s.words d x.own.registers x.own.finalisers x.own.ephemerons.items x.seen.stage (sweeping_on sh reaping places)
   sharing_on reaping places = let g = (my_good k s r id hist x at).sharing in record {
     telling = record { owes = g.telling.owes; seen = g.telling.seen; fresh = λ up. ap (λ (z : Share). sweeping_on z reaping places) (g.telling.fresh up); forgotten = g.telling.forgotten; colours = g.telling.colours };
-    leading = record { changed = g.leading.changed; found_blocks = g.leading.found_blocks; found_words = g.leading.found_words; rotated = g.leading.rotated; turned = g.leading.turned; pass = g.leading.pass; whole = g.leading.whole; armed = g.leading.armed; unswept = g.leading.unswept; under_way = g.leading.under_way };
+    leading = record { changed = g.leading.changed; found_blocks = g.leading.found_blocks; found_words = g.leading.found_words; rotated = g.leading.rotated; turned = g.leading.turned; pass = g.leading.pass; whole = g.leading.whole; armed = g.leading.armed; unswept = g.leading.unswept; under_way = g.leading.under_way; unmarked = g.leading.unmarked };
     knows = ⊎_elim
         (λ (idle : IsIdle sh). inl (ap (λ (z : Share). sweeping_on z reaping places) idle))
         (λ (n : IsCollecting x.seen.stage × Knowing k r.account.live holder now.graph r.account.cycling.paint.marks s.words d x.own.registers sh). let kn = n.1 in let m = kn.counted in inr (
@@ -111,11 +113,12 @@ module _ (k : Config) (s : Words) (r : Rule k s) (id : ℕ) (hist : List Entry) 
 
   -- in Lasts it is to sweep everything
   pub anew_rule : After (record x { own = unswept x.own })
-  anew_rule = let w = (my_good k s r id hist x at).sweeps in sweeps_rule nothing_swept sh.reaping sh.swept record {
+  anew_rule = let w = (my_good k s r id hist x at).sweeps in sweeps_rule (nothing_swept x.own.swept.top) sh.reaping sh.swept record {
     listed = λ i a low got. absurd (let l : i < 0 = low in omega arith);
     places = λ q c slot is inside before. absurd (none_before q slot before);
     anew = λ _ _. refl;
     reaps = w.reaps;
+    below = w.below;
   }
 
   -- a domain that may free garbage hasn't arrived
@@ -130,38 +133,42 @@ module _ (k : Config) (s : Words) (r : Rule k s) (id : ℕ) (hist : List Entry) 
     abbrev slot : ℕ
     slot = x.own.swept.spot.slot
 
+    abbrev next : ℕ
+    next = pool_after k.pools x.own.swept.top pool
+
     -- no place is left in the pool
-    passes : ((class : ℕ) → holder pool ≡ owned d class → slot < blocks_of class → ⊥) → After (record x { own = sweeping_from x.own (record { pool = pool + 1; slot = 0 }) })
-    passes none = let w = (my_good k s r id hist x at).sweeps in sweeps_rule (record x.own.swept { spot = record { pool = pool + 1; slot = 0 } }) sh.reaping sh.swept record {
+    passes : ((class : ℕ) → holder pool ≡ owned d class → slot < blocks_of class → ⊥) → After (record x { own = sweeping_from x.own (record { pool = next; slot = 0 }) })
+    passes none = let w = (my_good k s r id hist x at).sweeps in sweeps_rule (record x.own.swept { spot = record { pool = next; slot = 0 } }) sh.reaping sh.swept record {
       listed = w.listed;
       places = λ q c i is inside before. w.places q c i is inside (⊎_elim
-          (λ (h : q < pool + 1). dite (ℕ_discrete q pool)
+          (λ (h : q < next). dite (ℕ_discrete q pool)
           (λ same. inr (
             same ∙ sym may.next,
             dite (dec_le (blocks_of c) slot)
                 (λ far. let b : ℕ = blocks_of c in let n : ℕ = slot in let f : b ≤ n = far in let l : i < b = inside in let g : i < n = omega arith in g)
                 (λ near. absurd (none c (ap holder (sym same) ∙ is) (lt_of_not-le near))),
           ))
-          (λ other. inl (let p : ℕ = x.own.swept.spot.pool in let e : p ≡ pool = may.next in let n : q ≢ pool = other in let l : q < pool + 1 = h in let g : q < p = omega arith in g)))
-          (λ (h : (q ≡ pool + 1) × (i < 0)). absurd (let l = h.1 in omega arith))
+          (λ other. inl (let p : ℕ = x.own.swept.spot.pool in let e : p ≡ pool = may.next in let l : q < pool = before_after k.pools x.own.swept.top pool q h (w.below q c is) other in let g : q < p = omega arith in g)))
+          (λ (h : (q ≡ next) × (i < 0)). absurd (let l = h.1 in omega arith))
           before);
       anew = λ _ up. absurd (not_up may.stage up);
       reaps = w.reaps;
+      below = w.below;
     }
 
     enters : (class : ℕ) → holder pool ≡ owned d class → After (with_share x (record sh { reaping = Inside pool class }))
-    enters class is = let w = (my_good k s r id hist x at).sweeps in sweeps_rule x.own.swept (Inside pool class) sh.swept record { listed = w.listed; places = w.places; anew = w.anew; reaps = is }
+    enters class is = let w = (my_good k s r id hist x at).sweeps in sweeps_rule x.own.swept (Inside pool class) sh.swept record { listed = w.listed; places = w.places; anew = w.anew; reaps = is; below = w.below }
 
-    pub owner_swept : (y : DomainView) × After y × SweepOwnTold pool x owner y
+    pub owner_swept : (y : DomainView) × After y × SweepOwnTold k pool x owner y
     owner_swept = ⊎_elim
         (λ u. dite (dec_le (blocks_of u.0) slot)
         (λ far. (
-          record x { own = sweeping_from x.own (record { pool = pool + 1; slot = 0 }) },
+          record x { own = sweeping_from x.own (record { pool = next; slot = 0 }) },
           passes (λ c is low. too_far u.0 c u.1 is far low),
           record { told = inr (λ c among. too_far u.0 c u.1 (own_again u.0 c u.1 u.3 among.1) far among.2, refl) },
         ))
         (λ near. (with_share x (record sh { reaping = Inside pool u.0 }), enters u.0 u.1, record { told = inl (u.0, (u.2, u.3, lt_of_not-le near), refl) })))
-        (λ u. (record x { own = sweeping_from x.own (record { pool = pool + 1; slot = 0 }) }, passes (λ c is low. u.0 c is), record { told = inr (λ c among. u.1 c among.0 among.1, refl) }))
+        (λ u. (record x { own = sweeping_from x.own (record { pool = next; slot = 0 }) }, passes (λ c is low. u.0 c is), record { told = inr (λ c among. u.1 c among.0 among.1, refl) }))
         (whose k s r d pool may.inside (holder pool) refl)
       where
         too_far : (b c : ℕ) → holder pool ≡ owned d b → holder pool ≡ owned d c → blocks_of b ≤ slot → slot < blocks_of c → ⊥
@@ -191,10 +198,11 @@ module _ (k : Config) (s : Words) (r : Rule k s) (id : ℕ) (hist : List Entry) 
           (before_behind pool class slot q i (λ same. subst (λ (z : ℕ). i < blocks_of z) (class_is same) inside) before);
       anew = λ _ up. absurd (not_up may.stage up);
       reaps = own;
+      below = w.below;
     }
 
     finds : IsTrue (garbage a) → After (with_share x (record sh { reaping = AtGarbage pool class slot }))
-    finds is = let w = (my_good k s r id hist x at).sweeps in sweeps_rule x.own.swept (AtGarbage pool class slot) sh.swept record { listed = w.listed; places = w.places; anew = w.anew; reaps = (own, may.inside, ap garbage (sym may.word) ∙ is) }
+    finds is = let w = (my_good k s r id hist x at).sweeps in sweeps_rule x.own.swept (AtGarbage pool class slot) sh.swept record { listed = w.listed; places = w.places; anew = w.anew; reaps = (own, may.inside, ap garbage (sym may.word) ∙ is); below = w.below }
 
     pub head_swept : (y : DomainView) × After y × SweepTold pool class slot colour x found y
     head_swept = ⊎_elim
@@ -218,10 +226,10 @@ module _ (k : Config) (s : Words) (r : Rule k s) (id : ℕ) (hist : List Entry) 
 pub anew_may : (k : Config) (x : DomainView) → AnewMay x → MayStep k x 5 (λ n. n) AnewTold
 anew_may k x may fits slots id hist s r _ at _ = let y : DomainView = record x { own = unswept x.own } in (one k hist y, keeps, tt, unmoved k s 5 (set s.views id (one k hist y)) (anew_rule k s r id hist x at), (refl, refl))
 
-pub sweep_own_may : (k : Config) (x : DomainView) (word pool : ℕ) → SweepOwnMay k x word pool → MayStep k x word (λ n. n) (SweepOwnTold pool)
+pub sweep_own_may : (k : Config) (x : DomainView) (word pool : ℕ) → SweepOwnMay k x word pool → MayStep k x word (λ n. n) (SweepOwnTold k pool)
 sweep_own_may k x word pool may fits slots id hist s r _ at _ =
     let o = owner_swept k s r id hist x at word pool may in
-    (one k hist o.0, keeps, tt, unmoved k s word (set s.views id (one k hist o.0)) o.1, (subst (λ (n : ℕ). SweepOwnTold pool x (get_or s.words n 0) o.0) (sym may.word) o.2, refl))
+    (one k hist o.0, keeps, tt, unmoved k s word (set s.views id (one k hist o.0)) o.1, (subst (λ (n : ℕ). SweepOwnTold k pool x (get_or s.words n 0) o.0) (sym may.word) o.2, refl))
 
 pub sweep_may : (k : Config) (x : DomainView) (word a pool class slot garbage : ℕ) → word ≡ before_heap k + a → SweepMay x a pool class slot garbage → MayStep k x word (λ n. n) (SweepTold pool class slot garbage)
 sweep_may k x word a pool class slot garbage place may fits slots id hist s r _ at _ =

@@ -40,9 +40,9 @@ pub record CountTold (at pool class slot : ℕ) (x : DomainView) (found : ℕ) (
       ⊎ ((shape : Shape) × IsHeadOf shape found × (y ≡ with_share x (record x.seen.share { counted = at ∷ x.seen.share.counted; counted_to = behind pool class slot; counted_words = x.seen.share.counted_words + extent shape })))
 
 -- what a domain has counted in all its pools is added to the live blocks
-pub record BlocksAddMay (k : Config) (x : DomainView) (amount : ℕ) : Type 0 where
+pub record BlocksAddMay (x : DomainView) (amount : ℕ) : Type 0 where
   pub stage : x.seen.stage ≡ In Sweep
-  pub whole : k.pools ≤ x.seen.share.counted_to.pool
+  pub whole : x.own.swept.top ≤ x.seen.share.counted_to.pool
   pub once : x.seen.share.added_blocks ≡ false
   pub counted : amount ≡ length x.seen.share.counted
   pub few : amount < 2 ^ 40

@@ -16,6 +16,7 @@ use Rattle.heap_rule.specs.Places.{IsHeadOf}
 use Rattle.heap_rule.specs.Pools.{blocks_of, owned, owner_word, place_in, spot_at}
 use Rattle.heap_rule.specs.Sweeping.{nothing_swept}
 use Rattle.steps_marking.specs.Looks.{with_share}
+use Rattle.steps_pools.specs.Writes.{pool_after}
 use Rattle.steps_marking.specs.Marking.{behind}
 
 -- the word is a head of this colour
@@ -34,7 +35,7 @@ AnewMay x = x.seen.stage ≡ In Lasts
 
 -- the domain is to sweep all its pools, and its list of ephemerons
 abbrev pub unswept : Own → Own
-unswept own = record own { swept = nothing_swept }
+unswept own = record own { swept = nothing_swept own.swept.top }
 
 abbrev pub AnewTold : DomainView → ℕ → DomainView → Type 0
 AnewTold x found y = y ≡ record x { own = unswept x.own }
@@ -54,17 +55,17 @@ pub record SweepOwnMay (k : Config) (x : DomainView) (at pool : ℕ) : Type 0 wh
 abbrev pub IsAmong : ℕ → Own → ℕ → Type 0
 IsAmong class own found = (class < class_count) × (found ≡ owner_word (owned own.number class)) × (own.swept.spot.slot < blocks_of class)
 
--- the domain is in its own pool, or the sweep goes on in the next one
-pub record SweepOwnTold (pool : ℕ) (x : DomainView) (found : ℕ) (y : DomainView) : Type 0 where
+-- the domain is in its own pool, or the sweep goes on in the next one, or behind the last one where no own pool is left
+pub record SweepOwnTold (k : Config) (pool : ℕ) (x : DomainView) (found : ℕ) (y : DomainView) : Type 0 where
   pub told : ((class : ℕ) × IsAmong class x.own found × (y ≡ with_share x (record x.seen.share { reaping = Inside pool class })))
-      ⊎ (((class : ℕ) → IsAmong class x.own found → ⊥) × (y ≡ record x { own = sweeping_from x.own (record { pool = pool + 1; slot = 0 }) }))
+      ⊎ (((class : ℕ) → IsAmong class x.own found → ⊥) × (y ≡ record x { own = sweeping_from x.own (record { pool = pool_after k.pools x.own.swept.top pool; slot = 0 }) }))
 
 -- what it writes
 abbrev pub CanSweepOwn : ℕ → Own → Type 0
 CanSweepOwn pool own = pool < 2048
 
-abbrev pub SweepsOwn : ℕ → ℕ → Own → Own → Type 0
-SweepsOwn pool found own after = (((class : ℕ) × IsAmong class own found) × (after ≡ own)) ⊎ (((class : ℕ) → IsAmong class own found → ⊥) × (after ≡ sweeping_from own (record { pool = pool + 1; slot = 0 })))
+abbrev pub SweepsOwn : ℕ → ℕ → ℕ → Own → Own → Type 0
+SweepsOwn pools pool found own after = (((class : ℕ) × IsAmong class own found) × (after ≡ own)) ⊎ (((class : ℕ) → IsAmong class own found → ⊥) × (after ≡ sweeping_from own (record { pool = pool_after pools own.swept.top pool; slot = 0 })))
 
 -- a load of the head at the next place of an own pool
 pub record SweepMay (x : DomainView) (at pool class slot garbage : ℕ) : Type 0 where

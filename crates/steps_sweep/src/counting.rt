@@ -49,7 +49,7 @@ pub fn count_load(heap: &Heap, dom: &mut Domain, at: u32, pool: u32, class: u32,
 /// blocks these are.
 pub fn blocks_add(heap: &Heap, dom: &mut Domain, amount: u64)
     requires here { IsIn dom.old heap.now }
-    requires may { BlocksAddMay heap.now.config dom.old.view amount }
+    requires may { BlocksAddMay dom.old.view amount }
     ensures here { IsIn dom.new heap.now }
     ensures told { BlocksAdded dom.old.view 0 dom.new.view }
 {

@@ -8,7 +8,7 @@ use crate::heads::has_colour;
 use crate::owners::own_class;
 use heap_rule::{COLOURS, Change, Domain, Heap, Own, Spot, Swept, Writing, raw_load, raw_store};
 use std::marker::Brand;
-use steps_pools::{class_blocks, place_behind};
+use steps_pools::{class_blocks, place_behind, pool_after};
 
 // Everything is to be swept.
 #[derive(Clone, Copy)]
@@ -26,13 +26,16 @@ impl Writing for Anew {
         own.swept = Swept {
             listed: 0,
             spot: Spot { pool: 0, slot: 0 },
+            top: own.swept.top,
         };
     }
 }
 
-// A pool that isn't the domain's own, or whose places are all swept, is passed.
+// A pool that isn't the domain's own, or whose places are all swept, is passed, and so are those behind it where no own pool
+// is left.
 #[derive(Clone, Copy)]
 struct Entering {
+    pools: u32,
     pool: u32,
 }
 
@@ -41,13 +44,13 @@ impl Writing for Entering {
 
     ghost can = { λ s _ _ own. CanSweepOwn s.pool own };
 
-    ghost writes = { λ s found _ own after. SweepsOwn s.pool found own after };
+    ghost writes = { λ s found _ own after. SweepsOwn s.pools s.pool found own after };
 
     #[tactic(auto, using(crate::proofs::Entering::none_left))]
     fn write(&self, found: u64, _changes: &[Change], own: &mut Own) {
         let slot = own.swept.spot.slot;
         let next = Spot {
-            pool: self.pool + 1,
+            pool: pool_after(self.pools, own.swept.top, self.pool),
             slot: 0,
         };
         match own_class(found, own.number) {
@@ -133,15 +136,18 @@ pub fn sweep_anew(heap: &Heap, dom: &mut Domain)
 }
 
 /// A load of the owner of the next pool to be swept. Where the pool isn't the domain's own, or has no
-/// place left, the sweep goes on in the next one. `at` is the index of the owner word. Answers it.
+/// place left, the sweep goes on in the next one, or behind the last one where no own pool is left. `at` is the index of the owner word. Answers it.
 pub fn sweep_own_load(heap: &Heap, dom: &mut Domain, at: u32, pool: u32) -> u64
     requires here { IsIn dom.old heap.now }
     requires may { SweepOwnMay heap.now.config dom.old.view at pool }
     ensures here { IsIn dom.new heap.now }
-    ensures told { SweepOwnTold pool dom.old.view result dom.new.view }
+    ensures told { SweepOwnTold heap.now.config pool dom.old.view result dom.new.view }
 {
-    let _limits = heap.config();
-    let writing = Entering { pool };
+    let limits = heap.config();
+    let writing = Entering {
+        pools: limits.pools,
+        pool,
+    };
     raw_load::<Brand, Entering>(heap, dom, at as usize, &writing, &[])
 }
 

@@ -20,5 +20,5 @@ pub use heads::has_colour;
 pub use holding::{held_load, held_own_load};
 pub use owners::{OWNERS, own_class};
 pub use pruning::prune_load;
-pub use returning::pool_return;
+pub use returning::{list_void, pool_return, top_load};
 pub use turning::{blocks_clear, colours_store, words_clear};
