@@ -1,5 +1,5 @@
 //! A domain's shares of a collection in which its finalisers are queued.
-ghost use Rattle.std.specs.Prelude.{◌≡◌, false};
+ghost use Rattle.std.specs.Prelude.{◌≡◌, false, []};
 ghost use Rattle.heap_rule.specs.declared.phase.Kind.TheVariants.{Decide, Lasts, Queued};
 ghost use Rattle.heap_rule.specs.declared.phase.Stage.TheVariants.{In};
 ghost use Rattle.heap_rule.specs.Token.{IsIn};
@@ -42,6 +42,7 @@ pub fn darken_queued(heap: &Heap, dom: &mut Domain)
     requires here { IsIn dom.old heap.now }
     requires stage { dom.old.view.seen.stage ≡ In Queued }
     requires told { dom.old.view.seen.share.owes ≡ false }
+    requires followed { dom.old.view.seen.share.account ≡ [] }
     ensures here { IsIn dom.new heap.now }
     ensures queued { AllQueueRooted dom.old.view dom.new.view }
 {

@@ -1,5 +1,5 @@
 //! What the queue of a domain keeps alive is marked.
-ghost use Rattle.std.specs.Prelude.{◌≡◌, ◌+◌, ◌<◌, Some, MatchOption, false, is_some, length};
+ghost use Rattle.std.specs.Prelude.{◌≡◌, ◌+◌, ◌<◌, Some, MatchOption, false, is_some, [], length};
 ghost use Rattle.heap_words.specs.ColourWords.{IsPermutation};
 ghost use Rattle.heap_rule.specs.declared.phase.Kind.TheVariants.{Queued};
 ghost use Rattle.heap_rule.specs.declared.phase.Stage.TheVariants.{In};
@@ -51,6 +51,7 @@ pub fn mark_queue(heap: &Heap, dom: &mut Domain)
     requires here { IsIn dom.old heap.now }
     requires stage { dom.old.view.seen.stage ≡ In Queued }
     requires told { dom.old.view.seen.share.owes ≡ false }
+    requires followed { dom.old.view.seen.share.account ≡ [] }
     ensures here { IsIn dom.new heap.now }
     ensures queued { AllQueueRooted dom.old.view dom.new.view }
 {
