@@ -8,12 +8,13 @@ use Rattle.heap_rule.specs.declared.view.Hunt.TheVariants.{Rests, Fills}
 use Rattle.heap_rule.specs.declared.view.Spot.{Spot}
 use Rattle.heap_rule.specs.declared.view.Swept.{Swept}
 use Rattle.heap_rule.specs.Limits.{sizes_in}
-use Rattle.heap_rule.specs.Pools.{hunting_free, limit_of}
+use Rattle.heap_rule.specs.Pools.{hunting_below, hunting_free, limit_of}
 use Rattle.steps_pools.specs.Takes.{LeavesSpare, NoneFree}
 use Rattle.sweeper.specs.Pruning.{Shortens}
 use Rattle.sweeper.specs.Sweeping.{SweptAll, with_sweep}
 use Rattle.sweeper.specs.Walks.{IsWalk}
-use Rattle.size_pools.specs.Taken.{CountedFree, FoundFew, FoundOwn, HasPlace, Hunted, KnowsNone, Reserved, Sought, SweptFirst, Taken, Took, Unreserved}
+use Rattle.size_pools.proofs.Searching.{below_of}
+use Rattle.size_pools.specs.Taken.{CountedFree, FoundFew, FoundOwn, HasPlace, Hunted, HuntedBelow, KnowsNone, Reserved, Sought, SweptFirst, Taken, Took, Unreserved}
 
 -- nothing was looked at before
 pub counted_later : (free : ℕ) (x v y : DomainView) → v.seen.free ≡ x.seen.free → CountedFree free v y → CountedFree free x y
@@ -63,19 +64,19 @@ module _ (k : Config) (class : ℕ) (x v w y : DomainView) (before : ℕ) (h : H
   few_found later on = record { free = before; later = later; earlier = counted_swept.0; found = on ∙ (ap (λ (l : List ℕ). later ++ l) counted_swept.1 ∙ sym (append_assoc later (before ∷ counted_swept.0) x.seen.free)); few = none.few }
 
   -- whatever the next one found
-  swept_first : (hunt : Hunt) → Hunted w y hunt → FoundFew k x y → SweptFirst k x y hunt
+  swept_first : (hunt : Hunt) → HuntedBelow w y hunt → FoundFew k x y → SweptFirst k x y hunt
   swept_first hunt next few = record {
     left = left_first;
     scarce = few;
-    view = next ∙ (ap (λ (z : DomainView). hunting_free z y.own.looked hunt y.seen.free) s.view ∙ (ap (λ (z : DomainView). hunting_free (with_sweep z w) y.own.looked hunt y.seen.free) h ∙ (λ i. hunting_free (with_sweep x (sym next i)) y.own.looked hunt y.seen.free)));
+    view = next ∙ (ap (λ (z : DomainView). hunting_below z y.own.swept.top y.own.looked hunt y.seen.free) s.view ∙ (ap (λ (z : DomainView). hunting_below (with_sweep z w) y.own.swept.top y.own.looked hunt y.seen.free) h ∙ (λ i. hunting_below (with_sweep x (sym next i)) y.own.swept.top y.own.looked hunt y.seen.free)));
     shortens = let t : Shortens (hunting_free x v.own.looked Rests v.seen.free) w = subst (λ (z : DomainView). Shortens z w) h s.shortens in
-        subst (Shortens x) (sym next) (let u : Shortens x (hunting_free w y.own.looked hunt y.seen.free) = record { among = t.among; room = t.room; no_less = t.no_less } in u);
+        subst (Shortens x) (sym next) (let u : Shortens x (hunting_below w y.own.swept.top y.own.looked hunt y.seen.free) = record { among = t.among; room = t.room; no_less = t.no_less } in u);
     places = s.places;
     swept = ap (λ (z : DomainView). z.seen.share.swept) next ∙ (s.swept ∙ ap (λ (z : DomainView). s.places ++ z.seen.share.swept) h);
     walk = subst (λ (q : Spot × Spot). IsWalk q.0 s.places q.1) (λ i. (ap (λ (z : DomainView). z.own.swept.spot) h i, sym (ap (λ (z : DomainView). z.own.swept.spot) next) i)) s.walk;
     done = all_done next;
   } where
-    all_done : Hunted w y hunt → k.pools ≤ y.own.swept.spot.pool
+    all_done : HuntedBelow w y hunt → k.pools ≤ y.own.swept.spot.pool
     all_done is = subst (λ (q : Swept). k.pools ≤ q.spot.pool) (sym (ap (λ (z : DomainView). z.own.swept) is)) s.done
 
   counted_own : FoundOwn k class w y → CountedFree before x y
@@ -115,7 +116,7 @@ module _ (k : Config) (class : ℕ) (x v w y : DomainView) (before : ℕ) (h : H
     reserved_swept = reserved_again k free before x w y counted_swept r
 
     pub sought_swept : Hunted w y Rests → Sought k x y Rests
-    sought_swept next = inr (swept_first Rests next (few_found (free ∷ r.found.0) r.found.1))
+    sought_swept next = inr (swept_first Rests (below_of w y Rests next) (few_found (free ∷ r.found.0) r.found.1))
 
 -- two facts of a call's answer give a third
 pub both_ok : {T E : Type 0} {P Q R : T → Type 0} (r : Result T E) → ((x : T) → P x → Q x → R x) → IfOk r P → IfOk r Q → IfOk r R

@@ -24,8 +24,8 @@ use Rattle.steps_pools.specs.Takes.{with_hunt}
 use Rattle.steps_pools.specs.Ephemerons.{empty_word, with_ephemeron, EpheMay, EpheTold}
 use Rattle.steps_pools.proofs.Plain.{ephe_rest}
 use Rattle.size_pools.specs.Created.{ListsCreated, ListsHeld, with_list}
-use Rattle.size_pools.specs.Taken.{IsBusy, IsRoom, MaySweep, Searched, Sought}
-use Rattle.size_pools.proofs.Seeking.{may_still, sought_sweep, sought_view}
+use Rattle.size_pools.specs.Taken.{IsBusy, IsRoom, MaySweep, Searched, SoughtBelow}
+use Rattle.size_pools.proofs.Seeking.{may_still, below_sweep, below_view}
 use Rattle.size_pools.proofs.Writing.{busy_acts, made_did}
 
 -- a place with room for so many words has room for as many
@@ -60,7 +60,7 @@ ephe_did h old new mid e at dst keys l hunt changes is runs here view told label
     made_did h old new mid e (Ephe dst keys) l hunt _ _ _ is runs here view (ephe_rest _ _ _ _ _ _ told) told.answers label
 
 -- the ephemeron is listed, and the register holds its address
-pub taken_lists : (h : SharedHeap) (a dst : ℕ) (old mid new : Token) (hunt : Hunt) → dst < 16 → IsIn old h → Sought h.config old.view mid.view hunt → ListsCreated a mid new → new.view.own.registers ≡ slice_set mid.view.own.registers dst (Ref a) → Holds h.config new.view.own.registers → ListsHeld dst old new
+pub taken_lists : (h : SharedHeap) (a dst : ℕ) (old mid new : Token) (hunt : Hunt) → dst < 16 → IsIn old h → SoughtBelow h.config old.view mid.view hunt → ListsCreated a mid new → new.view.own.registers ≡ slice_set mid.view.own.registers dst (Ref a) → Holds h.config new.view.own.registers → ListsHeld dst old new
 taken_lists h a dst old mid new hunt few here sought l registers holds =
     let before : List Value = mid.view.own.registers in
     let wide : length before ≡ 16 = sym (length-set before dst (Ref a)) ∙ (sym (ap (λ (r : List Value). length r) registers) ∙ holds.wide) in record {
@@ -68,11 +68,11 @@ taken_lists h a dst old mid new hunt few here sought l registers holds =
       held = ap (λ (r : List Value). value_at r dst) registers ∙ get_or-set_same before dst (Ref a) Nothing (let n : ℕ = length before in let w : n ≡ 16 = wide in let f : dst < 16 = few in let o : dst < n = omega arith in o);
       list = mid.view.own.ephemerons;
       own = l.own ∙ (λ i. record (view i).own { registers = new.view.own.registers; serial = (view i).own.serial + 1; looked = looks i; ephemerons = with_ephemeron a mid.view.own.ephemerons; swept = next i });
-      sweep = subst (λ (k : Config). MaySweep k old.view (with_list new.view mid.view.own.ephemerons)) (sym here.1) (may_still h.config old.view mid.view (with_list new.view mid.view.own.ephemerons) refl next (sought_sweep h.config old.view mid.view hunt sought));
+      sweep = subst (λ (k : Config). MaySweep k old.view (with_list new.view mid.view.own.ephemerons)) (sym here.1) (may_still h.config old.view mid.view (with_list new.view mid.view.own.ephemerons) refl next (below_sweep h.config old.view mid.view hunt sought));
       at_rest = l.at_rest;
     } where
       view : Searched old.view mid.view hunt
-      view = sought_view h.config old.view mid.view hunt sought
+      view = below_view h.config old.view mid.view hunt sought
 
       looks : mid.view.own.looked ≡ new.view.own.looked
       looks = sym (ap (λ (o : Own). o.looked) l.own)

@@ -3,7 +3,8 @@ use Rattle.std.proofs.Common.{◌≡◌, ◌≢◌, ℕ, ◌+◌, ◌<◌, ◌�
 use Rattle.heap_rule.specs.declared.config.Config.{Config}
 use Rattle.heap_rule.specs.declared.view.DomainView.{DomainView}
 use Rattle.heap_rule.specs.declared.view.Listing.{Listing}
-use Rattle.steps_pools.specs.Listings.{with_listing, further, relisted, found_owner, named, cursor_at, with_cursor, listed_as, no_listing, noted_set_back, noted_left, LeadsBehind, CountedTold, HasCounted, IsAbove, CursorLookTold, KeepLookTold, ListStays, free_from, free_pools, IsLeader, EmptiedTold, LookMay, LookedTold, NameMay, NamedTold, SetBackTold, CloseMay, ListedAsTold, HasList, IsListedCount}
+use Rattle.heap_rule.specs.Pools.{no_listing}
+use Rattle.steps_pools.specs.Listings.{with_listing, further, relisted, found_owner, named, cursor_at, with_cursor, listed_as, noted_set_back, LeadsBehind, CountedTold, HasCounted, IsAbove, CursorLookTold, KeepLookTold, ListStays, free_from, free_pools, IsLeader, EmptiedTold, LookMay, LookedTold, NameMay, NamedTold, SetBackTold, CloseMay, ListedAsTold, HasList, IsListedCount}
 use Rattle.steps_pools.proofs.FreePools.{free_last, free_same}
 use Rattle.size_pools.specs.Listed.{HasListed, Relisted}
 use Rattle.heap_rule.specs.declared.phase.Kind.{Kind}
@@ -154,9 +155,8 @@ unfolding seen_cursor
 above_ready k y z count found h told above = record { counted = seen_cursor k Run y z count found h (told.high above); at = found; cursor_is = refl; above = above }
 
 -- the list stays
-pub stays_ready : (k : Config) (y z : DomainView) (count found : ℕ) → HasCounted Reset y count → count ≢ 0 → KeepLookTold k count y found z → found ≤ limit_of k count → ListStays k z
-stays_ready k y z count found h some told low = record {
-  leads = subst (LeadsBehind Reset) (sym (told.low low)) (let l : LeadsBehind Reset (noted_left count found y) = record { first = h.leads.first; stage = h.leads.stage } in l);
+pub stays_ready : (k : Config) (kind : Kind) (y z : DomainView) (count found : ℕ) → HasCounted kind y count → count ≢ 0 → KeepLookTold k count y found z → found ≤ limit_of k count → ListStays k z
+stays_ready k kind y z count found h some told low = record {
   list = cursor_at found h.list;
   listing = ap (λ (v : DomainView). v.seen.listing) (told.low low) ∙ ap (further (cursor_at found)) h.listing;
   some = λ none. some (sym h.count_is ∙ none);

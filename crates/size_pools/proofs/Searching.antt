@@ -9,10 +9,12 @@ use Rattle.heap_rule.specs.declared.view.Hunt.TheVariants.{Rests, Counts, Asks, 
 use Rattle.heap_rule.specs.declared.view.Spot.{Spot}
 use Rattle.heap_rule.specs.declared.config.Config.{Config}
 use Rattle.heap_rule.specs.Limits.{sizes_in}
-use Rattle.heap_rule.specs.Pools.{Takes, owned, owner_word, blocks_of, place_in, drawn_in, limit_of, spot_at, hunting, hunting_free}
+use Rattle.heap_rule.specs.Pools.{Takes, owned, owner_word, blocks_of, place_in, drawn_in, limit_of, spot_at, hunting, hunting_below, hunting_free}
 use Rattle.steps_pools.specs.Takes.{with_hunt, NoneFree, ListedTold, CursorTold, Drew, OwnerMay, OwnedTold, ListTold, OwnerTold, PlaceTold}
 use Rattle.heap_rule.proofs.Classes.{some_block}
-use Rattle.size_pools.specs.Taken.{Hunted, HasDrawn, DrewPool, Unreserved, Took, Missed, WentOn}
+use Rattle.steps_pools.specs.Writes.{pool_after}
+use Rattle.steps_pools.proofs.Tops.{after_later}
+use Rattle.size_pools.specs.Taken.{Hunted, HuntedBelow, HasDrawn, DrewPool, Unreserved, Took, Missed, WentOn}
 
 pub hunted_twice : (x y z : DomainView) (g h : Hunt) → Hunted x y g → Hunted y z h → Hunted x z h
 hunted_twice x y z g h a b = b ∙ ap (λ (v : DomainView). hunting_free v z.own.looked h z.seen.free) a
@@ -22,6 +24,16 @@ hunted_free x y looked h free e = e ∙ (λ i. hunting_free x (ap (λ (z : Domai
 
 pub hunted_of : (x y : DomainView) (looked : List Spot) (h : Hunt) → y ≡ hunting x looked h → Hunted x y h
 hunted_of x y looked h e = hunted_free x y looked h x.seen.free e
+
+-- where the domain has as many pools as before, or more
+pub below_of : (x y : DomainView) (h : Hunt) → Hunted x y h → HuntedBelow x y h
+below_of x y h e = e ∙ (λ i. hunting_below x (ap (λ (z : DomainView). z.own.swept.top) (sym e) i) y.own.looked h y.seen.free)
+
+pub below_after : (x y z : DomainView) (g h : Hunt) → Hunted x y g → HuntedBelow y z h → HuntedBelow x z h
+below_after x y z g h a b = b ∙ ap (λ (v : DomainView). hunting_below v z.own.swept.top z.own.looked h z.seen.free) a
+
+pub below_free : (x y : DomainView) (top : ℕ) (looked : List Spot) (h : Hunt) (free : List ℕ) → y ≡ hunting_below x top looked h free → HuntedBelow x y h
+below_free x y top looked h free e = e ∙ (λ i. hunting_below x (ap (λ (z : DomainView). z.own.swept.top) (sym e) i) (ap (λ (z : DomainView). z.own.looked) (sym e) i) h (ap (λ (z : DomainView). z.seen.free) (sym e) i))
 
 pub missed_of : (x y : DomainView) (h : Hunt) → Hunted x y h → drawn_in h ≡ None → Missed x y
 missed_of x y h e none = let is : y.seen.hunt ≡ h = ap (λ (z : DomainView). z.seen.hunt) e in record { view = subst (Hunted x y) (sym is) e; at_rest = ap drawn_in is ∙ none }
@@ -50,19 +62,19 @@ module _ (x v y : DomainView) (pool class i found : ℕ) (few : class < class_co
         (λ not_last. ap (λ (z : DomainView). z.seen.free) (told.full full (lt_of_not-le not_last)))
 
   pub walked_took : (k : Config) (a : ℕ) → pool < k.pools → i < blocks_of class → a ≡ place_in pool class i → spot_at v.own.looked class ≡ record { pool = pool; slot = i } → found ≡ 0 → Took k class a x y
-  walked_took k a inside below is next free = record { pool = pool; slot = i; inside = inside; below = below; address = is; next = ap (λ (z : DomainView). spot_at z.own.looked class) (told.free free) ∙ next; view = hunted_twice x v y (Walks pool class) (Fills pool class i _) hunted (hunted_of v y _ (Fills pool class i _) (told.free free)) }
+  walked_took k a inside below is next free = record { pool = pool; slot = i; inside = inside; below = below; address = is; next = ap (λ (z : DomainView). spot_at z.own.looked class) (told.free free) ∙ next; view = below_of x y (Fills pool class i _) (hunted_twice x v y (Walks pool class) (Fills pool class i _) hunted (hunted_of v y _ (Fills pool class i _) (told.free free))) }
 
 -- a pool that isn't the domain's
-pub passes : (x y : DomainView) (pool class found : ℕ) → class < class_count → OwnerTold pool class x found y → found ≢ owner_word (owned x.own.number class) → WentOn class pool x y
-passes x y pool class found few told other =
+pub passes : (k : Config) (x y : DomainView) (pool class found : ℕ) → pool < k.pools → class < class_count → OwnerTold k pool class x found y → found ≢ owner_word (owned x.own.number class) → WentOn class pool x y
+passes k x y pool class found inside few told other =
     let e = told.other other in record {
       missed = missed_of x y Rests (hunted_of x y _ Rests e) refl;
-      later = subst (λ (s : Spot). pool < s.pool) (sym (spot_of x y class (record { pool = pool + 1; slot = 0 }) Rests few told.wide e)) (omega arith);
+      later = subst (λ (s : Spot). pool < s.pool) (sym (spot_of x y class (record { pool = pool_after k.pools x.own.swept.top pool; slot = 0 }) Rests few told.wide e)) (after_later k.pools x.own.swept.top pool inside);
     }
 
 -- after a look at a pool
 pub took_after : (k : Config) (class a : ℕ) (x v y : DomainView) → Missed x v → Took k class a v y → Took k class a x y
-took_after k class a x v y missed t = record { pool = t.pool; slot = t.slot; inside = t.inside; below = t.below; address = t.address; next = t.next; view = hunted_twice x v y v.seen.hunt (Fills t.pool class t.slot _) missed.view t.view }
+took_after k class a x v y missed t = record { pool = t.pool; slot = t.slot; inside = t.inside; below = t.below; address = t.address; next = t.next; view = below_after x v y v.seen.hunt (Fills t.pool class t.slot _) missed.view t.view }
 
 some_pool : (p q : ℕ) → ◌≡◌ {A = Option ℕ} (Some p) (Some q) → p ≡ q
 some_pool p q e = cc
@@ -99,7 +111,7 @@ none_still k class x y same none = subst (λ (l : List Spot). k.pools ≤ (spot_
 
 -- after another step
 pub took_later : (k : Config) (class a : ℕ) (x v y : DomainView) (h : Hunt) → Hunted x v h → Took k class a v y → Took k class a x y
-took_later k class a x v y h view t = record { pool = t.pool; slot = t.slot; inside = t.inside; below = t.below; address = t.address; next = t.next; view = hunted_twice x v y h (Fills t.pool class t.slot _) view t.view }
+took_later k class a x v y h view t = record { pool = t.pool; slot = t.slot; inside = t.inside; below = t.below; address = t.address; next = t.next; view = below_after x v y h (Fills t.pool class t.slot _) view t.view }
 
 -- more pools were found free than the reserve
 pub still_unreserved : (k : Config) (x v y : DomainView) → y.seen.free ≡ v.seen.free → Unreserved k x v → Unreserved k x y
@@ -140,8 +152,8 @@ module _ (k : Config) (x v2 : DomainView) (place class found : ℕ) (d : HasDraw
         inside = found_inside;
         below = (some_block class few).0;
         address = is;
-        view = hunted_twice x v3 v4 (Draws place found class (blocks_of class)) (Fills found class 0 []) (hunted_of x v3 _ (Draws place found class (blocks_of class)) all_view) (hunted_of v3 v4 _ (Fills found class 0 []) signed.view);
-        next = spot_of v3 v4 class (record { pool = found; slot = 0 }) (Fills found class 0 []) few signed.wide signed.view;
+        view = below_after x v3 v4 (Draws place found class (blocks_of class)) (Fills found class 0 []) (hunted_of x v3 _ (Draws place found class (blocks_of class)) all_view) (below_free v3 v4 _ _ (Fills found class 0 []) _ signed.view);
+        next = ap (λ (z : DomainView). spot_at z.own.looked class) signed.view ∙ get_or-set_same v3.own.looked class (record { pool = found; slot = 0 }) (record { pool = 0; slot = 0 }) (let n : ℕ = length v3.own.looked in let w : n ≡ class_count = signed.wide in omega arith);
       }
 
       pub drawn_free : v4.seen.free ≡ x.seen.free

@@ -36,12 +36,12 @@ use Rattle.heap_rule.specs.Token.{Token, SharedHeap, IsIn}
 use Rattle.heap_rule.proofs.Calls.{acting_did}
 use Rattle.heap_rule.proofs.Classes.{slot_inside, size_is}
 use Rattle.size_pools.specs.NewMarks.{AreNewMarks}
-use Rattle.size_pools.specs.Taken.{FoundOwn, FoundSwept, Grows, GrowsBy, HasPlace, IsBusy, IsRoom, KnowsNone, MaySweep, PutsPlace, Searched, Sought, Taken, Unreserved}
+use Rattle.size_pools.specs.Taken.{FoundOwn, FoundSwept, Grows, GrowsBy, HasPlace, IsBusy, IsRoom, KnowsNone, MaySweep, PutsPlace, Searched, SoughtBelow, Taken, Unreserved}
 use Rattle.size_classes.specs.Table.{IsLeastFor}
 use Rattle.size_classes.specs.declared.TheConstants.{SIZES}
 use Rattle.steps_pools.proofs.Plain.{major_rest}
 use Rattle.sweeper.specs.Sweeping.{with_sweep}
-use Rattle.size_pools.proofs.Seeking.{may_still, sought_sweep, sought_view}
+use Rattle.size_pools.proofs.Seeking.{may_still, below_sweep, below_view}
 
 -- the block's words lie in the pools
 pub room_inside : (k : Config) (x : DomainView) (a n : ℕ) → IsRoom k x a n → (1 ≤ a) × (a + n ≤ k.pools * 4096 + 1)
@@ -168,14 +168,14 @@ searched_did h old mid new hunt c r runs here view did =
       };
     }
 
-pub searched_grows : (h : SharedHeap) (old mid new : Token) (hunt : Hunt) → IsIn old h → Sought h.config old.view mid.view hunt → Grows mid new → GrowsBy old new
+pub searched_grows : (h : SharedHeap) (old mid new : Token) (hunt : Hunt) → IsIn old h → SoughtBelow h.config old.view mid.view hunt → Grows mid new → GrowsBy old new
 searched_grows h old mid new hunt here sought g = record {
   own = g.own ∙ (λ i. record (view i).own { registers = new.view.own.registers; serial = (view i).own.serial + 1; looked = looks i; ephemerons = listed i; swept = next i });
-  sweep = subst (λ (k : Config). MaySweep k old.view new.view) (sym here.1) (may_still h.config old.view mid.view new.view listed next (sought_sweep h.config old.view mid.view hunt sought));
+  sweep = subst (λ (k : Config). MaySweep k old.view new.view) (sym here.1) (may_still h.config old.view mid.view new.view listed next (below_sweep h.config old.view mid.view hunt sought));
   at_rest = g.at_rest;
 } where
   view : Searched old.view mid.view hunt
-  view = sought_view h.config old.view mid.view hunt sought
+  view = below_view h.config old.view mid.view hunt sought
 
   looks : mid.view.own.looked ≡ new.view.own.looked
   looks = sym (ap (λ (o : Own). o.looked) g.own)
@@ -192,7 +192,7 @@ taken_room k class a n x y few least t = record {
   pool = t.pool;
   class = class;
   slot = t.slot;
-  hunt = ap (λ (z : DomainView). z.seen.hunt) (sought_view k x y (Fills t.pool class t.slot []) t.view);
+  hunt = ap (λ (z : DomainView). z.seen.hunt) (below_view k x y (Fills t.pool class t.slot []) t.view);
   inside = t.inside;
   of_class = few;
   below = t.below;
@@ -209,7 +209,7 @@ taken_puts k class a n dst old mid new least t registers = record {
   inside = t.inside;
   least = least;
   below = t.below;
-  registers = registers ∙ (λ i. slice_set (ap (λ (z : DomainView). z.own.registers) (sought_view k old.view mid.view (Fills t.pool class t.slot []) t.view) i) dst (Ref (t.address i)));
+  registers = registers ∙ (λ i. slice_set (ap (λ (z : DomainView). z.own.registers) (below_view k old.view mid.view (Fills t.pool class t.slot []) t.view) i) dst (Ref (t.address i)));
 }
 
 -- what was found of free pools is still known

@@ -12,7 +12,7 @@ use Rattle.heap_rule.specs.declared.view.Hunt.{Hunt}
 use Rattle.heap_rule.specs.declared.view.Hunt.TheVariants.{Rests, Draws, Fills}
 use Rattle.heap_rule.specs.declared.view.Spare.{Spare}
 use Rattle.heap_rule.specs.declared.view.Spot.{Spot}
-use Rattle.heap_rule.specs.Pools.{size_of, blocks_of, place_in, spot_at, hunting_free}
+use Rattle.heap_rule.specs.Pools.{size_of, blocks_of, place_in, spot_at, hunting_below, hunting_free}
 use Rattle.heap_rule.specs.Token.{Token, SharedHeap, IsIn}
 use Rattle.heap_rule.specs.Running.{RemembersAll}
 use Rattle.heap_rule.specs.Standing.{Acts}
@@ -24,6 +24,10 @@ use Rattle.sweeper.specs.Walks.{IsWalk}
 -- all but what the domain knows of pools is as before
 abbrev pub Hunted : DomainView → DomainView → Hunt → Type 0
 Hunted x y hunt = y ≡ hunting_free x y.own.looked hunt y.seen.free
+
+-- and so it is where a pool may have become the domain's own
+abbrev pub HuntedBelow : DomainView → DomainView → Hunt → Type 0
+HuntedBelow x y hunt = y ≡ hunting_below x y.own.swept.top y.own.looked hunt y.seen.free
 
 -- it was looked how many pools are free, and the last time so many were found
 abbrev pub CountedFree : ℕ → DomainView → DomainView → Type 0
@@ -84,14 +88,18 @@ pub record SweptFirst (k : Config) (x y : DomainView) (hunt : Hunt) : Type 0 whe
   pub walk : IsWalk x.own.swept.spot places y.own.swept.spot
   pub done : k.pools ≤ y.own.swept.spot.pool
 
--- what a search changes: what the domain knows of pools, and where it swept first what that changes
+-- what a search changes by which a place is taken
+abbrev pub SoughtBelow : Config → DomainView → DomainView → Hunt → Type 0
+SoughtBelow k x y hunt = HuntedBelow x y hunt ⊎ SweptFirst k x y hunt
+
+-- what one changes that finds none: what the domain knows of pools, and where it swept first what that changes
 abbrev pub Sought : Config → DomainView → DomainView → Hunt → Type 0
 Sought k x y hunt = Hunted x y hunt ⊎ SweptFirst k x y hunt
 
 -- the list of ephemerons and the next place to be swept are as before
 pub record SweptNone (x y : DomainView) : Type 0 where
   pub listed : y.own.ephemerons ≡ x.own.ephemerons
-  pub next : y.own.swept ≡ x.own.swept
+  pub next : y.own.swept ≡ record x.own.swept { top = y.own.swept.top }
 
 -- own pools were left to be swept, and none is left
 pub record SweptRest (k : Config) (x y : DomainView) : Type 0 where
@@ -126,7 +134,7 @@ pub record Took (k : Config) (class a : ℕ) (x y : DomainView) : Type 0 where
   pub inside : pool < k.pools
   pub below : slot < blocks_of class
   pub address : a ≡ place_in pool class slot
-  pub view : Hunted x y (Fills pool class slot [])
+  pub view : HuntedBelow x y (Fills pool class slot [])
   pub next : spot_at y.own.looked class ≡ record { pool = pool; slot = slot }
 
 -- the same, and own pools may have been swept first
@@ -136,7 +144,7 @@ pub record Taken (k : Config) (class a : ℕ) (x y : DomainView) : Type 0 where
   pub inside : pool < k.pools
   pub below : slot < blocks_of class
   pub address : a ≡ place_in pool class slot
-  pub view : Sought k x y (Fills pool class slot [])
+  pub view : SoughtBelow k x y (Fills pool class slot [])
   pub next : spot_at y.own.looked class ≡ record { pool = pool; slot = slot }
 
 -- none is taken, and no pool is drawn
@@ -182,7 +190,7 @@ pub record Grows (old new : Token) : Type 0 where
   pub own : new.view.own ≡ record old.view.own { registers = new.view.own.registers; serial = old.view.own.serial + 1 }
   pub at_rest : new.view.seen.hunt ≡ Rests
 
--- the same, other places were looked at, and own pools may have been swept
+-- the same, other places were looked at, a pool may have become its own, and own pools may have been swept
 pub record GrowsBy (old new : Token) : Type 0 where
   pub own : new.view.own ≡ record old.view.own { registers = new.view.own.registers; serial = old.view.own.serial + 1; looked = new.view.own.looked; ephemerons = new.view.own.ephemerons; swept = new.view.own.swept }
   pub sweep : MaySweep old.config old.view new.view

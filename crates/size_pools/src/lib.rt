@@ -18,7 +18,7 @@ mod words;
 
 pub use allocation::alloc_major;
 pub use ephemerons::create;
-pub use listing::{list_free, set_cursor_back, write_list};
+pub use listing::{list_free, set_cursor_back};
 pub use no_pool::NoPool;
 pub use taking::{take, take_for_copy};
 pub use words::{class_for, write_words};

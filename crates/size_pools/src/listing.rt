@@ -1,10 +1,9 @@
 //! The list of free pools, written anew, and its cursor set back.
 ghost use Rattle.std.specs.Prelude.{◌≡◌, ◌+◌, ◌<◌, ◌≤◌, Some, None, IfSome};
-ghost use Rattle.heap_rule.specs.declared.phase.Kind.TheVariants.{Reset};
 ghost use Rattle.heap_rule.specs.declared.phase.Note.TheVariants.{SetBack};
 ghost use Rattle.heap_rule.specs.Phases.{last_note};
 ghost use Rattle.heap_rule.specs.Token.{IsIn};
-ghost use Rattle.steps_pools.specs.Listings.{IsLeader, IsOpener, LeadsBehind, HasList, IsListedCount, ListStays, NamesAll};
+ghost use Rattle.steps_pools.specs.Listings.{IsLeader, IsOpener, HasList, IsListedCount, ListStays, NamesAll};
 ghost use Rattle.size_pools.specs.Listed.{HasListed, ListsFree, Relisted, SetsBack};
 
 use heap_rule::{Domain, Heap};
@@ -56,13 +55,13 @@ fn list_pools(heap: &Heap, dom: &mut Domain) -> u32
     count
 }
 
-/// Domain 0 writes the list of free pools anew, in an odd phase in which nothing lives in minor areas
-/// and it hasn't named the next kind: the list then names exactly the pools that are nobody's, rising,
-/// and the cursor is 0. All other words, and all that the domain owns, stay as they are. Answers how
-/// many pools are listed, and notes it.
-///
-/// While it writes, no pool is listed: the number of listed pools is 0 first, and set last.
-pub fn write_list(heap: &Heap, dom: &mut Domain) -> u32
+// Domain 0 writes the list of free pools anew, in an odd phase in which nothing lives in minor areas
+// and it hasn't named the next kind: the list then names exactly the pools that are nobody's, rising,
+// and the cursor is 0. All other words, and all that the domain owns, stay as they are. Answers how
+// many pools are listed, and notes it.
+//
+// While it writes, no pool is listed: the number of listed pools is 0 first, and set last.
+fn write_list(heap: &Heap, dom: &mut Domain) -> u32
     requires here { IsIn dom.old heap.now }
     requires leader { IsLeader dom.old.view }
     ensures here { IsIn dom.new heap.now }
@@ -81,7 +80,7 @@ pub fn write_list(heap: &Heap, dom: &mut Domain) -> u32
 // it stays.
 fn still_listed(heap: &Heap, dom: &mut Domain) -> Option<u32>
     requires here { IsIn dom.old heap.now }
-    requires leads { LeadsBehind Reset dom.old.view }
+    requires leader { IsLeader dom.old.view }
     ensures here { IsIn dom.new heap.now }
     ensures stays { IfSome result (λ _. ListStays heap.now.config dom.new.view) }
     ensures lists { IfSome result (λ count. ListsFree count dom.old.view dom.new.view) }
@@ -99,12 +98,13 @@ fn still_listed(heap: &Heap, dom: &mut Domain) -> Option<u32>
     Some(count - cursor as u32)
 }
 
-/// Domain 0, behind Reset, in which it hasn't named the next kind, sees to it that the list names all free pools. No pool
-/// has come back since domains ran last, so it stays unless copies have drawn pools of the reserve, and else is written
-/// anew. All that the domain owns stays as it is. Answers how many free pools are listed, and notes it.
+/// Domain 0, in an odd phase in which nothing lives in minor areas and it hasn't named the next kind, sees to it that the
+/// list names all free pools. Where a pool has come back since it was written it names none, and is written anew, and so is
+/// it where copies have drawn pools of the reserve. Else it stays. All that the domain owns stays as it is. Answers how many
+/// free pools are listed, and notes it.
 pub fn list_free(heap: &Heap, dom: &mut Domain) -> u32
     requires here { IsIn dom.old heap.now }
-    requires leads { LeadsBehind Reset dom.old.view }
+    requires leader { IsLeader dom.old.view }
     ensures here { IsIn dom.new heap.now }
     ensures list { NamesAll heap.now.config dom.new.view }
     ensures lists { ListsFree result dom.old.view dom.new.view }

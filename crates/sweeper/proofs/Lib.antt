@@ -1,3 +1,4 @@
 pub mod Prunings
 pub mod Sweepings
 pub mod OwnPools
+pub mod Returns

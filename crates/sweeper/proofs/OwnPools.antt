@@ -1,16 +1,20 @@
 -- What the word of a pool's owner tells the domain that has loaded it.
-use Rattle.std.proofs.Common.{◌≡◌, ◌≢◌, ◌∙◌, ℕ, ◌+◌, ◌<◌, Some, ap, sym, subst, refl, inr, ⊎_elim, arith}
+use Rattle.std.proofs.Common.{◌≡◌, ◌≢◌, ◌∙◌, ℕ, ◌+◌, ◌<◌, Some, ap, sym, subst, refl, inl, inr, ⊎_elim, arith}
 use Rattle.heap_model.specs.Domains.{class_count}
 use Rattle.heap_rule.specs.declared.config.Config.{Config}
 use Rattle.heap_rule.specs.declared.view.DomainView.{DomainView}
 use Rattle.heap_rule.specs.Pools.{owned, owner_word}
+use Rattle.steps_pools.specs.Writes.{pool_after}
+use Rattle.steps_pools.proofs.Tops.{after_later}
 use Rattle.steps_sweep.specs.Counting.{CountOwnTold}
 use Rattle.steps_sweep.specs.Freeing.{IsAmong, SweepOwnTold}
 use Rattle.steps_sweep.specs.Holding.{HeldOwnTold, Returns}
 use Rattle.steps_sweep.proofs.Entering.{one_class}
 use Rattle.sweeper.specs.Counting.{CountedPool, CountsIn}
 use Rattle.sweeper.specs.Emptiness.{LooksFrom, LooksIn, with_looks}
-use Rattle.sweeper.specs.Sweeping.{Onward}
+use Rattle.steps_sweep.specs.Freeing.{sweeping_from}
+use Rattle.sweeper.specs.Sweeping.{Onward, Sweeps}
+use Rattle.sweeper.proofs.Sweepings.{looks_still, swept_none}
 
 -- the looks leave whether the domain may give pools back
 pub still_returns : (k : Config) (x y : DomainView) → y ≡ with_looks x y → Returns k x → Returns k y
@@ -61,16 +65,30 @@ module _ (pool found number : ℕ) (x y : DomainView) (same : number ≡ y.own.n
         (λ u. subst (CountedPool pool x) (sym u.1) record { view = refl; next = refl })
         told.told
 
-  module _ (told : SweepOwnTold pool x found y) (next : pool ≡ x.own.swept.spot.pool) where
+  module _ (k : Config) (told : SweepOwnTold k pool x found y) (inside : pool < k.pools) (next : pool ≡ x.own.swept.spot.pool) where
     sweeps_number : number ≡ x.own.number
     sweeps_number = same ∙ ⊎_elim (λ u. ap (λ (v : DomainView). v.own.number) u.2) (λ u. ap (λ (v : DomainView). v.own.number) u.1) told.told
 
     sweeps_onward : ((class : ℕ) → IsAmong class x.own found → ⊥) → Onward x y 0
     sweeps_onward none = ⊎_elim
         (λ u. absurd (none u.0 u.1))
-        (λ u. inr (subst (λ (v : DomainView). x.own.swept.spot.pool < v.own.swept.spot.pool) (sym u.1) (let p : ℕ = x.own.swept.spot.pool in let e : pool ≡ p = next in let g : p < pool + 1 = omega arith in g)))
+        (λ u. inr (subst (λ (v : DomainView). x.own.swept.spot.pool < v.own.swept.spot.pool) (sym u.1) (subst (λ (p : ℕ). p < pool_after k.pools x.own.swept.top pool) next (after_later k.pools x.own.swept.top pool inside))))
         told.told
 
     -- the sweep goes on behind a pool of somebody else
     pub onward_other : ((class : ℕ) → class < class_count → found ≢ owner_word (owned number class)) → Onward x y 0
     onward_other none = sweeps_onward (λ class a. none class a.0 (subst (λ (d : ℕ). found ≡ owner_word (owned d class)) (sym sweeps_number) a.1))
+
+    -- and sweeps nothing
+    pub other_swept : ((class : ℕ) → class < class_count → found ≢ owner_word (owned number class)) → Sweeps x y 0
+    other_swept none = ⊎_elim
+        (λ u. absurd (none u.0 u.1.0 (subst (λ (d : ℕ). found ≡ owner_word (owned d u.0)) (sym sweeps_number) u.1.1)))
+        (λ u. subst (λ (v : DomainView). Sweeps x v 0) (sym u.1) record {
+          view = refl;
+          colours = refl;
+          ephemerons = refl;
+          listed = refl;
+          looked = looks_still x;
+          on = swept_none x (record x { own = sweeping_from x.own (record { pool = pool_after k.pools x.own.swept.top pool; slot = 0 }) }) refl (inl (subst (λ (p : ℕ). p < pool_after k.pools x.own.swept.top pool) next (after_later k.pools x.own.swept.top pool inside)));
+        })
+        told.told

@@ -55,17 +55,17 @@ pub record CountedPool (pool : ℕ) (x y : DomainView) : Type 0 where
   pub view : y ≡ with_count x y
   pub next : y.seen.share.counted_to ≡ record { pool = pool + 1; slot = 0 }
 
--- in all pools
-pub record CountedAll (k : Config) (x y : DomainView) : Type 0 where
+-- in all own pools
+pub record CountedAll (x y : DomainView) : Type 0 where
   pub view : y ≡ with_count x y
-  pub whole : k.pools ≤ y.seen.share.counted_to.pool
+  pub whole : x.own.swept.top ≤ y.seen.share.counted_to.pool
 
 -- the domain with what it has counted added to the live words
 abbrev pub adding : DomainView → DomainView
 adding x = record x { seen = record x.seen { share = record x.seen.share { added_blocks = true; added_words = true } } }
 
 -- and has added how many blocks that is and how many words these have, each once
-pub record CountedLive (k : Config) (x y : DomainView) : Type 0 where
+pub record CountedLive (x y : DomainView) : Type 0 where
   pub view : y ≡ adding (with_count x y)
-  pub whole : k.pools ≤ y.seen.share.counted_to.pool
+  pub whole : x.own.swept.top ≤ y.seen.share.counted_to.pool
   pub added : (y.seen.share.added_blocks ≡ true) × (y.seen.share.added_words ≡ true)

@@ -4,10 +4,19 @@ use Rattle.heap_rule.specs.declared.config.Config.{Config}
 use Rattle.heap_rule.specs.declared.view.DomainView.{DomainView}
 use Rattle.heap_rule.specs.Pools.{blocks_of}
 use Rattle.steps_sweep.specs.Holding.{Returns}
+use Rattle.steps_sweep.specs.Returning.{topped}
 
 -- the domain with what these looks change as another has it
 abbrev pub with_looks : DomainView → DomainView → DomainView
-with_looks x y = record x { seen = record x.seen { share = record x.seen.share { own_pool = y.seen.share.own_pool; held = y.seen.share.held; vacant = y.seen.share.vacant; reaping = y.seen.share.reaping } } }
+with_looks x y = record x { seen = record x.seen { listing = y.seen.listing; share = record x.seen.share { own_pool = y.seen.share.own_pool; held = y.seen.share.held; vacant = y.seen.share.vacant; reaping = y.seen.share.reaping } } }
+
+-- the domain with the top as another has it
+abbrev pub sunk : DomainView → DomainView → DomainView
+sunk x y = record x { own = topped x.own y.own.swept.top }
+
+-- and with what the looks change too
+abbrev pub with_returns : DomainView → DomainView → DomainView
+with_returns x y = record (with_looks x y) { own = topped x.own y.own.swept.top }
 
 -- it may give pools back, and looks at a pool next, of which it knows nothing
 pub record LooksFrom (k : Config) (x : DomainView) (pool : ℕ) : Type 0 where

@@ -93,15 +93,16 @@ fn count_pools(heap: &Heap, dom: &mut Domain) -> LiveCount
     requires counts { IsCounting heap.now.config dom.old.view }
     requires nothing { HasCountedNothing dom.old.view }
     ensures here { IsIn dom.new heap.now }
-    ensures counted { CountedAll heap.now.config dom.old.view dom.new.view }
+    ensures counted { CountedAll dom.old.view dom.new.view }
     ensures count { IsLiveCount result (heap.now.config.pools * 1024) dom.new.view }
 {
-    let pools = heap.config().pools;
+    let _limits = heap.config();
+    let top = dom.swept().top;
     let mut sum = LiveCount {
         blocks: 0,
         words: 0,
     };
-    for pool in 0..pools {
+    for pool in 0..top {
         sum = count_pool(heap, dom, pool, sum);
     }
     sum
@@ -118,7 +119,7 @@ pub fn count_own(heap: &Heap, dom: &mut Domain)
     requires swept { heap.now.config.pools ≤ dom.old.view.own.swept.spot.pool }
     requires nothing { HasCountedNothing dom.old.view }
     ensures here { IsIn dom.new heap.now }
-    ensures counted { CountedLive heap.now.config dom.old.view dom.new.view }
+    ensures counted { CountedLive dom.old.view dom.new.view }
 {
     let _limits = heap.config();
     let sum = count_pools(heap, dom);

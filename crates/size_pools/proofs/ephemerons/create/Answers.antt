@@ -4,7 +4,7 @@ use Rattle.heap_rule.specs.declared.view.Own.{Own}
 use Rattle.size_classes.specs.Table.{IsLeastFor}
 use Rattle.size_classes.specs.declared.TheConstants.{SIZES}
 use Rattle.size_pools.specs.Taken.{HasPlace}
-use Rattle.size_pools.proofs.Seeking.{sought_view, more_room}
+use Rattle.size_pools.proofs.Seeking.{below_view, more_room}
 use Rattle.size_pools.proofs.Writing.{searched_runs, taken_room, taken_puts, has_still, least_one}
 use Rattle.size_pools.proofs.Creating.{taken_lists}
 use Rattle.size_pools.proofs.ephemerons.create.Goals as goal
@@ -12,7 +12,7 @@ use Rattle.size_pools.proofs.ephemerons.create.Goals as goal
 pub write_ephemeron-requires : goal.write_ephemeron-requires
 write_ephemeron-requires c =
     let t = c.in_ok-at.ensures.took in
-    let view = sought_view c.args.heap.now.config c.args.dom.now.view c.take.new.dom.view _ t.view in
+    let view = below_view c.args.heap.now.config c.args.dom.now.view c.take.new.dom.view _ t.view in
     let least = subst (λ (n : ℕ). IsLeastFor SIZES (n + 3) c.class_for-class.result) c.from.ensures c.class_for-class.ensures.least in (
       refl,
       (
