@@ -33,14 +33,24 @@ impl Domain<'_> {
         }
     }
 
-    pub fn mark_queue(&mut self) {
+    /// Marks what the queue keeps alive, and tells whether it marked anything.
+    fn mark_queue(&mut self) -> bool {
         let colours = self.heap.colours();
+        let mut darkened = false;
         for i in 0..self.finalisers.queue.len() {
             if let Waiting::Fin(registered) = self.finalisers.queue[i]
                 && self.darken(registered.address, colours)
             {
                 self.note(registered.address);
+                darkened = true;
             }
+        }
+        darkened
+    }
+
+    pub fn mark_queued(&mut self) {
+        if self.mark_queue() {
+            self.heap.store(CHANGED, 1);
         }
     }
 

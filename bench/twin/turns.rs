@@ -288,7 +288,7 @@ impl Domain<'_> {
             Kind::Mark => self.mark_round(),
             Kind::Rounds => self.follow_ephemerons(),
             Kind::Decide => self.decide(),
-            Kind::Queued => self.mark_queue(),
+            Kind::Queued => self.mark_queued(),
             Kind::Clean => self.clean_ephemerons(),
             Kind::Lasts => {
                 self.decide_last();
@@ -314,12 +314,12 @@ impl Domain<'_> {
             Kind::Promote => Kind::Reset,
             Kind::Reset => self.after_reset(progress),
             Kind::Roots => self.after_roots(),
-            Kind::Queued => Kind::Mark,
-            Kind::Mark | Kind::Rounds if heap.load(CHANGED) != 0 => Kind::Mark,
+            Kind::Mark | Kind::Rounds | Kind::Queued if heap.load(CHANGED) != 0 => Kind::Mark,
             Kind::Mark => Kind::Rounds,
             Kind::Rounds if progress.is_cut => Kind::Clean,
             Kind::Rounds => Kind::Decide,
             Kind::Decide => Kind::Queued,
+            Kind::Queued => Kind::Clean,
             Kind::Clean => Kind::Lasts,
             Kind::Lasts => self.after_lasts(),
             Kind::Sweep => self.after_sweep(progress),

@@ -205,10 +205,10 @@ module _ (n : ℕ) (y : Layout) (s : State) (marked : Label → Bool) (w : Share
     low = i.low;
   }
 
-  pub clean_arrives : (d : ℕ) → w.owes d ≡ false → ((a : ℕ) → y.owner a ≡ Some d → IsTrue (w.seen d a)) → InClean n y s marked (arrives w d)
-  clean_arrives d paid all = record {
+  pub clean_arrives : (d : ℕ) → ((a : ℕ) → y.owner a ≡ Some d → IsTrue (w.seen d a)) → InClean n y s marked (arrives w d)
+  clean_arrives d all = record {
     mode = i.mode;
-    shares = shares_arrives n y w i.shares d paid all;
+    shares = shares_arrives n y w i.shares d all;
     owned = i.owned;
     marks = i.marks;
     taken = i.taken;

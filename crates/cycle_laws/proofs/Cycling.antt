@@ -17,17 +17,18 @@ use Rattle.heap_model.specs.Entries.{Allowed, next, is_some_and, is_rising, is_s
 use Rattle.heap_model.proofs.Collections.CutLemmas.{part_same}
 use Rattle.heap_model.proofs.Reach.ReachLemmas.{has-append_left}
 use Rattle.cycle_laws.specs.Marks.{Marks, darkened, with_scanned, FieldsMarked, KeysMarked, DataMarked, NoneGrey, DataFollows, IsWhole}
-use Rattle.cycle_laws.specs.Shares.{Layout, OnePlaceEach, reset_shares, no_shares, at_domain, again, owing, stored_changed, sees, arrives, AllArrived, AllOwned}
-use Rattle.cycle_laws.specs.Queueing.{RootsMarked, IsDecided}
+use Rattle.cycle_laws.specs.Shares.{Layout, OnePlaceEach, reset_shares, no_shares, at_domain, owing, following, settles, stored_changed, sees, arrives, AllArrived, AllOwned, Shares}
+use Rattle.cycle_laws.specs.Queueing.{RootsMarked, IsDecided, InRoots}
 use Rattle.cycle_laws.specs.Taking.{LeadsToMarked}
-use Rattle.cycle_laws.specs.Cycle.{Cycle, Pass, First, Second, Roots, Mark, Rounds, Decide, Clean, Lasts, Sweep, WholeFrom, Passed, IsRooted, IsUnderWay, Known, InPhase, with_shares, with_marks}
-use Rattle.cycle_laws.specs.CycleLaws.{Darkens, Arrives, DarkeningSteps, TakingSteps, PhaseSteps}
+use Rattle.cycle_laws.specs.Cycle.{Cycle, Pass, First, Second, Roots, Mark, Rounds, Decide, Clean, Lasts, Sweep, WholeFrom, Passed, IsRooted, IsUnderWay, Known, InPhase, with_shares, with_marks, IsPastDecide}
+use Rattle.cycle_laws.specs.CycleLaws.{Darkens, SeesAll, ArrivesMarking, Arrives, DarkeningSteps, TakingSteps, PhaseSteps}
 use Rattle.cycle_laws.proofs.LookingBack.{through_looks, through_arrives}
 use Rattle.cycle_laws.proofs.Tracing.{More, holds_more, darkened_more, never, held_fields, darken_traced, darken_whole, scan_traced, closed_when}
-use Rattle.cycle_laws.proofs.Sharing.{at_cases, owned_darkened, mark_start, mark_darkens_own as shares_darken_own, mark_darkens_other as shares_darken_other, mark_scans as shares_scan, mark_stores as shares_store, mark_sees, mark_arrives as shares_arrive, mark_end, rounds_start, rounds_darkens as rounds_darken, rounds_scans as rounds_scan, rounds_stores as rounds_store, rounds_sees, rounds_arrives as rounds_arrive, rounds_end}
+use Rattle.cycle_laws.proofs.Sharing.{at_cases, owned_darkened, mark_start, mark_darkens as shares_darken, mark_settles as shares_settle, mark_scans as shares_scan, mark_stores as shares_store, mark_sees, mark_arrives as shares_arrive, mark_end, rounds_start, rounds_darkens as rounds_darken, rounds_scans as rounds_scan, rounds_stores as rounds_store, rounds_sees, rounds_arrives as rounds_arrive, rounds_end}
 use Rattle.cycle_laws.proofs.Covering.{cover_darkens, cover_scans, cover_closed}
 use Rattle.cycle_laws.proofs.DomainParts.{part_has, roots_end}
 use Rattle.cycle_laws.proofs.Deciding as deciding
+use Rattle.cycle_laws.proofs.Queueing.{queued_start, queued_owing, queued_stored, queued_arrived, queued_end}
 use Rattle.cycle_laws.proofs.Cleaning as cleaning
 use Rattle.cycle_laws.proofs.Leaving as leaving
 
@@ -108,24 +109,26 @@ known_rooted : (pass : Pass) (s : State) (y : Layout) (m : Marks) → IsRooted s
 known_rooted First s y m i = inl i
 known_rooted Second s y m i = i
 
+-- the roots of whoever has arrived stay marked as a block is darkened, and as another arrives whose roots are marked
+module _ (s : State) (marked : Label → Bool) (w : Shares) (i : InRoots s marked w) where
+  in_roots_more : (other : Label → Bool) → More marked other → InRoots s other w
+  in_roots_more other more d h = let was = i d h in record {
+    registers = holds_more marked other more (filter_map label_of (domain_at s d).registers) was.registers;
+    queue = holds_more marked other more (filter_map pending_label (domain_at s d).queue) was.queue;
+  }
+
+  in_roots_arrives : (d : ℕ) → RootsMarked s marked d → InRoots s marked (arrives w d)
+  in_roots_arrives d own j h = ⊎_elim
+      (λ t. subst (RootsMarked s marked) (sym t.0) own)
+      (λ t. i j (subst (λ b. IsTrue b) t.1 h))
+      (at_cases w.arrived d true j)
+
 module _ (pass : Pass) (n : ℕ) (s : State) (c : Cycle) where
   whole_darkens : (d k a : ℕ) (l : Label) → Darkens n s c d k a l → WholeFrom (roots s (queues s)) s c.whole c.marks.marked
       → WholeFrom (roots s (queues s)) s c.whole (darkened c.marks l).marked
   whole_darkens d k a l may whole is = darken_whole s.graph (roots s (queues s)) c.marks may.graph (whole is) l (may.may is)
 
   -- Roots, in both passes
-  pub roots_darkens : InPhase (Roots pass) n s c → (d k a : ℕ) (l : Label) → Darkens n s c d k a l → InPhase (Roots pass) n s (with_marks c (darkened c.marks l))
-  roots_darkens i d k a l may = record {
-    traced = darken_traced s.graph c.marks l i.traced;
-    owned = owned_darkened n c.layout c.marks l k a may.owner_inside may.lives may.owned i.owned;
-    whole = whole_darkens d k a l may i.whole;
-    passed = passed_more pass s c.whole c.marks.marked (darkened c.marks l).marked (darkened_more c.marks l) i.passed;
-    marked = λ j h. let was = i.marked j h in record {
-      registers = holds_more c.marks.marked (darkened c.marks l).marked (darkened_more c.marks l) (filter_map label_of (domain_at s j).registers) was.registers;
-      queue = holds_more c.marks.marked (darkened c.marks l).marked (darkened_more c.marks l) (filter_map pending_label (domain_at s j).queue) was.queue;
-    };
-  }
-
   pub roots_scans : InPhase (Roots pass) n s c → (l : Label) → FieldsMarked s.graph c.marks.marked l → InPhase (Roots pass) n s (with_marks c (with_scanned c.marks l))
   roots_scans i l fields = record {
     traced = scan_traced s.graph c.marks l fields i.traced;
@@ -133,36 +136,26 @@ module _ (pass : Pass) (n : ℕ) (s : State) (c : Cycle) where
     whole = i.whole;
     passed = i.passed;
     marked = i.marked;
-  }
-
-  pub roots_arrives : InPhase (Roots pass) n s c → (d : ℕ) → RootsMarked s c.marks.marked d → InPhase (Roots pass) n s (with_shares c (arrives c.shares d))
-  roots_arrives i d own = record {
-    traced = i.traced;
-    owned = i.owned;
-    whole = i.whole;
-    passed = i.passed;
-    marked = λ j h. ⊎_elim
-        (λ t. subst (RootsMarked s c.marks.marked) (sym t.0) own)
-        (λ t. i.marked j (subst (λ b. IsTrue b) t.1 h))
-        (at_cases c.shares.arrived d true j);
+    queued = i.queued;
   }
 
   -- Mark
   module _ (i : InPhase (Mark pass) n s c) where
-    pub mark_darkens_own : OnePlaceEach c.layout → (d a : ℕ) (l : Label) → Darkens n s c d d a l → InPhase (Mark pass) n s (with_shares (with_marks c (darkened c.marks l)) (again c.shares d a))
-    mark_darkens_own one d a l may = record {
-      known = known_darkens s c.layout c.marks l pass a may.lives i.known;
-      whole = whole_darkens d d a l may i.whole;
-      passed = passed_more pass s c.whole c.marks.marked (darkened c.marks l).marked (darkened_more c.marks l) i.passed;
-      mark = shares_darken_own n c.layout c.marks c.shares i.mark one d a l may.inside may.lives may.owned may.acts;
-    }
-
-    pub mark_darkens_other : (d k a : ℕ) (l : Label) → Darkens n s c d k a l → InPhase (Mark pass) n s (with_shares (with_marks c (darkened c.marks l)) (owing c.shares d))
-    mark_darkens_other d k a l may = record {
+    pub mark_darkens : OnePlaceEach c.layout → (d k a : ℕ) (l : Label) → Darkens n s c d k a l → InPhase (Mark pass) n s (with_shares (with_marks c (darkened c.marks l)) (following c.shares d a))
+    mark_darkens one d k a l may = record {
       known = known_darkens s c.layout c.marks l pass a may.lives i.known;
       whole = whole_darkens d k a l may i.whole;
       passed = passed_more pass s c.whole c.marks.marked (darkened c.marks l).marked (darkened_more c.marks l) i.passed;
-      mark = shares_darken_other n c.layout c.marks c.shares i.mark d k a l may.inside may.owner_inside may.lives may.owned may.acts;
+      mark = shares_darken n c.layout c.marks c.shares i.mark one d k a l may.inside may.owner_inside may.lives may.owned may.unmarked may.acts;
+    }
+
+    pub mark_settles : (d a : ℕ) → ((l : Label) → c.layout.live a ≡ Some l → IsTrue (c.marks.marked l) → IsTrue (c.marks.scanned l))
+        → InPhase (Mark pass) n s (with_shares c (settles c.shares d a))
+    mark_settles d a scanned = record {
+      known = i.known;
+      whole = i.whole;
+      passed = i.passed;
+      mark = shares_settle n c.layout c.marks c.shares i.mark d a scanned;
     }
 
     pub mark_scans : (l : Label) → FieldsMarked s.graph c.marks.marked l → InPhase (Mark pass) n s (with_marks c (with_scanned c.marks l))
@@ -190,12 +183,12 @@ module _ (pass : Pass) (n : ℕ) (s : State) (c : Cycle) where
       mark = mark_sees n c.layout c.marks c.shares i.mark d a at scanned;
     }
 
-    pub mark_arrives : (d : ℕ) → Arrives c d → InPhase (Mark pass) n s (with_shares c (arrives c.shares d))
+    pub mark_arrives : (d : ℕ) → ArrivesMarking c d → InPhase (Mark pass) n s (with_shares c (arrives c.shares d))
     mark_arrives d may = record {
       known = i.known;
       whole = i.whole;
       passed = i.passed;
-      mark = shares_arrive n c.layout c.marks c.shares i.mark d may.paid may.all;
+      mark = shares_arrive n c.layout c.marks c.shares i.mark d may.settled may.all;
     }
 
     -- to Mark again, and to Rounds
@@ -239,6 +232,14 @@ module _ (pass : Pass) (n : ℕ) (s : State) (c : Cycle) where
       whole = i.whole;
       passed = i.passed;
       rounds = rounds_store n c.layout s.graph c.before c.marks c.shares i.rounds d;
+    }
+
+    pub rounds_settles : (d a : ℕ) → InPhase (Rounds pass) n s (with_shares c (settles c.shares d a))
+    rounds_settles d a = record {
+      known = i.known;
+      whole = i.whole;
+      passed = i.passed;
+      rounds = let r = i.rounds in record { shares = record { own = r.shares.own; all = r.shares.all }; owned = r.owned; paid = r.paid; stays = r.stays; scanned = r.scanned; same = λ quiet. r.same (record { unchanged = quiet.unchanged; paid = quiet.paid }); data_marked = r.data_marked };
     }
 
     pub rounds_looks : (d a : ℕ) → c.layout.owner a ≡ Some d → ((l : Label) → c.layout.live a ≡ Some l → IsTrue (c.before l) → KeysMarked s.graph c.before l → DataMarked s.graph c.marks.marked l)
@@ -285,6 +286,28 @@ module _ (pass : Pass) (n : ℕ) (s : State) (c : Cycle) where
   }
 
 module _ (n : ℕ) (s : State) (c : Cycle) where
+  -- the first Roots
+  module _ (i : InPhase (Roots First) n s c) where
+    pub roots_darkens : (d k a : ℕ) (l : Label) → Darkens n s c d k a l → InPhase (Roots First) n s (with_marks c (darkened c.marks l))
+    roots_darkens d k a l may = record {
+      traced = darken_traced s.graph c.marks l i.traced;
+      owned = owned_darkened n c.layout c.marks l k a may.owner_inside may.lives may.owned i.owned;
+      whole = whole_darkens First n s c d k a l may i.whole;
+      passed = i.passed;
+      marked = in_roots_more s c.marks.marked c.shares i.marked (darkened c.marks l).marked (darkened_more c.marks l);
+      queued = tt;
+    }
+
+    pub roots_arrives : (d : ℕ) → RootsMarked s c.marks.marked d → InPhase (Roots First) n s (with_shares c (arrives c.shares d))
+    roots_arrives d own = record {
+      traced = i.traced;
+      owned = i.owned;
+      whole = i.whole;
+      passed = i.passed;
+      marked = in_roots_arrives s c.marks.marked c.shares i.marked d own;
+      queued = tt;
+    }
+
   pub begins : s.mode ≡ Open → ((l : Label) → c.marks.marked l ≡ false) → InPhase (Roots First) n s (with_shares c no_shares)
   begins open_mode none = record {
     traced = λ l h. absurd (never (c.marks.marked l) (none l) h);
@@ -292,6 +315,7 @@ module _ (n : ℕ) (s : State) (c : Cycle) where
     whole = λ is l h. absurd (never (c.marks.marked l) (none l) h);
     passed = open_mode;
     marked = λ d h. cc;
+    queued = tt;
   }
 
   -- or it was under way
@@ -368,30 +392,70 @@ module _ (n : ℕ) (s : State) (c : Cycle) where
             rooted = i.decide.roots;
           };
           marked = λ d h. cc;
+          queued = queued_start n s c.marks.marked i.decide.closed;
         }
 
   -- in the second Roots a domain has its own queue to darken: its registers were marked at the cut
-  pub queued_arrives : InPhase (Roots Second) n s c → (d : ℕ) → HoldsRoots (filter_map pending_label (domain_at s d).queue) c.marks.marked
-      → InPhase (Roots Second) n s (with_shares c (arrives c.shares d))
-  queued_arrives i d queue = roots_arrives Second n s c i d (record {
-    registers = λ l h. i.passed.rooted l (has-append_left (flat_map (λ x. filter_map label_of x.registers) s.domains) (flat_map (filter_map pending_label) s.cut) l
-        (part_has (λ x. filter_map label_of x.registers) s.domains d refl l h));
-    queue = queue;
-  })
+  module _ (i : InPhase (Roots Second) n s c) where
+    pub queued_darkens : (d k a : ℕ) (l : Label) → Darkens n s c d k a l → InPhase (Roots Second) n s (with_shares (with_marks c (darkened c.marks l)) (owing c.shares d))
+    queued_darkens d k a l may = record {
+      traced = darken_traced s.graph c.marks l i.traced;
+      owned = owned_darkened n c.layout c.marks l k a may.owner_inside may.lives may.owned i.owned;
+      whole = whole_darkens Second n s c d k a l may i.whole;
+      passed = passed_more Second s c.whole c.marks.marked (darkened c.marks l).marked (darkened_more c.marks l) i.passed;
+      marked = in_roots_more s c.marks.marked c.shares i.marked (darkened c.marks l).marked (darkened_more c.marks l);
+      queued = queued_owing n s c.marks.marked c.shares i.queued d (darkened c.marks l).marked may.inside may.acts;
+    }
 
-  -- the entry Seal
+    pub queued_stores : (d : ℕ) → InPhase (Roots Second) n s (with_shares c (stored_changed c.shares d))
+    queued_stores d = record {
+      traced = i.traced;
+      owned = i.owned;
+      whole = i.whole;
+      passed = i.passed;
+      marked = i.marked;
+      queued = queued_stored n s c.marks.marked c.shares i.queued d;
+    }
+
+    pub queued_arrives : (d : ℕ) → c.shares.owes d ≡ false → HoldsRoots (filter_map pending_label (domain_at s d).queue) c.marks.marked
+        → InPhase (Roots Second) n s (with_shares c (arrives c.shares d))
+    queued_arrives d paid queue = record {
+      traced = i.traced;
+      owned = i.owned;
+      whole = i.whole;
+      passed = i.passed;
+      marked = in_roots_arrives s c.marks.marked c.shares i.marked d (record {
+        registers = λ l h. i.passed.rooted l (has-append_left (flat_map (λ x. filter_map label_of x.registers) s.domains) (flat_map (filter_map pending_label) s.cut) l
+            (part_has (λ x. filter_map label_of x.registers) s.domains d refl l h));
+        queue = queue;
+      });
+      queued = queued_arrived n s c.marks.marked c.shares i.queued d paid;
+    }
+
+  -- the entry Seal, where what is marked is closed and holds the roots
+  sealed_clean : AllOwned n c.layout c.marks.marked → WholeFrom (roots s (queues s)) s c.whole c.marks.marked → IsPastDecide s c.whole c.marks.marked
+      → HoldsRoots (roots s (queues s)) c.marks.marked → IsClosedUnder s.graph c.marks.marked → Allowed s Seal × InPhase Clean n (next s Seal) (with_shares c no_shares)
+  sealed_clean owned whole passed rooted closed = (
+    passed.decided.seal,
+    record {
+      whole = λ is. cleaning.whole_seal s c.marks.marked (whole is);
+      waiting = λ is. cleaning.waiting_seal s (passed.waiting is);
+      stays = cleaning.cut_stays_seal s passed.stays;
+      clean = cleaning.clean_start n c.layout s c.marks.marked owned (record { roots = rooted; waiting = passed.decided.waiting; closed = closed });
+    },
+  )
+
+  pub queued_clean : n ≡ length s.domains → InPhase (Roots Second) n s c → AllArrived n c.shares → c.shares.changed ≡ false
+      → Allowed s Seal × InPhase Clean n (next s Seal) (with_shares c no_shares)
+  queued_clean count i arrived unchanged = sealed_clean i.owned i.whole i.passed
+      (roots_end s c.marks.marked c.shares i.marked (subst (λ z. AllArrived z c.shares) count arrived))
+      (queued_end n s c.marks.marked c.shares i.queued arrived unchanged)
+
   pub rounds_clean : InPhase (Rounds Second) n s c → AllArrived n c.shares → c.shares.changed ≡ false
       → Allowed s Seal × InPhase Clean n (next s Seal) (with_shares c no_shares)
   rounds_clean i arrived unchanged =
-      let t = rounds_closed Second n s c i arrived unchanged in (
-        i.passed.decided.seal,
-        record {
-          whole = λ is. cleaning.whole_seal s c.marks.marked (i.whole is);
-          waiting = λ is. cleaning.waiting_seal s (i.passed.waiting is);
-          stays = cleaning.cut_stays_seal s i.passed.stays;
-          clean = cleaning.clean_start n c.layout s c.marks.marked i.rounds.owned (record { roots = t.0; waiting = i.passed.decided.waiting; closed = t.1 });
-        },
-      )
+      let t = rounds_closed Second n s c i arrived unchanged in
+      sealed_clean i.rounds.owned i.whole i.passed t.0 t.1
 
   -- Clean
   module _ (i : InPhase Clean n s c) where
@@ -423,9 +487,9 @@ module _ (n : ℕ) (s : State) (c : Cycle) where
       stays = i.stays;
     }
 
-    pub clean_arrives : (d : ℕ) → Arrives c d → InPhase Clean n s (with_shares c (arrives c.shares d))
-    clean_arrives d may = record {
-      clean = cleaning.clean_arrives n c.layout s c.marks.marked c.shares i.clean d may.paid may.all;
+    pub clean_arrives : (d : ℕ) → SeesAll c d → InPhase Clean n s (with_shares c (arrives c.shares d))
+    clean_arrives d all = record {
+      clean = cleaning.clean_arrives n c.layout s c.marks.marked c.shares i.clean d all;
       whole = i.whole;
       waiting = i.waiting;
       stays = i.stays;
@@ -521,9 +585,11 @@ pub darkening_steps : DarkeningSteps
 darkening_steps = record {
   roots_darkens = roots_darkens;
   roots_arrives = roots_arrives;
+  queued_darkens = queued_darkens;
+  queued_stores = queued_stores;
   queued_arrives = queued_arrives;
-  mark_darkens_own = mark_darkens_own;
-  mark_darkens_other = mark_darkens_other;
+  mark_darkens = mark_darkens;
+  mark_settles = mark_settles;
   mark_scans = mark_scans;
   roots_scans = roots_scans;
   rounds_scans = rounds_scans;
@@ -531,6 +597,7 @@ darkening_steps = record {
   mark_looks = mark_looks;
   mark_arrives = mark_arrives;
   rounds_darkens = rounds_darkens;
+  rounds_settles = rounds_settles;
   rounds_stores = rounds_stores;
   rounds_looks = rounds_looks;
   rounds_arrives = rounds_arrives;
@@ -560,6 +627,7 @@ phase_steps = record {
   rounds_mark = rounds_mark;
   rounds_decide = rounds_decide;
   decide_queued = λ n s k count i. decide_queued n s k i count;
+  queued_clean = queued_clean;
   rounds_clean = rounds_clean;
   clean_lasts = clean_lasts;
   lasts_sweep = λ n s k count i. lasts_sweep n s k i count;

@@ -1,13 +1,13 @@
 -- The marking ends: each phase of it that asks for another one has marked a block more.
-use Rattle.std.proofs.Common.{◌≡◌, ℕ, ◌+◌, ◌*◌, ◌<◌, ◌≤◌, Bool, true, false, cond, ◌||◌, ◌==◌, ◌⊎◌, IsTrue, List, [], ◌∷◌, length, inl, inr, ⊎_elim, refl, sym, ap, ◌∙◌, subst, arith}
-use Rattle.std.proofs.lemmas.Bool.{cases_eq, false≢true}
+use Rattle.std.proofs.Common.{◌≡◌, ℕ, ◌+◌, ◌*◌, ◌<◌, ◌≤◌, Bool, true, false, cond, ◌==◌, ◌⊎◌, IsTrue, List, [], ◌∷◌, length, inl, inr, ⊎_elim, refl, sym, ap, ◌∙◌, subst, arith}
+use Rattle.std.proofs.lemmas.Bool.{false≢true}
 use Rattle.heap_model.specs.declared.label.Label.{Label}
 use Rattle.heap_model.specs.Graph.{has_label, same_label}
 use Rattle.heap_model.proofs.Graphs.GraphLemmas.{same_label-true, same_label_refl}
 use Rattle.heap_model.proofs.Reach.ReachLemmas.{or_cases, or_left}
 use Rattle.cycle_laws.specs.Marks.{Marks, darkened}
-use Rattle.cycle_laws.specs.Shares.{Shares, again, arrives, at_domain, no_shares, owing, sees, stored_changed}
-use Rattle.cycle_laws.specs.Ending.{Answering, Cleaning, Deciding, First, Freeing, GoesOn, Halted, IsGrowing, Leaving, MarkedSince, Marking, Place, Promoting, Queueing, Resetting, Rooting, Rounding, Running, Second, Turn, leads_to, pause_left, phases_left, unmarked_of}
+use Rattle.cycle_laws.specs.Shares.{Shares, arrives, at_domain, following, no_shares, owing, sees, settles, stored_changed}
+use Rattle.cycle_laws.specs.Ending.{Answering, Cleaning, Deciding, First, Freeing, GoesOn, Halted, IsGrowing, Leaving, MarkedSince, Marking, Place, Promoting, Queueing, Resetting, Rooting, Rounding, Running, Second, leads_to, pause_left, unmarked_of}
 use Rattle.cycle_laws.proofs.Tracing.{darkened_more, never}
 
 -- where more is marked no more is unmarked
@@ -66,15 +66,7 @@ module _ (all : List Label) (before : Label → Bool) (m : Marks) (w : Shares) (
   pub begins_growing : (marked : Label → Bool) → IsGrowing all marked marked no_shares
   begins_growing marked = record { stays = λ l is. is; changed = λ is. absurd (false≢true is); owing = λ d is. absurd (false≢true is) }
 
-  -- a block is darkened where the domain looks again itself
-  pub again_grows : (d a : ℕ) (l : Label) → IsGrowing all before (darkened m l).marked (again w d a)
-  again_grows d a l = record {
-    stays = λ k is. darkened_more m l k (g.stays k is);
-    changed = λ is. since_more all before m.marked (darkened m l).marked (darkened_more m l) (g.changed is);
-    owing = λ e is. since_more all before m.marked (darkened m l).marked (darkened_more m l) (g.owing e is);
-  }
-
-  -- or where the domain owes a store of the changed word: the block was unmarked
+  -- a block is darkened that was unmarked
   pub owing_grows : (d : ℕ) (l : Label) → m.marked l ≡ false → IsTrue (has_label all l) → IsGrowing all before (darkened m l).marked (owing w d)
   owing_grows d l un inside = record {
     stays = λ k is. darkened_more m l k (g.stays k is);
@@ -85,6 +77,13 @@ module _ (all : List Label) (before : Label → Bool) (m : Marks) (w : Shares) (
       unseen : (b : Bool) → before l ≡ b → before l ≡ false
       unseen true is = absurd (never (m.marked l) un (g.stays l is))
       unseen false is = is
+
+  -- so it does in Mark, where the domain follows it until it is scanned
+  pub following_grows : (d a : ℕ) (l : Label) → m.marked l ≡ false → IsTrue (has_label all l) → IsGrowing all before (darkened m l).marked (following w d a)
+  following_grows d a l un inside = let o = owing_grows d l un inside in record { stays = o.stays; changed = o.changed; owing = o.owing }
+
+  pub settles_grows : (d a : ℕ) → IsGrowing all before m.marked (settles w d a)
+  settles_grows d a = record { stays = g.stays; changed = g.changed; owing = g.owing }
 
   -- the changed word is stored by one that owes that
   pub stored_grows : (d : ℕ) → w.owes d ≡ true → IsGrowing all before m.marked (stored_changed w d)
@@ -128,11 +127,8 @@ nearer all was now (First Marking) false on few less = omega (arith, less)
 nearer all was now (First Rounding) true on few less = omega (arith, less)
 nearer all was now (First Rounding) false on few less = omega (arith, less, few)
 nearer all was now Deciding changed on few less = omega arith
-nearer all was now Queueing changed on few less = second changed less
-  where
-    second : (b : Bool) → Fewer b was now → 5 + (now * 2 + 1) < 7 + all * 2
-    second true fall = omega (arith, fall, few)
-    second false fall = omega (arith, fall, few)
+nearer all was now Queueing true on few less = omega (arith, less, few)
+nearer all was now Queueing false on few less = omega arith
 nearer all was now (Second Marking) true on few less = omega (arith, less)
 nearer all was now (Second Marking) false on few less = omega (arith, less)
 nearer all was now (Second Rounding) true on few less = omega (arith, less)

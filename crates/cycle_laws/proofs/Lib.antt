@@ -3,6 +3,7 @@ pub mod Sharing
 pub mod DomainParts
 pub mod LookingBack
 pub mod Deciding
+pub mod Queueing
 pub mod Cleaning
 pub mod Leaving
 pub mod Counting

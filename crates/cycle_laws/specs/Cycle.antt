@@ -11,7 +11,7 @@ use Rattle.heap_model.specs.Domains.{queues, roots}
 use Rattle.heap_model.specs.Entries.{is_sealed}
 use Rattle.cycle_laws.specs.Marks.{Marks, IsTraced, IsWhole}
 use Rattle.cycle_laws.specs.Shares.{Layout, Shares, AllOwned, InMark, InRounds}
-use Rattle.cycle_laws.specs.Queueing.{InRoots, InDecide, IsDecided, WaitingReached, CutStays}
+use Rattle.cycle_laws.specs.Queueing.{InRoots, InQueued, InDecide, IsDecided, WaitingReached, CutStays}
 use Rattle.cycle_laws.specs.Cover.{Covering, IsCovered}
 use Rattle.cycle_laws.specs.Taking.{InClean, InLasts, IsLeft}
 
@@ -86,6 +86,11 @@ pub data Phase : Type 0 where
   Lasts : Phase
   Sweep : Phase
 
+-- what the marked blocks keep of Decide in Roots: in the first pass there was none
+abbrev pub StaysClosed : Pass → ℕ → State → (Label → Bool) → Shares → Type 0
+StaysClosed First n s marked w = Unit {0}
+StaysClosed Second n s marked w = InQueued n s marked w
+
 -- in Roots: the domains that have arrived have darkened their roots
 pub record RootsFacts (pass : Pass) (n : ℕ) (s : State) (c : Cycle) : Type 0 where
   pub traced : IsTraced s.graph c.marks
@@ -93,6 +98,7 @@ pub record RootsFacts (pass : Pass) (n : ℕ) (s : State) (c : Cycle) : Type 0 w
   pub whole : WholeFrom (roots s (queues s)) s c.whole c.marks.marked
   pub passed : Passed pass s c.whole c.marks.marked
   pub marked : InRoots s c.marks.marked c.shares
+  pub queued : StaysClosed pass n s c.marks.marked c.shares
 
 -- in Mark: each domain scans the grey blocks in its pools
 pub record MarkFacts (pass : Pass) (n : ℕ) (s : State) (c : Cycle) : Type 0 where

@@ -15,7 +15,7 @@ use Rattle.heap_model.specs.Reach.{HoldsRoots, IsClosedGraph}
 use Rattle.heap_model.specs.Domains.{domain_at, pending_label, queues, roots}
 use Rattle.heap_model.specs.Entries.{Allowed, next, is_some_and, is_rising}
 use Rattle.cycle_laws.specs.Marks.{darkened, with_scanned, FieldsMarked, KeysMarked, DataMarked, MayDarken}
-use Rattle.cycle_laws.specs.Shares.{OnePlaceEach, reset_shares, no_shares, at_domain, again, owing, stored_changed, sees, arrives, AllArrived, AllOwned}
+use Rattle.cycle_laws.specs.Shares.{OnePlaceEach, reset_shares, no_shares, at_domain, owing, following, settles, stored_changed, sees, arrives, AllArrived, AllOwned}
 use Rattle.cycle_laws.specs.Queueing.{RootsMarked}
 use Rattle.cycle_laws.specs.Taking.{LeadsToMarked}
 use Rattle.cycle_laws.specs.Cycle.{Cycle, Pass, First, Second, Roots, Mark, Rounds, Decide, Clean, Lasts, Sweep, IsUnderWay, InPhase, with_shares, with_marks}
@@ -31,26 +31,41 @@ pub record Darkens (n : ℕ) (s : State) (c : Cycle) (d k a : ℕ) (l : Label) :
   pub unmarked : c.marks.marked l ≡ false
   pub may : IsTrue c.whole → MayDarken s.graph (roots s (queues s)) c.marks.marked l
 
--- a domain may arrive: it owes nothing, and has seen all its blocks
+-- a domain has seen all its places
+abbrev pub SeesAll : Cycle → ℕ → Type 0
+SeesAll c d = (a : ℕ) → c.layout.owner a ≡ Some d → IsTrue (c.shares.seen d a)
+
+-- a domain may arrive in Mark: it follows nothing, and has seen all its places
+pub record ArrivesMarking (c : Cycle) (d : ℕ) : Type 0 where
+  pub settled : (a : ℕ) → c.shares.follows d a ≡ false
+  pub all : SeesAll c d
+
+-- a domain may arrive in Rounds: it owes nothing, and has seen all its places
 pub record Arrives (c : Cycle) (d : ℕ) : Type 0 where
   pub paid : c.shares.owes d ≡ false
-  pub all : (a : ℕ) → c.layout.owner a ≡ Some d → IsTrue (c.shares.seen d a)
+  pub all : SeesAll c d
 
 -- the steps of Roots, Mark and Rounds
 pub record DarkeningSteps : Type 0 where
   -- Roots: a root is darkened, and a domain arrives whose roots are marked
-  pub roots_darkens : (pass : Pass) (n : ℕ) (s : State) (c : Cycle) → InPhase (Roots pass) n s c → (d k a : ℕ) (l : Label) → Darkens n s c d k a l
-      → InPhase (Roots pass) n s (with_marks c (darkened c.marks l))
-  pub roots_arrives : (pass : Pass) (n : ℕ) (s : State) (c : Cycle) → InPhase (Roots pass) n s c → (d : ℕ) → RootsMarked s c.marks.marked d
-      → InPhase (Roots pass) n s (with_shares c (arrives c.shares d))
-  -- in the second pass only its queue has grown, so it suffices that this is marked
-  pub queued_arrives : (n : ℕ) (s : State) (c : Cycle) → InPhase (Roots Second) n s c → (d : ℕ) → HoldsRoots (filter_map pending_label (domain_at s d).queue) c.marks.marked
-      → InPhase (Roots Second) n s (with_shares c (arrives c.shares d))
-  -- Mark: a domain darkens a block of its own, and looks there again; or another's, and owes a store of the changed word
-  pub mark_darkens_own : (pass : Pass) (n : ℕ) (s : State) (c : Cycle) → InPhase (Mark pass) n s c → OnePlaceEach c.layout → (d a : ℕ) (l : Label) → Darkens n s c d d a l
-      → InPhase (Mark pass) n s (with_shares (with_marks c (darkened c.marks l)) (again c.shares d a))
-  pub mark_darkens_other : (pass : Pass) (n : ℕ) (s : State) (c : Cycle) → InPhase (Mark pass) n s c → (d k a : ℕ) (l : Label) → Darkens n s c d k a l
-      → InPhase (Mark pass) n s (with_shares (with_marks c (darkened c.marks l)) (owing c.shares d))
+  pub roots_darkens : (n : ℕ) (s : State) (c : Cycle) → InPhase (Roots First) n s c → (d k a : ℕ) (l : Label) → Darkens n s c d k a l
+      → InPhase (Roots First) n s (with_marks c (darkened c.marks l))
+  pub roots_arrives : (n : ℕ) (s : State) (c : Cycle) → InPhase (Roots First) n s c → (d : ℕ) → RootsMarked s c.marks.marked d
+      → InPhase (Roots First) n s (with_shares c (arrives c.shares d))
+  -- in the second pass who darkens a root owes a store of the changed word, and makes it
+  pub queued_darkens : (n : ℕ) (s : State) (c : Cycle) → InPhase (Roots Second) n s c → (d k a : ℕ) (l : Label) → Darkens n s c d k a l
+      → InPhase (Roots Second) n s (with_shares (with_marks c (darkened c.marks l)) (owing c.shares d))
+  pub queued_stores : (n : ℕ) (s : State) (c : Cycle) → InPhase (Roots Second) n s c → (d : ℕ)
+      → InPhase (Roots Second) n s (with_shares c (stored_changed c.shares d))
+  -- a domain arrives there once it owes nothing; of its roots only its queue has grown, so it suffices that this is marked
+  pub queued_arrives : (n : ℕ) (s : State) (c : Cycle) → InPhase (Roots Second) n s c → (d : ℕ) → c.shares.owes d ≡ false
+      → HoldsRoots (filter_map pending_label (domain_at s d).queue) c.marks.marked → InPhase (Roots Second) n s (with_shares c (arrives c.shares d))
+  -- Mark: a domain darkens a block, in whosever pool it lies, and follows it
+  pub mark_darkens : (pass : Pass) (n : ℕ) (s : State) (c : Cycle) → InPhase (Mark pass) n s c → OnePlaceEach c.layout → (d k a : ℕ) (l : Label) → Darkens n s c d k a l
+      → InPhase (Mark pass) n s (with_shares (with_marks c (darkened c.marks l)) (following c.shares d a))
+  -- it follows it no more where the block is scanned
+  pub mark_settles : (pass : Pass) (n : ℕ) (s : State) (c : Cycle) → InPhase (Mark pass) n s c → (d a : ℕ)
+      → ((l : Label) → c.layout.live a ≡ Some l → IsTrue (c.marks.marked l) → IsTrue (c.marks.scanned l)) → InPhase (Mark pass) n s (with_shares c (settles c.shares d a))
   -- it marks a block as scanned whose fields are marked
   pub mark_scans : (pass : Pass) (n : ℕ) (s : State) (c : Cycle) → InPhase (Mark pass) n s c → (l : Label) → FieldsMarked s.graph c.marks.marked l
       → InPhase (Mark pass) n s (with_marks c (with_scanned c.marks l))
@@ -59,17 +74,20 @@ pub record DarkeningSteps : Type 0 where
       → InPhase (Roots pass) n s (with_marks c (with_scanned c.marks l))
   pub rounds_scans : (pass : Pass) (n : ℕ) (s : State) (c : Cycle) → InPhase (Rounds pass) n s c → (l : Label) → FieldsMarked s.graph c.marks.marked l
       → InPhase (Rounds pass) n s (with_marks c (with_scanned c.marks l))
-  -- it stores the changed word
+  -- it stores the changed word, and follows nothing more
   pub mark_stores : (pass : Pass) (n : ℕ) (s : State) (c : Cycle) → InPhase (Mark pass) n s c → (d : ℕ) → InPhase (Mark pass) n s (with_shares c (stored_changed c.shares d))
   -- it finds no grey block at an own place
   pub mark_looks : (pass : Pass) (n : ℕ) (s : State) (c : Cycle) → InPhase (Mark pass) n s c → (d a : ℕ) → c.layout.owner a ≡ Some d
       → ((l : Label) → c.layout.live a ≡ Some l → IsTrue (c.marks.marked l) → IsTrue (c.marks.scanned l)) → InPhase (Mark pass) n s (with_shares c (sees c.shares d a))
-  -- it arrives once it owes nothing and has seen all its places
-  pub mark_arrives : (pass : Pass) (n : ℕ) (s : State) (c : Cycle) → InPhase (Mark pass) n s c → (d : ℕ) → Arrives c d
+  -- it arrives once it follows nothing and has seen all its places
+  pub mark_arrives : (pass : Pass) (n : ℕ) (s : State) (c : Cycle) → InPhase (Mark pass) n s c → (d : ℕ) → ArrivesMarking c d
       → InPhase (Mark pass) n s (with_shares c (arrives c.shares d))
   -- Rounds: a domain darkens a block, and owes a store of the changed word
   pub rounds_darkens : (pass : Pass) (n : ℕ) (s : State) (c : Cycle) → InPhase (Rounds pass) n s c → (d k a : ℕ) (l : Label) → Darkens n s c d k a l
       → InPhase (Rounds pass) n s (with_shares (with_marks c (darkened c.marks l)) (owing c.shares d))
+  -- it knows that a block is scanned, of which Rounds says nothing
+  pub rounds_settles : (pass : Pass) (n : ℕ) (s : State) (c : Cycle) → InPhase (Rounds pass) n s c → (d a : ℕ)
+      → InPhase (Rounds pass) n s (with_shares c (settles c.shares d a))
   pub rounds_stores : (pass : Pass) (n : ℕ) (s : State) (c : Cycle) → InPhase (Rounds pass) n s c → (d : ℕ)
       → InPhase (Rounds pass) n s (with_shares c (stored_changed c.shares d))
   -- it finds that an own ephemeron has marked data, if it and its full keys were marked before
@@ -102,7 +120,7 @@ pub record TakingSteps : Type 0 where
   -- a domain finds no unmarked key in an own marked ephemeron, and arrives once it has seen all its places
   pub clean_looks : (n : ℕ) (s : State) (c : Cycle) → InPhase Clean n s c → (d a : ℕ) → c.layout.owner a ≡ Some d
       → ((l : Label) → c.layout.live a ≡ Some l → IsTrue (c.marks.marked l) → KeysMarked s.graph c.marks.marked l) → InPhase Clean n s (with_shares c (sees c.shares d a))
-  pub clean_arrives : (n : ℕ) (s : State) (c : Cycle) → InPhase Clean n s c → (d : ℕ) → Arrives c d → InPhase Clean n s (with_shares c (arrives c.shares d))
+  pub clean_arrives : (n : ℕ) (s : State) (c : Cycle) → InPhase Clean n s c → (d : ℕ) → SeesAll c d → InPhase Clean n s (with_shares c (arrives c.shares d))
   -- Lasts: the value of the next registration is marked, or it is not and the Last of it is allowed
   pub lasts_keeps : (n : ℕ) (s : State) (c : Cycle) → InPhase Lasts n s c → (d p : ℕ) (f : LastFinaliser) → c.left d ≡ suc p
       → slice_get (domain_at s d).lasts p ≡ Some f → IsTrue (c.marks.marked f.label) → InPhase Lasts n s (record c { left = at_domain c.left d p })
@@ -132,7 +150,9 @@ pub record PhaseSteps : Type 0 where
       → Allowed s Cut × InPhase Decide n (next s Cut) (record c { shares = no_shares; left = λ d. length (domain_at s d).finals })
   pub decide_queued : (n : ℕ) (s : State) (c : Cycle) → n ≡ length s.domains → InPhase Decide n s c → AllArrived n c.shares
       → InPhase (Roots Second) n s (with_shares c no_shares)
-  -- the Seal, to Clean, and from there to Lasts
+  -- the Seal, to Clean, also at once where the queues keep nothing alive that was unmarked; and from there to Lasts
+  pub queued_clean : (n : ℕ) (s : State) (c : Cycle) → n ≡ length s.domains → InPhase (Roots Second) n s c → AllArrived n c.shares → c.shares.changed ≡ false
+      → Allowed s Seal × InPhase Clean n (next s Seal) (with_shares c no_shares)
   pub rounds_clean : (n : ℕ) (s : State) (c : Cycle) → InPhase (Rounds Second) n s c → AllArrived n c.shares → c.shares.changed ≡ false
       → Allowed s Seal × InPhase Clean n (next s Seal) (with_shares c no_shares)
   pub clean_lasts : (n : ℕ) (s : State) (c : Cycle) → InPhase Clean n s c → AllArrived n c.shares

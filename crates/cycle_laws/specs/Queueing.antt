@@ -1,5 +1,5 @@
 -- Roots and Decide: whose registers and queues are marked, and which registrations of `finalise` are queued.
-use Rattle.std.specs.Prelude.{◌≡◌, ℕ, ◌≤◌, Bool, not, IsTrue, filter_map, slice_get, Some}
+use Rattle.std.specs.Prelude.{◌≡◌, ℕ, ◌≤◌, Bool, false, not, IsTrue, filter_map, slice_get, Some}
 use Rattle.heap_model.specs.declared.label.Label.{Label}
 use Rattle.heap_model.specs.declared.state.Finaliser.{Finaliser}
 use Rattle.heap_model.specs.declared.state.Mode.TheVariants.{Cut as CutMode}
@@ -8,7 +8,7 @@ use Rattle.heap_model.specs.Graph.{has_label, label_of}
 use Rattle.heap_model.specs.Reach.{HoldsRoots, IsClosedUnder}
 use Rattle.heap_model.specs.Domains.{domain_at, pending_label, queues, roots, waiting, is_reachable_with}
 use Rattle.heap_model.specs.Entries.{queued_beyond, SealAllowed}
-use Rattle.cycle_laws.specs.Shares.{Shares}
+use Rattle.cycle_laws.specs.Shares.{IsQuiet, Shares}
 
 -- a domain's roots are marked: what its registers and its queue hold
 pub record RootsMarked (s : State) (marked : Label → Bool) (d : ℕ) : Type 0 where
@@ -18,6 +18,11 @@ pub record RootsMarked (s : State) (marked : Label → Bool) (d : ℕ) : Type 0 
 -- in Roots: the roots of each domain that has arrived are marked
 abbrev pub InRoots : State → (Label → Bool) → Shares → Type 0
 InRoots s marked w = (d : ℕ) → IsTrue (w.arrived d) → RootsMarked s marked d
+
+-- in the second Roots: a domain that has arrived owes nothing, and while nothing was changed and nobody owes, the marked blocks are closed, as they were in Decide
+pub record InQueued (n : ℕ) (s : State) (marked : Label → Bool) (w : Shares) : Type 0 where
+  pub paid : (d : ℕ) → IsTrue (w.arrived d) → w.owes d ≡ false
+  pub closed : IsQuiet n w → IsClosedUnder s.graph marked
 
 -- in Decide: the marked blocks are closed and hold the roots of the cut; each domain looks at its registrations from the last to the first, of those behind it the ones that stay have marked values, and the queued ones unmarked values
 pub record InDecide (s : State) (marked : Label → Bool) (left : ℕ → ℕ) : Type 0 where

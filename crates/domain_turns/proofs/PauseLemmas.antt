@@ -64,7 +64,7 @@ before_promote Roots f = ⊎_elim (λ (e : Promote ≡ Mark). cc) (λ (e : Promo
 before_promote Mark f = ⊎_elim (λ (e : Promote ≡ Mark). cc) (λ (e : Promote ≡ Rounds). cc) f
 before_promote Rounds f = ⊎_elim (λ (e : Promote ≡ Mark). cc) (⊎_elim (λ (e : Promote ≡ Decide). cc) (λ (e : Promote ≡ Clean). cc)) f
 before_promote Decide f = let e : Promote ≡ Queued = f in cc
-before_promote Queued f = let e : Promote ≡ Mark = f in cc
+before_promote Queued f = ⊎_elim (λ (e : Promote ≡ Mark). cc) (λ (e : Promote ≡ Clean). cc) f
 before_promote Clean f = let e : Promote ≡ Lasts = f in cc
 before_promote Lasts f = ⊎_elim (λ (e : Promote ≡ Sweep). cc) (λ (e : Promote ≡ Run). cc) f
 before_promote Sweep f = ⊎_elim (λ (e : Promote ≡ Run). cc) (⊎_elim (λ (e : Promote ≡ Answer). cc) (λ (e : Promote ≡ Roots). cc)) f
@@ -78,7 +78,7 @@ before_reset Roots f = ⊎_elim (λ (e : Reset ≡ Mark). cc) (λ (e : Reset ≡
 before_reset Mark f = ⊎_elim (λ (e : Reset ≡ Mark). cc) (λ (e : Reset ≡ Rounds). cc) f
 before_reset Rounds f = ⊎_elim (λ (e : Reset ≡ Mark). cc) (⊎_elim (λ (e : Reset ≡ Decide). cc) (λ (e : Reset ≡ Clean). cc)) f
 before_reset Decide f = let e : Reset ≡ Queued = f in cc
-before_reset Queued f = let e : Reset ≡ Mark = f in cc
+before_reset Queued f = ⊎_elim (λ (e : Reset ≡ Mark). cc) (λ (e : Reset ≡ Clean). cc) f
 before_reset Clean f = let e : Reset ≡ Lasts = f in cc
 before_reset Lasts f = ⊎_elim (λ (e : Reset ≡ Sweep). cc) (λ (e : Reset ≡ Run). cc) f
 before_reset Sweep f = ⊎_elim (λ (e : Reset ≡ Run). cc) (⊎_elim (λ (e : Reset ≡ Answer). cc) (λ (e : Reset ≡ Roots). cc)) f
@@ -92,7 +92,7 @@ before_answer Roots f = ⊎_elim (λ (e : Answer ≡ Mark). cc) (λ (e : Answer 
 before_answer Mark f = ⊎_elim (λ (e : Answer ≡ Mark). cc) (λ (e : Answer ≡ Rounds). cc) f
 before_answer Rounds f = ⊎_elim (λ (e : Answer ≡ Mark). cc) (⊎_elim (λ (e : Answer ≡ Decide). cc) (λ (e : Answer ≡ Clean). cc)) f
 before_answer Decide f = let e : Answer ≡ Queued = f in cc
-before_answer Queued f = let e : Answer ≡ Mark = f in cc
+before_answer Queued f = ⊎_elim (λ (e : Answer ≡ Mark). cc) (λ (e : Answer ≡ Clean). cc) f
 before_answer Clean f = let e : Answer ≡ Lasts = f in cc
 before_answer Lasts f = ⊎_elim (λ (e : Answer ≡ Sweep). cc) (λ (e : Answer ≡ Run). cc) f
 before_answer Sweep f = refl

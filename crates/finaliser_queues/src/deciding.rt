@@ -1,5 +1,5 @@
 //! A domain's shares of a collection in which its finalisers are queued.
-ghost use Rattle.std.specs.Prelude.{◌≡◌};
+ghost use Rattle.std.specs.Prelude.{◌≡◌, false, []};
 ghost use Rattle.heap_rule.specs.declared.phase.Kind.TheVariants.{Decide, Lasts, Queued};
 ghost use Rattle.heap_rule.specs.declared.phase.Stage.TheVariants.{In};
 ghost use Rattle.heap_rule.specs.Token.{IsIn};
@@ -36,11 +36,13 @@ pub fn decide(heap: &Heap, dom: &mut Domain)
 
 /// A domain's share of the phase in which the blocks that queues keep alive are marked: a block that
 /// waits for its `finalise` is reachable again once that has run, with all that it refers to (OCaml
-/// manual, module `Gc`). Afterwards the domain is done with all places of its queue, as is asked of it
-/// where it arrives.
+/// manual, module `Gc`). Afterwards the domain is done with all places of its queue and owes no store of
+/// the changed word, as is asked of it where it arrives.
 pub fn darken_queued(heap: &Heap, dom: &mut Domain)
     requires here { IsIn dom.old heap.now }
     requires stage { dom.old.view.seen.stage ≡ In Queued }
+    requires told { dom.old.view.seen.share.owes ≡ false }
+    requires followed { dom.old.view.seen.share.account ≡ [] }
     ensures here { IsIn dom.new heap.now }
     ensures queued { AllQueueRooted dom.old.view dom.new.view }
 {

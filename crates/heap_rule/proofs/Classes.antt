@@ -5,25 +5,27 @@ use Rattle.size_classes.specs.declared.TheConstants.{SIZES}
 use Rattle.heap_model.specs.Domains.{class_count}
 use Rattle.heap_rule.specs.Pools.{size_of, blocks_of}
 
--- blocks of a class have at least four words, and fill a pool
+-- blocks of a class have at least four words, a multiple of four, and fill a pool
 record IsSize (n : ℕ) : Type 0 where
   pub least : 4 ≤ n
+  pub fours : n / 4 * 4 ≡ n
   pub fills : 4096 / n * n ≡ 4096
 
 -- whether all sizes of a table are so
 abbrev all_fill : List ℕ → Bool
 all_fill [] = true
-all_fill (n ∷ ns) = cond (leb 4 n) (cond (eqb (4096 / n * n) 4096) (all_fill ns) false) false
+all_fill (n ∷ ns) = cond (leb 4 n) (cond (eqb (n / 4 * 4) n) (cond (eqb (4096 / n * n) 4096) (all_fill ns) false) false) false
 
-all_true : (a b c : Bool) → cond a (cond b c false) false ≡ true → (a ≡ true) × (b ≡ true) × (c ≡ true)
-all_true true true c e = (refl, refl, e)
-all_true true false c e = cc
-all_true false b c e = cc
+all_true : (a b c d : Bool) → cond a (cond b (cond c d false) false) false ≡ true → (a ≡ true) × (b ≡ true) × (c ≡ true) × (d ≡ true)
+all_true true true true d e = (refl, refl, refl, e)
+all_true true true false d e = cc
+all_true true false c d e = cc
+all_true false b c d e = cc
 
 size_in : (l : List ℕ) (c : ℕ) → all_fill l ≡ true → c < length l → IsSize (get_or l c 0)
 size_in [] c all h = absurd (omega arith)
-size_in (n ∷ ns) zero all h = let t = all_true (leb 4 n) (eqb (4096 / n * n) 4096) (all_fill ns) all in record { least = leb-true 4 n t.0; fills = eqb-true (4096 / n * n) 4096 t.1 }
-size_in (n ∷ ns) (suc c) all h = size_in ns c (all_true (leb 4 n) (eqb (4096 / n * n) 4096) (all_fill ns) all).2 (omega arith)
+size_in (n ∷ ns) zero all h = let t = all_true (leb 4 n) (eqb (n / 4 * 4) n) (eqb (4096 / n * n) 4096) (all_fill ns) all in record { least = leb-true 4 n t.0; fours = eqb-true (n / 4 * 4) n t.1; fills = eqb-true (4096 / n * n) 4096 t.2 }
+size_in (n ∷ ns) (suc c) all h = size_in ns c (all_true (leb 4 n) (eqb (n / 4 * 4) n) (eqb (4096 / n * n) 4096) (all_fill ns) all).3 (omega arith)
 
 its_size : (c : ℕ) → c < class_count → IsSize (size_of c)
 unfolding size_of
@@ -32,6 +34,9 @@ its_size c h = size_in SIZES c refl h
 -- each class has at least four words, and its blocks fill a pool
 pub size_least : (c : ℕ) → c < class_count → 4 ≤ size_of c
 size_least c h = (its_size c h).least
+
+pub size_fours : (c : ℕ) → c < class_count → size_of c / 4 * 4 ≡ size_of c
+size_fours c h = (its_size c h).fours
 
 pub fill : (c : ℕ) → c < class_count → blocks_of c * size_of c ≡ 4096
 unfolding blocks_of

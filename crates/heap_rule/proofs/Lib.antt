@@ -8,6 +8,7 @@ pub mod PauseFacts
 pub mod HeadLemmas
 pub mod EphemeronLemmas
 pub mod Garbage
+pub mod Growing
 pub mod FinaliserLemmas
 pub mod Sharings
 pub mod BesideLemmas

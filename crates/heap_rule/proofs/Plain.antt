@@ -25,6 +25,7 @@ fits_changed k own own' read changes is fits holds =
       registers = holds;
       looked = subst (λ (o : Own). LooksWithin k o.looked) (sym only) fits.looked;
       remembered = subst (λ (o : Own). AllInHeap k o.remembered.items) (sym only) fits.remembered;
+      remembered_room = ap (λ (o : Own). o.remembered.room + length o.remembered.items) only ∙ fits.remembered_room;
       prepared = ap (λ (o : Own). length o.prepared) only ∙ fits.prepared;
       pending = ap (λ (o : Own). o.pending.room + length o.pending.items) only ∙ fits.pending;
       ephemerons = subst (λ (o : Own). AllInHeap k o.ephemerons.items) (sym only) fits.ephemerons;

@@ -20,6 +20,7 @@ use Rattle.heap_rule.specs.Phases.{Pause, Agree, AtStage, Staged}
 use Rattle.heap_rule.specs.Places.{Live}
 use Rattle.heap_rule.specs.Pools.{Holder, Tenancy, Takes, place_in}
 use Rattle.heap_rule.specs.Cycles.{Cycling, Cycled, Facts, IsBetween, IsSwept, Told, Leading, Telling, Knowing, KnowsBlocks, HasNoCycle, IsCollecting, IsIdle, Adds}
+use Rattle.heap_rule.proofs.Growing.{grows_none, no_marking}
 use Rattle.heap_rule.proofs.Garbage.{KeepsGarbage, leaves_on}
 use Rattle.heap_rule.proofs.PauseFacts.{agree}
 use Rattle.heap_rule.proofs.EphemeronLemmas.{none_misses}
@@ -91,6 +92,7 @@ cycle_between k s s' live live' p t t' c past' words words' none mode garbage sa
       leaves = leaves_on k live t c words y.leaves live' t' words' garbage (with_past c past') refl refl refl;
       unswept = y.unswept;
       whole = λ l. inl (none_misses live t.holder c none y.whole l);
+      grows = grows_none k live' p (with_past c past') (no_marking c.kind none);
     }
 
 -- the live words are counted as before
@@ -129,6 +131,7 @@ cycle_words k s live p t c words words' same heap y = record {
   leaves = record { none = y.leaves.none; dead = y.leaves.dead; head = λ a is. let h = y.leaves.head a is in (h.0, h.1, heap a ∙ h.2); unprepared = y.leaves.unprepared; owned = y.leaves.owned };
   unswept = y.unswept;
   whole = y.whole;
+  grows = y.grows;
 }
 
 -- what a domain has loaded of these words it knows still
@@ -144,6 +147,7 @@ leading_words c words words' d stage share same l = record {
   armed = l.armed;
   unswept = l.unswept;
   under_way = l.under_way;
+  unmarked = l.unmarked;
 }
 
 pub knowing_words : (k : Config) (live : Live) (holder : ℕ → Holder) (graph : Graph) (marks : Marks) (words words' : List ℕ) (d : ℕ) (registers : List Value) (share : Share) → ((a : ℕ) → at_address k words' a ≡ at_address k words a)
@@ -203,6 +207,7 @@ leading_past c past' words d stage share l = record {
   armed = l.armed;
   unswept = l.unswept;
   under_way = l.under_way;
+  unmarked = l.unmarked;
 }
 
 -- and what it owes the darkening of is nothing of it
@@ -224,6 +229,7 @@ leading_weak c words d stage share weak l = record {
   armed = l.armed;
   unswept = l.unswept;
   under_way = l.under_way;
+  unmarked = l.unmarked;
 }
 
 -- outside a collection nobody has anything to add

@@ -25,6 +25,7 @@ use Rattle.heap_rule.specs.Places.{Place, Live, extent, Stands, Found, Fits, Pla
 use Rattle.heap_rule.specs.Changes.{value_at}
 use Rattle.heap_rule.specs.declared.phase.Kind.TheVariants.{Run, Promote}
 use Rattle.heap_rule.specs.Phases.{Pause, sum_of, is_over, flag}
+use Rattle.heap_rule.proofs.Growing.{grows_none}
 use Rattle.heap_rule.proofs.FinaliserLemmas.{enrolled_none, deciding_none}
 use Rattle.heap_rule.proofs.Keeps.{sum_same, run_leads, copies_settled, room_unused}
 use Rattle.heap_rule.specs.Views.{no_finalisers, EachView, AllDomains, Distinct, IsSeated, Knows, opening_view, opening_views, first_spare, first_view}
@@ -152,7 +153,7 @@ first_made l q e = same_label-true shared_label l (go (same_label shared_label l
 
 -- no collection has begun
 abbrev first_cycle : Cycling
-first_cycle = record { kind = Run; pass = First; paint = record { colours = first_colours; marks = record { marked = λ _. false; scanned = λ _. false }; emptied = λ _. [] }; shares = no_shares; before = λ _. false; left = λ _. 0; rotated = false; counts = record { own = λ _. []; blocks = λ _. false; words = λ _. false }; whole = true; armed = false; past = record { old = []; held = λ _. false; overwritten = λ _ _. false; owed = λ _ _. false }; unswept = false }
+first_cycle = record { kind = Run; pass = First; paint = record { colours = first_colours; marks = record { marked = λ _. false; scanned = λ _. false }; emptied = λ _. [] }; shares = no_shares; before = λ _. false; unmarked = 0; left = λ _. 0; rotated = false; counts = record { own = λ _. []; blocks = λ _. false; words = λ _. false }; whole = true; armed = false; past = record { old = []; held = λ _. false; overwritten = λ _ _. false; owed = λ _ _. false }; unswept = false }
 
 module _ (k : Config) (limits : IsWithinLimits (sizes_in k)) (words : List ℕ) (opens : IsOpening k words) where
   abbrev s0 : model.State
@@ -358,6 +359,7 @@ module _ (k : Config) (limits : IsWithinLimits (sizes_in k)) (words : List ℕ) 
       };
       unswept = λ is. absurd (let e : false ≡ true = is in cc);
       whole = λ l. inl refl;
+      grows = grows_none k only first_pause first_cycle (λ is. is);
     };
   }
 
@@ -402,8 +404,8 @@ module _ (k : Config) (limits : IsWithinLimits (sizes_in k)) (words : List ℕ) 
           took_back = λ kind leads last. absurd (run_leads kind leads);
           set_back = λ h. absurd (run_leads Run h.0);
           sharing = record {
-            telling = record { owes = λ _. refl; seen = λ _. refl; fresh = λ e. cc; forgotten = λ e. cc; colours = λ c e. cc };
-            leading = record { changed = λ v e. cc; found_blocks = λ v e. cc; found_words = λ v e. cc; rotated = λ _ e. refl; turned = λ e. cc; pass = λ _. refl; whole = λ _. refl; armed = λ b e. cc; unswept = λ _. refl; under_way = λ _ _. refl };
+            telling = record { owes = λ _. record { owes = refl; follows = λ a is. is }; seen = λ _. refl; fresh = λ e. cc; forgotten = λ e. cc; colours = λ c e. cc };
+            leading = record { changed = λ v e. cc; found_blocks = λ v e. cc; found_words = λ v e. cc; rotated = λ _ e. refl; turned = λ e. cc; pass = λ _. refl; whole = λ _. refl; armed = λ b e. cc; unswept = λ _. refl; under_way = λ _ _. refl; unmarked = λ _. refl };
             knows = inl refl;
             adds = record { blocks = λ e _. refl; words = λ e _. refl; own = λ e _ f. cc };
             looks = record { at_own = λ a e. cc; cleans = λ w e. cc; emptied_is = λ a p own lives. refl };

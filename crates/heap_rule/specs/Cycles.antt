@@ -1,5 +1,5 @@
 -- A collection of the major heap in the rule: what is marked, how far the domains are, and what each of them knows in a phase of it.
-use Rattle.std.specs.Prelude.{◌≡◌, ◌≢◌, ℕ, zero, suc, ◌+◌, ◌*◌, ◌/◌, ◌%◌, ◌<◌, ◌⊎◌, ◌==◌, ◌||◌, nat_le, filter_map, Bool, true, false, cond, IsTrue, List, [], ◌∷◌, length, slice_get, sum_by, Option, Some, None, ◌^◌}
+use Rattle.std.specs.Prelude.{◌≡◌, ◌≢◌, ℕ, zero, suc, ◌+◌, ◌*◌, ◌/◌, ◌%◌, ◌<◌, ◌≤◌, ◌⊎◌, ◌==◌, ◌||◌, nat_le, filter_map, Bool, true, false, cond, IsTrue, List, [], ◌∷◌, length, slice_get, sum_by, Option, Some, None, ◌^◌}
 use Rattle.std.specs.List.{list_any}
 use Rattle.heap_model.specs.declared.label.Label.{Label}
 use Rattle.heap_model.specs.declared.graph.Value.{Value}
@@ -12,6 +12,7 @@ use Rattle.heap_model.specs.Fronts.{Shape}
 use Rattle.cycle_laws.specs.Beside.{Snapshot}
 use Rattle.cycle_laws.specs.Counting.{added_up}
 use Rattle.cycle_laws.specs.Cycle as laws
+use Rattle.cycle_laws.specs.Ending.{IsGrowing, unmarked_of}
 use Rattle.cycle_laws.specs.Marks.{Marks, fields_of}
 use Rattle.cycle_laws.specs.Progress.{FieldsDone, KeysDone}
 use Rattle.cycle_laws.specs.Shares.{Layout, Shares, AllArrived}
@@ -50,8 +51,10 @@ pub record Cycling : Type 0 where
   pub pass : laws.Pass
   pub paint : Paint
   pub shares : Shares
-  -- what was marked when the present Rounds began, or when the marking ended
+  -- what was marked when the present Mark or Rounds began, or when the marking ended
   pub before : Label → Bool
+  -- at most so many blocks of the pools weren't marked then
+  pub unmarked : ℕ
   -- how many registrations a domain has left to look at
   pub left : ℕ → ℕ
   -- whether the colours were rotated since the marking ended
@@ -69,6 +72,10 @@ pub record Cycling : Type 0 where
 abbrev pub label_in : Option Place → Option Label
 label_in None = None
 label_in (Some p) = Some p.label
+
+-- and at some places
+abbrev pub labels_in : Live → List ℕ → List Label
+labels_in live places = filter_map (λ a. label_in (live a)) places
 
 abbrev pub label_at : Config → Live → ℕ → Option Label
 label_at k live a = cond (nat_le a (k.pools * 4096)) (label_in (live a)) None
@@ -181,7 +188,7 @@ Facts Roots k s live t c words = laws.InPhase (laws.Roots laws.First) k.domains 
 Facts Mark k s live t c words = laws.InPhase (laws.Mark c.pass) k.domains s (cycle_of k live t.holder c) × (c.rotated ≡ false)
 Facts Rounds k s live t c words = laws.InPhase (laws.Rounds c.pass) k.domains s (cycle_of k live t.holder c) × (c.rotated ≡ false)
 Facts Decide k s live t c words = laws.InPhase laws.Decide k.domains s (cycle_of k live t.holder c) × IsPlain c
-Facts Queued k s live t c words = laws.InPhase (laws.Roots laws.Second) k.domains s (cycle_of k live t.holder c) × IsPlain c
+Facts Queued k s live t c words = laws.InPhase (laws.Roots laws.Second) k.domains s (cycle_of k live t.holder c) × (c.rotated ≡ false)
 Facts Clean k s live t c words = laws.InPhase laws.Clean k.domains s (cycle_of k live t.holder c) × IsPlain c
 Facts Lasts k s live t c words = Leaving k s live t c
 Facts Sweep k s live t c words = Sweeping k s live t c words
@@ -196,6 +203,7 @@ pub record ArrivedAs (p : Pause) (w : Shares) (d : ℕ) : Type 0 where
 pub record IsStart (w : Shares) (d : ℕ) : Type 0 where
   pub waits : w.arrived d ≡ false
   pub paid : w.owes d ≡ false
+  pub settled : w.follows d ≡ (λ a. false)
   pub blind : w.seen d ≡ (λ a. false)
 
 -- the pauses tell which kind's facts hold, and who has arrived: in an even phase those of its kind, in an odd one those of the kind before it
@@ -245,6 +253,32 @@ pub record MissesKeys (live : Live) (holder : ℕ → Holder) (c : Cycling) (l :
 abbrev pub AllWhole : Live → (ℕ → Holder) → Cycling → Type 0
 AllWhole live holder c = (l : Label) → (c.paint.emptied l ≡ []) ⊎ MissesKeys live holder c l
 
+-- phases of these kinds may be repeated, as blocks are marked in them
+abbrev pub IsMarking : Kind → Type 0
+IsMarking Mark = Unit {0}
+IsMarking Rounds = Unit {0}
+IsMarking _ = ⊥
+
+-- the next kind is named
+abbrev pub IsNamed : Pause → Type 0
+IsNamed p = (j : ℕ) × (p.phase ≡ j * 2 + 1) × (p.led ≡ true)
+
+-- the first addresses at which blocks of the pools may begin, since each has four words at least
+abbrev pub starts_to : ℕ → List ℕ
+starts_to zero = []
+starts_to (suc n) = (n * 4 + 1) ∷ starts_to n
+
+-- the labels of the blocks of the pools
+abbrev pub pool_labels : Config → Live → List Label
+pool_labels k live = labels_in live (starts_to (k.pools * 1024))
+
+-- Each phase of the marking that asks for another one marks a block. From where the phase is named until it begins nothing is marked, and once domain 0 has arrived the changed word is 0, as it is where Rounds is named
+pub record Grows (k : Config) (live : Live) (p : Pause) (c : Cycling) : Type 0 where
+  pub few : IsMarking c.kind → unmarked_of (pool_labels k live) c.before ≤ c.unmarked
+  pub since : IsMarking c.kind → (IsNamed p → ⊥) → IsGrowing (pool_labels k live) c.before c.paint.marks.marked c.shares
+  pub named : IsMarking c.kind → IsNamed p → (l : Label) → IsTrue (c.before l) → IsTrue (c.paint.marks.marked l)
+  pub cleared : IsMarking c.kind → IsNamed p → (p.arrived 0 ≡ p.phase + 1) ⊎ (c.kind ≡ Rounds) → c.shares.changed ≡ false
+
 -- Cycle: the control words tell it, and the facts of the phase hold
 pub record Cycled (k : Config) (s : model.State) (live : Live) (p : Pause) (t : Tenancy) (c : Cycling) (words : List ℕ) : Type 0 where
   pub armed_is : armed words ≡ flag c.armed
@@ -256,6 +290,7 @@ pub record Cycled (k : Config) (s : model.State) (live : Live) (p : Pause) (t : 
   pub leaves : Leaves k live t c words
   pub unswept : IsTrue c.unswept → LeftUnswept c.kind c.armed c.rotated
   pub whole : AllWhole live t.holder c
+  pub grows : Grows k live p c
 
 -- whether a domain has been at a place
 abbrev pub seen_by : List ℕ → ℕ → Bool
@@ -264,11 +299,16 @@ seen_by (a ∷ rest) b = b == a || seen_by rest b
 
 -- who is at no block in a collection knows of the colours and the control words alone, and of blocks what it knows as it runs
 abbrev pub IsIdle : Share → Type 0
-IsIdle share = share ≡ record fresh_share { colours = share.colours; changed = share.changed; blocks = share.blocks; words = share.words; rotated = share.rotated; progress = share.progress; armed = share.armed; known = share.known; weak = share.weak; reaping = share.reaping; swept = share.swept }
+IsIdle share = share ≡ record fresh_share { colours = share.colours; changed = share.changed; blocks = share.blocks; words = share.words; rotated = share.rotated; progress = share.progress; unmarked = share.unmarked; armed = share.armed; known = share.known; weak = share.weak; reaping = share.reaping; swept = share.swept }
+
+-- what a domain's view tells of the blocks that it has darkened: whether it owes a store of the changed word, and that those which it follows are on its account
+pub record OwesAs (due : Bool) (followed : ℕ → Bool) (told : Bool) (account : List ℕ) : Type 0 where
+  pub owes : due ≡ told
+  pub follows : (a : ℕ) → IsTrue (followed a) → IsTrue (seen_by account a)
 
 -- Cycle, of one domain: until it arrives its view tells its share, and then it has forgotten it. Domain 0 alone knows of the colours in an odd phase
 pub record Telling (means : Colours) (w : Shares) (d : ℕ) (share : Share) : Type 0 where
-  pub owes : w.arrived d ≡ false → w.owes d ≡ share.owes
+  pub owes : w.arrived d ≡ false → OwesAs (w.owes d) (w.follows d) share.owes share.account
   pub seen : w.arrived d ≡ false → w.seen d ≡ seen_by share.places_seen
   pub fresh : w.arrived d ≡ true → IsIdle share
   pub forgotten : w.arrived d ≡ true → d ≢ 0 → share.colours ≡ None
@@ -298,6 +338,7 @@ pub record Leading (c : Cycling) (words : List ℕ) (d : ℕ) (stage : Stage) (s
   pub armed : (b : Bool) → share.armed ≡ Some b → MayLook d stage × (b ≡ c.armed)
   pub unswept : d ≡ 0 → c.unswept ≡ share.progress.unswept
   pub under_way : d ≡ 0 → HasNoCycle c.kind → c.armed ≡ share.progress.armed
+  pub unmarked : d ≡ 0 → c.unmarked ≡ share.unmarked
 
 -- how far a domain is in a block: its first fields are done
 pub record Scanned (live : Live) (graph : Graph) (marks : Marks) (block done size head : ℕ) : Type 0 where
@@ -361,9 +402,6 @@ Scans live graph marks (Datum block address) = DatumAt live graph marks block ad
 abbrev pub extent_in : Option Place → ℕ
 extent_in None = 0
 extent_in (Some p) = extent p.shape
-
-abbrev pub labels_in : Live → List ℕ → List Label
-labels_in live places = filter_map (λ a. label_in (live a)) places
 
 -- a block lives at an address, and it is marked
 abbrev pub IsMarkedAt : Live → (Label → Bool) → ℕ → Type 0

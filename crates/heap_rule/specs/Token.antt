@@ -12,6 +12,7 @@ use Rattle.heap_rule.specs.declared.view.Own.{Own}
 use Rattle.heap_rule.specs.declared.view.Spot.{Spot}
 use Rattle.heap_rule.specs.declared.view.Swept.{Swept}
 use Rattle.heap_rule.specs.declared.view.View.{View}
+use Rattle.heap_rule.specs.declared.view.TheConstants.{REMEMBERED_ROOM}
 use Rattle.heap_rule.specs.Pools.{blocks_of, spot_at}
 use Rattle.heap_model.specs.Domains.{class_count, IsWithinLimits}
 use Rattle.heap_rule.specs.Limits.{sizes_in}
@@ -67,6 +68,7 @@ pub record OwnFits (k : Config) (own : Own) : Type 0 where
   pub registers : Holds k own.registers
   pub looked : LooksWithin k own.looked
   pub remembered : AllInHeap k own.remembered.items
+  pub remembered_room : own.remembered.room + length own.remembered.items ≡ REMEMBERED_ROOM
   pub prepared : length own.prepared ≡ class_count
   pub pending : own.pending.room + length own.pending.items ≡ pending_room k
   pub ephemerons : AllInHeap k own.ephemerons.items

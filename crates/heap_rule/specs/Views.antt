@@ -68,11 +68,11 @@ no_collection = record { cut = false; whole = true; unswept = false; armed = fal
 
 -- what a domain knows of a phase in which it has done nothing
 abbrev pub fresh_share : Share
-fresh_share = record { colours = None; armed = None; known = []; weak = None; changed = None; blocks = None; words = None; rotated = false; owes = false; places_seen = []; found_head = None; scan = Idle; walk = record { pool = 0; slot = 0 }; own_pool = None; roots = []; marked = []; darkenings = 0; counted = []; counted_to = record { pool = 0; slot = 0 }; counted_words = 0; added_blocks = false; added_words = false; held = 0; vacant = 0; cleaning = None; kept = 0; waiting = []; progress = no_collection; reaping = Outside; swept = [] }
+fresh_share = record { colours = None; armed = None; known = []; weak = None; changed = None; blocks = None; words = None; rotated = false; owes = false; account = []; places_seen = []; found_head = None; scan = Idle; walk = record { pool = 0; slot = 0 }; own_pool = None; roots = []; marked = []; darkenings = 0; unmarked = 0; counted = []; counted_to = record { pool = 0; slot = 0 }; counted_words = 0; added_blocks = false; added_words = false; held = 0; vacant = 0; cleaning = None; kept = 0; waiting = []; progress = no_collection; reaping = Outside; swept = [] }
 
 -- and of the next, of which it has forgotten the last
 abbrev pub voided : Share → Share
-voided share = record fresh_share { progress = share.progress }
+voided share = record fresh_share { progress = share.progress; unmarked = share.unmarked }
 
 -- the lists of a domain that has registered nothing
 abbrev pub no_finalisers : ℕ → Finalisers

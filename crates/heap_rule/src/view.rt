@@ -360,6 +360,8 @@ pub struct Share {
     pub rotated: bool,
     /// Whether it has still to store that it darkened a block.
     pub owes: bool,
+    /// The blocks that it has darkened in Mark, and doesn't know to be scanned since.
+    pub account: LinkedList<u32>,
     /// The own places at which it has found what the phase asks.
     pub places_seen: LinkedList<u32>,
     /// The head that it found last.
@@ -375,6 +377,9 @@ pub struct Share {
     pub marked: LinkedList<u32>,
     /// How many blocks it has darkened in the phase.
     pub darkenings: u64,
+    /// At most so many blocks of the pools weren't marked when the present phase of the marking began, as
+    /// domain 0 has it.
+    pub unmarked: u64,
     /// The own blocks that it has counted, up to this place of the pools, and the words that they have.
     pub counted: LinkedList<u32>,
     pub counted_to: Spot,

@@ -15,11 +15,11 @@ use Rattle.heap_rule.specs.declared.view.Scan.{Scan}
 use Rattle.heap_rule.specs.declared.view.Scan.TheVariants.{Holds, Reads}
 use Rattle.heap_rule.specs.Token.{IsAddress}
 use Rattle.steps_marking.specs.Looks.{with_share}
-use Rattle.steps_marking.specs.Marking.{Field, IsChanging, IsDarkening, ScanMay, ScanTold, scanned_on}
+use Rattle.steps_marking.specs.Marking.{Field, IsDarkening, IsScanning, ScanMay, ScanTold, scanned_on}
 use Rattle.mark_slices.specs.Shares.{Darkens, ScansBlocks, darkened, field_on, fields_to, owes_after, scanning}
 
 -- in a phase in which blocks are scanned they are darkened too, and whoever darkens one owes a store of the changed word
-pub scanning_kind : (stage : Stage) → ScansBlocks stage → (kind : Kind) × (stage ≡ In kind) × IsChanging kind × IsDarkening kind
+pub scanning_kind : (stage : Stage) → ScansBlocks stage → (kind : Kind) × (stage ≡ In kind) × IsScanning kind × IsDarkening kind
 scanning_kind stage is = ⊎_elim (λ (e : stage ≡ In Mark). (Mark, e, tt, tt)) (λ (e : stage ≡ In Rounds). (Rounds, e, tt, tt)) is
 
 owes_scanning : (stage : Stage) (won owes : Bool) → ScansBlocks stage → owes_after stage won owes ≡ cond won true owes
@@ -55,7 +55,7 @@ field_darkened k x y z at word a v won phase may t r is marks =
 
 -- the next field may be loaded
 pub fields_may : (x v : DomainView) (won : Bool) (i block size head : ℕ) → ScansBlocks x.seen.stage → x.seen.share.scan ≡ Reads block 0 size head → v ≡ with_share x (scanning x.seen.share v.seen.share (fields_to i x.seen.share.scan) won) → i < size → ScanMay v (block + 2 + i)
-fields_may x v won i block size head phase begun view more = let n = scanning_kind x.seen.stage phase in record { kind = n.0; stage = ap (λ (z : DomainView). z.seen.stage) view ∙ n.1; changing = n.2; block = block; done = i; size = size; head = head; scan = ap (λ (z : DomainView). z.seen.share.scan) view ∙ ap (fields_to i) begun; more = more; word = refl }
+fields_may x v won i block size head phase begun view more = let n = scanning_kind x.seen.stage phase in record { kind = n.0; stage = ap (λ (z : DomainView). z.seen.stage) view ∙ n.1; scanning = n.2; block = block; done = i; size = size; head = head; scan = ap (λ (z : DomainView). z.seen.share.scan) view ∙ ap (fields_to i) begun; more = more; word = refl }
 
 passed_on : (x : DomainView) (at : ℕ) (v : Value) → ScanMay x at → ((a : ℕ) → v ≡ Ref a → ⊥) → scanned_on x.seen.share.scan v ≡ field_on x.seen.share.scan
 passed_on x at (Ref a) may other = absurd (other a refl)

@@ -98,7 +98,7 @@ module _ (y v : DomainView) (at fields new : ℕ) (won : Bool) (site : Site) (e 
   block_may colours phase anywhere known b l = let n = scanning_kind y.seen.stage phase in record {
     kind = n.0;
     stage = ap (λ (u : DomainView). u.seen.stage) e ∙ n.1;
-    changing = n.2;
+    scanning = n.2;
     anywhere = λ (r : n.0 ≡ Rounds). anywhere (n.1 ∙ ap In r);
     size = fields;
     word = b.word;

@@ -20,7 +20,7 @@ use Rattle.heap_rule.specs.Cycles.{seen_by}
 use Rattle.heap_rule.specs.Finalisers.{held_at}
 use Rattle.heap_rule.specs.Pools.{blocks_of, owned, owner_word}
 use Rattle.steps_marking.specs.Looks.{with_share}
-use Rattle.steps_marking.specs.Marking.{IsDarkening, Reason, Site, Warrants, moved_on, owes_on, places_seen_on, walk_on}
+use Rattle.steps_marking.specs.Marking.{IsDarkening, Reason, Site, Warrants, account_on, moved_on, owes_on, places_seen_on, walk_on}
 use Rattle.darkening_beside.specs.Heads.{IsScanOf}
 
 -- the domain is in a phase in which blocks are darkened, knows the colours, and has a reason to mark the block
@@ -36,9 +36,14 @@ abbrev pub owes_after : Stage → Bool → Bool → Bool
 owes_after (In kind) won owes = cond won (owes_on kind owes) owes
 owes_after _ won owes = owes
 
+-- and what is on its account
+abbrev pub account_after : Stage → Bool → ℕ → List ℕ → List ℕ
+account_after (In kind) won at account = cond won (account_on kind at account) account
+account_after _ won at account = account
+
 -- the domain is done with the reason, and knows that the block is marked
 abbrev pub darkened : Reason → ℕ → Bool → DomainView → DomainView
-darkened reason at won x = with_share x (record (moved_on reason at x.seen.share) { owes = owes_after x.seen.stage won x.seen.share.owes; darkenings = x.seen.share.darkenings + cond won 1 0 })
+darkened reason at won x = with_share x (record (moved_on reason at x.seen.share) { owes = owes_after x.seen.stage won x.seen.share.owes; account = account_after x.seen.stage won at x.seen.share.account; darkenings = x.seen.share.darkenings + cond won 1 0 })
 
 -- a register is among those whose blocks are marked
 abbrev pub IsRoot : DomainView → ℕ → Type 0
@@ -60,6 +65,10 @@ with_roots x y = with_share x (record x.seen.share { colours = y.seen.share.colo
 abbrev pub with_queue : DomainView → DomainView → DomainView
 with_queue x y = with_share x (record x.seen.share { colours = y.seen.share.colours; found_head = y.seen.share.found_head; waiting = y.seen.share.waiting; marked = y.seen.share.marked; darkenings = y.seen.share.darkenings })
 
+-- the domain where it owes a store of the changed word, or doesn't
+abbrev pub owing : Bool → DomainView → DomainView
+owing owes x = with_share x (record x.seen.share { owes = owes })
+
 -- the domain is done with a register, and with those with which it was before
 pub record Rooted (register : ℕ) (x y : DomainView) : Type 0 where
   pub view : y ≡ with_roots x y
@@ -67,9 +76,9 @@ pub record Rooted (register : ℕ) (x y : DomainView) : Type 0 where
   pub done : (a : ℕ) → value_at x.own.registers register ≡ Ref a → IsRoot y register
   pub before : (r : ℕ) → IsRoot x r → IsRoot y r
 
--- the domain is done with a place of its queue, and with those with which it was before
-pub record QueueRooted (place : ℕ) (x y : DomainView) : Type 0 where
-  pub view : y ≡ with_queue x y
+-- the domain is done with a place of its queue, and with those with which it was before; and it has darkened a block, or not
+pub record QueueRooted (place : ℕ) (won : Bool) (x y : DomainView) : Type 0 where
+  pub view : y ≡ with_queue (owing (owes_after x.seen.stage won x.seen.share.owes) x) y
   pub colours : y.seen.share.colours ≡ x.seen.share.colours
   pub done : (a : ℕ) → held_at x.own.finalisers (Queue place) ≡ Some a → IsQueueRoot y place
   pub before : (i : ℕ) → IsQueueRoot x i → IsQueueRoot y i

@@ -53,8 +53,9 @@ module _ (all was now : ℕ) (few : was ≤ all) where
   behind_rounds false true whole unswept armed less = omega (arith, less)
   behind_rounds false false whole unswept armed less = omega (arith, less)
 
-  behind_queued : now ≤ was → (cut whole unswept armed : Bool) → Nearer all was now Queued Mark (keeping cut whole unswept armed)
-  behind_queued less cut whole unswept armed = omega (arith, less, few)
+  behind_queued : (b cut whole unswept armed : Bool) → Fewer (not b) was now → Nearer all was now Queued (if b then Clean else Mark) (keeping cut whole unswept armed)
+  behind_queued true cut whole unswept armed less = omega arith
+  behind_queued false cut whole unswept armed less = omega (arith, less, few)
 
   behind_lasts : (cut whole unswept armed complete : Bool) → Nearer all was now Lasts (if complete then Sweep else Run) (keeping cut whole unswept armed)
   behind_lasts cut whole unswept armed true = omega arith
@@ -77,7 +78,7 @@ module _ (all was now : ℕ) (few : was ≤ all) where
   any_nearer k decider f Mark cut whole unswept armed less = behind_mark (f.changed == 0) cut whole unswept armed less
   any_nearer k decider f Rounds cut whole unswept armed less = behind_rounds (f.changed == 0) cut whole unswept armed less
   any_nearer k decider f Decide cut whole unswept armed less = omega arith
-  any_nearer k decider f Queued cut whole unswept armed less = behind_queued (fewer_few (not (f.changed == 0)) was now less) cut whole unswept armed
+  any_nearer k decider f Queued cut whole unswept armed less = behind_queued (f.changed == 0) cut whole unswept armed less
   any_nearer k decider f Clean cut whole unswept armed less = omega arith
   any_nearer k decider f Lasts cut whole unswept armed less = behind_lasts cut whole unswept armed (completes decider f.wants)
   any_nearer k decider f Sweep cut whole unswept armed less = behind_sweep cut whole unswept armed (begins k decider f.wants f.free)

@@ -8,7 +8,7 @@ use Rattle.heap_rule.specs.declared.phase.Progress.{Progress}
 use Rattle.steps_pauses.specs.Pauses.{cut_in}
 use Rattle.pause_phases.specs.declared.decider.Decider.TheVariants.{Caller}
 use Rattle.pause_phases.specs.Leading.{Findings, next_kind}
-use Rattle.cycle_laws.specs.Ending.{Answering, GoesOn, Marking, Place, Rooting, Rounding, leads_to, pause_left}
+use Rattle.cycle_laws.specs.Ending.{Answering, GoesOn, Marking, Place, Queueing, Rooting, Rounding, leads_to, pause_left}
 use Rattle.cycle_laws.proofs.Ending.{Fewer, nearer}
 use Rattle.pause_laws.specs.Walk.{marking_place, place_named, place_of}
 
@@ -24,6 +24,10 @@ rounds_named false false = refl
 rounds_named false true = refl
 rounds_named true false = refl
 rounds_named true true = refl
+
+queued_named : (b : Bool) → place_named true (if b then Clean else Mark) ≡ leads_to Queueing (not b)
+queued_named false = refl
+queued_named true = refl
 
 reset_named : (armed unswept : Bool) → armed ≡ false → unswept ≡ false → place_named false (if armed then (if true then Mark else Run) else (if true then (if unswept then Sweep else Roots) else Run)) ≡ Rooting
 reset_named true unswept a u = absurd (false≢true (sym a))
@@ -44,7 +48,7 @@ named k f p Roots a u w = refl
 named k f p Mark a u w = mark_named p.cut (f.changed == 0)
 named k f p Rounds a u w = rounds_named p.cut (f.changed == 0)
 named k f p Decide a u w = refl
-named k f p Queued a u w = refl
+named k f p Queued a u w = queued_named (f.changed == 0)
 named k f p Clean a u w = refl
 named k f p Lasts a u w = refl
 named k f p Sweep a u w = sweep_named p.cut p.unswept p.whole true u w

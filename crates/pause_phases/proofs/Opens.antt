@@ -202,9 +202,6 @@ module _ (k : Config) (who : Decider) (x : DomainView) where
   pub decide_opens : Opens k who x x Decide Queued
   decide_opens = goes k who x Decide Queued ((λ e. cc), λ e. cc) ((λ e. cc), (λ e. cc), (λ e. cc), (λ e. cc), (λ e. cc), (λ e. cc), λ e. cc) refl refl refl
 
-  pub queued_opens : Opens k who x x Queued Mark
-  queued_opens = goes k who x Queued Mark ((λ e. cc), λ e. cc) ((λ e. cc), (λ e. cc), (λ e. cc), (λ e. cc), (λ e. cc), (λ e. cc), λ e. cc) refl refl refl
-
   pub clean_opens : Opens k who x x Clean Lasts
   clean_opens = goes k who x Clean Lasts ((λ e. cc), λ e. cc) ((λ e. cc), (λ e. cc), (λ e. cc), (λ e. cc), (λ e. cc), (λ e. cc), λ e. cc) refl refl refl
 
@@ -226,17 +223,17 @@ module _ (k : Config) (who : Decider) (x : DomainView) where
   after_rounds quiet is_cut = if quiet then (if is_cut then Clean else Decide) else Mark
 
   -- what was changed in the marking
-  changed_may : (share : Share) (found : ℕ) (last next : Kind) → share.changed ≡ Some found → found ≡ 0 → (next ≡ Decide → share.progress.cut ≡ false) → (next ≡ Clean → share.progress.cut ≡ true) → (last ≡ Mark) ⊎ (last ≡ Rounds) → next ≢ Run → next ≢ Answer → next ≢ Sweep → MayFollow share last next
-  changed_may share found before next is none first second marks run answer sweep = record {
+  changed_may : (share : Share) (found : ℕ) (last next : Kind) → share.changed ≡ Some found → found ≡ 0 → (next ≡ Decide → share.progress.cut ≡ false) → (last ≡ Rounds → next ≡ Clean → share.progress.cut ≡ true) → last ≢ Lasts → last ≢ Reset → next ≢ Run → next ≢ Answer → next ≢ Sweep → MayFollow share last next
+  changed_may share found before next is none first second lasts reset run answer sweep = record {
     unchanged = λ _. is ∙ ap Some none;
     first = first;
     second = second;
-    rotated = λ (e : before ≡ Lasts). ⊎_elim (λ (m : before ≡ Mark). cc) (λ (m : before ≡ Rounds). cc) marks;
+    rotated = λ e. absurd (lasts e);
     set_back = λ e. absurd (sweep e);
     goes_on = λ _ e. absurd (run e);
-    begins = λ (e : before ≡ Reset) _. ⊎_elim (λ (m : before ≡ Mark). cc) (λ (m : before ≡ Rounds). cc) marks;
+    begins = λ e _. absurd (reset e);
     frees = λ _ e. absurd (sweep e);
-    finishes = λ (e : before ≡ Reset) _. ⊎_elim (λ (m : before ≡ Mark). cc) (λ (m : before ≡ Rounds). cc) marks;
+    finishes = λ e _. absurd (reset e);
     over = λ _ e. absurd (run e);
     freed = λ _ e. absurd (run e);
     answers = λ e. absurd (answer e);
@@ -270,7 +267,7 @@ module _ (k : Config) (who : Decider) (x : DomainView) where
 
     pub mark_ends : found ≡ 0 → Opens k who x y Mark Rounds
     mark_ends none = changed_opens Mark Rounds (inr refl) (ap (λ (b : Bool). if b then Rounds else Mark) (sym (eq-eqb found 0 none))) refl (λ e. cc) (λ e. cc)
-        (changed_may y.seen.share found Mark Rounds knows none (λ e. cc) (λ e. cc) (inl refl) (λ e. cc) (λ e. cc) (λ e. cc))
+        (changed_may y.seen.share found Mark Rounds knows none (λ e. cc) (λ _ e. cc) (λ e. cc) (λ e. cc) (λ e. cc) (λ e. cc) (λ e. cc))
 
     pub mark_goes_on : found ≢ 0 → Opens k who x y Mark Mark
     mark_goes_on some = changed_opens Mark Mark (inl refl) (ap (λ (b : Bool). if b then Rounds else Mark) (sym (ne_eqb found 0 some))) refl (λ e. cc) (λ e. cc) (goes_back Mark (λ e. cc) (λ e. cc))
@@ -280,11 +277,18 @@ module _ (k : Config) (who : Decider) (x : DomainView) where
 
     pub rounds_end_first : found ≡ 0 → x.seen.share.progress.cut ≡ false → Opens k who x y Rounds Decide
     rounds_end_first none first = changed_opens Rounds Decide (inr (inl refl)) (ap (after_rounds true) (sym first) ∙ ap (λ (b : Bool). after_rounds b x.seen.share.progress.cut) (sym (eq-eqb found 0 none))) refl (λ e. cc) (λ e. cc)
-        (changed_may y.seen.share found Rounds Decide knows none (λ _. same_cut ∙ first) (λ e. cc) (inr refl) (λ e. cc) (λ e. cc) (λ e. cc))
+        (changed_may y.seen.share found Rounds Decide knows none (λ _. same_cut ∙ first) (λ _ e. cc) (λ e. cc) (λ e. cc) (λ e. cc) (λ e. cc) (λ e. cc))
 
     pub rounds_end_second : found ≡ 0 → x.seen.share.progress.cut ≡ true → Opens k who x y Rounds Clean
     rounds_end_second none second = changed_opens Rounds Clean (inr (inr refl)) (ap (after_rounds true) (sym second) ∙ ap (λ (b : Bool). after_rounds b x.seen.share.progress.cut) (sym (eq-eqb found 0 none))) refl (λ e. cc) (λ e. cc)
-        (changed_may y.seen.share found Rounds Clean knows none (λ e. cc) (λ _. same_cut ∙ second) (inr refl) (λ e. cc) (λ e. cc) (λ e. cc))
+        (changed_may y.seen.share found Rounds Clean knows none (λ e. cc) (λ _ _. same_cut ∙ second) (λ e. cc) (λ e. cc) (λ e. cc) (λ e. cc) (λ e. cc))
+
+    pub queued_ends : found ≡ 0 → Opens k who x y Queued Clean
+    queued_ends none = changed_opens Queued Clean (inr refl) (ap (λ (b : Bool). if b then Clean else Mark) (sym (eq-eqb found 0 none))) refl (λ e. cc) (λ e. cc)
+        (changed_may y.seen.share found Queued Clean knows none (λ e. cc) (λ e. cc) (λ e. cc) (λ e. cc) (λ e. cc) (λ e. cc) (λ e. cc))
+
+    pub queued_goes_on : found ≢ 0 → Opens k who x y Queued Mark
+    queued_goes_on some = changed_opens Queued Mark (inl refl) (ap (λ (b : Bool). if b then Clean else Mark) (sym (ne_eqb found 0 some))) refl (λ e. cc) (λ e. cc) (goes_back Queued (λ e. cc) (λ e. cc))
 
   -- the list of free pools, where it was seen to and nothing else done since
   list_as : (y z : DomainView) → z.seen.listing ≡ y.seen.listing → NamesAll k y → NamesAll k z

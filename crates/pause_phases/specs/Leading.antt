@@ -54,7 +54,7 @@ next_kind k decider Roots p f = if completes decider f.wants then Mark else Run
 next_kind k decider Mark p f = if f.changed == 0 then Rounds else Mark
 next_kind k decider Rounds p f = if f.changed == 0 then (if p.cut then Clean else Decide) else Mark
 next_kind k decider Decide p f = Queued
-next_kind k decider Queued p f = Mark
+next_kind k decider Queued p f = if f.changed == 0 then Clean else Mark
 next_kind k decider Clean p f = Lasts
 next_kind k decider Lasts p f = if completes decider f.wants then Sweep else Run
 next_kind k decider Sweep p f = if p.unswept then (if begins k decider f.wants f.free then Roots else Run) else (if p.whole then Answer else Roots)
@@ -72,6 +72,7 @@ noted_before Reset next p f = Listed f.free ∷ Want f.wants ∷ []
 noted_before Roots next p f = Want f.wants ∷ noted_list next f
 noted_before Mark next p f = Changed f.changed ∷ []
 noted_before Rounds next p f = Changed f.changed ∷ []
+noted_before Queued next p f = Changed f.changed ∷ []
 noted_before Lasts next p f = Want f.wants ∷ noted_list next f
 noted_before Sweep next p f = if p.unswept then Listed f.free ∷ Want f.wants ∷ [] else []
 noted_before Answer next p f = Listed f.free ∷ []

@@ -1,6 +1,6 @@
 //! What domain 0 does in an odd phase before it names the next kind.
 ghost use Rattle.std.specs.Prelude.{◌≡◌, true};
-ghost use Rattle.heap_rule.specs.declared.phase.Kind.TheVariants.{Run, Promote, Reset, Roots, Mark, Rounds, Lasts, Sweep, Answer};
+ghost use Rattle.heap_rule.specs.declared.phase.Kind.TheVariants.{Run, Promote, Reset, Roots, Mark, Rounds, Queued, Lasts, Sweep, Answer};
 ghost use Rattle.heap_rule.specs.declared.phase.Stage.TheVariants.{Leads};
 ghost use Rattle.heap_rule.specs.Token.{IsIn};
 ghost use Rattle.heap_rule.specs.Views.{voided};
@@ -183,6 +183,22 @@ fn after_rounds(heap: &Heap, dom: &mut Domain, cut: bool) -> Kind
     if cut { Kind::Clean } else { Kind::Decide }
 }
 
+// What the queues keep alive is followed, and where they keep nothing alive that wasn't marked before the
+// cut, the second pass ends at once.
+fn after_queued(heap: &Heap, dom: &mut Domain) -> Kind
+    requires here { IsIn dom.old heap.now }
+    requires first { dom.old.view.own.number ≡ 0 }
+    requires odd { dom.old.view.seen.stage ≡ Leads Queued }
+    ensures here { IsIn dom.new heap.now }
+    ensures opens { (who : Decider) → Opens heap.now.config who dom.old.view dom.new.view Queued result }
+{
+    if changed_load(heap, dom) == 0 {
+        Kind::Clean
+    } else {
+        Kind::Mark
+    }
+}
+
 // What wasn't marked is garbage from here on. Where a complete collection is asked for it is freed in
 // this pause, and nothing that lives is counted yet. Else the domains run, and free it as they do.
 fn after_lasts(heap: &Heap, dom: &mut Domain, decider: Decider) -> Kind
@@ -279,7 +295,7 @@ pub(crate) fn open(
         Kind::Mark => after_mark(heap, dom),
         Kind::Rounds => after_rounds(heap, dom, progress.cut),
         Kind::Decide => Kind::Queued,
-        Kind::Queued => Kind::Mark,
+        Kind::Queued => after_queued(heap, dom),
         Kind::Clean => Kind::Lasts,
         Kind::Lasts => after_lasts(heap, dom, decider),
         Kind::Sweep => after_sweep(heap, dom, decider, progress),

@@ -5,7 +5,7 @@ use Rattle.heap_model.specs.declared.entry.Entry.{Entry}
 use Rattle.heap_model.specs.Fronts.{IsFrontOf}
 use Rattle.heap_rule.specs.declared.config.Config.{Config}
 use Rattle.heap_rule.specs.declared.phase.Kind.{Kind}
-use Rattle.heap_rule.specs.declared.phase.Kind.TheVariants.{Answer, Decide, Lasts, Mark, Reset, Roots, Rounds, Run, Sweep}
+use Rattle.heap_rule.specs.declared.phase.Kind.TheVariants.{Answer, Clean, Decide, Lasts, Mark, Queued, Reset, Roots, Rounds, Run, Sweep}
 use Rattle.heap_rule.specs.declared.phase.Stage.TheVariants.{In, Led}
 use Rattle.heap_rule.specs.declared.view.DomainView.{DomainView}
 use Rattle.heap_rule.specs.declared.view.Share.{Share}
@@ -20,6 +20,14 @@ use Rattle.safepoint.specs.declared.answer.Look.TheVariants.{NotAll}
 -- marking isn't left while something was changed
 pub no_change_is_left_out : (share : Share) → MayFollow share Rounds Decide → share.changed ≡ Some 1 → ⊥
 no_change_is_left_out share m changed = let e : 1 ≡ 0 = same_Some 1 0 (sym changed ∙ m.unchanged (inr (inl refl))) in omega (arith, e)
+
+-- nor is the phase in which queued blocks are marked, past the marking
+pub no_queued_block_is_left_grey : (share : Share) → MayFollow share Queued Clean → share.changed ≡ Some 1 → ⊥
+no_queued_block_is_left_grey share m changed = let e : 1 ≡ 0 = same_Some 1 0 (sym changed ∙ m.unchanged (inr (inr refl))) in omega (arith, e)
+
+-- and a domain doesn't arrive from it while it owes a store of the changed word
+pub no_arrival_from_queued_owes_a_store : (k : Config) (x : DomainView) → ArriveMay k x → x.seen.stage ≡ In Queued → x.seen.share.owes ≡ true → ⊥
+no_arrival_from_queued_owes_a_store k x may stage owes = let e : true ≡ false = sym owes ∙ may.done.told (inr (inr (inl stage))) in cc
 
 -- a domain isn't said to wait once all have arrived
 pub no_wait_when_all_have_arrived : (k : Config) (x y : DomainView) (b : ℕ) → LookAnswers k x y (NotAll b) → x.own.arrivals * k.domains ≤ b → ⊥

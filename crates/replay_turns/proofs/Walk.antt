@@ -38,6 +38,10 @@ rounds true true = silent Rounds Clean true true (inr (inr refl)) refl
 rounds false true = silent Rounds Decide false false (inr (inl refl)) refl
 rounds cut false = silent Rounds Mark cut cut (inl refl) refl
 
+queued : (cut quiet : Bool) → Goes true Queued (if quiet then Clean else Mark) (record { cut = cut; whole = true; unswept = false; armed = false })
+queued cut true = silent Queued Clean cut true (inr (inr refl)) refl
+queued cut false = silent Queued Mark cut true (inl refl) refl
+
 -- where a collection goes on
 module _ (k : Config) (f : Findings) where
   goes_on : (whole cut : Bool) (left : Kind) → IsOfCollection left ≡ true → whole ≡ true
@@ -50,7 +54,7 @@ module _ (k : Config) (f : Findings) where
   goes_on true cut Mark of w = marks cut (f.changed == 0)
   goes_on true cut Rounds of w = rounds cut (f.changed == 0)
   goes_on true cut Decide of w = silent Decide Queued cut cut (inl refl) refl
-  goes_on true cut Queued of w = silent Queued Mark cut true (inl refl) refl
+  goes_on true cut Queued of w = queued cut (f.changed == 0)
   goes_on true cut Clean of w = silent Clean Lasts cut cut (inl refl) refl
   goes_on true cut Lasts of w = silent Lasts Sweep cut cut (inl refl) refl
   goes_on true cut Sweep of w = silent Sweep Answer cut cut refl refl

@@ -17,7 +17,7 @@ use Rattle.heap_rule.specs.declared.phase.Kind.{Kind}
 use Rattle.heap_rule.specs.declared.view.DomainView.{DomainView}
 use Rattle.heap_rule.specs.Cycles.{Cycling, IsCollecting, seen_by, Facts, cycle_of, label_at}
 use Rattle.heap_rule.specs.Views.{one}
-use Rattle.steps_marking.proofs.Learning.{Knows, known, at_same, at_other, bare, shifts_more, waits, Held, holding}
+use Rattle.steps_marking.proofs.Learning.{Knows, known, at_same, at_other, bare, grows_still, held, owed_in, owes_same, shifts_more, waits, Held, holding}
 use Rattle.steps_marking.proofs.Layouts.{labelled, owner_of_place}
 use Rattle.steps_marking.proofs.Unswept.{IsTracing, none_unswept}
 use Rattle.cycle_laws.specs.Shares.{at_domain}
@@ -80,15 +80,16 @@ module _ (k : Config) (s : Words) (r : Rule k s) (id : ℕ) (hist : List Entry) 
   walked_seen a q e slot is inside low = or_right (place_in q e slot == a) (seen_by sh.places_seen (place_in q e slot)) ((known k s r id hist x at).walked q e slot is inside low)
 
   -- a step at which a domain finds at a place what the phase asks
-  pub saw_place : (collecting : IsCollecting x.seen.stage) (a : ℕ) (h : Held) → sh.owes ≡ h.owes → a ∷ sh.places_seen ≡ h.places_seen → Facts c.kind k now live r.account.tenancy (record c { shares = record c.shares { seen = sees_at a } }) s.words
+  pub saw_place : (collecting : IsCollecting x.seen.stage) (a : ℕ) (h : Held) → owed_in (held sh) ≡ owed_in h → a ∷ sh.places_seen ≡ h.places_seen → Facts c.kind k now live r.account.tenancy (record c { shares = record c.shares { seen = sees_at a } }) s.words
       → Knows k s r id hist x at collecting c.paint.marks s.words h → Rule k record { words = s.words; homes = s.homes; views = set s.views id (one k hist (with_share x (holding sh h))) }
   saw_place collecting a h owes places_seen facts knows =
       let t = (my_good k s r id hist x at).sharing.telling in
       let not_arrived : c.shares.arrived d ≡ false = waits k s r id hist x at collecting in
-      shifts_more k s r id hist x at collecting c.shares.changed c.shares.owes (sees_at a) h s.words (untouched_same s.words) refl refl refl r.whole.cycle.changed_is
+      shifts_more k s r id hist x at collecting c.shares.changed c.shares.owes c.shares.follows (sees_at a) h s.words (untouched_same s.words) refl refl refl r.whole.cycle.changed_is
       facts
-      (λ z other. (refl, at_other c.shares.seen d (λ b. b == a || c.shares.seen d b) z other))
-      (t.owes not_arrived ∙ owes)
+      (grows_still k s r id hist x at collecting)
+      (λ z other. (refl, refl, at_other c.shares.seen d (λ b. b == a || c.shares.seen d b) z other))
+      (owes_same (c.shares.owes d) (c.shares.follows d) (held sh) h owes (t.owes not_arrived))
       (at_same c.shares.seen d (λ b. b == a || c.shares.seen d b) ∙ (ap (λ (f : ℕ → Bool). λ (b : ℕ). b == a || f b) (t.seen not_arrived) ∙ ap seen_by places_seen))
       knows
       refl

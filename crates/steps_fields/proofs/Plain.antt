@@ -1,5 +1,5 @@
 -- What the step calls tell of a token's plain data: it is what their changes make of it.
-use Rattle.std.proofs.Common.{true, false, zero, suc, ◌∷◌, inl, inr, ◌≡◌, ◌+◌, ◌<◌, ◌≤◌, ℕ, Bool, List, [], length, sym, ap, ◌∙◌, subst, lt_of_not-le}
+use Rattle.std.proofs.Common.{true, false, zero, suc, ◌∷◌, ◌++◌, inl, inr, ◌≡◌, ◌+◌, ◌-◌, ◌<◌, ◌≤◌, ℕ, Bool, List, [], length, length-append, refl, sym, ap, ◌∙◌, subst, lt_of_not-le, arith}
 use mathlib.Core.Logic.{dite}
 use native.Mathlib.Decide.{dec_le}
 use Rattle.heap_model.specs.declared.entry.Entry.{Entry}
@@ -22,7 +22,7 @@ use Rattle.heap_rule.specs.Raw.{StepsOnce, CanChange, Changes, Written, Closes}
 use Rattle.heap_rule.proofs.Plain.{fits_changed, entered_own, enters_once, changed_unread, entered_closes}
 use Rattle.heap_rule.proofs.Closes.{front_same}
 use Rattle.heap_rule.proofs.ChangeLemmas.{changed_only}
-use Rattle.steps_fields.specs.Stores.{with_field, remembering_own, StoreTold, WroteTold, CanStore, Stores}
+use Rattle.steps_fields.specs.Stores.{room_left, with_field, remembering_own, StoreTold, WroteTold, CanStore, Stores}
 use Rattle.heap_rule.specs.Token.{AllInHeap, Holds, LooksWithin, OwnFits, SweptWithin}
 use Rattle.heap_rule.specs.Standing.{IsInHeap}
 use Rattle.steps_fields.specs.Loads.{place_of, puts_block, HeadCase, HeadTold, LabelTold, FieldRead, RawCase, SizeTold}
@@ -51,6 +51,15 @@ field_in_heap k true at [] inside all (suc i) a e = cc
 field_in_heap k true at (x ∷ l) inside all zero a e = all 0 a e
 field_in_heap k true at (x ∷ l) inside all (suc i) a e = field_in_heap k true at l inside (λ j b got. all (suc j) b got) i a e
 
+-- and what room is left with it is that which was
+field_room : (remembers : Bool) (at : ℕ) (l : List ℕ) (room : ℕ) → (remembers ≡ true → 1 ≤ room) → room_left remembers room + length (with_field remembers at l) ≡ room + length l
+field_room false at l room some = refl
+field_room true at l room some =
+    let n : ℕ = length l in
+    let more : length (l ++ at ∷ []) ≡ n + 1 = length-append l (at ∷ []) in
+    let least : 1 ≤ room = some refl in
+    ap (λ (m : ℕ). room - 1 + m) more ∙ (let e : room - 1 + (n + 1) ≡ room + n = omega (least, arith) in e)
+
 pub wrote_closes : (k : Config) (x : DomainView) (at new : ℕ) (remembers : Bool) (e : Entry) (changes : List Change) (reply : Reply) → IsInHeap k at → CanStore remembers changes x.own
     → Closes k x new (λ y _ z. WroteTold k e at remembers changes reply y z) (CanStore remembers changes) (Stores at remembers changes)
 wrote_closes k x at new remembers e changes reply inside can y p told =
@@ -64,6 +73,7 @@ wrote_closes k x at new remembers e changes reply inside can y p told =
         registers = told.holds;
         looked = subst (λ (o : Own). LooksWithin k o.looked) (sym rest) p.looked;
         remembered = subst (λ (o : Own). AllInHeap k o.remembered.items) (sym rest) (field_in_heap k remembers at x.own.remembered.items inside p.remembered);
+        remembered_room = ap (λ (o : Own). o.remembered.room + length o.remembered.items) rest ∙ (field_room remembers at x.own.remembered.items x.own.remembered.room can.1 ∙ p.remembered_room);
         prepared = ap (λ (o : Own). length o.prepared) rest ∙ p.prepared;
         pending = ap (λ (o : Own). o.pending.room + length o.pending.items) rest ∙ p.pending;
         ephemerons = subst (λ (o : Own). AllInHeap k o.ephemerons.items) (sym rest) p.ephemerons;

@@ -132,6 +132,7 @@ fits_with k own registers fs fits holds lists = record {
   registers = holds;
   looked = fits.looked;
   remembered = fits.remembered;
+  remembered_room = fits.remembered_room;
   prepared = fits.prepared;
   pending = fits.pending;
   ephemerons = fits.ephemerons;

@@ -114,10 +114,11 @@ module _ (k : Config) (s : Words) (r : Rule k s) (id : ℕ) (hist : List Entry) 
         leaves = record { none = was.leaves.none; dead = was.leaves.dead; head = was.leaves.head; unprepared = was.leaves.unprepared; owned = was.leaves.owned };
         unswept = was.unswept;
         whole = λ l. inl (⊎_elim (λ (e : c.paint.emptied l ≡ []). e) (λ (h : MissesKeys live t.holder c l). absurd (not_clean (sym kind_is ∙ h.clean))) (was.whole l));
+        grows = record { few = was.grows.few; since = was.grows.since; named = was.grows.named; cleared = was.grows.cleared };
       }
 
       leading' : (z : DomainView) (share : Share) → Leading c s.words z.own.number z.seen.stage share → Leading c' s.words z.own.number z.seen.stage share
-      leading' z share l = record { changed = l.changed; found_blocks = l.found_blocks; found_words = l.found_words; rotated = l.rotated; turned = l.turned; pass = l.pass; whole = l.whole; armed = l.armed; unswept = l.unswept; under_way = l.under_way }
+      leading' z share l = record { changed = l.changed; found_blocks = l.found_blocks; found_words = l.found_words; rotated = l.rotated; turned = l.turned; pass = l.pass; whole = l.whole; armed = l.armed; unswept = l.unswept; under_way = l.under_way; unmarked = l.unmarked }
 
       own_knowing : Knowing k live t.holder now.graph c.paint.marks s.words d x.own.registers share'
       own_knowing = let n = known k s r id hist x at in let e = n.counted in record {
@@ -138,7 +139,7 @@ module _ (k : Config) (s : Words) (r : Rule k s) (id : ℕ) (hist : List Entry) 
       sharing' : Sharing k all' s.words d x.own.registers fs' x.own.ephemerons.items x.seen.stage share'
       sharing' = let g = good.sharing in let w = g.telling in let l = leading' x sh g.leading in record {
         telling = record { owes = w.owes; seen = w.seen; fresh = λ up. absurd (true≢false (sym up ∙ waits)); forgotten = λ up. absurd (true≢false (sym up ∙ waits)); colours = w.colours };
-        leading = record { changed = l.changed; found_blocks = l.found_blocks; found_words = l.found_words; rotated = l.rotated; turned = l.turned; pass = l.pass; whole = l.whole; armed = l.armed; unswept = l.unswept; under_way = l.under_way };
+        leading = record { changed = l.changed; found_blocks = l.found_blocks; found_words = l.found_words; rotated = l.rotated; turned = l.turned; pass = l.pass; whole = l.whole; armed = l.armed; unswept = l.unswept; under_way = l.under_way; unmarked = l.unmarked };
         knows = inr (collecting, subst (λ (z : Graph). Knowing k live t.holder z c.paint.marks s.words d x.own.registers share') (sym o.graph) own_knowing);
         adds = record { blocks = g.adds.blocks; words = g.adds.words; own = g.adds.own };
         looks = subst (λ (z : Graph). Looks live t.holder z c.paint.marks c.paint.emptied d x.own.ephemerons.items x.seen.stage share') (sym o.graph) own_looks;

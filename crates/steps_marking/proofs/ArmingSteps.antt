@@ -66,6 +66,7 @@ module _ (k : Config) (s : Words) (r : Rule k s) (id : ℕ) (hist : List Entry) 
       armed = λ b e. (may, sym (same_Some c.armed b e));
       unswept = h.leading.unswept;
       under_way = h.leading.under_way;
+      unmarked = h.leading.unmarked;
     };
     knows = ⊎_elim
         (λ (q : IsIdle x.seen.share). inl (ap (λ (z : Share). record z { armed = Some c.armed }) q))
@@ -221,6 +222,7 @@ module _ (k : Config) (s : Words) (r : Rule k s) (id : ℕ) (hist : List Entry) 
           (λ (e : c.paint.emptied l ≡ []). inl e)
           (λ (h : MissesKeys r.account.live r.account.tenancy.holder c l). inr record { clean = h.clean; domain = h.domain; waits = h.waits; address = h.address; own = h.own; place = h.place; lives = h.lives; label = h.label })
           (y.whole l);
+      grows = record { few = y.grows.few; since = y.grows.since; named = y.grows.named; cleared = y.grows.cleared };
     }
 
     -- domain 0 alone looks at the word in an odd phase
@@ -250,6 +252,7 @@ module _ (k : Config) (s : Words) (r : Rule k s) (id : ℕ) (hist : List Entry) 
       armed = armed_is;
       unswept = l.unswept;
       under_way = λ _ none. absurd (no_cycle none);
+      unmarked = l.unmarked;
     }
 
     may_look : (stage : Stage) → IsLeading stage → MayLook x.own.number stage

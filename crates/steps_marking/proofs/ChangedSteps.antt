@@ -1,5 +1,6 @@
 -- Domain 0 finds the changed word, and sets it back, in an odd phase.
-use Rattle.std.proofs.Common.{◌≡◌, ◌≢◌, ℕ, ◌+◌, false, List, set, length, length-set, get_or-set_same, get_or-set_other, Some, None, sym, refl, ap, ◌∙◌, subst, inl, ⊎_elim, arith, true≢false, ◌≤◌, [], inr}
+use Rattle.std.proofs.Common.{◌≡◌, ◌≢◌, ℕ, ◌+◌, false, List, set, length, length-set, get_or-set_same, get_or-set_other, Some, sym, refl, ap, ◌∙◌, subst, inl, ⊎_elim, arith, true≢false, ◌≤◌, [], inr}
+use Rattle.std.proofs.lemmas.Bool.{false≢true}
 use mathlib.Core.Option.{some}
 use lib.ListN.{get_elem?}
 use Rattle.atomic_table.specs.Table.{keeps}
@@ -77,6 +78,7 @@ module _ (k : Config) (s : Words) (r : Rule k s) (id : ℕ) (hist : List Entry) 
         armed = l.armed;
         unswept = l.unswept;
         under_way = l.under_way;
+        unmarked = l.unmarked;
       };
       knows = inl (ap (λ (z : Share). record z { changed = Some (changed_word s.words) }) (idle (Leads may.last) may.stage tt));
       adds = record { blocks = a.blocks; words = a.words; own = a.own };
@@ -128,7 +130,7 @@ module _ (k : Config) (s : Words) (r : Rule k s) (id : ℕ) (hist : List Entry) 
       told = record {
         even = λ j e. absurd (not_both r.account.pause.phase (j, e) (here.1.0, here.1.1));
         odd = λ j e f. absurd (true≢false (sym here.3 ∙ f));
-        led = λ j e f. ((y.told.led j e f).0, λ d. record { waits = refl; paid = refl; blind = refl });
+        led = λ j e f. ((y.told.led j e f).0, λ d. record { waits = refl; paid = refl; settled = refl; blind = refl });
       };
       leaves = record {
         none = y.leaves.none;
@@ -142,6 +144,12 @@ module _ (k : Config) (s : Words) (r : Rule k s) (id : ℕ) (hist : List Entry) 
           (λ (e : c.paint.emptied l ≡ []). inl e)
           (λ (h : MissesKeys r.account.live r.account.tenancy.holder c l). inr record { clean = h.clean; domain = h.domain; waits = refl; address = h.address; own = h.own; place = h.place; lives = h.lives; label = h.label })
           (y.whole l);
+      grows = record {
+        few = y.grows.few;
+        since = λ _ unnamed. absurd (unnamed (here.1.0, here.1.1, here.3));
+        named = y.grows.named;
+        cleared = λ _ _ _. refl;
+      };
     }
 
     running : (z : DomainView) → Good k r.account s.words z → RunsBeside k r.account.live r.account.tenancy.holder c.armed c.past c.paint.marks.marked ws z.own.number z.seen.stage z.seen.share
@@ -150,7 +158,7 @@ module _ (k : Config) (s : Words) (r : Rule k s) (id : ℕ) (hist : List Entry) 
     own_sharing : Sharing k (record r.account { cycling = c' }) ws x.own.number x.own.registers x.own.finalisers x.own.ephemerons.items x.seen.stage forgets
     own_sharing = let t = good.sharing.telling in let l = good.sharing.leading in let a = good.sharing.adds in let start = told.1 x.own.number in record {
       telling = record {
-        owes = λ _. sym start.paid ∙ t.owes start.waits;
+        owes = λ _. record { owes = sym start.paid ∙ (t.owes start.waits).owes; follows = λ a is. absurd (false≢true is) };
         seen = λ _. sym start.blind ∙ t.seen start.waits;
         fresh = λ up. absurd (true≢false (sym up));
         forgotten = λ up. absurd (true≢false (sym up));
@@ -167,6 +175,7 @@ module _ (k : Config) (s : Words) (r : Rule k s) (id : ℕ) (hist : List Entry) 
         armed = l.armed;
         unswept = l.unswept;
         under_way = l.under_way;
+        unmarked = l.unmarked;
       };
       knows = inl (ap (λ (z : Share). record z { changed = Some 0 }) (idle (Led Mark) may.stage tt));
       adds = record { blocks = λ e _. a.blocks e start.waits; words = λ e _. a.words e start.waits; own = λ e _. a.own e start.waits };
@@ -178,7 +187,7 @@ module _ (k : Config) (s : Words) (r : Rule k s) (id : ℕ) (hist : List Entry) 
     others_sharing : (z : DomainView) → z.own.number ≢ x.own.number → Good k r.account s.words z → Sharing k (record r.account { cycling = c' }) ws z.own.number z.own.registers z.own.finalisers z.own.ephemerons.items z.seen.stage z.seen.share
     others_sharing z other g = let t = g.sharing.telling in let l = g.sharing.leading in let a = g.sharing.adds in let start = told.1 z.own.number in record {
       telling = record {
-        owes = λ _. sym start.paid ∙ t.owes start.waits;
+        owes = λ _. record { owes = sym start.paid ∙ (t.owes start.waits).owes; follows = λ a is. absurd (false≢true is) };
         seen = λ _. sym start.blind ∙ t.seen start.waits;
         fresh = λ up. absurd (true≢false (sym up));
         forgotten = λ up. absurd (true≢false (sym up));
@@ -195,6 +204,7 @@ module _ (k : Config) (s : Words) (r : Rule k s) (id : ℕ) (hist : List Entry) 
         armed = l.armed;
         unswept = l.unswept;
         under_way = l.under_way;
+        unmarked = l.unmarked;
       };
       knows = knows_words k r.account.live r.account.tenancy.holder state.graph c.paint.marks s.words ws z.own.number z.own.registers z.seen.stage z.seen.share (heap_untouched k s.words ws untouched) g.sharing.knows;
       adds = record { blocks = λ e _. a.blocks e start.waits; words = λ e _. a.words e start.waits; own = λ e _. a.own e start.waits };
@@ -205,7 +215,7 @@ module _ (k : Config) (s : Words) (r : Rule k s) (id : ℕ) (hist : List Entry) 
 
     -- who has arrived in a phase of marking may have swept
     sweeps_on : (z : DomainView) → SweepsIn r.account.tenancy c z → SweepsIn r.account.tenancy c' z
-    sweeps_on z u = record { listed = u.listed; places = u.places; anew = λ e. absurd (let clash : Mark ≡ Lasts = sym kind_is ∙ e in cc); reaps = u.reaps; below = u.below }
+    sweeps_on z u = record { listed = u.listed; places = u.places; anew = λ e. absurd (let clash : Mark ≡ Lasts = sym kind_is ∙ e in cc); below = u.below; reaps = u.reaps }
 
     pub forget_rule : Rule k record { words = ws; homes = s.homes; views = set s.views id (one k hist (with_share x forgets)) }
     forget_rule = shifts k s r id hist x at forgets anew ws record {
@@ -217,7 +227,7 @@ module _ (k : Config) (s : Words) (r : Rule k s) (id : ℕ) (hist : List Entry) 
       cycle = cycle;
       sharing = own_sharing;
       sharings = others_sharing;
-      sweeps = let u = sweeps_on x good.sweeps in record { listed = u.listed; places = u.places; anew = u.anew; reaps = u.reaps; below = u.below };
+      sweeps = let u = sweeps_on x good.sweeps in record { listed = u.listed; places = u.places; anew = u.anew; below = u.below; reaps = u.reaps };
       others_sweep = λ z _ h. sweeps_on z h.sweeps;
     }
 

@@ -1,5 +1,5 @@
 -- A block is darkened.
-use Rattle.std.proofs.Common.{[], Some, ◌≡◌, ◌≢◌, ℕ, ◌+◌, ◌==◌, ◌&&◌, ◌||◌, not, Bool, true, false, cond, IsTrue, eq-eqb, ne_eqb, List, get_or, set, Option, None, sym, refl, ap, ◌∙◌, subst, ⊎_elim}
+use Rattle.std.proofs.Common.{[], ◌≡◌, ◌≢◌, ℕ, ◌+◌, ◌==◌, ◌||◌, Bool, true, false, cond, IsTrue, eq-eqb, ne_eqb, List, get_or, set, Option, None, sym, refl, ap, ◌∙◌, subst, ⊎_elim}
 use mathlib.Core.Logic.{dite}
 use native.Mathlib.Decide.{ℕ_discrete}
 use mathlib.Core.Option.{some}
@@ -15,16 +15,20 @@ use Rattle.heap_model.specs.Reach.{HoldsRoots, IsClosedGraph}
 use Rattle.heap_model.specs.Domains.{queues, roots, opening}
 use Rattle.heap_model.specs.WellFormed.{IsWellFormed}
 use Rattle.heap_model.proofs.Graphs.GraphLemmas.{same_label_refl, same_label-false}
+use Rattle.heap_model.proofs.Reach.ReachLemmas.{or_cases, or_left, or_right}
 use Rattle.heap_model.proofs.Histories.WellFormedLemmas.{wf_after, wf_opening, closed_graph, queues_named}
 use Rattle.heap_words.specs.declared.colours.Colours.{Colours}
 use Rattle.heap_words.specs.Heads.{head_word}
 use Rattle.cycle_laws.specs.Cycle as laws
 use Rattle.cycle_laws.specs.Cycle.{InPhase, with_marks, with_shares}
 use Rattle.cycle_laws.specs.Marks.{FieldsMarked, Marks, darkened, darkened_as, fields_of}
-use Rattle.cycle_laws.specs.Shares.{at_domain, owing}
+use Rattle.cycle_laws.specs.Shares.{at_domain, following, owing}
 use Rattle.cycle_laws.specs.CycleLaws.{Darkens}
 use Rattle.cycle_laws.proofs.Tracing.{darkened_more, darkens_as, scanned_else, scanned_here}
 use Rattle.cycle_laws.proofs.Cycling.{darkening_steps}
+use Rattle.cycle_laws.specs.Ending.{IsGrowing}
+use Rattle.cycle_laws.proofs.Ending.{owing_grows}
+use Rattle.heap_rule.proofs.Growing.{pooled}
 use Rattle.heap_rule.specs.declared.config.Config.{Config}
 use Rattle.heap_rule.specs.declared.phase.Kind.{Kind}
 use Rattle.heap_rule.specs.declared.phase.Kind.TheVariants.{Run, Promote, Reset, Roots, Mark, Rounds, Decide, Queued, Clean, Lasts, Sweep, Answer}
@@ -33,17 +37,17 @@ use Rattle.heap_rule.specs.declared.view.Share.{Share}
 use Rattle.heap_rule.specs.Limits.{sizes_in}
 use Rattle.heap_rule.specs.Layout.{before_heap, at_address}
 use Rattle.heap_rule.specs.Places.{IsHeadOf, IsOldAt, Place, colour_in, head_of, needs_no_scan}
-use Rattle.heap_rule.specs.Cycles.{Cycling, Facts, HasNoCycle, IsCollecting, cycle_of}
+use Rattle.heap_rule.specs.Cycles.{Cycling, Facts, HasNoCycle, IsCollecting, OwesAs, cycle_of, seen_by, IsMarking, pool_labels}
 use Rattle.heap_rule.specs.Raw.{MayStep}
 use Rattle.heap_rule.specs.Rule.{Rule, state_of}
 use Rattle.heap_rule.specs.Views.{one}
 use Rattle.heap_rule.proofs.Keeps.{Words, mine, my_good, unmoved}
 use Rattle.steps_marking.specs.Looks.{with_share}
-use Rattle.steps_marking.specs.Marking.{DarkenMay, DarkenTold, IsDarkening, darkening, Reason, Register, Field, OfDatum, OfQueue, Warrants, moved_on, owes_on, waiting_on}
+use Rattle.steps_marking.specs.Marking.{DarkenMay, DarkenTold, IsDarkening, darkening, Reason, Register, Field, OfDatum, OfQueue, Warrants, account_on, moved_on, owes_on, waiting_on}
 use Rattle.steps_marking.proofs.Colouring.{BareHead, Recolourable, bare_head, no_fields, unmarked_by, words_same}
 use Rattle.steps_marking.proofs.TargetSteps.{goes_on}
 use Rattle.steps_marking.proofs.Layouts.{label_there, owner_of_place}
-use Rattle.steps_marking.proofs.Learning.{at_other, at_same, bare, held, kind_here, known, lies_old}
+use Rattle.steps_marking.proofs.Learning.{at_other, at_same, bare, held, kind_here, known, lies_old, one_place, unnamed}
 use Rattle.steps_marking.proofs.Recolouring.{Recolours, known_still, recolours}
 use Rattle.steps_marking.proofs.Targets.{Target, datum_facts, moved_knows, sees_on, sees_others, sees_own, target, waiting_moved}
 use Rattle.heap_rule.proofs.Stages.{waits_in}
@@ -68,6 +72,7 @@ collects Answer n none = n
 abbrev owing_on : Kind → (ℕ → Bool) → ℕ → ℕ → Bool
 owing_on Mark owes d = at_domain owes d true
 owing_on Rounds owes d = at_domain owes d true
+owing_on Queued owes d = at_domain owes d true
 owing_on _ owes d = owes
 
 owing_others : (kind : Kind) (owes : ℕ → Bool) (d z : ℕ) → z ≢ d → owing_on kind owes d z ≡ owes z
@@ -78,7 +83,7 @@ owing_others Roots owes d z other = refl
 owing_others Mark owes d z other = at_other owes d true z other
 owing_others Rounds owes d z other = at_other owes d true z other
 owing_others Decide owes d z other = refl
-owing_others Queued owes d z other = refl
+owing_others Queued owes d z other = at_other owes d true z other
 owing_others Clean owes d z other = refl
 owing_others Lasts owes d z other = refl
 owing_others Sweep owes d z other = refl
@@ -92,11 +97,47 @@ owing_own Roots owes d own e = e
 owing_own Mark owes d own e = at_same owes d true
 owing_own Rounds owes d own e = at_same owes d true
 owing_own Decide owes d own e = e
-owing_own Queued owes d own e = e
+owing_own Queued owes d own e = at_same owes d true
 owing_own Clean owes d own e = e
 owing_own Lasts owes d own e = e
 owing_own Sweep owes d own e = e
 owing_own Answer owes d own e = e
+
+-- and which places each domain follows
+abbrev following_on : Kind → (ℕ → ℕ → Bool) → ℕ → ℕ → ℕ → ℕ → Bool
+following_on Mark follows d a = at_domain follows d (λ b. b == a || follows d b)
+following_on _ follows d a = follows
+
+following_others : (kind : Kind) (follows : ℕ → ℕ → Bool) (d a z : ℕ) → z ≢ d → following_on kind follows d a z ≡ follows z
+following_others Run follows d a z other = refl
+following_others Promote follows d a z other = refl
+following_others Reset follows d a z other = refl
+following_others Roots follows d a z other = refl
+following_others Mark follows d a z other = at_other follows d (λ b. b == a || follows d b) z other
+following_others Rounds follows d a z other = refl
+following_others Decide follows d a z other = refl
+following_others Queued follows d a z other = refl
+following_others Clean follows d a z other = refl
+following_others Lasts follows d a z other = refl
+following_others Sweep follows d a z other = refl
+following_others Answer follows d a z other = refl
+
+following_own : (kind : Kind) (follows : ℕ → ℕ → Bool) (d a : ℕ) (account : List ℕ) → ((b : ℕ) → IsTrue (follows d b) → IsTrue (seen_by account b)) → (b : ℕ) → IsTrue (following_on kind follows d a d b) → IsTrue (seen_by (account_on kind a account) b)
+following_own Run follows d a account f b is = f b is
+following_own Promote follows d a account f b is = f b is
+following_own Reset follows d a account f b is = f b is
+following_own Roots follows d a account f b is = f b is
+following_own Mark follows d a account f b is = ⊎_elim
+    (λ (here : IsTrue (b == a)). or_left (b == a) (seen_by account b) here)
+    (λ (old : IsTrue (follows d b)). or_right (b == a) (seen_by account b) (f b old))
+    (or_cases (b == a) (follows d b) (subst (λ (g : ℕ → Bool). IsTrue (g b)) (at_same follows d (λ e. e == a || follows d e)) is))
+following_own Rounds follows d a account f b is = f b is
+following_own Decide follows d a account f b is = f b is
+following_own Queued follows d a account f b is = f b is
+following_own Clean follows d a account f b is = f b is
+following_own Lasts follows d a account f b is = f b is
+following_own Sweep follows d a account f b is = f b is
+following_own Answer follows d a account f b is = f b is
 
 module _ (k : Config) (s : Words) (r : Rule k s) (id : ℕ) (hist : List Entry) (x : DomainView) (at : get_elem? s.views id ≡ some (one k hist x)) (a old new : ℕ) (reason : Reason) (may : DarkenMay x a old new reason) where
   abbrev now : model.State
@@ -179,7 +220,7 @@ module _ (k : Config) (s : Words) (r : Rule k s) (id : ℕ) (hist : List Entry) 
     nothing_unmarked e = subst (λ (ls : List Label). HoldsRoots ls (darkened m p.label).marked) (sym (no_field e)) (λ l h. cc)
 
     abbrev c' : Kind → Cycling
-    c' kind = record c { paint = record c.paint { marks = m' }; shares = record c.shares { owes = owing_on kind c.shares.owes d } }
+    c' kind = record c { paint = record c.paint { marks = m' }; shares = record c.shares { owes = owing_on kind c.shares.owes d; follows = following_on kind c.shares.follows d a } }
 
     abbrev words' : List ℕ
     words' = set s.words (before_heap k + a) new
@@ -189,18 +230,18 @@ module _ (k : Config) (s : Words) (r : Rule k s) (id : ℕ) (hist : List Entry) 
     dark_facts Promote n f = absurd n
     dark_facts Reset n f = absurd n
     dark_facts Roots n f =
-        let after = darkening_steps.roots_darkens laws.First k.domains now cyc f.0 d darkens.0 a p.label darkens.1 in
+        let after = darkening_steps.roots_darkens k.domains now cyc f.0 d darkens.0 a p.label darkens.1 in
         (darkens_as (λ z. InPhase (laws.Roots laws.First) k.domains now (with_marks cyc z)) m p.label done (λ e. darkening_steps.roots_scans laws.First k.domains now _ after p.label (nothing_unmarked e)) after, record { unchanged = f.1.unchanged; unrotated = f.1.unrotated })
     dark_facts Mark n f =
-        let after = darkening_steps.mark_darkens_other c.pass k.domains now cyc f.0 d darkens.0 a p.label darkens.1 in
-        (darkens_as (λ z. InPhase (laws.Mark c.pass) k.domains now (with_shares (with_marks cyc z) (owing cyc.shares d))) m p.label done (λ e. darkening_steps.mark_scans c.pass k.domains now _ after p.label (nothing_unmarked e)) after, f.1)
+        let after = darkening_steps.mark_darkens c.pass k.domains now cyc f.0 (one_place k s r id hist x at collecting) d darkens.0 a p.label darkens.1 in
+        (darkens_as (λ z. InPhase (laws.Mark c.pass) k.domains now (with_shares (with_marks cyc z) (following cyc.shares d a))) m p.label done (λ e. darkening_steps.mark_scans c.pass k.domains now _ after p.label (nothing_unmarked e)) after, f.1)
     dark_facts Rounds n f =
         let after = darkening_steps.rounds_darkens c.pass k.domains now cyc f.0 d darkens.0 a p.label darkens.1 in
         (darkens_as (λ z. InPhase (laws.Rounds c.pass) k.domains now (with_shares (with_marks cyc z) (owing cyc.shares d))) m p.label done (λ e. darkening_steps.rounds_scans c.pass k.domains now _ after p.label (nothing_unmarked e)) after, f.1)
     dark_facts Decide n f = absurd n
     dark_facts Queued n f =
-        let after = darkening_steps.roots_darkens laws.Second k.domains now cyc f.0 d darkens.0 a p.label darkens.1 in
-        (darkens_as (λ z. InPhase (laws.Roots laws.Second) k.domains now (with_marks cyc z)) m p.label done (λ e. darkening_steps.roots_scans laws.Second k.domains now _ after p.label (nothing_unmarked e)) after, record { unchanged = f.1.unchanged; unrotated = f.1.unrotated })
+        let after = darkening_steps.queued_darkens k.domains now cyc f.0 d darkens.0 a p.label darkens.1 in
+        (darkens_as (λ z. InPhase (laws.Roots laws.Second) k.domains now (with_shares (with_marks cyc z) (owing cyc.shares d))) m p.label done (λ e. darkening_steps.roots_scans laws.Second k.domains now _ after p.label (nothing_unmarked e)) after, f.1)
     dark_facts Clean n f = absurd n
     dark_facts Lasts n f = absurd n
     dark_facts Sweep n f = absurd n
@@ -214,7 +255,7 @@ module _ (k : Config) (s : Words) (r : Rule k s) (id : ℕ) (hist : List Entry) 
 
     -- and where the datum of an ephemeron is marked the domain has seen that
     abbrev saw : (u : Reason) → Warrants u x a → Cycling
-    saw u w = record c { paint = record c.paint { marks = m' }; shares = record c.shares { owes = owing_on may.kind c.shares.owes d; seen = sees_on k s r id hist x at u a w } }
+    saw u w = record c { paint = record c.paint { marks = m' }; shares = record c.shares { owes = owing_on may.kind c.shares.owes d; follows = following_on may.kind c.shares.follows d a; seen = sees_on k s r id hist x at u a w } }
 
     seen_facts : (u : Reason) (w : Warrants u x a) → Facts may.kind k now r.account.live r.account.tenancy (c' may.kind) words' → Facts may.kind k now r.account.live r.account.tenancy (saw u w) words'
     seen_facts (Register n) w f = f
@@ -232,7 +273,29 @@ module _ (k : Config) (s : Words) (r : Rule k s) (id : ℕ) (hist : List Entry) 
     abbrev share' : Share
     share' = darkening may.kind reason a x.seen.share
 
-    recoloured : Recolours k s r id hist x at collecting a p new m' (owing_on may.kind c.shares.owes d) (sees_on k s r id hist x at reason a may.reason_is) (held share') (waiting_on reason x.seen.share.waiting)
+    -- in the marking the block that is darkened was unmarked, and lies in a pool
+    grown : (kind : Kind) → IsMarking c.kind → IsMarking kind → IsGrowing (pool_labels k r.account.live) c.before m'.marked (record c.shares { owes = owing_on kind c.shares.owes d })
+    grown kind now_marking = go kind
+      where
+        owed : IsGrowing (pool_labels k r.account.live) c.before (darkened m p.label).marked (owing c.shares d)
+        owed = owing_grows (pool_labels k r.account.live) c.before m c.shares (r.whole.cycle.grows.since now_marking (unnamed k s r id hist x at collecting)) d p.label unmarked
+            (pooled k r.account.tenancy s.words r.account.live r.whole.pools r.whole.grid a p aim.lives old_at)
+
+        go : (kind : Kind) → IsMarking kind → IsGrowing (pool_labels k r.account.live) c.before m'.marked (record c.shares { owes = owing_on kind c.shares.owes d })
+        go Mark marking = record { stays = owed.stays; changed = owed.changed; owing = owed.owing }
+        go Rounds marking = record { stays = owed.stays; changed = owed.changed; owing = owed.owing }
+        go Run marking = absurd marking
+        go Promote marking = absurd marking
+        go Reset marking = absurd marking
+        go Roots marking = absurd marking
+        go Decide marking = absurd marking
+        go Queued marking = absurd marking
+        go Clean marking = absurd marking
+        go Lasts marking = absurd marking
+        go Sweep marking = absurd marking
+        go Answer marking = absurd marking
+
+    recoloured : Recolours k s r id hist x at collecting a p new m' (owing_on may.kind c.shares.owes d) (following_on may.kind c.shares.follows d a) (sees_on k s r id hist x at reason a may.reason_is) (held share') (waiting_on reason x.seen.share.waiting)
     recoloured = let cs : Colours = c.paint.colours in record {
       lives = aim.lives;
       here = record {
@@ -248,15 +311,19 @@ module _ (k : Config) (s : Words) (r : Rule k s) (id : ℕ) (hist : List Entry) 
       still = not_clean;
       facts = subst (λ (kind : Kind). Facts kind k now r.account.live r.account.tenancy (saw reason may.reason_is) words') (sym kind_is)
           (seen_facts reason may.reason_is (dark_facts may.kind may.darkening (subst (λ (kind : Kind). Facts kind k now r.account.live r.account.tenancy c s.words) kind_is r.whole.cycle.facts)));
-      others = λ z other. (owing_others may.kind c.shares.owes d z other, sees_others k s r id hist x at reason a may.reason_is z other);
-      owes_is = owing_own may.kind c.shares.owes d x.seen.share.owes ((my_good k s r id hist x at).sharing.telling.owes (waits_in k s r id hist x at may.kind may.stage));
+      others = λ z other. (owing_others may.kind c.shares.owes d z other, following_others may.kind c.shares.follows d a z other, sees_others k s r id hist x at reason a may.reason_is z other);
+      owes_is = let o : OwesAs (c.shares.owes d) (c.shares.follows d) x.seen.share.owes x.seen.share.account = (my_good k s r id hist x at).sharing.telling.owes (waits_in k s r id hist x at may.kind may.stage) in record {
+        owes = owing_own may.kind c.shares.owes d x.seen.share.owes o.owes;
+        follows = following_own may.kind c.shares.follows d a x.seen.share.account o.follows;
+      };
       seen_is = sees_own k s r id hist x at reason a may.reason_is ((my_good k s r id hist x at).sharing.telling.seen (waits_in k s r id hist x at may.kind may.stage));
-      knows = moved_knows k s r id hist x at collecting a p aim.lives m' words' is_dark not_clean (known_still k s r id hist x at collecting a p new m' aim.lives is_dark (darkened_more m p.label)) reason may.reason_is (owes_on may.kind x.seen.share.owes) (x.seen.share.darkenings + 1);
+      knows = moved_knows k s r id hist x at collecting a p aim.lives m' words' is_dark not_clean (known_still k s r id hist x at collecting a p new m' aim.lives is_dark (darkened_more m p.label)) reason may.reason_is (owes_on may.kind x.seen.share.owes) (account_on may.kind a x.seen.share.account) (x.seen.share.darkenings + 1);
       queued = waiting_moved k s r id hist x at collecting a p aim.lives m' is_dark (darkened_more m p.label) reason may.reason_is;
+      grows = λ marking. let g = grown may.kind marking (subst IsMarking kind_is marking) in record { stays = g.stays; changed = g.changed; owing = g.owing };
     }
 
     won_rule : Rule k record { words = words'; homes = s.homes; views = set s.views id (one k hist (with_share x share')) }
-    won_rule = recolours k s r id hist x at collecting a p new m' (owing_on may.kind c.shares.owes d) (sees_on k s r id hist x at reason a may.reason_is) (held share') (waiting_on reason x.seen.share.waiting) recoloured
+    won_rule = recolours k s r id hist x at collecting a p new m' (owing_on may.kind c.shares.owes d) (following_on may.kind c.shares.follows d a) (sees_on k s r id hist x at reason a may.reason_is) (held share') (waiting_on reason x.seen.share.waiting) recoloured
 
 pub darken_may : (k : Config) (x : DomainView) (word a old new : ℕ) (reason : Reason) → word ≡ before_heap k + a → DarkenMay x a old new reason → MayStep k x word (λ n. either (n == old) new n) (DarkenTold k old a reason)
 darken_may k x word a old new reason place may fits slots id hist s r _ at _ =

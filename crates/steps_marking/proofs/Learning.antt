@@ -7,8 +7,9 @@ use Rattle.heap_model.specs.declared.entry.Entry.{Entry}
 use Rattle.heap_model.specs.declared.label.Label.{Label}
 use Rattle.heap_model.specs.declared.state.State as model
 use Rattle.cycle_laws.specs.Marks.{Marks}
-use Rattle.cycle_laws.specs.Shares.{Shares, at_domain}
+use Rattle.cycle_laws.specs.Shares.{OnePlaceEach, Shares, at_domain}
 use Rattle.heap_words.specs.declared.value.Value.TheVariants.{Ref}
+use Rattle.cycle_laws.specs.Ending.{IsGrowing}
 use Rattle.heap_rule.specs.declared.config.Config.{Config}
 use Rattle.heap_rule.specs.declared.phase.Kind.{Kind}
 use Rattle.heap_rule.specs.declared.phase.Kind.TheVariants.{Run, Promote, Clean}
@@ -30,7 +31,7 @@ use Rattle.heap_rule.specs.Pools.{Holder, IsBefore, IsLeading, blocks_of, owned,
 use Rattle.heap_rule.specs.declared.view.Held.TheVariants.{Queue}
 use Rattle.heap_rule.specs.Deciding.{IsRooting}
 use Rattle.heap_rule.specs.Finalisers.{held_at}
-use Rattle.heap_rule.specs.Cycles.{Cycled, Cycling, Facts, HasNoCycle, IsCollecting, IsIdle, IsMarkedAt, Knowing, Leading, Scans, Told, seen_by, Scanned, MissesKeys, KeysAt}
+use Rattle.heap_rule.specs.Cycles.{Cycled, Cycling, Facts, HasNoCycle, IsCollecting, IsIdle, IsMarkedAt, Knowing, Leading, OwesAs, Scans, Told, layout_of, seen_by, Scanned, MissesKeys, KeysAt, IsMarking, IsNamed, pool_labels}
 use Rattle.heap_rule.specs.Rule.{Account, Good, Rule, Sharing, state_of}
 use Rattle.heap_rule.specs.Sweeping.{SweepsIn}
 use Rattle.heap_rule.specs.Views.{one}
@@ -42,6 +43,7 @@ use Rattle.heap_rule.proofs.PauseFacts.{kind_differs, not_both, agree}
 use Rattle.heap_rule.proofs.Sharings.{kind_now}
 use Rattle.heap_rule.proofs.FinaliserLemmas.{deciding_marks}
 use Rattle.steps_marking.specs.Looks.{with_share}
+use Rattle.steps_marking.proofs.Layouts.{labelled}
 use Rattle.steps_marking.proofs.Pausing.{paused_on}
 use Rattle.cycle_laws.proofs.Tracing.{More}
 use Rattle.heap_model.specs.Graph.{Graph}
@@ -83,6 +85,7 @@ collects x is = go x.seen.stage refl is
 -- what a domain knows of blocks in a phase, but for what it has counted
 pub record Held : Type 0 where
   pub owes : Bool
+  pub account : List ℕ
   pub places_seen : List ℕ
   pub found_head : Option FoundHead
   pub scan : Scan
@@ -94,10 +97,18 @@ pub record Held : Type 0 where
   pub cleaning : Option Cleaning
 
 abbrev pub held : Share → Held
-held share = record { owes = share.owes; places_seen = share.places_seen; found_head = share.found_head; scan = share.scan; walk = share.walk; own_pool = share.own_pool; roots = share.roots; marked = share.marked; darkenings = share.darkenings; cleaning = share.cleaning }
+held share = record { owes = share.owes; account = share.account; places_seen = share.places_seen; found_head = share.found_head; scan = share.scan; walk = share.walk; own_pool = share.own_pool; roots = share.roots; marked = share.marked; darkenings = share.darkenings; cleaning = share.cleaning }
 
 abbrev pub holding : Share → Held → Share
-holding share h = record share { owes = h.owes; places_seen = h.places_seen; found_head = h.found_head; scan = h.scan; walk = h.walk; own_pool = h.own_pool; roots = h.roots; marked = h.marked; darkenings = h.darkenings; cleaning = h.cleaning }
+holding share h = record share { owes = h.owes; account = h.account; places_seen = h.places_seen; found_head = h.found_head; scan = h.scan; walk = h.walk; own_pool = h.own_pool; roots = h.roots; marked = h.marked; darkenings = h.darkenings; cleaning = h.cleaning }
+
+-- what it has still to do for the blocks that it has darkened
+abbrev pub owed_in : Held → Bool × List ℕ
+owed_in h = (h.owes, h.account)
+
+-- its view tells so where nothing of it has changed
+pub owes_same : (due : Bool) (followed : ℕ → Bool) (g h : Held) → owed_in g ≡ owed_in h → OwesAs due followed g.owes g.account → OwesAs due followed h.owes h.account
+owes_same due followed g h same = subst (λ (z : Bool × List ℕ). OwesAs due followed z.0 z.1) same
 
 -- scans go on where more is marked
 scanned_more : (live : Live) (graph : Graph) (m m' : Marks) → More m.marked m'.marked → (block done size head : ℕ) → Scanned live graph m block done size head → Scanned live graph m' block done size head
@@ -305,6 +316,18 @@ module _ (k : Config) (s : Words) (r : Rule k s) (id : ℕ) (hist : List Entry) 
     pub waits : c.shares.arrived d ≡ false
     waits = waits_in k s r id hist x at in_kind.kind in_kind.stage
 
+    -- the phase is even, so the next kind isn't named
+    pub unnamed : IsNamed r.account.pause → ⊥
+    unnamed named = not_both r.account.pause.phase even (named.0, named.1)
+
+    -- What a step of the marking owes: where the changed word is set, or a domain owes a store of it, a block was marked in this phase
+    abbrev pub GrowsBy : Marks → Bool → (ℕ → Bool) → Type 0
+    GrowsBy m' changed owes = IsMarking c.kind → IsGrowing (pool_labels k live) c.before m'.marked (record c.shares { changed = changed; owes = owes })
+
+    -- where it changes none of these it owes nothing
+    pub grows_still : GrowsBy m c.shares.changed c.shares.owes
+    grows_still marking = let g = r.whole.cycle.grows.since marking unnamed in record { stays = g.stays; changed = g.changed; owing = g.owing }
+
     pub none_runs : c.kind ≡ Run → ⊥
     none_runs e = in_kind.under_way (subst HasNoCycle (sym e ∙ kind_here in_kind.kind in_kind.stage) tt)
 
@@ -319,6 +342,13 @@ module _ (k : Config) (s : Words) (r : Rule k s) (id : ℕ) (hist : List Entry) 
     lies_old a p lives =
         let not_kind : (kind : Kind) → HasNoCycle kind → r.account.pause.kinds here.1.0 ≡ kind → ⊥ = (λ kind none e. in_kind.under_way (subst HasNoCycle (sym e ∙ here.1.2) none)) in
         r.whole.emptied (inr (here.1.0, here.1.1, (λ e. not_kind Run tt e, λ e. not_kind Promote tt e))) a p lives
+
+    -- no two places have one label
+    pub one_place : OnePlaceEach (layout_of k live holder)
+    one_place a b l e f =
+        let p = labelled k live a l e in
+        let q = labelled k live b l f in
+        r.whole.placed.once a b p.place q.place p.lives q.lives (p.label ∙ sym q.label) (bare a p.place p.lives).no_forward (bare b q.place q.lives).no_forward
 
     -- nobody takes a block of the pools meanwhile
     pub rests_here : (z : DomainView) → Staged r.account.pause z → Resting k s.words z → z.seen.hunt ≡ Rests
@@ -363,26 +393,27 @@ module _ (k : Config) (s : Words) (r : Rule k s) (id : ℕ) (hist : List Entry) 
     queue_still m' more rooting i a p is held lives = more p.label ((my_good k s r id hist x at).sharing.deciding.rooted rooting waits i a p is held lives)
 
     -- What it owes of a collection, whatever it writes: what is marked, the changed word, who owes and what was seen may change, and what the domain knows
-    pub record Learns (m' : Marks) (changed : Bool) (owes : ℕ → Bool) (seen : ℕ → ℕ → Bool) (h : Held) (waiting : List ℕ) (words' : List ℕ) : Type 0 where
+    pub record Learns (m' : Marks) (changed : Bool) (owes : ℕ → Bool) (follows seen : ℕ → ℕ → Bool) (h : Held) (waiting : List ℕ) (words' : List ℕ) : Type 0 where
       pub armed_same : armed words' ≡ armed s.words
       pub colours_same : colours words' ≡ colours s.words
       pub blocks_same : live_blocks words' ≡ live_blocks s.words
       pub words_same : live_words words' ≡ live_words s.words
       pub changed_is : changed_word words' ≡ flag changed
-      pub facts : Facts c.kind k now live r.account.tenancy (record c { paint = record c.paint { marks = m' }; shares = record c.shares { changed = changed; owes = owes; seen = seen } }) words'
+      pub facts : Facts c.kind k now live r.account.tenancy (record c { paint = record c.paint { marks = m' }; shares = record c.shares { changed = changed; owes = owes; follows = follows; seen = seen } }) words'
       pub dead : (b : ℕ) → live b ≡ None → at_address k words' b ≡ at_address k s.words b
       pub heads : (b : ℕ) (p : Place) → live b ≡ Some p → (at_address k words' b ≡ at_address k s.words b) ⊎ IsTrue (m'.marked p.label)
       pub more : (l : Label) → IsTrue (m.marked l) → IsTrue (m'.marked l)
       pub still : c.kind ≡ Clean → m' ≡ m
-      pub others : (z : ℕ) → z ≢ d → (owes z ≡ c.shares.owes z) × (seen z ≡ c.shares.seen z)
-      pub owes_is : owes d ≡ h.owes
+      pub others : (z : ℕ) → z ≢ d → (owes z ≡ c.shares.owes z) × (follows z ≡ c.shares.follows z) × (seen z ≡ c.shares.seen z)
+      pub owes_is : OwesAs (owes d) (follows d) h.owes h.account
       pub seen_is : seen d ≡ seen_by h.places_seen
       pub knows : Knows m' words' h
       pub queued : QueueMarked m' waiting
+      pub grows : GrowsBy m' changed owes
 
-    module _ (m' : Marks) (changed : Bool) (owes : ℕ → Bool) (seen : ℕ → ℕ → Bool) (h : Held) (waiting : List ℕ) (words' : List ℕ) (o : Learns m' changed owes seen h waiting words') where
+    module _ (m' : Marks) (changed : Bool) (owes : ℕ → Bool) (follows seen : ℕ → ℕ → Bool) (h : Held) (waiting : List ℕ) (words' : List ℕ) (o : Learns m' changed owes follows seen h waiting words') where
       abbrev c' : Cycling
-      c' = record c { paint = record c.paint { marks = m' }; shares = record c.shares { changed = changed; owes = owes; seen = seen } }
+      c' = record c { paint = record c.paint { marks = m' }; shares = record c.shares { changed = changed; owes = owes; follows = follows; seen = seen } }
 
       abbrev all' : Account
       all' = record r.account { cycling = c' }
@@ -414,6 +445,12 @@ module _ (k : Config) (s : Words) (r : Rule k s) (id : ℕ) (hist : List Entry) 
             (λ (e : c.paint.emptied l ≡ []). inl e)
             (λ (h : MissesKeys live holder c l). inr record { clean = h.clean; domain = h.domain; waits = h.waits; address = h.address; own = h.own; place = h.place; lives = h.lives; label = h.label })
             (y.whole l);
+        grows = record {
+          few = y.grows.few;
+          since = λ marking _. let g = o.grows marking in record { stays = g.stays; changed = g.changed; owing = g.owing };
+          named = λ _ named. absurd (unnamed named);
+          cleared = λ _ named _. absurd (unnamed named);
+        };
       }
 
       leading' : (z : DomainView) (share : Share) → Staged r.account.pause z → Leading c s.words z.own.number z.seen.stage share → Leading c' words' z.own.number z.seen.stage share
@@ -428,6 +465,7 @@ module _ (k : Config) (s : Words) (r : Rule k s) (id : ℕ) (hist : List Entry) 
         armed = l.armed;
         unswept = l.unswept;
         under_way = l.under_way;
+        unmarked = l.unmarked;
       }
 
       -- nobody runs
@@ -446,7 +484,7 @@ module _ (k : Config) (s : Words) (r : Rule k s) (id : ℕ) (hist : List Entry) 
               forgotten = λ up. absurd (true≢false (sym up ∙ waits));
               colours = g.sharing.telling.colours;
             };
-            leading = record { changed = l.changed; found_blocks = l.found_blocks; found_words = l.found_words; rotated = l.rotated; turned = l.turned; pass = l.pass; whole = l.whole; armed = l.armed; unswept = l.unswept; under_way = l.under_way };
+            leading = record { changed = l.changed; found_blocks = l.found_blocks; found_words = l.found_words; rotated = l.rotated; turned = l.turned; pass = l.pass; whole = l.whole; armed = l.armed; unswept = l.unswept; under_way = l.under_way; unmarked = l.unmarked };
             knows = inr (
               collecting,
               record {
@@ -470,8 +508,8 @@ module _ (k : Config) (s : Words) (r : Rule k s) (id : ℕ) (hist : List Entry) 
       pub sharings' : (z : DomainView) → z.own.number ≢ d → Good k r.account s.words z → Sharing k all' words' z.own.number z.own.registers z.own.finalisers z.own.ephemerons.items z.seen.stage z.seen.share
       sharings' z other g = let t = g.sharing.telling in record {
         telling = record {
-          owes = λ up. (o.others z.own.number other).0 ∙ t.owes up;
-          seen = λ up. (o.others z.own.number other).1 ∙ t.seen up;
+          owes = λ up. let n = o.others z.own.number other in subst (λ (u : Bool × (ℕ → Bool)). OwesAs u.0 u.1 z.seen.share.owes z.seen.share.account) (λ i. (sym n.0 i, sym n.1 i)) (t.owes up);
+          seen = λ up. (o.others z.own.number other).2 ∙ t.seen up;
           fresh = t.fresh;
           forgotten = t.forgotten;
           colours = t.colours;
@@ -488,8 +526,8 @@ module _ (k : Config) (s : Words) (r : Rule k s) (id : ℕ) (hist : List Entry) 
       }
 
     -- a step that leaves the words, what is marked and how far all are
-    pub knows_more : (h : Held) → sh.owes ≡ h.owes → seen_by sh.places_seen ≡ seen_by h.places_seen → Knows m s.words h → Rule k record { words = s.words; homes = s.homes; views = set s.views id (one k hist (with_share x (holding sh h))) }
-    knows_more h owes places_seen n = let g = my_good k s r id hist x at in let t = g.sharing.telling in learns (holding sh h) (sharing' m c.shares.changed c.shares.owes c.shares.seen h sh.waiting s.words record {
+    pub knows_more : (h : Held) → owed_in (held sh) ≡ owed_in h → seen_by sh.places_seen ≡ seen_by h.places_seen → Knows m s.words h → Rule k record { words = s.words; homes = s.homes; views = set s.views id (one k hist (with_share x (holding sh h))) }
+    knows_more h owes places_seen n = let g = my_good k s r id hist x at in let t = g.sharing.telling in learns (holding sh h) (sharing' m c.shares.changed c.shares.owes c.shares.follows c.shares.seen h sh.waiting s.words record {
       armed_same = refl;
       colours_same = refl;
       blocks_same = refl;
@@ -500,20 +538,21 @@ module _ (k : Config) (s : Words) (r : Rule k s) (id : ℕ) (hist : List Entry) 
       heads = λ b p lives. inl refl;
       more = λ l is. is;
       still = λ _. refl;
-      others = λ z other. (refl, refl);
-      owes_is = t.owes waits ∙ owes;
+      others = λ z other. (refl, refl, refl);
+      owes_is = owes_same (c.shares.owes d) (c.shares.follows d) (held sh) h owes (t.owes waits);
       seen_is = t.seen waits ∙ places_seen;
       knows = n;
       queued = queue_still m (λ l is. is);
+      grows = grows_still;
     }) g.sweeps
 
     -- and one that leaves the heap's words and what is marked
-    pub shifts_queue : (waiting : List ℕ) → QueueMarked m waiting → (changed : Bool) (owes : ℕ → Bool) (seen : ℕ → ℕ → Bool) (h : Held) (words' : List ℕ) → Untouched s.words words' → get_or words' 0 0 ≡ get_or s.words 0 0 → get_or words' 1 0 ≡ get_or s.words 1 0 → get_or words' 2 0 ≡ get_or s.words 2 0
-        → changed_word words' ≡ flag changed → Facts c.kind k now live r.account.tenancy (record c { shares = record c.shares { changed = changed; owes = owes; seen = seen } }) words'
-        → ((z : ℕ) → z ≢ d → (owes z ≡ c.shares.owes z) × (seen z ≡ c.shares.seen z)) → owes d ≡ h.owes → seen d ≡ seen_by h.places_seen → Knows m words' h
+    pub shifts_queue : (waiting : List ℕ) → QueueMarked m waiting → (changed : Bool) (owes : ℕ → Bool) (follows seen : ℕ → ℕ → Bool) (h : Held) (words' : List ℕ) → Untouched s.words words' → get_or words' 0 0 ≡ get_or s.words 0 0 → get_or words' 1 0 ≡ get_or s.words 1 0 → get_or words' 2 0 ≡ get_or s.words 2 0
+        → changed_word words' ≡ flag changed → Facts c.kind k now live r.account.tenancy (record c { shares = record c.shares { changed = changed; owes = owes; follows = follows; seen = seen } }) words' → GrowsBy m changed owes
+        → ((z : ℕ) → z ≢ d → (owes z ≡ c.shares.owes z) × (follows z ≡ c.shares.follows z) × (seen z ≡ c.shares.seen z)) → OwesAs (owes d) (follows d) h.owes h.account → seen d ≡ seen_by h.places_seen → Knows m words' h
         → get_or words' 8 0 ≡ get_or s.words 8 0 → Rule k record { words = words'; homes = s.homes; views = set s.views id (one k hist (with_share x (holding (record sh { waiting = waiting }) h))) }
-    shifts_queue waiting queued changed owes seen h words' u want_same barrier_same plan_same changed_is facts others owes_is seen_is knows ended_same =
-        let o : Learns m changed owes seen h waiting words' = record {
+    shifts_queue waiting queued changed owes follows seen h words' u want_same barrier_same plan_same changed_is facts grows others owes_is seen_is knows ended_same =
+        let o : Learns m changed owes follows seen h waiting words' = record {
           armed_same = u.1 4 (omega arith) (λ e. omega arith);
           colours_same = u.1 5 (omega arith) (λ e. omega arith);
           blocks_same = u.1 9 (omega arith) (λ e. omega arith);
@@ -529,22 +568,23 @@ module _ (k : Config) (s : Words) (r : Rule k s) (id : ℕ) (hist : List Entry) 
           seen_is = seen_is;
           knows = knows;
           queued = queued;
-        } in shifts (holding (record sh { waiting = waiting }) h) (record c.shares { changed = changed; owes = owes; seen = seen }) words' record {
+          grows = grows;
+        } in shifts (holding (record sh { waiting = waiting }) h) (record c.shares { changed = changed; owes = owes; follows = follows; seen = seen }) words' record {
           untouched = u;
           want_same = want_same;
           barrier_same = barrier_same;
           plan_same = plan_same;
           ended_same = ended_same;
-          cycle = cycle' m changed owes seen h waiting words' o;
-          sharing = sharing' m changed owes seen h waiting words' o;
-          sharings = sharings' m changed owes seen h waiting words' o;
+          cycle = cycle' m changed owes follows seen h waiting words' o;
+          sharing = sharing' m changed owes follows seen h waiting words' o;
+          sharings = sharings' m changed owes follows seen h waiting words' o;
           sweeps = (my_good k s r id hist x at).sweeps;
           others_sweep = λ z _ h. h.sweeps;
         }
 
     -- also where it goes to no place of its queue
-    pub shifts_more : (changed : Bool) (owes : ℕ → Bool) (seen : ℕ → ℕ → Bool) (h : Held) (words' : List ℕ) → Untouched s.words words' → get_or words' 0 0 ≡ get_or s.words 0 0 → get_or words' 1 0 ≡ get_or s.words 1 0 → get_or words' 2 0 ≡ get_or s.words 2 0
-        → changed_word words' ≡ flag changed → Facts c.kind k now live r.account.tenancy (record c { shares = record c.shares { changed = changed; owes = owes; seen = seen } }) words'
-        → ((z : ℕ) → z ≢ d → (owes z ≡ c.shares.owes z) × (seen z ≡ c.shares.seen z)) → owes d ≡ h.owes → seen d ≡ seen_by h.places_seen → Knows m words' h
+    pub shifts_more : (changed : Bool) (owes : ℕ → Bool) (follows seen : ℕ → ℕ → Bool) (h : Held) (words' : List ℕ) → Untouched s.words words' → get_or words' 0 0 ≡ get_or s.words 0 0 → get_or words' 1 0 ≡ get_or s.words 1 0 → get_or words' 2 0 ≡ get_or s.words 2 0
+        → changed_word words' ≡ flag changed → Facts c.kind k now live r.account.tenancy (record c { shares = record c.shares { changed = changed; owes = owes; follows = follows; seen = seen } }) words' → GrowsBy m changed owes
+        → ((z : ℕ) → z ≢ d → (owes z ≡ c.shares.owes z) × (follows z ≡ c.shares.follows z) × (seen z ≡ c.shares.seen z)) → OwesAs (owes d) (follows d) h.owes h.account → seen d ≡ seen_by h.places_seen → Knows m words' h
         → get_or words' 8 0 ≡ get_or s.words 8 0 → Rule k record { words = words'; homes = s.homes; views = set s.views id (one k hist (with_share x (holding sh h))) }
     shifts_more = shifts_queue sh.waiting (queue_still m (λ l is. is))

@@ -41,7 +41,7 @@ module _ (k : Config) (s : Words) (r : Rule k s) (id : ℕ) (hist : List Entry) 
       forgotten = λ up other. absurd (first x.seen.stage refl may up other);
       colours = λ known e. let same : Some c.paint.colours ≡ Some known = e in cc;
     };
-    leading = record { changed = sh.leading.changed; found_blocks = sh.leading.found_blocks; found_words = sh.leading.found_words; rotated = sh.leading.rotated; turned = sh.leading.turned; pass = sh.leading.pass; whole = sh.leading.whole; armed = sh.leading.armed; unswept = sh.leading.unswept; under_way = sh.leading.under_way };
+    leading = record { changed = sh.leading.changed; found_blocks = sh.leading.found_blocks; found_words = sh.leading.found_words; rotated = sh.leading.rotated; turned = sh.leading.turned; pass = sh.leading.pass; whole = sh.leading.whole; armed = sh.leading.armed; unswept = sh.leading.unswept; under_way = sh.leading.under_way; unmarked = sh.leading.unmarked };
     knows = ⊎_elim
         (λ (q : IsIdle x.seen.share). inl (ap (λ (z : Share). record z { colours = Some c.paint.colours }) q))
         (λ (n : IsCollecting x.seen.stage × Knowing k r.account.live r.account.tenancy.holder (state_of k r.account.log).graph c.paint.marks s.words x.own.number x.own.registers x.seen.share). inr (

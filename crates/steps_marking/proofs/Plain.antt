@@ -1,5 +1,5 @@
 -- What the steps of a collection tell of a token's own data: it stays.
-use Rattle.std.proofs.Common.{◌≡◌, ℕ, ◌∷◌, Some, ap, ⊎_elim, ◌+◌, false, None}
+use Rattle.std.proofs.Common.{◌≡◌, ℕ, [], ◌∷◌, Some, ap, ⊎_elim, ◌+◌, false}
 use mathlib.Core.Logic.{dite}
 use native.Mathlib.Decide.{ℕ_discrete}
 use Rattle.heap_rule.specs.declared.config.Config.{Config}
@@ -9,7 +9,7 @@ use Rattle.heap_rule.specs.declared.view.Share.{Share}
 use Rattle.heap_rule.specs.Raw.{CanLeave, Closes, Leaves}
 use Rattle.heap_rule.proofs.Closes.{front_same, leaves_closes}
 use Rattle.steps_marking.specs.Looks.{ColoursTold, with_share}
-use Rattle.steps_marking.specs.Marking.{ChangedTold, DarkenTold, TargetTold, GreyTold, MarkTold, OwnTold, Reason, ScanTold, ScannedTold, begun, behind, darkening, moved_on, scanned_on, Site, places_seen_on, walk_on}
+use Rattle.steps_marking.specs.Marking.{ChangedTold, DarkenTold, TargetTold, GreyTold, MarkTold, OwnTold, Reason, ScanTold, ScannedTold, begun, behind, darkening, moved_on, scanned_on, settled, Site, places_seen_on, walk_on}
 use Rattle.steps_marking.specs.Arming.{ArmedTold}
 use Rattle.steps_marking.specs.Changed.{FindTold, ForgetTold}
 
@@ -35,16 +35,16 @@ pub mark_closes : (k : Config) (x : DomainView) (found a pool class slot : ℕ) 
 mark_closes k x found a pool class slot = share_closes k x found (MarkTold a pool class slot) (λ y t. ⊎_elim (λ u. (record x.seen.share { places_seen = a ∷ x.seen.share.places_seen; walk = behind pool class slot }, u.1)) (λ u. (begun a u.0.block.shape found x.seen.share, u.1)) t.told)
 
 pub grey_closes : (k : Config) (x : DomainView) (found a : ℕ) → Closes k x found (GreyTold a) CanLeave Leaves
-grey_closes k x found a = share_closes k x found (GreyTold a) (λ y t. ⊎_elim (λ u. (x.seen.share, u.1)) (λ u. (begun a u.0.block.shape found x.seen.share, u.1)) t.told)
+grey_closes k x found a = share_closes k x found (GreyTold a) (λ y t. ⊎_elim (λ u. (record x.seen.share { account = settled a x.seen.share.account }, u.1)) (λ u. (begun a u.0.block.shape found x.seen.share, u.1)) t.told)
 
 pub scan_closes : (k : Config) (x : DomainView) (found : ℕ) → Closes k x found (ScanTold k) CanLeave Leaves
 scan_closes k x found = share_closes k x found (ScanTold k) (λ y t. (record x.seen.share { scan = scanned_on x.seen.share.scan t.value }, t.view))
 
 pub scanned_closes : (k : Config) (x : DomainView) (new a : ℕ) (site : Site) → Closes k x new (ScannedTold a site) CanLeave Leaves
-scanned_closes k x new a site = share_closes k x new (ScannedTold a site) (λ y t. (record x.seen.share { scan = Idle; places_seen = places_seen_on site a x.seen.share.places_seen; walk = walk_on site x.seen.share.walk }, t))
+scanned_closes k x new a site = share_closes k x new (ScannedTold a site) (λ y t. (record x.seen.share { scan = Idle; account = settled a x.seen.share.account; places_seen = places_seen_on site a x.seen.share.places_seen; walk = walk_on site x.seen.share.walk }, t))
 
 pub changed_closes : (k : Config) (x : DomainView) → Closes k x 1 ChangedTold CanLeave Leaves
-changed_closes k x = share_closes k x 1 ChangedTold (λ y t. (record x.seen.share { owes = false }, t))
+changed_closes k x = share_closes k x 1 ChangedTold (λ y t. (record x.seen.share { owes = false; account = [] }, t))
 
 pub find_closes : (k : Config) (x : DomainView) (found : ℕ) → Closes k x found FindTold CanLeave Leaves
 find_closes k x found = leaves_closes k x found FindTold (λ y t. ap (λ (z : DomainView). z.own) t) (λ y t. front_same x y (ap (λ (z : DomainView). z.seen.front) t))

@@ -15,7 +15,7 @@ use Rattle.heap_rule.specs.declared.view.DomainView.{DomainView}
 use Rattle.heap_rule.specs.Layout.{before_heap, heap_words, at_address}
 use Rattle.heap_rule.specs.Places.{Place, Paint, extent, head_of, Found, IsHead, IsOldWord, colour_in}
 use Rattle.heap_rule.specs.Pools.{Grid, Hunter, Hunts, DrawsFor, Latest, limit_of, place_in}
-use Rattle.heap_rule.specs.Cycles.{Cycling, IsCollecting, Knowing, Facts, seen_by}
+use Rattle.heap_rule.specs.Cycles.{Cycling, IsCollecting, Knowing, Facts, OwesAs, seen_by}
 use Rattle.heap_rule.specs.Rule.{AllFound, Area, Making, Rule, state_of}
 use Rattle.heap_rule.specs.Views.{one}
 use Rattle.heap_rule.proofs.HeadLemmas.{head_at}
@@ -24,7 +24,7 @@ use Rattle.heap_rule.proofs.Lots.{head_full, head_some}
 use Rattle.heap_rule.proofs.Values.{extent_large}
 use Rattle.heap_rule.proofs.Keeps.{Words, my_good, more_same, remakes, knows_front, control_set, controls_kept, opened_words, owes_as, resting_as, resting_lists, room_words, hunter_as}
 use Rattle.steps_marking.specs.Looks.{with_share}
-use Rattle.steps_marking.proofs.Learning.{Held, Learns, cycle', holding, sharing', sharings', bare, rests_here, knowing_on, known, Knows, lies_old, QueueMarked}
+use Rattle.steps_marking.proofs.Learning.{Held, Learns, cycle', holding, sharing', sharings', bare, rests_here, knowing_on, known, Knows, lies_old, QueueMarked, GrowsBy}
 use Rattle.cycle_laws.proofs.Tracing.{More}
 use Rattle.heap_rule.specs.declared.phase.Kind.TheVariants.{Clean}
 
@@ -49,21 +49,22 @@ module _ (k : Config) (s : Words) (r : Rule k s) (id : ℕ) (hist : List Entry) 
     known_still more = knowing_on k s r id hist x at m' (set s.words (before_heap k + a) new) heads_stay free_stay more x.own.number x.own.registers x.seen.share (known k s r id hist x at)
 
   -- What it owes that the head of the block at an address is written
-  pub record Recolours (a : ℕ) (p : Place) (new : ℕ) (m' : Marks) (owes : ℕ → Bool) (seen : ℕ → ℕ → Bool) (h : Held) (waiting : List ℕ) : Type 0 where
+  pub record Recolours (a : ℕ) (p : Place) (new : ℕ) (m' : Marks) (owes : ℕ → Bool) (follows seen : ℕ → ℕ → Bool) (h : Held) (waiting : List ℕ) : Type 0 where
     pub lives : r.account.live a ≡ Some p
     pub here : IsHead (record paint { marks = m' }) p new
     pub elsewhere : (l : Label) → p.label ≢ l → (m'.marked l ≡ paint.marks.marked l) × (m'.scanned l ≡ paint.marks.scanned l)
     pub marked : IsTrue (m'.marked p.label)
     pub more : More paint.marks.marked m'.marked
     pub still : r.account.cycling.kind ≡ Clean → m' ≡ paint.marks
-    pub facts : Facts r.account.cycling.kind k (state_of k r.account.log) r.account.live r.account.tenancy (record r.account.cycling { paint = record paint { marks = m' }; shares = record r.account.cycling.shares { owes = owes; seen = seen } }) (set s.words (before_heap k + a) new)
-    pub others : (z : ℕ) → z ≢ x.own.number → (owes z ≡ r.account.cycling.shares.owes z) × (seen z ≡ r.account.cycling.shares.seen z)
-    pub owes_is : owes x.own.number ≡ h.owes
+    pub facts : Facts r.account.cycling.kind k (state_of k r.account.log) r.account.live r.account.tenancy (record r.account.cycling { paint = record paint { marks = m' }; shares = record r.account.cycling.shares { owes = owes; follows = follows; seen = seen } }) (set s.words (before_heap k + a) new)
+    pub others : (z : ℕ) → z ≢ x.own.number → (owes z ≡ r.account.cycling.shares.owes z) × (follows z ≡ r.account.cycling.shares.follows z) × (seen z ≡ r.account.cycling.shares.seen z)
+    pub owes_is : OwesAs (owes x.own.number) (follows x.own.number) h.owes h.account
     pub seen_is : seen x.own.number ≡ seen_by h.places_seen
     pub knows : Knows k s r id hist x at collecting m' (set s.words (before_heap k + a) new) h
     pub queued : QueueMarked k s r id hist x at collecting m' waiting
+    pub grows : GrowsBy k s r id hist x at collecting m' r.account.cycling.shares.changed owes
 
-  module _ (a : ℕ) (p : Place) (new : ℕ) (m' : Marks) (owes : ℕ → Bool) (seen : ℕ → ℕ → Bool) (h : Held) (waiting : List ℕ) (o : Recolours a p new m' owes seen h waiting) where
+  module _ (a : ℕ) (p : Place) (new : ℕ) (m' : Marks) (owes : ℕ → Bool) (follows seen : ℕ → ℕ → Bool) (h : Held) (waiting : List ℕ) (o : Recolours a p new m' owes follows seen h waiting) where
     abbrev words' : List ℕ
     words' = set s.words (before_heap k + a) new
 
@@ -71,7 +72,7 @@ module _ (k : Config) (s : Words) (r : Rule k s) (id : ℕ) (hist : List Entry) 
     paint' = record paint { marks = m' }
 
     abbrev c' : Cycling
-    c' = record r.account.cycling { paint = paint'; shares = record r.account.cycling.shares { owes = owes; seen = seen } }
+    c' = record r.account.cycling { paint = paint'; shares = record r.account.cycling.shares { owes = owes; follows = follows; seen = seen } }
 
     low : 1 ≤ a
     low = (r.whole.placed.fits a p o.lives).low
@@ -88,7 +89,7 @@ module _ (k : Config) (s : Words) (r : Rule k s) (id : ℕ) (hist : List Entry) 
     control : (i : ℕ) → i ≤ before_heap k → get_or words' i 0 ≡ get_or s.words i 0
     control = control_set k s.words a new low
 
-    learnt : Learns k s r id hist x at collecting m' r.account.cycling.shares.changed owes seen h waiting words'
+    learnt : Learns k s r id hist x at collecting m' r.account.cycling.shares.changed owes follows seen h waiting words'
     learnt = record {
       armed_same = control 4 (omega arith);
       colours_same = control 5 (omega arith);
@@ -105,6 +106,7 @@ module _ (k : Config) (s : Words) (r : Rule k s) (id : ℕ) (hist : List Entry) 
       seen_is = o.seen_is;
       knows = o.knows;
       queued = o.queued;
+      grows = o.grows;
     }
 
     was_full : at_address k s.words a ≢ 0
@@ -198,7 +200,7 @@ module _ (k : Config) (s : Words) (r : Rule k s) (id : ℕ) (hist : List Entry) 
         let controls = controls_kept k s r id hist x at words' control in
         let own_making = makes x g.area g.making in
         let own_hunter = hunter' x (rests_here k s r id hist x at collecting x g.staged g.resting) g.hunter in
-        let own_sharing = sharing' k s r id hist x at collecting m' r.account.cycling.shares.changed owes seen h waiting words' learnt in
+        let own_sharing = sharing' k s r id hist x at collecting m' r.account.cycling.shares.changed owes follows seen h waiting words' learnt in
         remakes k s r id hist x at y (record r.account { cycling = c' }) words'
         record {
           wide = length-set s.words (before_heap k + a) new ∙ r.whole.wide;
@@ -223,7 +225,7 @@ module _ (k : Config) (s : Words) (r : Rule k s) (id : ℕ) (hist : List Entry) 
           unused = r.whole.unused;
           opened = opened_words k r.account.live s.words words' controls.listed_young r.whole.opened;
           drawable = controls.drawable;
-          cycle = cycle' k s r id hist x at collecting m' r.account.cycling.shares.changed owes seen h waiting words' learnt;
+          cycle = cycle' k s r id hist x at collecting m' r.account.cycling.shares.changed owes follows seen h waiting words' learnt;
         }
         (knows_front k s r id hist x at y refl (inl refl))
         record {
@@ -254,7 +256,7 @@ module _ (k : Config) (s : Words) (r : Rule k s) (id : ℕ) (hist : List Entry) 
           owes = h'.owes;
           rooted = h'.rooted;
           set_back = λ b. controls.set_back z h'.staged b (h'.set_back b);
-          sharing = sharings' k s r id hist x at collecting m' r.account.cycling.shares.changed owes seen h waiting words' learnt z other h';
+          sharing = sharings' k s r id hist x at collecting m' r.account.cycling.shares.changed owes follows seen h waiting words' learnt z other h';
           listed = h'.listed;
           sweeps = h'.sweeps;
         })

@@ -18,11 +18,14 @@ use Rattle.heap_words.specs.declared.colours.Colours.{Colours}
 use Rattle.heap_words.specs.declared.value.Value as held_value
 use Rattle.heap_words.specs.declared.value.Value.TheVariants.{Int as IntWord, Ref, Nothing as NothingWord}
 use Rattle.heap_words.specs.Heads.{head_word}
+use Rattle.cycle_laws.specs.Cycle as laws
+use Rattle.cycle_laws.specs.Cycle.{InPhase}
 use Rattle.cycle_laws.specs.Marks.{Marks, with_scanned, fields_of, FieldsMarked}
 use Rattle.cycle_laws.specs.Progress.{FieldsDone}
 use Rattle.cycle_laws.specs.Shares.{at_domain}
 use Rattle.cycle_laws.proofs.Cycling.{darkening_steps}
 use Rattle.cycle_laws.proofs.Progressing.{fields_next, fields_end}
+use Rattle.cycle_laws.proofs.Ending.{stored_grows}
 use Rattle.heap_rule.specs.declared.config.Config.{Config}
 use Rattle.heap_rule.specs.declared.phase.Kind.{Kind}
 use Rattle.heap_rule.specs.declared.phase.Kind.TheVariants.{Run, Promote, Reset, Roots, Mark, Rounds, Decide, Queued, Clean, Lasts, Sweep, Answer}
@@ -32,7 +35,7 @@ use Rattle.heap_rule.specs.declared.view.Scan.TheVariants.{Idle, Reads}
 use Rattle.heap_rule.specs.declared.view.Share.{Share}
 use Rattle.heap_rule.specs.Layout.{before_heap, heap_words, at_address}
 use Rattle.heap_rule.specs.Places.{Debt, HasValue, Live, Place, Stands, WordStands, colour_in, head_of, values_of}
-use Rattle.heap_rule.specs.Cycles.{Cycling, Facts, IsCollecting, Knowing, Refers, Scanned, Scans, cycle_of, seen_by}
+use Rattle.heap_rule.specs.Cycles.{Cycling, Facts, HasNoCycle, IsCollecting, Knowing, Refers, Scanned, Scans, cycle_of, seen_by, OwesAs, pool_labels}
 use Rattle.heap_rule.specs.Raw.{MayStep, MayStore}
 use Rattle.heap_rule.specs.Rule.{Rule, state_of}
 use Rattle.heap_rule.specs.Views.{one}
@@ -41,18 +44,33 @@ use Rattle.heap_rule.proofs.Keeps.{Words, my_good, unmoved}
 use Rattle.heap_rule.proofs.Lists.{got_there}
 use Rattle.heap_rule.proofs.Values.{address_of, packable, stands_block}
 use Rattle.steps_marking.specs.Looks.{with_share}
-use Rattle.steps_marking.specs.Marking.{ChangedMay, ChangedTold, IsChanging, ScanMay, ScanTold, ScannedMay, ScannedTold, scanned_on, Site, Anywhere, Next, LiesAt, places_seen_on, walk_on}
+use Rattle.steps_marking.specs.Marking.{ChangedMay, ChangedTold, IsChanging, IsScanning, ScanMay, ScanTold, ScannedMay, ScannedTold, scanned_on, Site, Anywhere, Next, LiesAt, places_seen_on, walk_on, settled}
 use Rattle.steps_marking.proofs.Colouring.{words_same, Recolourable}
-use Rattle.steps_marking.proofs.Learning.{at_other, at_same, bare, held, kind_here, knows_more, known, looks_same, looks_still, queue_still, shifts_more, whole_in}
+use Rattle.steps_marking.proofs.Learning.{at_other, at_same, bare, held, kind_here, knows_more, known, looks_same, looks_still, queue_still, shifts_more, whole_in, grows_still, unnamed}
 use Rattle.steps_marking.proofs.Recolouring.{Recolours, known_still, recolours}
 use Rattle.heap_rule.specs.declared.phase.Stage.TheVariants.{In}
-use Rattle.steps_marking.proofs.WalkSteps.{changing_cycle, own_place, seen_next, next_is, next_other, next_walked}
+use Rattle.steps_marking.proofs.WalkSteps.{scanning_cycle, own_place, seen_next, next_is, next_other, next_walked, settles_at, settles_other, settles_own}
 use Rattle.steps_marking.proofs.Layouts.{labelled}
 use Rattle.heap_rule.specs.Pools.{owned, blocks_of, IsBefore, place_in}
 use Rattle.std.proofs.lemmas.Option.{none-some, same_Some}
 use Rattle.heap_rule.proofs.Stages.{waits_in}
 use Rattle.heap_rule.specs.Ephemerons.{ephemeron_of}
 use Rattle.heap_rule.proofs.EphemeronLemmas.{found_value}
+
+-- where the changed word is stored a collection is under way
+changing_cycle : (kind : Kind) → IsChanging kind → HasNoCycle kind → ⊥
+changing_cycle Run n none = n
+changing_cycle Promote n none = n
+changing_cycle Reset n none = n
+changing_cycle Roots n none = n
+changing_cycle Mark n none = none
+changing_cycle Rounds n none = none
+changing_cycle Decide n none = n
+changing_cycle Queued n none = none
+changing_cycle Clean n none = n
+changing_cycle Lasts n none = n
+changing_cycle Sweep n none = n
+changing_cycle Answer n none = n
 
 -- the value in the next field was read
 module _ (live : Live) (graph : Graph) (m : Marks) (block done size head : ℕ) (f : Scanned live graph m block done size head) (v : Value) (there : slice_get f.fields done ≡ Some v) where
@@ -111,8 +129,8 @@ module _ (k : Config) (s : Words) (r : Rule k s) (id : ℕ) (hist : List Entry) 
   kn : Knowing k live r.account.tenancy.holder now.graph m s.words d x.own.registers sh
   kn = known k s r id hist x at
 
-  in_mark : (kind : Kind) → x.seen.stage ≡ In kind → IsChanging kind → IsCollecting x.seen.stage
-  in_mark kind is changing = subst IsCollecting (sym is) (changing_cycle kind changing)
+  in_mark : (kind : Kind) → x.seen.stage ≡ In kind → IsScanning kind → IsCollecting x.seen.stage
+  in_mark kind is scanning = subst IsCollecting (sym is) (scanning_cycle kind scanning)
 
   -- the next field
   module _ (a : ℕ) (may : ScanMay x a) where
@@ -123,7 +141,7 @@ module _ (k : Config) (s : Words) (r : Rule k s) (id : ℕ) (hist : List Entry) 
     field = got_there f.fields may.done (let n : ℕ = length f.fields in let e : n ≡ may.size = f.size_is in let h = may.more in omega arith)
 
     not_clean : c.kind ≡ Clean → ⊥
-    not_clean e = subst IsChanging (sym (kind_here k s r id hist x at may.kind may.stage) ∙ e) may.changing
+    not_clean e = subst IsScanning (sym (kind_here k s r id hist x at may.kind may.stage) ∙ e) may.scanning
 
     stands : WordStands live (at_address k s.words (may.block + 2 + may.done)) field.0
     stands =
@@ -133,21 +151,21 @@ module _ (k : Config) (s : Words) (r : Rule k s) (id : ℕ) (hist : List Entry) 
         (λ (e : (f.fields ≡ []) × (fields_of (node_at now.graph f.place.label) ≡ [])). absurd (let none : length f.fields ≡ 0 = ap (λ (z : List Value). length z) e.0 in let n : ℕ = length f.fields in let z : n ≡ 0 = none in let y : n ≡ may.size = f.size_is in let h = may.more in omega arith))
         f.node in
         let is : found.node ≡ Plain f.tag f.fields = same_Some found.node (Plain f.tag f.fields) (sym found.there ∙ plain) in
-        found_value k c.paint live now.graph s.words may.block f.place found (whole_in k s r id hist x at not_clean f.place.label) may.done field.0 (subst (λ (o : Option Debt). HasValue o may.done) (sym (bare k s r id hist x at (in_mark may.kind may.stage may.changing) may.block f.place f.lives).no_debt) tt) (ap (λ (n : Node). slice_get (values_of n) may.done) is ∙ field.1)
+        found_value k c.paint live now.graph s.words may.block f.place found (whole_in k s r id hist x at not_clean f.place.label) may.done field.0 (subst (λ (o : Option Debt). HasValue o may.done) (sym (bare k s r id hist x at (in_mark may.kind may.stage may.scanning) may.block f.place f.lives).no_debt) tt) (ap (λ (n : Node). slice_get (values_of n) may.done) is ∙ field.1)
 
     share' : Share
     share' = record sh { scan = scanned_on sh.scan stands.value }
 
     scan_rule : Rule k record { words = s.words; homes = s.homes; views = set s.views id (one k hist (with_share x share')) }
     unfolding share'
-    scan_rule = knows_more k s r id hist x at (in_mark may.kind may.stage may.changing) (held share') refl refl record {
+    scan_rule = knows_more k s r id hist x at (in_mark may.kind may.stage may.scanning) (held share') refl refl record {
       found_head = kn.found_head;
       scan = subst (λ (z : Scan). Scans live now.graph m (scanned_on z stands.value)) (sym may.scan) (read_on live now.graph m may.block may.done may.size may.head f field.0 field.1 stands.value stands.stands);
       walked = kn.walked;
       own_pool = kn.own_pool;
       rooted = kn.rooted;
       marked = kn.marked;
-      looking = looks_still k s r id hist x at (in_mark may.kind may.stage may.changing) m (held share') (λ _. refl) refl (λ b e. absurd (none-some b (sym (no_ephemeron sh.scan may.block may.done may.size may.head stands.value may.scan) ∙ e)));
+      looking = looks_still k s r id hist x at (in_mark may.kind may.stage may.scanning) m (held share') (λ _. refl) refl (λ b e. absurd (none-some b (sym (no_ephemeron sh.scan may.block may.done may.size may.head stands.value may.scan) ∙ e)));
     }
 
     scan_told : ScanTold k x (at_address k s.words a) (with_share x share')
@@ -190,13 +208,13 @@ module _ (k : Config) (s : Words) (r : Rule k s) (id : ℕ) (hist : List Entry) 
     kind_is = kind_here k s r id hist x at may.kind may.stage
 
     unclean : c.kind ≡ Clean → ⊥
-    unclean e = subst IsChanging (sym kind_is ∙ e) may.changing
+    unclean e = subst IsScanning (sym kind_is ∙ e) may.scanning
 
     abbrev scanned_words : List ℕ
     scanned_words = set s.words (before_heap k + a) new
 
     abbrev done : Share
-    done = record sh { scan = Idle; places_seen = places_seen_on site a sh.places_seen; walk = walk_on site sh.walk }
+    done = record sh { scan = Idle; account = settled a sh.account; places_seen = places_seen_on site a sh.places_seen; walk = walk_on site sh.walk }
 
     abbrev seen_on : (t : Site) → LiesAt t x a → ℕ → ℕ → Bool
     seen_on Anywhere lies = c.shares.seen
@@ -205,26 +223,42 @@ module _ (k : Config) (s : Words) (r : Rule k s) (id : ℕ) (hist : List Entry) 
     is_scanned : m'.scanned p.label ≡ true
     is_scanned = ap (λ (b : Bool). b || m.scanned p.label) (same_label_refl p.label)
 
-    -- where the place is the next of the walk, no block is grey there any more
-    mark_facts : (t : Site) (lies : LiesAt t x a) → Facts Mark k now live r.account.tenancy c s.words
-        → Facts Mark k now live r.account.tenancy (record c { paint = record c.paint { marks = m' }; shares = record c.shares { seen = seen_on t lies } }) scanned_words
-    mark_facts Anywhere lies f = (darkening_steps.mark_scans c.pass k.domains now (cycle_of k live r.account.tenancy.holder c) f.0 p.label fields_marked, f.1)
-    mark_facts (Next pool class slot) lies f =
-        let c1 : Cycling = record c { paint = record c.paint { marks = m' } } in (
-          darkening_steps.mark_looks c.pass k.domains now (cycle_of k live r.account.tenancy.holder c1) (darkening_steps.mark_scans c.pass k.domains now (cycle_of k live r.account.tenancy.holder c) f.0 p.label fields_marked) d a
-              (own_place k s r id hist x at a pool class slot lies)
-              (λ l e is. let u = labelled k live a l e in let same : p ≡ u.place = ap (λ (o : Option Place). unwrap_or o p) (sym g.lives ∙ u.lives) in
-              subst (λ (z : Label). IsTrue (m'.scanned z)) (ap (λ (z : Place). z.label) same ∙ u.label) is_scanned),
-          f.1,
-        )
+    abbrev follows' : ℕ → ℕ → Bool
+    follows' = settles_at k s r id hist x at a
+
+    abbrev scanned_cycle : (t : Site) → LiesAt t x a → Cycling
+    scanned_cycle t lies = record c { paint = record c.paint { marks = m' }; shares = record c.shares { follows = follows'; seen = seen_on t lies } }
+
+    abbrev settled_cycle : Cycling
+    settled_cycle = record c { paint = record c.paint { marks = m' }; shares = record c.shares { follows = follows' } }
+
+    abbrev IsMarking : Cycling → Type 0
+    IsMarking z = InPhase (laws.Mark c.pass) k.domains now (cycle_of k live r.account.tenancy.holder z)
+
+    scanned_there : (l : Label) → (cycle_of k live r.account.tenancy.holder c).layout.live a ≡ Some l → IsTrue (m'.scanned l)
+    scanned_there l e = let u = labelled k live a l e in let same : p ≡ u.place = ap (λ (o : Option Place). unwrap_or o p) (sym g.lives ∙ u.lives) in
+        subst (λ (z : Label). IsTrue (m'.scanned z)) (ap (λ (z : Place). z.label) same ∙ u.label) is_scanned
+
+    -- the domain follows the block no more; where the place is the next of the walk, no block is grey there any more
+    mark_facts : (t : Site) (lies : LiesAt t x a) → Facts Mark k now live r.account.tenancy c s.words → Facts Mark k now live r.account.tenancy (scanned_cycle t lies) scanned_words
+    mark_facts t lies f =
+        let c1 : Cycling = record c { paint = record c.paint { marks = m' } } in
+        let after = darkening_steps.mark_scans c.pass k.domains now (cycle_of k live r.account.tenancy.holder c) f.0 p.label fields_marked in
+        (looked t lies (darkening_steps.mark_settles c.pass k.domains now (cycle_of k live r.account.tenancy.holder c1) after d a (λ l e _. scanned_there l e)), f.1)
+      where
+        looked : (u : Site) (v : LiesAt u x a) → IsMarking settled_cycle → IsMarking (scanned_cycle u v)
+        looked Anywhere v i = i
+        looked (Next pool class slot) v i = darkening_steps.mark_looks c.pass k.domains now (cycle_of k live r.account.tenancy.holder settled_cycle) i d a (own_place k s r id hist x at a pool class slot v) (λ l e _. scanned_there l e)
 
     rounds_facts : (t : Site) (lies : LiesAt t x a) → t ≡ Anywhere → Facts Rounds k now live r.account.tenancy c s.words
-        → Facts Rounds k now live r.account.tenancy (record c { paint = record c.paint { marks = m' }; shares = record c.shares { seen = seen_on t lies } }) scanned_words
-    rounds_facts Anywhere lies is f = (darkening_steps.rounds_scans c.pass k.domains now (cycle_of k live r.account.tenancy.holder c) f.0 p.label fields_marked, f.1)
+        → Facts Rounds k now live r.account.tenancy (scanned_cycle t lies) scanned_words
+    rounds_facts Anywhere lies is f =
+        let c1 : Cycling = record c { paint = record c.paint { marks = m' } } in
+        (darkening_steps.rounds_settles c.pass k.domains now (cycle_of k live r.account.tenancy.holder c1) (darkening_steps.rounds_scans c.pass k.domains now (cycle_of k live r.account.tenancy.holder c) f.0 p.label fields_marked) d a, f.1)
     rounds_facts (Next pool class slot) lies is f = cc
 
-    scanned_facts : (kind : Kind) → IsChanging kind → (t : Site) (lies : LiesAt t x a) → (kind ≡ Rounds → t ≡ Anywhere) → Facts kind k now live r.account.tenancy c s.words
-        → Facts kind k now live r.account.tenancy (record c { paint = record c.paint { marks = m' }; shares = record c.shares { seen = seen_on t lies } }) scanned_words
+    scanned_facts : (kind : Kind) → IsScanning kind → (t : Site) (lies : LiesAt t x a) → (kind ≡ Rounds → t ≡ Anywhere) → Facts kind k now live r.account.tenancy c s.words
+        → Facts kind k now live r.account.tenancy (scanned_cycle t lies) scanned_words
     scanned_facts Run n t lies is f = absurd n
     scanned_facts Promote n t lies is f = absurd n
     scanned_facts Reset n t lies is f = absurd n
@@ -250,34 +284,35 @@ module _ (k : Config) (s : Words) (r : Rule k s) (id : ℕ) (hist : List Entry) 
     walked_on Anywhere lies = kn.walked
     walked_on (Next pool class slot) lies = next_walked k s r id hist x at a pool class slot lies
 
-    recoloured : Recolours k s r id hist x at (in_mark may.kind may.stage may.changing) a p new m' c.shares.owes (seen_on site may.lies) (held done) sh.waiting
+    recoloured : Recolours k s r id hist x at (in_mark may.kind may.stage may.scanning) a p new m' c.shares.owes follows' (seen_on site may.lies) (held done) sh.waiting
     recoloured =
         let cs : Colours = c.paint.colours in
         let is : m.marked p.label ≡ true = g.marked in
-        let n = known_still k s r id hist x at (in_mark may.kind may.stage may.changing) a p new m' g.lives g.marked (λ l h. h) in record {
+        let n = known_still k s r id hist x at (in_mark may.kind may.stage may.scanning) a p new m' g.lives g.marked (λ l h. h) in record {
           lives = g.lives;
           here = record {
             scanned = true;
             packs = may.marks ∙ (ap (λ (z : Colours). head_word (head_of None may.shape z.marked true)) means ∙ (ap (λ (z : Shape). head_word (head_of None z cs.marked true)) (sym same.shape)
                 ∙ (sym (ap (λ (b : Bool). head_word (head_of None p.shape (cond b cs.marked cs.unmarked) true)) is)
-                ∙ sym (ap (λ (o : Option ℕ). head_word (head_of o p.shape (colour_in (record c.paint { marks = m' }) p.label) true)) (bare k s r id hist x at (in_mark may.kind may.stage may.changing) a p g.lives).no_forward))));
+                ∙ sym (ap (λ (o : Option ℕ). head_word (head_of o p.shape (colour_in (record c.paint { marks = m' }) p.label) true)) (bare k s r id hist x at (in_mark may.kind may.stage may.scanning) a p g.lives).no_forward))));
             tells = λ _ _. is_scanned;
           };
           elsewhere = λ l differ. (refl, ap (λ (b : Bool). b || m.scanned l) (same_label-false p.label l differ));
           marked = g.marked;
           more = λ l h. h;
           still = λ e. absurd (unclean e);
-          facts = subst (λ (kind : Kind). Facts kind k now live r.account.tenancy (record c { paint = record c.paint { marks = m' }; shares = record c.shares { seen = seen_on site may.lies } }) scanned_words) (sym kind_is)
-              (scanned_facts may.kind may.changing site may.lies may.anywhere (subst (λ (kind : Kind). Facts kind k now live r.account.tenancy c s.words) kind_is r.whole.cycle.facts));
-          others = λ z other. (refl, seen_others site may.lies z other);
-          owes_is = (my_good k s r id hist x at).sharing.telling.owes waits;
+          facts = subst (λ (kind : Kind). Facts kind k now live r.account.tenancy (scanned_cycle site may.lies) scanned_words) (sym kind_is)
+              (scanned_facts may.kind may.scanning site may.lies may.anywhere (subst (λ (kind : Kind). Facts kind k now live r.account.tenancy c s.words) kind_is r.whole.cycle.facts));
+          others = λ z other. (refl, settles_other k s r id hist x at a z other, seen_others site may.lies z other);
+          owes_is = let o : OwesAs (c.shares.owes d) (c.shares.follows d) sh.owes sh.account = (my_good k s r id hist x at).sharing.telling.owes waits in record { owes = o.owes; follows = settles_own k s r id hist x at a o.follows };
           seen_is = seen_here site may.lies;
-          knows = record { found_head = n.found_head; scan = tt; walked = walked_on site may.lies; own_pool = n.own_pool; rooted = n.rooted; marked = n.marked; looking = looks_still k s r id hist x at (in_mark may.kind may.stage may.changing) m' (held done) (λ e. absurd (unclean e)) refl (λ b e. absurd (none-some b e)) };
-          queued = queue_still k s r id hist x at (in_mark may.kind may.stage may.changing) m' (λ l h. h);
+          knows = record { found_head = n.found_head; scan = tt; walked = walked_on site may.lies; own_pool = n.own_pool; rooted = n.rooted; marked = n.marked; looking = looks_still k s r id hist x at (in_mark may.kind may.stage may.scanning) m' (held done) (λ e. absurd (unclean e)) refl (λ b e. absurd (none-some b e)) };
+          queued = queue_still k s r id hist x at (in_mark may.kind may.stage may.scanning) m' (λ l h. h);
+          grows = grows_still k s r id hist x at (in_mark may.kind may.stage may.scanning);
         }
 
     scanned_rule : Rule k record { words = scanned_words; homes = s.homes; views = set s.views id (one k hist (with_share x done)) }
-    scanned_rule = recolours k s r id hist x at (in_mark may.kind may.stage may.changing) a p new m' c.shares.owes (seen_on site may.lies) (held done) sh.waiting recoloured
+    scanned_rule = recolours k s r id hist x at (in_mark may.kind may.stage may.scanning) a p new m' c.shares.owes follows' (seen_on site may.lies) (held done) sh.waiting recoloured
 
   -- the changed word
   module _ (may : ChangedMay x) where
@@ -287,7 +322,10 @@ module _ (k : Config) (s : Words) (r : Rule k s) (id : ℕ) (hist : List Entry) 
     abbrev owes1 : ℕ → Bool
     owes1 = at_domain c.shares.owes d false
 
-    stored_facts : (kind : Kind) → IsChanging kind → Facts kind k now live r.account.tenancy c s.words → Facts kind k now live r.account.tenancy (record c { shares = record c.shares { changed = true; owes = owes1 } }) words1
+    abbrev follows1 : ℕ → ℕ → Bool
+    follows1 = at_domain c.shares.follows d (λ b. false)
+
+    stored_facts : (kind : Kind) → IsChanging kind → Facts kind k now live r.account.tenancy c s.words → Facts kind k now live r.account.tenancy (record c { shares = record c.shares { changed = true; owes = owes1; follows = follows1 } }) words1
     stored_facts Run n f = absurd n
     stored_facts Promote n f = absurd n
     stored_facts Reset n f = absurd n
@@ -295,14 +333,14 @@ module _ (k : Config) (s : Words) (r : Rule k s) (id : ℕ) (hist : List Entry) 
     stored_facts Mark n f = (darkening_steps.mark_stores c.pass k.domains now (cycle_of k live r.account.tenancy.holder c) f.0 d, f.1)
     stored_facts Rounds n f = (darkening_steps.rounds_stores c.pass k.domains now (cycle_of k live r.account.tenancy.holder c) f.0 d, f.1)
     stored_facts Decide n f = absurd n
-    stored_facts Queued n f = absurd n
+    stored_facts Queued n f = (darkening_steps.queued_stores k.domains now (cycle_of k live r.account.tenancy.holder c) f.0 d, f.1)
     stored_facts Clean n f = absurd n
     stored_facts Lasts n f = absurd n
     stored_facts Sweep n f = absurd n
     stored_facts Answer n f = absurd n
 
     abbrev paid : Share
-    paid = record sh { owes = false }
+    paid = record sh { owes = false; account = [] }
 
     stored_rule : Rule k record { words = words1; homes = s.homes; views = set s.views id (one k hist (with_share x paid)) }
     stored_rule =
@@ -311,11 +349,12 @@ module _ (k : Config) (s : Words) (r : Rule k s) (id : ℕ) (hist : List Entry) 
         let other : (i : ℕ) → i ≢ 3 → get_or words1 i 0 ≡ get_or s.words i 0 = (λ i differ. get_or-set_other s.words 3 i 1 0 differ) in
         let spot : 3 < length s.words = (let w : ℕ = heap_words k in let b : ℕ = before_heap k in let e : length s.words ≡ 1 + b + w = r.whole.wide in let o : 10 ≤ b = omega arith in omega arith) in
         let u : Untouched s.words words1 = (length-set s.words 3 1, λ i low not_ended. other i (λ e. omega arith)) in
-        shifts_more k s r id hist x at collecting true owes1 c.shares.seen (held paid) words1 u (other 0 (λ e. omega arith)) (other 1 (λ e. omega arith)) (other 2 (λ e. omega arith))
+        shifts_more k s r id hist x at collecting true owes1 follows1 c.shares.seen (held paid) words1 u (other 0 (λ e. omega arith)) (other 1 (λ e. omega arith)) (other 2 (λ e. omega arith))
         (get_or-set_same s.words 3 1 0 spot)
-        (subst (λ (kind : Kind). Facts kind k now live r.account.tenancy (record c { shares = record c.shares { changed = true; owes = owes1 } }) words1) (sym kind_is) (stored_facts may.kind may.changing (subst (λ (kind : Kind). Facts kind k now live r.account.tenancy c s.words) kind_is r.whole.cycle.facts)))
-        (λ z differ. (at_other c.shares.owes d false z differ, refl))
-        (at_same c.shares.owes d false)
+        (subst (λ (kind : Kind). Facts kind k now live r.account.tenancy (record c { shares = record c.shares { changed = true; owes = owes1; follows = follows1 } }) words1) (sym kind_is) (stored_facts may.kind may.changing (subst (λ (kind : Kind). Facts kind k now live r.account.tenancy c s.words) kind_is r.whole.cycle.facts)))
+        (λ marking. let g = stored_grows (pool_labels k live) c.before m c.shares (r.whole.cycle.grows.since marking (unnamed k s r id hist x at collecting)) d (((my_good k s r id hist x at).sharing.telling.owes (waits_in k s r id hist x at may.kind may.stage)).owes ∙ may.owes) in record { stays = g.stays; changed = g.changed; owing = g.owing })
+        (λ z differ. (at_other c.shares.owes d false z differ, at_other c.shares.follows d (λ b. false) z differ, refl))
+        (record { owes = at_same c.shares.owes d false; follows = λ b is. subst (λ (g : ℕ → Bool). IsTrue (g b)) (at_same c.shares.follows d (λ b. false)) is })
         ((my_good k s r id hist x at).sharing.telling.seen (waits_in k s r id hist x at may.kind may.stage))
         record {
           found_head = λ g q e lives. ⊎_elim (λ (same : at_address k s.words g.address ≡ g.word). inl (other (before_heap k + g.address) (λ e. omega arith) ∙ same)) (λ is. inr is) (kn.found_head g q e lives);
@@ -335,10 +374,10 @@ scan_may k x word a place may fits slots id hist s r _ at _ =
 
 pub scanned_may : (k : Config) (x : DomainView) (word a new : ℕ) (site : Site) → word ≡ before_heap k + a → ScannedMay x a new site → MayStore k x word new (ScannedTold a site)
 scanned_may k x word a new site place may fits slots id hist s r _ at _ =
-    let y : DomainView = with_share x (record x.seen.share { scan = Idle; places_seen = places_seen_on site a x.seen.share.places_seen; walk = walk_on site x.seen.share.walk }) in
+    let y : DomainView = with_share x (record x.seen.share { scan = Idle; account = settled a x.seen.share.account; places_seen = places_seen_on site a x.seen.share.places_seen; walk = walk_on site x.seen.share.walk }) in
     (one k hist y, keeps, tt, subst (λ (n : ℕ). Rule k record { words = set s.words n new; homes = s.homes; views = set s.views id (one k hist y) }) (sym place) (scanned_rule k s r id hist x at a new site may), (refl, refl))
 
 pub changed_may : (k : Config) (x : DomainView) → ChangedMay x → MayStore k x 3 1 ChangedTold
 changed_may k x may fits slots id hist s r _ at _ =
-    let y : DomainView = with_share x (record x.seen.share { owes = false }) in
+    let y : DomainView = with_share x (record x.seen.share { owes = false; account = [] }) in
     (one k hist y, keeps, tt, stored_rule k s r id hist x at may, (refl, refl))

@@ -18,7 +18,7 @@ use Rattle.heap_rule.proofs.Keeps.{Words, my_good, unmoved}
 use Rattle.steps_marking.specs.Looks.{with_share}
 use Rattle.steps_marking.specs.Marking.{TargetMay, TargetTold, Reason, Register, Field, OfDatum, OfQueue, Warrants, moved_on, waiting_on}
 use Rattle.steps_marking.proofs.Colouring.{BareHead, bare_head, marked_colour, unmarked_colour}
-use Rattle.steps_marking.proofs.Learning.{bare, held, kind_here, knows_more, known, looks_same, shifts_queue, waits}
+use Rattle.steps_marking.proofs.Learning.{bare, held, kind_here, knows_more, known, looks_same, shifts_queue, waits, grows_still}
 use Rattle.steps_marking.proofs.Targets.{Target, datum_facts, moved_knows, sees_on, sees_others, sees_own, target, waiting_moved}
 use Rattle.std.proofs.lemmas.Bool.{cases_Bool}
 use Rattle.std.proofs.lemmas.Option.{same_Some}
@@ -52,12 +52,13 @@ module _ (k : Config) (s : Words) (r : Rule k s) (id : ℕ) (hist : List Entry) 
   goes_on collecting reason a w p lives marked =
       let t = (my_good k s r id hist x at).sharing.telling in
       let not_arrived : c.shares.arrived x.own.number ≡ false = waits k s r id hist x at collecting in
-      shifts_queue k s r id hist x at collecting (waiting_on reason sh.waiting) (waiting_moved k s r id hist x at collecting a p lives c.paint.marks marked (λ l is. is) reason w) c.shares.changed c.shares.owes (sees_on k s r id hist x at reason a w) (held (moved_on reason a sh)) s.words (untouched_same s.words) refl refl refl r.whole.cycle.changed_is
+      shifts_queue k s r id hist x at collecting (waiting_on reason sh.waiting) (waiting_moved k s r id hist x at collecting a p lives c.paint.marks marked (λ l is. is) reason w) c.shares.changed c.shares.owes c.shares.follows (sees_on k s r id hist x at reason a w) (held (moved_on reason a sh)) s.words (untouched_same s.words) refl refl refl r.whole.cycle.changed_is
       (facts_on reason a w p lives marked)
-      (λ z other. (refl, sees_others k s r id hist x at reason a w z other))
+      (grows_still k s r id hist x at collecting)
+      (λ z other. (refl, refl, sees_others k s r id hist x at reason a w z other))
       (t.owes not_arrived)
       (sees_own k s r id hist x at reason a w (t.seen not_arrived))
-      (moved_knows k s r id hist x at collecting a p lives c.paint.marks s.words marked (λ _. refl) (known k s r id hist x at) reason w sh.owes sh.darkenings)
+      (moved_knows k s r id hist x at collecting a p lives c.paint.marks s.words marked (λ _. refl) (known k s r id hist x at) reason w sh.owes sh.account sh.darkenings)
       refl
 
   module _ (a : ℕ) (reason : Reason) (may : TargetMay x a reason) where

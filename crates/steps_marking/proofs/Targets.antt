@@ -245,13 +245,13 @@ module _ (k : Config) (s : Words) (r : Rule k s) (id : ℕ) (hist : List Entry) 
         go true eq is = (p, ap live (eqb-true b a eq) ∙ lives, marked)
         go false eq is = n.marked b is
 
-    pub moved_knows : (reason : Reason) → Warrants reason x a → (owes : Bool) (darkenings : ℕ) → Knows k s r id hist x at collecting m' words' (record (held (moved_on reason a x.seen.share)) { owes = owes; darkenings = darkenings })
-    moved_knows reason w owes darkenings = record {
+    pub moved_knows : (reason : Reason) → Warrants reason x a → (owes : Bool) (account : List ℕ) (darkenings : ℕ) → Knows k s r id hist x at collecting m' words' (record (held (moved_on reason a x.seen.share)) { owes = owes; account = account; darkenings = darkenings })
+    moved_knows reason w owes account darkenings = record {
       found_head = λ g q e there. cc;
       scan = scan_moved reason w;
       walked = walked_moved reason w;
       own_pool = n.own_pool;
       rooted = rooted_moved reason w;
       marked = marked_moved;
-      looking = looks_still k s r id hist x at collecting m' (record (held (moved_on reason a x.seen.share)) { owes = owes; darkenings = darkenings }) still refl (at_own_moved reason);
+      looking = looks_still k s r id hist x at collecting m' (record (held (moved_on reason a x.seen.share)) { owes = owes; account = account; darkenings = darkenings }) still refl (at_own_moved reason);
     }

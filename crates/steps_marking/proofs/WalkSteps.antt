@@ -1,5 +1,5 @@
 -- A domain walks through its own pools, and looks at the heads there.
-use Rattle.std.proofs.Common.{◌≡◌, ◌≢◌, ℕ, ◌+◌, ◌<◌, ◌≤◌, ◌⊎◌, ◌==◌, ◌||◌, Bool, true, false, true≢false, cond, IsTrue, eq-eqb, List, [], ◌∷◌, length, get_or, set, Some, Option, None, sym, refl, ap, ◌∙◌, subst, inl, inr, ⊎_elim, arith, lt_of_not-le}
+use Rattle.std.proofs.Common.{◌≡◌, ◌≢◌, ℕ, ◌+◌, ◌<◌, ◌≤◌, ◌⊎◌, ◌==◌, ◌||◌, Bool, true, false, true≢false, ◌&&◌, not, cond, IsTrue, eq-eqb, eqb-true, unwrap_or, List, [], ◌∷◌, length, get_or, set, Some, Option, None, sym, refl, ap, ◌∙◌, subst, inl, inr, ⊎_elim, arith, lt_of_not-le}
 use Rattle.std.proofs.lemmas.Bool.{le-leb, lt-leb, cases_Bool}
 use mathlib.Core.Logic.{dite}
 use native.Mathlib.Decide.{ℕ_discrete, dec_le}
@@ -14,7 +14,7 @@ use Rattle.heap_model.specs.declared.graph.Node.TheVariants.{Plain, Raw, Ephe}
 use Rattle.heap_model.specs.declared.state.State as model
 use Rattle.heap_model.specs.Domains.{class_count}
 use Rattle.heap_model.specs.Fronts.{Shape, PlainShape, RawShape, EpheShape, shape_of}
-use Rattle.heap_model.proofs.Reach.ReachLemmas.{or_left, or_right}
+use Rattle.heap_model.proofs.Reach.ReachLemmas.{and_left, and_right, not_true, or_left, or_right}
 use Rattle.heap_words.specs.declared.colours.Colours.{Colours}
 use Rattle.cycle_laws.specs.Marks.{Marks, fields_of}
 use Rattle.cycle_laws.specs.Shares.{at_domain}
@@ -29,7 +29,7 @@ use Rattle.heap_rule.specs.declared.view.OwnPool.{OwnPool}
 use Rattle.heap_rule.specs.Layout.{before_heap, at_address, owner_of}
 use Rattle.heap_rule.specs.Places.{Live, Place, needs_no_scan}
 use Rattle.heap_rule.specs.Pools.{Holder, IsBefore, IsPlace, blocks_of, owned, owner_word, place_in}
-use Rattle.heap_rule.specs.Cycles.{HasNoCycle, Cycling, Facts, IsCollecting, Knowing, Scanned, cycle_of, seen_by}
+use Rattle.heap_rule.specs.Cycles.{HasNoCycle, Cycling, Facts, IsCollecting, Knowing, OwesAs, Scanned, cycle_of, seen_by}
 use Rattle.heap_rule.specs.Raw.{MayStep}
 use Rattle.heap_rule.specs.Rule.{Rule, state_of}
 use Rattle.heap_rule.specs.Views.{one}
@@ -37,10 +37,10 @@ use Rattle.heap_rule.proofs.Controls.{untouched_same}
 use Rattle.heap_rule.proofs.Keeps.{Words, my_good, unmoved}
 use Rattle.heap_rule.proofs.OwnPlaces.{owned_same}
 use Rattle.steps_marking.specs.Looks.{with_share}
-use Rattle.steps_marking.specs.Marking.{IsChanging, GreyMay, GreyTold, IsGrey, IsScanned, IsUnmarked, IsNext, MarkMay, MarkTold, OwnMay, OwnTold, begun, behind, fields_in}
+use Rattle.steps_marking.specs.Marking.{IsScanning, GreyMay, GreyTold, IsGrey, IsScanned, IsUnmarked, IsNext, MarkMay, MarkTold, OwnMay, OwnTold, begun, behind, fields_in, settled}
 use Rattle.steps_marking.proofs.Colouring.{BareHead, bare_head, marked_colour, no_fields, unmarked_colour}
 use Rattle.steps_marking.proofs.Layouts.{labelled, owner_of_place, whose}
-use Rattle.steps_marking.proofs.Learning.{at_other, at_same, bare, held, kind_here, knows_more, known, looks_same, looks_still, not_promoting, shifts_more}
+use Rattle.steps_marking.proofs.Learning.{at_other, at_same, bare, held, kind_here, knows_more, known, looks_same, looks_still, not_promoting, shifts_more, grows_still}
 use Rattle.steps_marking.proofs.Unswept.{none_unswept}
 use Rattle.std.proofs.lemmas.Option.{none-some, same_Some}
 use Rattle.heap_rule.proofs.Stages.{waits_in}
@@ -69,20 +69,31 @@ before_behind pool class slot q i inside before =
     (λ (h : (q ≡ pool) × (i < slot + 1)). here h.0 h.1)
     (subst (IsBefore q i) (next_behind pool class slot (lt_of_not-le more)) before))
 
+-- an address that is taken off an account takes no other off
+settled_still : (a : ℕ) (account : List ℕ) (b : ℕ) → (IsTrue (b == a) → ⊥) → IsTrue (seen_by account b) → IsTrue (seen_by (settled a account) b)
+settled_still a [] b other is = is
+settled_still a (e ∷ rest) b other is = go (settled_still a rest b other) (e == a) refl (b == e) refl is
+  where
+    go : (IsTrue (seen_by rest b) → IsTrue (seen_by (settled a rest) b)) → (off : Bool) → (e == a) ≡ off → (here : Bool) → (b == e) ≡ here → IsTrue (here || seen_by rest b) → IsTrue (seen_by (cond off (settled a rest) (e ∷ settled a rest)) b)
+    go later true is_off true is_here is = absurd (other (eq-eqb b a (eqb-true b e is_here ∙ eqb-true e a is_off)))
+    go later true is_off false is_here is = later is
+    go later false is_off true is_here is = or_left (b == e) (seen_by (settled a rest) b) is_here
+    go later false is_off false is_here is = or_right (b == e) (seen_by (settled a rest) b) (later is)
+
 -- in these kinds a collection is under way
-pub changing_cycle : (kind : Kind) → IsChanging kind → HasNoCycle kind → ⊥
-changing_cycle Run n none = n
-changing_cycle Promote n none = n
-changing_cycle Reset n none = n
-changing_cycle Roots n none = n
-changing_cycle Mark n none = none
-changing_cycle Rounds n none = none
-changing_cycle Decide n none = n
-changing_cycle Queued n none = n
-changing_cycle Clean n none = n
-changing_cycle Lasts n none = n
-changing_cycle Sweep n none = n
-changing_cycle Answer n none = n
+pub scanning_cycle : (kind : Kind) → IsScanning kind → HasNoCycle kind → ⊥
+scanning_cycle Run n none = n
+scanning_cycle Promote n none = n
+scanning_cycle Reset n none = n
+scanning_cycle Roots n none = n
+scanning_cycle Mark n none = none
+scanning_cycle Rounds n none = none
+scanning_cycle Decide n none = n
+scanning_cycle Queued n none = n
+scanning_cycle Clean n none = n
+scanning_cycle Lasts n none = n
+scanning_cycle Sweep n none = n
+scanning_cycle Answer n none = n
 
 module _ (k : Config) (s : Words) (r : Rule k s) (id : ℕ) (hist : List Entry) (x : DomainView) (at : get_elem? s.views id ≡ some (one k hist x)) where
   abbrev now : model.State
@@ -265,13 +276,14 @@ module _ (k : Config) (s : Words) (r : Rule k s) (id : ℕ) (hist : List Entry) 
     saw_rule quiet =
         let t = (my_good k s r id hist x at).sharing.telling in
         let waits : c.shares.arrived d ≡ false = waits_in k s r id hist x at Mark may.stage in
-        shifts_more k s r id hist x at collecting c.shares.changed c.shares.owes (seen_next a pool class slot may.place) (held saw) s.words (untouched_same s.words) refl refl refl r.whole.cycle.changed_is
+        shifts_more k s r id hist x at collecting c.shares.changed c.shares.owes c.shares.follows (seen_next a pool class slot may.place) (held saw) s.words (untouched_same s.words) refl refl refl r.whole.cycle.changed_is
         (subst (λ (kind : Kind). Facts kind k now live r.account.tenancy (record c { shares = record c.shares { seen = seen_next a pool class slot may.place } }) s.words) (sym kind_is) (
           darkening_steps.mark_looks c.pass k.domains now (cycle_of k live holder c) facts.0 d a (own_place a pool class slot may.place)
               (λ l e is. let u = labelled k live a l e in subst (λ (z : Label). IsTrue (m.scanned z)) u.label (quiet u.place u.lives (subst (λ (z : Label). IsTrue (m.marked z)) (sym u.label) is))),
           facts.1,
         ))
-        (λ z other. (refl, next_other a pool class slot may.place z other))
+        (grows_still k s r id hist x at collecting)
+        (λ z other. (refl, refl, next_other a pool class slot may.place z other))
         (t.owes waits)
         (next_is a pool class slot may.place waits)
         record { found_head = kn.found_head; scan = kn.scan; walked = next_walked a pool class slot may.place; own_pool = kn.own_pool; rooted = kn.rooted; marked = kn.marked; looking = looks_same k s r id hist x at collecting (held saw) refl refl }
@@ -321,15 +333,67 @@ module _ (k : Config) (s : Words) (r : Rule k s) (id : ℕ) (hist : List Entry) 
           (saw_rule (λ q f. absurd (none-some q (sym e ∙ f))), record { colours = may.colours; known = may.known; told = inl (inl free, refl) }),
         )
 
+  -- where a block is scanned the domain follows it no more
+  abbrev pub settles_at : ℕ → ℕ → ℕ → Bool
+  settles_at a = at_domain c.shares.follows d (λ b. c.shares.follows d b && not (b == a))
+
+  pub settles_own : (a : ℕ) → ((b : ℕ) → IsTrue (c.shares.follows d b) → IsTrue (seen_by sh.account b)) → (b : ℕ) → IsTrue (settles_at a d b) → IsTrue (seen_by (settled a sh.account) b)
+  settles_own a f b is =
+      let both : IsTrue (c.shares.follows d b && not (b == a)) = subst (λ (g : ℕ → Bool). IsTrue (g b)) (at_same c.shares.follows d (λ e. c.shares.follows d e && not (e == a))) is in
+      settled_still a sh.account b (not_true (b == a) (and_right (c.shares.follows d b) (not (b == a)) both)) (f b (and_left (c.shares.follows d b) (not (b == a)) both))
+
+  pub settles_other : (a z : ℕ) → z ≢ d → settles_at a z ≡ c.shares.follows z
+  settles_other a z other = at_other c.shares.follows d (λ b. c.shares.follows d b && not (b == a)) z other
+
   -- the head of a block that is known to be marked
   module _ (a : ℕ) (may : GreyMay x a) where
+    -- the block is scanned
+    settled_facts : (p : Place) → live a ≡ Some p → m.scanned p.label ≡ true → (kind : Kind) → IsScanning kind → Facts kind k now live r.account.tenancy c s.words → Facts kind k now live r.account.tenancy (record c { shares = record c.shares { follows = settles_at a } }) s.words
+    settled_facts p lives done Run n f = absurd n
+    settled_facts p lives done Promote n f = absurd n
+    settled_facts p lives done Reset n f = absurd n
+    settled_facts p lives done Roots n f = absurd n
+    settled_facts p lives done Mark n f = (
+      darkening_steps.mark_settles c.pass k.domains now (cycle_of k live holder c) f.0 d a
+          (λ l e _. let u = labelled k live a l e in let same : p ≡ u.place = ap (λ (o : Option Place). unwrap_or o p) (sym lives ∙ u.lives) in
+          subst (λ (z : Label). IsTrue (m.scanned z)) (ap (λ (z : Place). z.label) same ∙ u.label) done),
+      f.1,
+    )
+    settled_facts p lives done Rounds n f = (darkening_steps.rounds_settles c.pass k.domains now (cycle_of k live holder c) f.0 d a, f.1)
+    settled_facts p lives done Decide n f = absurd n
+    settled_facts p lives done Queued n f = absurd n
+    settled_facts p lives done Clean n f = absurd n
+    settled_facts p lives done Lasts n f = absurd n
+    settled_facts p lives done Sweep n f = absurd n
+    settled_facts p lives done Answer n f = absurd n
+
+    abbrev less : Share
+    less = record sh { account = settled a sh.account }
+
+    settled_rule : (p : Place) → live a ≡ Some p → m.scanned p.label ≡ true → After (with_share x less)
+    settled_rule p lives done =
+        let t = (my_good k s r id hist x at).sharing.telling in
+        let waits : c.shares.arrived d ≡ false = waits_in k s r id hist x at may.kind may.stage in
+        let kind_is : c.kind ≡ may.kind = kind_here k s r id hist x at may.kind may.stage in
+        let collecting : IsCollecting x.seen.stage = subst IsCollecting (sym may.stage) (scanning_cycle may.kind may.scanning) in
+        let o : OwesAs (c.shares.owes d) (c.shares.follows d) sh.owes sh.account = t.owes waits in
+        shifts_more k s r id hist x at collecting c.shares.changed c.shares.owes (settles_at a) c.shares.seen (held less) s.words (untouched_same s.words) refl refl refl r.whole.cycle.changed_is
+        (subst (λ (kind : Kind). Facts kind k now live r.account.tenancy (record c { shares = record c.shares { follows = settles_at a } }) s.words) (sym kind_is)
+        (settled_facts p lives done may.kind may.scanning (subst (λ (kind : Kind). Facts kind k now live r.account.tenancy c s.words) kind_is r.whole.cycle.facts)))
+        (grows_still k s r id hist x at collecting)
+        (λ z other. (refl, settles_other a z other, refl))
+        (record { owes = o.owes; follows = settles_own a o.follows })
+        (t.seen waits)
+        record { found_head = kn.found_head; scan = kn.scan; walked = kn.walked; own_pool = kn.own_pool; rooted = kn.rooted; marked = kn.marked; looking = looks_same k s r id hist x at collecting (held less) refl refl }
+        refl
+
     pub grey_looks : (y : DomainView) × After y × GreyTold a x (at_address k s.words a) y
     grey_looks =
         let t = kn.marked a may.marked in
-        let collecting : IsCollecting x.seen.stage = subst IsCollecting (sym may.stage) (changing_cycle may.kind may.changing) in ⊎_elim
+        let collecting : IsCollecting x.seen.stage = subst IsCollecting (sym may.stage) (scanning_cycle may.kind may.scanning) in ⊎_elim
         (λ h. (
-          x,
-          knows_more k s r id hist x at collecting (held sh) refl refl record { found_head = kn.found_head; scan = kn.scan; walked = kn.walked; own_pool = kn.own_pool; rooted = kn.rooted; marked = kn.marked; looking = looks_same k s r id hist x at collecting (held sh) refl refl },
+          with_share x less,
+          settled_rule t.0 t.1 h.1,
           record { colours = may.colours; known = may.known; told = inl (h.0, refl) },
         ))
         (λ h. (

@@ -1,5 +1,5 @@
 -- What the steps of marking ask and tell.
-use Rattle.std.specs.Prelude.{◌≡◌, ◌≢◌, ℕ, ◌+◌, ◌<◌, ◌⊎◌, nat_le, if◌then◌else◌, Bool, true, false, IsTrue, List, ◌∷◌, Some, None}
+use Rattle.std.specs.Prelude.{◌≡◌, ◌≢◌, ℕ, ◌+◌, ◌<◌, ◌⊎◌, nat_le, if◌then◌else◌, ◌==◌, Bool, true, false, cond, IsTrue, List, [], ◌∷◌, Some, None}
 use Rattle.heap_model.specs.Domains.{class_count}
 use Rattle.heap_model.specs.Fronts.{Shape, PlainShape, RawShape, EpheShape}
 use Rattle.heap_words.specs.declared.colours.Colours.{Colours}
@@ -32,10 +32,17 @@ IsDarkening Rounds = Unit {0}
 IsDarkening Queued = Unit {0}
 IsDarkening _ = ⊥
 
--- in these kinds the changed word is stored
+-- in these kinds blocks are scanned
+abbrev pub IsScanning : Kind → Type 0
+IsScanning Mark = Unit {0}
+IsScanning Rounds = Unit {0}
+IsScanning _ = ⊥
+
+-- and in these the changed word is stored
 abbrev pub IsChanging : Kind → Type 0
 IsChanging Mark = Unit {0}
 IsChanging Rounds = Unit {0}
+IsChanging Queued = Unit {0}
 IsChanging _ = ⊥
 
 -- the word is the head of an unmarked block, of a marked one, and of one that is scanned
@@ -136,15 +143,26 @@ pub record DarkenMay (x : DomainView) (at old new : ℕ) (reason : Reason) : Typ
   pub marks : HeadIs None unmarked.shape colours.marked (needs_no_scan unmarked.shape) new
   pub reason_is : Warrants reason x at
 
--- whoever darkens a block in Mark or in Rounds owes a store of the changed word
+-- whoever darkens a block in Mark, in Rounds or in Queued owes a store of the changed word
 abbrev pub owes_on : Kind → Bool → Bool
 owes_on Mark owes = true
 owes_on Rounds owes = true
+owes_on Queued owes = true
 owes_on _ owes = owes
+
+-- in Mark the block is on its account until the domain knows that it is scanned
+abbrev pub account_on : Kind → ℕ → List ℕ → List ℕ
+account_on Mark at account = at ∷ account
+account_on _ at account = account
+
+-- an address is taken off an account
+abbrev pub settled : ℕ → List ℕ → List ℕ
+settled at [] = []
+settled at (a ∷ account) = cond (a == at) (settled at account) (a ∷ settled at account)
 
 -- a domain has darkened a block
 abbrev pub darkening : Kind → Reason → ℕ → Share → Share
-darkening kind reason at share = record (moved_on reason at share) { owes = owes_on kind share.owes; darkenings = share.darkenings + 1 }
+darkening kind reason at share = record (moved_on reason at share) { owes = owes_on kind share.owes; account = account_on kind at share.account; darkenings = share.darkenings + 1 }
 
 -- where the head was the one that was found the block is darkened, and else somebody else has darkened it. It lies in a pool
 pub record DarkenTold (k : Config) (old at : ℕ) (reason : Reason) (x : DomainView) (found : ℕ) (y : DomainView) : Type 0 where
@@ -205,22 +223,22 @@ pub record MarkTold (at pool class slot : ℕ) (x : DomainView) (found : ℕ) (y
 pub record GreyMay (x : DomainView) (at : ℕ) : Type 0 where
   pub kind : Kind
   pub stage : x.seen.stage ≡ In kind
-  pub changing : IsChanging kind
+  pub scanning : IsScanning kind
   pub marked : IsTrue (seen_by x.seen.share.marked at)
   pub colours : Colours
   pub known : x.seen.share.colours ≡ Some colours
 
--- it is scanned, or its scan begins
+-- it is scanned, and not on the domain's account any more, or its scan begins
 pub record GreyTold (at : ℕ) (x : DomainView) (found : ℕ) (y : DomainView) : Type 0 where
   pub colours : Colours
   pub known : x.seen.share.colours ≡ Some colours
-  pub told : (IsScanned colours found × (y ≡ x)) ⊎ ((grey : IsGrey colours found) × (y ≡ with_share x (begun at grey.block.shape found x.seen.share)))
+  pub told : (IsScanned colours found × (y ≡ with_share x (record x.seen.share { account = settled at x.seen.share.account }))) ⊎ ((grey : IsGrey colours found) × (y ≡ with_share x (begun at grey.block.shape found x.seen.share)))
 
 -- in Mark and in Rounds, a load of the next field of the block that is scanned
 pub record ScanMay (x : DomainView) (at : ℕ) : Type 0 where
   pub kind : Kind
   pub stage : x.seen.stage ≡ In kind
-  pub changing : IsChanging kind
+  pub scanning : IsScanning kind
   pub block : ℕ
   pub done : ℕ
   pub size : ℕ
@@ -264,7 +282,7 @@ walk_on (Next pool class slot) walk = behind pool class slot
 pub record ScannedMay (x : DomainView) (at new : ℕ) (site : Site) : Type 0 where
   pub kind : Kind
   pub stage : x.seen.stage ≡ In kind
-  pub changing : IsChanging kind
+  pub scanning : IsScanning kind
   pub anywhere : kind ≡ Rounds → site ≡ Anywhere
   pub size : ℕ
   pub word : ℕ
@@ -276,15 +294,17 @@ pub record ScannedMay (x : DomainView) (at new : ℕ) (site : Site) : Type 0 whe
   pub marks : HeadIs None shape colours.marked true new
   pub lies : LiesAt site x at
 
+-- the block isn't on the domain's account any more
 abbrev pub ScannedTold : ℕ → Site → DomainView → ℕ → DomainView → Type 0
-ScannedTold at site x found y = y ≡ with_share x (record x.seen.share { scan = Idle; places_seen = places_seen_on site at x.seen.share.places_seen; walk = walk_on site x.seen.share.walk })
+ScannedTold at site x found y = y ≡ with_share x (record x.seen.share { scan = Idle; account = settled at x.seen.share.account; places_seen = places_seen_on site at x.seen.share.places_seen; walk = walk_on site x.seen.share.walk })
 
--- in Mark and in Rounds, 1 is stored in the changed word
+-- in Mark, in Rounds and in Queued, 1 is stored in the changed word
 pub record ChangedMay (x : DomainView) : Type 0 where
   pub kind : Kind
   pub stage : x.seen.stage ≡ In kind
   pub changing : IsChanging kind
   pub owes : x.seen.share.owes ≡ true
 
+-- no block is on the domain's account any more
 abbrev pub ChangedTold : DomainView → ℕ → DomainView → Type 0
-ChangedTold x found y = y ≡ with_share x (record x.seen.share { owes = false })
+ChangedTold x found y = y ≡ with_share x (record x.seen.share { owes = false; account = [] })

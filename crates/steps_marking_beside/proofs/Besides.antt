@@ -19,6 +19,7 @@ use Rattle.heap_rule.specs.Places.{Live}
 use Rattle.heap_rule.specs.Pools.{Grid, Holder, Hunter}
 use Rattle.heap_rule.specs.Rule.{Account, AllFound, Area, Good, Making, Rule, Sharing, state_of}
 use Rattle.heap_rule.specs.Views.{one}
+use Rattle.heap_rule.proofs.Growing.{grows_none, no_marking}
 use Rattle.heap_rule.proofs.Advancing.{underway_here}
 use Rattle.heap_rule.proofs.BesideLemmas.{Endures, runs_on}
 use Rattle.heap_rule.proofs.EphemeronLemmas.{looks_idle}
@@ -113,6 +114,7 @@ module _ (k : Config) (s : Words) (r : Rule k s) (id : ℕ) (hist : List Entry) 
       leaves = record { none = w.leaves.none; dead = w.leaves.dead; head = λ a is. absurd (true≢false (sym is ∙ no_garbage a)); unprepared = w.leaves.unprepared; owned = w.leaves.owned };
       unswept = w.unswept;
       whole = λ l. inl (unmissed l);
+      grows = grows_none k live r.account.pause c' (no_marking c.kind none);
     }
 
     leading_on : (z : DomainView) (share : Share) → Leading c s.words z.own.number z.seen.stage share → Leading c' words' z.own.number z.seen.stage share
@@ -127,6 +129,7 @@ module _ (k : Config) (s : Words) (r : Rule k s) (id : ℕ) (hist : List Entry) 
       armed = u.armed;
       unswept = u.unswept;
       under_way = u.under_way;
+      unmarked = u.unmarked;
     }
 
     own_sharing : Sharing k all' words' y.own.number y.own.registers y.own.finalisers y.own.ephemerons.items y.seen.stage y.seen.share
@@ -136,7 +139,7 @@ module _ (k : Config) (s : Words) (r : Rule k s) (id : ℕ) (hist : List Entry) 
         let l = leading_on x sh g.leading in
         let idle : IsIdle y.seen.share = ap (λ (z : Share). aware z known' weak') (idle_here k s r id hist x at Run tt runs) in record {
           telling = record { owes = t.owes; seen = t.seen; fresh = λ _. idle; forgotten = t.forgotten; colours = t.colours };
-          leading = record { changed = l.changed; found_blocks = l.found_blocks; found_words = l.found_words; rotated = l.rotated; turned = l.turned; pass = l.pass; whole = l.whole; armed = l.armed; unswept = l.unswept; under_way = l.under_way };
+          leading = record { changed = l.changed; found_blocks = l.found_blocks; found_words = l.found_words; rotated = l.rotated; turned = l.turned; pass = l.pass; whole = l.whole; armed = l.armed; unswept = l.unswept; under_way = l.under_way; unmarked = l.unmarked };
           knows = inl idle;
           adds = adds_nothing live c' y.own.number y.seen.share none;
           looks = looks_idle live holder now.graph m' c.paint.emptied y.own.number y.own.ephemerons.items y.seen.stage y.seen.share idle unmissed;

@@ -12,7 +12,7 @@ use Rattle.heap_rule.specs.declared.config.Config.{Config}
 use Rattle.heap_rule.specs.declared.view.Copying.{Copying}
 use Rattle.heap_rule.specs.declared.view.DomainView.{DomainView}
 use Rattle.heap_rule.specs.declared.phase.Kind.{Kind}
-use Rattle.heap_rule.specs.declared.phase.Kind.TheVariants.{Run, Promote}
+use Rattle.heap_rule.specs.declared.phase.Kind.TheVariants.{Run, Promote, Reset, Roots, Mark, Rounds, Decide, Queued, Clean, Lasts, Sweep, Answer}
 use Rattle.heap_rule.specs.declared.phase.Stage.{Stage}
 use Rattle.heap_rule.specs.declared.phase.Stage.TheVariants.{In, Leads, Led, Gone}
 use Rattle.heap_rule.specs.Layout.{heap_words, before_heap, barrier, plan, ended_word, want, listed, cursor, listed_pool}
@@ -33,13 +33,15 @@ use Rattle.heap_rule.proofs.Drops.{drops, dropped}
 use Rattle.heap_rule.proofs.Keeps.{Words, mine, my_good, now, no_cycle_here, whole_here, quiet_in, owes_rests, room_unused}
 use Rattle.heap_rule.proofs.PauseFacts.{gone_runs, not_both}
 use Rattle.heap_rule.proofs.Sharings.{SameCycle, kind_now}
-use Rattle.heap_rule.specs.Cycles.{Cycling, Told, HasNoCycle, owner_at}
+use Rattle.heap_rule.specs.Cycles.{Cycling, Grows, Told, HasNoCycle, IsMarking, owner_at}
 use Rattle.heap_rule.specs.Layout.{at_address}
 use Rattle.heap_rule.specs.Views.{voided}
 use Rattle.heap_rule.proofs.Controls.{cycle_untouched, heap_untouched}
 use Rattle.steps_pauses.proofs.Arriving.{arrived_cycle, told_arrived, told_turned, cycle_gone, cycle_dropped, whole_gone, own_whole, sharing_gone, sharing_else, sharing_between, dropped_none, sweeps_else, sweeps_gone}
 use Rattle.steps_pauses.specs.Pauses.{kind_in, ArrivesFrom, ArriveMay, forgotten, arrived_view, Arrived}
 use Rattle.steps_pauses.proofs.Finishing.{facts_gone}
+use Rattle.steps_pauses.proofs.Growing.{grows_arrived, grows_turned}
+use Rattle.steps_pauses.proofs.Leading.{flag_zero}
 use Rattle.std.proofs.lemmas.Option.{none-some}
 
 -- who may arrive acts in the phase
@@ -291,6 +293,30 @@ module _ (k : Config) (s : Words) (r : Rule k s) (id : ℕ) (hist : List Entry) 
   still_covered : Covered k pause tenancy words'
   still_covered = covered_untouched k pause tenancy s.words words' untouched r.whole.pools r.whole.covered
 
+  -- where domain 0 has named a phase of the marking the changed word is 0
+  changed_back : (kind : Kind) → x.seen.stage ≡ Led kind → IsMarking r.account.cycling.kind → r.account.cycling.shares.changed ≡ false
+  changed_back kind is marking = go r.account.cycling.kind refl marking
+    where
+      at_led : AtStage pause number x.own.arrivals (Led kind)
+      at_led = subst (AtStage pause number x.own.arrivals) is good.staged.stage
+
+      named : r.account.cycling.kind ≡ kind
+      named = sym (r.whole.cycle.told.led at_led.1.0 at_led.1.1 at_led.3).0 ∙ at_led.1.2
+
+      go : (w : Kind) → r.account.cycling.kind ≡ w → IsMarking w → r.account.cycling.shares.changed ≡ false
+      go Mark e m = flag_zero r.account.cycling.shares.changed (good.sharing.leading.changed 0 (may.set_back (is ∙ ap Led (sym named ∙ e)))).2
+      go Rounds e m = r.whole.cycle.grows.cleared marking (at_led.1.0, at_led.1.1, at_led.3) (inr e)
+      go Run e m = absurd m
+      go Promote e m = absurd m
+      go Reset e m = absurd m
+      go Roots e m = absurd m
+      go Decide e m = absurd m
+      go Queued e m = absurd m
+      go Clean e m = absurd m
+      go Lasts e m = absurd m
+      go Sweep e m = absurd m
+      go Answer e m = absurd m
+
   -- What an arrival owes, whether or not it is the last one of its phase
   record Parts (pause' : Pause) (claims' : ℕ → ℕ) : Type 0 where
     phases : Phases k pause' words'
@@ -309,6 +335,7 @@ module _ (k : Config) (s : Words) (r : Rule k s) (id : ℕ) (hist : List Entry) 
     drawable : Drawable k pause' words'
     unwished : Unwished pause' words'
     told : Told k pause' r.account.cycling.kind cycling'.shares
+    grows : Grows k live pause' cycling'
     mine_is : claims' number ≡ 0
     theirs : (e : ℕ) → e ≢ number → claims' e ≡ tenancy.stock.claims e
 
@@ -321,7 +348,7 @@ module _ (k : Config) (s : Words) (r : Rule k s) (id : ℕ) (hist : List Entry) 
     full = r.whole.full;
     paint = refl;
     cycle = cycle_gone x.seen.stage tenancy.holder k (now k s r id hist x at) live pause pause' tenancy (counting claims') r.account.cycling s.words words' number same_cycle same_heap
-        (facts_gone k s r id hist x at may.done may.paid_reads x.seen.stage refl may.from) p.told (whole_gone x.seen.stage tenancy.holder live r.account.cycling number my_whole r.whole.cycle.whole) r.whole.cycle;
+        (facts_gone k s r id hist x at may.done may.paid_reads x.seen.stage refl may.from) p.told (whole_gone x.seen.stage tenancy.holder live r.account.cycling number my_whole r.whole.cycle.whole) p.grows r.whole.cycle;
     sharing = sharing_gone k r.account s.words words' x pause' live (record tenancy { stock = counting claims' }) y.seen.stage inside may.from good.staged.stage r.whole.cycle.told my_whole may.paid_reads good;
     sharings = λ z _ other g. sharing_else k r.account s.words words' x.seen.stage number z pause' (counting claims') other same_cycle same_heap g;
     untouched = untouched;
@@ -410,6 +437,7 @@ module _ (k : Config) (s : Words) (r : Rule k s) (id : ℕ) (hist : List Entry) 
     };
     unwished = λ j odd led runs. want_is ∙ r.whole.unwished j odd led runs;
     told = told_arrived k pause r.account.cycling.kind (owner_at tenancy.holder) r.account.cycling.paint.colours r.account.cycling.shares number x.own.arrivals r.whole.cycle.told inside arrived' own_up else_is x.seen.stage may.from good.staged.stage;
+    grows = grows_arrived k live tenancy.holder pause r.account.cycling number x.own.arrivals inside r.whole.cycle.told r.whole.cycle.grows arrived' else_is x.seen.stage may.from good.staged.stage changed_back;
     mine_is = mine_is;
     theirs = theirs;
   }
@@ -633,6 +661,7 @@ module _ (k : Config) (s : Words) (r : Rule k s) (id : ℕ) (hist : List Entry) 
       };
       unwished = λ j odd led. absurd (true≢false (sym led));
       told = next_told;
+      grows = grows_turned k live tenancy.holder pause r.account.cycling number x.own.arrivals inside r.whole.cycle.told r.whole.cycle.grows arrived' else_is x.seen.stage may.from good.staged.stage changed_back ups led_is;
       mine_is = no_claims elsewhere;
       theirs = λ e _. refl;
     }

@@ -1,5 +1,5 @@
 -- A collection of the major heap where a domain arrives.
-use Rattle.std.proofs.Common.{◌≡◌, ◌≢◌, ℕ, ◌+◌, ◌*◌, ◌<◌, ◌≤◌, ◌⊎◌, Bool, true, false, true≢false, List, [], sym, refl, ap, ◌∙◌, subst, inl, inr, ⊎_elim, arith, ◌==◌, Option, Some, None}
+use Rattle.std.proofs.Common.{◌≡◌, ◌≢◌, ℕ, ◌+◌, ◌*◌, ◌<◌, ◌≤◌, ◌⊎◌, Bool, true, false, true≢false, IsTrue, List, [], sym, refl, ap, ◌∙◌, subst, inl, inr, ⊎_elim, arith, ◌==◌, Option, Some, None}
 use mathlib.Core.Logic.{dite}
 use native.Mathlib.Decide.{ℕ_discrete}
 use Rattle.heap_model.specs.declared.state.State as model
@@ -10,6 +10,7 @@ use Rattle.cycle_laws.specs.Marks.{Marks}
 use Rattle.cycle_laws.proofs.Sharing.{at_same, at_cases}
 use Rattle.heap_rule.specs.Beside.{Underway, is_weak}
 use Rattle.std.proofs.lemmas.Option.{none-some}
+use Rattle.heap_rule.proofs.Growing.{grows_none, no_marking}
 use Rattle.heap_rule.proofs.Lots.{place_cases}
 use Rattle.heap_rule.proofs.Garbage.{KeepsGarbage}
 use Rattle.heap_rule.specs.Sweeping.{Sweeps, SweepsIn, nothing_swept}
@@ -31,7 +32,7 @@ use Rattle.heap_rule.proofs.FinaliserLemmas.{deciding_none, deciding_gone}
 use Rattle.heap_rule.specs.Deciding.{Deciding}
 use Rattle.heap_rule.specs.declared.view.Finalisers.{Finalisers}
 use Rattle.heap_model.specs.declared.label.Label.{Label}
-use Rattle.heap_rule.specs.Cycles.{AllWhole, MissesKeys, Cycling, Cycled, Facts, ArrivedAs, Told, Telling, Leading, IsCollecting, IsIdle, Adds, HasNoCycle, Knowing, owner_at}
+use Rattle.heap_rule.specs.Cycles.{Grows, AllWhole, MissesKeys, Cycling, Cycled, Facts, ArrivedAs, Told, Telling, Leading, IsCollecting, IsIdle, Adds, HasNoCycle, Knowing, owner_at}
 use Rattle.heap_rule.specs.Layout.{at_address}
 use Rattle.heap_rule.specs.Phases.{Agree, Pause, AtStage, flag}
 use Rattle.heap_rule.specs.Places.{Place, Live}
@@ -135,7 +136,7 @@ sweeps_gone t c x now anew h = record {
 }
 
 leading_gone : (st : Stage) (holder : ℕ → Holder) (c : Cycling) (words : List ℕ) (d z : ℕ) (stage : Stage) (share : Share) → Leading c words z stage share → Leading (arrived_cycle st holder c d) words z stage share
-leading_gone (In kind) holder c words d z stage share l = record { changed = l.changed; found_blocks = l.found_blocks; found_words = l.found_words; rotated = l.rotated; turned = l.turned; pass = l.pass; whole = l.whole; armed = l.armed; unswept = l.unswept; under_way = l.under_way }
+leading_gone (In kind) holder c words d z stage share l = record { changed = l.changed; found_blocks = l.found_blocks; found_words = l.found_words; rotated = l.rotated; turned = l.turned; pass = l.pass; whole = l.whole; armed = l.armed; unswept = l.unswept; under_way = l.under_way; unmarked = l.unmarked }
 leading_gone (Leads kind) holder c words d z stage share l = l
 leading_gone (Led kind) holder c words d z stage share l = l
 leading_gone (Gone kind) holder c words d z stage share l = l
@@ -144,7 +145,7 @@ module _ (k : Config) (t : Pause) (kind : Kind) (owner : ℕ → Option ℕ) (me
   -- in an odd phase the domain has either arrived in the one before, or has done nothing in the next
   odd_telling : (share : Share) (j : ℕ) → t.phase ≡ j * 2 + 1 → Telling means w d (voided share)
   odd_telling share j odd = ⊎_elim
-      (λ (e : t.led ≡ true). let start = (told.led j odd e).1 d in record { owes = λ _. start.paid; seen = λ _. start.blind; fresh = λ _. refl; forgotten = λ _ _. refl; colours = λ c f. cc })
+      (λ (e : t.led ≡ true). let start = (told.led j odd e).1 d in record { owes = λ _. record { owes = start.paid; follows = λ a is. subst (λ (f : ℕ → Bool). IsTrue (f a)) start.settled is }; seen = λ _. start.blind; fresh = λ _. refl; forgotten = λ _ _. refl; colours = λ c f. cc })
       (λ (e : t.led ≡ false). let gone : w.arrived d ≡ true = (told.odd j odd e).1 d below in record { owes = λ f. absurd (clash (w.arrived d) gone f); seen = λ f. absurd (clash (w.arrived d) gone f); fresh = λ _. refl; forgotten = λ _ _. refl; colours = λ c f. cc })
       (either_bool t.led)
 
@@ -233,8 +234,8 @@ facts_stock Answer k s live t stock c words f = record { mode = f.mode; whole = 
 
 -- all that the rule says of the collection holds where the facts do
 pub cycle_gone : (st : Stage) (holder : ℕ → Holder) (k : Config) (s : model.State) (live : Live) (p p' : Pause) (t : Tenancy) (stock : Stock) (c : Cycling) (words words' : List ℕ) (d : ℕ) → SameCycle words words' → ((a : ℕ) → at_address k words' a ≡ at_address k words a)
-    → Facts c.kind k s live t (arrived_cycle st holder c d) words → Told k p' c.kind (arrived_in st (owner_at holder) c.shares d) → AllWhole live t.holder (arrived_cycle st holder c d) → Cycled k s live p t c words → Cycled k s live p' (record t { stock = stock }) (arrived_cycle st holder c d) words'
-cycle_gone st holder k s live p p' t stock c words words' d same heap facts told whole y = let c' : Cycling = arrived_cycle st holder c d in record {
+    → Facts c.kind k s live t (arrived_cycle st holder c d) words → Told k p' c.kind (arrived_in st (owner_at holder) c.shares d) → AllWhole live t.holder (arrived_cycle st holder c d) → Grows k live p' (arrived_cycle st holder c d) → Cycled k s live p t c words → Cycled k s live p' (record t { stock = stock }) (arrived_cycle st holder c d) words'
+cycle_gone st holder k s live p p' t stock c words words' d same heap facts told whole grows y = let c' : Cycling = arrived_cycle st holder c d in record {
   armed_is = same.armed_same ∙ y.armed_is;
   meanings = y.meanings;
   colours_are = same.colours_same ∙ y.colours_are;
@@ -244,6 +245,7 @@ cycle_gone st holder k s live p p' t stock c words words' d same heap facts told
   leaves = record { none = y.leaves.none; dead = y.leaves.dead; head = λ a is. let h = y.leaves.head a is in (h.0, h.1, heap a ∙ h.2); unprepared = y.leaves.unprepared; owned = y.leaves.owned };
   unswept = y.unswept;
   whole = whole;
+  grows = grows;
 }
 
 -- no block misses keys for good: whoever has arrived has emptied what it looked at
@@ -320,6 +322,7 @@ leading_fresh st stage holder c words words' d share from l = record {
   armed = λ b e. cc;
   unswept = l.unswept;
   under_way = l.under_way;
+  unmarked = l.unmarked;
 }
 
 -- what the rule says of the share of the domain that has arrived
@@ -408,6 +411,7 @@ cycle_dropped st holder k s live p p' t t' c words words' d copies garbage same 
       leaves = record { none = z.leaves.none; dead = z.leaves.dead; head = z.leaves.head; unprepared = z.leaves.unprepared; owned = z.leaves.owned };
       unswept = z.unswept;
       whole = λ l. inl (none_misses live' t'.holder c none z.whole l);
+      grows = grows_none k live' p' c' (no_marking c.kind none);
     }
 
 -- a look at the barrier leaves what a domain knows that has arrived
@@ -425,6 +429,7 @@ sharing_looked k all words x last stage gone g = let l = subst (λ (st : Stage).
     armed = λ b e. absurd (l.armed b e).0;
     unswept = l.unswept;
     under_way = l.under_way;
+    unmarked = l.unmarked;
   };
   knows = inl (⊎_elim (λ (h : IsIdle x.seen.share). h) (λ (h : IsCollecting x.seen.stage × Knowing k all.live all.tenancy.holder (state_of k all.log).graph all.cycling.paint.marks words x.own.number x.own.registers x.seen.share). absurd (subst IsCollecting gone h.0)) g.sharing.knows);
   adds = g.sharing.adds;

@@ -1,5 +1,5 @@
 -- What the collector's entries leave: the blocks, and each domain's registers, registrations and queue.
-use Rattle.std.proofs.Common.{◌≡◌, ℕ, Bool, true, false, List, [], ◌∷◌, ◌++◌, set, Option, Some, None, sym, refl, subst, inl}
+use Rattle.std.proofs.Common.{◌≡◌, ℕ, Bool, true, false, List, [], ◌∷◌, ◌++◌, set, Option, Some, None, refl, inl}
 use mathlib.Core.Option.{some}
 use lib.ListN.{get_elem?}
 use Rattle.heap_model.specs.declared.entry.Entry.{Entry}
@@ -12,7 +12,7 @@ use Rattle.heap_model.proofs.Commands.FrameLemmas.{keeps_next}
 use Rattle.heap_model.proofs.Histories.FrontLemmas.{front_push, front_whole}
 use Rattle.heap_rule.specs.declared.config.Config.{Config}
 use Rattle.heap_rule.specs.declared.phase.Kind.{Kind}
-use Rattle.heap_rule.specs.declared.phase.Kind.TheVariants.{Run, Roots, Rounds, Decide, Clean, Lasts, Sweep, Answer}
+use Rattle.heap_rule.specs.declared.phase.Kind.TheVariants.{Run, Roots, Rounds, Decide, Queued, Clean, Lasts, Sweep, Answer}
 use Rattle.heap_rule.specs.declared.view.DomainView.{DomainView}
 use Rattle.heap_rule.specs.Limits.{sizes_in}
 use Rattle.heap_rule.specs.Rule.{Rule, state_of}
@@ -37,6 +37,7 @@ OfCollector (Some e) = IsOfCollector e
 pub entry_of_collector : (unswept : Bool) (last next : Kind) → OfCollector (entry_of unswept last next)
 entry_of_collector unswept Rounds Decide = tt
 entry_of_collector unswept Rounds Clean = tt
+entry_of_collector unswept Queued Clean = tt
 entry_of_collector unswept Lasts Run = tt
 entry_of_collector unswept Sweep Answer = tt
 entry_of_collector true Sweep Roots = tt

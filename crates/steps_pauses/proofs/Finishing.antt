@@ -1,5 +1,6 @@
 -- The facts of a phase hold when a domain that has done its share has arrived.
 use Rattle.std.proofs.Common.{cond, ◌⊎◌, ◌*◌, ◌≡◌, ℕ, ◌+◌, ◌<◌, ◌≤◌, ◌==◌, Bool, true, false, IsTrue, List, [], length, get_or, filter_map, option_and_then, Option, Some, None, sym, refl, ap, ◌∙◌, subst, inl, inr, ⊎_elim, arith, lt_of_not-le, eq-eqb, eqb-true}
+use Rattle.std.proofs.lemmas.Bool.{false≢true}
 use Rattle.std.specs.List.{list_any}
 use Rattle.std.specs.Prelude.{nat_le}
 use mathlib.Core.Option.{some}
@@ -21,7 +22,7 @@ use Rattle.heap_model.proofs.Histories.ShapeAfterLemmas.{shaped-history}
 use Rattle.heap_words.specs.declared.value.Value as held
 use Rattle.heap_words.specs.declared.value.Value.TheVariants.{Int as IntWord, Ref, Nothing as NothingWord}
 use Rattle.cycle_laws.specs.Cycle as laws
-use Rattle.cycle_laws.specs.CycleLaws.{Arrives}
+use Rattle.cycle_laws.specs.CycleLaws.{ArrivesMarking}
 use Rattle.cycle_laws.specs.Marks.{data_of}
 use Rattle.cycle_laws.specs.Queueing.{RootsMarked}
 use Rattle.cycle_laws.specs.Shares.{Shares, at_domain, AreShares}
@@ -184,7 +185,14 @@ module _ (k : Config) (s : Words) (r : Rule k s) (id : ℕ) (hist : List Entry) 
 
   module _ (waits : c.shares.arrived d ≡ false) where
     paid : x.seen.share.owes ≡ false → c.shares.owes d ≡ false
-    paid none = good.sharing.telling.owes waits ∙ none
+    paid none = (good.sharing.telling.owes waits).owes ∙ none
+
+    settled : x.seen.share.account ≡ [] → (a : ℕ) → c.shares.follows d a ≡ false
+    settled none a = not_so (c.shares.follows d a) (λ is. false≢true (subst (λ (l : List ℕ). IsTrue (seen_by l a)) none ((good.sharing.telling.owes waits).follows a is)))
+      where
+        not_so : (b : Bool) → (IsTrue b → ⊥) → b ≡ false
+        not_so true no_way = absurd (no_way refl)
+        not_so false no_way = refl
 
     -- it has seen all own places
     all_seen : x.own.swept.top ≤ x.seen.share.walk.pool → (a : ℕ) → owner a ≡ Some d → IsTrue (c.shares.seen d a)
@@ -202,8 +210,8 @@ module _ (k : Config) (s : Words) (r : Rule k s) (id : ℕ) (hist : List Entry) 
     abbrev after : Kind → Cycling
     after kind = arrived_cycle (In kind) t.holder c d
 
-    done_arrives : x.seen.share.owes ≡ false → x.own.swept.top ≤ x.seen.share.walk.pool → Arrives (cycle_of k r.account.live t.holder c) d
-    done_arrives none through = record { paid = paid none; all = all_seen through }
+    done_arrives : x.seen.share.account ≡ [] → x.own.swept.top ≤ x.seen.share.walk.pool → ArrivesMarking (cycle_of k r.account.live t.holder c) d
+    done_arrives none through = record { settled = settled none; all = all_seen through }
 
     -- where there is nothing to look at it has seen all own places
     abbrev all_own : Shares
@@ -218,7 +226,6 @@ module _ (k : Config) (s : Words) (r : Rule k s) (id : ℕ) (hist : List Entry) 
           (λ z. subst (λ (n : ℕ). owner a ≡ Some n) (sym z.0) (owner_is (owner a) d (subst (λ (f : ℕ → Bool). IsTrue (f a)) z.1 is)))
           (λ z. w.own e a (subst (λ (f : ℕ → Bool). IsTrue (f a)) z.1 is))
           (at_cases c.shares.seen d (λ b. is_owner (owner b) d) e);
-      paid = w.paid;
       all = λ e a gone is. ⊎_elim
           (λ z. subst (λ (f : ℕ → Bool). IsTrue (f a)) (sym z.1) (is_own (owner a) d (subst (λ (n : ℕ). owner a ≡ Some n) z.0 is)))
           (λ z. subst (λ (f : ℕ → Bool). IsTrue (f a)) (sym z.1) (w.all e a gone is))
@@ -265,6 +272,7 @@ module _ (k : Config) (s : Words) (r : Rule k s) (id : ℕ) (hist : List Entry) 
       rounds = record {
         shares = shares_own i.shares;
         owned = i.owned;
+        paid = i.paid;
         stays = i.stays;
         scanned = i.scanned;
         same = λ q. i.same (record { unchanged = q.unchanged; paid = q.paid });
@@ -357,12 +365,12 @@ module _ (k : Config) (s : Words) (r : Rule k s) (id : ℕ) (hist : List Entry) 
     facts_in Run here is f = between_in Run here is f
     facts_in Promote here is f = between_in Promote here is f
     facts_in Reset here is f = between_in Reset here is f
-    facts_in Roots here is f = (darkening_steps.roots_arrives laws.First k.domains state cyc f.0 d (roots_done (subst IsRooting (sym is) tt) waits here), plain_in f.1 Roots)
-    facts_in Mark here is f = (darkening_steps.mark_arrives c.pass k.domains state cyc f.0 d (done_arrives (done.told (inl here)) (done.walked here)), f.1)
-    facts_in Rounds here is f = (darkening_steps.rounds_arrives c.pass k.domains state seeing (sees_rounds here f.0) d (record { paid = paid (done.told (inr (inl here))); all = own_seen }), f.1)
+    facts_in Roots here is f = (darkening_steps.roots_arrives k.domains state cyc f.0 d (roots_done (subst IsRooting (sym is) tt) waits here), plain_in f.1 Roots)
+    facts_in Mark here is f = (darkening_steps.mark_arrives c.pass k.domains state cyc f.0 d (done_arrives (done.followed here) (done.walked here)), f.1)
+    facts_in Rounds here is f = (darkening_steps.rounds_arrives c.pass k.domains state seeing (sees_rounds here f.0) d (record { paid = paid (done.told (inl here)); all = own_seen }), f.1)
     facts_in Decide here is f = (taking_steps.decide_arrives k.domains state cyc f.0 d (all_decided is here), plain_in f.1 Decide)
-    facts_in Queued here is f = (darkening_steps.queued_arrives k.domains state cyc f.0 d (queue_done (subst IsRooting (sym is) tt) waits (inr here)), plain_in f.1 Queued)
-    facts_in Clean here is f = (taking_steps.clean_arrives k.domains state seeing (sees_clean here f.0) d (record { paid = paid (done.told (inr (inr here))); all = own_seen }), plain_in f.1 Clean)
+    facts_in Queued here is f = (darkening_steps.queued_arrives k.domains state cyc f.0 d (paid (done.told (inr here))) (queue_done (subst IsRooting (sym is) tt) waits (inr here)), f.1)
+    facts_in Clean here is f = (taking_steps.clean_arrives k.domains state seeing (sees_clean here f.0) d own_seen, plain_in f.1 Clean)
     facts_in Lasts here is f = record {
       facts = taking_steps.lasts_arrives k.domains state (swept_of k r.account.live t.holder c) f.facts d (all_settled is here);
       unchanged = f.unchanged;

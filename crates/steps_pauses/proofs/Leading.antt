@@ -1,5 +1,6 @@
 -- Domain 0 names the next kind of phase, and the collector's entry stands, if there is one.
 use Rattle.std.proofs.Common.{◌≡◌, ◌≢◌, ℕ, ◌+◌, ◌*◌, ◌<◌, ◌≤◌, ◌⊎◌, Bool, true, false, true≢false, IsTrue, List, [], length, get_or, slice_get, set, Option, Some, None, sym, refl, ap, ◌∙◌, subst, inl, inr, ⊎_elim, arith, zero-le, length-set, get_or-set_same, get_or-set_other}
+use Rattle.std.proofs.lemmas.Bool.{false≢true}
 use Rattle.std.proofs.lemmas.Option.{slice_get-get_or, slice_get_within}
 use mathlib.Core.Option.{some}
 use lib.ListN.{get_elem?}
@@ -18,7 +19,7 @@ use Rattle.heap_rule.specs.declared.view.Copying.{Copying}
 use Rattle.heap_rule.specs.declared.view.DomainView.{DomainView}
 use Rattle.heap_rule.specs.declared.view.Share.{Share}
 use Rattle.heap_rule.specs.Copies.{nothing_copied, Promoting, Resetting, IsEmptying}
-use Rattle.heap_rule.specs.Cycles.{Cycling, Cycled, Facts, HasNoCycle, Told, IsIdle, seen_by, pass_of}
+use Rattle.heap_rule.specs.Cycles.{Cycling, Cycled, Facts, HasNoCycle, Told, IsIdle, IsMarking, IsNamed, seen_by, pass_of}
 use Rattle.heap_rule.specs.Layout.{heap_words, before_heap, barrier, plan, want, listed, cursor, listed_pool}
 use Rattle.heap_rule.specs.Limits.{sizes_in}
 use Rattle.heap_rule.specs.Phases.{code, Follows, flag, is_over, IsEven, Pause, Phases, AtStage, IsInPause}
@@ -41,7 +42,8 @@ use Rattle.heap_model.specs.declared.label.Label.{Label}
 use Rattle.heap_rule.proofs.EphemeronLemmas.{looks_idle}
 use Rattle.heap_rule.proofs.FinaliserLemmas.{paired_length}
 use Rattle.steps_pauses.proofs.Arriving.{whole_all}
-use Rattle.steps_pauses.specs.Pauses.{kind_in, armed_after, entry_of, cut_in, progress_after, unswept_after, whole_after, MayFollow, NamesFree, KeepsNames, LeadMay, LeadTold}
+use Rattle.steps_pauses.proofs.Growing.{facts_unmarked, grown_by, grows_led}
+use Rattle.steps_pauses.specs.Pauses.{kind_in, armed_after, entry_of, cut_in, progress_after, asks_again, unmarked_after, unswept_after, whole_after, MayFollow, NamesFree, KeepsNames, LeadMay, LeadTold}
 use Rattle.steps_pauses.proofs.CollectorEntries.{OfCollector, entry_of_collector, keeps_left, work_left, graph_left, front_then, after_logged, legal_logged, knows_logged, seen_then}
 use Rattle.steps_pauses.proofs.Naming.{left_by, logged, pass_in, left_in, led_cycle, Ready, Way, led_way}
 use Rattle.steps_pauses.proofs.Sizes.{domains_of}
@@ -56,7 +58,7 @@ told_led : (k : Config) (p : Pause) (j : ℕ) (next : Kind) (changed : Bool) →
 told_led k p j next changed odd = record {
   even = λ i e. absurd (let f : p.phase ≡ i * 2 = e in let g : p.phase ≡ j * 2 + 1 = odd in omega arith);
   odd = λ i e f. absurd (true≢false f);
-  led = λ i e _. let same : i ≡ j = (let f : p.phase ≡ i * 2 + 1 = e in let g : p.phase ≡ j * 2 + 1 = odd in omega arith) in (ap (λ (n : ℕ). over (j + 1) next p.kinds (n + 1)) same ∙ over_here (j + 1) next p.kinds, λ d. record { waits = refl; paid = refl; blind = refl });
+  led = λ i e _. let same : i ≡ j = (let f : p.phase ≡ i * 2 + 1 = e in let g : p.phase ≡ j * 2 + 1 = odd in omega arith) in (ap (λ (n : ℕ). over (j + 1) next p.kinds (n + 1)) same ∙ over_here (j + 1) next p.kinds, λ d. record { waits = refl; paid = refl; settled = refl; blind = refl });
 }
 
 -- domain 0 knows the pass by whether the cut is made
@@ -80,7 +82,7 @@ armed_led Roots next f none armed known same on over freed = ⊎_elim
 armed_led Mark next f none armed known same on over freed = absurd (⊎_elim (λ (e : next ≡ Mark). subst HasNoCycle e none) (λ (e : next ≡ Rounds). subst HasNoCycle e none) f)
 armed_led Rounds next f none armed known same on over freed = absurd (⊎_elim (λ (e : next ≡ Mark). subst HasNoCycle e none) (⊎_elim (λ (e : next ≡ Decide). subst HasNoCycle e none) (λ (e : next ≡ Clean). subst HasNoCycle e none)) f)
 armed_led Decide next f none armed known same on over freed = absurd (subst HasNoCycle f none)
-armed_led Queued next f none armed known same on over freed = absurd (subst HasNoCycle f none)
+armed_led Queued next f none armed known same on over freed = absurd (⊎_elim (λ (e : next ≡ Mark). subst HasNoCycle e none) (λ (e : next ≡ Clean). subst HasNoCycle e none) f)
 armed_led Clean next f none armed known same on over freed = absurd (subst HasNoCycle f none)
 armed_led Lasts next f none armed known same on over freed = ⊎_elim
     (λ (e : next ≡ Sweep). absurd (subst HasNoCycle e none))
@@ -90,7 +92,7 @@ armed_led Sweep next f none armed known same on over freed = ⊎_elim
     (⊎_elim (λ (e : next ≡ Answer). absurd (subst HasNoCycle e none)) (λ (e : next ≡ Roots). absurd (subst HasNoCycle e none))) f
 armed_led Answer next f none armed known same on over freed = subst (λ (n : Kind). armed ≡ armed_after Answer n known) (sym f) (over (inr refl) f)
 
-flag_zero : (b : Bool) → 0 ≡ flag b → b ≡ false
+pub flag_zero : (b : Bool) → 0 ≡ flag b → b ≡ false
 flag_zero true e = absurd (omega arith)
 flag_zero false e = refl
 
@@ -130,6 +132,7 @@ follows_promote a b f e = from a (subst (Follows a) e f)
     from Mark f = ⊎_elim (λ (e : Promote ≡ Mark). absurd (let h : Promote ≡ Mark = e in cc)) (λ (e : Promote ≡ Rounds). absurd (let h : Promote ≡ Rounds = e in cc)) f
     from Rounds f = ⊎_elim (λ (e : Promote ≡ Mark). absurd (let h : Promote ≡ Mark = e in cc))
         (λ q. ⊎_elim (λ (e : Promote ≡ Decide). absurd (let h : Promote ≡ Decide = e in cc)) (λ (e : Promote ≡ Clean). absurd (let h : Promote ≡ Clean = e in cc)) q) f
+    from Queued f = ⊎_elim (λ (e : Promote ≡ Mark). absurd (let h : Promote ≡ Mark = e in cc)) (λ (e : Promote ≡ Clean). absurd (let h : Promote ≡ Clean = e in cc)) f
     from Lasts f = ⊎_elim (λ (e : Promote ≡ Sweep). absurd (let h : Promote ≡ Sweep = e in cc)) (λ (e : Promote ≡ Run). absurd (let h : Promote ≡ Run = e in cc)) f
     from Sweep f = ⊎_elim (λ (e : Promote ≡ Run). absurd (let h : Promote ≡ Run = e in cc))
         (λ q. ⊎_elim (λ (e : Promote ≡ Answer). absurd (let h : Promote ≡ Answer = e in cc)) (λ (e : Promote ≡ Roots). absurd (let h : Promote ≡ Roots = e in cc)) q) f
@@ -182,7 +185,7 @@ module _ (k : Config) (s : Words) (r : Rule k s) (id : ℕ) (hist : List Entry) 
   o = entry_of c.unswept last next
 
   abbrev y : DomainView
-  y = record x { seen = record x.seen { front = front_then x.seen.front r.account.log o; stage = Led next; share = record fresh_share { progress = progress_after last next x.seen.share.progress } } }
+  y = record x { seen = record x.seen { front = front_then x.seen.front r.account.log o; stage = Led next; share = record fresh_share { progress = progress_after last next x.seen.share.progress; unmarked = unmarked_after k last x.seen.share.changed x.seen.share.unmarked } } }
 
   good : Good k r.account s.words x
   good = my_good k s r id hist x at
@@ -225,7 +228,7 @@ module _ (k : Config) (s : Words) (r : Rule k s) (id : ℕ) (hist : List Entry) 
   facts = subst (λ (kind : Kind). Facts kind k state live tenancy c s.words) kind_is r.whole.cycle.facts
 
   abbrev c' : Cycling
-  c' = led_cycle k live last next state c
+  c' = record (led_cycle k live last next state c) { unmarked = unmarked_after k last x.seen.share.changed x.seen.share.unmarked }
 
   counted : k.domains ≡ length state.domains
   counted = sym (domains_of k r.account.log r.limits)
@@ -261,7 +264,7 @@ module _ (k : Config) (s : Words) (r : Rule k s) (id : ℕ) (hist : List Entry) 
     full = whole;
     quiet = λ h. flag_zero c.shares.changed (l.changed 0 (knows.unchanged h)).2;
     first = λ h. l.pass may.leads ∙ ap pass_of (knows.first h);
-    second = λ h. l.pass may.leads ∙ ap pass_of (knows.second h);
+    second = λ g h. l.pass may.leads ∙ ap pass_of (knows.second g h);
     rotated = λ h. l.rotated may.leads (kind_is ∙ h) ∙ knows.rotated h;
     no_blocks = λ h. (l.found_blocks 0 (knows.set_back h).0).1;
     no_words = λ h. (l.found_words 0 (knows.set_back h).1).1;
@@ -318,13 +321,23 @@ module _ (k : Config) (s : Words) (r : Rule k s) (id : ℕ) (hist : List Entry) 
     leader = λ i e a. refl;
   }
 
+  -- the next kind wasn't named, and domain 0 stands in the phase
+  unnamed : IsNamed t → ⊥
+  unnamed h = true≢false (sym h.2 ∙ before.2 may.leads)
+
+  stands : t.arrived 0 ≡ t.phase
+  stands = ap t.arrived (sym may.leads) ∙ (sym good.staged.arrivals ∙ before.0)
+
+  knows_changed : (v : ℕ) → x.seen.share.changed ≡ Some v → v ≡ flag c.shares.changed
+  knows_changed v is = (good.sharing.leading.changed v is).2
+
   cycle_led : Cycled k (state_of k log') live t' tenancy c' ws
   cycle_led = let w = r.whole.cycle in record {
     armed_is = same_cycle.armed_same ∙ w.armed_is;
     meanings = w.meanings;
     colours_are = same_cycle.colours_same ∙ w.colours_are;
     changed_is = same_cycle.changed_same ∙ w.changed_is;
-    facts = facts_words next k (state_of k log') live tenancy c' s.words ws same_cycle (subst (λ (z : model.State). Facts next k z live tenancy c' s.words) (sym after) way.facts);
+    facts = facts_words next k (state_of k log') live tenancy c' s.words ws same_cycle (subst (λ (z : model.State). Facts next k z live tenancy c' s.words) (sym after) (facts_unmarked next k (left_by state o) live tenancy (led_cycle k live last next state c) s.words (unmarked_after k last x.seen.share.changed x.seen.share.unmarked) way.facts));
     told = told_led k t j next c.shares.changed odd;
     leaves = record {
       none = way.clean;
@@ -335,6 +348,7 @@ module _ (k : Config) (s : Words) (r : Rule k s) (id : ℕ) (hist : List Entry) 
     };
     unswept = way.left;
     whole = λ l. inl (whole l);
+    grows = grows_led k live t c w.grows unnamed x.seen.share.changed x.seen.share.unmarked knows_changed (good.sharing.leading.unmarked may.leads) last next state kind_is j odd stands (λ rounds. ready.quiet (inl rounds)) t'.kinds;
   }
 
   -- each domain has all its registrations left to look at, where it is to look at them
@@ -361,7 +375,7 @@ module _ (k : Config) (s : Words) (r : Rule k s) (id : ℕ) (hist : List Entry) 
 
   sharing_led : Sharing k account' ws y.own.number y.own.registers y.own.finalisers y.own.ephemerons.items y.seen.stage y.seen.share
   sharing_led = record {
-    telling = record { owes = λ _. refl; seen = λ _. refl; fresh = λ _. refl; forgotten = λ _ _. refl; colours = λ v e. cc };
+    telling = record { owes = λ _. record { owes = refl; follows = λ a is. is }; seen = λ _. refl; fresh = λ _. refl; forgotten = λ _ _. refl; colours = λ v e. cc };
     leading = record {
       changed = λ v e. cc;
       found_blocks = λ v e. cc;
@@ -373,6 +387,7 @@ module _ (k : Config) (s : Words) (r : Rule k s) (id : ℕ) (hist : List Entry) 
       armed = λ b e. cc;
       unswept = λ first. ap (unswept_after last next) (good.sharing.leading.unswept first);
       under_way = λ _ none. armed_led last next follows none c.armed x.seen.share.progress.armed under_way ready.goes_on ready.over (λ g h. (r.whole.cycle.unswept (ready.freed g h)).unarmed);
+      unmarked = λ _. refl;
     };
     knows = inl refl;
     adds = record { blocks = λ e _. (way.uncounted e x.own.number).0; words = λ e _. (way.uncounted e x.own.number).1; own = λ _ _ e. cc };
@@ -390,7 +405,7 @@ module _ (k : Config) (s : Words) (r : Rule k s) (id : ℕ) (hist : List Entry) 
       let gone : c.shares.arrived z.own.number ≡ true = ended_kind.1 z.own.number below in
       let idle : IsIdle z.seen.share = tells.fresh gone in record {
         telling = record {
-          owes = λ _. sym (ap (λ (u : Share). u.owes) idle);
+          owes = λ _. record { owes = sym (ap (λ (u : Share). u.owes) idle); follows = λ a is. absurd (false≢true is) };
           seen = λ _. sym (ap (λ (u : Share). seen_by u.places_seen) idle);
           fresh = λ _. idle;
           forgotten = λ _ _. tells.forgotten gone apart;
@@ -407,6 +422,7 @@ module _ (k : Config) (s : Words) (r : Rule k s) (id : ℕ) (hist : List Entry) 
           armed = l.armed;
           unswept = λ first. absurd (apart first);
           under_way = λ first. absurd (apart first);
+          unmarked = λ first. absurd (apart first);
         };
         knows = inl idle;
         adds = record {
@@ -558,12 +574,16 @@ module _ (k : Config) (s : Words) (r : Rule k s) (id : ℕ) (hist : List Entry) 
   entry_known : o ≡ entry_of x.seen.share.progress.unswept last next
   entry_known = ap (λ (u : Bool). entry_of u last next) (good.sharing.leading.unswept may.leads)
 
+  grown : IsMarking last → asks_again x.seen.share.changed ≤ x.seen.share.unmarked
+  grown marking = grown_by k live t c r.whole.cycle.grows unnamed x.seen.share.changed x.seen.share.unmarked knows_changed (good.sharing.leading.unmarked may.leads) (subst IsMarking (sym kind_is) marking)
+
   fronted : (p : Option Entry) → o ≡ p → LeadTold k next x new y
   fronted None is = record {
     seen = seen_then k s r id hist x at o collector;
     stays = λ _. ap (front_then x.seen.front r.account.log) is;
     made = λ e f. let clash : ◌≡◌ {A = Option Entry} None (Some e) = sym is ∙ (entry_known ∙ f) in cc;
     view = refl;
+    grown = grown;
   }
   fronted (Some d) is = record {
     seen = seen_then k s r id hist x at o collector;
@@ -576,6 +596,7 @@ module _ (k : Config) (s : Words) (r : Rule k s) (id : ℕ) (hist : List Entry) 
       legal = subst (λ (p : Option Entry). Legal (sizes_in k) (front_then x.seen.front r.account.log p)) (sym f) (subst (λ (p : Option Entry). Legal (sizes_in k) (logged r.account.log p)) f (legal_logged k s r id hist x at o way.allowed));
     };
     view = refl;
+    grown = grown;
   }
 
   pub led_told : LeadTold k next x new y

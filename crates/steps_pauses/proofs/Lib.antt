@@ -6,6 +6,7 @@ mod Repainting
 mod BesideRows
 mod Naming
 mod CollectorEntries
+mod Growing
 mod Leading
 mod Arrivals
 pub mod Plain

@@ -54,11 +54,12 @@ pass_in Queued pass = laws.Second
 pass_in _ pass = pass
 
 -- what was marked before, as a phase begins. Where garbage that is left is freed all that lives is counted
-abbrev before_in : Kind → Kind → Cycling → Label → Bool
-before_in Reset Sweep c = λ l. true
-before_in last Rounds c = c.paint.marks.marked
-before_in last Lasts c = c.paint.marks.marked
-before_in last _ c = c.before
+abbrev before_in : Kind → Kind → (Label → Bool) → (Label → Bool) → Label → Bool
+before_in last Mark now was = now
+before_in last Rounds now was = now
+before_in last Lasts now was = now
+before_in Reset Sweep now was = λ l. true
+before_in last _ now was = was
 
 -- how many registrations are left to look at
 abbrev pub left_in : Kind → model.State → (ℕ → ℕ) → ℕ → ℕ
@@ -88,7 +89,8 @@ led_cycle k live last next s c = record {
   pass = pass_in last c.pass;
   paint = record c.paint { marks = marks_in k live last next s c.paint.marks };
   shares = reset_shares c.shares.changed;
-  before = before_in last next c;
+  before = before_in last next (marks_in k live last next s c.paint.marks).marked c.before;
+  unmarked = c.unmarked;
   left = left_in next s c.left;
   rotated = rotated_in next c.rotated;
   counts = counts_in next c.counts;
@@ -115,6 +117,7 @@ record Ways (P : Kind → Kind → Type 0) : Type 0 where
   seal : P Rounds Clean
   queued : P Decide Queued
   second : P Queued Mark
+  at_once : P Queued Clean
   lasts : P Clean Lasts
   sweep : P Lasts Sweep
   leaves : P Lasts Run
@@ -133,7 +136,7 @@ each_way P w Mark next f = ⊎_elim (λ (e : next ≡ Mark). subst (P Mark) (sym
 each_way P w Rounds next f = ⊎_elim (λ (e : next ≡ Mark). subst (P Rounds) (sym e) w.back)
     (λ q. ⊎_elim (λ (e : next ≡ Decide). subst (P Rounds) (sym e) w.cut) (λ (e : next ≡ Clean). subst (P Rounds) (sym e) w.seal) q) f
 each_way P w Decide next f = subst (P Decide) (sym f) w.queued
-each_way P w Queued next f = subst (P Queued) (sym f) w.second
+each_way P w Queued next f = ⊎_elim (λ (e : next ≡ Mark). subst (P Queued) (sym e) w.second) (λ (e : next ≡ Clean). subst (P Queued) (sym e) w.at_once) f
 each_way P w Clean next f = subst (P Clean) (sym f) w.lasts
 each_way P w Lasts next f = ⊎_elim (λ (e : next ≡ Sweep). subst (P Lasts) (sym e) w.sweep) (λ (e : next ≡ Run). subst (P Lasts) (sym e) w.leaves) f
 each_way P w Sweep next f = ⊎_elim (λ (e : next ≡ Run). subst (P Sweep) (sym e) w.done)
@@ -166,7 +169,7 @@ pub record Ready (k : Config) (live : Live) (graph : Graph) (last next : Kind) (
   pub full : (l : Label) → c.paint.emptied l ≡ []
   pub quiet : (next ≡ Rounds) ⊎ ((next ≡ Decide) ⊎ (next ≡ Clean)) → c.shares.changed ≡ false
   pub first : next ≡ Decide → c.pass ≡ laws.First
-  pub second : next ≡ Clean → c.pass ≡ laws.Second
+  pub second : last ≡ Rounds → next ≡ Clean → c.pass ≡ laws.Second
   pub rotated : last ≡ Lasts → IsTrue c.rotated
   pub no_blocks : next ≡ Sweep → live_blocks words ≡ 0
   pub no_words : next ≡ Sweep → live_words words ≡ 0
@@ -206,6 +209,10 @@ module _ (k : Config) (log : List Entry) (live : Live) (t : Tenancy) (c : Cyclin
     -- and where one is finished that was under way
     abbrev resumed : laws.Cycle
     resumed = record cyc { whole = false; marks = restricted c.paint.marks (lies_in_pool k live) }
+
+    -- the facts of Mark say nothing of what was marked before
+    marking_from : (pass : laws.Pass) (s : model.State) (z : laws.Cycle) (before : Label → Bool) → laws.InPhase (laws.Mark pass) k.domains s z → laws.InPhase (laws.Mark pass) k.domains s (record z { before = before })
+    marking_from pass s z before f = record { known = f.known; whole = f.whole; passed = f.passed; mark = f.mark }
 
     -- shares that begin anew with a changed word of 0
     quietly : (P : laws.Cycle → Type 0) (last next : Kind) → c.shares.changed ≡ false → P (record (cycle_of k live t.holder (led_cycle k live last next s c)) { shares = no_shares }) → P (cycle_of k live t.holder (led_cycle k live last next s c))
@@ -320,7 +327,7 @@ module _ (k : Config) (log : List Entry) (live : Live) (t : Tenancy) (c : Cyclin
       finishes = λ r f full. let u = goes_beside Reset r.kind f (r.finishes refl refl) in let old : AllOld k live = r.emptied (λ e. cc) in record {
         allowed = λ e is. absurd (none-some e is);
         facts = (
-          phase_steps.goes_on k.domains s resumed refl f.mode (all_owned k s live t.holder c count all u old lots owners) (under_way k s live t.holder c count all u old words r.bare r.found r.full) c.shares.changed,
+          marking_from laws.First s _ (marks_in k live Reset Mark s c.paint.marks).marked (phase_steps.goes_on k.domains s resumed refl f.mode (all_owned k s live t.holder c count all u old lots owners) (under_way k s live t.holder c count all u old words r.bare r.found r.full) c.shares.changed),
           f.unrotated,
         );
         full = full_kind k log live t.holder t.fresh t.garbage homes Reset Mark (λ _ e. cc) full;
@@ -360,7 +367,7 @@ module _ (k : Config) (log : List Entry) (live : Live) (t : Tenancy) (c : Cyclin
       };
       roots = λ r f full. record {
         allowed = λ e is. absurd (none-some e is);
-        facts = (phase_steps.roots_mark laws.First k.domains s cyc count f.0 all c.shares.changed, f.1.unrotated);
+        facts = (marking_from laws.First s _ c.paint.marks.marked (phase_steps.roots_mark laws.First k.domains s cyc count f.0 all c.shares.changed), f.1.unrotated);
         full = full_kind k log live t.holder t.fresh t.garbage homes Roots Mark (λ _ e. cc) full;
         clean = none;
         left = λ is. absurd (never_left Roots r.kind (λ h. h) (λ e. cc) is);
@@ -369,7 +376,7 @@ module _ (k : Config) (log : List Entry) (live : Live) (t : Tenancy) (c : Cyclin
       };
       again = λ r f full. record {
         allowed = λ e is. absurd (none-some e is);
-        facts = (phase_steps.mark_mark c.pass k.domains s cyc f.0 c.shares.changed, f.1);
+        facts = (marking_from c.pass s _ c.paint.marks.marked (phase_steps.mark_mark c.pass k.domains s cyc f.0 c.shares.changed), f.1);
         full = full_kind k log live t.holder t.fresh t.garbage homes Mark Mark (λ _ e. cc) full;
         clean = none;
         left = λ is. absurd (never_left Mark r.kind (λ h. h) (λ e. cc) is);
@@ -387,7 +394,7 @@ module _ (k : Config) (log : List Entry) (live : Live) (t : Tenancy) (c : Cyclin
       };
       back = λ r f full. record {
         allowed = λ e is. absurd (none-some e is);
-        facts = (phase_steps.rounds_mark c.pass k.domains s cyc f.0 c.shares.changed, f.1);
+        facts = (marking_from c.pass s _ c.paint.marks.marked (phase_steps.rounds_mark c.pass k.domains s cyc f.0 c.shares.changed), f.1);
         full = full_kind k log live t.holder t.fresh t.garbage homes Rounds Mark (λ _ e. cc) full;
         clean = none;
         left = λ is. absurd (never_left Rounds r.kind (λ h. h) (λ e. cc) is);
@@ -403,7 +410,7 @@ module _ (k : Config) (log : List Entry) (live : Live) (t : Tenancy) (c : Cyclin
         unturned = λ e. cc;
         uncounted = λ e. cc;
       };
-      seal = λ r f full. let quiet = r.quiet (inr (inr refl)) in let row = phase_steps.rounds_clean k.domains s cyc (subst (λ (pass : laws.Pass). laws.InPhase (laws.Rounds pass) k.domains s cyc) (r.second refl) f.0) all quiet in record {
+      seal = λ r f full. let quiet = r.quiet (inr (inr refl)) in let row = phase_steps.rounds_clean k.domains s cyc (subst (λ (pass : laws.Pass). laws.InPhase (laws.Rounds pass) k.domains s cyc) (r.second refl refl) f.0) all quiet in record {
         allowed = λ e is. the_entry (Allowed s) Seal e is row.0;
         facts = (quietly (laws.InPhase laws.Clean k.domains (state_next s Seal)) Rounds Clean quiet row.1, record { unchanged = quiet; unrotated = f.1 });
         full = full_kind k (log ++ Seal ∷ []) live t.holder t.fresh t.garbage homes Rounds Clean (λ _ e. cc) (full_stays k log live t.holder t.fresh t.garbage homes Rounds Seal refl full);
@@ -414,7 +421,7 @@ module _ (k : Config) (log : List Entry) (live : Live) (t : Tenancy) (c : Cyclin
       };
       queued = λ r f full. record {
         allowed = λ e is. absurd (none-some e is);
-        facts = (quietly (laws.InPhase (laws.Roots laws.Second) k.domains s) Decide Queued f.1.unchanged (phase_steps.decide_queued k.domains s cyc count f.0 all), record { unchanged = f.1.unchanged; unrotated = f.1.unrotated });
+        facts = (quietly (laws.InPhase (laws.Roots laws.Second) k.domains s) Decide Queued f.1.unchanged (phase_steps.decide_queued k.domains s cyc count f.0 all), f.1.unrotated);
         full = full_kind k log live t.holder t.fresh t.garbage homes Decide Queued (λ _ e. cc) full;
         clean = none;
         left = λ is. absurd (never_left Decide r.kind (λ h. h) (λ e. cc) is);
@@ -423,8 +430,17 @@ module _ (k : Config) (log : List Entry) (live : Live) (t : Tenancy) (c : Cyclin
       };
       second = λ r f full. record {
         allowed = λ e is. absurd (none-some e is);
-        facts = (phase_steps.roots_mark laws.Second k.domains s cyc count f.0 all c.shares.changed, f.1.unrotated);
+        facts = (marking_from laws.Second s _ c.paint.marks.marked (phase_steps.roots_mark laws.Second k.domains s cyc count f.0 all c.shares.changed), f.1);
         full = full_kind k log live t.holder t.fresh t.garbage homes Queued Mark (λ _ e. cc) full;
+        clean = none;
+        left = λ is. absurd (never_left Queued r.kind (λ h. h) (λ e. cc) is);
+        unturned = λ e. cc;
+        uncounted = λ e. cc;
+      };
+      at_once = λ r f full. let quiet = r.quiet (inr (inr refl)) in let row = phase_steps.queued_clean k.domains s cyc count f.0 all quiet in record {
+        allowed = λ e is. the_entry (Allowed s) Seal e is row.0;
+        facts = (quietly (laws.InPhase laws.Clean k.domains (state_next s Seal)) Queued Clean quiet row.1, record { unchanged = quiet; unrotated = f.1 });
+        full = full_kind k (log ++ Seal ∷ []) live t.holder t.fresh t.garbage homes Queued Clean (λ _ e. cc) (full_stays k log live t.holder t.fresh t.garbage homes Queued Seal refl full);
         clean = none;
         left = λ is. absurd (never_left Queued r.kind (λ h. h) (λ e. cc) is);
         unturned = λ e. cc;

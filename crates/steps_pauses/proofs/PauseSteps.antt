@@ -1,5 +1,5 @@
 -- The steps of a pause keep the rule.
-use Rattle.std.proofs.Common.{◌≡◌, ◌≢◌, ℕ, ◌+◌, ◌*◌, ◌%◌, ◌^◌, ◌<◌, ◌≤◌, ◌⊎◌, Bool, List, [], ◌∷◌, ◌++◌, true, false, Option, Some, length, get_or, set, sym, refl, ap, ◌∙◌, subst, inl, inr, ⊎_elim, arith, length-set, get_or-set_same, get_or-set_other, lt_of_not-le, mul-le-mul_right}
+use Rattle.std.proofs.Common.{◌≡◌, ◌≢◌, ℕ, ◌+◌, ◌*◌, ◌%◌, ◌^◌, ◌<◌, ◌≤◌, ◌⊎◌, Bool, List, [], ◌∷◌, ◌++◌, true, false, Option, Some, length, get_or, set, sym, refl, ap, ◌∙◌, subst, inl, inr, ⊎_elim, arith, length-set, get_or-set_same, get_or-set_other, lt_of_not-le, mul-le-mul_right, zero-add}
 use Rattle.std.specs.Prelude.{bit_or}
 use mathlib.Core.Logic.{dite}
 use native.Mathlib.Decide.{dec_le}
@@ -10,7 +10,6 @@ use Rattle.heap_model.specs.declared.entry.Entry.{Entry}
 use Rattle.heap_model.specs.declared.label.Label.{Label}
 use Rattle.heap_model.specs.declared.state.Mode.TheVariants.{Open, Cut as CutMode}
 use Rattle.heap_model.specs.declared.state.State as model
-use Rattle.heap_model.proofs.Histories.FrontLemmas.{front_whole}
 use Rattle.cycle_laws.specs.Cycle as laws
 use Rattle.heap_rule.specs.declared.config.Config.{Config}
 use Rattle.heap_rule.specs.declared.view.DomainView.{DomainView}
@@ -126,6 +125,11 @@ looked_at k id hist x gone s r at =
     let a : ℕ = x.own.arrivals in
     let end : ℕ = a * N in
     let notes : List Note = x.seen.notes ++ Barrier b ∷ [] in
+    let alone : N ≡ 1 → b ≡ a = (λ one.
+    let m : ℕ = x.own.number in
+    let below : m < N = me.inside in
+    let first : m ≡ 0 = omega (one, below, arith) in
+    P.sum ∙ (ap (sum_of t.arrived) one ∙ (zero-add (t.arrived 0) ∙ (ap t.arrived (sym first) ∙ sym st.arrivals)))) in
     dite (dec_le end b)
     (λ over_it.
     let low : t.phase ≤ a = subst (λ (n : ℕ). t.phase ≤ n) (sym st.arrivals) (P.each x.own.number me.inside).0 in
@@ -184,6 +188,7 @@ looked_at k id hist x gone s r at =
         others_took_back = λ z _ took. took;
       };
       told = record {
+        alone = alone;
         waits = λ below. absurd (let u : b < end = below in let w : end ≤ b = over_it in omega arith);
         begun = λ _. record { seen = me.front; led = me.led; legal = r.whole.legal; kind = says.0; stage = says.1; comes = comes; mode = λ kind is. mode_in k s r x.own.number a kind (subst (AtStage t x.own.number a) is at'); view = refl };
       };
@@ -198,7 +203,7 @@ looked_at k id hist x gone s r at =
     (λ not_over. record {
       after = noted x (Barrier b);
       rule = noted_rule k s r id hist x at (Barrier b) (barrier_note b);
-      told = record { waits = λ _. refl; begun = λ over_it. absurd (not_over over_it) };
+      told = record { alone = alone; waits = λ _. refl; begun = λ over_it. absurd (not_over over_it) };
     })
 
 lookings : (k : Config) (slots id : ℕ) (hist : List Entry) (x : DomainView) → IsGone x → Allows (Rule k) slots id (one k hist x, []) 1 (λ n. n) (Tells (LookTold k) (one k hist x, []))

@@ -46,7 +46,7 @@ arrived_closes k x found may y fits told =
     let few : n < 2 ^ 60 = may.few in record {
       can_write = let g : n + 1 < 2 ^ 64 = omega arith in g;
       written = λ after is. own ∙ sym is;
-      fits = subst (OwnFits k) (sym own) record { number = fits.number; used = fits.used; registers = fits.registers; looked = fits.looked; remembered = fits.remembered; prepared = fits.prepared; pending = no_more (x.own.pending.room + length x.own.pending.items) ∙ fits.pending; ephemerons = fits.ephemerons; finalisers = fits.finalisers; swept = fits.swept };
+      fits = subst (OwnFits k) (sym own) record { number = fits.number; used = fits.used; registers = fits.registers; looked = fits.looked; remembered = fits.remembered; remembered_room = fits.remembered_room; prepared = fits.prepared; pending = no_more (x.own.pending.room + length x.own.pending.items) ∙ fits.pending; ephemerons = fits.ephemerons; finalisers = fits.finalisers; swept = fits.swept };
       once = λ _. inl (record { front = front_same x y (ap (λ (z : DomainView). z.seen.front) told); registers = ap (λ (o : Own). o.registers) own; used = ap (λ (o : Own). o.used) own; serial = ap (λ (o : Own). o.serial) own });
     }
 
@@ -76,7 +76,7 @@ pub end_closes : (k : Config) (x : DomainView) (found : ℕ) → Closes k x foun
 end_closes k x found y fits told = let own : y.own ≡ ended_own x.own = ap (λ (z : DomainView). z.own) told.view in record {
   can_write = tt;
   written = λ after is. own ∙ sym is;
-  fits = subst (OwnFits k) (sym own) record { number = fits.number; used = fits.used; registers = subst (λ (o : Own). Holds k o.registers) own told.holds; looked = fits.looked; remembered = fits.remembered; prepared = fits.prepared; pending = fits.pending; ephemerons = fits.ephemerons; finalisers = cleared_fit k x.own fits.finalisers; swept = fits.swept };
+  fits = subst (OwnFits k) (sym own) record { number = fits.number; used = fits.used; registers = subst (λ (o : Own). Holds k o.registers) own told.holds; looked = fits.looked; remembered = fits.remembered; remembered_room = fits.remembered_room; prepared = fits.prepared; pending = fits.pending; ephemerons = fits.ephemerons; finalisers = cleared_fit k x.own fits.finalisers; swept = fits.swept };
   once = λ _. inr (record { entry = End x.own.number; answer = Silent; answers = told.answers });
 }
 
@@ -86,7 +86,8 @@ nothing_due k x none =
     let apart : (kind : Kind) → (HasNoCycle kind → ⊥) → x.seen.stage ≡ In kind → ⊥ = (λ kind is here. none (subst IsCollecting (sym here) is)) in record {
       rooted = λ here. absurd (apart Roots (λ h. h) here);
       queued = λ here. absurd (⊎_elim (apart Roots (λ h. h)) (apart Queued (λ h. h)) here);
-      told = λ here. absurd (⊎_elim (apart Mark (λ h. h)) (λ more. ⊎_elim (apart Rounds (λ h. h)) (apart Clean (λ h. h)) more) here);
+      followed = λ here. absurd (apart Mark (λ h. h) here);
+      told = λ here. absurd (⊎_elim (apart Rounds (λ h. h)) (apart Queued (λ h. h)) here);
       walked = λ here. absurd (apart Mark (λ h. h) here);
       swept = λ here. absurd (apart Sweep (λ h. h) here);
       anew = λ here. absurd (apart Lasts (λ h. h) here);
@@ -105,7 +106,7 @@ free_follow share last next before after =
     let left : last ≡ Lasts → ⊥ = (λ is. subst HasNoCycle is before) in record {
       unchanged = λ h. absurd (⊎_elim (apart Rounds (λ u. u)) (λ q. ⊎_elim (apart Decide (λ u. u)) (apart Clean (λ u. u)) q) h);
       first = λ h. absurd (apart Decide (λ u. u) h);
-      second = λ h. absurd (apart Clean (λ u. u) h);
+      second = λ _ h. absurd (apart Clean (λ u. u) h);
       rotated = λ h. absurd (left h);
       set_back = λ h. absurd (apart Sweep (λ u. u) h);
       goes_on = λ h _. absurd (subst HasNoCycle h before);

@@ -1,6 +1,6 @@
 -- What the steps of a pause ask and tell.
 use Rattle.heap_rule.specs.Sweeping.{nothing_swept}
-use Rattle.std.specs.Prelude.{cond, ◌≡◌, ◌≢◌, ℕ, ◌+◌, ◌*◌, ◌^◌, ◌<◌, ◌≤◌, ◌⊎◌, true, List, [], ◌∷◌, ◌++◌, length, replicate, slice_get, Some, None, IsTrue, false, ◌==◌, Bool, Option}
+use Rattle.std.specs.Prelude.{cond, ◌≡◌, ◌≢◌, ℕ, suc, ◌+◌, ◌*◌, ◌-◌, ◌^◌, ◌<◌, ◌≤◌, ◌⊎◌, true, List, [], ◌∷◌, ◌++◌, length, replicate, slice_get, Some, None, IsTrue, false, ◌==◌, Bool, Option}
 use Rattle.heap_model.specs.Domains.{class_count}
 use Rattle.heap_model.specs.declared.entry.Entry.TheVariants.{End, Cut, Seal, Collected, Done}
 use Rattle.heap_model.specs.declared.reply.Applied.TheVariants.{Silent}
@@ -32,7 +32,7 @@ use Rattle.heap_rule.specs.declared.phase.Kind.TheVariants.{Run, Promote, Reset,
 use Rattle.heap_rule.specs.Views.{fresh_share, voided}
 use Rattle.std.specs.List.{list_any}
 use Rattle.heap_rule.specs.Changes.{value_at}
-use Rattle.heap_rule.specs.Cycles.{seen_by}
+use Rattle.heap_rule.specs.Cycles.{IsMarking, seen_by}
 use Rattle.heap_rule.specs.Finalisers.{held_at}
 use Rattle.heap_model.specs.declared.entry.Entry.{Entry}
 use Rattle.heap_rule.specs.declared.view.Share.{Share}
@@ -68,18 +68,16 @@ ArrivesFrom d (Leads kind) = d ≢ 0
 ArrivesFrom d (Led kind) = Unit {0}
 ArrivesFrom d (Gone kind) = ⊥
 
--- a domain that arrives from here has looked at own places, and may have darkened a block
-abbrev pub Traces : Stage → Type 0
-Traces stage = (stage ≡ In Mark) ⊎ ((stage ≡ In Rounds) ⊎ (stage ≡ In Clean))
-
 -- What a domain has done of a phase of a collection in which it arrives. Of a phase without one nothing is asked
 pub record HasDone (k : Config) (x : DomainView) : Type 0 where
   -- it has marked what its registers hold
   pub rooted : x.seen.stage ≡ In Roots → (r a : ℕ) → r < 16 → value_at x.own.registers r ≡ Ref a → IsTrue (list_any (λ q. q == r) x.seen.share.roots)
   -- and the blocks that its queue keeps alive
   pub queued : (x.seen.stage ≡ In Roots) ⊎ (x.seen.stage ≡ In Queued) → (i a : ℕ) → held_at x.own.finalisers (Queue i) ≡ Some a → IsTrue (seen_by x.seen.share.waiting i)
+  -- each block that it has darkened is scanned, or it has stored the changed word since
+  pub followed : x.seen.stage ≡ In Mark → x.seen.share.account ≡ []
   -- it owes no store of the changed word
-  pub told : Traces x.seen.stage → x.seen.share.owes ≡ false
+  pub told : (x.seen.stage ≡ In Rounds) ⊎ (x.seen.stage ≡ In Queued) → x.seen.share.owes ≡ false
   -- it has been at each own place
   pub walked : x.seen.stage ≡ In Mark → x.own.swept.top ≤ x.seen.share.walk.pool
   -- it has swept each own place
@@ -164,8 +162,9 @@ pub record Begun (k : Config) (x : DomainView) (found : ℕ) (y : DomainView) : 
   pub mode : (next : Kind) → y.seen.stage ≡ In next → IsModeOf next (state_of k y.seen.front).mode
   pub view : y ≡ record x { seen = record x.seen { front = y.seen.front; stage = y.seen.stage; notes = x.seen.notes ++ Barrier found ∷ [] } }
 
--- a load of the barrier word by a domain that has arrived
+-- a load of the barrier word by a domain that has arrived. One that is alone finds what it has counted itself
 pub record LookTold (k : Config) (x : DomainView) (found : ℕ) (y : DomainView) : Type 0 where
+  pub alone : k.domains ≡ 1 → found ≡ x.own.arrivals
   pub waits : found < x.own.arrivals * k.domains → y ≡ noted x (Barrier found)
   pub begun : x.own.arrivals * k.domains ≤ found → Begun k x found y
 
@@ -187,6 +186,7 @@ ClearTold x found y = y ≡ noted x Cleared
 abbrev pub entry_of : Bool → Kind → Kind → Option Entry
 entry_of unswept Rounds Decide = Some Cut
 entry_of unswept Rounds Clean = Some Seal
+entry_of unswept Queued Clean = Some Seal
 entry_of unswept Lasts Run = Some Done
 entry_of unswept Sweep Answer = Some Collected
 entry_of unswept Sweep Roots = cond unswept None (Some Done)
@@ -227,11 +227,22 @@ unswept_after _ _ unswept = unswept
 abbrev pub progress_after : Kind → Kind → Progress → Progress
 progress_after last next p = record { cut = cut_in last p.cut; whole = whole_after last next p.whole; unswept = unswept_after last next p.unswept; armed = armed_after last next p.armed }
 
--- What domain 0 knows as it names the next kind. It leaves the marking when it has found that nothing was changed, to one side before the cut is made, to the other after it. It leaves Lasts once it has rotated the colours. Where garbage is freed next it has set the live words back. The domains run again beside the cycle where it has stored so in the armed word; one that goes on is finished, and another begins where none does, and no garbage of the last one is left: where some is, it is freed first. After a collection it has taken the armed word back. A collection is answered where it began in this pause
+-- whether a word asks for another phase of the marking
+abbrev pub asks_again : Option ℕ → ℕ
+asks_again (Some (suc n)) = 1
+asks_again other = 0
+
+-- at most so many blocks of the pools aren't marked once a kind was named after another: behind a phase of the marking that asks for another one, one fewer than before it
+abbrev pub unmarked_after : Config → Kind → Option ℕ → ℕ → ℕ
+unmarked_after k Mark changed unmarked = unmarked - asks_again changed
+unmarked_after k Rounds changed unmarked = unmarked - asks_again changed
+unmarked_after k last changed unmarked = k.pools * 1024
+
+-- What domain 0 knows as it names the next kind. It leaves the marking when it has found that nothing was changed, to one side before the cut is made, to the other after it; and so it leaves Queued to the other side at once. It leaves Lasts once it has rotated the colours. Where garbage is freed next it has set the live words back. The domains run again beside the cycle where it has stored so in the armed word; one that goes on is finished, and another begins where none does, and no garbage of the last one is left: where some is, it is freed first. After a collection it has taken the armed word back. A collection is answered where it began in this pause
 pub record MayFollow (share : Share) (last next : Kind) : Type 0 where
   pub unchanged : (next ≡ Rounds) ⊎ ((next ≡ Decide) ⊎ (next ≡ Clean)) → share.changed ≡ Some 0
   pub first : next ≡ Decide → share.progress.cut ≡ false
-  pub second : next ≡ Clean → share.progress.cut ≡ true
+  pub second : last ≡ Rounds → next ≡ Clean → share.progress.cut ≡ true
   pub rotated : last ≡ Lasts → share.rotated ≡ true
   pub set_back : next ≡ Sweep → (share.blocks ≡ Some 0) × (share.words ≡ Some 0)
   pub goes_on : last ≡ Roots → next ≡ Run → share.armed ≡ Some true
@@ -285,7 +296,8 @@ pub record LeadTold (k : Config) (next : Kind) (x : DomainView) (found : ℕ) (y
   pub seen : IsFrontOf x.own.number y.seen.front x.seen.front
   pub stays : entry_of x.seen.share.progress.unswept (kind_in x.seen.stage) next ≡ None → y.seen.front ≡ x.seen.front
   pub made : (e : Entry) → entry_of x.seen.share.progress.unswept (kind_in x.seen.stage) next ≡ Some e → EndsWith k x y e
-  pub view : y ≡ record x { seen = record x.seen { front = y.seen.front; stage = Led next; share = record fresh_share { progress = progress_after (kind_in x.seen.stage) next x.seen.share.progress } } }
+  pub view : y ≡ record x { seen = record x.seen { front = y.seen.front; stage = Led next; share = record fresh_share { progress = progress_after (kind_in x.seen.stage) next x.seen.share.progress; unmarked = unmarked_after k (kind_in x.seen.stage) x.seen.share.changed x.seen.share.unmarked } } }
+  pub grown : IsMarking (kind_in x.seen.stage) → asks_again x.seen.share.changed ≤ x.seen.share.unmarked
 
 -- the token's own data after the end of a trace: the registers hold nothing, and nothing is registered
 abbrev pub ended_own : Own → Own

@@ -97,7 +97,7 @@ looks_set k own class spot l low small = record {
 
 -- and the token's own data fits again
 pub looking_fits : (k : Config) (x y : DomainView) (class : ℕ) (spot : Spot) → OwnFits k x.own → y.own ≡ looking x.own class spot → spot.pool ≤ k.pools → spot.slot < blocks_of class → OwnFits k y.own
-looking_fits k x y class spot fits is low small = subst (OwnFits k) (sym is) record { number = fits.number; used = fits.used; registers = fits.registers; looked = looks_set k x.own class spot fits.looked low small; remembered = fits.remembered; prepared = fits.prepared; pending = fits.pending; ephemerons = fits.ephemerons; finalisers = fits.finalisers; swept = fits.swept }
+looking_fits k x y class spot fits is low small = subst (OwnFits k) (sym is) record { number = fits.number; used = fits.used; registers = fits.registers; looked = looks_set k x.own class spot fits.looked low small; remembered = fits.remembered; remembered_room = fits.remembered_room; prepared = fits.prepared; pending = fits.pending; ephemerons = fits.ephemerons; finalisers = fits.finalisers; swept = fits.swept }
 
 -- the pools are few
 few_pools : (k : Config) (pool : ℕ) → IsWithinLimits (sizes_in k) → pool < k.pools → pool < 2048
@@ -109,7 +109,7 @@ owned_closes k x new pool class inside few limits y fits told =
       can_write = (few_pools k pool limits inside, few);
       written = λ after is. own ∙ sym is;
       fits = subst (OwnFits k) (sym own) (let looks = looking_fits k x (looked_to x class (record { pool = pool; slot = 0 }) x.seen.hunt) class (record { pool = pool; slot = 0 }) fits refl (let i = inside in omega arith) (some_block class few).0 in
-          record { number = fits.number; used = fits.used; registers = fits.registers; looked = looks.looked; remembered = fits.remembered; prepared = fits.prepared; pending = fits.pending; ephemerons = fits.ephemerons; finalisers = fits.finalisers; swept = record { pool = fits.swept.pool; slot = fits.swept.slot; top = above_within k.pools x.own.swept.top pool inside fits.swept.top } });
+          record { number = fits.number; used = fits.used; registers = fits.registers; looked = looks.looked; remembered = fits.remembered; remembered_room = fits.remembered_room; prepared = fits.prepared; pending = fits.pending; ephemerons = fits.ephemerons; finalisers = fits.finalisers; swept = record { pool = fits.swept.pool; slot = fits.swept.slot; top = above_within k.pools x.own.swept.top pool inside fits.swept.top } });
       once = λ _. inl (record { front = front_same x y (ap (λ (z : DomainView). z.seen.front) told.view); registers = ap (λ (z : DomainView). z.own.registers) told.view; used = ap (λ (z : DomainView). z.own.used) told.view; serial = ap (λ (z : DomainView). z.own.serial) told.view });
     }
 
@@ -169,6 +169,7 @@ major_closes k x new e changes fit serial y fits told =
         registers = told.holds;
         looked = subst (λ (o : Own). LooksWithin k o.looked) (sym rest) fits.looked;
         remembered = subst (λ (o : Own). AllInHeap k o.remembered.items) (sym rest) fits.remembered;
+        remembered_room = ap (λ (o : Own). o.remembered.room + length o.remembered.items) rest ∙ fits.remembered_room;
         prepared = ap (λ (o : Own). length o.prepared) rest ∙ fits.prepared;
         pending = ap (λ (o : Own). o.pending.room + length o.pending.items) rest ∙ fits.pending;
         ephemerons = subst (λ (o : Own). AllInHeap k o.ephemerons.items) (sym rest) fits.ephemerons;
@@ -206,6 +207,7 @@ ephe_closes k x at new e changes inside can y fits told =
         registers = told.holds;
         looked = subst (λ (o : Own). LooksWithin k o.looked) (sym rest) fits.looked;
         remembered = subst (λ (o : Own). AllInHeap k o.remembered.items) (sym rest) fits.remembered;
+        remembered_room = ap (λ (o : Own). o.remembered.room + length o.remembered.items) rest ∙ fits.remembered_room;
         prepared = ap (λ (o : Own). length o.prepared) rest ∙ fits.prepared;
         pending = ap (λ (o : Own). o.pending.room + length o.pending.items) rest ∙ fits.pending;
         ephemerons = subst (λ (o : Own). AllInHeap k o.ephemerons.items) (sym rest) (in_heap_more k at x.own.ephemerons.items inside fits.ephemerons);

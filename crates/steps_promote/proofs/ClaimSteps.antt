@@ -1102,6 +1102,7 @@ claim_closes k x found a old new class c may y fits told = dite (ℕ_discrete fo
         registers = fits.registers;
         looked = fits.looked;
         remembered = fits.remembered;
+        remembered_room = fits.remembered_room;
         prepared = length-set x.own.prepared class None ∙ fits.prepared;
         pending = (let n : ℕ = length x.own.pending.items in let e : ℕ = x.own.pending.room in let h : 1 ≤ e = w.room in
             ap (λ (m : ℕ). e - 1 + m) (longer x.own.pending.items (record { copy = c; source = a })) ∙ ((let g : e - 1 + (n + 1) ≡ e + n = omega arith in g) ∙ fits.pending));

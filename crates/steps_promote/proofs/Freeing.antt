@@ -471,6 +471,7 @@ free_closes k x a pool class slot inside may y fits told =
               (λ other. subst (λ (z : Spot). (z.pool ≤ k.pools) × (z.slot < blocks_of c)) (sym (looked_else x.own.looked class c spot other)) (fits.looked.within c few));
         };
         remembered = fits.remembered;
+        remembered_room = fits.remembered_room;
         prepared = length-set x.own.prepared class None ∙ fits.prepared;
         pending = fits.pending;
         ephemerons = fits.ephemerons;
@@ -482,6 +483,6 @@ free_closes k x a pool class slot inside may y fits told =
     (λ (not_before : Before → ⊥). let own : y.own ≡ preparing x.own class None = ap (λ (z : DomainView). z.own) (told.later not_before) in record {
       can_write = may.of_class;
       written = λ after wrote. own ∙ sym (wrote.later not_before);
-      fits = subst (OwnFits k) (sym own) record { number = fits.number; used = fits.used; registers = fits.registers; looked = fits.looked; remembered = fits.remembered; prepared = length-set x.own.prepared class None ∙ fits.prepared; pending = fits.pending; ephemerons = fits.ephemerons; finalisers = fits.finalisers; swept = fits.swept };
+      fits = subst (OwnFits k) (sym own) record { number = fits.number; used = fits.used; registers = fits.registers; looked = fits.looked; remembered = fits.remembered; remembered_room = fits.remembered_room; prepared = length-set x.own.prepared class None ∙ fits.prepared; pending = fits.pending; ephemerons = fits.ephemerons; finalisers = fits.finalisers; swept = fits.swept };
       once = promote_once k x y may.stage;
     })

@@ -241,6 +241,7 @@ held_move_closes k x found h copy may y fits told =
         registers = fits.registers;
         looked = fits.looked;
         remembered = fits.remembered;
+        remembered_room = fits.remembered_room;
         prepared = fits.prepared;
         pending = fits.pending;
         ephemerons = fits.ephemerons;

@@ -140,6 +140,7 @@ move_closes k x found reg copy may y fits told =
         registers = told.holds;
         looked = subst (λ (o : Own). LooksWithin k o.looked) (sym own) fits.looked;
         remembered = subst (λ (o : Own). AllInHeap k o.remembered.items) (sym own) fits.remembered;
+        remembered_room = ap (λ (o : Own). o.remembered.room + length o.remembered.items) own ∙ fits.remembered_room;
         prepared = ap (λ (o : Own). length o.prepared) own ∙ fits.prepared;
         pending = ap (λ (o : Own). o.pending.room + length o.pending.items) own ∙ fits.pending;
         ephemerons = subst (λ (o : Own). AllInHeap k o.ephemerons.items) (sym own) fits.ephemerons;

@@ -145,6 +145,7 @@ module _ (k : Config) (s : Words) (r : Rule k s) (id : ℕ) (hist : List Entry) 
       leaves = record { none = y.leaves.none; dead = y.leaves.dead; head = λ a dead. let h = y.leaves.head a dead in (h.0, h.1, heap k s r id hist x at i v is a ∙ h.2); unprepared = y.leaves.unprepared; owned = y.leaves.owned };
       unswept = y.unswept;
       whole = λ l. inl (whole_in k s r id hist x at (λ e. let same : Sweep ≡ Clean = sym kind_is ∙ e in cc) l);
+      grows = record { few = y.grows.few; since = y.grows.since; named = y.grows.named; cleared = y.grows.cleared };
     }
 
     -- nobody runs
@@ -170,6 +171,7 @@ module _ (k : Config) (s : Words) (r : Rule k s) (id : ℕ) (hist : List Entry) 
           armed = g.leading.armed;
           unswept = g.leading.unswept;
           under_way = g.leading.under_way;
+          unmarked = g.leading.unmarked;
         };
         knows = inr (
           collecting,
@@ -193,6 +195,7 @@ module _ (k : Config) (s : Words) (r : Rule k s) (id : ℕ) (hist : List Entry) 
           armed = q.leading.armed;
           unswept = q.leading.unswept;
           under_way = q.leading.under_way;
+          unmarked = q.leading.unmarked;
         };
         knows = ⊎_elim
             (λ (u : IsIdle z.seen.share). inl u)

@@ -89,7 +89,7 @@ module _ (k : Config) (s : Words) (r : Rule k s) (id : ℕ) (hist : List Entry) 
       let collects = answers k s r id hist x at stage in
       let up = waits k s r id hist x at collects in learns k s r id hist x at counted record {
         telling = record { owes = g.telling.owes; seen = g.telling.seen; fresh = λ gone. absurd (true≢false (sym gone ∙ up)); forgotten = λ gone. absurd (true≢false (sym gone ∙ up)); colours = g.telling.colours };
-        leading = record { changed = g.leading.changed; found_blocks = λ v e. (inr stage, (let same : Some (live_blocks s.words) ≡ Some v = e in cc)); found_words = g.leading.found_words; rotated = g.leading.rotated; turned = g.leading.turned; pass = g.leading.pass; whole = g.leading.whole; armed = g.leading.armed; unswept = g.leading.unswept; under_way = g.leading.under_way };
+        leading = record { changed = g.leading.changed; found_blocks = λ v e. (inr stage, (let same : Some (live_blocks s.words) ≡ Some v = e in cc)); found_words = g.leading.found_words; rotated = g.leading.rotated; turned = g.leading.turned; pass = g.leading.pass; whole = g.leading.whole; armed = g.leading.armed; unswept = g.leading.unswept; under_way = g.leading.under_way; unmarked = g.leading.unmarked };
         knows = inr (
           collects,
           record { found_head = kn.found_head; scan = kn.scan; walked = kn.walked; own_pool = kn.own_pool; rooted = kn.rooted; marked = kn.marked; counted = record { once = n.once; own = n.own; lives = n.lives; all = n.all; words = n.words }; held = kn.held; vacant = kn.vacant },
@@ -155,6 +155,7 @@ module _ (k : Config) (s : Words) (r : Rule k s) (id : ℕ) (hist : List Entry) 
     leaves = z.leaves;
     unswept = z.unswept;
     whole = z.whole;
+    grows = z.grows;
   }
 
   stands_still : (z : DomainView) → Stood live now z → Stood live (state_of k log') z

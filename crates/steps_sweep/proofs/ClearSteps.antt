@@ -85,6 +85,7 @@ module _ (k : Config) (s : Words) (r : Rule k s) (id : ℕ) (hist : List Entry) 
     leaves = record { none = y.leaves.none; dead = y.leaves.dead; head = λ a is_dead. let h = y.leaves.head a is_dead in (h.0, h.1, heap k s r id hist x at i 0 is a ∙ h.2); unprepared = y.leaves.unprepared; owned = y.leaves.owned };
     unswept = y.unswept;
     whole = y.whole;
+    grows = y.grows;
   }
 
   -- nobody else knows of what lives
@@ -116,6 +117,7 @@ module _ (k : Config) (s : Words) (r : Rule k s) (id : ℕ) (hist : List Entry) 
       armed = h.leading.armed;
       unswept = h.leading.unswept;
       under_way = h.leading.under_way;
+      unmarked = h.leading.unmarked;
     };
     knows = knows_words k r.account.live r.account.tenancy.holder now.graph c.paint.marks s.words words' z.own.number z.own.registers z.seen.stage z.seen.share (heap k s r id hist x at i 0 is) h.knows;
     adds = h.adds;
@@ -160,6 +162,7 @@ module _ (k : Config) (s : Words) (r : Rule k s) (id : ℕ) (hist : List Entry) 
           armed = g.leading.armed;
           unswept = g.leading.unswept;
           under_way = g.leading.under_way;
+          unmarked = g.leading.unmarked;
         };
         knows = inl idle';
         adds = record { blocks = λ e _. absurd (no_sweep e); words = λ e _. absurd (no_sweep e); own = λ e _ _. absurd (no_sweep e) };

@@ -297,6 +297,7 @@ module _ (k : Config) (s : Words) (r : Rule k s) (id : ℕ) (hist : List Entry) 
     };
     unswept = z.unswept;
     whole = z.whole;
+    grows = z.grows;
   }
 
   still_free : (b : ℕ) → at_address k s.words b ≡ 0 → at_address k words' b ≡ 0
@@ -338,7 +339,7 @@ module _ (k : Config) (s : Words) (r : Rule k s) (id : ℕ) (hist : List Entry) 
       let l = leading_words c s.words words' d x.seen.stage x.seen.share same g.leading in
       let run = running' x good in record {
         telling = record { owes = g.telling.owes; seen = g.telling.seen; fresh = λ up. ap (λ (z : Share). sweeping_on z share'.reaping share'.swept) (g.telling.fresh up); forgotten = g.telling.forgotten; colours = g.telling.colours };
-        leading = record { changed = l.changed; found_blocks = l.found_blocks; found_words = l.found_words; rotated = l.rotated; turned = l.turned; pass = l.pass; whole = l.whole; armed = l.armed; unswept = l.unswept; under_way = l.under_way };
+        leading = record { changed = l.changed; found_blocks = l.found_blocks; found_words = l.found_words; rotated = l.rotated; turned = l.turned; pass = l.pass; whole = l.whole; armed = l.armed; unswept = l.unswept; under_way = l.under_way; unmarked = l.unmarked };
         knows = ⊎_elim
             (λ (idle : IsIdle x.seen.share). inl (ap (λ (z : Share). sweeping_on z share'.reaping share'.swept) idle))
             (λ (n : IsCollecting x.seen.stage × Knowing k r.account.live t.holder now.graph c.paint.marks words' d x.own.registers x.seen.share). let kn = n.1 in let m = kn.counted in inr (

@@ -185,6 +185,7 @@ module _ (k : Config) (x : DomainView) (found a i garbage : ℕ) (may : PruneMay
     registers = fits.registers;
     looked = fits.looked;
     remembered = fits.remembered;
+    remembered_room = fits.remembered_room;
     prepared = fits.prepared;
     pending = fits.pending;
     ephemerons = λ j b got. let w = was x.own.ephemerons.items i a may.listed j b got in fits.ephemerons w.0 b w.1;

@@ -320,6 +320,7 @@ module _ (k : Config) (s : Words) (r : Rule k s) (id : ℕ) (hist : List Entry) 
     leaves = record { none = y.leaves.none; dead = y.leaves.dead; head = λ a is. let h = y.leaves.head a is in (h.0, h.1, agrees.heap a (garbage_low a is) ∙ h.2); unprepared = y.leaves.unprepared; owned = garbage_lies };
     unswept = y.unswept;
     whole = λ l. inl (whole_in k s r id hist x at not_clean l);
+    grows = y.grows;
   }
 
   -- what domains have counted is theirs still

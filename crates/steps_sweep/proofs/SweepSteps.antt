@@ -61,7 +61,7 @@ module _ (k : Config) (s : Words) (r : Rule k s) (id : ℕ) (hist : List Entry) 
   sharing_on : (reaping : Reaping) (places : List Spot) → Sharing k r.account s.words d x.own.registers x.own.finalisers x.own.ephemerons.items x.seen.stage (sweeping_on sh reaping places)
   sharing_on reaping places = let g = (my_good k s r id hist x at).sharing in record {
     telling = record { owes = g.telling.owes; seen = g.telling.seen; fresh = λ up. ap (λ (z : Share). sweeping_on z reaping places) (g.telling.fresh up); forgotten = g.telling.forgotten; colours = g.telling.colours };
-    leading = record { changed = g.leading.changed; found_blocks = g.leading.found_blocks; found_words = g.leading.found_words; rotated = g.leading.rotated; turned = g.leading.turned; pass = g.leading.pass; whole = g.leading.whole; armed = g.leading.armed; unswept = g.leading.unswept; under_way = g.leading.under_way };
+    leading = record { changed = g.leading.changed; found_blocks = g.leading.found_blocks; found_words = g.leading.found_words; rotated = g.leading.rotated; turned = g.leading.turned; pass = g.leading.pass; whole = g.leading.whole; armed = g.leading.armed; unswept = g.leading.unswept; under_way = g.leading.under_way; unmarked = g.leading.unmarked };
     knows = ⊎_elim
         (λ (idle : IsIdle sh). inl (ap (λ (z : Share). sweeping_on z reaping places) idle))
         (λ (n : IsCollecting x.seen.stage × Knowing k r.account.live holder now.graph r.account.cycling.paint.marks s.words d x.own.registers sh). let kn = n.1 in let m = kn.counted in inr (

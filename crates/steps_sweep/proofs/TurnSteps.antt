@@ -31,6 +31,7 @@ use Rattle.cycle_laws.proofs.Cycling.{phase_steps}
 use Rattle.cycle_laws.proofs.DomainParts.{listed_at}
 use Rattle.cycle_laws.specs.Fullness.{HoldsKept, kept_labels}
 use Rattle.steps_marking.proofs.Unswept.{none_unswept, swept_tracing}
+use Rattle.heap_rule.proofs.Growing.{grows_none}
 use Rattle.heap_rule.proofs.Lots.{lived_unprepared, none_before}
 use Rattle.heap_rule.specs.declared.view.Reaping.TheVariants.{Outside, Inside, AtGarbage}
 use Rattle.heap_rule.specs.declared.view.Reaping.{Reaping}
@@ -45,7 +46,7 @@ use Rattle.heap_rule.specs.declared.view.Share.{Share}
 use Rattle.heap_rule.specs.Changes.{value_at}
 use Rattle.heap_rule.specs.Copies.{Promoting, Resetting}
 use Rattle.heap_rule.specs.Beside.{RunsBeside}
-use Rattle.heap_rule.specs.Cycles.{Cycled, Cycling, Facts, IsCollecting, IsGarbageHead, IsIdle, Knowing, Leaving, layout_of, swept_of}
+use Rattle.heap_rule.specs.Cycles.{IsMarking, Cycled, Cycling, Facts, IsCollecting, IsGarbageHead, IsIdle, Knowing, Leaving, layout_of, swept_of}
 use Rattle.heap_rule.specs.Layout.{at_address, before_heap, heap_words}
 use Rattle.heap_rule.specs.Limits.{sizes_in}
 use Rattle.heap_rule.specs.Phases.{AtStage}
@@ -310,6 +311,7 @@ module _ (k : Config) (s : Words) (r : Rule k s) (id : ℕ) (hist : List Entry) 
     leaves = record { none = λ e. absurd (true≢false e); dead = dead_gone c.before live; head = garbage_head; unprepared = garbage_unprepared; owned = garbage_owned };
     unswept = λ is. absurd (true≢false (sym is ∙ swept_tracing k now live r.account.pause t c s.words y Lasts tt kind_is));
     whole = λ l. inl (whole l);
+    grows = grows_none k live' r.account.pause c' (subst (λ (kind : Kind). IsMarking kind → ⊥) (sym kind_is) (λ is. is));
   }
 
   abbrev share' : Share
@@ -353,6 +355,7 @@ module _ (k : Config) (s : Words) (r : Rule k s) (id : ℕ) (hist : List Entry) 
       armed = g.leading.armed;
       unswept = g.leading.unswept;
       under_way = g.leading.under_way;
+      unmarked = g.leading.unmarked;
     };
     knows = inl idle';
     adds = record { blocks = λ e _. absurd (no_sweep e); words = λ e _. absurd (no_sweep e); own = λ e _ _. absurd (no_sweep e) };
@@ -384,6 +387,7 @@ module _ (k : Config) (s : Words) (r : Rule k s) (id : ℕ) (hist : List Entry) 
           armed = g.leading.armed;
           unswept = g.leading.unswept;
           under_way = g.leading.under_way;
+          unmarked = g.leading.unmarked;
         };
         knows = inl (g.telling.fresh gone);
         adds = record { blocks = λ e _. absurd (no_sweep e); words = λ e _. absurd (no_sweep e); own = λ e _ _. absurd (no_sweep e) };

@@ -56,6 +56,7 @@ alloc_closes k x new words e changes fits class room small serial y p told =
         registers = told.holds;
         looked = subst (λ (o : Own). LooksWithin k o.looked) (sym rest) p.looked;
         remembered = subst (λ (o : Own). AllInHeap k o.remembered.items) (sym rest) p.remembered;
+        remembered_room = ap (λ (o : Own). o.remembered.room + length o.remembered.items) rest ∙ p.remembered_room;
         prepared = ap (λ (o : Own). length o.prepared) rest ∙ p.prepared;
         pending = ap (λ (o : Own). o.pending.room + length o.pending.items) rest ∙ p.pending;
         ephemerons = subst (λ (o : Own). AllInHeap k o.ephemerons.items) (sym rest) p.ephemerons;
