@@ -86,4 +86,5 @@ led_to k x y z word next is view told =
       stays = t.stays;
       made = λ e stands. let m = t.made e stands in record { before = m.before; front = m.front; seen = m.seen; led = m.led; legal = m.legal };
       view = t.view;
+      grown = t.grown;
     }
