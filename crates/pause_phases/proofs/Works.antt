@@ -79,7 +79,7 @@ module _ (k : Config) (kind : Kind) (x : DomainView) (stage : x.seen.stage ≡ I
   decide_works y is d =
       let lists : Decided x.own.finalisers y.own.finalisers = record { lasts = ap (λ (z : DomainView). z.own.finalisers.lasts) d.view; queued = d.queued; queue = d.queue; splits = d.splits } in
       let here : y.seen.stage ≡ In Decide = ap (λ (z : DomainView). z.seen.stage) d.view ∙ (stage ∙ ap In is) in
-      let done : HasDone k y = record { rooted = λ e. cc; queued = λ e. ⊎_elim (λ u. cc) (λ u. cc) e; told = λ e. ⊎_elim (λ u. cc) (⊎_elim (λ u. cc) (⊎_elim (λ u. cc) (λ u. cc))) e; walked = λ e. cc; swept = λ e. cc; anew = λ e. cc; looked = λ e. ⊎_elim (λ u. cc) (λ u. cc) e; cleaned = λ e. cc; decided = λ _. d.done; settled = λ e. cc; held = λ e. ⊎_elim (λ u. cc) (λ u. cc) e; added = λ e. cc } in
+      let done : HasDone k y = record { rooted = λ e. cc; queued = λ e. ⊎_elim (λ u. cc) (λ u. cc) e; followed = λ e. cc; told = λ e. ⊎_elim (λ u. cc) (λ u. cc) e; walked = λ e. cc; swept = λ e. cc; anew = λ e. cc; looked = λ e. ⊎_elim (λ u. cc) (λ u. cc) e; cleaned = λ e. cc; decided = λ _. d.done; settled = λ e. cc; held = λ e. ⊎_elim (λ u. cc) (λ u. cc) e; added = λ e. cc } in
       decides k kind x y x.own.swept _ _ _ (inl is) d.view (λ _. refl) (λ (e : kind ≡ Lasts). cc) refl refl d.seen d.led d.legal (sorted_finals kind x.own.finalisers y.own.finalisers is lists) done
 
   -- and those of `finalise_last`, after which the domain notes that it has swept nothing
@@ -90,7 +90,7 @@ module _ (k : Config) (kind : Kind) (x : DomainView) (stage : x.seen.stage ≡ I
       let here : y.seen.stage ≡ In Lasts = ap (λ (z : DomainView). z.seen.stage) told ∙ (ap (λ (z : DomainView). z.seen.stage) d.view ∙ (stage ∙ ap In is)) in
       let anew : y.own.swept ≡ nothing_swept = ap (λ (z : DomainView). z.own.swept) told in
       let settled : y.seen.share.kept ≡ length y.own.finalisers.lasts.items = ap (λ (z : DomainView). z.seen.share.kept) told ∙ (d.done ∙ ap (λ (f : Finalisers). length f.lasts.items) (sym same)) in
-      let done : HasDone k y = record { rooted = λ e. cc; queued = λ e. ⊎_elim (λ u. cc) (λ u. cc) e; told = λ e. ⊎_elim (λ u. cc) (⊎_elim (λ u. cc) (⊎_elim (λ u. cc) (λ u. cc))) e; walked = λ e. cc; swept = λ e. cc; anew = λ _. anew; looked = λ e. ⊎_elim (λ u. cc) (λ u. cc) e; cleaned = λ e. cc; decided = λ e. cc; settled = λ _. settled; held = λ e. ⊎_elim (λ u. cc) (λ u. cc) e; added = λ e. cc } in
+      let done : HasDone k y = record { rooted = λ e. cc; queued = λ e. ⊎_elim (λ u. cc) (λ u. cc) e; followed = λ e. cc; told = λ e. ⊎_elim (λ u. cc) (λ u. cc) e; walked = λ e. cc; swept = λ e. cc; anew = λ _. anew; looked = λ e. ⊎_elim (λ u. cc) (λ u. cc) e; cleaned = λ e. cc; decided = λ e. cc; settled = λ _. settled; held = λ e. ⊎_elim (λ u. cc) (λ u. cc) e; added = λ e. cc } in
       let seen : IsFrontOf x.own.number y.seen.front x.seen.front = subst (λ (f : List Entry). IsFrontOf x.own.number f x.seen.front) (sym (ap (λ (z : DomainView). z.seen.front) told)) d.seen in
       let led : IsLed x.own.number y.seen.front x.seen.front = subst (λ (f : List Entry). IsLed x.own.number f x.seen.front) (sym (ap (λ (z : DomainView). z.seen.front) told)) d.led in
       let path = told ∙ ap (λ (z : DomainView). record z { own = unswept z.own }) d.view in
@@ -133,7 +133,7 @@ sweep_works k x v w y stage s counted looks held =
       led = led_whole x.own.number y.seen.front x.seen.front (sym front);
       legal = λ legal. subst (λ (f : List Entry). Legal (sizes_in k) f) (sym front) legal;
       stays = λ _ _ _. front;
-      done = record { rooted = λ e. cc; queued = λ e. ⊎_elim (λ u. cc) (λ u. cc) e; told = λ e. ⊎_elim (λ u. cc) (⊎_elim (λ u. cc) (⊎_elim (λ u. cc) (λ u. cc))) e; walked = λ e. cc; swept = λ _. all; anew = λ e. cc; looked = λ e. ⊎_elim (λ u. cc) (λ u. cc) e; cleaned = λ e. cc; decided = λ e. cc; settled = λ e. cc; held = λ _. held; added = λ _. (ap (λ (z : DomainView). z.seen.share.added_blocks) path, ap (λ (z : DomainView). z.seen.share.added_words) path) };
+      done = record { rooted = λ e. cc; queued = λ e. ⊎_elim (λ u. cc) (λ u. cc) e; followed = λ e. cc; told = λ e. ⊎_elim (λ u. cc) (λ u. cc) e; walked = λ e. cc; swept = λ _. all; anew = λ e. cc; looked = λ e. ⊎_elim (λ u. cc) (λ u. cc) e; cleaned = λ e. cc; decided = λ e. cc; settled = λ e. cc; held = λ _. held; added = λ _. (ap (λ (z : DomainView). z.seen.share.added_blocks) path, ap (λ (z : DomainView). z.seen.share.added_words) path) };
     }
 
 -- the domain has arrived
