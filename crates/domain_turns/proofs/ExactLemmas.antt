@@ -21,6 +21,7 @@ use Rattle.domain_turns.specs.Tries.{wish_of}
 use Rattle.heap_rule.specs.declared.config.Config.{Config}
 use Rattle.heap_rule.specs.Standing.{with_front}
 use Rattle.steps_pauses.specs.Pauses.{arrived_view}
+use Rattle.sweeper.specs.Emptiness.{sunk}
 use Rattle.safepoint.specs.Looks.{bit_of}
 use Rattle.safepoint.specs.declared.answer.Want.TheVariants.{Finish, Full}
 use Rattle.safepoint.specs.declared.answer.Want.TheVariants.{Minor as Young}
@@ -264,9 +265,9 @@ sign : (h : SharedHeap) (old new : RunView) (a : Turned) → TurnAnswers h old n
 sign h old new Did says = ⊎_elim
     (λ (g : GoesBy h ByWishes old new). inl (passes_leaves ByWishes h.config old.token.view new.token.view g.last g.kind g.passes).arrivals)
     (⊎_elim
-    (λ (a : IsAnswered h old new). inl (answer_arrives h.config old.token.view a.answers.begun new.token.view (with_front a.answers.begun a.answers.front) a.answers.comes a.answers.view refl))
+    (λ (a : IsAnswered h old new). inl (answer_arrives h.config old.token.view a.answers.begun new.token.view (sunk (with_front a.answers.begun a.answers.front) new.token.view) a.answers.comes a.answers.view refl))
     (⊎_elim
-    (λ (s : SeesAnswer h old new). let g = s.gives in inl (answer_arrives h.config old.token.view g.begun new.token.view (with_front g.begun new.token.view.seen.front) g.comes g.view refl))
+    (λ (s : SeesAnswer h old new). let g = s.gives in inl (answer_arrives h.config old.token.view g.begun new.token.view (sunk (with_front g.begun new.token.view.seen.front) new.token.view) g.comes g.view refl))
     (λ (t : (start : RunView) × Starts h old start × RunAnswers h start new Did). from_start h old t.0 new Did t.1 (run_sign h t.0 new Did t.2))))
     says
 sign h old new (Waiting b) w = (ap arrivals w.run, (Barrier b, notes old, ap notes w.run, refl))

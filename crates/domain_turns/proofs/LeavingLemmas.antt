@@ -22,11 +22,12 @@ use Rattle.heap_rule.specs.Rule.{state_of}
 use Rattle.heap_rule.specs.Standing.{noted, with_front}
 use Rattle.heap_rule.specs.Token.{Token, SharedHeap, IsIn}
 use Rattle.heap_rule.specs.Views.{fresh_share}
-use Rattle.steps_pauses.specs.Pauses.{kind_in, arrived_view, entry_of, progress_after, EndsWith, IsModeOf}
+use Rattle.steps_pauses.specs.Pauses.{kind_in, arrived_view, entry_of, progress_after, unmarked_after, EndsWith, IsModeOf}
 use Rattle.steps_promote.specs.Promotion.{reset_view}
 use Rattle.safepoint.specs.Looks.{PassedBarrier}
 use Rattle.heap_rule.specs.declared.phase.Progress.{Progress}
-use Rattle.pause_phases.specs.Sharing.{SharesIn, with_shared}
+use Rattle.pause_phases.specs.Sharing.{SharesIn, gave_back, with_shared}
+use Rattle.sweeper.specs.Emptiness.{sunk}
 use Rattle.pause_phases.specs.Leading.{LeadsOn}
 use Rattle.pause_phases.specs.declared.decider.Decider.{Decider}
 use Rattle.heap_rule.specs.declared.view.Finalisers.{Finalisers}
@@ -131,12 +132,12 @@ even_leaves k x b y Lasts p stage l = shares_leaves k x b y Lasts p stage l
 even_leaves k x b y Sweep p stage l = shares_leaves k x b y Sweep p stage l
 
 -- the view that domain 0 arrives from when it has named a kind
-abbrev leading_view : DomainView → DomainView → Kind → Kind → DomainView
-leading_view b y last kind = record b { seen = record b.seen { front = y.seen.front; notes = y.seen.notes; stage = Led kind; share = record fresh_share { progress = progress_after last kind b.seen.share.progress } } }
+abbrev leading_view : (k : Config) (decider : Decider) (b y : DomainView) (last kind : Kind) → LeadsOn k decider b y last kind → DomainView
+leading_view k decider b y last kind l = record b { seen = record b.seen { front = y.seen.front; notes = y.seen.notes; stage = Led kind; share = record fresh_share { progress = progress_after last kind b.seen.share.progress; unmarked = unmarked_after k last (Some l.findings.changed) b.seen.share.unmarked } } }
 
 odd_leaves : (decider : Decider) (k : Config) (x b y : DomainView) (last kind : Kind) → PassedBarrier k x b → b.seen.stage ≡ Leads last → LeavesOdd k decider b y last kind → Leaves x y kind
 odd_leaves decider k x b y last kind p stage l = ⊎_elim
-    (λ (leads : (b.own.number ≡ 0) × LeadsOn k decider b y last kind). begun_leaves k x b y (leading_view b y last kind) kind p
+    (λ (leads : (b.own.number ≡ 0) × LeadsOn k decider b y last kind). begun_leaves k x b y (leading_view k decider b y last kind leads.1) kind p
     (record { number = refl; serial = refl; room = no_less b.own.ephemerons.room; listed = refl; arrivals = refl; made = refl; hunt = λ at_rest. at_rest; front = leads.1.seen }) leads.1.view refl)
     (λ (follows : (b.own.number ≢ 0) × (kind ≡ last) × (y ≡ arrived_view b)). begun_leaves k x b y b kind p (same_self b) follows.2 (ap kind_in stage ∙ sym follows.1)) l
 
@@ -158,7 +159,7 @@ leads_ready decider k b y last kind inside l past =
     record {
       before = last;
       follows = l.follows;
-      past = past_as k last b y (keeps_as b y _ l.view refl refl refl refl (same_held b)) (arrived_void y (leading_view b y last kind) l.view) knows past;
+      past = past_as k last b y (keeps_as b y _ l.view refl refl refl refl (same_held b)) (arrived_void y (leading_view k decider b y last kind l) l.view) knows past;
       fresh = λ e. let swept : last ≡ Sweep = before_answer last (subst (Follows last) e l.follows) in
           knows swept (collected_mode k b y (l.made Collected (ap (λ (c : Kind). entry_of b.seen.share.progress.unswept c kind) swept ∙ ap (entry_of b.seen.share.progress.unswept Sweep) e)));
     }
@@ -193,7 +194,7 @@ passes_quiet decider k x y last kind p quiet =
     let q = looked_quiet k x p.begun p.passed quiet in ⊎_elim
     (λ (even : IsEven x.own.arrivals × (p.begun.seen.stage ≡ In kind) × Comes x.own.number last kind × IsModeOf kind (state_of k p.begun.seen.front).mode × LeavesEven k kind p.begun y). even_quiet k kind p.begun y even.4 q)
     (λ (odd : IsOdd x.own.arrivals × (p.begun.seen.stage ≡ Leads last) × LeavesOdd k decider p.begun y last kind). ⊎_elim
-    (λ (leads : (p.begun.own.number ≡ 0) × LeadsOn k decider p.begun y last kind). arrived_quiet (leading_view p.begun y last kind) y leads.1.view q.unprepared)
+    (λ (leads : (p.begun.own.number ≡ 0) × LeadsOn k decider p.begun y last kind). arrived_quiet (leading_view k decider p.begun y last kind leads.1) y leads.1.view q.unprepared)
     (λ (follows : (p.begun.own.number ≢ 0) × (kind ≡ last) × (y ≡ arrived_view p.begun)). arrived_quiet p.begun y follows.2 q.unprepared)
     odd.2)
     p.share
@@ -232,19 +233,19 @@ pub answer_knows : (k : Config) (b y : DomainView) (live : Bool) (blocks : ℕ) 
 answer_knows k b y live blocks o p a knows = answered_knows k a.0 y live blocks o p a.2 (knows_on b a.0 p (ap (λ (v : DomainView). v.own.number) a.1.view) (ap (λ (v : DomainView). v.seen.share.progress) a.1.view) knows)
 
 -- who comes to a phase in which a collection is answered, and leaves it with this front
-answer_past : (k : Config) (x begun y : DomainView) (front : List Entry) → ComesToAnswer k x begun → y ≡ arrived_view (with_front begun front) → HasLeft k Answer y
+answer_past : (k : Config) (x begun y : DomainView) (front : List Entry) → ComesToAnswer k x begun → y ≡ gave_back (with_front begun front) y → HasLeft k Answer y
 answer_past k x begun y front c is =
     let arrivals : y.own.arrivals ≡ x.own.arrivals + 1 = ap (λ (v : DomainView). v.own.arrivals) is ∙ ap (λ (v : DomainView). v.own.arrivals + 1) c.passed.view in record {
-      past = λ _. later_past k Answer begun y (keeps_as begun y _ is refl refl refl refl (same_held begun)) (arrived_void y (with_front begun front) is) (λ e. cc) (λ e. cc) (λ e. cc) (λ e. cc) c.ready;
+      past = λ _. later_past k Answer begun y (keeps_as begun y _ is refl refl refl refl (same_held begun)) (arrived_void y (sunk (with_front begun front) y) is) (λ e. cc) (λ e. cc) (λ e. cc) (λ e. cc) c.ready;
       ready = λ again _. absurd (not_both y.own.arrivals again (subst IsOdd (sym arrivals) (even_next x.own.arrivals c.even)));
     }
 
 -- its run stands between two turns then
 pub answer_between : (h : SharedHeap) (x begun : DomainView) (new : Token) (front : List Entry) (asked : Option ℕ) (collected : Bool) (progress : Progress) → IsIn new h → HasNothingPending x → ComesToAnswer h.config x begun
-    → new.view ≡ arrived_view (with_front begun front) → (collected ≡ true → IsFresh h.config new.view) → KnowsProgress progress new.view → IsBetween (Some Answer) asked collected progress new
+    → new.view ≡ gave_back (with_front begun front) new.view → (collected ≡ true → IsFresh h.config new.view) → KnowsProgress progress new.view → IsBetween (Some Answer) asked collected progress new
 answer_between h x begun new front asked collected progress i quiet c is fresh knows = record {
   stands = ap (λ (v : DomainView). v.seen.stage) is ∙ ap Gone (ap kind_in c.stage);
-  quiet = arrived_quiet (with_front begun front) new.view is (looked_quiet h.config x begun c.passed quiet).unprepared;
+  quiet = arrived_quiet (sunk (with_front begun front) new.view) new.view is (looked_quiet h.config x begun c.passed quiet).unprepared;
   even = λ none. cc;
   remembers = λ none. cc;
   emptied = λ none. cc;
@@ -258,7 +259,7 @@ gives_moves h old new a i g =
     let passed = g.comes.passed in
     let number : g.begun.own.number ≡ old.view.own.number = ap (λ (z : DomainView). z.own.number) passed.view in
     let front : List Entry = new.view.seen.front in
-    view_moves h old new (arrived_view (with_front g.begun front)) a i g.view number (ap (λ (z : DomainView). z.own.serial) passed.view) (ap (λ (z : DomainView). z.own.ephemerons) passed.view) (ap (λ (z : DomainView). z.own.finalisers) passed.view) (ap (λ (z : DomainView). z.seen.made) passed.view) (ap (λ (z : DomainView). z.seen.hunt) passed.view)
+    view_moves h old new (gave_back (with_front g.begun front) new.view) a i g.view number (ap (λ (z : DomainView). z.own.serial) passed.view) (ap (λ (z : DomainView). z.own.ephemerons) passed.view) (ap (λ (z : DomainView). z.own.finalisers) passed.view) (ap (λ (z : DomainView). z.seen.made) passed.view) (ap (λ (z : DomainView). z.seen.hunt) passed.view)
     (front_trans old.view.own.number front g.begun.seen.front old.view.seen.front (subst (λ (d : ℕ). IsFrontOf d front g.begun.seen.front) number g.seen) passed.seen)
 
 pub gives_between : (h : SharedHeap) (old new : Token) (asked : Option ℕ) (collected : Bool) (progress : Progress) → IsIn new h → HasNothingPending old.view → GivesBack h.config old.view new.view → KnowsProgress progress new.view → IsBetween (Some Answer) asked collected progress new

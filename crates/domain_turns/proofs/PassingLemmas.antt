@@ -26,6 +26,7 @@ use Rattle.heap_rule.specs.Phases.{Comes, IsEven}
 use Rattle.heap_rule.specs.Rule.{state_of}
 use Rattle.heap_rule.specs.Token.{Token, SharedHeap, IsIn}
 use Rattle.heap_rule.specs.Standing.{noted, with_front}
+use Rattle.pause_phases.specs.Sharing.{gave_back}
 use Rattle.steps_pauses.specs.Pauses.{arrived_view, kind_in, IsModeOf}
 use Rattle.mark_slices.specs.Decks.{DeckCounts, StaysDeck}
 use Rattle.pause_phases.specs.declared.decider.Decider.{Decider}
@@ -71,7 +72,7 @@ answers_pass decider k x begun y known live blocks None c counts =
         led = subst (λ (f : List Entry). IsLed begun.own.number f begun.seen.front) front told.led;
         legal = subst (λ (f : List Entry). Legal (sizes_in k) f) front told.legal;
         answers = subst (λ (f : List Entry). (state_of k f).mode ≡ AnswerMode) front told.answers;
-        view = a.1 ∙ (ap arrived_view told.view ∙ ap (λ (f : List Entry). arrived_view (with_front begun f)) front);
+        view = a.1 ∙ (ap (λ (v : DomainView). gave_back v y) told.view ∙ ap (λ (f : List Entry). gave_back (with_front begun f) y) front);
       },
       subst (λ (f : List Entry). blocks ≡ length (reach (state_of k f))) front told.counts,
     )
@@ -96,7 +97,7 @@ answers_pass decider k x begun y known live blocks (Some reply) c counts =
         front = front;
         answers = subst (λ (d : ℕ). Answers (sizes_in k) d begun.seen.front front (CommandOf d FullMajor false) (Replied reply)) number answers;
         led = subst (λ (d : ℕ). IsLed d front begun.seen.front) number (answered_led (sizes_in k) begun.own.number begun.seen.front counts.0.seen.front front (CommandOf begun.own.number FullMajor false) (Replied reply) told.seen told.led (subst (λ (d : ℕ). Answers (sizes_in k) d counts.0.seen.front front (CommandOf d FullMajor false) (Replied reply)) same l.answers) (subst (λ (d : ℕ). IsLed d front counts.0.seen.front) same l.led));
-        view = a.1.2 ∙ (ap arrived_view l.view ∙ ap (λ (v : DomainView). arrived_view (with_front v front)) told.view);
+        view = a.1.2 ∙ (ap (λ (v : DomainView). gave_back v y) l.view ∙ ap (λ (v : DomainView). gave_back (with_front v front) y) told.view);
         due = subst (λ (v : DomainView). due_of k v ≡ length v.own.finalisers.queue.items) (sym a.1.2) l.due;
       },
     )

@@ -14,7 +14,7 @@ use Rattle.heap_rule.specs.Token.{Token, SharedHeap}
 use Rattle.remembered_set.specs.Bounded.{Bounded}
 use Rattle.size_pools.specs.Taken.{Sought}
 use Rattle.size_pools.proofs.Seeking.{sought_shortens, sought_view}
-use Rattle.steps_pauses.specs.Pauses.{arrived_view}
+use Rattle.pause_phases.specs.Sharing.{gave_back}
 use Rattle.domain_turns.specs.Tries.{ListsEphemeron, Tried, ephemerons_given, labels_given}
 use Rattle.domain_turns.specs.Runs.{Takes}
 
@@ -37,7 +37,7 @@ pub searched_takes : (k : Config) (x y : DomainView) → Sought k x y AtRest →
 searched_takes k x y sought = takes_more x y (ap (λ (z : DomainView). z.own.serial) (sought_view k x y AtRest sought)) (sought_shortens k x y AtRest sought).no_less
 
 -- nor does an arrival
-pub arrived_takes : (x begun y : DomainView) (front : List Entry) → y ≡ arrived_view (with_front begun front) → begun.own.serial ≡ x.own.serial → begun.own.ephemerons ≡ x.own.ephemerons → Takes 0 0 x y
+pub arrived_takes : (x begun y : DomainView) (front : List Entry) → y ≡ gave_back (with_front begun front) y → begun.own.serial ≡ x.own.serial → begun.own.ephemerons ≡ x.own.ephemerons → Takes 0 0 x y
 arrived_takes x begun y front is labels listed = takes_none x y (ap (λ (z : DomainView). z.own.serial) is ∙ labels) (ap (λ (z : DomainView). z.own.ephemerons) is ∙ listed)
 
 -- a command takes room for the ephemeron that it made

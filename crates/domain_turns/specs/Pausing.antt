@@ -29,7 +29,7 @@ use Rattle.steps_promote.specs.Promotion.{reset_view}
 use Rattle.promote_claim.specs.Sharing.{Unprepared, Shared}
 use Rattle.steps_sweep.specs.Answering.{LiveBlocksTold}
 use Rattle.heap_rule.specs.declared.phase.Progress.{Progress}
-use Rattle.pause_phases.specs.Sharing.{SharesIn}
+use Rattle.pause_phases.specs.Sharing.{SharesIn, gave_back}
 use Rattle.pause_phases.specs.Leading.{LeadsOn}
 use Rattle.pause_phases.specs.declared.decider.Decider.{Decider}
 use Rattle.domain_turns.specs.Tries.{IsFresh}
@@ -114,7 +114,7 @@ pub record GivesBack (k : Config) (x y : DomainView) : Type 0 where
   pub led : IsLed begun.own.number y.seen.front begun.seen.front
   pub legal : Legal (sizes_in k) y.seen.front
   pub answers : (state_of k y.seen.front).mode ≡ Answered
-  pub view : y ≡ arrived_view (with_front begun y.seen.front)
+  pub view : y ≡ gave_back (with_front begun y.seen.front) y
 
 -- how many finalisers the domain owes before its next `full_major`
 abbrev pub due_of : Config → DomainView → ℕ
@@ -131,8 +131,8 @@ pub record LivesAs (k : Config) (x y : DomainView) (blocks : ℕ) (reply : Reply
 
 -- and then it arrived, if it waited for one, or it arrived at once
 abbrev pub AnswersFrom : Config → DomainView → DomainView → Bool → ℕ → Option Reply → Type 0
-AnswersFrom k x y live blocks None = (live ≡ false) × (y ≡ arrived_view x)
-AnswersFrom k x y live blocks (Some reply) = (live ≡ true) × ((between : DomainView) × LivesAs k x between blocks reply × (y ≡ arrived_view between))
+AnswersFrom k x y live blocks None = (live ≡ false) × (y ≡ gave_back x y)
+AnswersFrom k x y live blocks (Some reply) = (live ≡ true) × ((between : DomainView) × LivesAs k x between blocks reply × (y ≡ gave_back between y))
 
 -- before that it had found that so many blocks live
 abbrev pub CountsAndAnswers : Config → DomainView → DomainView → Bool → ℕ → Option Reply → Type 0
@@ -149,7 +149,7 @@ pub record AnswersLive (k : Config) (x y : DomainView) (reply : Reply) : Type 0 
   pub front : List Entry
   pub answers : Answers (sizes_in k) x.own.number begun.seen.front front (CommandOf x.own.number FullMajor false) (Replied reply)
   pub led : IsLed x.own.number front begun.seen.front
-  pub view : y ≡ arrived_view (with_front begun front)
+  pub view : y ≡ gave_back (with_front begun front) y
   pub due : due_of k y ≡ length y.own.finalisers.queue.items
 
 -- what a pause leaves of a domain: its minor area is empty, it remembers no field, and no register holds an address of a minor area

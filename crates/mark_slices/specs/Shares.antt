@@ -162,9 +162,9 @@ abbrev pub with_marks : DomainView → DomainView → DomainView
 with_marks x y = with_share x (record x.seen.share { colours = y.seen.share.colours; found_head = y.seen.share.found_head; marked = y.seen.share.marked; darkenings = y.seen.share.darkenings; owes = y.seen.share.owes; account = y.seen.share.account; places_seen = y.seen.share.places_seen; walk = y.seen.share.walk; own_pool = y.seen.share.own_pool })
 
 -- the domain has been at each place of its own pools, and no block is left on its account. Nothing else has changed
-pub record AllWalked (k : Config) (x y : DomainView) : Type 0 where
+pub record AllWalked (x y : DomainView) : Type 0 where
   pub view : y ≡ with_marks x y
-  pub walked : y.seen.share.walk ≡ record { pool = k.pools; slot = 0 }
+  pub walked : y.seen.share.walk ≡ record { pool = x.own.swept.top; slot = 0 }
   pub followed : y.seen.share.account ≡ []
 
 -- an owner's word names none of the domain's classes, or one of them

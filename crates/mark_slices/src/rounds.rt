@@ -62,8 +62,8 @@ fn visit_pool(
     }
 }
 
-// The same for all pools, and then the store of the changed word, where a block may be left that the domain
-// has marked and not followed.
+// The same for all pools below the top, and then the store of the changed word, where a block may be left that
+// the domain has marked and not followed.
 fn walk_pools(heap: &Heap, dom: &mut Domain, trail: &mut Trail, waiting: &mut Waiting)
     requires here { IsIn dom.old heap.now }
     requires stage { dom.old.view.seen.stage ≡ In Mark }
@@ -71,13 +71,13 @@ fn walk_pools(heap: &Heap, dom: &mut Domain, trail: &mut Trail, waiting: &mut Wa
     requires idle { dom.old.view.seen.share.scan ≡ Idle }
     requires followed { dom.old.view.seen.share.account ≡ [] }
     ensures here { IsIn dom.new heap.now }
-    ensures walked { AllWalked heap.now.config dom.old.view dom.new.view }
+    ensures walked { AllWalked dom.old.view dom.new.view }
 {
     trail.start();
     waiting.start(0);
-    let pools = heap.config().pools;
+    let top = dom.swept().top;
     let colours = colours_now(heap, dom);
-    for pool in 0..pools {
+    for pool in 0..top {
         visit_pool(heap, dom, pool, colours, trail, waiting);
     }
     if trail.has_lost() {
@@ -105,7 +105,7 @@ pub fn mark_round(heap: &Heap, dom: &mut Domain, hints: &mut Hints)
     requires idle { dom.old.view.seen.share.scan ≡ Idle }
     requires followed { dom.old.view.seen.share.account ≡ [] }
     ensures here { IsIn dom.new heap.now }
-    ensures walked { AllWalked heap.now.config dom.old.view dom.new.view }
+    ensures walked { AllWalked dom.old.view dom.new.view }
     ensures notes { NotesOn hints.old hints.new }
     ensures takes { TakesOwn hints.old hints.new }
 {

@@ -10,7 +10,7 @@ use Rattle.pause_phases.specs.declared.decider.Decider.TheVariants.{Caller}
 use Rattle.pause_phases.specs.Leading.{Findings, next_kind}
 use Rattle.cycle_laws.specs.Ending.{Answering, GoesOn, Marking, Place, Queueing, Rooting, Rounding, leads_to, pause_left}
 use Rattle.cycle_laws.proofs.Ending.{Fewer, nearer}
-use Rattle.pause_laws.specs.Walk.{marking_place, place_named, place_of}
+use Rattle.pause_phases.specs.Measure.{marking_place, place_named, place_of}
 
 -- which place comes where a kind is named
 mark_named : (cut b : Bool) → place_named cut (if b then Rounds else Mark) ≡ leads_to (marking_place cut Marking) (not b)

@@ -1,3 +1,2 @@
 pub mod Ties
-pub mod Walk
 pub mod Blocks

@@ -1,25 +1,26 @@
 -- What domain 0 has done that has named the next kind, and arrived.
-use Rattle.std.proofs.Common.{◌≡◌, ◌∙◌, ◌++◌, ℕ, Bool, List, Some, sym, ap, subst, append_assoc}
+use Rattle.std.proofs.Common.{◌≡◌, ◌∙◌, ◌++◌, ◌≤◌, ℕ, Bool, List, Option, Some, refl, sym, ap, subst, append_assoc}
 use Rattle.heap_model.specs.declared.entry.Entry.{Entry}
 use Rattle.heap_model.specs.Fronts.{AreNotControls, IsFrontOf, unseen}
 use Rattle.heap_model.specs.History.{Legal}
 use Rattle.heap_rule.specs.declared.config.Config.{Config}
 use Rattle.heap_rule.specs.declared.phase.Kind.{Kind}
-use Rattle.heap_rule.specs.declared.phase.Kind.TheVariants.{Mark}
+use Rattle.heap_rule.specs.declared.phase.Kind.TheVariants.{Run, Promote, Reset, Roots, Mark, Rounds, Decide, Queued, Clean, Lasts, Sweep, Answer}
 use Rattle.heap_rule.specs.declared.phase.Note.{Note}
 use Rattle.heap_rule.specs.declared.phase.Progress.{Progress}
 use Rattle.heap_rule.specs.declared.phase.Stage.TheVariants.{Leads, Led}
 use Rattle.heap_rule.specs.declared.view.DomainView.{DomainView}
 use Rattle.heap_rule.specs.Limits.{sizes_in}
 use Rattle.heap_rule.specs.Views.{fresh_share}
-use Rattle.steps_pauses.specs.Pauses.{EndsWith, arrived_view, entry_of, kind_in, progress_after}
+use Rattle.steps_pauses.specs.Pauses.{EndsWith, arrived_view, asks_again, entry_of, kind_in, progress_after, unmarked_after}
+use Rattle.heap_rule.specs.Cycles.{IsMarking}
 use Rattle.safepoint.specs.Looks.{LedTo, cleared}
 use Rattle.pause_phases.specs.declared.decider.Decider.{Decider}
 use Rattle.pause_phases.specs.Leading.{LeadsOn, Named, Opens, noted_before, set_back_for}
 
 -- the domain with another front, other notes, and the next kind named
-abbrev led_with : DomainView → Kind → List Entry → List Note → Progress → DomainView
-led_with x kind front notes p = record x { seen = record x.seen { front = front; notes = notes; stage = Led kind; share = record fresh_share { progress = p } } }
+abbrev led_with : DomainView → Kind → List Entry → List Note → Progress → ℕ → DomainView
+led_with x kind front notes p unmarked = record x { seen = record x.seen { front = front; notes = notes; stage = Led kind; share = record fresh_share { progress = p; unmarked = unmarked } } }
 
 module _ (k : Config) (who : Decider) (x y z v : DomainView) (last kind : Kind) (stage : x.seen.stage ≡ Leads last) (o : Opens k who x y last kind) (n : Named k kind y z) (is : v ≡ arrived_view z) where
   l : LedTo k kind y n.named
@@ -67,14 +68,39 @@ module _ (k : Config) (who : Decider) (x y z v : DomainView) (last kind : Kind) 
         legal = subst (λ (f : List Entry). Legal (sizes_in k) f) (sym front_is) m.legal;
       }
 
-  view_is : v ≡ arrived_view (led_with x kind v.seen.front v.seen.notes (progress_after last kind x.seen.share.progress))
+  -- so many blocks aren't marked at most
+  abbrev now_unmarked : ℕ
+  now_unmarked = unmarked_after k (kind_in y.seen.stage) y.seen.share.changed y.seen.share.unmarked
+
+  fewer : (kind_was : Kind) → last ≡ kind_was → unmarked_after k kind_was y.seen.share.changed x.seen.share.unmarked ≡ unmarked_after k kind_was (Some o.findings.changed) x.seen.share.unmarked
+  fewer Mark e = ap (λ (c : Option ℕ). unmarked_after k Mark c x.seen.share.unmarked) (o.changed_is (subst IsMarking (sym e) tt))
+  fewer Rounds e = ap (λ (c : Option ℕ). unmarked_after k Rounds c x.seen.share.unmarked) (o.changed_is (subst IsMarking (sym e) tt))
+  fewer Run e = refl
+  fewer Promote e = refl
+  fewer Reset e = refl
+  fewer Roots e = refl
+  fewer Decide e = refl
+  fewer Queued e = refl
+  fewer Clean e = refl
+  fewer Lasts e = refl
+  fewer Sweep e = refl
+  fewer Answer e = refl
+
+  unmarked_now : now_unmarked ≡ unmarked_after k last (Some o.findings.changed) x.seen.share.unmarked
+  unmarked_now = ap (λ (n : Kind). unmarked_after k n y.seen.share.changed y.seen.share.unmarked) last_is ∙ (ap (unmarked_after k last y.seen.share.changed) o.unmarked_is ∙ fewer last refl)
+
+  view_is : v ≡ arrived_view (led_with x kind v.seen.front v.seen.notes (progress_after last kind x.seen.share.progress) (unmarked_after k last (Some o.findings.changed) x.seen.share.unmarked))
   view_is =
       let p : Progress = progress_after (kind_in y.seen.stage) kind y.seen.share.progress in
       arrives ∙ (ap arrived_view l.view
-      ∙ (ap (λ (w : DomainView). arrived_view (led_with w kind n.named.seen.front (y.seen.notes ++ cleared kind) p)) o.view
-      ∙ (ap (λ (f : List Entry). arrived_view (led_with x kind f (y.seen.notes ++ cleared kind) p)) (sym front_is)
-      ∙ (ap (λ (notes : List Note). arrived_view (led_with x kind v.seen.front notes p)) (sym named)
-      ∙ ap (λ (q : Progress). arrived_view (led_with x kind v.seen.front v.seen.notes q)) progress_now))))
+      ∙ (ap (λ (w : DomainView). arrived_view (led_with w kind n.named.seen.front (y.seen.notes ++ cleared kind) p now_unmarked)) o.view
+      ∙ (ap (λ (f : List Entry). arrived_view (led_with x kind f (y.seen.notes ++ cleared kind) p now_unmarked)) (sym front_is)
+      ∙ (ap (λ (notes : List Note). arrived_view (led_with x kind v.seen.front notes p now_unmarked)) (sym named)
+      ∙ (ap (λ (q : Progress). arrived_view (led_with x kind v.seen.front v.seen.notes q now_unmarked)) progress_now
+      ∙ ap (λ (u : ℕ). arrived_view (led_with x kind v.seen.front v.seen.notes (progress_after last kind x.seen.share.progress) u)) unmarked_now)))))
+
+  grown : IsMarking last → asks_again (Some o.findings.changed) ≤ x.seen.share.unmarked
+  grown marking = subst (λ (z : Option ℕ × ℕ). asks_again z.0 ≤ z.1) (λ i. (o.changed_is marking i, o.unmarked_is i)) (l.grown (subst IsMarking (sym last_is) marking))
 
   pub leads_on : LeadsOn k who x v last kind
   leads_on = record {
@@ -86,6 +112,7 @@ module _ (k : Config) (who : Decider) (x y z v : DomainView) (last kind : Kind) 
     stays = λ none. front_is ∙ (l.stays (entry_now ∙ none) ∙ same_front);
     made = ends;
     view = view_is;
+    grown = grown;
   }
 
 -- whoever has named a phase in which blocks are marked has set the changed word back

@@ -1,4 +1,5 @@
 pub mod Opens
 pub mod Leads
+pub mod Measure
 pub mod Sorted
 pub mod Works

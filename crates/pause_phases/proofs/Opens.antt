@@ -15,6 +15,7 @@ use Rattle.heap_rule.specs.declared.view.DomainView.{DomainView}
 use Rattle.heap_rule.specs.declared.view.Listing.{Listing}
 use Rattle.heap_rule.specs.declared.view.Share.{Share}
 use Rattle.heap_rule.specs.Copies.{IsEmptying}
+use Rattle.heap_rule.specs.Cycles.{IsMarking}
 use Rattle.heap_rule.specs.Phases.{Follows, last_note}
 use Rattle.heap_rule.specs.Standing.{noted}
 use Rattle.steps_pauses.specs.Pauses.{MayFollow}
@@ -177,7 +178,7 @@ nothing_found = record { wants = 0; changed = 0; free = 0 }
 
 -- the kinds after which nothing is asked
 abbrev IsBlind : Kind → Type 0
-IsBlind last = (last ≢ Reset) × (last ≢ Lasts)
+IsBlind last = (last ≢ Reset) × (last ≢ Lasts) × (IsMarking last → ⊥)
 
 -- the kinds before which nothing is asked
 abbrev IsFree : Kind → Type 0
@@ -192,18 +193,20 @@ goes k who x last next blind free follows chosen none = record {
   list = λ e. absurd (free.0 e);
   set_back = λ e. absurd (free.1 e);
   progress_is = refl;
+  unmarked_is = refl;
+  changed_is = λ marking. absurd (blind.2 marking);
   view = opened_as x x x.seen.notes (x.seen.notes ++ noted_before last next x.seen.share.progress nothing_found) x.seen.listing x.seen.share refl (no_notes x ∙ ap (λ (l : List Note). x.seen.notes ++ l) none);
 }
 
 module _ (k : Config) (who : Decider) (x : DomainView) where
   pub promote_opens : Opens k who x x Promote Reset
-  promote_opens = goes k who x Promote Reset ((λ e. cc), λ e. cc) ((λ e. cc), (λ e. cc), (λ e. cc), (λ e. cc), (λ e. cc), (λ e. cc), λ e. cc) refl refl refl
+  promote_opens = goes k who x Promote Reset ((λ e. cc), (λ e. cc), λ is. is) ((λ e. cc), (λ e. cc), (λ e. cc), (λ e. cc), (λ e. cc), (λ e. cc), λ e. cc) refl refl refl
 
   pub decide_opens : Opens k who x x Decide Queued
-  decide_opens = goes k who x Decide Queued ((λ e. cc), λ e. cc) ((λ e. cc), (λ e. cc), (λ e. cc), (λ e. cc), (λ e. cc), (λ e. cc), λ e. cc) refl refl refl
+  decide_opens = goes k who x Decide Queued ((λ e. cc), (λ e. cc), λ is. is) ((λ e. cc), (λ e. cc), (λ e. cc), (λ e. cc), (λ e. cc), (λ e. cc), λ e. cc) refl refl refl
 
   pub clean_opens : Opens k who x x Clean Lasts
-  clean_opens = goes k who x Clean Lasts ((λ e. cc), λ e. cc) ((λ e. cc), (λ e. cc), (λ e. cc), (λ e. cc), (λ e. cc), (λ e. cc), λ e. cc) refl refl refl
+  clean_opens = goes k who x Clean Lasts ((λ e. cc), (λ e. cc), λ is. is) ((λ e. cc), (λ e. cc), (λ e. cc), (λ e. cc), (λ e. cc), (λ e. cc), λ e. cc) refl refl refl
 
   -- before Promote the cursor is set back
   pub run_opens : (y : DomainView) → last_note y.seen.notes ≡ Some SetBack → SetsBack x y → Opens k who x y Run Promote
@@ -215,6 +218,8 @@ module _ (k : Config) (who : Decider) (x : DomainView) where
     list = λ e. cc;
     set_back = λ _. set_back;
     progress_is = ap (λ (z : DomainView). z.seen.share.progress) same;
+    unmarked_is = ap (λ (z : DomainView). z.seen.share.unmarked) same;
+    changed_is = λ marking. absurd marking;
     view = opened_as x y (x.seen.notes ++ SetBack ∷ []) _ y.seen.listing x.seen.share same refl;
   }
 
@@ -259,6 +264,8 @@ module _ (k : Config) (who : Decider) (x : DomainView) where
       list = λ e. absurd (run e);
       set_back = λ e. absurd (promote e);
       progress_is = ap (λ (z : DomainView). z.seen.share.progress) told;
+      unmarked_is = ap (λ (z : DomainView). z.seen.share.unmarked) told;
+      changed_is = λ _. knows;
       view = opened_as x y (x.seen.notes ++ Changed found ∷ []) (x.seen.notes ++ noted_before last next x.seen.share.progress (changed_as found)) x.seen.listing (record x.seen.share { changed = Some found }) told (ap (λ (l : List Note). x.seen.notes ++ l) notes);
     }
 
@@ -291,10 +298,10 @@ module _ (k : Config) (who : Decider) (x : DomainView) where
     queued_goes_on some = changed_opens Queued Mark (inl refl) (ap (λ (b : Bool). if b then Clean else Mark) (sym (ne_eqb found 0 some))) refl (λ e. cc) (λ e. cc) (goes_back Queued (λ e. cc) (λ e. cc))
 
   -- the list of free pools, where it was seen to and nothing else done since
-  list_as : (y z : DomainView) → z.seen.listing ≡ y.seen.listing → z.seen.stage ≡ y.seen.stage → z.own.number ≡ y.own.number → NamesAll k y → NamesAll k z
-  list_as y z same stage number = ⊎_elim
+  list_as : (y z : DomainView) → z.seen.listing ≡ y.seen.listing → NamesAll k y → NamesAll k z
+  list_as y z same = ⊎_elim
       (λ (l : HasList k y). inl (record { owners = l.owners; all = l.all; listing = same ∙ l.listing }))
-      (λ (l : ListStays k y). inr (record { leads = record { first = number ∙ l.leads.first; stage = stage ∙ l.leads.stage }; list = l.list; listing = same ∙ l.listing; some = l.some; at = l.at; cursor_is = l.cursor_is; low = l.low }))
+      (λ (l : ListStays k y). inr (record { list = l.list; listing = same ∙ l.listing; some = l.some; at = l.at; cursor_is = l.cursor_is; low = l.low }))
 
   -- what comes after Sweep, by whether garbage was left of an earlier pause, whether a cycle begins, and whether the one that ended began in this pause
   abbrev after_sweep : Bool → Bool → Bool → Kind
@@ -315,7 +322,7 @@ module _ (k : Config) (who : Decider) (x : DomainView) where
     is = told ∙ ap (λ (w : DomainView). noted w (Want found)) lists
 
     -- in the view that it then has
-    module _ (u : DomainView) (share : Share) (view : u ≡ opened x two_notes y.seen.listing share) (progress : share.progress ≡ x.seen.share.progress) where
+    module _ (u : DomainView) (share : Share) (view : u ≡ opened x two_notes y.seen.listing share) (kept : (share.progress ≡ x.seen.share.progress) × (share.unmarked ≡ x.seen.share.unmarked)) where
       listed : u.seen.listing ≡ y.seen.listing
       listed = ap (λ (w : DomainView). w.seen.listing) view
 
@@ -326,24 +333,26 @@ module _ (k : Config) (who : Decider) (x : DomainView) where
       reset_with next chosen cleared =
           let p : Progress = x.seen.share.progress in
           let b = begins k who found free in
-          let knows_all : ResetKnows share p.armed p.unswept (kind_after_reset k who found free p) = record { known = ap (λ (q : Progress). q.armed) progress; owed = ap (λ (q : Progress). q.unswept) progress; cleared = λ e. cleared (chosen ∙ e) } in record {
+          let knows_all : ResetKnows share p.armed p.unswept (kind_after_reset k who found free p) = record { known = ap (λ (q : Progress). q.armed) kept.0; owed = ap (λ (q : Progress). q.unswept) kept.0; cleared = λ e. cleared (chosen ∙ e) } in record {
             follows = subst (Follows Reset) (sym chosen) (reset_follows p.armed (finishes who found) b p.unswept);
             findings = wishes;
             chosen = chosen;
             may = subst (λ (s : Share). MayFollow s Reset next) (sym share_is) (subst (MayFollow share Reset) (sym chosen) (reset_may share p.armed (finishes who found) b p.unswept knows_all));
-            list = λ _. list_as y u listed (ap (λ (w : DomainView). w.seen.stage) view ∙ sym (ap (λ (w : DomainView). w.seen.stage) lists)) (ap (λ (w : DomainView). w.own.number) view ∙ sym (ap (λ (w : DomainView). w.own.number) lists)) list;
+            list = λ _. list_as y u listed list;
             set_back = λ e. absurd (reset_copies p.armed (finishes who found) b p.unswept (sym chosen ∙ e));
-            progress_is = ap (λ (s : Share). s.progress) share_is ∙ progress;
+            progress_is = ap (λ (s : Share). s.progress) share_is ∙ kept.0;
+            unmarked_is = ap (λ (s : Share). s.unmarked) share_is ∙ kept.1;
+            changed_is = λ marking. absurd marking;
             view = opened_as x u two_notes _ y.seen.listing share view in_order;
           }
 
     pub reset_opens : (next : Kind) → next ≡ kind_after_reset k who found free x.seen.share.progress → next ≢ Sweep → Opens k who x z Reset next
-    reset_opens next chosen other = reset_with z x.seen.share is refl next chosen (λ e. absurd (other e))
+    reset_opens next chosen other = reset_with z x.seen.share is (refl, refl) next chosen (λ e. absurd (other e))
 
     -- before garbage is freed it sets back what is counted
     pub reset_frees : (u : DomainView) (next : Kind) → CountsCleared z u → next ≡ kind_after_reset k who found free x.seen.share.progress → Opens k who x u Reset next
     reset_frees u next cleared chosen = reset_with u (record x.seen.share { blocks = Some 0; words = Some 0 })
-        (cleared ∙ ap (λ (w : DomainView). with_share w (record w.seen.share { blocks = Some 0; words = Some 0 })) is) refl next chosen (λ _. (refl, refl))
+        (cleared ∙ ap (λ (w : DomainView). with_share w (record w.seen.share { blocks = Some 0; words = Some 0 })) is) (refl, refl) next chosen (λ _. (refl, refl))
 
     -- where garbage was left of an earlier pause
     late_opens : (next : Kind) → x.seen.share.progress.unswept ≡ true → Follows Sweep next → next ≡ next_kind k who Sweep x.seen.share.progress wishes → next ≢ Promote → MayFollow x.seen.share Sweep next → Opens k who x z Sweep next
@@ -352,9 +361,11 @@ module _ (k : Config) (who : Decider) (x : DomainView) where
       findings = wishes;
       chosen = chosen;
       may = subst (λ (s : Share). MayFollow s Sweep next) (sym (ap (λ (w : DomainView). w.seen.share) is)) may;
-      list = λ _. list_as y z (ap (λ (w : DomainView). w.seen.listing) is) (ap (λ (w : DomainView). w.seen.stage) told) (ap (λ (w : DomainView). w.own.number) told) list;
+      list = λ _. list_as y z (ap (λ (w : DomainView). w.seen.listing) is) list;
       set_back = λ e. absurd (copies e);
       progress_is = ap (λ (w : DomainView). w.seen.share.progress) is;
+      unmarked_is = ap (λ (w : DomainView). w.seen.share.unmarked) is;
+      changed_is = λ marking. absurd marking;
       view = opened_as x z two_notes _ y.seen.listing x.seen.share is (in_order ∙ ap (λ (b : Bool). x.seen.notes ++ (if b then Listed free ∷ Want found ∷ [] else [])) (sym owed));
     }
 
@@ -375,10 +386,11 @@ module _ (k : Config) (who : Decider) (x : DomainView) where
     follows : Follows last next
     chosen : next ≡ next_kind k who last x.seen.share.progress f
     copies : next ≢ Promote
+    calm : IsMarking last → ⊥
 
   -- with what it then knows of the phase
-  decides : (last next : Kind) (f : Findings) (u : DomainView) (share : Share) → Decides last next f → u ≡ opened x (x.seen.notes ++ noted_before last next x.seen.share.progress f) u.seen.listing share → share.progress ≡ x.seen.share.progress → MayFollow share last next → (next ≡ Run → NamesAll k u) → Opens k who x u last next
-  decides last next f u share d view progress may list =
+  decides : (last next : Kind) (f : Findings) (u : DomainView) (share : Share) → Decides last next f → u ≡ opened x (x.seen.notes ++ noted_before last next x.seen.share.progress f) u.seen.listing share → (share.progress ≡ x.seen.share.progress) × (share.unmarked ≡ x.seen.share.unmarked) → MayFollow share last next → (next ≡ Run → NamesAll k u) → Opens k who x u last next
+  decides last next f u share d view kept may list =
       let same : u.seen.share ≡ share = ap (λ (w : DomainView). w.seen.share) view in record {
         follows = d.follows;
         findings = f;
@@ -386,7 +398,9 @@ module _ (k : Config) (who : Decider) (x : DomainView) where
         may = subst (λ (s : Share). MayFollow s last next) (sym same) may;
         list = list;
         set_back = λ e. absurd (d.copies e);
-        progress_is = ap (λ (s : Share). s.progress) same ∙ progress;
+        progress_is = ap (λ (s : Share). s.progress) same ∙ kept.0;
+        unmarked_is = ap (λ (s : Share). s.unmarked) same ∙ kept.1;
+        changed_is = λ marking. absurd (d.calm marking);
         view = let notes : List Note = x.seen.notes ++ noted_before last next x.seen.share.progress f in opened_as x u notes notes u.seen.listing share view refl;
       }
 
@@ -394,8 +408,8 @@ module _ (k : Config) (who : Decider) (x : DomainView) where
   unopened = ap (λ (n : List Note). opened x n x.seen.listing x.seen.share) (no_notes x)
 
   pub roots_end : (y : DomainView) (found : ℕ) → y ≡ noted x (Want found) → completes who found ≡ true → Opens k who x y Roots Mark
-  roots_end y found told full = decides Roots Mark (wished found 0) y x.seen.share record { follows = inl refl; chosen = ap (λ (b : Bool). if b then Mark else Run) (sym full); copies = λ e. cc }
-      (told ∙ ap (λ (l : Option Listing). opened x (x.seen.notes ++ Want found ∷ []) l x.seen.share) (sym (ap (λ (w : DomainView). w.seen.listing) told))) refl
+  roots_end y found told full = decides Roots Mark (wished found 0) y x.seen.share record { follows = inl refl; chosen = ap (λ (b : Bool). if b then Mark else Run) (sym full); copies = λ e. cc; calm = λ is. is }
+      (told ∙ ap (λ (l : Option Listing). opened x (x.seen.notes ++ Want found ∷ []) l x.seen.share) (sym (ap (λ (w : DomainView). w.seen.listing) told))) (refl, refl)
       (asks_nothing x.seen.share Roots Mark record { rounds = λ e. cc; decide = λ e. cc; clean = λ e. cc; answer = λ e. cc; run = λ e. cc; sweep = λ e. cc; lasts = λ e. cc; reset = λ e. cc })
       (λ e. cc)
 
@@ -403,14 +417,14 @@ module _ (k : Config) (who : Decider) (x : DomainView) where
   quiet_sweep none = unopened ∙ ap (λ (b : Bool). opened x (x.seen.notes ++ (if b then Listed 0 ∷ Want 0 ∷ [] else [])) x.seen.listing x.seen.share) (sym none)
 
   pub sweep_begins : x.seen.share.progress.unswept ≡ false → x.seen.share.progress.whole ≡ false → Opens k who x x Sweep Roots
-  sweep_begins none part = decides Sweep Roots nothing_found x x.seen.share record { follows = inr (inr refl); chosen = λ i. after_sweep (sym none i) (begins k who 0 0) (sym part i); copies = λ e. cc }
-      (quiet_sweep none) refl
+  sweep_begins none part = decides Sweep Roots nothing_found x x.seen.share record { follows = inr (inr refl); chosen = λ i. after_sweep (sym none i) (begins k who 0 0) (sym part i); copies = λ e. cc; calm = λ is. is }
+      (quiet_sweep none) (refl, refl)
       (asks_nothing x.seen.share Sweep Roots record { rounds = λ e. cc; decide = λ e. cc; clean = λ e. cc; answer = λ e. cc; run = λ e. cc; sweep = λ e. cc; lasts = λ e. cc; reset = λ e. cc })
       (λ e. cc)
 
   pub sweep_answers : x.seen.share.progress.unswept ≡ false → x.seen.share.progress.whole ≡ true → Opens k who x x Sweep Answer
-  sweep_answers none all = decides Sweep Answer nothing_found x x.seen.share record { follows = inr (inl refl); chosen = λ i. after_sweep (sym none i) (begins k who 0 0) (sym all i); copies = λ e. cc }
-      (quiet_sweep none) refl
+  sweep_answers none all = decides Sweep Answer nothing_found x x.seen.share record { follows = inr (inl refl); chosen = λ i. after_sweep (sym none i) (begins k who 0 0) (sym all i); copies = λ e. cc; calm = λ is. is }
+      (quiet_sweep none) (refl, refl)
       record {
         unchanged = ⊎_elim (λ (e : Answer ≡ Rounds). cc) (⊎_elim (λ (e : Answer ≡ Decide). cc) (λ (e : Answer ≡ Clean). cc));
         first = λ e. cc;
@@ -439,14 +453,14 @@ module _ (k : Config) (who : Decider) (x : DomainView) where
     turned_is = wished_view
 
     lasts_decides : (next : Kind) (free : ℕ) → Follows Lasts next → next ≡ (if completes who found then Sweep else Run) → next ≢ Promote → Decides Lasts next (wished found free)
-    lasts_decides next free follows chosen copies = record { follows = follows; chosen = chosen; copies = copies }
+    lasts_decides next free follows chosen copies = record { follows = follows; chosen = chosen; copies = copies; calm = λ is. is }
 
     -- it sets back what is counted, and garbage is freed in this pause
     pub lasts_frees : (u : DomainView) → completes who found ≡ true → CountsCleared y3 u → Opens k who x u Lasts Sweep
     lasts_frees u full cleared =
         let view : u ≡ opened x (x.seen.notes ++ Want found ∷ []) x.seen.listing (record turned_share { blocks = Some 0; words = Some 0 }) = cleared ∙ ap (λ (w : DomainView). with_share w (record w.seen.share { blocks = Some 0; words = Some 0 })) turned_is in
         let here = view ∙ ap (λ (l : Option Listing). opened x (x.seen.notes ++ Want found ∷ []) l (record turned_share { blocks = Some 0; words = Some 0 })) (sym (ap (λ (w : DomainView). w.seen.listing) view)) in
-        decides Lasts Sweep (wished found 0) u (record turned_share { blocks = Some 0; words = Some 0 }) (lasts_decides Sweep 0 (inl refl) (ap (λ (b : Bool). if b then Sweep else Run) (sym full)) (λ e. cc)) here refl
+        decides Lasts Sweep (wished found 0) u (record turned_share { blocks = Some 0; words = Some 0 }) (lasts_decides Sweep 0 (inl refl) (ap (λ (b : Bool). if b then Sweep else Run) (sym full)) (λ e. cc)) here (refl, refl)
         record {
           unchanged = ⊎_elim (λ (e : Sweep ≡ Rounds). cc) (⊎_elim (λ (e : Sweep ≡ Decide). cc) (λ (e : Sweep ≡ Clean). cc));
           first = λ e. cc;
@@ -464,17 +478,17 @@ module _ (k : Config) (who : Decider) (x : DomainView) where
         (λ e. cc)
 
     -- or the domains run, and free it as they do
-    pub lasts_run : (z : DomainView) (free : ℕ) → completes who found ≡ false → ListsFree free (knowing_armed y3 false) z → HasList k z → Opens k who x z Lasts Run
+    pub lasts_run : (z : DomainView) (free : ℕ) → completes who found ≡ false → ListsFree free (knowing_armed y3 false) z → NamesAll k z → Opens k who x z Lasts Run
     lasts_run z free part lists list =
         let share : Share = record turned_share { armed = Some false } in
         let view : z ≡ opened x ((x.seen.notes ++ Want found ∷ []) ++ Listed free ∷ []) z.seen.listing share = lists ∙ ap (λ (w : DomainView). noted (with_listing (knowing_armed w false) z.seen.listing) (Listed free)) turned_is in
         decides Lasts Run (wished found free) z share (lasts_decides Run free (inr refl) (ap (λ (b : Bool). if b then Sweep else Run) (sym part)) (λ e. cc))
-        (view ∙ ap (λ (n : List Note). opened x n z.seen.listing share) (append_assoc x.seen.notes (Want found ∷ []) (Listed free ∷ []))) refl
+        (view ∙ ap (λ (n : List Note). opened x n z.seen.listing share) (append_assoc x.seen.notes (Want found ∷ []) (Listed free ∷ []))) (refl, refl)
         (runs_may share Lasts record { rotated = λ _. refl; on = λ e. cc; over = λ _. refl; freed = λ e. cc })
-        (λ _. inl list)
+        (λ _. list)
 
   -- before the domains run the armed word and the list are written
-  module _ (y z : DomainView) (armed : Bool) (free : ℕ) (lists : ListsFree free (knowing_armed y armed) z) (list : HasList k z) where
+  module _ (y z : DomainView) (armed : Bool) (free : ℕ) (lists : ListsFree free (knowing_armed y armed) z) (list : NamesAll k z) where
     abbrev armed_share : Share
     armed_share = record x.seen.share { armed = Some armed }
 
@@ -482,13 +496,13 @@ module _ (k : Config) (who : Decider) (x : DomainView) where
     armed_view notes before = lists ∙ ap (λ (w : DomainView). noted (with_listing (knowing_armed w armed) z.seen.listing) (Listed free)) before
 
     pub roots_run : (found : ℕ) → y ≡ noted x (Want found) → completes who found ≡ false → armed ≡ true → Opens k who x z Roots Run
-    roots_run found told part is = decides Roots Run (wished found free) z armed_share record { follows = inr refl; chosen = ap (λ (b : Bool). if b then Mark else Run) (sym part); copies = λ e. cc }
-        (armed_view (x.seen.notes ++ Want found ∷ []) told ∙ ap (λ (n : List Note). opened x n z.seen.listing armed_share) (append_assoc x.seen.notes (Want found ∷ []) (Listed free ∷ []))) refl
+    roots_run found told part is = decides Roots Run (wished found free) z armed_share record { follows = inr refl; chosen = ap (λ (b : Bool). if b then Mark else Run) (sym part); copies = λ e. cc; calm = λ is. is }
+        (armed_view (x.seen.notes ++ Want found ∷ []) told ∙ ap (λ (n : List Note). opened x n z.seen.listing armed_share) (append_assoc x.seen.notes (Want found ∷ []) (Listed free ∷ []))) (refl, refl)
         (runs_may armed_share Roots record { rotated = λ e. cc; on = λ _. ap Some is; over = ⊎_elim (λ (e : Roots ≡ Lasts). cc) (λ (e : Roots ≡ Answer). cc); freed = λ e. cc })
-        (λ _. inl list)
+        (λ _. list)
 
     pub answer_runs : y ≡ x → armed ≡ false → Opens k who x z Answer Run
-    answer_runs told is = decides Answer Run (wished 0 free) z armed_share record { follows = refl; chosen = refl; copies = λ e. cc }
-        (armed_view x.seen.notes told) refl
+    answer_runs told is = decides Answer Run (wished 0 free) z armed_share record { follows = refl; chosen = refl; copies = λ e. cc; calm = λ is. is }
+        (armed_view x.seen.notes told) (refl, refl)
         (runs_may armed_share Answer record { rotated = λ e. cc; on = λ e. cc; over = λ _. ap Some is; freed = λ e. cc })
-        (λ _. inl list)
+        (λ _. list)

@@ -1,5 +1,5 @@
 -- How domain 0 leads through a collection of the major heap.
-use Rattle.std.specs.Prelude.{◌≡◌, ℕ, ◌*◌, ◌==◌, ◌||◌, nat_lt, if◌then◌else◌, Bool, List, [], ◌∷◌, ◌++◌, Option, Some, None}
+use Rattle.std.specs.Prelude.{◌≡◌, ℕ, ◌≤◌, ◌*◌, ◌==◌, ◌||◌, nat_lt, if◌then◌else◌, Bool, List, [], ◌∷◌, ◌++◌, Option, Some, None}
 use Rattle.heap_model.specs.declared.entry.Entry.{Entry}
 use Rattle.heap_model.specs.Fronts.{IsFrontOf}
 use Rattle.heap_rule.specs.declared.config.Config.{Config}
@@ -12,7 +12,8 @@ use Rattle.heap_rule.specs.declared.phase.Progress.{Progress}
 use Rattle.heap_rule.specs.declared.phase.Stage.TheVariants.{Led}
 use Rattle.heap_rule.specs.Phases.{Follows, last_note}
 use Rattle.heap_rule.specs.Views.{fresh_share}
-use Rattle.steps_pauses.specs.Pauses.{EndsWith, MayFollow, arrived_view, entry_of, progress_after}
+use Rattle.steps_pauses.specs.Pauses.{EndsWith, MayFollow, arrived_view, asks_again, entry_of, progress_after, unmarked_after}
+use Rattle.heap_rule.specs.Cycles.{IsMarking}
 use Rattle.steps_pools.specs.Listings.{NamesAll}
 use Rattle.safepoint.specs.declared.answer.Want.TheVariants.{Cycle, Finish, Full}
 use Rattle.safepoint.specs.Looks.{LedTo, cleared, is_wanted}
@@ -110,9 +111,11 @@ pub record Opens (k : Config) (decider : Decider) (x y : DomainView) (last kind 
   pub list : kind ≡ Run → NamesAll k y
   pub set_back : kind ≡ Promote → last_note y.seen.notes ≡ Some SetBack
   pub progress_is : y.seen.share.progress ≡ x.seen.share.progress
+  pub unmarked_is : y.seen.share.unmarked ≡ x.seen.share.unmarked
+  pub changed_is : IsMarking last → y.seen.share.changed ≡ Some findings.changed
   pub view : y ≡ opened_view x y (x.seen.notes ++ noted_before last kind x.seen.share.progress findings)
 
--- domain 0 has named the kind that comes next by what it found or the caller says, and arrived. The collector's entry stands, if there is one, and what the domain knew of the phase is void
+-- Domain 0 has named the kind that comes next by what it found or the caller says, and arrived. The collector's entry stands, if there is one, and what the domain knew of the phase is void, but for how far the collection has come and how many blocks aren't marked at most. A phase of the marking that asks for another one has marked a block, so one fewer isn't
 pub record LeadsOn (k : Config) (decider : Decider) (x y : DomainView) (last kind : Kind) : Type 0 where
   pub follows : Follows last kind
   pub findings : Findings
@@ -121,4 +124,5 @@ pub record LeadsOn (k : Config) (decider : Decider) (x y : DomainView) (last kin
   pub seen : IsFrontOf x.own.number y.seen.front x.seen.front
   pub stays : entry_of x.seen.share.progress.unswept last kind ≡ None → y.seen.front ≡ x.seen.front
   pub made : (e : Entry) → entry_of x.seen.share.progress.unswept last kind ≡ Some e → EndsWith k x y e
-  pub view : y ≡ arrived_view (record x { seen = record x.seen { front = y.seen.front; notes = y.seen.notes; stage = Led kind; share = record fresh_share { progress = progress_after last kind x.seen.share.progress } } })
+  pub view : y ≡ arrived_view (record x { seen = record x.seen { front = y.seen.front; notes = y.seen.notes; stage = Led kind; share = record fresh_share { progress = progress_after last kind x.seen.share.progress; unmarked = unmarked_after k last (Some findings.changed) x.seen.share.unmarked } } })
+  pub grown : IsMarking last → asks_again (Some findings.changed) ≤ x.seen.share.unmarked

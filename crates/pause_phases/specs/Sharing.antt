@@ -12,6 +12,7 @@ use Rattle.heap_rule.specs.declared.view.Waiting.{Waiting}
 use Rattle.heap_rule.specs.Finalisers.{RefersOld}
 use Rattle.heap_rule.specs.Limits.{sizes_in}
 use Rattle.heap_rule.specs.Sweeping.{nothing_swept}
+use Rattle.sweeper.specs.Emptiness.{sunk}
 use Rattle.steps_finalisers.specs.Registering.{count_of}
 use Rattle.steps_pauses.specs.Pauses.{HasDone, arrived_view}
 use Rattle.mark_slices.specs.Decks.{DeckCounts, NotesAlone, NotesAtMost, NotesOn, TakesOwn}
@@ -38,7 +39,11 @@ with_shared x y = record { own = record x.own { looked = y.own.looked; ephemeron
 
 -- and with what it knows of the phase as another has it
 abbrev pub with_work : DomainView → DomainView → DomainView
-with_work x y = record { own = record x.own { looked = y.own.looked; ephemerons = y.own.ephemerons; swept = y.own.swept; finalisers = y.own.finalisers }; seen = record x.seen { front = y.seen.front; share = y.seen.share } }
+with_work x y = record { own = record x.own { looked = y.own.looked; ephemerons = y.own.ephemerons; swept = y.own.swept; finalisers = y.own.finalisers }; seen = record x.seen { front = y.seen.front; listing = y.seen.listing; share = y.seen.share } }
+
+-- the domain has given back its pools in which nothing was left, so its top may have sunk to that of another, and has arrived
+abbrev pub gave_back : DomainView → DomainView → DomainView
+gave_back x y = arrived_view (sunk x y)
 
 -- of the registrations of `finalise` some stay, and the others are queued behind all that waited before, the newest first. Those of `finalise_last` stay
 pub record Decided (fs gs : Finalisers) : Type 0 where
@@ -58,13 +63,14 @@ pub record LastsDecided (fs gs : Finalisers) : Type 0 where
 pub record Works (k : Config) (kind : Kind) (x y : DomainView) : Type 0 where
   pub view : y ≡ with_work x y
   pub progress_is : y.seen.share.progress ≡ x.seen.share.progress
+  pub unmarked_is : y.seen.share.unmarked ≡ x.seen.share.unmarked
   pub weak_is : y.seen.share.weak ≡ x.seen.share.weak
   pub looked : kind ≢ Sweep → y.own.looked ≡ x.own.looked
   pub again : LooksAgain x y
   pub listed : kind ≢ Sweep → y.own.ephemerons ≡ x.own.ephemerons
   pub room : x.own.ephemerons.room ≤ y.own.ephemerons.room
   pub swept : kind ≢ Lasts → kind ≢ Sweep → y.own.swept ≡ x.own.swept
-  pub anew : kind ≡ Lasts → y.own.swept ≡ nothing_swept
+  pub anew : kind ≡ Lasts → y.own.swept ≡ nothing_swept x.own.swept.top
   pub all_swept : kind ≡ Sweep → k.pools ≤ y.own.swept.spot.pool
   pub finalisers : kind ≢ Decide → kind ≢ Lasts → y.own.finalisers ≡ x.own.finalisers
   pub decided : kind ≡ Decide → Decided x.own.finalisers y.own.finalisers
@@ -85,7 +91,7 @@ pub record SharesIn (k : Config) (kind : Kind) (x y : DomainView) : Type 0 where
   pub listed : kind ≢ Sweep → y.own.ephemerons ≡ x.own.ephemerons
   pub room : x.own.ephemerons.room ≤ y.own.ephemerons.room
   pub swept : kind ≢ Lasts → kind ≢ Sweep → y.own.swept ≡ x.own.swept
-  pub anew : kind ≡ Lasts → y.own.swept ≡ nothing_swept
+  pub anew : kind ≡ Lasts → y.own.swept ≡ nothing_swept x.own.swept.top
   pub all_swept : kind ≡ Sweep → k.pools ≤ y.own.swept.spot.pool
   pub finalisers : kind ≢ Decide → kind ≢ Lasts → y.own.finalisers ≡ x.own.finalisers
   pub decided : kind ≡ Decide → Decided x.own.finalisers y.own.finalisers

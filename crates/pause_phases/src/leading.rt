@@ -10,6 +10,7 @@ ghost use Rattle.heap_rule.specs.Views.{voided};
 ghost use Rattle.steps_pauses.specs.Pauses.{MayFollow, kind_in};
 ghost use Rattle.steps_pools.specs.Listings.{NamesAll};
 ghost use Rattle.pause_phases.specs.Leading.{LeadsOn, Named};
+ghost use Rattle.pause_phases.specs.Measure.{IsNearer};
 
 use crate::decider::Decider;
 use crate::opening::open;
@@ -56,6 +57,9 @@ fn name(heap: &Heap, dom: &mut Domain, next: Kind)
 /// collection is asked for, or none, as the caller says, and enough pools are free: then the kinds of a
 /// pause follow from that and from how often something is changed. The words are read whoever decides.
 ///
+/// With each kind that is named fewer phases of the pause are left: a complete collection in a pause that
+/// begins without one has at most 14 even phases and four for each place of the pools.
+///
 /// The rule of sweeping beside running domains is of "Retrofitting Parallelism onto OCaml", section 3.2.
 pub fn lead_on(
     heap: &Heap,
@@ -75,6 +79,7 @@ pub fn lead_on(
     ensures here { IsIn dom.new heap.now }
     ensures leads { LeadsOn heap.now.config decider dom.old.view dom.new.view last result }
     ensures knows { progress.new ≡ dom.new.view.seen.share.progress }
+    ensures nearer { IsNearer heap.now.config last result progress.old progress.new dom.old.view.seen.share.unmarked dom.new.view.seen.share.unmarked }
 {
     let next = open(heap, dom, last, decider, *progress);
     name(heap, dom, next);

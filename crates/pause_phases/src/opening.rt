@@ -5,7 +5,7 @@ ghost use Rattle.heap_rule.specs.declared.phase.Stage.TheVariants.{Leads};
 ghost use Rattle.heap_rule.specs.Token.{IsIn};
 ghost use Rattle.heap_rule.specs.Views.{voided};
 ghost use Rattle.steps_marking.specs.Arming.{ArmMay, knowing_armed};
-ghost use Rattle.steps_pools.specs.Listings.{HasList, IsLeader};
+ghost use Rattle.steps_pools.specs.Listings.{IsLeader, NamesAll};
 ghost use Rattle.size_pools.specs.Listed.{ListsFree};
 ghost use Rattle.steps_sweep.specs.Turning.{ClearMay};
 ghost use Rattle.pause_phases.specs.declared.decider.Decider.{Decider};
@@ -15,7 +15,7 @@ use crate::decider::Decider;
 use heap_rule::{Config, Domain, Heap, Kind, Progress};
 use heap_words::{pack_colours, rotate};
 use safepoint::{Want, Wants, is_wanted, wants};
-use size_pools::{list_free, set_cursor_back, write_list};
+use size_pools::{list_free, set_cursor_back};
 use steps_marking::{armed_store, changed_load, colours_now};
 use steps_sweep::{blocks_clear, colours_store, words_clear};
 
@@ -66,17 +66,17 @@ fn completes(decider: Decider, wants: Wants) -> bool
 }
 
 // Before the domains run the armed word says whether a collection of the major heap goes on beside them,
-// and the list of free pools is written anew. Answers how many pools it names.
+// and the list of free pools stays, or is written anew where a pool came back. Answers how many it names.
 fn before_run(heap: &Heap, dom: &mut Domain, armed: bool) -> u32
     requires here { IsIn dom.old heap.now }
     requires may { ArmMay dom.old.view armed }
     requires leader { IsLeader dom.old.view }
     ensures here { IsIn dom.new heap.now }
-    ensures list { HasList heap.now.config dom.new.view }
+    ensures list { NamesAll heap.now.config dom.new.view }
     ensures lists { ListsFree result (knowing_armed dom.old.view armed) dom.new.view }
 {
     armed_store(heap, dom, armed);
-    write_list(heap, dom)
+    list_free(heap, dom)
 }
 
 // What comes after the minor collection, where so many pools are listed, by whether a collection of the
@@ -231,7 +231,7 @@ fn after_late_sweep(heap: &Heap, dom: &mut Domain, decider: Decider) -> Kind
     ensures here { IsIn dom.new heap.now }
     ensures opens { Opens heap.now.config decider dom.old.view dom.new.view Sweep result }
 {
-    let free = write_list(heap, dom);
+    let free = list_free(heap, dom);
     let found = wants(heap, dom);
     if begins(&heap.config(), decider, found, free) {
         Kind::Roots
@@ -259,7 +259,7 @@ fn after_sweep(heap: &Heap, dom: &mut Domain, decider: Decider, progress: Progre
     }
 }
 
-// No collection goes on, and the list of free pools is written anew, with the pools that were given back.
+// No collection goes on, and the list of free pools is written anew, where pools were given back.
 fn after_answer(heap: &Heap, dom: &mut Domain) -> Kind
     requires here { IsIn dom.old heap.now }
     requires first { dom.old.view.own.number ≡ 0 }

@@ -1,13 +1,12 @@
 //! What a domain does in the even phases of a collection of the major heap.
-ghost use Rattle.std.specs.Prelude.{◌≡◌, ◌<◌, ◌^◌, [], None, length};
+ghost use Rattle.std.specs.Prelude.{◌≡◌, ◌<◌, ◌≤◌, ◌^◌, [], None, length};
 ghost use Rattle.heap_rule.specs.declared.phase.Kind.TheVariants.{Answer, Lasts, Sweep};
 ghost use Rattle.heap_rule.specs.declared.phase.Stage.TheVariants.{In};
 ghost use Rattle.heap_rule.specs.declared.view.Hunt.TheVariants.{Rests};
 ghost use Rattle.heap_rule.specs.Token.{IsIn};
 ghost use Rattle.heap_rule.specs.Views.{voided};
-ghost use Rattle.steps_pauses.specs.Pauses.{arrived_view};
 ghost use Rattle.mark_slices.specs.Decks.{NotesOn};
-ghost use Rattle.pause_phases.specs.Sharing.{HintsIn, IsShared, SharesIn, Works};
+ghost use Rattle.pause_phases.specs.Sharing.{gave_back, HintsIn, IsShared, SharesIn, Works};
 
 use ephemeron_rounds::{clean, round};
 use finaliser_queues::{darken_queued, decide, last};
@@ -107,7 +106,7 @@ pub fn share(heap: &Heap, dom: &mut Domain, kind: Kind, hints: &mut Hints)
 
 /// Where a collection is answered the domain gives back its pools in which nothing is left, and
 /// arrives. It has looked at none of them in the phase before, and owes the darkening of no block. All
-/// that it owns stays as it was but the number of its arrivals.
+/// that it owns stays as it was but the number of its arrivals, and the top, which sinks to behind its last pool.
 pub fn give_back(heap: &Heap, dom: &mut Domain)
     requires here { IsIn dom.old heap.now }
     requires stage { dom.old.view.seen.stage ≡ In Answer }
@@ -118,7 +117,8 @@ pub fn give_back(heap: &Heap, dom: &mut Domain)
     requires first { dom.old.view.seen.share.held ≡ 0 }
     requires none { dom.old.view.seen.share.vacant ≡ 0 }
     ensures here { IsIn dom.new heap.now }
-    ensures view { dom.new.view ≡ arrived_view dom.old.view }
+    ensures view { dom.new.view ≡ gave_back dom.old.view dom.new.view }
+    ensures sinks { dom.new.view.own.swept.top ≤ dom.old.view.own.swept.top }
 {
     return_pools(heap, dom);
     arrive(heap, dom);

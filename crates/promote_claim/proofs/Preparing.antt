@@ -8,7 +8,7 @@ use Rattle.heap_rule.specs.declared.config.Config.{Config}
 use Rattle.heap_rule.specs.declared.view.Hunt.TheVariants.{Rests, Fills, Labels, Heads}
 use Rattle.heap_rule.specs.declared.view.Spot.{Spot}
 use Rattle.heap_rule.specs.declared.view.DomainView.{DomainView}
-use Rattle.heap_rule.specs.Pools.{size_of, blocks_of, place_in, prepared_at, hunting_free}
+use Rattle.heap_rule.specs.Pools.{size_of, blocks_of, place_in, prepared_at, hunting_below}
 use Rattle.heap_rule.specs.Standing.{IsInHeap}
 use Rattle.heap_rule.proofs.Classes.{size_least, slot_inside}
 use Rattle.steps_promote.specs.Promotion.{LabelMet}
@@ -58,8 +58,8 @@ set_none (x ∷ xs) (suc c) = set_none xs c
 
 -- a free place was taken
 module _ (k : Config) (class a : ℕ) (x t : DomainView) (few : class < class_count) (w : Works k x) (took : Took k class a x t) (free : t.seen.free ≡ x.seen.free) where
-  view_is : t ≡ hunting_free x t.own.looked (Fills took.pool class took.slot []) x.seen.free
-  view_is = took.view ∙ ap (hunting_free x t.own.looked (Fills took.pool class took.slot [])) free
+  view_is : t ≡ hunting_below x t.own.swept.top t.own.looked (Fills took.pool class took.slot []) x.seen.free
+  view_is = took.view ∙ ap (hunting_below x t.own.swept.top t.own.looked (Fills took.pool class took.slot [])) free
 
   pub took_place : IsPlaceIn k class a
   took_place = record { pool = took.pool; slot = took.slot; inside = took.inside; below = took.below; address = took.address }
@@ -79,7 +79,7 @@ module _ (k : Config) (class a : ℕ) (x t : DomainView) (few : class < class_co
   pub prepared_now : (new : ℕ) (y : DomainView) → length x.own.prepared ≡ class_count → PrepareTold a class t new y → Prepared k class x y a
   prepared_now new y wide told =
       let L : List Spot = t.own.looked in
-      let y' : DomainView = record { own = record (preparing x.own class (Some a)) { looked = L }; seen = record x.seen { hunt = Rests } } in
+      let y' : DomainView = record { own = record (preparing x.own class (Some a)) { looked = L; swept = record x.own.swept { top = t.own.swept.top } }; seen = record x.seen { hunt = Rests } } in
       let e : y ≡ y' = told ∙ ap (λ (z : DomainView). record { own = preparing z.own class (Some a); seen = record z.seen { hunt = Rests } }) view_is in
       let long : class < length x.own.prepared = subst (λ (n : ℕ). class < n) (sym wide) few in
       subst (λ (z : DomainView). Prepared k class x z a) (sym e) record {

@@ -16,7 +16,7 @@ use Rattle.promote_claim.specs.Working.{Works, Tied, Learns}
 -- the domain with what claims change, and its lists of finalisers, as another has them
 abbrev pub with_held_moves : DomainView → DomainView → DomainView
 with_held_moves x y = record {
-  own = record x.own { looked = y.own.looked; prepared = y.own.prepared; pending = y.own.pending; finalisers = y.own.finalisers };
+  own = record x.own { looked = y.own.looked; prepared = y.own.prepared; pending = y.own.pending; swept = record x.own.swept { top = y.own.swept.top }; finalisers = y.own.finalisers };
   seen = record x.seen { hunt = y.seen.hunt; copying = y.seen.copying; share = record x.seen.share { colours = y.seen.share.colours; armed = y.seen.share.armed } };
 }
 

@@ -13,7 +13,7 @@ use Rattle.promote_claim.specs.Working.{SameBlock, Works, Tied, Learns}
 -- the domain with what claims change, and its registers, as another has them
 abbrev pub with_moves : DomainView → DomainView → DomainView
 with_moves x y = record {
-  own = record x.own { registers = y.own.registers; looked = y.own.looked; prepared = y.own.prepared; pending = y.own.pending };
+  own = record x.own { registers = y.own.registers; looked = y.own.looked; prepared = y.own.prepared; pending = y.own.pending; swept = record x.own.swept { top = y.own.swept.top } };
   seen = record x.seen { hunt = y.seen.hunt; copying = y.seen.copying; share = record x.seen.share { colours = y.seen.share.colours; armed = y.seen.share.armed } };
 }
 
@@ -52,7 +52,7 @@ pub record AllMoved (k : Config) (x y : DomainView) : Type 0 where
 -- the domain with what claims change, and the fields that are still to be looked through, as another has them
 abbrev pub with_rewrites : DomainView → DomainView → DomainView
 with_rewrites x y = record {
-  own = record x.own { looked = y.own.looked; prepared = y.own.prepared; pending = y.own.pending };
+  own = record x.own { looked = y.own.looked; prepared = y.own.prepared; pending = y.own.pending; swept = record x.own.swept { top = y.own.swept.top } };
   seen = record x.seen { hunt = y.seen.hunt; copying = y.seen.copying; remembered = y.seen.remembered; share = record x.seen.share { colours = y.seen.share.colours; armed = y.seen.share.armed } };
 }
 

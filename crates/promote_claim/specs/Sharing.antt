@@ -36,7 +36,7 @@ pub record GaveBack (x y : DomainView) : Type 0 where
 -- the domain with its registers, its lists of finalisers, its copies, its places of the pools and the fields to be looked through as another has them
 abbrev pub with_share : DomainView → DomainView → DomainView
 with_share x y = record {
-  own = record x.own { registers = y.own.registers; finalisers = y.own.finalisers; looked = y.own.looked; prepared = y.own.prepared; pending = y.own.pending };
+  own = record x.own { registers = y.own.registers; finalisers = y.own.finalisers; looked = y.own.looked; prepared = y.own.prepared; pending = y.own.pending; swept = record x.own.swept { top = y.own.swept.top } };
   seen = record x.seen { hunt = y.seen.hunt; copying = y.seen.copying; remembered = y.seen.remembered; share = record x.seen.share { colours = y.seen.share.colours; armed = y.seen.share.armed } };
 }
 

@@ -69,7 +69,7 @@ Tied i x = x.seen.copying.pending ≡ owed_from (drop i x.own.pending.items)
 -- the domain with what claims and the filling of copies change as another has it, and with what that one knows of the colours and of the armed word
 abbrev pub with_claims : DomainView → DomainView → DomainView
 with_claims x y = record {
-  own = record x.own { looked = y.own.looked; prepared = y.own.prepared; pending = y.own.pending };
+  own = record x.own { looked = y.own.looked; prepared = y.own.prepared; pending = y.own.pending; swept = record x.own.swept { top = y.own.swept.top } };
   seen = record x.seen { hunt = y.seen.hunt; copying = y.seen.copying; share = record x.seen.share { colours = y.seen.share.colours; armed = y.seen.share.armed } };
 }
 

@@ -31,9 +31,9 @@ no_queued_block_is_left x y i a m holds left = left (m.queued i a holds)
 pub no_newly_queued_block_is_left : (x y : DomainView) (i a : ℕ) → AllQueueRooted x y → held_at y.own.finalisers (Queue i) ≡ Some a → (IsQueueRoot y i → ⊥) → ⊥
 no_newly_queued_block_is_left x y i a m holds left = left (m.queued i a holds)
 
--- a round of marking goes to the last pool, and leaves no block on the domain's account
-pub a_round_settles_its_account : (k : Config) (x y : DomainView) (a : ℕ) → AllWalked k x y → IsTrue (seen_by y.seen.share.account a) → ⊥
-a_round_settles_its_account k x y a w left = false≢true (subst (λ (l : List ℕ). IsTrue (seen_by l a)) w.followed left)
+-- a round of marking goes to the last own pool, and leaves no block on the domain's account
+pub a_round_settles_its_account : (x y : DomainView) (a : ℕ) → AllWalked x y → IsTrue (seen_by y.seen.share.account a) → ⊥
+a_round_settles_its_account x y a w left = false≢true (subst (λ (l : List ℕ). IsTrue (seen_by l a)) w.followed left)
 
 -- no head says that its block is scanned while a field of it is left
 pub no_field_is_left_unscanned : (x : DomainView) (at new block done size word : ℕ) (site : Site) → ScannedMay x at new site → x.seen.share.scan ≡ Reads block done size word → done < size → ⊥
@@ -91,6 +91,6 @@ no_slice_goes_further k most count x y s more = let few = s.few in omega (arith,
 pub an_own_sweep_leaves_no_pool : (k : Config) (x y : DomainView) → SweptAll k x y → y.own.swept.spot.pool < k.pools → ⊥
 an_own_sweep_leaves_no_pool k x y s left = let done = s.done in omega (arith, done, left)
 
--- what lives in the last pool is counted too
-pub counting_ends_behind_the_last_pool : (k : Config) (x y : DomainView) → CountedLive k x y → y.seen.share.counted_to.pool < k.pools → ⊥
-counting_ends_behind_the_last_pool k x y c left = let whole = c.whole in omega (arith, whole, left)
+-- what lives in the last own pool is counted too
+pub counting_ends_behind_the_last_pool : (x y : DomainView) → CountedLive x y → y.seen.share.counted_to.pool < x.own.swept.top → ⊥
+counting_ends_behind_the_last_pool x y c left = let whole = c.whole in omega (arith, whole, left)

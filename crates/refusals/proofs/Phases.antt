@@ -26,7 +26,7 @@ pub no_last_is_left_undecided : (k : Config) (x : DomainView) → ArriveMay k x 
 no_last_is_left_undecided k x m stage other = other (m.done.settled stage)
 
 -- nor, where it has swept, before it has looked whether each of its pools holds a block
-pub no_pool_is_kept_without_a_look : (k : Config) (x : DomainView) → ArriveMay k x → x.seen.stage ≡ In Sweep → x.seen.share.held < k.pools → ⊥
+pub no_pool_is_kept_without_a_look : (k : Config) (x : DomainView) → ArriveMay k x → x.seen.stage ≡ In Sweep → x.seen.share.held < x.own.swept.top → ⊥
 no_pool_is_kept_without_a_look k x m stage left = let held = m.done.held (inl stage) in omega (arith, held, left)
 
 -- a look tells of one kind of phase

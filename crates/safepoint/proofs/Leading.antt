@@ -72,7 +72,7 @@ lead_may k x y word next first leads follows may is list set_back view =
             count = refl;
             free = λ q none. let at = free_all 0 q l.owners none in (at.0, at.1 ∙ ap Some (let e : 0 + q ≡ q = omega arith in e));
           }))
-          (λ (l : ListStays k x). inr (record { list = l.list; listing = l.listing; stage = l.leads.stage; some = l.some; at = l.at; cursor_is = l.cursor_is; low = l.low }))
+          (λ (l : ListStays k x). inr (record { list = l.list; listing = l.listing; some = l.some; at = l.at; cursor_is = l.cursor_is; low = l.low }))
           (list (sym kind ∙ runs));
       set_back = λ copies. let is = sym kind ∙ copies in back x.seen.notes next is (set_back is);
     })
@@ -86,4 +86,5 @@ led_to k x y z word next is view told =
       stays = t.stays;
       made = λ e stands. let m = t.made e stands in record { before = m.before; front = m.front; seen = m.seen; led = m.led; legal = m.legal };
       view = t.view;
+      grown = t.grown;
     }

@@ -13,7 +13,8 @@ use Rattle.heap_rule.specs.Limits.{sizes_in}
 use Rattle.heap_rule.specs.Phases.{Comes, IsEven, IsOdd}
 use Rattle.heap_rule.specs.Rule.{state_of}
 use Rattle.heap_rule.specs.Standing.{noted}
-use Rattle.steps_pauses.specs.Pauses.{kind_in, IsModeOf, entry_of, progress_after, EndsWith}
+use Rattle.heap_rule.specs.Cycles.{IsMarking}
+use Rattle.steps_pauses.specs.Pauses.{kind_in, IsModeOf, asks_again, entry_of, progress_after, unmarked_after, EndsWith}
 use Rattle.safepoint.specs.declared.answer.Look.{Look}
 use Rattle.safepoint.specs.declared.answer.Look.TheVariants.{Next, Lead, NotAll}
 use Rattle.safepoint.specs.declared.answer.Want as wish
@@ -52,9 +53,10 @@ abbrev pub cleared : Kind → List Note
 cleared Run = Cleared ∷ []
 cleared _ = []
 
--- domain 0 has named the next kind, and the collector's entry stands, if there is one. Of the phase it knows no more than whether the cut is made, whether the cycle is whole and whether a sweep is owed
+-- domain 0 has named the next kind, and the collector's entry stands, if there is one. Of the phase it knows no more than whether the cut is made, whether the cycle is whole, whether a sweep is owed, and how many blocks aren't marked at most: behind a phase of the marking that asks for another one, one fewer
 pub record LedTo (k : Config) (next : Kind) (x y : DomainView) : Type 0 where
   pub seen : IsFrontOf x.own.number y.seen.front x.seen.front
   pub stays : entry_of x.seen.share.progress.unswept (kind_in x.seen.stage) next ≡ None → y.seen.front ≡ x.seen.front
   pub made : (e : Entry) → entry_of x.seen.share.progress.unswept (kind_in x.seen.stage) next ≡ Some e → EndsWith k x y e
-  pub view : y ≡ record x { seen = record x.seen { front = y.seen.front; stage = Led next; share = record fresh_share { progress = progress_after (kind_in x.seen.stage) next x.seen.share.progress }; notes = x.seen.notes ++ cleared next } }
+  pub view : y ≡ record x { seen = record x.seen { front = y.seen.front; stage = Led next; share = record fresh_share { progress = progress_after (kind_in x.seen.stage) next x.seen.share.progress; unmarked = unmarked_after k (kind_in x.seen.stage) x.seen.share.changed x.seen.share.unmarked }; notes = x.seen.notes ++ cleared next } }
+  pub grown : IsMarking (kind_in x.seen.stage) → asks_again x.seen.share.changed ≤ x.seen.share.unmarked

@@ -28,7 +28,7 @@ use Rattle.heap_rule.specs.declared.view.Scan.TheVariants.{Idle, Reads, Holds, K
 use Rattle.heap_rule.specs.declared.view.Share.{Share}
 use Rattle.heap_rule.specs.Beside.{RunsBeside}
 use Rattle.steps_marking.proofs.Pausing.{paused_on}
-use Rattle.heap_rule.specs.Cycles.{Cycled, Cycling, Facts, IsCollecting, IsIdle, KeysAt, Knowing, Leading, MissesKeys, Scanned, Scans, Told, owner_at, seen_by}
+use Rattle.heap_rule.specs.Cycles.{IsMarking, Cycled, Cycling, Facts, IsCollecting, IsIdle, KeysAt, Knowing, Leading, MissesKeys, Scanned, Scans, Told, owner_at, seen_by}
 use Rattle.heap_rule.specs.Ephemerons.{Cleans, Looks, emptied_at, ephemeron_of}
 use Rattle.heap_rule.specs.Fullness.{Fullness}
 use Rattle.heap_rule.specs.Layout.{at_address, before_heap, heap_words}
@@ -39,6 +39,7 @@ use Rattle.heap_rule.specs.Pools.{OwnPlace, Tenancy, place_in}
 use Rattle.heap_rule.specs.Rule.{Account, AllFound, Area, Good, Making, Rule, Sharing, state_of}
 use Rattle.heap_rule.specs.Standing.{with_front}
 use Rattle.heap_rule.specs.Views.{EachView, Knows as SeatKnows, one}
+use Rattle.heap_rule.proofs.Growing.{grows_none}
 use Rattle.heap_rule.proofs.Beside.{extent_of, found_beside, live_word_far, making_beside}
 use Rattle.heap_rule.proofs.FinaliserLemmas.{KeepsWork}
 use Rattle.heap_rule.proofs.Keeps.{Words, control_set, controls_kept, hunter_as, more_same, my_good, opened_words, owes_as, remakes, resting_as, resting_lists, room_words, stood_other, sum_same}
@@ -427,7 +428,7 @@ module _ (k : Config) (s : Words) (r : Rule k s) (id : ℕ) (hist : List Entry) 
             leaves = record { none = was.leaves.none; dead = was.leaves.dead; head = λ a is. absurd (true≢false (sym is ∙ no_garbage a)); unprepared = was.leaves.unprepared; owned = was.leaves.owned };
             unswept = was.unswept;
             whole = λ l. whole' l;
-            grows = record { few = was.grows.few; since = was.grows.since; named = was.grows.named; cleared = was.grows.cleared };
+            grows = grows_none k live r.account.pause c' (subst (λ (kind : Kind). IsMarking kind → ⊥) (sym kind_is) (λ is. is));
           }
         where
           missing : (l : Label) → p.label ≡ l → MissesKeys live T.holder c' l

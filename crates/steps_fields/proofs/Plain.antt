@@ -22,7 +22,7 @@ use Rattle.heap_rule.specs.Raw.{StepsOnce, CanChange, Changes, Written, Closes}
 use Rattle.heap_rule.proofs.Plain.{fits_changed, entered_own, enters_once, changed_unread, entered_closes}
 use Rattle.heap_rule.proofs.Closes.{front_same}
 use Rattle.heap_rule.proofs.ChangeLemmas.{changed_only}
-use Rattle.steps_fields.specs.Stores.{with_field, remembering_own, StoreTold, WroteTold, CanStore, Stores}
+use Rattle.steps_fields.specs.Stores.{room_left, with_field, remembering_own, StoreTold, WroteTold, CanStore, Stores}
 use Rattle.heap_rule.specs.Token.{AllInHeap, Holds, LooksWithin, OwnFits, SweptWithin}
 use Rattle.heap_rule.specs.Standing.{IsInHeap}
 use Rattle.steps_fields.specs.Loads.{place_of, puts_block, HeadCase, HeadTold, LabelTold, FieldRead, RawCase, SizeTold}

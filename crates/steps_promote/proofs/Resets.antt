@@ -1,5 +1,5 @@
 -- In Reset a domain's minor area is free again.
-use Rattle.std.proofs.Common.{◌≡◌, ℕ, ◌+◌, ◌*◌, ◌<◌, ◌≤◌, List, [], set, slice_get, Some, None, Option, sym, refl, ap, ◌∙◌, inl, inr, subst, arith, length-set}
+use Rattle.std.proofs.Common.{◌≡◌, ℕ, ◌+◌, ◌*◌, ◌<◌, ◌≤◌, List, [], length, set, slice_get, Some, None, Option, sym, refl, ap, ◌∙◌, inl, inr, subst, arith, length-set}
 use Rattle.std.proofs.lemmas.Int.{ints}
 use mathlib.Core.Option.{some}
 use lib.ListN.{get_elem?}

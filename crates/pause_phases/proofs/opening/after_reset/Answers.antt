@@ -1,10 +1,11 @@
 use Rattle.std.proofs.Common.{◌∙◌}
+use Rattle.heap_rule.specs.declared.phase.Kind.TheVariants.{Reset}
 use Rattle.pause_phases.specs.Leading.{kind_after_reset}
-use Rattle.pause_phases.proofs.Opens.{reset_opens, reset_frees}
+use Rattle.pause_phases.proofs.Opens.{leads_list, reset_opens, reset_frees}
 use Rattle.pause_phases.proofs.opening.after_reset.Goals as goal
 
-pub list_free-free-requires-clause-leads : goal.list_free-free-requires-clause-leads
-list_free-free-requires-clause-leads c = record { first = c.requires.first; stage = c.requires.odd }
+pub list_free-free-requires-clause-leader : goal.list_free-free-requires-clause-leader
+list_free-free-requires-clause-leader c = leads_list c.args.dom.now.view Reset c.requires.first c.requires.odd ((λ e. cc), λ e. cc)
 
 pub returns-in-Sweep-clause-opens : goal.returns-in-Sweep-clause-opens
 returns-in-Sweep-clause-opens c =

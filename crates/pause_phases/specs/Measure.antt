@@ -1,6 +1,7 @@
--- How many phases are left of a pause in which domain 0 leads a complete collection for its caller.
-use Rattle.std.specs.Prelude.{◌≡◌, ℕ, ◌+◌, ◌*◌, ◌≤◌, Bool, true, false, if◌then◌else◌}
+-- How many even phases of a pause are left at most, and that with each kind that domain 0 names fewer are.
+use Rattle.std.specs.Prelude.{◌≡◌, ℕ, ◌+◌, ◌*◌, ◌<◌, ◌≤◌, Bool, true, false, if◌then◌else◌}
 use Rattle.cycle_laws.specs.Ending.{Answering, Cleaning, Deciding, First, Freeing, Halted, Leaving, Marking, Place, Promoting, Queueing, Resetting, Rooting, Rounding, Running, Second, Turn, pause_left}
+use Rattle.heap_rule.specs.declared.config.Config.{Config}
 use Rattle.heap_rule.specs.declared.phase.Kind.{Kind}
 use Rattle.heap_rule.specs.declared.phase.Kind.TheVariants.{Run, Promote, Reset, Roots, Mark, Rounds, Decide, Queued, Clean, Lasts, Sweep, Answer}
 use Rattle.heap_rule.specs.declared.phase.Progress.{Progress}
@@ -46,3 +47,7 @@ any_left all kind p unmarked = pause_left all (place_of p.cut kind) unmarked + m
 abbrev pub any_named : ℕ → Kind → Progress → ℕ → ℕ
 any_named all Run p unmarked = 0
 any_named all kind p unmarked = any_left all kind p unmarked
+
+-- domain 0 has named a kind after another: fewer phases of the pause are left than before, where as many blocks may live as the pools have places
+abbrev pub IsNearer : Config → Kind → Kind → Progress → Progress → ℕ → ℕ → Type 0
+IsNearer k last kind before after was now = any_named (k.pools * 1024) kind after now < any_left (k.pools * 1024) last before was
