@@ -8,7 +8,7 @@ use Rattle.steps_pools.specs.Listings.{with_listing, further, relisted, found_ow
 use Rattle.steps_pools.proofs.FreePools.{free_last, free_same}
 use Rattle.size_pools.specs.Listed.{HasListed, Relisted}
 use Rattle.heap_rule.specs.declared.phase.Kind.{Kind}
-use Rattle.heap_rule.specs.declared.phase.Kind.TheVariants.{Run, Reset}
+use Rattle.heap_rule.specs.declared.phase.Kind.TheVariants.{Run}
 use Rattle.heap_rule.specs.declared.phase.Note.TheVariants.{SetBack}
 use Rattle.heap_rule.specs.Pools.{limit_of}
 use Rattle.heap_rule.specs.Phases.{last_note}

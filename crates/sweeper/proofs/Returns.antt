@@ -1,12 +1,12 @@
 -- How the top sinks.
-use Rattle.std.proofs.Common.{◌≡◌, ◌∙◌, ◌≢◌, ℕ, ◌+◌, ◌<◌, ◌≤◌, ap, sym, subst, refl, ⊎_elim, arith}
+use Rattle.std.proofs.Common.{◌≡◌, ◌∙◌, ◌≢◌, ℕ, ◌<◌, ap, sym, subst, refl, ⊎_elim}
 use Rattle.heap_model.specs.Domains.{class_count}
 use Rattle.heap_rule.specs.declared.config.Config.{Config}
 use Rattle.heap_rule.specs.declared.view.DomainView.{DomainView}
-use Rattle.heap_rule.specs.Pools.{blocks_of, no_listing, owned, owner_word}
+use Rattle.heap_rule.specs.Pools.{owned, owner_word}
 use Rattle.steps_sweep.specs.Holding.{Returns}
-use Rattle.steps_sweep.specs.Returning.{ListVoided, ReturnMay, TopTold, topped}
-use Rattle.sweeper.specs.Emptiness.{FoundEmpty, sunk, with_looks, with_returns}
+use Rattle.steps_sweep.specs.Returning.{TopTold}
+use Rattle.sweeper.specs.Emptiness.{sunk}
 
 module _ (pool found number : ℕ) (x y : DomainView) (told : TopTold pool x found y) where
   -- a look at the owner of the last pool below the top changes the top alone

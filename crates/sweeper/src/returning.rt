@@ -8,9 +8,7 @@ ghost use Rattle.sweeper.specs.Emptiness.{LooksFrom, LooksIn, FoundEmpty, sunk, 
 
 use heap_rule::{Domain, Heap};
 use steps_pools::{class_blocks, place_address};
-use steps_sweep::{
-    OWNERS, held_load, held_own_load, list_void, own_class, pool_return, top_load,
-};
+use steps_sweep::{OWNERS, held_load, held_own_load, list_void, own_class, pool_return, top_load};
 
 // Whether a block lies in the next pool, which is the domain's own. Else each of its places is free.
 fn holds_block(heap: &Heap, dom: &mut Domain, pool: u32, class: u32) -> bool
