@@ -1,6 +1,6 @@
 -- With each kind that domain 0 names fewer phases are left of a pause, whoever decides.
 use Rattle.std.proofs.Common.{◌≡◌, ◌∙◌, ℕ, zero, suc, ◌+◌, ◌-◌, ◌*◌, ◌<◌, ◌≤◌, ◌==◌, Bool, true, false, not, if◌then◌else◌, Some, refl, sym, ap, subst, arith}
-use Rattle.std.proofs.lemmas.Bool.{false≢true}
+use Rattle.std.proofs.lemmas.Bool.{ne_eqb}
 use Rattle.heap_rule.specs.declared.config.Config.{Config}
 use Rattle.heap_rule.specs.declared.phase.Kind.{Kind}
 use Rattle.heap_rule.specs.declared.phase.Kind.TheVariants.{Run, Promote, Reset, Roots, Mark, Rounds, Decide, Queued, Clean, Lasts, Sweep, Answer}
@@ -91,7 +91,7 @@ module _ (all was now : ℕ) where
 -- behind a phase of the marking that asks for another one, one fewer is unmarked
 less_marked : (found was : ℕ) → asks_again (Some found) ≤ was → Fewer (not (found == 0)) was (was - asks_again (Some found))
 less_marked zero was grown = omega arith
-less_marked (suc n) was grown = omega (grown, arith)
+less_marked (suc n) was grown = subst (λ (b : Bool). Fewer (not b) was (was - asks_again (Some (suc n)))) (sym (ne_eqb (suc n) 0 (λ e. omega (arith, e)))) (omega (arith, grown))
 
 pub falls : (k : Config) (kind : Kind) (found was : ℕ) → (IsMarking kind → asks_again (Some found) ≤ was) → Falls (k.pools * 1024) was (unmarked_after k kind (Some found) was) kind found
 falls k Mark found was grown = less_marked found was (grown tt)
