@@ -22,7 +22,7 @@ use Rattle.heap_rule.specs.Rule.{state_of}
 use Rattle.heap_rule.specs.Standing.{noted, with_front}
 use Rattle.heap_rule.specs.Token.{Token, SharedHeap, IsIn}
 use Rattle.heap_rule.specs.Views.{fresh_share}
-use Rattle.steps_pauses.specs.Pauses.{kind_in, arrived_view, entry_of, progress_after, EndsWith, IsModeOf}
+use Rattle.steps_pauses.specs.Pauses.{kind_in, arrived_view, entry_of, progress_after, unmarked_after, EndsWith, IsModeOf}
 use Rattle.steps_promote.specs.Promotion.{reset_view}
 use Rattle.safepoint.specs.Looks.{PassedBarrier}
 use Rattle.heap_rule.specs.declared.phase.Progress.{Progress}
@@ -132,12 +132,12 @@ even_leaves k x b y Lasts p stage l = shares_leaves k x b y Lasts p stage l
 even_leaves k x b y Sweep p stage l = shares_leaves k x b y Sweep p stage l
 
 -- the view that domain 0 arrives from when it has named a kind
-abbrev leading_view : DomainView → DomainView → Kind → Kind → DomainView
-leading_view b y last kind = record b { seen = record b.seen { front = y.seen.front; notes = y.seen.notes; stage = Led kind; share = record fresh_share { progress = progress_after last kind b.seen.share.progress } } }
+abbrev leading_view : (k : Config) (decider : Decider) (b y : DomainView) (last kind : Kind) → LeadsOn k decider b y last kind → DomainView
+leading_view k decider b y last kind l = record b { seen = record b.seen { front = y.seen.front; notes = y.seen.notes; stage = Led kind; share = record fresh_share { progress = progress_after last kind b.seen.share.progress; unmarked = unmarked_after k last (Some l.findings.changed) b.seen.share.unmarked } } }
 
 odd_leaves : (decider : Decider) (k : Config) (x b y : DomainView) (last kind : Kind) → PassedBarrier k x b → b.seen.stage ≡ Leads last → LeavesOdd k decider b y last kind → Leaves x y kind
 odd_leaves decider k x b y last kind p stage l = ⊎_elim
-    (λ (leads : (b.own.number ≡ 0) × LeadsOn k decider b y last kind). begun_leaves k x b y (leading_view b y last kind) kind p
+    (λ (leads : (b.own.number ≡ 0) × LeadsOn k decider b y last kind). begun_leaves k x b y (leading_view k decider b y last kind leads.1) kind p
     (record { number = refl; serial = refl; room = no_less b.own.ephemerons.room; listed = refl; arrivals = refl; made = refl; hunt = λ at_rest. at_rest; front = leads.1.seen }) leads.1.view refl)
     (λ (follows : (b.own.number ≢ 0) × (kind ≡ last) × (y ≡ arrived_view b)). begun_leaves k x b y b kind p (same_self b) follows.2 (ap kind_in stage ∙ sym follows.1)) l
 
@@ -159,7 +159,7 @@ leads_ready decider k b y last kind inside l past =
     record {
       before = last;
       follows = l.follows;
-      past = past_as k last b y (keeps_as b y _ l.view refl refl refl refl (same_held b)) (arrived_void y (leading_view b y last kind) l.view) knows past;
+      past = past_as k last b y (keeps_as b y _ l.view refl refl refl refl (same_held b)) (arrived_void y (leading_view k decider b y last kind l) l.view) knows past;
       fresh = λ e. let swept : last ≡ Sweep = before_answer last (subst (Follows last) e l.follows) in
           knows swept (collected_mode k b y (l.made Collected (ap (λ (c : Kind). entry_of b.seen.share.progress.unswept c kind) swept ∙ ap (entry_of b.seen.share.progress.unswept Sweep) e)));
     }
@@ -194,7 +194,7 @@ passes_quiet decider k x y last kind p quiet =
     let q = looked_quiet k x p.begun p.passed quiet in ⊎_elim
     (λ (even : IsEven x.own.arrivals × (p.begun.seen.stage ≡ In kind) × Comes x.own.number last kind × IsModeOf kind (state_of k p.begun.seen.front).mode × LeavesEven k kind p.begun y). even_quiet k kind p.begun y even.4 q)
     (λ (odd : IsOdd x.own.arrivals × (p.begun.seen.stage ≡ Leads last) × LeavesOdd k decider p.begun y last kind). ⊎_elim
-    (λ (leads : (p.begun.own.number ≡ 0) × LeadsOn k decider p.begun y last kind). arrived_quiet (leading_view p.begun y last kind) y leads.1.view q.unprepared)
+    (λ (leads : (p.begun.own.number ≡ 0) × LeadsOn k decider p.begun y last kind). arrived_quiet (leading_view k decider p.begun y last kind leads.1) y leads.1.view q.unprepared)
     (λ (follows : (p.begun.own.number ≢ 0) × (kind ≡ last) × (y ≡ arrived_view p.begun)). arrived_quiet p.begun y follows.2 q.unprepared)
     odd.2)
     p.share

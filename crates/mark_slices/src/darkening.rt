@@ -54,8 +54,8 @@ impl Hint {
 /// place of the domain's queue of finalisers keeps it alive. The domain is in a phase in which blocks
 /// are marked, and knows the colours. Afterwards the block is marked, and the domain is done with the
 /// reason (`darkened`). Answers the block's hint where this domain has marked it, and not another before.
-/// Where it has, it owes a store of the changed word in the phases in which another may have looked at
-/// the block before. What it has marked lies in a pool.
+/// Where it has, it owes a store of the changed word in Mark, in Rounds and in Queued. What it has marked
+/// lies in a pool.
 pub fn darken(heap: &Heap, dom: &mut Domain, at: u32, colours: Colours) -> Option<Hint>
     ghost reason: { Reason }
     requires here { IsIn dom.old heap.now }

@@ -46,14 +46,15 @@ built_as x y looked ephemerons swept finalisers front listing share is = is
 
 -- where registrations are decided the domain keeps its other lists, and has done what is asked of it
 module _ (k : Config) (kind : Kind) (x y : DomainView) (swept : Swept) (finalisers : Finalisers) (front : List Entry) (share : Share) (one_of : (kind ≡ Decide) ⊎ (kind ≡ Lasts)) (is : y ≡ built x x.own.looked x.own.ephemerons swept finalisers front x.seen.listing share) where
-  decides : (kind ≢ Lasts → swept ≡ x.own.swept) → (kind ≡ Lasts → swept ≡ nothing_swept x.own.swept.top) → share.progress ≡ x.seen.share.progress → share.weak ≡ x.seen.share.weak → IsFrontOf x.own.number y.seen.front x.seen.front → IsLed x.own.number y.seen.front x.seen.front → (Legal (sizes_in k) x.seen.front → Legal (sizes_in k) y.seen.front) → Sorted kind x.own.finalisers y.own.finalisers → HasDone k y → Works k kind x y
-  decides kept anew progress weak seen led legal sorted done =
+  decides : (kind ≢ Lasts → swept ≡ x.own.swept) → (kind ≡ Lasts → swept ≡ nothing_swept x.own.swept.top) → share.progress ≡ x.seen.share.progress → share.unmarked ≡ x.seen.share.unmarked → share.weak ≡ x.seen.share.weak → IsFrontOf x.own.number y.seen.front x.seen.front → IsLed x.own.number y.seen.front x.seen.front → (Legal (sizes_in k) x.seen.front → Legal (sizes_in k) y.seen.front) → Sorted kind x.own.finalisers y.own.finalisers → HasDone k y → Works k kind x y
+  decides kept anew progress unmarked weak seen led legal sorted done =
       let looked : y.own.looked ≡ x.own.looked = ap (λ (z : DomainView). z.own.looked) is in
       let listed : y.own.ephemerons ≡ x.own.ephemerons = ap (λ (z : DomainView). z.own.ephemerons) is in
       let room : y.own.ephemerons.room ≡ x.own.ephemerons.room = ap (λ (l : Bounded ℕ). l.room) listed in
       let sweeps : y.own.swept ≡ swept = ap (λ (z : DomainView). z.own.swept) is in record {
         view = built_as x y x.own.looked x.own.ephemerons swept finalisers front x.seen.listing share is;
         progress_is = ap (λ (z : DomainView). z.seen.share.progress) is ∙ progress;
+        unmarked_is = ap (λ (z : DomainView). z.seen.share.unmarked) is ∙ unmarked;
         weak_is = ap (λ (z : DomainView). z.seen.share.weak) is ∙ weak;
         looked = λ _. looked;
         again = again_same x y looked;
@@ -80,8 +81,8 @@ module _ (k : Config) (kind : Kind) (x : DomainView) (stage : x.seen.stage ≡ I
   decide_works y is d =
       let lists : Decided x.own.finalisers y.own.finalisers = record { lasts = ap (λ (z : DomainView). z.own.finalisers.lasts) d.view; queued = d.queued; queue = d.queue; splits = d.splits } in
       let here : y.seen.stage ≡ In Decide = ap (λ (z : DomainView). z.seen.stage) d.view ∙ (stage ∙ ap In is) in
-      let done : HasDone k y = record { rooted = λ e. cc; queued = λ e. ⊎_elim (λ u. cc) (λ u. cc) e; told = λ e. ⊎_elim (λ u. cc) (⊎_elim (λ u. cc) (⊎_elim (λ u. cc) (λ u. cc))) e; walked = λ e. cc; swept = λ e. cc; anew = λ e. cc; looked = λ e. ⊎_elim (λ u. cc) (λ u. cc) e; cleaned = λ e. cc; decided = λ _. d.done; settled = λ e. cc; held = λ e. ⊎_elim (λ u. cc) (λ u. cc) e; added = λ e. cc } in
-      decides k kind x y x.own.swept _ _ _ (inl is) d.view (λ _. refl) (λ (e : kind ≡ Lasts). cc) refl refl d.seen d.led d.legal (sorted_finals kind x.own.finalisers y.own.finalisers is lists) done
+      let done : HasDone k y = record { rooted = λ e. cc; queued = λ e. ⊎_elim (λ u. cc) (λ u. cc) e; followed = λ e. cc; told = λ e. ⊎_elim (λ u. cc) (λ u. cc) e; walked = λ e. cc; swept = λ e. cc; anew = λ e. cc; looked = λ e. ⊎_elim (λ u. cc) (λ u. cc) e; cleaned = λ e. cc; decided = λ _. d.done; settled = λ e. cc; held = λ e. ⊎_elim (λ u. cc) (λ u. cc) e; added = λ e. cc } in
+      decides k kind x y x.own.swept _ _ _ (inl is) d.view (λ _. refl) (λ (e : kind ≡ Lasts). cc) refl refl refl d.seen d.led d.legal (sorted_finals kind x.own.finalisers y.own.finalisers is lists) done
 
   -- and those of `finalise_last`, after which the domain notes that it has swept nothing
   pub lasts_works : (v y : DomainView) → kind ≡ Lasts → AllLastsDecided k x v → AnewTold v 0 y → Works k kind x y
@@ -91,11 +92,11 @@ module _ (k : Config) (kind : Kind) (x : DomainView) (stage : x.seen.stage ≡ I
       let here : y.seen.stage ≡ In Lasts = ap (λ (z : DomainView). z.seen.stage) told ∙ (ap (λ (z : DomainView). z.seen.stage) d.view ∙ (stage ∙ ap In is)) in
       let anew : y.own.swept ≡ nothing_swept y.own.swept.top = ap (λ (z : DomainView). z.own.swept) told ∙ ap nothing_swept (sym (ap (λ (z : DomainView). z.own.swept.top) told)) in
       let settled : y.seen.share.kept ≡ length y.own.finalisers.lasts.items = ap (λ (z : DomainView). z.seen.share.kept) told ∙ (d.done ∙ ap (λ (f : Finalisers). length f.lasts.items) (sym same)) in
-      let done : HasDone k y = record { rooted = λ e. cc; queued = λ e. ⊎_elim (λ u. cc) (λ u. cc) e; told = λ e. ⊎_elim (λ u. cc) (⊎_elim (λ u. cc) (⊎_elim (λ u. cc) (λ u. cc))) e; walked = λ e. cc; swept = λ e. cc; anew = λ _. anew; looked = λ e. ⊎_elim (λ u. cc) (λ u. cc) e; cleaned = λ e. cc; decided = λ e. cc; settled = λ _. settled; held = λ e. ⊎_elim (λ u. cc) (λ u. cc) e; added = λ e. cc } in
+      let done : HasDone k y = record { rooted = λ e. cc; queued = λ e. ⊎_elim (λ u. cc) (λ u. cc) e; followed = λ e. cc; told = λ e. ⊎_elim (λ u. cc) (λ u. cc) e; walked = λ e. cc; swept = λ e. cc; anew = λ _. anew; looked = λ e. ⊎_elim (λ u. cc) (λ u. cc) e; cleaned = λ e. cc; decided = λ e. cc; settled = λ _. settled; held = λ e. ⊎_elim (λ u. cc) (λ u. cc) e; added = λ e. cc } in
       let seen : IsFrontOf x.own.number y.seen.front x.seen.front = subst (λ (f : List Entry). IsFrontOf x.own.number f x.seen.front) (sym (ap (λ (z : DomainView). z.seen.front) told)) d.seen in
       let led : IsLed x.own.number y.seen.front x.seen.front = subst (λ (f : List Entry). IsLed x.own.number f x.seen.front) (sym (ap (λ (z : DomainView). z.seen.front) told)) d.led in
       let path = told ∙ ap (λ (z : DomainView). record z { own = unswept z.own }) d.view in
-      decides k kind x y (nothing_swept x.own.swept.top) _ _ _ (inr is) path (λ (e : kind ≢ Lasts). absurd (e is)) (λ _. refl) refl refl seen led (λ legal. subst (λ (f : List Entry). Legal (sizes_in k) f) (sym (ap (λ (z : DomainView). z.seen.front) told)) (d.legal legal)) (subst (Sorted kind x.own.finalisers) (sym same) (sorted_lasts kind x.own.finalisers v.own.finalisers is lists)) done
+      decides k kind x y (nothing_swept x.own.swept.top) _ _ _ (inr is) path (λ (e : kind ≢ Lasts). absurd (e is)) (λ _. refl) refl refl refl seen led (λ legal. subst (λ (f : List Entry). Legal (sizes_in k) f) (sym (ap (λ (z : DomainView). z.seen.front) told)) (d.legal legal)) (subst (Sorted kind x.own.finalisers) (sym same) (sorted_lasts kind x.own.finalisers v.own.finalisers is lists)) done
 
 -- the domain has swept all its pools, and counts on
 pub swept_returns : (k : Config) (x v w : DomainView) → x.seen.stage ≡ In Sweep → SweptAll k x v → CountedLive v w → Returns k w
@@ -117,6 +118,7 @@ sweep_works k x v w y stage s counted looks held =
     let front : y.seen.front ≡ x.seen.front = ap (λ (z : DomainView). z.seen.front) path in record {
       view = built_as x y v.own.looked v.own.ephemerons (record v.own.swept { top = y.own.swept.top }) x.own.finalisers x.seen.front y.seen.listing _ path;
       progress_is = ap (λ (z : DomainView). z.seen.share.progress) path;
+      unmarked_is = ap (λ (z : DomainView). z.seen.share.unmarked) path;
       weak_is = ap (λ (z : DomainView). z.seen.share.weak) path;
       looked = λ other. absurd (other refl);
       again = subst (λ (l : List Spot). (class : ℕ) → IsNoLater (spot_at l class) (spot_at x.own.looked class)) (sym looked) s.looked;
@@ -134,7 +136,7 @@ sweep_works k x v w y stage s counted looks held =
       led = led_whole x.own.number y.seen.front x.seen.front (sym front);
       legal = λ legal. subst (λ (f : List Entry). Legal (sizes_in k) f) (sym front) legal;
       stays = λ _ _ _. front;
-      done = record { rooted = λ e. cc; queued = λ e. ⊎_elim (λ u. cc) (λ u. cc) e; told = λ e. ⊎_elim (λ u. cc) (⊎_elim (λ u. cc) (⊎_elim (λ u. cc) (λ u. cc))) e; walked = λ e. cc; swept = λ _. all; anew = λ e. cc; looked = λ e. ⊎_elim (λ u. cc) (λ u. cc) e; cleaned = λ e. cc; decided = λ e. cc; settled = λ e. cc; held = λ _. held; added = λ _. (ap (λ (z : DomainView). z.seen.share.added_blocks) path, ap (λ (z : DomainView). z.seen.share.added_words) path) };
+      done = record { rooted = λ e. cc; queued = λ e. ⊎_elim (λ u. cc) (λ u. cc) e; followed = λ e. cc; told = λ e. ⊎_elim (λ u. cc) (λ u. cc) e; walked = λ e. cc; swept = λ _. all; anew = λ e. cc; looked = λ e. ⊎_elim (λ u. cc) (λ u. cc) e; cleaned = λ e. cc; decided = λ e. cc; settled = λ e. cc; held = λ _. held; added = λ _. (ap (λ (z : DomainView). z.seen.share.added_blocks) path, ap (λ (z : DomainView). z.seen.share.added_words) path) };
     }
 
 -- the domain has arrived
@@ -145,7 +147,7 @@ shares_in k kind x y z w is =
     let swept : y.own.swept ≡ z.own.swept = sym (ap (λ (v : DomainView). v.own.swept) is) in
     let finalisers : y.own.finalisers ≡ z.own.finalisers = sym (ap (λ (v : DomainView). v.own.finalisers) is) in
     let front : y.seen.front ≡ z.seen.front = sym (ap (λ (v : DomainView). v.seen.front) is) in record {
-      view = is ∙ (ap arrived_view w.view ∙ λ i. arrived_view (built x (looked i) (ephemerons i) (swept i) (finalisers i) (front i) None (record x.seen.share { progress = w.progress_is i })));
+      view = is ∙ (ap arrived_view w.view ∙ λ i. arrived_view (built x (looked i) (ephemerons i) (swept i) (finalisers i) (front i) None (record x.seen.share { progress = w.progress_is i; unmarked = w.unmarked_is i })));
       looked = λ other. sym looked ∙ w.looked other;
       again = λ class. subst (λ (l : List Spot). IsNoLater (spot_at l class) (spot_at x.own.looked class)) looked (w.again class);
       listed = λ other. sym ephemerons ∙ w.listed other;

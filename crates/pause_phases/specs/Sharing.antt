@@ -63,6 +63,7 @@ pub record LastsDecided (fs gs : Finalisers) : Type 0 where
 pub record Works (k : Config) (kind : Kind) (x y : DomainView) : Type 0 where
   pub view : y ≡ with_work x y
   pub progress_is : y.seen.share.progress ≡ x.seen.share.progress
+  pub unmarked_is : y.seen.share.unmarked ≡ x.seen.share.unmarked
   pub weak_is : y.seen.share.weak ≡ x.seen.share.weak
   pub looked : kind ≢ Sweep → y.own.looked ≡ x.own.looked
   pub again : LooksAgain x y

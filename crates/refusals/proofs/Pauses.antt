@@ -1,5 +1,5 @@
 -- What the clauses of leading, of arriving and of the barrier refuse.
-use Rattle.std.proofs.Common.{◌≡◌, ◌∙◌, ℕ, ◌*◌, ◌<◌, ◌≤◌, true, false, if◌then◌else◌, Bool, List, Some, None, refl, sym, ap, inl, inr, subst, arith}
+use Rattle.std.proofs.Common.{◌≡◌, ◌≢◌, ◌∙◌, ℕ, zero, suc, ◌-◌, ◌*◌, ◌<◌, ◌≤◌, true, false, if◌then◌else◌, Bool, List, Some, None, refl, sym, ap, inl, inr, subst, arith}
 use Rattle.std.proofs.lemmas.Option.{same_Some}
 use Rattle.heap_model.specs.declared.entry.Entry.{Entry}
 use Rattle.heap_model.specs.Fronts.{IsFrontOf}
@@ -11,7 +11,8 @@ use Rattle.heap_rule.specs.declared.view.DomainView.{DomainView}
 use Rattle.heap_rule.specs.declared.view.Share.{Share}
 use Rattle.heap_rule.specs.Meeting.{Met}
 use Rattle.heap_rule.specs.Token.{Token}
-use Rattle.steps_pauses.specs.Pauses.{ArriveMay, MayFollow}
+use Rattle.steps_pauses.specs.Pauses.{ArriveMay, MayFollow, asks_again}
+use Rattle.pause_phases.specs.declared.decider.Decider.{Decider}
 use Rattle.pause_phases.specs.declared.decider.Decider.TheVariants.{Caller}
 use Rattle.pause_phases.specs.Leading.{LeadsOn}
 use Rattle.safepoint.specs.Looks.{LedTo, LookAnswers}
@@ -27,7 +28,7 @@ no_queued_block_is_left_grey share m changed = let e : 1 ≡ 0 = same_Some 1 0 (
 
 -- and a domain doesn't arrive from it while it owes a store of the changed word
 pub no_arrival_from_queued_owes_a_store : (k : Config) (x : DomainView) → ArriveMay k x → x.seen.stage ≡ In Queued → x.seen.share.owes ≡ true → ⊥
-no_arrival_from_queued_owes_a_store k x may stage owes = let e : true ≡ false = sym owes ∙ may.done.told (inr (inr (inl stage))) in cc
+no_arrival_from_queued_owes_a_store k x may stage owes = let e : true ≡ false = sym owes ∙ may.done.told (inr stage) in cc
 
 -- a domain isn't said to wait once all have arrived
 pub no_wait_when_all_have_arrived : (k : Config) (x y : DomainView) (b : ℕ) → LookAnswers k x y (NotAll b) → x.own.arrivals * k.domains ≤ b → ⊥
@@ -62,6 +63,33 @@ no_marking_begins_uncleared k x y led may =
     let named : y.seen.stage ≡ Led Mark = ap (λ (w : DomainView). w.seen.stage) led.view in
     let unknown : y.seen.share.changed ≡ None = ap (λ (w : DomainView). w.seen.share.changed) led.view in
     let e = sym unknown ∙ may.set_back named in cc
+
+-- no phase of the marking asks for another one where no block was left to mark
+asks : (found : ℕ) → found ≢ 0 → asks_again (Some found) ≡ 1
+asks zero some = absurd (some refl)
+asks (suc n) some = refl
+
+pub no_marking_asks_in_vain : (k : Config) (who : Decider) (x y : DomainView) (kind : Kind) (l : LeadsOn k who x y Mark kind) → l.findings.changed ≢ 0 → x.seen.share.unmarked ≡ 0 → ⊥
+no_marking_asks_in_vain k who x y kind l some none =
+    let a : ℕ = asks_again (Some l.findings.changed) in
+    let one : a ≡ 1 = asks l.findings.changed some in
+    let grown : a ≤ x.seen.share.unmarked = l.grown tt in
+    let u : ℕ = x.seen.share.unmarked in
+    let few : a ≤ u = grown in
+    let zero_left : u ≡ 0 = none in
+    omega (arith, one, few, zero_left)
+
+-- and behind one that does one fewer is left
+pub a_marking_that_asks_has_marked : (k : Config) (who : Decider) (x y : DomainView) (kind : Kind) (l : LeadsOn k who x y Mark kind) → l.findings.changed ≢ 0 → x.seen.share.unmarked ≤ y.seen.share.unmarked → ⊥
+a_marking_that_asks_has_marked k who x y kind l some as_many =
+    let a : ℕ = asks_again (Some l.findings.changed) in
+    let one : a ≡ 1 = asks l.findings.changed some in
+    let u : ℕ = x.seen.share.unmarked in
+    let v : ℕ = y.seen.share.unmarked in
+    let grown : a ≤ u = l.grown tt in
+    let left : v ≡ u - a = ap (λ (w : DomainView). w.seen.share.unmarked) l.view in
+    let more : u ≤ v = as_many in
+    omega (arith, one, grown, left, more)
 
 -- where the caller of a pause wants no collection none begins, and where it wants one one does
 pub no_collection_begins_unasked : (k : Config) (x y : DomainView) (kind : Kind) → LeadsOn k (Caller false) x y Reset kind → x.seen.share.progress.armed ≡ false → kind ≡ Run
