@@ -118,7 +118,7 @@ module _ (k : Config) (x y : DomainView) (at count word : ℕ) (v : Value) (scan
     datum_darkens colours d = subst (Darkens colours a OfDatum) (sym datum_view) record { kind = Rounds; stage = d.stage; darkening = tt; known = d.known; reason_is = (at, d.stage, refl) }
 
     pub datum_darkened : (z : DomainView) (won : Bool) (colours : Colours) → Darkening colours x → z ≡ darkened OfDatum a won y → Through at won x z
-    datum_darkened z won colours d e = subst (Through at won x) (sym (e ∙ ap (darkened OfDatum a won) datum_view ∙ ap (λ (o : Bool). with_share x (record (ended_at at x.seen.share) { found_head = (darkened OfDatum a won (with_scan x (Datum at a))).seen.share.found_head; marked = a ∷ x.seen.share.marked; darkenings = x.seen.share.darkenings + cond won 1 0; owes = o })) (ap (λ (s : Stage). owes_after s won x.seen.share.owes) d.stage))) record { view = refl }
+    datum_darkened z won colours d e = subst (Through at won x) (sym (e ∙ ap (darkened OfDatum a won) datum_view ∙ ap (λ (o : Bool). with_share x (record (ended_at at x.seen.share) { found_head = (darkened OfDatum a won (with_scan x (Datum at a))).seen.share.found_head; marked = a ∷ x.seen.share.marked; darkenings = x.seen.share.darkenings + cond won 1 0; owes = o; account = (darkened OfDatum a won (with_scan x (Datum at a))).seen.share.account })) (ap (λ (s : Stage). owes_after s won x.seen.share.owes) d.stage))) record { view = refl }
 
   -- it refers to none
   pub datum_passed : ((a : ℕ) → v ≡ Ref a → ⊥) → Through at false x y

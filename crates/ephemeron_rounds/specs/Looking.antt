@@ -37,11 +37,11 @@ after_keys false at keys share = ended_at at share
 
 -- the domain is through with an ephemeron. Where it has marked a block it owes a store of the changed word
 pub record Through (at : ℕ) (won : Bool) (x y : DomainView) : Type 0 where
-  pub view : y ≡ with_share x (record (ended_at at x.seen.share) { found_head = y.seen.share.found_head; marked = y.seen.share.marked; darkenings = y.seen.share.darkenings; owes = cond won true x.seen.share.owes })
+  pub view : y ≡ with_share x (record (ended_at at x.seen.share) { found_head = y.seen.share.found_head; marked = y.seen.share.marked; darkenings = y.seen.share.darkenings; owes = cond won true x.seen.share.owes; account = y.seen.share.account })
 
--- the domain with what it knows of blocks and of the places that it has seen, and whether it owes a store of the changed word, as another has it
+-- the domain with what it knows of blocks and of the places that it has seen, and what it owes for those that it has darkened, as another has it
 abbrev pub with_looks : DomainView → DomainView → DomainView
-with_looks x y = with_share x (record x.seen.share { found_head = y.seen.share.found_head; marked = y.seen.share.marked; darkenings = y.seen.share.darkenings; owes = y.seen.share.owes; places_seen = y.seen.share.places_seen })
+with_looks x y = with_share x (record x.seen.share { found_head = y.seen.share.found_head; marked = y.seen.share.marked; darkenings = y.seen.share.darkenings; owes = y.seen.share.owes; account = y.seen.share.account; places_seen = y.seen.share.places_seen })
 
 -- the domain has seen the place of each ephemeron of its list
 abbrev pub SeesListed : DomainView → Type 0
@@ -62,9 +62,9 @@ pub record SawEach (won : Bool) (x y : DomainView) : Type 0 where
   pub owes : y.seen.share.owes ≡ cond won true x.seen.share.owes
   pub all : SeesListed y
 
--- the domain with what it knows of the colours, of blocks and of the places that it has seen as another has it
+-- the domain with what it knows of the colours, of blocks and of the places that it has seen, and with its account, as another has it
 abbrev pub with_sights : DomainView → DomainView → DomainView
-with_sights x y = with_share x (record x.seen.share { colours = y.seen.share.colours; found_head = y.seen.share.found_head; marked = y.seen.share.marked; darkenings = y.seen.share.darkenings; places_seen = y.seen.share.places_seen })
+with_sights x y = with_share x (record x.seen.share { colours = y.seen.share.colours; found_head = y.seen.share.found_head; marked = y.seen.share.marked; darkenings = y.seen.share.darkenings; account = y.seen.share.account; places_seen = y.seen.share.places_seen })
 
 -- the domain has been at each ephemeron of its list, and owes no store of the changed word. Nothing else has changed
 pub record AllLooked (x y : DomainView) : Type 0 where

@@ -1,5 +1,5 @@
 -- What the word of a pool's owner tells the domain that has loaded it.
-use Rattle.std.proofs.Common.{◌≡◌, ◌∙◌, ℕ, ◌+◌, ◌*◌, false, Some, ap, sym, subst, refl, ⊎_elim, arith}
+use Rattle.std.proofs.Common.{◌≡◌, ◌∙◌, ℕ, ◌+◌, ◌*◌, Some, ap, sym, subst, refl, ⊎_elim, arith}
 use Rattle.heap_rule.specs.declared.view.DomainView.{DomainView}
 use Rattle.heap_rule.specs.Pools.{owned, owner_word}
 use Rattle.steps_marking.specs.Marking.{OwnTold}
@@ -32,8 +32,8 @@ module _ (pool found number : ℕ) (x y : DomainView) (same : number ≡ y.own.n
         told.told
 
   -- or the walk goes on behind it
-  pub walked_by : IsNotOf number found → Walked (record { pool = pool + 1; slot = 0 }) false x y
+  pub walked_by : IsNotOf number found → Walked (record { pool = pool + 1; slot = 0 }) x y
   walked_by none = ⊎_elim
       (λ u. absurd (none u.0 u.1 (subst (λ (d : ℕ). found ≡ owner_word (owned d u.0)) (sym number_is) u.2)))
-      (λ u. subst (Walked (record { pool = pool + 1; slot = 0 }) false x) (sym u.1) record { view = refl })
+      (λ u. subst (Walked (record { pool = pool + 1; slot = 0 }) x) (sym u.1) record { view = refl })
       told.told

@@ -1,5 +1,5 @@
 -- A place of the walk, and those behind it.
-use Rattle.std.proofs.Common.{◌≡◌, ◌≢◌, ℕ, ◌⊎◌, Bool, false, true≢false, ◌∷◌, Some, None, ⊎_elim, inr, inl, List, sym, refl, ap, subst, ◌∙◌}
+use Rattle.std.proofs.Common.{◌≡◌, ◌≢◌, ℕ, ◌⊎◌, Bool, false, true≢false, ◌∷◌, Some, None, ⊎_elim, inr, inl, sym, refl, ap, subst, ◌∙◌}
 use Rattle.heap_model.specs.Fronts.{Shape, PlainShape, RawShape, EpheShape}
 use Rattle.heap_words.specs.declared.colours.Colours.{Colours}
 use Rattle.heap_words.specs.declared.head.Head.{Head}
@@ -8,17 +8,17 @@ use Rattle.heap_words.specs.ColourWords.{IsPermutation}
 use Rattle.heap_words.proofs.WordLemmas.{head_word-injective}
 use Rattle.heap_rule.specs.declared.phase.Kind.TheVariants.{Mark, Rounds}
 use Rattle.heap_rule.specs.declared.phase.Stage.TheVariants.{In}
-use Rattle.heap_rule.specs.declared.config.Config.{Config}
 use Rattle.heap_rule.specs.declared.view.DomainView.{DomainView}
 use Rattle.heap_rule.specs.declared.view.Scan.{Scan}
 use Rattle.heap_rule.specs.declared.view.Scan.TheVariants.{Idle, Reads}
 use Rattle.heap_rule.specs.Places.{head_of}
 use Rattle.steps_marking.proofs.Colouring.{words_same}
 use Rattle.steps_marking.specs.Looks.{with_share}
-use Rattle.steps_marking.specs.Marking.{Anywhere, GreyTold, IsGrey, IsScanned, IsUnmarked, LiesAt, MarkTold, Next, ScannedMay, ScannedTold, Site, begun, behind, fields_in, places_seen_on, walk_on}
+use Rattle.steps_marking.specs.Marking.{Anywhere, GreyTold, IsGrey, IsScanned, IsUnmarked, LiesAt, MarkTold, Next, ScannedMay, ScannedTold, Site, begun, behind, fields_in, places_seen_on, settled, walk_on}
 use Rattle.darkening_beside.specs.Heads.{IsScanOf}
-use Rattle.mark_slices.specs.Shares.{Begun, Followed, Marks, Noted, ScannedAt, Scans, ScansBlocks, Walked, fields_to, scanning}
+use Rattle.mark_slices.specs.Shares.{Begun, Followed, Marks, ScannedAt, Scans, ScansBlocks, Walked, block_in, fields_to, scanning}
 use Rattle.mark_slices.proofs.Fields.{scanning_kind}
+use Rattle.mark_slices.proofs.Notes.{SameNotes}
 use Rattle.darkening_beside.proofs.Exchanges.{not_both, one_head, one_meaning}
 
 -- the fields of a grey block are as many, whatever its shape is said to be
@@ -83,7 +83,7 @@ pub grey_begins : (x y : DomainView) (colours : Colours) (at word fields new : �
 grey_begins x y colours at word fields new p m t s =
     let same : t.colours ≡ colours = one_meaning x.seen.share.colours colours t.colours m.known t.known in
     ⊎_elim
-    (λ (q : IsScanned t.colours word × (y ≡ x)). absurd (not_passed colours word p s.grey (inr (inr (subst (λ (c : Colours). IsScanned c word) same q.0)))))
+    (λ (q : IsScanned t.colours word × (y ≡ with_share x (record x.seen.share { account = settled at x.seen.share.account }))). absurd (not_passed colours word p s.grey (inr (inr (subst (λ (c : Colours). IsScanned c word) same q.0)))))
     (λ (q : (grey : IsGrey t.colours word) × (y ≡ with_share x (begun at grey.block.shape word x.seen.share))). begins_of x y colours t.colours at word fields new s same q)
     t.told
 
@@ -112,26 +112,35 @@ module _ (y v : DomainView) (at fields new : ℕ) (won : Bool) (site : Site) (e 
   }
 
   pub block_done : (z : DomainView) → ScannedTold at site v new z → ScannedAt site at won y z
-  block_done z told = subst (ScannedAt site at won y) (sym (told ∙ ap (λ (u : DomainView). with_share u (record u.seen.share { scan = Idle; places_seen = places_seen_on site at u.seen.share.places_seen; walk = walk_on site u.seen.share.walk })) e)) refl
+  block_done z told = subst (ScannedAt site at won y) (sym (told ∙ ap (λ (u : DomainView). with_share u (record u.seen.share { scan = Idle; account = settled at u.seen.share.account; places_seen = places_seen_on site at u.seen.share.places_seen; walk = walk_on site u.seen.share.walk })) e)) refl
 
 -- the block was grey, and is scanned
 module _ (x y : DomainView) (colours : Colours) (at word fields new : ℕ) (m : Scans colours x) (s : IsScanOf colours word fields new) (e : y ≡ with_share x (record x.seen.share { scan = Reads at 0 fields word })) where
-  pub ready : (k : Config) (site : Site) (items : List ℕ) → LiesAt site x at → Noted k x.seen.share.marked items → ScansBlocks y.seen.stage × (y.seen.share.colours ≡ Some colours) × Begun colours at fields new y × LiesAt site y at × Noted k y.seen.share.marked items
-  ready k site items l n = (
+  pub ready : (site : Site) → LiesAt site x at → ScansBlocks y.seen.stage × (y.seen.share.colours ≡ Some colours) × Begun colours at fields new y × LiesAt site y at
+  ready site l = (
     subst ScansBlocks (sym (ap (λ (u : DomainView). u.seen.stage) e)) m.stage,
     ap (λ (u : DomainView). u.seen.share.colours) e ∙ m.known,
     record { word = word; scan = ap (λ (u : DomainView). u.seen.share.scan) e; grey = s },
     lies_still site x y at (ap (λ (u : DomainView). u.seen.share.own_pool) e) (ap (λ (u : DomainView). u.seen.share.walk) e) l,
-    subst (λ (l : List ℕ). Noted k l items) (sym (ap (λ (u : DomainView). u.seen.share.marked) e)) n,
   )
+
+  -- what is noted is still
+  pub begun_notes : SameNotes x y
+  begun_notes = record { stage = ap (λ (u : DomainView). u.seen.stage) e; marked = ap (λ (u : DomainView). u.seen.share.marked) e; owes = ap (λ (u : DomainView). u.seen.share.owes) e; account = ap (λ (u : DomainView). u.seen.share.account) e }
+
+  pub begun_block : block_in y.seen.share.scan ≡ Some at
+  begun_block = ap (λ (u : DomainView). block_in u.seen.share.scan) e
+
+  pub was_idle : block_in x.seen.share.scan ≡ None
+  was_idle = ap block_in m.idle
 
   module _ (z : DomainView) (won : Bool) (site : Site) (d : ScannedAt site at won y z) where
     scanned_view : z ≡ with_share x (record (scanning x.seen.share z.seen.share x.seen.share.scan won) { places_seen = places_seen_on site at x.seen.share.places_seen; walk = walk_on site x.seen.share.walk })
     scanned_view = d ∙ ap (λ (u : DomainView). with_share u (record (scanning u.seen.share z.seen.share Idle won) { places_seen = places_seen_on site at u.seen.share.places_seen; walk = walk_on site u.seen.share.walk })) e
         ∙ ap (λ (n : Scan). with_share x (record (scanning x.seen.share z.seen.share n won) { places_seen = places_seen_on site at x.seen.share.places_seen; walk = walk_on site x.seen.share.walk })) (sym m.idle)
 
-    pub site_walked : Walked (walk_on site x.seen.share.walk) won x z
-    site_walked = subst (Walked (walk_on site x.seen.share.walk) won x) (sym scanned_view) record { view = refl }
+    pub site_walked : Walked (walk_on site x.seen.share.walk) x z
+    site_walked = subst (Walked (walk_on site x.seen.share.walk) x) (sym scanned_view) record { view = refl }
 
     pub site_followed : site ≡ Anywhere → Followed won x z
     site_followed anywhere = subst (λ (t : Site). z ≡ with_share x (record (scanning x.seen.share z.seen.share x.seen.share.scan won) { places_seen = places_seen_on t at x.seen.share.places_seen; walk = walk_on t x.seen.share.walk })) anywhere scanned_view
@@ -139,15 +148,16 @@ module _ (x y : DomainView) (colours : Colours) (at word fields new : ℕ) (m : 
     pub own_pool_stays : z.seen.share.own_pool ≡ x.seen.share.own_pool
     own_pool_stays = ap (λ (u : DomainView). u.seen.share.own_pool) scanned_view
 
--- a look leaves what is known to be marked
-pub mark_stays : (x y : DomainView) (at pool class slot word : ℕ) → MarkTold at pool class slot x word y → y.seen.share.marked ≡ x.seen.share.marked
-mark_stays x y at pool class slot word t = ⊎_elim
-    (λ (q : ((word ≡ 0) ⊎ (IsUnmarked t.colours word ⊎ IsScanned t.colours word)) × (y ≡ with_share x (record x.seen.share { places_seen = at ∷ x.seen.share.places_seen; walk = behind pool class slot }))). ap (λ (u : DomainView). u.seen.share.marked) q.1)
-    (λ (q : (grey : IsGrey t.colours word) × (y ≡ with_share x (begun at grey.block.shape word x.seen.share))). ap (λ (u : DomainView). u.seen.share.marked) q.1)
+-- where no block is grey there the walk goes on
+pub mark_passes : (x y : DomainView) (colours : Colours) (at pool class slot word : ℕ) → Marks colours x → MarkTold at pool class slot x word y → (IsGrey colours word → ⊥) → y ≡ with_share x (record x.seen.share { places_seen = at ∷ x.seen.share.places_seen; walk = behind pool class slot })
+mark_passes x y colours at pool class slot word m t none = ⊎_elim
+    (λ (q : ((word ≡ 0) ⊎ (IsUnmarked t.colours word ⊎ IsScanned t.colours word)) × (y ≡ with_share x (record x.seen.share { places_seen = at ∷ x.seen.share.places_seen; walk = behind pool class slot }))). q.1)
+    (λ (q : (grey : IsGrey t.colours word) × (y ≡ with_share x (begun at grey.block.shape word x.seen.share))). absurd (none (subst (λ (c : Colours). IsGrey c word) (one_meaning x.seen.share.colours colours t.colours m.known t.known) q.0)))
     t.told
 
-pub grey_stays : (x y : DomainView) (at word : ℕ) → GreyTold at x word y → y.seen.share.marked ≡ x.seen.share.marked
-grey_stays x y at word t = ⊎_elim
-    (λ (q : IsScanned t.colours word × (y ≡ x)). ap (λ (u : DomainView). u.seen.share.marked) q.1)
-    (λ (q : (grey : IsGrey t.colours word) × (y ≡ with_share x (begun at grey.block.shape word x.seen.share))). ap (λ (u : DomainView). u.seen.share.marked) q.1)
+-- and a block that was followed is on the account no more
+pub grey_settles : (x y : DomainView) (colours : Colours) (at word : ℕ) → Scans colours x → GreyTold at x word y → (IsGrey colours word → ⊥) → y ≡ with_share x (record x.seen.share { account = settled at x.seen.share.account })
+grey_settles x y colours at word m t none = ⊎_elim
+    (λ (q : IsScanned t.colours word × (y ≡ with_share x (record x.seen.share { account = settled at x.seen.share.account }))). q.1)
+    (λ (q : (grey : IsGrey t.colours word) × (y ≡ with_share x (begun at grey.block.shape word x.seen.share))). absurd (none (subst (λ (c : Colours). IsGrey c word) (one_meaning x.seen.share.colours colours t.colours m.known t.known) q.0)))
     t.told

@@ -1,5 +1,5 @@
 -- What becomes of a domain's view while it marks blocks ("Retrofitting Parallelism onto OCaml", section 3.2).
-use Rattle.std.specs.Prelude.{◌≡◌, ◌≢◌, ℕ, ◌+◌, ◌*◌, ◌<◌, ◌≤◌, ◌⊎◌, ◌==◌, Bool, true, false, IsTrue, cond, if◌then◌else◌, nat_le, Some, List, slice_get}
+use Rattle.std.specs.Prelude.{◌≡◌, ◌≢◌, ℕ, ◌+◌, ◌*◌, ◌<◌, ◌≤◌, ◌⊎◌, ◌==◌, Bool, true, false, IsTrue, cond, if◌then◌else◌, nat_le, Option, None, Some, List, [], slice_get}
 use Rattle.std.specs.List.{list_any}
 use Rattle.heap_model.specs.Domains.{class_count}
 use Rattle.heap_words.specs.declared.colours.Colours.{Colours}
@@ -12,7 +12,7 @@ use Rattle.heap_rule.specs.declared.phase.Stage.TheVariants.{In}
 use Rattle.heap_rule.specs.declared.view.DomainView.{DomainView}
 use Rattle.heap_rule.specs.declared.view.Held.TheVariants.{Queue}
 use Rattle.heap_rule.specs.declared.view.Scan.{Scan}
-use Rattle.heap_rule.specs.declared.view.Scan.TheVariants.{Idle, Reads}
+use Rattle.heap_rule.specs.declared.view.Scan.TheVariants.{Holds, Idle, Reads}
 use Rattle.heap_rule.specs.declared.view.Share.{Share}
 use Rattle.heap_rule.specs.declared.view.Spot.{Spot}
 use Rattle.heap_rule.specs.Changes.{value_at}
@@ -105,7 +105,7 @@ fields_to i other = other
 
 -- what a domain knows after fields were scanned, by what another knows: who has darkened a block owes a store of the changed word
 abbrev pub scanning : Share → Share → Scan → Bool → Share
-scanning s t scan won = record s { found_head = t.found_head; scan = scan; marked = t.marked; darkenings = t.darkenings; owes = cond won true s.owes }
+scanning s t scan won = record s { found_head = t.found_head; scan = scan; marked = t.marked; darkenings = t.darkenings; owes = cond won true s.owes; account = t.account }
 
 -- a grey block's scan has begun: so many of its fields are to be scanned, and then its head is to be this word
 pub record Begun (colours : Colours) (at fields new : ℕ) (x : DomainView) : Type 0 where
@@ -117,9 +117,17 @@ pub record Begun (colours : Colours) (at fields new : ℕ) (x : DomainView) : Ty
 abbrev pub ScannedAt : Site → ℕ → Bool → DomainView → DomainView → Type 0
 ScannedAt site at won x y = y ≡ with_share x (record (scanning x.seen.share y.seen.share Idle won) { places_seen = places_seen_on site at x.seen.share.places_seen; walk = walk_on site x.seen.share.walk })
 
--- the addresses of blocks of the pools, each of which is known to be marked
-abbrev pub Noted : Config → List ℕ → List ℕ → Type 0
-Noted k marked items = (i a : ℕ) → slice_get items i ≡ Some a → (1 ≤ a) × (a ≤ k.pools * 4096) × IsTrue (seen_by marked a)
+-- the block that is scanned
+abbrev pub block_in : Scan → Option ℕ
+block_in (Reads block done size head) = Some block
+block_in (Holds block done size head address) = Some block
+block_in _ = None
+
+-- The addresses of blocks of the pools that a domain is to follow. Each is known to be marked. In Mark each block on its account is among them, or is the one that is scanned, unless one of them may have been let go; and then it owes a store of the changed word
+pub record Noted (k : Config) (x : DomainView) (items : List ℕ) (lost : Bool) : Type 0 where
+  pub known : (i a : ℕ) → slice_get items i ≡ Some a → (1 ≤ a) × (a ≤ k.pools * 4096) × IsTrue (seen_by x.seen.share.marked a)
+  pub kept : x.seen.stage ≡ In Mark → lost ≡ false → (a : ℕ) → IsTrue (seen_by x.seen.share.account a) → (block_in x.seen.share.scan ≡ Some a) ⊎ IsTrue (seen_by items a)
+  pub owes : lost ≡ true → x.seen.share.owes ≡ true
 
 -- blocks are scanned in a phase
 abbrev pub ScansBlocks : Stage → Type 0
@@ -145,19 +153,19 @@ pub record Marks (colours : Colours) (x : DomainView) : Type 0 where
 abbrev pub spot_from : ℕ → ℕ → ℕ → Spot
 spot_from pool class seen = if nat_le (blocks_of class) seen then record { pool = pool + 1; slot = 0 } else record { pool = pool; slot = seen }
 
--- the walk has come to a place. Where the domain has darkened a block it owes a store of the changed word
-pub record Walked (walk : Spot) (won : Bool) (x y : DomainView) : Type 0 where
-  pub view : y ≡ with_share x (record x.seen.share { found_head = y.seen.share.found_head; marked = y.seen.share.marked; darkenings = y.seen.share.darkenings; owes = cond won true x.seen.share.owes; places_seen = y.seen.share.places_seen; walk = walk; own_pool = y.seen.share.own_pool })
+-- the walk has come to a place
+pub record Walked (walk : Spot) (x y : DomainView) : Type 0 where
+  pub view : y ≡ with_share x (record x.seen.share { found_head = y.seen.share.found_head; marked = y.seen.share.marked; darkenings = y.seen.share.darkenings; owes = y.seen.share.owes; account = y.seen.share.account; places_seen = y.seen.share.places_seen; walk = walk; own_pool = y.seen.share.own_pool })
 
--- the domain with what it knows of the colours, of blocks and of its places as another has it
+-- the domain with what it knows of the colours, of blocks and of its places, and what it owes for those that it has darkened, as another has it
 abbrev pub with_marks : DomainView → DomainView → DomainView
-with_marks x y = with_share x (record x.seen.share { colours = y.seen.share.colours; found_head = y.seen.share.found_head; marked = y.seen.share.marked; darkenings = y.seen.share.darkenings; places_seen = y.seen.share.places_seen; walk = y.seen.share.walk; own_pool = y.seen.share.own_pool })
+with_marks x y = with_share x (record x.seen.share { colours = y.seen.share.colours; found_head = y.seen.share.found_head; marked = y.seen.share.marked; darkenings = y.seen.share.darkenings; owes = y.seen.share.owes; account = y.seen.share.account; places_seen = y.seen.share.places_seen; walk = y.seen.share.walk; own_pool = y.seen.share.own_pool })
 
--- the domain has been at each place of its own pools, and owes no store of the changed word. Nothing else has changed
+-- the domain has been at each place of its own pools, and no block is left on its account. Nothing else has changed
 pub record AllWalked (x y : DomainView) : Type 0 where
   pub view : y ≡ with_marks x y
   pub walked : y.seen.share.walk ≡ record { pool = x.own.swept.top; slot = 0 }
-  pub told : y.seen.share.owes ≡ false
+  pub followed : y.seen.share.account ≡ []
 
 -- an owner's word names none of the domain's classes, or one of them
 abbrev pub IsNotOf : ℕ → ℕ → Type 0

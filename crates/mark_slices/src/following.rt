@@ -1,5 +1,5 @@
 //! The scan of blocks that the domain has darkened itself.
-ghost use Rattle.std.specs.Prelude.{◌≡◌, ◌*◌, ◌≤◌, IsTrue, [], true};
+ghost use Rattle.std.specs.Prelude.{◌≡◌, ◌*◌, ◌≤◌, ◌++◌, ◌∷◌, IsTrue, [], true};
 ghost use Rattle.heap_words.specs.ColourWords.{IsPermutation};
 ghost use Rattle.heap_rule.specs.Cycles.{seen_by};
 ghost use Rattle.heap_rule.specs.Token.{IsIn};
@@ -14,18 +14,18 @@ use heap_rule::{Domain, Heap};
 use heap_words::Colours;
 use steps_marking::grey_load;
 
-// Scans a block of a pool that is known to be marked, if it is grey. Answers whether the domain has
-// marked a block.
+// Scans a block of a pool that is known to be marked, if it is grey: the one that was noted last, and is so
+// no more. Answers whether the domain has marked a block.
 fn follow(heap: &Heap, dom: &mut Domain, at: u32, colours: Colours, trail: &mut Trail) -> bool
     requires here { IsIn dom.old heap.now }
     requires scans { Scans colours dom.old.view }
     requires meanings { IsPermutation colours }
     requires inside { (1 ≤ at) × (at ≤ heap.now.config.pools * 4096) }
     requires marked { IsTrue (seen_by dom.old.view.seen.share.marked at) }
-    requires noted { Noted heap.now.config dom.old.view.seen.share.marked trail.old.items }
+    requires noted { Noted heap.now.config dom.old.view (trail.old.items ++ at ∷ []) trail.old.lost }
     ensures here { IsIn dom.new heap.now }
     ensures followed { Followed result dom.old.view dom.new.view }
-    ensures noted { Noted heap.now.config dom.new.view.seen.share.marked trail.new.items }
+    ensures noted { Noted heap.now.config dom.new.view trail.new.items trail.new.lost }
 {
     let word = grey_load(heap, dom, at);
     let Some(block) = scan_of(word, colours) else {
@@ -50,9 +50,11 @@ pub(crate) fn follow_all(
     requires here { IsIn dom.old heap.now }
     requires scans { Scans colours dom.old.view }
     requires meanings { IsPermutation colours }
-    requires noted { Noted heap.now.config dom.old.view.seen.share.marked trail.old.items }
+    requires owes { dom.old.view.seen.share.owes ≡ true }
+    requires noted { Noted heap.now.config dom.old.view trail.old.items trail.old.lost }
     ensures here { IsIn dom.new heap.now }
     ensures followed { Followed result dom.old.view dom.new.view }
+    ensures noted { Noted heap.now.config dom.new.view trail.new.items trail.new.lost }
     ensures none { trail.new.items ≡ [] }
 {
     let mut darkened = false;

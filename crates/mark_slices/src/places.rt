@@ -1,5 +1,5 @@
 //! The marked blocks of one own pool.
-ghost use Rattle.std.specs.Prelude.{◌≡◌, ◌<◌, ◌+◌, Some, [], false};
+ghost use Rattle.std.specs.Prelude.{◌≡◌, ◌<◌, ◌+◌, Some, [], true, false};
 ghost use Rattle.heap_model.specs.Domains.{class_count};
 ghost use Rattle.heap_words.specs.ColourWords.{IsPermutation};
 ghost use Rattle.heap_rule.specs.Pools.{blocks_of};
@@ -38,11 +38,12 @@ fn mark_place(
     requires own { dom.old.view.seen.share.own_pool ≡ Some (record { pool = pool; class = class }) }
     requires next { dom.old.view.seen.share.walk ≡ record { pool = pool; slot = slot } }
     requires site { site ≡ Next pool class slot }
-    requires noted { Noted heap.now.config dom.old.view.seen.share.marked trail.old.items }
+    requires noted { Noted heap.now.config dom.old.view trail.old.items trail.old.lost }
     ensures here { IsIn dom.new heap.now }
-    ensures walked { Walked (behind pool class slot) result dom.old.view dom.new.view }
+    ensures walked { Walked (behind pool class slot) dom.old.view dom.new.view }
+    ensures owes { result ≡ true → dom.new.view.seen.share.owes ≡ true }
     ensures own { dom.new.view.seen.share.own_pool ≡ dom.old.view.seen.share.own_pool }
-    ensures noted { Noted heap.now.config dom.new.view.seen.share.marked trail.new.items }
+    ensures noted { Noted heap.now.config dom.new.view trail.new.items trail.new.lost }
     ensures kept { result ≡ false → trail.new.items ≡ trail.old.items }
 {
     let _limits = heap.config();
@@ -63,7 +64,7 @@ pub(crate) fn mark_pool(
     colours: Colours,
     trail: &mut Trail,
     waiting: &mut Waiting,
-) -> bool
+)
     requires here { IsIn dom.old heap.now }
     requires marks { Marks colours dom.old.view }
     requires meanings { IsPermutation colours }
@@ -72,16 +73,15 @@ pub(crate) fn mark_pool(
     requires own { dom.old.view.seen.share.own_pool ≡ Some (record { pool = pool; class = class }) }
     requires next { dom.old.view.seen.share.walk ≡ record { pool = pool; slot = 0 } }
     requires none { trail.old.items ≡ [] }
+    requires noted { Noted heap.now.config dom.old.view trail.old.items trail.old.lost }
     ensures here { IsIn dom.new heap.now }
-    ensures walked { Walked (record { pool = pool + 1; slot = 0 }) result dom.old.view dom.new.view }
+    ensures walked { Walked (record { pool = pool + 1; slot = 0 }) dom.old.view dom.new.view }
+    ensures noted { Noted heap.now.config dom.new.view trail.new.items trail.new.lost }
     ensures none { trail.new.items ≡ [] }
 {
-    let mut darkened = false;
     for slot in 0..class_blocks(class) {
         if mark_place(heap, dom, pool, class, slot, colours, trail) {
             follow_all(heap, dom, colours, trail, waiting);
-            darkened = true;
         }
     }
-    darkened
 }

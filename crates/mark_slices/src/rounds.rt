@@ -1,5 +1,5 @@
 //! The marked blocks of all own pools.
-ghost use Rattle.std.specs.Prelude.{◌≡◌, ◌≢◌, ◌<◌, ◌+◌, ℕ, MatchOption, false, []};
+ghost use Rattle.std.specs.Prelude.{◌≡◌, ◌≢◌, ◌<◌, ◌+◌, ℕ, MatchOption, []};
 ghost use Rattle.heap_model.specs.Domains.{class_count};
 ghost use Rattle.heap_words.specs.ColourWords.{IsPermutation};
 ghost use Rattle.heap_rule.specs.declared.phase.Kind.TheVariants.{Mark};
@@ -8,7 +8,7 @@ ghost use Rattle.heap_rule.specs.declared.view.Scan.TheVariants.{Idle};
 ghost use Rattle.heap_rule.specs.Pools.{owned, owner_word};
 ghost use Rattle.heap_rule.specs.Token.{IsIn};
 ghost use Rattle.mark_slices.specs.Decks.{NotesOn, TakesOwn};
-ghost use Rattle.mark_slices.specs.Shares.{IsNotOf, IsOfClass, Marks, Walked, AllWalked};
+ghost use Rattle.mark_slices.specs.Shares.{IsNotOf, IsOfClass, Marks, Noted, Walked, AllWalked};
 
 use crate::hints::Hints;
 use crate::places::mark_pool;
@@ -34,8 +34,7 @@ fn class_of(word: u64, domain: u32) -> Option<u32>
     Some((word - first) as u32)
 }
 
-// Looks at the next pool of the walk, and if it is an own one scans its grey blocks. Answers whether
-// the domain has marked a block.
+// Looks at the next pool of the walk, and if it is an own one scans its grey blocks.
 fn visit_pool(
     heap: &Heap,
     dom: &mut Domain,
@@ -43,58 +42,59 @@ fn visit_pool(
     colours: Colours,
     trail: &mut Trail,
     waiting: &mut Waiting,
-) -> bool
+)
     requires here { IsIn dom.old heap.now }
     requires marks { Marks colours dom.old.view }
     requires meanings { IsPermutation colours }
     requires pool { pool < heap.now.config.pools }
     requires next { dom.old.view.seen.share.walk ≡ record { pool = pool; slot = 0 } }
     requires none { trail.old.items ≡ [] }
+    requires noted { Noted heap.now.config dom.old.view trail.old.items trail.old.lost }
     ensures here { IsIn dom.new heap.now }
-    ensures walked { Walked (record { pool = pool + 1; slot = 0 }) result dom.old.view dom.new.view }
+    ensures walked { Walked (record { pool = pool + 1; slot = 0 }) dom.old.view dom.new.view }
+    ensures noted { Noted heap.now.config dom.new.view trail.new.items trail.new.lost }
     ensures none { trail.new.items ≡ [] }
 {
     let pools = heap.config().pools;
     let word = own_load(heap, dom, OWNERS + pools + pool, pool);
-    match class_of(word, dom.number()) {
-        Some(class) => mark_pool(heap, dom, pool, class, colours, trail, waiting),
-        None => false,
+    if let Some(class) = class_of(word, dom.number()) {
+        mark_pool(heap, dom, pool, class, colours, trail, waiting);
     }
 }
 
-// The same for all pools below the top, and then the store of the changed word, where the domain has marked a block.
+// The same for all pools below the top, and then the store of the changed word, where a block may be left that
+// the domain has marked and not followed.
 fn walk_pools(heap: &Heap, dom: &mut Domain, trail: &mut Trail, waiting: &mut Waiting)
     requires here { IsIn dom.old heap.now }
     requires stage { dom.old.view.seen.stage ≡ In Mark }
     requires begins { dom.old.view.seen.share.walk ≡ record { pool = 0; slot = 0 } }
     requires idle { dom.old.view.seen.share.scan ≡ Idle }
-    requires told { dom.old.view.seen.share.owes ≡ false }
+    requires followed { dom.old.view.seen.share.account ≡ [] }
     ensures here { IsIn dom.new heap.now }
     ensures walked { AllWalked dom.old.view dom.new.view }
 {
-    trail.clear();
+    trail.start();
     waiting.start(0);
     let top = dom.swept().top;
     let colours = colours_now(heap, dom);
-    let mut darkened = false;
     for pool in 0..top {
-        darkened |= visit_pool(heap, dom, pool, colours, trail, waiting);
+        visit_pool(heap, dom, pool, colours, trail, waiting);
     }
-    if darkened {
+    if trail.has_lost() {
         changed_store(heap, dom);
     }
 }
 
 /// A domain's share of a phase in which blocks are marked: it looks at each place of its own pools once,
 /// in order, and scans each grey block that it finds there. What the block's fields refer to is marked,
-/// whosever pool it lies in, and then the block's head says that it is scanned. Where the domain has
-/// marked a block it stores so in the changed word, since whoever has that block may have passed its
-/// place. Afterwards it has been at each own place and owes no store of the changed word, as is asked of
-/// it where it arrives. What it knows of the colours and of blocks is all that has changed.
+/// whosever pool it lies in, and then the block's head says that it is scanned. Afterwards it has been at
+/// each own place, and each block that it has marked is scanned, or it has stored the changed word, as is
+/// asked of it where it arrives. What it knows of the colours and of blocks is all that has changed.
 ///
 /// Its own hints are let go first, since the walk finds what they tell of. Behind each place the blocks
 /// that the domain has marked itself are scanned at once, wherever they lie: it remembers as many as
-/// 4096 of them, and what it can't remember a later walk finds.
+/// 4096 of them. Where it has let one go it stores so in the changed word, since whoever has that block may
+/// have passed its place: a later walk finds it.
 ///
 /// Domains mark in parallel, and go on until a whole phase changes nothing ("Retrofitting Parallelism
 /// onto OCaml", section 3.2).
@@ -103,7 +103,7 @@ pub fn mark_round(heap: &Heap, dom: &mut Domain, hints: &mut Hints)
     requires stage { dom.old.view.seen.stage ≡ In Mark }
     requires begins { dom.old.view.seen.share.walk ≡ record { pool = 0; slot = 0 } }
     requires idle { dom.old.view.seen.share.scan ≡ Idle }
-    requires told { dom.old.view.seen.share.owes ≡ false }
+    requires followed { dom.old.view.seen.share.account ≡ [] }
     ensures here { IsIn dom.new heap.now }
     ensures walked { AllWalked dom.old.view dom.new.view }
     ensures notes { NotesOn hints.old hints.new }

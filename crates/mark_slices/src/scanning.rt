@@ -27,10 +27,10 @@ fn scan_field(heap: &Heap, dom: &mut Domain, at: u32, colours: Colours, trail: &
     requires meanings { IsPermutation colours }
     requires inside { IsInHeap heap.now.config at }
     requires may { ScanMay dom.old.view at }
-    requires noted { Noted heap.now.config dom.old.view.seen.share.marked trail.old.items }
+    requires noted { Noted heap.now.config dom.old.view trail.old.items trail.old.lost }
     ensures here { IsIn dom.new heap.now }
     ensures scanned { dom.new.view ≡ with_share dom.old.view (scanning dom.old.view.seen.share dom.new.view.seen.share (field_on dom.old.view.seen.share.scan) result) }
-    ensures noted { Noted heap.now.config dom.new.view.seen.share.marked trail.new.items }
+    ensures noted { Noted heap.now.config dom.new.view trail.new.items trail.new.lost }
     ensures kept { result ≡ false → trail.new.items ≡ trail.old.items }
 {
     let _limits = heap.config();
@@ -61,10 +61,10 @@ fn scan_fields(
     requires meanings { IsPermutation colours }
     requires inside { block + size + 1 ≤ heap_words heap.now.config }
     requires begun { (head : ℕ) × (dom.old.view.seen.share.scan ≡ Reads block 0 size head) }
-    requires noted { Noted heap.now.config dom.old.view.seen.share.marked trail.old.items }
+    requires noted { Noted heap.now.config dom.old.view trail.old.items trail.old.lost }
     ensures here { IsIn dom.new heap.now }
     ensures scanned { dom.new.view ≡ with_share dom.old.view (scanning dom.old.view.seen.share dom.new.view.seen.share (fields_to size dom.old.view.seen.share.scan) result) }
-    ensures noted { Noted heap.now.config dom.new.view.seen.share.marked trail.new.items }
+    ensures noted { Noted heap.now.config dom.new.view trail.new.items trail.new.lost }
     ensures kept { result ≡ false → trail.new.items ≡ trail.old.items }
 {
     let _limits = heap.config();
@@ -94,10 +94,10 @@ pub(crate) fn scan_block(
     requires begun { Begun colours at block.fields block.scanned dom.old.view }
     requires lies { LiesAt site dom.old.view at }
     requires anywhere { dom.old.view.seen.stage ≡ In Rounds → site ≡ Anywhere }
-    requires noted { Noted heap.now.config dom.old.view.seen.share.marked trail.old.items }
+    requires noted { Noted heap.now.config dom.old.view trail.old.items trail.old.lost }
     ensures here { IsIn dom.new heap.now }
     ensures scanned { ScannedAt site at result dom.old.view dom.new.view }
-    ensures noted { Noted heap.now.config dom.new.view.seen.share.marked trail.new.items }
+    ensures noted { Noted heap.now.config dom.new.view trail.new.items trail.new.lost }
     ensures kept { result ≡ false → trail.new.items ≡ trail.old.items }
 {
     let _limits = heap.config();

@@ -114,6 +114,6 @@ leads_nearer k who x y last kind after l is =
     let n : ℕ = unmarked_after k last (Some l.findings.changed) x.seen.share.unmarked in
     let near = any_nearer (k.pools * 1024) x.seen.share.unmarked n k who l.findings last p.cut p.whole p.unswept p.armed (falls k last l.findings.changed x.seen.share.unmarked l.grown) in
     let named : any_named (k.pools * 1024) kind (progress_after last kind p) n < any_left (k.pools * 1024) last p x.seen.share.unmarked
-        = subst (λ (m : Kind). any_named (k.pools * 1024) m (progress_after last m p) n < any_left (k.pools * 1024) last p x.seen.share.unmarked) (sym l.chosen) near in
+    = subst (λ (m : Kind). any_named (k.pools * 1024) m (progress_after last m p) n < any_left (k.pools * 1024) last p x.seen.share.unmarked) (sym l.chosen) near in
     subst (λ (z : Progress × ℕ). any_named (k.pools * 1024) kind z.0 z.1 < any_left (k.pools * 1024) last p x.seen.share.unmarked)
     (λ i. (sym (is ∙ ap (λ (w : DomainView). w.seen.share.progress) l.view) i, sym (ap (λ (w : DomainView). w.seen.share.unmarked) l.view) i)) named

@@ -1,5 +1,6 @@
 -- What the clauses of marking, sweeping and of the rounds of ephemerons refuse.
-use Rattle.std.proofs.Common.{◌≡◌, ◌≢◌, ◌∙◌, ℕ, ◌+◌, ◌<◌, ◌≤◌, true, false, Some, IsTrue, sym, ap, ⊎_elim, arith}
+use Rattle.std.proofs.Common.{◌≡◌, ◌≢◌, ◌∙◌, ℕ, ◌+◌, ◌<◌, ◌≤◌, true, false, Some, IsTrue, List, sym, ap, subst, ⊎_elim, arith}
+use Rattle.std.proofs.lemmas.Bool.{false≢true}
 use Rattle.heap_words.specs.declared.colours.Colours.{Colours}
 use Rattle.heap_words.specs.declared.value.Value.TheVariants.{Ref}
 use Rattle.heap_rule.specs.declared.config.Config.{Config}
@@ -30,9 +31,9 @@ no_queued_block_is_left x y i a m holds left = left (m.queued i a holds)
 pub no_newly_queued_block_is_left : (x y : DomainView) (i a : ℕ) → AllQueueRooted x y → held_at y.own.finalisers (Queue i) ≡ Some a → (IsQueueRoot y i → ⊥) → ⊥
 no_newly_queued_block_is_left x y i a m holds left = left (m.queued i a holds)
 
--- a round of marking goes to the last own pool, and leaves no store of the changed word owed
-pub a_round_pays_the_changed_word : (x y : DomainView) → AllWalked x y → y.seen.share.owes ≡ true → ⊥
-a_round_pays_the_changed_word x y w owes = let e : true ≡ false = sym owes ∙ w.told in cc
+-- a round of marking goes to the last own pool, and leaves no block on the domain's account
+pub a_round_settles_its_account : (x y : DomainView) (a : ℕ) → AllWalked x y → IsTrue (seen_by y.seen.share.account a) → ⊥
+a_round_settles_its_account x y a w left = false≢true (subst (λ (l : List ℕ). IsTrue (seen_by l a)) w.followed left)
 
 -- no head says that its block is scanned while a field of it is left
 pub no_field_is_left_unscanned : (x : DomainView) (at new block done size word : ℕ) (site : Site) → ScannedMay x at new site → x.seen.share.scan ≡ Reads block done size word → done < size → ⊥

@@ -55,11 +55,11 @@ pass_in _ pass = pass
 
 -- what was marked before, as a phase begins. Where garbage that is left is freed all that lives is counted
 abbrev before_in : Kind → Kind → (Label → Bool) → (Label → Bool) → Label → Bool
-before_in last Mark now was = now
-before_in last Rounds now was = now
-before_in last Lasts now was = now
+before_in _ Mark now was = now
+before_in _ Rounds now was = now
+before_in _ Lasts now was = now
 before_in Reset Sweep now was = λ l. true
-before_in last _ now was = was
+before_in _ _ now was = was
 
 -- how many registrations are left to look at
 abbrev pub left_in : Kind → model.State → (ℕ → ℕ) → ℕ → ℕ
@@ -224,7 +224,7 @@ module _ (k : Config) (log : List Entry) (live : Live) (t : Tenancy) (c : Cyclin
 
     -- none is in a phase of another collection
     never_left : (last : Kind) → c.kind ≡ last → (HasNoCycle last → ⊥) → last ≢ Sweep → IsTrue c.unswept → ⊥
-    never_left last is collects other left = ⊎_elim (λ (h : HasNoCycle c.kind). collects (subst HasNoCycle is h)) (λ (h : c.kind ≡ Sweep). other (sym is ∙ h)) (unswept left).kind_is
+    never_left _ is collects other left = ⊎_elim (λ (h : HasNoCycle c.kind). collects (subst HasNoCycle is h)) (λ (h : c.kind ≡ Sweep). other (sym is ∙ h)) (unswept left).kind_is
 
     all_swept : (last : Kind) → c.kind ≡ last → (HasNoCycle last → ⊥) → last ≢ Sweep → c.unswept ≡ false
     all_swept last is collects other = ⊎_elim (λ (h : IsTrue c.unswept). absurd (never_left last is collects other h)) (λ (h : c.unswept ≡ false). h) (cases_Bool c.unswept)

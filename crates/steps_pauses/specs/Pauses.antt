@@ -236,7 +236,7 @@ asks_again other = 0
 abbrev pub unmarked_after : Config → Kind → Option ℕ → ℕ → ℕ
 unmarked_after k Mark changed unmarked = unmarked - asks_again changed
 unmarked_after k Rounds changed unmarked = unmarked - asks_again changed
-unmarked_after k last changed unmarked = k.pools * 1024
+unmarked_after k _ changed unmarked = k.pools * 1024
 
 -- What domain 0 knows as it names the next kind. It leaves the marking when it has found that nothing was changed, to one side before the cut is made, to the other after it; and so it leaves Queued to the other side at once. It leaves Lasts once it has rotated the colours. Where garbage is freed next it has set the live words back. The domains run again beside the cycle where it has stored so in the armed word; one that goes on is finished, and another begins where none does, and no garbage of the last one is left: where some is, it is freed first. After a collection it has taken the armed word back. A collection is answered where it began in this pause
 pub record MayFollow (share : Share) (last next : Kind) : Type 0 where

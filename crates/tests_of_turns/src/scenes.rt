@@ -500,14 +500,14 @@ pub(crate) const SCENES: [Scene; 19] = [
     Scene {
         config: ONE_DOMAIN,
         sections: &[&[(1, &[Command::FullMajor])]],
-        moments: &[(Until::Made(1), 0, Sight::Arrivals(27))],
+        moments: &[(Until::Made(1), 0, Sight::Arrivals(23))],
         before: 0,
         replies: &[ONE_LIVES],
     },
     Scene {
         config: ONE_DOMAIN,
         sections: &[&[(1, &[Command::Major, Command::FullMajor])]],
-        moments: &[(Until::Made(2), 0, Sight::Arrivals(53))],
+        moments: &[(Until::Made(2), 0, Sight::Arrivals(45))],
         before: 1,
         replies: &[ONE_LIVES],
     },
@@ -518,7 +518,7 @@ pub(crate) const SCENES: [Scene; 19] = [
             (2, &[Command::Poll]),
             (1, &[Command::Major]),
         ]],
-        moments: &[(Until::Made(4), 0, Sight::Arrivals(40))],
+        moments: &[(Until::Made(4), 0, Sight::Arrivals(36))],
         before: 3,
         replies: &[Reply::Done],
     },
@@ -529,7 +529,7 @@ pub(crate) const SCENES: [Scene; 19] = [
             (2, &[Command::Poll]),
             (1, &[Command::FullMajor]),
         ]],
-        moments: &[(Until::Made(4), 0, Sight::Arrivals(59))],
+        moments: &[(Until::Made(4), 0, Sight::Arrivals(51))],
         before: 3,
         replies: &[ONE_LIVES],
     },
@@ -550,8 +550,8 @@ pub(crate) const SCENES: [Scene; 19] = [
                 0,
                 Sight::Arrivals(1),
             ),
-            (Until::Made(1), 0, Sight::Arrivals(55)),
-            (Until::Made(2), 0, Sight::Arrivals(56)),
+            (Until::Made(1), 0, Sight::Arrivals(47)),
+            (Until::Made(2), 0, Sight::Arrivals(48)),
         ],
         before: 0,
         replies: &[ONE_LIVES, Reply::Done],
@@ -564,8 +564,8 @@ pub(crate) const SCENES: [Scene; 19] = [
         moments: &[
             (Until::Made(763), 0, Sight::Arrivals(8)),
             (Until::Made(764), 0, Sight::Arrivals(8)),
-            (Until::Made(765), 0, Sight::Arrivals(30)),
-            (Until::Made(766), 0, Sight::Arrivals(30)),
+            (Until::Made(765), 0, Sight::Arrivals(26)),
+            (Until::Made(766), 0, Sight::Arrivals(26)),
         ],
         before: 762,
         replies: &[Reply::Done; 4],
@@ -577,7 +577,7 @@ pub(crate) const SCENES: [Scene; 19] = [
             (Until::Made(766), 0, Sight::Arrivals(8)),
             (Until::Made(767), 0, Sight::Arrivals(8)),
             (Until::Made(768), 0, Sight::Arrivals(8)),
-            (Until::Made(769), 0, Sight::Arrivals(30)),
+            (Until::Made(769), 0, Sight::Arrivals(26)),
         ],
         before: 765,
         replies: &[Reply::Done; 4],
@@ -589,7 +589,7 @@ pub(crate) const SCENES: [Scene; 19] = [
             (Until::Made(901), 0, Sight::Arrivals(8)),
             (Until::Made(902), 0, Sight::Arrivals(8)),
             (Until::Made(903), 0, Sight::Arrivals(8)),
-            (Until::Made(904), 0, Sight::Arrivals(30)),
+            (Until::Made(904), 0, Sight::Arrivals(26)),
         ],
         before: 900,
         replies: &[Reply::Done; 4],
@@ -635,9 +635,8 @@ pub(crate) const SCENES: [Scene; 19] = [
         ],
     },
     // What follows each block of two lists lies in the other domain's pools. Were a block found only where its pool is looked
-    // through, each block would take a phase of its own. A complete collection has twelve phases, an odd one behind each,
-    // besides those in which blocks are marked: here three, one for all blocks, one that finds no other, and one behind the
-    // decisions about finalisers.
+    // through, each block would take a phase of its own. A complete collection in which nothing is queued has eleven phases, an
+    // odd one behind each, besides those in which blocks are marked: here one, for all blocks.
     Scene {
         config: ROOMY,
         sections: &[
@@ -692,7 +691,7 @@ pub(crate) const SCENES: [Scene; 19] = [
             ],
         ],
         moments: &[
-            (Until::Rounds(151_000), 0, Sight::Arrivals(30)),
+            (Until::Rounds(151_000), 0, Sight::Arrivals(24)),
             (Until::Rounds(0), 0, Sight::HasEnded(true)),
             (Until::Rounds(0), 1, Sight::HasEnded(true)),
         ],

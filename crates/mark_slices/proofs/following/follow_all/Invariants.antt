@@ -1,3 +1,4 @@
+use Rattle.std.proofs.Common.{◌≡◌, true}
 use Rattle.heap_rule.specs.Token.{IsIn}
 use Rattle.mark_slices.specs.Shares.{Followed, Noted, Scans}
 use Rattle.mark_slices.proofs.following.follow_all.Given as goal
@@ -7,5 +8,6 @@ invariant-loop l = record {
   here : IsIn l.dom l.heap;
   scans : Scans l.colours l.dom.view;
   followed : Followed l.darkened l.fn.dom.view l.dom.view;
-  noted : Noted l.heap.config l.dom.view.seen.share.marked l.trail.items;
+  owes : l.dom.view.seen.share.owes ≡ true;
+  noted : Noted l.heap.config l.dom.view l.trail.items l.trail.lost;
 }

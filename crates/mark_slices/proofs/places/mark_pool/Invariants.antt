@@ -1,7 +1,7 @@
 use Rattle.std.proofs.Common.{◌≡◌, []}
 use Rattle.heap_rule.specs.Token.{IsIn}
 use Rattle.steps_marking.specs.Marking.{Next}
-use Rattle.mark_slices.specs.Shares.{Marks, Walked, spot_from}
+use Rattle.mark_slices.specs.Shares.{Marks, Noted, Walked, spot_from}
 use Rattle.mark_slices.proofs.places.mark_pool.Given as goal
 
 abbrev pub ghost-mark_place : goal.ghost-mark_place
@@ -11,7 +11,8 @@ abbrev pub invariant-loop-slot : goal.invariant-loop-slot
 invariant-loop-slot l = record {
   here : IsIn l.dom l.heap;
   marks : Marks l.colours l.dom.view;
-  walked : Walked (spot_from l.pool l.class l.slot) l.darkened l.fn.dom.view l.dom.view;
+  walked : Walked (spot_from l.pool l.class l.slot) l.fn.dom.view l.dom.view;
   own : l.dom.view.seen.share.own_pool ≡ l.fn.dom.view.seen.share.own_pool;
+  noted : Noted l.heap.config l.dom.view l.trail.items l.trail.lost;
   none : l.trail.items ≡ [];
 }

@@ -1,6 +1,7 @@
-use Rattle.std.proofs.Common.{ℕ, ◌*◌, ◌≤◌, List, arith, sym, ap, subst}
+use Rattle.std.proofs.Common.{◌≡◌, ◌∙◌, ℕ, ◌*◌, ◌≤◌, Some, arith, ap}
 use Rattle.heap_rule.specs.declared.view.DomainView.{DomainView}
-use Rattle.mark_slices.specs.Shares.{Noted}
+use Rattle.mark_slices.specs.Shares.{block_in}
+use Rattle.mark_slices.proofs.Notes.{block_fields, noted_scanned}
 use Rattle.mark_slices.proofs.Visits.{block_may}
 use Rattle.mark_slices.proofs.scanning.scan_block.Goals as goal
 
@@ -19,4 +20,9 @@ scanned_store-requires g c =
     )
 
 pub returns-clause-noted : goal.returns-clause-noted
-returns-clause-noted g c = subst (λ (l : List ℕ). Noted c.args.heap.now.config l c.scan_fields-darkened.new.trail.items) (sym (ap (λ (u : DomainView). u.seen.share.marked) c.scanned_store.ensures.told)) c.scan_fields-darkened.ensures.noted
+returns-clause-noted g c =
+    let e = c.scanned_store.ensures.told in
+    let x = c.args.dom.now.view in
+    let v = c.scan_fields-darkened.new.dom.view in
+    let block : block_in v.seen.share.scan ≡ Some c.args.at = ap (λ (u : DomainView). block_in u.seen.share.scan) c.scan_fields-darkened.ensures.scanned ∙ block_fields c.args.block.fields x.seen.share.scan ∙ ap block_in c.requires.1.1.1.1.1.0.scan in
+    noted_scanned c.args.heap.now.config v c.scanned_store.new.dom.view c.args.at (ap (λ (u : DomainView). u.seen.stage) e) (ap (λ (u : DomainView). u.seen.share.marked) e) (ap (λ (u : DomainView). u.seen.share.owes) e) (ap (λ (u : DomainView). u.seen.share.account) e) c.scan_fields-darkened.new.trail.items c.scan_fields-darkened.new.trail.lost block c.scan_fields-darkened.ensures.noted
