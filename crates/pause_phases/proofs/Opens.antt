@@ -60,7 +60,7 @@ asks_nothing : (share : Share) (last next : Kind) → AsksNothing last next → 
 asks_nothing share before next n = record {
   unchanged = ⊎_elim (λ (e : next ≡ Rounds). absurd (n.rounds e)) (⊎_elim (λ (e : next ≡ Decide). absurd (n.decide e)) (λ (e : next ≡ Clean). absurd (n.clean e)));
   first = λ e. absurd (n.decide e);
-  second = λ e. absurd (n.clean e);
+  second = λ _ e. absurd (n.clean e);
   rotated = λ e. absurd (n.lasts e);
   set_back = λ e. absurd (n.sweep e);
   goes_on = λ _ e. absurd (n.run e);
@@ -83,7 +83,7 @@ runs_may : (share : Share) (last : Kind) → RunsAfter share last → MayFollow 
 runs_may share before r = record {
   unchanged = ⊎_elim (λ (e : Run ≡ Rounds). cc) (⊎_elim (λ (e : Run ≡ Decide). cc) (λ (e : Run ≡ Clean). cc));
   first = λ e. cc;
-  second = λ e. cc;
+  second = λ _ e. cc;
   rotated = r.rotated;
   set_back = λ e. cc;
   goes_on = λ e _. r.on e;
@@ -119,7 +119,7 @@ reset_may : (share : Share) (armed end start unswept : Bool) → ResetKnows shar
 reset_may share true true start unswept r = record {
   unchanged = ⊎_elim (λ (e : Mark ≡ Rounds). cc) (⊎_elim (λ (e : Mark ≡ Decide). cc) (λ (e : Mark ≡ Clean). cc));
   first = λ e. cc;
-  second = λ e. cc;
+  second = λ _ e. cc;
   rotated = λ e. cc;
   set_back = λ e. cc;
   goes_on = λ e. cc;
@@ -134,7 +134,7 @@ reset_may share true false start unswept r = runs_may share Reset (reset_runs sh
 reset_may share false end true true r = record {
   unchanged = ⊎_elim (λ (e : Sweep ≡ Rounds). cc) (⊎_elim (λ (e : Sweep ≡ Decide). cc) (λ (e : Sweep ≡ Clean). cc));
   first = λ e. cc;
-  second = λ e. cc;
+  second = λ _ e. cc;
   rotated = λ e. cc;
   set_back = r.cleared;
   goes_on = λ e. cc;
@@ -148,7 +148,7 @@ reset_may share false end true true r = record {
 reset_may share false end true false r = record {
   unchanged = ⊎_elim (λ (e : Roots ≡ Rounds). cc) (⊎_elim (λ (e : Roots ≡ Decide). cc) (λ (e : Roots ≡ Clean). cc));
   first = λ e. cc;
-  second = λ e. cc;
+  second = λ _ e. cc;
   rotated = λ e. cc;
   set_back = λ e. cc;
   goes_on = λ e. cc;
@@ -428,7 +428,7 @@ module _ (k : Config) (who : Decider) (x : DomainView) where
       record {
         unchanged = ⊎_elim (λ (e : Answer ≡ Rounds). cc) (⊎_elim (λ (e : Answer ≡ Decide). cc) (λ (e : Answer ≡ Clean). cc));
         first = λ e. cc;
-        second = λ e. cc;
+        second = λ _ e. cc;
         rotated = λ e. cc;
         set_back = λ e. cc;
         goes_on = λ e. cc;
@@ -464,7 +464,7 @@ module _ (k : Config) (who : Decider) (x : DomainView) where
         record {
           unchanged = ⊎_elim (λ (e : Sweep ≡ Rounds). cc) (⊎_elim (λ (e : Sweep ≡ Decide). cc) (λ (e : Sweep ≡ Clean). cc));
           first = λ e. cc;
-          second = λ e. cc;
+          second = λ _ e. cc;
           rotated = λ _. refl;
           set_back = λ _. (refl, refl);
           goes_on = λ e. cc;
