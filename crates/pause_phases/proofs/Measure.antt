@@ -114,6 +114,6 @@ leads_nearer k who x y last kind l =
     let n : ℕ = unmarked_after k last (Some l.findings.changed) x.seen.share.unmarked in
     let near = any_nearer (k.pools * 1024) x.seen.share.unmarked n k who l.findings last p.cut p.whole p.unswept p.armed (falls k last l.findings.changed x.seen.share.unmarked l.grown) in
     let named : any_named (k.pools * 1024) kind (progress_after last kind p) n < any_left (k.pools * 1024) last p x.seen.share.unmarked
-        = subst (λ (m : Kind). any_named (k.pools * 1024) m (progress_after last m p) n < any_left (k.pools * 1024) last p x.seen.share.unmarked) (sym l.chosen) near in
+    = subst (λ (m : Kind). any_named (k.pools * 1024) m (progress_after last m p) n < any_left (k.pools * 1024) last p x.seen.share.unmarked) (sym l.chosen) near in
     subst (λ (m : ℕ). any_named (k.pools * 1024) kind (progress_after last kind p) m < any_left (k.pools * 1024) last p x.seen.share.unmarked)
     (sym (ap (λ (w : DomainView). w.seen.share.unmarked) l.view)) named
