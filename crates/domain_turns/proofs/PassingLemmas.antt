@@ -27,7 +27,7 @@ use Rattle.heap_rule.specs.Rule.{state_of}
 use Rattle.heap_rule.specs.Token.{Token, SharedHeap, IsIn}
 use Rattle.heap_rule.specs.Standing.{noted, with_front}
 use Rattle.pause_phases.specs.Sharing.{gave_back}
-use Rattle.steps_pauses.specs.Pauses.{arrived_view, kind_in, IsModeOf}
+use Rattle.steps_pauses.specs.Pauses.{kind_in, IsModeOf}
 use Rattle.mark_slices.specs.Decks.{DeckCounts, StaysDeck}
 use Rattle.pause_phases.specs.declared.decider.Decider.{Decider}
 use Rattle.safepoint.specs.Looks.{PassedBarrier}

@@ -19,12 +19,12 @@ use Rattle.heap_model.proofs.Histories.FrontLemmas.{answers_after, front_whole}
 use Rattle.heap_rule.specs.declared.view.Hunt.TheVariants.{Rests}
 use Rattle.heap_rule.specs.declared.phase.Kind.TheVariants.{Answer}
 use Rattle.heap_rule.specs.declared.phase.Note.{Note}
-use Rattle.heap_rule.specs.Standing.{noted}
+use Rattle.heap_rule.specs.Standing.{noted, with_front}
 use Rattle.heap_rule.specs.Rule.{state_of}
 use Rattle.darkening_beside.specs.Aware.{Learnt}
 use Rattle.steps_marking.specs.Arming.{knowing_armed}
 use Rattle.mark_slices.specs.Decks.{DeckCounts, StaysDeck}
-use Rattle.steps_pauses.specs.Pauses.{forgotten}
+use Rattle.pause_phases.specs.Sharing.{gave_back}
 use Rattle.domain_turns.specs.Pausing.{AnswersLive, KnowsProgress, due_of}
 use Rattle.heap_rule.specs.declared.phase.Progress.{Progress}
 use Rattle.sweeper.specs.Sweeping.{Swept}
@@ -283,7 +283,7 @@ pub answered_is_run : (h : SharedHeap) (r : RunView) (new : Token) (reply : Repl
     → IsRun (record r { token = new; next = r.next + 1; replies = r.replies ++ reply ∷ []; left = Some Answer; asked = None; collected = false; progress = progress; due = length new.view.own.finalisers.queue.items; hints = hints })
 answered_is_run h r new reply progress hints stays is running at going was here a knows =
     let passed = a.comes.passed.view in
-    let own : new.view.own ≡ record a.begun.own { arrivals = a.begun.own.arrivals + 1; pending = forgotten a.begun.own.pending } = ap (λ (x : DomainView). x.own) a.view in
+    let own : new.view.own ≡ (gave_back (with_front a.begun a.front) new.view).own = ap (λ (x : DomainView). x.own) a.view in
     let config : new.config ≡ r.token.config = here.1 ∙ sym was.1 in
     let front : new.view.seen.front ≡ a.front = ap (λ (x : DomainView). x.seen.front) a.view in
     let entry : Entry = CommandOf r.token.view.own.number FullMajor false in
