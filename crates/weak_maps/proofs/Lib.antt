@@ -18,3 +18,5 @@ pub mod DigitLemmas
 pub mod LeafLemmas
 pub mod TryLemmas
 pub mod SettleLemmas
+pub mod CrowdLemmas
+pub mod RefusedBodies

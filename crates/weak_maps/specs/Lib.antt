@@ -5,3 +5,4 @@ pub mod Fields
 pub mod Returns
 pub mod Puts
 pub mod Settles
+pub mod Crowds

@@ -3,16 +3,17 @@ ghost use Rattle.std.specs.Prelude.{◌≡◌, ◌≢◌, ◌+◌, ◌<◌, ◌�
 ghost use Rattle.heap_model.specs.declared.command.Command.TheVariants as command;
 ghost use Rattle.heap_model.specs.declared.graph.Value.TheVariants.{Block};
 ghost use Rattle.heap_model.specs.declared.label.Label as labels;
+ghost use Rattle.heap_model.specs.declared.reply.Reply.TheVariants as variant;
 ghost use Rattle.heap_model.specs.History.{IsPrefix};
-ghost use Rattle.table_laws.specs.Performing.{full_of};
 ghost use Rattle.table_laws.specs.Stages.{graph_of};
 ghost use Rattle.map_laws.specs.Calls.{PerformedBy};
 ghost use Rattle.map_laws.specs.Steps.{OthersRespect};
 ghost use Rattle.map_laws.specs.Tries.{node_width, IsMap};
 ghost use Rattle.weak_maps.specs.Beside.{held_by, refusals_by, writings_by};
 ghost use Rattle.weak_maps.specs.Puts.{IsInPlace, MakesLeaf, MakesRoom, Publishes};
+ghost use Rattle.weak_maps.specs.Crowds.{IsCrowded, PutCounts};
 ghost use Rattle.weak_maps.specs.Returns.{PutReturns};
-ghost use Rattle.weak_maps.specs.Settles.{refused_by, rooms_left, Settles};
+ghost use Rattle.weak_maps.specs.Settles.{rooms_after, Settles, TryRefuses};
 
 use crate::digits::{node_index, number_of, rest_below, root_index, serial_of};
 use crate::machine::{Machine, perform};
@@ -178,11 +179,10 @@ fn settle<M: Machine, R: Wait>(
     requires labels { rooms ≤ M.labels_left m.old }
     ensures sizes { M.sizes m.new ≡ M.sizes m.old }
     ensures domain { M.domain m.new ≡ M.domain m.old }
-    ensures labels { M.labels_left m.old + rooms_left result ≤ M.labels_left m.new + rooms }
-    ensures fewer { M.labels_left m.new ≤ M.labels_left m.old }
+    ensures labels { M.labels_left m.old + rooms_after rooms result ≡ M.labels_left m.new + rooms }
+    ensures fewer { rooms_after rooms result ≤ rooms }
     ensures room { M.ephes_room m.old ≤ M.ephes_room m.new }
-    ensures refused { refusals_by (M.domain m.old) (M.front m.new) ≤ refusals_by (M.domain m.old) (M.front m.old) + refused_by result }
-    ensures given { refusals_by (M.domain m.old) (M.front m.old) ≤ refusals_by (M.domain m.old) (M.front m.new) }
+    ensures refused { TryRefuses rooms from.other (refusals_by (M.domain m.old) (M.front m.old)) (refusals_by (M.domain m.old) (M.front m.new)) result }
     ensures written { writings_by (M.domain m.old) (M.front m.new) ≡ writings_by (M.domain m.old) (M.front m.old) }
     ensures grows { IsPrefix (M.front m.old) (M.front m.new) }
     ensures settled { Settles (M.sizes m.old) (M.domain m.old) (M.front m.old) (M.front m.new) label.now from.index from.rest level from.other result }
@@ -216,25 +216,26 @@ fn settle<M: Machine, R: Wait>(
 
 /// Binds the key in a register to what another holds, in the map in a third, whose leaves each stand on their key's way.
 /// Answers `type` exactly where the key's register holds no label or the other nothing, and then changes nothing; `full` where
-/// an allocation was refused, or where six blocks were made for room and another key's leaf is in the way still, as it may be
-/// where other domains won fields: then no binding was changed; and else that it is done: an entry of the call bound the key,
-/// and changed no other key. Registers are below 8. Registers 8 to 11 hold nothing afterwards, but for `type`. Other domains
-/// may use the map meanwhile, by its calls. Where one of them wins a field, the call tries again. It makes a leaf and at most
-/// six blocks.
+/// an allocation was refused, or where none was, a leaf and six blocks for room were made, and another key's leaf was in the
+/// way still, as it may be where other domains won fields: then no binding was changed; and else that it is done: an entry of
+/// the call bound the key, and changed no other key, and no allocation was refused. Registers are below 8. Registers 8 to 11
+/// hold nothing afterwards, but for `type`. Other domains may use the map meanwhile, by its calls. Where one of them wins a
+/// field, the call tries again.
 pub fn map_put<M: Machine, R: Wait>(m: &mut M, rt: &R, map: u8, key: u8, item: u8) -> Reply
     requires few { (map < 8) × (key < 8) × (item < 8) }
     requires labels { 7 ≤ M.labels_left m.old }
     requires room { 1 ≤ M.ephes_room m.old }
     ensures sizes { M.sizes m.new ≡ M.sizes m.old }
     ensures domain { M.domain m.new ≡ M.domain m.old }
-    ensures labels { (M.labels_left m.new ≤ M.labels_left m.old) × (M.labels_left m.old ≤ M.labels_left m.new + 7) }
+    ensures counts { PutCounts (M.labels_left m.old) (M.labels_left m.new) (refusals_by (M.domain m.old) (M.front m.old)) (refusals_by (M.domain m.old) (M.front m.new)) result }
     ensures room { M.ephes_room m.old ≤ M.ephes_room m.new + 1 }
-    ensures refused { refusals_by (M.domain m.old) (M.front m.new) ≤ refusals_by (M.domain m.old) (M.front m.old) + full_of result }
-    ensures given { refusals_by (M.domain m.old) (M.front m.old) ≤ refusals_by (M.domain m.old) (M.front m.new) }
     ensures written { writings_by (M.domain m.old) (M.front m.new) ≡ writings_by (M.domain m.old) (M.front m.old) }
     ensures answer { (root : labels.Label) → held_by (M.sizes m.old) (M.domain m.old) (M.front m.old) map ≡ Block root → IsMap (graph_of (M.sizes m.old) (M.front m.old)) root
         → IsInPlace (M.sizes m.old).domains (graph_of (M.sizes m.old) (M.front m.old)) root → OthersRespect (M.sizes m.old) root (M.domain m.old) (M.front m.old) (M.front m.new)
         → PutReturns (M.sizes m.old) (M.domain m.old) (M.front m.old) (M.front m.new) root (held_by (M.sizes m.old) (M.domain m.old) (M.front m.old) key) (held_by (M.sizes m.old) (M.domain m.old) (M.front m.old) item) result }
+    ensures crowded { (root k : labels.Label) → held_by (M.sizes m.old) (M.domain m.old) (M.front m.old) map ≡ Block root → held_by (M.sizes m.old) (M.domain m.old) (M.front m.old) key ≡ Block k → IsMap (graph_of (M.sizes m.old) (M.front m.old)) root
+        → IsInPlace (M.sizes m.old).domains (graph_of (M.sizes m.old) (M.front m.old)) root → OthersRespect (M.sizes m.old) root (M.domain m.old) (M.front m.old) (M.front m.new)
+        → result ≡ variant.Full → refusals_by (M.domain m.old) (M.front m.new) ≡ refusals_by (M.domain m.old) (M.front m.old) → IsCrowded (M.sizes m.old) (M.domain m.old) (M.front m.old) (M.front m.new) root k }
 {
     m.stands();
     let Reply::Block(label) = m.show(key) else {
@@ -261,6 +262,7 @@ pub fn map_put<M: Machine, R: Wait>(m: &mut M, rt: &R, map: u8, key: u8, item: u
     let mut level = 0u8;
     let mut rooms = 6u8;
     'tries: for _ in rt.forever() {
+        m.stands();
         from = find(m, rt, key, &label, from, at);
         level = level.saturating_add(from.steps);
         match settle(m, rt, &label, from, level, rooms) {
