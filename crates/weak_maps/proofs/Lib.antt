@@ -20,3 +20,4 @@ pub mod TryLemmas
 pub mod SettleLemmas
 pub mod CrowdLemmas
 pub mod RefusedBodies
+pub mod FollowLemmas

@@ -17,6 +17,7 @@ use Rattle.weak_maps.specs.Crowds.{IsCrowded, made_by}
 use Rattle.weak_maps.specs.Settles.{rooms_after, TryRefuses}
 use Rattle.weak_maps.proofs.CrowdLemmas.{full_crowded, put_counts, put_crowded}
 use Rattle.weak_maps.proofs.MachineLemmas.{at_machine, cleared_at, counted_by, field_at, keeps_at, leaf_at, put_at, settles_at, shows_some}
+use Rattle.weak_maps.proofs.FollowLemmas.{grown_from, none_follows, none_grows, put_follows}
 use Rattle.weak_maps.proofs.GetLemmas.{grows_by, shown_label}
 use Rattle.weak_maps.proofs.SettleLemmas.{put_placed, put_settles}
 use Rattle.weak_maps.proofs.StayLemmas.{respects_within}
@@ -96,7 +97,9 @@ tries-init g c =
     let same : c.number_of-number.result ≡ number_of z.domains k = c.number_of-number.ensures.number ∙ ap (λ (n : ℕ). number_of n k) (c.domains.ensures ∙ ap (λ (y : Sizes). y.domains) s1) in
     let p1 = at_machine z _ d _ n0 n1 _ _ s1 o1 c.perform-root.ensures.performed in
     let q2 = at_machine z _ d _ n1 new _ _ s2 o2 c.read_again-at.ensures.read in
-    let p2 = subst (λ (n : ℕ). PerformedBy z d n1 new (Load 9 8 n) c.read_again-at.result) (c.root_index.ensures ∙ ap (λ (n : ℕ). n % root_width) same) q2 in
+    let first = c.from_root-from.ensures.index ∙ ap (λ (n : ℕ). n % root_width) same in
+    let left = c.from_root-from.ensures.rest ∙ ap (λ (n : ℕ). n / root_width) same in
+    let p2 = subst (λ (n : ℕ). PerformedBy z d n1 new (Load 9 8 n) c.read_again-at.result) first q2 in
     let later = prefix_trans n0 n1 new (grows_by z d n0 n1 _ _ p1) (grows_by z d n1 new _ _ p2) in
     let l0 = c.show.ensures.labels in
     let l1 = c.show-datum.ensures.labels in
@@ -119,13 +122,15 @@ tries-init g c =
     let w3 = subst (λ (e : ℕ). writings_by e new ≡ writings_by e n1) o2 c.read_again-at.ensures.written in record {
       same = c.read_again-at.ensures.sizes ∙ s2;
       own = c.read_again-at.ensures.domain ∙ o2;
+      heap = c.read_again-at.ensures.heap ∙ (c.perform-root.ensures.heap ∙ (c.make_leaf.ensures.heap ∙ (c.show-datum.ensures.heap ∙ c.show.ensures.heap)));
+      grows = prefix_trans old n0 new (grown_from old _ n0 f0 c.make_leaf.ensures.grows) later;
       labels = omega (arith, l0, l1, l2, l3, l4);
       few = omega arith;
       room = omega (arith, r0, r1, r2, r3, r4);
       refused = omega (arith, h0, h1, h2, h3, k2);
       written = omega (arith, w0, w1, w2, w3);
       walk = λ root held map placed respects.
-          subst (λ (w : ℕ × ℕ). Putting z d old new root k v w.0 (w.1 / root_width) c.read_again-at.result 0) (λ i. ((sym (c.root_index-2.ensures ∙ ap (λ (n : ℕ). n % root_width) same)) i, sym same i))
+          subst (λ (w : ℕ × ℕ). Putting z d old new root k v w.0 w.1 c.read_again-at.result 0) (λ i. (sym first i, sym left i))
           (put_begins z c.stands.ensures.limits root d old k v c.args.key c.requires.few.1 key n0 n1 new c.perform-root.result c.read_again-at.result c.args.map c.requires.few.0 held (makes root k key some map (respects_within z root d old new old n0 (prefix_same old) later respects)) p1 p2 respects);
     }
 
@@ -232,6 +237,8 @@ tries-preserved g c =
     let w2 = subst (λ (e : ℕ). writings_by e new ≡ writings_by e n0) o1 c.settle.ensures.written in record {
       same = c.settle.ensures.sizes ∙ s1;
       own = c.settle.ensures.domain ∙ o1;
+      heap = c.settle.ensures.heap ∙ (c.find-from.ensures.heap ∙ c.tries.invariant.heap);
+      grows = prefix_trans old now new c.tries.invariant.grows (prefix_trans now n0 new c.find-from.ensures.grows c.settle.ensures.grows);
       labels = omega (arith, l0, l1, l2);
       few = omega (arith, m0, m2);
       room = omega (arith, r0, r1, r2);
@@ -240,3 +247,29 @@ tries-preserved g c =
       walk = λ root held map placed respects.
           put_settles z c.stands.ensures.limits root d old k v c.args.key c.requires.few.1 key now n0 new _ _ _ _ c.tries.level c.find-from.result.steps c.saturating_add-level.result c.tries.at _ (Again c.in-Again.shows c.in-Again.left) c.saturating_add-level.ensures (c.tries.invariant.walk root held map placed) finds own c.find-from.ensures.grows settles c.settle.ensures.grows map placed respects;
     }
+
+pub returns-then-not-make_leaf-clause-grows : goal.returns-then-not-make_leaf-clause-grows
+returns-then-not-make_leaf-clause-grows g c = prefix_trans _ _ _ (grown_from _ _ _ (c.show-datum.ensures.front ∙ c.show.ensures.front) c.make_leaf.ensures.grows) c.clear.ensures.grows
+
+pub returns-in-Over-clause-grows : goal.returns-in-Over-clause-grows
+returns-in-Over-clause-grows g c = prefix_trans _ _ _ c.tries.invariant.grows (prefix_trans _ _ _ c.find-from.ensures.grows c.settle.ensures.grows)
+
+pub returns-then-not-make_leaf-clause-follows : goal.returns-then-not-make_leaf-clause-follows
+returns-then-not-make_leaf-clause-follows g c = λ root held map placed respects.
+    put_follows (g.M.Machine.sizes c.args.m.now) (g.M.Machine.domain c.args.m.now) _ _ root (returns-then-not-make_leaf-clause-grows g c) map placed respects _ _ _ (returns-then-not-make_leaf-clause-answer g c root held map placed respects)
+
+pub returns-in-Over-clause-follows : goal.returns-in-Over-clause-follows
+returns-in-Over-clause-follows g c = λ root held map placed respects.
+    put_follows (g.M.Machine.sizes c.args.m.now) (g.M.Machine.domain c.args.m.now) _ _ root (returns-in-Over-clause-grows g c) map placed respects _ _ _ (returns-in-Over-clause-answer g c root held map placed respects)
+
+pub returns-in_default-clause-grows : goal.returns-in_default-clause-grows
+returns-in_default-clause-grows g c = none_grows _ _ c.show.ensures.front
+
+pub returns-in_default-clause-follows : goal.returns-in_default-clause-follows
+returns-in_default-clause-follows g c = λ root held map placed respects. none_follows (g.M.Machine.sizes c.args.m.now) _ _ root c.show.ensures.front map placed
+
+pub returns-then-is_empty-clause-grows : goal.returns-then-is_empty-clause-grows
+returns-then-is_empty-clause-grows g c = none_grows _ _ (c.show-datum.ensures.front ∙ c.show.ensures.front)
+
+pub returns-then-is_empty-clause-follows : goal.returns-then-is_empty-clause-follows
+returns-then-is_empty-clause-follows g c = λ root held map placed respects. none_follows (g.M.Machine.sizes c.args.m.now) _ _ root (c.show-datum.ensures.front ∙ c.show.ensures.front) map placed
