@@ -1,5 +1,5 @@
 //! Laws of maps. Each function's contract is one law, and it does nothing else.
-ghost use Rattle.map_laws.specs.MapLaws.{SetBinds, DeepenKeeps, ClearKeeps, BlocksStay, ReadTells, CollectorTakes, MapStays, PlacesStay, StepTells, AloneRespects, WaysDiffer, WaysPart, RespectedMapStays, LookupAnswersLastPut, HeldBindingIsFound, PutIsFound, CollectedKeysAreReached, DatumKeepsNoKey, NewMapIsEmpty, PrivateStays, PrivateStandsNowhere};
+ghost use Rattle.map_laws.specs.MapLaws.{SetBinds, DeepenKeeps, ClearKeeps, EmptyKeeps, BlocksStay, ReadTells, CollectorTakes, MapStays, PlacesStay, StepTells, AloneRespects, AloneLeaves, WaysDiffer, WaysPart, RespectedMapStays, LookupAnswersLastPut, HeldBindingIsFound, PutIsFound, CollectedKeysAreReached, DatumKeepsNoKey, NewMapIsEmpty, PrivateStays, PrivateStandsNowhere};
 ghost use Rattle.map_laws.specs.Caches.{PutIsBounded, PutIsFound as CachedPutIsFound, PutKeepsUsed, GetKeeps};
 ghost use Rattle.map_laws.specs.Examples.{IsLegalExample, PutIsAStep, DeepenIsAStep, IsBoundDeeper, IsBoundWhileHeld, IsUnboundAfterwards, NoneLeavesIt, StoredNumberBreaksMap};
 
@@ -38,6 +38,12 @@ pub fn clear_keeps()
     ensures { ClearKeeps }
 {}
 
+/// A field that holds nothing any more may be emptied, also of a block of the map that is spent: no binding changes, and the map
+/// is a map.
+pub fn empty_keeps()
+    ensures { EmptyKeeps }
+{}
+
 /// After each step a map is a map, and its blocks stand where they stood.
 pub fn map_stays()
     ensures map { MapStays }
@@ -56,9 +62,11 @@ pub fn private_blocks_stay()
     ensures nowhere { PrivateStandsNowhere }
 {}
 
-/// In a heap of one domain each entry that isn't that domain's respects each map.
+/// In a heap of one domain each entry that isn't that domain's respects each map, and leaves it as it is but for keys that are
+/// outside reach.
 pub fn alone_respects()
-    ensures { AloneRespects }
+    ensures respects { AloneRespects }
+    ensures leaves { AloneLeaves }
 {}
 
 /// No two keys have one way, so their ways part before they end.
