@@ -21,7 +21,7 @@ use Rattle.weak_maps.specs.Puts.{FieldFound, FindsField, Putting}
 use Rattle.weak_maps.specs.Settles.{TryRefuses}
 use Rattle.weak_maps.proofs.DescendLemmas.{ends_there}
 use Rattle.weak_maps.proofs.SettleLemmas.{bound_node}
-use Rattle.weak_maps.proofs.StayLemmas.{looking_from, respects_within}
+use Rattle.weak_maps.proofs.StayLemmas.{looking_from}
 
 -- what a put has counted when its last try ends it
 pub put_counts : (r : Reply) (rooms : ℕ) (other : Option Label) (labels left refused before now : ℕ) → rooms ≤ 6 → labels + rooms ≡ left + 7 → before ≡ refused → TryRefuses rooms other before now (Over r) → PutCounts labels left refused now r

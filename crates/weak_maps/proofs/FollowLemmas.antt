@@ -1,5 +1,5 @@
 -- Calls may follow one another: a map is one still, and its leaves stand on their keys' ways.
-use Rattle.std.proofs.Common.{◌≡◌, inl, inr, ℕ, List, ap, subst, sym}
+use Rattle.std.proofs.Common.{◌≡◌, inl, inr, ℕ, List, subst, sym}
 use Rattle.heap_model.specs.declared.label.Label.{Label}
 use Rattle.heap_model.specs.declared.entry.Entry.{Entry}
 use Rattle.heap_model.specs.declared.graph.Value.{Value}
@@ -13,7 +13,7 @@ use Rattle.map_laws.specs.Steps.{OthersRespect, OwnRespect}
 use Rattle.map_laws.proofs.FrontLemmas.{prefix_same}
 use Rattle.map_laws.proofs.RespectLemmas.{respect_both}
 use Rattle.weak_maps.specs.Puts.{IsInPlace}
-use Rattle.weak_maps.specs.Returns.{GetReturns, PutReturns, TakeLeaves, TakeReturns}
+use Rattle.weak_maps.specs.Returns.{GetReturns, PutReturns, TakeReturns}
 use Rattle.weak_maps.proofs.PlaceLemmas.{place_after}
 
 -- the same front, or what has grown of it

@@ -21,3 +21,7 @@ pub mod SettleLemmas
 pub mod CrowdLemmas
 pub mod RefusedBodies
 pub mod FollowLemmas
+pub mod CleanLemmas
+pub mod CleanedLemmas
+pub mod MapCleanLemmas
+pub mod FieldCleanLemmas

@@ -1,5 +1,5 @@
 -- What the clauses of a put refuse: where a clause holds a wrong outcome doesn't, whatever body met it.
-use Rattle.std.proofs.Common.{◌≡◌, ◌<◌, inl, inr, ⊎_elim, ℕ, ◌+◌, ◌≤◌, arith}
+use Rattle.std.proofs.Common.{◌<◌, ⊎_elim, ℕ, ◌+◌, ◌≤◌, arith}
 use Rattle.heap_model.specs.declared.reply.Reply.TheVariants as reply
 use Rattle.weak_maps.specs.Crowds.{PutCounts}
 

@@ -6,3 +6,4 @@ pub mod Returns
 pub mod Puts
 pub mod Settles
 pub mod Crowds
+pub mod Cleans
