@@ -1,5 +1,5 @@
 -- A field of a map that holds nothing is emptied: no binding changes, and but for what stood below it each block stands where it stood.
-use Rattle.std.proofs.Common.{◌≡◌, ◌≢◌, ◌⊎◌, inl, inr, ℕ, zero, suc, ◌<◌, List, [], ◌∷◌, ◌++◌, length, get_or, set, pos, Option, Some, None, refl, ap, sym, ◌∙◌, subst, append_assoc}
+use Rattle.std.proofs.Common.{◌≡◌, ◌⊎◌, inl, inr, ℕ, List, [], ◌∷◌, ◌++◌, length, get_or, set, pos, Option, Some, None, refl, ap, sym, ◌∙◌, subst}
 use Rattle.std.proofs.lemmas.List.{length-set}
 use Rattle.heap_model.specs.declared.label.Label.{Label}
 use Rattle.heap_model.specs.declared.graph.Value.{Value}
@@ -12,7 +12,7 @@ use Rattle.heap_model.proofs.Graphs.GraphLemmas.{node_at-with_node_other, node_a
 use Rattle.map_laws.specs.Tries.{inside, fields_of, ends, at, found, bound_by, bound_in, is_leaf, way_to, IsMap, IsSlot}
 use Rattle.map_laws.specs.Steps.{Empties, HoldsNothing}
 use Rattle.map_laws.specs.MapLaws.{EmptyKeeps}
-use Rattle.map_laws.proofs.WalkLemmas.{Walk, at_any, at_back, at_step, at_stop, at_through, ends_at, ends_beside, set_else, set_same}
+use Rattle.map_laws.proofs.WalkLemmas.{Walk, at_any, at_back, at_step, at_stop, at_through, ends_at, ends_beside, set_else}
 use Rattle.map_laws.proofs.SetLemmas.{append_one, block_is, no_longer, prefixed, stays}
 use Rattle.map_laws.proofs.FieldLemmas.{at_field}
 

@@ -18,3 +18,4 @@ pub mod PrivateLemmas
 pub mod LabelLemmas
 pub mod CacheLemmas
 pub mod EmptyLemmas
+pub mod TidyLemmas

@@ -456,4 +456,3 @@ module _ (z : Sizes) (root : Label) (d : ℕ) (old : List Entry) (p : List ℕ) 
           let at_now = sym (f.elsewhere.places ((p ++ j ∷ []) ++ q) apart) ∙ there in
           let longer : (p ++ j ∷ []) ++ q ≢ p = λ same. no_longer p j q (sym same ∙ split) in
           y.tidy j small q u fields at_now (sym (f.elsewhere.blocks ((p ++ j ∷ []) ++ q) u apart longer at_now) ∙ plain)
-
