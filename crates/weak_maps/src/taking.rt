@@ -80,13 +80,7 @@ pub(crate) fn find<M: Machine, R: Wait>(
     let mut at = field;
     'levels: for _ in 0..7u8 {
         if !is_block(&at) {
-            return Search {
-                index,
-                rest,
-                steps,
-                mine: false,
-                other: None,
-            };
+            break;
         }
         let found = perform(
             m,

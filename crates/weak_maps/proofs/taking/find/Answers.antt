@@ -150,8 +150,8 @@ returns-then-not-is_other_kind-clause-field g c =
 pub returns-then-not-is_block-clause-leaf : goal.returns-then-not-is_block-clause-leaf
 returns-then-not-is_block-clause-leaf g c = c.levels.invariant.leaf
 
-pub returns-clause-leaf : goal.returns-clause-leaf
-returns-clause-leaf g c = c.levels.invariant.leaf
+pub returns-after-levels-clause-leaf : goal.returns-after-levels-clause-leaf
+returns-after-levels-clause-leaf g c = c.levels.invariant.leaf
 
 pub returns-then-not-is_other_kind-clause-leaf : goal.returns-then-not-is_other_kind-clause-leaf
 returns-then-not-is_other_kind-clause-leaf g c =
@@ -167,8 +167,8 @@ returns-then-not-is_other_kind-clause-leaf g c =
     leaf_read z c.stands.ensures.limits root d first c.args.label.now l v now n0 c.perform-found.result c.levels.index c.levels.rest c.levels.at c.args.key p respects w.0 w.2.0
     (c.is_block.ensures.0 c.if-not-is_block.false) (still_key z c.stands.ensures.limits root d first c.args.label.now old now c.args.key c.requires.few key w.1) c.requires.few (c.levels.invariant.leaf first root l v key looking x early leaf)
 
-pub returns-clause-field : goal.returns-clause-field
-returns-clause-field g c =
+pub returns-after-levels-clause-field : goal.returns-after-levels-clause-field
+returns-after-levels-clause-field g c =
     let z : Sizes = g.M.Machine.sizes c.args.m.now in
     let d : ℕ = g.M.Machine.domain c.args.m.now in
     let old : List Entry = g.M.Machine.front c.args.m.now in
@@ -176,8 +176,8 @@ returns-clause-field g c =
     λ first root key looking x respects.
     absurd (walk_ends z c.stands.ensures.limits root d first c.args.label.now old _ c.levels.index c.levels.rest c.levels.at _ c.levels.counter all (c.levels.invariant.walk first root key looking x respects))
 
-pub returns-clause-found : goal.returns-clause-found
-returns-clause-found g c =
+pub returns-after-levels-clause-found : goal.returns-after-levels-clause-found
+returns-after-levels-clause-found g c =
     let z : Sizes = g.M.Machine.sizes c.args.m.now in
     let d : ℕ = g.M.Machine.domain c.args.m.now in
     let old : List Entry = g.M.Machine.front c.args.m.now in
