@@ -101,10 +101,11 @@ pub record ForgetsHigh (z : Sizes) (d : ℕ) (old new : List Entry) (n : ℕ) : 
   pub low : (i : ℕ) → i < 8 → held_by z d new i ≡ held_by z d old i
   pub quiet : (root : Label) → IsMap (graph_of z old) root → IsInPlace z.domains (graph_of z old) root → OthersLeave z root d old new → LeftAlone z root d old new
 
--- whatever block of whatever map that is, if others leave the map
+-- a field is cleaned, of whatever block of whatever map that is, if others leave the map
 abbrev pub CleansField : Sizes → ℕ → List Entry → List Entry → ℕ → ℕ → ℕ → Bool → Type 0
 CleansField z d old new block left i empty = (root : Label) (p : List ℕ) (l : Label) → AtBlock z d old root p l block left → i < width_at p → OthersLeave z root d old new → FieldCleaned z d old new root p i l (14 - left) empty
 
+-- and so many of a block's fields
 abbrev pub CleansBlock : Sizes → ℕ → List Entry → List Entry → ℕ → ℕ → ℕ → Bool → Type 0
 CleansBlock z d old new block left n empty = (root : Label) (p : List ℕ) (l : Label) → AtBlock z d old root p l block left → OthersLeave z root d old new → BlockCleaned z d old new root p l (14 - left) n empty
 
