@@ -92,6 +92,10 @@ impl<'a> SeatDomain<'a> {
 }
 
 impl<'a> Machine for SeatDomain<'a> {
+    type Heap = Seats;
+
+    ghost heap = { λ d. d.seats };
+
     ghost sizes = { λ d. sizes_in d.seat.heap.config };
 
     ghost domain = { λ d. d.seat.number };

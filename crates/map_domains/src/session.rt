@@ -4,6 +4,7 @@ ghost use Rattle.heap_rule.specs.Limits.{sizes_in};
 
 use heap_model::command::Command;
 use heap_model::reply::Reply;
+use heap_rule::Config;
 use heap_session::TableSession;
 use std::marker::Model;
 use std::sync::Wait;
@@ -47,6 +48,10 @@ impl SessionDomain {
 }
 
 impl Machine for SessionDomain {
+    type Heap = Config;
+
+    ghost heap = { λ s. s.config };
+
     ghost sizes = { λ s. sizes_in s.config };
 
     ghost domain = { λ s. 0 };

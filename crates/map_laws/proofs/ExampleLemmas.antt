@@ -5,7 +5,7 @@ use Rattle.heap_model.specs.declared.graph.Value.{Value}
 use Rattle.heap_model.specs.declared.graph.Value.TheVariants.{Int, Block, Nothing}
 use Rattle.heap_model.proofs.Graphs.GraphLemmas.{same_label-false}
 use Rattle.heap_model.specs.Reach.{reachable}
-use Rattle.map_laws.specs.Examples.{block, IsBoundWhileHeld, IsUnboundAfterwards, IsLegalExample, NoneLeavesIt, StoredNumberBreaksMap, PutIsAStep, root_fields, room_graph, DeepenIsAStep, IsBoundDeeper}
+use Rattle.map_laws.specs.Examples.{block, IsBoundWhileHeld, IsUnboundAfterwards, IsLegalExample, NoneLeavesIt, StoredNumberBreaksMap, PutIsAStep, root_fields, room_graph, DeepenIsAStep, IsBoundDeeper, IsEmptyOnceCleaned}
 use Rattle.heap_model.specs.Graph.{same_label}
 use Rattle.heap_model.proofs.Graphs.GraphLemmas.{same_label-true}
 use Rattle.map_laws.specs.Tries.{low_digits, way_to, inside, at, bound_by}
@@ -92,3 +92,7 @@ deepen_is_a_step = record {
 
 pub bound_deeper : IsBoundDeeper
 bound_deeper = (search rules, refl)
+
+pub empty_once_cleaned : IsEmptyOnceCleaned
+unfolding reachable
+empty_once_cleaned = (search rules, refl)

@@ -17,3 +17,5 @@ pub mod ExampleLemmas
 pub mod PrivateLemmas
 pub mod LabelLemmas
 pub mod CacheLemmas
+pub mod EmptyLemmas
+pub mod TidyLemmas

@@ -208,7 +208,7 @@ module _ (P : Label → Type 0) (g h : Graph) (root : Label) (map : IsMap g root
   at_there : (v : Value) (q : List ℕ) → at (inside g) q (Block root) ≡ Some v → (l : Label) (m : Node) → v ≡ Block l → node_at g l ≡ Some m → Thin P m (node_at h l)
   at_there v q there l m is node = thin q l m (there ∙ ap Some is) node
 
-  inside_same : (q : List ℕ) (v : Value) → at (inside g) q (Block root) ≡ Some v → inside h v ≡ inside g v
+  pub inside_same : (q : List ℕ) (v : Value) → at (inside g) q (Block root) ≡ Some v → inside h v ≡ inside g v
   inside_same q v there = (slot_left P g h root v (at_there v q there) (map.slots q v there)).0
 
   slot_same : (q : List ℕ) (v : Value) → at (inside g) q (Block root) ≡ Some v → IsSlot h v

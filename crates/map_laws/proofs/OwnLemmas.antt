@@ -139,10 +139,13 @@ nothing_between h front e since until = clash since.rest (drop_front h [] (since
 
 module _ (z : Sizes) (root : Label) (d : ℕ) where
   -- a call that has made no entry looks
-  pub looks_none : (h : List Entry) → Looks z root d h h
-  looks_none h = record { keeps = λ f e a b own l. absurd (nothing_between h f e a b); respects = λ f e a b own. absurd (nothing_between h f e a b) }
+  pub keeps_none : (h : List Entry) → OwnKeep z root d h h
+  keeps_none h f e a b own l = absurd (nothing_between h f e a b)
 
-  keeps_twice : (old now new : List Entry) → IsPrefix now new → OwnKeep z root d old now → OwnKeep z root d now new → OwnKeep z root d old new
+  pub looks_none : (h : List Entry) → Looks z root d h h
+  looks_none h = record { keeps = keeps_none h; respects = λ f e a b own. absurd (nothing_between h f e a b) }
+
+  pub keeps_twice : (old now new : List Entry) → IsPrefix now new → OwnKeep z root d old now → OwnKeep z root d now new → OwnKeep z root d old new
   keeps_twice old now new grows first last f e a b own l = ⊎_elim (λ before. first f e a before own l) (λ behind. last f e behind b own l) (before_or_behind now new f e grows b)
 
   respects_twice : (old now new : List Entry) → IsPrefix now new → OwnRespect z root d old now → OwnRespect z root d now new → OwnRespect z root d old new
@@ -183,22 +186,23 @@ module _ (z : Sizes) (root : Label) (d : ℕ) where
   }
 
   -- one command
-  module _ (old new : List Entry) (c : Command) (r : Reply) (p : PerformedBy z d old new c r) (respects : RespectsMap z root (old ++ p.between) (CommandOf d c p.full)) where
+  module _ (old new : List Entry) (c : Command) (r : Reply) (p : PerformedBy z d old new c r) where
     at_the_end : (f : List Entry) (e : Entry) → IsPrefix old f → IsPrefix (f ++ e ∷ []) new → is_entry_of d e ≡ true → (f ≡ old ++ p.between) × (e ≡ CommandOf d c p.full)
     at_the_end f e a b own = own_is_last d old p.between (CommandOf d c p.full) f e p.others a (subst (λ (h : List Entry). IsPrefix (f ++ e ∷ []) h) p.appends b) own
 
+    pub keeps_once : ((l : Label) → bound_after z root (old ++ p.between ++ CommandOf d c p.full ∷ []) l ≡ bound_after z root (old ++ p.between) l) → OwnKeep z root d old new
+    keeps_once kept f e a b own l =
+        let same = at_the_end f e a b own in
+        (λ i. bound_after z root (same.0 i ++ same.1 i ∷ []) l) ∙ (kept l ∙ ap (λ (x : List Entry). bound_after z root x l) (sym same.0))
+
+  module _ (old new : List Entry) (c : Command) (r : Reply) (p : PerformedBy z d old new c r) (respects : RespectsMap z root (old ++ p.between) (CommandOf d c p.full)) where
     pub own_respects : OwnRespect z root d old new
     own_respects f e a b own =
-        let same = at_the_end f e a b own in
+        let same = at_the_end old new c r p f e a b own in
         subst (λ (x : List Entry). RespectsMap z root x e) (sym same.0) (subst (λ (x : Entry). RespectsMap z root (old ++ p.between) x) (sym same.1) respects)
 
     pub looks_once : ((l : Label) → bound_after z root (old ++ p.between ++ CommandOf d c p.full ∷ []) l ≡ bound_after z root (old ++ p.between) l) → Looks z root d old new
-    looks_once kept = record {
-      respects = own_respects;
-      keeps = λ f e a b own l.
-          let same = at_the_end f e a b own in
-          (λ i. bound_after z root (same.0 i ++ same.1 i ∷ []) l) ∙ (kept l ∙ ap (λ (x : List Entry). bound_after z root x l) (sym same.0));
-    }
+    looks_once kept = record { respects = own_respects; keeps = keeps_once old new c r p kept }
 
     pub changes_once : (k : Label) (after : Option Value) → bound_after z root (old ++ p.between ++ CommandOf d c p.full ∷ []) k ≡ after
         → ((l : Label) → l ≢ k → bound_after z root (old ++ p.between ++ CommandOf d c p.full ∷ []) l ≡ bound_after z root (old ++ p.between) l) → is_entry_of d (CommandOf d c p.full) ≡ true

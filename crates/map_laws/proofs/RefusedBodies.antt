@@ -1,22 +1,20 @@
 -- What the clauses of the calls on maps refuse: where a clause holds a wrong outcome doesn't, whatever body met it.
-use Rattle.std.proofs.Common.{◌≡◌, ◌≢◌, inl, inr, ⊎_elim, ℕ, true, false, IsTrue, List, [], ◌∷◌, ◌++◌, length, Option, Some, None, ap, sym, ◌∙◌}
+use Rattle.std.proofs.Common.{◌≡◌, ◌≢◌, ◌<◌, inl, inr, ⊎_elim, ℕ, ◌/◌, ◌%◌, Bool, true, false, List, [], ◌∷◌, ◌++◌, get_or, pos, Option, Some, None, refl, ap, sym, ◌∙◌, arith}
 use Rattle.heap_model.specs.declared.label.Label.{Label}
 use Rattle.heap_model.specs.declared.entry.Entry.{Entry}
 use Rattle.heap_model.specs.declared.graph.Value.{Value}
-use Rattle.heap_model.specs.declared.graph.Value.TheVariants.{Block}
+use Rattle.heap_model.specs.declared.graph.Value.TheVariants.{Block, Int, Nothing}
 use Rattle.heap_model.specs.declared.reply.Reply.{Reply}
 use Rattle.heap_model.specs.declared.reply.Reply.TheVariants as reply
 use Rattle.heap_model.specs.declared.state.Sizes.{Sizes}
-use Rattle.heap_model.specs.Graph.{has_label, same_label}
 use Rattle.heap_model.specs.Commands.{shown}
 use Rattle.heap_model.specs.History.{IsPrefix, is_entry_of}
-use Rattle.heap_model.proofs.Graphs.GraphLemmas.{same_label_refl}
-use Rattle.heap_model.proofs.Reach.ReachLemmas.{or_left}
+use Rattle.table_laws.specs.Stages.{graph_of}
+use Rattle.map_laws.specs.Tries.{bound_by, ends, inside, low_digits, number_of, root_width}
 use Rattle.map_laws.specs.Calls.{bound_after, value_of, ChangesOne, GetAnswers, PutsOrFull, TakeAnswers, CleanAnswers}
+use Rattle.map_laws.proofs.WalkLemmas.{ends_step}
+use Rattle.map_laws.proofs.SetLemmas.{stays}
 use Rattle.map_laws.proofs.FrontLemmas.{prefix_before, before_or_behind, last_or_before}
-
-first_is : (k : Label) (keys : List Label) → IsTrue (has_label (k ∷ keys) k)
-first_is k keys = or_left (same_label k k) (has_label keys k) (same_label_refl k)
 
 -- of a call that sets one key, no entry changes the binding of another
 pub no_other_binding_is_lost : (z : Sizes) (root : Label) (d : ℕ) (old new : List Entry) (k l : Label) (before after : Option Value) → ChangesOne z root d old new k before after → l ≢ k
@@ -67,22 +65,20 @@ no_unbound_key_is_found z root d old new k r all (datum, x, answers) =
     answers ∙ ap (λ (o : Option Value). shown (value_of o)) found
 
 -- cleaning drops no binding
-pub no_live_leaf_is_dropped : (z : Sizes) (root : Label) (d : ℕ) (old new : List Entry) (count : ℕ) → CleanAnswers z root d old new count → (front : List Entry) (e : Entry) → IsPrefix old front → IsPrefix (front ++ e ∷ []) new → is_entry_of d e ≡ true
+pub no_live_leaf_is_dropped : (z : Sizes) (root : Label) (d : ℕ) (old new : List Entry) (empty : Bool) → CleanAnswers z root d old new empty → (front : List Entry) (e : Entry) → IsPrefix old front → IsPrefix (front ++ e ∷ []) new → is_entry_of d e ≡ true
     → (k : Label) → bound_after z root (front ++ e ∷ []) k ≡ bound_after z root front k
-no_live_leaf_is_dropped z root d old new count x front e since until own k = x.looks.keeps front e since until own k
+no_live_leaf_is_dropped z root d old new empty x front e since until own k = x.keeps front e since until own k
 
--- and counts nothing where nothing is bound
-pub no_empty_map_counts : (z : Sizes) (root : Label) (d : ℕ) (old new : List Entry) (count : ℕ) → CleanAnswers z root d old new count → ((front : List Entry) (k : Label) → IsPrefix old front → IsPrefix front new → bound_after z root front k ≡ None) → count ≡ 0
-no_empty_map_counts z root d old new count x none = go x.keys x.number x.bound
-  where
-    go : (keys : List Label) → length keys ≡ count → ((k : Label) → IsTrue (has_label keys k) → (front : List Entry) × IsPrefix old front × IsPrefix front new × (bound_after z root front k ≢ None)) → count ≡ 0
-    go [] number bound = sym number
-    go (k ∷ keys) number bound = let t = bound k (first_is k keys) in absurd (t.3 (none t.0 k t.1 t.2))
+-- and answers of no map that binds a key that it holds nothing
+pub no_full_map_is_empty : (z : Sizes) (root : Label) (d : ℕ) (old new : List Entry) → CleanAnswers z root d old new true → (k : Label) → bound_after z root new k ≡ None
+no_full_map_is_empty z root d old new x k =
+    let m : ℕ = number_of z.domains k in
+    let q : List ℕ = low_digits 6 (m / root_width) in
+    let field : get_or x.fields (m % root_width) Nothing ≡ Int (pos 0) = x.holds (m % root_width) (omega arith) in
+    ap (bound_by (graph_of z new) k)
+    (ends_step (inside (graph_of z new)) (m % root_width) q (Block root) x.fields x.plain
+    ∙ (ap (ends (inside (graph_of z new)) q) field ∙ stays (inside (graph_of z new)) q (Int (pos 0)) refl))
 
--- it counts each key that is bound all along
-pub each_bound_key_is_counted : (z : Sizes) (root : Label) (d : ℕ) (old new : List Entry) (k : Label) → CleanAnswers z root d old new 0 → ((front : List Entry) → IsPrefix old front → IsPrefix front new → bound_after z root front k ≢ None) → ⊥
-each_bound_key_is_counted z root d old new k x all = go x.keys x.number (x.all k all)
-  where
-    go : (keys : List Label) → length keys ≡ 0 → IsTrue (has_label keys k) → ⊥
-    go [] number there = let clash : false ≡ true = there in cc
-    go (y ∷ keys) number there = cc
+-- nor that it holds something of one whose fields are 0
+pub no_empty_map_is_full : (z : Sizes) (root : Label) (d : ℕ) (old new : List Entry) → (x : CleanAnswers z root d old new false) → ((j : ℕ) → j < root_width → get_or x.fields j Nothing ≡ Int (pos 0)) → ⊥
+no_empty_map_is_full z root d old new x zeros = x.holds.2 (zeros x.holds.0 x.holds.1)

@@ -29,7 +29,7 @@ use Rattle.table_laws.proofs.StepLemmas.{legal_parts}
 use Rattle.map_laws.specs.Tries.{inside, at, found, bound_by, is_leaf, IsMap}
 use Rattle.map_laws.specs.Steps.{WasUnreached, Sets, MapStep, Untouched, SetsKey, GoesDeeper, ClearsField, TakesKeys, LeavesBinding, RespectsMap, AllRespect, OthersRespect, OwnRespect}
 use Rattle.map_laws.specs.Calls.{bound_after}
-use Rattle.map_laws.specs.MapLaws.{AloneRespects, NoneSets, BoundOrTaken, LookupAnswersLastPut, HeldBindingIsFound, PutIsFound, RespectedMapStays}
+use Rattle.map_laws.specs.MapLaws.{AloneRespects, AloneLeaves, NoneSets, BoundOrTaken, LookupAnswersLastPut, HeldBindingIsFound, PutIsFound, RespectedMapStays}
 use Rattle.map_laws.proofs.SetLemmas.{set_binds}
 use Rattle.map_laws.proofs.MapLemmas.{map_stays, places_stay, plain_stays, step_tells}
 use Rattle.map_laws.proofs.FrontLemmas.{prefix_same, prefix_more, prefix_trans, prefix_before, walk_along, before_or_behind}
@@ -109,6 +109,11 @@ pub alone_respects : AloneRespects
 alone_respects z root old new one legal front e since until other =
     let allowed = allowed_at z front new e legal until in
     collector_respects z root front e (alone_collects z front e one allowed other) allowed
+
+pub alone_leaves : AloneLeaves
+alone_leaves z root old new one legal front e since until other p l n there node =
+    let allowed = allowed_at z front new e legal until in
+    collector_spares (state_of z front) e (alone_collects z front e one allowed other) allowed l n node
 
 -- a label that was outside reach from one front to a later one, seen from a wider stretch
 pub outside_wider : (z : Sizes) (a b c d : List Entry) (k : Label) → IsPrefix a b → IsPrefix c d → WasUnreached z b c k → WasUnreached z a d k

@@ -23,7 +23,7 @@ prefixed (a ∷ x) (b ∷ is) = go (eqb b a) refl (prefixed x is)
     go false e rest = inr (λ q split. let same : b ≡ a = cc in let clash : true ≡ false = sym (eq-eqb b a same) ∙ e in cc)
 
 -- a list with one more in its midst is no part of itself
-no_longer : (p : List ℕ) (j : ℕ) (q : List ℕ) → p ≡ p ++ j ∷ q → ⊥
+pub no_longer : (p : List ℕ) (j : ℕ) (q : List ℕ) → p ≡ p ++ j ∷ q → ⊥
 no_longer [] j q e = cc
 no_longer (a ∷ p) j q e = no_longer p j q cc
 
@@ -41,7 +41,7 @@ pub tail_is : (p : List ℕ) (a b : ℕ) (x y : List ℕ) → p ++ a ∷ x ≡ p
 tail_is [] a b x y e = cc
 tail_is (c ∷ p) a b x y e = tail_is p a b x y cc
 
-append_one : (p : List ℕ) (i : ℕ) (q : List ℕ) → p ++ i ∷ q ≡ (p ++ i ∷ []) ++ q
+pub append_one : (p : List ℕ) (i : ℕ) (q : List ℕ) → p ++ i ∷ q ≡ (p ++ i ∷ []) ++ q
 append_one [] i q = refl
 append_one (a ∷ p) i q = ap (λ (l : List ℕ). a ∷ l) (append_one p i q)
 

@@ -1,5 +1,5 @@
 -- What a call of one domain answers about a map, beside whatever other domains and the collector do between its entries.
-use Rattle.std.specs.Prelude.{◌≡◌, ◌≢◌, ◌⊎◌, ℕ, Bool, true, IsTrue, List, [], ◌∷◌, ◌++◌, length, Option, Some, None}
+use Rattle.std.specs.Prelude.{◌≡◌, ◌≢◌, ◌⊎◌, ◌<◌, ℕ, Bool, true, false, List, [], ◌∷◌, ◌++◌, slice_index_or, pos, Option, Some, None}
 use Rattle.heap_model.specs.declared.label.Label.{Label}
 use Rattle.heap_model.specs.declared.command.Command as declared_command
 use Rattle.heap_model.specs.declared.entry.Entry.{Entry}
@@ -10,7 +10,7 @@ use Rattle.heap_model.specs.declared.reply.Reply.{Reply}
 use Rattle.heap_model.specs.declared.reply.Reply.TheVariants as reply
 use Rattle.heap_model.specs.declared.reply.Applied.TheVariants.{Replied}
 use Rattle.heap_model.specs.declared.state.Sizes.{Sizes}
-use Rattle.heap_model.specs.Graph.{has_label, has_no_repeats}
+use Rattle.heap_model.specs.Graph.{Graph}
 use Rattle.heap_model.specs.Commands.{shown}
 use Rattle.heap_model.specs.Domains.{domain_at}
 use Rattle.heap_model.specs.Entries.{reply as reply_of}
@@ -18,7 +18,7 @@ use Rattle.heap_model.specs.Fronts.{NoneOf}
 use Rattle.heap_model.specs.History.{IsPrefix, Legal, is_entry_of}
 use Rattle.table_laws.specs.Thinning.{state_of}
 use Rattle.table_laws.specs.Stages.{graph_of}
-use Rattle.map_laws.specs.Tries.{found}
+use Rattle.map_laws.specs.Tries.{at, found, inside, node_width, root_width}
 use Rattle.map_laws.specs.Steps.{OwnRespect}
 
 -- what a map binds a key to after a history
@@ -87,14 +87,22 @@ TakeAnswers z root d old new (Block k) r =
     ⊎ ((r ≡ reply.Empty) × Gets z root d old new k None)
 TakeAnswers z root d old new key r = (r ≡ reply.BadType) × (new ≡ old)
 
--- `clean` changes no binding. It counts keys that were bound at a front of the call, each once, and among them all that were bound at each front of it
-pub record CleanAnswers (z : Sizes) (root : Label) (d : ℕ) (old new : List Entry) (count : ℕ) : Type 0 where
-  pub looks : Looks z root d old new
-  pub keys : List Label
-  pub number : length keys ≡ count
-  pub once : IsTrue (has_no_repeats keys)
-  pub bound : (k : Label) → IsTrue (has_label keys k) → (front : List Entry) × IsPrefix old front × IsPrefix front new × (bound_after z root front k ≢ None)
-  pub all : (k : Label) → ((front : List Entry) → IsPrefix old front → IsPrefix front new → bound_after z root front k ≢ None) → IsTrue (has_label keys k)
+-- whether none of so many fields holds anything but 0
+abbrev pub AreZero : Bool → ℕ → List Value → Type 0
+AreZero true n fields = (j : ℕ) → j < n → slice_index_or fields j Nothing ≡ Int (pos 0)
+AreZero false n fields = (j : ℕ) × (j < n) × (slice_index_or fields j Nothing ≢ Int (pos 0))
+
+-- each block of a map but its root holds something: no block is spent
+abbrev pub IsTidy : Graph → Label → Type 0
+IsTidy g root = (i : ℕ) (q : List ℕ) (u : Value) (fields : List Value) → at (inside g) (i ∷ q) (Block root) ≡ Some u → inside g u ≡ Some fields → (j : ℕ) × (j < node_width) × (slice_index_or fields j Nothing ≢ Int (pos 0))
+
+-- `clean` changes no binding, leaves no block that is spent, and answers whether the map holds nothing any more
+pub record CleanAnswers (z : Sizes) (root : Label) (d : ℕ) (old new : List Entry) (empty : Bool) : Type 0 where
+  pub keeps : OwnKeep z root d old new
+  pub tidy : IsTidy (graph_of z new) root
+  pub fields : List Value
+  pub plain : inside (graph_of z new) (Block root) ≡ Some fields
+  pub holds : AreZero empty root_width fields
 
 -- one command of domain d: the front has grown by entries of others and then by this command, and the reply is that of the state before it
 pub record PerformedBy (z : Sizes) (d : ℕ) (old new : List Entry) (c : declared_command.Command) (r : Reply) : Type 0 where

@@ -12,7 +12,7 @@ use Rattle.heap_model.specs.declared.state.Sizes.{Sizes}
 use Rattle.heap_model.specs.Graph.{Graph, with_node}
 use Rattle.heap_model.specs.History.{Legal}
 use Rattle.table_laws.specs.Stages.{graph_of}
-use Rattle.map_laws.specs.Tries.{root_width, node_width, IsMap}
+use Rattle.map_laws.specs.Tries.{inside, root_width, node_width, IsMap}
 use Rattle.map_laws.specs.Steps.{Deepens}
 use Rattle.map_laws.specs.Calls.{bound_after}
 use Rattle.map_laws.specs.MapLaws.{SetsAt}
@@ -53,6 +53,10 @@ collection = Cut ∷ Seal ∷ Wipe (block 4) (0 ∷ []) ∷ Collected ∷ Done �
 abbrev pub idle_collection : List Entry
 idle_collection = Cut ∷ Seal ∷ Collected ∷ Done ∷ []
 
+-- the leaf has lost its key: it is emptied out of its block, and the block, which is spent then, out of the map, as a clean does
+abbrev pub cleaned : List Entry
+cleaned = gone_deeper ++ forgotten ++ collection ++ map run (Store 6 0 5 ∷ Store 1 2 5 ∷ [])
+
 -- a number is stored into a map by a command that is no map call's
 abbrev pub stored_number : List Entry
 stored_number = map run (Alloc 1 0 512 ∷ PutInt 2 (pos 7) ∷ Store 1 0 2 ∷ [])
@@ -78,6 +82,10 @@ DeepenIsAStep = Deepens 1 room_graph (with_node room_graph (block 1) (Plain 0 (s
 
 abbrev pub IsBoundDeeper : Type 0
 IsBoundDeeper = Legal small_sizes gone_deeper × (bound_after small_sizes (block 1) gone_deeper (block 2) ≡ Some (Block (block 3)))
+
+-- no field of the map holds anything then
+abbrev pub IsEmptyOnceCleaned : Type 0
+IsEmptyOnceCleaned = Legal small_sizes cleaned × (inside (graph_of small_sizes cleaned) (Block (block 1)) ≡ Some (replicate root_width (Int (pos 0))))
 
 -- and after a complete collection to nothing, though its datum holds it
 abbrev pub IsUnboundAfterwards : Type 0

@@ -17,7 +17,7 @@ use Rattle.heap_model.specs.History.{IsPrefix, Legal}
 use Rattle.table_laws.specs.Thinning.{Thin, WasOutside, state_of}
 use Rattle.table_laws.specs.Stages.{Goes, graph_of}
 use Rattle.map_laws.specs.Tries.{inside, at, found, bound_by, way_to, way_length, root_width, IsLabelOf, IsMap, IsTree}
-use Rattle.map_laws.specs.Steps.{WasUnreached, WritesField, Sets, Deepens, Clears, MapStep, LeavesBinding, AllRespect, OthersRespect}
+use Rattle.map_laws.specs.Steps.{WasUnreached, WritesField, Sets, Deepens, Clears, Empties, MapStep, LeavesBinding, AllRespect, OthersLeave, OthersRespect}
 use Rattle.map_laws.specs.Calls.{bound_after, ChangesOne, Gets}
 use Rattle.map_laws.specs.Private.{IsPrivate}
 
@@ -49,6 +49,10 @@ CollectorTakes = (z : Sizes) (old new : List Entry) (root : Label) → Goes z ol
 abbrev pub ClearKeeps : Type 0
 ClearKeeps = (n : ℕ) (g h : Graph) (root : Label) → IsMap g root → Clears g h root → (l : Label) → found n h root l ≡ found n g root l
 
+-- a field that holds nothing is replaced by 0: no binding changes, and a map is a map
+abbrev pub EmptyKeeps : Type 0
+EmptyKeeps = (n : ℕ) (g h : Graph) (root : Label) → IsMap g root → Empties g h root → IsMap h root × ((l : Label) → found n h root l ≡ found n g root l)
+
 -- after each step a map is a map
 abbrev pub MapStays : Type 0
 MapStays = (n : ℕ) (root : Label) (s : State) (e : Entry) → IsMap s.graph root → MapStep n root s e → IsMap (next s e).graph root
@@ -65,6 +69,10 @@ StepTells = (n : ℕ) (root : Label) (s : State) (e : Entry) → IsMap s.graph r
 -- in a heap of one domain nobody but that domain does anything to a map, apart from the collector: each entry of others respects it
 abbrev pub AloneRespects : Type 0
 AloneRespects = (z : Sizes) (root : Label) (old new : List Entry) → z.domains ≡ 1 → Legal z new → OthersRespect z root 0 old new
+
+-- and leaves each map as it is, but for keys that are outside reach
+abbrev pub AloneLeaves : Type 0
+AloneLeaves = (z : Sizes) (root : Label) (old new : List Entry) → z.domains ≡ 1 → Legal z new → OthersLeave z root 0 old new
 
 -- no two keys have one way
 abbrev pub WaysDiffer : Type 0

@@ -13,7 +13,7 @@ use Rattle.heap_model.specs.Entries.{next}
 use Rattle.heap_model.specs.History.{IsPrefix, is_entry_of}
 use Rattle.table_laws.specs.Thinning.{IsOutside, Thin, state_of}
 use Rattle.table_laws.specs.Stages.{graph_of}
-use Rattle.map_laws.specs.Tries.{inside, at, found, bound_by, way_to, way_length, node_width, is_leaf, IsSlot}
+use Rattle.map_laws.specs.Tries.{inside, at, ends, found, bound_by, way_to, way_length, node_width, is_leaf, IsSlot}
 
 -- a label that was outside reach at some front, from one to a later one
 pub record WasUnreached (z : Sizes) (old new : List Entry) (k : Label) : Type 0 where
@@ -68,6 +68,25 @@ pub record Clears (g h : Graph) (root : Label) : Type 0 where
   pub writes : WritesField g h root p i held (Int (pos 0))
   pub empty : (l : Label) → bound_by g l held ≡ None
 
+-- a value that binds no key, and from which no way leads to one that does
+abbrev pub HoldsNothing : Graph → Value → Type 0
+HoldsNothing g v = (k : Label) (q : List ℕ) → bound_by g k (ends (inside g) q v) ≡ None
+
+-- a field that holds nothing, a leaf without its key or a block of the map that is spent, is replaced by 0: what a clean does. Others can't rely on blocks that stay where they are then
+pub record Empties (g h : Graph) (root : Label) : Type 0 where
+  pub p : List ℕ
+  pub i : ℕ
+  pub held : Value
+  pub block : Label
+  pub tag : ℕ
+  pub fields : List Value
+  pub there : at (inside g) p (Block root) ≡ Some (Block block)
+  pub node : node_at g block ≡ Some (Plain tag fields)
+  pub below : i < length fields
+  pub was : slice_index_or fields i Nothing ≡ held
+  pub nothing : HoldsNothing g held
+  pub now : h ≡ with_node g block (Plain tag (slice_set fields i (Int (pos 0))))
+
 -- each block of a map and each of its leaves is as it was
 abbrev pub IsUntouched : Graph → Graph → Label → Type 0
 IsUntouched g h root = (p : List ℕ) (l : Label) → at (inside g) p (Block root) ≡ Some (Block l) → node_at h l ≡ node_at g l
@@ -114,3 +133,7 @@ OthersRespect z root d old new = (front : List Entry) (e : Entry) → IsPrefix o
 -- so does each that is of domain d
 abbrev pub OwnRespect : Sizes → Label → ℕ → List Entry → List Entry → Type 0
 OwnRespect z root d old new = (front : List Entry) (e : Entry) → IsPrefix old front → IsPrefix (front ++ e ∷ []) new → is_entry_of d e ≡ true → RespectsMap z root front e
+
+-- each entry that isn't of domain d leaves a map as it is, but for keys of its leaves that are outside reach: no other domain uses the map
+abbrev pub OthersLeave : Sizes → Label → ℕ → List Entry → List Entry → Type 0
+OthersLeave z root d old new = (front : List Entry) (e : Entry) → IsPrefix old front → IsPrefix (front ++ e ∷ []) new → is_entry_of d e ≡ false → IsThinned (IsOutside (state_of z front)) (graph_of z front) (next (state_of z front) e).graph root

@@ -1,7 +1,8 @@
 //! Laws of maps. Each function's contract is one law, and it does nothing else.
-ghost use Rattle.map_laws.specs.MapLaws.{SetBinds, DeepenKeeps, ClearKeeps, BlocksStay, ReadTells, CollectorTakes, MapStays, PlacesStay, StepTells, AloneRespects, WaysDiffer, WaysPart, RespectedMapStays, LookupAnswersLastPut, HeldBindingIsFound, PutIsFound, CollectedKeysAreReached, DatumKeepsNoKey, NewMapIsEmpty, PrivateStays, PrivateStandsNowhere};
+ghost use Rattle.map_laws.specs.MapLaws.{SetBinds, DeepenKeeps, ClearKeeps, EmptyKeeps, BlocksStay, ReadTells, CollectorTakes, MapStays, PlacesStay, StepTells, AloneRespects, AloneLeaves, WaysDiffer, WaysPart, RespectedMapStays, LookupAnswersLastPut, HeldBindingIsFound, PutIsFound, CollectedKeysAreReached, DatumKeepsNoKey, NewMapIsEmpty, PrivateStays, PrivateStandsNowhere};
+ghost use Rattle.map_laws.specs.Tidy.{TidyBlocksAreFew, TidyBlocksLead};
 ghost use Rattle.map_laws.specs.Caches.{PutIsBounded, PutIsFound as CachedPutIsFound, PutKeepsUsed, GetKeeps};
-ghost use Rattle.map_laws.specs.Examples.{IsLegalExample, PutIsAStep, DeepenIsAStep, IsBoundDeeper, IsBoundWhileHeld, IsUnboundAfterwards, NoneLeavesIt, StoredNumberBreaksMap};
+ghost use Rattle.map_laws.specs.Examples.{IsLegalExample, PutIsAStep, DeepenIsAStep, IsBoundDeeper, IsEmptyOnceCleaned, IsBoundWhileHeld, IsUnboundAfterwards, NoneLeavesIt, StoredNumberBreaksMap};
 
 /// A root whose fields are 0 is a map, and binds nothing.
 pub fn new_maps_are_empty()
@@ -38,6 +39,18 @@ pub fn clear_keeps()
     ensures { ClearKeeps }
 {}
 
+/// A field that holds nothing any more may be emptied, also of a block of the map that is spent: no binding changes, and the map
+/// is a map.
+pub fn empty_keeps()
+    ensures { EmptyKeeps }
+{}
+
+/// In a map that was cleaned each block but the first stands on the way to a leaf, so there are at most six for each leaf.
+pub fn tidy_maps_are_small()
+    ensures lead { TidyBlocksLead }
+    ensures few { TidyBlocksAreFew }
+{}
+
 /// After each step a map is a map, and its blocks stand where they stood.
 pub fn map_stays()
     ensures map { MapStays }
@@ -56,9 +69,11 @@ pub fn private_blocks_stay()
     ensures nowhere { PrivateStandsNowhere }
 {}
 
-/// In a heap of one domain each entry that isn't that domain's respects each map.
+/// In a heap of one domain each entry that isn't that domain's respects each map, and leaves it as it is but for keys that are
+/// outside reach.
 pub fn alone_respects()
-    ensures { AloneRespects }
+    ensures respects { AloneRespects }
+    ensures leaves { AloneLeaves }
 {}
 
 /// No two keys have one way, so their ways part before they end.
@@ -110,6 +125,12 @@ pub fn own_datum_is_collected()
 pub fn leaf_goes_deeper()
     ensures step { DeepenIsAStep }
     ensures bound { IsBoundDeeper }
+{}
+
+/// Another: the leaf that went deeper has lost its key. It is emptied out of its block, and the block out of the map, which
+/// holds nothing then.
+pub fn cleaned_map_is_empty()
+    ensures { IsEmptyOnceCleaned }
 {}
 
 /// Another: a number that is stored into a map's block by a command that is no map call's makes it no map.

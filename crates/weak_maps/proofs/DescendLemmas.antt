@@ -79,10 +79,12 @@ leaf_tells g l k leaf = go n.0 n.2
     go None is = subst (λ (o : Option Node). LeafTells g l k (bound_in k o)) (sym is) (None, n.1, (λ e. cc), is)
     go (Some j) is = subst (λ (o : Option Node). LeafTells g l k (bound_in k o)) (sym is) (some j is (same_label j k) refl)
 
--- what a way leads to that ends there tells what its key is bound to
+-- where a way ends, and so what its key is bound to
+pub ends_there : (n : ℕ) (g : Graph) (root k : Label) (p q : List ℕ) (v : Value) → way_to n k ≡ p ++ q → at (inside g) p (Block root) ≡ Some v → inside g v ≡ None → ends (inside g) (way_to n k) (Block root) ≡ v
+ends_there n g root k p q v way there end = ap (λ (l : List ℕ). ends (inside g) l (Block root)) way ∙ (ends_at (inside g) p q (Block root) v there ∙ stays (inside g) q v end)
+
 pub way_ends : (n : ℕ) (g : Graph) (root k : Label) (p q : List ℕ) (v : Value) → way_to n k ≡ p ++ q → at (inside g) p (Block root) ≡ Some v → inside g v ≡ None → found n g root k ≡ bound_by g k v
-way_ends n g root k p q v way there end =
-    ap (bound_by g k) (ap (λ (l : List ℕ). ends (inside g) l (Block root)) way ∙ (ends_at (inside g) p q (Block root) v there ∙ stays (inside g) q v end))
+way_ends n g root k p q v way there end = ap (bound_by g k) (ends_there n g root k p q v way there end)
 
 pub below_width : (m : ℕ) → m % node_width < node_width
 below_width m = omega arith

@@ -18,3 +18,10 @@ pub mod DigitLemmas
 pub mod LeafLemmas
 pub mod TryLemmas
 pub mod SettleLemmas
+pub mod CrowdLemmas
+pub mod RefusedBodies
+pub mod FollowLemmas
+pub mod CleanLemmas
+pub mod CleanedLemmas
+pub mod MapCleanLemmas
+pub mod FieldCleanLemmas

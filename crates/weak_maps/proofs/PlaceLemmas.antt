@@ -63,7 +63,7 @@ zero_no_block (suc m) zero l is = cc
 zero_no_block (suc m) (suc j) l is = zero_no_block m j l is
 
 -- a plain block binds nothing
-plain_unbound : (g : Graph) (l k : Label) (fields : List Value) → inside g (Block l) ≡ Some fields → bound_by g k (Block l) ≡ None
+pub plain_unbound : (g : Graph) (l k : Label) (fields : List Value) → inside g (Block l) ≡ Some fields → bound_by g k (Block l) ≡ None
 plain_unbound g l k fields plain = let n = plain_node (node_at g l) fields plain in ap (bound_in k) n.1
 
 module _ (n : ℕ) (g h : Graph) (root : Label) (p : List ℕ) (i : ℕ) (held new : Value) (w : WritesField g h root p i held new) (map : IsMap g root) (placed : IsInPlace n g root) where
@@ -135,7 +135,7 @@ clear_place n g h root map s placed = written_place n g h root s.p s.i s.held (I
     (λ q l k there binds. let only = only_there h q (Int (pos 0)) l refl there in let clash : Int (pos 0) ≡ Block l = only.1 in cc)
 
 -- what is left of a block binds what it bound, or nothing
-thin_place : (n : ℕ) (P : Label → Type 0) (g h : Graph) (root : Label) → IsMap g root → IsThinned P g h root → IsInPlace n g root → IsInPlace n h root
+pub thin_place : (n : ℕ) (P : Label → Type 0) (g h : Graph) (root : Label) → IsMap g root → IsThinned P g h root → IsInPlace n g root → IsInPlace n h root
 thin_place n P g h root map thin placed p l k there binds = placed p l k at_g (λ none. binds (left none (map.slots p (Block l) at_g)))
   where
     at_g : at (inside g) p (Block root) ≡ Some (Block l)

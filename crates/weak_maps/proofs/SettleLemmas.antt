@@ -37,7 +37,7 @@ use Rattle.weak_maps.proofs.TakeLemmas.{cleared_grows}
 use Rattle.weak_maps.proofs.TryLemmas.{put_arrives, put_digit, put_done, put_ended, put_read}
 
 -- a leaf that binds a key is one of it
-bound_node : (o : Option Node) (j : Label) → bound_in j o ≢ None → (datum : Value) × (o ≡ Some (Ephe (Some j ∷ []) datum))
+pub bound_node : (o : Option Node) (j : Label) → bound_in j o ≢ None → (datum : Value) × (o ≡ Some (Ephe (Some j ∷ []) datum))
 bound_node None j some = absurd (some refl)
 bound_node (Some (Plain tag fields)) j some = absurd (some refl)
 bound_node (Some (Raw tag fields)) j some = absurd (some refl)

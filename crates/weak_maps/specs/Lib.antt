@@ -5,3 +5,5 @@ pub mod Fields
 pub mod Returns
 pub mod Puts
 pub mod Settles
+pub mod Crowds
+pub mod Cleans

@@ -1,11 +1,11 @@
 -- What one try of a put leads to.
-use Rattle.std.specs.Prelude.{◌≡◌, ◌<◌, ℕ, List, Option}
+use Rattle.std.specs.Prelude.{◌≡◌, ◌<◌, ◌⊎◌, ℕ, ◌+◌, List, Option, Some}
 use Rattle.heap_model.specs.declared.label.Label.{Label}
 use Rattle.heap_model.specs.declared.entry.Entry.{Entry}
 use Rattle.heap_model.specs.declared.graph.Value.{Value}
 use Rattle.heap_model.specs.declared.graph.Value.TheVariants.{Block}
+use Rattle.heap_model.specs.declared.reply.Reply.TheVariants as reply
 use Rattle.heap_model.specs.declared.state.Sizes.{Sizes}
-use Rattle.table_laws.specs.Performing.{full_of}
 use Rattle.table_laws.specs.Stages.{graph_of}
 use Rattle.map_laws.specs.Tries.{IsMap}
 use Rattle.map_laws.specs.Steps.{OthersRespect}
@@ -16,15 +16,17 @@ use Rattle.weak_maps.specs.Beside.{held_by}
 use Rattle.weak_maps.specs.Puts.{Arrived, IsInPlace, Putting}
 use Rattle.weak_maps.specs.Returns.{TakeLeaves}
 
--- how many blocks more may be made
-abbrev pub rooms_left : Try → ℕ
-rooms_left (Over r) = 0
-rooms_left (Again shows rooms) = rooms
+-- how many blocks more may be made, of so many before the try
+abbrev pub rooms_after : ℕ → Try → ℕ
+rooms_after rooms (Over r) = rooms
+rooms_after rooms (Again shows left) = left
 
--- how many commands were refused at most
-abbrev pub refused_by : Try → ℕ
-refused_by (Over r) = full_of r
-refused_by (Again shows rooms) = 0
+-- an allocation is refused only where the try ends the call as `full`, and there all but where no block more may be made and a leaf of another key was met
+abbrev pub TryRefuses : ℕ → Option Label → ℕ → ℕ → Try → Type 0
+TryRefuses rooms other refused now (Over reply.Done) = now ≡ refused
+TryRefuses rooms other refused now (Over reply.Full) = ((now ≡ refused + 1) × (0 < rooms)) ⊎ ((now ≡ refused) × (rooms ≡ 0) × ((j : Label) × (other ≡ Some j)))
+TryRefuses rooms other refused now (Over r) = ⊥
+TryRefuses rooms other refused now (Again shows left) = now ≡ refused
 
 -- the call is over, or it stands at the field again
 abbrev pub SettledBy : Sizes → ℕ → List Entry → List Entry → Label → Label → Value → ℕ → ℕ → ℕ → Try → Type 0

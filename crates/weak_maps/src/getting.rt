@@ -3,12 +3,14 @@ ghost use Rattle.std.specs.Prelude.{◌≡◌, ◌+◌, ◌<◌, ◌≤◌};
 ghost use Rattle.heap_model.specs.declared.graph.Value.TheVariants.{Block};
 ghost use Rattle.heap_model.specs.declared.label.Label as labels;
 ghost use Rattle.heap_model.specs.declared.reply.Reply.TheVariants as variant;
+ghost use Rattle.heap_model.specs.History.{IsPrefix};
 ghost use Rattle.table_laws.specs.Performing.{is_spared};
 ghost use Rattle.table_laws.specs.Stages.{graph_of};
 ghost use Rattle.map_laws.specs.Tries.{IsMap};
 ghost use Rattle.map_laws.specs.Steps.{OthersRespect};
 ghost use Rattle.weak_maps.specs.Beside.{held_by, refusals_by, writings_by};
 ghost use Rattle.weak_maps.specs.Walks.{Descended, Emptied};
+ghost use Rattle.weak_maps.specs.Puts.{IsInPlace};
 ghost use Rattle.weak_maps.specs.Returns.{GetReturns};
 
 use crate::digits::{node_index, number_of, root_index};
@@ -30,6 +32,8 @@ pub(crate) fn descend<M: Machine, R: Wait>(
     requires few { (map < 8) × (key < 8) }
     ensures sizes { M.sizes m.new ≡ M.sizes m.old }
     ensures domain { M.domain m.new ≡ M.domain m.old }
+    ensures heap { M.heap m.new ≡ M.heap m.old }
+    ensures grows { IsPrefix (M.front m.old) (M.front m.new) }
     ensures labels { M.labels_left m.new ≡ M.labels_left m.old }
     ensures room { M.ephes_room m.old ≤ M.ephes_room m.new }
     ensures given { refusals_by (M.domain m.old) (M.front m.new) ≡ refusals_by (M.domain m.old) (M.front m.old) }
@@ -75,6 +79,8 @@ fn unbound<M: Machine, R: Wait>(m: &mut M, rt: &R, dst: u8) -> Reply
     ensures reply { result ≡ variant.Empty }
     ensures sizes { M.sizes m.new ≡ M.sizes m.old }
     ensures domain { M.domain m.new ≡ M.domain m.old }
+    ensures heap { M.heap m.new ≡ M.heap m.old }
+    ensures grows { IsPrefix (M.front m.old) (M.front m.new) }
     ensures labels { M.labels_left m.new ≡ M.labels_left m.old }
     ensures room { M.ephes_room m.old ≤ M.ephes_room m.new }
     ensures given { refusals_by (M.domain m.old) (M.front m.new) ≡ refusals_by (M.domain m.old) (M.front m.old) }
@@ -94,6 +100,8 @@ pub fn map_get<M: Machine, R: Wait>(m: &mut M, rt: &R, dst: u8, map: u8, key: u8
     requires few { (dst < 8) × (map < 8) × (key < 8) }
     ensures sizes { M.sizes m.new ≡ M.sizes m.old }
     ensures domain { M.domain m.new ≡ M.domain m.old }
+    ensures heap { M.heap m.new ≡ M.heap m.old }
+    ensures grows { IsPrefix (M.front m.old) (M.front m.new) }
     ensures labels { M.labels_left m.new ≡ M.labels_left m.old }
     ensures room { M.ephes_room m.old ≤ M.ephes_room m.new }
     ensures given { refusals_by (M.domain m.old) (M.front m.new) ≡ refusals_by (M.domain m.old) (M.front m.old) }
@@ -101,6 +109,9 @@ pub fn map_get<M: Machine, R: Wait>(m: &mut M, rt: &R, dst: u8, map: u8, key: u8
     ensures answer { (root : labels.Label) → held_by (M.sizes m.old) (M.domain m.old) (M.front m.old) map ≡ Block root → IsMap (graph_of (M.sizes m.old) (M.front m.old)) root
         → OthersRespect (M.sizes m.old) root (M.domain m.old) (M.front m.old) (M.front m.new)
         → GetReturns (M.sizes m.old) (M.domain m.old) (M.front m.old) (M.front m.new) root dst (held_by (M.sizes m.old) (M.domain m.old) (M.front m.old) key) result }
+    ensures follows { (root : labels.Label) → held_by (M.sizes m.old) (M.domain m.old) (M.front m.old) map ≡ Block root → IsMap (graph_of (M.sizes m.old) (M.front m.old)) root
+        → IsInPlace (M.sizes m.old).domains (graph_of (M.sizes m.old) (M.front m.old)) root → OthersRespect (M.sizes m.old) root (M.domain m.old) (M.front m.old) (M.front m.new)
+        → IsMap (graph_of (M.sizes m.old) (M.front m.new)) root × IsInPlace (M.sizes m.old).domains (graph_of (M.sizes m.old) (M.front m.new)) root }
 {
     m.stands();
     let Reply::Block(label) = m.show(key) else {

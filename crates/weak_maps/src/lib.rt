@@ -1,6 +1,7 @@
 //! Weak maps that grow, for one domain and for several that share the heap.
 #![tactic(auto)]
 
+pub mod cleaning;
 mod digits;
 pub mod getting;
 pub mod machine;

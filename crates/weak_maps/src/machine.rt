@@ -3,7 +3,7 @@ ghost use Rattle.std.specs.Prelude.{◌≡◌, ◌+◌, ◌<◌, ◌≤◌, ℕ,
 ghost use Rattle.heap_model.specs.declared.entry.Entry.{Entry};
 ghost use Rattle.heap_model.specs.declared.state.Sizes.{Sizes};
 ghost use Rattle.heap_model.specs.Domains.{IsWithinLimits, domain_at, opening};
-ghost use Rattle.heap_model.specs.History.{Legal};
+ghost use Rattle.heap_model.specs.History.{IsPrefix, Legal};
 ghost use Rattle.heap_model.specs.Commands.{shown};
 ghost use Rattle.heap_model.specs.Registrations.{all_registered};
 ghost use Rattle.table_laws.specs.Thinning.{state_of};
@@ -19,6 +19,12 @@ use std::sync::Wait;
 
 /// A domain of a heap, whose commands are handed in one by one. Between two of them there may be commands of other domains.
 pub trait Machine {
+    /// What the domain is a domain of.
+    type Heap;
+
+    /// What it is a domain of stays, whatever is called.
+    ghost heap: { Self → Self.Heap };
+
     /// The numbers of the heap.
     ghost sizes: { Self → Sizes };
 
@@ -52,6 +58,7 @@ pub trait Machine {
         requires few { r < 16 }
         ensures sizes { sizes self.new ≡ sizes self.old }
         ensures domain { domain self.new ≡ domain self.old }
+        ensures heap { heap self.new ≡ heap self.old }
         ensures front { front self.new ≡ front self.old }
         ensures labels { labels_left self.new ≡ labels_left self.old }
         ensures room { ephes_room self.new ≡ ephes_room self.old }
@@ -66,6 +73,7 @@ pub trait Machine {
         requires room { ephemerons_of c ≤ ephes_room self.old }
         ensures sizes { sizes self.new ≡ sizes self.old }
         ensures domain { domain self.new ≡ domain self.old }
+        ensures heap { heap self.new ≡ heap self.old }
         ensures labels { labels_left self.old ≡ labels_left self.new + labels_given c result }
         ensures room { ephes_room self.old ≤ ephes_room self.new + ephemerons_given c result }
         ensures performed { PerformedBy (sizes self.old) (domain self.old) (front self.old) (front self.new) c result };
@@ -79,6 +87,8 @@ pub(crate) fn perform<M: Machine, R: Wait>(m: &mut M, rt: &R, c: Command) -> Rep
     requires room { ephemerons_of c ≤ M.ephes_room m.old }
     ensures sizes { M.sizes m.new ≡ M.sizes m.old }
     ensures domain { M.domain m.new ≡ M.domain m.old }
+    ensures heap { M.heap m.new ≡ M.heap m.old }
+    ensures grows { IsPrefix (M.front m.old) (M.front m.new) }
     ensures labels { M.labels_left m.old ≡ M.labels_left m.new + labels_given c result }
     ensures room { M.ephes_room m.old ≤ M.ephes_room m.new + ephemerons_of c }
     ensures refused { refusals_by (M.domain m.old) (M.front m.new) ≡ refusals_by (M.domain m.old) (M.front m.old) + full_of result }

@@ -1,5 +1,6 @@
 //! Maps that are made.
 ghost use Rattle.std.specs.Prelude.{◌≡◌, ◌+◌, ◌<◌, ◌≤◌};
+ghost use Rattle.heap_model.specs.History.{IsPrefix};
 ghost use Rattle.table_laws.specs.Performing.{full_of, is_spared};
 ghost use Rattle.weak_maps.specs.Beside.{refusals_by, writings_by};
 ghost use Rattle.weak_maps.specs.Returns.{MakeReturns};
@@ -16,6 +17,8 @@ pub fn map_make<M: Machine, R: Wait>(m: &mut M, rt: &R, dst: u8) -> Reply
     requires labels { 1 ≤ M.labels_left m.old }
     ensures sizes { M.sizes m.new ≡ M.sizes m.old }
     ensures domain { M.domain m.new ≡ M.domain m.old }
+    ensures heap { M.heap m.new ≡ M.heap m.old }
+    ensures grows { IsPrefix (M.front m.old) (M.front m.new) }
     ensures labels { M.labels_left m.old + full_of result ≡ M.labels_left m.new + 1 }
     ensures room { M.ephes_room m.old ≤ M.ephes_room m.new }
     ensures refused { refusals_by (M.domain m.old) (M.front m.new) ≡ refusals_by (M.domain m.old) (M.front m.old) + full_of result }

@@ -1,23 +1,22 @@
 //! Bindings that are put.
 ghost use Rattle.std.specs.Prelude.{◌≡◌, ◌≢◌, ◌+◌, ◌<◌, ◌≤◌, cond};
-ghost use Rattle.heap_model.specs.declared.command.Command.TheVariants as command;
 ghost use Rattle.heap_model.specs.declared.graph.Value.TheVariants.{Block};
 ghost use Rattle.heap_model.specs.declared.label.Label as labels;
+ghost use Rattle.heap_model.specs.declared.reply.Reply.TheVariants as variant;
 ghost use Rattle.heap_model.specs.History.{IsPrefix};
-ghost use Rattle.table_laws.specs.Performing.{full_of};
 ghost use Rattle.table_laws.specs.Stages.{graph_of};
-ghost use Rattle.map_laws.specs.Calls.{PerformedBy};
 ghost use Rattle.map_laws.specs.Steps.{OthersRespect};
 ghost use Rattle.map_laws.specs.Tries.{node_width, IsMap};
 ghost use Rattle.weak_maps.specs.Beside.{held_by, refusals_by, writings_by};
 ghost use Rattle.weak_maps.specs.Puts.{IsInPlace, MakesLeaf, MakesRoom, Publishes};
+ghost use Rattle.weak_maps.specs.Crowds.{IsCrowded, PutCounts};
 ghost use Rattle.weak_maps.specs.Returns.{PutReturns};
-ghost use Rattle.weak_maps.specs.Settles.{refused_by, rooms_left, Settles};
+ghost use Rattle.weak_maps.specs.Settles.{rooms_after, Settles, TryRefuses};
 
-use crate::digits::{node_index, number_of, rest_below, root_index, serial_of};
+use crate::digits::{node_index, number_of, rest_below, serial_of};
 use crate::machine::{Machine, perform};
 use crate::replies::{is_empty, is_full, is_yes};
-use crate::taking::{Search, clear, find};
+use crate::taking::{Search, clear, exchange, find, from_root, read_again};
 use heap_model::command::Command;
 use heap_model::label::Label;
 use heap_model::reply::Reply;
@@ -45,6 +44,8 @@ fn make_leaf<M: Machine, R: Wait>(m: &mut M, rt: &R, key: u8, item: u8) -> bool
     requires room { 1 ≤ M.ephes_room m.old }
     ensures sizes { M.sizes m.new ≡ M.sizes m.old }
     ensures domain { M.domain m.new ≡ M.domain m.old }
+    ensures heap { M.heap m.new ≡ M.heap m.old }
+    ensures grows { IsPrefix (M.front m.old) (M.front m.new) }
     ensures labels { M.labels_left m.old ≡ M.labels_left m.new + cond result 1 0 }
     ensures room { M.ephes_room m.old ≤ M.ephes_room m.new + 1 }
     ensures refused { refusals_by (M.domain m.old) (M.front m.new) ≡ refusals_by (M.domain m.old) (M.front m.old) + cond result 0 1 }
@@ -74,6 +75,7 @@ fn make_leaf<M: Machine, R: Wait>(m: &mut M, rt: &R, key: u8, item: u8) -> bool
 fn publish<M: Machine, R: Wait>(m: &mut M, rt: &R, index: u16) -> bool
     ensures sizes { M.sizes m.new ≡ M.sizes m.old }
     ensures domain { M.domain m.new ≡ M.domain m.old }
+    ensures heap { M.heap m.new ≡ M.heap m.old }
     ensures labels { M.labels_left m.new ≡ M.labels_left m.old }
     ensures room { M.ephes_room m.old ≤ M.ephes_room m.new }
     ensures given { refusals_by (M.domain m.old) (M.front m.new) ≡ refusals_by (M.domain m.old) (M.front m.old) }
@@ -82,16 +84,7 @@ fn publish<M: Machine, R: Wait>(m: &mut M, rt: &R, index: u16) -> bool
     ensures published { Publishes (M.sizes m.old) (M.domain m.old) (M.front m.old) (M.front m.new) index result }
 {
     m.stands();
-    let won = perform(
-        m,
-        rt,
-        Command::Cas {
-            block: 8,
-            index,
-            expected: 9,
-            item: 10,
-        },
-    );
+    let won = exchange(m, rt, index);
     is_yes(&won)
 }
 
@@ -102,6 +95,7 @@ fn make_room<M: Machine, R: Wait>(m: &mut M, rt: &R, index: u16, digit: u16) -> 
     requires label { 1 ≤ M.labels_left m.old }
     ensures sizes { M.sizes m.new ≡ M.sizes m.old }
     ensures domain { M.domain m.new ≡ M.domain m.old }
+    ensures heap { M.heap m.new ≡ M.heap m.old }
     ensures labels { M.labels_left m.old ≡ M.labels_left m.new + cond result 1 0 }
     ensures room { M.ephes_room m.old ≤ M.ephes_room m.new }
     ensures refused { refusals_by (M.domain m.old) (M.front m.new) ≡ refusals_by (M.domain m.old) (M.front m.old) + cond result 0 1 }
@@ -144,27 +138,6 @@ fn make_room<M: Machine, R: Wait>(m: &mut M, rt: &R, index: u16, digit: u16) -> 
     true
 }
 
-// Reads into register 9, once more, the field of the block in register 8 to which a search came.
-fn read_again<M: Machine, R: Wait>(m: &mut M, rt: &R, index: u16) -> Reply
-    ensures sizes { M.sizes m.new ≡ M.sizes m.old }
-    ensures domain { M.domain m.new ≡ M.domain m.old }
-    ensures labels { M.labels_left m.new ≡ M.labels_left m.old }
-    ensures room { M.ephes_room m.old ≤ M.ephes_room m.new }
-    ensures given { refusals_by (M.domain m.old) (M.front m.new) ≡ refusals_by (M.domain m.old) (M.front m.old) }
-    ensures written { writings_by (M.domain m.old) (M.front m.new) ≡ writings_by (M.domain m.old) (M.front m.old) }
-    ensures read { PerformedBy (M.sizes m.old) (M.domain m.old) (M.front m.old) (M.front m.new) (command.Load 9 8 index) result }
-{
-    perform(
-        m,
-        rt,
-        Command::Load {
-            dst: 9,
-            src: 8,
-            index,
-        },
-    )
-}
-
 // Publishes the leaf in register 10 in the field to which a search came, so many blocks below the root, or makes room there
 // where another key's leaf is in the way. So many blocks may be made.
 fn settle<M: Machine, R: Wait>(
@@ -178,11 +151,11 @@ fn settle<M: Machine, R: Wait>(
     requires labels { rooms ≤ M.labels_left m.old }
     ensures sizes { M.sizes m.new ≡ M.sizes m.old }
     ensures domain { M.domain m.new ≡ M.domain m.old }
-    ensures labels { M.labels_left m.old + rooms_left result ≤ M.labels_left m.new + rooms }
-    ensures fewer { M.labels_left m.new ≤ M.labels_left m.old }
+    ensures heap { M.heap m.new ≡ M.heap m.old }
+    ensures labels { M.labels_left m.old + rooms_after rooms result ≡ M.labels_left m.new + rooms }
+    ensures fewer { rooms_after rooms result ≤ rooms }
     ensures room { M.ephes_room m.old ≤ M.ephes_room m.new }
-    ensures refused { refusals_by (M.domain m.old) (M.front m.new) ≤ refusals_by (M.domain m.old) (M.front m.old) + refused_by result }
-    ensures given { refusals_by (M.domain m.old) (M.front m.old) ≤ refusals_by (M.domain m.old) (M.front m.new) }
+    ensures refused { TryRefuses rooms from.other (refusals_by (M.domain m.old) (M.front m.old)) (refusals_by (M.domain m.old) (M.front m.new)) result }
     ensures written { writings_by (M.domain m.old) (M.front m.new) ≡ writings_by (M.domain m.old) (M.front m.old) }
     ensures grows { IsPrefix (M.front m.old) (M.front m.new) }
     ensures settled { Settles (M.sizes m.old) (M.domain m.old) (M.front m.old) (M.front m.new) label.now from.index from.rest level from.other result }
@@ -216,25 +189,31 @@ fn settle<M: Machine, R: Wait>(
 
 /// Binds the key in a register to what another holds, in the map in a third, whose leaves each stand on their key's way.
 /// Answers `type` exactly where the key's register holds no label or the other nothing, and then changes nothing; `full` where
-/// an allocation was refused, or where six blocks were made for room and another key's leaf is in the way still, as it may be
-/// where other domains won fields: then no binding was changed; and else that it is done: an entry of the call bound the key,
-/// and changed no other key. Registers are below 8. Registers 8 to 11 hold nothing afterwards, but for `type`. Other domains
-/// may use the map meanwhile, by its calls. Where one of them wins a field, the call tries again. It makes a leaf and at most
-/// six blocks.
+/// an allocation was refused, or where none was, a leaf and six blocks for room were made, and another key's leaf was in the
+/// way still, as it may be where other domains won fields: then no binding was changed; and else that it is done: an entry of
+/// the call bound the key, and changed no other key, and no allocation was refused. Registers are below 8. Registers 8 to 11
+/// hold nothing afterwards, but for `type`. Other domains may use the map meanwhile, by its calls. Where one of them wins a
+/// field, the call tries again.
 pub fn map_put<M: Machine, R: Wait>(m: &mut M, rt: &R, map: u8, key: u8, item: u8) -> Reply
     requires few { (map < 8) × (key < 8) × (item < 8) }
     requires labels { 7 ≤ M.labels_left m.old }
     requires room { 1 ≤ M.ephes_room m.old }
     ensures sizes { M.sizes m.new ≡ M.sizes m.old }
     ensures domain { M.domain m.new ≡ M.domain m.old }
-    ensures labels { (M.labels_left m.new ≤ M.labels_left m.old) × (M.labels_left m.old ≤ M.labels_left m.new + 7) }
+    ensures heap { M.heap m.new ≡ M.heap m.old }
+    ensures grows { IsPrefix (M.front m.old) (M.front m.new) }
+    ensures counts { PutCounts (M.labels_left m.old) (M.labels_left m.new) (refusals_by (M.domain m.old) (M.front m.old)) (refusals_by (M.domain m.old) (M.front m.new)) result }
     ensures room { M.ephes_room m.old ≤ M.ephes_room m.new + 1 }
-    ensures refused { refusals_by (M.domain m.old) (M.front m.new) ≤ refusals_by (M.domain m.old) (M.front m.old) + full_of result }
-    ensures given { refusals_by (M.domain m.old) (M.front m.old) ≤ refusals_by (M.domain m.old) (M.front m.new) }
     ensures written { writings_by (M.domain m.old) (M.front m.new) ≡ writings_by (M.domain m.old) (M.front m.old) }
     ensures answer { (root : labels.Label) → held_by (M.sizes m.old) (M.domain m.old) (M.front m.old) map ≡ Block root → IsMap (graph_of (M.sizes m.old) (M.front m.old)) root
         → IsInPlace (M.sizes m.old).domains (graph_of (M.sizes m.old) (M.front m.old)) root → OthersRespect (M.sizes m.old) root (M.domain m.old) (M.front m.old) (M.front m.new)
         → PutReturns (M.sizes m.old) (M.domain m.old) (M.front m.old) (M.front m.new) root (held_by (M.sizes m.old) (M.domain m.old) (M.front m.old) key) (held_by (M.sizes m.old) (M.domain m.old) (M.front m.old) item) result }
+    ensures crowded { (root k : labels.Label) → held_by (M.sizes m.old) (M.domain m.old) (M.front m.old) map ≡ Block root → held_by (M.sizes m.old) (M.domain m.old) (M.front m.old) key ≡ Block k → IsMap (graph_of (M.sizes m.old) (M.front m.old)) root
+        → IsInPlace (M.sizes m.old).domains (graph_of (M.sizes m.old) (M.front m.old)) root → OthersRespect (M.sizes m.old) root (M.domain m.old) (M.front m.old) (M.front m.new)
+        → result ≡ variant.Full → refusals_by (M.domain m.old) (M.front m.new) ≡ refusals_by (M.domain m.old) (M.front m.old) → IsCrowded (M.sizes m.old) (M.domain m.old) (M.front m.old) (M.front m.new) root k }
+    ensures follows { (root : labels.Label) → held_by (M.sizes m.old) (M.domain m.old) (M.front m.old) map ≡ Block root → IsMap (graph_of (M.sizes m.old) (M.front m.old)) root
+        → IsInPlace (M.sizes m.old).domains (graph_of (M.sizes m.old) (M.front m.old)) root → OthersRespect (M.sizes m.old) root (M.domain m.old) (M.front m.old) (M.front m.new)
+        → IsMap (graph_of (M.sizes m.old) (M.front m.new)) root × IsInPlace (M.sizes m.old).domains (graph_of (M.sizes m.old) (M.front m.new)) root }
 {
     m.stands();
     let Reply::Block(label) = m.show(key) else {
@@ -250,17 +229,12 @@ pub fn map_put<M: Machine, R: Wait>(m: &mut M, rt: &R, map: u8, key: u8, item: u
     }
     let number = number_of(m.domains(), &label);
     let _root = perform(m, rt, Command::Copy { dst: 8, src: map });
-    let mut at = read_again(m, rt, root_index(number));
-    let mut from = Search {
-        index: root_index(number),
-        rest: number / 512,
-        steps: 0,
-        mine: false,
-        other: None,
-    };
+    let mut from = from_root(number);
+    let mut at = read_again(m, rt, from.index);
     let mut level = 0u8;
     let mut rooms = 6u8;
     'tries: for _ in rt.forever() {
+        m.stands();
         from = find(m, rt, key, &label, from, at);
         level = level.saturating_add(from.steps);
         match settle(m, rt, &label, from, level, rooms) {

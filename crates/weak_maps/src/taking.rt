@@ -1,14 +1,16 @@
 //! Bindings that are taken out.
-ghost use Rattle.std.specs.Prelude.{◌≡◌, ◌+◌, ◌<◌, ◌≤◌};
+ghost use Rattle.std.specs.Prelude.{◌≡◌, ◌<◌, ◌≤◌, ◌/◌, ◌%◌};
+ghost use Rattle.heap_model.specs.declared.command.Command.TheVariants as command;
 ghost use Rattle.heap_model.specs.declared.graph.Value.TheVariants.{Block};
 ghost use Rattle.heap_model.specs.declared.label.Label as labels;
 ghost use Rattle.heap_model.specs.History.{IsPrefix};
 ghost use Rattle.table_laws.specs.Stages.{graph_of};
-ghost use Rattle.map_laws.specs.Tries.{IsMap};
+ghost use Rattle.map_laws.specs.Calls.{PerformedBy};
+ghost use Rattle.map_laws.specs.Tries.{IsMap, root_width};
 ghost use Rattle.map_laws.specs.Steps.{OthersRespect};
 ghost use Rattle.weak_maps.specs.Beside.{held_by, refusals_by, writings_by};
 ghost use Rattle.weak_maps.specs.Fields.{Cleared, Finds};
-ghost use Rattle.weak_maps.specs.Puts.{FindsField, KeepsLeaf};
+ghost use Rattle.weak_maps.specs.Puts.{FindsField, IsInPlace, KeepsLeaf};
 ghost use Rattle.weak_maps.specs.Returns.{TakeReturns};
 
 use crate::digits::{node_index, number_of, root_index};
@@ -34,6 +36,20 @@ pub struct Search {
     pub other: Option<Label>,
 }
 
+// Where a search of a key of this number begins: at a field of the root.
+pub(crate) fn from_root(number: u64) -> Search
+    ensures index { result.index ≡ number % root_width }
+    ensures rest { result.rest ≡ number / root_width }
+{
+    Search {
+        index: root_index(number),
+        rest: number / 512,
+        steps: 0,
+        mine: false,
+        other: None,
+    }
+}
+
 // Goes on from a field on a key's way, whose block is in register 8 and what it held in register 9, to the one at which the
 // way ends. Register 11 is used between.
 pub(crate) fn find<M: Machine, R: Wait>(
@@ -47,6 +63,7 @@ pub(crate) fn find<M: Machine, R: Wait>(
     requires few { key < 8 }
     ensures sizes { M.sizes m.new ≡ M.sizes m.old }
     ensures domain { M.domain m.new ≡ M.domain m.old }
+    ensures heap { M.heap m.new ≡ M.heap m.old }
     ensures labels { M.labels_left m.new ≡ M.labels_left m.old }
     ensures room { M.ephes_room m.old ≤ M.ephes_room m.new }
     ensures given { refusals_by (M.domain m.old) (M.front m.new) ≡ refusals_by (M.domain m.old) (M.front m.old) }
@@ -63,13 +80,7 @@ pub(crate) fn find<M: Machine, R: Wait>(
     let mut at = field;
     'levels: for _ in 0..7u8 {
         if !is_block(&at) {
-            return Search {
-                index,
-                rest,
-                steps,
-                mine: false,
-                other: None,
-            };
+            break;
         }
         let found = perform(
             m,
@@ -93,15 +104,7 @@ pub(crate) fn find<M: Machine, R: Wait>(
         index = node_index(rest);
         rest /= 32;
         steps += 1;
-        at = perform(
-            m,
-            rt,
-            Command::Load {
-                dst: 9,
-                src: 8,
-                index,
-            },
-        );
+        at = read_again(m, rt, index);
     }
     Search {
         index,
@@ -112,10 +115,60 @@ pub(crate) fn find<M: Machine, R: Wait>(
     }
 }
 
+// Reads into register 9 the field of the block in register 8 to which a search came.
+pub(crate) fn read_again<M: Machine, R: Wait>(m: &mut M, rt: &R, index: u16) -> Reply
+    ensures sizes { M.sizes m.new ≡ M.sizes m.old }
+    ensures domain { M.domain m.new ≡ M.domain m.old }
+    ensures heap { M.heap m.new ≡ M.heap m.old }
+    ensures grows { IsPrefix (M.front m.old) (M.front m.new) }
+    ensures labels { M.labels_left m.new ≡ M.labels_left m.old }
+    ensures room { M.ephes_room m.old ≤ M.ephes_room m.new }
+    ensures given { refusals_by (M.domain m.old) (M.front m.new) ≡ refusals_by (M.domain m.old) (M.front m.old) }
+    ensures written { writings_by (M.domain m.old) (M.front m.new) ≡ writings_by (M.domain m.old) (M.front m.old) }
+    ensures read { PerformedBy (M.sizes m.old) (M.domain m.old) (M.front m.old) (M.front m.new) (command.Load 9 8 index) result }
+{
+    perform(
+        m,
+        rt,
+        Command::Load {
+            dst: 9,
+            src: 8,
+            index,
+        },
+    )
+}
+
+// Puts what register 10 holds into a field of the block in register 8, where that holds what register 9 holds. Answers whether
+// it did.
+pub(crate) fn exchange<M: Machine, R: Wait>(m: &mut M, rt: &R, index: u16) -> Reply
+    ensures sizes { M.sizes m.new ≡ M.sizes m.old }
+    ensures domain { M.domain m.new ≡ M.domain m.old }
+    ensures heap { M.heap m.new ≡ M.heap m.old }
+    ensures grows { IsPrefix (M.front m.old) (M.front m.new) }
+    ensures labels { M.labels_left m.new ≡ M.labels_left m.old }
+    ensures room { M.ephes_room m.old ≤ M.ephes_room m.new }
+    ensures given { refusals_by (M.domain m.old) (M.front m.new) ≡ refusals_by (M.domain m.old) (M.front m.old) }
+    ensures written { writings_by (M.domain m.old) (M.front m.new) ≡ writings_by (M.domain m.old) (M.front m.old) }
+    ensures exchanged { PerformedBy (M.sizes m.old) (M.domain m.old) (M.front m.old) (M.front m.new) (command.Cas 8 index 9 10) result }
+{
+    perform(
+        m,
+        rt,
+        Command::Cas {
+            block: 8,
+            index,
+            expected: 9,
+            item: 10,
+        },
+    )
+}
+
 // Empties the registers that the calls use between.
 pub(crate) fn clear<M: Machine, R: Wait>(m: &mut M, rt: &R)
     ensures sizes { M.sizes m.new ≡ M.sizes m.old }
     ensures domain { M.domain m.new ≡ M.domain m.old }
+    ensures heap { M.heap m.new ≡ M.heap m.old }
+    ensures grows { IsPrefix (M.front m.old) (M.front m.new) }
     ensures labels { M.labels_left m.new ≡ M.labels_left m.old }
     ensures room { M.ephes_room m.old ≤ M.ephes_room m.new }
     ensures given { refusals_by (M.domain m.old) (M.front m.new) ≡ refusals_by (M.domain m.old) (M.front m.old) }
@@ -137,6 +190,8 @@ pub fn map_take<M: Machine, R: Wait>(m: &mut M, rt: &R, map: u8, key: u8) -> Rep
     requires few { (map < 8) × (key < 8) }
     ensures sizes { M.sizes m.new ≡ M.sizes m.old }
     ensures domain { M.domain m.new ≡ M.domain m.old }
+    ensures heap { M.heap m.new ≡ M.heap m.old }
+    ensures grows { IsPrefix (M.front m.old) (M.front m.new) }
     ensures labels { M.labels_left m.new ≡ M.labels_left m.old }
     ensures room { M.ephes_room m.old ≤ M.ephes_room m.new }
     ensures given { refusals_by (M.domain m.old) (M.front m.new) ≡ refusals_by (M.domain m.old) (M.front m.old) }
@@ -144,6 +199,9 @@ pub fn map_take<M: Machine, R: Wait>(m: &mut M, rt: &R, map: u8, key: u8) -> Rep
     ensures answer { (root : labels.Label) → held_by (M.sizes m.old) (M.domain m.old) (M.front m.old) map ≡ Block root → IsMap (graph_of (M.sizes m.old) (M.front m.old)) root
         → OthersRespect (M.sizes m.old) root (M.domain m.old) (M.front m.old) (M.front m.new)
         → TakeReturns (M.sizes m.old) (M.domain m.old) (M.front m.old) (M.front m.new) root (held_by (M.sizes m.old) (M.domain m.old) (M.front m.old) key) result }
+    ensures follows { (root : labels.Label) → held_by (M.sizes m.old) (M.domain m.old) (M.front m.old) map ≡ Block root → IsMap (graph_of (M.sizes m.old) (M.front m.old)) root
+        → IsInPlace (M.sizes m.old).domains (graph_of (M.sizes m.old) (M.front m.old)) root → OthersRespect (M.sizes m.old) root (M.domain m.old) (M.front m.old) (M.front m.new)
+        → IsMap (graph_of (M.sizes m.old) (M.front m.new)) root × IsInPlace (M.sizes m.old).domains (graph_of (M.sizes m.old) (M.front m.new)) root }
 {
     m.stands();
     let Reply::Block(label) = m.show(key) else {
@@ -152,51 +210,20 @@ pub fn map_take<M: Machine, R: Wait>(m: &mut M, rt: &R, map: u8, key: u8) -> Rep
     let number = number_of(m.domains(), &label);
     let _zero = perform(m, rt, Command::PutInt { dst: 10, value: 0 });
     let _root = perform(m, rt, Command::Copy { dst: 8, src: map });
-    let mut at = perform(
-        m,
-        rt,
-        Command::Load {
-            dst: 9,
-            src: 8,
-            index: root_index(number),
-        },
-    );
-    let mut from = Search {
-        index: root_index(number),
-        rest: number / 512,
-        steps: 0,
-        mine: false,
-        other: None,
-    };
+    let mut from = from_root(number);
+    let mut at = read_again(m, rt, from.index);
     'tries: for _ in rt.forever() {
         from = find(m, rt, key, &label, from, at);
         if !from.mine {
             clear(m, rt);
             return Reply::Empty;
         }
-        let won = perform(
-            m,
-            rt,
-            Command::Cas {
-                block: 8,
-                index: from.index,
-                expected: 9,
-                item: 10,
-            },
-        );
+        let won = exchange(m, rt, from.index);
         if is_yes(&won) {
             clear(m, rt);
             return Reply::Done;
         }
-        at = perform(
-            m,
-            rt,
-            Command::Load {
-                dst: 9,
-                src: 8,
-                index: from.index,
-            },
-        );
+        at = read_again(m, rt, from.index);
     }
     unreachable!()
 }

@@ -28,6 +28,8 @@ levels-init g c =
     let w = c.perform-at.ensures.written in record {
       same = c.perform-at.ensures.sizes;
       own = c.perform-at.ensures.domain;
+      heap = c.perform-at.ensures.heap;
+      grows = c.perform-at.ensures.grows;
       labels = omega (arith, labels);
       room = omega (arith, room);
       given = omega (arith, refused, given);
@@ -82,6 +84,8 @@ levels-preserved g c =
     let w1 = counted_by writings_by d _ _ now new c.levels.invariant.own c.perform-at-in-levels.ensures.written in record {
       same = c.perform-at-in-levels.ensures.sizes ∙ c.levels.invariant.same;
       own = c.perform-at-in-levels.ensures.domain ∙ c.levels.invariant.own;
+      heap = c.perform-at-in-levels.ensures.heap ∙ c.levels.invariant.heap;
+      grows = prefix_trans old now new c.levels.invariant.grows c.perform-at-in-levels.ensures.grows;
       labels = omega (arith, l0, l1);
       room = omega (arith, r0, r1);
       given = omega (arith, f0, f1, g1);
@@ -101,3 +105,6 @@ returns-clause-met g c =
     let all : c.levels.counter ≡ 6 = search rules in
     λ root held key map respects.
     descend_ends z c.stands.ensures.limits root d old c.args.label.now _ c.levels.at _ c.levels.rest c.is_block-2.result (ap suc all) (c.levels.invariant.walk root held key map respects) c.is_block-2.ensures.0 c.is_block-2.ensures.1
+
+pub returns-then-is_other_kind-clause-grows : goal.returns-then-is_other_kind-clause-grows
+returns-then-is_other_kind-clause-grows g c = prefix_trans _ _ _ c.levels.invariant.grows c.perform-at-in-levels.ensures.grows

@@ -3,9 +3,11 @@ use Rattle.heap_model.specs.declared.entry.Entry.{Entry}
 use Rattle.heap_model.specs.declared.graph.Value.TheVariants.{Block}
 use Rattle.heap_model.specs.declared.state.Sizes.{Sizes}
 use Rattle.heap_model.specs.declared.reply.Reply.TheVariants as reply
+use Rattle.map_laws.proofs.FrontLemmas.{prefix_trans}
 use Rattle.weak_maps.specs.Beside.{held_by}
 use Rattle.weak_maps.specs.Walks.{Descended}
 use Rattle.weak_maps.proofs.MachineLemmas.{at_machine, descended_at, emptied_at, returned_at}
+use Rattle.weak_maps.proofs.FollowLemmas.{get_follows, grown_from, none_follows, none_grows}
 use Rattle.weak_maps.proofs.GetLemmas.{got_datum, got_missed, got_other, shown_label}
 use Rattle.weak_maps.proofs.getting.map_get.Goals as goal
 
@@ -59,3 +61,31 @@ returns-clause-answer g c =
     returned_at z d old _ root c.args.dst _ c.in-Block.label _ c.perform-datum.result key refl
     (got_datum z c.stands.ensures.limits root d old _ c.in-Block.label c.args.dst c.requires.few.0 respects c.args.key c.requires.few.2 key now n1 n2 c.perform-found.result c.perform-datum.result c.perform-leaf.result (met root held key map)
     (at_machine z _ d _ now n1 _ _ s1 d1 c.perform-found.ensures.performed) (at_machine z _ d _ n1 n2 _ _ s2 d2 c.perform-datum.ensures.performed) (at_machine z _ d _ n2 _ _ _ s3 d3 c.perform-leaf.ensures.performed) (c.is_this.ensures.0 c.if-not-is_this.false))
+
+pub returns-then-not-descend-clause-grows : goal.returns-then-not-descend-clause-grows
+returns-then-not-descend-clause-grows g c = prefix_trans _ _ _ (grown_from _ _ _ c.show.ensures.front c.descend.ensures.grows) c.unbound.ensures.grows
+
+pub returns-then-not-is_this-clause-grows : goal.returns-then-not-is_this-clause-grows
+returns-then-not-is_this-clause-grows g c = prefix_trans _ _ _ (grown_from _ _ _ c.show.ensures.front c.descend.ensures.grows) (prefix_trans _ _ _ c.perform-found.ensures.grows c.unbound-then-not-is_this.ensures.grows)
+
+pub returns-clause-grows : goal.returns-clause-grows
+returns-clause-grows g c =
+    prefix_trans _ _ _ (grown_from _ _ _ c.show.ensures.front c.descend.ensures.grows) (prefix_trans _ _ _ c.perform-found.ensures.grows (prefix_trans _ _ _ c.perform-datum.ensures.grows c.perform-leaf.ensures.grows))
+
+pub returns-then-not-descend-clause-follows : goal.returns-then-not-descend-clause-follows
+returns-then-not-descend-clause-follows g c = λ root held map placed respects.
+    get_follows (g.M.Machine.sizes c.args.m.now) (g.M.Machine.domain c.args.m.now) _ _ root (returns-then-not-descend-clause-grows g c) map placed respects c.args.dst _ _ (returns-then-not-descend-clause-answer g c root held map respects)
+
+pub returns-then-not-is_this-clause-follows : goal.returns-then-not-is_this-clause-follows
+returns-then-not-is_this-clause-follows g c = λ root held map placed respects.
+    get_follows (g.M.Machine.sizes c.args.m.now) (g.M.Machine.domain c.args.m.now) _ _ root (returns-then-not-is_this-clause-grows g c) map placed respects c.args.dst _ _ (returns-then-not-is_this-clause-answer g c root held map respects)
+
+pub returns-clause-follows : goal.returns-clause-follows
+returns-clause-follows g c = λ root held map placed respects.
+    get_follows (g.M.Machine.sizes c.args.m.now) (g.M.Machine.domain c.args.m.now) _ _ root (returns-clause-grows g c) map placed respects c.args.dst _ _ (returns-clause-answer g c root held map respects)
+
+pub returns-in_default-clause-grows : goal.returns-in_default-clause-grows
+returns-in_default-clause-grows g c = none_grows _ _ c.show.ensures.front
+
+pub returns-in_default-clause-follows : goal.returns-in_default-clause-follows
+returns-in_default-clause-follows g c = λ root held map placed respects. none_follows (g.M.Machine.sizes c.args.m.now) _ _ root c.show.ensures.front map placed

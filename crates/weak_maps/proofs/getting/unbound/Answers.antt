@@ -1,5 +1,6 @@
 use Rattle.std.proofs.Common.{ℕ, arith}
 use Rattle.heap_model.specs.declared.state.Sizes.{Sizes}
+use Rattle.map_laws.proofs.FrontLemmas.{prefix_trans}
 use Rattle.weak_maps.specs.Beside.{refusals_by, writings_by}
 use Rattle.weak_maps.proofs.MachineLemmas.{at_machine, counted_by}
 use Rattle.weak_maps.proofs.getting.unbound.Goals as goal
@@ -30,3 +31,6 @@ returns-clause-emptied g c =
       empties = c.perform-answer.ensures.performed;
       clears = at_machine z _ d _ _ _ _ _ c.perform-answer.ensures.sizes c.perform-answer.ensures.domain c.perform-leaf.ensures.performed;
     }
+
+pub returns-clause-grows : goal.returns-clause-grows
+returns-clause-grows g c = prefix_trans _ _ _ c.perform-answer.ensures.grows c.perform-leaf.ensures.grows

@@ -1,6 +1,7 @@
 use Rattle.std.proofs.Common.{arith}
 use Rattle.command_counts.proofs.Few.{ephemerons_few}
 use Rattle.weak_maps.proofs.CountLemmas.{gives_one, refuses_one, writes_one}
+use Rattle.weak_maps.proofs.GetLemmas.{grows_by}
 use Rattle.weak_maps.proofs.machine.perform.Goals as goal
 
 pub returns-clause-room : goal.returns-clause-room
@@ -14,3 +15,6 @@ returns-clause-given g c = gives_one (g.M.Machine.sizes c.args.m.now) _ _ _ _ _ 
 
 pub returns-clause-written : goal.returns-clause-written
 returns-clause-written g c = writes_one (g.M.Machine.sizes c.args.m.now) _ _ _ _ _ c.perform.ensures.performed
+
+pub returns-clause-grows : goal.returns-clause-grows
+returns-clause-grows g c = grows_by (g.M.Machine.sizes c.args.m.now) (g.M.Machine.domain c.args.m.now) _ _ _ _ c.perform.ensures.performed

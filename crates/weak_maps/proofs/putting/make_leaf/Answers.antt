@@ -1,6 +1,7 @@
 use Rattle.std.proofs.Common.{◌≡◌, ◌∙◌, ℕ, cond, List, true, false, sym, ap, arith}
 use Rattle.heap_model.specs.declared.entry.Entry.{Entry}
 use Rattle.heap_model.specs.declared.state.Sizes.{Sizes}
+use Rattle.map_laws.proofs.FrontLemmas.{prefix_trans}
 use Rattle.weak_maps.specs.Beside.{refusals_by, writings_by}
 use Rattle.weak_maps.proofs.MachineLemmas.{at_machine, counted_by}
 use Rattle.weak_maps.proofs.PutLemmas.{leaf_made, leaf_refused}
@@ -75,3 +76,6 @@ returns-clause-made g c =
     leaf_made z c.stands.ensures.limits root d old n0 n1 new c.perform-made.result c.perform-datum.result c.perform-key.result c.args.key c.args.item c.requires.few.0 c.requires.few.1 k held some map
     c.perform-made.ensures.performed (at_machine z _ d _ n0 n1 _ _ s1 o1 c.perform-datum.ensures.performed) (at_machine z _ d _ n1 new _ _ s2 o2 c.perform-key.ensures.performed)
     (λ e. let clash : true ≡ false = sym (c.is_full.ensures.full.1 e) ∙ c.if-is_full.false in cc) respects
+
+pub returns-clause-grows : goal.returns-clause-grows
+returns-clause-grows g c = prefix_trans _ _ _ c.perform-made.ensures.grows (prefix_trans _ _ _ c.perform-datum.ensures.grows c.perform-key.ensures.grows)

@@ -1,18 +1,23 @@
-use Rattle.std.proofs.Common.{◌≡◌, ◌≢◌, inr, ◌∙◌, ℕ, ◌+◌, ◌/◌, ◌%◌, ◌≤◌, Bool, cond, List, true, false, refl, sym, ap, subst, arith}
+use Rattle.std.proofs.Common.{◌≡◌, ◌≢◌, inl, inr, ◌∙◌, ℕ, ◌+◌, ◌/◌, ◌%◌, ◌≤◌, Bool, cond, List, true, false, refl, sym, ap, subst, arith}
 use Rattle.heap_model.specs.declared.command.Command.TheVariants.{Load}
 use Rattle.heap_model.specs.declared.entry.Entry.{Entry}
 use Rattle.heap_model.specs.declared.graph.Value.{Value}
 use Rattle.heap_model.specs.declared.graph.Value.TheVariants.{Block, Nothing}
+use Rattle.heap_model.specs.declared.reply.Reply.{Reply}
 use Rattle.heap_model.specs.declared.reply.Reply.TheVariants as reply
 use Rattle.heap_model.specs.declared.state.Sizes.{Sizes}
 use Rattle.map_laws.specs.Calls.{PerformedBy, PutsOrFull}
 use Rattle.map_laws.specs.Tries.{number_of, root_width}
 use Rattle.map_laws.proofs.FrontLemmas.{prefix_same, prefix_trans}
+use Rattle.weak_maps.specs.declared.putting.Try.{Try}
 use Rattle.weak_maps.specs.declared.putting.Try.TheVariants.{Over, Again}
 use Rattle.weak_maps.specs.Beside.{held_by, refusals_by, writings_by}
 use Rattle.weak_maps.specs.Puts.{Putting}
-use Rattle.weak_maps.specs.Settles.{refused_by, rooms_left}
+use Rattle.weak_maps.specs.Crowds.{IsCrowded, made_by}
+use Rattle.weak_maps.specs.Settles.{rooms_after, TryRefuses}
+use Rattle.weak_maps.proofs.CrowdLemmas.{full_crowded, put_counts, put_crowded}
 use Rattle.weak_maps.proofs.MachineLemmas.{at_machine, cleared_at, counted_by, field_at, keeps_at, leaf_at, put_at, settles_at, shows_some}
+use Rattle.weak_maps.proofs.FollowLemmas.{grown_from, none_follows, none_grows, put_follows}
 use Rattle.weak_maps.proofs.GetLemmas.{grows_by, shown_label}
 use Rattle.weak_maps.proofs.SettleLemmas.{put_placed, put_settles}
 use Rattle.weak_maps.proofs.StayLemmas.{respects_within}
@@ -41,6 +46,34 @@ returns-then-not-make_leaf-clause-answer g c =
     let answer : PutsOrFull z root d old new k (held_by z d old c.args.item) reply.Full = inr (refl, ended.0) in
     put_at z d old new root _ _ k reply.Full key some (answer, ended.1) (put_placed z root d old new k _ reply.Full (prefix_trans old n0 new y.on.grows (cleared_grows z d n0 new x)) map placed respects answer)
 
+pub returns-then-not-make_leaf-clause-counts : goal.returns-then-not-make_leaf-clause-counts
+returns-then-not-make_leaf-clause-counts g c =
+    let d : ℕ = g.M.Machine.domain c.args.m.now in
+    let n0 : List Entry = g.M.Machine.front c.make_leaf.new.m in
+    let new : List Entry = g.M.Machine.front c.clear.new.m in
+    let o0 : g.M.Machine.domain c.show-datum.new.self ≡ d = c.show-datum.ensures.domain ∙ c.show.ensures.domain in
+    let f0 : g.M.Machine.front c.show-datum.new.self ≡ g.M.Machine.front c.args.m.now = c.show-datum.ensures.front ∙ c.show.ensures.front in
+    let l0 = c.show.ensures.labels in
+    let l1 = c.show-datum.ensures.labels in
+    let l2 = c.make_leaf.ensures.labels ∙ ap (λ (b : Bool). g.M.Machine.labels_left c.make_leaf.new.m + cond b 1 0) c.if-not-make_leaf.true in
+    let l3 = c.clear.ensures.labels in
+    let h0 = ap (refusals_by d) f0 in
+    let h1 = counted_by refusals_by d _ _ _ n0 o0 (c.make_leaf.ensures.refused ∙ ap (λ (b : Bool). refusals_by (g.M.Machine.domain c.show-datum.new.self) (g.M.Machine.front c.show-datum.new.self) + cond b 0 1) c.if-not-make_leaf.true) in
+    let h2 = subst (λ (e : ℕ). refusals_by e new ≡ refusals_by e n0) (c.make_leaf.ensures.domain ∙ o0) c.clear.ensures.given in
+    inl (omega (arith, h0, h1, h2), omega (arith, l0, l1, l2, l3), omega (arith, l0, l1, l2, l3))
+
+pub returns-then-not-make_leaf-clause-crowded : goal.returns-then-not-make_leaf-clause-crowded
+returns-then-not-make_leaf-clause-crowded g c =
+    let d : ℕ = g.M.Machine.domain c.args.m.now in
+    let n0 : List Entry = g.M.Machine.front c.make_leaf.new.m in
+    let new : List Entry = g.M.Machine.front c.clear.new.m in
+    let o0 : g.M.Machine.domain c.show-datum.new.self ≡ d = c.show-datum.ensures.domain ∙ c.show.ensures.domain in
+    let f0 : g.M.Machine.front c.show-datum.new.self ≡ g.M.Machine.front c.args.m.now = c.show-datum.ensures.front ∙ c.show.ensures.front in
+    let h0 = ap (refusals_by d) f0 in
+    let h1 = counted_by refusals_by d _ _ _ n0 o0 (c.make_leaf.ensures.refused ∙ ap (λ (b : Bool). refusals_by (g.M.Machine.domain c.show-datum.new.self) (g.M.Machine.front c.show-datum.new.self) + cond b 0 1) c.if-not-make_leaf.true) in
+    let h2 = subst (λ (e : ℕ). refusals_by e new ≡ refusals_by e n0) (c.make_leaf.ensures.domain ∙ o0) c.clear.ensures.given in
+    λ root k held key map placed respects full none. absurd (omega (arith, h0, h1, h2, none))
+
 pub tries-init : goal.tries-init
 tries-init g c =
     let z : Sizes = g.M.Machine.sizes c.args.m.now in
@@ -64,7 +97,9 @@ tries-init g c =
     let same : c.number_of-number.result ≡ number_of z.domains k = c.number_of-number.ensures.number ∙ ap (λ (n : ℕ). number_of n k) (c.domains.ensures ∙ ap (λ (y : Sizes). y.domains) s1) in
     let p1 = at_machine z _ d _ n0 n1 _ _ s1 o1 c.perform-root.ensures.performed in
     let q2 = at_machine z _ d _ n1 new _ _ s2 o2 c.read_again-at.ensures.read in
-    let p2 = subst (λ (n : ℕ). PerformedBy z d n1 new (Load 9 8 n) c.read_again-at.result) (c.root_index.ensures ∙ ap (λ (n : ℕ). n % root_width) same) q2 in
+    let first = c.from_root-from.ensures.index ∙ ap (λ (n : ℕ). n % root_width) same in
+    let left = c.from_root-from.ensures.rest ∙ ap (λ (n : ℕ). n / root_width) same in
+    let p2 = subst (λ (n : ℕ). PerformedBy z d n1 new (Load 9 8 n) c.read_again-at.result) first q2 in
     let later = prefix_trans n0 n1 new (grows_by z d n0 n1 _ _ p1) (grows_by z d n1 new _ _ p2) in
     let l0 = c.show.ensures.labels in
     let l1 = c.show-datum.ensures.labels in
@@ -87,14 +122,15 @@ tries-init g c =
     let w3 = subst (λ (e : ℕ). writings_by e new ≡ writings_by e n1) o2 c.read_again-at.ensures.written in record {
       same = c.read_again-at.ensures.sizes ∙ s2;
       own = c.read_again-at.ensures.domain ∙ o2;
+      heap = c.read_again-at.ensures.heap ∙ (c.perform-root.ensures.heap ∙ (c.make_leaf.ensures.heap ∙ (c.show-datum.ensures.heap ∙ c.show.ensures.heap)));
+      grows = prefix_trans old n0 new (grown_from old _ n0 f0 c.make_leaf.ensures.grows) later;
       labels = omega (arith, l0, l1, l2, l3, l4);
-      fewer = omega (arith, l0, l1, l2, l3, l4);
+      few = omega arith;
       room = omega (arith, r0, r1, r2, r3, r4);
       refused = omega (arith, h0, h1, h2, h3, k2);
-      given = omega (arith, h0, h1, h2, h3, k2);
       written = omega (arith, w0, w1, w2, w3);
       walk = λ root held map placed respects.
-          subst (λ (w : ℕ × ℕ). Putting z d old new root k v w.0 (w.1 / root_width) c.read_again-at.result 0) (λ i. ((sym (c.root_index-2.ensures ∙ ap (λ (n : ℕ). n % root_width) same)) i, sym same i))
+          subst (λ (w : ℕ × ℕ). Putting z d old new root k v w.0 w.1 c.read_again-at.result 0) (λ i. (sym first i, sym left i))
           (put_begins z c.stands.ensures.limits root d old k v c.args.key c.requires.few.1 key n0 n1 new c.perform-root.result c.read_again-at.result c.args.map c.requires.few.0 held (makes root k key some map (respects_within z root d old new old n0 (prefix_same old) later respects)) p1 p2 respects);
     }
 
@@ -123,6 +159,50 @@ returns-in-Over-clause-answer g c =
     let x = put_settles z c.stands.ensures.limits root d old k v c.args.key c.requires.few.1 key now n0 new _ _ _ _ c.tries.level c.find-from.result.steps c.saturating_add-level.result c.tries.at _ (Over c.in-Over.answer) c.saturating_add-level.ensures (c.tries.invariant.walk root held map placed) finds own c.find-from.ensures.grows settles c.settle.ensures.grows map placed respects in
     put_at z d old new root _ _ k c.in-Over.answer key some x (put_placed z root d old new k v c.in-Over.answer (prefix_trans old now new t.on.grows later) map placed respects x.0)
 
+pub returns-in-Over-clause-counts : goal.returns-in-Over-clause-counts
+returns-in-Over-clause-counts g c =
+    let n0 : List Entry = g.M.Machine.front c.find-from.new.m in
+    let new : List Entry = g.M.Machine.front c.settle.new.m in
+    let o0 = c.tries.invariant.own in
+    let f0 = c.tries.invariant.refused in
+    let f1 = subst (λ (e : ℕ). refusals_by e n0 ≡ refusals_by e (g.M.Machine.front c.tries.m)) o0 c.find-from.ensures.given in
+    let f2 = subst (λ (w : ℕ × Try). TryRefuses c.tries.rooms c.find-from.result.other (refusals_by w.0 n0) (refusals_by w.0 new) w.1) (λ i. ((c.find-from.ensures.domain ∙ o0) i, c.in-Over.is i)) c.settle.ensures.refused in
+    let l0 = c.tries.invariant.labels in
+    let l1 = c.find-from.ensures.labels in
+    let l2 = subst (λ (n : ℕ). g.M.Machine.labels_left c.find-from.new.m + n ≡ g.M.Machine.labels_left c.settle.new.m + c.tries.rooms) (ap (rooms_after c.tries.rooms) c.in-Over.is) c.settle.ensures.labels in
+    put_counts c.in-Over.answer c.tries.rooms c.find-from.result.other _ _ _ (refusals_by (g.M.Machine.domain c.args.m.now) n0) _ c.tries.invariant.few (omega (arith, l0, l1, l2)) (f1 ∙ f0) f2
+
+pub returns-in-Over-clause-crowded : goal.returns-in-Over-clause-crowded
+returns-in-Over-clause-crowded g c =
+    let z : Sizes = g.M.Machine.sizes c.args.m.now in
+    let d : ℕ = g.M.Machine.domain c.args.m.now in
+    let old : List Entry = g.M.Machine.front c.args.m.now in
+    let k = c.in-Block.label in
+    let v : Value = held_by z d old c.args.item in
+    let now : List Entry = g.M.Machine.front c.tries.m in
+    let n0 : List Entry = g.M.Machine.front c.find-from.new.m in
+    let new : List Entry = g.M.Machine.front c.settle.new.m in
+    let s0 : g.M.Machine.sizes c.tries.m ≡ z = c.tries.invariant.same in
+    let o0 : g.M.Machine.domain c.tries.m ≡ d = c.tries.invariant.own in
+    let own_key : held_by z d old c.args.key ≡ Block k = shown_label _ _ (sym c.show.ensures.reply ∙ c.in-Block.is) in
+    let finds = field_at z _ d _ now n0 c.args.key k _ _ _ _ _ _ _ s0 o0 c.find-from.ensures.field in
+    let later = prefix_trans now n0 new c.find-from.ensures.grows c.settle.ensures.grows in
+    let f0 = c.tries.invariant.refused in
+    let f1 = subst (λ (e : ℕ). refusals_by e n0 ≡ refusals_by e now) o0 c.find-from.ensures.given in
+    let f2 = subst (λ (w : ℕ × Try). TryRefuses c.tries.rooms c.find-from.result.other (refusals_by w.0 n0) (refusals_by w.0 new) w.1) (λ i. ((c.find-from.ensures.domain ∙ o0) i, c.in-Over.is i)) c.settle.ensures.refused in
+    let l0 = c.tries.invariant.labels in
+    let s1 = c.stands.ensures.labels in
+    let s2 = subst (λ (w : Sizes × ℕ). made_by w.0 w.1 now + g.M.Machine.labels_left c.tries.m ≡ 4294967295) (λ i. (s0 i, o0 i)) c.stands-in-tries.ensures.labels in
+    λ root k2 held key map placed respects full none.
+    let x = full_crowded c.tries.rooms c.find-from.result.other (refusals_by d n0) (refusals_by d new) (none ∙ sym (f1 ∙ f0)) (subst (λ (r : Reply). TryRefuses c.tries.rooms c.find-from.result.other (refusals_by d n0) (refusals_by d new) (Over r)) full f2) in
+    let spent = x.0 in
+    let same : k ≡ k2 = (let both : Block k ≡ Block k2 = sym own_key ∙ key in cc) in
+    let within = respects_within z root d old new old now (prefix_same old) later respects in
+    let t = c.tries.invariant.walk root held map placed within in
+    subst (IsCrowded z d old new root) same
+    (put_crowded z root d old now n0 new k x.1.0 v c.args.key _ _ _ _ c.tries.level c.find-from.result.steps c.tries.at c.find-from.result.other c.requires.few.1 own_key t finds x.1.1 c.settle.ensures.grows
+    (respects_within z root d old new now n0 t.on.grows c.settle.ensures.grows respects) (omega (arith, l0, s1, s2, spent)))
+
 pub tries-preserved : goal.tries-preserved
 tries-preserved g c =
     let z : Sizes = g.M.Machine.sizes c.args.m.now in
@@ -143,28 +223,53 @@ tries-preserved g c =
     let settles = settles_at z _ d _ n0 new k _ _ _ _ (Again c.in-Again.shows c.in-Again.left) _ s1 o1 c.in-Again.is c.settle.ensures.settled in
     let l0 = c.tries.invariant.labels in
     let l1 = c.find-from.ensures.labels in
-    let l2 = subst (λ (n : ℕ). g.M.Machine.labels_left c.find-from.new.m + n ≤ g.M.Machine.labels_left c.settle.new.m + c.tries.rooms) (ap rooms_left c.in-Again.is) c.settle.ensures.labels in
-    let m0 = c.tries.invariant.fewer in
-    let m2 = c.settle.ensures.fewer in
+    let l2 = subst (λ (n : ℕ). g.M.Machine.labels_left c.find-from.new.m + n ≡ g.M.Machine.labels_left c.settle.new.m + c.tries.rooms) (ap (rooms_after c.tries.rooms) c.in-Again.is) c.settle.ensures.labels in
+    let m0 = c.tries.invariant.few in
+    let m2 = subst (λ (n : ℕ). n ≤ c.tries.rooms) (ap (rooms_after c.tries.rooms) c.in-Again.is) c.settle.ensures.fewer in
     let r0 = c.tries.invariant.room in
     let r1 = c.find-from.ensures.room in
     let r2 = c.settle.ensures.room in
     let f0 = c.tries.invariant.refused in
-    let j0 = c.tries.invariant.given in
-    let j2 = subst (λ (e : ℕ). refusals_by e n0 ≤ refusals_by e new) o1 c.settle.ensures.given in
     let f1 = subst (λ (e : ℕ). refusals_by e n0 ≡ refusals_by e now) o0 c.find-from.ensures.given in
-    let f2 = subst (λ (w : ℕ × ℕ). refusals_by w.0 new ≤ refusals_by w.0 n0 + w.1) (λ i. (o1 i, (ap refused_by c.in-Again.is) i)) c.settle.ensures.refused in
+    let f2 : refusals_by d new ≡ refusals_by d n0 = subst (λ (w : ℕ × Try). TryRefuses c.tries.rooms c.find-from.result.other (refusals_by w.0 n0) (refusals_by w.0 new) w.1) (λ i. (o1 i, c.in-Again.is i)) c.settle.ensures.refused in
     let w0 = c.tries.invariant.written in
     let w1 = subst (λ (e : ℕ). writings_by e n0 ≡ writings_by e now) o0 c.find-from.ensures.written in
     let w2 = subst (λ (e : ℕ). writings_by e new ≡ writings_by e n0) o1 c.settle.ensures.written in record {
       same = c.settle.ensures.sizes ∙ s1;
       own = c.settle.ensures.domain ∙ o1;
+      heap = c.settle.ensures.heap ∙ (c.find-from.ensures.heap ∙ c.tries.invariant.heap);
+      grows = prefix_trans old now new c.tries.invariant.grows (prefix_trans now n0 new c.find-from.ensures.grows c.settle.ensures.grows);
       labels = omega (arith, l0, l1, l2);
-      fewer = omega (arith, m0, l1, m2);
+      few = omega (arith, m0, m2);
       room = omega (arith, r0, r1, r2);
       refused = omega (arith, f0, f1, f2);
-      given = omega (arith, j0, f1, j2);
       written = omega (arith, w0, w1, w2);
       walk = λ root held map placed respects.
           put_settles z c.stands.ensures.limits root d old k v c.args.key c.requires.few.1 key now n0 new _ _ _ _ c.tries.level c.find-from.result.steps c.saturating_add-level.result c.tries.at _ (Again c.in-Again.shows c.in-Again.left) c.saturating_add-level.ensures (c.tries.invariant.walk root held map placed) finds own c.find-from.ensures.grows settles c.settle.ensures.grows map placed respects;
     }
+
+pub returns-then-not-make_leaf-clause-grows : goal.returns-then-not-make_leaf-clause-grows
+returns-then-not-make_leaf-clause-grows g c = prefix_trans _ _ _ (grown_from _ _ _ (c.show-datum.ensures.front ∙ c.show.ensures.front) c.make_leaf.ensures.grows) c.clear.ensures.grows
+
+pub returns-in-Over-clause-grows : goal.returns-in-Over-clause-grows
+returns-in-Over-clause-grows g c = prefix_trans _ _ _ c.tries.invariant.grows (prefix_trans _ _ _ c.find-from.ensures.grows c.settle.ensures.grows)
+
+pub returns-then-not-make_leaf-clause-follows : goal.returns-then-not-make_leaf-clause-follows
+returns-then-not-make_leaf-clause-follows g c = λ root held map placed respects.
+    put_follows (g.M.Machine.sizes c.args.m.now) (g.M.Machine.domain c.args.m.now) _ _ root (returns-then-not-make_leaf-clause-grows g c) map placed respects _ _ _ (returns-then-not-make_leaf-clause-answer g c root held map placed respects)
+
+pub returns-in-Over-clause-follows : goal.returns-in-Over-clause-follows
+returns-in-Over-clause-follows g c = λ root held map placed respects.
+    put_follows (g.M.Machine.sizes c.args.m.now) (g.M.Machine.domain c.args.m.now) _ _ root (returns-in-Over-clause-grows g c) map placed respects _ _ _ (returns-in-Over-clause-answer g c root held map placed respects)
+
+pub returns-in_default-clause-grows : goal.returns-in_default-clause-grows
+returns-in_default-clause-grows g c = none_grows _ _ c.show.ensures.front
+
+pub returns-in_default-clause-follows : goal.returns-in_default-clause-follows
+returns-in_default-clause-follows g c = λ root held map placed respects. none_follows (g.M.Machine.sizes c.args.m.now) _ _ root c.show.ensures.front map placed
+
+pub returns-then-is_empty-clause-grows : goal.returns-then-is_empty-clause-grows
+returns-then-is_empty-clause-grows g c = none_grows _ _ (c.show-datum.ensures.front ∙ c.show.ensures.front)
+
+pub returns-then-is_empty-clause-follows : goal.returns-then-is_empty-clause-follows
+returns-then-is_empty-clause-follows g c = λ root held map placed respects. none_follows (g.M.Machine.sizes c.args.m.now) _ _ root (c.show-datum.ensures.front ∙ c.show.ensures.front) map placed

@@ -4,7 +4,6 @@ use Rattle.heap_model.specs.declared.reply.Reply.TheVariants as reply
 use Rattle.heap_model.specs.declared.state.Sizes.{Sizes}
 use Rattle.weak_maps.specs.Puts.{PublishesBy}
 use Rattle.weak_maps.proofs.PublishLemmas.{publish_lost, publish_won}
-use Rattle.weak_maps.proofs.GetLemmas.{grows_by}
 use Rattle.weak_maps.proofs.putting.publish.Goals as goal
 
 pub returns-clause-published : goal.returns-clause-published
@@ -12,16 +11,13 @@ returns-clause-published g c =
     let z : Sizes = g.M.Machine.sizes c.args.m.now in
     let d : ℕ = g.M.Machine.domain c.args.m.now in
     let old : List Entry = g.M.Machine.front c.args.m.now in
-    let new : List Entry = g.M.Machine.front c.perform-won.new.m in
-    let p = c.perform-won.ensures.performed in
+    let new : List Entry = g.M.Machine.front c.exchange-won.new.m in
+    let p = c.exchange-won.ensures.exchanged in
     λ first front root k l v rest register shows key field binds leaf map respects.
-    by_reply c.is_yes.result (λ b. PublishesBy z d first front old new root k c.args.index rest shows field l v b) (c.perform-won.result ≡ reply.Yes) c.is_yes.ensures.0 c.is_yes.ensures.1
-    (publish_won z c.stands.ensures.limits root d first front k l v old new c.perform-won.result c.args.index rest shows register p respects map field binds leaf key)
-    (publish_lost z c.stands.ensures.limits root d first front k l v old new c.perform-won.result c.args.index rest shows register p respects map field binds leaf key)
+    by_reply c.is_yes.result (λ b. PublishesBy z d first front old new root k c.args.index rest shows field l v b) (c.exchange-won.result ≡ reply.Yes) c.is_yes.ensures.0 c.is_yes.ensures.1
+    (publish_won z c.stands.ensures.limits root d first front k l v old new c.exchange-won.result c.args.index rest shows register p respects map field binds leaf key)
+    (publish_lost z c.stands.ensures.limits root d first front k l v old new c.exchange-won.result c.args.index rest shows register p respects map field binds leaf key)
   where
     by_reply : (b : Bool) (P : Bool → Type 0) (Q : Type 0) → (b ≡ true → Q) → (Q → b ≡ true) → (Q → P true) → ((Q → ⊥) → P false) → P b
     by_reply true P Q there back on_won on_lost = on_won (there refl)
     by_reply false P Q there back on_won on_lost = on_lost (λ q. let clash : false ≡ true = back q in cc)
-
-pub returns-clause-grows : goal.returns-clause-grows
-returns-clause-grows g c = grows_by (g.M.Machine.sizes c.args.m.now) (g.M.Machine.domain c.args.m.now) (g.M.Machine.front c.args.m.now) (g.M.Machine.front c.perform-won.new.m) _ _ c.perform-won.ensures.performed

@@ -1,5 +1,6 @@
 use Rattle.std.proofs.Common.{◌≡◌, ◌∙◌, ℕ, arith}
 use Rattle.heap_model.specs.declared.state.Sizes.{Sizes}
+use Rattle.map_laws.proofs.FrontLemmas.{prefix_trans}
 use Rattle.weak_maps.specs.Beside.{refusals_by, writings_by}
 use Rattle.weak_maps.proofs.MachineLemmas.{at_machine, counted_by}
 use Rattle.weak_maps.proofs.taking.clear.Goals as goal
@@ -54,3 +55,6 @@ returns-clause-cleared g c =
       ten = at_machine z _ d _ _ _ _ _ s2 o2 c.perform-ten.ensures.performed;
       eleven = at_machine z _ d _ _ _ _ _ s3 o3 c.perform-eleven.ensures.performed;
     }
+
+pub returns-clause-grows : goal.returns-clause-grows
+returns-clause-grows g c = prefix_trans _ _ _ c.perform-eight.ensures.grows (prefix_trans _ _ _ c.perform-nine.ensures.grows (prefix_trans _ _ _ c.perform-ten.ensures.grows c.perform-eleven.ensures.grows))

@@ -21,6 +21,7 @@ pub levels-init : goal.levels-init
 levels-init g c = record {
   same = refl;
   own = refl;
+  heap = refl;
   labels = refl;
   room = omega arith;
   given = refl;
@@ -60,7 +61,7 @@ levels-preserved g c =
     let now : List Entry = g.M.Machine.front c.levels.m in
     let n0 : List Entry = g.M.Machine.front c.perform-found.new.m in
     let n1 : List Entry = g.M.Machine.front c.perform-down.new.m in
-    let new : List Entry = g.M.Machine.front c.perform-at.new.m in
+    let new : List Entry = g.M.Machine.front c.read_again-at.new.m in
     let s0 : g.M.Machine.sizes c.levels.m ≡ z = c.levels.invariant.same in
     let o0 : g.M.Machine.domain c.levels.m ≡ d = c.levels.invariant.own in
     let s1 : g.M.Machine.sizes c.perform-found.new.m ≡ z = c.perform-found.ensures.sizes ∙ s0 in
@@ -69,50 +70,50 @@ levels-preserved g c =
     let o2 : g.M.Machine.domain c.perform-down.new.m ≡ d = c.perform-down.ensures.domain ∙ o1 in
     let p0 = at_machine z _ d _ now n0 _ _ s0 o0 c.perform-found.ensures.performed in
     let p1 = at_machine z _ d _ n0 n1 _ _ s1 o1 c.perform-down.ensures.performed in
-    let q2 = at_machine z _ d _ n1 new _ _ s2 o2 c.perform-at.ensures.performed in
-    let p2 = subst (λ (n : ℕ). PerformedBy z d n1 new (Load 9 8 n) c.perform-at.result) c.node_index-index.ensures q2 in
+    let q2 = at_machine z _ d _ n1 new _ _ s2 o2 c.read_again-at.ensures.read in
+    let p2 = subst (λ (n : ℕ). PerformedBy z d n1 new (Load 9 8 n) c.read_again-at.result) c.node_index-index.ensures q2 in
     let g1 = grows_by z d n1 new _ _ q2 in
     let g0 = prefix_trans n0 n1 new (grows_by z d n0 n1 _ _ p1) g1 in
     let g2 = prefix_trans now n0 new (grows_by z d now n0 _ _ p0) g0 in
     let l0 = c.levels.invariant.labels in
     let l1 = c.perform-found.ensures.labels in
     let l2 = c.perform-down.ensures.labels in
-    let l3 = c.perform-at.ensures.labels in
+    let l3 = c.read_again-at.ensures.labels in
     let r0 = c.levels.invariant.room in
     let r1 = c.perform-found.ensures.room in
     let r2 = c.perform-down.ensures.room in
-    let r3 = c.perform-at.ensures.room in
+    let r3 = c.read_again-at.ensures.room in
     let f0 = c.levels.invariant.given in
     let f1 = counted_by refusals_by d _ _ now n0 o0 c.perform-found.ensures.refused in
     let f2 = counted_by refusals_by d _ _ n0 n1 o1 c.perform-down.ensures.refused in
-    let f3 = counted_by refusals_by d _ _ n1 new o2 c.perform-at.ensures.refused in
+    let f3 = subst (λ (e : ℕ). refusals_by e new ≡ refusals_by e n1) o2 c.read_again-at.ensures.given in
     let k1 = c.perform-found.ensures.given in
     let k2 = c.perform-down.ensures.given in
-    let k3 = c.perform-at.ensures.given in
     let w0 = c.levels.invariant.written in
     let w1 = counted_by writings_by d _ _ now n0 o0 c.perform-found.ensures.written in
     let w2 = counted_by writings_by d _ _ n0 n1 o1 c.perform-down.ensures.written in
-    let w3 = counted_by writings_by d _ _ n1 new o2 c.perform-at.ensures.written in record {
-      same = c.perform-at.ensures.sizes ∙ s2;
-      own = c.perform-at.ensures.domain ∙ o2;
+    let w3 = subst (λ (e : ℕ). writings_by e new ≡ writings_by e n1) o2 c.read_again-at.ensures.written in record {
+      same = c.read_again-at.ensures.sizes ∙ s2;
+      own = c.read_again-at.ensures.domain ∙ o2;
+      heap = c.read_again-at.ensures.heap ∙ (c.perform-down.ensures.heap ∙ (c.perform-found.ensures.heap ∙ c.levels.invariant.heap));
       labels = omega (arith, l0, l1, l2, l3);
       room = omega (arith, r0, r1, r2, r3);
-      given = omega (arith, f0, f1, f2, f3, k1, k2, k3);
+      given = omega (arith, f0, f1, f2, f3, k1, k2);
       written = omega (arith, w0, w1, w2, w3);
       steps = ap (λ (n : ℕ). n + 1) c.levels.invariant.steps;
       grows = prefix_trans old now new c.levels.invariant.grows g2;
       leaf = λ first root l v key looking x respects leaf.
           let early = respects_within z root d first new first now (prefix_same first) g2 respects in
           let w = c.levels.invariant.walk first root key looking x early in
-          let after = walk_down z c.stands.ensures.limits root d first c.args.label.now old now n0 n1 new c.perform-found.result c.perform-down.result c.perform-at.result c.levels.index c.levels.rest c.levels.at (length x.p) c.levels.counter c.args.key c.requires.few key p0 p1 p2
+          let after = walk_down z c.stands.ensures.limits root d first c.args.label.now old now n0 n1 new c.perform-found.result c.perform-down.result c.read_again-at.result c.levels.index c.levels.rest c.levels.at (length x.p) c.levels.counter c.args.key c.requires.few key p0 p1 p2
           (respects_within z root d first new first n0 (prefix_same first) g0 respects) (respects_within z root d first new first n1 (prefix_same first) g1 respects) respects w (c.is_block.ensures.0 c.if-not-is_block.false) (c.is_other_kind.ensures.0 c.if-not-is_other_kind.false) in
           let ten : (h : List Entry) → KeepsWalked z d old h → held_by z d h 10 ≡ held_by z d old 10 = λ h keeps. keeps 10 (λ e. absurd (omega (arith, e))) (λ e. absurd (omega (arith, e))) (λ e. absurd (omega (arith, e))) in
           leaf_down z c.stands.ensures.limits root d first c.args.label.now l v now n0 c.perform-found.result c.levels.index c.levels.rest c.levels.at c.args.key p0 (respects_within z root d first new first n0 (prefix_same first) g0 respects) w.0 w.2.0
-          (c.is_block.ensures.0 c.if-not-is_block.false) (still_key z c.stands.ensures.limits root d first c.args.label.now old now c.args.key c.requires.few key w.1) c.requires.few n1 new c.perform-down.result c.perform-at.result p1 p2 after.0 (ten new after.1 ∙ sym (ten now w.1))
+          (c.is_block.ensures.0 c.if-not-is_block.false) (still_key z c.stands.ensures.limits root d first c.args.label.now old now c.args.key c.requires.few key w.1) c.requires.few n1 new c.perform-down.result c.read_again-at.result p1 p2 after.0 (ten new after.1 ∙ sym (ten now w.1))
           (c.levels.invariant.leaf first root l v key looking x early leaf);
       walk = λ first root key looking x respects.
-          subst (λ (n : ℕ). Walked z root d first c.args.label.now old new n (c.levels.rest / node_width) c.perform-at.result (length x.p) (c.levels.counter + 1)) (sym c.node_index-index.ensures)
-          (walk_down z c.stands.ensures.limits root d first c.args.label.now old now n0 n1 new c.perform-found.result c.perform-down.result c.perform-at.result c.levels.index c.levels.rest c.levels.at _ c.levels.counter c.args.key c.requires.few key p0 p1 p2
+          subst (λ (n : ℕ). Walked z root d first c.args.label.now old new n (c.levels.rest / node_width) c.read_again-at.result (length x.p) (c.levels.counter + 1)) (sym c.node_index-index.ensures)
+          (walk_down z c.stands.ensures.limits root d first c.args.label.now old now n0 n1 new c.perform-found.result c.perform-down.result c.read_again-at.result c.levels.index c.levels.rest c.levels.at _ c.levels.counter c.args.key c.requires.few key p0 p1 p2
           (respects_within z root d first new first n0 (prefix_same first) g0 respects) (respects_within z root d first new first n1 (prefix_same first) g1 respects) respects
           (c.levels.invariant.walk first root key looking x (respects_within z root d first new first now (prefix_same first) g2 respects)) (c.is_block.ensures.0 c.if-not-is_block.false) (c.is_other_kind.ensures.0 c.if-not-is_other_kind.false));
     }
@@ -149,8 +150,8 @@ returns-then-not-is_other_kind-clause-field g c =
 pub returns-then-not-is_block-clause-leaf : goal.returns-then-not-is_block-clause-leaf
 returns-then-not-is_block-clause-leaf g c = c.levels.invariant.leaf
 
-pub returns-clause-leaf : goal.returns-clause-leaf
-returns-clause-leaf g c = c.levels.invariant.leaf
+pub returns-after-levels-clause-leaf : goal.returns-after-levels-clause-leaf
+returns-after-levels-clause-leaf g c = c.levels.invariant.leaf
 
 pub returns-then-not-is_other_kind-clause-leaf : goal.returns-then-not-is_other_kind-clause-leaf
 returns-then-not-is_other_kind-clause-leaf g c =
@@ -166,8 +167,8 @@ returns-then-not-is_other_kind-clause-leaf g c =
     leaf_read z c.stands.ensures.limits root d first c.args.label.now l v now n0 c.perform-found.result c.levels.index c.levels.rest c.levels.at c.args.key p respects w.0 w.2.0
     (c.is_block.ensures.0 c.if-not-is_block.false) (still_key z c.stands.ensures.limits root d first c.args.label.now old now c.args.key c.requires.few key w.1) c.requires.few (c.levels.invariant.leaf first root l v key looking x early leaf)
 
-pub returns-clause-field : goal.returns-clause-field
-returns-clause-field g c =
+pub returns-after-levels-clause-field : goal.returns-after-levels-clause-field
+returns-after-levels-clause-field g c =
     let z : Sizes = g.M.Machine.sizes c.args.m.now in
     let d : ℕ = g.M.Machine.domain c.args.m.now in
     let old : List Entry = g.M.Machine.front c.args.m.now in
@@ -175,8 +176,8 @@ returns-clause-field g c =
     λ first root key looking x respects.
     absurd (walk_ends z c.stands.ensures.limits root d first c.args.label.now old _ c.levels.index c.levels.rest c.levels.at _ c.levels.counter all (c.levels.invariant.walk first root key looking x respects))
 
-pub returns-clause-found : goal.returns-clause-found
-returns-clause-found g c =
+pub returns-after-levels-clause-found : goal.returns-after-levels-clause-found
+returns-after-levels-clause-found g c =
     let z : Sizes = g.M.Machine.sizes c.args.m.now in
     let d : ℕ = g.M.Machine.domain c.args.m.now in
     let old : List Entry = g.M.Machine.front c.args.m.now in

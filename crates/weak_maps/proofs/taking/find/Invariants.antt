@@ -14,6 +14,7 @@ abbrev pub invariant-levels : goal.invariant-levels
 invariant-levels g l = record {
   same : g.M.Machine.sizes l.m ≡ g.M.Machine.sizes l.fn.m;
   own : g.M.Machine.domain l.m ≡ g.M.Machine.domain l.fn.m;
+  heap : g.M.Machine.heap l.m ≡ g.M.Machine.heap l.fn.m;
   labels : g.M.Machine.labels_left l.m ≡ g.M.Machine.labels_left l.fn.m;
   room : g.M.Machine.ephes_room l.fn.m ≤ g.M.Machine.ephes_room l.m;
   given : refusals_by (g.M.Machine.domain l.fn.m) (g.M.Machine.front l.m) ≡ refusals_by (g.M.Machine.domain l.fn.m) (g.M.Machine.front l.fn.m);

@@ -6,9 +6,11 @@ use Rattle.heap_model.specs.declared.reply.Reply.TheVariants as reply
 use Rattle.heap_model.specs.declared.state.Sizes.{Sizes}
 use Rattle.map_laws.specs.Calls.{PerformedBy}
 use Rattle.map_laws.specs.Tries.{number_of, root_width}
+use Rattle.map_laws.proofs.FrontLemmas.{prefix_trans}
 use Rattle.weak_maps.specs.Beside.{held_by, refusals_by, writings_by}
 use Rattle.weak_maps.specs.Fields.{Finds, Taking}
 use Rattle.weak_maps.proofs.MachineLemmas.{at_machine, cleared_at, counted_by, finds_at, not_so, performed_from, so_then, taken_at}
+use Rattle.weak_maps.proofs.FollowLemmas.{grown_from, none_follows, none_grows, take_follows}
 use Rattle.weak_maps.proofs.GetLemmas.{shown_label}
 use Rattle.weak_maps.proofs.TakeLemmas.{cleared_grows, take_again, take_begins, take_done, take_missed}
 use Rattle.weak_maps.proofs.taking.map_take.Goals as goal
@@ -21,7 +23,7 @@ tries-init g c =
     let k = c.in-Block.label in
     let n0 : List Entry = g.M.Machine.front c.perform-zero.new.m in
     let n1 : List Entry = g.M.Machine.front c.perform-root.new.m in
-    let new : List Entry = g.M.Machine.front c.perform-at.new.m in
+    let new : List Entry = g.M.Machine.front c.read_again-at.new.m in
     let s0 : g.M.Machine.sizes c.show.new.self ≡ z = c.show.ensures.sizes in
     let o0 : g.M.Machine.domain c.show.new.self ≡ d = c.show.ensures.domain in
     let s1 : g.M.Machine.sizes c.perform-zero.new.m ≡ z = c.perform-zero.ensures.sizes ∙ s0 in
@@ -31,36 +33,39 @@ tries-init g c =
     let same : c.number_of-number.result ≡ number_of z.domains k = c.number_of-number.ensures.number ∙ ap (λ (n : ℕ). number_of n k) (c.domains.ensures ∙ ap (λ (y : Sizes). y.domains) s0) in
     let p0 = performed_from z _ d _ old _ n0 _ _ s0 o0 c.show.ensures.front c.perform-zero.ensures.performed in
     let p1 = at_machine z _ d _ n0 n1 _ _ s1 o1 c.perform-root.ensures.performed in
-    let q2 = at_machine z _ d _ n1 new _ _ s2 o2 c.perform-at.ensures.performed in
-    let p2 = subst (λ (n : ℕ). PerformedBy z d n1 new (Load 9 8 n) c.perform-at.result) (c.root_index.ensures ∙ ap (λ (n : ℕ). n % root_width) same) q2 in
+    let q2 = at_machine z _ d _ n1 new _ _ s2 o2 c.read_again-at.ensures.read in
+    let first = c.from_root-from.ensures.index ∙ ap (λ (n : ℕ). n % root_width) same in
+    let left = c.from_root-from.ensures.rest ∙ ap (λ (n : ℕ). n / root_width) same in
+    let p2 = subst (λ (n : ℕ). PerformedBy z d n1 new (Load 9 8 n) c.read_again-at.result) first q2 in
     let l0 = c.show.ensures.labels in
     let l1 = c.perform-zero.ensures.labels in
     let l2 = c.perform-root.ensures.labels in
-    let l3 = c.perform-at.ensures.labels in
+    let l3 = c.read_again-at.ensures.labels in
     let r0 = c.show.ensures.room in
     let r1 = c.perform-zero.ensures.room in
     let r2 = c.perform-root.ensures.room in
-    let r3 = c.perform-at.ensures.room in
+    let r3 = c.read_again-at.ensures.room in
     let f0 = ap (refusals_by d) c.show.ensures.front in
     let f1 = counted_by refusals_by d _ _ _ n0 o0 c.perform-zero.ensures.refused in
     let f2 = counted_by refusals_by d _ _ n0 n1 o1 c.perform-root.ensures.refused in
-    let f3 = counted_by refusals_by d _ _ n1 new o2 c.perform-at.ensures.refused in
+    let f3 = subst (λ (e : ℕ). refusals_by e new ≡ refusals_by e n1) o2 c.read_again-at.ensures.given in
     let k1 = c.perform-zero.ensures.given in
     let k2 = c.perform-root.ensures.given in
-    let k3 = c.perform-at.ensures.given in
     let w0 = ap (writings_by d) c.show.ensures.front in
     let w1 = counted_by writings_by d _ _ _ n0 o0 c.perform-zero.ensures.written in
     let w2 = counted_by writings_by d _ _ n0 n1 o1 c.perform-root.ensures.written in
-    let w3 = counted_by writings_by d _ _ n1 new o2 c.perform-at.ensures.written in record {
-      same = c.perform-at.ensures.sizes ∙ s2;
-      own = c.perform-at.ensures.domain ∙ o2;
+    let w3 = subst (λ (e : ℕ). writings_by e new ≡ writings_by e n1) o2 c.read_again-at.ensures.written in record {
+      same = c.read_again-at.ensures.sizes ∙ s2;
+      own = c.read_again-at.ensures.domain ∙ o2;
+      heap = c.read_again-at.ensures.heap ∙ (c.perform-root.ensures.heap ∙ (c.perform-zero.ensures.heap ∙ c.show.ensures.heap));
+      grows = prefix_trans old n0 new (grown_from old _ n0 c.show.ensures.front c.perform-zero.ensures.grows) (prefix_trans n0 n1 new c.perform-root.ensures.grows c.read_again-at.ensures.grows);
       labels = omega (arith, l0, l1, l2, l3);
       room = omega (arith, r0, r1, r2, r3);
-      given = omega (arith, f0, f1, f2, f3, k1, k2, k3);
+      given = omega (arith, f0, f1, f2, f3, k1, k2);
       written = omega (arith, w0, w1, w2, w3);
       walk = λ root held map respects.
-          subst (λ (w : ℕ × ℕ). Taking z d old new root k w.0 (w.1 / root_width) c.perform-at.result) (λ i. ((sym (c.root_index-2.ensures ∙ ap (λ (n : ℕ). n % root_width) same)) i, sym same i))
-          (take_begins z c.stands.ensures.limits root d old k n0 n1 new c.perform-zero.result c.perform-root.result c.perform-at.result c.args.map c.requires.few.0 map held p0 p1 p2 respects);
+          subst (λ (w : ℕ × ℕ). Taking z d old new root k w.0 w.1 c.read_again-at.result) (λ i. (sym first i, sym left i))
+          (take_begins z c.stands.ensures.limits root d old k n0 n1 new c.perform-zero.result c.perform-root.result c.read_again-at.result c.args.map c.requires.few.0 map held p0 p1 p2 respects);
     }
 
 pub returns-then-not-from-clause-answer : goal.returns-then-not-from-clause-answer
@@ -90,20 +95,20 @@ returns-then-is_yes-clause-answer g c =
     let k = c.in-Block.label in
     let now : List Entry = g.M.Machine.front c.tries.m in
     let n0 : List Entry = g.M.Machine.front c.find-from.new.m in
-    let n1 : List Entry = g.M.Machine.front c.perform-won.new.m in
+    let n1 : List Entry = g.M.Machine.front c.exchange-won.new.m in
     let s0 : g.M.Machine.sizes c.tries.m ≡ z = c.tries.invariant.same in
     let o0 : g.M.Machine.domain c.tries.m ≡ d = c.tries.invariant.own in
     let s1 : g.M.Machine.sizes c.find-from.new.m ≡ z = c.find-from.ensures.sizes ∙ s0 in
     let o1 : g.M.Machine.domain c.find-from.new.m ≡ d = c.find-from.ensures.domain ∙ o0 in
-    let s2 : g.M.Machine.sizes c.perform-won.new.m ≡ z = c.perform-won.ensures.sizes ∙ s1 in
-    let o2 : g.M.Machine.domain c.perform-won.new.m ≡ d = c.perform-won.ensures.domain ∙ o1 in
+    let s2 : g.M.Machine.sizes c.exchange-won.new.m ≡ z = c.exchange-won.ensures.sizes ∙ s1 in
+    let o2 : g.M.Machine.domain c.exchange-won.new.m ≡ d = c.exchange-won.ensures.domain ∙ o1 in
     let key : held_by z d old c.args.key ≡ Block k = shown_label _ _ (sym c.show.ensures.reply ∙ c.in-Block.is) in
     let x = cleared_at z _ d _ n1 _ s2 o2 c.clear-then-is_yes.ensures.cleared in
-    let p = at_machine z _ d _ n0 n1 _ _ s1 o1 c.perform-won.ensures.performed in
+    let p = at_machine z _ d _ n0 n1 _ _ s1 o1 c.exchange-won.ensures.exchanged in
     let finds : Finds z d now n0 c.args.key k c.tries.from.index c.tries.from.rest c.tries.at c.find-from.result.index c.find-from.result.rest true = finds_at z _ d _ now n0 c.args.key k _ _ _ _ _ true _ s0 o0 (so_then c.find-from.result.mine c.if-not-from.false) c.find-from.ensures.found in
     λ root held map respects.
     taken_at z d old _ root _ k reply.Done key
-    (take_done z c.stands.ensures.limits root d old k c.args.key c.requires.few.1 key now n0 n1 _ _ _ _ _ _ c.perform-won.result finds (c.tries.invariant.walk root held map) c.find-from.ensures.grows p (c.is_yes.ensures.0 c.if-is_yes.true) x (cleared_grows z d n1 _ x) respects)
+    (take_done z c.stands.ensures.limits root d old k c.args.key c.requires.few.1 key now n0 n1 _ _ _ _ _ _ c.exchange-won.result finds (c.tries.invariant.walk root held map) c.find-from.ensures.grows p (c.is_yes.ensures.0 c.if-is_yes.true) x (cleared_grows z d n1 _ x) respects)
 
 pub tries-preserved : goal.tries-preserved
 tries-preserved g c =
@@ -113,43 +118,63 @@ tries-preserved g c =
     let k = c.in-Block.label in
     let now : List Entry = g.M.Machine.front c.tries.m in
     let n0 : List Entry = g.M.Machine.front c.find-from.new.m in
-    let n1 : List Entry = g.M.Machine.front c.perform-won.new.m in
-    let new : List Entry = g.M.Machine.front c.perform-at-in-tries.new.m in
+    let n1 : List Entry = g.M.Machine.front c.exchange-won.new.m in
+    let new : List Entry = g.M.Machine.front c.read_again-at-in-tries.new.m in
     let s0 : g.M.Machine.sizes c.tries.m ≡ z = c.tries.invariant.same in
     let o0 : g.M.Machine.domain c.tries.m ≡ d = c.tries.invariant.own in
     let s1 : g.M.Machine.sizes c.find-from.new.m ≡ z = c.find-from.ensures.sizes ∙ s0 in
     let o1 : g.M.Machine.domain c.find-from.new.m ≡ d = c.find-from.ensures.domain ∙ o0 in
-    let s2 : g.M.Machine.sizes c.perform-won.new.m ≡ z = c.perform-won.ensures.sizes ∙ s1 in
-    let o2 : g.M.Machine.domain c.perform-won.new.m ≡ d = c.perform-won.ensures.domain ∙ o1 in
+    let s2 : g.M.Machine.sizes c.exchange-won.new.m ≡ z = c.exchange-won.ensures.sizes ∙ s1 in
+    let o2 : g.M.Machine.domain c.exchange-won.new.m ≡ d = c.exchange-won.ensures.domain ∙ o1 in
     let key : held_by z d old c.args.key ≡ Block k = shown_label _ _ (sym c.show.ensures.reply ∙ c.in-Block.is) in
-    let p = at_machine z _ d _ n0 n1 _ _ s1 o1 c.perform-won.ensures.performed in
-    let p2 = at_machine z _ d _ n1 new _ _ s2 o2 c.perform-at-in-tries.ensures.performed in
+    let p = at_machine z _ d _ n0 n1 _ _ s1 o1 c.exchange-won.ensures.exchanged in
+    let p2 = at_machine z _ d _ n1 new _ _ s2 o2 c.read_again-at-in-tries.ensures.read in
     let finds : Finds z d now n0 c.args.key k c.tries.from.index c.tries.from.rest c.tries.at c.find-from.result.index c.find-from.result.rest true = finds_at z _ d _ now n0 c.args.key k _ _ _ _ _ true _ s0 o0 (so_then c.find-from.result.mine c.if-not-from.false) c.find-from.ensures.found in
     let l0 = c.tries.invariant.labels in
     let l1 = c.find-from.ensures.labels in
-    let l2 = c.perform-won.ensures.labels in
-    let l3 = c.perform-at-in-tries.ensures.labels in
+    let l2 = c.exchange-won.ensures.labels in
+    let l3 = c.read_again-at-in-tries.ensures.labels in
     let r0 = c.tries.invariant.room in
     let r1 = c.find-from.ensures.room in
-    let r2 = c.perform-won.ensures.room in
-    let r3 = c.perform-at-in-tries.ensures.room in
+    let r2 = c.exchange-won.ensures.room in
+    let r3 = c.read_again-at-in-tries.ensures.room in
     let f0 = c.tries.invariant.given in
     let f1 = subst (λ (e : ℕ). refusals_by e n0 ≡ refusals_by e now) o0 c.find-from.ensures.given in
-    let f2 = counted_by refusals_by d _ _ n0 n1 o1 c.perform-won.ensures.refused in
-    let f3 = counted_by refusals_by d _ _ n1 new o2 c.perform-at-in-tries.ensures.refused in
-    let k2 = c.perform-won.ensures.given in
-    let k3 = c.perform-at-in-tries.ensures.given in
+    let f2 = subst (λ (e : ℕ). refusals_by e n1 ≡ refusals_by e n0) o1 c.exchange-won.ensures.given in
+    let f3 = subst (λ (e : ℕ). refusals_by e new ≡ refusals_by e n1) o2 c.read_again-at-in-tries.ensures.given in
     let w0 = c.tries.invariant.written in
     let w1 = subst (λ (e : ℕ). writings_by e n0 ≡ writings_by e now) o0 c.find-from.ensures.written in
-    let w2 = counted_by writings_by d _ _ n0 n1 o1 c.perform-won.ensures.written in
-    let w3 = counted_by writings_by d _ _ n1 new o2 c.perform-at-in-tries.ensures.written in record {
-      same = c.perform-at-in-tries.ensures.sizes ∙ s2;
-      own = c.perform-at-in-tries.ensures.domain ∙ o2;
+    let w2 = subst (λ (e : ℕ). writings_by e n1 ≡ writings_by e n0) o1 c.exchange-won.ensures.written in
+    let w3 = subst (λ (e : ℕ). writings_by e new ≡ writings_by e n1) o2 c.read_again-at-in-tries.ensures.written in record {
+      same = c.read_again-at-in-tries.ensures.sizes ∙ s2;
+      own = c.read_again-at-in-tries.ensures.domain ∙ o2;
+      heap = c.read_again-at-in-tries.ensures.heap ∙ (c.exchange-won.ensures.heap ∙ (c.find-from.ensures.heap ∙ c.tries.invariant.heap));
+      grows = prefix_trans old now new c.tries.invariant.grows (prefix_trans now n0 new c.find-from.ensures.grows (prefix_trans n0 n1 new c.exchange-won.ensures.grows c.read_again-at-in-tries.ensures.grows));
       labels = omega (arith, l0, l1, l2, l3);
       room = omega (arith, r0, r1, r2, r3);
-      given = omega (arith, f0, f1, f2, f3, k2, k3);
+      given = omega (arith, f0, f1, f2, f3);
       written = omega (arith, w0, w1, w2, w3);
       walk = λ root held map respects.
-          take_again z c.stands.ensures.limits root d old k c.args.key c.requires.few.1 key now n0 n1 new _ _ _ _ _ c.perform-won.result c.perform-at-in-tries.result finds (c.tries.invariant.walk root held map) c.find-from.ensures.grows p
+          take_again z c.stands.ensures.limits root d old k c.args.key c.requires.few.1 key now n0 n1 new _ _ _ _ _ c.exchange-won.result c.read_again-at-in-tries.result finds (c.tries.invariant.walk root held map) c.find-from.ensures.grows p
           (λ e. let clash : true ≡ false = sym (c.is_yes.ensures.1 e) ∙ c.if-is_yes.false in cc) p2 respects;
     }
+
+pub returns-then-not-from-clause-grows : goal.returns-then-not-from-clause-grows
+returns-then-not-from-clause-grows g c = prefix_trans _ _ _ c.tries.invariant.grows (prefix_trans _ _ _ c.find-from.ensures.grows c.clear.ensures.grows)
+
+pub returns-then-is_yes-clause-grows : goal.returns-then-is_yes-clause-grows
+returns-then-is_yes-clause-grows g c = prefix_trans _ _ _ c.tries.invariant.grows (prefix_trans _ _ _ c.find-from.ensures.grows (prefix_trans _ _ _ c.exchange-won.ensures.grows c.clear-then-is_yes.ensures.grows))
+
+pub returns-then-not-from-clause-follows : goal.returns-then-not-from-clause-follows
+returns-then-not-from-clause-follows g c = λ root held map placed respects.
+    take_follows (g.M.Machine.sizes c.args.m.now) (g.M.Machine.domain c.args.m.now) _ _ root (returns-then-not-from-clause-grows g c) map placed respects _ _ (returns-then-not-from-clause-answer g c root held map respects)
+
+pub returns-then-is_yes-clause-follows : goal.returns-then-is_yes-clause-follows
+returns-then-is_yes-clause-follows g c = λ root held map placed respects.
+    take_follows (g.M.Machine.sizes c.args.m.now) (g.M.Machine.domain c.args.m.now) _ _ root (returns-then-is_yes-clause-grows g c) map placed respects _ _ (returns-then-is_yes-clause-answer g c root held map respects)
+
+pub returns-in_default-clause-grows : goal.returns-in_default-clause-grows
+returns-in_default-clause-grows g c = none_grows _ _ c.show.ensures.front
+
+pub returns-in_default-clause-follows : goal.returns-in_default-clause-follows
+returns-in_default-clause-follows g c = λ root held map placed respects. none_follows (g.M.Machine.sizes c.args.m.now) _ _ root c.show.ensures.front map placed

@@ -1,6 +1,7 @@
 use Rattle.std.proofs.Common.{◌≡◌, ◌≤◌}
 use Rattle.heap_model.specs.declared.label.Label.{Label}
 use Rattle.heap_model.specs.declared.graph.Value.TheVariants.{Block}
+use Rattle.heap_model.specs.History.{IsPrefix}
 use Rattle.table_laws.specs.Stages.{graph_of}
 use Rattle.map_laws.specs.Tries.{IsMap}
 use Rattle.map_laws.specs.Steps.{OthersRespect}
@@ -12,6 +13,8 @@ abbrev pub invariant-tries : goal.invariant-tries
 invariant-tries g l = record {
   same : g.M.Machine.sizes l.m ≡ g.M.Machine.sizes l.fn.m;
   own : g.M.Machine.domain l.m ≡ g.M.Machine.domain l.fn.m;
+  heap : g.M.Machine.heap l.m ≡ g.M.Machine.heap l.fn.m;
+  grows : IsPrefix (g.M.Machine.front l.fn.m) (g.M.Machine.front l.m);
   labels : g.M.Machine.labels_left l.m ≡ g.M.Machine.labels_left l.fn.m;
   room : g.M.Machine.ephes_room l.fn.m ≤ g.M.Machine.ephes_room l.m;
   given : refusals_by (g.M.Machine.domain l.fn.m) (g.M.Machine.front l.m) ≡ refusals_by (g.M.Machine.domain l.fn.m) (g.M.Machine.front l.fn.m);

@@ -1,0 +1,40 @@
+-- How many blocks a map has that was cleaned.
+use Rattle.std.specs.Prelude.{◌≡◌, ◌≢◌, ◌⊎◌, ◌≤◌, ◌*◌, ℕ, IsTrue, List, [], ◌∷◌, ◌++◌, length, Some, None}
+use Rattle.heap_model.specs.declared.label.Label.{Label}
+use Rattle.heap_model.specs.declared.entry.Entry.{Entry}
+use Rattle.heap_model.specs.declared.graph.Value.{Value}
+use Rattle.heap_model.specs.declared.graph.Value.TheVariants.{Block}
+use Rattle.heap_model.specs.declared.state.Sizes.{Sizes}
+use Rattle.heap_model.specs.Graph.{Graph, has_label, node_at}
+use Rattle.table_laws.specs.Stages.{graph_of}
+use Rattle.map_laws.specs.Tries.{at, bound_by, inside, is_leaf, way_to, IsMap}
+use Rattle.map_laws.specs.Calls.{IsTidy}
+
+-- a place is one of these
+abbrev pub IsIn : List ℕ → List (List ℕ) → Type 0
+IsIn p [] = ⊥
+IsIn p (q ∷ qs) = (p ≡ q) ⊎ IsIn p qs
+
+-- none is there twice
+abbrev pub AreDistinct : List (List ℕ) → Type 0
+AreDistinct [] = Unit {0}
+AreDistinct (p ∷ ps) = (IsIn p ps → ⊥) × AreDistinct ps
+
+-- at a place stands a block of the map that isn't its first
+abbrev pub IsInner : Graph → Label → List ℕ → Type 0
+IsInner g root p = (p ≢ []) × ((l : Label) × (fields : List Value) × (at (inside g) p (Block root) ≡ Some (Block l)) × (inside g (Block l) ≡ Some fields))
+
+-- at a place stands a leaf
+abbrev pub IsLeafAt : Graph → Label → List ℕ → Type 0
+IsLeafAt g root p = (l : Label) × (at (inside g) p (Block root) ≡ Some (Block l)) × is_leaf (node_at g l)
+
+-- in a map without spent blocks each block but the first stands on the way to a leaf
+abbrev pub TidyBlocksLead : Type 0
+TidyBlocksLead = (z : Sizes) (h : List Entry) (root : Label) → IsMap (graph_of z h) root → IsTidy (graph_of z h) root → (p : List ℕ) → IsInner (graph_of z h) root p → (r : List ℕ) × IsLeafAt (graph_of z h) root (p ++ r)
+
+-- so there are at most six for each key that is bound, where each leaf binds one of these keys, and stands on its way
+abbrev pub TidyBlocksAreFew : Type 0
+TidyBlocksAreFew = (z : Sizes) (h : List Entry) (root : Label) → IsMap (graph_of z h) root → IsTidy (graph_of z h) root → (keys : List Label)
+    → ((p : List ℕ) (l : Label) → at (inside (graph_of z h)) p (Block root) ≡ Some (Block l) → is_leaf (node_at (graph_of z h) l) → (k : Label) × IsTrue (has_label keys k) × (bound_by (graph_of z h) k (Block l) ≢ None))
+    → ((p : List ℕ) (l k : Label) → at (inside (graph_of z h)) p (Block root) ≡ Some (Block l) → bound_by (graph_of z h) k (Block l) ≢ None → (q : List ℕ) × (way_to z.domains k ≡ p ++ q))
+    → (blocks : List (List ℕ)) → AreDistinct blocks → ((p : List ℕ) → IsIn p blocks → IsInner (graph_of z h) root p) → length blocks ≤ 6 * length keys

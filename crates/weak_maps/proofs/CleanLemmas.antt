@@ -1,0 +1,149 @@
+-- A field of a map is cleaned, command by command, beside a collector.
+use Rattle.std.proofs.Common.{◌≡◌, inl, inr, ℕ, ◌≤◌, Bool, true, false, not, ◌&&◌, cond, nat_le, List, [], ◌∷◌, ◌++◌, Option, Some, None, refl, ap, sym, ◌∙◌, subst, arith, append_assoc, append-nil}
+use Rattle.std.proofs.lemmas.Bool.Decides.{nat_tests}
+use Rattle.heap_model.specs.declared.label.Label.{Label}
+use Rattle.heap_model.specs.declared.command.Command.{Command}
+use Rattle.heap_model.specs.declared.entry.Entry.{Entry}
+use Rattle.heap_model.specs.declared.reply.Reply.{Reply}
+use Rattle.heap_model.specs.declared.graph.Value.{Value}
+use Rattle.heap_model.specs.declared.graph.Value.TheVariants.{Block}
+use Rattle.heap_model.specs.declared.graph.Node.{Node}
+use Rattle.heap_model.specs.declared.graph.Node.TheVariants.{Ephe}
+use Rattle.heap_model.specs.declared.state.Sizes.{Sizes}
+use Rattle.heap_model.specs.Graph.{Graph, node_at}
+use Rattle.heap_model.specs.Entries.{next}
+use Rattle.heap_model.specs.Fronts.{NoneOf}
+use Rattle.heap_model.specs.History.{IsPrefix, is_entry_of}
+use Rattle.heap_model.proofs.Histories.FrontLemmas.{none_cons}
+use Rattle.table_laws.specs.Thinning.{IsOutside, Thin, state_of}
+use Rattle.table_laws.specs.Performing.{is_spared}
+use Rattle.table_laws.specs.Stages.{graph_of}
+use Rattle.map_laws.specs.Tries.{at, found, inside, IsMap}
+use Rattle.map_laws.specs.Steps.{IsThinned, OthersLeave}
+use Rattle.map_laws.specs.Calls.{OwnKeep, PerformedBy, bound_after}
+use Rattle.map_laws.proofs.FrontLemmas.{other_between, prefix_same, prefix_trans}
+use Rattle.map_laws.proofs.MapLemmas.{at_same, inside_same, thinned_map}
+use Rattle.map_laws.proofs.OwnLemmas.{keeps_none, keeps_once, keeps_twice}
+use Rattle.map_laws.proofs.RespectLemmas.{graph_push}
+use Rattle.map_laws.proofs.SetLemmas.{no_longer}
+use Rattle.weak_maps.specs.Cleans.{Below, Cleans, LeftAlone}
+use Rattle.weak_maps.specs.Puts.{IsInPlace}
+use Rattle.weak_maps.proofs.BesideLemmas.{until_new}
+use Rattle.weak_maps.proofs.GetLemmas.{grows_by}
+use Rattle.weak_maps.proofs.PlaceLemmas.{thin_place}
+
+-- a field isn't at a place below it
+pub not_below : (p : List ℕ) (i : ℕ) → Below (p ++ i ∷ []) p → ⊥
+not_below p i (r, is) = no_longer p i r (is ∙ append_assoc p (i ∷ []) r)
+
+-- nor is another field, or what stands below that
+pub other_below : (p : List ℕ) (i j : ℕ) (q : List ℕ) → (j ≡ i → ⊥) → Below (p ++ i ∷ []) (p ++ j ∷ q) → ⊥
+other_below [] i j q other (r, is) = other cc
+other_below (a ∷ p) i j q other (r, is) = other_below p i j q other (r, (let rest : p ++ j ∷ q ≡ (p ++ i ∷ []) ++ r = cc in rest))
+
+pub below_more : (p : List ℕ) (i : ℕ) (q : List ℕ) → (Below p q → ⊥) → Below (p ++ i ∷ []) q → ⊥
+below_more p i q apart (r, is) = apart (i ∷ r, is ∙ append_assoc p (i ∷ []) r)
+
+pub below_same : (p : List ℕ) → Below p p
+below_same p = ([], sym (append-nil p))
+
+-- a register from 8 on is none of those that a call writes only where it is told to
+pub high_spared : (r : ℕ) → 8 ≤ r → is_spared r ≡ 0
+high_spared r high =
+    let past : nat_le r 7 ≡ false = grind (arith, nat_tests, high) in
+    ap (λ (b : Bool). cond b 1 0) (and_false (nat_le 1 r) (nat_le r 7) past)
+  where
+    and_false : (a b : Bool) → b ≡ false → (a && b) ≡ false
+    and_false true b is = is
+    and_false false b is = refl
+
+pub leaves_within : (z : Sizes) (root : Label) (d : ℕ) (old new later earlier : List Entry) → IsPrefix old later → IsPrefix earlier new → OthersLeave z root d old new → OthersLeave z root d later earlier
+leaves_within z root d old new later earlier after before leaves front e since until other = leaves front e (prefix_trans old later front after since) (prefix_trans (front ++ e ∷ []) earlier new until before) other
+
+module _ (z : Sizes) (root : Label) (d : ℕ) where
+  -- nothing was done
+  pub cleans_none : (h : List Entry) → IsMap (graph_of z h) root → IsInPlace z.domains (graph_of z h) root → Cleans z root d h h
+  cleans_none h map placed = record { keeps = keeps_none z root d h; grows = prefix_same h; map = map; placed = placed }
+
+  pub left_none : (h : List Entry) → IsMap (graph_of z h) root → IsInPlace z.domains (graph_of z h) root → LeftAlone z root d h h
+  left_none h map placed = record { cleans = cleans_none h map placed; places = λ q. refl; blocks = λ q u there. refl; dead = λ q l datum there is. is }
+
+  pub cleans_twice : (a b c : List Entry) → Cleans z root d a b → Cleans z root d b c → Cleans z root d a c
+  cleans_twice a b c x y = record { keeps = keeps_twice z root d a b c y.grows x.keeps y.keeps; grows = prefix_trans a b c x.grows y.grows; map = y.map; placed = y.placed }
+
+  pub left_twice : (a b c : List Entry) → LeftAlone z root d a b → LeftAlone z root d b c → LeftAlone z root d a c
+  left_twice a b c x y = record {
+    cleans = cleans_twice a b c x.cleans y.cleans;
+    places = λ q. y.places q ∙ x.places q;
+    blocks = λ q u there. y.blocks q u (x.places q ∙ there) ∙ x.blocks q u there;
+    dead = λ q l datum there is. y.dead q l datum (x.places q ∙ there) (x.dead q l datum there is);
+  }
+
+  -- one entry of another domain, or of the collector
+  module _ (front : List Entry) (e : Entry) (thin : IsThinned (IsOutside (state_of z front)) (graph_of z front) (next (state_of z front) e).graph root) (map : IsMap (graph_of z front) root) (placed : IsInPlace z.domains (graph_of z front) root) where
+    abbrev P : Label → Type 0
+    P = IsOutside (state_of z front)
+
+    abbrev g : Graph
+    g = graph_of z front
+
+    abbrev h : Graph
+    h = graph_of z (front ++ e ∷ [])
+
+    thinned : IsThinned P g h root
+    thinned = subst (λ (x : Graph). IsThinned P g x root) (sym (graph_push z front e)) thin
+
+    still : (o : Option Node) (datum : Value) → Thin P (Ephe (None ∷ []) datum) o → o ≡ Some (Ephe (None ∷ []) datum)
+    still o datum (inl same) = same
+    still o datum (inr (j, full, gone, empty)) = cc
+
+    pub left_one : OwnKeep z root d front (front ++ e ∷ []) → LeftAlone z root d front (front ++ e ∷ [])
+    left_one keeps = record {
+      cleans = record { keeps = keeps; grows = record { rest = e ∷ []; appends = refl }; map = thinned_map P g h root map thinned; placed = thin_place z.domains P g h root map thinned placed };
+      places = λ q. at_same P g h root map thinned q;
+      blocks = λ q u there. inside_same P g h root map thinned q u there;
+      dead = λ q l datum there is. still (node_at h l) datum (thinned q l (Ephe (None ∷ []) datum) there is);
+    }
+
+  keeps_others : (now between : List Entry) → NoneOf d between → OwnKeep z root d now (now ++ between)
+  keeps_others now between none f e a b own l = let clash : true ≡ false = sym own ∙ other_between d now between f e none a b in cc
+
+  -- over entries of others
+  pub left_others : (now between : List Entry) → NoneOf d between → IsMap (graph_of z now) root → IsInPlace z.domains (graph_of z now) root → OthersLeave z root d now (now ++ between) → LeftAlone z root d now (now ++ between)
+  left_others now [] none map placed leaves = subst (LeftAlone z root d now) (sym (append-nil now)) (left_none now map placed)
+  left_others now (e ∷ more) none map placed leaves =
+      let parts = none_cons d e more none in
+      let whole : (now ++ e ∷ []) ++ more ≡ now ++ e ∷ more = append_assoc now (e ∷ []) more in
+      let one : LeftAlone z root d now (now ++ e ∷ []) = left_one now e (leaves now e (prefix_same now) (record { rest = more; appends = sym whole }) parts.0) map placed (keeps_others now (e ∷ []) (none_one e parts.0)) in
+      let rest : LeftAlone z root d (now ++ e ∷ []) ((now ++ e ∷ []) ++ more) = left_others (now ++ e ∷ []) more parts.1 one.cleans.map one.cleans.placed
+      (leaves_within z root d now (now ++ e ∷ more) (now ++ e ∷ []) ((now ++ e ∷ []) ++ more) (record { rest = e ∷ []; appends = refl }) (record { rest = []; appends = sym whole ∙ sym (append-nil ((now ++ e ∷ []) ++ more)) }) leaves) in
+      subst (LeftAlone z root d now) whole (left_twice now (now ++ e ∷ []) ((now ++ e ∷ []) ++ more) one rest)
+    where
+      none_one : (e : Entry) → is_entry_of d e ≡ false → NoneOf d (e ∷ [])
+      none_one e other = ap (λ (b : Bool). not b && true) other
+
+  -- up to a command, and behind one that changes no block
+  module _ (now new : List Entry) (c : Command) (r : Reply) (p : PerformedBy z d now new c r) (leaves : OthersLeave z root d now new) (map : IsMap (graph_of z now) root) (placed : IsInPlace z.domains (graph_of z now) root) where
+    abbrev mid : List Entry
+    mid = now ++ p.between
+
+    pub to_command : LeftAlone z root d now mid
+    to_command = left_others now p.between p.others map placed (leaves_within z root d now new now mid (prefix_same now) (until_new z d now new c r p) leaves)
+
+    -- the command's own part, by what it leaves of the bindings
+    pub behind_command : IsMap (graph_of z new) root → IsInPlace z.domains (graph_of z new) root → ((l : Label) → found z.domains (graph_of z new) root l ≡ found z.domains (graph_of z mid) root l) → Cleans z root d now new
+    behind_command map_new placed_new kept = record {
+      keeps = keeps_once z root d now new c r p (λ l. ap (λ (h : List Entry). bound_after z root h l) (sym p.appends) ∙ kept l);
+      grows = grows_by z d now new c r p;
+      map = map_new;
+      placed = placed_new;
+    }
+
+    pub left_command : graph_of z new ≡ graph_of z mid → LeftAlone z root d now new
+    left_command same =
+        let x = to_command in record {
+          cleans = behind_command (subst (λ (y : Graph). IsMap y root) (sym same) x.cleans.map) (subst (λ (y : Graph). IsInPlace z.domains y root) (sym same) x.cleans.placed) (λ l. ap (λ (y : Graph). found z.domains y root l) same);
+          places = λ q. ap (λ (y : Graph). at (inside y) q (Block root)) same ∙ x.places q;
+          blocks = λ q u there. ap (λ (y : Graph). inside y u) same ∙ x.blocks q u there;
+          dead = λ q l datum there is. ap (λ (y : Graph). node_at y l) same ∙ x.dead q l datum there is;
+        }

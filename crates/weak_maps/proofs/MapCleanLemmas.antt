@@ -1,0 +1,115 @@
+-- A whole map is cleaned, and the registers between are emptied.
+use Rattle.std.proofs.Common.{◌≡◌, ◌≢◌, ⊎_elim, ℕ, ◌+◌, ◌<◌, ◌≤◌, Bool, List, [], ◌∷◌, length, get_or, set, pos, Some, refl, ap, sym, ◌∙◌, subst, arith}
+use Rattle.heap_model.specs.declared.label.Label.{Label}
+use Rattle.heap_model.specs.declared.command.Command.TheVariants.{Forget, PutInt}
+use Rattle.heap_model.specs.declared.entry.Entry.{Entry}
+use Rattle.heap_model.specs.declared.reply.Reply.{Reply}
+use Rattle.heap_model.specs.declared.graph.Value.TheVariants.{Int, Block, Nothing}
+use Rattle.heap_model.specs.declared.state.Sizes.{Sizes}
+use Rattle.heap_model.specs.Graph.{Graph}
+use Rattle.heap_model.specs.Domains.{IsWithinLimits}
+use Rattle.heap_model.specs.History.{IsPrefix}
+use Rattle.table_laws.specs.Stages.{graph_of}
+use Rattle.map_laws.specs.Tries.{at, inside, root_width, IsMap}
+use Rattle.map_laws.specs.Steps.{OthersLeave}
+use Rattle.map_laws.specs.Calls.{CleanAnswers, IsTidy, PerformedBy, registers_after}
+use Rattle.map_laws.proofs.CallLemmas.{forget_step, put_step}
+use Rattle.map_laws.proofs.FieldLemmas.{at_field}
+use Rattle.map_laws.proofs.FrontLemmas.{prefix_same, prefix_trans}
+use Rattle.map_laws.proofs.OwnLemmas.{keeps_twice}
+use Rattle.map_laws.proofs.WalkLemmas.{same_number}
+use Rattle.weak_maps.specs.Beside.{held_by}
+use Rattle.weak_maps.specs.Cleans.{AtBlock, BlockCleaned, CleanLeaves, CleansBlock, ForgetsHigh, LeftAlone}
+use Rattle.weak_maps.specs.Puts.{IsInPlace}
+use Rattle.weak_maps.proofs.BesideLemmas.{set_here, set_other, sixteen}
+use Rattle.weak_maps.proofs.CleanLemmas.{leaves_within, left_command, left_none, left_twice}
+use Rattle.weak_maps.proofs.CleanedLemmas.{beyond, less_or, nothing_there}
+use Rattle.weak_maps.proofs.GetLemmas.{grows_by}
+
+module _ (z : Sizes) (limits : IsWithinLimits z) (d : ℕ) (old : List Entry) where
+  -- no register was emptied so far
+  pub forgets_none : ForgetsHigh z d old old 8
+  forgets_none = record { clean = λ i high small. absurd (omega (arith, high, small)); low = λ i small. refl; quiet = λ root map placed leaves. left_none z root d old map placed }
+
+  -- one register more is
+  pub forgets_more : (now new : List Entry) (n : ℕ) (r : Reply) → 8 ≤ n → n < 16 → IsPrefix old now → ForgetsHigh z d old now n → PerformedBy z d now new (Forget n) r → ForgetsHigh z d old new (n + 1)
+  forgets_more now new n r high few grows x p =
+      let all = forget_step z d now new r n p in
+      let keeps : (j : ℕ) → j ≢ n → held_by z d new j ≡ held_by z d now j = set_other z d now new n Nothing all.1 in
+      let here : held_by z d new n ≡ Nothing = set_here z d now new n Nothing all.1 (sixteen z d now new (Forget n) r p limits) few in record {
+        clean = λ i above below. ⊎_elim
+            (λ same. ap (held_by z d new) same ∙ here)
+            (λ other. keeps i other ∙ x.clean i above (⊎_elim (λ less. less) (λ far. absurd (other (omega (arith, below, far)))) (less_or i n)))
+            (same_number i n);
+        low = λ i small. keeps i (λ same. absurd (omega (arith, small, high, same))) ∙ x.low i small;
+        quiet = λ root map placed leaves.
+            let y = x.quiet root map placed (leaves_within z root d old new old now (prefix_same old) (grows_by z d now new (Forget n) r p) leaves) in
+            left_twice z root d old now new y (left_command z root d now new (Forget n) r p (leaves_within z root d old new now new grows (prefix_same new) leaves) y.cleans.map y.cleans.placed all.0);
+      }
+
+  -- the whole map
+  pub map_cleaned : (root : Label) (n0 n1 new : List Entry) (r : Reply) (map : ℕ) (empty : Bool) → map < 8 → held_by z d old map ≡ Block root → IsMap (graph_of z old) root → IsInPlace z.domains (graph_of z old) root
+      → PerformedBy z d old n0 (PutInt 15 (pos 0)) r → CleansBlock z d n0 n1 map 6 root_width empty → ForgetsHigh z d n1 new 16 → IsPrefix n0 n1 → IsPrefix n1 new → OthersLeave z root d old new → CleanAnswers z root d old new empty × CleanLeaves z d old new root
+  map_cleaned root n0 n1 new r map empty small held is_map placed p cleans forgets g1 g2 leaves = (
+    record {
+      keeps = keeps_twice z root d old n0 new (prefix_trans n0 n1 new g1 g2) zeroed.cleans.keeps (keeps_twice z root d n0 n1 new g2 y.cleans.keeps after.cleans.keeps);
+      tidy = tidy;
+      fields = y.fields;
+      plain = after.blocks [] (Block root) refl ∙ y.plain;
+      holds = y.holds;
+    },
+    record {
+      map = after.cleans.map;
+      placed = after.cleans.placed;
+      clean = forgets.clean;
+      registers = λ i few. forgets.low i few ∙ (y.low.0 i few ∙ others i few);
+    },
+  )
+    where
+      registers_are : registers_after z d n0 ≡ set (registers_after z d old) 15 (Int (pos 0))
+      registers_are = (put_step z d old n0 r 15 (pos 0) p).1
+
+      zeroed : LeftAlone z root d old n0
+      zeroed = left_command z root d old n0 (PutInt 15 (pos 0)) r p (leaves_within z root d old new old n0 (prefix_same old) (prefix_trans n0 n1 new g1 g2) leaves) is_map placed (put_step z d old n0 r 15 (pos 0) p).0
+
+      g0 : IsPrefix old n0
+      g0 = grows_by z d old n0 (PutInt 15 (pos 0)) r p
+
+      others : (i : ℕ) → i < 8 → held_by z d n0 i ≡ held_by z d old i
+      others i few = set_other z d old n0 15 (Int (pos 0)) registers_are i (λ same. absurd (omega (arith, few, same)))
+
+      start : AtBlock z d n0 root [] root map 6
+      start = record {
+        map = zeroed.cleans.map;
+        placed = zeroed.cleans.placed;
+        deep = refl;
+        there = refl;
+        fields = zeroed.cleans.map.own.0;
+        plain = zeroed.cleans.map.own.1;
+        held = others map small ∙ held;
+        zero = set_here z d old n0 15 (Int (pos 0)) registers_are (sixteen z d old n0 (PutInt 15 (pos 0)) r p limits) (omega arith);
+      }
+
+      y : BlockCleaned z d n0 n1 root [] root 8 root_width empty
+      y = cleans root [] root start (leaves_within z root d old new n0 n1 g0 g2 leaves)
+
+      after : LeftAlone z root d n1 new
+      after = forgets.quiet root y.cleans.map y.cleans.placed (leaves_within z root d old new n1 new (prefix_trans old n0 n1 g0 g1) (prefix_same new) leaves)
+
+      g : Graph
+      g = graph_of z n1
+
+      tidy : IsTidy (graph_of z new) root
+      tidy i q u fields there plain =
+          let at_then : at (inside g) (i ∷ q) (Block root) ≡ Some u = sym (after.places (i ∷ q)) ∙ there in
+          let plain_then : inside g u ≡ Some fields = sym (after.blocks (i ∷ q) u at_then) ∙ plain in
+          ⊎_elim (λ few. y.tidy i few q u fields at_then plain_then)
+          (λ far.
+          let wide : length y.fields ≡ root_width = y.cleans.map.wide [] (Block root) y.fields refl y.plain in
+          let none : get_or y.fields i Nothing ≡ Nothing = beyond y.fields i (omega (arith, far, wide)) in
+          let end : at (inside g) (i ∷ []) (Block root) ≡ Some Nothing = at_field g [] (Block root) root y.fields i refl y.plain ∙ ap Some none in
+          absurd (nothing_there g root (i ∷ []) q Nothing u fields end refl at_then plain_then))
+          (less_or i root_width)
+
+pub forgets_at : (z now : Sizes) (d e : ℕ) (old new : List Entry) (n : ℕ) → now ≡ z → e ≡ d → ForgetsHigh now e old new n → ForgetsHigh z d old new n
+forgets_at z now d e old new n sizes domain x = subst (λ (w : Sizes × ℕ). ForgetsHigh w.0 w.1 old new n) (λ j. (sizes j, domain j)) x

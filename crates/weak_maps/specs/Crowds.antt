@@ -1,0 +1,41 @@
+-- When a put answers `full`.
+use Rattle.std.specs.Prelude.{◌≡◌, ◌≢◌, ◌⊎◌, ◌≤◌, ℕ, ◌+◌, List, None}
+use Rattle.heap_model.specs.declared.label.Label.{Label}
+use Rattle.heap_model.specs.declared.entry.Entry.{Entry}
+use Rattle.heap_model.specs.declared.graph.Value.TheVariants.{Block}
+use Rattle.heap_model.specs.declared.reply.Reply.{Reply}
+use Rattle.heap_model.specs.declared.reply.Reply.TheVariants as reply
+use Rattle.heap_model.specs.declared.state.Sizes.{Sizes}
+use Rattle.heap_model.specs.Graph.{Graph}
+use Rattle.heap_model.specs.Domains.{domain_at}
+use Rattle.heap_model.specs.History.{IsPrefix}
+use Rattle.table_laws.specs.Thinning.{state_of}
+use Rattle.table_laws.specs.Stages.{graph_of}
+use Rattle.map_laws.specs.Tries.{bound_by, ends, inside, way_to}
+
+-- what a put counts: labels that were left and are left, and commands of the domain that were refused and are.
+-- Done: none was refused, and a leaf and at most six blocks were made. `full`: one was refused, or none was, and a leaf and six blocks were made. `type`: nothing was made. There is no other answer
+abbrev pub PutCounts : ℕ → ℕ → ℕ → ℕ → Reply → Type 0
+PutCounts labels left refused now reply.Done = (now ≡ refused) × (left + 1 ≤ labels) × (labels ≤ left + 7)
+PutCounts labels left refused now reply.Full = ((now ≡ refused + 1) × (left ≤ labels) × (labels ≤ left + 6)) ⊎ ((now ≡ refused) × (labels ≡ left + 7))
+PutCounts labels left refused now reply.BadType = (now ≡ refused) × (labels ≡ left)
+PutCounts labels left refused now r = ⊥
+
+-- the way to a key ends at a leaf of another
+abbrev pub IsInTheWay : ℕ → Graph → Label → Label → Label → Type 0
+IsInTheWay n g root k other = (other ≢ k) × (bound_by g other (ends (inside g) (way_to n k) (Block root)) ≢ None)
+
+-- how many blocks a domain has made
+abbrev pub made_by : Sizes → ℕ → List Entry → ℕ
+made_by z d h = (domain_at (state_of z h) d).serial
+
+-- at a front of a call its domain had made seven blocks more, and at that or a later one a leaf of another key was in the key's way still
+pub record IsCrowded (z : Sizes) (d : ℕ) (old new : List Entry) (root k : Label) : Type 0 where
+  pub spent : List Entry
+  pub begins : IsPrefix old spent
+  pub made : made_by z d spent ≡ made_by z d old + 7
+  pub front : List Entry
+  pub since : IsPrefix spent front
+  pub until : IsPrefix front new
+  pub other : Label
+  pub way : IsInTheWay z.domains (graph_of z front) root k other

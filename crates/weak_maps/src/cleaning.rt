@@ -1,0 +1,204 @@
+//! Maps that are cleaned.
+ghost use Rattle.std.specs.Prelude.{◌≡◌, ◌+◌, ◌-◌, ◌<◌, ◌≤◌, cond};
+ghost use Rattle.heap_model.specs.declared.command.Command.TheVariants as command;
+ghost use Rattle.heap_model.specs.declared.graph.Value.TheVariants.{Block};
+ghost use Rattle.heap_model.specs.declared.label.Label as labels;
+ghost use Rattle.heap_model.specs.History.{IsPrefix};
+ghost use Rattle.table_laws.specs.Stages.{graph_of};
+ghost use Rattle.map_laws.specs.Tries.{IsMap};
+ghost use Rattle.map_laws.specs.Steps.{OthersLeave};
+ghost use Rattle.map_laws.specs.Calls.{CleanAnswers, PerformedBy};
+ghost use Rattle.weak_maps.specs.Beside.{held_by, refusals_by, writings_by};
+ghost use Rattle.weak_maps.specs.Cleans.{CleanLeaves, CleansBlock, CleansField, EmptiesField, ForgetsHigh, width_of};
+ghost use Rattle.weak_maps.specs.Puts.{IsInPlace};
+
+use crate::machine::{Machine, perform};
+use crate::replies::{is_block, is_empty, is_other_kind};
+use heap_model::command::Command;
+use heap_model::reply::Reply;
+use std::sync::Wait;
+
+// How many fields a block has below which there may be so many blocks in a row.
+fn width_of(left: u8) -> u16
+    ensures { result ≡ width_of left }
+{
+    if left == 6 { 512 } else { 32 }
+}
+
+// Reads a field of the block in a register.
+fn read_field<M: Machine, R: Wait>(m: &mut M, rt: &R, value: u8, block: u8, index: u16) -> Reply
+    requires few { (8 ≤ value) × (value < 16) × (block < 16) }
+    ensures sizes { M.sizes m.new ≡ M.sizes m.old }
+    ensures domain { M.domain m.new ≡ M.domain m.old }
+    ensures heap { M.heap m.new ≡ M.heap m.old }
+    ensures grows { IsPrefix (M.front m.old) (M.front m.new) }
+    ensures labels { M.labels_left m.new ≡ M.labels_left m.old }
+    ensures room { M.ephes_room m.old ≤ M.ephes_room m.new }
+    ensures given { refusals_by (M.domain m.old) (M.front m.new) ≡ refusals_by (M.domain m.old) (M.front m.old) }
+    ensures written { writings_by (M.domain m.old) (M.front m.new) ≡ writings_by (M.domain m.old) (M.front m.old) }
+    ensures read { PerformedBy (M.sizes m.old) (M.domain m.old) (M.front m.old) (M.front m.new) (command.Load value block index) result }
+{
+    perform(
+        m,
+        rt,
+        Command::Load {
+            dst: value,
+            src: block,
+            index,
+        },
+    )
+}
+
+// Reads the key of the leaf in a register into that register.
+fn read_key<M: Machine, R: Wait>(m: &mut M, rt: &R, value: u8) -> Reply
+    requires few { (8 ≤ value) × (value < 16) }
+    ensures sizes { M.sizes m.new ≡ M.sizes m.old }
+    ensures domain { M.domain m.new ≡ M.domain m.old }
+    ensures heap { M.heap m.new ≡ M.heap m.old }
+    ensures grows { IsPrefix (M.front m.old) (M.front m.new) }
+    ensures labels { M.labels_left m.new ≡ M.labels_left m.old }
+    ensures room { M.ephes_room m.old ≤ M.ephes_room m.new }
+    ensures given { refusals_by (M.domain m.old) (M.front m.new) ≡ refusals_by (M.domain m.old) (M.front m.old) }
+    ensures written { writings_by (M.domain m.old) (M.front m.new) ≡ writings_by (M.domain m.old) (M.front m.old) }
+    ensures read { PerformedBy (M.sizes m.old) (M.domain m.old) (M.front m.old) (M.front m.new) (command.GetKey value value 0) result }
+{
+    perform(
+        m,
+        rt,
+        Command::GetKey {
+            dst: value,
+            ephe: value,
+            index: 0,
+        },
+    )
+}
+
+// Puts the 0 in register 15 into a field of the block in a register.
+fn empty_field<M: Machine, R: Wait>(m: &mut M, rt: &R, block: u8, index: u16)
+    requires few { block < 16 }
+    ensures sizes { M.sizes m.new ≡ M.sizes m.old }
+    ensures domain { M.domain m.new ≡ M.domain m.old }
+    ensures heap { M.heap m.new ≡ M.heap m.old }
+    ensures grows { IsPrefix (M.front m.old) (M.front m.new) }
+    ensures labels { M.labels_left m.new ≡ M.labels_left m.old }
+    ensures room { M.ephes_room m.old ≤ M.ephes_room m.new }
+    ensures given { refusals_by (M.domain m.old) (M.front m.new) ≡ refusals_by (M.domain m.old) (M.front m.old) }
+    ensures written { writings_by (M.domain m.old) (M.front m.new) ≡ writings_by (M.domain m.old) (M.front m.old) }
+    ensures emptied { EmptiesField (M.sizes m.old) (M.domain m.old) (M.front m.old) (M.front m.new) block index }
+{
+    let _done = perform(
+        m,
+        rt,
+        Command::Store {
+            block,
+            index,
+            item: 15,
+        },
+    );
+}
+
+// Cleans a field of the block in a register, below which there may be so many blocks in a row, and what stands below the
+// field. Tells whether the field holds 0 then.
+#[cycle(cleaning)]
+fn clean_field<M: Machine, R: Wait>(m: &mut M, rt: &R, block: u8, left: u8, index: u16) -> bool
+    requires few { (left ≤ 6) × (block < 14 - left) }
+    ensures sizes { M.sizes m.new ≡ M.sizes m.old }
+    ensures domain { M.domain m.new ≡ M.domain m.old }
+    ensures heap { M.heap m.new ≡ M.heap m.old }
+    ensures grows { IsPrefix (M.front m.old) (M.front m.new) }
+    ensures labels { M.labels_left m.new ≡ M.labels_left m.old }
+    ensures room { M.ephes_room m.old ≤ M.ephes_room m.new }
+    ensures given { refusals_by (M.domain m.old) (M.front m.new) ≡ refusals_by (M.domain m.old) (M.front m.old) }
+    ensures written { writings_by (M.domain m.old) (M.front m.new) ≡ writings_by (M.domain m.old) (M.front m.old) }
+    ensures cleaned { CleansField (M.sizes m.old) (M.domain m.old) (M.front m.old) (M.front m.new) block left index result }
+{
+    m.stands();
+    let value = 14 - left;
+    let at = read_field(m, rt, value, block, index);
+    if !is_block(&at) {
+        return true;
+    }
+    let key = read_key(m, rt, value);
+    if is_other_kind(&key) {
+        if left == 0 {
+            return false;
+        }
+        if !clean_block(m, rt, value, left - 1) {
+            return false;
+        }
+        empty_field(m, rt, block, index);
+        return true;
+    }
+    if !is_empty(&key) {
+        return false;
+    }
+    empty_field(m, rt, block, index);
+    true
+}
+
+// Cleans the block in a register, below which there may be so many blocks in a row, and what stands below it. Tells whether
+// all its fields hold 0 then.
+#[cycle(cleaning)]
+fn clean_block<M: Machine, R: Wait>(m: &mut M, rt: &R, block: u8, left: u8) -> bool
+    requires few { (left ≤ 6) × (block < 14 - left) }
+    ensures sizes { M.sizes m.new ≡ M.sizes m.old }
+    ensures domain { M.domain m.new ≡ M.domain m.old }
+    ensures heap { M.heap m.new ≡ M.heap m.old }
+    ensures grows { IsPrefix (M.front m.old) (M.front m.new) }
+    ensures labels { M.labels_left m.new ≡ M.labels_left m.old }
+    ensures room { M.ephes_room m.old ≤ M.ephes_room m.new }
+    ensures given { refusals_by (M.domain m.old) (M.front m.new) ≡ refusals_by (M.domain m.old) (M.front m.old) }
+    ensures written { writings_by (M.domain m.old) (M.front m.new) ≡ writings_by (M.domain m.old) (M.front m.old) }
+    ensures cleaned { CleansBlock (M.sizes m.old) (M.domain m.old) (M.front m.old) (M.front m.new) block left (width_of left) result }
+{
+    let mut empty = true;
+    'fields: for index in 0..width_of(left) {
+        if !clean_field(m, rt, block, left, index) {
+            empty = false;
+        }
+    }
+    empty
+}
+
+// Empties registers 8 to 15.
+fn forget_high<M: Machine, R: Wait>(m: &mut M, rt: &R)
+    ensures sizes { M.sizes m.new ≡ M.sizes m.old }
+    ensures domain { M.domain m.new ≡ M.domain m.old }
+    ensures heap { M.heap m.new ≡ M.heap m.old }
+    ensures grows { IsPrefix (M.front m.old) (M.front m.new) }
+    ensures labels { M.labels_left m.new ≡ M.labels_left m.old }
+    ensures room { M.ephes_room m.old ≤ M.ephes_room m.new }
+    ensures given { refusals_by (M.domain m.old) (M.front m.new) ≡ refusals_by (M.domain m.old) (M.front m.old) }
+    ensures written { writings_by (M.domain m.old) (M.front m.new) ≡ writings_by (M.domain m.old) (M.front m.old) }
+    ensures forgot { ForgetsHigh (M.sizes m.old) (M.domain m.old) (M.front m.old) (M.front m.new) 16 }
+{
+    m.stands();
+    'registers: for dst in 8..16u8 {
+        let _empty = perform(m, rt, Command::Forget { dst });
+    }
+}
+
+/// Cleans the map in a register, which no other domain uses meanwhile: the fields of leaves that have lost their key are
+/// emptied, and each block of the map that holds nothing any more is given back, but for the first. Tells whether the map
+/// holds nothing any more: then it binds no key. No binding is changed, and nothing is made. Registers are below 8. Registers
+/// 8 to 15 hold nothing afterwards.
+pub fn map_clean<M: Machine, R: Wait>(m: &mut M, rt: &R, map: u8) -> bool
+    requires few { map < 8 }
+    ensures sizes { M.sizes m.new ≡ M.sizes m.old }
+    ensures domain { M.domain m.new ≡ M.domain m.old }
+    ensures heap { M.heap m.new ≡ M.heap m.old }
+    ensures grows { IsPrefix (M.front m.old) (M.front m.new) }
+    ensures labels { M.labels_left m.new ≡ M.labels_left m.old }
+    ensures room { M.ephes_room m.old ≤ M.ephes_room m.new }
+    ensures given { refusals_by (M.domain m.old) (M.front m.new) ≡ refusals_by (M.domain m.old) (M.front m.old) }
+    ensures written { writings_by (M.domain m.old) (M.front m.new) ≡ writings_by (M.domain m.old) (M.front m.old) }
+    ensures answer { (root : labels.Label) → held_by (M.sizes m.old) (M.domain m.old) (M.front m.old) map ≡ Block root → IsMap (graph_of (M.sizes m.old) (M.front m.old)) root
+        → IsInPlace (M.sizes m.old).domains (graph_of (M.sizes m.old) (M.front m.old)) root → OthersLeave (M.sizes m.old) root (M.domain m.old) (M.front m.old) (M.front m.new)
+        → CleanAnswers (M.sizes m.old) root (M.domain m.old) (M.front m.old) (M.front m.new) result × CleanLeaves (M.sizes m.old) (M.domain m.old) (M.front m.old) (M.front m.new) root }
+{
+    m.stands();
+    let _zero = perform(m, rt, Command::PutInt { dst: 15, value: 0 });
+    let empty = clean_block(m, rt, map, 6);
+    forget_high(m, rt);
+    empty
+}
