@@ -1,6 +1,6 @@
 -- With each kind that domain 0 names fewer phases are left of a pause, whoever decides.
-use Rattle.std.proofs.Common.{◌≡◌, ◌∙◌, ℕ, zero, suc, ◌+◌, ◌-◌, ◌*◌, ◌<◌, ◌≤◌, ◌==◌, Bool, true, false, not, if◌then◌else◌, Some, refl, sym, ap, subst, arith}
-use Rattle.std.proofs.lemmas.Bool.{false≢true}
+use Rattle.std.proofs.Common.{◌≡◌, ◌∙◌, ℕ, zero, suc, ◌+◌, ◌-◌, ◌*◌, ◌<◌, ◌≤◌, ◌==◌, Bool, true, false, not, if◌then◌else◌, Some, sym, ap, subst, arith}
+use Rattle.std.proofs.lemmas.Bool.{ne_eqb}
 use Rattle.heap_rule.specs.declared.config.Config.{Config}
 use Rattle.heap_rule.specs.declared.phase.Kind.{Kind}
 use Rattle.heap_rule.specs.declared.phase.Kind.TheVariants.{Run, Promote, Reset, Roots, Mark, Rounds, Decide, Queued, Clean, Lasts, Sweep, Answer}
@@ -91,7 +91,7 @@ module _ (all was now : ℕ) where
 -- behind a phase of the marking that asks for another one, one fewer is unmarked
 less_marked : (found was : ℕ) → asks_again (Some found) ≤ was → Fewer (not (found == 0)) was (was - asks_again (Some found))
 less_marked zero was grown = omega arith
-less_marked (suc n) was grown = omega (grown, arith)
+less_marked (suc n) was grown = subst (λ (b : Bool). Fewer (not b) was (was - asks_again (Some (suc n)))) (sym (ne_eqb (suc n) 0 (λ e. omega (arith, e)))) (omega (arith, grown))
 
 pub falls : (k : Config) (kind : Kind) (found was : ℕ) → (IsMarking kind → asks_again (Some found) ≤ was) → Falls (k.pools * 1024) was (unmarked_after k kind (Some found) was) kind found
 falls k Mark found was grown = less_marked found was (grown tt)
@@ -108,12 +108,12 @@ falls k Sweep found was grown = omega arith
 falls k Answer found was grown = omega arith
 
 -- domain 0 has led on
-pub leads_nearer : (k : Config) (who : Decider) (x y : DomainView) (last kind : Kind) (after : Progress) → LeadsOn k who x y last kind → after ≡ y.seen.share.progress → IsNearer k last kind x.seen.share.progress after x.seen.share.unmarked y.seen.share.unmarked
-leads_nearer k who x y last kind after l is =
+pub leads_nearer : (k : Config) (who : Decider) (x y : DomainView) (last kind : Kind) → LeadsOn k who x y last kind → IsNearer k last kind x.seen.share.progress (progress_after last kind x.seen.share.progress) x.seen.share.unmarked y.seen.share.unmarked
+leads_nearer k who x y last kind l =
     let p : Progress = x.seen.share.progress in
     let n : ℕ = unmarked_after k last (Some l.findings.changed) x.seen.share.unmarked in
     let near = any_nearer (k.pools * 1024) x.seen.share.unmarked n k who l.findings last p.cut p.whole p.unswept p.armed (falls k last l.findings.changed x.seen.share.unmarked l.grown) in
     let named : any_named (k.pools * 1024) kind (progress_after last kind p) n < any_left (k.pools * 1024) last p x.seen.share.unmarked
     = subst (λ (m : Kind). any_named (k.pools * 1024) m (progress_after last m p) n < any_left (k.pools * 1024) last p x.seen.share.unmarked) (sym l.chosen) near in
-    subst (λ (z : Progress × ℕ). any_named (k.pools * 1024) kind z.0 z.1 < any_left (k.pools * 1024) last p x.seen.share.unmarked)
-    (λ i. (sym (is ∙ ap (λ (w : DomainView). w.seen.share.progress) l.view) i, sym (ap (λ (w : DomainView). w.seen.share.unmarked) l.view) i)) named
+    subst (λ (m : ℕ). any_named (k.pools * 1024) kind (progress_after last kind p) m < any_left (k.pools * 1024) last p x.seen.share.unmarked)
+    (sym (ap (λ (w : DomainView). w.seen.share.unmarked) l.view)) named

@@ -1,5 +1,5 @@
 -- How many even phases of a pause are left at most, and that with each kind that domain 0 names fewer are.
-use Rattle.std.specs.Prelude.{◌≡◌, ℕ, ◌+◌, ◌*◌, ◌<◌, ◌≤◌, Bool, true, false, if◌then◌else◌}
+use Rattle.std.specs.Prelude.{ℕ, ◌+◌, ◌*◌, ◌<◌, Bool, true, false}
 use Rattle.cycle_laws.specs.Ending.{Answering, Cleaning, Deciding, First, Freeing, Halted, Leaving, Marking, Place, Promoting, Queueing, Resetting, Rooting, Rounding, Running, Second, Turn, pause_left}
 use Rattle.heap_rule.specs.declared.config.Config.{Config}
 use Rattle.heap_rule.specs.declared.phase.Kind.{Kind}
