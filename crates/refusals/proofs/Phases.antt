@@ -29,6 +29,10 @@ no_last_is_left_undecided k x m stage other = other (m.done.settled stage)
 pub no_pool_is_kept_without_a_look : (k : Config) (x : DomainView) → ArriveMay k x → x.seen.stage ≡ In Sweep → x.seen.share.held < x.own.swept.top → ⊥
 no_pool_is_kept_without_a_look k x m stage left = let held = m.done.held (inl stage) in omega (arith, held, left)
 
+-- nor, where it has marked, before it has been at each of its pools
+pub no_pool_is_left_unmarked : (k : Config) (x : DomainView) → ArriveMay k x → x.seen.stage ≡ In Mark → x.seen.share.walk.pool < x.own.swept.top → ⊥
+no_pool_is_left_unmarked k x m stage left = let walked = m.done.walked stage in omega (arith, walked, left)
+
 -- a look tells of one kind of phase
 pub a_look_tells_one_kind : (k : Config) (x y : DomainView) (one other : Kind) → LookAnswers k x y (Next one) → LookAnswers k x y (Next other) → one ≡ other
 a_look_tells_one_kind k x y one other a b = let e : In one ≡ In other = sym a.1 ∙ b.1 in cc

@@ -1,5 +1,6 @@
 -- What the conditions of steps refuse: where such a condition holds, the body that is named didn't come there.
-use Rattle.std.proofs.Common.{◌≡◌, ◌≢◌, ◌∙◌, ℕ, ◌+◌, ◌*◌, ◌<◌, ◌≤◌, Bool, true, false, Some, [], List, length, sym, ⊎_elim, arith}
+use Rattle.std.proofs.Common.{◌≡◌, ◌≢◌, ◌∙◌, ℕ, ◌+◌, ◌*◌, ◌<◌, ◌≤◌, Bool, true, false, Some, [], List, length, sym, ap, ⊎_elim, arith}
+use Rattle.std.proofs.lemmas.Option.{same_Some}
 use Rattle.heap_words.specs.declared.value.Value.TheVariants.{Ref}
 use Rattle.heap_rule.specs.declared.change.Change.{Change}
 use Rattle.heap_rule.specs.declared.config.Config.{Config}
@@ -7,19 +8,20 @@ use Rattle.heap_rule.specs.declared.phase.Kind.TheVariants.{Decide, Lasts}
 use Rattle.heap_rule.specs.declared.phase.Stage.TheVariants.{In}
 use Rattle.heap_rule.specs.declared.view.DomainView.{DomainView}
 use Rattle.heap_rule.specs.declared.view.Known.TheVariants.{Marked}
+use Rattle.heap_rule.specs.declared.view.Listing.{Listing}
 use Rattle.heap_rule.specs.declared.view.Reaping.TheVariants.{Inside, AtGarbage}
 use Rattle.heap_rule.specs.declared.view.RegisteredLast.{RegisteredLast}
 use Rattle.heap_rule.specs.Beside.{IsKnown, IsPaid}
 use Rattle.heap_rule.specs.Changes.{value_at}
 use Rattle.heap_rule.specs.Places.{IsOldAt}
-use Rattle.heap_rule.specs.Pools.{blocks_of, spot_at}
+use Rattle.heap_rule.specs.Pools.{blocks_of, no_listing, spot_at}
 use Rattle.heap_rule.specs.Standing.{Acts}
 use Rattle.steps_fields.specs.Stores.{FieldStoreMay}
 use Rattle.steps_exchange.specs.Exchanges.{ExchangeMay}
 use Rattle.steps_marking_beside.specs.Marking.{PoolMay, ScannedMay}
 use Rattle.steps_marking.specs.Marking.{fields_in}
 use Rattle.steps_sweep.specs.Freeing.{FreeMay}
-use Rattle.steps_sweep.specs.Returning.{ReturnMay}
+use Rattle.steps_sweep.specs.Returning.{IsOwn, ReturnMay, TopTold}
 use Rattle.steps_ephemeron_looks.specs.Emptying.{CleanEndMay}
 use Rattle.steps_ephemeron_wipes.specs.Wiping.{WipeDataMay}
 use Rattle.steps_finalisers.specs.Looking.{LastLookMay}
@@ -58,6 +60,17 @@ nothing_listed_is_freed x at pool class slot m more = let all = m.pruned in let 
 -- no pool is given back while a place of it wasn't found free
 pub no_pool_with_a_block_is_given_back : (k : Config) (x : DomainView) (at pool class : ℕ) → ReturnMay k x at pool class → x.seen.share.vacant < blocks_of class → ⊥
 no_pool_with_a_block_is_given_back k x at pool class m few = let all = m.all in let n : ℕ = blocks_of class in omega (arith, all, few)
+
+-- nor while the list of free pools names any
+pub no_pool_is_given_back_beside_a_list : (k : Config) (x : DomainView) (at pool class : ℕ) (l : Listing) → ReturnMay k x at pool class → x.seen.listing ≡ Some l → l.listed ≢ 0 → ⊥
+no_pool_is_given_back_beside_a_list k x at pool class l m listing names = names (ap (λ (z : Listing). z.listed) (sym (same_Some no_listing l (sym m.void ∙ listing))))
+
+-- the top sinks past no own pool
+pub no_own_pool_is_left_behind : (pool class : ℕ) (x y : DomainView) (found : ℕ) → TopTold pool x found y → IsOwn class x.own found → y.own.swept.top < x.own.swept.top → ⊥
+no_own_pool_is_left_behind pool class x y found told own sunk = ⊎_elim
+    (λ u. let t : ℕ = x.own.swept.top in let n : ℕ = y.own.swept.top in let same : n ≡ t = ap (λ (z : DomainView). z.own.swept.top) u.1 in omega (arith, same, sunk))
+    (λ u. u.0 class own)
+    told.told
 
 -- no cleaning ends before the last key of an ephemeron is done, whether keys were emptied or not
 pub no_key_is_left : (x : DomainView) (at : ℕ) (m : CleanEndMay x at) → m.cleaning.done < m.cleaning.count → ⊥
