@@ -176,8 +176,10 @@ pub struct Domain<'h> {
     pub pending: Vec<Copied>,
     pub ephemerons: Vec<u32>,
     pub finalisers: Finalisers,
-    /// Blocks that were darkened in this phase of a pause and are still to be scanned.
+    /// Blocks that were darkened in this phase of a pause and are still to be scanned, and whether one
+    /// was let go for want of room.
     pub trail: Vec<u32>,
+    pub lost: bool,
 }
 
 impl<'h> Domain<'h> {
@@ -205,6 +207,7 @@ impl<'h> Domain<'h> {
             ephemerons: Vec::with_capacity(commands.iter().filter(is_ephemeron).count()),
             finalisers: Finalisers::for_commands(commands),
             trail: Vec::with_capacity(HINTS_ROOM),
+            lost: false,
         }
     }
 
@@ -223,6 +226,8 @@ impl<'h> Domain<'h> {
     pub fn follow(&mut self, block: u32) {
         if self.trail.len() < HINTS_ROOM && block <= self.heap.pools_end() {
             self.trail.push(block);
+        } else {
+            self.lost = true;
         }
     }
 

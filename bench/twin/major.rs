@@ -66,48 +66,43 @@ impl Domain<'_> {
         self.mark_queue();
     }
 
-    /// Scans the block at a place if it is grey, and tells whether it marked anything.
-    fn scan(&mut self, at: u32, colours: Colours) -> bool {
+    /// Scans the block at a place if it is grey.
+    fn scan(&mut self, at: u32, colours: Colours) {
         let heap = self.heap;
         let head = heap.load(heap.at(at));
         if !has_colour(head, colours.marked) || is_scanned(head) {
-            return false;
+            return;
         }
-        let mut darkened = false;
         for i in 0..field_count(head).unwrap_or(0) {
             if let Value::Ref(address) = Value::of(heap.load(heap.at(at + 2 + i)))
                 && self.darken(address, colours)
             {
                 self.follow(address);
-                darkened = true;
             }
         }
         heap.store(heap.at(at), scanned(head));
-        darkened
     }
 
-    fn mark_pool(&mut self, pool: u32, class: usize, colours: Colours) -> bool {
-        let mut darkened = false;
+    fn mark_pool(&mut self, pool: u32, class: usize, colours: Colours) {
         for at in places(pool, class, 0) {
-            darkened |= self.scan(at, colours);
+            self.scan(at, colours);
             while let Some(hint) = self.trail.pop() {
-                darkened |= self.scan(hint, colours);
+                self.scan(hint, colours);
             }
         }
-        darkened
     }
 
-    /// Scans what is grey at own places. The walk finds all of it, so hints are let go.
+    /// Scans what is grey at own places, and what it darkens. The walk finds all of it, so hints are let go.
     pub fn mark_round(&mut self) {
         let colours = self.heap.colours();
         self.heap.hints[self.number as usize].lock().unwrap().clear();
-        let mut darkened = false;
+        self.lost = false;
         for pool in 0..self.heap.sizes.pools {
             if let Some(class) = self.own_class(pool) {
-                darkened |= self.mark_pool(pool, class, colours);
+                self.mark_pool(pool, class, colours);
             }
         }
-        if darkened {
+        if self.lost {
             self.heap.store(CHANGED, 1);
         }
     }

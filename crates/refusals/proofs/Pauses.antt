@@ -1,5 +1,6 @@
 -- What the clauses of leading, of arriving and of the barrier refuse.
-use Rattle.std.proofs.Common.{◌≡◌, ◌≢◌, ◌∙◌, ℕ, zero, suc, ◌-◌, ◌*◌, ◌<◌, ◌≤◌, true, false, if◌then◌else◌, Bool, List, Some, None, refl, sym, ap, inl, inr, subst, arith}
+use Rattle.std.proofs.Common.{◌≡◌, ◌≢◌, ◌∙◌, ℕ, zero, suc, ◌-◌, ◌*◌, ◌<◌, ◌≤◌, true, false, if◌then◌else◌, Bool, IsTrue, List, Some, None, refl, sym, ap, inl, inr, subst, arith}
+use Rattle.std.proofs.lemmas.Bool.{false≢true}
 use Rattle.std.proofs.lemmas.Option.{same_Some}
 use Rattle.heap_model.specs.declared.entry.Entry.{Entry}
 use Rattle.heap_model.specs.Fronts.{IsFrontOf}
@@ -9,6 +10,7 @@ use Rattle.heap_rule.specs.declared.phase.Kind.TheVariants.{Answer, Clean, Decid
 use Rattle.heap_rule.specs.declared.phase.Stage.TheVariants.{In, Led}
 use Rattle.heap_rule.specs.declared.view.DomainView.{DomainView}
 use Rattle.heap_rule.specs.declared.view.Share.{Share}
+use Rattle.heap_rule.specs.Cycles.{seen_by}
 use Rattle.heap_rule.specs.Meeting.{Met}
 use Rattle.heap_rule.specs.Token.{Token}
 use Rattle.steps_pauses.specs.Pauses.{ArriveMay, MayFollow, asks_again}
@@ -29,6 +31,10 @@ no_queued_block_is_left_grey share m changed = let e : 1 ≡ 0 = same_Some 1 0 (
 -- and a domain doesn't arrive from it while it owes a store of the changed word
 pub no_arrival_from_queued_owes_a_store : (k : Config) (x : DomainView) → ArriveMay k x → x.seen.stage ≡ In Queued → x.seen.share.owes ≡ true → ⊥
 no_arrival_from_queued_owes_a_store k x may stage owes = let e : true ≡ false = sym owes ∙ may.done.told (inr stage) in cc
+
+-- nor from Mark while a block is on its account, which it may have left grey
+pub no_arrival_from_mark_leaves_a_block : (k : Config) (x : DomainView) (a : ℕ) → ArriveMay k x → x.seen.stage ≡ In Mark → IsTrue (seen_by x.seen.share.account a) → ⊥
+no_arrival_from_mark_leaves_a_block k x a may stage left = false≢true (subst (λ (l : List ℕ). IsTrue (seen_by l a)) (may.done.followed stage) left)
 
 -- a domain isn't said to wait once all have arrived
 pub no_wait_when_all_have_arrived : (k : Config) (x y : DomainView) (b : ℕ) → LookAnswers k x y (NotAll b) → x.own.arrivals * k.domains ≤ b → ⊥
