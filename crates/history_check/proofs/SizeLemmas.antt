@@ -1,5 +1,5 @@
 -- A heap of one domain has room where one of several with the same other sizes has.
-use Rattle.std.proofs.Common.{◌≡◌, ℕ, zero, suc, ◌+◌, ◌*◌, ◌≤◌, ◌/◌, arith}
+use Rattle.std.proofs.Common.{ℕ, zero, suc, ◌+◌, ◌*◌, ◌≤◌, ◌/◌, arith}
 use Rattle.heap_model.specs.declared.state.Sizes.{Sizes}
 use Rattle.heap_model.specs.Domains.{IsWithinLimits, least_pools}
 

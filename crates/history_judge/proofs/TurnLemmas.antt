@@ -9,7 +9,7 @@ use Rattle.heap_model.specs.declared.entry.Entry.TheVariants as entry
 use Rattle.heap_model.specs.declared.reply.Reply.{Reply}
 use Rattle.heap_model.specs.declared.state.Sizes.{Sizes}
 use Rattle.heap_model.specs.History.{replies}
-use Rattle.heap_model.specs.Output.{line, output, printed, section_text}
+use Rattle.heap_model.specs.Output.{line, printed, section_text}
 use Rattle.heap_model.proofs.Reach.ReachLemmas.{and_right, or_cases}
 use Rattle.heap_text.specs.Forms.{version_number}
 use Rattle.heap_text.specs.Script.{Scripted}
