@@ -1,5 +1,6 @@
 #!/usr/bin/env bash
-# Runs texts of tables by the program. First random texts, whose outputs the machine of bench/tables/machine.py judges. Then a text of as
+# Runs texts of tables by the program. First random texts, whose outputs the machine of bench/tables/machine.py judges, and where CHECKER
+# names the program of history_check that one too, also with a reply changed. Then a text of as
 # many fresh keys as a text has lines for, of which five are held at a time, on the least heap: it must have no line `full`. Last it counts
 # instructions by valgrind: what `get` costs by how many bindings there are, and what a command costs that a session is handed beside one
 # of a script. bench/bindings.sh counts `get` among more bindings than a text has lines for. COUNT says how many random texts there are,
@@ -19,6 +20,9 @@ else
 fi
 
 python3 "$top/bench/tables/machine.py" random "$program" "${COUNT:-2000}"
+if [ -n "${CHECKER:-}" ]; then
+    python3 "$top/bench/tables/machine.py" judge "$program" "$CHECKER" "${COUNT:-2000}"
+fi
 
 # The lines of a text of $1 fresh keys, each of which is bound. A register holds a key until it gets the fifth after it.
 fresh() {

@@ -1,11 +1,13 @@
 #!/usr/bin/env python3
 """The machine of a text of a table: whether it may answer a text so.
 
-  bench/tables/machine.py check TEXT OUTPUT [MINOR POOLS]   judges one output; ends with 1 where the machine can't answer so
-  bench/tables/machine.py random PROGRAM COUNT [SEED]       runs so many random texts of up to 300 lines, and judges each output
+  bench/tables/machine.py check TEXT OUTPUT [MINOR POOLS]     judges one output; ends with 1 where the machine can't answer so
+  bench/tables/machine.py random PROGRAM COUNT [SEED]         runs so many random texts of up to 300 lines, and judges each output
+  bench/tables/machine.py judge PROGRAM CHECKER COUNT [SEED]  has history_check judge each besides, as it is and with a reply changed;
+                                                              ends with 1 where it and the machine differ
 
-A binding or a slot may go before any line where no register holds its key, each by itself, and all of them have gone after
-`full_major`. So the machine's states are kept as a set: which keys are bound, of those that a register or a slot may still give
+A key that no register holds may go before any line, from the bindings and from all slots at once, and all of these have gone after
+`full_major`. So the machine's states are kept as a set: which keys are left, of those that a register or a slot may still give
 back, and how many others are bound at most. MINOR and POOLS are those of the words of the run, 32768 and 512 without them."""
 import random
 import subprocess
@@ -22,10 +24,9 @@ class Wrong(Exception):
 class Machine:
     def __init__(self, minor, pools):
         self.registers = {r: None for r in REGISTERS}
-        self.slots = {}  # slot -> key, for slots that may have one
-        self.certain = set()  # slots that have theirs for sure
-        self.values = {}  # key -> what it was bound to last
-        self.states = {(frozenset(), 0)}  # bound keys that may be met again, and how many others may be bound
+        self.slots = {}  # slot -> the key that it had last
+        self.values = {}  # key -> what it is bound to, if it is left
+        self.states = {(frozenset(), 0)}  # keys left that may be met again, and how many others may be bound
         self.made = 0
         self.puts = 0
         self.keys = 0
@@ -37,21 +38,16 @@ class Machine:
     def let_go(self):
         """Before a line: what no register holds may go, and what can't be met again is only counted."""
         held = self.held()
-        self.certain = {slot for slot in self.certain if self.slots[slot] in held}
         met = held | set(self.slots.values())
-        after = set()
-        for bound, others in self.states:
-            lost = bound - met
-            todo = [(bound & met, others + len(lost))]
-            while todo:
-                state = todo.pop()
-                if state not in after:
-                    after.add(state)
-                    todo += [(state[0] - {key}, state[1]) for key in state[0] - held]
-        # Of the others as many may be bound as in any state with the same keys.
         most = {}
-        for bound, others in after:
-            most[bound] = max(others, most.get(bound, 0))
+        for left, others in self.states:
+            others += sum(key in self.values for key in left - met)
+            todo = [left & met]
+            while todo:
+                left = todo.pop()
+                if most.get(left, -1) < others:
+                    most[left] = others
+                    todo += [left - {key} for key in left - held]
         self.states = set(most.items())
 
     def keep(self, states):
@@ -91,6 +87,7 @@ class Machine:
             self.expect(reply, "ok")
             self.made += 1
             self.registers[register] = self.made
+            self.keep((left | {self.made}, others) for left, others in self.states)
 
     def forget(self, reply, register):
         self.expect(reply, "ok")
@@ -101,51 +98,44 @@ class Machine:
         if key is not None and not self.is_full(reply):
             self.expect(reply, "ok")
             self.values[key] = value
-            self.keep((bound | {key}, others) for bound, others in self.states)
 
     def get(self, reply, register):
         key = self.with_key(register, reply)
         if key is not None:
-            self.expect(reply, f"int {self.values.get(key)}", "none")
-            self.keep(state for state in self.states if (key in state[0]) == (reply != "none"))
+            self.expect(reply, f"int {self.values[key]}" if key in self.values else "none")
 
     # `del` is a word of the language.
     def delete(self, reply, register):
         key = self.with_key(register, reply)
         if key is not None:
-            self.expect(reply, "ok", "none")
-            self.keep((bound - {key}, others) for bound, others in self.states if (key in bound) == (reply == "ok"))
+            self.expect(reply, "ok" if key in self.values else "none")
+            self.values.pop(key, None)
 
     def wset(self, reply, slot, register):
         key = self.with_key(register, reply)
         if key is not None:
             self.expect(reply, "ok")
             self.slots[slot] = key
-            self.certain.add(slot)
 
     def wget(self, reply, register, slot):
         key = self.slots.get(slot)
-        self.expect(reply, *(["yes"] if key is not None else []), *(["none"] if slot not in self.certain else []))
-        if reply == "yes":
-            self.certain.add(slot)
-            self.registers[register] = key
-        else:
+        self.expect(reply, "none", *(["yes"] if key is not None else []))
+        self.keep((left, others) for left, others in self.states if (key in left) == (reply == "yes"))
+        self.registers[register] = key if reply == "yes" else None
+        if reply == "none":
             self.slots.pop(slot, None)
-            self.registers[register] = None
 
     def count(self, reply):
         word, _, number = reply.partition(" ")
         if word != "count" or not number.isdigit():
             raise Wrong("no count")
-        left = ((bound, int(number) - len(bound), others) for bound, others in self.states)
-        self.keep((bound, exact) for bound, exact, others in left if 0 <= exact <= others)
+        exact = ((left, int(number) - sum(key in self.values for key in left), others) for left, others in self.states)
+        self.keep((left, rest) for left, rest, others in exact if 0 <= rest <= others)
 
     def full_major(self, reply):
         self.expect(reply, "ok")
         held = self.held()
-        self.slots = {slot: key for slot, key in self.slots.items() if key in held}
-        self.certain &= set(self.slots)
-        self.keep((bound & held, 0) for bound, _ in self.states)
+        self.keep({(left & held, 0) for left, _ in self.states})
 
 
 setattr(Machine, "del", Machine.delete)
@@ -203,7 +193,58 @@ def run_random(program, count, seed):
     return bad
 
 
+def run_text(program, text, words):
+    ran = subprocess.run([program, "table", *words], input=text, capture_output=True, text=True, timeout=300, check=False)
+    if ran.returncode:
+        sys.exit(f"status {ran.returncode} of {program} table {' '.join(words)}")
+    return ran.stdout
+
+
+def changed(chance, output):
+    """The output with one reply changed."""
+    replies = output.splitlines()
+    at = chance.randrange(len(replies))
+    word, _, number = replies[at].partition(" ")
+    others = ["ok", "full", "type", "none", "yes", "int 7", "count 1"]
+    if number:
+        others += 4 * [f"{word} {abs(int(number) + chance.choice([-1, 1]))}"]
+    replies[at] = chance.choice([other for other in others if other != replies[at]])
+    return "".join(reply + "\n" for reply in replies)
+
+
+def is_legal(checker, text, output, words):
+    """What history_check says."""
+    ran = subprocess.run([checker, "--domains", "1", *words], input=f"{text}---\n{output}", capture_output=True, text=True, timeout=300, check=False)
+    if ran.returncode not in (0, 6):
+        sys.exit(f"status {ran.returncode} of {checker}: {ran.stderr}")
+    return ran.returncode == 0
+
+
+def run_judge(program, checker, count, seed):
+    chance = random.Random(seed)
+    bad = legal = other = refused = 0
+    for number in range(count):
+        text = random_text(chance)
+        minor, pools = chance.choice([(4096, 51), (4096, 64), (32768, 512)])
+        words = ["--minor", str(minor), "--pools", str(pools)]
+        output = run_text(program, text, words)
+        outputs = [output, changed(chance, output)] if output else [output]
+        for judged in outputs:
+            found = is_legal(checker, text, judged, words)
+            allowed = judge(text, judged, minor, pools) is None
+            legal += found and judged is output
+            other += found and judged is not output
+            refused += not found and judged is not output
+            if found != allowed or (judged is output and not found):
+                bad += 1
+                print(f"text {number} of seed {seed}, {' '.join(words)}: history_check {found}, the machine {allowed}, changed {judged is not output}")
+    print(f"{count} random texts: {legal} outputs legal; with one reply changed {refused} have no run, {other} are legal; {bad} are judged otherwise by the machine")
+    return bad
+
+
 def main(words):
+    if words[:1] == ["judge"] and len(words) in (4, 5):
+        return 1 if run_judge(words[1], words[2], int(words[3]), int(words[4]) if words[4:] else 1) else 0
     if words[:1] == ["check"] and len(words) in (3, 5):
         with open(words[1], encoding="ascii") as text, open(words[2], encoding="ascii") as output:
             wrong = judge(text.read(), output.read(), *(map(int, words[3:]) if words[3:] else (32768, 512)))

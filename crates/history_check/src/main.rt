@@ -2,22 +2,26 @@
 //! output from standard input, and writes `legal` and the entries of a history that prints the output, or that no such
 //! history was found, or that the search was given up. With `--schedule` it writes the schedule of the turns of that history in
 //! its place. In place of the script a replay may stand, a schedule and then the script: then it writes `legal` where the output is
-//! what the scheduled history prints, and else the first line that differs.
+//! what the scheduled history prints, and else the first line that differs. Or the text of a table: then it writes `legal` and the
+//! keys that go in a run of its machine, or that none was found.
 //!
 //! The judge of `history_judge` does the work over the two streams. It says what is proved: `legal` is written only where a legal
 //! history makes the output, and then that history is. That there is none where none was found is shown by tests alone. Of a
-//! replay both answers are proved.
+//! replay both answers are proved, and of a table `legal`.
 #![tactic(auto)]
 
-ghost use Rattle.std.specs.Prelude.{IfOk};
+ghost use Rattle.std.specs.Prelude.{◌≡◌, IfOk};
 ghost use Rattle.heap_model.specs.Domains.{IsWithinLimits};
 
 mod bounded;
 mod words;
 
 use bounded::Bounded;
+use heap_model::state::Sizes;
 use heap_text::ScriptFault;
-use history_judge::{Judged, JudgedReplay, TurnsJudged, judge, judge_replay, judge_turns};
+use history_judge::{
+    Judged, JudgedReplay, JudgedTable, TurnsJudged, judge, judge_replay, judge_table, judge_turns,
+};
 use outer_io::{Sink, Source, StdSink, StdSource};
 use schedule_text::ReplayFault;
 use std::alloc::Global;
@@ -36,6 +40,7 @@ enum Outcome {
     Judged(Judged),
     NoSchedule,
     Replay(JudgedReplay),
+    Table(JudgedTable),
 }
 
 // The words behind the program's name.
@@ -92,8 +97,10 @@ fn judge_asked<S: Source, K: Sink>(
     }
 }
 
-// The first line of a replay.
+// The first line of a replay, and that of a table's text.
 const REPLAY: &[u8] = b"schedule 1\n";
+
+const TABLE: &[u8] = b"table 1\n";
 
 // The first bytes, as many as the first line of a replay has, or all where there are fewer.
 fn front_of<R: Read>(alloc: Global, input: &mut R) -> io::Result<Vec<u8>> {
@@ -102,21 +109,48 @@ fn front_of<R: Read>(alloc: Global, input: &mut R) -> io::Result<Vec<u8>> {
     Ok(front)
 }
 
-// Judges what standard input has: a replay, where its first line is that of one, and else a script.
+// The sizes of a heap of one domain: that of a table.
+#[tactic(auto, using(crate::proofs::SizeLemmas::alone))]
+fn alone(sizes: &Sizes) -> Sizes
+    requires { IsWithinLimits sizes.now }
+    ensures one { result ≡ record sizes.now { domains = 1 } }
+    ensures limits { IsWithinLimits result }
+{
+    Sizes {
+        domains: 1,
+        ..*sizes
+    }
+}
+
+// Judges what a source has, by its first bytes: a replay, the text of a table, or else a script.
+fn judge_by<S: Source, K: Sink>(
+    rt: &HostRuntime,
+    asked: &Asked,
+    front: &[u8],
+    src: &mut S,
+    out: &mut K,
+) -> Outcome
+    requires { IsWithinLimits asked.now.sizes }
+{
+    if front == REPLAY {
+        Outcome::Replay(judge_replay(rt.alloc(), &asked.sizes, src, out))
+    } else if front.starts_with(TABLE) {
+        Outcome::Table(judge_table(rt.alloc(), &alone(&asked.sizes), src, out))
+    } else {
+        judge_asked(rt, asked, src, out)
+    }
+}
+
+// Judges what standard input has.
 fn run(rt: &HostRuntime, asked: &Asked) -> io::Result<Outcome>
     requires { IsWithinLimits asked.now.sizes }
 {
     let alloc = rt.alloc();
     let mut input = BufReader::with_capacity(alloc, GATHERED, rt.stdin())?;
     let front = front_of(alloc, &mut input)?;
-    let is_replay = front.as_slice() == REPLAY;
     let mut src = StdSource::make(front.as_slice().chain(input));
     let mut out = StdSink::make(BufWriter::with_capacity(alloc, GATHERED, rt.stdout())?);
-    let outcome = if is_replay {
-        Outcome::Replay(judge_replay(alloc, &asked.sizes, &mut src, &mut out))
-    } else {
-        judge_asked(rt, asked, &mut src, &mut out)
-    };
+    let outcome = judge_by(rt, asked, &front, &mut src, &mut out);
     match out.flush() {
         Ok(()) => Ok(outcome),
         Err(_) => Ok(Outcome::Judged(Judged::WriteFault)),
@@ -161,6 +195,19 @@ fn tell_replay(rt: &HostRuntime, judged: JudgedReplay) -> io::Result<()> {
     }
 }
 
+// Says what went wrong with a table.
+fn tell_table(rt: &HostRuntime, judged: JudgedTable) -> io::Result<()> {
+    match judged {
+        JudgedTable::Legal | JudgedTable::NoneFound { .. } => Ok(()),
+        JudgedTable::Text(fault) => tell_fault(rt, fault),
+        JudgedTable::NoSeparator => tell_judged(rt, Judged::NoSeparator),
+        JudgedTable::TooLong => tell_judged(rt, Judged::TooLong),
+        JudgedTable::ReadFault => tell_judged(rt, Judged::ReadFault),
+        JudgedTable::WriteFault => tell_judged(rt, Judged::WriteFault),
+        JudgedTable::Memory => tell_judged(rt, Judged::Memory),
+    }
+}
+
 // Says what went wrong with a script.
 fn tell_judged(rt: &HostRuntime, judged: Judged) -> io::Result<()> {
     match judged {
@@ -185,6 +232,7 @@ fn tell(rt: &HostRuntime, outcome: Outcome) -> io::Result<()> {
         Outcome::NoSchedule => eprintln!(rt; "history_check: the history has no schedule"),
         Outcome::Judged(judged) => tell_judged(rt, judged),
         Outcome::Replay(judged) => tell_replay(rt, judged),
+        Outcome::Table(judged) => tell_table(rt, judged),
     }
 }
 
@@ -197,6 +245,18 @@ fn replay_number(judged: JudgedReplay) -> u8 {
         JudgedReplay::WriteFault => 4,
         JudgedReplay::Memory => 5,
         JudgedReplay::Differs { .. } => 6,
+    }
+}
+
+// And of a table.
+fn table_number(judged: JudgedTable) -> u8 {
+    match judged {
+        JudgedTable::Legal => 0,
+        JudgedTable::Text(_) | JudgedTable::NoSeparator | JudgedTable::TooLong => 2,
+        JudgedTable::ReadFault => 3,
+        JudgedTable::WriteFault => 4,
+        JudgedTable::Memory => 5,
+        JudgedTable::NoneFound { .. } => 6,
     }
 }
 
@@ -213,6 +273,7 @@ fn status_number(outcome: Outcome) -> u8 {
         Outcome::Judged(Judged::GaveUp) => 7,
         Outcome::NoSchedule => 8,
         Outcome::Replay(judged) => replay_number(judged),
+        Outcome::Table(judged) => table_number(judged),
     }
 }
 

@@ -1,6 +1,8 @@
 -- What is told of the output of a replay.
-use Rattle.std.proofs.Common.{◌≡◌, ℕ, List, length, Some, None}
+use Rattle.std.proofs.Common.{◌≡◌, ◌≢◌, ℕ, List, length, ne_eqb, Some, None}
 use Rattle.heap_model.specs.declared.state.Sizes.{Sizes}
+use Rattle.heap_text.specs.Forms.{version_number}
+use Rattle.heap_text.specs.Script.{Scripted}
 use Rattle.heap_text.specs.declared.version.Version.TheVariants.{Three}
 use Rattle.heap_text.proofs.SpellsLemmas.{length-script}
 use Rattle.std.specs.Prelude.{drop}
@@ -10,6 +12,7 @@ use Rattle.schedule_replay.specs.Lines.{differs_from}
 use Rattle.schedule_text.specs.Replays.{Replayed}
 use Rattle.scheduled_runs.specs.Runs.{IsPlainScript}
 use Rattle.history_judge.specs.declared.replaying.JudgedReplay.TheVariants.{Legal, Differs}
+use Rattle.history_judge.specs.Judging.{IsInput}
 use Rattle.history_judge.specs.Replays.{IsReplayInput, TellsReplay, other_text, same_text, scheduled_output}
 
 -- a replay has a section for each domain, and its script neither spawns nor joins
@@ -18,6 +21,13 @@ has_sections z bytes shown r input = length-script Three z.domains r.script (dro
 
 pub is_plain : (z : Sizes) (bytes shown : List ℕ) (r : Replayed) → IsReplayInput z bytes r shown → IsPlainScript r.script.sections
 is_plain z bytes shown r input = plain_script Three z.domains r.script (drop input.spelled.place input.text) input.spelled.script input.spelled.can.no_spawns
+
+-- and so has a script that is judged, if it isn't of version 3
+pub input_sections : (z : Sizes) (bytes shown : List ℕ) (script : Scripted) → IsInput z.domains bytes script shown → length script.sections ≡ z.domains
+input_sections z bytes shown script input = length-script Three z.domains script input.text input.spelled
+
+pub input_plain : (z : Sizes) (bytes shown : List ℕ) (script : Scripted) → IsInput z.domains bytes script shown → version_number script.version ≢ 3 → IsPlainScript script.sections
+input_plain z bytes shown script input older = plain_script Three z.domains script input.text input.spelled (ne_eqb (version_number script.version) 3 older)
 
 -- what is told of an output that differs in no line, and of one that does
 pub tells_same : (z : Sizes) (bytes shown text : List ℕ) (r : Replayed) → IsReplayInput z bytes r shown → differs_from 1 (scheduled_output z r) shown ≡ None → text ≡ same_text → TellsReplay z bytes Legal text

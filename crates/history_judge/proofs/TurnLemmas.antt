@@ -1,5 +1,5 @@
 -- The turns of a history of calls, and what their schedule prints.
-use Rattle.std.proofs.Common.{◌≡◌, ◌≢◌, ℕ, true, false, eqb-true, IsTrue, ⊎_elim, List, [], ◌∷◌, ◌++◌, flat_map, map, Some, None, refl, ap, ap₂, sym, ◌∙◌, append_assoc, append-nil}
+use Rattle.std.proofs.Common.{◌≡◌, ◌≢◌, ℕ, true, false, eqb-true, IsTrue, inl, inr, ⊎_elim, List, [], ◌∷◌, ◌++◌, flat_map, map, Some, None, refl, ap, ap₂, sym, ◌∙◌, append_assoc, append-nil}
 use Rattle.std.specs.Prelude.{codes, decimal}
 use Rattle.std.specs.List.{list_all, list_any, range_with_len}
 use Rattle.heap_model.specs.declared.command.Command.{Command}
@@ -9,7 +9,7 @@ use Rattle.heap_model.specs.declared.entry.Entry.TheVariants as entry
 use Rattle.heap_model.specs.declared.reply.Reply.{Reply}
 use Rattle.heap_model.specs.declared.state.Sizes.{Sizes}
 use Rattle.heap_model.specs.History.{replies}
-use Rattle.heap_model.specs.Output.{line, output, printed, section_text}
+use Rattle.heap_model.specs.Output.{line, printed, section_text}
 use Rattle.heap_model.proofs.Reach.ReachLemmas.{and_right, or_cases}
 use Rattle.heap_text.specs.Forms.{version_number}
 use Rattle.heap_text.specs.Script.{Scripted}
@@ -27,7 +27,7 @@ use Rattle.schedule_text.specs.Spelling.{item_text, spelling}
 use Rattle.history_judge.specs.declared.turns.Phase.TheVariants.{Between}
 use Rattle.history_judge.specs.Answer.{ExplainsScript, explains_by}
 use Rattle.history_judge.specs.Judging.{IsInput}
-use Rattle.history_judge.specs.Scheduling.{AreCallsOf, FoundTurns, HasNoSchedule, PrintsTurns}
+use Rattle.history_judge.specs.Scheduling.{HasNoSchedule, PrintedTurns, PrintsTurns, turns_output}
 use Rattle.history_judge.specs.Turns.{schedule_written, turns_from, turns_in}
 
 -- a history of calls has their turns
@@ -71,14 +71,14 @@ sections_same : (z : Sizes) (h k : List Entry) (ds : List ℕ) → ((d : ℕ) �
 sections_same z h k [] same = refl
 sections_same z h k (d ∷ ds) same = ap₂ (λ (a b : List ℕ). a ++ b) (ap (λ (rs : List Reply). line (codes "domain " ++ decimal d) ++ printed rs) (same d)) (sections_same z h k ds same)
 
-calls_of : (z : Sizes) (sections : List (List Command)) (bytes : List ℕ) (h : List Entry) (items : List Item) → Explains z sections bytes h → turns_in h ≡ Some items → IsTrue (list_all is_call h) → AreCallsOf z sections bytes h items
-calls_of z sections bytes h items x turns all =
-    let are : items ≡ turns_of h = (let both : Some items ≡ Some (turns_of h) = sym turns ∙ calls_from [] h all in cc) in
+are_turns : (h : List Entry) (items : List Item) → turns_in h ≡ Some items → IsTrue (list_all is_call h) → items ≡ turns_of h
+are_turns h items turns all = let both : Some items ≡ Some (turns_of h) = sym turns ∙ calls_from [] h all in cc
+
+-- the schedule of the turns of a history of calls prints what it prints
+calls_print : (z : Sizes) (sections : List (List Command)) (bytes : List ℕ) (h : List Entry) → Explains z sections bytes h → IsTrue (list_all is_call h) → turns_output z sections (turns_of h) ≡ bytes
+calls_print z sections bytes h x all =
     let made : IsScriptMade z sections h = record { legal = x.run.legal; commands_are = x.run.each_command; ends = λ d below. ends_in d h (x.run.each_ends d below) } in
-    record {
-      turns = are;
-      prints = ap (λ (is : List Item). output z (scheduled z sections is)) are ∙ (sections_same z (scheduled z sections (turns_of h)) h (range_with_len 0 z.domains) (interleaving_law z sections h made all) ∙ x.prints);
-    }
+    sections_same z (scheduled z sections (turns_of h)) h (range_with_len 0 z.domains) (interleaving_law z sections h made all) ∙ x.prints
 
 by_version : (v : Version) (z : Sizes) (sections : List (List Command)) (bytes : List ℕ) (h : List Entry) → version_number v ≢ 3 → explains_by v z sections bytes h → Explains z sections bytes h
 by_version One z sections bytes h other x = x
@@ -93,21 +93,29 @@ lines_mapped (i ∷ items) = ap (λ (rest : List ℕ). line (item_text i) ++ res
 written_spelling : (items : List Item) → schedule_written items ≡ spelling items
 written_spelling items = ap (λ (rest : List ℕ). line (codes "schedule 1") ++ rest ++ line (codes "end")) (lines_mapped items)
 
+-- a history of calls has a schedule
+not_calls : (z : Sizes) (script : Scripted) (shown : List ℕ) (h : List Entry) → ExplainsScript z script shown h → PrintedTurns z script shown h None → version_number script.version ≢ 3 → IsTrue (list_all is_call h) → ⊥
+not_calls z script shown h x (inl (inl third)) older all = older third
+not_calls z script shown h x (inl (inr none)) older all = let clash : None ≡ Some (turns_of h) = sym none ∙ calls_from [] h all in cc
+not_calls z script shown h x (inr (items, found, other)) older all =
+    let is = are_turns h items found.1 all in
+    other (ap (λ (t : List Item). turns_output z script.sections t) is ∙ calls_print z script.sections shown h (by_version script.version z script.sections shown h older x) all)
+
 -- where none were found nothing is written
-pub no_turns : (z : Sizes) (bytes out text : List ℕ) (script : Scripted) (h : List Entry) → IsInput z.domains bytes script out → ExplainsScript z script out h → FoundTurns script h None → text ≡ [] → HasNoSchedule z bytes text
-no_turns z bytes out text script h input x found is = record { script = script; output = out; input = input; history = h; explains = x; none = found; text_is = is }
+pub no_turns : (z : Sizes) (bytes out text : List ℕ) (script : Scripted) (h : List Entry) → IsInput z.domains bytes script out → ExplainsScript z script out h → PrintedTurns z script out h None → text ≡ [] → HasNoSchedule z bytes text
+no_turns z bytes out text script h input x none is = record { script = script; output = out; input = input; history = h; explains = x; none = none; no_calls = not_calls z script out h x none; text_is = is }
 
 -- the turns that were found are written
-pub printed_turns : (z : Sizes) (bytes out text : List ℕ) (script : Scripted) (h : List Entry) (items : List Item) → IsInput z.domains bytes script out → ExplainsScript z script out h → FoundTurns script h (Some items) → text ≡ schedule_written items → PrintsTurns z bytes text
-printed_turns z bytes out text script h items input x found is =
-    let explains = by_version script.version z script.sections out h found.0 x in record {
-      script = script;
-      output = out;
-      input = input;
-      history = h;
-      explains = explains;
-      items = items;
-      turns = found.1;
-      text_is = is ∙ written_spelling items;
-      calls = calls_of z script.sections out h items explains found.1;
-    }
+pub printed_turns : (z : Sizes) (bytes out text : List ℕ) (script : Scripted) (h : List Entry) (items : List Item) → IsInput z.domains bytes script out → ExplainsScript z script out h → PrintedTurns z script out h (Some items) → text ≡ schedule_written items → PrintsTurns z bytes text
+printed_turns z bytes out text script h items input x (found, prints) is = record {
+  script = script;
+  output = out;
+  input = input;
+  history = h;
+  explains = by_version script.version z script.sections out h found.0 x;
+  items = items;
+  turns = found.1;
+  prints = prints;
+  text_is = is ∙ written_spelling items;
+  calls = are_turns h items found.1;
+}

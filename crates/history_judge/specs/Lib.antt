@@ -4,6 +4,7 @@ pub mod Judging
 pub mod Reading
 pub mod Replays
 pub mod Show
+pub mod Tables
 pub mod Turns
 pub mod Scheduling
 pub mod Writing

@@ -22,12 +22,11 @@ use Rattle.history_judge.specs.Reading.{ReadsAll}
 use Rattle.history_judge.specs.Turns.{turns_in}
 use Rattle.history_judge.specs.Writing.{AppendsFront}
 
--- of a history of calls, where no collection comes in, the items are the turns, and their schedule prints these bytes
-pub record AreCallsOf (z : Sizes) (sections : List (List Command)) (bytes : List ℕ) (history : List Entry) (items : List Item) : Type 0 where
-  pub turns : items ≡ turns_of history
-  pub prints : output z (scheduled z sections items) ≡ bytes
+-- what a script prints under the schedule of these items
+abbrev pub turns_output : Sizes → List (List Command) → List Item → List ℕ
+turns_output z sections items = output z (scheduled z sections items)
 
--- a history explains the output, and this is the text of the schedule of its turns
+-- a history explains the output, this is the text of the schedule of its turns, and a replay of it prints the output again
 pub record PrintsTurns (z : Sizes) (bytes text : List ℕ) : Type 0 where
   pub script : Scripted
   pub output : List ℕ
@@ -36,22 +35,33 @@ pub record PrintsTurns (z : Sizes) (bytes text : List ℕ) : Type 0 where
   pub explains : Explains z script.sections output history
   pub items : List Item
   pub turns : turns_in history ≡ Some items
+  pub prints : turns_output z script.sections items ≡ output
   pub text_is : text ≡ spelling items
-  pub calls : IsTrue (list_all is_call history) → AreCallsOf z script.sections output history items
+  pub calls : IsTrue (list_all is_call history) → items ≡ turns_of history
 
 -- the turns of a history that was found for a script: there are none where it spawns
 abbrev pub FoundTurns : Scripted → List Entry → Option (List Item) → Type 0
 FoundTurns script history None = (version_number script.version ≡ 3) ⊎ (turns_in history ≡ None)
 FoundTurns script history (Some items) = (version_number script.version ≢ 3) × (turns_in history ≡ Some items)
 
--- a history explains the output, and has no schedule: nothing is written
+-- a history has turns, and their schedule prints otherwise
+abbrev pub PrintsOther : Sizes → Scripted → List ℕ → List Entry → Type 0
+PrintsOther z script shown history = (items : List Item) × FoundTurns script history (Some items) × (turns_output z script.sections items ≢ shown)
+
+-- the turns of a history whose schedule prints this output
+abbrev pub PrintedTurns : Sizes → Scripted → List ℕ → List Entry → Option (List Item) → Type 0
+PrintedTurns z script shown history None = FoundTurns script history None ⊎ PrintsOther z script shown history
+PrintedTurns z script shown history (Some items) = FoundTurns script history (Some items) × (turns_output z script.sections items ≡ shown)
+
+-- a history explains the output, and has no schedule that prints it: nothing is written. One of calls alone, where no collection and no finaliser comes in, has one
 pub record HasNoSchedule (z : Sizes) (bytes text : List ℕ) : Type 0 where
   pub script : Scripted
   pub output : List ℕ
   pub input : IsInput z.domains bytes script output
   pub history : List Entry
   pub explains : ExplainsScript z script output history
-  pub none : FoundTurns script history None
+  pub none : PrintedTurns z script output history None
+  pub no_calls : version_number script.version ≢ 3 → IsTrue (list_all is_call history) → ⊥
   pub text_is : text ≡ []
 
 -- the text of an answer

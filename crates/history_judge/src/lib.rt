@@ -9,6 +9,7 @@ mod reading;
 mod replaying;
 mod scheduling;
 mod show;
+mod tables;
 mod turns;
 mod writing;
 
@@ -17,3 +18,4 @@ pub use judged::Judged;
 pub use judging::judge;
 pub use replaying::{JudgedReplay, judge_replay};
 pub use scheduling::{TurnsJudged, judge_turns};
+pub use tables::{JudgedTable, judge_table};

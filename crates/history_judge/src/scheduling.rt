@@ -1,15 +1,17 @@
 //! The judge where a schedule is asked for.
-ghost use Rattle.std.specs.Prelude.{◌≡◌, ◌<◌, ◌≤◌, List, ℕ, IfOk, IfErr, option_map};
+ghost use Rattle.std.specs.Prelude.{◌≡◌, ◌≢◌, ◌<◌, ◌≤◌, List, ℕ, length, false, IfOk, IfErr, IsTrue, option_map};
 ghost use Rattle.heap_model.specs.Domains.{IsWithinLimits};
 ghost use Rattle.heap_model.specs.declared.state.Sizes.{Sizes as declared_sizes};
 ghost use Rattle.heap_text.specs.declared.fault.ScriptFault.{ScriptFault as declared_fault};
+ghost use Rattle.heap_text.specs.Forms.{version_number};
 ghost use Rattle.outer_io.specs.Faults.{Rose};
+ghost use Rattle.scheduled_runs.specs.Runs.{IsPlainScript};
 ghost use Rattle.history_judge.specs.declared.judged.Judged.TheVariants as other;
 ghost use Rattle.history_judge.specs.Answer.{ExplainsScript, IsTrueAnswer};
 ghost use Rattle.history_judge.specs.Input.{HasNoParts};
 ghost use Rattle.history_judge.specs.Judging.{IsInput, IsWrong, Refuses};
 ghost use Rattle.history_judge.specs.Reading.{IsReadInPart, ReadsAll};
-ghost use Rattle.history_judge.specs.Scheduling.{FoundTurns, IsTurnsOfBytes, IsTurnsRefused, IsTurnsSilent, IsTurnsTold, JudgesTurns, RefusesTurns, StopsTurns, TellsTurns, WritesTurns, WritesTurnsFront};
+ghost use Rattle.history_judge.specs.Scheduling.{FoundTurns, PrintedTurns, turns_output, IsTurnsOfBytes, IsTurnsRefused, IsTurnsSilent, IsTurnsTold, JudgesTurns, RefusesTurns, StopsTurns, TellsTurns, WritesTurns, WritesTurnsFront};
 
 use crate::Judged;
 use crate::explain::{Explained, Seek, explain};
@@ -23,6 +25,7 @@ use heap_model::state::Sizes;
 use heap_text::Script;
 use outer_io::{Failed, Sink, Source};
 use schedule_laws::Item;
+use schedule_replay::scheduled_text;
 use std::alloc::{AllocError, Global};
 
 /// What came of judging an output where a schedule is asked for.
@@ -57,13 +60,63 @@ fn turns_found(
     gather_turns(alloc, history)
 }
 
+// Whether a script prints this output under the schedule of these items.
+fn prints(
+    alloc: Global,
+    sizes: &Sizes,
+    script: &Script,
+    items: &[Item],
+    output: &[u8],
+) -> Result<bool, AllocError>
+    requires limits { IsWithinLimits sizes.now }
+    requires sections { length script.now.sections ≡ sizes.now.domains }
+    requires plain { IsPlainScript script.now.sections }
+    ensures yes { IfOk result (λ yes. IsTrue yes → turns_output sizes.now script.now.sections items.now ≡ output.now) }
+    ensures no { IfOk result (λ yes. yes ≡ false → turns_output sizes.now script.now.sections items.now ≢ output.now) }
+{
+    let text = scheduled_text(alloc, sizes, script, items)?;
+    Ok(text.as_slice() == output)
+}
+
+// The turns of a history of a script, if it prints this output under their schedule.
+fn turns_printed(
+    alloc: Global,
+    sizes: &Sizes,
+    script: &Script,
+    history: &[Entry],
+    output: &[u8],
+) -> Result<Option<Vec<Item>>, AllocError>
+    requires limits { IsWithinLimits sizes.now }
+    requires sections { length script.now.sections ≡ sizes.now.domains }
+    requires plain { version_number script.now.version ≢ 3 → IsPlainScript script.now.sections }
+    ensures { IfOk result (λ o. PrintedTurns sizes.now script.now output.now history.now (option_map (λ v. v.items) o)) }
+{
+    let Some(items) = turns_found(alloc, script, history)? else {
+        return Ok(None);
+    };
+    if prints(alloc, sizes, script, &items, output)? {
+        Ok(Some(items))
+    } else {
+        Ok(None)
+    }
+}
+
 // What is written of a history that was found.
 #[tactic(auto, using(crate::proofs::TurnLemmas::printed_turns, crate::proofs::TurnLemmas::no_turns))]
-fn tell_found(alloc: Global, script: &Script, history: &[Entry]) -> Result<Answer, AllocError>
-    ensures { (z : declared_sizes) (bytes output : List ℕ) → IsInput z.domains bytes script.now output → ExplainsScript z script.now output history.now
-        → IfOk result (λ a. TellsTurns z bytes a.judged a.text.items) }
+fn tell_found(
+    alloc: Global,
+    sizes: &Sizes,
+    script: &Script,
+    history: &[Entry],
+    output: &[u8],
+) -> Result<Answer, AllocError>
+    requires limits { IsWithinLimits sizes.now }
+    requires sections { length script.now.sections ≡ sizes.now.domains }
+    requires plain { version_number script.now.version ≢ 3 → IsPlainScript script.now.sections }
+    ensures { (bytes : List ℕ) → IsInput sizes.now.domains bytes script.now output.now → ExplainsScript sizes.now script.now output.now history.now
+        → IfOk result (λ a. TellsTurns sizes.now bytes a.judged a.text.items) }
 {
-    match turns_found(alloc, script, history)? {
+    match turns_printed(alloc, sizes, script, history, output)? {
         Some(items) => Ok(Answer {
             text: turns_text(alloc, &items)?,
             judged: TurnsJudged::Printed,
@@ -76,12 +129,21 @@ fn tell_found(alloc: Global, script: &Script, history: &[Entry]) -> Result<Answe
 }
 
 // What is written of what a search came to.
-fn tell(alloc: Global, script: &Script, explained: &Explained) -> Result<Answer, AllocError>
-    ensures { (z : declared_sizes) (bytes output : List ℕ) → IsInput z.domains bytes script.now output → IsTrueAnswer z script.now output explained.now
-        → IfOk result (λ a. TellsTurns z bytes a.judged a.text.items) }
+fn tell(
+    alloc: Global,
+    sizes: &Sizes,
+    script: &Script,
+    output: &[u8],
+    explained: &Explained,
+) -> Result<Answer, AllocError>
+    requires limits { IsWithinLimits sizes.now }
+    requires sections { length script.now.sections ≡ sizes.now.domains }
+    requires plain { version_number script.now.version ≢ 3 → IsPlainScript script.now.sections }
+    ensures { (bytes : List ℕ) → IsInput sizes.now.domains bytes script.now output.now → IsTrueAnswer sizes.now script.now output.now explained.now
+        → IfOk result (λ a. TellsTurns sizes.now bytes a.judged a.text.items) }
 {
     match explained {
-        Explained::Legal(history) => tell_found(alloc, script, history),
+        Explained::Legal(history) => tell_found(alloc, sizes, script, history, output),
         Explained::NoneFound { states } => Ok(Answer {
             text: none_found(alloc, *states)?,
             judged: TurnsJudged::Other(Judged::NoneFound),
@@ -94,6 +156,7 @@ fn tell(alloc: Global, script: &Script, explained: &Explained) -> Result<Answer,
 }
 
 // What is written of these bytes, and what is answered.
+#[tactic(auto, using(crate::proofs::ReplayLemmas::input_sections, crate::proofs::ReplayLemmas::input_plain))]
 fn answer_to<F: Seek>(
     alloc: Global,
     sizes: &Sizes,
@@ -108,7 +171,7 @@ fn answer_to<F: Seek>(
     let Ok(explained) = explain(alloc, sizes, &script, output, search) else {
         return Err(Judged::Memory);
     };
-    match tell(alloc, &script, &explained) {
+    match tell(alloc, sizes, &script, output, &explained) {
         Ok(answer) => Ok(answer),
         Err(AllocError) => Err(Judged::Memory),
     }
@@ -144,10 +207,10 @@ fn judge_bytes<K: Sink, F: Seek>(
 /// Judges an output as [`judge`](crate::judge) does, and writes the schedule of the turns of the history that was found in place
 /// of `legal` and that history.
 ///
-/// The items are its turns and complete collections, in order. Where it has calls alone, and neither a collection nor a finaliser
-/// comes in, a replay of them prints the judged output. A history has no schedule where a command is answered `full`, a
-/// collection isn't complete or answers two `full_major`, or another domain's entry stands between a finaliser and the next
-/// command of its domain; nor has one of a script of version 3.
+/// The items are its turns and complete collections, in order, and a replay of them prints the judged output. A history has no
+/// schedule where a command is answered `full`, a collection isn't complete or answers two `full_major`, another domain's entry
+/// stands between a finaliser and the next command of its domain, or a replay of it prints otherwise; nor has one of a script of
+/// version 3. One of calls alone, in which neither a collection nor a finaliser comes in, has one.
 pub fn judge_turns<S: Source, K: Sink, F: Seek>(
     alloc: Global,
     sizes: &Sizes,
@@ -156,7 +219,7 @@ pub fn judge_turns<S: Source, K: Sink, F: Seek>(
     search: &mut F,
 ) -> TurnsJudged
     requires { IsWithinLimits sizes.now }
-    // What was written: a schedule only where a legal history makes the output, and then that of its turns.
+    // What was written: a schedule only where a legal history makes the output, and then that of its turns, which prints it again.
     ensures printed { result ≡ TurnsJudged.Printed → JudgesTurns sizes.now TurnsJudged.Printed (S.left src.old) (S.left src.new) (K.written out.old) (K.written out.new) }
     ensures no_schedule { result ≡ TurnsJudged.NoSchedule → JudgesTurns sizes.now TurnsJudged.NoSchedule (S.left src.old) (S.left src.new) (K.written out.old) (K.written out.new) }
     ensures none_found { result ≡ TurnsJudged.Other other.NoneFound → JudgesTurns sizes.now (TurnsJudged.Other other.NoneFound) (S.left src.old) (S.left src.new) (K.written out.old) (K.written out.new) }

@@ -1,9 +1,9 @@
--- Worked rows: an output that a history explains, and two that none explains.
-use Rattle.std.proofs.Common.{◌≡◌, ℕ, zero, suc, ◌<◌, ◌==◌, Bool, true, false, cond, IsTrue, List, [], ◌∷◌, ◌++◌, pos, refl, ap, sym, ◌∙◌, subst, append_assoc, append-nil, arith, rules}
+-- Worked rows: an output that a history explains, and two that none explains; and a run of sections that keep, and what none prints.
+use Rattle.std.proofs.Common.{◌≡◌, ℕ, zero, suc, ◌<◌, ◌≤◌, ◌==◌, Bool, true, false, cond, IsTrue, List, [], ◌∷◌, ◌++◌, pos, refl, ap, sym, ◌∙◌, subst, append_assoc, append-nil, arith, rules}
 use Rattle.std.specs.Prelude.{codes, decimal, slice_index_or}
 use Rattle.std.specs.List.{list_all, list_any}
 use Rattle.heap_model.specs.declared.command.Command as declared_command
-use Rattle.heap_model.specs.declared.command.Command.TheVariants.{PutInt}
+use Rattle.heap_model.specs.declared.command.Command.TheVariants.{PutInt, Load, Store, Spawn, Argument, Join}
 use Rattle.heap_model.specs.declared.entry.Entry.{Entry}
 use Rattle.heap_model.specs.declared.entry.Entry.TheVariants.{Command, End, Cut, Queue, Seal, Wipe, Last as LastOf, Collected, Done as DoneOf, Ran}
 use Rattle.heap_model.specs.declared.reply.Reply.{Reply}
@@ -12,14 +12,22 @@ use Rattle.heap_model.specs.declared.state.Pending.{Pending}
 use Rattle.heap_model.specs.declared.state.Pending.TheVariants.{Fin, Last as LastPending}
 use Rattle.heap_model.specs.declared.state.Sizes.{Sizes}
 use Rattle.heap_model.specs.declared.state.State.{State}
-use Rattle.heap_model.specs.Domains.{domain_at, opening}
+use Rattle.heap_model.specs.Domains.{IsWithinLimits, domain_at, opening}
 use Rattle.heap_model.specs.Entries.{next, reply as reply_to, run_reply}
-use Rattle.heap_model.specs.History.{command_of, commands, is_entry_of, replies, replies_from, reply_list}
+use Rattle.heap_model.specs.History.{Legal, command_of, commands, is_entry_of, replies, replies_from, reply_list, state_after}
 use Rattle.heap_model.specs.Output.{line, output, printed}
 use Rattle.heap_model.proofs.Reach.ReachLemmas.{and_both, and_left, and_right}
 use Rattle.history_replay.specs.Explains.{Explains, IsRunOf as IsJudgedRun}
 use Rattle.history_replay.specs.Steps.{is_end_of}
+use Rattle.spawn_laws.specs.Expansion.{IsFittingScript, IsScriptRun, IsSection, is_spawn_of, is_spawned, section_at, steps_from}
+use Rattle.spawn_laws.specs.Hidden.{prelude}
+use Rattle.spawn_laws.specs.Printed.{printed_of, printed_replies}
+use Rattle.section_laws.specs.Orders.{IsOrderly}
+use Rattle.section_laws.specs.Printing.{MayPrintEach, is_value}
+use Rattle.section_laws.proofs.Passing.{passed_arguments}
+use Rattle.section_laws.proofs.Printing.{prints_ok}
 use Rattle.camlheap_run.specs.Run.{IsRunOf}
+use Rattle.run_laws.specs.Sections.{KeepsItsSections}
 use Rattle.run_laws.proofs.Explaining.{one_run, same_rest}
 
 abbrev sizes : Sizes
@@ -132,3 +140,107 @@ no_int (reply.Last number ∷ rs) all is = let first : 108 ≡ 105 = ap head is 
 no_shown_put : (h : List Entry) → Explains sizes script (heading ++ line (codes "int 5")) h → ⊥
 no_shown_put h x = no_int (replies sizes h 0) (shows_none 0 (opening sizes) h (subst (λ (cs : List declared_command.Command). IsTrue (list_all puts cs)) (sym (x.run.each_command 0 (omega arith))) refl))
     (same_rest heading (printed (replies sizes h 0) ++ []) (line (codes "int 5")) (sym (append_assoc heading (printed (replies sizes h 0)) []) ∙ x.prints))
+
+-- int 1 5, spawn 1 1; argument 1
+abbrev spawning : List (List declared_command.Command)
+spawning = (PutInt 1 (pos 5) ∷ Spawn 1 1 ∷ []) ∷ (Argument 1 ∷ []) ∷ []
+
+abbrev two : Sizes
+two = record { domains = 2; pools = 512; minor_words = 32768; classes = 6 }
+
+abbrev spawned : List Entry
+spawned =
+    Command 0 (PutInt 1 (pos 5)) false ∷ Command 0 (Store 15 9 1) false ∷ Command 0 (PutInt 14 (pos 1)) false ∷ Command 0 (Store 15 1 14) false
+    ∷ Command 1 (Load 14 15 1) false ∷ Command 1 (Load 1 15 9) false ∷ Command 1 (PutInt 14 (pos 2)) false ∷ Command 1 (Store 15 1 14) false ∷ End 0 ∷ End 1 ∷ []
+
+spawned_legal : Legal two (prelude 2 ++ spawned)
+spawned_legal = search rules
+
+spawned_run : IsScriptRun two spawning (prelude 2 ++ spawned)
+spawned_run = record { behind = spawned; begins = refl; sections = sections }
+  where
+    sections : (d : ℕ) → d < 2 → IsSection d (is_spawned spawning d) (section_at spawning d) (steps_from (state_after (opening two) (prelude 2)) spawned d)
+    sections zero below = record {
+      start = [];
+      middle = _;
+      finish = [];
+      are = refl;
+      starts = refl;
+      makes = (_ ∷ [], _, refl, refl, (_ ∷ _ ∷ _ ∷ [], [], refl, record { first = _; more = _; are = refl; commands_are = refl }, refl));
+      finishes = refl;
+    }
+    sections (suc zero) below = record {
+      start = _ ∷ [];
+      middle = _ ∷ [];
+      finish = _ ∷ _ ∷ [];
+      are = refl;
+      starts = record { early = []; last = _; are = refl; early_loads = tt; last_load = refl; last_answer = refl };
+      makes = (_ ∷ [], [], refl, refl, refl);
+      finishes = refl;
+    }
+    sections (suc (suc d)) below = absurd (omega (arith, below))
+
+spawned_limits : IsWithinLimits two
+spawned_limits = search rules
+
+fitting : IsFittingScript spawning
+fitting zero = (refl, ((refl, (λ is. omega (arith, is)), omega arith), tt))
+fitting (suc zero) = (refl, tt)
+fitting (suc (suc d)) = tt
+
+one_spawn : (d section item : ℕ) (before behind : List declared_command.Command) → section_at spawning d ≡ before ++ Spawn section item ∷ behind → (d ≡ 0) × (section ≡ 1)
+one_spawn zero section item [] behind is = cc
+one_spawn zero section item (c ∷ []) behind is = (refl, cc)
+one_spawn zero section item (c ∷ e ∷ []) behind is = cc
+one_spawn zero section item (c ∷ e ∷ f ∷ before) behind is = cc
+one_spawn (suc zero) section item [] behind is = cc
+one_spawn (suc zero) section item (c ∷ []) behind is = cc
+one_spawn (suc zero) section item (c ∷ e ∷ before) behind is = cc
+one_spawn (suc (suc d)) section item [] behind is = cc
+one_spawn (suc (suc d)) section item (c ∷ before) behind is = cc
+
+no_join : (d dst section : ℕ) (before behind : List declared_command.Command) → section_at spawning d ≡ before ++ Join dst section ∷ behind → ⊥
+no_join zero dst section [] behind is = cc
+no_join zero dst section (c ∷ []) behind is = cc
+no_join zero dst section (c ∷ e ∷ []) behind is = cc
+no_join zero dst section (c ∷ e ∷ f ∷ before) behind is = cc
+no_join (suc zero) dst section [] behind is = cc
+no_join (suc zero) dst section (c ∷ []) behind is = cc
+no_join (suc zero) dst section (c ∷ e ∷ before) behind is = cc
+no_join (suc (suc d)) dst section [] behind is = cc
+no_join (suc (suc d)) dst section (c ∷ before) behind is = cc
+
+at_most_one : (b : Bool) → cond {A = ℕ} b 1 0 ≤ 1
+at_most_one true = omega arith
+at_most_one false = omega arith
+
+orderly : IsOrderly 2 spawning
+orderly = record {
+  few = omega arith;
+  once = λ section. (let most = at_most_one (is_spawn_of section (Spawn 1 1)) in omega (arith, most));
+  inside = λ d section item before behind is. (let at = one_spawn d section item before behind is in let named = at.1 in omega (arith, named));
+  later = λ d section item before behind is. (let at = one_spawn d section item before behind is in let first = at.0 in let named = at.1 in omega (arith, first, named));
+  own = λ d dst section before behind is. absurd (no_join d dst section before behind is);
+}
+
+-- a run in which the argument answers what the spawn passed
+kept : KeepsItsSections two spawning (prelude 2 ++ spawned)
+kept = record {
+  run = spawned_run;
+  orderly = orderly;
+  passed = λ section parent item within below spawn. passed_arguments two spawning (prelude 2 ++ spawned) spawned_limits spawned_legal fitting orderly spawned_run section within parent item below spawn;
+  prints = prints_ok two spawning (prelude 2 ++ spawned) spawned_limits spawned_legal fitting spawned_run;
+}
+
+kept_prints : printed_replies two (prelude 2 ++ spawned) 1 ≡ reply.Int (pos 5) ∷ []
+kept_prints = refl
+
+-- and in none does it answer `type`
+no_type : (h : List Entry) (k : KeepsItsSections two spawning h) → printed_of 1 (steps_from (state_after (opening two) (prelude 2)) k.run.behind 1) ≡ reply.BadType ∷ [] → ⊥
+no_type h k is = value _ (k.prints 1 (omega arith)) is
+  where
+    value : (rs : List Reply) → MayPrintEach (Argument 1 ∷ []) rs → rs ≡ reply.BadType ∷ [] → ⊥
+    value rs (r, more, are, may, rest) type =
+        let same : r ≡ reply.BadType = cc in
+        let clash : false ≡ true = subst (λ (x : Reply). IsTrue (is_value x)) same may in
+        cc

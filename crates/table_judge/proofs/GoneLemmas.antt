@@ -1,5 +1,5 @@
 -- What may go: one key more, from the bindings and from all slots at once.
-use Rattle.std.proofs.Common.{◌≡◌, inl, inr, ⊎_elim, ◌⊎◌, ℕ, zero, suc, Bool, true, false, cond, ◌||◌, IsTrue, List, [], ◌∷◌, map, slice_get, Option, Some, None, refl, ap, sym, ◌∙◌, subst}
+use Rattle.std.proofs.Common.{◌≡◌, inl, inr, ⊎_elim, ◌⊎◌, ℕ, zero, suc, ◌+◌, ◌<◌, ◌==◌, Bool, true, false, cond, ◌||◌, IsTrue, List, [], ◌∷◌, map, length, drop, get_or, slice_get, Option, Some, None, refl, ap, sym, ◌∙◌, subst, arith, eq-eqb, ne_eqb}
 use Rattle.heap_model.specs.declared.label.Label.{Label}
 use Rattle.heap_model.specs.Graph.{has_label, same_label}
 use Rattle.heap_model.proofs.Graphs.GraphLemmas.{same_label-true, same_label_refl}
@@ -8,6 +8,8 @@ use Rattle.table_laws.specs.Structures.{Binding, keys_of, without, datum_at}
 use Rattle.table_laws.specs.Thinning.{ThinnedBy, EmptiedBy}
 use Rattle.table_laws.proofs.BindingLemmas.{thinned_same, thinned_datum}
 use Rattle.table_machine.specs.Machine.{TableState, Holds, IsLost, IsThere, KeepsKey, MayGo}
+use Rattle.table_judge.specs.declared.machine.Gone.{Gone}
+use Rattle.table_judge.specs.Playing.{label_of, once_gone}
 use Rattle.table_judge.specs.Keys.{is_at, is_held, left_at, taken_out}
 
 thinned_out : (P : Label → Type 0) (k : Label) → P k → (bs left : List Binding) → ThinnedBy P bs left → ThinnedBy P bs (without k left)
@@ -112,3 +114,28 @@ none_emptied P (k ∷ ks) = (k, ks, refl, inl refl, none_emptied P ks)
 -- nothing goes
 pub stays : (s : TableState) → MayGo s s
 stays s = record { registers = refl; bindings = thinned_same (IsLost s) s.bindings; slots = none_emptied (IsLost s) s.slots; together = λ k there. record { datum = refl; slots = λ i at. at } }
+
+-- the next key of a witness goes before this line, or before another
+at_key : (gone : List Gone) (i n : ℕ) (s : TableState) (d : Gone) → i < length gone
+    → once_gone (drop i gone) n s ≡ once_gone (drop (suc i) gone) n (cond ((get_or gone i d).before == n) (taken_out (label_of (get_or gone i d).key) s) s)
+at_key [] i n s d below = absurd (omega (arith, below))
+at_key (g ∷ gone) zero n s d below = refl
+at_key (g ∷ gone) (suc i) n s d below = at_key gone i n s d (omega (arith, below))
+
+pub gone_here : (gone : List Gone) (i j n : ℕ) (s : TableState) (d : Gone) → j ≡ i + 1 → i < length gone → (get_or gone i d).before ≡ n
+    → once_gone (drop j gone) n (taken_out (label_of (get_or gone i d).key) s) ≡ once_gone (drop i gone) n s
+gone_here gone i j n s d next below is =
+    let later : j ≡ suc i = omega (arith, next) in
+    let test : ((get_or gone i d).before == n) ≡ true = eq-eqb (get_or gone i d).before n is in
+    ap (λ k. once_gone (drop k gone) n (taken_out (label_of (get_or gone i d).key) s)) later
+    ∙ ap (λ (c : Bool). once_gone (drop (suc i) gone) n (cond c (taken_out (label_of (get_or gone i d).key) s) s)) (sym test)
+    ∙ sym (at_key gone i n s d below)
+
+pub gone_elsewhere : (gone : List Gone) (i j n : ℕ) (s : TableState) (d : Gone) → j ≡ i + 1 → i < length gone → ((get_or gone i d).before ≡ n → ⊥)
+    → once_gone (drop j gone) n s ≡ once_gone (drop i gone) n s
+gone_elsewhere gone i j n s d next below other =
+    let later : j ≡ suc i = omega (arith, next) in
+    let test : ((get_or gone i d).before == n) ≡ false = ne_eqb (get_or gone i d).before n other in
+    ap (λ k. once_gone (drop k gone) n s) later
+    ∙ ap (λ (c : Bool). once_gone (drop (suc i) gone) n (cond c (taken_out (label_of (get_or gone i d).key) s) s)) (sym test)
+    ∙ sym (at_key gone i n s d below)

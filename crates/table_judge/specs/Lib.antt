@@ -1,1 +1,3 @@
 pub mod Keys
+pub mod Playing
+pub mod Answer

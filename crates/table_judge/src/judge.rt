@@ -1,74 +1,78 @@
 //! Replies to a whole text.
-ghost use Rattle.std.specs.Prelude.{◌≡◌, ◌<◌, IfOk, IsTrue, List, Some, length, slice_get};
-ghost use Rattle.heap_model.specs.declared.state.Sizes.{Sizes};
-ghost use Rattle.table_machine.specs.Machine.{LineStep, MachineAnswers};
+ghost use Rattle.std.specs.Prelude.{◌≡◌, ◌≤◌, ◌<◌, ◌+◌, ◌^◌, IfNone, IfOk, IsTrue, List, Some, length, slice_get};
+ghost use Rattle.heap_model.specs.Domains.{IsWithinLimits};
+ghost use Rattle.table_judge.specs.Playing.{AnswersBy, StepBy};
+ghost use Rattle.table_machine.specs.Machine.{all_made};
 ghost use Rattle.table_text.specs.declared.line.TableLine.{TableLine as declared_line};
 
 use crate::machine::{Gone, Machine, label_of};
-use crate::steps::make_line;
+use crate::steps::{labels_made, make_line, may_be_refused};
+use heap_model::state::Sizes;
 use std::alloc::{AllocError, Global};
 use table_machine::LineReply;
-use table_text::TableLine;
+use table_text::{TableLine, TableText};
 
-// Makes the line of this number once what goes before it has gone, and answers whether it may be answered so.
-#[tactic(auto, using(crate::proofs::RunLemmas::steps))]
+// Makes the line of this number, the last of those that make so many labels, once what goes before it has gone, and answers
+// whether it may be answered so.
+#[tactic(auto, using(crate::proofs::RunLemmas::made_step, crate::proofs::RunLemmas::refused_step))]
 fn step(
     machine: &mut Machine,
     alloc: Global,
+    sizes: &Sizes,
+    gone: &[Gone],
     number: u32,
     line: TableLine,
+    made: u64,
     reply: LineReply,
-    gone: &[Gone],
 ) -> Result<bool, AllocError>
-    ensures { IfOk result (λ yes. IsTrue yes → ((z : Sizes) (lines : List declared_line) → LineStep z lines line machine.old reply machine.new)) }
+    requires limits { IsWithinLimits sizes.now }
+    requires few { made ≤ 2 ^ 40 }
+    ensures { (lines : List declared_line) → made ≡ all_made lines
+        → IfOk result (λ yes. IsTrue yes → StepBy sizes.now gone.now lines number line machine.old reply machine.new) }
 {
     if !machine.let_go(alloc, number, gone)? {
         return Ok(false);
     }
-    make_line(machine, alloc, line, label_of(number), reply)
+    match reply {
+        LineReply::Full => Ok(may_be_refused(machine, sizes, line, made)),
+        _ => make_line(machine, alloc, line, label_of(number), reply),
+    }
 }
 
-// The line of a number.
-fn line_at(lines: &[TableLine], at: usize) -> TableLine
-    requires { at < length lines.now }
-    ensures { Some result ≡ slice_get lines.now at }
+// The reply of a number, if there is one.
+fn reply_at(replies: &[LineReply], at: usize) -> Option<LineReply>
+    ensures { result ≡ slice_get replies.now at }
 {
-    lines[at]
+    replies.get(at).copied()
 }
 
-// The reply to it.
-fn reply_at(replies: &[LineReply], at: usize) -> LineReply
-    requires { at < length replies.now }
-    ensures { Some result ≡ slice_get replies.now at }
-{
-    replies[at]
-}
-
-/// Whether the machine may give these replies to these lines, by what goes before each line. `true`: it may. `false` says
-/// nothing: another witness may show it, and a text with a reply `full`, or a count beside which keys go, is never judged
-/// true.
+/// The first line, counted from 0, whose reply the machine hasn't in the run that is told by the keys that go before each line, or
+/// that has no reply; `None`, where it may give all these replies. So a line says nothing of other runs.
 #[tactic(auto, using(crate::proofs::RunLemmas::runs_first))]
-pub fn allows(
+pub fn refused_line(
     alloc: Global,
-    lines: &[TableLine],
+    sizes: &Sizes,
+    text: &TableText,
     replies: &[LineReply],
     gone: &[Gone],
-) -> Result<bool, AllocError>
-    ensures may { IfOk result (λ yes. IsTrue yes → ((z : Sizes) → MachineAnswers z lines.now replies.now)) }
+) -> Result<Option<usize>, AllocError>
+    requires { IsWithinLimits sizes.now }
+    ensures none { IfOk result (λ o. IfNone o (AnswersBy sizes.now gone.now text.now replies.now)) }
 {
-    if lines.len() != replies.len() {
-        return Ok(false);
-    }
     let mut machine = Machine::new(alloc)?;
-    for i in 0..lines.len() {
-        let Ok(number) = u32::try_from(i) else {
-            return Ok(false);
+    let mut made: u64 = 0;
+    for i in 0..text.len() {
+        let (Some(reply), Ok(number)) = (reply_at(replies, i), u32::try_from(i)) else {
+            return Ok(Some(i));
         };
-        let line = line_at(lines, i);
-        let reply = reply_at(replies, i);
-        if !step(&mut machine, alloc, number, line, reply, gone)? {
-            return Ok(false);
+        let line = text.line(i);
+        made += labels_made(line);
+        if !step(&mut machine, alloc, sizes, gone, number, line, made, reply)? {
+            return Ok(Some(i));
         }
     }
-    Ok(true)
+    if text.len() < replies.len() {
+        return Ok(Some(text.len()));
+    }
+    Ok(None)
 }

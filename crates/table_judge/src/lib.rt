@@ -1,12 +1,16 @@
-//! Judges replies to a text of a table: whether the machine of the text may give them, by a witness of which keys go before
-//! which line. A text with a reply `full`, or with a count beside which keys go, isn't judged true yet.
+//! Judges an output of a text of a table: whether it is a run of the machine of the text. A run is told by the keys that go
+//! before each line. What the search proposes is played before it is believed.
 #![tactic(auto)]
 
 mod bindings;
+pub mod explain;
 pub mod judge;
 pub mod machine;
 mod places;
+mod replies;
+mod search;
 mod steps;
 
-pub use judge::allows;
+pub use explain::{Explained, explain_output};
+pub use judge::refused_line;
 pub use machine::Gone;

@@ -2,6 +2,7 @@
 ghost use Rattle.std.specs.Prelude.{◌≡◌, ◌∷◌, IfOk, IsTrue, OnOk, Some, slice_get, slice_set};
 ghost use Rattle.heap_model.specs.declared.graph.Value.TheVariants.{Int};
 ghost use Rattle.table_judge.specs.Keys.{taken_out};
+ghost use Rattle.table_judge.specs.Playing.{label_of, once_gone};
 ghost use Rattle.table_laws.specs.Structures.{without};
 ghost use Rattle.table_machine.specs.Machine.{MayGo, key_in, opened, with_key};
 
@@ -22,7 +23,9 @@ pub struct Gone {
 }
 
 /// The label of the key that a line makes.
-pub(crate) fn label_of(line: u32) -> Label {
+pub(crate) fn label_of(line: u32) -> Label
+    ensures { result ≡ label_of line }
+{
     Label {
         domain: 0,
         serial: line,
@@ -138,7 +141,8 @@ impl Machine {
         line: u32,
         gone: &[Gone],
     ) -> Result<bool, AllocError>
-        ensures { IfOk result (λ yes. IsTrue yes → MayGo self.old self.new) }
+        ensures goes { IfOk result (λ yes. IsTrue yes → MayGo self.old self.new) }
+        ensures gone { IfOk result (λ yes. IsTrue yes → self.new ≡ once_gone gone.now line self.old) }
     {
         for one in gone {
             if one.before == line {

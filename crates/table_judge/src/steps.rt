@@ -1,6 +1,9 @@
 //! What lines answer and leave, once what goes has gone.
-ghost use Rattle.std.specs.Prelude.{◌≡◌, IfOk, IsTrue};
-ghost use Rattle.table_machine.specs.Machine.{AllGone, Deletes, Effect, IsNew, Shows};
+ghost use Rattle.std.specs.Prelude.{◌≡◌, ◌≤◌, ◌+◌, ◌^◌, IfOk, IsTrue, List, Some};
+ghost use Rattle.heap_model.specs.Domains.{IsWithinLimits, reserve};
+ghost use Rattle.table_text.specs.declared.line.TableLine.{TableLine as declared_line};
+ghost use Rattle.table_machine.specs.Machine.{AllGone, Deletes, Effect, HasItsKey, IsNew, MayBeRefused, Shows, all_made, made_by, with_key};
+ghost use Rattle.table_judge.specs.Playing.{NamesKey};
 ghost use Rattle.table_laws.specs.Structures.{datum_at};
 ghost use Rattle.table_text.specs.declared.line.TableLine.TheVariants.{Count, Del, Forget, FullMajor, Get, GetWeak, Key, Put, SetWeak};
 
@@ -9,6 +12,7 @@ use crate::machine::Machine;
 use crate::places::{are_kept, is_held};
 use heap_model::graph::Value;
 use heap_model::label::Label;
+use heap_model::state::Sizes;
 use std::alloc::{AllocError, Global};
 use table_machine::LineReply;
 use table_text::TableLine;
@@ -27,7 +31,8 @@ fn is_new(machine: &Machine, label: Label) -> bool
 }
 
 fn make_key(machine: &mut Machine, reg: u8, label: Label, reply: LineReply) -> bool
-    ensures { IsTrue result → Effect machine.old (Key reg) reply machine.new }
+    ensures does { IsTrue result → Effect machine.old (Key reg) reply machine.new }
+    ensures named { IsTrue result → machine.new ≡ with_key machine.old reg (Some label) }
 {
     if !matches!(reply, LineReply::Done) || !is_new(machine, label) {
         return false;
@@ -161,6 +166,50 @@ fn full_major(machine: &Machine, reply: LineReply) -> bool
     }
 }
 
+/// How many labels a line may make.
+pub(crate) fn labels_made(line: TableLine) -> u64
+    ensures made { result ≡ made_by line }
+    ensures few { result ≤ 2 }
+{
+    match line {
+        TableLine::Key { .. } => 1,
+        TableLine::Put { .. } => 2,
+        _ => 0,
+    }
+}
+
+// Whether a line that binds the key in a register finds one there.
+fn has_its_key(machine: &Machine, line: TableLine) -> bool
+    ensures { IsTrue result → HasItsKey machine.now line }
+{
+    match line {
+        TableLine::Put { reg, .. } => machine.key_in(reg).is_some(),
+        _ => true,
+    }
+}
+
+// Whether so many pools may be used up: those kept free for promotion and those of the classes, and one for each label.
+fn may_be_full(sizes: &Sizes, made: u64) -> bool
+    requires limits { IsWithinLimits sizes.now }
+    requires few { made ≤ 2 ^ 40 }
+    ensures { IsTrue result → sizes.now.pools ≤ 19 + made + reserve sizes.now + sizes.now.classes }
+{
+    let reserve = sizes.domains * (sizes.minor_words / 4096 + sizes.classes);
+    u64::from(sizes.pools) <= 19 + made + u64::from(reserve) + u64::from(sizes.classes)
+}
+
+/// Whether a line, the last of those that make so many labels, may be answered `full`.
+pub(crate) fn may_be_refused(machine: &Machine, sizes: &Sizes, line: TableLine, made: u64) -> bool
+    requires limits { IsWithinLimits sizes.now }
+    requires few { made ≤ 2 ^ 40 }
+    ensures { (lines : List declared_line) → IsTrue result → made ≡ all_made lines → MayBeRefused sizes.now lines line machine.now }
+{
+    if labels_made(line) == 0 || !has_its_key(machine, line) {
+        return false;
+    }
+    may_be_full(sizes, made)
+}
+
 /// Makes a line, and answers whether it may be answered so. A key that it makes has this label.
 pub(crate) fn make_line(
     machine: &mut Machine,
@@ -169,7 +218,8 @@ pub(crate) fn make_line(
     label: Label,
     reply: LineReply,
 ) -> Result<bool, AllocError>
-    ensures { IfOk result (λ yes. IsTrue yes → Effect machine.old line reply machine.new) }
+    ensures does { IfOk result (λ yes. IsTrue yes → Effect machine.old line reply machine.new) }
+    ensures named { IfOk result (λ yes. IsTrue yes → NamesKey label line reply machine.old machine.new) }
 {
     match line {
         TableLine::Key { reg } => Ok(make_key(machine, reg, label, reply)),

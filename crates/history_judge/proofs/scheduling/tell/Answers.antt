@@ -5,5 +5,5 @@ use Rattle.history_judge.specs.declared.explain.Explained.{Explained}
 use Rattle.history_judge.proofs.scheduling.tell.Goals as goal
 
 pub returns-in-Legal : goal.returns-in-Legal
-returns-in-Legal c = λ z bytes output input answer. c.tell_found.ensures z bytes output input
-    (subst (λ (h : List Entry). ExplainsScript z c.args.script.now output h) (sym c.deref.ensures.value) (subst (λ (e : Explained). IsTrueAnswer z c.args.script.now output e) c.in-Legal.is answer))
+returns-in-Legal c = λ bytes input answer. c.tell_found.ensures bytes input
+    (subst (λ (h : List Entry). ExplainsScript c.args.sizes.now c.args.script.now c.args.output.now h) (sym c.deref.ensures.value) (subst (λ (e : Explained). IsTrueAnswer c.args.sizes.now c.args.script.now c.args.output.now e) c.in-Legal.is answer))

@@ -1,0 +1,12 @@
+use Rattle.std.proofs.Common.{◌≡◌, ◌≤◌, ◌*◌, take}
+use Rattle.table_machine.specs.Machine.{all_made}
+use Rattle.table_judge.proofs.RunLemmas.{RunsBefore}
+use Rattle.table_judge.proofs.judge.refused_line.Given as goal
+
+-- however the machine goes on from here, all replies are its own
+abbrev pub invariant-loop-i : goal.invariant-loop-i
+invariant-loop-i l = record {
+  runs : RunsBefore l.fn.sizes l.fn.gone l.fn.text l.fn.replies l.i l.machine;
+  made : l.made ≡ all_made (take l.i l.fn.text);
+  few : l.made ≤ 2 * l.i;
+}

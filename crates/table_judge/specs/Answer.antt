@@ -1,0 +1,23 @@
+-- What the judge of a table's text comes to.
+use Rattle.std.specs.Prelude.{◌≡◌, ℕ, List}
+use Rattle.heap_model.specs.declared.state.Sizes.{Sizes}
+use Rattle.table_text.specs.declared.line.TableLine.{TableLine}
+use Rattle.table_machine.specs.declared.reply.LineReply.{LineReply}
+use Rattle.table_machine.specs.Machine.{MachineAnswers}
+use Rattle.table_machine.specs.Texts.{replies_text}
+use Rattle.table_judge.specs.declared.explain.Explained.{Explained}
+use Rattle.table_judge.specs.declared.explain.Explained.TheVariants.{Run, NoneFound}
+use Rattle.table_judge.specs.declared.machine.Gone.{Gone}
+use Rattle.table_judge.specs.Playing.{AnswersBy}
+
+-- the bytes are replies that the machine may give to these lines, where just those keys go
+pub record Explains (z : Sizes) (lines : List TableLine) (bytes : List ℕ) (gone : List Gone) : Type 0 where
+  pub replies : List LineReply
+  pub prints : replies_text replies ≡ bytes
+  pub answers : MachineAnswers z lines replies
+  pub goes : AnswersBy z gone lines replies
+
+-- only a run claims something: that it explains the output
+abbrev pub IsTrueAnswer : Sizes → List TableLine → List ℕ → Explained → Type 0
+IsTrueAnswer z lines bytes (Run gone) = Explains z lines bytes gone.items
+IsTrueAnswer z lines bytes (NoneFound line) = Unit {0}
