@@ -70,11 +70,12 @@ no_marking_begins_uncleared k x y led may =
     let unknown : y.seen.share.changed ≡ None = ap (λ (w : DomainView). w.seen.share.changed) led.view in
     let e = sym unknown ∙ may.set_back named in cc
 
--- no phase of the marking asks for another one where no block was left to mark
+-- a word that asks for another phase counts once
 asks : (found : ℕ) → found ≢ 0 → asks_again (Some found) ≡ 1
 asks zero some = absurd (some refl)
 asks (suc n) some = refl
 
+-- no phase of the marking asks for another one where no block was left to mark
 pub no_marking_asks_in_vain : (k : Config) (who : Decider) (x y : DomainView) (kind : Kind) (l : LeadsOn k who x y Mark kind) → l.findings.changed ≢ 0 → x.seen.share.unmarked ≡ 0 → ⊥
 no_marking_asks_in_vain k who x y kind l some none =
     let a : ℕ = asks_again (Some l.findings.changed) in
@@ -85,7 +86,7 @@ no_marking_asks_in_vain k who x y kind l some none =
     let zero_left : u ≡ 0 = none in
     omega (arith, one, few, zero_left)
 
--- and behind one that does one fewer is left
+-- behind a phase of the marking that asks for another one fewer blocks are left to mark
 pub a_marking_that_asks_has_marked : (k : Config) (who : Decider) (x y : DomainView) (kind : Kind) (l : LeadsOn k who x y Mark kind) → l.findings.changed ≢ 0 → x.seen.share.unmarked ≤ y.seen.share.unmarked → ⊥
 a_marking_that_asks_has_marked k who x y kind l some as_many =
     let a : ℕ = asks_again (Some l.findings.changed) in
