@@ -1,3 +1,4 @@
 mod Alike
 mod Lines
 mod Parting
+mod Rows

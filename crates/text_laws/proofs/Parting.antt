@@ -17,20 +17,14 @@ abbrev key : Label
 key = record { domain = 0; serial = 20 }
 
 -- no place holds a key
-none_held : (n : _) (i : _) → slice_get (replicate n None) i ≡ Some (Some key) → ⊥
-none_held zero zero e = cc
-none_held zero (suc i) e = cc
-none_held (suc n) zero e = cc
-none_held (suc n) (suc i) e = none_held n i e
-
-lone_held : (n : _) (k : Label) (i : _) → slice_get (replicate n None) i ≡ Some (Some k) → ⊥
+pub lone_held : (n : _) (k : Label) (i : _) → slice_get (replicate n None) i ≡ Some (Some k) → ⊥
 lone_held zero k zero e = cc
 lone_held zero k (suc i) e = cc
 lone_held (suc n) k zero e = cc
 lone_held (suc n) k (suc i) e = lone_held n k i e
 
 -- a line before which nothing goes
-stays : (z : Sizes) (lines : List TableLine) (l : TableLine) (s : TableState) (a : LineReply) (t : TableState) → Effect s l a t → LineStep z lines l s a t
+pub stays : (z : Sizes) (lines : List TableLine) (l : TableLine) (s : TableState) (a : LineReply) (t : TableState) → Effect s l a t → LineStep z lines l s a t
 stays z lines l s a t e = record { left = s; goes = may_same s; does = inl e }
 
 abbrev made : TableState
@@ -43,13 +37,13 @@ abbrev let_go : TableState
 let_go = with_key set 1 None
 
 is_lost : IsLost let_go key
-is_lost (i, at) = none_held 5 i at
+is_lost (i, at) = lone_held 5 key i at
 
 pub found : (z : Sizes) → MachineAnswers z parting_lines found_replies
 found z = record {
   states = made ∷ set ∷ let_go ∷ with_key let_go 2 (Some key) ∷ [];
   runs = (
-    stays z _ _ _ _ _ (refl, (key, record { lost = λ h. none_held 5 h.0 h.1; unbound = refl; unset = λ h. none_held 16 h.0 h.1 }, refl)),
+    stays z _ _ _ _ _ (refl, (key, record { lost = λ h. lone_held 5 key h.0 h.1; unbound = refl; unset = λ h. lone_held 16 key h.0 h.1 }, refl)),
     (stays z _ _ _ _ _ (refl, refl), (stays z _ _ _ _ _ (refl, refl), (stays z _ _ _ _ _ (refl, refl), tt))),
   );
 }
@@ -68,7 +62,7 @@ pub gone : (z : Sizes) → MachineAnswers z parting_lines gone_replies
 gone z = record {
   states = made ∷ set ∷ let_go ∷ emptied ∷ [];
   runs = (
-    stays z _ _ _ _ _ (refl, (key, record { lost = λ h. none_held 5 h.0 h.1; unbound = refl; unset = λ h. none_held 16 h.0 h.1 }, refl)),
+    stays z _ _ _ _ _ (refl, (key, record { lost = λ h. lone_held 5 key h.0 h.1; unbound = refl; unset = λ h. lone_held 16 key h.0 h.1 }, refl)),
     (stays z _ _ _ _ _ (refl, refl), (stays z _ _ _ _ _ (refl, refl), (record { left = emptied; goes = goes; does = inl (refl, refl) }, tt))),
   );
 }
@@ -91,7 +85,7 @@ kept_states = made ∷ bound ∷ bound_set ∷ bound_let_go ∷ given_back ∷ g
 
 kept_runs : (z : Sizes) → MachineRuns z [] opened back_lines kept_replies kept_states
 kept_runs z = (
-  stays z _ _ _ _ _ (refl, (key, record { lost = λ h. none_held 5 h.0 h.1; unbound = refl; unset = λ h. none_held 16 h.0 h.1 }, refl)),
+  stays z _ _ _ _ _ (refl, (key, record { lost = λ h. lone_held 5 key h.0 h.1; unbound = refl; unset = λ h. lone_held 16 key h.0 h.1 }, refl)),
   (stays z _ _ _ _ _ (refl, refl, refl, record { rest = refl; bound = refl }), (stays z _ _ _ _ _ (refl, refl), (stays z _ _ _ _ _ (refl, refl), (stays z _ _ _ _ _ (refl, refl), (stays z _ _ _ _ _ (refl, refl), tt))))),
 )
 
