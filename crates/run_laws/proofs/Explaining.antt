@@ -16,7 +16,13 @@ use Rattle.camlheap_run.specs.Outcome.{WritesRun, WritesRunBy}
 use Rattle.camlheap_run.specs.Run.{IsSpawningRunOf, is_run_of, output_of}
 use Rattle.spawn_laws.specs.Printed.{spawning_output}
 use Rattle.spawned_replay.specs.Explains.{ExplainsSpawning}
-use Rattle.run_laws.specs.Explained.{RunsAreOne, RunsAreExplained, ReplaysAreExplained, SpawningRunsAreExplained}
+use Rattle.table_text.specs.declared.line.TableLine.{TableLine}
+use Rattle.table_machine.specs.declared.reply.LineReply.{LineReply}
+use Rattle.table_machine.specs.Machine.{MachineAnswers, MachineRuns, TableState, opened}
+use Rattle.table_machine.specs.Texts.{replies_text}
+use Rattle.table_run.specs.Running.{LinesRun, TextRuns}
+use Rattle.table_run.specs.Standing.{Places}
+use Rattle.run_laws.specs.Explained.{RunsAreOne, RunsAreExplained, ReplaysAreExplained, SpawningRunsAreExplained, TablesAreExplained}
 
 same_end : (d : ℕ) (e : Entry) → is_end_of d e ≡ is_judged_end d e
 same_end d (End k) = refl
@@ -77,3 +83,20 @@ explained_spawning_runs z ended left_before left_after before bytes x third =
 
 pub explained_replays : ReplaysAreExplained
 explained_replays z ended left_before left_after before bytes x = explained z x.replay.script.sections ended before bytes x.writes.writes
+
+-- the lines of a text that was run are steps of its machine
+machine_runs : (z : Sizes) (p : Places) (before : List TableLine) (s : TableState) (old : List Entry) (lines : List TableLine) (replies : List LineReply) (t : TableState) (new : List Entry)
+    → LinesRun z p before s old lines replies t new → (states : List TableState) × MachineRuns z before s lines replies states
+machine_runs z p before s old [] [] t new runs = ([], tt)
+machine_runs z p before s old (l ∷ lines) (a ∷ replies) t new (u, h, here, later) =
+    let rest = machine_runs z p (before ++ l ∷ []) u h lines replies t new later in (u ∷ rest.0, (here.step, rest.1))
+machine_runs z p before s old [] (a ∷ replies) t new runs = absurd runs
+machine_runs z p before s old (l ∷ lines) [] t new runs = absurd runs
+
+answered : (z : Sizes) (lines : List TableLine) (replies : List LineReply) (h : List Entry) → TextRuns z lines replies h → MachineAnswers z lines replies
+answered z lines replies h x = let runs = machine_runs z x.places [] opened x.first lines replies x.state x.last x.lines_run in record { states = runs.0; runs = runs.1 }
+
+pub explained_tables : TablesAreExplained
+explained_tables z ended left_before left_after before bytes x =
+    let replies = x.writes.replies in
+    (replies, sym (same_rest before bytes (replies_text replies) x.writes.written), answered z x.lines replies x.writes.ran.past.history x.writes.ran.runs)

@@ -1,3 +1,4 @@
 pub mod Explaining
 pub mod Keeping
 mod Rows
+mod Repeating

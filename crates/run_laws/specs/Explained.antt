@@ -10,6 +10,10 @@ use Rattle.spawned_replay.specs.Explains.{ExplainsSpawning}
 use Rattle.camlheap_run.specs.Outcome.{RunsToEnd}
 use Rattle.camlheap_run.specs.Replaying.{ReplaysToEnd}
 use Rattle.camlheap_run.specs.Run.{IsRunOf}
+use Rattle.camlheap_run.specs.Tables.{TableRunsToEnd}
+use Rattle.table_machine.specs.declared.reply.LineReply.{LineReply}
+use Rattle.table_machine.specs.Machine.{MachineAnswers}
+use Rattle.table_machine.specs.Texts.{replies_text}
 
 -- the program and the judge mean the same by a run of a script
 abbrev pub RunsAreOne : Type 0
@@ -29,3 +33,8 @@ SpawningRunsAreExplained = (z : Sizes) (ended : Option EndedHeap) (left_before l
 abbrev pub ReplaysAreExplained : Type 0
 ReplaysAreExplained = (z : Sizes) (ended : Option EndedHeap) (left_before left_after : Option (List ℕ)) (before bytes : List ℕ)
     → (x : ReplaysToEnd z ended left_before left_after (Some before) (Some (before ++ bytes))) → (h : List Entry) × Explains z x.replay.script.sections bytes h
+
+-- and of a text of a table the machine may give the replies that were written
+abbrev pub TablesAreExplained : Type 0
+TablesAreExplained = (z : Sizes) (ended : Option EndedHeap) (left_before left_after : Option (List ℕ)) (before bytes : List ℕ)
+    → (x : TableRunsToEnd z ended left_before left_after (Some before) (Some (before ++ bytes))) → (replies : List LineReply) × (replies_text replies ≡ bytes) × MachineAnswers z x.lines replies

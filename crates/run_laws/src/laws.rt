@@ -1,14 +1,21 @@
 //! Laws of runs that ended well. Each function's contract is one law, and it does nothing else.
-ghost use Rattle.run_laws.specs.Explained.{ReplaysAreExplained, RunsAreExplained, RunsAreOne, SpawningRunsAreExplained};
+ghost use Rattle.run_laws.specs.Explained.{ReplaysAreExplained, RunsAreExplained, RunsAreOne, SpawningRunsAreExplained, TablesAreExplained};
+ghost use Rattle.run_laws.specs.Repeated.{ReplaysAreRepeated};
 ghost use Rattle.run_laws.specs.Sections.{SpawningRunsKeep};
 
-/// What a run of a script wrote, and what a replay wrote, some history explains to the judge: so an output that none explains is
-/// none of this program's.
+/// What a run of a script wrote, and what a replay wrote, some history explains to the judge, and what a text of a table wrote a run
+/// of its machine: so an output that none explains is none of this program's.
 pub fn runs_are_explained()
     ensures one { RunsAreOne }
     ensures runs { RunsAreExplained }
     ensures spawning { SpawningRunsAreExplained }
     ensures replays { ReplaysAreExplained }
+    ensures tables { TablesAreExplained }
+{}
+
+/// Two replays of the same bytes that ended well wrote the same, on heaps with as many domains, whatever their pools and minor areas.
+pub fn replays_are_repeated()
+    ensures { ReplaysAreRepeated }
 {}
 
 /// What a run of a script of version 3 wrote is the text of a run in which each `argument` answers what its spawn passed, each

@@ -1,4 +1,4 @@
-use Rattle.run_laws.proofs.Explaining.{explained_replays, explained_runs, explained_spawning_runs, one_run}
+use Rattle.run_laws.proofs.Explaining.{explained_replays, explained_runs, explained_spawning_runs, explained_tables, one_run}
 use Rattle.run_laws.proofs.laws.runs_are_explained.Goals as goal
 
 pub returns-clause-one : goal.returns-clause-one
@@ -12,3 +12,6 @@ returns-clause-spawning c = explained_spawning_runs
 
 pub returns-clause-replays : goal.returns-clause-replays
 returns-clause-replays c = explained_replays
+
+pub returns-clause-tables : goal.returns-clause-tables
+returns-clause-tables c = explained_tables
