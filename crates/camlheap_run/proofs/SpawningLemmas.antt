@@ -5,7 +5,7 @@ use Rattle.std.specs.Prelude.{Option, IsTrue, flat_map, slice_get, slice_index_o
 use Rattle.std.specs.List.{list_any, range_with_len}
 use Rattle.std.specs.Io.KnownBytes.{Appends}
 use Rattle.std.proofs.lemmas.List.{take_all}
-use Rattle.std.proofs.lemmas.Option.{slice_get-get_or, slice_get_within}
+use Rattle.std.proofs.lemmas.Option.{none-some, same_Some, slice_get-get_or, slice_get_within}
 use Rattle.heap_model.specs.declared.command.Command.{Command}
 use Rattle.heap_model.specs.declared.entry.Entry.{Entry}
 use Rattle.heap_model.specs.declared.reply.Reply.{Reply}
@@ -122,12 +122,17 @@ sections_count marks [] sections many = refl
 sections_count marks (t ∷ ts) [] many = absurd (omega arith)
 sections_count marks (t ∷ ts) (cs ∷ sections) many = ap suc (sections_count marks ts sections (omega (arith, many)))
 
+-- where a list is made of two others, pair by pair, each of its items is made of a pair
+each_at : {A B C : Type 0} (f : A → B → C) (d : B) (g : List A → List B → List C) → ((ss : List B) → g [] ss ≡ []) → ((t : A) (ts : List A) → g (t ∷ ts) [] ≡ []) → ((t : A) (ts : List A) (s : B) (ss : List B) → g (t ∷ ts) (s ∷ ss) ≡ f t s ∷ g ts ss)
+    → (ts : List A) (ss : List B) (i : ℕ) (r : C) → slice_get (g ts ss) i ≡ Some r → (t : A) × (slice_get ts i ≡ Some t) × (r ≡ f t (slice_index_or ss i d))
+each_at f d g none few step [] ss i r at = absurd (none-some r (ap (λ l. slice_get l i) (sym (none ss)) ∙ at))
+each_at f d g none few step (t ∷ ts) [] i r at = absurd (none-some r (ap (λ l. slice_get l i) (sym (few t ts)) ∙ at))
+each_at f d g none few step (t ∷ ts) (s ∷ ss) zero r at = (t, refl, sym (same_Some (f t s) r (ap (λ l. slice_get l 0) (sym (step t ts s ss)) ∙ at)))
+each_at f d g none few step (t ∷ ts) (s ∷ ss) (suc i) r at = each_at f d g none few step ts ss i r (ap (λ l. slice_get l (suc i)) (sym (step t ts s ss)) ∙ at)
+
 pub sections_at : (marks : List Bool) (ts : List Token) (sections : List (List Command)) (i : ℕ) (r : RunView) → slice_get (sectioned_each marks ts sections) i ≡ Some r
     → (t : Token) × (slice_get ts i ≡ Some t) × (r ≡ sectioned_with t (slice_index_or sections i []) (slice_index_or marks t.view.own.number false))
-sections_at marks [] sections i r at = cc
-sections_at marks (t ∷ ts) [] i r at = cc
-sections_at marks (t ∷ ts) (cs ∷ sections) zero r at = (t, refl, cc)
-sections_at marks (t ∷ ts) (cs ∷ sections) (suc i) r at = sections_at marks ts sections i r at
+sections_at marks = each_at (λ t cs. sectioned_with t cs (slice_index_or marks t.view.own.number false)) [] (sectioned_each marks) (λ ss. refl) (λ t ts. refl) (λ t ts s ss. refl)
 
 abbrev pub eight : List ℕ
 eight = 0 ∷ 1 ∷ 2 ∷ 3 ∷ 4 ∷ 5 ∷ 6 ∷ 7 ∷ []
