@@ -25,20 +25,22 @@ use std::marker::Model;
 pub struct Heap {
     pub(crate) table: Table<(), View, Config, Law, Global>,
     pub(crate) config: Config,
+    // The index before that of the heap's first word, which is the word with address 1.
+    pub(crate) before: usize,
 }
 
 impl Model for Heap {
     ghost use Rattle.std.specs.Prelude.{◌≡◌, ◌≤◌};
     ghost use Rattle.heap_model.specs.Domains.{IsWithinLimits};
     ghost use Rattle.heap_rule.specs.Limits.{sizes_in};
-    ghost use Rattle.heap_rule.specs.Layout.{table_words};
+    ghost use Rattle.heap_rule.specs.Layout.{before_heap, table_words};
     ghost use Rattle.heap_rule.specs.Token.{SharedHeap};
 
     ghost Value = { SharedHeap };
 
     ghost view = { λ h. record { table = h.table.shared.table_id; config = h.table.shared.key } };
 
-    ghost invariant = { λ h. (h.table.shared.table_id.words ≡ table_words h.table.shared.key) × (h.config ≡ h.table.shared.key) × IsWithinLimits (sizes_in h.table.shared.key) };
+    ghost invariant = { λ h. (h.table.shared.table_id.words ≡ table_words h.table.shared.key) × (h.config ≡ h.table.shared.key) × (h.before ≡ before_heap h.table.shared.key) × IsWithinLimits (sizes_in h.table.shared.key) };
 }
 
 impl Heap {
@@ -54,7 +56,7 @@ impl Heap {
     pub fn index_of(&self, address: u32) -> usize
         ensures { result ≡ before_heap self.now.config + address }
     {
-        index_of(self.config.pools, address)
+        self.before + address as usize
     }
 
     /// A heap, and the tokens of its domains, numbered from 0. Each runs, register 0 holds the
@@ -71,7 +73,12 @@ impl Heap {
         }
         let words = opening_words(alloc, &config)?;
         let (table, seat) = Table::of_words(alloc, words.as_slice(), &config)?;
-        let heap = Heap { table, config };
+        let before = index_of(config.pools, 0);
+        let heap = Heap {
+            table,
+            config,
+            before,
+        };
         let domains = seated(alloc, &heap, seat, config.domains)?;
         Ok((heap, domains))
     }
