@@ -10,7 +10,7 @@ use Rattle.heap_rule.specs.declared.phase.Stage.TheVariants.{In, Leads, Led}
 use Rattle.heap_rule.specs.declared.phase.Note.{Note}
 use Rattle.heap_rule.specs.declared.phase.Note.TheVariants.{Barrier, Cleared}
 use Rattle.heap_rule.specs.Limits.{sizes_in}
-use Rattle.heap_rule.specs.Phases.{Comes, IsEven, IsOdd, Pause}
+use Rattle.heap_rule.specs.Phases.{Comes, IsEven, IsOdd, Pause, Staged}
 use Rattle.heap_rule.specs.Rule.{state_of}
 use Rattle.heap_rule.specs.Standing.{noted, with_front}
 use Rattle.heap_rule.specs.Cycles.{IsMarking}
@@ -49,12 +49,13 @@ LookAnswers k x y (NotAll b) = (b < x.own.arrivals * k.domains) × (y ≡ noted 
 LookAnswers k x y (Next kind) = PassedBarrier k x y × (y.seen.stage ≡ In kind) × IsEven x.own.arrivals × Comes x.own.number (kind_in x.seen.stage) kind × IsModeOf kind (state_of k y.seen.front).mode
 LookAnswers k x y Lead = PassedBarrier k x y × (y.seen.stage ≡ Leads (kind_in x.seen.stage)) × IsOdd x.own.arrivals
 
--- These domains meet, of which the first looks, and all see the history of the meeting: to the first the look answers what it answers one that is alone. Where they are all domains of the heap, and none has arrived less often than the first, it doesn't answer that not all have arrived
+-- These domains meet, of which the first looks, and all see the history of the meeting: to the first the look answers what it answers one that is alone, and it stands in the same pause then. Where they are all domains of the heap, and none has arrived less often than the first, it doesn't answer that not all have arrived
 pub record LooksTogether (k : Config) (xs ys : List DomainView) (answer : Look) : Type 0 where
   pub history : List Entry
   pub pause : Pause
   pub meets : Meeting k history pause xs
   pub first : LookAnswers k (with_front (domain_in xs) history) (domain_in ys) answer
+  pub staged : Staged pause (domain_in ys)
   pub others : ys ≡ domain_in ys ∷ all_seeing history (rest_of xs)
   pub acts : length xs ≡ k.domains → AllDomains (λ x. (domain_in xs).own.arrivals ≤ x.own.arrivals) xs → (b : ℕ) → answer ≡ NotAll b → ⊥
 

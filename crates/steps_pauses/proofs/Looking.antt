@@ -213,6 +213,7 @@ looks_together k x xs gone slots id hist s r _ at _ =
           pause = r.account.pause;
           meets = meets;
           first = o.told;
+          staged = o.good.staged;
           others = refl;
           acts = λ many least.
               let phase = r.account.pause.phase in
