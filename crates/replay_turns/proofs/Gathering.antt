@@ -1,7 +1,7 @@
 -- The runs of a heap, as a replay sees them, from their start to their end.
 use Rattle.std.proofs.Common.{◌≡◌, ℕ, zero, suc, true, false, List, [], ◌∷◌, map, length, get_or, slice_get, drop, option_map, Some, None, refl, sym, ap, ◌∙◌, subst, Option}
 use Rattle.std.proofs.lemmas.List.{length-map}
-use Rattle.std.proofs.lemmas.Option.{get_or_from_slice_get, slice_get-map}
+use Rattle.std.proofs.lemmas.Option.{slice_get-map}
 use Rattle.heap_model.specs.declared.command.Command.{Command}
 use Rattle.heap_model.specs.declared.entry.Entry.{Entry}
 use Rattle.heap_model.specs.declared.state.Sizes.{Sizes}
@@ -17,12 +17,9 @@ use Rattle.schedule_drive.specs.Pausing.{all_commands, lefts}
 use Rattle.schedule_drive.specs.Following.{IsCalm}
 use Rattle.replay_turns.specs.Ends.{TakenApart}
 use Rattle.replay_turns.specs.Gathered.{GatheredView, HasRun, IsGathered, MayShare, asked_for, is_running, one_run, run_at, seen_in}
+use Rattle.replay_turns.proofs.Places.{read_at}
 use Rattle.replay_turns.proofs.EndLemmas.{nothing_shared}
 use Rattle.replay_turns.specs.Replayed.{IsUntouched, MayReplay, Replayed, commands_of}
-
--- what a list has at a place, of what another has there
-read_at : {A B : Type 0} (f : A → B) (xs : List A) (d : ℕ) (x : A) (e : B) → slice_get xs d ≡ Some x → get_or (map f xs) d e ≡ f x
-read_at f xs d x e was = get_or_from_slice_get (map f xs) d (f x) e (slice_get-map f xs d ∙ ap (option_map f) was)
 
 -- where the runs stand, as they were gathered
 abbrev gathered : SharedHeap → List RunView → GatheredView

@@ -34,6 +34,7 @@ level_start h runs at all = record {
   more = λ d r there. (r, there, record { history = r.token.view.seen.front; trails = trails_whole r.token.view; is = refl });
   stay = all.filled;
   are = all.are;
+  shared = λ d below. absurd (omega (arith, below));
   above = λ d r top below. absurd (omega (arith, below));
 }
 
@@ -45,6 +46,22 @@ level_here h old new at n all l = record {
   are = l.are;
 }
 
+-- and where one of them has gone on
+pub set_all_here : (h : SharedHeap) (runs : List (Option RunView)) (at : ℕ) (s : RunView) → AllHere h runs → at < length runs → IsIn s.token h → IsRun s → AllHere h (Rattle.std.specs.Prelude.slice_set runs at (Some s))
+set_all_here h runs at s all within here is =
+    let new : List (Option RunView) = Rattle.std.specs.Prelude.slice_set runs at (Some s) in
+    let there : HasRun new at s = set_here runs at (Some s) within in record {
+      filled = λ d below. dite (ℕ_discrete d at)
+          (λ e. (s, subst (λ (n : ℕ). HasRun new n s) (sym e) there))
+          (λ no. let f = all.filled d (subst (λ (n : ℕ). d < n) (length-set runs at (Some s)) below) in (f.0, set_else runs at d (Some s) no ∙ f.1));
+      here = λ d q is. dite (ℕ_discrete d at)
+          (λ e. subst (λ (x : RunView). IsIn x.token h) (one_there new at s q there (subst (λ (n : ℕ). HasRun new n q) e is)) here)
+          (λ no. all.here d q (sym (set_else runs at d (Some s) no) ∙ is));
+      are = λ d q at_place. dite (ℕ_discrete d at)
+          (λ e. subst IsRun (one_there new at s q there (subst (λ (n : ℕ). HasRun new n q) e at_place)) is)
+          (λ no. all.are d q (sym (set_else runs at d (Some s) no) ∙ at_place));
+    }
+
 -- one more domain has met the one at this place
 pub level_meets : (h : SharedHeap) (old mid new : List (Option RunView)) (at other : ℕ) → other ≢ at → Leveled h.config old mid at other → MetTwo h.config mid new at other → Leveled h.config old new at (other + 1)
 level_meets h old mid new at other apart l m = record {
@@ -52,6 +69,7 @@ level_meets h old mid new at other apart l m = record {
   more = more;
   stay = stay;
   are = are;
+  shared = shared;
   above = above;
 }
   where
@@ -89,6 +107,20 @@ level_meets h old mid new at other apart l m = record {
         (λ e. subst IsRun (one_there new other m.second r m.is_two (subst (λ (n : ℕ). HasRun new n r) e there)) m.second_is)
         (λ nor. l.are d r (sym (m.others d no nor) ∙ there)))
 
+    -- who met shared a history
+    whole : (place : ℕ) (q r : RunView) → HasRun old place q → HasRun mid place r → Rattle.heap_rule.specs.Meeting.Trails history r.token.view → Rattle.heap_rule.specs.Meeting.Trails history q.token.view
+    whole place q r was there t =
+        let before = l.more place r there in
+        let saw = before.2 in
+        let view : r.token.view ≡ with_front before.0.token.view saw.history = ap (λ (x : RunView). x.token.view) saw.is in
+        subst (λ (x : RunView). Rattle.heap_rule.specs.Meeting.Trails history x.token.view) (one_there old place before.0 q before.1 was)
+        (trails_on history saw.history before.0.token.view saw.trails (subst (Rattle.heap_rule.specs.Meeting.Trails history) view t))
+
+    shared : (d : ℕ) → d < other + 1 → d ≢ at → (q p : RunView) → HasRun old d q → HasRun old at p → (h : List Entry) × Rattle.heap_rule.specs.Meeting.Trails h q.token.view × Rattle.heap_rule.specs.Meeting.Trails h p.token.view
+    shared d below away q p was tops = dite (ℕ_discrete d other)
+        (λ e. (history, whole other q m.two (subst (λ (n : ℕ). HasRun old n q) e was) m.was_two m.met.second, whole at p m.one tops m.was_one m.met.first))
+        (λ nor. l.shared d (let b = below in let c = nor in omega arith) away q p was tops)
+
     front : (top : RunView) → HasRun new at top → top ≡ run_seeing m.one history
     front top there = sym (one_there new at m.first top m.is_one there) ∙ m.met.first_is
 
@@ -115,6 +147,7 @@ level_skips h old mid at other same l = record {
   more = l.more;
   stay = l.stay;
   are = l.are;
+  shared = λ d below away. l.shared d (let b = below in let s = same in let n = away in omega arith) away;
   above = λ d r top below there tops. dite (ℕ_discrete d at)
       (λ e. under_same r.token.view top.token.view (ap (λ (x : RunView). x.token.view.seen.front) (one_there mid at top r tops (subst (λ (n : ℕ). HasRun mid n r) e there))))
       (λ no. l.above d r top (let b = below in let s = same in let n = no in omega arith) there tops);

@@ -45,10 +45,11 @@ pub record Under (x y : DomainView) : Type 0 where
   pub part : IsPrefix x.seen.front y.seen.front
   pub calls : y.seen.stage ≡ In Run → AreCalls (unseen y.seen.front x.seen.front)
 
--- each domain saw more of the history, and the one at this place all that those before a place saw
+-- each domain saw more of the history, and the one at this place all that those before a place saw: with each of them it shared one
 pub record Leveled (k : Config) (old new : List (Option RunView)) (at upto : ℕ) : Type 0 where
   pub count : length new ≡ length old
   pub more : (d : ℕ) (r : RunView) → HasRun new d r → (q : RunView) × HasRun old d q × SawMore k q r
   pub stay : (d : ℕ) → d < length old → (r : RunView) × HasRun new d r
   pub are : (d : ℕ) (r : RunView) → HasRun new d r → IsRun r
+  pub shared : (d : ℕ) → d < upto → d ≢ at → (q p : RunView) → HasRun old d q → HasRun old at p → (history : List Entry) × Trails history q.token.view × Trails history p.token.view
   pub above : (d : ℕ) (r top : RunView) → d < upto → HasRun new d r → HasRun new at top → Under r.token.view top.token.view

@@ -35,8 +35,8 @@ impl TogetherRuns for Gathered {
         self.run(at).running()
     }
 
-    fn turn<R: Wait>(&mut self, rt: &R, at: usize) -> Stepped {
-        step_at(rt, &self.heap, self.runs.as_mut_slice(), at)
+    fn turn<R: Wait>(&mut self, _rt: &R, at: usize) -> Stepped {
+        step_at(&self.heap, self.runs.as_mut_slice(), at)
     }
 
     fn halt_all<R: Wait>(&mut self, rt: &R, complete: bool) {

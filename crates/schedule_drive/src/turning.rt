@@ -3,7 +3,7 @@ ghost use Rattle.std.specs.Prelude.{◌<◌, ◌≡◌, false, length, true};
 ghost use Rattle.schedule_laws.specs.Scheduled.{Played, take_turn};
 ghost use Rattle.schedule_drive.specs.Ending.{Nears, TakesOne};
 ghost use Rattle.schedule_drive.specs.Following.{Advances, AllFollow, IsCalm, IsCalmBut, Waits};
-ghost use Rattle.schedule_drive.specs.Pausing.{all_commands};
+ghost use Rattle.schedule_drive.specs.Pausing.{RestedAt, all_commands};
 ghost use Rattle.schedule_drive.specs.Together.{Has};
 
 use crate::pausing::pause;
@@ -17,6 +17,7 @@ fn pause_for<T: TogetherRuns, R: Wait>(rt: &R, runs: &mut T, at: usize, complete
     requires goes_on { Has (λ x. x.ended) false (T.seen runs.old) at }
     requires waits { complete ≡ true → Waits (T.seen runs.old) (T.shares runs.old) at }
     ensures advances { Advances (T.shares runs.old) (T.shares runs.new) (T.seen runs.old) (T.seen runs.new) at complete }
+    ensures rested { RestedAt (T.seen runs.new) at }
 {
     pause(rt, runs, complete);
     runs.stands();
@@ -27,7 +28,9 @@ fn step_on<T: TogetherRuns, R: Wait>(rt: &R, runs: &mut T, at: usize) -> bool
     requires inside { at < length (T.seen runs.old).runs }
     requires calm { IsCalmBut (T.seen runs.old) at }
     requires goes_on { Has (λ x. x.ended) false (T.seen runs.old) at }
+    requires rested { RestedAt (T.seen runs.old) at }
     ensures advances { Advances (T.shares runs.old) (T.shares runs.new) (T.seen runs.old) (T.seen runs.new) at result }
+    ensures rested { result ≡ false → RestedAt (T.seen runs.new) at }
     ensures nears { result ≡ false → Nears (T.seen runs.old) (T.seen runs.new) at }
 {
     let stepped = runs.turn(rt, at);

@@ -5,4 +5,5 @@ pub returns : goal.returns
 returns g c = record {
   advances = pause_advances (g.T.TogetherRuns.shares c.args.runs.now) (g.T.TogetherRuns.shares c.pause.new.runs) (g.T.TogetherRuns.seen c.args.runs.now) (g.T.TogetherRuns.seen c.pause.new.runs) c.args.at c.requires.inside c.requires.goes_on c.requires.calm
       c.pause.ensures.over c.pause.ensures.run c.stands.ensures.shared c.args.complete c.requires.waits c.pause.ensures.paused;
+  rested = c.pause.ensures.paused.rested c.args.at;
 }
