@@ -11,12 +11,13 @@ use Rattle.heap_model.specs.declared.reply.Reply.TheVariants as reply
 use Rattle.heap_model.specs.Commands.{shown}
 use Rattle.heap_model.specs.declared.state.Sizes.{Sizes}
 use Rattle.table_laws.specs.Stages.{graph_of}
+use Rattle.map_laws.specs.Tries.{IsInPlace}
 use Rattle.map_laws.specs.Calls.{PerformedBy, PutsOrFull}
 use Rattle.weak_maps.specs.Walks.{Descended, Emptied}
 use Rattle.weak_maps.specs.Fields.{Cleared, Finds}
 use Rattle.weak_maps.specs.Beside.{held_by}
 use Rattle.weak_maps.specs.declared.putting.Try.{Try}
-use Rattle.weak_maps.specs.Puts.{FindsField, IsInPlace, KeepsLeaf, MakesLeaf}
+use Rattle.weak_maps.specs.Puts.{FindsField, KeepsLeaf, MakesLeaf}
 use Rattle.weak_maps.specs.Settles.{Settles}
 use Rattle.weak_maps.specs.Returns.{GetReturns, PutReturns, TakeLeaves, TakeReturns}
 

@@ -16,7 +16,7 @@ use Rattle.heap_model.specs.History.{IsPrefix, Legal}
 use Rattle.heap_model.proofs.Graphs.GraphLemmas.{same_label-true}
 use Rattle.table_laws.specs.Stages.{graph_of}
 use Rattle.table_laws.proofs.StepLemmas.{legal_parts}
-use Rattle.map_laws.specs.Tries.{bound_by, bound_in, node_width, number_of, IsLabelOf, IsMap}
+use Rattle.map_laws.specs.Tries.{bound_by, bound_in, node_width, number_of, IsLabelOf, IsMap, IsInPlace}
 use Rattle.map_laws.specs.Steps.{OthersRespect}
 use Rattle.map_laws.specs.Calls.{PerformedBy, PutsOrFull}
 use Rattle.map_laws.proofs.FrontLemmas.{prefix_same}
@@ -24,7 +24,7 @@ use Rattle.map_laws.proofs.RespectLemmas.{respect_both}
 use Rattle.map_laws.proofs.LabelLemmas.{held_below, key_below}
 use Rattle.weak_maps.specs.Beside.{held_by}
 use Rattle.weak_maps.specs.Fields.{Cleared}
-use Rattle.weak_maps.specs.Puts.{Arrived, FindsField, IsInPlace, KeepsLeaf, MakesRoom, Publishes, Putting, rest_of}
+use Rattle.weak_maps.specs.Puts.{Arrived, FindsField, KeepsLeaf, MakesRoom, Publishes, Putting, rest_of}
 use Rattle.weak_maps.specs.declared.putting.Try.{Try}
 use Rattle.weak_maps.specs.Settles.{SettledBy, Settles}
 use Rattle.weak_maps.specs.Returns.{TakeLeaves}

@@ -11,7 +11,7 @@ use Rattle.heap_model.specs.declared.state.Sizes.{Sizes}
 use Rattle.heap_model.specs.Domains.{IsWithinLimits}
 use Rattle.heap_model.specs.History.{IsPrefix}
 use Rattle.table_laws.specs.Stages.{graph_of}
-use Rattle.map_laws.specs.Tries.{at, inside, bound_by, node_width, number_of, root_width, way_to, IsLabelOf, IsMap}
+use Rattle.map_laws.specs.Tries.{at, inside, bound_by, node_width, number_of, root_width, way_to, IsLabelOf, IsMap, IsInPlace}
 use Rattle.map_laws.specs.Steps.{OthersRespect}
 use Rattle.map_laws.specs.Calls.{ChangesOne, Looks, PerformedBy}
 use Rattle.map_laws.proofs.CallLemmas.{copy_step}
@@ -21,7 +21,7 @@ use Rattle.map_laws.proofs.RespectLemmas.{respect_within}
 use Rattle.weak_maps.specs.Beside.{held_by}
 use Rattle.weak_maps.specs.Walks.{Looking, OwnQuiet}
 use Rattle.weak_maps.specs.Fields.{AtField, Cleared, Stays}
-use Rattle.weak_maps.specs.Puts.{Arrived, FieldFound, FindsField, GoesOn, IsInPlace, KeepsLeaf, LeafMade, OwnBlock, Published, Putting, rest_of}
+use Rattle.weak_maps.specs.Puts.{Arrived, FieldFound, FindsField, GoesOn, KeepsLeaf, LeafMade, OwnBlock, Published, Putting, rest_of}
 use Rattle.weak_maps.specs.Returns.{TakeLeaves}
 use Rattle.weak_maps.proofs.BesideLemmas.{set_here, set_other, sixteen}
 use Rattle.weak_maps.proofs.DescendLemmas.{below_root}

@@ -21,10 +21,6 @@ use Rattle.weak_maps.specs.Beside.{held_by}
 use Rattle.weak_maps.specs.Walks.{Looking}
 use Rattle.weak_maps.specs.Fields.{AtField, KeepsWalked, Stays}
 
--- each leaf that binds a key stands on the key's way
-abbrev pub IsInPlace : ℕ → Graph → Label → Type 0
-IsInPlace n g root = (p : List ℕ) (l k : Label) → at (inside g) p (Block root) ≡ Some (Block l) → bound_by g k (Block l) ≢ None → (q : List ℕ) × (way_to n k ≡ p ++ q)
-
 -- a leaf of this key, or of none
 abbrev pub IsLeafOf : Graph → Label → Label → Type 0
 IsLeafOf g k l = (datum : Value) × ((node_at g l ≡ Some (Ephe (Some k ∷ []) datum)) ⊎ (node_at g l ≡ Some (Ephe (None ∷ []) datum)))

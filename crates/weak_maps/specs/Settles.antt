@@ -7,13 +7,13 @@ use Rattle.heap_model.specs.declared.graph.Value.TheVariants.{Block}
 use Rattle.heap_model.specs.declared.reply.Reply.TheVariants as reply
 use Rattle.heap_model.specs.declared.state.Sizes.{Sizes}
 use Rattle.table_laws.specs.Stages.{graph_of}
-use Rattle.map_laws.specs.Tries.{IsMap}
+use Rattle.map_laws.specs.Tries.{IsMap, IsInPlace}
 use Rattle.map_laws.specs.Steps.{OthersRespect}
 use Rattle.map_laws.specs.Calls.{PutsOrFull}
 use Rattle.weak_maps.specs.declared.putting.Try.{Try}
 use Rattle.weak_maps.specs.declared.putting.Try.TheVariants.{Over, Again}
 use Rattle.weak_maps.specs.Beside.{held_by}
-use Rattle.weak_maps.specs.Puts.{Arrived, IsInPlace, Putting}
+use Rattle.weak_maps.specs.Puts.{Arrived, Putting}
 use Rattle.weak_maps.specs.Returns.{TakeLeaves}
 
 -- how many blocks more may be made, of so many before the try

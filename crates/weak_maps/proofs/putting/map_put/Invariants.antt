@@ -3,10 +3,10 @@ use Rattle.heap_model.specs.declared.label.Label.{Label}
 use Rattle.heap_model.specs.declared.graph.Value.TheVariants.{Block}
 use Rattle.heap_model.specs.History.{IsPrefix}
 use Rattle.table_laws.specs.Stages.{graph_of}
-use Rattle.map_laws.specs.Tries.{IsMap}
+use Rattle.map_laws.specs.Tries.{IsMap, IsInPlace}
 use Rattle.map_laws.specs.Steps.{OthersRespect}
 use Rattle.weak_maps.specs.Beside.{held_by, refusals_by, writings_by}
-use Rattle.weak_maps.specs.Puts.{IsInPlace, Putting}
+use Rattle.weak_maps.specs.Puts.{Putting}
 use Rattle.weak_maps.proofs.putting.map_put.Given as goal
 
 abbrev pub invariant-tries : goal.invariant-tries
