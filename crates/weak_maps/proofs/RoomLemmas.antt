@@ -135,7 +135,7 @@ module _ (z : Sizes) (limits : IsWithinLimits z) (root : Label) (d : ℕ) (first
       let leaf_mid = own_middle z d root now n0 (Alloc 11 0 32) r0 p0 10 l mine (λ o. thin_held (WasUnreached z now (now ++ p0.between)) k v o (held_not_outside z d now p0.between k kr p0.others key)) leaf in (
         record { looks = on.0; grows = g0; map = on.1 },
         keeps,
-        own_born z d root now n0 (Alloc 11 0 32) r0 p0 11 blank (λ m is. let clash : false ≡ true = is in cc) (map_mid z d root now n0 (Alloc 11 0 32) r0 p0 e0 map) granted.1 granted.2.0
+        own_born z d root now n0 (Alloc 11 0 32) r0 p0 11 blank (λ m is. let clash : false ≡ true = is in cc) (map_mid z d root now n0 (Alloc 11 0 32) r0 p0 e0 map).own granted.1 granted.2.0
             (set_here z d now n0 11 (Block b) granted.2.1 (sixteen z d now n0 (Alloc 11 0 32) r0 p0 limits) (omega arith)),
         own_on z d root now n0 (Alloc 11 0 32) r0 p0 10 l mine mine 8 leaf_mid (λ m is. let clash : false ≡ true = is in cc) not_eight (keeps 10 (λ e. absurd (omega (arith, e))))
             (ap (λ (g : Graph). node_at g l) granted.2.0 ∙ node_at-append_old (graph_of z (now ++ p0.between)) (b, blank) l mine leaf_mid.node),
