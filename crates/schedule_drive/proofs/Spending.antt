@@ -7,7 +7,7 @@ use Rattle.std.proofs.lemmas.Option.{slice_get_within}
 use Rattle.heap_model.specs.declared.command.Command.{Command}
 use Rattle.heap_model.specs.declared.command.Command.TheVariants.{FullMajor}
 use Rattle.heap_model.specs.declared.entry.Entry.{Entry}
-use Rattle.schedule_drive.specs.Pausing.{Answered, AsksAlone, NotYet, Paused, askeds, lefts}
+use Rattle.schedule_drive.specs.Pausing.{Answered, AsksAlone, NotYet, Paused, RestedAt, askeds, lefts}
 use Rattle.schedule_drive.specs.Spending.{IsShort, SpendsFor, SpentInTurn, asked_at, most_in_pause, most_in_turn}
 use Rattle.schedule_drive.specs.Together.{AllRuns, OneRun, Turned}
 use Rattle.schedule_drive.specs.declared.together.Stepped.TheVariants.{Ran, Made, Needs}
@@ -69,10 +69,10 @@ module _ (shares_old shares_new : List Entry → Type 0) (v w : AllRuns) (d : �
       asked_now v w d t.run t.becomes t.was t.view ∙ ap (λ (r : OneRun). r.asked) t.tells.1 ∙ sym (asked_before v w d t.run t.becomes t.was t.view)
 
   -- a pause that isn't complete must come
-  pub needs_asked : (complete : Bool) → Turned shares_old shares_new v w d (Needs complete) → complete ≡ false → (asked_at v d ≡ false) × (asked_at w d ≡ true) × IsShort w d
-  needs_asked true t is = absurd (false≢true (sym is))
-  needs_asked false t is = (
-    asked_before v w d t.run t.becomes t.was t.view ∙ t.tells.2,
+  pub needs_asked : (complete : Bool) → RestedAt v d → Turned shares_old shares_new v w d (Needs complete) → complete ≡ false → (asked_at v d ≡ false) × (asked_at w d ≡ true) × IsShort w d
+  needs_asked true rested t is = absurd (false≢true (sym is))
+  needs_asked false rested t is = (
+    asked_before v w d t.run t.becomes t.was t.view ∙ t.tells.2 (rested t.run t.was),
     asked_now v w d t.run t.becomes t.was t.view ∙ ap (λ (r : OneRun). r.asked) t.tells.1,
     λ others next. t.tells.3 others (sym (left_now v w d t.run t.becomes t.was t.view (ap (λ (r : OneRun). r.left) t.tells.1)) ∙ next),
   )

@@ -3,7 +3,7 @@ ghost use Rattle.std.specs.Prelude.{◌+◌, ◌<◌, ◌≡◌, ◌≤◌, fals
 ghost use Rattle.schedule_laws.specs.Scheduled.{Played, take_turn};
 ghost use Rattle.schedule_drive.specs.Ending.{Nears, TakesOne};
 ghost use Rattle.schedule_drive.specs.Following.{Advances, AllFollow, IsCalm, IsCalmBut, Waits};
-ghost use Rattle.schedule_drive.specs.Pausing.{all_commands};
+ghost use Rattle.schedule_drive.specs.Pausing.{RestedAt, all_commands};
 ghost use Rattle.schedule_drive.specs.Spending.{IsShort, SpendsFor, asked_at, most_in_pause, most_in_turn};
 ghost use Rattle.schedule_drive.specs.Together.{Has};
 
@@ -21,6 +21,7 @@ fn pause_for<T: TogetherRuns, R: Wait>(rt: &R, runs: &mut T, at: usize, complete
     ensures advances { Advances (T.shares runs.old) (T.shares runs.new) (T.seen runs.old) (T.seen runs.new) at complete }
     ensures asked { IsShort (T.seen runs.old) at → asked_at (T.seen runs.new) at ≡ asked_at (T.seen runs.old) at }
     ensures spends { T.spare runs.old ≤ T.spare runs.new + most_in_pause }
+    ensures rested { RestedAt (T.seen runs.new) at }
 {
     pause(rt, runs, complete);
     runs.stands();
@@ -32,7 +33,9 @@ fn step_on<T: TogetherRuns, R: Wait>(rt: &R, runs: &mut T, at: usize) -> bool
     requires calm { IsCalmBut (T.seen runs.old) at }
     requires goes_on { Has (λ x. x.ended) false (T.seen runs.old) at }
     requires room { most_in_pause < T.spare runs.old }
+    requires rested { RestedAt (T.seen runs.old) at }
     ensures advances { Advances (T.shares runs.old) (T.shares runs.new) (T.seen runs.old) (T.seen runs.new) at result }
+    ensures rested { result ≡ false → RestedAt (T.seen runs.new) at }
     ensures nears { result ≡ false → Nears (T.seen runs.old) (T.seen runs.new) at }
     ensures spends { result ≡ false → SpendsFor (asked_at (T.seen runs.old) at) (asked_at (T.seen runs.new) at) (T.spare runs.old) (T.spare runs.new) }
     ensures spends_last { result ≡ true → T.spare runs.old ≤ T.spare runs.new + most_in_pause }

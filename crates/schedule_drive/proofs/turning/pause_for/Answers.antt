@@ -8,4 +8,5 @@ returns g c = record {
       c.pause.ensures.over c.pause.ensures.run c.stands.ensures.shared c.args.complete c.requires.waits c.pause.ensures.paused;
   asked = asks_still (g.T.TogetherRuns.shares c.args.runs.now) (g.T.TogetherRuns.shares c.pause.new.runs) (g.T.TogetherRuns.seen c.args.runs.now) (g.T.TogetherRuns.seen c.pause.new.runs) c.args.at c.args.complete c.requires.calm.alone c.pause.ensures.paused;
   spends = c.pause.ensures.spends;
+  rested = c.pause.ensures.paused.rested c.args.at;
 }

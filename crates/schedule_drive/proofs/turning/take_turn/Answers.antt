@@ -3,7 +3,7 @@ use Rattle.schedule_drive.specs.Together.{Has}
 use Rattle.schedule_drive.proofs.Ending.{ended_none, nearer, waiting_few}
 use Rattle.schedule_drive.specs.Spending.{SpentInTurn, asked_at}
 use Rattle.schedule_drive.proofs.Spending.{spent_few, spent_on}
-use Rattle.schedule_drive.proofs.Turns.{calm_but, has_at, no_turn, turn_begins}
+use Rattle.schedule_drive.proofs.Turns.{calm_but, calm_rests, has_at, no_turn, turn_begins}
 use Rattle.schedule_drive.proofs.turning.take_turn.Goals as goal
 
 pub returns-then-has_ended-clause-taken : goal.returns-then-has_ended-clause-taken
@@ -20,6 +20,7 @@ turns-init g c =
       commands = refl;
       calm = calm_but (g.T.TogetherRuns.seen c.args.runs.now) c.args.at c.requires.calm;
       goes_on = going;
+      rested = calm_rests (g.T.TogetherRuns.seen c.args.runs.now) c.args.at c.requires.calm;
       waits = omega arith;
       others = λ e other. refl;
       midst = λ p follow. turn_begins (g.T.TogetherRuns.shares c.args.runs.now) (g.T.TogetherRuns.seen c.args.runs.now) p c.args.at c.requires.inside c.stands.ensures.shared follow going;
@@ -48,6 +49,7 @@ turns-preserved g c =
       commands = a.commands ∙ was.commands;
       calm = a.calm;
       goes_on = a.goes_on c.if-step_on.false;
+      rested = c.step_on.ensures.rested c.if-step_on.false;
       waits = let one = a.waits c.if-step_on.false in let two = was.waits in omega (arith, one, two);
       others = λ e other. a.others e other ∙ was.others e other;
       midst = λ p follow. a.stays p (was.midst p follow) c.if-step_on.false;

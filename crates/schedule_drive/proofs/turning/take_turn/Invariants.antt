@@ -1,6 +1,6 @@
 use Rattle.std.proofs.Common.{◌≡◌, ◌≢◌, ◌≤◌, ◌+◌, ◌*◌, ℕ, false, length}
 use Rattle.schedule_laws.specs.Scheduled.{Played}
-use Rattle.schedule_drive.specs.Pausing.{all_commands}
+use Rattle.schedule_drive.specs.Pausing.{RestedAt, all_commands}
 use Rattle.schedule_drive.specs.Ending.{rank_at, turns_at, waiting_at}
 use Rattle.schedule_drive.specs.Following.{AllFollow, AllMidst, IsCalmBut}
 use Rattle.schedule_drive.specs.Spending.{SpentInTurn, asked_at}
@@ -13,6 +13,7 @@ invariant-turns g l = record {
   count : length (g.T.TogetherRuns.seen l.runs).runs ≡ length (g.T.TogetherRuns.seen l.fn.runs).runs;
   commands : all_commands (g.T.TogetherRuns.seen l.runs) ≡ all_commands (g.T.TogetherRuns.seen l.fn.runs);
   calm : IsCalmBut (g.T.TogetherRuns.seen l.runs) l.at;
+  rested : RestedAt (g.T.TogetherRuns.seen l.runs) l.at;
   goes_on : Has (λ x. x.ended) false (g.T.TogetherRuns.seen l.runs) l.at;
   waits : turns_at (g.T.TogetherRuns.seen l.runs) l.at ≤ turns_at (g.T.TogetherRuns.seen l.fn.runs) l.at;
   others : (e : ℕ) → e ≢ l.at → turns_at (g.T.TogetherRuns.seen l.runs) e ≡ turns_at (g.T.TogetherRuns.seen l.fn.runs) e;
