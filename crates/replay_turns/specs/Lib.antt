@@ -4,3 +4,4 @@ pub mod Leveled
 pub mod Moves
 pub mod Ends
 pub mod Replayed
+pub mod Pace

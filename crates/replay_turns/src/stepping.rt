@@ -1,5 +1,5 @@
 //! A step of a domain that runs.
-ghost use Rattle.std.specs.Prelude.{◌≡◌, ◌≢◌, ◌<◌, false, length, None};
+ghost use Rattle.std.specs.Prelude.{◌≡◌, ◌≢◌, ◌<◌, [], false, length, vec_capacity, None};
 ghost use Rattle.domain_turns.specs.declared.supply.Supply.TheVariants.{Listed};
 ghost use Rattle.domain_turns.specs.Runs.{RunView};
 ghost use Rattle.heap_rule.specs.Token.{IsIn};
@@ -8,9 +8,9 @@ ghost use Rattle.schedule_drive.specs.declared.together.Stepped.TheVariants.{Nee
 ghost use Rattle.replay_turns.specs.Leveled.{AllHere};
 ghost use Rattle.replay_turns.specs.Moves.{CameTo, MetThen, StepsAt};
 
-use crate::meeting::meet_each;
+use crate::meeting::meet;
 use domain_turns::{DomainRun, go_on};
-use heap_rule::Heap;
+use heap_rule::{Domain, Heap};
 use schedule_drive::Stepped;
 use std::sync::Wait;
 
@@ -75,19 +75,23 @@ fn step_alone<R: Wait>(rt: &R, heap: &Heap, runs: &mut [Option<DomainRun>], at: 
     stepped
 }
 
-// The same once the domain has met each other one.
+// The same once all have met.
 pub(crate) fn step_at<R: Wait>(
     rt: &R,
     heap: &Heap,
     runs: &mut [Option<DomainRun>],
+    room: &mut Vec<Domain>,
     at: usize,
 ) -> Stepped
     requires inside { at < length runs.old }
     requires here { AllHere heap.now runs.old }
     requires running { (r : RunView) → HasRun runs.old at r → r.left ≡ None }
     requires listed { (r : RunView) → HasRun runs.old at r → r.supply ≡ Listed }
-    ensures steps { MetThen heap.now.config runs.old at (λ mid. StepsAt heap.now mid runs.new at result) }
+    requires empty { room.old.items ≡ [] }
+    requires fits { length runs.old < vec_capacity room.old }
+    ensures steps { MetThen runs.old (λ pause mid. StepsAt heap.now mid runs.new at result) }
+    ensures room { (room.new.items ≡ []) × (vec_capacity room.new ≡ vec_capacity room.old) }
 {
-    meet_each(heap, runs, at);
+    meet(heap, runs, room);
     step_alone(rt, heap, runs, at)
 }
