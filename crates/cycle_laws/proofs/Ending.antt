@@ -6,7 +6,7 @@ use Rattle.heap_model.specs.Graph.{has_label, same_label}
 use Rattle.heap_model.proofs.Graphs.GraphLemmas.{same_label-true, same_label_refl}
 use Rattle.heap_model.proofs.Reach.ReachLemmas.{or_cases, or_left}
 use Rattle.cycle_laws.specs.Marks.{Marks, darkened}
-use Rattle.cycle_laws.specs.Shares.{Shares, arrives, at_domain, following, no_shares, owing, sees, settles, stored_changed}
+use Rattle.cycle_laws.specs.Shares.{Shares, arrives, at_domain, no_shares, owing, sees, stored_changed}
 use Rattle.cycle_laws.specs.Ending.{Answering, Cleaning, Deciding, First, Freeing, GoesOn, Halted, IsGrowing, Leaving, MarkedSince, Marking, Place, Promoting, Queueing, Resetting, Rooting, Rounding, Running, Second, leads_to, pause_left, unmarked_of}
 use Rattle.cycle_laws.proofs.Tracing.{darkened_more, never}
 
@@ -77,13 +77,6 @@ module _ (all : List Label) (before : Label → Bool) (m : Marks) (w : Shares) (
       unseen : (b : Bool) → before l ≡ b → before l ≡ false
       unseen true is = absurd (never (m.marked l) un (g.stays l is))
       unseen false is = is
-
-  -- so it does in Mark, where the domain follows it until it is scanned
-  pub following_grows : (d a : ℕ) (l : Label) → m.marked l ≡ false → IsTrue (has_label all l) → IsGrowing all before (darkened m l).marked (following w d a)
-  following_grows d a l un inside = let o = owing_grows d l un inside in record { stays = o.stays; changed = o.changed; owing = o.owing }
-
-  pub settles_grows : (d a : ℕ) → IsGrowing all before m.marked (settles w d a)
-  settles_grows d a = record { stays = g.stays; changed = g.changed; owing = g.owing }
 
   -- the changed word is stored by one that owes that
   pub stored_grows : (d : ℕ) → w.owes d ≡ true → IsGrowing all before m.marked (stored_changed w d)

@@ -15,8 +15,7 @@ use Rattle.heap_model.specs.History.{is_entry_of}
 use Rattle.heap_model.specs.WellFormed.{IsNumbered}
 use Rattle.heap_model.proofs.Commands.FrameLemmas.{keeps_next}
 use Rattle.heap_model.proofs.Histories.NumberLemmas.{numbered_after, numbered_opening}
-use Rattle.cycle_laws.specs.Beside.{Snapshot, IsBeside, Later, WriteBarrier, owed_after}
-use Rattle.cycle_laws.specs.Cover.{is_new}
+use Rattle.cycle_laws.specs.Beside.{Snapshot, Later, WriteBarrier, owed_after}
 use Rattle.cycle_laws.proofs.Beside.{beside_law}
 use Rattle.heap_rule.specs.declared.config.Config.{Config}
 use Rattle.heap_rule.specs.declared.view.DomainView.{DomainView}
@@ -24,12 +23,11 @@ use Rattle.heap_rule.specs.declared.phase.Kind.TheVariants.{Run, Reset}
 use Rattle.heap_rule.specs.declared.phase.Stage.TheVariants.{In}
 use Rattle.heap_rule.specs.Beside.{IsPooled, Underway, is_weak}
 use Rattle.heap_rule.specs.Limits.{sizes_in}
-use Rattle.heap_rule.specs.Places.{Place, Live, More, IsOldAt}
-use Rattle.heap_rule.specs.Rule.{state_of, Rule}
-use Rattle.heap_rule.specs.Standing.{GoesOn}
+use Rattle.heap_rule.specs.Places.{Place, Live, More}
+use Rattle.heap_rule.specs.Rule.{Rule}
 use Rattle.heap_rule.specs.Views.{one}
 use Rattle.heap_rule.proofs.FinaliserLemmas.{QueuesNothing, work_next}
-use Rattle.heap_rule.proofs.Keeps.{Words, my_good, now, between_here, Advances, no_cycle_here}
+use Rattle.heap_rule.proofs.Keeps.{Words, my_good, now, between_here, Advances}
 use Rattle.heap_rule.proofs.Sharings.{kind_now}
 use Rattle.heap_rule.proofs.Stages.{waits_in}
 

@@ -28,11 +28,11 @@ module _ (over h : SharedHeap) (inside t : Token) (m : Me (Unit {0}) View) (o : 
   config_is : inside.config ≡ over.config
   config_is = ap (λ (x : Token). x.config) o.token ∙ (o.here.1 ∙ sym (ap (λ (x : SharedHeap). x.config) o.heap))
 
-  view_is : inside.view ≡ t.view
+  pub view_is : inside.view ≡ t.view
   view_is = ap (λ (x : Token). x.view) o.token
 
   -- the seat's view, by the key of the table
-  at_view : m ≡ (one over.config m.0.history inside.view, [])
+  pub at_view : m ≡ (one over.config m.0.history inside.view, [])
   at_view = o.seat.seat ∙ ap (λ (k : Config). (one k m.0.history inside.view, [])) config_is
 
   -- the plain data fits before the step

@@ -1,6 +1,6 @@
 -- Steps on the control words of the phases: the other words stay, and so does what they stand for.
 use Rattle.heap_rule.specs.Ephemerons.{Looks}
-use Rattle.std.proofs.Common.{◌≡◌, ◌≢◌, ℕ, zero, suc, ◌+◌, ◌*◌, ◌<◌, ◌≤◌, ◌⊎◌, List, length, get_or, set, Some, sym, refl, ap, ◌∙◌, subst, arith, ⊎_elim, inl, inr, suc-mul, zero-le, None, Option, ◌++◌, ◌∷◌, [], Bool}
+use Rattle.std.proofs.Common.{◌≡◌, ◌≢◌, ℕ, zero, suc, ◌+◌, ◌*◌, ◌<◌, ◌≤◌, ◌⊎◌, List, length, get_or, set, Some, sym, refl, ap, ◌∙◌, subst, arith, ⊎_elim, inl, inr, suc-mul, zero-le, None, Option, ◌++◌, ◌∷◌, []}
 use mathlib.Core.Logic.{dite}
 use native.Mathlib.Decide.{ℕ_discrete}
 use mathlib.Core.Option.{some}
@@ -28,7 +28,7 @@ use Rattle.heap_rule.specs.declared.view.Copied.{Copied}
 use Rattle.heap_rule.specs.Views.{one}
 use Rattle.heap_rule.proofs.HeadLemmas.{head_at}
 use Rattle.heap_rule.proofs.Holders.{Agrees, agrees_same, grid_heap, same_self, hunter_agree, SameStock, stock_self}
-use Rattle.heap_rule.proofs.Keeps.{Words, mine, my_good, remakes, knows_front, phases_words, pools_words, covered_words, lists_same, resting_lists, owes_as, hunter_as, room_words, opened_words}
+use Rattle.heap_rule.proofs.Keeps.{Words, my_good, remakes, knows_front, phases_words, pools_words, covered_words, lists_same, resting_lists, owes_as, hunter_as, room_words, opened_words}
 use Rattle.heap_rule.proofs.Sharings.{SameCycle, cycle_words, leading_words, knows_words}
 use Rattle.heap_rule.specs.declared.view.Share.{Share}
 use Rattle.heap_rule.specs.Cycles.{Cycling, Cycled, Telling, Leading, KnowsBlocks, Adds}

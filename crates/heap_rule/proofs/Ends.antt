@@ -1,19 +1,19 @@
 -- The seats are joined, and the last one sees the whole history.
-use Rattle.std.proofs.Common.{◌≡◌, ℕ, ◌<◌, List, [], ◌∷◌, ◌++◌, length, set, sym, refl, ap, ◌∙◌, subst, arith, append_assoc, append-nil, length-set}
+use Rattle.std.proofs.Common.{◌≡◌, ℕ, List, [], ◌∷◌, ◌++◌, length, set, sym, refl, ap, ◌∙◌, subst, arith, append_assoc, append-nil}
 use Rattle.atomic_table.specs.Table.{Me, keeps, Allows, Joins}
 use Rattle.heap_model.specs.declared.entry.Entry.{Entry}
 use Rattle.heap_rule.specs.declared.config.Config.{Config}
 use Rattle.heap_rule.specs.declared.view.DomainView.{DomainView}
 use Rattle.heap_rule.specs.declared.view.View.{View}
 use Rattle.heap_rule.specs.Views.{AllDomains, IsSeated, Knows, joined, spent}
-use Rattle.heap_rule.specs.Rule.{Good, Rule}
+use Rattle.heap_rule.specs.Rule.{Rule}
 use Rattle.heap_rule.specs.Token.{Token, SharedHeap, IsIn}
 use Rattle.heap_rule.specs.Ending.{Begins, Learned, AllIn, AllBegin, views_back}
-use Rattle.heap_rule.proofs.Lists.{views_set, domains_map}
+use Rattle.heap_rule.proofs.Lists.{domains_map}
 use mathlib.Core.Option.{some}
 use lib.ListN.{get_elem?}
 use Rattle.heap_rule.proofs.Keeps.{Words, unmoved}
-use Rattle.heap_rule.proofs.Seats.{joins}
+use Rattle.heap_rule.proofs.Seats.{joins, rewrites}
 
 pub views_back-snoc : (ts : List Token) (t : Token) → views_back (ts ++ t ∷ []) ≡ t.view ∷ views_back ts
 views_back-snoc [] t = refl
@@ -46,15 +46,7 @@ may_join = joins
 
 -- a seat's view is written again as it is
 pub same_views : (k : Config) (s : Words) (r : Rule k s) (id : ℕ) (v : View) → get_elem? s.views id ≡ some v → Rule k record { words = s.words; homes = s.homes; views = set s.views id v }
-same_views k s r id v at = record {
-  account = r.account;
-  seat = r.seat;
-  limits = r.limits;
-  whole = r.whole;
-  seats = λ d. subst (λ (n : ℕ). r.seat d < n) (sym (length-set s.views id v)) (r.seats d);
-  views = views_set (Knows k r.account.log r.seat) (Knows k r.account.log r.seat) s.views id v r.views (r.views id v at) (λ j u n x. x);
-  good = views_set (λ j u. AllDomains (Good k r.account s.words) u.domains) (λ j u. AllDomains (Good k r.account s.words) u.domains) s.views id v r.good (r.good id v at) (λ j u n x. x);
-}
+same_views k s r id v at = rewrites k s r id v (r.views id v at) (r.good id v at)
 
 learns : (k : Config) (slots id word : ℕ) (v : View) → Allows (Rule k) slots id (v, []) word (λ n. n) (λ found m'. Learned k (v, []) m')
 learns k slots id word v s r _ at _ =
@@ -63,16 +55,9 @@ learns k slots id word v s r _ at _ =
       w,
       keeps,
       tt,
-      unmoved k s word (set s.views id w) record {
-        account = r.account;
-        seat = r.seat;
-        limits = r.limits;
-        whole = r.whole;
-        seats = λ d. subst (λ (n : ℕ). r.seat d < n) (sym (length-set s.views id w)) (r.seats d);
-        views = views_set (Knows k r.account.log r.seat) (Knows k r.account.log r.seat) s.views id w r.views
-            record { config = mine.config; history = record { rest = []; appends = sym (append-nil r.account.log) }; domains = mine.domains; distinct = mine.distinct } (λ j u n x. x);
-        good = views_set (λ j u. AllDomains (Good k r.account s.words) u.domains) (λ j u. AllDomains (Good k r.account s.words) u.domains) s.views id w r.good (r.good id v at) (λ j u n x. x);
-      },
+      unmoved k s word (set s.views id w) (rewrites k s r id w
+          record { config = mine.config; history = record { rest = []; appends = sym (append-nil r.account.log) }; domains = mine.domains; distinct = mine.distinct }
+          (r.good id v at)),
       record { seat = refl; legal = r.whole.legal; fronts = domains_map (IsSeated k r.account.log r.seat id) (Begins r.account.log) v.domains (λ x y. y.front) mine.domains },
     )
 

@@ -1,5 +1,5 @@
 -- What steps keep of the ephemerons of a domain.
-use Rattle.std.proofs.Common.{◌≡◌, ℕ, ◌<◌, ◌⊎◌, IsTrue, List, [], length, Option, Some, None, sym, refl, ap, ◌∙◌, subst, inr, ⊎_elim, arith, ◌∷◌, ◌+◌, map, slice_get, length-set, Bool, suc}
+use Rattle.std.proofs.Common.{◌≡◌, ℕ, ◌⊎◌, IsTrue, List, [], length, Option, Some, None, sym, refl, ap, ◌∙◌, subst, inr, ⊎_elim, ◌∷◌, ◌+◌, map, slice_get, length-set, Bool, suc}
 use Rattle.std.proofs.lemmas.List.{length-map}
 use Rattle.heap_model.specs.declared.label.Label.{Label}
 use Rattle.heap_model.specs.declared.graph.Node.{Node}

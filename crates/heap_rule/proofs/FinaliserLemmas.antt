@@ -1,5 +1,5 @@
 -- Registrations and queues through steps: what stands for them stands for them still.
-use Rattle.std.proofs.Common.{◌≡◌, ◌≢◌, ℕ, zero, suc, ◌+◌, ◌<◌, Bool, true, false, eqb, IsTrue, List, [], ◌∷◌, ◌++◌, length, map, take, drop, get_or, set, slice_get, option_map, option_and_then, Option, Some, None, sym, refl, ap, ◌∙◌, subst, get_or-set_other, eqb-true}
+use Rattle.std.proofs.Common.{◌≡◌, ◌≢◌, ℕ, zero, suc, ◌+◌, Bool, true, false, IsTrue, List, [], ◌∷◌, ◌++◌, length, map, take, drop, get_or, set, slice_get, option_map, option_and_then, Option, Some, None, sym, refl, ap, ◌∙◌, subst, get_or-set_other}
 use Rattle.std.specs.Prelude.{remove}
 use Rattle.heap_model.specs.declared.label.Label.{Label}
 use Rattle.heap_model.specs.declared.command.Command.{Command}
@@ -12,16 +12,15 @@ use Rattle.heap_model.specs.declared.state.LastFinaliser.{LastFinaliser}
 use Rattle.heap_model.specs.declared.state.Pending.{Pending}
 use Rattle.heap_model.specs.declared.state.Pending.TheVariants.{Fin as FinPending, Last as LastPending}
 use Rattle.heap_model.specs.declared.state.State as model
-use Rattle.heap_model.specs.Commands.{outcome, after_command, allocated}
+use Rattle.heap_model.specs.Commands.{outcome, allocated}
 use Rattle.heap_model.specs.Domains.{domain_at, no_domain, pending_label, with_domain}
-use Rattle.heap_model.specs.Entries.{next, wiped, with_wiped, without_first, after_run, ended}
+use Rattle.heap_model.specs.Entries.{next, wiped, with_wiped, without_first, after_run}
 use Rattle.heap_model.specs.Graph.{node_at}
 use Rattle.heap_model.specs.History.{is_entry_of}
 use Rattle.heap_model.proofs.Commands.FrameLemmas.{part_set, part_map, frame_command, not_same}
 use Rattle.heap_model.proofs.Commands.MoveLemmas.{moved, registers_one}
-use Rattle.heap_rule.specs.declared.config.Config.{Config}
 use Rattle.heap_rule.specs.declared.phase.Kind.{Kind}
-use Rattle.heap_rule.specs.declared.phase.Kind.TheVariants.{Roots, Queued, Decide, Lasts}
+use Rattle.heap_rule.specs.declared.phase.Kind.TheVariants.{Roots, Queued}
 use Rattle.heap_rule.specs.declared.view.Finalisers.{Finalisers}
 use Rattle.heap_rule.specs.declared.view.Registered.{Registered}
 use Rattle.heap_rule.specs.declared.view.RegisteredLast.{RegisteredLast}
@@ -32,7 +31,7 @@ use Rattle.heap_rule.specs.Deciding.{Deciding, IsRooting}
 use Rattle.heap_rule.specs.Finalisers.{Paired, LivesAt, StandsFinal, StandsLast, StandsWaiting, Enrolled, address_in, held_at, label_held}
 use Rattle.heap_rule.specs.declared.view.Held.{Held}
 use Rattle.heap_rule.specs.declared.view.Held.TheVariants.{Final, Last, Queue}
-use Rattle.heap_rule.specs.Places.{Place, Live, More}
+use Rattle.heap_rule.specs.Places.{Live, More}
 
 -- paired lists
 pub paired_map : {A B : Type 0} (R S : A → B → Type 0) → ((x : A) (y : B) → R x y → S x y) → (xs : List A) (ys : List B) → Paired R xs ys → Paired S xs ys

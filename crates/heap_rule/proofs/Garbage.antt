@@ -1,5 +1,5 @@
 -- Garbage stays where a step neither frees it nor makes any, and so does what a domain knows of it.
-use Rattle.std.proofs.Common.{◌≡◌, ℕ, ◌+◌, ◌*◌, ◌<◌, ◌≤◌, ◌⊎◌, Bool, true, false, true≢false, IsTrue, List, Some, None, sym, refl, ap, ◌∙◌, subst, arith, ⊎_elim, inl, inr}
+use Rattle.std.proofs.Common.{◌≡◌, ℕ, ◌+◌, ◌*◌, ◌<◌, ◌≤◌, ◌⊎◌, Bool, false, IsTrue, List, None, sym, refl, ap, ◌∙◌, subst, arith, ⊎_elim}
 use Rattle.std.proofs.lemmas.Bool.{cases_Bool}
 use Rattle.heap_model.specs.Domains.{class_count}
 use Rattle.heap_rule.specs.declared.config.Config.{Config}
@@ -10,7 +10,7 @@ use Rattle.heap_rule.specs.declared.view.Swept.{Swept}
 use Rattle.heap_rule.specs.Cycles.{Cycling, IsGarbageHead, Leaves}
 use Rattle.heap_rule.specs.Layout.{at_address}
 use Rattle.heap_rule.specs.Places.{Live, Paint}
-use Rattle.heap_rule.specs.Pools.{Holder, IsBefore, OwnPlace, Pools, Tenancy, blocks_of, owned, place_in, size_of}
+use Rattle.heap_rule.specs.Pools.{Pools, Tenancy, blocks_of, owned, place_in, size_of}
 use Rattle.heap_rule.specs.Sweeping.{Reaps, Sweeps}
 use Rattle.heap_rule.proofs.Classes.{size_least, slot_inside}
 use Rattle.heap_rule.proofs.EphemeronLemmas.{own_place_on}

@@ -2,7 +2,7 @@
 use mathlib.Core.Logic.{dite}
 use native.Mathlib.Decide.{ℕ_discrete}
 use Rattle.std.proofs.Math.Nat.{mul_assoc}
-use Rattle.std.proofs.Common.{◌≡◌, ℕ, suc, zero, ◌+◌, ◌*◌, ◌/◌, ◌<◌, ◌≤◌, ◌||◌, ◌==◌, Bool, true, false, cond, IsTrue, List, [], ◌∷◌, length, Option, Some, None, ⊎_elim, inl, inr, refl, sym, ap, ◌∙◌, subst, arith}
+use Rattle.std.proofs.Common.{◌≡◌, ℕ, suc, zero, ◌+◌, ◌*◌, ◌/◌, ◌<◌, ◌≤◌, Bool, IsTrue, List, length, Option, Some, None, sym, ap, ◌∙◌, subst, arith}
 use Rattle.std.specs.List.{cons_option}
 use Rattle.heap_model.specs.declared.label.Label.{Label}
 use Rattle.heap_model.specs.Graph.{has_label, same_label}
@@ -13,7 +13,7 @@ use Rattle.cycle_laws.proofs.Ending.{unmarked_few}
 use Rattle.heap_rule.specs.declared.config.Config.{Config}
 use Rattle.heap_rule.specs.declared.phase.Kind.{Kind}
 use Rattle.heap_rule.specs.declared.phase.Kind.TheVariants.{Run, Promote, Reset, Roots, Mark, Rounds, Decide, Queued, Clean, Lasts, Sweep, Answer}
-use Rattle.heap_rule.specs.Cycles.{Cycling, Grows, HasNoCycle, IsMarking, IsNamed, label_in, labels_in, pool_labels, starts_to}
+use Rattle.heap_rule.specs.Cycles.{Cycling, Grows, HasNoCycle, IsMarking, label_in, labels_in, pool_labels, starts_to}
 use Rattle.heap_rule.specs.Phases.{Pause}
 use Rattle.heap_rule.specs.Places.{Live, Place}
 use Rattle.heap_rule.specs.Pools.{Grid, Pools, Tenancy, size_of}

@@ -47,7 +47,7 @@ use Rattle.heap_rule.specs.Rule.{state_of, AllFound, Stood, Area, Making, Accoun
 use Rattle.heap_rule.specs.Cycles.{Cycling, Cycled, Telling, Leading, HasNoCycle, IsBetween, IsIdle}
 use Rattle.heap_rule.proofs.PauseFacts.{called_still, not_both, agree, nobody_paused, staged_as, run_promoting, run_resetting, kind_differs}
 use Rattle.heap_rule.specs.Sweeping.{Sweeps, SweepsIn}
-use Rattle.heap_rule.proofs.Garbage.{KeepsGarbage, garbage_same, sweeps_on}
+use Rattle.heap_rule.proofs.Garbage.{KeepsGarbage, sweeps_on}
 use Rattle.heap_rule.proofs.Sharings.{SameCycle, KeepsUnderway, with_past, with_weak, leading_past, telling_weak, leading_weak, kind_now, cycle_between, facts_between, leading_words, leading_as, telling_as, idle_in, idle_beside, takes_kind, adds_nothing}
 use Rattle.heap_rule.proofs.BesideLemmas.{Endures, all_known_on, runs_on, runs_as, knows_weak}
 use Rattle.heap_rule.specs.declared.view.Share.{Share}
@@ -469,6 +469,19 @@ stood_other live live' s t x keeps work more st = record {
   enrolled = enrolled_more live live' t x.own.number x.own.finalisers more (enrolled_as live s t x.own.number x.own.finalisers work st.enrolled);
 }
 
+-- a seat stands for the domain still, whose front stays or is the whole history
+pub seated_as : (k : Config) (log : List Entry) (seat : ℕ → ℕ) (id : ℕ) (x y : DomainView) → y.own.number ≡ x.own.number → (y.seen.front ≡ x.seen.front) ⊎ (y.seen.front ≡ log) → IsSeated k log seat id x → IsSeated k log seat id y
+seated_as k log seat id x y number front was = record {
+  inside = subst (λ (n : ℕ). n < k.domains) (sym number) was.inside;
+  here = ap seat number ∙ was.here;
+  front = subst (λ (n : ℕ). IsFrontOf n log y.seen.front) (sym number)
+      (⊎_elim (λ (same : y.seen.front ≡ x.seen.front). subst (IsFrontOf x.own.number log) (sym same) was.front) (λ (whole : y.seen.front ≡ log). subst (IsFrontOf x.own.number log) (sym whole) (front_whole x.own.number log)) front);
+  led = λ leads. ⊎_elim
+      (λ (same : y.seen.front ≡ x.seen.front). subst (λ (f : List Entry). AreNotControls (unseen log f)) (sym same) (was.led (sym number ∙ leads)))
+      (λ (whole : y.seen.front ≡ log). unseen_whole (λ v. not (is_control v)) log y.seen.front whole)
+      front;
+}
+
 module _ (k : Config) (s : Words) (r : Rule k s) (id : ℕ) (hist : List Entry) (x : DomainView) (at : get_elem? s.views id ≡ some (one k hist x)) where
   abbrev pub now : model.State
   now = state_of k r.account.log
@@ -510,19 +523,7 @@ module _ (k : Config) (s : Words) (r : Rule k s) (id : ℕ) (hist : List Entry) 
         config = (refl, tt);
         distinct = (tt, tt);
         history = (r.views id (one k hist x) at).history;
-        domains = (
-          record {
-            inside = subst (λ (n : ℕ). n < k.domains) (sym number) mine.inside;
-            here = ap r.seat number ∙ mine.here;
-            front = subst (λ (n : ℕ). IsFrontOf n r.account.log y.seen.front) (sym number)
-                (⊎_elim (λ (same : y.seen.front ≡ x.seen.front). subst (IsFrontOf x.own.number r.account.log) (sym same) mine.front) (λ (whole : y.seen.front ≡ r.account.log). subst (IsFrontOf x.own.number r.account.log) (sym whole) (front_whole x.own.number r.account.log)) front);
-            led = λ leads. ⊎_elim
-                (λ (same : y.seen.front ≡ x.seen.front). subst (λ (f : List Entry). AreNotControls (unseen r.account.log f)) (sym same) (mine.led (sym number ∙ leads)))
-                (λ (whole : y.seen.front ≡ r.account.log). unseen_whole (λ v. not (is_control v)) r.account.log y.seen.front whole)
-                front;
-          },
-          tt,
-        );
+        domains = (seated_as k r.account.log r.seat id x y number front mine, tt);
       }
       (λ j v n see. see)
 

@@ -29,6 +29,8 @@ pub mod Blocks
 pub mod Beside
 pub mod Born
 pub mod Seats
+pub mod Joined
+pub mod Among
 pub mod Starts
 pub mod Dealt
 pub mod Ends

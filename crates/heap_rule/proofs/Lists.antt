@@ -5,7 +5,7 @@ use lib.ListN.{get_elem?}
 use Rattle.atomic_table.proofs.Lists.{at_set}
 use Rattle.heap_rule.specs.declared.view.DomainView.{DomainView}
 use Rattle.heap_rule.specs.declared.view.View.{View}
-use Rattle.heap_rule.specs.Views.{EachView, AllDomains}
+use Rattle.heap_rule.specs.Views.{EachView, AllDomains, SomeDomain}
 
 module _ {A : Type 0} where
   pub at_end : (l : List A) (a b : A) (j : ℕ) → get_elem? (l ++ a ∷ []) j ≡ some b → (get_elem? l j ≡ some b) ⊎ ((j ≡ length l) × (a ≡ b))
@@ -70,3 +70,8 @@ domains_with P R Q (x ∷ xs) f a b = (f x a.0 b.0, domains_with P R Q xs f a.1 
 pub domains_both : (P : DomainView → Type 0) (xs ys : List DomainView) → AllDomains P xs → AllDomains P ys → AllDomains P (xs ++ ys)
 domains_both P [] ys a b = b
 domains_both P (x ∷ xs) ys a b = (a.0, domains_both P xs ys a.1 b)
+
+-- one of them has the fact, and with it what all have
+pub some_with : (P R Q : DomainView → Type 0) (xs : List DomainView) → ((x : DomainView) → P x → R x → Q x) → SomeDomain P xs → AllDomains R xs → SomeDomain Q xs
+some_with P R Q [] f one all = absurd one
+some_with P R Q (x ∷ xs) f one all = ⊎_elim (λ (here : P x). inl (f x here all.0)) (λ (there : SomeDomain P xs). inr (some_with P R Q xs f there all.1)) one

@@ -36,6 +36,13 @@ moved k log seat seat' j v here see = record {
   domains = domains_with (IsSeated k log seat j) (λ x. seat' x.own.number ≡ j) (IsSeated k log seat' j) v.domains (λ x y h. record { inside = y.inside; here = h; front = y.front; led = y.led }) see.domains here;
 }
 
+-- the view of one seat is written anew, and no word
+pub rewrites : (k : Config) (s : Words) (r : Rule k s) (id : ℕ) (w : View) → Knows k r.account.log r.seat id w → AllDomains (Good k r.account s.words) w.domains → Rule k record { words = s.words; homes = s.homes; views = set s.views id w }
+rewrites k s r id w knows good = reseated k s r r.seat (set s.views id w)
+    (λ d. subst (λ (n : ℕ). r.seat d < n) (sym (length-set s.views id w)) (r.seats d))
+    (views_set (Knows k r.account.log r.seat) (Knows k r.account.log r.seat) s.views id w r.views knows (λ j u n x. x))
+    (views_set (λ _ u. AllDomains (Good k r.account s.words) u.domains) (λ _ u. AllDomains (Good k r.account s.words) u.domains) s.views id w r.good good (λ j u n x. x))
+
 pub splits : (k : Config) (id : ℕ) (hist : List Entry) (p : DomainView) (ps : List DomainView) → let v : View = record { config = k; history = hist; domains = p ∷ ps } in Splits (Rule k) id v (cut_left v) (cut_right v)
 splits k id hist p ps s r at =
     let v : View = record { config = k; history = hist; domains = p ∷ ps } in

@@ -1,5 +1,5 @@
 -- What steps outside a collection of the major heap, and steps that leave its words, keep of it.
-use Rattle.std.proofs.Common.{◌≡◌, ℕ, true, false, IsTrue, List, sym, refl, ◌∙◌, subst, inl, inr, ⊎_elim, ap, Option}
+use Rattle.std.proofs.Common.{◌≡◌, ℕ, IsTrue, List, sym, refl, ◌∙◌, subst, inl, inr, ⊎_elim, ap, Option}
 use Rattle.heap_model.specs.declared.state.State as model
 use Rattle.heap_model.specs.Graph.{Graph}
 use Rattle.cycle_laws.specs.Beside.{Snapshot}

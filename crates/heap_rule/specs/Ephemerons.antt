@@ -1,5 +1,5 @@
 -- The ephemerons of a domain in the rule: which are listed, and how far the domain is in one of them.
-use Rattle.std.specs.Prelude.{◌≡◌, ℕ, ◌<◌, ◌⊎◌, ◌==◌, cond, not, Bool, false, IsTrue, List, [], length, slice_get, Option, Some, None}
+use Rattle.std.specs.Prelude.{◌≡◌, ℕ, ◌<◌, ◌⊎◌, ◌==◌, cond, not, Bool, IsTrue, List, [], length, slice_get, Option, Some, None}
 use Rattle.heap_model.specs.declared.label.Label.{Label}
 use Rattle.heap_model.specs.declared.graph.Value.{Value}
 use Rattle.heap_model.specs.declared.graph.Node.TheVariants.{Ephe}

@@ -1,5 +1,5 @@
 -- What a step call asks of the calls that it stands on: that the rule allows its step, and that what the step tells of the token's plain data is what its changes make of it.
-use Rattle.std.specs.Prelude.{◌≡◌, ℕ, List, [], ◌⊎◌}
+use Rattle.std.specs.Prelude.{◌≡◌, ℕ, List, [], ◌∷◌, ◌⊎◌}
 use Rattle.atomic_table.specs.Table.{Allows}
 use Rattle.heap_model.specs.declared.entry.Entry.{Entry}
 use Rattle.heap_model.specs.declared.reply.Applied.{Applied}
@@ -17,7 +17,7 @@ use Rattle.heap_rule.specs.Limits.{sizes_in}
 use Rattle.heap_rule.specs.Reads.{Reads}
 use Rattle.heap_rule.specs.Rule.{Rule}
 use Rattle.heap_rule.specs.Token.{OwnFits}
-use Rattle.heap_rule.specs.Views.{one, Tells}
+use Rattle.heap_rule.specs.Views.{one, several, Tells, TellsAll}
 
 -- whatever seat stands for this domain alone, whose own data fits, the rule allows it a step at which the word becomes f of what it was, and which then tells so
 abbrev pub MayStep : Config → DomainView → ℕ → (ℕ → ℕ) → (DomainView → ℕ → DomainView → Type 0) → Type 0
@@ -26,6 +26,20 @@ MayStep k x word f tells = OwnFits k x.own → (slots id : ℕ) (h : List Entry)
 -- and so a store, which tells of the word that it wrote
 abbrev pub MayStore : Config → DomainView → ℕ → ℕ → (DomainView → ℕ → DomainView → Type 0) → Type 0
 MayStore k x word new tells = OwnFits k x.own → (slots id : ℕ) (h : List Entry) → Allows (Rule k) slots id (one k h x, []) word (λ _. new) (λ _. Tells tells (one k h x, []) new)
+
+-- whatever seat stands for these domains, the rule allows it a load that tells so of them
+abbrev pub MayLoadAll : Config → List DomainView → ℕ → (List DomainView → ℕ → List DomainView → Type 0) → Type 0
+MayLoadAll k xs word tells = (slots id : ℕ) (h : List Entry) → Allows (Rule k) slots id (several k h xs, []) word (λ n. n) (TellsAll tells (several k h xs, []))
+
+-- each of these domains has the plain data that it had
+abbrev pub SameOwn : List DomainView → List DomainView → Type 0
+SameOwn [] [] = Unit {0}
+SameOwn (x ∷ xs) (y ∷ ys) = (y.own ≡ x.own) × SameOwn xs ys
+SameOwn _ _ = ⊥
+
+-- a load that tells so leaves the plain data of each
+abbrev pub LeavesAll : List DomainView → (List DomainView → ℕ → List DomainView → Type 0) → Type 0
+LeavesAll xs tells = (found : ℕ) (ys : List DomainView) → tells xs found ys → SameOwn xs ys
 
 -- the changes can be made with what the word is read as
 abbrev pub CanChange : Reading → ℕ → List Change → Type 0

@@ -1,5 +1,5 @@
 -- What contracts see of a heap and of a domain's token.
-use Rattle.std.specs.Prelude.{◌≡◌, ℕ, ◌+◌, ◌<◌, ◌≤◌, List, [], length, slice_get, Some}
+use Rattle.std.specs.Prelude.{◌≡◌, ℕ, ◌+◌, ◌<◌, ◌≤◌, List, [], ◌∷◌, length, slice_get, Some}
 use Rattle.atomic_table.specs.Table.{Me}
 use Rattle.atomic_table.specs.Seated.{TableId}
 use Rattle.heap_model.specs.declared.label.Label.{Label}
@@ -35,6 +35,11 @@ pub record Token : Type 0 where
 -- the token is one of the heap's
 abbrev pub IsIn : Token → SharedHeap → Type 0
 IsIn t h = (t.table ≡ h.table) × (t.config ≡ h.config)
+
+-- the views of these tokens
+abbrev pub views_of : List Token → List DomainView
+views_of [] = []
+views_of (t ∷ ts) = t.view ∷ views_of ts
 
 -- an address at which a block may begin: its head, its label and one value lie in the heap
 abbrev pub IsAddress : Config → ℕ → Type 0

@@ -1,6 +1,6 @@
 -- The views of seats: what each knows of the history and of the domains that it stands for.
 use Rattle.heap_model.specs.Domains.{class_count}
-use Rattle.std.specs.Prelude.{◌≡◌, ◌≢◌, ℕ, zero, suc, ◌+◌, ◌*◌, ◌/◌, ◌<◌, List, [], ◌∷◌, ◌++◌, replicate, true, false, Option, Some, None}
+use Rattle.std.specs.Prelude.{◌≡◌, ◌≢◌, ℕ, zero, suc, ◌+◌, ◌*◌, ◌/◌, ◌<◌, ◌⊎◌, List, [], ◌∷◌, ◌++◌, replicate, true, false, Option, Some, None}
 use mathlib.Core.Option.{some}
 use lib.ListN.{get_elem?}
 use Rattle.atomic_table.specs.Table.{Me, Step}
@@ -30,6 +30,11 @@ EachView P views = (id : ℕ) (v : View) → get_elem? views id ≡ some v → P
 abbrev pub AllDomains : (DomainView → Type 0) → List DomainView → Type 0
 AllDomains P [] = Unit {0}
 AllDomains P (x ∷ xs) = P x × AllDomains P xs
+
+-- the fact holds of one of these domains
+abbrev pub SomeDomain : (DomainView → Type 0) → List DomainView → Type 0
+SomeDomain P [] = ⊥
+SomeDomain P (x ∷ xs) = P x ⊎ SomeDomain P xs
 
 -- the fact holds of each domain of each view
 abbrev pub EachDomain : (DomainView → Type 0) → List View → Type 0
@@ -133,6 +138,18 @@ Tells tells m found m' = tells (domain_in m.0.domains) found (domain_in m'.0.dom
 -- the same of a step as the table has them
 abbrev pub Plays : (DomainView → ℕ → DomainView → Type 0) → Step (Unit {0}) → Me (Unit {0}) View → ℕ → Me (Unit {0}) View → Type 0
 Plays tells _ m found m' = Tells tells m found m'
+
+-- the view of a seat that stands for these domains
+abbrev pub several : Config → List Entry → List DomainView → View
+several k h xs = record { config = k; history = h; domains = xs }
+
+-- what a step of a seat that stands for several domains tells
+abbrev pub TellsAll : (List DomainView → ℕ → List DomainView → Type 0) → Me (Unit {0}) View → ℕ → Me (Unit {0}) View → Type 0
+TellsAll tells m found m' = tells m.0.domains found m'.0.domains × (m' ≡ (record m.0 { domains = m'.0.domains }, m.1))
+
+-- the same of a step as the table has them
+abbrev pub PlaysAll : (List DomainView → ℕ → List DomainView → Type 0) → Step (Unit {0}) → Me (Unit {0}) View → ℕ → Me (Unit {0}) View → Type 0
+PlaysAll tells _ m found m' = TellsAll tells m found m'
 
 -- how a view is cut: the new seat stands for the first domain
 abbrev pub cut_left : View → View

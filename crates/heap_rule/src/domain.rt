@@ -4,6 +4,7 @@ ghost use Rattle.heap_model.specs.Domains.{class_count, IsWithinLimits};
 ghost use Rattle.heap_words.specs.declared.value.Value.TheVariants.{Ref};
 ghost use Rattle.heap_words.specs.Values.{IsPackable};
 ghost use Rattle.heap_rule.specs.Changes.{value_at};
+ghost use Rattle.heap_rule.specs.declared.view.TheConstants.{REMEMBERED_ROOM};
 ghost use Rattle.heap_rule.specs.Items.{items_of};
 ghost use Rattle.heap_rule.specs.Limits.{sizes_in};
 ghost use Rattle.heap_rule.specs.Opening.{opening_token};
@@ -157,9 +158,11 @@ impl Domain {
         self.own.remembered.room()
     }
 
-    /// The remembered fields, in the order in which they were remembered.
+    /// How many fields the domain remembers, in the order in which they were remembered. With those that it can remember still
+    /// they are always as many.
     pub fn remembered_len(&self) -> usize
-        ensures { result ≡ length self.now.view.own.remembered.items }
+        ensures value { result ≡ length self.now.view.own.remembered.items }
+        ensures whole { self.now.view.own.remembered.room + length self.now.view.own.remembered.items ≡ REMEMBERED_ROOM }
     {
         self.own.remembered.len()
     }

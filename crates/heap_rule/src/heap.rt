@@ -1,5 +1,5 @@
 //! The heap, from its start to its end.
-ghost use Rattle.std.specs.Prelude.{◌≡◌, ◌↔◌, ◌+◌, ◌<◌, ◌≤◌, ℕ, [], length, IfOk, Some, Err};
+ghost use Rattle.std.specs.Prelude.{◌≡◌, ◌↔◌, ◌+◌, ◌<◌, ◌≤◌, ℕ, [], length, vec_capacity, IfOk, Some, Err};
 ghost use Rattle.heap_model.specs.Domains.{IsWithinLimits};
 ghost use Rattle.heap_model.specs.History.{Legal};
 ghost use Rattle.heap_rule.specs.Layout.{before_heap};
@@ -7,38 +7,41 @@ ghost use Rattle.heap_rule.specs.Limits.{sizes_in, first_outside};
 ghost use Rattle.heap_rule.specs.Opening.{opening_token, opening_tokens};
 ghost use Rattle.heap_rule.specs.Ending.{AllIn, AllBegin};
 ghost use Rattle.heap_rule.specs.Views.{first_view};
-ghost use Rattle.heap_rule.specs.Meeting.{InOnePause, Met, SameCopies};
+ghost use Rattle.heap_rule.specs.Meeting.{InOnePause, Met, MetAll, SameCopies};
 ghost use Rattle.heap_rule.specs.Phases.{Agree};
 ghost use Rattle.heap_rule.specs.Token.{IsIn};
 
 use crate::config::{Config, StartFault};
 use crate::domain::Domain;
 use crate::layout::{WANT, index_of, opening_words};
-use crate::rule::{JoinSeat, Law, Learn, Levelling, SplitSeat};
+use crate::rule::{JoinSeat, Law, Learn, SplitSeat};
+use crate::together::{load_together, raw_load_all};
 use crate::view::View;
 use atomic_table::{Seat, Table};
 use std::alloc::{AllocError, Global};
-use std::marker::Model;
+use std::marker::{Brand, Model};
 
 /// The heap, which all domains share.
 #[derive(Drop)]
 pub struct Heap {
     pub(crate) table: Table<(), View, Config, Law, Global>,
     pub(crate) config: Config,
+    // The index before that of the heap's first word, which is the word with address 1.
+    pub(crate) before: usize,
 }
 
 impl Model for Heap {
     ghost use Rattle.std.specs.Prelude.{◌≡◌, ◌≤◌};
     ghost use Rattle.heap_model.specs.Domains.{IsWithinLimits};
     ghost use Rattle.heap_rule.specs.Limits.{sizes_in};
-    ghost use Rattle.heap_rule.specs.Layout.{table_words};
+    ghost use Rattle.heap_rule.specs.Layout.{before_heap, table_words};
     ghost use Rattle.heap_rule.specs.Token.{SharedHeap};
 
     ghost Value = { SharedHeap };
 
     ghost view = { λ h. record { table = h.table.shared.table_id; config = h.table.shared.key } };
 
-    ghost invariant = { λ h. (h.table.shared.table_id.words ≡ table_words h.table.shared.key) × (h.config ≡ h.table.shared.key) × IsWithinLimits (sizes_in h.table.shared.key) };
+    ghost invariant = { λ h. (h.table.shared.table_id.words ≡ table_words h.table.shared.key) × (h.config ≡ h.table.shared.key) × (h.before ≡ before_heap h.table.shared.key) × IsWithinLimits (sizes_in h.table.shared.key) };
 }
 
 impl Heap {
@@ -54,7 +57,7 @@ impl Heap {
     pub fn index_of(&self, address: u32) -> usize
         ensures { result ≡ before_heap self.now.config + address }
     {
-        index_of(self.config.pools, address)
+        self.before + address as usize
     }
 
     /// A heap, and the tokens of its domains, numbered from 0. Each runs, register 0 holds the
@@ -71,7 +74,12 @@ impl Heap {
         }
         let words = opening_words(alloc, &config)?;
         let (table, seat) = Table::of_words(alloc, words.as_slice(), &config)?;
-        let heap = Heap { table, config };
+        let before = index_of(config.pools, 0);
+        let heap = Heap {
+            table,
+            config,
+            before,
+        };
         let domains = seated(alloc, &heap, seat, config.domains)?;
         Ok((heap, domains))
     }
@@ -185,7 +193,7 @@ impl Heap {
             own: other_own,
         } = b;
         self.table.shared.join_seat::<JoinSeat>(&mut seat, other);
-        self.table.shared.load::<Levelling>(&mut seat, WANT);
+        load_together::<Brand>(&self.table.shared, &mut seat, WANT);
         let first = self.table.shared.split_seat::<SplitSeat>(&mut seat);
         let first = Domain {
             seat: first,
@@ -198,5 +206,20 @@ impl Heap {
             own: other_own,
         };
         (first, second)
+    }
+
+    /// Brings all these domains together for a moment, of which there is at least one. All then see one
+    /// history, which begins with what each had seen and in which none has made an entry that it hadn't
+    /// seen, and are else as they were. They stand in one pause, and where they are all domains of the heap
+    /// one of them has arrived as often as the number of the phase: it acts. While they copy young blocks,
+    /// no block has two copies: where two know of one, it is the same.
+    pub fn meet_all(&self, domains: &mut Vec<Domain>)
+        requires here { AllIn self.now domains.old.items }
+        requires some { 0 < length domains.old.items }
+        ensures here { AllIn self.now domains.new.items }
+        ensures met { MetAll self.now.config domains.old.items domains.new.items }
+        ensures room { vec_capacity domains.new ≡ vec_capacity domains.old }
+    {
+        raw_load_all::<Brand>(self, domains, WANT);
     }
 }

@@ -21,7 +21,7 @@ pub const BARRIER: usize = 1;
 /// The index of the plan word: which phase comes next.
 pub const PLAN: usize = 2;
 
-/// The index of the changed word: whether a block was darkened that another round must see.
+/// The index of the changed word: whether a block was darkened that the domain which darkened it may not have scanned.
 pub const CHANGED: usize = 3;
 
 /// The index of the word that says how many traces have ended.

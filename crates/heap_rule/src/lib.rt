@@ -10,6 +10,7 @@ mod layout;
 mod phase;
 mod raw;
 mod rule;
+mod together;
 mod view;
 
 pub use change::{Change, Item, Part, Reading, make_changes, read_as};
@@ -21,7 +22,8 @@ pub use layout::{
 };
 pub use phase::{Kind, Note, Progress, Stage};
 pub use raw::{Changing, Leaving, Writing, raw_add, raw_exchange, raw_load, raw_or, raw_store};
-pub use rule::Told;
+pub use rule::{Told, ToldAll};
+pub use together::raw_load_all;
 pub use view::{
     Copied, Copying, DomainView, Finalisers, Form, FoundHead, Held, Hunt, Listing, Met, Owing, Own,
     OwnPool, REMEMBERED_ROOM, Reaping, Registered, RegisteredLast, Scan, Seen, Share, Spot, Swept,

@@ -47,16 +47,6 @@ impl Play<(), View> for Learn {
     ghost then = { learned };
 }
 
-/// A load at which a seat that stands for two domains sees that they agree, and both see the whole
-/// history.
-pub struct Levelling;
-
-impl Play<(), View> for Levelling {
-    ghost use Rattle.heap_rule.specs.Meeting.{levelled};
-
-    ghost then = { levelled };
-}
-
 /// What one step tells of its domain: the view before, the word found, and the view after. Each
 /// step call takes `Brand`, and picks it.
 pub trait Told {
@@ -79,4 +69,28 @@ impl<T: Told> Play<(), View> for Telling<T> {
     ghost use Rattle.heap_rule.specs.Views.{Plays};
 
     ghost then = { Plays T.tells };
+}
+
+/// What one step of a seat that stands for several domains tells of them: the views before, the word
+/// found, and the views after. A call takes `Brand`, and picks it.
+pub trait ToldAll {
+    ghost use Rattle.std.specs.Prelude.{ℕ, List};
+    ghost use Rattle.heap_rule.specs.declared.view.DomainView.{DomainView};
+
+    ghost tells_all: { List DomainView → ℕ → List DomainView → Type 0 };
+}
+
+impl ToldAll for Brand {
+    ghost tells_all = { λ _ _ _. Unit {0} };
+}
+
+/// The play of each such step.
+pub struct TellingAll<T> {
+    told: PhantomData<T>,
+}
+
+impl<T: ToldAll> Play<(), View> for TellingAll<T> {
+    ghost use Rattle.heap_rule.specs.Views.{PlaysAll};
+
+    ghost then = { PlaysAll T.tells_all };
 }

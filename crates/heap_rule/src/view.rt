@@ -422,7 +422,7 @@ pub struct Seen {
     /// A place of an own pool that was free when the heap started. It stays so until the domain arrives
     /// or makes a block in a pool.
     pub spare: Option<Spare>,
-    /// The list of free pools, since the domain began to write it in this phase.
+    /// The list of free pools, since the domain began to write it in this phase, or to look whether it may stay.
     pub listing: Option<Listing>,
     /// What it has met and owes in a collection of young blocks.
     pub copying: Copying,

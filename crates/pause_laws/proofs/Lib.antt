@@ -1,4 +1,3 @@
 pub mod Ties
 pub mod Walk
 pub mod Blocks
-pub mod All

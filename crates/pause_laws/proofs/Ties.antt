@@ -1,12 +1,11 @@
 -- A domain that runs again after a complete collection has gone through the phase in which it was answered.
-use Rattle.std.proofs.Common.{◌≡◌, ◌≢◌, ◌⊎◌, inl, inr, ⊎_elim, ℕ, zero, suc, ◌+◌, ◌*◌, ◌<◌, ◌≤◌, Option, Some, None, refl, sym, ap, ◌∙◌, subst, arith}
+use Rattle.std.proofs.Common.{◌≡◌, ◌≢◌, ◌⊎◌, inl, inr, ⊎_elim, ℕ, ◌+◌, ◌*◌, ◌<◌, ◌≤◌, Option, Some, None, refl, sym, ap, ◌∙◌, subst, arith}
 use Rattle.std.proofs.lemmas.Bool.{cases_lt}
-use Rattle.std.proofs.Math.Nat.{mul-suc}
 use Rattle.heap_rule.specs.declared.phase.Kind.{Kind}
 use Rattle.heap_rule.specs.declared.phase.Kind.TheVariants.{Run, Answer}
 use Rattle.heap_rule.specs.declared.phase.Stage.{Stage}
 use Rattle.heap_rule.specs.declared.phase.Stage.TheVariants.{In, Gone}
-use Rattle.heap_rule.specs.Phases.{AtStage, IsEven, IsOdd, LeftOdd, Pause, sum_of}
+use Rattle.heap_rule.specs.Phases.{AtStage, IsEven, IsOdd, LeftOdd, Pause}
 use Rattle.pause_laws.specs.Ties.{InPause, KnowsKind, NamesRun, StandsAt, Started, Tied}
 
 some_is : (a b : Kind) → ◌≡◌ {A = Option Kind} (Some a) (Some b) → a ≡ b
@@ -134,15 +133,3 @@ started_even first a l even is odd = let i : ℕ = even.0 in let e : first ≡ i
 
 pub started_other : (first a : ℕ) (k : Kind) → k ≢ Run → Started first (Some k) a
 started_other first a k other is odd = absurd (other (some_is k Run is))
-
--- where not all have arrived once more, some domain acts in the phase
-pub someone_acts : (f : ℕ → ℕ) (p n : ℕ) → sum_of f n < (p + 1) * n → (d : ℕ) × (d < n) × (f d ≤ p)
-someone_acts f p zero few = absurd (let none : (p + 1) * 0 ≡ 0 = omega arith in omega (arith, few, none))
-someone_acts f p (suc m) few =
-    ⊎_elim
-    (λ (here : f m < p + 1). (m, omega arith, omega (arith, here)))
-    (λ (late : p + 1 ≤ f m).
-    let times : (p + 1) * suc m ≡ (p + 1) * m + (p + 1) = mul-suc (p + 1) m in
-    let rest = someone_acts f p m (omega (arith, few, late, times)) in
-    (rest.0, (let b = rest.1 in omega (arith, b)), rest.2))
-    (cases_lt (f m) (p + 1))

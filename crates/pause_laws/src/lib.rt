@@ -1,3 +1,3 @@
-//! Laws of pauses: which kinds of phases two domains of one pause know, that one of all domains acts, and how many
+//! Laws of pauses: which kinds of phases two domains of one pause know, and how many
 //! phases are left of a pause.
 #![tactic(auto)]

@@ -152,7 +152,7 @@ fn after_roots(heap: &Heap, dom: &mut Domain, decider: Decider) -> Kind
     }
 }
 
-// Blocks are marked until nothing is changed in a whole phase.
+// Blocks are marked until no domain leaves one behind that it has darkened and hasn't scanned.
 fn after_mark(heap: &Heap, dom: &mut Domain) -> Kind
     requires here { IsIn dom.old heap.now }
     requires first { dom.old.view.own.number ≡ 0 }

@@ -4,6 +4,7 @@ use Rattle.std.specs.Prelude.{slice_get}
 use Rattle.std.specs.List.{AllByRecursion, list_all}
 use Rattle.std.proofs.lemmas.Bool.{cases_lt}
 use Rattle.std.proofs.lemmas.List.{length-map}
+use Rattle.std.proofs.lemmas.Simd.{map-map}
 use Rattle.heap_model.specs.declared.entry.Entry.{Entry}
 use Rattle.heap_model.specs.declared.entry.Entry.TheVariants.{Command as CommandOf, End, Cut, Queue, Seal, Wipe, Last, Collected, Done, Ran}
 use Rattle.heap_model.specs.Fronts.{AreCalls, NoneOf, IsFrontOf, is_call, unseen}
@@ -18,9 +19,11 @@ use Rattle.heap_rule.specs.Limits.{sizes_in}
 use Rattle.heap_rule.specs.Meeting.{Trails}
 use Rattle.heap_rule.specs.Token.{SharedHeap}
 use Rattle.domain_turns.specs.Runs.{RunView, IsRun, StandsAt}
+use Rattle.replay_turns.specs.Asking.{HasAmple, commands_at}
 use Rattle.replay_turns.specs.Ends.{IsThere, MayGather, TakenApart}
 use Rattle.replay_turns.specs.Gathered.{GatheredView, HasRun, IsGathered, IsHeld, MayShare}
 use Rattle.replay_turns.specs.Leveled.{Leveled}
+use Rattle.replay_turns.proofs.Asking.{asks_none}
 use Rattle.replay_turns.proofs.Behind.{none_behind, trails_whole}
 use Rattle.replay_turns.proofs.Histories.{none_beyond, replies_front}
 use Rattle.replay_turns.proofs.InStep.{running_in_step}
@@ -51,6 +54,7 @@ pub gathered : (h : SharedHeap) (runs : List RunView) (slots : List (Option RunV
 gathered h runs slots may are is = subst (λ (s : List (Option RunView)). IsGathered (record { heap = h; runs = s; complete = false })) (sym is) record {
   count = length-map runs Some ∙ may.count;
   filled = λ d below. let f = filled_at runs d (subst (λ (n : ℕ). d < n) (length-map runs Some) below) in (f.0, get_map Some runs d f.0 f.1);
+  enough = subst (HasAmple h.config) (sym (map-map commands_at Some runs)) may.enough;
   held = λ d r at.
       let there = has_some runs d r at in
       let m = may.each d r there in record {
@@ -59,6 +63,7 @@ gathered h runs slots may are is = subst (λ (s : List (Option RunView)). IsGath
         number = m.number;
         listed = m.listed;
         collected = m.collected;
+        asks = asks_none r m.asked;
         walk = λ first. record { armed = m.armed first; unswept = m.unswept first; on = λ kind e. absurd (let clash : ◌≡◌ {A = Option Kind} None (Some kind) = sym m.left ∙ e in cc) };
       };
   in_step = running_in_step (map Some runs) (λ d r at. (may.each d r (has_some runs d r at)).left);

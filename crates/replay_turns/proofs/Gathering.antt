@@ -3,7 +3,7 @@ use Rattle.std.proofs.Common.{◌≡◌, ◌<◌, ◌≤◌, ◌+◌, ◌*◌, �
 use Rattle.std.proofs.Math.Nat.{max-le}
 use Rattle.std.proofs.lemmas.List.{length-drop, length-map}
 use Rattle.std.proofs.lemmas.Nat.{mul-le}
-use Rattle.std.proofs.lemmas.Option.{get_or_from_slice_get, slice_get-map}
+use Rattle.std.proofs.lemmas.Option.{slice_get-map}
 use Rattle.heap_model.specs.declared.command.Command.{Command}
 use Rattle.heap_model.specs.declared.entry.Entry.{Entry}
 use Rattle.heap_model.specs.declared.state.Sizes.{Sizes}
@@ -25,12 +25,8 @@ use Rattle.schedule_drive.specs.Spending.{most_in_replay}
 use Rattle.replay_turns.specs.Pace.{last_arrival, last_of, spare_of}
 use Rattle.replay_turns.proofs.EndLemmas.{nothing_shared}
 use Rattle.replay_turns.proofs.Pace.{last_at}
-use Rattle.replay_turns.proofs.Places.{get_map}
+use Rattle.replay_turns.proofs.Places.{get_map, read_at}
 use Rattle.replay_turns.specs.Replayed.{IsUntouched, MayReplay, Replayed, commands_of}
-
--- what a list has at a place, of what another has there
-read_at : {A B : Type 0} (f : A → B) (xs : List A) (d : ℕ) (x : A) (e : B) → slice_get xs d ≡ Some x → get_or (map f xs) d e ≡ f x
-read_at f xs d x e was = get_or_from_slice_get (map f xs) d (f x) e (slice_get-map f xs d ∙ ap (option_map f) was)
 
 -- where the runs stand, as they were gathered
 abbrev gathered : SharedHeap → List RunView → GatheredView

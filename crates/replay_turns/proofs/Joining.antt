@@ -12,13 +12,15 @@ use Rattle.heap_rule.specs.declared.phase.Kind.TheVariants.{Run}
 use Rattle.heap_rule.specs.declared.phase.Stage.TheVariants.{In}
 use Rattle.heap_rule.specs.Limits.{sizes_in}
 use Rattle.heap_rule.specs.Phases.{IsEven}
-use Rattle.heap_rule.specs.Token.{IsIn}
+use Rattle.heap_rule.specs.Token.{SharedHeap, IsIn}
 use Rattle.domain_turns.specs.declared.supply.Supply.{Supply}
 use Rattle.domain_turns.specs.declared.supply.Supply.TheVariants.{Listed}
 use Rattle.domain_turns.specs.Runs.{RunView, IsRun, StandsAt, most_ran, registrations_in, run_seeing}
 use Rattle.domain_turns.specs.Tries.{registrations_of}
 use Rattle.schedule_drive.specs.Together.{AllRuns, OneRun, Lead, Rests, Leads, Has, AllHave, LeadStep, Passed, SharesOn, SomeGone, Stands, Turned, Unqueued, all_halted, halted}
 use Rattle.replay_turns.specs.Walk.{IsWalk}
+use Rattle.pause_phases.specs.declared.decider.Decider.TheVariants.{Caller}
+use Rattle.replay_turns.specs.Asking.{AskFew, AsksOnce, HasAmple, commands_at}
 use Rattle.replay_turns.specs.Gathered.{GatheredView, GoneAt, HasRun, InStep, IsGathered, IsHeld, MayShare, PassedBy, Steps, Walk, is_even, is_running, lead_by, lead_in, lead_of, one_run, run_at, seen_in}
 use Rattle.replay_turns.specs.Leveled.{AllHere, Leveled}
 use Rattle.replay_turns.specs.Pace.{last_arrival, last_of, pace_of, spare_of}
@@ -30,6 +32,7 @@ use Rattle.heap_model.specs.Domains.{IsWithinLimits, domain_at, opening}
 use Rattle.heap_rule.specs.declared.phase.Progress.{Progress}
 use Rattle.heap_rule.specs.Rule.{state_of}
 use Rattle.steps_queue_looks.proofs.Queues.{queue_of_front}
+use Rattle.replay_turns.proofs.Asking.{calm_asks, halted_asks, halted_seen_run, passed_asks, passes_gone, seeing_asks}
 use Rattle.replay_turns.proofs.CalmLemmas.{KeepsRun, calm_keeps}
 use Rattle.replay_turns.proofs.Behind.{prefix_same}
 use Rattle.replay_turns.proofs.InStep.{halted_in_step, made_in_step, met_in_step, met_least, passed_in_step}
@@ -56,6 +59,29 @@ same_lists (x ∷ xs) (y ∷ ys) count at =
 pub lead_at : (complete : Bool) (runs : List (Option RunView)) (r : RunView) → HasRun runs 0 r → lead_by complete runs ≡ lead_of complete r
 lead_at complete [] r is = cc
 lead_at complete (o ∷ os) r is = let here : o ≡ Some r = cc in ap (λ (p : Option RunView). lead_by complete (p ∷ os)) here
+
+-- the commands of runs that go on are the same
+pub same_commands : (old new : List (Option RunView)) → length new ≡ length old → ((d : ℕ) → d < length new → (r : RunView) × HasRun new d r) → ((d : ℕ) (s : RunView) → HasRun new d s → (r : RunView) × HasRun old d r × (s.commands ≡ r.commands)) → map commands_at new ≡ map commands_at old
+same_commands old new count filled from = same_lists (map commands_at old) (map commands_at new) (length-map new commands_at ∙ (count ∙ sym (length-map old commands_at)))
+    (λ d cs is.
+    let f = filled d (subst (λ (n : ℕ). d < n) (length-map new commands_at) (inside (map commands_at new) d cs is)) in
+    let m = from d f.0 f.1 in
+    let same : cs ≡ f.0.commands = (let e : ◌≡◌ {A = Option (List Command)} (Some cs) (Some f.0.commands) = sym is ∙ get_map commands_at new d (Some f.0) f.1 in cc) in
+    get_map commands_at old d (Some m.0) m.1 ∙ ap Some (sym (same ∙ m.2)))
+
+-- none of them asks twice
+pub all_few : (g : GatheredView) → IsGathered g → AskFew g.heap g.runs
+all_few g all = record { count = all.count; numbers = λ d r is. (all.held d r is).number; listed = λ d r is. (all.held d r is).listed; asks = λ d r is. (all.held d r is).asks; enough = all.enough }
+
+-- nor once they have met
+pub level_few : (h : SharedHeap) (old new : List (Option RunView)) → AskFew h old → Leveled old new → AskFew h new
+level_few h old new few l = record {
+  count = l.count ∙ few.count;
+  numbers = λ d r is. let m = l.more d r is in ap (λ (x : RunView). x.token.view.own.number) m.2.is ∙ few.numbers d m.0 m.1;
+  listed = λ d r is. let m = l.more d r is in ap (λ (x : RunView). x.supply) m.2.is ∙ few.listed d m.0 m.1;
+  asks = λ d r is. let m = l.more d r is in subst AsksOnce (sym m.2.is) (seeing_asks m.0 l.history (few.asks d m.0 m.1));
+  enough = subst (HasAmple h.config) (sym (same_commands old new l.count (λ d below. l.stay d (subst (λ (k : ℕ). d < k) l.count below)) (λ d r is. let m = l.more d r is in (m.0, m.1, ap (λ (x : RunView). x.commands) m.2.is)))) few.enough;
+}
 
 -- each is of the heap
 pub all_here : (g : GatheredView) → IsGathered g → AllHere g.heap g.runs
@@ -102,6 +128,7 @@ module _ (g : GatheredView) (all : IsGathered g) (mid : List (Option RunView)) (
         listed = ap (λ (s : RunView). s.supply) m.2.is ∙ held.listed;
         collected = ap (λ (s : RunView). s.collected) m.2.is ∙ held.collected;
         walk = λ first. subst (Walk g.complete) (sym m.2.is) (let w = held.walk first in record { armed = w.armed; unswept = w.unswept; on = w.on });
+        asks = subst AsksOnce (sym m.2.is) (seeing_asks m.0 l.history held.asks);
       }
 
   pub met_all : IsGathered met
@@ -109,6 +136,7 @@ module _ (g : GatheredView) (all : IsGathered g) (mid : List (Option RunView)) (
     count = met_count;
     filled = λ d below. l.stay d (subst (λ (n : ℕ). d < n) l.count below);
     held = met_held;
+    enough = subst (HasAmple g.heap.config) (sym (same_commands g.runs mid l.count (λ d below. l.stay d (subst (λ (n : ℕ). d < n) l.count below)) (λ d r is. let m = l.more d r is in (m.0, m.1, ap (λ (x : RunView). x.commands) m.2.is)))) all.enough;
     in_step = met_in_step g.runs mid l all.in_step;
   }
 
@@ -153,12 +181,14 @@ module _ (g : GatheredView) (all : IsGathered g) (mid : List (Option RunView)) (
     pub others : (d : ℕ) → d ≢ at → slice_get new d ≡ slice_get mid d
     others d away = ap (λ (rs : List (Option RunView)). slice_get rs d) b.runs ∙ set_else mid at d (Some s) away
 
-    pub after_all : IsGathered after
-    after_all = record {
+    pub after_all : s.commands ≡ r.commands → IsGathered after
+    after_all same = record {
       count = ap length b.runs ∙ (length-set mid at (Some s) ∙ met_count);
-      filled = λ d below. dite (ℕ_discrete d at)
-          (λ e. (s, subst (λ (n : ℕ). HasRun new n s) (sym e) there))
-          (λ no. let f = met_all.filled d (subst (λ (n : ℕ). d < n) (ap length b.runs ∙ length-set mid at (Some s)) below) in (f.0, others d no ∙ f.1));
+      filled = filled;
+      enough = subst (HasAmple g.heap.config) (sym (same_commands mid new (ap length b.runs ∙ length-set mid at (Some s)) filled
+          (λ d q is. dite (ℕ_discrete d at)
+          (λ e. (r, subst (λ (n : ℕ). HasRun mid n r) (sym e) b.was, ap (λ (x : RunView). x.commands) (sym (one_there new at s q there (subst (λ (n : ℕ). HasRun new n q) e is))) ∙ same))
+          (λ no. (q, sym (others d no) ∙ is, refl))))) met_all.enough;
       held = λ d q is. dite (ℕ_discrete d at)
           (λ e.
           let same : s ≡ q = one_there new at s q there (subst (λ (n : ℕ). HasRun new n q) e is) in
@@ -167,8 +197,13 @@ module _ (g : GatheredView) (all : IsGathered g) (mid : List (Option RunView)) (
       in_step = step;
     }
       where
+        filled : (d : ℕ) → d < length new → (q : RunView) × HasRun new d q
+        filled d below = dite (ℕ_discrete d at)
+            (λ e. (s, subst (λ (n : ℕ). HasRun new n s) (sym e) there))
+            (λ no. let f = met_all.filled d (subst (λ (n : ℕ). d < n) (ap length b.runs ∙ length-set mid at (Some s)) below) in (f.0, others d no ∙ f.1))
+
         as_after : (d : ℕ) (q : RunView) → IsHeld met d q → IsHeld after d q
-        as_after d q i = record { is = i.is; here = i.here; number = i.number; listed = i.listed; collected = i.collected; walk = i.walk }
+        as_after d q i = record { is = i.is; here = i.here; number = i.number; listed = i.listed; collected = i.collected; walk = i.walk; asks = i.asks }
 
     pub after_runs : map run_at new ≡ slice_set (map run_at g.runs) at (one_run s)
     after_runs = ap (map run_at) b.runs ∙ (set_map run_at mid at (Some s) ∙ ap (λ (xs : List OneRun). slice_set xs at (one_run s)) met_seen)
@@ -197,7 +232,7 @@ module _ (g : GatheredView) (all : IsGathered g) (mid : List (Option RunView)) (
   number = p.run.token.view.own.number
 
   by : PassedBy g.complete number p.run p.passed
-  by = passed g.heap g.complete p.run p.passed held_run.is p.is_passed Did (λ first. held_run.walk (sym held_run.number ∙ first)) p.passes
+  by = passed g.heap g.complete p.run p.passed held_run.is p.is_passed held_run.asks (passes_gone (Caller g.complete) g.heap p.run p.passed Did p.passes) Did (λ first. held_run.walk (sym held_run.number ∙ first)) p.passes
 
   pass_by : PassedBy g.complete at p.run p.passed
   pass_by = subst (λ (d : ℕ). PassedBy g.complete d p.run p.passed) held_run.number by
@@ -210,6 +245,7 @@ module _ (g : GatheredView) (all : IsGathered g) (mid : List (Option RunView)) (
     listed = supply ∙ held_run.listed;
     collected = refl;
     walk = λ first. let w = pass_by.walk first in record { armed = w.armed; unswept = w.unswept; on = w.on };
+    asks = let a = passed_asks (Caller g.complete) g.heap p.run p.passed Did held_run.asks (passes_gone (Caller g.complete) g.heap p.run p.passed Did p.passes) p.passes in record { before = a.before; arrived = a.arrived; forgotten = a.forgotten };
   }
 
   pass_step : InStep new
@@ -222,7 +258,7 @@ module _ (g : GatheredView) (all : IsGathered g) (mid : List (Option RunView)) (
   passed_view = record g { runs = new }
 
   pub passed_all : IsGathered passed_view
-  passed_all = after_all g all mid l at p.run (forgetting p.passed) new p.becomes now_held pass_step
+  passed_all = after_all g all mid l at p.run (forgetting p.passed) new p.becomes now_held pass_step p.commands
 
   new_lead : at ≡ 0 → lead_by g.complete new ≡ lead_of g.complete p.passed
   new_lead first = lead_at g.complete new (forgetting p.passed) (subst (λ (n : ℕ). HasRun new n (forgetting p.passed)) first (there g all mid l at p.run (forgetting p.passed) new p.becomes now_held pass_step))
@@ -300,8 +336,10 @@ module _ (g : GatheredView) (all : IsGathered g) (mid : List (Option RunView)) (
           listed = ap (λ (x : RunView). x.supply) f.2 ∙ held.listed;
           collected = ap (λ (x : RunView). x.collected) f.2;
           walk = λ first. subst (Walk complete) (sym f.2) (halted_walk f.0 (held.walk first));
+          asks = subst AsksOnce (sym f.2) (halted_asks f.0 held.asks);
         };
     in_step = halted_in_step g.runs mid new l (λ d q is. (met_held g all mid l d q is).is) runs (λ d s is. let f = from d s is in (f.0, f.1, f.2));
+    enough = subst (HasAmple g.heap.config) (sym (same_commands mid new u.count (λ d below. u.stay d (subst (λ (n : ℕ). d < n) u.count below)) (λ d s is. let f = from d s is in (f.0, f.1, ap (λ (x : RunView). x.commands) f.2)))) (met_all g all mid l).enough;
   }
 
   first_there : (r : RunView) × HasRun mid 0 r
@@ -333,7 +371,7 @@ module _ (g : GatheredView) (all : IsGathered g) (mid : List (Option RunView)) (
           (λ d x is.
           let f = map_filled new d x halted_all_are.filled is in
           let m = from d f.0 f.1 in
-          get_map halted (map run_at mid) d (one_run m.0) (get_map run_at mid d (Some m.0) m.1) ∙ ap Some (sym (f.2 ∙ ap one_run m.2)))
+          get_map halted (map run_at mid) d (one_run m.0) (get_map run_at mid d (Some m.0) m.1) ∙ ap Some (sym (f.2 ∙ (ap one_run m.2 ∙ halted_seen_run m.0 (met_held g all mid l d m.0 m.1).asks))))
           ∙ ap (map halted) (met_seen g all mid l)
 
       same_lead : lead_by complete new ≡ Leads complete
@@ -377,13 +415,14 @@ module _ (g : GatheredView) (all : IsGathered g) (mid : List (Option RunView)) (
         unswept = ap (λ (q : Progress). q.unswept) keeps.progress ∙ w.unswept;
         on = λ kind e. absurd (let none : ◌≡◌ {A = Option Kind} None (Some kind) = sym (keeps.left ∙ running) ∙ e in cc);
       };
+      asks = calm_asks g.heap p.run p.made before.listed running before.asks p.answer p.calm;
     }
 
     abbrev pub stepped_view : GatheredView
     stepped_view = record g { runs = new }
 
     pub stepped_all : IsGathered stepped_view
-    stepped_all = after_all g all mid l at p.run p.made new p.becomes made_held made_step
+    stepped_all = after_all g all mid l at p.run p.made new p.becomes made_held made_step keeps.commands
 
     made_there : HasRun new at p.made
     made_there = there g all mid l at p.run p.made new p.becomes made_held made_step

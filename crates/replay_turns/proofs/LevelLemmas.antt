@@ -6,6 +6,7 @@ use Rattle.std.proofs.lemmas.List.{length-map}
 use mathlib.Core.Logic.{dite}
 use native.Mathlib.Decide.{ℕ_discrete}
 use Rattle.heap_model.specs.declared.entry.Entry.{Entry}
+use Rattle.heap_rule.specs.Meeting.{TakesPart, Trails}
 use Rattle.heap_rule.specs.Token.{SharedHeap, IsIn}
 use Rattle.domain_turns.specs.Meeting.{AllButOne, AllRunsMet, AreHere, slot_seeing}
 use Rattle.domain_turns.specs.Runs.{RunView, IsRun, run_seeing}
@@ -105,7 +106,7 @@ module _ (h : SharedHeap) (old mid : List (Option RunView)) (at : ℕ) (one met 
       let was = level_more d r is in
       subst IsRun (sym was.2.is) (seeing_is_run h was.0 m.history (here.here d was.0 was.1) (here.are d was.0 was.1) was.2.part.trails.begins)
 
-  pub leveled_all : Leveled old level_new
+  abbrev pub leveled_all : Leveled old level_new
   leveled_all = record { history = m.history; pause = m.pause; count = level_count; more = level_more; stay = level_stay; are = level_are }
 
 -- the others are of the heap too
@@ -124,6 +125,16 @@ all_but_one h old at within count here = record {
 pub level_front : (old new : List (Option RunView)) (l : Leveled old new) (d : ℕ) (r : RunView) → HasRun new d r → r.token.view.seen.front ≡ l.history
 level_front old new l d r there = let was = l.more d r there in ap (λ (x : RunView). x.token.view.seen.front) was.2.is
 
+-- each took part, and any two of them share the history
+pub level_part : (old new : List (Option RunView)) (l : Leveled old new) (d : ℕ) (q : RunView) → HasRun old d q → TakesPart l.history l.pause q.token.view
+level_part old new l d q was =
+    let r = l.stay d (inside old d (Some q) was) in
+    let m = l.more d r.0 r.1 in
+    subst (λ (z : RunView). TakesPart l.history l.pause z.token.view) (one_there old d m.0 q m.1 was) m.2.part
+
+pub level_shared : (old new : List (Option RunView)) (l : Leveled old new) (d e : ℕ) (q p : RunView) → HasRun old d q → HasRun old e p → (history : List Entry) × Trails history q.token.view × Trails history p.token.view
+level_shared old new l d e q p was there = (l.history, (level_part old new l d q was).trails, (level_part old new l e p there).trails)
+
 -- each is of the heap still
 pub level_here : (h : SharedHeap) (old new : List (Option RunView)) → AllHere h old → Leveled old new → AllHere h new
 level_here h old new all l = record {
@@ -131,6 +142,22 @@ level_here h old new all l = record {
   here = λ d r there. let m = l.more d r there in subst (λ (s : RunView). IsIn s.token h) (sym m.2.is) (all.here d m.0 m.1);
   are = l.are;
 }
+
+-- and where one of them has gone on
+pub set_all_here : (h : SharedHeap) (runs : List (Option RunView)) (at : ℕ) (s : RunView) → AllHere h runs → at < length runs → IsIn s.token h → IsRun s → AllHere h (slice_set runs at (Some s))
+set_all_here h runs at s all within here is =
+    let new : List (Option RunView) = slice_set runs at (Some s) in
+    let there : HasRun new at s = set_here runs at (Some s) within in record {
+      filled = λ d below. dite (ℕ_discrete d at)
+          (λ e. (s, subst (λ (n : ℕ). HasRun new n s) (sym e) there))
+          (λ no. let f = all.filled d (subst (λ (n : ℕ). d < n) (length-set runs at (Some s)) below) in (f.0, set_else runs at d (Some s) no ∙ f.1));
+      here = λ d q is. dite (ℕ_discrete d at)
+          (λ e. subst (λ (x : RunView). IsIn x.token h) (one_there new at s q there (subst (λ (n : ℕ). HasRun new n q) e is)) here)
+          (λ no. all.here d q (sym (set_else runs at d (Some s) no) ∙ is));
+      are = λ d q at_place. dite (ℕ_discrete d at)
+          (λ e. subst IsRun (one_there new at s q there (subst (λ (n : ℕ). HasRun new n q) e at_place)) is)
+          (λ no. all.are d q (sym (set_else runs at d (Some s) no) ∙ at_place));
+    }
 
 -- before any has arrived
 pub halt_start : (h : SharedHeap) (runs : List (Option RunView)) → AllHere h runs → HaltsUpto h runs runs 0

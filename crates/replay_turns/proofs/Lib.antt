@@ -15,3 +15,5 @@ pub mod Joining
 pub mod Turning
 pub mod EndLemmas
 mod Gathering
+pub mod Ample
+pub mod Asking

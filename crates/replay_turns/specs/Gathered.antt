@@ -12,7 +12,8 @@ use Rattle.heap_rule.specs.Meeting.{Trails}
 use Rattle.heap_rule.specs.Token.{SharedHeap, IsIn, Token}
 use Rattle.domain_turns.specs.declared.supply.Supply.TheVariants.{Listed}
 pub use Rattle.domain_turns.specs.Meeting.{HasRun}
-use Rattle.domain_turns.specs.Runs.{RunView, IsRun, is_asked}
+use Rattle.domain_turns.specs.Runs.{RunView, IsRun, is_asked, served_since}
+use Rattle.replay_turns.specs.Asking.{AsksOnce, HasAmple, commands_at}
 use Rattle.replay_turns.specs.Walk.{IsWalk}
 use Rattle.schedule_drive.specs.Together.{AllRuns, OneRun, Lead, Rests, Leads, Answers, LeadStep, IsAnswered, IsntAnswered}
 
@@ -32,13 +33,18 @@ abbrev pub asked_for : List Command → Option ℕ → Bool
 asked_for [] asked = false
 asked_for (c ∷ cs) asked = is_asked asked
 
+-- and whether one has begun since then
+abbrev pub paused_for : List Command → Option ℕ → ℕ → Bool
+paused_for [] asked arrivals = false
+paused_for (c ∷ cs) asked arrivals = served_since asked arrivals
+
 -- a run as a replay sees it
 abbrev pub one_run : RunView → OneRun
-one_run r = record { commands = r.commands; left = drop r.next r.commands; replies = r.replies; asked = asked_for (drop r.next r.commands) r.asked; waiting = length r.token.view.own.finalisers.queue.items; runs = is_running r.left; ended = r.ended }
+one_run r = record { commands = r.commands; left = drop r.next r.commands; replies = r.replies; asked = asked_for (drop r.next r.commands) r.asked; paused = paused_for (drop r.next r.commands) r.asked r.token.view.own.arrivals; waiting = length r.token.view.own.finalisers.queue.items; runs = is_running r.left; ended = r.ended }
 
 -- where none is there
 abbrev pub run_at : Option RunView → OneRun
-run_at None = record { commands = []; left = []; replies = []; asked = false; waiting = 0; runs = true; ended = true }
+run_at None = record { commands = []; left = []; replies = []; asked = false; paused = false; waiting = 0; runs = true; ended = true }
 run_at (Some r) = one_run r
 
 -- whether a number is even
@@ -87,6 +93,7 @@ pub record IsHeld (g : GatheredView) (d : ℕ) (r : RunView) : Type 0 where
   pub listed : r.supply ≡ Listed
   pub collected : r.collected ≡ false
   pub walk : d ≡ 0 → Walk g.complete r
+  pub asks : AsksOnce r
 
 -- there is room for so many domains and one more, and nobody is there
 abbrev pub HasRoom : ℕ → List Token → ℕ → Type 0
@@ -97,11 +104,12 @@ pub record InStep (runs : List (Option RunView)) : Type 0 where
   pub behind : (d e : ℕ) (r s : RunView) → HasRun runs d r → HasRun runs e s → r.left ≡ None → s.left ≢ None → s.token.view.own.arrivals ≤ r.token.view.own.arrivals
   pub started : (d e : ℕ) (r s : RunView) → HasRun runs d r → HasRun runs e s → r.left ≡ Some Run → IsOdd r.token.view.own.arrivals → r.token.view.own.arrivals ≤ s.token.view.own.arrivals
 
--- what is always true of them: there is a run for each domain of the heap
+-- what is always true of them: there is a run for each domain of the heap, and there are more pools than their commands use
 pub record IsGathered (g : GatheredView) : Type 0 where
   pub count : length g.runs ≡ g.heap.config.domains
   pub filled : (d : ℕ) → d < length g.runs → (r : RunView) × HasRun g.runs d r
   pub held : (d : ℕ) (r : RunView) → HasRun g.runs d r → IsHeld g d r
+  pub enough : HasAmple g.heap.config (map commands_at g.runs)
   pub in_step : InStep g.runs
 
 -- the front of domain d grew by these entries, and before and behind them by others that are no calls of the domain, and no controls where it leads

@@ -15,7 +15,7 @@ use Rattle.domain_turns.specs.Meeting.{StandsBehind}
 use Rattle.domain_turns.specs.Runs.{RunView, CalmAnswers, IsRun, PassesOn}
 use Rattle.schedule_drive.specs.declared.together.Stepped.{Stepped}
 use Rattle.schedule_drive.specs.declared.together.Stepped.TheVariants.{Ran, Made, Needs}
-use Rattle.schedule_drive.specs.Together.{IsServed}
+use Rattle.schedule_drive.specs.Together.{IsRested, IsServed}
 use Rattle.replay_turns.specs.Gathered.{HasRun, one_run}
 use Rattle.replay_turns.specs.Leveled.{Leveled}
 
@@ -43,6 +43,7 @@ pub record PassesAt (h : SharedHeap) (complete : Bool) (pause : Pause) (old new 
   pub passes : PassesOn h (Caller complete) run passed Did
   pub stands : StandsBehind h (Caller complete) pause run passed passes
   pub is_passed : IsRun passed
+  pub commands : passed.commands ≡ run.commands
   pub supply : passed.supply ≡ run.supply
   pub number : passed.token.view.own.number ≡ run.token.view.own.number
   pub served : complete ≡ true → passed.left ≡ None → IsServed (one_run passed)
@@ -75,12 +76,12 @@ CameTo k s next count Ran = (s.next ≡ next) × (s.ended ≡ false) × (length 
 CameTo k s next count (Needs complete) = (s.next ≡ next) × (s.ended ≡ false) × (length s.replies ≡ count) × ((complete ≡ true) → slice_get s.commands s.next ≡ Some FullMajor) × ((complete ≡ false) → slice_get s.commands s.next ≡ Some FullMajor → ⊥)
     × (length (domain_at (state_of k s.token.view.seen.front) s.token.view.own.number).queue ≡ length s.token.view.own.finalisers.queue.items)
 
--- the domain at a place made a step, while it runs. No command asks twice for a pause without a complete collection
+-- the domain at a place made a step, while it runs. Once a pause for which it asked has come, no command asks for another one without a complete collection
 pub record StepsAt (h : SharedHeap) (old new : List (Option RunView)) (at : ℕ) (stepped : Stepped) : Type 0 where
   pub run : RunView
   pub made : RunView
   pub answer : turned.Turned
   pub calm : CalmAnswers h run made answer
   pub came : CameTo h.config made run.next (length run.replies) stepped
-  pub once : stepped ≡ Needs false → (one_run run).asked ≡ false
+  pub once : stepped ≡ Needs false → IsRested (one_run run) → (one_run run).asked ≡ false
   pub becomes : Becomes h old new at run made

@@ -11,11 +11,8 @@ use Rattle.domain_turns.specs.declared.supply.Supply.TheVariants.{Listed}
 use Rattle.domain_turns.specs.Runs.{RunView}
 use Rattle.schedule_laws.specs.declared.items.Item.{Item}
 use Rattle.schedule_laws.specs.Scheduled.{scheduled}
+pub use Rattle.replay_turns.specs.Asking.{commands_of}
 use Rattle.replay_turns.specs.Ends.{MayGather}
-
--- the commands of each run
-abbrev pub commands_of : List RunView → List (List Command)
-commands_of runs = map (λ r. r.commands) runs
 
 -- a run that has done nothing yet: its domain has seen no entry and hasn't arrived, it has asked for no pause, and all its commands are left
 pub record IsUntouched (r : RunView) : Type 0 where

@@ -38,9 +38,8 @@ impl TogetherRuns for Gathered {
         self.run(at).running()
     }
 
-    fn turn<R: Wait>(&mut self, rt: &R, at: usize) -> Stepped {
+    fn turn<R: Wait>(&mut self, _rt: &R, at: usize) -> Stepped {
         step_at(
-            rt,
             &self.heap,
             self.runs.as_mut_slice(),
             &mut self.meeting,

@@ -1,5 +1,5 @@
 -- What a look answers, and what domain 0 does when it leads.
-use Rattle.std.specs.Prelude.{◌≡◌, ◌*◌, ◌/◌, ◌%◌, ◌==◌, ◌<◌, ◌≤◌, ℕ, Bool, List, [], ◌∷◌, ◌++◌, Some, None}
+use Rattle.std.specs.Prelude.{◌≡◌, ◌*◌, ◌/◌, ◌%◌, ◌==◌, ◌<◌, ◌≤◌, ℕ, Bool, List, [], ◌∷◌, ◌++◌, length, Some, None}
 use Rattle.heap_model.specs.History.{Legal}
 use Rattle.heap_model.specs.Fronts.{AreNotControls, IsFrontOf, unseen}
 use Rattle.heap_rule.specs.declared.config.Config.{Config}
@@ -10,16 +10,17 @@ use Rattle.heap_rule.specs.declared.phase.Stage.TheVariants.{In, Leads, Led}
 use Rattle.heap_rule.specs.declared.phase.Note.{Note}
 use Rattle.heap_rule.specs.declared.phase.Note.TheVariants.{Barrier, Cleared}
 use Rattle.heap_rule.specs.Limits.{sizes_in}
-use Rattle.heap_rule.specs.Phases.{Comes, IsEven, IsOdd}
+use Rattle.heap_rule.specs.Phases.{Comes, IsEven, IsOdd, Pause, Staged}
 use Rattle.heap_rule.specs.Rule.{state_of}
-use Rattle.heap_rule.specs.Standing.{noted}
+use Rattle.heap_rule.specs.Standing.{noted, with_front}
 use Rattle.heap_rule.specs.Cycles.{IsMarking}
 use Rattle.steps_pauses.specs.Pauses.{kind_in, IsModeOf, asks_again, entry_of, progress_after, unmarked_after, EndsWith}
 use Rattle.safepoint.specs.declared.answer.Look.{Look}
 use Rattle.safepoint.specs.declared.answer.Look.TheVariants.{Next, Lead, NotAll}
 use Rattle.safepoint.specs.declared.answer.Want as wish
 use Rattle.safepoint.specs.declared.answer.Want.TheVariants.{Minor, Cycle, Finish, Full}
-use Rattle.heap_rule.specs.Views.{fresh_share}
+use Rattle.heap_rule.specs.Meeting.{Meeting, all_seeing}
+use Rattle.heap_rule.specs.Views.{AllDomains, domain_in, fresh_share, rest_of}
 use Rattle.heap_model.specs.declared.entry.Entry.{Entry}
 
 -- the bit of a wish
@@ -47,6 +48,16 @@ abbrev pub LookAnswers : Config → DomainView → DomainView → Look → Type 
 LookAnswers k x y (NotAll b) = (b < x.own.arrivals * k.domains) × (y ≡ noted x (Barrier b))
 LookAnswers k x y (Next kind) = PassedBarrier k x y × (y.seen.stage ≡ In kind) × IsEven x.own.arrivals × Comes x.own.number (kind_in x.seen.stage) kind × IsModeOf kind (state_of k y.seen.front).mode
 LookAnswers k x y Lead = PassedBarrier k x y × (y.seen.stage ≡ Leads (kind_in x.seen.stage)) × IsOdd x.own.arrivals
+
+-- These domains meet, of which the first looks, and all see the history of the meeting: to the first the look answers what it answers one that is alone, and it stands in the same pause then. Where they are all domains of the heap, and none has arrived less often than the first, it doesn't answer that not all have arrived
+pub record LooksTogether (k : Config) (xs ys : List DomainView) (answer : Look) : Type 0 where
+  pub history : List Entry
+  pub pause : Pause
+  pub meets : Meeting k history pause xs
+  pub first : LookAnswers k (with_front (domain_in xs) history) (domain_in ys) answer
+  pub staged : Staged pause (domain_in ys)
+  pub others : ys ≡ domain_in ys ∷ all_seeing history (rest_of xs)
+  pub acts : length xs ≡ k.domains → AllDomains (λ x. (domain_in xs).own.arrivals ≤ x.own.arrivals) xs → (b : ℕ) → answer ≡ NotAll b → ⊥
 
 -- what domain 0 notes when it leads to a phase of this kind
 abbrev pub cleared : Kind → List Note

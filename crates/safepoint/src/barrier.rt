@@ -1,14 +1,17 @@
 //! The steps of a pause, for a domain that takes turns.
-ghost use Rattle.std.specs.Prelude.{◌≡◌, ◌≤◌, ◌<◌, ◌^◌, ◌++◌, [], ◌∷◌, Some};
+ghost use Rattle.std.specs.Prelude.{◌≡◌, ◌≤◌, ◌<◌, ◌^◌, ◌++◌, [], ◌∷◌, length, vec_capacity, Some};
 ghost use Rattle.heap_rule.specs.declared.phase.Kind as kinds;
 ghost use Rattle.heap_rule.specs.declared.phase.Kind.TheVariants.{Run, Promote};
 ghost use Rattle.heap_rule.specs.declared.phase.Stage.TheVariants.{In, Leads};
 ghost use Rattle.heap_rule.specs.declared.phase.Note.TheVariants as note;
 ghost use Rattle.heap_rule.specs.Phases.{code, kind_at, Follows, last_note};
 ghost use Rattle.heap_rule.specs.Standing.{noted, ShowsRegisters};
-ghost use Rattle.steps_pauses.specs.Pauses.{IsGone, ArriveMay, ClearMay, MayFollow, kind_in, arrived_view};
-ghost use Rattle.heap_rule.specs.Token.{IsIn};
-ghost use Rattle.safepoint.specs.Looks.{bit_of, cleared, is_wanted, LedTo, LookAnswers};
+ghost use Rattle.steps_pauses.specs.Pauses.{IsGone, ArriveMay, ClearMay, LookTold, MayFollow, kind_in, arrived_view};
+ghost use Rattle.heap_rule.specs.declared.view.DomainView.{DomainView};
+ghost use Rattle.heap_rule.specs.Ending.{AllIn};
+ghost use Rattle.heap_rule.specs.Token.{IsIn, views_of};
+ghost use Rattle.heap_rule.specs.Views.{domain_in};
+ghost use Rattle.safepoint.specs.Looks.{bit_of, cleared, is_wanted, LedTo, LookAnswers, LooksTogether};
 ghost use Rattle.steps_pools.specs.Listings.{NamesAll};
 
 use crate::answer::{Look, Want, Wants};
@@ -108,6 +111,24 @@ pub fn arrive(heap: &Heap, dom: &mut Domain)
     steps_pauses::arrive(heap, dom);
 }
 
+// What a look came to that found this barrier word, whatever the domain's view was before it.
+fn answer_look(heap: &Heap, dom: &mut Domain, found: u64) -> Look
+    requires here { IsIn dom.old heap.now }
+    requires few { dom.old.view.own.arrivals ≤ 2 ^ 60 }
+    ensures here { IsIn dom.new heap.now }
+    ensures view { dom.new.view ≡ dom.old.view }
+    ensures answer { (before : DomainView) → LookTold heap.now.config before found dom.old.view → LookAnswers heap.now.config before dom.new.view result }
+{
+    if found < dom.arrivals() * u64::from(heap.config().domains) {
+        return Look::NotAll(found);
+    }
+    if dom.arrivals() % 2 == 1 {
+        return Look::Lead;
+    }
+    let word = plan_load(heap, dom);
+    Look::Next(kind_of(word))
+}
+
 /// Whether all domains have arrived. Then the next phase has begun, and the domain is in it.
 pub fn look(heap: &Heap, dom: &mut Domain) -> Look
     requires here { IsIn dom.old heap.now }
@@ -116,15 +137,24 @@ pub fn look(heap: &Heap, dom: &mut Domain) -> Look
     ensures here { IsIn dom.new heap.now }
     ensures answer { LookAnswers heap.now.config dom.old.view dom.new.view result }
 {
-    let b = steps_pauses::look(heap, dom);
-    if b < dom.arrivals() * u64::from(heap.config().domains) {
-        return Look::NotAll(b);
-    }
-    if dom.arrivals() % 2 == 1 {
-        return Look::Lead;
-    }
-    let word = plan_load(heap, dom);
-    Look::Next(kind_of(word))
+    let found = steps_pauses::look(heap, dom);
+    answer_look(heap, dom, found)
+}
+
+/// The same of the first of these domains, which has arrived, where all of them meet as it looks: all see
+/// one history, and stand in one pause. Where they are all domains of the heap, and none has arrived less
+/// often than the first, all have arrived.
+pub fn look_all(heap: &Heap, domains: &mut Vec<Domain>) -> Look
+    requires here { AllIn heap.now domains.old.items }
+    requires some { 0 < length domains.old.items }
+    requires gone { IsGone (domain_in (views_of domains.old.items)) }
+    requires few { (domain_in (views_of domains.old.items)).own.arrivals ≤ 2 ^ 60 }
+    ensures here { AllIn heap.now domains.new.items }
+    ensures answer { LooksTogether heap.now.config (views_of domains.old.items) (views_of domains.new.items) result }
+    ensures room { vec_capacity domains.new ≡ vec_capacity domains.old }
+{
+    let found = steps_pauses::look_all(heap, domains);
+    answer_look(heap, &mut domains[0], found)
 }
 
 // Takes the wishes back where domains run next.

@@ -5,4 +5,4 @@ mod answer;
 mod barrier;
 
 pub use answer::{Look, Want, Wants};
-pub use barrier::{arrive, ask, is_wanted, lead, look, wants};
+pub use barrier::{arrive, ask, is_wanted, lead, look, look_all, wants};

@@ -43,7 +43,7 @@ pub fn scanned_store(heap: &Heap, dom: &mut Domain, at: u32, new: u64)
     raw_store::<Brand, Looking>(heap, dom, index, new, &writing, &[]);
 }
 
-/// A store of 1 in the changed word, in Mark or in Rounds: the domain owes it no more.
+/// A store of 1 in the changed word, in Mark, Rounds or Queued: the domain owes it no more.
 pub fn changed_store(heap: &Heap, dom: &mut Domain)
     requires here { IsIn dom.old heap.now }
     requires may { ChangedMay dom.old.view }

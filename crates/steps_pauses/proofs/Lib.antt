@@ -10,5 +10,6 @@ mod Growing
 mod Leading
 mod Arrivals
 pub mod Plain
+pub mod Looking
 pub mod PauseSteps
 pub mod EndSteps

@@ -22,14 +22,15 @@ use Rattle.heap_rule.specs.declared.phase.Progress.{Progress}
 use Rattle.heap_rule.specs.declared.phase.Note.TheVariants.{Want, Asked, Barrier, Ended, Cleared, SetBack}
 use Rattle.heap_rule.specs.declared.view.Hunt.TheVariants.{Rests}
 use Rattle.heap_rule.specs.Limits.{sizes_in}
-use Rattle.heap_rule.specs.Phases.{code, Follows, Comes, IsEven, IsOdd, last_note}
+use Rattle.heap_rule.specs.Phases.{code, Follows, Comes, IsEven, IsOdd, Pause, Staged, last_note}
 use Rattle.heap_rule.specs.Pools.{limit_of, prepared_at}
 use Rattle.heap_rule.specs.Copies.{nothing_copied, HoldsOld}
 use Rattle.heap_rule.specs.Rule.{state_of}
 use Rattle.heap_rule.specs.Standing.{noted, with_front, with_own, ShowsRegisters}
 use Rattle.heap_rule.specs.Token.{Holds}
 use Rattle.heap_rule.specs.declared.phase.Kind.TheVariants.{Run, Promote, Reset, Roots, Mark, Rounds, Clean, Sweep, Answer, Decide, Queued, Lasts}
-use Rattle.heap_rule.specs.Views.{fresh_share, voided}
+use Rattle.heap_rule.specs.Meeting.{Meeting, all_seeing}
+use Rattle.heap_rule.specs.Views.{AllDomains, domain_in, fresh_share, rest_of, voided}
 use Rattle.std.specs.List.{list_any}
 use Rattle.heap_rule.specs.Changes.{value_at}
 use Rattle.heap_rule.specs.Cycles.{IsMarking, seen_by}
@@ -167,6 +168,16 @@ pub record LookTold (k : Config) (x : DomainView) (found : ℕ) (y : DomainView)
   pub alone : k.domains ≡ 1 → found ≡ x.own.arrivals
   pub waits : found < x.own.arrivals * k.domains → y ≡ noted x (Barrier found)
   pub begun : x.own.arrivals * k.domains ≤ found → Begun k x found y
+
+-- A load of the barrier word at which these domains meet, of which the first has arrived and looks: to it the load tells what it tells one that is alone, and it stands in the same pause then. Where they are all domains of the heap and none has arrived less often, it finds that all have arrived
+pub record LooksAll (k : Config) (xs : List DomainView) (found : ℕ) (ys : List DomainView) : Type 0 where
+  pub history : List Entry
+  pub pause : Pause
+  pub meets : Meeting k history pause xs
+  pub first : LookTold k (with_front (domain_in xs) history) found (domain_in ys)
+  pub staged : Staged pause (domain_in ys)
+  pub others : ys ≡ domain_in ys ∷ all_seeing history (rest_of xs)
+  pub acts : length xs ≡ k.domains → AllDomains (λ x. (domain_in xs).own.arrivals ≤ x.own.arrivals) xs → (domain_in xs).own.arrivals * k.domains ≤ found
 
 -- a load of the plan word
 pub record PlanTold (x : DomainView) (found : ℕ) (y : DomainView) : Type 0 where

@@ -5,5 +5,6 @@
 mod pausing;
 
 pub use pausing::{
-    arrive, ask, ended_add, ended_load, look, plan_load, plan_store, want_clear, want_load,
+    arrive, ask, ended_add, ended_load, look, look_all, plan_load, plan_store, want_clear,
+    want_load,
 };

@@ -1,15 +1,17 @@
 //! The steps of a pause, and the end of a trace.
-ghost use Rattle.std.specs.Prelude.{◌≡◌, ◌+◌};
+ghost use Rattle.std.specs.Prelude.{◌≡◌, ◌+◌, ◌<◌, length, vec_capacity};
 ghost use Rattle.heap_rule.specs.declared.phase.Kind.TheVariants.{Run};
 ghost use Rattle.heap_rule.specs.declared.phase.Stage.TheVariants.{In};
 ghost use Rattle.heap_rule.specs.Phases.{kind_at};
-ghost use Rattle.steps_pauses.specs.Pauses.{IsGone, IsWish, ArriveMay, ClearMay, LeadMay, WantTold, AskTold, Arrived, LookTold, PlanTold, ClearTold, LeadTold, EndTold, EndedTold};
+ghost use Rattle.steps_pauses.specs.Pauses.{IsGone, IsWish, ArriveMay, ClearMay, LeadMay, WantTold, AskTold, Arrived, LookTold, LooksAll, PlanTold, ClearTold, LeadTold, EndTold, EndedTold};
 ghost use Rattle.heap_rule.specs.Standing.{Acts};
-ghost use Rattle.heap_rule.specs.Token.{IsIn};
+ghost use Rattle.heap_rule.specs.Ending.{AllIn};
+ghost use Rattle.heap_rule.specs.Token.{IsIn, views_of};
+ghost use Rattle.heap_rule.specs.Views.{domain_in};
 
 use heap_rule::{
     BARRIER, Change, Domain, ENDED, Heap, Leaving, Own, PLAN, WANT, Writing, raw_add, raw_load,
-    raw_or, raw_store,
+    raw_load_all, raw_or, raw_store,
 };
 use heap_words::Value;
 use std::marker::Brand;
@@ -74,6 +76,21 @@ pub fn look(heap: &Heap, dom: &mut Domain) -> u64
     ensures told { LookTold heap.now.config dom.old.view result dom.new.view }
 {
     raw_load::<Brand, Leaving>(heap, dom, BARRIER, &Leaving, &[])
+}
+
+/// A load of the barrier word by the first of these domains, which has arrived, at which all of them meet:
+/// all see one history, which begins with what each had seen, and stand in one pause. To the first it tells
+/// what `look` tells, and the others are else as they were. Where they are all domains of the heap, and none
+/// has arrived less often than the first, the word isn't below its arrivals times the number of domains.
+pub fn look_all(heap: &Heap, domains: &mut Vec<Domain>) -> u64
+    requires here { AllIn heap.now domains.old.items }
+    requires some { 0 < length domains.old.items }
+    requires gone { IsGone (domain_in (views_of domains.old.items)) }
+    ensures here { AllIn heap.now domains.new.items }
+    ensures told { LooksAll heap.now.config (views_of domains.old.items) result (views_of domains.new.items) }
+    ensures room { vec_capacity domains.new ≡ vec_capacity domains.old }
+{
+    raw_load_all::<Brand>(heap, domains, BARRIER)
 }
 
 /// A load of the plan word, which is the kind of the phase that the domain is in.

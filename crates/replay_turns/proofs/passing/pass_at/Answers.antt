@@ -58,12 +58,13 @@ returns-clause-passes g c =
         passes = p.passes;
         stands = p.stands;
         is_passed = c.is_faithful.ensures;
+        commands = c.pass_among-run.ensures.goes_on.commands ∙ sym (ap (λ (r : RunView). r.commands) p.all_met.own_is);
         supply = c.pass_among-run.ensures.goes_on.supply ∙ sym (ap (λ (r : RunView). r.supply) p.all_met.own_is);
         number = c.pass_among-run.ensures.goes_on.number ∙ sym (ap (λ (r : RunView). r.token.view.own.number) p.all_met.own_is);
         served = c.is_served.ensures;
         becomes = record {
           was = set_here others at (Some met) within;
-          here = subst (λ (r : RunView). IsIn r.token heap) (sym c.forget_collected.ensures) c.pass_among-run.ensures.here;
+          here = c.pass_among-run.ensures.here;
           is = subst IsRun c.forget_collected.ensures c.is_faithful-2.ensures;
           runs = c.put_run.ensures ∙ (ap (λ (r : RunView). slice_set others at (Some r)) c.forget_collected.ensures ∙ sym (twice_set others at _ _));
         };

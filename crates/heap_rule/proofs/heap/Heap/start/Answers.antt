@@ -1,8 +1,8 @@
-use Rattle.std.proofs.Common.{◌≡◌, ◌∙◌, [], length, refl, sym, ap, subst, List, ℕ}
+use Rattle.std.proofs.Common.{◌≡◌, ◌∙◌, [], arith, length, refl, sym, ap, subst, List, ℕ}
 use Rattle.atomic_table.specs.Table.{opening}
 use Rattle.heap_model.specs.Domains.{IsWithinLimits}
 use Rattle.heap_rule.specs.declared.config.Config.{Config}
-use Rattle.heap_rule.specs.Layout.{table_words}
+use Rattle.heap_rule.specs.Layout.{before_heap, table_words}
 use Rattle.heap_rule.specs.Limits.{sizes_in}
 use Rattle.heap_rule.specs.Rule.{Rule}
 use Rattle.heap_rule.specs.Views.{first_view}
@@ -20,4 +20,5 @@ invariant_of-heap-2 c =
     let made = c.in_ok-table.ensures in
     let limits = within c.args.config (sym c.in_default.ensures) in
     let words = made.0 ∙ (ap (λ (ws : List ℕ). length ws) c.as_slice.ensures.value ∙ c.in_ok-words.ensures.wide) in
-    subst (λ (k : Config). (c.in_ok-table.table.shared.table_id.words ≡ table_words k) × (c.args.config ≡ k) × IsWithinLimits (sizes_in k)) (sym made.5) (words, refl, limits)
+    let before : c.index_of-before.result ≡ before_heap c.args.config = omega (arith, c.index_of-before.ensures) in
+    subst (λ (k : Config). (c.in_ok-table.table.shared.table_id.words ≡ table_words k) × (c.args.config ≡ k) × (c.index_of-before.result ≡ before_heap k) × IsWithinLimits (sizes_in k)) (sym made.5) (words, refl, before, limits)

@@ -1,13 +1,15 @@
-use Rattle.std.proofs.Common.{◌∙◌, ◌<◌, ◌≤◌, true, false, List, Option, ap, length, subst, sym}
+use Rattle.std.proofs.Common.{◌∙◌, ◌<◌, ◌≤◌, true, false, List, Option, Some, ap, length, subst, sym}
 use Rattle.std.specs.Prelude.{vec_capacity}
 use Rattle.std.proofs.lemmas.List.{with_items_is}
 use Rattle.domain_turns.specs.Runs.{RunView}
 use Rattle.schedule_drive.specs.Together.{AllHave, Has, Turned}
-use Rattle.replay_turns.specs.Gathered.{GatheredView, HasRun, IsGathered, MayShare, seen_in}
+use Rattle.replay_turns.specs.Asking.{AskFew}
+use Rattle.replay_turns.specs.Gathered.{GatheredView, HasRun, IsGathered, MayShare, one_run, run_at, seen_in}
 use Rattle.replay_turns.specs.Leveled.{AllHere}
 use Rattle.replay_turns.specs.Moves.{MetThen, StepsAt}
 use Rattle.replay_turns.specs.Pace.{spare_of}
-use Rattle.replay_turns.proofs.Joining.{all_here, keeps_room, runs_run}
+use Rattle.replay_turns.proofs.Joining.{all_few, all_here, keeps_room, runs_run}
+use Rattle.replay_turns.proofs.Places.{get_map}
 use Rattle.replay_turns.proofs.Turning.{turned_all, turned_spares, turned_tells}
 use Rattle.replay_turns.proofs.together.GatheredTogetherRuns.turn.Goals as goal
 
@@ -22,8 +24,15 @@ step_at-requires-clause-running g c = λ r there.
     let g0 : GatheredView = record { heap = c.self.inside.heap; runs = c.self.inside.runs.items; complete = c.self.inside.complete } in
     runs_run g0 run c.args.at r (subst (λ (rs : List (Option RunView)). HasRun rs c.args.at r) c.as_mut_slice.ensures.value there)
 
-pub step_at-requires-clause-listed : goal.step_at-requires-clause-listed
-step_at-requires-clause-listed g c = λ r there. (c.self.invariant.0.held c.args.at r (subst (λ (rs : List (Option RunView)). HasRun rs c.args.at r) c.as_mut_slice.ensures.value there)).listed
+pub step_at-requires-clause-goes_on : goal.step_at-requires-clause-goes_on
+step_at-requires-clause-goes_on g c = λ r there.
+    let going = subst (λ (v : GatheredView). Has (λ x. x.ended) false (seen_in v) c.args.at) (sym c.self.view_is) c.requires.goes_on in
+    going (one_run r) (get_map run_at c.self.inside.runs.items c.args.at (Some r) (subst (λ (rs : List (Option RunView)). HasRun rs c.args.at r) c.as_mut_slice.ensures.value there))
+
+pub step_at-requires-clause-few : goal.step_at-requires-clause-few
+step_at-requires-clause-few g c =
+    let g0 : GatheredView = record { heap = c.self.inside.heap; runs = c.self.inside.runs.items; complete = c.self.inside.complete } in
+    subst (AskFew c.self.inside.heap) (sym c.as_mut_slice.ensures.value) (all_few g0 c.self.invariant.0)
 
 pub step_at-requires-clause-empty : goal.step_at-requires-clause-empty
 step_at-requires-clause-empty g c = c.self.invariant.1.0

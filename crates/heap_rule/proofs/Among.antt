@@ -1,18 +1,17 @@
 -- Where a seat stands for all domains, one of them acts in the phase.
-use Rattle.std.proofs.Common.{◌≡◌, ◌≢◌, ◌⊎◌, ⊎_elim, ℕ, zero, suc, ◌+◌, ◌*◌, ◌<◌, ◌≤◌, List, [], ◌∷◌, length, refl, sym, ap, ◌∙◌, subst, arith}
-use Rattle.std.proofs.lemmas.Bool.{cases_eq}
+use Rattle.std.proofs.Common.{◌≡◌, ◌≢◌, ⊎_elim, ℕ, zero, suc, ◌+◌, ◌*◌, ◌<◌, ◌≤◌, inl, inr, List, [], ◌∷◌, length, refl, ap, ◌∙◌, subst, arith}
+use Rattle.std.proofs.lemmas.Bool.{cases_eq, cases_lt}
+use Rattle.std.proofs.Math.Nat.{mul-suc}
 use mathlib.Core.Option.{some}
 use lib.ListN.{get_elem?}
-use Rattle.heap_model.specs.declared.entry.Entry.{Entry}
 use Rattle.heap_rule.specs.declared.config.Config.{Config}
 use Rattle.heap_rule.specs.declared.view.DomainView.{DomainView}
 use Rattle.heap_rule.specs.declared.view.View.{View}
-use Rattle.heap_rule.specs.Layout.{barrier}
 use Rattle.heap_rule.specs.Phases.{sum_of}
 use Rattle.heap_rule.specs.Rule.{Good, Rule}
-use Rattle.heap_rule.specs.Views.{AllDomains, Distinct, IsSeated}
+use Rattle.heap_rule.specs.Views.{AllDomains, Distinct, IsSeated, SomeDomain}
 use Rattle.heap_rule.proofs.Keeps.{Words}
-use Rattle.pause_laws.proofs.Ties.{someone_acts}
+use Rattle.heap_rule.proofs.Lists.{domains_map, some_with}
 
 -- 1 at one number
 abbrev hit : ℕ → ℕ → ℕ
@@ -115,40 +114,50 @@ all_counted (x ∷ xs) n within =
     omega (arith, here, rest, both)
 
 -- one that stands there
-found : (P : DomainView → Type 0) (xs : List DomainView) (k : ℕ) → AllDomains P xs → 1 ≤ count xs k → (x : DomainView) × P x × (x.own.number ≡ k)
-found P [] k all there = absurd (omega (arith, there))
-found P (x ∷ xs) k all there =
+found : (xs : List DomainView) (k : ℕ) → 1 ≤ count xs k → SomeDomain (λ x. x.own.number ≡ k) xs
+found [] k there = absurd (omega (arith, there))
+found (x ∷ xs) k there =
     ⊎_elim
-    (λ (same : x.own.number ≡ k). (x, all.0, same))
-    (λ (other : x.own.number ≢ k). found P xs k all.1 (let here = hit_other x.own.number k other in omega (arith, here, there)))
+    (λ (same : x.own.number ≡ k). inl same)
+    (λ (other : x.own.number ≢ k). inr (found xs k (let here = hit_other x.own.number k other in omega (arith, here, there))))
     (cases_eq x.own.number k)
 
 -- so where there are as many of them as numbers, each number stands there
-each_there : (P : DomainView → Type 0) (xs : List DomainView) (n d : ℕ) → Distinct xs → AllDomains (λ y. y.own.number < n) xs → length xs ≡ n → d < n → AllDomains P xs → (x : DomainView) × P x × (x.own.number ≡ d)
-each_there P xs n d apart within many below all =
+each_there : (xs : List DomainView) (n d : ℕ) → Distinct xs → AllDomains (λ y. y.own.number < n) xs → length xs ≡ n → d < n → SomeDomain (λ x. x.own.number ≡ d) xs
+each_there xs n d apart within many below =
     let few = once xs apart in
     let sum = all_counted xs n within in
-    found P xs d all
+    found xs d
     (⊎_elim
     (λ (none : count xs d ≡ 0). absurd (let less = sum_less (count xs) d n few below none in omega (arith, less, sum, many)))
     (λ (there : count xs d ≢ 0). omega (arith, there))
     (cases_eq (count xs d) 0))
 
-all_inside : (k : Config) (log : List Entry) (seat : ℕ → ℕ) (id : ℕ) (xs : List DomainView) → AllDomains (IsSeated k log seat id) xs → AllDomains (λ y. y.own.number < k.domains) xs
-all_inside k log seat id [] all = tt
-all_inside k log seat id (x ∷ xs) all = (all.0.inside, all_inside k log seat id xs all.1)
+-- where not all have arrived once more, some domain acts in the phase
+someone_acts : (f : ℕ → ℕ) (p n : ℕ) → sum_of f n < (p + 1) * n → (d : ℕ) × (d < n) × (f d ≤ p)
+someone_acts f p zero few = absurd (let none : (p + 1) * 0 ≡ 0 = omega arith in omega (arith, few, none))
+someone_acts f p (suc m) few =
+    ⊎_elim
+    (λ (here : f m < p + 1). (m, omega arith, omega (arith, here)))
+    (λ (late : p + 1 ≤ f m).
+    let times : (p + 1) * suc m ≡ (p + 1) * m + (p + 1) = mul-suc (p + 1) m in
+    let rest = someone_acts f p m (omega (arith, few, late, times)) in
+    (rest.0, (let b = rest.1 in omega (arith, b)), rest.2))
+    (cases_lt (f m) (p + 1))
 
 -- a seat that stands for all domains has one that has arrived as often as the number of the phase: it acts
-pub acts_among : (k : Config) (s : Words) (r : Rule k s) (id : ℕ) (v : View) → get_elem? s.views id ≡ some v → length v.domains ≡ k.domains → (x : DomainView) × Good k r.account s.words x × (x.own.arrivals ≡ r.account.pause.phase)
+pub acts_among : (k : Config) (s : Words) (r : Rule k s) (id : ℕ) (v : View) → get_elem? s.views id ≡ some v → length v.domains ≡ k.domains → SomeDomain (λ x. x.own.arrivals ≡ r.account.pause.phase) v.domains
 acts_among k s r id v at many =
     let knows = r.views id v at in
     let p = r.whole.phases in
+    let pause = r.account.pause in
     let sum = p.sum in
     let unfinished = p.unfinished in
-    let late : sum_of r.account.pause.arrived k.domains < (r.account.pause.phase + 1) * k.domains = subst (λ n. n < (r.account.pause.phase + 1) * k.domains) sum unfinished in
-    let one = someone_acts r.account.pause.arrived r.account.pause.phase k.domains late in
-    let x = each_there (Good k r.account s.words) v.domains k.domains one.0 knows.distinct (all_inside k r.account.log r.seat id v.domains knows.domains) many one.1 (r.good id v at) in
+    let late : sum_of pause.arrived k.domains < (pause.phase + 1) * k.domains = subst (λ n. n < (pause.phase + 1) * k.domains) sum unfinished in
+    let one = someone_acts pause.arrived pause.phase k.domains late in
+    let inside = domains_map (IsSeated k r.account.log r.seat id) (λ y. y.own.number < k.domains) v.domains (λ y seated. seated.inside) knows.domains in
     let low = (p.each one.0 one.1).0 in
     let high = one.2 in
-    let arrivals : x.0.own.arrivals ≡ r.account.pause.arrived one.0 = x.1.staged.arrivals ∙ ap r.account.pause.arrived x.2 in
-    (x.0, x.1, omega (arith, low, high, arrivals))
+    some_with (λ x. x.own.number ≡ one.0) (Good k r.account s.words) (λ x. x.own.arrivals ≡ pause.phase) v.domains
+    (λ x same good. let arrivals : x.own.arrivals ≡ pause.arrived one.0 = good.staged.arrivals ∙ ap pause.arrived same in omega (arith, low, high, arrivals))
+    (each_there v.domains k.domains one.0 knows.distinct inside many one.1) (r.good id v at)
