@@ -4,4 +4,5 @@ pub mod Leveled
 pub mod Moves
 pub mod Ends
 pub mod Replayed
+pub mod Pace
 pub mod Asking
