@@ -1,7 +1,6 @@
 //! Laws of maps. Each function's contract is one law, and it does nothing else.
 ghost use Rattle.map_laws.specs.MapLaws.{SetBinds, DeepenKeeps, ClearKeeps, EmptyKeeps, BlocksStay, ReadTells, CollectorTakes, MapStays, PlacesStay, StepTells, AloneRespects, AloneLeaves, WaysDiffer, WaysPart, RespectedMapStays, LookupAnswersLastPut, HeldBindingIsFound, PutIsFound, CollectedKeysAreReached, DatumKeepsNoKey, NewMapIsEmpty, PrivateStays, PrivateStandsNowhere};
 ghost use Rattle.map_laws.specs.Tidy.{CleanedBlocksAreFew, CleanedLeavesAreFew, TidyBlocksAreFew, TidyBlocksLead};
-ghost use Rattle.map_laws.specs.Caches.{PutIsBounded, PutIsFound as CachedPutIsFound, PutKeepsUsed, GetKeeps};
 ghost use Rattle.map_laws.specs.Examples.{IsLegalExample, PutIsAStep, DeepenIsAStep, IsBoundDeeper, IsEmptyOnceCleaned, IsBoundWhileHeld, IsUnboundAfterwards, NoneLeavesIt, StoredNumberBreaksMap};
 
 /// A root whose fields are 0 is a map, and binds nothing.
@@ -140,13 +139,4 @@ pub fn cleaned_map_is_empty()
 /// Another: a number that is stored into a map's block by a command that is no map call's makes it no map.
 pub fn stored_number_breaks_map()
     ensures { StoredNumberBreaksMap }
-{}
-
-/// A bounded cache, as plain data: no more entries than its bound, what was put is found, an entry stays until as many others
-/// were used, and a lookup changes no entry.
-pub fn caches()
-    ensures bounded { PutIsBounded }
-    ensures found { CachedPutIsFound }
-    ensures used { PutKeepsUsed }
-    ensures kept { GetKeeps }
 {}

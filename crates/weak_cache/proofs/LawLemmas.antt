@@ -14,19 +14,19 @@ use Rattle.weak_cache.specs.Laws.{AloneSpares, CacheIsBounded, GetKeeps, LossKee
 use Rattle.weak_cache.proofs.EndLemmas.{slots_are}
 use Rattle.weak_cache.proofs.ListLemmas.{is_of_some}
 
-abbrev Slots : Type 0
+abbrev pub Slots : Type 0
 Slots = List (Option Binding)
 
 cached_hit : (l : Label) (t : Option Binding) (ts : Slots) → is_of l t ≡ true → cached_in l (t ∷ ts) ≡ datum_of t
 cached_hit l t ts own = ap (λ (b : Bool). cond b (datum_of t) (cached_in l ts)) own
 
-cached_skip : (l : Label) (t : Option Binding) (ts : Slots) → is_of l t ≡ false → cached_in l (t ∷ ts) ≡ cached_in l ts
+pub cached_skip : (l : Label) (t : Option Binding) (ts : Slots) → is_of l t ≡ false → cached_in l (t ∷ ts) ≡ cached_in l ts
 cached_skip l t ts other = ap (λ (b : Bool). cond b (datum_of t) (cached_in l ts)) other
 
-age_hit : (l : Label) (t : Option Binding) (ts : Slots) → is_of l t ≡ true → age l (t ∷ ts) ≡ 0
+pub age_hit : (l : Label) (t : Option Binding) (ts : Slots) → is_of l t ≡ true → age l (t ∷ ts) ≡ 0
 age_hit l t ts own = ap (λ (b : Bool). cond b 0 (suc (age l ts))) own
 
-age_skip : (l : Label) (t : Option Binding) (ts : Slots) → is_of l t ≡ false → age l (t ∷ ts) ≡ suc (age l ts)
+pub age_skip : (l : Label) (t : Option Binding) (ts : Slots) → is_of l t ≡ false → age l (t ∷ ts) ≡ suc (age l ts)
 age_skip l t ts other = ap (λ (b : Bool). cond b 0 (suc (age l ts))) other
 
 pushed_met : (k : Label) (s t : Option Binding) (ts : Slots) → is_of k t ≡ true → pushed k s (t ∷ ts) ≡ s ∷ ts
@@ -36,7 +36,7 @@ pushed_on : (k : Label) (s t : Option Binding) (ts : Slots) → is_of k t ≡ fa
 pushed_on k s t ts other = ap (λ (b : Bool). s ∷ cond b ts (pushed k t ts)) other
 
 -- a slot is of one key
-of_one : (k l : Label) (t : Option Binding) → l ≢ k → is_of k t ≡ true → is_of l t ≡ false
+pub of_one : (k l : Label) (t : Option Binding) → l ≢ k → is_of k t ≡ true → is_of l t ≡ false
 of_one k l t differ own =
     let s = is_of_some k t own in
     ap (is_of l) s.1 ∙ same_label-false k l (λ e. differ (sym e))
@@ -55,13 +55,13 @@ module _ (k l : Label) (differ : l ≢ k) where
       )
 
   -- it stands behind
-  further : (s t : Option Binding) (ts : Slots) → is_of l s ≡ false → is_of k t ≡ false → (cached_in l (pushed k s (t ∷ ts)) ≡ cached_in l (pushed k t ts)) × (age l (pushed k s (t ∷ ts)) ≡ suc (age l (pushed k t ts)))
+  pub further : (s t : Option Binding) (ts : Slots) → is_of l s ≡ false → is_of k t ≡ false → (cached_in l (pushed k s (t ∷ ts)) ≡ cached_in l (pushed k t ts)) × (age l (pushed k s (t ∷ ts)) ≡ suc (age l (pushed k t ts)))
   further s t ts apart other =
       let is = pushed_on k s t ts other in
       (ap (cached_in l) is ∙ cached_skip l s (pushed k t ts) apart, ap (age l) is ∙ age_skip l s (pushed k t ts) apart)
 
   -- a slot of the other key that goes one back
-  one_back : (t u : Option Binding) (us : Slots) → is_of l t ≡ true → (cached_in l (pushed k t (u ∷ us)) ≡ datum_of t) × (age l (pushed k t (u ∷ us)) ≡ 0)
+  pub one_back : (t u : Option Binding) (us : Slots) → is_of l t ≡ true → (cached_in l (pushed k t (u ∷ us)) ≡ datum_of t) × (age l (pushed k t (u ∷ us)) ≡ 0)
   one_back t u us own = (cached_hit l t (cond (is_of k u) us (pushed k u us)) own, age_hit l t (cond (is_of k u) us (pushed k u us)) own)
 
   goes_back : (w : Value) (ss : Slots) (s : Option Binding) → is_of l s ≡ false → cached_in l ss ≡ Some w → age l ss + 1 < length ss → (cached_in l (pushed k s ss) ≡ Some w) × (age l (pushed k s ss) ≤ age l ss + 1)
@@ -116,7 +116,7 @@ module _ (k l : Label) (differ : l ≢ k) where
       by false other true own rec = last ts refl other own
       by false other false skip rec = (further s t ts apart other).0 ∙ (rec skip (sym (cached_skip k t ts other) ∙ has) ∙ sym (cached_skip l t ts skip))
 
-apart_put : (k l : Label) (v : Value) → l ≢ k → is_of l (Some (k, v)) ≡ false
+pub apart_put : (k l : Label) (v : Value) → l ≢ k → is_of l (Some (k, v)) ≡ false
 apart_put k l v differ = same_label-false k l (λ e. differ (sym e))
 
 pub put_found : PutIsFound
@@ -150,7 +150,7 @@ no_other k v (t ∷ ts) has = by (is_of k t) refl (λ x. no_other k v ts x)
         (zero, omega arith, s.1 ∙ ap (λ (w : Value). Some (k, w)) same)
     by false other rec = let r = rec (sym (cached_skip k t ts other) ∙ has) in let less = r.1 in (suc r.0, omega (arith, less), r.2)
 
-loss_left : (P : Label → Type 0) (ss ts : Slots) → SlotsLeft P ss ts → (l : Label) → (P l → ⊥) → (cached_in l ts ≡ cached_in l ss) × (age l ts ≡ age l ss)
+pub loss_left : (P : Label → Type 0) (ss ts : Slots) → SlotsLeft P ss ts → (l : Label) → (P l → ⊥) → (cached_in l ts ≡ cached_in l ss) × (age l ts ≡ age l ss)
 loss_left P [] [] left l lives = (refl, refl)
 loss_left P [] (t ∷ ts) left l lives = absurd left
 loss_left P (s ∷ ss) [] left l lives = absurd left

@@ -6,3 +6,4 @@ pub mod EndLemmas
 pub mod ReturnLemmas
 pub mod LawLemmas
 pub mod RefusedBodies
+pub mod CountLemmas

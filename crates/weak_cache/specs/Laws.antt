@@ -1,9 +1,10 @@
 -- Laws of caches, in the words in which a reader would ask for them.
-use Rattle.std.specs.Prelude.{◌≡◌, ◌≢◌, ℕ, ◌+◌, ◌<◌, ◌≤◌, List, length, slice_index_or, Option, Some, None}
+use Rattle.std.specs.Prelude.{◌≡◌, ◌≢◌, ℕ, ◌+◌, ◌<◌, ◌≤◌, IsTrue, List, [], ◌∷◌, length, slice_index_or, Option, Some, None}
 use Rattle.heap_model.specs.declared.label.Label.{Label}
 use Rattle.heap_model.specs.declared.entry.Entry.{Entry}
 use Rattle.heap_model.specs.declared.graph.Value.{Value}
 use Rattle.heap_model.specs.declared.state.Sizes.{Sizes}
+use Rattle.heap_model.specs.Graph.{has_label}
 use Rattle.heap_model.specs.History.{Legal}
 use Rattle.table_laws.specs.Structures.{Binding}
 use Rattle.table_laws.specs.Stages.{graph_of}
@@ -40,6 +41,32 @@ GetKeeps = (k l : Label) (v : Value) (ss : List (Option Binding)) → cached_in 
 abbrev pub LossKeepsOthers : Type 0
 LossKeepsOthers = (z : Sizes) (k : Label) (old new : List Entry) (ss ts : List (Option Binding)) → SlotsLeft (Gone z k old new) ss ts
     → (l : Label) → (Gone z k old new l → ⊥) → (cached_in l ts ≡ cached_in l ss) × (age l ts ≡ age l ss)
+
+-- uses of keys, the first first: each puts a key first, and then slots may lose keys, which are used no more
+pub record Use : Type 0 where
+  pub key : Label
+  pub value : Value
+  pub lost : List Label
+
+abbrev pub IsAmong : List Label → Label → Type 0
+IsAmong names l = IsTrue (has_label names l)
+
+abbrev pub NoneUses : List Label → List Use → Type 0
+NoneUses lost [] = Unit {0}
+NoneUses lost (u ∷ us) = (IsAmong lost u.key → ⊥) × NoneUses lost us
+
+abbrev pub Used : List Use → List (Option Binding) → List (Option Binding) → Type 0
+Used [] ss ts = ts ≡ ss
+Used (u ∷ us) ss ts = (ms : List (Option Binding)) × SlotsLeft (IsAmong u.lost) (put_first u.key u.value ss) ms × NoneUses u.lost us × Used us ms ts
+
+-- each is of one of these keys, and none is of another key, nor loses that
+abbrev pub AreOf : List Label → Label → List Use → Type 0
+AreOf names k [] = Unit {0}
+AreOf names k (u ∷ us) = IsAmong names u.key × (u.key ≢ k) × (IsAmong u.lost k → ⊥) × AreOf names k us
+
+-- what was put of a key is found as long as fewer different keys were used since than the cache has slots behind the first, and the key isn't lost
+abbrev pub UsedLastIsFound : Type 0
+UsedLastIsFound = (k : Label) (v : Value) (names : List Label) (us : List Use) (ss ts : List (Option Binding)) → Used us (put_first k v ss) ts → AreOf names k us → length names < length ss → cached_in k ts ≡ Some v
 
 -- in a heap of one domain nobody else uses a cache
 abbrev pub AloneSpares : Type 0

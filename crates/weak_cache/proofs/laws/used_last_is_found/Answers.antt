@@ -1,8 +1,5 @@
-use Rattle.weak_cache.proofs.LawLemmas.{others_back, others_stay}
+use Rattle.weak_cache.proofs.CountLemmas.{used_found}
 use Rattle.weak_cache.proofs.laws.used_last_is_found.Goals as goal
 
-pub returns-clause-back : goal.returns-clause-back
-returns-clause-back c = others_back
-
-pub returns-clause-stay : goal.returns-clause-stay
-returns-clause-stay c = others_stay
+pub returns : goal.returns
+returns c = used_found
