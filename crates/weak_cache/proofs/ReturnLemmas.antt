@@ -28,6 +28,7 @@ use Rattle.weak_maps.specs.Puts.{OwnBlock}
 use Rattle.weak_maps.proofs.BesideLemmas.{same_held, set_here, set_other, since_old, sixteen, until_new}
 use Rattle.weak_maps.proofs.FreshLemmas.{not_held_before, own_born, own_middle, own_on, thin_empty}
 use Rattle.weak_maps.proofs.GetLemmas.{grows_by}
+use Rattle.weak_maps.proofs.StayLemmas.{no_entry, quiet_on}
 use Rattle.weak_cache.specs.Uses.{cached_in, is_of, touched}
 use Rattle.weak_cache.specs.Caches.{IsCache, IsUse, OthersSpare, slot_of, slots_after}
 use Rattle.weak_cache.specs.Calls.{GetReturns, LeavesCache, MakeReturns, PutReturns, PutsOrFull}
@@ -260,7 +261,13 @@ zeros_slots g (suc n) = ap (λ (ss : List (Option Binding)). None ∷ ss) (zeros
 
 pub made_cache : (z : Sizes) (limits : IsWithinLimits z) (d : ℕ) (old new : List Entry) (r : Reply) (dst size : ℕ) → dst < 8 → 1 ≤ size → PerformedBy z d old new (Alloc dst 0 size) r → MakeReturns z d old new dst size r
 made_cache z limits d old new r dst size few some p = ⊎_elim
-    (λ refused. inr (refused.1.2, same_held z d old new refused.1.1))
+    (λ refused. inr (
+      refused.1.2,
+      record {
+        quiet = quiet_on z root_of d old old new (Alloc dst 0 size) r p refused.1.0 (λ front e since until mine. absurd (no_entry old front e since until));
+        keeps = same_held z d old new refused.1.1;
+      },
+    ))
     (λ granted.
     let l : Label = made z d old new (Alloc dst 0 size) r p in
     let node : node_at (graph_of z new) l ≡ Some (new_plain 0 size) = ap (λ (g : Graph). node_at g l) granted.2.0 ∙ node_at-append_new (graph_of z (old ++ p.between)) l (new_plain 0 size) granted.1 in
@@ -280,6 +287,9 @@ made_cache z limits d old new r dst size few some p = ⊎_elim
       },
     ))
     (alloc_step z d old new r dst 0 size p)
+  where
+    root_of : Label
+    root_of = made z d old new (Alloc dst 0 size) r p
 
 -- what is answered, by what the register of the key holds
 pub put_returns : (z : Sizes) (d : ℕ) (old new : List Entry) (c : Label) (size : ℕ) (u v : Value) (k : Label) (r : Reply) → u ≡ Block k → v ≢ Nothing → PutsOrFull z d old new c size k v r → PutReturns z d old new c size u v r

@@ -14,6 +14,7 @@ use Rattle.table_laws.specs.Structures.{Binding}
 use Rattle.table_laws.specs.Stages.{graph_of}
 use Rattle.map_laws.specs.Calls.{value_of}
 use Rattle.weak_maps.specs.Beside.{held_by}
+use Rattle.weak_maps.specs.Returns.{MakesNone}
 use Rattle.weak_cache.specs.Uses.{SlotsLeft, cached_in, put_first, touched}
 use Rattle.weak_cache.specs.Caches.{Gone, IsCache, slots_after}
 
@@ -44,7 +45,7 @@ PutReturns z d old new c size (Block k) (Int i) r = PutsOrFull z d old new c siz
 PutReturns z d old new c size (Block k) (Block l) r = PutsOrFull z d old new c size k (Block l) r
 PutReturns z d old new c size key v r = (r ≡ reply.BadType) × (new ≡ old)
 
--- `cache_make`: a new cache that has nothing, or the allocation was refused
+-- `cache_make`: a new cache that has nothing
 pub record MakesCache (z : Sizes) (d : ℕ) (old new : List Entry) (dst size : ℕ) (c : Label) : Type 0 where
   pub cache : IsCache (graph_of z new) c size
   pub empty : slots_after z new c ≡ replicate size None
@@ -56,5 +57,6 @@ pub record MakesCache (z : Sizes) (d : ℕ) (old new : List Entry) (dst size : �
   pub fresh : node_at (graph_of z front) c ≡ None
   pub made : graph_of z new ≡ graph_of z front ++ (c, new_plain 0 size) ∷ []
 
+-- or the allocation was refused: the domain changed nothing
 abbrev pub MakeReturns : Sizes → ℕ → List Entry → List Entry → ℕ → ℕ → Reply → Type 0
-MakeReturns z d old new dst size r = ((c : Label) × (r ≡ reply.Block c) × MakesCache z d old new dst size c) ⊎ ((r ≡ reply.Full) × ((i : ℕ) → held_by z d new i ≡ held_by z d old i))
+MakeReturns z d old new dst size r = ((c : Label) × (r ≡ reply.Block c) × MakesCache z d old new dst size c) ⊎ ((r ≡ reply.Full) × MakesNone z d old new)
