@@ -15,5 +15,6 @@ pub mod Joining
 pub mod Turning
 pub mod EndLemmas
 mod Gathering
+mod RefusedBodies
 pub mod Ample
 pub mod Asking
