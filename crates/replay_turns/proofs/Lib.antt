@@ -15,3 +15,4 @@ pub mod EndLemmas
 mod Gathering
 pub mod Ample
 pub mod Asking
+pub mod Served

@@ -5,3 +5,4 @@ pub mod Moves
 pub mod Ends
 pub mod Replayed
 pub mod Asking
+pub mod Served
