@@ -6,6 +6,8 @@ pub mod Grown
 pub mod PassLemmas
 pub mod CalmLemmas
 pub mod LevelLemmas
+pub mod InStep
+pub mod Pace
 pub mod Histories
 pub mod Sharing
 pub mod TurnLemmas

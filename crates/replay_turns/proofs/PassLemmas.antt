@@ -64,10 +64,10 @@ paused_on (c ∷ cs) None old new less more = refl
 paused_on (c ∷ cs) (Some n) old new less more = let low = less n refl in lt-ltb n new (omega (arith, low, more)) ∙ sym (lt-ltb n old low)
 
 -- whether a number is even
-even_is : (n : ℕ) → IsEven n → is_even n ≡ true
+pub even_is : (n : ℕ) → IsEven n → is_even n ≡ true
 even_is n e = eq-eqb (n % 2) 0 (let j : ℕ = e.0 in let is : n ≡ j * 2 = e.1 in omega arith)
 
-odd_is : (n : ℕ) → IsOdd n → is_even n ≡ false
+pub odd_is : (n : ℕ) → IsOdd n → is_even n ≡ false
 odd_is n o = ne_eqb (n % 2) 0 (λ z. let j : ℕ = o.0 in let is : n ≡ j * 2 + 1 = o.1 in omega arith)
 
 -- how far domain 0 has led, as it has named a kind or gone through it
@@ -145,7 +145,7 @@ passed_front k x b p = (p.seen, p.led)
 passed_number : (k : Config) (x b : DomainView) → PassedBarrier k x b → b.own.number ≡ x.own.number
 passed_number k x b p = ap (λ (v : DomainView). v.own.number) p.view
 
-stands_gone : (left : Option Kind) (kind : Kind) (stage : Stage) → left ≡ Some kind → StandsAt left stage → kind_in stage ≡ kind
+pub stands_gone : (left : Option Kind) (kind : Kind) (stage : Stage) → left ≡ Some kind → StandsAt left stage → kind_in stage ≡ kind
 stands_gone left kind stage is stands = ap kind_in (subst (λ (o : Option Kind). StandsAt o stage) is stands)
 
 module _ (h : SharedHeap) (complete : Bool) (r s : RunView) (is : IsRun r) (now : IsRun s) (asks : AsksOnce r) (gone : r.left ≢ None) where

@@ -41,6 +41,7 @@ use Rattle.replay_turns.specs.Moves.{CameTo}
 use Rattle.replay_turns.proofs.CalmLemmas.{asking_next, works_run}
 use Rattle.replay_turns.proofs.Grown.{Grown, grown_same, steps_none, steps_one}
 use Rattle.replay_turns.proofs.PassLemmas.{drop_next, paused_now, unasked, unpaused}
+use Rattle.replay_turns.proofs.SlotLemmas.{at_first}
 
 -- a step of domain d: what it makes, and what it leaves of the run
 pub record TurnedBy (z : Sizes) (shares : List Entry → Type 0) (d : ℕ) (r s : RunView) (stepped : Stepped) : Type 0 where
@@ -153,6 +154,9 @@ module _ (h : SharedHeap) (shares : List Entry → Type 0) (d : ℕ) (r s : RunV
     named : slice_get s.commands s.next ≡ Some FullMajor → slice_get r.commands r.next ≡ Some FullMajor
     named at = (λ i. slice_get (sym commands i) (sym same i)) ∙ at
 
+    named_back : slice_get r.commands r.next ≡ Some FullMajor → slice_get s.commands s.next ≡ Some FullMajor
+    named_back at = (λ i. slice_get (commands i) (same i)) ∙ at
+
     go : (c : Stepped) → CameTo h.config s r.next (length r.replies) c → (c ≡ Needs false → IsRested (one_run r) → (one_run r).asked ≡ false) → TurnedBy z shares d r s c
     go Made at one = ⊎_elim (λ (e : s.next ≢ r.next). absurd (e same)) (λ (e : s.ended ≡ true). absurd (true≢false (sym e ∙ (ended ∙ goes_on)))) at
     go Ran at one = absurd (at.2 (ap length replies))
@@ -164,7 +168,7 @@ module _ (h : SharedHeap) (shares : List Entry → Type 0) (d : ℕ) (r s : RunV
           tells = record { others = drop (r.next + 1) r.commands; next = drop_next r.commands r.next FullMajor full; unqueued = unqueued (at.5 ∙ empty is); made = refl; run = run };
           number = number;
         }
-    go (Needs false) at one = record { own = []; steps = steps; tells = (refl, run, one refl); number = number }
+    go (Needs false) at one = record { own = []; steps = steps; tells = (refl, run, one refl, λ others next. at.4 refl (named_back (at_first r.commands r.next FullMajor others next))); number = number }
 
   asked_now : (command : model.Command) (at : ℕ) → slice_get r.commands r.next ≡ Some command → asked_for (drop r.next r.commands) (Some at) ≡ true
   asked_now command at next = ap (λ (cs : List model.Command). asked_for cs (Some at)) (drop_next r.commands r.next command next)

@@ -4,12 +4,12 @@ use Rattle.heap_model.specs.declared.entry.Entry.{Entry}
 use Rattle.heap_model.specs.History.{Legal, replies}
 use Rattle.heap_rule.specs.Ending.{Begins}
 use Rattle.heap_rule.specs.Limits.{sizes_in}
+use Rattle.heap_rule.specs.Meeting.{Trails}
 use Rattle.heap_rule.specs.Token.{SharedHeap, IsIn}
 use Rattle.domain_turns.specs.declared.supply.Supply.TheVariants.{Listed}
-use Rattle.domain_turns.specs.Runs.{RunView}
+use Rattle.domain_turns.specs.Runs.{RunView, run_seeing}
 use Rattle.replay_turns.specs.Asking.{HasAmple, commands_of}
 use Rattle.replay_turns.specs.Gathered.{GatheredView, HasRun, MayShare}
-use Rattle.replay_turns.specs.Leveled.{SawMore}
 
 -- a run stands at a place
 abbrev pub IsThere : Option RunView → Type 0
@@ -38,9 +38,15 @@ abbrev pub EndsAs : GatheredView → List RunView → Type 0
 EndsAs g runs = (h : List Entry) → Legal (sizes_in g.heap.config) h → ((d : ℕ) (r : RunView) → slice_get runs d ≡ Some r → Begins h r.token.view)
     → (shared : List Entry) × MayShare g shared × ((d : ℕ) → d < length runs → replies (sizes_in g.heap.config) h d ≡ replies (sizes_in g.heap.config) shared d)
 
--- the runs, in order: each is as it was, but for what its domain has seen
+-- a run is as it was, but its domain has seen this history
+pub record HasSeen (history : List Entry) (old new : RunView) : Type 0 where
+  pub trails : Trails history old.token.view
+  pub is : new ≡ run_seeing old history
+
+-- the runs, in order: each is as it was, but all have seen one history
 pub record TakenApart (g : GatheredView) (runs : List RunView) : Type 0 where
   pub count : length runs ≡ length g.runs
-  pub each : (d : ℕ) (r : RunView) → slice_get runs d ≡ Some r → (q : RunView) × HasRun g.runs d q × SawMore g.heap.config q r
+  pub history : List Entry
+  pub each : (d : ℕ) (r : RunView) → slice_get runs d ≡ Some r → (q : RunView) × HasRun g.runs d q × HasSeen history q r
   pub here : (d : ℕ) (r : RunView) → slice_get runs d ≡ Some r → IsIn r.token g.heap
   pub ends : EndsAs g runs

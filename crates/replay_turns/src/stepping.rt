@@ -1,5 +1,5 @@
 //! A step of a domain that runs.
-ghost use Rattle.std.specs.Prelude.{◌≡◌, ◌≢◌, ◌<◌, true, false, length, None};
+ghost use Rattle.std.specs.Prelude.{◌≡◌, ◌≢◌, ◌<◌, [], true, false, length, vec_capacity, None};
 ghost use Rattle.domain_turns.specs.Runs.{RunView};
 ghost use Rattle.heap_rule.specs.Token.{IsIn};
 ghost use Rattle.replay_turns.specs.Asking.{AskFew};
@@ -8,9 +8,9 @@ ghost use Rattle.schedule_drive.specs.declared.together.Stepped.TheVariants.{Nee
 ghost use Rattle.replay_turns.specs.Leveled.{AllHere};
 ghost use Rattle.replay_turns.specs.Moves.{CameTo, MetThen, StepsAt};
 
-use crate::meeting::meet_each;
+use crate::meeting::meet;
 use domain_turns::{DomainRun, go_on};
-use heap_rule::Heap;
+use heap_rule::{Domain, Heap};
 use schedule_drive::Stepped;
 
 // What a step came to, after which the domain runs: the place of the next command and the number of replies before it
@@ -47,13 +47,21 @@ fn asks_again(paused: bool, stepped: Stepped) -> bool
 // One step of the domain at this place, which runs and hasn't ended. Once a pause for which it asked has come it asks for no
 // other: its minor area is empty then, it remembers no field, and no allocation is refused, since more blocks would have been
 // made than there are allocations, as the domains would find where they met.
-fn step_alone(heap: &Heap, runs: &mut [Option<DomainRun>], at: usize) -> Stepped
+fn step_alone(
+    heap: &Heap,
+    runs: &mut [Option<DomainRun>],
+    room: &mut Vec<Domain>,
+    at: usize,
+) -> Stepped
     requires inside { at < length runs.old }
     requires here { AllHere heap.now runs.old }
     requires running { (r : RunView) → HasRun runs.old at r → r.left ≡ None }
     requires goes_on { (r : RunView) → HasRun runs.old at r → r.ended ≡ false }
     requires few { AskFew heap.now runs.old }
+    requires empty { room.old.items ≡ [] }
+    requires fits { length runs.old < vec_capacity room.old }
     ensures steps { StepsAt heap.now runs.old runs.new at result }
+    ensures room { (room.new.items ≡ []) × (vec_capacity room.new ≡ vec_capacity room.old) }
 {
     let _limits = heap.config();
     let Some(run) = &mut runs[at] else {
@@ -67,21 +75,29 @@ fn step_alone(heap: &Heap, runs: &mut [Option<DomainRun>], at: usize) -> Stepped
     run.is_faithful();
     let stepped = came_to(heap, run, next, count);
     if asks_again(paused, stepped) {
-        meet_each(heap, runs, at);
+        meet(heap, runs, room);
         unreachable!()
     }
     stepped
 }
 
-// The same once the domain has met each other one.
-pub(crate) fn step_at(heap: &Heap, runs: &mut [Option<DomainRun>], at: usize) -> Stepped
+// The same once all have met.
+pub(crate) fn step_at(
+    heap: &Heap,
+    runs: &mut [Option<DomainRun>],
+    room: &mut Vec<Domain>,
+    at: usize,
+) -> Stepped
     requires inside { at < length runs.old }
     requires here { AllHere heap.now runs.old }
     requires running { (r : RunView) → HasRun runs.old at r → r.left ≡ None }
     requires goes_on { (r : RunView) → HasRun runs.old at r → r.ended ≡ false }
     requires few { AskFew heap.now runs.old }
-    ensures steps { MetThen heap.now.config runs.old at (λ mid. StepsAt heap.now mid runs.new at result) }
+    requires empty { room.old.items ≡ [] }
+    requires fits { length runs.old < vec_capacity room.old }
+    ensures steps { MetThen runs.old (λ pause mid. StepsAt heap.now mid runs.new at result) }
+    ensures room { (room.new.items ≡ []) × (vec_capacity room.new ≡ vec_capacity room.old) }
 {
-    meet_each(heap, runs, at);
-    step_alone(heap, runs, at)
+    meet(heap, runs, room);
+    step_alone(heap, runs, room, at)
 }

@@ -109,12 +109,12 @@ pub record AsksComplete (z : Sizes) (shares : List Entry → Type 0) (d : ℕ) (
 abbrev pub IsRested : OneRun → Type 0
 IsRested x = x.asked ≡ true → x.paused ≡ true
 
--- what a turn of run d tells, by what it came to. Each finaliser that waits runs once. Once a pause for which it asked has come, no command asks for another one without a complete collection
+-- what a turn of run d tells, by what it came to. Each finaliser that waits runs once. Once a pause for which it asked has come, no command asks for another one without a complete collection, and a `full_major` asks for none of these
 abbrev pub TurnTells : Sizes → (List Entry → Type 0) → ℕ → OneRun → OneRun → List Entry → Stepped → Type 0
 TurnTells z shares d x y own Ran = (own ≡ RanOf d ∷ []) × (y ≡ record x { replies = y.replies; waiting = y.waiting }) × (y.waiting < x.waiting)
 TurnTells z shares d x y own Made = MakesNext d x y own ⊎ MakesEnd d x y own
 TurnTells z shares d x y own (Needs true) = AsksComplete z shares d x y own
-TurnTells z shares d x y own (Needs false) = (own ≡ []) × (y ≡ record x { asked = true; paused = false; waiting = y.waiting }) × (IsRested x → x.asked ≡ false)
+TurnTells z shares d x y own (Needs false) = (own ≡ []) × (y ≡ record x { asked = true; paused = false; waiting = y.waiting }) × (IsRested x → x.asked ≡ false) × ((others : List Command) → x.left ≡ FullMajor ∷ others → ⊥)
 
 -- a turn of run d: nothing else changes
 pub record Turned (shares_old shares_new : List Entry → Type 0) (old new : AllRuns) (d : ℕ) (stepped : Stepped) : Type 0 where

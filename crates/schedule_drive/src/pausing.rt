@@ -1,6 +1,7 @@
 //! Pauses of all runs.
-ghost use Rattle.std.specs.Prelude.{◌<◌, ◌≡◌, false, length, true};
+ghost use Rattle.std.specs.Prelude.{◌+◌, ◌<◌, ◌≡◌, ◌≤◌, false, length, true};
 ghost use Rattle.schedule_drive.specs.Pausing.{Paused};
+ghost use Rattle.schedule_drive.specs.Spending.{most_in_pause};
 ghost use Rattle.schedule_drive.specs.Together.{AllHave, Rests, SomeGone};
 
 use crate::together::TogetherRuns;
@@ -23,9 +24,11 @@ fn all_run<T: TogetherRuns>(runs: &T) -> bool
 // it nearer to its end.
 pub(crate) fn pause<T: TogetherRuns, R: Wait>(rt: &R, runs: &mut T, complete: bool)
     requires run { AllHave (λ x. x.runs) true (T.seen runs.old) }
+    requires room { most_in_pause < T.spare runs.old }
     ensures run { AllHave (λ x. x.runs) true (T.seen runs.new) }
     ensures over { (T.seen runs.new).lead ≡ Rests }
     ensures paused { Paused complete (T.shares runs.old) (T.shares runs.new) (T.seen runs.old) (T.seen runs.new) }
+    ensures spends { T.spare runs.old ≤ T.spare runs.new + most_in_pause }
 {
     runs.halt_all(rt, complete);
     runs.stands();

@@ -1,5 +1,5 @@
-use Rattle.std.proofs.Common.{◌≡◌, ◌≢◌, ◌∙◌, ◌+◌, ◌<◌, false, List, Option, ap, arith, length, length-set, subst, sym, Some, None, ℕ}
-use Rattle.std.specs.Prelude.{slice_get, slice_set}
+use Rattle.std.proofs.Common.{◌≡◌, ◌≢◌, ◌∙◌, ◌+◌, ◌<◌, false, List, Option, ap, arith, length, length-set, refl, subst, sym, Some, None, ℕ}
+use Rattle.std.specs.Prelude.{slice_get, slice_set, vec_capacity}
 use Rattle.domain_turns.specs.declared.supply.Supply.TheVariants.{Listed, Section}
 use Rattle.heap_rule.specs.declared.view.TheConstants.{REMEMBERED_ROOM}
 use Rattle.heap_rule.specs.Token.{SharedHeap, Token, IsIn}
@@ -11,9 +11,9 @@ use Rattle.replay_turns.specs.Moves.{CameTo}
 use Rattle.replay_turns.proofs.Ample.{never_refused}
 use Rattle.replay_turns.proofs.Asking.{asks_no_more, once_paused}
 use Rattle.replay_turns.proofs.CalmLemmas.{calm_keeps}
-use Rattle.replay_turns.proofs.LevelLemmas.{set_all_here}
+use Rattle.replay_turns.proofs.LevelLemmas.{level_shared, set_all_here}
 use Rattle.replay_turns.proofs.Places.{set_else, set_here}
-use Rattle.replay_turns.proofs.SlotLemmas.{has_run, inside, never_none}
+use Rattle.replay_turns.proofs.SlotLemmas.{has_run, never_none}
 use Rattle.replay_turns.proofs.stepping.step_alone.Goals as goal
 
 pub unreachable-requires : goal.unreachable-requires
@@ -31,8 +31,14 @@ go_on-requires-clause-shows c = λ section. let clash : Listed ≡ Section = sym
 pub came_to-stepped-requires-clause-running : goal.came_to-stepped-requires-clause-running
 came_to-stepped-requires-clause-running c = (calm_keeps c.args.heap.now c.in-Some.run' c.go_on.new.run c.go_on.result c.go_on.ensures.answer).left ∙ c.requires.running _ (has_run _ c.args.at _ _ c.requires.inside c.in-Some.is)
 
-pub meet_each-requires-clause-here : goal.meet_each-requires-clause-here
-meet_each-requires-clause-here c =
+pub meet-requires-clause-some : goal.meet-requires-clause-some
+meet-requires-clause-some c = let within = c.requires.inside in let long = length-set c.args.runs.now c.args.at (Some c.came_to-stepped.new.run) in omega (arith, within, long)
+
+pub meet-requires-clause-fits : goal.meet-requires-clause-fits
+meet-requires-clause-fits c = subst (λ n. n < vec_capacity c.args.room.now) (sym (length-set c.args.runs.now c.args.at (Some c.came_to-stepped.new.run))) c.requires.fits
+
+pub meet-requires-clause-here : goal.meet-requires-clause-here
+meet-requires-clause-here c =
     let made : RunView = c.came_to-stepped.new.run in
     let same : c.go_on.new.run ≡ made = sym c.came_to-stepped.ensures.same in
     set_all_here c.args.heap.now c.args.runs.now c.args.at made c.requires.here c.requires.inside (subst (λ (v : RunView). IsIn v.token c.args.heap.now) same c.go_on.ensures.here) (subst IsRun same c.is_faithful.ensures)
@@ -47,17 +53,16 @@ unreachable-requires-then-asks_again c =
     let made : RunView = c.came_to-stepped.new.run in
     let same : c.go_on.new.run ≡ made = sym c.came_to-stepped.ensures.same in
     let again = c.asks_again.ensures.yes c.if-asks_again.true in
-    let level = c.meet_each.ensures.leveled in
+    let level = c.meet.ensures.leveled in
     let set : List (Option RunView) = slice_set c.args.runs.now at (Some made) in
     let mine : HasRun set at made = set_here c.args.runs.now at (Some made) c.requires.inside in
-    let long : length set ≡ length c.args.runs.now = length-set c.args.runs.now at (Some made) in
     let is : IsRun made = subst IsRun same c.is_faithful.ensures in
     let came : CameTo h.config made r.next (length r.replies) (Needs false) = subst (λ (w : (RunView × Stepped) × (ℕ × ℕ)). CameTo h.config w.0.0 w.1.0 w.1.1 w.0.1) (λ i. ((same i, again.1 i), (c.next-next.ensures.next i, length (c.replies-count.ensures.replies i)))) c.came_to-stepped.ensures.came in
     asks_no_more h r made c.config-limits.ensures.limits (c.requires.here.are at r there) (c.requires.few.listed at r there) (c.requires.running r there) (c.requires.goes_on r there) (c.requires.few.asks at r there)
     (subst (λ (t : Token). t.view.own.remembered.room + length t.view.own.remembered.items ≡ REMEMBERED_ROOM) c.domain.ensures c.remembered_len-remembered.ensures.whole)
     (sym c.has_paused-paused.ensures ∙ again.0) came
     (never_refused h c.args.runs.now at r made c.requires.here c.requires.few there is
-    (λ d q away was. level.shared d (subst (λ (n : ℕ). d < n) (sym long) (inside c.args.runs.now d (Some q) was)) away q made (set_else c.args.runs.now at d (Some made) away ∙ was) mine))
+    (λ d q away was. level_shared set c.meet.new.runs level d at q made (set_else c.args.runs.now at d (Some made) away ∙ was) mine))
     c.go_on.result (subst (λ (v : RunView). CalmAnswers h r v c.go_on.result) same c.go_on.ensures.answer)
 
 pub returns : goal.returns
@@ -76,4 +81,5 @@ returns c = record {
       runs = ap (λ (r : RunView). slice_set c.args.runs.now c.args.at (Some r)) c.came_to-stepped.ensures.same;
     };
   };
+  room = (c.requires.empty, refl);
 }
