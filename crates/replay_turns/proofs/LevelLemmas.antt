@@ -73,14 +73,14 @@ module _ (h : SharedHeap) (old mid : List (Option RunView)) (at : ℕ) (one met 
   pub level_mid : length mid ≡ length old
   level_mid = ap length m.each_is ∙ length-map (slice_set old at None) (slot_seeing m.history) ∙ length-set old at None
 
-  level_count : length level_new ≡ length old
+  pub level_count : length level_new ≡ length old
   level_count = length-set mid at (Some met) ∙ level_mid
 
   level_one : HasRun level_new at met
   level_one = set_here mid at (Some met) (subst (λ (n : ℕ). at < n) (sym level_mid) level_within)
 
   -- what stands there is as it stood, but for what it has seen
-  level_more : (d : ℕ) (r : RunView) → HasRun level_new d r → (q : RunView) × HasRun old d q × SawAll m.history m.pause q r
+  pub level_more : (d : ℕ) (r : RunView) → HasRun level_new d r → (q : RunView) × HasRun old d q × SawAll m.history m.pause q r
   level_more d r is = dite (ℕ_discrete d at)
       (λ e. (
         one,
@@ -91,17 +91,16 @@ module _ (h : SharedHeap) (old mid : List (Option RunView)) (at : ℕ) (one met 
       let was = seen_run m.history (slice_set old at None) d r (ap (λ (rs : List (Option RunView)). slice_get rs d) (sym m.each_is) ∙ (sym (set_else mid at d (Some met) no) ∙ is)) in
       (was.0, sym (set_else old at d None no) ∙ was.1, record { part = m.each d was.0 was.1; is = was.2 }))
 
-  level_stay : (d : ℕ) → d < length old → (r : RunView) × HasRun level_new d r
+  pub level_stay : (d : ℕ) → d < length old → (r : RunView) × HasRun level_new d r
   level_stay d below = dite (ℕ_discrete d at)
       (λ e. (met, subst (λ (n : ℕ). HasRun level_new n met) (sym e) level_one))
       (λ no.
-      let f = here.filled d below in
-      (
+      let f = here.filled d below in (
         run_seeing f.0 m.history,
         set_else mid at d (Some met) no ∙ (ap (λ (rs : List (Option RunView)). slice_get rs d) m.each_is ∙ get_map (slot_seeing m.history) (slice_set old at None) d (Some f.0) (set_else old at d None no ∙ f.1)),
       ))
 
-  level_are : (d : ℕ) (r : RunView) → HasRun level_new d r → IsRun r
+  pub level_are : (d : ℕ) (r : RunView) → HasRun level_new d r → IsRun r
   level_are d r is =
       let was = level_more d r is in
       subst IsRun (sym was.2.is) (seeing_is_run h was.0 m.history (here.here d was.0 was.1) (here.are d was.0 was.1) was.2.part.trails.begins)

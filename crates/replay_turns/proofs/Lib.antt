@@ -18,3 +18,4 @@ mod Gathering
 pub mod Ample
 pub mod Asking
 pub mod Served
+pub mod Serving

@@ -39,12 +39,7 @@ impl TogetherRuns for Gathered {
     }
 
     fn turn<R: Wait>(&mut self, _rt: &R, at: usize) -> Stepped {
-        step_at(
-            &self.heap,
-            self.runs.as_mut_slice(),
-            &mut self.meeting,
-            at,
-        )
+        step_at(&self.heap, self.runs.as_mut_slice(), &mut self.meeting, at)
     }
 
     fn halt_all<R: Wait>(&mut self, _rt: &R, complete: bool) {
@@ -53,10 +48,9 @@ impl TogetherRuns for Gathered {
         self.complete = complete;
     }
 
-    fn pass_next<R: Wait>(&mut self, rt: &R) {
+    fn pass_next<R: Wait>(&mut self, _rt: &R) {
         let at = gone(self.runs.as_slice());
         pass_at(
-            rt,
             &self.heap,
             self.runs.as_mut_slice(),
             &mut self.meeting,
