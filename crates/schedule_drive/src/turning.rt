@@ -9,10 +9,9 @@ ghost use Rattle.schedule_drive.specs.Together.{Has};
 
 use crate::pausing::pause;
 use crate::together::{Stepped, TogetherRuns};
-use std::sync::Wait;
 
 // The pause that a run has asked for. Where its next command is a `full_major` it is answered then.
-fn pause_for<T: TogetherRuns, R: Wait>(rt: &R, runs: &mut T, at: usize, complete: bool)
+fn pause_for<T: TogetherRuns>(runs: &mut T, at: usize, complete: bool)
     requires inside { at < length (T.seen runs.old).runs }
     requires calm { IsCalmBut (T.seen runs.old) at }
     requires goes_on { Has (λ x. x.ended) false (T.seen runs.old) at }
@@ -23,12 +22,12 @@ fn pause_for<T: TogetherRuns, R: Wait>(rt: &R, runs: &mut T, at: usize, complete
     ensures spends { T.spare runs.old ≤ T.spare runs.new + most_in_pause }
     ensures rested { RestedAt (T.seen runs.new) at }
 {
-    pause(rt, runs, complete);
+    pause(runs, complete);
     runs.stands();
 }
 
 // One step of a turn, with the pause that it asks for. Answers whether the next command or the end was made.
-fn step_on<T: TogetherRuns, R: Wait>(rt: &R, runs: &mut T, at: usize) -> bool
+fn step_on<T: TogetherRuns>(runs: &mut T, at: usize) -> bool
     requires inside { at < length (T.seen runs.old).runs }
     requires calm { IsCalmBut (T.seen runs.old) at }
     requires goes_on { Has (λ x. x.ended) false (T.seen runs.old) at }
@@ -40,20 +39,20 @@ fn step_on<T: TogetherRuns, R: Wait>(rt: &R, runs: &mut T, at: usize) -> bool
     ensures spends { result ≡ false → SpendsFor (asked_at (T.seen runs.old) at) (asked_at (T.seen runs.new) at) (T.spare runs.old) (T.spare runs.new) }
     ensures spends_last { result ≡ true → T.spare runs.old ≤ T.spare runs.new + most_in_pause }
 {
-    let stepped = runs.turn(rt, at);
+    let stepped = runs.turn(at);
     runs.stands();
     match stepped {
         Stepped::Ran => false,
         Stepped::Made => true,
         Stepped::Needs { complete } => {
-            pause_for(rt, runs, at, complete);
+            pause_for(runs, at, complete);
             complete
         }
     }
 }
 
 // The domain at this place runs what waits in its queue, and makes its next command or its end, if it hasn't made that.
-pub(crate) fn take_turn<T: TogetherRuns, R: Wait>(rt: &R, runs: &mut T, at: usize)
+pub(crate) fn take_turn<T: TogetherRuns>(runs: &mut T, at: usize)
     requires inside { at < length (T.seen runs.old).runs }
     requires calm { IsCalm (T.seen runs.old) }
     requires room { most_in_turn < T.spare runs.old }
@@ -70,7 +69,7 @@ pub(crate) fn take_turn<T: TogetherRuns, R: Wait>(rt: &R, runs: &mut T, at: usiz
         return;
     }
     'turns: loop {
-        if step_on(rt, runs, at) {
+        if step_on(runs, at) {
             return;
         }
         runs.stands();
