@@ -18,3 +18,5 @@ mod Gathering
 mod RefusedBodies
 pub mod Ample
 pub mod Asking
+pub mod Served
+pub mod Serving

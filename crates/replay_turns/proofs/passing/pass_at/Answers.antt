@@ -61,7 +61,6 @@ returns-clause-passes c =
         commands = c.pass_among-run.ensures.goes_on.commands ∙ sym (ap (λ (r : RunView). r.commands) p.all_met.own_is);
         supply = c.pass_among-run.ensures.goes_on.supply ∙ sym (ap (λ (r : RunView). r.supply) p.all_met.own_is);
         number = c.pass_among-run.ensures.goes_on.number ∙ sym (ap (λ (r : RunView). r.token.view.own.number) p.all_met.own_is);
-        served = c.is_served.ensures;
         becomes = record {
           was = set_here others at (Some met) within;
           here = c.pass_among-run.ensures.here;
