@@ -31,6 +31,8 @@ use Rattle.replay_turns.proofs.LevelLemmas.{level_front}
 use Rattle.replay_turns.proofs.Joining.{met_all, met_count, met_held, met_shares}
 use Rattle.replay_turns.proofs.Places.{get_map}
 use Rattle.replay_turns.proofs.Sharing.{legal_part}
+use Rattle.replay_turns.proofs.Served.{none_serves}
+use Rattle.replay_turns.proofs.Serving.{running_tied}
 use Rattle.replay_turns.proofs.SlotLemmas.{inside, one_there}
 
 -- what is so of each is so of the one at a place
@@ -64,9 +66,11 @@ gathered h runs slots may are is = subst (λ (s : List (Option RunView)). IsGath
         listed = m.listed;
         collected = m.collected;
         asks = asks_none r m.asked;
+        serves = none_serves false d r m.asked;
         walk = λ first. record { armed = m.armed first; unswept = m.unswept first; on = λ kind e. absurd (let clash : ◌≡◌ {A = Option Kind} None (Some kind) = sym m.left ∙ e in cc) };
       };
   in_step = running_in_step (map Some runs) (λ d r at. (may.each d r (has_some runs d r at)).left);
+  tied = running_tied false (map Some runs) (λ d r at. (may.each d r (has_some runs d r at)).left);
 }
 
 -- no place is empty

@@ -102,10 +102,10 @@ module _ (old new : List (Option RunView)) (l : Leveled old new) (are : (d : ℕ
   pub near : (l.pause.phase ≤ arrivals) × (arrivals ≤ l.pause.phase + 1)
   near = subst (λ (n : ℕ). (l.pause.phase ≤ n) × (n ≤ l.pause.phase + 1)) (sym same_arrivals) (l.more d r there).2.part.near
 
-  at_stage : AtStage l.pause r.token.view.own.number arrivals r.token.view.seen.stage
+  pub at_stage : AtStage l.pause r.token.view.own.number arrivals r.token.view.seen.stage
   at_stage = subst (λ (x : RunView). AtStage l.pause x.token.view.own.number x.token.view.own.arrivals x.token.view.seen.stage) (sym same) (l.more d r there).2.part.staged.stage
 
-  stands : StandsAt r.left r.token.view.seen.stage
+  pub stands : StandsAt r.left r.token.view.seen.stage
   stands = (are d r there).between.stands
 
   -- one that runs acts in a phase in which the domains run

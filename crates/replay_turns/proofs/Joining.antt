@@ -1,5 +1,5 @@
 -- The runs of a heap after the calls on one of them.
-use Rattle.std.proofs.Common.{true≢false, ◌≡◌, ◌≢◌, ◌∙◌, ◌<◌, ◌≤◌, ◌+◌, ◌*◌, ◌%◌, ◌^◌, ◌==◌, ◌++◌, inl, inr, if◌then◌else◌, ℕ, suc, Bool, true, false, List, [], ◌∷◌, Option, Some, None, length, length-set, map, arith, refl, sym, ap, subst}
+use Rattle.std.proofs.Common.{true≢false, ⊎_elim, ◌≡◌, ◌≢◌, ◌∙◌, ◌<◌, ◌≤◌, ◌+◌, ◌*◌, ◌%◌, ◌^◌, ◌==◌, ◌++◌, inl, inr, if◌then◌else◌, ℕ, suc, Bool, true, false, List, [], ◌∷◌, Option, Some, None, length, length-set, map, arith, refl, sym, ap, subst}
 use Rattle.std.specs.Prelude.{slice_get, slice_set}
 use Rattle.std.proofs.lemmas.List.{length-map}
 use mathlib.Core.Logic.{dite}
@@ -23,6 +23,7 @@ use Rattle.pause_phases.specs.declared.decider.Decider.TheVariants.{Caller}
 use Rattle.replay_turns.specs.Asking.{AskFew, AsksOnce, HasAmple, commands_at}
 use Rattle.replay_turns.specs.Gathered.{GatheredView, GoneAt, HasRun, InStep, IsGathered, IsHeld, MayShare, PassedBy, Steps, Walk, is_even, is_running, lead_by, lead_in, lead_of, one_run, run_at, seen_in}
 use Rattle.replay_turns.specs.Leveled.{AllHere, Leveled}
+use Rattle.replay_turns.specs.Served.{AllTied, Serves}
 use Rattle.replay_turns.specs.Pace.{last_arrival, last_of, pace_of, spare_of}
 use Rattle.domain_turns.specs.declared.turned.Turned.TheVariants.{Did}
 use Rattle.heap_model.specs.History.{IsPrefix}
@@ -35,7 +36,9 @@ use Rattle.steps_queue_looks.proofs.Queues.{queue_of_front}
 use Rattle.replay_turns.proofs.Asking.{calm_asks, halted_asks, halted_seen_run, passed_asks, passes_gone, seeing_asks}
 use Rattle.replay_turns.proofs.CalmLemmas.{KeepsRun, calm_keeps}
 use Rattle.replay_turns.proofs.Behind.{prefix_same}
-use Rattle.replay_turns.proofs.InStep.{halted_in_step, made_in_step, met_in_step, met_least, passed_in_step}
+use Rattle.replay_turns.proofs.Served.{calm_serves, halted_serves, seeing_serves}
+use Rattle.replay_turns.proofs.Serving.{halted_tied, met_tied, passed_served, passed_serves, passed_tied, running_tied}
+use Rattle.replay_turns.proofs.InStep.{becomes_stood, halted_in_step, made_in_step, met_in_step, met_least, passed_in_step}
 use Rattle.replay_turns.proofs.LevelLemmas.{level_front}
 use Rattle.replay_turns.proofs.PassLemmas.{passed}
 use Rattle.replay_turns.proofs.Pace.{halted_last, last_at, last_high, met_last, passed_last, passed_nearer}
@@ -129,6 +132,7 @@ module _ (g : GatheredView) (all : IsGathered g) (mid : List (Option RunView)) (
         collected = ap (λ (s : RunView). s.collected) m.2.is ∙ held.collected;
         walk = λ first. subst (Walk g.complete) (sym m.2.is) (let w = held.walk first in record { armed = w.armed; unswept = w.unswept; on = w.on });
         asks = subst AsksOnce (sym m.2.is) (seeing_asks m.0 l.history held.asks);
+        serves = subst (Serves g.complete d) (sym m.2.is) (seeing_serves g.complete d m.0 l.history held.serves);
       }
 
   pub met_all : IsGathered met
@@ -138,6 +142,7 @@ module _ (g : GatheredView) (all : IsGathered g) (mid : List (Option RunView)) (
     held = met_held;
     enough = subst (HasAmple g.heap.config) (sym (same_commands g.runs mid l.count (λ d below. l.stay d (subst (λ (n : ℕ). d < n) l.count below)) (λ d r is. let m = l.more d r is in (m.0, m.1, ap (λ (x : RunView). x.commands) m.2.is)))) all.enough;
     in_step = met_in_step g.runs mid l all.in_step;
+    tied = met_tied g.complete g.runs mid l all.tied;
   }
 
   pub met_seen : map run_at mid ≡ map run_at g.runs
@@ -181,8 +186,8 @@ module _ (g : GatheredView) (all : IsGathered g) (mid : List (Option RunView)) (
     pub others : (d : ℕ) → d ≢ at → slice_get new d ≡ slice_get mid d
     others d away = ap (λ (rs : List (Option RunView)). slice_get rs d) b.runs ∙ set_else mid at d (Some s) away
 
-    pub after_all : s.commands ≡ r.commands → IsGathered after
-    after_all same = record {
+    pub after_all : s.commands ≡ r.commands → AllTied g.complete new → IsGathered after
+    after_all same tied = record {
       count = ap length b.runs ∙ (length-set mid at (Some s) ∙ met_count);
       filled = filled;
       enough = subst (HasAmple g.heap.config) (sym (same_commands mid new (ap length b.runs ∙ length-set mid at (Some s)) filled
@@ -195,6 +200,7 @@ module _ (g : GatheredView) (all : IsGathered g) (mid : List (Option RunView)) (
           subst (λ (n : ℕ). IsHeld after n q) (sym e) (subst (IsHeld after at) same (as_after at s held)))
           (λ no. as_after d q (met_held d q (sym (others d no) ∙ is)));
       in_step = step;
+      tied = tied;
     }
       where
         filled : (d : ℕ) → d < length new → (q : RunView) × HasRun new d q
@@ -203,7 +209,7 @@ module _ (g : GatheredView) (all : IsGathered g) (mid : List (Option RunView)) (
             (λ no. let f = met_all.filled d (subst (λ (n : ℕ). d < n) (ap length b.runs ∙ length-set mid at (Some s)) below) in (f.0, others d no ∙ f.1))
 
         as_after : (d : ℕ) (q : RunView) → IsHeld met d q → IsHeld after d q
-        as_after d q i = record { is = i.is; here = i.here; number = i.number; listed = i.listed; collected = i.collected; walk = i.walk; asks = i.asks }
+        as_after d q i = record { is = i.is; here = i.here; number = i.number; listed = i.listed; collected = i.collected; walk = i.walk; asks = i.asks; serves = i.serves }
 
     pub after_runs : map run_at new ≡ slice_set (map run_at g.runs) at (one_run s)
     after_runs = ap (map run_at) b.runs ∙ (set_map run_at mid at (Some s) ∙ ap (λ (xs : List OneRun). slice_set xs at (one_run s)) met_seen)
@@ -237,6 +243,13 @@ module _ (g : GatheredView) (all : IsGathered g) (mid : List (Option RunView)) (
   pass_by : PassedBy g.complete at p.run p.passed
   pass_by = subst (λ (d : ℕ). PassedBy g.complete d p.run p.passed) held_run.number by
 
+  -- domain 0
+  first_run : (r : RunView) × HasRun mid 0 r
+  first_run = (met_all g all mid l).filled 0 (let w = inside mid at (Some p.run) p.becomes.was in omega (arith, w))
+
+  first_walk : (r : RunView) → HasRun mid 0 r → Walk g.complete r
+  first_walk r is = (met_held g all mid l 0 r is).walk refl
+
   pass_held : (supply : p.passed.supply ≡ p.run.supply) → (number : p.passed.token.view.own.number ≡ p.run.token.view.own.number) → IsHeld (record g { runs = mid }) at (forgetting p.passed)
   pass_held supply number = record {
     is = p.becomes.is;
@@ -246,7 +259,11 @@ module _ (g : GatheredView) (all : IsGathered g) (mid : List (Option RunView)) (
     collected = refl;
     walk = λ first. let w = pass_by.walk first in record { armed = w.armed; unswept = w.unswept; on = w.on };
     asks = let a = passed_asks (Caller g.complete) g.heap p.run p.passed Did held_run.asks (passes_gone (Caller g.complete) g.heap p.run p.passed Did p.passes) p.passes in record { before = a.before; arrived = a.arrived; forgotten = a.forgotten };
+    serves = passed_serves g.runs mid l (λ d q is. (met_held g all mid l d q is).is) (λ d q is. (met_held g all mid l d q is).number) g.heap g.complete new at all.in_step first_walk first_run (λ d q is. (met_held g all mid l d q is).serves) (met_all g all mid l).tied p;
   }
+
+  pass_tied : AllTied g.complete new
+  pass_tied = passed_tied g.runs mid l (λ d q is. (met_held g all mid l d q is).is) (λ d q is. (met_held g all mid l d q is).number) g.heap g.complete new at all.in_step first_walk first_run (λ d q is. (met_held g all mid l d q is).serves) (met_all g all mid l).tied p
 
   pass_step : InStep new
   pass_step = passed_in_step g.heap g.complete g.runs mid new at l all.in_step (λ d q is. (met_held g all mid l d q is).is) (λ d. met_least g.runs mid l at d (least d)) p
@@ -258,7 +275,7 @@ module _ (g : GatheredView) (all : IsGathered g) (mid : List (Option RunView)) (
   passed_view = record g { runs = new }
 
   pub passed_all : IsGathered passed_view
-  passed_all = after_all g all mid l at p.run (forgetting p.passed) new p.becomes now_held pass_step p.commands
+  passed_all = after_all g all mid l at p.run (forgetting p.passed) new p.becomes now_held pass_step p.commands pass_tied
 
   new_lead : at ≡ 0 → lead_by g.complete new ≡ lead_of g.complete p.passed
   new_lead first = lead_at g.complete new (forgetting p.passed) (subst (λ (n : ℕ). HasRun new n (forgetting p.passed)) first (there g all mid l at p.run (forgetting p.passed) new p.becomes now_held pass_step))
@@ -282,7 +299,7 @@ module _ (g : GatheredView) (all : IsGathered g) (mid : List (Option RunView)) (
         (λ away. inr (away, same_lead away, pass_by.silent away));
     own = pass_by.own;
     tells = pass_by.tells;
-    served = λ complete back. p.served complete (runs_again p.passed.left back);
+    served = λ complete back. passed_served g.runs mid l (λ d q is. (met_held g all mid l d q is).is) (λ d q is. (met_held g all mid l d q is).number) g.heap g.complete new at all.in_step first_walk first_run (λ d q is. (met_held g all mid l d q is).serves) (met_all g all mid l).tied p complete (runs_again p.passed.left back);
     on = after_shares g all mid l at p.run (forgetting p.passed) new p.becomes now_held pass_step (pass_by.control ++ pass_by.own) pass_by.steps;
     view = λ i. record { sizes = sizes_in g.heap.config; runs = after_runs g all mid l at p.run (forgetting p.passed) new p.becomes now_held pass_step i; lead = lead_by g.complete new; complete = g.complete };
   }
@@ -337,7 +354,9 @@ module _ (g : GatheredView) (all : IsGathered g) (mid : List (Option RunView)) (
           collected = ap (λ (x : RunView). x.collected) f.2;
           walk = λ first. subst (Walk complete) (sym f.2) (halted_walk f.0 (held.walk first));
           asks = subst AsksOnce (sym f.2) (halted_asks f.0 held.asks);
+          serves = subst (Serves complete d) (sym f.2) (halted_serves g.complete complete d f.0 (runs d f.0 f.1) (held.is.between.even (runs d f.0 f.1)) held.serves);
         };
+    tied = halted_tied complete mid new (λ d r is. (met_held g all mid l d r is).is.between.even (runs d r is)) (λ d s is. let f = from d s is in (f.0, f.1, f.2));
     in_step = halted_in_step g.runs mid new l (λ d q is. (met_held g all mid l d q is).is) runs (λ d s is. let f = from d s is in (f.0, f.1, f.2));
     enough = subst (HasAmple g.heap.config) (sym (same_commands mid new u.count (λ d below. u.stay d (subst (λ (n : ℕ). d < n) u.count below)) (λ d s is. let f = from d s is in (f.0, f.1, ap (λ (x : RunView). x.commands) f.2)))) (met_all g all mid l).enough;
   }
@@ -416,13 +435,20 @@ module _ (g : GatheredView) (all : IsGathered g) (mid : List (Option RunView)) (
         on = λ kind e. absurd (let none : ◌≡◌ {A = Option Kind} None (Some kind) = sym (keeps.left ∙ running) ∙ e in cc);
       };
       asks = calm_asks g.heap p.run p.made before.listed running before.asks p.answer p.calm;
+      serves = calm_serves g.heap g.complete at p.run p.made stepped before.listed running goes_on p.becomes.here p.becomes.is p.came before.serves p.answer p.calm;
     }
+
+    made_tied : AllTied g.complete new
+    made_tied = running_tied g.complete new (λ d q is. ⊎_elim
+        (λ (mine : (d ≡ at) × (q ≡ p.made)). ap (λ (x : RunView). x.left) mine.1 ∙ (keeps.left ∙ running))
+        (λ (other : (d ≢ at) × HasRun mid d q). run d q other.1)
+        (becomes_stood g.heap mid new at p.run p.made p.becomes d q is))
 
     abbrev pub stepped_view : GatheredView
     stepped_view = record g { runs = new }
 
     pub stepped_all : IsGathered stepped_view
-    stepped_all = after_all g all mid l at p.run p.made new p.becomes made_held made_step keeps.commands
+    stepped_all = after_all g all mid l at p.run p.made new p.becomes made_held made_step keeps.commands made_tied
 
     made_there : HasRun new at p.made
     made_there = there g all mid l at p.run p.made new p.becomes made_held made_step

@@ -95,8 +95,7 @@ module _ (h : SharedHeap) (old mid : List (Option RunView)) (at : ℕ) (one met 
   level_stay d below = dite (ℕ_discrete d at)
       (λ e. (met, subst (λ (n : ℕ). HasRun level_new n met) (sym e) level_one))
       (λ no.
-      let f = here.filled d below in
-      (
+      let f = here.filled d below in (
         run_seeing f.0 m.history,
         set_else mid at d (Some met) no ∙ (ap (λ (rs : List (Option RunView)). slice_get rs d) m.each_is ∙ get_map (slot_seeing m.history) (slice_set old at None) d (Some f.0) (set_else old at d None no ∙ f.1)),
       ))

@@ -14,6 +14,7 @@ use Rattle.domain_turns.specs.declared.supply.Supply.TheVariants.{Listed}
 pub use Rattle.domain_turns.specs.Meeting.{HasRun}
 use Rattle.domain_turns.specs.Runs.{RunView, IsRun, is_asked, served_since}
 use Rattle.replay_turns.specs.Asking.{AsksOnce, HasAmple, commands_at}
+use Rattle.replay_turns.specs.Served.{AllTied, Serves}
 use Rattle.replay_turns.specs.Walk.{IsWalk}
 use Rattle.schedule_drive.specs.Together.{AllRuns, OneRun, Lead, Rests, Leads, Answers, LeadStep, IsAnswered, IsntAnswered}
 
@@ -94,6 +95,7 @@ pub record IsHeld (g : GatheredView) (d : ℕ) (r : RunView) : Type 0 where
   pub collected : r.collected ≡ false
   pub walk : d ≡ 0 → Walk g.complete r
   pub asks : AsksOnce r
+  pub serves : Serves g.complete d r
 
 -- there is room for so many domains and one more, and nobody is there
 abbrev pub HasRoom : ℕ → List Token → ℕ → Type 0
@@ -111,6 +113,7 @@ pub record IsGathered (g : GatheredView) : Type 0 where
   pub held : (d : ℕ) (r : RunView) → HasRun g.runs d r → IsHeld g d r
   pub enough : HasAmple g.heap.config (map commands_at g.runs)
   pub in_step : InStep g.runs
+  pub tied : AllTied g.complete g.runs
 
 -- the front of domain d grew by these entries, and before and behind them by others that are no calls of the domain, and no controls where it leads
 pub record Steps (d : ℕ) (old new own : List Entry) : Type 0 where

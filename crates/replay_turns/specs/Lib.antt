@@ -6,3 +6,4 @@ pub mod Ends
 pub mod Replayed
 pub mod Pace
 pub mod Asking
+pub mod Served

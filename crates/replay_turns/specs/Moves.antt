@@ -15,7 +15,7 @@ use Rattle.domain_turns.specs.Meeting.{StandsBehind}
 use Rattle.domain_turns.specs.Runs.{RunView, CalmAnswers, IsRun, PassesOn}
 use Rattle.schedule_drive.specs.declared.together.Stepped.{Stepped}
 use Rattle.schedule_drive.specs.declared.together.Stepped.TheVariants.{Ran, Made, Needs}
-use Rattle.schedule_drive.specs.Together.{IsRested, IsServed}
+use Rattle.schedule_drive.specs.Together.{IsRested}
 use Rattle.replay_turns.specs.Gathered.{HasRun, one_run}
 use Rattle.replay_turns.specs.Leveled.{Leveled}
 
@@ -36,7 +36,7 @@ pub record MetThen (old : List (Option RunView)) (Then : Pause → List (Option 
   pub leveled : Leveled old mid
   pub moved : Then leveled.pause mid
 
--- the domain at a place made a step in the pause, which domain 0 leads as it is told, and stood in it still behind its look at the barrier. Where a complete collection was made it comes back only once its `full_major` is answered
+-- the domain at a place made a step in the pause, which domain 0 leads as it is told, and stood in it still behind its look at the barrier
 pub record PassesAt (h : SharedHeap) (complete : Bool) (pause : Pause) (old new : List (Option RunView)) (at : ℕ) : Type 0 where
   pub run : RunView
   pub passed : RunView
@@ -46,7 +46,6 @@ pub record PassesAt (h : SharedHeap) (complete : Bool) (pause : Pause) (old new 
   pub commands : passed.commands ≡ run.commands
   pub supply : passed.supply ≡ run.supply
   pub number : passed.token.view.own.number ≡ run.token.view.own.number
-  pub served : complete ≡ true → passed.left ≡ None → IsServed (one_run passed)
   pub becomes : Becomes h old new at run (forgetting passed)
 
 -- the domain at a place has arrived no more often than another one

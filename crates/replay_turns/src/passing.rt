@@ -1,8 +1,7 @@
 //! A step in a pause.
 ghost use Rattle.std.specs.Prelude.{◌≡◌, ◌≢◌, ◌<◌, ◌≤◌, ◌^◌, ℕ, [], false, length, vec_capacity, None, Some, true};
 ghost use Rattle.domain_turns.specs.Runs.{RunView};
-ghost use Rattle.replay_turns.specs.Gathered.{GoneAt, HasRun, one_run};
-ghost use Rattle.schedule_drive.specs.Together.{IsServed};
+ghost use Rattle.replay_turns.specs.Gathered.{GoneAt, HasRun};
 ghost use Rattle.replay_turns.specs.Leveled.{AllHere};
 ghost use Rattle.replay_turns.specs.Moves.{IsSooner, MetThen, PassesAt};
 
@@ -10,7 +9,6 @@ use crate::meeting::{put_run, take_run};
 use domain_turns::DomainRun;
 use heap_rule::{Domain, Heap};
 use pause_phases::Decider;
-use std::sync::Wait;
 
 // Whether the domain of a run has arrived.
 fn has_gone(run: &Option<DomainRun>) -> bool
@@ -81,38 +79,9 @@ pub(crate) fn gone(runs: &[Option<DomainRun>]) -> usize
     at
 }
 
-// Whether the domain of a run runs again and its next command is a `full_major`, for which it has asked.
-fn is_unserved(run: &DomainRun) -> bool
-    ensures { result ≡ false → run.now.left ≡ None → IsServed (one_run run.now) }
-{
-    if !run.running() {
-        return false;
-    }
-    if !run.is_at_full_major() {
-        return false;
-    }
-    run.has_asked()
-}
-
-// Waits without end where the domain runs again after a pause with a complete collection, and its `full_major`, for which
-// it has asked, wasn't answered.
-fn is_served<R: Wait>(rt: &R, run: &DomainRun, complete: bool)
-    ensures { complete ≡ true → run.now.left ≡ None → IsServed (one_run run.now) }
-{
-    if !complete {
-        return;
-    }
-    if !is_unserved(run) {
-        return;
-    }
-    'ever: for _ in rt.forever() {}
-    unreachable!()
-}
-
 // One step in a pause of the domain at this place, which has arrived, and least often, as all meet. No command of it is to
 // be answered `full`.
-pub(crate) fn pass_at<R: Wait>(
-    rt: &R,
+pub(crate) fn pass_at(
     heap: &Heap,
     runs: &mut [Option<DomainRun>],
     room: &mut Vec<Domain>,
@@ -133,7 +102,6 @@ pub(crate) fn pass_at<R: Wait>(
     let run = take_run(runs, at);
     let mut run = run.pass_among(heap, runs, room, Decider::Caller { complete });
     run.is_faithful();
-    is_served(rt, &run, complete);
     run.forget_collected();
     run.is_faithful();
     put_run(runs, at, run);

@@ -12,33 +12,33 @@ use Rattle.replay_turns.proofs.SlotLemmas.{inside}
 use Rattle.replay_turns.proofs.passing.pass_at.Goals as goal
 
 pub take_run-run-requires : goal.take_run-run-requires
-take_run-run-requires g c = record { there = c.requires.here.filled c.args.at c.requires.inside }
+take_run-run-requires c = record { there = c.requires.here.filled c.args.at c.requires.inside }
 
 pub pass_among-run-requires-clause-here : goal.pass_among-run-requires-clause-here
-pass_among-run-requires-clause-here g c = c.requires.here.here c.args.at c.take_run-run.result c.take_run-run.ensures.taken
+pass_among-run-requires-clause-here c = c.requires.here.here c.args.at c.take_run-run.result c.take_run-run.ensures.taken
 
 pub pass_among-run-requires-clause-arrived : goal.pass_among-run-requires-clause-arrived
-pass_among-run-requires-clause-arrived g c = c.requires.gone c.take_run-run.result c.take_run-run.ensures.taken
+pass_among-run-requires-clause-arrived c = c.requires.gone c.take_run-run.result c.take_run-run.ensures.taken
 
 pub pass_among-run-requires-clause-few : goal.pass_among-run-requires-clause-few
-pass_among-run-requires-clause-few g c = c.requires.few c.take_run-run.result c.take_run-run.ensures.taken
+pass_among-run-requires-clause-few c = c.requires.few c.take_run-run.result c.take_run-run.ensures.taken
 
 pub pass_among-run-requires-clause-others : goal.pass_among-run-requires-clause-others
-pass_among-run-requires-clause-others g c = subst (AreHere c.args.heap.now) (sym c.take_run-run.ensures.rest) (others_here c.args.heap.now c.args.runs.now c.args.at c.requires.here)
+pass_among-run-requires-clause-others c = subst (AreHere c.args.heap.now) (sym c.take_run-run.ensures.rest) (others_here c.args.heap.now c.args.runs.now c.args.at c.requires.here)
 
 pub pass_among-run-requires-clause-all : goal.pass_among-run-requires-clause-all
-pass_among-run-requires-clause-all g c = subst (AllButOne c.args.heap.now) (sym c.take_run-run.ensures.rest) (all_but_one c.args.heap.now c.args.runs.now c.args.at c.requires.inside c.requires.count c.requires.here)
+pass_among-run-requires-clause-all c = subst (AllButOne c.args.heap.now) (sym c.take_run-run.ensures.rest) (all_but_one c.args.heap.now c.args.runs.now c.args.at c.requires.inside c.requires.count c.requires.here)
 
 pub pass_among-run-requires-clause-least : goal.pass_among-run-requires-clause-least
-pass_among-run-requires-clause-least g c = λ d q there.
+pass_among-run-requires-clause-least c = λ d q there.
     let was = others_later c.args.runs.now c.args.at d q (subst (λ rs. HasRun rs d q) c.take_run-run.ensures.rest there) in
     c.requires.least d c.take_run-run.result q c.take_run-run.ensures.taken was
 
 pub pass_among-run-requires-clause-fits : goal.pass_among-run-requires-clause-fits
-pass_among-run-requires-clause-fits g c = subst (λ n. n < vec_capacity c.args.room.now) (sym (ap length c.take_run-run.ensures.rest ∙ length-set c.args.runs.now c.args.at None)) c.requires.fits
+pass_among-run-requires-clause-fits c = subst (λ n. n < vec_capacity c.args.room.now) (sym (ap length c.take_run-run.ensures.rest ∙ length-set c.args.runs.now c.args.at None)) c.requires.fits
 
 pub returns-clause-passes : goal.returns-clause-passes
-returns-clause-passes g c =
+returns-clause-passes c =
     let heap = c.args.heap.now in
     let old = c.args.runs.now in
     let at = c.args.at in
@@ -61,7 +61,6 @@ returns-clause-passes g c =
         commands = c.pass_among-run.ensures.goes_on.commands ∙ sym (ap (λ (r : RunView). r.commands) p.all_met.own_is);
         supply = c.pass_among-run.ensures.goes_on.supply ∙ sym (ap (λ (r : RunView). r.supply) p.all_met.own_is);
         number = c.pass_among-run.ensures.goes_on.number ∙ sym (ap (λ (r : RunView). r.token.view.own.number) p.all_met.own_is);
-        served = c.is_served.ensures;
         becomes = record {
           was = set_here others at (Some met) within;
           here = c.pass_among-run.ensures.here;
