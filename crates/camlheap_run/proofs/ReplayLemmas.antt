@@ -1,9 +1,9 @@
 -- A heap whose runs a schedule has driven to their ends.
-use Rattle.std.proofs.Common.{◌≡◌, ◌≢◌, ℕ, zero, suc, ◌+◌, ◌<◌, ◌≤◌, Bool, true, false, List, [], ◌∷◌, ◌++◌, drop, length, get_or, refl, sym, ap, ◌∙◌, subst, ⊎_elim, arith, Some, None}
+use Rattle.std.proofs.Common.{◌≡◌, ◌≢◌, ℕ, zero, suc, ◌+◌, ◌*◌, ◌<◌, ◌≤◌, Bool, true, false, List, [], ◌∷◌, ◌++◌, drop, length, get_or, refl, sym, ap, ◌∙◌, subst, ⊎_elim, arith, Some, None}
 use Rattle.std.specs.Prelude.{Option, flat_map, if◌then◌else◌, nat_le, not, slice_get, slice_index_or}
 use Rattle.std.proofs.lemmas.Bool.{and_parts}
 use Rattle.std.proofs.lemmas.Bool.Decides.{nat_tests}
-use Rattle.heap_model.specs.Domains.{fits_domains}
+use Rattle.heap_model.specs.Domains.{fits_domains, reserve}
 use Rattle.std.specs.List.{AllByRecursion, list_all, range_with_len}
 use Rattle.std.specs.Io.KnownBytes.{Appends}
 use Rattle.std.proofs.lemmas.Option.{slice_get-get_or, slice_get_within}
@@ -29,10 +29,12 @@ use Rattle.heap_rule.specs.Ending.{EndedHeap}
 use Rattle.domain_turns.specs.Runs.{RunView, IsRun}
 use Rattle.schedule_drive.specs.Following.{is_for}
 use Rattle.schedule_laws.specs.declared.items.Item.{Item}
+use Rattle.schedule_laws.specs.Pools.{pools_of}
 use Rattle.schedule_laws.specs.Scheduled.{scheduled}
 use Rattle.schedule_text.specs.declared.replay.ReplayFault.{ReplayFault}
 use Rattle.schedule_text.specs.declared.replay.ReplayFault.TheVariants.{Memory as ReplayMemory, NotReplayable as NotReplayableOf, Schedule as ScheduleOf, Script as ScriptOf}
 use Rattle.schedule_text.specs.Replays.{HasFault, IsTooLong, Replayed as ReplayedText, WrongScript}
+use Rattle.replay_turns.specs.Asking.{HasAmple}
 use Rattle.replay_turns.specs.Ends.{MayBeHeld}
 use Rattle.replay_turns.specs.Replayed.{IsUntouched, MayReplay, Replayed, commands_of}
 use Rattle.camlheap_run.specs.declared.begin.Begun.{Begun}
@@ -56,18 +58,7 @@ first_at k script b begun d r at =
     let same : 0 + d ≡ d = omega arith in
     let both : ◌≡◌ {A = Option RunView} (Some (opened script (opening_token b.heap.table k d))) (Some r) = ap (λ (n : ℕ). Some (opened script (opening_token b.heap.table k n))) (sym same) ∙ sym own ∙ at in cc
 
--- runs that have begun may be replayed
-pub begun_may : (k : Config) (script : List (List Command)) (b : Begun) → IsBegun k script b → MayReplay b.heap b.runs.items
-begun_may k script b begun = record {
-  some = subst (λ (c : Config). 0 < c.domains) (sym begun.config) begun.some;
-  gathers = record {
-    count = length-begun k script b begun ∙ ap (λ (c : Config). c.domains) (sym begun.config);
-    each = λ d r at. subst (λ (q : RunView). MayBeHeld b.heap d q) (first_at k script b begun d r at) (record { here = (refl, sym begun.config); number = refl; listed = refl; collected = refl; left = refl; armed = λ zeroth. refl; unswept = λ zeroth. refl });
-  };
-  each = λ d r at. subst IsUntouched (first_at k script b begun d r at) (record { front = refl; asked = refl; next = refl });
-}
-
--- and their commands are the sections
+-- their commands are the sections
 sections_at : (script : List (List Command)) (runs : List RunView) → ((d : ℕ) (r : RunView) → slice_get runs d ≡ Some r → r.commands ≡ slice_index_or script d []) → length script ≡ length runs → commands_of runs ≡ script
 sections_at [] [] each many = refl
 sections_at [] (r ∷ runs) each many = cc
@@ -78,6 +69,25 @@ sections_at (cs ∷ script) (r ∷ runs) each many =
 pub begun_sections : (k : Config) (script : List (List Command)) (b : Begun) → IsBegun k script b → length script ≡ k.domains → commands_of b.runs.items ≡ script
 begun_sections k script b begun many =
     sections_at script b.runs.items (λ d r at. sym (ap (λ (q : RunView). q.commands) (first_at k script b begun d r at))) (many ∙ sym (length-begun k script b begun))
+
+-- a script that can be replayed leaves more pools than it uses
+pub leaves_ample : (z : Sizes) (k : Config) (r : ReplayedText) → MayReplayOn z → IsSpelledReplay z r → sizes_in k ≡ z → HasAmple k r.script.sections
+leaves_ample z k r limits spelled sizes = record {
+  few = subst (λ (y : Sizes). 2 * pools_of y.domains r.script.sections ≤ y.pools) (sym sizes) spelled.1.can.few;
+  reserved = subst (λ (y : Sizes). 2 * reserve y + 2 ≤ y.pools) (sym sizes) limits.0.pools;
+}
+
+-- runs that have begun may be replayed
+pub begun_may : (k : Config) (script : List (List Command)) (b : Begun) → IsBegun k script b → length script ≡ k.domains → HasAmple k script → MayReplay b.heap b.runs.items
+begun_may k script b begun many ample = record {
+  some = subst (λ (c : Config). 0 < c.domains) (sym begun.config) begun.some;
+  gathers = record {
+    count = length-begun k script b begun ∙ ap (λ (c : Config). c.domains) (sym begun.config);
+    each = λ d r at. subst (λ (q : RunView). MayBeHeld b.heap d q) (first_at k script b begun d r at) (record { here = (refl, sym begun.config); number = refl; listed = refl; collected = refl; left = refl; asked = refl; armed = λ zeroth. refl; unswept = λ zeroth. refl });
+    enough = subst (λ (w : Config × List (List Command)). HasAmple w.0 w.1) (λ i. (sym begun.config i, sym (begun_sections k script b begun many) i)) ample;
+  };
+  each = λ d r at. subst IsUntouched (first_at k script b begun d r at) (record { front = refl; arrivals = refl; asked = refl; next = refl });
+}
 
 -- the items are for these runs
 pub items_for : (k : Config) (script : List (List Command)) (b : Begun) (domains : ℕ) (items : List Item) → IsBegun k script b → k.domains ≡ domains → list_all (is_for domains) items ≡ true → list_all (is_for (length b.runs.items)) items ≡ true

@@ -3,11 +3,14 @@ use Rattle.std.proofs.Common.{◌≡◌, ◌≢◌, ◌∙◌, ℕ, ◌+◌, ◌
 use Rattle.heap_model.specs.declared.command.Command as model
 use Rattle.heap_model.specs.declared.command.Command.TheVariants.{Spawn, Argument, PutResult, Join, Poll}
 use Rattle.heap_model.specs.declared.reply.Reply.{Reply}
+use Rattle.heap_model.specs.Fronts.{IsFrontOf}
+use Rattle.heap_model.proofs.Histories.FrontLemmas.{front_whole}
 use Rattle.heap_rule.specs.declared.config.Config.{Config}
 use Rattle.heap_rule.specs.declared.phase.Kind.{Kind}
 use Rattle.heap_rule.specs.declared.view.DomainView.{DomainView}
 use Rattle.heap_rule.specs.declared.view.Hunt.TheVariants.{Rests as AtRest}
 use Rattle.heap_rule.specs.Running.{Runs}
+use Rattle.heap_rule.specs.Standing.{with_front}
 use Rattle.heap_rule.specs.Token.{SharedHeap, Token, IsIn}
 use Rattle.size_pools.proofs.Seeking.{sought_view}
 use Rattle.steps_finalisers.specs.Registering.{count_of}
@@ -106,19 +109,19 @@ tried_now h old start new c found result left unqueued other is none tries = by 
 pub may_looked : (old new : RunView) (c : model.Command) (found : ℕ) → new ≡ wanting old found → MaySubmit old c → MaySubmit new c
 may_looked old new c found is may = subst (λ (r : RunView). MaySubmit r c) (sym is) (record { more = may.more; done = may.done; fits = may.fits; enlists = may.enlists; room = may.room; labels = may.labels })
 
--- a run whose command was put off: its domain has at most looked
+-- a run whose command was put off: its domain has at most looked, and has seen entries of others alone
 pub record HasWaited (old new : RunView) : Type 0 where
   pub run : new ≡ record old { token = new.token }
   pub number : new.token.view.own.number ≡ old.token.view.own.number
-  pub front : new.token.view.seen.front ≡ old.token.view.seen.front
+  pub front : IsFrontOf old.token.view.own.number new.token.view.seen.front old.token.view.seen.front
   pub listed : count_of new.token.view.own.finalisers ≡ count_of old.token.view.own.finalisers
   pub takes : Takes 0 0 old.token.view new.token.view
 
 same_waited : (old new : RunView) → new ≡ old → HasWaited old new
-same_waited old new is = subst (HasWaited old) (sym is) (record { run = refl; number = refl; front = refl; listed = refl; takes = takes_none old.token.view old.token.view refl refl })
+same_waited old new is = subst (HasWaited old) (sym is) (record { run = refl; number = refl; front = front_whole old.token.view.own.number old.token.view.seen.front; listed = refl; takes = takes_none old.token.view old.token.view refl refl })
 
 looked_waited : (old new : RunView) (found : ℕ) → new ≡ wanting old found → HasWaited old new
-looked_waited old new found is = subst (HasWaited old) (sym is) (record { run = refl; number = refl; front = refl; listed = refl; takes = takes_none old.token.view (wanting old found).token.view refl refl })
+looked_waited old new found is = subst (HasWaited old) (sym is) (record { run = refl; number = refl; front = front_whole old.token.view.own.number old.token.view.seen.front; listed = refl; takes = takes_none old.token.view (wanting old found).token.view refl refl })
 
 pub has_waited : (h : SharedHeap) (old new : RunView) (c : model.Command) → PutsOff h old new c → HasWaited old new
 has_waited h old new c (HasArrived left is) = same_waited old new is
@@ -128,10 +131,12 @@ has_waited h old new c (IsWanted found some is) = looked_waited old new found is
 has_waited h old new c (IsTried tried) = ⊎_elim
     (λ a. looked_waited old new 0 a.0)
     (λ b.
-    let view = sought_view h.config (wanting old 0).token.view new.token.view AtRest b.1.view in record {
+    let found : DomainView = with_front new.token.view old.token.view.seen.front in
+    let view = sought_view h.config (wanting old 0).token.view found AtRest b.1.view in
+    let number : found.own.number ≡ old.token.view.own.number = ap (λ (x : DomainView). x.own.number) view in record {
       run = b.0;
-      number = ap (λ (x : DomainView). x.own.number) view;
-      front = ap (λ (x : DomainView). x.seen.front) view;
+      number = number;
+      front = subst (λ (n : ℕ). IsFrontOf n new.token.view.seen.front old.token.view.seen.front) number b.1.looked.seen;
       listed = ap (λ (x : DomainView). count_of x.own.finalisers) view;
-      takes = let t = searched_takes h.config (wanting old 0).token.view new.token.view b.1.view in record { labels_are = t.labels_are; room = t.room };
+      takes = let t = searched_takes h.config (wanting old 0).token.view found b.1.view in record { labels_are = t.labels_are; room = t.room };
     }) tried

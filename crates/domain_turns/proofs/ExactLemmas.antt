@@ -165,7 +165,7 @@ run_sign h old new Did says = ⊎_elim
     did (Finalises f) = (ap (λ (x : DomainView). x.own.arrivals) f.first.view, (Want 0, notes old, ap (λ (x : DomainView). x.seen.notes) f.first.view, tt))
     did (Wishes a) = (ap arrivals a.run, (Asked (bit_of (wish_of a.command)), (notes old ++ Want 0 ∷ []), ap notes a.run, tt))
     did (Refuses a) = (
-      ap arrivals a.run ∙ ap (λ (x : DomainView). x.own.arrivals) (sought_view h.config (wanting old 0).token.view a.searched.view AtRest a.refused.view),
+      ap arrivals a.run ∙ ap (λ (x : DomainView). x.own.arrivals) (sought_view h.config (wanting old 0).token.view (with_front a.searched.view old.token.view.seen.front) AtRest a.refused.view),
       (Asked (bit_of Full), a.searched.view.seen.notes, ap notes a.run, tt),
     )
     did (Tries c other t) = (t.tried.stays.arrivals, (Want 0, notes old, t.tried.stays.notes, tt))

@@ -8,6 +8,7 @@ use Rattle.heap_model.specs.declared.command.Command.TheVariants.{Poll}
 use Rattle.heap_model.specs.History.{IsPrefix}
 use Rattle.heap_rule.specs.declared.view.Own.{Own}
 use Rattle.heap_rule.specs.declared.view.DomainView.{DomainView}
+use Rattle.heap_rule.specs.Standing.{with_front}
 use Rattle.heap_rule.specs.Token.{SharedHeap}
 use Rattle.domain_turns.specs.declared.turned.Turned.{Turned}
 use Rattle.domain_turns.specs.declared.turned.Turned.TheVariants.{Did, Waiting, Hungry, Held, Idle}
@@ -60,13 +61,12 @@ calm_did h old new (Wishes a) = record {
   front = same_prefix _ _ (ap (λ (r : RunView). r.token.view.seen.front) a.run);
 }
 calm_did h old new (Refuses a) =
-    let view = sought_view h.config old.token.view a.searched.view AtRest a.refused.view in
-    let same : a.searched.view.seen.front ≡ old.token.view.seen.front = ap (λ (x : DomainView). x.seen.front) view in record {
+    let view = sought_view h.config old.token.view (with_front a.searched.view old.token.view.seen.front) AtRest a.refused.view in record {
       commands = ap (λ (r : RunView). r.commands) a.run;
       supply = ap (λ (r : RunView). r.supply) a.run;
       spawned = ap (λ (r : RunView). is_spawned_at r.place) a.run;
       number = ap (λ (r : RunView). r.token.view.own.number) a.run ∙ ap (λ (x : DomainView). x.own.number) view;
-      front = same_prefix _ _ (ap (λ (r : RunView). r.token.view.seen.front) a.run ∙ same);
+      front = subst (IsPrefix old.token.view.seen.front) (sym (ap (λ (r : RunView). r.token.view.seen.front) a.run)) (front_prefix _ _ _ a.refused.looked.seen);
     }
 calm_did h old new (Tries c other t) = record { commands = ap (λ (r : RunView). r.commands) t.run; supply = ap (λ (r : RunView). r.supply) t.run; spawned = ap (λ (r : RunView). is_spawned_at r.place) t.run; number = ap (λ (o : Own). o.number) t.tried.own; front = answered_front _ _ _ _ _ _ (stood h old.token new.token c old.collected t.reply t.tried.stands).1 }
 calm_did h old new (Works p) =

@@ -2,6 +2,7 @@ pub mod Owing
 pub mod Beginning
 pub mod PauseLemmas
 pub mod Trying
+pub mod Shortages
 pub mod Pooling
 pub mod Working
 pub mod Taking

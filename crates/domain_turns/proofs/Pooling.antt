@@ -1,5 +1,5 @@
 -- What the try of an allocation in the major heap leaves.
-use Rattle.std.proofs.Common.{◌≡◌, ◌∙◌, ℕ, ◌+◌, ◌≤◌, Bool, List, true, false, inl, inr, sym, ap, subst, slice_get, arith}
+use Rattle.std.proofs.Common.{◌≡◌, ◌∙◌, ℕ, ◌+◌, Bool, List, true, false, inl, inr, sym, ap, subst, slice_get, arith}
 use Rattle.heap_model.specs.declared.command.Command.{Command}
 use Rattle.heap_model.specs.declared.command.Command.TheVariants.{AllocMaj, Ephe}
 use Rattle.heap_model.specs.declared.entry.Entry.TheVariants.{Command as CommandOf}
@@ -12,10 +12,7 @@ use Rattle.heap_rule.specs.declared.config.Config.{Config}
 use Rattle.heap_rule.specs.declared.view.DomainView.{DomainView}
 use Rattle.heap_rule.specs.declared.view.Hunt.TheVariants.{Rests}
 use Rattle.heap_rule.specs.declared.view.Own.{Own}
-use Rattle.heap_rule.specs.declared.view.Spot.{Spot}
-use Rattle.heap_rule.specs.declared.view.Swept.{Swept}
 use Rattle.heap_rule.specs.Limits.{sizes_in}
-use Rattle.heap_rule.specs.Pools.{spot_at}
 use Rattle.heap_rule.specs.Running.{Runs, Did, Stays}
 use Rattle.heap_rule.specs.Token.{Token, SharedHeap, IsIn}
 use Rattle.heap_rule.proofs.Calls.{stays_trans}
@@ -26,6 +23,7 @@ use Rattle.steps_pools.specs.Ephemerons.{with_ephemeron}
 use Rattle.domain_turns.specs.declared.command.Attempt.{Attempt}
 use Rattle.domain_turns.specs.declared.command.Attempt.TheVariants.{Made, Needs, NoRoom}
 use Rattle.domain_turns.specs.Tries.{AttemptAnswers, Enters, HasFew, HasNoPool, HasPool, IsFresh, RefusesAs, RefusesFull, address_of}
+use Rattle.domain_turns.proofs.Shortages.{none_still, refused_then}
 
 -- a search leaves the domain where it stood
 searched_stays : (x y : DomainView) → Searched x y Rests → Stays x y
@@ -102,12 +100,7 @@ module _ (h : SharedHeap) (old mid : Token) (runs : Runs h old) (here : IsIn mid
     full_sweep = may_still h.config old.view mid.view new.view (sym same_list) (sym same_swept) (sought_sweep h.config old.view mid.view Rests sought)
 
     full_none : (words : ℕ) → HasNoPool h.config words old.view mid.view → HasNoPool h.config words old.view new.view
-    full_none words n = record {
-      free = n.free;
-      reserved = record { found = (n.reserved.found.0, f.free ∙ n.reserved.found.1); few = n.reserved.few };
-      none_free = λ class least. subst (λ (l : List Spot). h.config.pools ≤ (spot_at l class).pool) (sym same_looked) (n.none_free class least);
-      swept = subst (λ (s : Swept). h.config.pools ≤ s.spot.pool) (sym same_swept) n.swept;
-    }
+    full_none words n = none_still h.config words old.view mid.view new.view f.free same_looked same_swept n
 
   -- an allocation was answered `full`, or refused
   major_full : (new : Token) (dst tag fields : ℕ) (served collected : Bool) → HasNoPool h.config (fields + 2) old.view mid.view → RefusesAs h mid new (AllocMaj dst tag fields) collected (Made Full) → AttemptAnswers h old new (AllocMaj dst tag fields) served collected (Made Full)
@@ -133,15 +126,7 @@ module _ (h : SharedHeap) (old mid : Token) (runs : Runs h old) (here : IsIn mid
       let is : r ≡ Full = cc in
       subst (λ (q : Reply). AttemptAnswers h old new (AllocMaj dst tag fields) served collected (Made q)) (sym is) (major_full new dst tag fields served collected none (subst (λ (q : Reply). RefusesAs h mid new (AllocMaj dst tag fields) collected (Made q)) is says))
   major_refused new dst tag fields served collected (Needs want) none says = absurd says
-  major_refused new dst tag fields served collected NoRoom none says = (
-    record {
-      here = subst (λ (t : Token). IsIn t h) (sym says.1) here;
-      refused = subst (λ (t : Token). HasNoPool h.config (fields + 2) old.view t.view) (sym says.1) none;
-      before = says.0;
-      view = subst (λ (t : Token). Sought h.config old.view t.view Rests) (sym says.1) sought;
-    },
-    λ needs. needs,
-  )
+  major_refused new dst tag fields served collected NoRoom none says = (refused_then h old mid new sought says.1 (AllocMaj dst tag fields) collected none says.0, λ needs. needs)
 
   -- and so was an ephemeron
   create_full : (new : Token) (dst keys : ℕ) (served collected : Bool) → HasNoPool h.config (keys + 3) old.view mid.view → RefusesAs h mid new (Ephe dst keys) collected (Made Full) → AttemptAnswers h old new (Ephe dst keys) served collected (Made Full)
@@ -167,15 +152,7 @@ module _ (h : SharedHeap) (old mid : Token) (runs : Runs h old) (here : IsIn mid
       let is : r ≡ Full = cc in
       subst (λ (q : Reply). AttemptAnswers h old new (Ephe dst keys) served collected (Made q)) (sym is) (create_full new dst keys served collected none (subst (λ (q : Reply). RefusesAs h mid new (Ephe dst keys) collected (Made q)) is says))
   create_refused new dst keys served collected (Needs want) none says = absurd says
-  create_refused new dst keys served collected NoRoom none says = (
-    record {
-      here = subst (λ (t : Token). IsIn t h) (sym says.1) here;
-      refused = subst (λ (t : Token). HasNoPool h.config (keys + 3) old.view t.view) (sym says.1) none;
-      before = says.0;
-      view = subst (λ (t : Token). Sought h.config old.view t.view Rests) (sym says.1) sought;
-    },
-    λ needs. needs,
-  )
+  create_refused new dst keys served collected NoRoom none says = (refused_then h old mid new sought says.1 (Ephe dst keys) collected none says.0, λ needs. needs)
 
 -- a block was made
 pub major_made : (h : SharedHeap) (old new : Token) (dst tag fields : ℕ) (served collected : Bool) (l : Label) → IsIn old h → Did h old new (AllocMaj dst tag fields) (Block l) → GrowsBy old new → HasPool h.config (fields + 2) old.view new.view → AttemptAnswers h old new (AllocMaj dst tag fields) served collected (Made (Block l))

@@ -20,6 +20,8 @@ use Rattle.heap_rule.specs.declared.config.Config.{Config}
 use Rattle.heap_rule.specs.declared.view.DomainView.{DomainView}
 use Rattle.heap_rule.specs.declared.view.Hunt.TheVariants.{Rests as AtRest}
 use Rattle.heap_rule.specs.Limits.{sizes_in}
+use Rattle.heap_rule.specs.Standing.{with_front}
+use Rattle.heap_rule.specs.Standing.{with_front}
 use Rattle.heap_rule.specs.Token.{SharedHeap, IsIn}
 use Rattle.finaliser_queues.specs.Running.{reply_of}
 use Rattle.size_pools.proofs.Seeking.{sought_view}
@@ -177,15 +179,21 @@ calm h old start new s (Wishes a) = ByOthers (still h old start new s (record {
   listed = ap (λ (r : RunView). count_of r.token.view.own.finalisers) a.run;
   takes = takes_none _ _ (ap (λ (r : RunView). r.token.view.own.serial) a.run) (ap (λ (r : RunView). r.token.view.own.ephemerons) a.run);
 }))
-calm h old start new s (Refuses a) = ByOthers (still h old start new s (record {
-  next = ap (λ (r : RunView). r.next) a.run;
-  replies = ap (λ (r : RunView). r.replies) a.run;
-  ran = ap (λ (r : RunView). r.ran) a.run;
-  ended = ap (λ (r : RunView). r.ended) a.run;
-  front = ap (λ (r : RunView). r.token.view.seen.front) a.run ∙ ap (λ (x : DomainView). x.seen.front) (sought_view h.config start.token.view a.searched.view AtRest a.refused.view);
-  listed = ap (λ (r : RunView). count_of r.token.view.own.finalisers) a.run ∙ ap (λ (x : DomainView). count_of x.own.finalisers) (sought_view h.config start.token.view a.searched.view AtRest a.refused.view);
-  takes = takes_then 0 0 start.token.view a.searched.view new.token.view (searched_takes h.config start.token.view a.searched.view a.refused.view) (takes_none _ _ (ap (λ (r : RunView). r.token.view.own.serial) a.run) (ap (λ (r : RunView). r.token.view.own.ephemerons) a.run));
-}))
+calm h old start new s (Refuses a) =
+    let found : DomainView = with_front a.searched.view start.token.view.seen.front in
+    let view = sought_view h.config start.token.view found AtRest a.refused.view in
+    let number : found.own.number ≡ old.token.view.own.number = ap (λ (x : DomainView). x.own.number) view ∙ s.number in
+    ByOthers (record {
+      next = ap (λ (r : RunView). r.next) a.run ∙ s.next;
+      replies = ap (λ (r : RunView). r.replies) a.run ∙ s.replies;
+      ran = ap (λ (r : RunView). r.ran) a.run ∙ s.ran;
+      ended = ap (λ (r : RunView). r.ended) a.run ∙ s.ended;
+      front = front_trans old.token.view.own.number new.token.view.seen.front start.token.view.seen.front old.token.view.seen.front
+          (subst (λ (p : ℕ × List Entry). IsFrontOf p.0 p.1 start.token.view.seen.front) (λ i. (number i, sym (ap (λ (r : RunView). r.token.view.seen.front) a.run) i)) a.refused.looked.seen) s.front;
+      listed = ap (λ (r : RunView). count_of r.token.view.own.finalisers) a.run ∙ (ap (λ (x : DomainView). count_of x.own.finalisers) view ∙ s.listed);
+      takes = takes_on 0 0 old.token.view start.token.view new.token.view s.takes
+          (takes_then 0 0 start.token.view found new.token.view (searched_takes h.config start.token.view found a.refused.view) (takes_none _ _ (ap (λ (r : RunView). r.token.view.own.serial) a.run) (ap (λ (r : RunView). r.token.view.own.ephemerons) a.run)));
+    })
 calm h old start new s (Tries c other t) = tried h old start new new c s t (keeps_all new)
 calm h old start new s (Works p) =
     let kept = works_keeps h start p.worked p.spent p.works in

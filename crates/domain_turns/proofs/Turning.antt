@@ -27,6 +27,8 @@ use Rattle.mark_slices.specs.Decks.{DeckCounts, StaysDeck}
 use Rattle.pause_phases.specs.Sharing.{gave_back}
 use Rattle.domain_turns.specs.Pausing.{AnswersLive, KnowsProgress, due_of}
 use Rattle.heap_rule.specs.declared.phase.Progress.{Progress}
+use Rattle.size_pools.specs.Taken.{Sought}
+use Rattle.size_pools.proofs.Seeking.{sought_shortens, sought_view}
 use Rattle.sweeper.specs.Sweeping.{Swept}
 use Rattle.remembered_set.specs.Bounded.{Bounded}
 use Rattle.heap_model.specs.Fronts.{IsFrontOf}
@@ -512,6 +514,38 @@ swept_is_run h r new most count is left was here s =
       listed = ap (λ (x : DomainView). count_of x.own.finalisers) v;
       made = ap (λ (x : DomainView). x.seen.made) v;
       hunt = λ at_rest. ap (λ (x : DomainView). x.seen.hunt) v ∙ at_rest;
+      front = subst (λ (f : List Entry). IsFrontOf r.token.view.own.number f r.token.view.seen.front) (sym stands.front) (front_whole r.token.view.own.number r.token.view.seen.front);
+    } in
+    let old : IsBetween None r.asked r.collected r.progress r.token = subst (λ (l : Option Kind). IsBetween l r.asked r.collected r.progress r.token) left is.between in
+    moved_is_run r new r.left r.asked r.collected r.progress r.hints is (stays_same r.hints) moves is.unasked
+    (subst (λ (l : Option Kind). IsBetween l r.asked r.collected r.progress new) (sym left) (stands_between r.token new r.asked r.collected r.progress (here.1 ∙ sym was.1) stands old))
+
+-- and so is one that has searched for a place
+pub sought_is_run : (h : SharedHeap) (r : RunView) (new : Token) → IsRun r → r.left ≡ None → IsIn r.token h → IsIn new h → Sought h.config r.token.view new.view Rests → IsRun (record r { token = new })
+sought_is_run h r new is left was here s =
+    let v = sought_view h.config r.token.view new.view Rests s in
+    let stands : StandsStill r.token.view new.view = record {
+      stage = ap (λ (x : DomainView). x.seen.stage) v;
+      copying = ap (λ (x : DomainView). x.seen.copying) v;
+      weak = ap (λ (x : DomainView). x.seen.share.weak) v;
+      pending = ap (λ (x : DomainView). x.own.pending) v;
+      prepared = ap (λ (x : DomainView). x.own.prepared) v;
+      arrivals = ap (λ (x : DomainView). x.own.arrivals) v;
+      seen = ap (λ (x : DomainView). x.seen.remembered) v;
+      remembered = ap (λ (x : DomainView). x.own.remembered) v;
+      used = ap (λ (x : DomainView). x.own.used) v;
+      number = ap (λ (x : DomainView). x.own.number) v;
+      front = ap (λ (x : DomainView). x.seen.front) v;
+      progress = ap (λ (x : DomainView). x.seen.share.progress) v;
+    } in
+    let moves : Moves r.token new = record {
+      config = here.1 ∙ sym was.1;
+      number = stands.number;
+      serial = ap (λ (x : DomainView). x.own.serial) v;
+      room = (sought_shortens h.config r.token.view new.view Rests s).no_less;
+      listed = ap (λ (x : DomainView). count_of x.own.finalisers) v;
+      made = ap (λ (x : DomainView). x.seen.made) v;
+      hunt = λ at_rest. ap (λ (x : DomainView). x.seen.hunt) v;
       front = subst (λ (f : List Entry). IsFrontOf r.token.view.own.number f r.token.view.seen.front) (sym stands.front) (front_whole r.token.view.own.number r.token.view.seen.front);
     } in
     let old : IsBetween None r.asked r.collected r.progress r.token = subst (λ (l : Option Kind). IsBetween l r.asked r.collected r.progress r.token) left is.between in

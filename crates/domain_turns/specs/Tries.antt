@@ -1,5 +1,5 @@
 -- What the try of a command leaves.
-use Rattle.std.specs.Prelude.{◌≡◌, ℕ, ◌+◌, ◌<◌, ◌≤◌, ◌⊎◌, List, Bool, true, false, Some, None}
+use Rattle.std.specs.Prelude.{◌≡◌, ℕ, ◌+◌, ◌*◌, ◌<◌, ◌≤◌, ◌⊎◌, List, Bool, true, false, length, Some, None}
 use Rattle.heap_model.specs.declared.command.Command.{Command}
 use Rattle.heap_model.specs.declared.command.Command.TheVariants.{PutInt, Copy, Forget, Alloc, AllocMaj, Load, Store, Ephe, SetKey, UnsetKey, GetKey, CheckKey, SetData, UnsetData, GetData, CheckData, Finalise, FinaliseLast, Poll, Minor, Major, FullMajor, Raw, Cas, Spawn, PutResult}
 use Rattle.heap_model.specs.declared.entry.Entry.{Entry}
@@ -31,13 +31,14 @@ use Rattle.finaliser_queues.specs.Registering.{own_finalised, own_finalised_last
 use Rattle.steps_pools.specs.Ephemerons.{with_ephemeron}
 use Rattle.heap_rule.specs.Limits.{sizes_in}
 use Rattle.heap_rule.specs.Running.{Runs, Stays}
+use Rattle.heap_rule.specs.Standing.{Looked, with_front}
 use Rattle.steps_pools.specs.Takes.{NoneFree}
 use Rattle.heap_rule.specs.Token.{Token, SharedHeap}
 use Rattle.minor_area.specs.Area.{HasRoom, IsOpened, IsShut}
 use Rattle.size_pools.specs.Created.{with_list}
 use Rattle.size_pools.specs.Taken.{Reserved, HasPlace, MaySweep, Sought}
 use Rattle.heap_rule.specs.declared.view.Swept.{Swept}
-use Rattle.heap_model.specs.Domains.{domain_at, reserve}
+use Rattle.heap_model.specs.Domains.{class_count, domain_at, reserve}
 use Rattle.heap_rule.specs.declared.view.Hunt.TheVariants.{Rests}
 use Rattle.heap_rule.specs.Rule.{state_of}
 use Rattle.heap_rule.specs.Token.{IsIn}
@@ -185,12 +186,18 @@ IsRefused h old new (AllocMaj dst tag fields) = HasNoPool h.config (fields + 2) 
 IsRefused h old new (Ephe dst keys) = HasNoPool h.config (keys + 3) old.view new.view
 IsRefused h old new _ = ⊥
 
--- an allocation was refused, and no complete collection came before for this command: nothing has changed but what was looked at for it, and what a sweep of own pools changes
+-- so many blocks were made by the domain's front that, with the reserve and one pool for each size class and domain, they are at least as many as the pools
+abbrev pub HasMany : Config → DomainView → Type 0
+HasMany k x = k.pools ≤ length (state_of k x.seen.front).graph + reserve (sizes_in k) + class_count * k.domains
+
+-- an allocation was refused, and no complete collection came before for this command: nothing has changed but what was looked at for it, and what a sweep of own pools changes. Behind the search the front is the whole history so far, in which many blocks were made
 pub record Refused (h : SharedHeap) (old new : Token) (c : Command) (collected : Bool) : Type 0 where
   pub here : IsIn new h
   pub refused : IsRefused h old new c
   pub before : collected ≡ false
-  pub view : Sought h.config old.view new.view Rests
+  pub view : Sought h.config old.view (with_front new.view old.view.seen.front) Rests
+  pub looked : Looked h.config (with_front new.view old.view.seen.front) new.view
+  pub many : HasMany h.config new.view
 
 -- the entry of the command was made with the reply `full`
 pub record RefusesFull (h : SharedHeap) (old new : Token) (c : Command) (r : Reply) : Type 0 where
@@ -204,11 +211,17 @@ pub record RefusesFull (h : SharedHeap) (old new : Token) (c : Command) (r : Rep
 abbrev pub HasFew : Config → DomainView → Type 0
 HasFew k x = (free : ℕ) × (last_found x ≡ Some free) × (free ≤ reserve (sizes_in k))
 
--- an allocation that found no room was answered `full`, or nothing has changed
+-- a domain looked at the whole history so far, in which many blocks were made, and nothing else has changed
+pub record SeesMany (h : SharedHeap) (old new : Token) : Type 0 where
+  pub here : IsIn new h
+  pub looked : Looked h.config old.view new.view
+  pub many : HasMany h.config new.view
+
+-- an allocation that found no room was answered `full`, or the domain looked at the history
 abbrev pub RefusesAs : SharedHeap → Token → Token → Command → Bool → Attempt → Type 0
 RefusesAs h old new c collected (Made r) = (collected ≡ true) × RefusesFull h old new c r × (new.view.own ≡ record old.view.own { registers = new.view.own.registers })
 RefusesAs h old new c collected (Needs want) = ⊥
-RefusesAs h old new c collected NoRoom = (collected ≡ false) × (new ≡ old)
+RefusesAs h old new c collected NoRoom = (collected ≡ false) × SeesMany h old new
 
 -- how far the places of each size class were then looked at: an allocation in the major heap may look at more of them
 abbrev pub looked_by : Command → Own → Own → List Spot

@@ -26,7 +26,7 @@ use heap_rule::{Domain, Heap};
 use minor_area::{Need, alloc_young};
 use safepoint::Want;
 use size_pools::{alloc_major, create};
-use steps_fields::tick;
+use steps_fields::{short_load, tick};
 
 // What the try of a command came to.
 #[derive(Drop)]
@@ -88,7 +88,7 @@ fn full(heap: &Heap, dom: &mut Domain, command: &Command) -> Reply
 }
 
 // What becomes of an allocation that found no room: where a complete collection that left much has come
-// before for this command it is answered `full`.
+// before for this command it is answered `full`. Else the domain looks at the history, in which many blocks were made.
 fn refuse(heap: &Heap, dom: &mut Domain, command: &Command, collected: bool) -> Attempt
     requires runs { Runs heap.now dom.old }
     requires allocates { is_allocation command.now ≡ true }
@@ -97,10 +97,10 @@ fn refuse(heap: &Heap, dom: &mut Domain, command: &Command, collected: bool) -> 
     ensures refuses { RefusesAs heap.now dom.old dom.new command.now collected result }
 {
     if collected {
-        Attempt::Made(full(heap, dom, command))
-    } else {
-        Attempt::NoRoom
+        return Attempt::Made(full(heap, dom, command));
     }
+    short_load(heap, dom, 0, &[]);
+    Attempt::NoRoom
 }
 
 // Allocates in the major heap, or answers that no pool is to be had.

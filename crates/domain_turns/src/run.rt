@@ -6,13 +6,14 @@ ghost use Rattle.heap_rule.specs.Limits.{sizes_in};
 ghost use Rattle.heap_rule.specs.declared.phase.Kind.TheVariants.{Run};
 ghost use Rattle.heap_rule.specs.declared.phase.Stage.TheVariants.{In};
 ghost use Rattle.mark_slices.specs.Slices.{IsDeckOf};
-ghost use Rattle.domain_turns.specs.Runs.{AreLastRan, CanBegin, CanBeginSection, IsHandedIn, IsLastReply, IsRun, IsUnanswered, MaySubmit, answer_of, first_place, is_asked, standing, unturned};
+ghost use Rattle.domain_turns.specs.Runs.{AreLastRan, CanBegin, CanBeginSection, IsHandedIn, IsLastReply, IsRun, IsUnanswered, MaySubmit, answer_of, first_place, is_asked, served_since, standing, unturned};
 ghost use Rattle.steps_finalisers.specs.Registering.{count_of};
 ghost use Rattle.domain_turns.specs.Sections.{IsInSection};
 ghost use Rattle.spawn_laws.specs.Printed.{printed_replies};
 
 use crate::place::Place;
 use crate::supply::Supply;
+use crate::turns::is_served;
 use heap_model::command::Command;
 use heap_model::reply::Reply;
 use heap_rule::{Domain, Kind, Progress};
@@ -311,6 +312,13 @@ impl DomainRun {
         ensures { result ≡ is_asked self.now.asked }
     {
         self.asked.is_some()
+    }
+
+    /// Whether a pause has begun since it asked for one for its next command.
+    pub fn has_paused(&self) -> bool
+        ensures { result ≡ served_since self.now.asked self.now.token.view.own.arrivals }
+    {
+        is_served(self)
     }
 
     /// Whether the trace has ended.

@@ -14,7 +14,7 @@ use Rattle.domain_turns.specs.declared.supply.Supply.TheVariants.{Open}
 use Rattle.domain_turns.specs.Handed.{Finalised, PerformedOn}
 use Rattle.domain_turns.specs.Runs.{MakesNow, MaySubmit, RunView, cleared, wanting}
 use Rattle.domain_turns.proofs.AtOnce.{HasWaited}
-use Rattle.domain_turns.proofs.Handed.{finalised_none, performed_on}
+use Rattle.domain_turns.proofs.Handed.{finalised_none, finalised_others, performed_on}
 use Rattle.domain_turns.proofs.Taking.{tried_takes}
 use Rattle.domain_turns.proofs.Turning.{stood, tried_count}
 use Rattle.open_runs.specs.Driving.{Answered, Awaits}
@@ -65,7 +65,7 @@ handed_in h old between new c here more w is = subst (λ (r : RunView). Awaits h
   commands = refl;
   next = refl;
   replies = refl;
-  finalised = subst (λ (f : List Entry). Finalised (sizes_in h.config) old.token.view.own.number old.token.view.seen.front f []) (sym w.front) (finalised_none (sizes_in h.config) old.token.view.own.number old.token.view.seen.front);
+  finalised = finalised_others (sizes_in h.config) old.token.view.own.number old.token.view.seen.front old.token.view.seen.front between.token.view.seen.front [] (finalised_none (sizes_in h.config) old.token.view.own.number old.token.view.seen.front) w.front;
   listed = let same = w.listed in omega (arith, same);
   takes = w.takes;
 })

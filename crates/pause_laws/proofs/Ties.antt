@@ -133,3 +133,38 @@ started_even first a l even is odd = let i : ℕ = even.0 in let e : first ≡ i
 
 pub started_other : (first a : ℕ) (k : Kind) → k ≢ Run → Started first (Some k) a
 started_other first a k other is odd = absurd (other (some_is k Run is))
+
+-- the kind of an even phase in which a domain acts is the one that domain 0 knows
+pub same_even : (t : Pause) (d first a : ℕ) (k kind : Kind) → InPause t 0 first (Some k) → AtStage t d a (In kind) → kind ≡ k
+same_even t d first a k kind p at = ⊎_elim
+    (λ (low : first < t.phase + 1).
+    let least = p.low in
+    let l : LeftOdd t.kinds 0 first k = (gone t 0 first k p).1 (j, omega (arith, even, low, least)) in
+    let i : ℕ = l.0 in
+    let named : first ≡ i * 2 + 2 = l.1 in
+    let same : j ≡ i + 1 = omega (arith, named, even, low, least) in
+    sym kind_is ∙ subst (λ n. t.kinds n ≡ k) (sym same) (l.2 refl))
+    (λ (high : t.phase + 1 ≤ first).
+    let most = p.high in
+    sym kind_is ∙ kind_odd t 0 first k j p (omega (arith, high, most, even)))
+    (cases_lt first (t.phase + 1))
+  where
+    j : ℕ
+    j = at.1.0
+
+    even : t.phase ≡ j * 2
+    even = at.1.1
+
+    kind_is : t.kinds j ≡ kind
+    kind_is = at.1.2
+
+-- and where domain 0 runs there the domain does
+pub same_run : (t : Pause) (d first a : ℕ) (kind : Kind) → InPause t 0 first None → AtStage t d a (In kind) → kind ≡ Run
+same_run t d first a kind p at =
+    let r = (runs t 0 first p).1 in
+    let i : ℕ = r.0 in
+    let j : ℕ = at.1.0 in
+    let e : t.phase ≡ i * 2 = r.1 in
+    let f : t.phase ≡ j * 2 = at.1.1 in
+    let same : i ≡ j = omega (arith, e, f) in
+    sym at.1.2 ∙ subst (λ n. t.kinds n ≡ Run) same r.2

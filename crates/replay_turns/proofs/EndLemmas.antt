@@ -4,6 +4,7 @@ use Rattle.std.specs.Prelude.{slice_get}
 use Rattle.std.specs.List.{AllByRecursion, list_all}
 use Rattle.std.proofs.lemmas.Bool.{cases_lt}
 use Rattle.std.proofs.lemmas.List.{length-map}
+use Rattle.std.proofs.lemmas.Simd.{map-map}
 use Rattle.heap_model.specs.declared.entry.Entry.{Entry}
 use Rattle.heap_model.specs.declared.entry.Entry.TheVariants.{Command as CommandOf, End, Cut, Queue, Seal, Wipe, Last, Collected, Done, Ran}
 use Rattle.heap_model.specs.Fronts.{AreCalls, NoneOf, IsFrontOf, is_call, unseen}
@@ -18,14 +19,20 @@ use Rattle.heap_rule.specs.Limits.{sizes_in}
 use Rattle.heap_rule.specs.Meeting.{Trails}
 use Rattle.heap_rule.specs.Token.{SharedHeap}
 use Rattle.domain_turns.specs.Runs.{RunView, IsRun, StandsAt}
+use Rattle.replay_turns.specs.Asking.{HasAmple, commands_at}
 use Rattle.replay_turns.specs.Ends.{IsThere, MayGather, TakenApart}
 use Rattle.replay_turns.specs.Gathered.{GatheredView, HasRun, IsGathered, IsHeld, MayShare}
-use Rattle.replay_turns.specs.Leveled.{Leveled, Under}
-use Rattle.replay_turns.proofs.Behind.{behind_parts, front_behind, none_behind, trails_whole}
+use Rattle.replay_turns.specs.Leveled.{Leveled}
+use Rattle.replay_turns.proofs.Asking.{asks_none}
+use Rattle.replay_turns.proofs.Behind.{none_behind, trails_whole}
 use Rattle.replay_turns.proofs.Histories.{none_beyond, replies_front}
+use Rattle.replay_turns.proofs.InStep.{running_in_step}
+use Rattle.replay_turns.proofs.LevelLemmas.{level_front}
 use Rattle.replay_turns.proofs.Joining.{met_all, met_count, met_held, met_shares}
 use Rattle.replay_turns.proofs.Places.{get_map}
 use Rattle.replay_turns.proofs.Sharing.{legal_part}
+use Rattle.replay_turns.proofs.Served.{none_serves}
+use Rattle.replay_turns.proofs.Serving.{running_tied}
 use Rattle.replay_turns.proofs.SlotLemmas.{inside, one_there}
 
 -- what is so of each is so of the one at a place
@@ -45,10 +52,11 @@ has_some (x ∷ xs) zero r at = cc
 has_some (x ∷ xs) (suc d) r at = has_some xs d r at
 
 -- runs that were gathered
-pub gathered : (h : SharedHeap) (runs : List RunView) (slots : List (Option RunView)) → MayGather h runs → AllByRecursion IsRun runs → slots ≡ map Some runs → IsGathered (record { heap = h; runs = slots; complete = false; steps = 1152921504606846976 })
-gathered h runs slots may are is = subst (λ (s : List (Option RunView)). IsGathered (record { heap = h; runs = s; complete = false; steps = 1152921504606846976 })) (sym is) record {
+pub gathered : (h : SharedHeap) (runs : List RunView) (slots : List (Option RunView)) → MayGather h runs → AllByRecursion IsRun runs → slots ≡ map Some runs → IsGathered (record { heap = h; runs = slots; complete = false })
+gathered h runs slots may are is = subst (λ (s : List (Option RunView)). IsGathered (record { heap = h; runs = s; complete = false })) (sym is) record {
   count = length-map runs Some ∙ may.count;
   filled = λ d below. let f = filled_at runs d (subst (λ (n : ℕ). d < n) (length-map runs Some) below) in (f.0, get_map Some runs d f.0 f.1);
+  enough = subst (HasAmple h.config) (sym (map-map commands_at Some runs)) may.enough;
   held = λ d r at.
       let there = has_some runs d r at in
       let m = may.each d r there in record {
@@ -57,8 +65,12 @@ gathered h runs slots may are is = subst (λ (s : List (Option RunView)). IsGath
         number = m.number;
         listed = m.listed;
         collected = m.collected;
+        asks = asks_none r m.asked;
+        serves = none_serves false d r m.asked;
         walk = λ first. record { armed = m.armed first; unswept = m.unswept first; on = λ kind e. absurd (let clash : ◌≡◌ {A = Option Kind} None (Some kind) = sym m.left ∙ e in cc) };
       };
+  in_step = running_in_step (map Some runs) (λ d r at. (may.each d r (has_some runs d r at)).left);
+  tied = running_tied false (map Some runs) (λ d r at. (may.each d r (has_some runs d r at)).left);
 }
 
 -- no place is empty
@@ -69,10 +81,10 @@ there_all (o ∷ os) filled = (
   there_all os (λ d below. filled (suc d) (omega (arith, below))),
 )
 
--- domain 0 has met each other one, all run, and nobody goes on any more
-module _ (g : GatheredView) (all : IsGathered g) (mid : List (Option RunView)) (l : Leveled g.heap.config g.runs mid 0 (length g.runs)) (running : (d : ℕ) (r : RunView) → HasRun mid d r → r.left ≡ None) (some : 0 < g.heap.config.domains) (runs : List RunView) (are : map Some runs ≡ mid) where
+-- all have met and run, and nobody goes on any more
+module _ (g : GatheredView) (all : IsGathered g) (mid : List (Option RunView)) (l : Leveled g.runs mid) (some : 0 < g.heap.config.domains) (runs : List RunView) (are : map Some runs ≡ mid) where
   first : (r : RunView) × HasRun mid 0 r
-  first = (met_all g all mid 0 (length g.runs) l).filled 0 (let same = met_count g all mid 0 (length g.runs) l in omega (arith, same, some))
+  first = (met_all g all mid l).filled 0 (let same = met_count g all mid l in omega (arith, same, some))
 
   abbrev top : List Entry
   top = first.0.token.view.seen.front
@@ -84,32 +96,20 @@ module _ (g : GatheredView) (all : IsGathered g) (mid : List (Option RunView)) (
   at_has d r there = has_some runs d r (subst (λ (s : List (Option RunView)). HasRun s d r) (sym are) there)
 
   held : (d : ℕ) (r : RunView) → HasRun mid d r → IsHeld (record g { runs = mid }) d r
-  held d r there = met_held g all mid 0 (length g.runs) l d r there
+  held d r there = met_held g all mid l d r there
 
-  first_runs : first.0.token.view.seen.stage ≡ In Run
-  first_runs = subst (λ (o : Option Kind). StandsAt o first.0.token.view.seen.stage) (running 0 first.0 first.1) (held 0 first.0 first.1).is.between.stands
-
-  under : (d : ℕ) (q : RunView) → HasRun mid d q → Under q.token.view first.0.token.view
-  under d q there = l.above d q first.0 (subst (λ (n : ℕ). d < n) l.count (inside mid d (Some q) there)) there first.1
+  same_front : (d : ℕ) (q : RunView) → HasRun mid d q → q.token.view.seen.front ≡ top
+  same_front d q there = level_front g.runs mid l d q there ∙ sym (level_front g.runs mid l 0 first.0 first.1)
 
   module _ (h : List Entry) (legal : Legal (sizes_in g.heap.config) h) (begins : (d : ℕ) (r : RunView) → slice_get runs d ≡ Some r → Begins h r.token.view) where
     goes : IsFrontOf first.0.token.view.own.number h top
     goes = begins 0 first.0 (at_has 0 first.0 first.1)
 
     trails : (d : ℕ) (q : RunView) → HasRun mid d q → Trails top q.token.view
-    trails d q there =
-        let u = under d q there in
-        let n : ℕ = q.token.view.own.number in record {
-          begins = front_behind n top q.token.view.seen.front u.part.rest u.part.appends (behind_parts (λ e. not (is_entry_of n e)) q.token.view.seen.front top h u.part.rest goes.rest u.part.appends goes.appends (none_behind n h q.token.view.seen.front (begins d q (at_has d q there)))).0;
-          calls = λ _. u.calls first_runs;
-          led = λ zero_is.
-              let d_is : d ≡ 0 = sym (held d q there).number ∙ zero_is in
-              let same : first.0 ≡ q = one_there mid 0 first.0 q first.1 (subst (λ (i : ℕ). HasRun mid i q) d_is there) in
-              (subst (λ (v : RunView). Trails top v.token.view) same (trails_whole first.0.token.view)).led zero_is;
-        }
+    trails d q there = subst (λ (f : List Entry). Trails f q.token.view) (same_front d q there) (trails_whole q.token.view)
 
     shares : MayShare g top
-    shares = met_shares g all mid 0 (length g.runs) l top (record { legal = legal_part (sizes_in g.heap.config) top goes.rest h goes.appends legal; trails = trails })
+    shares = met_shares g all mid l top (record { legal = legal_part (sizes_in g.heap.config) top goes.rest h goes.appends legal; trails = trails })
 
     same_replies : (d : ℕ) → d < length runs → replies (sizes_in g.heap.config) h d ≡ replies (sizes_in g.heap.config) top d
     same_replies d below =
@@ -123,7 +123,8 @@ module _ (g : GatheredView) (all : IsGathered g) (mid : List (Option RunView)) (
   pub taken_apart : TakenApart g runs
   taken_apart = record {
     count = sym (length-map runs Some) ∙ (ap length are ∙ l.count);
-    each = λ d r at. l.more d r (has_at d r at);
+    history = l.history;
+    each = λ d r at. let was = l.more d r (has_at d r at) in (was.0, was.1, record { trails = was.2.part.trails; is = was.2.is });
     here = λ d r at. (held d r (has_at d r at)).here;
     ends = λ h legal begins. (top, shares h legal begins, same_replies h legal begins);
   }

@@ -1,7 +1,9 @@
 -- The runs of a heap, as a replay sees them, from their start to their end.
-use Rattle.std.proofs.Common.{◌≡◌, ℕ, zero, suc, true, false, List, [], ◌∷◌, map, length, get_or, slice_get, drop, option_map, Some, None, refl, sym, ap, ◌∙◌, subst, Option}
-use Rattle.std.proofs.lemmas.List.{length-map}
-use Rattle.std.proofs.lemmas.Option.{get_or_from_slice_get, slice_get-map}
+use Rattle.std.proofs.Common.{◌≡◌, ◌<◌, ◌≤◌, ◌+◌, ◌*◌, ◌^◌, ℕ, zero, suc, true, false, arith, fold, max, List, [], ◌∷◌, map, length, get_or, slice_get, drop, option_map, Some, None, refl, sym, ap, ◌∙◌, subst, Option}
+use Rattle.std.proofs.Math.Nat.{max-le}
+use Rattle.std.proofs.lemmas.List.{length-drop, length-map}
+use Rattle.std.proofs.lemmas.Nat.{mul-le}
+use Rattle.std.proofs.lemmas.Option.{slice_get-map}
 use Rattle.heap_model.specs.declared.command.Command.{Command}
 use Rattle.heap_model.specs.declared.entry.Entry.{Entry}
 use Rattle.heap_model.specs.declared.state.Sizes.{Sizes}
@@ -17,16 +19,18 @@ use Rattle.schedule_drive.specs.Pausing.{all_commands, lefts}
 use Rattle.schedule_drive.specs.Following.{IsCalm}
 use Rattle.replay_turns.specs.Ends.{TakenApart}
 use Rattle.replay_turns.specs.Gathered.{GatheredView, HasRun, IsGathered, MayShare, asked_for, is_running, one_run, run_at, seen_in}
+use Rattle.heap_model.specs.Domains.{IsWithinLimits}
+use Rattle.schedule_laws.specs.Scheduled.{rounds_of}
+use Rattle.schedule_drive.specs.Spending.{most_in_replay}
+use Rattle.replay_turns.specs.Pace.{last_arrival, last_of, spare_of}
 use Rattle.replay_turns.proofs.EndLemmas.{nothing_shared}
+use Rattle.replay_turns.proofs.Pace.{last_at}
+use Rattle.replay_turns.proofs.Places.{get_map, read_at}
 use Rattle.replay_turns.specs.Replayed.{IsUntouched, MayReplay, Replayed, commands_of}
-
--- what a list has at a place, of what another has there
-read_at : {A B : Type 0} (f : A → B) (xs : List A) (d : ℕ) (x : A) (e : B) → slice_get xs d ≡ Some x → get_or (map f xs) d e ≡ f x
-read_at f xs d x e was = get_or_from_slice_get (map f xs) d (f x) e (slice_get-map f xs d ∙ ap (option_map f) was)
 
 -- where the runs stand, as they were gathered
 abbrev gathered : SharedHeap → List RunView → GatheredView
-gathered h runs = record { heap = h; runs = map Some runs; complete = false; steps = 1152921504606846976 }
+gathered h runs = record { heap = h; runs = map Some runs; complete = false }
 
 none_asked_for : (cs : List Command) → asked_for cs None ≡ false
 none_asked_for [] = refl
@@ -125,3 +129,26 @@ taken g f runs items h new is untouched sizes commands ended whole answers heap 
           ap (λ (y : Sizes). replies y log d) (sym sizes) ∙ shared.2 d few ∙ ap (λ (y : Sizes). replies y shared.0 d) sizes ∙ answers shared.0 shared.1 d
           ∙ ap (λ (cs : List (List Command)). replies z (scheduled z cs items) d) left;
     }
+
+-- the longest of some lists
+fold_few : (m a : ℕ) (runs : List RunView) → a ≤ m → ((d : ℕ) (r : RunView) → slice_get runs d ≡ Some r → length (drop r.next r.commands) ≤ m) → fold max a (map length (map (λ (x : OneRun). x.left) (map run_at (map Some runs)))) ≤ m
+fold_few m a [] few each = few
+fold_few m a (r ∷ rs) few each = fold_few m (max a (length (drop r.next r.commands))) rs (max-le few (each 0 r refl)) (λ d q at. each (suc d) q at)
+
+-- a replay takes far fewer arrivals than each domain may make
+pub begins_room : (h : SharedHeap) (runs : List RunView) (items : List Item) → MayReplay h runs → IsGathered (gathered h runs) → IsWithinLimits (sizes_in h.config) → length items ≤ 200000 → most_in_replay (seen_in (gathered h runs)) items < spare_of (gathered h runs)
+begins_room h runs items may all limits few =
+    let v = seen_in (gathered h runs) in
+    let longest : fold max 0 (map length (lefts v)) ≤ 200000 = fold_few 200000 0 runs (omega arith)
+    (λ d r at. let drops = length-drop r.next r.commands in let held = (all.held d r (get_map Some runs d r at)).is.few in omega (arith, drops, held)) in
+    let many : length v.runs ≡ length runs = length-map (map Some runs) run_at ∙ length-map runs Some in
+    let domains : length runs ≤ 8 = let count = may.gathers.count in let most = limits.domains in omega (arith, count, most) in
+    let rounds : rounds_of (lefts v) * (length v.runs * 134217728) ≤ 200001 * (8 * 134217728)
+    = mul-le (rounds_of (lefts v)) (length v.runs * 134217728) 200001 (8 * 134217728) (omega (arith, longest)) (omega (arith, many, domains)) in
+    let first = all.filled 0 (let some = may.some in let count = all.count in omega (arith, some, count)) in
+    let there = was_there runs 0 first.0 first.1 in
+    let last = last_at h.config (map Some runs) first.0 first.1 in
+    let left : last_of h.config first.0 ≡ first.0.token.view.own.arrivals + 1
+    = ap (λ (o : Option Kind). last_arrival (h.config.pools * 1024) first.0.token.view.own.arrivals o first.0.token.view.seen.share.progress first.0.token.view.seen.share.unmarked) (may.gathers.each 0 first.0 there).left in
+    let none = (may.each 0 first.0 there).arrivals in
+    omega (arith, few, rounds, last, left, none)

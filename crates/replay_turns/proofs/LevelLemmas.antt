@@ -1,124 +1,162 @@
--- How the runs of a heap come to see one another's entries, and come to rest.
-use Rattle.std.proofs.Common.{◌≡◌, ◌≢◌, ◌∙◌, ◌<◌, ◌≤◌, ◌+◌, ⊎_elim, ℕ, List, Option, Some, length, length-set, arith, refl, sym, ap, subst}
-use Rattle.std.specs.Prelude.{slice_get}
+-- How the runs of a heap come to see one history, and come to rest.
+use Rattle.std.proofs.Common.{◌≡◌, ◌≢◌, ◌∙◌, ◌<◌, ◌≤◌, ◌+◌, ⊎_elim, ℕ, zero, suc, List, [], ◌∷◌, map, Option, Some, None, length, length-set, arith, refl, sym, ap, subst}
+use Rattle.std.specs.Prelude.{slice_get, slice_set}
 use Rattle.std.proofs.lemmas.Bool.{cases_lt}
+use Rattle.std.proofs.lemmas.List.{length-map}
 use mathlib.Core.Logic.{dite}
 use native.Mathlib.Decide.{ℕ_discrete}
 use Rattle.heap_model.specs.declared.entry.Entry.{Entry}
-use Rattle.heap_model.specs.Fronts.{is_call}
-use Rattle.heap_model.proofs.Histories.FrontLemmas.{unseen_whole}
-use Rattle.heap_rule.specs.declared.view.DomainView.{DomainView}
-use Rattle.heap_rule.specs.Standing.{with_front}
+use Rattle.heap_rule.specs.Meeting.{TakesPart, Trails}
 use Rattle.heap_rule.specs.Token.{SharedHeap, IsIn}
+use Rattle.domain_turns.specs.Meeting.{AllButOne, AllRunsMet, AreHere, slot_seeing}
 use Rattle.domain_turns.specs.Runs.{RunView, IsRun, run_seeing}
-use Rattle.domain_turns.proofs.Moving.{front_prefix}
+use Rattle.domain_turns.proofs.MeetingLemmas.{seeing_is_run}
 use Rattle.replay_turns.specs.Gathered.{HasRun}
-use Rattle.replay_turns.specs.Leveled.{AllHere, Leveled, MetTwo, SawMore, Under}
+use Rattle.replay_turns.specs.Leveled.{AllHere, Leveled, SawAll}
 use Rattle.replay_turns.specs.Moves.{HaltsAt, HaltsUpto, halted_run}
-use Rattle.domain_spawn.proofs.Making.{prefix_trans}
-use Rattle.replay_turns.proofs.Behind.{behind_join, prefix_same, trails_on, trails_whole}
-use Rattle.replay_turns.proofs.Places.{set_else, set_here}
+use Rattle.replay_turns.proofs.Places.{get_map, set_else, set_here}
 use Rattle.replay_turns.proofs.SlotLemmas.{inside, one_there}
 
--- a domain that saw as much
-under_same : (x y : DomainView) → y.seen.front ≡ x.seen.front → Under x y
-under_same x y same = record {
-  part = subst (λ (h : List Entry). Rattle.heap_model.specs.History.IsPrefix x.seen.front h) (sym same) (prefix_same x.seen.front);
-  calls = λ _. unseen_whole is_call y.seen.front x.seen.front (sym same);
+-- what stands at a place of a list from which a run was taken stood there before
+pub others_later : (old : List (Option RunView)) (at d : ℕ) (r : RunView) → HasRun (slice_set old at None) d r → HasRun old d r
+others_later [] at d r is = is
+others_later (o ∷ os) zero zero r is = absurd (let clash : ◌≡◌ {A = Option (Option RunView)} (Some None) (Some (Some r)) = is in cc)
+others_later (o ∷ os) zero (suc d) r is = is
+others_later (o ∷ os) (suc at) zero r is = is
+others_later (o ∷ os) (suc at) (suc d) r is = others_later os at d r is
+
+-- a place that was filled twice
+pub twice_set : {A : Type 0} (xs : List A) (at : ℕ) (x y : A) → slice_set (slice_set xs at x) at y ≡ slice_set xs at y
+twice_set [] at x y = refl
+twice_set (z ∷ zs) zero x y = refl
+twice_set (z ∷ zs) (suc at) x y = ap (λ ys. z ∷ ys) (twice_set zs at x y)
+
+-- the run at a place, or another one where none is there
+abbrev slot_or : RunView → Option RunView → RunView
+slot_or r None = r
+slot_or r (Some q) = q
+
+-- what stands at a place of a list whose runs have seen more
+seen_is : (history : List Entry) (q r : RunView) → slot_seeing history (Some q) ≡ Some r → r ≡ run_seeing q history
+seen_is history q r is = sym (ap (slot_or r) is)
+
+none_there : (r : RunView) → ◌≡◌ {A = Option RunView} None (Some r) → ⊥
+none_there r is = cc
+
+seen_slot : (history : List Entry) (o : Option RunView) (r : RunView) → slot_seeing history o ≡ Some r → (q : RunView) × (o ≡ Some q) × (r ≡ run_seeing q history)
+seen_slot history None r is = absurd (none_there r is)
+seen_slot history (Some q) r is = (q, refl, seen_is history q r is)
+
+-- what stands at a place of a list that was changed throughout
+same_slot : {A : Type 0} (a b : A) → Some a ≡ Some b → a ≡ b
+same_slot a b is = cc
+
+mapped_at : {A B : Type 0} (f : A → B) (xs : List A) (d : ℕ) (y : B) → slice_get (map f xs) d ≡ Some y → (x : A) × (slice_get xs d ≡ Some x) × (y ≡ f x)
+mapped_at f [] d y at = cc
+mapped_at f (x ∷ xs) zero y at = (x, refl, sym (same_slot (f x) y at))
+mapped_at f (x ∷ xs) (suc d) y at = mapped_at f xs d y at
+
+seen_run : (history : List Entry) (runs : List (Option RunView)) (d : ℕ) (r : RunView) → HasRun (map (slot_seeing history) runs) d r → (q : RunView) × HasRun runs d q × (r ≡ run_seeing q history)
+seen_run history runs d r at =
+    let m = mapped_at (slot_seeing history) runs d (Some r) at in
+    let f = seen_slot history m.0 r (sym m.2) in
+    (f.0, m.1 ∙ ap (λ (p : Option RunView). Some p) f.1, f.2)
+
+-- one run was taken out, all met, and it was put back
+module _ (h : SharedHeap) (old mid : List (Option RunView)) (at : ℕ) (one met : RunView) (here : AllHere h old) (there : HasRun old at one) (m : AllRunsMet h one met (slice_set old at None) mid) where
+  abbrev pub level_new : List (Option RunView)
+  level_new = slice_set mid at (Some met)
+
+  level_within : at < length old
+  level_within = inside old at (Some one) there
+
+  pub level_mid : length mid ≡ length old
+  level_mid = ap length m.each_is ∙ length-map (slice_set old at None) (slot_seeing m.history) ∙ length-set old at None
+
+  pub level_count : length level_new ≡ length old
+  level_count = length-set mid at (Some met) ∙ level_mid
+
+  level_one : HasRun level_new at met
+  level_one = set_here mid at (Some met) (subst (λ (n : ℕ). at < n) (sym level_mid) level_within)
+
+  -- what stands there is as it stood, but for what it has seen
+  pub level_more : (d : ℕ) (r : RunView) → HasRun level_new d r → (q : RunView) × HasRun old d q × SawAll m.history m.pause q r
+  level_more d r is = dite (ℕ_discrete d at)
+      (λ e. (
+        one,
+        subst (λ (n : ℕ). HasRun old n one) (sym e) there,
+        record { part = m.own; is = one_there level_new at r met (subst (λ (n : ℕ). HasRun level_new n r) e is) level_one ∙ m.own_is },
+      ))
+      (λ no.
+      let was = seen_run m.history (slice_set old at None) d r (ap (λ (rs : List (Option RunView)). slice_get rs d) (sym m.each_is) ∙ (sym (set_else mid at d (Some met) no) ∙ is)) in
+      (was.0, sym (set_else old at d None no) ∙ was.1, record { part = m.each d was.0 was.1; is = was.2 }))
+
+  pub level_stay : (d : ℕ) → d < length old → (r : RunView) × HasRun level_new d r
+  level_stay d below = dite (ℕ_discrete d at)
+      (λ e. (met, subst (λ (n : ℕ). HasRun level_new n met) (sym e) level_one))
+      (λ no.
+      let f = here.filled d below in (
+        run_seeing f.0 m.history,
+        set_else mid at d (Some met) no ∙ (ap (λ (rs : List (Option RunView)). slice_get rs d) m.each_is ∙ get_map (slot_seeing m.history) (slice_set old at None) d (Some f.0) (set_else old at d None no ∙ f.1)),
+      ))
+
+  pub level_are : (d : ℕ) (r : RunView) → HasRun level_new d r → IsRun r
+  level_are d r is =
+      let was = level_more d r is in
+      subst IsRun (sym was.2.is) (seeing_is_run h was.0 m.history (here.here d was.0 was.1) (here.are d was.0 was.1) was.2.part.trails.begins)
+
+  abbrev pub leveled_all : Leveled old level_new
+  leveled_all = record { history = m.history; pause = m.pause; count = level_count; more = level_more; stay = level_stay; are = level_are }
+
+-- the others are of the heap too
+pub others_here : (h : SharedHeap) (old : List (Option RunView)) (at : ℕ) → AllHere h old → AreHere h (slice_set old at None)
+others_here h old at here d r is = here.here d r (others_later old at d r is)
+
+pub all_but_one : (h : SharedHeap) (old : List (Option RunView)) (at : ℕ) → at < length old → length old ≡ h.config.domains → AllHere h old → AllButOne h (slice_set old at None)
+all_but_one h old at within count here = record {
+  count = length-set old at None ∙ count;
+  at = at;
+  away = set_here old at None within;
+  there = λ d below away. let f = here.filled d (subst (λ (n : ℕ). d < n) (length-set old at None) below) in (f.0, set_else old at d None away ∙ f.1);
 }
 
--- before any has met
-pub level_start : (h : SharedHeap) (runs : List (Option RunView)) (at : ℕ) → AllHere h runs → Leveled h.config runs runs at 0
-level_start h runs at all = record {
-  count = refl;
-  more = λ d r there. (r, there, record { history = r.token.view.seen.front; trails = trails_whole r.token.view; is = refl });
-  stay = all.filled;
-  are = all.are;
-  above = λ d r top below. absurd (omega (arith, below));
-}
+-- all have seen the same
+pub level_front : (old new : List (Option RunView)) (l : Leveled old new) (d : ℕ) (r : RunView) → HasRun new d r → r.token.view.seen.front ≡ l.history
+level_front old new l d r there = let was = l.more d r there in ap (λ (x : RunView). x.token.view.seen.front) was.2.is
+
+-- each took part, and any two of them share the history
+pub level_part : (old new : List (Option RunView)) (l : Leveled old new) (d : ℕ) (q : RunView) → HasRun old d q → TakesPart l.history l.pause q.token.view
+level_part old new l d q was =
+    let r = l.stay d (inside old d (Some q) was) in
+    let m = l.more d r.0 r.1 in
+    subst (λ (z : RunView). TakesPart l.history l.pause z.token.view) (one_there old d m.0 q m.1 was) m.2.part
+
+pub level_shared : (old new : List (Option RunView)) (l : Leveled old new) (d e : ℕ) (q p : RunView) → HasRun old d q → HasRun old e p → (history : List Entry) × Trails history q.token.view × Trails history p.token.view
+level_shared old new l d e q p was there = (l.history, (level_part old new l d q was).trails, (level_part old new l e p there).trails)
 
 -- each is of the heap still
-pub level_here : (h : SharedHeap) (old new : List (Option RunView)) (at n : ℕ) → AllHere h old → Leveled h.config old new at n → AllHere h new
-level_here h old new at n all l = record {
+pub level_here : (h : SharedHeap) (old new : List (Option RunView)) → AllHere h old → Leveled old new → AllHere h new
+level_here h old new all l = record {
   filled = λ d below. l.stay d (subst (λ (m : ℕ). d < m) l.count below);
   here = λ d r there. let m = l.more d r there in subst (λ (s : RunView). IsIn s.token h) (sym m.2.is) (all.here d m.0 m.1);
   are = l.are;
 }
 
--- one more domain has met the one at this place
-pub level_meets : (h : SharedHeap) (old mid new : List (Option RunView)) (at other : ℕ) → other ≢ at → Leveled h.config old mid at other → MetTwo h.config mid new at other → Leveled h.config old new at (other + 1)
-level_meets h old mid new at other apart l m = record {
-  count = m.count ∙ l.count;
-  more = more;
-  stay = stay;
-  are = are;
-  above = above;
-}
-  where
-    history : List Entry
-    history = m.met.history
-
-    saw : (q r s : RunView) → SawMore h.config q r → Rattle.heap_rule.specs.Meeting.Trails history r.token.view → s ≡ run_seeing r history → SawMore h.config q s
-    saw q r s w t is =
-        let view : r.token.view ≡ with_front q.token.view w.history = ap (λ (x : RunView). x.token.view) w.is in record {
-          history = history;
-          trails = trails_on history w.history q.token.view w.trails (subst (Rattle.heap_rule.specs.Meeting.Trails history) view t);
-          is = is ∙ ap (λ (x : RunView). run_seeing x history) w.is;
-        }
-
-    more : (d : ℕ) (r : RunView) → HasRun new d r → (q : RunView) × HasRun old d q × SawMore h.config q r
-    more d r there = dite (ℕ_discrete d at)
-        (λ e. let was = l.more at m.one m.was_one in
-        (was.0, subst (λ (n : ℕ). HasRun old n was.0) (sym e) was.1, subst (SawMore h.config was.0) (one_there new at m.first r m.is_one (subst (λ (n : ℕ). HasRun new n r) e there)) (saw was.0 m.one m.first was.2 m.met.first m.met.first_is)))
-        (λ no. dite (ℕ_discrete d other)
-        (λ e. let was = l.more other m.two m.was_two in
-        (was.0, subst (λ (n : ℕ). HasRun old n was.0) (sym e) was.1, subst (SawMore h.config was.0) (one_there new other m.second r m.is_two (subst (λ (n : ℕ). HasRun new n r) e there)) (saw was.0 m.two m.second was.2 m.met.second m.met.second_is)))
-        (λ nor. l.more d r (sym (m.others d no nor) ∙ there)))
-
-    stay : (d : ℕ) → d < length old → (r : RunView) × HasRun new d r
-    stay d below = dite (ℕ_discrete d at)
-        (λ e. (m.first, subst (λ (n : ℕ). HasRun new n m.first) (sym e) m.is_one))
-        (λ no. dite (ℕ_discrete d other)
-        (λ e. (m.second, subst (λ (n : ℕ). HasRun new n m.second) (sym e) m.is_two))
-        (λ nor. let s = l.stay d below in (s.0, m.others d no nor ∙ s.1)))
-
-    are : (d : ℕ) (r : RunView) → HasRun new d r → IsRun r
-    are d r there = dite (ℕ_discrete d at)
-        (λ e. subst IsRun (one_there new at m.first r m.is_one (subst (λ (n : ℕ). HasRun new n r) e there)) m.first_is)
-        (λ no. dite (ℕ_discrete d other)
-        (λ e. subst IsRun (one_there new other m.second r m.is_two (subst (λ (n : ℕ). HasRun new n r) e there)) m.second_is)
-        (λ nor. l.are d r (sym (m.others d no nor) ∙ there)))
-
-    front : (top : RunView) → HasRun new at top → top ≡ run_seeing m.one history
-    front top there = sym (one_there new at m.first top m.is_one there) ∙ m.met.first_is
-
-    above : (d : ℕ) (r top : RunView) → d < other + 1 → HasRun new d r → HasRun new at top → Under r.token.view top.token.view
-    above d r top below there tops = dite (ℕ_discrete d at)
-        (λ e. under_same r.token.view top.token.view (ap (λ (x : RunView). x.token.view.seen.front) (one_there new at top r tops (subst (λ (n : ℕ). HasRun new n r) e there))))
-        (λ no. dite (ℕ_discrete d other)
-        (λ e.
-        let mine : r.token.view.seen.front ≡ history = ap (λ (x : RunView). x.token.view.seen.front) (sym (one_there new other m.second r m.is_two (subst (λ (n : ℕ). HasRun new n r) e there)) ∙ m.met.second_is) in
-        under_same r.token.view top.token.view (ap (λ (x : RunView). x.token.view.seen.front) (front top tops) ∙ sym mine))
-        (λ nor.
-        let u = l.above d r m.one (let b = below in let c = nor in omega arith) (sym (m.others d no nor) ∙ there) m.was_one in
-        let rise = front_prefix m.one.token.view.own.number history m.one.token.view.seen.front m.met.first.begins in
-        let whole : Under r.token.view (run_seeing m.one history).token.view = record {
-          part = prefix_trans r.token.view.seen.front m.one.token.view.seen.front history u.part rise;
-          calls = λ runs. behind_join is_call r.token.view.seen.front m.one.token.view.seen.front history u.part.rest rise.rest u.part.appends rise.appends (u.calls runs) (m.met.first.calls runs);
-        } in
-        subst (λ (x : RunView). Under r.token.view x.token.view) (sym (front top tops)) whole))
-
--- the one at this place needn't meet itself
-pub level_skips : (h : SharedHeap) (old mid : List (Option RunView)) (at other : ℕ) → other ≡ at → Leveled h.config old mid at other → Leveled h.config old mid at (other + 1)
-level_skips h old mid at other same l = record {
-  count = l.count;
-  more = l.more;
-  stay = l.stay;
-  are = l.are;
-  above = λ d r top below there tops. dite (ℕ_discrete d at)
-      (λ e. under_same r.token.view top.token.view (ap (λ (x : RunView). x.token.view.seen.front) (one_there mid at top r tops (subst (λ (n : ℕ). HasRun mid n r) e there))))
-      (λ no. l.above d r top (let b = below in let s = same in let n = no in omega arith) there tops);
-}
+-- and where one of them has gone on
+pub set_all_here : (h : SharedHeap) (runs : List (Option RunView)) (at : ℕ) (s : RunView) → AllHere h runs → at < length runs → IsIn s.token h → IsRun s → AllHere h (slice_set runs at (Some s))
+set_all_here h runs at s all within here is =
+    let new : List (Option RunView) = slice_set runs at (Some s) in
+    let there : HasRun new at s = set_here runs at (Some s) within in record {
+      filled = λ d below. dite (ℕ_discrete d at)
+          (λ e. (s, subst (λ (n : ℕ). HasRun new n s) (sym e) there))
+          (λ no. let f = all.filled d (subst (λ (n : ℕ). d < n) (length-set runs at (Some s)) below) in (f.0, set_else runs at d (Some s) no ∙ f.1));
+      here = λ d q is. dite (ℕ_discrete d at)
+          (λ e. subst (λ (x : RunView). IsIn x.token h) (one_there new at s q there (subst (λ (n : ℕ). HasRun new n q) e is)) here)
+          (λ no. all.here d q (sym (set_else runs at d (Some s) no) ∙ is));
+      are = λ d q at_place. dite (ℕ_discrete d at)
+          (λ e. subst IsRun (one_there new at s q there (subst (λ (n : ℕ). HasRun new n q) e at_place)) is)
+          (λ no. all.are d q (sym (set_else runs at d (Some s) no) ∙ at_place));
+    }
 
 -- before any has arrived
 pub halt_start : (h : SharedHeap) (runs : List (Option RunView)) → AllHere h runs → HaltsUpto h runs runs 0

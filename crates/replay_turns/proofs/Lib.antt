@@ -6,6 +6,8 @@ pub mod Grown
 pub mod PassLemmas
 pub mod CalmLemmas
 pub mod LevelLemmas
+pub mod InStep
+pub mod Pace
 pub mod Histories
 pub mod Sharing
 pub mod TurnLemmas
@@ -13,3 +15,8 @@ pub mod Joining
 pub mod Turning
 pub mod EndLemmas
 mod Gathering
+mod RefusedBodies
+pub mod Ample
+pub mod Asking
+pub mod Served
+pub mod Serving

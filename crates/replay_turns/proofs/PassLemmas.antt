@@ -1,6 +1,6 @@
 -- One step in a pause of one domain.
-use Rattle.std.proofs.Common.{length, ◌≡◌, ◌≢◌, ◌∙◌, ◌++◌, ◌∷◌, ◌+◌, ◌*◌, ◌%◌, ℕ, zero, suc, Bool, List, [], Option, Some, None, true, false, if◌then◌else◌, add-one, ap, drop, refl, slice_get, sym, subst, inl, inr, ⊎_elim, arith}
-use Rattle.std.proofs.lemmas.Bool.{eq-eqb, ne_eqb}
+use Rattle.std.proofs.Common.{length, ◌≡◌, ◌≢◌, ◌∙◌, ◌++◌, ◌∷◌, ◌<◌, ◌≤◌, ◌+◌, ◌*◌, ◌%◌, ℕ, zero, suc, Bool, List, [], Option, Some, None, true, false, if◌then◌else◌, add-one, ap, drop, refl, slice_get, sym, subst, inl, inr, ⊎_elim, arith}
+use Rattle.std.proofs.lemmas.Bool.{eq-eqb, le-ltb, lt-ltb, ne_eqb}
 use Rattle.heap_model.specs.declared.command.Command as model
 use Rattle.heap_model.specs.declared.command.Command.TheVariants.{FullMajor}
 use Rattle.heap_model.specs.declared.entry.Entry.{Entry}
@@ -29,7 +29,8 @@ use Rattle.domain_turns.specs.Runs.{IsAnswered as RunIsAnswered}
 use Rattle.domain_turns.proofs.PauseLemmas.{even_next, odd_next}
 use Rattle.domain_turns.proofs.LeavingLemmas.{Leaves, even_knows, knows_on, passes_leaves}
 use Rattle.schedule_drive.specs.Together.{IsntAnswered, Lead, LeadStep, Rests, Leads, Answers}
-use Rattle.replay_turns.specs.Gathered.{PassedBy, Steps, Walk, asked_for, is_even, is_running, lead_in, lead_of, one_run}
+use Rattle.replay_turns.specs.Asking.{AsksOnce}
+use Rattle.replay_turns.specs.Gathered.{PassedBy, Steps, Walk, asked_for, is_even, is_running, lead_in, lead_of, one_run, paused_for}
 use Rattle.replay_turns.specs.Walk.{IsWalk, controls_of, lead_left, lead_named}
 use Rattle.replay_turns.proofs.Grown.{Grown, grown_same, grown_twice, led_before, steps_control, steps_none, steps_one}
 use Rattle.replay_turns.proofs.Walk.{Goes, walk_goes}
@@ -47,11 +48,26 @@ pub unasked : (cs : List model.Command) → asked_for cs None ≡ false
 unasked [] = refl
 unasked (c ∷ cs) = refl
 
+pub unpaused : (cs : List model.Command) (arrivals : ℕ) → paused_for cs None arrivals ≡ false
+unpaused [] arrivals = refl
+unpaused (c ∷ cs) arrivals = refl
+
+-- nor has a pause begun since it asked now
+pub paused_now : (cs : List model.Command) (arrivals : ℕ) → paused_for cs (Some arrivals) arrivals ≡ false
+paused_now [] arrivals = refl
+paused_now (c ∷ cs) arrivals = le-ltb arrivals arrivals (omega arith)
+
+-- one that has begun has begun still
+pub paused_on : (cs : List model.Command) (asked : Option ℕ) (old new : ℕ) → ((n : ℕ) → asked ≡ Some n → n < old) → old ≤ new → paused_for cs asked new ≡ paused_for cs asked old
+paused_on [] asked old new less more = refl
+paused_on (c ∷ cs) None old new less more = refl
+paused_on (c ∷ cs) (Some n) old new less more = let low = less n refl in lt-ltb n new (omega (arith, low, more)) ∙ sym (lt-ltb n old low)
+
 -- whether a number is even
-even_is : (n : ℕ) → IsEven n → is_even n ≡ true
+pub even_is : (n : ℕ) → IsEven n → is_even n ≡ true
 even_is n e = eq-eqb (n % 2) 0 (let j : ℕ = e.0 in let is : n ≡ j * 2 = e.1 in omega arith)
 
-odd_is : (n : ℕ) → IsOdd n → is_even n ≡ false
+pub odd_is : (n : ℕ) → IsOdd n → is_even n ≡ false
 odd_is n o = ne_eqb (n % 2) 0 (λ z. let j : ℕ = o.0 in let is : n ≡ j * 2 + 1 = o.1 in omega arith)
 
 -- how far domain 0 has led, as it has named a kind or gone through it
@@ -129,10 +145,10 @@ passed_front k x b p = (p.seen, p.led)
 passed_number : (k : Config) (x b : DomainView) → PassedBarrier k x b → b.own.number ≡ x.own.number
 passed_number k x b p = ap (λ (v : DomainView). v.own.number) p.view
 
-stands_gone : (left : Option Kind) (kind : Kind) (stage : Stage) → left ≡ Some kind → StandsAt left stage → kind_in stage ≡ kind
+pub stands_gone : (left : Option Kind) (kind : Kind) (stage : Stage) → left ≡ Some kind → StandsAt left stage → kind_in stage ≡ kind
 stands_gone left kind stage is stands = ap kind_in (subst (λ (o : Option Kind). StandsAt o stage) is stands)
 
-module _ (h : SharedHeap) (complete : Bool) (r s : RunView) (is : IsRun r) (now : IsRun s) where
+module _ (h : SharedHeap) (complete : Bool) (r s : RunView) (is : IsRun r) (now : IsRun s) (asks : AsksOnce r) (gone : r.left ≢ None) where
   abbrev d : ℕ
   d = r.token.view.own.number
 
@@ -141,6 +157,13 @@ module _ (h : SharedHeap) (complete : Bool) (r s : RunView) (is : IsRun r) (now 
 
   abbrev y : DomainView
   y = s.token.view
+
+  -- a pause that it asked for has begun already
+  paused_same : x.own.arrivals ≤ y.own.arrivals → paused_for (drop r.next r.commands) r.asked y.own.arrivals ≡ (one_run r).paused
+  paused_same more = paused_on (drop r.next r.commands) r.asked x.own.arrivals y.own.arrivals (asks.arrived gone) more
+
+  paused_more : y.own.arrivals ≡ x.own.arrivals + 1 → paused_for (drop r.next r.commands) r.asked y.own.arrivals ≡ (one_run r).paused
+  paused_more one = paused_same (omega (arith, one))
 
   -- what domain 0 keeps stays as it is where its view says so
   same_progress : y.own.number ≡ x.own.number → KnowsProgress r.progress y → d ≡ 0 → s.progress ≡ r.progress
@@ -184,7 +207,7 @@ module _ (h : SharedHeap) (complete : Bool) (r s : RunView) (is : IsRun r) (now 
     left_is = ap (λ (z : RunView). z.left) g.run
 
     isnt : IsntAnswered (one_run r) (one_run s) []
-    isnt = record { made = refl; run = ap one_run g.run ∙ ap (λ (o : Option Kind). record (one_run r) { runs = is_running o; waiting = length y.own.finalisers.queue.items }) (sym left_is) }
+    isnt = record { made = refl; run = ap one_run g.run ∙ λ i. record (one_run r) { paused = paused_more leaves.arrivals i; runs = is_running (sym left_is i); waiting = length y.own.finalisers.queue.items } }
 
     lead_was : lead_of complete r ≡ lead_in complete x.own.arrivals (Some g.last)
     lead_was = ap (lead_in complete x.own.arrivals) g.arrived
@@ -285,7 +308,7 @@ module _ (h : SharedHeap) (complete : Bool) (r s : RunView) (is : IsRun r) (now 
           next = drop_next r.commands r.next FullMajor a.waited.next;
           asked = ap (λ (cs : List model.Command). asked_for cs r.asked) (drop_next r.commands r.next FullMajor a.waited.next) ∙ a.waited.wished;
           made = refl;
-          run = ap one_run a.run ∙ λ i. record { commands = r.commands; left = drop (r.next + 1) r.commands; replies = sym (ap (λ (z : RunView). z.replies) a.run) i; asked = unasked (drop (r.next + 1) r.commands) i; waiting = length y.own.finalisers.queue.items; runs = is_running (sym a.arrived i); ended = r.ended };
+          run = ap one_run a.run ∙ λ i. record { commands = r.commands; left = drop (r.next + 1) r.commands; replies = sym (ap (λ (z : RunView). z.replies) a.run) i; asked = unasked (drop (r.next + 1) r.commands) i; paused = unpaused (drop (r.next + 1) r.commands) y.own.arrivals i; waiting = length y.own.finalisers.queue.items; runs = is_running (sym a.arrived i); ended = r.ended };
         };
         steps = steps_one d y.seen.front mid x.seen.front e (grown_twice d mid b.seen.front x.seen.front grew (passed_front h.config x b a.answers.comes.passed)) (ap (λ (v : DomainView). v.seen.front) view ∙ ends);
         walk = answer_walk a.last a.arrived b a.answers.comes left_is number kept walk;
@@ -296,6 +319,7 @@ module _ (h : SharedHeap) (complete : Bool) (r s : RunView) (is : IsRun r) (now 
   sees a walk =
       let b : DomainView = a.gives.begun in
       let left_is : s.left ≡ Some Answer = ap (λ (z : RunView). z.left) a.run in
+      let arrivals : y.own.arrivals ≡ x.own.arrivals + 1 = ap (λ (v : DomainView). v.own.arrivals) a.gives.view ∙ ap (λ (v : DomainView). v.own.arrivals + 1) a.gives.comes.passed.view in
       let number : y.own.number ≡ x.own.number = ap (λ (v : DomainView). v.own.number) a.gives.view ∙ passed_number h.config x b a.gives.comes.passed in
       let kept : y.seen.share.progress ≡ x.seen.share.progress = ap (λ (v : DomainView). v.seen.share.progress) a.gives.view ∙ ap (λ (v : DomainView). v.seen.share.progress) a.gives.comes.passed.view in
       let behind : Grown d y.seen.front b.seen.front = subst (λ (n : ℕ). Grown n y.seen.front b.seen.front) (passed_number h.config x b a.gives.comes.passed) (a.gives.seen, a.gives.led) in record {
@@ -303,7 +327,7 @@ module _ (h : SharedHeap) (complete : Bool) (r s : RunView) (is : IsRun r) (now 
         leads = answer_leads a.last a.arrived b a.gives.comes left_is number kept;
         silent = λ _. refl;
         own = [];
-        tells = inr record { made = refl; run = ap one_run a.run ∙ ap (λ (o : Option Kind). record (one_run r) { runs = is_running o; waiting = length y.own.finalisers.queue.items }) (sym left_is) };
+        tells = inr record { made = refl; run = ap one_run a.run ∙ λ i. record (one_run r) { paused = paused_more arrivals i; runs = is_running (sym left_is i); waiting = length y.own.finalisers.queue.items } };
         steps = steps_none d y.seen.front x.seen.front (grown_twice d y.seen.front b.seen.front x.seen.front behind (passed_front h.config x b a.gives.comes.passed));
         walk = answer_walk a.last a.arrived b a.gives.comes left_is number kept walk;
       }
@@ -313,12 +337,14 @@ module _ (h : SharedHeap) (complete : Bool) (r s : RunView) (is : IsRun r) (now 
   resumes a walk =
       let left_is : s.left ≡ None = ap (λ (z : RunView). z.left) a.run in
       let number : y.own.number ≡ x.own.number = passed_number h.config x y a.passed in
+      let same : y.own.arrivals ≡ x.own.arrivals = ap (λ (v : DomainView). v.own.arrivals) a.passed.view in
+      let stays : x.own.arrivals ≤ y.own.arrivals = omega (arith, same) in
       let kept : y.seen.share.progress ≡ x.seen.share.progress = ap (λ (v : DomainView). v.seen.share.progress) a.passed.view in record {
         control = [];
         leads = λ first. lead_as (lead_of complete r) Rests (lead_of complete s) Rests [] (ap (lead_in complete x.own.arrivals) a.arrived.1 ∙ (lead_even complete x.own.arrivals a.arrived.0 a.even ∙ ap (lead_named complete) (sym (a.arrived.2.0 first)))) (ap (lead_in complete y.own.arrivals) left_is) refl;
         silent = λ _. refl;
         own = [];
-        tells = inr record { made = refl; run = ap one_run a.run ∙ ap (λ (o : Option Kind). record (one_run r) { runs = is_running o; waiting = length y.own.finalisers.queue.items }) (sym left_is) };
+        tells = inr record { made = refl; run = ap one_run a.run ∙ λ i. record (one_run r) { paused = paused_same stays i; runs = is_running (sym left_is i); waiting = length y.own.finalisers.queue.items } };
         steps = steps_none d y.seen.front x.seen.front (passed_front h.config x y a.passed);
         walk = λ first. walk_same (walk first) (same_progress number (knows_on x y r.progress number kept is.between.knows) first) (λ kind at. absurd (let none : ◌≡◌ {A = Option Kind} None (Some kind) = sym left_is ∙ at in cc));
       }

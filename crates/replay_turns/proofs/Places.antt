@@ -1,5 +1,6 @@
 -- One of a list whose place was filled anew.
-use Rattle.std.proofs.Common.{◌≡◌, ◌≢◌, ◌<◌, ℕ, zero, suc, List, [], ◌∷◌, length, Some, refl, ap, arith}
+use Rattle.std.proofs.Common.{◌≡◌, ◌≢◌, ◌<◌, ℕ, zero, suc, List, [], ◌∷◌, get_or, length, Some, refl, ap, arith}
+use Rattle.std.proofs.lemmas.Option.{get_or_from_slice_get}
 use Rattle.std.specs.Prelude.{slice_get, slice_set, map}
 
 pub set_here : {A : Type 0} (xs : List A) (i : ℕ) (y : A) → i < length xs → slice_get (slice_set xs i y) i ≡ Some y
@@ -23,3 +24,7 @@ pub get_map : {A B : Type 0} (f : A → B) (xs : List A) (i : ℕ) (y : A) → s
 get_map f [] i y at = cc
 get_map f (x ∷ xs) zero y at = let is : x ≡ y = cc in ap (λ z. Some (f z)) is
 get_map f (x ∷ xs) (suc i) y at = get_map f xs i y at
+
+-- what a list has at a place, of what another has there
+pub read_at : {A B : Type 0} (f : A → B) (xs : List A) (d : ℕ) (x : A) (e : B) → slice_get xs d ≡ Some x → get_or (map f xs) d e ≡ f x
+read_at f xs d x e was = get_or_from_slice_get (map f xs) d (f x) e (get_map f xs d x was)

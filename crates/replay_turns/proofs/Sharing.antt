@@ -22,8 +22,8 @@ use Rattle.domain_turns.specs.Runs.{AreKept, RunView, is_end_of}
 use Rattle.schedule_laws.proofs.Collecting.{legal_parts}
 use Rattle.schedule_drive.specs.Together.{Grows, IsShared, OneRun}
 use Rattle.replay_turns.specs.Gathered.{GatheredView, HasRun, IsGathered, IsHeld, MayShare, Steps, one_run, run_at, seen_in}
-use Rattle.replay_turns.specs.Leveled.{Leveled, SawMore, Under}
-use Rattle.replay_turns.proofs.Behind.{All, all_join, all_parts, behind, behind_parts, front_behind, none_behind, trails_on, trails_part, trails_whole}
+use Rattle.replay_turns.specs.Leveled.{Leveled, SawAll}
+use Rattle.replay_turns.proofs.Behind.{All, all_join, all_parts, behind, behind_parts, none_behind, prefix_same, trails_on, trails_part, trails_whole}
 use Rattle.replay_turns.proofs.Histories.{ended_front, ended_in, none_beyond, quiet, replies_front}
 use Rattle.replay_turns.proofs.SlotLemmas.{inside as inside_of, one_there}
 use Rattle.replay_turns.proofs.Places.{set_else, set_here}
@@ -119,23 +119,23 @@ module _ (g : GatheredView) (mid : List (Option RunView)) (at : ℕ) (r s : RunV
   )
 
 -- the domains have met
-pub leveled_shares : (g : GatheredView) (k : Config) (mid : List (Option RunView)) (at upto : ℕ) → Leveled k g.runs mid at upto → (h : List Entry) → MayShare (record g { runs = mid }) h → MayShare g h
-leveled_shares g k mid at upto l h ms = record {
+pub leveled_shares : (g : GatheredView) (mid : List (Option RunView)) → Leveled g.runs mid → (h : List Entry) → MayShare (record g { runs = mid }) h → MayShare g h
+leveled_shares g mid l h ms = record {
   legal = ms.legal;
   trails = λ d q is.
       let r = l.stay d (inside_of g.runs d (Some q) is) in
       let m = l.more d r.0 r.1 in
       let same : m.0 ≡ q = one_there g.runs d m.0 q m.1 is in
-      let saw : SawMore k m.0 r.0 = m.2 in
-      let later : Trails h (with_front m.0.token.view saw.history) = subst (λ (v : RunView). Trails h v.token.view) saw.is (ms.trails d r.0 r.1) in
-      subst (λ (v : RunView). Trails h v.token.view) same (trails_on h saw.history m.0.token.view saw.trails later);
+      let saw : SawAll l.history l.pause m.0 r.0 = m.2 in
+      let later : Trails h (with_front m.0.token.view l.history) = subst (λ (v : RunView). Trails h v.token.view) saw.is (ms.trails d r.0 r.1) in
+      subst (λ (v : RunView). Trails h v.token.view) same (trails_on h l.history m.0.token.view saw.part.trails later);
 }
 
 -- all have halted: each saw what it saw, and no more, and none makes an entry
 module _ (g : GatheredView) (mid : List (Option RunView)) (r0 : RunView)
     (first : HasRun mid 0 r0) (number : r0.token.view.own.number ≡ 0) (count : length mid ≡ g.heap.config.domains) (filled : (d : ℕ) → d < length mid → (q : RunView) × HasRun mid d q)
     (numbers : (d : ℕ) (q : RunView) → HasRun mid d q → q.token.view.own.number ≡ d)
-    (below : (d : ℕ) (q : RunView) → HasRun mid d q → Under q.token.view r0.token.view) (runs : (d : ℕ) (q : RunView) → HasRun mid d q → q.token.view.seen.stage ≡ In Run → r0.token.view.seen.stage ≡ In Run)
+    (same_front : (d : ℕ) (q : RunView) → HasRun mid d q → q.token.view.seen.front ≡ r0.token.view.seen.front)
     (after : GatheredView) (config : after.heap.config ≡ g.heap.config) (still : (d : ℕ) (q : RunView) → HasRun mid d q → (s : RunView) × HasRun after.runs d s × (s.token.view.own.number ≡ q.token.view.own.number) × (s.token.view.seen.front ≡ q.token.view.seen.front))
     (h : List Entry) (ms : MayShare after h) where
   abbrev sizes : Sizes
@@ -169,7 +169,7 @@ module _ (g : GatheredView) (mid : List (Option RunView)) (r0 : RunView)
   none0 d = dite (dec_le (length mid) d)
       (λ (above : length mid ≤ d). none_over sizes seen0 behind0 h goes0 legal_h d (let n : ℕ = length mid in let k : ℕ = sizes.domains in let same : n ≡ k = count in let up : n ≤ d = above in omega arith))
       (λ (inside : length mid ≤ d → ⊥). let q = filled d (let n : ℕ = length mid in let up : n ≤ d → ⊥ = inside in omega arith) in
-      none_rest sizes seen0 behind0 h goes0 legal_h d q.0.token.view.seen.front (below d q.0 q.1).part (none_behind d h q.0.token.view.seen.front (begins d q.0 q.1)))
+      none_rest sizes seen0 behind0 h goes0 legal_h d q.0.token.view.seen.front (subst (IsPrefix q.0.token.view.seen.front) (same_front d q.0 q.1) (prefix_same q.0.token.view.seen.front)) (none_behind d h q.0.token.view.seen.front (begins d q.0 q.1)))
 
   controls0 : AreNotControls behind0
   controls0 = subst AreNotControls (behind seen0 behind0 h goes0) leads
@@ -178,17 +178,7 @@ module _ (g : GatheredView) (mid : List (Option RunView)) (r0 : RunView)
   halted_shares = (
     record {
       legal = legal_part sizes seen0 behind0 h goes0 legal_h;
-      trails = λ d q is.
-          let under : Under q.token.view r0.token.view = below d q is in
-          let n : ℕ = q.token.view.own.number in record {
-            begins = subst (λ (i : ℕ). IsFrontOf i seen0 q.token.view.seen.front) (sym (numbers d q is))
-                (front_behind d seen0 q.token.view.seen.front under.part.rest under.part.appends (behind_parts (λ e. not (is_entry_of d e)) q.token.view.seen.front seen0 h under.part.rest behind0 under.part.appends goes0 (none_behind d h q.token.view.seen.front (begins d q is))).0);
-            calls = λ up. under.calls (runs d q is up);
-            led = λ zero_is.
-                let d_is : d ≡ 0 = sym (numbers d q is) ∙ zero_is in
-                let same : q ≡ r0 = one_there mid 0 q r0 (subst (λ (i : ℕ). HasRun mid i q) d_is is) first in
-                subst (λ (v : RunView). AreNotControls (unseen seen0 v.token.view.seen.front)) (sym same) ((trails_whole r0.token.view).led number);
-          };
+      trails = λ d q is. subst (λ (f : List Entry). Trails f q.token.view) (same_front d q is) (trails_whole q.token.view);
     },
     record { before = []; after = behind0; quiet_before = refl; quiet_after = quiet behind0 none0 controls0; appends = goes0 ∙ ap (λ (l : List Entry). l ++ behind0) (sym (append-nil seen0) ∙ sym (append-nil (seen0 ++ []))) },
   )

@@ -11,7 +11,7 @@ use Rattle.heap_model.specs.declared.reply.Applied.TheVariants.{Replied, Silent}
 use Rattle.heap_model.specs.declared.reply.Reply.{Reply}
 use Rattle.heap_model.specs.declared.state.Sizes.{Sizes}
 use Rattle.heap_model.specs.Domains.{domain_at}
-use Rattle.heap_model.specs.Fronts.{Answers, AreCalls, AreNotControls, IsFrontOf, is_call, is_control, is_full_major}
+use Rattle.heap_model.specs.Fronts.{Answers, AreCalls, AreNotControls, IsFrontOf, is_call, is_control, is_full_major, unseen}
 use Rattle.heap_model.proofs.Graphs.GraphLemmas.{and_parts}
 use Rattle.heap_model.proofs.Histories.FrontLemmas.{unseen_rest}
 use Rattle.heap_rule.specs.declared.config.Config.{Config}
@@ -22,7 +22,8 @@ use Rattle.heap_rule.specs.Limits.{sizes_in}
 use Rattle.heap_rule.specs.Rule.{state_of}
 use Rattle.heap_rule.specs.Token.{SharedHeap, Token}
 use Rattle.finaliser_queues.specs.Running.{reply_of}
-use Rattle.size_pools.specs.Taken.{Sought}
+use Rattle.heap_rule.specs.Standing.{with_front}
+use Rattle.size_pools.proofs.Seeking.{sought_view}
 use Rattle.domain_turns.specs.declared.supply.Supply.TheVariants.{Listed, Open, Section}
 use Rattle.domain_turns.specs.declared.supply.Supply.{Supply}
 use Rattle.domain_turns.specs.declared.turned.Turned.{Turned}
@@ -34,12 +35,13 @@ use Rattle.domain_turns.specs.Runs.CalmDid.{Finalises, Wishes, Refuses, Tries, W
 use Rattle.domain_turns.specs.Tries.{Enters, Stands}
 use Rattle.schedule_drive.specs.declared.together.Stepped.{Stepped}
 use Rattle.schedule_drive.specs.declared.together.Stepped.TheVariants.{Ran, Made, Needs}
-use Rattle.schedule_drive.specs.Together.{OneRun, TurnTells, Unqueued}
-use Rattle.replay_turns.specs.Gathered.{Steps, asked_for, is_running, one_run}
+use Rattle.schedule_drive.specs.Together.{IsRested, OneRun, TurnTells, Unqueued}
+use Rattle.replay_turns.specs.Gathered.{Steps, asked_for, is_running, one_run, paused_for}
 use Rattle.replay_turns.specs.Moves.{CameTo}
-use Rattle.replay_turns.proofs.CalmLemmas.{works_run}
-use Rattle.replay_turns.proofs.Grown.{grown_same, steps_none, steps_one}
-use Rattle.replay_turns.proofs.PassLemmas.{drop_next, unasked}
+use Rattle.replay_turns.proofs.CalmLemmas.{asking_next, works_run}
+use Rattle.replay_turns.proofs.Grown.{Grown, grown_same, steps_none, steps_one}
+use Rattle.replay_turns.proofs.PassLemmas.{drop_next, paused_now, unasked, unpaused}
+use Rattle.replay_turns.proofs.SlotLemmas.{at_first}
 
 -- a step of domain d: what it makes, and what it leaves of the run
 pub record TurnedBy (z : Sizes) (shares : List Entry → Type 0) (d : ℕ) (r s : RunView) (stepped : Stepped) : Type 0 where
@@ -131,7 +133,7 @@ more : (n : ℕ) → n + 1 ≡ n → ⊥
 more n same = omega (arith, same)
 
 module _ (h : SharedHeap) (shares : List Entry → Type 0) (d : ℕ) (r s : RunView) (stepped : Stepped) (mine : d ≡ r.token.view.own.number) (goes_on : r.ended ≡ false) (fresh : r.collected ≡ false)
-    (came : CameTo h.config s r.next (length r.replies) stepped) (once : stepped ≡ Needs false → (one_run r).asked ≡ false)
+    (came : CameTo h.config s r.next (length r.replies) stepped) (once : stepped ≡ Needs false → IsRested (one_run r) → (one_run r).asked ≡ false)
     (unqueued : length (domain_at (state_of h.config s.token.view.seen.front) s.token.view.own.number).queue ≡ 0 → Unqueued (sizes_in h.config) shares d) where
   abbrev z : Sizes
   z = sizes_in h.config
@@ -143,16 +145,19 @@ module _ (h : SharedHeap) (shares : List Entry → Type 0) (d : ℕ) (r s : RunV
   y = s.token.view
 
   -- what a step may have come to that made no entry: it came to the need of a pause
-  no_entry : (command : model.Command) → slice_get r.commands r.next ≡ Some command → s.commands ≡ r.commands → s.next ≡ r.next → s.replies ≡ r.replies → s.ended ≡ r.ended → y.own.number ≡ x.own.number → y.seen.front ≡ x.seen.front
-      → one_run s ≡ record (one_run r) { asked = true; waiting = length y.own.finalisers.queue.items } → (command ≡ FullMajor → length y.own.finalisers.queue.items ≡ 0) → TurnedBy z shares d r s stepped
+  no_entry : (command : model.Command) → slice_get r.commands r.next ≡ Some command → s.commands ≡ r.commands → s.next ≡ r.next → s.replies ≡ r.replies → s.ended ≡ r.ended → y.own.number ≡ x.own.number → Grown d y.seen.front x.seen.front
+      → one_run s ≡ record (one_run r) { asked = true; paused = false; waiting = length y.own.finalisers.queue.items } → (command ≡ FullMajor → length y.own.finalisers.queue.items ≡ 0) → TurnedBy z shares d r s stepped
   no_entry command next commands same replies ended number front run empty = go stepped came once where
     steps : Steps d x.seen.front y.seen.front []
-    steps = steps_none d y.seen.front x.seen.front (grown_same d y.seen.front x.seen.front front)
+    steps = steps_none d y.seen.front x.seen.front front
 
     named : slice_get s.commands s.next ≡ Some FullMajor → slice_get r.commands r.next ≡ Some FullMajor
     named at = (λ i. slice_get (sym commands i) (sym same i)) ∙ at
 
-    go : (c : Stepped) → CameTo h.config s r.next (length r.replies) c → (c ≡ Needs false → (one_run r).asked ≡ false) → TurnedBy z shares d r s c
+    named_back : slice_get r.commands r.next ≡ Some FullMajor → slice_get s.commands s.next ≡ Some FullMajor
+    named_back at = (λ i. slice_get (commands i) (same i)) ∙ at
+
+    go : (c : Stepped) → CameTo h.config s r.next (length r.replies) c → (c ≡ Needs false → IsRested (one_run r) → (one_run r).asked ≡ false) → TurnedBy z shares d r s c
     go Made at one = ⊎_elim (λ (e : s.next ≢ r.next). absurd (e same)) (λ (e : s.ended ≡ true). absurd (true≢false (sym e ∙ (ended ∙ goes_on)))) at
     go Ran at one = absurd (at.2 (ap length replies))
     go (Needs true) at one =
@@ -163,14 +168,14 @@ module _ (h : SharedHeap) (shares : List Entry → Type 0) (d : ℕ) (r s : RunV
           tells = record { others = drop (r.next + 1) r.commands; next = drop_next r.commands r.next FullMajor full; unqueued = unqueued (at.5 ∙ empty is); made = refl; run = run };
           number = number;
         }
-    go (Needs false) at one = record { own = []; steps = steps; tells = (refl, run, one refl); number = number }
+    go (Needs false) at one = record { own = []; steps = steps; tells = (refl, run, one refl, λ others next. at.4 refl (named_back (at_first r.commands r.next FullMajor others next))); number = number }
 
   asked_now : (command : model.Command) (at : ℕ) → slice_get r.commands r.next ≡ Some command → asked_for (drop r.next r.commands) (Some at) ≡ true
   asked_now command at next = ap (λ (cs : List model.Command). asked_for cs (Some at)) (drop_next r.commands r.next command next)
 
   -- the command was made
   made_next : (command : model.Command) (reply : Reply) → slice_get r.commands r.next ≡ Some command → command ≢ FullMajor → Answers z x.own.number x.seen.front y.seen.front (CommandOf x.own.number command false) (Replied reply)
-      → s.next ≡ r.next + 1 → y.own.number ≡ x.own.number → one_run s ≡ record (one_run r) { left = drop (r.next + 1) r.commands; replies = s.replies; asked = false; waiting = length y.own.finalisers.queue.items } → TurnedBy z shares d r s stepped
+      → s.next ≡ r.next + 1 → y.own.number ≡ x.own.number → one_run s ≡ record (one_run r) { left = drop (r.next + 1) r.commands; replies = s.replies; asked = false; paused = false; waiting = length y.own.finalisers.queue.items } → TurnedBy z shares d r s stepped
   made_next command reply next short answers later number run = go stepped came where
     go : (c : Stepped) → CameTo h.config s r.next (length r.replies) c → TurnedBy z shares d r s c
     go Made at = record {
@@ -184,9 +189,9 @@ module _ (h : SharedHeap) (shares : List Entry → Type 0) (d : ℕ) (r s : RunV
 
   -- the run behind a command, but for what a replay doesn't see
   behind_command : (reply : Reply) → (v : RunView) → one_run s ≡ one_run v → v.replies ≡ r.replies ++ reply ∷ [] → s.replies ≡ v.replies
-      → one_run v ≡ record { commands = r.commands; left = drop (r.next + 1) r.commands; replies = r.replies ++ reply ∷ []; asked = asked_for (drop (r.next + 1) r.commands) None; waiting = length v.token.view.own.finalisers.queue.items; runs = is_running r.left; ended = r.ended }
-      → one_run s ≡ record (one_run r) { left = drop (r.next + 1) r.commands; replies = s.replies; asked = false; waiting = length y.own.finalisers.queue.items }
-  behind_command reply v same replies kept is = same ∙ (is ∙ λ i. record { commands = r.commands; left = drop (r.next + 1) r.commands; replies = sym (kept ∙ replies) i; asked = unasked (drop (r.next + 1) r.commands) i; waiting = sym (ap (λ (o : OneRun). o.waiting) same) i; runs = is_running r.left; ended = r.ended })
+      → one_run v ≡ record { commands = r.commands; left = drop (r.next + 1) r.commands; replies = r.replies ++ reply ∷ []; asked = asked_for (drop (r.next + 1) r.commands) None; paused = paused_for (drop (r.next + 1) r.commands) None v.token.view.own.arrivals; waiting = length v.token.view.own.finalisers.queue.items; runs = is_running r.left; ended = r.ended }
+      → one_run s ≡ record (one_run r) { left = drop (r.next + 1) r.commands; replies = s.replies; asked = false; paused = false; waiting = length y.own.finalisers.queue.items }
+  behind_command reply v same replies kept is = same ∙ (is ∙ λ i. record { commands = r.commands; left = drop (r.next + 1) r.commands; replies = sym (kept ∙ replies) i; asked = unasked (drop (r.next + 1) r.commands) i; paused = unpaused (drop (r.next + 1) r.commands) v.token.view.own.arrivals i; waiting = sym (ap (λ (o : OneRun). o.waiting) same) i; runs = is_running r.left; ended = r.ended })
 
   tries : (c : model.Command) → TriesCommand h r.token r s c → TurnedBy z shares d r s stepped
   tries c t =
@@ -216,10 +221,6 @@ module _ (h : SharedHeap) (shares : List Entry → Type 0) (d : ℕ) (r s : RunV
   asking_number : (b : Bool) (v : RunView) → (asking_end b v).token.view.own.number ≡ v.token.view.own.number
   asking_number false v = refl
   asking_number true v = refl
-
-  asking_next : (b : Bool) (v : RunView) → (asking_end b v).next ≡ v.next
-  asking_next false v = refl
-  asking_next true v = refl
 
   polls : Polls h r s → TurnedBy z shares d r s stepped
   polls p =
@@ -256,30 +257,30 @@ module _ (h : SharedHeap) (shares : List Entry → Type 0) (d : ℕ) (r s : RunV
     go Ran at = record {
       own = RanOf d ∷ [];
       steps = subst (λ (n : ℕ). Steps n x.seen.front y.seen.front (RanOf n ∷ [])) (sym mine) (answer_steps z x.own.number y.seen.front x.seen.front (RanOf x.own.number) (Replied (reply_of f.ran)) refl f.first.answers);
-      tells = (refl, ap one_run f.run ∙ ap (λ (l : List Reply). record (one_run r) { replies = l; waiting = length y.own.finalisers.queue.items }) (sym (ap (λ (v : RunView). v.replies) f.run)), fewer_wait);
+      tells = (refl, ap one_run f.run ∙ λ i. record (one_run r) { replies = sym (ap (λ (v : RunView). v.replies) f.run) i; paused = paused_for (drop r.next r.commands) r.asked (ap (λ (v : DomainView). v.own.arrivals) f.first.view i); waiting = length y.own.finalisers.queue.items }, fewer_wait);
       number = ap (λ (v : DomainView). v.own.number) f.first.view;
     }
     go (Needs complete) at = absurd (one_more r.replies (reply_of f.ran) (ap length (sym kept) ∙ at.2))
 
   asks : Asks h r.token r s → TurnedBy z shares d r s stepped
   asks a = no_entry a.command a.next (ap (λ (v : RunView). v.commands) a.run) (ap (λ (v : RunView). v.next) a.run) (ap (λ (v : RunView). v.replies) a.run) (ap (λ (v : RunView). v.ended) a.run)
-      (ap (λ (v : RunView). v.token.view.own.number) a.run) (ap (λ (v : RunView). v.token.view.seen.front) a.run)
-      (ap one_run a.run ∙ λ i. record (one_run r) { asked = asked_now a.command x.own.arrivals a.next i; waiting = sym (ap (λ (v : RunView). length v.token.view.own.finalisers.queue.items) a.run) i })
+      (ap (λ (v : RunView). v.token.view.own.number) a.run) (grown_same d y.seen.front x.seen.front (ap (λ (v : RunView). v.token.view.seen.front) a.run))
+      (ap one_run a.run ∙ λ i. record (one_run r) { asked = asked_now a.command x.own.arrivals a.next i; paused = paused_now (drop r.next r.commands) x.own.arrivals i; waiting = sym (ap (λ (v : RunView). length v.token.view.own.finalisers.queue.items) a.run) i })
       (λ _. ap (λ (v : RunView). length v.token.view.own.finalisers.queue.items) a.run ∙ ap length a.unqueued)
-
-  -- a search leaves the front and the number
-  searched_on : (k : Config) (u v : DomainView) → Sought k u v AtRest → (v.seen.front ≡ u.seen.front) × (v.own.number ≡ u.own.number)
-  searched_on k u v sought = ⊎_elim
-      (λ hunted. (ap (λ (w : DomainView). w.seen.front) hunted, ap (λ (w : DomainView). w.own.number) hunted))
-      (λ swept. (ap (λ (w : DomainView). w.seen.front) swept.view, ap (λ (w : DomainView). w.own.number) swept.view))
-      sought
 
   asks_full : AsksFull h r.token r s → TurnedBy z shares d r s stepped
   asks_full a =
-      let kept = searched_on h.config x a.searched.view a.refused.view in
+      let found : DomainView = with_front a.searched.view x.seen.front in
+      let kept = sought_view h.config x found AtRest a.refused.view in
+      let number : found.own.number ≡ d = ap (λ (v : DomainView). v.own.number) kept ∙ sym mine in
+      let arrivals : found.own.arrivals ≡ x.own.arrivals = ap (λ (v : DomainView). v.own.arrivals) kept in
+      let looked = a.refused.looked in
+      let seen : IsFrontOf d a.searched.view.seen.front x.seen.front = subst (λ (n : ℕ). IsFrontOf n a.searched.view.seen.front x.seen.front) number looked.seen in
+      let grown : Grown d a.searched.view.seen.front x.seen.front = (seen, λ _. calls_lead_nothing (unseen a.searched.view.seen.front x.seen.front) looked.calls) in
       no_entry a.command a.next (ap (λ (v : RunView). v.commands) a.run) (ap (λ (v : RunView). v.next) a.run) (ap (λ (v : RunView). v.replies) a.run) (ap (λ (v : RunView). v.ended) a.run)
-      (ap (λ (v : RunView). v.token.view.own.number) a.run ∙ kept.1) (ap (λ (v : RunView). v.token.view.seen.front) a.run ∙ kept.0)
-      (ap one_run a.run ∙ λ i. record (one_run r) { asked = asked_now a.command x.own.arrivals a.next i; waiting = sym (ap (λ (v : RunView). length v.token.view.own.finalisers.queue.items) a.run) i })
+      (ap (λ (v : RunView). v.token.view.own.number) a.run ∙ ap (λ (v : DomainView). v.own.number) kept)
+      (subst (λ (f : List Entry). Grown d f x.seen.front) (sym (ap (λ (v : RunView). v.token.view.seen.front) a.run)) grown)
+      (ap one_run a.run ∙ λ i. record (one_run r) { asked = asked_now a.command x.own.arrivals a.next i; paused = (ap (paused_for (drop r.next r.commands) (Some x.own.arrivals)) arrivals ∙ paused_now (drop r.next r.commands) x.own.arrivals) i; waiting = sym (ap (λ (v : RunView). length v.token.view.own.finalisers.queue.items) a.run) i })
       (λ is. absurd (is_short h.config x.own _ a.command a.ready is))
 
   ends : EndsTrace h r.token r s → TurnedBy z shares d r s stepped
@@ -298,7 +299,7 @@ module _ (h : SharedHeap) (shares : List Entry → Type 0) (d : ℕ) (r s : RunV
       own = EndOf d ∷ [];
       steps = subst (λ (n : ℕ). Steps n x.seen.front y.seen.front (EndOf n ∷ [])) (sym mine)
           (answer_steps z x.own.number y.seen.front x.seen.front (EndOf x.own.number) Silent refl (subst (λ (k : Config). Answers (sizes_in k) x.own.number x.seen.front y.seen.front (EndOf x.own.number) Silent) config e.ended.answers));
-      tells = inr record { none = none; made = refl; run = ap one_run e.run ∙ λ i. record { commands = r.commands; left = drop r.next r.commands; replies = r.replies; asked = ap (λ (cs : List model.Command). asked_for cs r.asked) none i; waiting = length y.own.finalisers.queue.items; runs = is_running r.left; ended = true } };
+      tells = inr record { none = none; made = refl; run = ap one_run e.run ∙ λ i. record { commands = r.commands; left = drop r.next r.commands; replies = r.replies; asked = ap (λ (cs : List model.Command). asked_for cs r.asked) none i; paused = ap (λ (cs : List model.Command). paused_for cs r.asked y.own.arrivals) none i; waiting = length y.own.finalisers.queue.items; runs = is_running r.left; ended = true } };
       number = ap (λ (v : DomainView). v.own.number) e.ended.view;
     }
     go Ran at = absurd (true≢false (sym over ∙ at.1))

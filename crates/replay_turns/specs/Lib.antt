@@ -4,3 +4,6 @@ pub mod Leveled
 pub mod Moves
 pub mod Ends
 pub mod Replayed
+pub mod Pace
+pub mod Asking
+pub mod Served

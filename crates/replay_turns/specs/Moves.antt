@@ -1,18 +1,21 @@
 -- What the calls on one run leave of the runs of a heap.
-use Rattle.std.specs.Prelude.{◌≡◌, ◌≢◌, ◌⊎◌, ◌<◌, ℕ, Bool, true, false, List, length, slice_get, slice_set, Option, Some, None}
+use Rattle.std.specs.Prelude.{◌≡◌, ◌≢◌, ◌⊎◌, ◌<◌, ◌≤◌, ℕ, Bool, true, false, List, length, slice_get, slice_set, Option, Some, None}
 use Rattle.heap_model.specs.declared.command.Command.TheVariants.{FullMajor}
 use Rattle.heap_model.specs.Domains.{domain_at}
 use Rattle.heap_rule.specs.declared.config.Config.{Config}
 use Rattle.heap_rule.specs.declared.phase.Kind.TheVariants.{Run}
+use Rattle.heap_rule.specs.Phases.{Pause}
 use Rattle.heap_rule.specs.Rule.{state_of}
 use Rattle.heap_rule.specs.Token.{SharedHeap, IsIn}
 use Rattle.pause_phases.specs.declared.decider.Decider.TheVariants.{Caller}
 use Rattle.steps_pauses.specs.Pauses.{arrived_view}
 use Rattle.domain_turns.specs.declared.turned.Turned as turned
-use Rattle.domain_turns.specs.Runs.{RunView, CalmAnswers, GoesOn, IsRun, PassesOn}
+use Rattle.domain_turns.specs.declared.turned.Turned.TheVariants.{Did}
+use Rattle.domain_turns.specs.Meeting.{StandsBehind}
+use Rattle.domain_turns.specs.Runs.{RunView, CalmAnswers, IsRun, PassesOn}
 use Rattle.schedule_drive.specs.declared.together.Stepped.{Stepped}
 use Rattle.schedule_drive.specs.declared.together.Stepped.TheVariants.{Ran, Made, Needs}
-use Rattle.schedule_drive.specs.Together.{IsServed}
+use Rattle.schedule_drive.specs.Together.{IsRested}
 use Rattle.replay_turns.specs.Gathered.{HasRun, one_run}
 use Rattle.replay_turns.specs.Leveled.{Leveled}
 
@@ -27,22 +30,27 @@ pub record Becomes (h : SharedHeap) (old new : List (Option RunView)) (at : ℕ)
 abbrev pub forgetting : RunView → RunView
 forgetting r = record r { collected = false }
 
--- each domain met the one at a place, and then this came about
-pub record MetThen (k : Config) (old : List (Option RunView)) (at : ℕ) (Then : List (Option RunView) → Type 0) : Type 0 where
+-- all domains met, and then this came about
+pub record MetThen (old : List (Option RunView)) (Then : Pause → List (Option RunView) → Type 0) : Type 0 where
   pub mid : List (Option RunView)
-  pub leveled : Leveled k old mid at (length old)
-  pub moved : Then mid
+  pub leveled : Leveled old mid
+  pub moved : Then leveled.pause mid
 
--- the domain at a place made a step in a pause that domain 0 leads as it is told. Where a complete collection was made it comes back only once its `full_major` is answered
-pub record PassesAt (h : SharedHeap) (complete : Bool) (old new : List (Option RunView)) (at : ℕ) : Type 0 where
+-- the domain at a place made a step in the pause, which domain 0 leads as it is told, and stood in it still behind its look at the barrier
+pub record PassesAt (h : SharedHeap) (complete : Bool) (pause : Pause) (old new : List (Option RunView)) (at : ℕ) : Type 0 where
   pub run : RunView
   pub passed : RunView
-  pub answer : turned.Turned
-  pub passes : PassesOn h (Caller complete) run passed answer
+  pub passes : PassesOn h (Caller complete) run passed Did
+  pub stands : StandsBehind h (Caller complete) pause run passed passes
   pub is_passed : IsRun passed
-  pub goes_on : GoesOn run passed
-  pub served : complete ≡ true → passed.left ≡ None → IsServed (one_run passed)
+  pub commands : passed.commands ≡ run.commands
+  pub supply : passed.supply ≡ run.supply
+  pub number : passed.token.view.own.number ≡ run.token.view.own.number
   pub becomes : Becomes h old new at run (forgetting passed)
+
+-- the domain at a place has arrived no more often than another one
+abbrev pub IsSooner : List (Option RunView) → ℕ → ℕ → Type 0
+IsSooner runs at other = (r s : RunView) → HasRun runs at r → HasRun runs other s → r.token.view.own.arrivals ≤ s.token.view.own.arrivals
 
 -- the run of a domain that has arrived
 abbrev pub halted_run : RunView → RunView
@@ -67,12 +75,12 @@ CameTo k s next count Ran = (s.next ≡ next) × (s.ended ≡ false) × (length 
 CameTo k s next count (Needs complete) = (s.next ≡ next) × (s.ended ≡ false) × (length s.replies ≡ count) × ((complete ≡ true) → slice_get s.commands s.next ≡ Some FullMajor) × ((complete ≡ false) → slice_get s.commands s.next ≡ Some FullMajor → ⊥)
     × (length (domain_at (state_of k s.token.view.seen.front) s.token.view.own.number).queue ≡ length s.token.view.own.finalisers.queue.items)
 
--- the domain at a place made a step, while it runs. No command asks twice for a pause without a complete collection
+-- the domain at a place made a step, while it runs. Once a pause for which it asked has come, no command asks for another one without a complete collection
 pub record StepsAt (h : SharedHeap) (old new : List (Option RunView)) (at : ℕ) (stepped : Stepped) : Type 0 where
   pub run : RunView
   pub made : RunView
   pub answer : turned.Turned
   pub calm : CalmAnswers h run made answer
   pub came : CameTo h.config made run.next (length run.replies) stepped
-  pub once : stepped ≡ Needs false → (one_run run).asked ≡ false
+  pub once : stepped ≡ Needs false → IsRested (one_run run) → (one_run run).asked ≡ false
   pub becomes : Becomes h old new at run made

@@ -11,15 +11,13 @@ use Rattle.domain_turns.specs.declared.supply.Supply.TheVariants.{Listed}
 use Rattle.domain_turns.specs.Runs.{RunView}
 use Rattle.schedule_laws.specs.declared.items.Item.{Item}
 use Rattle.schedule_laws.specs.Scheduled.{scheduled}
+pub use Rattle.replay_turns.specs.Asking.{commands_of}
 use Rattle.replay_turns.specs.Ends.{MayGather}
 
--- the commands of each run
-abbrev pub commands_of : List RunView → List (List Command)
-commands_of runs = map (λ r. r.commands) runs
-
--- a run that has done nothing yet: its domain has seen no entry, it has asked for no pause, and all its commands are left
+-- a run that has done nothing yet: its domain has seen no entry and hasn't arrived, it has asked for no pause, and all its commands are left
 pub record IsUntouched (r : RunView) : Type 0 where
   pub front : r.token.view.seen.front ≡ []
+  pub arrivals : r.token.view.own.arrivals ≡ 0
   pub asked : r.asked ≡ None
   pub next : r.next ≡ 0
 

@@ -5,9 +5,9 @@ ghost use Rattle.replay_turns.specs.Ends.{IsThere, MayGather, TakenApart};
 ghost use Rattle.replay_turns.specs.Gathered.{HasRun, IsGathered};
 ghost use Rattle.domain_turns.specs.Runs.{IsRun, RunView};
 
-use crate::meeting::meet_each;
+use crate::meeting::meet;
 use domain_turns::DomainRun;
-use heap_rule::Heap;
+use heap_rule::{Domain, Heap};
 use std::alloc::{AllocError, Global};
 use std::marker::Model;
 
@@ -42,45 +42,44 @@ fn runs_of(slots: Vec<Option<DomainRun>>, room: Vec<DomainRun>) -> Vec<DomainRun
 }
 
 /// The runs of all domains of one heap, which their holder drives in any order. Contracts see them, the heap,
-/// whether a complete collection is made in the pause that domain 0 leads, and how many steps in pauses are left.
+/// and whether a complete collection is made in the pause that domain 0 leads.
 #[derive(Drop)]
 pub struct Gathered {
     pub(crate) heap: Heap,
     // The run of each domain, at its place. All are there between any two calls.
     pub(crate) runs: Vec<Option<DomainRun>>,
+    // Where all domains meet. It is empty between any two calls.
+    pub(crate) meeting: Vec<Domain>,
     pub(crate) complete: bool,
-    // How many steps in pauses are left: where none is, the next one waits.
-    pub(crate) steps: u64,
 }
 
-// More than a replay takes.
-const MOST_STEPS: u64 = 1 << 60;
-
 impl Model for Gathered {
-    ghost use Rattle.replay_turns.specs.Gathered.{GatheredView, IsGathered};
+    ghost use Rattle.std.specs.Prelude.{length, vec_capacity};
+    ghost use Rattle.replay_turns.specs.Gathered.{GatheredView, HasRoom, IsGathered};
 
     ghost Value = { GatheredView };
 
-    ghost view = { λ g. record { heap = g.heap; runs = g.runs.items; complete = g.complete; steps = g.steps } };
+    ghost view = { λ g. record { heap = g.heap; runs = g.runs.items; complete = g.complete } };
 
-    ghost invariant = { λ g. IsGathered (record { heap = g.heap; runs = g.runs.items; complete = g.complete; steps = g.steps }) };
+    ghost invariant = { λ g. IsGathered (record { heap = g.heap; runs = g.runs.items; complete = g.complete }) × HasRoom (length g.runs.items) g.meeting.items (vec_capacity g.meeting) };
 }
 
 impl Gathered {
     /// Gathers the runs of all domains of a heap, in the order of their domains. Each is of commands that were
     /// all listed, its domain runs, no collection goes on or has left garbage, and no command of it may be
-    /// answered `full`. Room for them is taken here. Fails for want of memory alone, and then the heap and
+    /// answered `full`. Room for them, and for a meeting, is taken here. Fails for want of memory alone, and then the heap and
     /// its runs are given up.
     pub fn gather(alloc: Global, heap: Heap, runs: Vec<DomainRun>) -> Result<Gathered, AllocError>
         requires may { MayGather heap runs.items }
-        ensures { IfOk result (λ g. g ≡ record { heap = heap; runs = map Some runs.items; complete = false; steps = 1152921504606846976 }) }
+        ensures { IfOk result (λ g. g ≡ record { heap = heap; runs = map Some runs.items; complete = false }) }
     {
+        let meeting = Vec::with_capacity(alloc, runs.len() + 1)?;
         let slots = slots_of(alloc, runs)?;
         Ok(Gathered {
             heap,
             runs: slots,
+            meeting,
             complete: false,
-            steps: MOST_STEPS,
         })
     }
 
@@ -97,12 +96,13 @@ impl Gathered {
         let Gathered {
             heap,
             runs,
+            meeting,
             complete: _,
-            steps: _,
         } = self;
         let mut runs = runs;
+        let mut meeting = meeting;
         let _limits = heap.config();
-        meet_each(&heap, runs.as_mut_slice(), 0);
+        meet(&heap, runs.as_mut_slice(), &mut meeting);
         let runs = runs_of(runs, room);
         (heap, runs)
     }

@@ -1,49 +1,52 @@
 //! The begin of a pause.
-ghost use Rattle.std.specs.Prelude.{◌≡◌, ◌<◌, ℕ, length, None};
+ghost use Rattle.std.specs.Prelude.{◌≡◌, ◌<◌, ◌^◌, ℕ, [], length, vec_capacity, None};
 ghost use Rattle.domain_turns.specs.Runs.{RunView};
 ghost use Rattle.replay_turns.specs.Gathered.{HasRun};
 ghost use Rattle.replay_turns.specs.Leveled.{AllHere};
 ghost use Rattle.replay_turns.specs.Moves.{HaltsAt, HaltsUpto, MetThen};
 
-use crate::meeting::meet_each;
-use crate::passing::may_arrive;
+use crate::meeting::meet;
 use domain_turns::DomainRun;
-use heap_rule::Heap;
-use std::sync::Wait;
+use heap_rule::{Domain, Heap};
 
 // The domain at this place, which runs, arrives.
-fn halt_at<R: Wait>(rt: &R, heap: &Heap, runs: &mut [Option<DomainRun>], at: usize)
+fn halt_at(heap: &Heap, runs: &mut [Option<DomainRun>], at: usize)
     requires inside { at < length runs.old }
     requires here { AllHere heap.now runs.old }
     requires running { (r : RunView) → HasRun runs.old at r → r.left ≡ None }
+    requires few { (r : RunView) → HasRun runs.old at r → r.token.view.own.arrivals < 2 ^ 60 }
     ensures halts { HaltsAt heap.now runs.old runs.new at }
 {
     let Some(run) = &mut runs[at] else {
         unreachable!()
     };
-    may_arrive(rt, run);
     run.halt(heap);
     run.is_faithful();
 }
 
 // All domains, which run, arrive.
-fn halt_each<R: Wait>(rt: &R, heap: &Heap, runs: &mut [Option<DomainRun>])
+fn halt_each(heap: &Heap, runs: &mut [Option<DomainRun>])
     requires here { AllHere heap.now runs.old }
     requires running { (d : ℕ) (r : RunView) → HasRun runs.old d r → r.left ≡ None }
+    requires few { (d : ℕ) (r : RunView) → HasRun runs.old d r → r.token.view.own.arrivals < 2 ^ 60 }
     ensures halts { HaltsUpto heap.now runs.old runs.new (length runs.old) }
 {
     'all: for at in 0..runs.len() {
-        halt_at(rt, heap, runs, at);
+        halt_at(heap, runs, at);
     }
 }
 
-// The same once domain 0 has met each other one.
-pub(crate) fn halt_all<R: Wait>(rt: &R, heap: &Heap, runs: &mut [Option<DomainRun>])
+// The same once all have met.
+pub(crate) fn halt_all(heap: &Heap, runs: &mut [Option<DomainRun>], room: &mut Vec<Domain>)
     requires some { 0 < length runs.old }
     requires here { AllHere heap.now runs.old }
     requires running { (d : ℕ) (r : RunView) → HasRun runs.old d r → r.left ≡ None }
-    ensures halts { MetThen heap.now.config runs.old 0 (λ mid. HaltsUpto heap.now mid runs.new (length mid)) }
+    requires few { (r : RunView) → HasRun runs.old 0 r → r.token.view.own.arrivals < 2 ^ 60 }
+    requires empty { room.old.items ≡ [] }
+    requires fits { length runs.old < vec_capacity room.old }
+    ensures halts { MetThen runs.old (λ pause mid. HaltsUpto heap.now mid runs.new (length mid)) }
+    ensures room { (room.new.items ≡ []) × (vec_capacity room.new ≡ vec_capacity room.old) }
 {
-    meet_each(heap, runs, 0);
-    halt_each(rt, heap, runs);
+    meet(heap, runs, room);
+    halt_each(heap, runs);
 }

@@ -1,19 +1,21 @@
 //! The runs as a replay drives them.
 ghost use Rattle.replay_turns.specs.Gathered.{MayShare, seen_in};
+ghost use Rattle.replay_turns.specs.Pace.{pace_of, spare_of};
 
 use crate::gathered::Gathered;
 use crate::halting::halt_all;
-use crate::passing::{gone, pass_at, spend};
+use crate::passing::{gone, pass_at};
 use crate::stepping::step_at;
 use schedule_drive::{Stepped, TogetherRuns};
-use std::sync::Wait;
 
 impl TogetherRuns for Gathered {
     ghost seen = { λ g. seen_in g };
 
     ghost shares = { λ g h. MayShare g h };
 
-    ghost pace = { λ g. g.steps };
+    ghost pace = { λ g. pace_of g };
+
+    ghost spare = { λ g. spare_of g };
 
     fn stands(&self) {
         let _limits = self.heap.config();
@@ -35,19 +37,24 @@ impl TogetherRuns for Gathered {
         self.run(at).running()
     }
 
-    fn turn<R: Wait>(&mut self, rt: &R, at: usize) -> Stepped {
-        step_at(rt, &self.heap, self.runs.as_mut_slice(), at)
+    fn turn(&mut self, at: usize) -> Stepped {
+        step_at(&self.heap, self.runs.as_mut_slice(), &mut self.meeting, at)
     }
 
-    fn halt_all<R: Wait>(&mut self, rt: &R, complete: bool) {
+    fn halt_all(&mut self, complete: bool) {
         let _limits = self.heap.config();
-        halt_all(rt, &self.heap, self.runs.as_mut_slice());
+        halt_all(&self.heap, self.runs.as_mut_slice(), &mut self.meeting);
         self.complete = complete;
     }
 
-    fn pass_next<R: Wait>(&mut self, rt: &R) {
+    fn pass_next(&mut self) {
         let at = gone(self.runs.as_slice());
-        self.steps = spend(rt, self.steps);
-        pass_at(rt, &self.heap, self.runs.as_mut_slice(), at, self.complete);
+        pass_at(
+            &self.heap,
+            self.runs.as_mut_slice(),
+            &mut self.meeting,
+            at,
+            self.complete,
+        );
     }
 }

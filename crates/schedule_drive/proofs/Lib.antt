@@ -4,4 +4,5 @@ mod Passing
 mod Agreeing
 mod Ending
 mod Turns
+mod Spending
 mod Rounds

@@ -16,7 +16,7 @@ use Rattle.heap_model.specs.declared.state.State.{State}
 use Rattle.heap_model.specs.Domains.{opening}
 use Rattle.heap_model.specs.History.{Legal, LegalFrom, state_after}
 use Rattle.schedule_laws.proofs.Collecting.{legal_parts}
-use Rattle.schedule_drive.specs.Together.{AllHave, AllRuns, Controls, Grows, IsAnswered, IsServed, IsntAnswered, Lead, Leads, OneRun, Passed, Rests, SharesOn, Stands, all_halted, halted, is_quiet}
+use Rattle.schedule_drive.specs.Together.{AllHave, AllRuns, Controls, Grows, IsAnswered, IsServed, IsRested, IsntAnswered, Lead, Leads, OneRun, Passed, Rests, SharesOn, Stands, all_halted, halted, is_quiet}
 use Rattle.schedule_drive.specs.Pausing.{Answered, AsksAlone, NotYet, Paused, Walked, WalkedFrom, all_commands, askeds, endeds, lefts}
 use Rattle.schedule_drive.proofs.Listing.{filled_else, filled_here, kept_at, read_at}
 use Rattle.schedule_drive.proofs.Walking.{answer_walks, control_walks, open_none, quiet_walks}
@@ -78,6 +78,11 @@ halted_rests : (o : Option OneRun) (x : OneRun) → option_map halted o ≡ Some
 halted_rests None x is = cc
 halted_rests (Some y) x is = let same : halted y ≡ x = cc in ap (λ (r : OneRun). r.runs) (sym same)
 
+-- and it has paused, if it had asked
+halted_pauses : (o : Option OneRun) (x : OneRun) → option_map halted o ≡ Some x → x.paused ≡ x.asked
+halted_pauses None x is = cc
+halted_pauses (Some y) x is = let same : halted y ≡ x = cc in subst (λ (r : OneRun). r.paused ≡ r.asked) same refl
+
 -- the pause begins
 pub pause_begins : (shares_old shares_new : List Entry → Type 0) (v w : AllRuns) (complete : Bool) → SharesOn shares_old shares_new [] → w ≡ all_halted complete v → ((g : List Entry) → shares_new g → Legal w.sizes g) → Paused complete shares_old shares_new v w
 pause_begins shares_old shares_new v w complete on is legal =
@@ -87,6 +92,7 @@ pause_begins shares_old shares_new v w complete on is legal =
       commands = ap all_commands is ∙ map-map (λ (x : OneRun). x.commands) halted v.runs;
       ended = ap endeds is ∙ map-map (λ (x : OneRun). x.ended) halted v.runs;
       complete_is = ap (λ (u : AllRuns). u.complete) is;
+      rested = λ d x at asked. halted_pauses (slice_get v.runs d) x (sym (slice_get-map halted v.runs d) ∙ ap (λ (u : AllRuns). slice_get u.runs d) (sym is) ∙ at) ∙ asked;
       served = λ yes d x at back others next.
           absurd (false≢true (sym (halted_rests (slice_get v.runs d) x (sym (slice_get-map halted v.runs d) ∙ ap (λ (u : AllRuns). slice_get u.runs d) (sym is) ∙ at)) ∙ back));
       told = λ d alone. (
@@ -164,12 +170,19 @@ module _ (v u w : AllRuns) (d e : ℕ) (answered own : List Entry) (alone : Asks
       (λ (a : Answered d v u answered). absurd (asker_waits v u d e answered alone asked a))
       how
 
-some_is : (y z : OneRun) → Some y ≡ Some z → y ≡ z
+pub some_is : (y z : OneRun) → Some y ≡ Some z → y ≡ z
 some_is y z is = cc
 
 -- the entry of the step
 own_is : (e : ℕ) (x y : OneRun) (own : List Entry) → IsAnswered e x y own ⊎ IsntAnswered x y own → (own ≡ []) ⊎ (own ≡ CommandOf e FullMajor false ∷ [])
 own_is e x y own tells = ⊎_elim (λ (a : IsAnswered e x y own). inr a.made) (λ (n : IsntAnswered x y own). inl n.made) tells
+
+-- nor does the step leave a pause to come
+passed_rests : (e : ℕ) (x y : OneRun) (own : List Entry) → IsAnswered e x y own ⊎ IsntAnswered x y own → IsRested x → IsRested y
+passed_rests e x y own tells rested = ⊎_elim
+    (λ (a : IsAnswered e x y own). λ asked. absurd (false≢true (sym (ap (λ (r : OneRun). r.asked) a.run) ∙ asked)))
+    (λ (n : IsntAnswered x y own). λ asked. ap (λ (r : OneRun). r.paused) n.run ∙ rested (sym (ap (λ (r : OneRun). r.asked) n.run) ∙ asked))
+    tells
 
 -- the pause goes on with a step of domain e
 pub pause_passes : (shares shares_old shares_new : List Entry → Type 0) (v u w : AllRuns) (complete : Bool) (e : ℕ) → Paused complete shares shares_old v u → Passed shares_old shares_new u w e → ((g : List Entry) → shares_new g → Legal w.sizes g) → Paused complete shares shares_new v w
@@ -185,6 +198,13 @@ pause_passes shares shares_old shares_new v u w complete e p step legal =
       commands = ap (λ rs. map (λ (r : OneRun). r.commands) rs) runs ∙ kept_at (λ (r : OneRun). r.commands) u.runs e x y step.was commands ∙ p.commands;
       ended = ap (λ rs. map (λ (r : OneRun). r.ended) rs) runs ∙ kept_at (λ (r : OneRun). r.ended) u.runs e x y step.was ended ∙ p.ended;
       complete_is = ap (λ (r : AllRuns). r.complete) step.view ∙ p.complete_is;
+      rested = λ d z at.
+          ⊎_elim
+          (λ (same : d ≡ e).
+          let is : y ≡ z = some_is y z (sym (filled_here u.runs e y (slice_get_within u.runs e x step.was)) ∙ ap (λ k. slice_get (set u.runs e y) k) (sym same) ∙ ap (λ rs. slice_get rs d) (sym runs) ∙ at) in
+          subst IsRested is (passed_rests e x y step.own step.tells (p.rested e x step.was)))
+          (λ other. p.rested d z (sym (filled_else u.runs e d y other) ∙ ap (λ rs. slice_get rs d) (sym runs) ∙ at))
+          (cases_eq d e);
       served = λ yes d z at back.
           ⊎_elim
           (λ (same : d ≡ e).
@@ -204,7 +224,7 @@ pause_passes shares shares_old shares_new v u w complete e p step legal =
 
 -- a run of a trace without commands
 pub no_run : OneRun
-no_run = record { commands = []; left = []; replies = []; asked = false; waiting = 0; runs = false; ended = false }
+no_run = record { commands = []; left = []; replies = []; asked = false; paused = false; waiting = 0; runs = false; ended = false }
 
 -- there is one
 pub some_run : (v : AllRuns) → Stands v → 0 < length v.runs

@@ -20,11 +20,11 @@ use Rattle.schedule_laws.proofs.Collecting.{legal_parts}
 use Rattle.schedule_laws.proofs.Moving.{same_domain}
 use Rattle.schedule_drive.specs.Together.{AllHave, AllRuns, AsksComplete, Grows, Has, IsShared, MakesEnd, MakesNext, OneRun, Rests, SharesOn, Turned}
 use Rattle.schedule_drive.specs.declared.together.Stepped.TheVariants.{Ran, Made, Needs}
-use Rattle.schedule_drive.specs.Pausing.{Answered, AsksAlone, NotYet, Paused, Walked, askeds, endeds, lefts}
+use Rattle.schedule_drive.specs.Pausing.{Answered, AsksAlone, NotYet, Paused, RestedAt, Walked, askeds, endeds, lefts}
 use Rattle.schedule_drive.specs.Following.{Advances, Agrees, AllFollow, AllMidst, Follows, IsCalm, IsCalmBut, Waits, turn_rest}
 use Rattle.schedule_drive.specs.Ending.{Nears, rank_at, turns_at, waiting_at}
-use Rattle.schedule_drive.proofs.Listing.{kept_at, read_at}
-use Rattle.schedule_drive.proofs.Passing.{no_run, set_false}
+use Rattle.schedule_drive.proofs.Listing.{filled_here, kept_at, read_at}
+use Rattle.schedule_drive.proofs.Passing.{no_run, set_false, some_is}
 use Rattle.schedule_drive.proofs.Ending.{answered_elsewhere, answered_falls, asks_few, rank_asks, rank_by, rank_falls, rank_stays, waiting_now, waiting_read, turns_by, turns_elsewhere, turns_end, turns_next, turns_stay}
 use Rattle.schedule_drive.proofs.Agreeing.{agrees_collection, agrees_step, grown_none, grown_step, next_command, next_end, next_full, rest_next, rest_ran, short_step}
 
@@ -216,7 +216,7 @@ module _ (shares_old shares_new : List Entry → Type 0) (v w : AllRuns) (d : �
   }
 
   -- a pause was asked for
-  asked_on : SharesOn shares_old shares_new [] → y ≡ record x { asked = true; waiting = y.waiting } → Advances shares_old shares_new v w d false
+  asked_on : SharesOn shares_old shares_new [] → y ≡ record x { asked = true; paused = false; waiting = y.waiting } → Advances shares_old shares_new v w d false
   asked_on on run = record {
     sizes = sizes_of;
     count = count_same;
@@ -401,6 +401,13 @@ module _ (shares_old shares_new : List Entry → Type 0) (v w : AllRuns) (d : �
   turned_needs true t = asked_on shares_old shares_new v w d t.run t.becomes t.was t.view calm going shared (subst (λ k. SharesOn shares_old shares_new k) t.tells.made t.on) t.tells.run
   turned_needs false t = asked_on shares_old shares_new v w d t.run t.becomes t.was t.view calm going shared (subst (λ k. SharesOn shares_old shares_new k) t.tells.0 t.on) t.tells.1
 
+  -- where a finaliser ran no pause is left to come that wasn't before
+  pub ran_rests : Turned shares_old shares_new v w d Ran → RestedAt v d → RestedAt w d
+  ran_rests t rested z at asked =
+      let is : t.becomes ≡ z = some_is t.becomes z (sym (filled_here v.runs d t.becomes (slice_get_within v.runs d t.run t.was)) ∙ ap (λ (r : AllRuns). slice_get r.runs d) (sym t.view) ∙ at) in
+      let run = t.tells.1 in
+      ap (λ (r : OneRun). r.paused) (sym is) ∙ (ap (λ (r : OneRun). r.paused) run ∙ rested t.run t.was (sym (ap (λ (r : OneRun). r.asked) run) ∙ (ap (λ (r : OneRun). r.asked) is ∙ asked)))
+
   -- it comes nearer to its end
   pub ran_nears : Turned shares_old shares_new v w d Ran → Nears v w d
   ran_nears t =
@@ -410,11 +417,11 @@ module _ (shares_old shares_new : List Entry → Type 0) (v w : AllRuns) (d : �
       let less : waiting_at w d < waiting_at v d = subst (λ n. n < waiting_at v d) (sym (waiting_now v w d x y t.was t.view)) (subst (λ n. y.waiting < n) (sym (waiting_read v d x t.was)) t.tells.2) in
       inr (rank_stays v w d x y t.was t.view (ap (λ (r : OneRun). r.ended) run) (ap (λ (r : OneRun). r.left) run) (ap (λ (r : OneRun). r.asked) run), less)
 
-  pub asks_nears : (complete : Bool) → Turned shares_old shares_new v w d (Needs complete) → complete ≡ false → rank_at w d < rank_at v d
-  asks_nears true t is = absurd (false≢true (sym is))
-  asks_nears false t is =
+  pub asks_nears : (complete : Bool) → Turned shares_old shares_new v w d (Needs complete) → RestedAt v d → complete ≡ false → rank_at w d < rank_at v d
+  asks_nears true t rested is = absurd (false≢true (sym is))
+  asks_nears false t rested is =
       let run = t.tells.1 in
-      rank_falls v w d t.run t.becomes t.was t.view (ap (λ (r : OneRun). r.ended) run) (ap (λ (r : OneRun). r.left) run) t.tells.2 (ap (λ (r : OneRun). r.asked) run)
+      rank_falls v w d t.run t.becomes t.was t.view (ap (λ (r : OneRun). r.ended) run) (ap (λ (r : OneRun). r.left) run) (t.tells.2 (rested t.run t.was)) (ap (λ (r : OneRun). r.asked) run)
 
   pub turned_waits : (complete : Bool) → Turned shares_old shares_new v w d (Needs complete) → complete ≡ true → Waits w shares_new d
   turned_waits true t is = waits_now shares_old shares_new v w d t.run t.becomes t.was t.view calm going shared t.own t.tells
@@ -439,6 +446,10 @@ module _ (shares : List Entry → Type 0) (v : AllRuns) (p : Played) (d : ℕ) (
   turn_begins has h here =
       let f = follow h here in
       record { here = p; follows = f; rest = sym (ap (turn_on p d) (ended_is v p d false h few has (shared h here) f.agrees)) }
+
+-- where none has asked no pause is left to come
+pub calm_rests : (v : AllRuns) (d : ℕ) → IsCalm v → RestedAt v d
+calm_rests v d calm x at asked = absurd (false≢true (sym (calm.none d) ∙ (read_at (λ (r : OneRun). r.asked) v.runs d x false at ∙ asked)))
 
 -- a calm heap is one in which one domain alone may have asked
 pub calm_but : (v : AllRuns) (d : ℕ) → IsCalm v → IsCalmBut v d

@@ -10,7 +10,7 @@ use Rattle.heap_model.specs.declared.state.Sizes.{Sizes}
 use Rattle.heap_model.specs.Domains.{opening}
 use Rattle.heap_model.specs.History.{state_after}
 use Rattle.schedule_laws.specs.Sameness.{IsCollection, is_answer, is_queue, is_taking}
-use Rattle.schedule_drive.specs.Together.{AllRuns, Answers, IsServed, Lead, Leads, OneRun, Rests}
+use Rattle.schedule_drive.specs.Together.{AllRuns, Answers, IsRested, IsServed, Lead, Leads, OneRun, Rests}
 
 -- the commands of each run that are left
 abbrev pub lefts : AllRuns → List (List Command)
@@ -86,11 +86,16 @@ pub record Answered (d : ℕ) (old new : AllRuns) (answered : List Entry) : Type
   pub left : lefts new ≡ slice_set (lefts old) d others
   pub none : askeds new ≡ slice_set (askeds old) d false
 
--- a pause has come so far: nothing else changes of the runs. It is said for the domain that alone has asked for it. Where a complete collection is made each domain that has come back was answered
+-- no pause is left to come for which the run of domain d has asked
+abbrev pub RestedAt : AllRuns → ℕ → Type 0
+RestedAt v d = (x : OneRun) → slice_get v.runs d ≡ Some x → IsRested x
+
+-- a pause has come so far: nothing else changes of the runs. It is said for the domain that alone has asked for it. None is left to come for which a run had asked. Where a complete collection is made each domain that has come back was answered
 pub record Paused (complete : Bool) (shares_old shares_new : List Entry → Type 0) (old new : AllRuns) : Type 0 where
   pub sizes : new.sizes ≡ old.sizes
   pub commands : all_commands new ≡ all_commands old
   pub ended : endeds new ≡ endeds old
   pub complete_is : new.complete ≡ complete
+  pub rested : (d : ℕ) → RestedAt new d
   pub served : complete ≡ true → (d : ℕ) (x : OneRun) → slice_get new.runs d ≡ Some x → x.runs ≡ true → IsServed x
   pub told : (d : ℕ) → AsksAlone old d → (answered : List Entry) × (NotYet old new answered ⊎ Answered d old new answered) × ((g : List Entry) → shares_new g → WalkedFrom old.sizes complete new.lead shares_old answered g)

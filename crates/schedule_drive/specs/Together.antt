@@ -19,12 +19,13 @@ pub data Lead : Type 0 where
   Leads : Bool → Lead
   Answers : Lead
 
--- One run: all its commands, those that are left, the replies so far, whether it has asked for a pause for its next command, how many finalisers wait in its domain's queue, whether its domain runs and hasn't arrived, and whether its trace has ended
+-- One run: all its commands, those that are left, the replies so far, whether it has asked for a pause for its next command, whether one has begun since then, how many finalisers wait in its domain's queue, whether its domain runs and hasn't arrived, and whether its trace has ended
 pub record OneRun : Type 0 where
   pub commands : List Command
   pub left : List Command
   pub replies : List Reply
   pub asked : Bool
+  pub paused : Bool
   pub waiting : ℕ
   pub runs : Bool
   pub ended : Bool
@@ -88,13 +89,13 @@ pub record MakesNext (d : ℕ) (x y : OneRun) (own : List Entry) : Type 0 where
   pub next : x.left ≡ command ∷ others
   pub short : command ≢ FullMajor
   pub made : own ≡ CommandOf d command false ∷ []
-  pub run : y ≡ record x { left = others; replies = y.replies; asked = false; waiting = y.waiting }
+  pub run : y ≡ record x { left = others; replies = y.replies; asked = false; paused = false; waiting = y.waiting }
 
 -- the end of the trace was made
 pub record MakesEnd (d : ℕ) (x y : OneRun) (own : List Entry) : Type 0 where
   pub none : x.left ≡ []
   pub made : own ≡ End d ∷ []
-  pub run : y ≡ record x { asked = false; waiting = y.waiting; ended = true }
+  pub run : y ≡ record x { asked = false; paused = false; waiting = y.waiting; ended = true }
 
 -- the next command is a `full_major`, and no finaliser waits before it
 pub record AsksComplete (z : Sizes) (shares : List Entry → Type 0) (d : ℕ) (x y : OneRun) (own : List Entry) : Type 0 where
@@ -102,14 +103,18 @@ pub record AsksComplete (z : Sizes) (shares : List Entry → Type 0) (d : ℕ) (
   pub next : x.left ≡ FullMajor ∷ others
   pub unqueued : Unqueued z shares d
   pub made : own ≡ []
-  pub run : y ≡ record x { asked = true; waiting = y.waiting }
+  pub run : y ≡ record x { asked = true; paused = false; waiting = y.waiting }
 
--- what a turn of run d tells, by what it came to. Each finaliser that waits runs once, and no command asks twice for a pause without a complete collection
+-- no pause is left to come for which the run has asked
+abbrev pub IsRested : OneRun → Type 0
+IsRested x = x.asked ≡ true → x.paused ≡ true
+
+-- what a turn of run d tells, by what it came to. Each finaliser that waits runs once. Once a pause for which it asked has come, no command asks for another one without a complete collection, and a `full_major` asks for none of these
 abbrev pub TurnTells : Sizes → (List Entry → Type 0) → ℕ → OneRun → OneRun → List Entry → Stepped → Type 0
 TurnTells z shares d x y own Ran = (own ≡ RanOf d ∷ []) × (y ≡ record x { replies = y.replies; waiting = y.waiting }) × (y.waiting < x.waiting)
 TurnTells z shares d x y own Made = MakesNext d x y own ⊎ MakesEnd d x y own
 TurnTells z shares d x y own (Needs true) = AsksComplete z shares d x y own
-TurnTells z shares d x y own (Needs false) = (own ≡ []) × (y ≡ record x { asked = true; waiting = y.waiting }) × (x.asked ≡ false)
+TurnTells z shares d x y own (Needs false) = (own ≡ []) × (y ≡ record x { asked = true; paused = false; waiting = y.waiting }) × (IsRested x → x.asked ≡ false) × ((others : List Command) → x.left ≡ FullMajor ∷ others → ⊥)
 
 -- a turn of run d: nothing else changes
 pub record Turned (shares_old shares_new : List Entry → Type 0) (old new : AllRuns) (d : ℕ) (stepped : Stepped) : Type 0 where
@@ -123,7 +128,7 @@ pub record Turned (shares_old shares_new : List Entry → Type 0) (old new : All
 
 -- a run whose domain has arrived
 abbrev pub halted : OneRun → OneRun
-halted x = record x { runs = false }
+halted x = record x { runs = false; paused = x.asked }
 
 -- all domains have arrived, and domain 0 leads a pause in which a complete collection is made or isn't
 abbrev pub all_halted : Bool → AllRuns → AllRuns
@@ -150,7 +155,7 @@ pub record IsAnswered (d : ℕ) (x y : OneRun) (own : List Entry) : Type 0 where
   pub next : x.left ≡ FullMajor ∷ others
   pub asked : x.asked ≡ true
   pub made : own ≡ CommandOf d FullMajor false ∷ []
-  pub run : y ≡ record x { left = others; replies = y.replies; asked = false; waiting = y.waiting }
+  pub run : y ≡ record x { left = others; replies = y.replies; asked = false; paused = false; waiting = y.waiting }
 
 -- or none was
 pub record IsntAnswered (x y : OneRun) (own : List Entry) : Type 0 where

@@ -1,10 +1,10 @@
 //! Pauses of all runs.
-ghost use Rattle.std.specs.Prelude.{◌<◌, ◌≡◌, false, length, true};
+ghost use Rattle.std.specs.Prelude.{◌+◌, ◌<◌, ◌≡◌, ◌≤◌, false, length, true};
 ghost use Rattle.schedule_drive.specs.Pausing.{Paused};
+ghost use Rattle.schedule_drive.specs.Spending.{most_in_pause};
 ghost use Rattle.schedule_drive.specs.Together.{AllHave, Rests, SomeGone};
 
 use crate::together::TogetherRuns;
-use std::sync::Wait;
 
 // Whether all domains run.
 fn all_run<T: TogetherRuns>(runs: &T) -> bool
@@ -21,19 +21,21 @@ fn all_run<T: TogetherRuns>(runs: &T) -> bool
 
 // A pause, from where all domains run until they do again. A complete collection is made in it, or none. Each step brings
 // it nearer to its end.
-pub(crate) fn pause<T: TogetherRuns, R: Wait>(rt: &R, runs: &mut T, complete: bool)
+pub(crate) fn pause<T: TogetherRuns>(runs: &mut T, complete: bool)
     requires run { AllHave (λ x. x.runs) true (T.seen runs.old) }
+    requires room { most_in_pause < T.spare runs.old }
     ensures run { AllHave (λ x. x.runs) true (T.seen runs.new) }
     ensures over { (T.seen runs.new).lead ≡ Rests }
     ensures paused { Paused complete (T.shares runs.old) (T.shares runs.new) (T.seen runs.old) (T.seen runs.new) }
+    ensures spends { T.spare runs.old ≤ T.spare runs.new + most_in_pause }
 {
-    runs.halt_all(rt, complete);
+    runs.halt_all(complete);
     runs.stands();
     'passes: loop {
         if all_run(runs) {
             return;
         }
-        runs.pass_next(rt);
+        runs.pass_next();
         runs.stands();
     }
 }

@@ -1,5 +1,5 @@
 //! The loop: the items of a schedule, and then rounds until all traces have ended.
-ghost use Rattle.std.specs.Prelude.{◌<◌, ◌≡◌, ◌≤◌, ◌+◌, ℕ, List, [], false, fold, length, max, true};
+ghost use Rattle.std.specs.Prelude.{◌<◌, ◌≡◌, ◌≤◌, ◌+◌, ◌*◌, ℕ, List, [], false, fold, length, max, true};
 ghost use Rattle.std.specs.List.{list_all, range_with_len};
 ghost use Rattle.heap_model.specs.declared.entry.Entry.{Entry};
 ghost use Rattle.heap_model.specs.History.{replies};
@@ -8,13 +8,13 @@ ghost use Rattle.schedule_laws.specs.declared.items.Item.TheVariants.{Collect as
 ghost use Rattle.schedule_drive.specs.Ending.{AllWithin, NoneMore};
 ghost use Rattle.schedule_drive.specs.Following.{AllFollow, IsCalm, IsPlayed, is_for};
 ghost use Rattle.schedule_drive.specs.Pausing.{all_commands, lefts};
+ghost use Rattle.schedule_drive.specs.Spending.{most_in_pause, most_in_replay, most_in_round, most_in_turn};
 ghost use Rattle.schedule_drive.specs.Together.{AllHave, Has};
 
 use crate::pausing::pause;
 use crate::together::TogetherRuns;
 use crate::turning::take_turn;
 use schedule_laws::Item;
-use std::sync::Wait;
 
 // Whether all traces have ended.
 fn all_ended<T: TogetherRuns>(runs: &T) -> bool
@@ -30,83 +30,93 @@ fn all_ended<T: TogetherRuns>(runs: &T) -> bool
 }
 
 // A complete collection that no command asks for, if not all traces have ended.
-fn collect<T: TogetherRuns, R: Wait>(rt: &R, runs: &mut T)
+fn collect<T: TogetherRuns>(runs: &mut T)
     requires calm { IsCalm (T.seen runs.old) }
+    requires room { most_in_pause < T.spare runs.old }
     ensures sizes { (T.seen runs.new).sizes ≡ (T.seen runs.old).sizes }
     ensures count { length (T.seen runs.new).runs ≡ length (T.seen runs.old).runs }
     ensures commands { all_commands (T.seen runs.new) ≡ all_commands (T.seen runs.old) }
     ensures calm { IsCalm (T.seen runs.new) }
     ensures none { NoneMore (T.seen runs.old) (T.seen runs.new) }
     ensures taken { (p : Played) → AllFollow (T.seen runs.old) (T.shares runs.old) p → AllFollow (T.seen runs.new) (T.shares runs.new) (take_item p CollectItem) }
+    ensures spends { T.spare runs.old ≤ T.spare runs.new + most_in_pause }
 {
     runs.stands();
     if all_ended(runs) {
         return;
     }
-    pause(rt, runs, true);
+    pause(runs, true);
     runs.stands();
 }
 
 // One item of a schedule.
-fn take_item<T: TogetherRuns, R: Wait>(rt: &R, runs: &mut T, item: Item)
+fn take_item<T: TogetherRuns>(runs: &mut T, item: Item)
     requires calm { IsCalm (T.seen runs.old) }
     requires inside { is_for (length (T.seen runs.old).runs) item ≡ true }
+    requires room { most_in_turn < T.spare runs.old }
     ensures sizes { (T.seen runs.new).sizes ≡ (T.seen runs.old).sizes }
     ensures count { length (T.seen runs.new).runs ≡ length (T.seen runs.old).runs }
     ensures commands { all_commands (T.seen runs.new) ≡ all_commands (T.seen runs.old) }
     ensures calm { IsCalm (T.seen runs.new) }
     ensures none { NoneMore (T.seen runs.old) (T.seen runs.new) }
     ensures taken { (p : Played) → AllFollow (T.seen runs.old) (T.shares runs.old) p → AllFollow (T.seen runs.new) (T.shares runs.new) (take_item p item) }
+    ensures spends { T.spare runs.old ≤ T.spare runs.new + most_in_turn }
 {
     match item {
-        Item::Turn(domain) => take_turn(rt, runs, domain as usize),
-        Item::Collect => collect(rt, runs),
+        Item::Turn(domain) => take_turn(runs, domain as usize),
+        Item::Collect => collect(runs),
     }
 }
 
 // All items of a schedule.
-fn take_items<T: TogetherRuns, R: Wait>(rt: &R, runs: &mut T, items: &[Item])
+fn take_items<T: TogetherRuns>(runs: &mut T, items: &[Item])
     requires calm { IsCalm (T.seen runs.old) }
     requires inside { list_all (is_for (length (T.seen runs.old).runs)) items.now ≡ true }
+    requires room { length items.now * most_in_turn < T.spare runs.old }
     ensures sizes { (T.seen runs.new).sizes ≡ (T.seen runs.old).sizes }
     ensures count { length (T.seen runs.new).runs ≡ length (T.seen runs.old).runs }
     ensures commands { all_commands (T.seen runs.new) ≡ all_commands (T.seen runs.old) }
     ensures calm { IsCalm (T.seen runs.new) }
     ensures none { NoneMore (T.seen runs.old) (T.seen runs.new) }
     ensures taken { (p : Played) → AllFollow (T.seen runs.old) (T.shares runs.old) p → AllFollow (T.seen runs.new) (T.shares runs.new) (fold take_item p items.now) }
+    ensures spends { T.spare runs.old ≤ T.spare runs.new + length items.now * most_in_turn }
 {
     for item in items {
-        take_item(rt, runs, *item);
+        take_item(runs, *item);
     }
 }
 
 // A turn of each domain, from the first on.
-fn take_round<T: TogetherRuns, R: Wait>(rt: &R, runs: &mut T)
+fn take_round<T: TogetherRuns>(runs: &mut T)
     requires calm { IsCalm (T.seen runs.old) }
+    requires room { most_in_round (length (T.seen runs.old).runs) < T.spare runs.old }
     ensures sizes { (T.seen runs.new).sizes ≡ (T.seen runs.old).sizes }
     ensures count { length (T.seen runs.new).runs ≡ length (T.seen runs.old).runs }
     ensures commands { all_commands (T.seen runs.new) ≡ all_commands (T.seen runs.old) }
     ensures calm { IsCalm (T.seen runs.new) }
     ensures fewer { (n : ℕ) → AllWithin (n + 1) (T.seen runs.old) → AllWithin n (T.seen runs.new) }
     ensures taken { (p : Played) → IsPlayed (T.seen runs.old).sizes p → AllFollow (T.seen runs.old) (T.shares runs.old) p → AllFollow (T.seen runs.new) (T.shares runs.new) (take_round p) }
+    ensures spends { T.spare runs.old ≤ T.spare runs.new + most_in_round (length (T.seen runs.old).runs) }
 {
     runs.stands();
     'domains: for at in 0..runs.count() {
-        take_turn(rt, runs, at);
+        take_turn(runs, at);
     }
 }
 
 // So many rounds.
-fn take_rounds<T: TogetherRuns, R: Wait>(rt: &R, runs: &mut T, rounds: usize)
+fn take_rounds<T: TogetherRuns>(runs: &mut T, rounds: usize)
     requires calm { IsCalm (T.seen runs.old) }
+    requires room { rounds * most_in_round (length (T.seen runs.old).runs) < T.spare runs.old }
     ensures sizes { (T.seen runs.new).sizes ≡ (T.seen runs.old).sizes }
     ensures commands { all_commands (T.seen runs.new) ≡ all_commands (T.seen runs.old) }
     ensures calm { IsCalm (T.seen runs.new) }
     ensures ended { AllWithin rounds (T.seen runs.old) → AllHave (λ x. x.ended) true (T.seen runs.new) }
     ensures taken { (p : Played) → IsPlayed (T.seen runs.old).sizes p → AllFollow (T.seen runs.old) (T.shares runs.old) p → AllFollow (T.seen runs.new) (T.shares runs.new) (take_rounds rounds p) }
+    ensures spends { T.spare runs.old ≤ T.spare runs.new + rounds * most_in_round (length (T.seen runs.old).runs) }
 {
     'rounds: for _ in 0..rounds {
-        take_round(rt, runs);
+        take_round(runs);
     }
 }
 
@@ -134,12 +144,13 @@ fn rounds_of<T: TogetherRuns>(runs: &T) -> usize
 /// In each history that the runs may share then, each domain has the replies that it has in the scheduled history. That
 /// is a function of the numbers of the heap, the commands and the items, so a run prints the same each time.
 ///
-/// It waits for nothing itself: each turn brings its trace nearer to its end, and each step of a pause the pause. Only the
-/// calls on the runs may wait.
-pub fn replay<T: TogetherRuns, R: Wait>(rt: &R, runs: &mut T, items: &[Item])
+/// It returns: each turn brings its trace nearer to its end, and each step of a pause the pause. `most_in_replay` says how
+/// often each domain arrives at most, and so often each may still arrive.
+pub fn replay<T: TogetherRuns>(runs: &mut T, items: &[Item])
     requires calm { IsCalm (T.seen runs.old) }
     requires fresh { (h : List Entry) → T.shares runs.old h → h ≡ [] }
     requires inside { list_all (is_for (length (T.seen runs.old).runs)) items.now ≡ true }
+    requires room { most_in_replay (T.seen runs.old) items.now < T.spare runs.old }
     ensures sizes { (T.seen runs.new).sizes ≡ (T.seen runs.old).sizes }
     ensures commands { all_commands (T.seen runs.new) ≡ all_commands (T.seen runs.old) }
     ensures calm { IsCalm (T.seen runs.new) }
@@ -147,6 +158,6 @@ pub fn replay<T: TogetherRuns, R: Wait>(rt: &R, runs: &mut T, items: &[Item])
     ensures replies { (h : List Entry) → T.shares runs.new h → (d : ℕ) → replies (T.seen runs.old).sizes h d ≡ replies (T.seen runs.old).sizes (scheduled (T.seen runs.old).sizes (lefts (T.seen runs.old)) items.now) d }
 {
     let rounds = rounds_of(runs);
-    take_items(rt, runs, items);
-    take_rounds(rt, runs, rounds);
+    take_items(runs, items);
+    take_rounds(runs, rounds);
 }

@@ -1,9 +1,8 @@
 //! What a replay needs of the runs of a heap.
-ghost use Rattle.std.specs.Prelude.{◌<◌, ◌≡◌, ◌≤◌, ℕ, List, [], Some, false, length, slice_get, true};
+ghost use Rattle.std.specs.Prelude.{◌+◌, ◌<◌, ◌≡◌, ◌≤◌, ℕ, List, [], Some, false, length, slice_get, true};
 ghost use Rattle.heap_model.specs.declared.entry.Entry.{Entry};
+ghost use Rattle.schedule_drive.specs.Spending.{most_in_pause};
 ghost use Rattle.schedule_drive.specs.Together.{AllHave, AllRuns, Has, IsShared, OneRun, PassedSome, SharesOn, SomeGone, Stands, Turned, all_halted};
-
-use std::sync::Wait;
 
 /// What a turn came to.
 #[derive(Clone, Copy, Debug, PartialEq, Eq)]
@@ -28,6 +27,9 @@ pub trait TogetherRuns {
 
     /// How many steps are left of a pause, at most.
     ghost pace: { Self → ℕ };
+
+    /// How often each domain may still arrive, at least.
+    ghost spare: { Self → ℕ };
 
     /// Nothing changes. The numbers are within their limits, and there is a run for each domain. Each history that
     /// they may share is legal, and the replies of a run are those of its domain there.
@@ -56,21 +58,27 @@ pub trait TogetherRuns {
         ensures { Has (λ x. x.runs) result (seen self.now) at };
 
     /// One turn of a run, while all domains run.
-    fn turn<R: Wait>(&mut self, rt: &R, at: usize) -> Stepped
+    fn turn(&mut self, at: usize) -> Stepped
         requires inside { at < length (seen self.old).runs }
         requires run { AllHave (λ x. x.runs) true (seen self.old) }
         requires goes_on { Has (λ x. x.ended) false (seen self.old) at }
-        ensures turned { Turned (shares self.old) (shares self.new) (seen self.old) (seen self.new) at result };
+        ensures turned { Turned (shares self.old) (shares self.new) (seen self.old) (seen self.new) at result }
+        ensures spares { spare self.old ≤ spare self.new };
 
-    /// All domains arrive, and domain 0 will lead a pause in which a complete collection is made, or none.
-    fn halt_all<R: Wait>(&mut self, rt: &R, complete: bool)
+    /// All domains arrive, and domain 0 will lead a pause in which a complete collection is made, or none. No domain
+    /// arrives more often in that pause than `most_in_pause` says, and so often each may still arrive.
+    fn halt_all(&mut self, complete: bool)
         requires run { AllHave (λ x. x.runs) true (seen self.old) }
+        requires room { most_in_pause < spare self.old }
         ensures on { SharesOn (shares self.old) (shares self.new) [] }
-        ensures seen { seen self.new ≡ all_halted complete (seen self.old) };
+        ensures seen { seen self.new ≡ all_halted complete (seen self.old) }
+        ensures spends { spare self.old ≤ spare self.new + most_in_pause };
 
     /// One step in a pause, of some domain that has arrived. Fewer steps are left of the pause then.
-    fn pass_next<R: Wait>(&mut self, rt: &R)
+    fn pass_next(&mut self)
         requires gone { SomeGone (seen self.old) }
+        requires room { 0 < spare self.old }
         ensures passed { PassedSome (shares self.old) (shares self.new) (seen self.old) (seen self.new) }
-        ensures nearer { pace self.new < pace self.old };
+        ensures nearer { pace self.new < pace self.old }
+        ensures spares { spare self.old ≤ spare self.new };
 }

@@ -1,3 +1,4 @@
 pub mod Scheduled
 pub mod Sameness
 pub mod Sizes
+pub mod Pools

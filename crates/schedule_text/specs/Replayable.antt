@@ -1,10 +1,9 @@
 -- Which scripts can be replayed under a schedule.
-use Rattle.std.specs.Prelude.{◌≡◌, ℕ, ◌+◌, ◌*◌, ◌≤◌, ◌==◌, nat_lt, Bool, true, false, List, sum_by, count_by, Option, None, Some, if◌then◌else◌}
+use Rattle.std.specs.Prelude.{◌≡◌, ℕ, ◌*◌, ◌≤◌, ◌==◌, nat_lt, Bool, true, false, List, Option, None, Some, if◌then◌else◌}
 use Rattle.std.specs.List.{list_any}
 use Rattle.heap_model.specs.declared.command.Command.{Command}
 use Rattle.heap_model.specs.declared.command.Command.TheVariants.{Major}
-use Rattle.heap_model.specs.Commands.{is_allocation}
-use Rattle.heap_model.specs.Domains.{class_count}
+pub use Rattle.schedule_laws.specs.Pools.{allocations, pools_of}
 use Rattle.heap_text.specs.Forms.{version_number}
 use Rattle.heap_text.specs.Script.{Scripted}
 
@@ -16,14 +15,6 @@ is_major _ = false
 -- whether there is one in a script
 abbrev pub has_major : List (List Command) → Bool
 has_major script = list_any (list_any is_major) script
-
--- how many blocks a script makes, if no allocation is answered `full`
-abbrev pub allocations : List (List Command) → ℕ
-allocations script = sum_by (count_by is_allocation) script
-
--- how many pools it may own at most: each holds one of its blocks or the shared one, or is one that a domain has begun for a size class
-abbrev pub pools_of : ℕ → List (List Command) → ℕ
-pools_of domains script = allocations script + 1 + class_count * domains
 
 -- whether a script is of the version whose sections are spawned
 abbrev pub has_spawns : Scripted → Bool

@@ -1,22 +1,32 @@
-use Rattle.std.proofs.Common.{◌≡◌, ap, arith, subst, sym, Some, true}
+use Rattle.std.proofs.Common.{◌≡◌, ◌≤◌, length, ap, arith, subst, sym, Some, true}
 use Rattle.std.specs.Prelude.{Option}
 use Rattle.std.specs.List.{list_all}
 use Rattle.schedule_drive.specs.Following.{is_for}
 use Rattle.heap_model.specs.declared.state.Sizes.{Sizes}
 use Rattle.heap_rule.specs.Ending.{EndedHeap}
 use Rattle.replay_turns.specs.Replayed.{Replayed}
+use Rattle.schedule_text.specs.Replays.{Replayed as ReplayedText}
 use Rattle.camlheap_run.specs.Reading.{IsSpelledReplay}
 use Rattle.camlheap_run.specs.Replaying.{WritesFrontOfReplay, WritesReplay}
-use Rattle.camlheap_run.proofs.ReplayLemmas.{all_played_here, all_played_over, begun_may, items_for, many_sections, played_count, replayed_script, writes_replay, writes_replay_front}
+use Rattle.camlheap_run.proofs.ReplayLemmas.{all_played_here, all_played_over, begun_may, items_for, leaves_ample, many_sections, played_count, replayed_script, writes_replay, writes_replay_front}
 use Rattle.camlheap_run.proofs.replaying.run_replay.Goals as goal
 
 pub replay_runs-requires-clause-may : goal.replay_runs-requires-clause-may
-replay_runs-requires-clause-may g c = begun_may c.config_of.result c.replay.inside.script.sections c.in-Ok.begun c.in-Ok.ensures
+replay_runs-requires-clause-may g c =
+    let read : ReplayedText = record { items = c.replay.inside.schedule; script = c.replay.inside.script } in
+    let spelled : IsSpelledReplay c.args.sizes.now read = subst (IsSpelledReplay c.args.sizes.now) (sym c.replay.view_is) c.requires.replay in
+    begun_may c.config_of.result c.replay.inside.script.sections c.in-Ok.begun c.in-Ok.ensures
+    (many_sections c.args.sizes.now c.config_of.result read spelled c.config_of.ensures.sizes)
+    (leaves_ample c.args.sizes.now c.config_of.result read c.requires.limits spelled c.config_of.ensures.sizes)
 
 pub replay_runs-requires-clause-inside : goal.replay_runs-requires-clause-inside
 replay_runs-requires-clause-inside g c =
     items_for c.config_of.result c.replay.inside.script.sections c.in-Ok.begun c.args.sizes.now.domains c.items.result.now c.in-Ok.ensures (ap (λ (y : Sizes). y.domains) c.config_of.ensures.sizes)
     (subst (λ is. list_all (is_for c.args.sizes.now.domains) is ≡ true) (sym c.items.ensures) (subst (IsSpelledReplay c.args.sizes.now) (sym c.replay.view_is) c.requires.replay).1.schedule.for_domains)
+
+pub replay_runs-requires-clause-few : goal.replay_runs-requires-clause-few
+replay_runs-requires-clause-few g c =
+    subst (λ is. length is ≤ 200000) (sym c.items.ensures) (subst (IsSpelledReplay c.args.sizes.now) (sym c.replay.view_is) c.requires.replay).1.schedule.few
 
 pub end-requires-clause-here : goal.end-requires-clause-here
 end-requires-clause-here g c =

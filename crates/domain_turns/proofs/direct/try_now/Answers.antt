@@ -5,6 +5,7 @@ use Rattle.heap_model.specs.declared.reply.Reply.{Reply}
 use Rattle.heap_rule.specs.Token.{IsIn}
 use Rattle.domain_turns.specs.Runs.{IsHandedIn, IsRun, IsUnqueued, MaySubmit, RunView, cleared}
 use Rattle.domain_turns.proofs.AtOnce.{cleared_is_run, open_acts, submits_enlists}
+use Rattle.domain_turns.proofs.MeetingLemmas.{untried_is_run}
 use Rattle.domain_turns.proofs.direct.try_now.Goals as goal
 
 pub try_command-requires-clause-runs : goal.try_command-requires-clause-runs
@@ -41,3 +42,10 @@ invariant_of-run c =
       subst (λ (z : (List model.Command × ℕ) × (List Reply × List Reply)). IsRun (record (cleared r c.try_command.new.dom) { commands = z.0.0; next = z.0.1; replies = z.1.0; ran = z.1.1 })) (λ i. ((sym c.forget.ensures.commands i, sym c.forget.ensures.next i), (sym c.forget.ensures.replies i, sym c.forget.ensures.ran i))) is,
       record { answers = omega (arith, none); one = λ _. (first, second); apart = λ _. apart },
     )
+
+pub invariant_of-run-in-Needs : goal.invariant_of-run-in-Needs
+invariant_of-run-in-Needs c =
+    let r : RunView = record { token = c.run.inside.domain; commands = c.run.inside.commands.items; next = c.run.inside.next; replies = c.run.inside.replies.items; ended = c.run.inside.ended; left = c.run.inside.left; asked = c.run.inside.asked; collected = c.run.inside.collected; progress = c.run.inside.progress; due = c.run.inside.due; hints = c.run.inside.hints; supply = c.run.inside.supply; place = c.run.inside.place; spare = c.run.inside.spare; ran = c.run.inside.ran.items } in
+    let here : IsIn r.token c.args.heap.now = subst (λ (x : RunView). IsIn x.token c.args.heap.now) (sym c.run.view_is) c.requires.here in
+    let left : r.left ≡ None = subst (λ (x : RunView). x.left ≡ None) (sym c.run.view_is) c.requires.left in
+    (untried_is_run c.args.heap.now r c.try_command.new.dom c.args.command.now _ _ c.try_command.result here c.run.invariant.0 left c.in-Needs.is c.try_command.ensures.answer, c.run.invariant.1)

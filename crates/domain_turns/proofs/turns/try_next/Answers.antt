@@ -7,6 +7,7 @@ use Rattle.steps_finalisers.specs.Registering.{count_of}
 use Rattle.domain_turns.specs.Tries.{registrations_of}
 use Rattle.domain_turns.specs.Runs.{HasReserved, RunView, IsRun}
 use Rattle.domain_turns.specs.declared.place.Place.TheVariants.{Before}
+use Rattle.domain_turns.proofs.MeetingLemmas.{refused_is_run}
 use Rattle.domain_turns.proofs.Turning.{tried_is_run, next_enlists, next_labels, next_replies, next_room}
 use Rattle.domain_turns.proofs.Supplying.{fits_ordinary}
 use Rattle.domain_turns.proofs.turns.try_next.Goals as goal
@@ -52,3 +53,10 @@ try_command-requires-clause-fits c =
     let r : RunView = record { token = c.run.inside.domain; commands = c.run.inside.commands.items; next = c.run.inside.next; replies = c.run.inside.replies.items; ended = c.run.inside.ended; left = c.run.inside.left; asked = c.run.inside.asked; collected = c.run.inside.collected; progress = c.run.inside.progress; due = c.run.inside.due; hints = c.run.inside.hints; supply = c.run.inside.supply; place = c.run.inside.place; spare = c.run.inside.spare; ran = c.run.inside.ran.items } in
     let at : slice_get r.commands r.next ≡ Some c.args.command.now = subst (λ (x : RunView). slice_get x.commands x.next ≡ Some c.args.command.now) (sym c.run.view_is) c.requires.next in
     fits_ordinary r.supply c.args.command.now c.requires.ordinary (c.run.invariant.0.fit r.next c.args.command.now at)
+
+pub invariant_of-run-in-NoRoom : goal.invariant_of-run-in-NoRoom
+invariant_of-run-in-NoRoom c =
+    let r : RunView = record { token = c.run.inside.domain; commands = c.run.inside.commands.items; next = c.run.inside.next; replies = c.run.inside.replies.items; ended = c.run.inside.ended; left = c.run.inside.left; asked = c.run.inside.asked; collected = c.run.inside.collected; progress = c.run.inside.progress; due = c.run.inside.due; hints = c.run.inside.hints; supply = c.run.inside.supply; place = c.run.inside.place; spare = c.run.inside.spare; ran = c.run.inside.ran.items } in
+    let here : IsIn r.token c.args.heap.now = subst (λ (x : RunView). IsIn x.token c.args.heap.now) (sym c.run.view_is) c.requires.here in
+    let left : r.left ≡ None = subst (λ (x : RunView). x.left ≡ None) (sym c.run.view_is) c.requires.left in
+    (refused_is_run c.args.heap.now r c.try_command.new.dom c.args.command.now _ here c.run.invariant.0 left c.in-NoRoom.ensures.answer.0, c.run.invariant.1)

@@ -6,16 +6,16 @@ use Rattle.replay_turns.proofs.SlotLemmas.{has_run, never_none}
 use Rattle.replay_turns.proofs.halting.halt_at.Goals as goal
 
 pub unreachable-requires : goal.unreachable-requires
-unreachable-requires g c = let f = c.requires.here.filled c.args.at c.requires.inside in never_none _ c.args.at _ f.0 f.1 c.in_default.is
+unreachable-requires c = let f = c.requires.here.filled c.args.at c.requires.inside in never_none _ c.args.at _ f.0 f.1 c.in_default.is
 
 pub halt-requires-clause-here : goal.halt-requires-clause-here
-halt-requires-clause-here g c = c.requires.here.here c.args.at _ (has_run _ c.args.at _ _ c.requires.inside c.in-Some.is)
+halt-requires-clause-here c = c.requires.here.here c.args.at _ (has_run _ c.args.at _ _ c.requires.inside c.in-Some.is)
 
 pub halt-requires-clause-running : goal.halt-requires-clause-running
-halt-requires-clause-running g c = c.requires.running _ (has_run _ c.args.at _ _ c.requires.inside c.in-Some.is)
+halt-requires-clause-running c = c.requires.running _ (has_run _ c.args.at _ _ c.requires.inside c.in-Some.is)
 
 pub returns : goal.returns
-returns g c = record {
+returns c = record {
   halts = record {
     run = c.in-Some.run';
     becomes = record {
@@ -26,3 +26,6 @@ returns g c = record {
     };
   };
 }
+
+pub halt-requires-clause-few : goal.halt-requires-clause-few
+halt-requires-clause-few c = c.requires.few _ (has_run _ c.args.at _ _ c.requires.inside c.in-Some.is)

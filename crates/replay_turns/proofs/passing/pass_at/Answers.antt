@@ -1,10 +1,71 @@
-use Rattle.std.proofs.Common.{◌∙◌, length, ap, sym}
-use Rattle.domain_turns.specs.Runs.{RunView}
-use Rattle.replay_turns.proofs.LevelLemmas.{level_here}
+use Rattle.std.proofs.Common.{◌≡◌, ◌∙◌, ◌<◌, ℕ, List, None, Option, Some, ap, length, length-set, refl, subst, sym}
+use Rattle.std.specs.Prelude.{slice_get, slice_set, vec_capacity}
+use Rattle.heap_rule.specs.Token.{IsIn}
+use Rattle.domain_turns.specs.Meeting.{AllButOne, AllRunsMet, AreHere, PassesAmong}
+use Rattle.domain_turns.specs.Runs.{IsRun, RunView}
+use Rattle.pause_phases.specs.declared.decider.Decider.TheVariants.{Caller}
+use Rattle.replay_turns.specs.Gathered.{HasRun}
+use Rattle.replay_turns.specs.Moves.{MetThen, PassesAt}
+use Rattle.replay_turns.proofs.LevelLemmas.{all_but_one, leveled_all, level_mid, level_new, others_here, others_later, twice_set}
+use Rattle.replay_turns.proofs.Places.{set_else, set_here}
+use Rattle.replay_turns.proofs.SlotLemmas.{inside}
 use Rattle.replay_turns.proofs.passing.pass_at.Goals as goal
 
-pub pass_alone-requires-clause-here : goal.pass_alone-requires-clause-here
-pass_alone-requires-clause-here g c = level_here c.args.heap.now c.args.runs.now c.meet_each.new.runs c.args.at (length c.args.runs.now) c.requires.here c.meet_each.ensures.leveled
+pub take_run-run-requires : goal.take_run-run-requires
+take_run-run-requires c = record { there = c.requires.here.filled c.args.at c.requires.inside }
 
-pub pass_alone-requires-clause-gone : goal.pass_alone-requires-clause-gone
-pass_alone-requires-clause-gone g c = λ r there none. let m = c.meet_each.ensures.leveled.more c.args.at r there in c.requires.gone m.0 m.1 (sym (ap (λ (x : RunView). x.left) m.2.is) ∙ none)
+pub pass_among-run-requires-clause-here : goal.pass_among-run-requires-clause-here
+pass_among-run-requires-clause-here c = c.requires.here.here c.args.at c.take_run-run.result c.take_run-run.ensures.taken
+
+pub pass_among-run-requires-clause-arrived : goal.pass_among-run-requires-clause-arrived
+pass_among-run-requires-clause-arrived c = c.requires.gone c.take_run-run.result c.take_run-run.ensures.taken
+
+pub pass_among-run-requires-clause-few : goal.pass_among-run-requires-clause-few
+pass_among-run-requires-clause-few c = c.requires.few c.take_run-run.result c.take_run-run.ensures.taken
+
+pub pass_among-run-requires-clause-others : goal.pass_among-run-requires-clause-others
+pass_among-run-requires-clause-others c = subst (AreHere c.args.heap.now) (sym c.take_run-run.ensures.rest) (others_here c.args.heap.now c.args.runs.now c.args.at c.requires.here)
+
+pub pass_among-run-requires-clause-all : goal.pass_among-run-requires-clause-all
+pass_among-run-requires-clause-all c = subst (AllButOne c.args.heap.now) (sym c.take_run-run.ensures.rest) (all_but_one c.args.heap.now c.args.runs.now c.args.at c.requires.inside c.requires.count c.requires.here)
+
+pub pass_among-run-requires-clause-least : goal.pass_among-run-requires-clause-least
+pass_among-run-requires-clause-least c = λ d q there.
+    let was = others_later c.args.runs.now c.args.at d q (subst (λ rs. HasRun rs d q) c.take_run-run.ensures.rest there) in
+    c.requires.least d c.take_run-run.result q c.take_run-run.ensures.taken was
+
+pub pass_among-run-requires-clause-fits : goal.pass_among-run-requires-clause-fits
+pass_among-run-requires-clause-fits c = subst (λ n. n < vec_capacity c.args.room.now) (sym (ap length c.take_run-run.ensures.rest ∙ length-set c.args.runs.now c.args.at None)) c.requires.fits
+
+pub returns-clause-passes : goal.returns-clause-passes
+returns-clause-passes c =
+    let heap = c.args.heap.now in
+    let old = c.args.runs.now in
+    let at = c.args.at in
+    let one = c.take_run-run.result in
+    let passed = c.pass_among-run.result in
+    let others = c.pass_among-run.new.others in
+    let p = subst (λ rs. PassesAmong heap (Caller c.args.complete) one passed rs others) c.take_run-run.ensures.rest c.pass_among-run.ensures.passed in
+    let met = p.met in
+    let mid = level_new heap old others at one met c.requires.here c.take_run-run.ensures.taken p.all_met in
+    let within : at < length others = subst (λ (n : ℕ). at < n) (sym (level_mid heap old others at one met c.requires.here c.take_run-run.ensures.taken p.all_met)) c.requires.inside in
+    record {
+      mid = mid;
+      leveled = leveled_all heap old others at one met c.requires.here c.take_run-run.ensures.taken p.all_met;
+      moved = record {
+        run = met;
+        passed = passed;
+        passes = p.passes;
+        stands = p.stands;
+        is_passed = c.is_faithful.ensures;
+        commands = c.pass_among-run.ensures.goes_on.commands ∙ sym (ap (λ (r : RunView). r.commands) p.all_met.own_is);
+        supply = c.pass_among-run.ensures.goes_on.supply ∙ sym (ap (λ (r : RunView). r.supply) p.all_met.own_is);
+        number = c.pass_among-run.ensures.goes_on.number ∙ sym (ap (λ (r : RunView). r.token.view.own.number) p.all_met.own_is);
+        becomes = record {
+          was = set_here others at (Some met) within;
+          here = c.pass_among-run.ensures.here;
+          is = subst IsRun c.forget_collected.ensures c.is_faithful-2.ensures;
+          runs = c.put_run.ensures ∙ (ap (λ (r : RunView). slice_set others at (Some r)) c.forget_collected.ensures ∙ sym (twice_set others at _ _));
+        };
+      };
+    }

@@ -1,13 +1,17 @@
-use Rattle.std.proofs.Common.{◌∙◌, length, ap}
+use Rattle.std.proofs.Common.{◌∙◌, ap}
 use Rattle.domain_turns.specs.Runs.{RunView}
+use Rattle.replay_turns.proofs.Joining.{level_few}
 use Rattle.replay_turns.proofs.LevelLemmas.{level_here}
 use Rattle.replay_turns.proofs.stepping.step_at.Goals as goal
 
 pub step_alone-requires-clause-here : goal.step_alone-requires-clause-here
-step_alone-requires-clause-here g c = level_here c.args.heap.now c.args.runs.now c.meet_each.new.runs c.args.at (length c.args.runs.now) c.requires.here c.meet_each.ensures.leveled
+step_alone-requires-clause-here c = level_here c.args.heap.now c.args.runs.now c.meet.new.runs c.requires.here c.meet.ensures.leveled
 
 pub step_alone-requires-clause-running : goal.step_alone-requires-clause-running
-step_alone-requires-clause-running g c = λ r there. let m = c.meet_each.ensures.leveled.more c.args.at r there in ap (λ (x : RunView). x.left) m.2.is ∙ c.requires.running m.0 m.1
+step_alone-requires-clause-running c = λ r there. let m = c.meet.ensures.leveled.more c.args.at r there in ap (λ (x : RunView). x.left) m.2.is ∙ c.requires.running m.0 m.1
 
-pub step_alone-requires-clause-listed : goal.step_alone-requires-clause-listed
-step_alone-requires-clause-listed g c = λ r there. let m = c.meet_each.ensures.leveled.more c.args.at r there in ap (λ (x : RunView). x.supply) m.2.is ∙ c.requires.listed m.0 m.1
+pub step_alone-requires-clause-goes_on : goal.step_alone-requires-clause-goes_on
+step_alone-requires-clause-goes_on c = λ r there. let m = c.meet.ensures.leveled.more c.args.at r there in ap (λ (x : RunView). x.ended) m.2.is ∙ c.requires.goes_on m.0 m.1
+
+pub step_alone-requires-clause-few : goal.step_alone-requires-clause-few
+step_alone-requires-clause-few c = level_few c.args.heap.now c.args.runs.now c.meet.new.runs c.requires.few c.meet.ensures.leveled

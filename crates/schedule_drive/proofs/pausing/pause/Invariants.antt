@@ -1,4 +1,6 @@
+use Rattle.std.proofs.Common.{◌<◌, ◌≤◌, ◌+◌}
 use Rattle.schedule_drive.specs.Pausing.{Paused}
+use Rattle.schedule_drive.specs.Spending.{most_in_pause}
 use Rattle.schedule_drive.specs.Together.{Stands}
 use Rattle.schedule_drive.proofs.pausing.pause.Given as goal
 
@@ -6,6 +8,8 @@ abbrev pub invariant-passes : goal.invariant-passes
 invariant-passes g l = record {
   paused : Paused l.complete (g.T.TogetherRuns.shares l.fn.runs) (g.T.TogetherRuns.shares l.runs) (g.T.TogetherRuns.seen l.fn.runs) (g.T.TogetherRuns.seen l.runs);
   stands : Stands (g.T.TogetherRuns.seen l.runs);
+  room : 0 < g.T.TogetherRuns.spare l.runs;
+  spends : g.T.TogetherRuns.spare l.fn.runs ≤ g.T.TogetherRuns.spare l.runs + most_in_pause;
 }
 
 abbrev pub decreases-passes : goal.decreases-passes

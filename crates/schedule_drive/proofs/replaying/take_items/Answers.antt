@@ -1,4 +1,4 @@
-use Rattle.std.proofs.Common.{◌≡◌, ◌∙◌, fold, rules, subst, sym, take, take_all, arith}
+use Rattle.std.proofs.Common.{◌≡◌, ◌∙◌, ◌<◌, fold, length, rules, subst, sym, take, take_all, arith}
 use Rattle.std.proofs.lemmas.List.Sums.{fold_more}
 use Rattle.schedule_laws.specs.Scheduled.{take_item}
 use Rattle.schedule_drive.specs.Following.{AllFollow}
@@ -14,7 +14,21 @@ loop-item-preserved g c = record {
   taken = λ p follow.
       subst (λ q. AllFollow (g.T.TogetherRuns.seen c.take_item.new.runs) (g.T.TogetherRuns.shares c.take_item.new.runs) q) (sym (fold_more take_item p c.args.items.now c.loop-item.item-index _ (search rules)))
       (c.take_item.ensures.taken (fold take_item p (take c.loop-item.item-index c.args.items.now)) (c.loop-item.invariant.taken p follow));
+  spends = let a = c.loop-item.invariant.spends in let b = c.take_item.ensures.spends in omega (arith, a, b);
 }
+
+pub take_item-requires-clause-room : goal.take_item-requires-clause-room
+take_item-requires-clause-room g c =
+    let room = c.requires.room in
+    let a = c.loop-item.invariant.spends in
+    let below : c.loop-item.item-index < length c.args.items.now = search rules in
+    omega (arith, room, a, below)
+
+pub returns-clause-spends : goal.returns-clause-spends
+returns-clause-spends g c =
+    let a = c.loop-item.invariant.spends in
+    let all : length c.args.items.now ≡ c.loop-item.item-index = search rules in
+    omega (arith, a, all)
 
 pub returns-clause-taken : goal.returns-clause-taken
 returns-clause-taken g c p follow =

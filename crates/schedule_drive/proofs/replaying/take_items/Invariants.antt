@@ -1,8 +1,9 @@
-use Rattle.std.proofs.Common.{◌≡◌, fold, length, take}
+use Rattle.std.proofs.Common.{◌≡◌, ◌≤◌, ◌+◌, ◌*◌, fold, length, take}
 use Rattle.schedule_laws.specs.Scheduled.{Played, take_item}
 use Rattle.schedule_drive.specs.Pausing.{all_commands}
 use Rattle.schedule_drive.specs.Ending.{NoneMore}
 use Rattle.schedule_drive.specs.Following.{AllFollow, IsCalm}
+use Rattle.schedule_drive.specs.Spending.{most_in_turn}
 use Rattle.schedule_drive.proofs.replaying.take_items.Given as goal
 
 abbrev pub invariant-loop-item : goal.invariant-loop-item
@@ -13,4 +14,5 @@ invariant-loop-item g l = record {
   calm : IsCalm (g.T.TogetherRuns.seen l.runs);
   none : NoneMore (g.T.TogetherRuns.seen l.fn.runs) (g.T.TogetherRuns.seen l.runs);
   taken : (p : Played) → AllFollow (g.T.TogetherRuns.seen l.fn.runs) (g.T.TogetherRuns.shares l.fn.runs) p → AllFollow (g.T.TogetherRuns.seen l.runs) (g.T.TogetherRuns.shares l.runs) (fold take_item p (take l.item-index l.items));
+  spends : g.T.TogetherRuns.spare l.fn.runs ≤ g.T.TogetherRuns.spare l.runs + l.item-index * most_in_turn;
 }

@@ -25,7 +25,21 @@ domains-preserved g c = record {
   taken = λ p follow.
       subst (λ q. AllFollow (g.T.TogetherRuns.seen c.take_turn.new.runs) (g.T.TogetherRuns.shares c.take_turn.new.runs) q) (sym (one_more_number take_turn p c.domains.at))
       (c.take_turn.ensures.taken (fold take_turn p (range_with_len 0 c.domains.at)) (c.domains.invariant.taken p follow));
+  spends = let a = c.domains.invariant.spends in let b = c.take_turn.ensures.spends in omega (arith, a, b);
 }
+
+pub take_turn-requires-clause-room : goal.take_turn-requires-clause-room
+take_turn-requires-clause-room g c =
+    let room = c.requires.room in
+    let a = c.domains.invariant.spends in
+    let below : c.domains.at < length (g.T.TogetherRuns.seen c.args.runs.now).runs = search (rules, c.count-at-end.ensures) in
+    omega (arith, room, a, below)
+
+pub returns-clause-spends : goal.returns-clause-spends
+returns-clause-spends g c =
+    let a = c.domains.invariant.spends in
+    let all : c.domains.at ≡ length (g.T.TogetherRuns.seen c.args.runs.now).runs = search (rules, c.count-at-end.ensures) in
+    omega (arith, a, all)
 
 pub returns-clause-taken : goal.returns-clause-taken
 returns-clause-taken g c p played follow =
@@ -43,6 +57,7 @@ domains-init g c = record {
   through = λ n few d below. absurd (omega (arith, below));
   rest = λ d from. refl;
   taken = λ p follow. follow;
+  spends = omega arith;
 }
 
 pub returns-clause-fewer : goal.returns-clause-fewer

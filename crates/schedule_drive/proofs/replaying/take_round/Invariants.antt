@@ -1,9 +1,10 @@
-use Rattle.std.proofs.Common.{◌≡◌, ◌<◌, ◌≤◌, ◌+◌, ℕ, fold, length}
+use Rattle.std.proofs.Common.{◌≡◌, ◌<◌, ◌≤◌, ◌+◌, ◌*◌, ℕ, fold, length}
 use Rattle.std.specs.List.{range_with_len}
 use Rattle.schedule_laws.specs.Scheduled.{Played, take_turn}
 use Rattle.schedule_drive.specs.Pausing.{all_commands}
 use Rattle.schedule_drive.specs.Ending.{AllWithin, turns_at}
 use Rattle.schedule_drive.specs.Following.{AllFollow, IsCalm}
+use Rattle.schedule_drive.specs.Spending.{most_in_turn}
 use Rattle.schedule_drive.proofs.replaying.take_round.Given as goal
 
 abbrev pub invariant-domains : goal.invariant-domains
@@ -15,4 +16,5 @@ invariant-domains g l = record {
   through : (n : ℕ) → AllWithin (n + 1) (g.T.TogetherRuns.seen l.fn.runs) → (d : ℕ) → d < l.at → turns_at (g.T.TogetherRuns.seen l.runs) d ≤ n;
   rest : (d : ℕ) → l.at ≤ d → turns_at (g.T.TogetherRuns.seen l.runs) d ≡ turns_at (g.T.TogetherRuns.seen l.fn.runs) d;
   taken : (p : Played) → AllFollow (g.T.TogetherRuns.seen l.fn.runs) (g.T.TogetherRuns.shares l.fn.runs) p → AllFollow (g.T.TogetherRuns.seen l.runs) (g.T.TogetherRuns.shares l.runs) (fold take_turn p (range_with_len 0 l.at));
+  spends : g.T.TogetherRuns.spare l.fn.runs ≤ g.T.TogetherRuns.spare l.runs + l.at * most_in_turn;
 }

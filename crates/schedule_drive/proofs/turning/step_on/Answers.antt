@@ -1,5 +1,6 @@
-use Rattle.std.proofs.Common.{refl, inl, arith}
-use Rattle.schedule_drive.proofs.Turns.{advances_then, asks_nears, ran_nears, turned_made, turned_needs, turned_ran, turned_waits}
+use Rattle.std.proofs.Common.{refl, inl, inr, ◌∙◌, arith}
+use Rattle.schedule_drive.proofs.Spending.{needs_asked, ran_asked}
+use Rattle.schedule_drive.proofs.Turns.{advances_then, asks_nears, ran_nears, ran_rests, turned_made, turned_needs, turned_ran, turned_waits}
 use Rattle.schedule_drive.proofs.turning.step_on.Goals as goal
 
 pub pause_for-requires-clause-calm : goal.pause_for-requires-clause-calm
@@ -33,6 +34,20 @@ returns-in-Ran-clause-nears g c none =
 
 pub returns-in-Needs-clause-nears : goal.returns-in-Needs-clause-nears
 returns-in-Needs-clause-nears g c none =
-    let asks = asks_nears (g.T.TogetherRuns.shares c.args.runs.now) (g.T.TogetherRuns.shares c.turn-stepped.new.self) _ _ c.args.at c.requires.calm c.requires.goes_on c.stands.ensures.shared c.in-Needs.complete c.in-Needs.ensures.turned none in
+    let asks = asks_nears (g.T.TogetherRuns.shares c.args.runs.now) (g.T.TogetherRuns.shares c.turn-stepped.new.self) _ _ c.args.at c.requires.calm c.requires.goes_on c.stands.ensures.shared c.in-Needs.complete c.in-Needs.ensures.turned c.requires.rested none in
     let rank = c.pause_for.ensures.advances.rank none in
     inl (omega (arith, asks, rank))
+
+pub returns-in-Ran-clause-spends : goal.returns-in-Ran-clause-spends
+returns-in-Ran-clause-spends g c none = inl (ran_asked (g.T.TogetherRuns.shares c.args.runs.now) (g.T.TogetherRuns.shares c.turn-stepped.new.self) _ _ c.args.at c.in-Ran.ensures.turned, c.turn-stepped.ensures.spares)
+
+pub returns-in-Needs-clause-spends : goal.returns-in-Needs-clause-spends
+returns-in-Needs-clause-spends g c none =
+    let needs = needs_asked (g.T.TogetherRuns.shares c.args.runs.now) (g.T.TogetherRuns.shares c.turn-stepped.new.self) _ _ c.args.at c.in-Needs.complete c.requires.rested c.in-Needs.ensures.turned none in
+    let before = c.turn-stepped.ensures.spares in
+    let spends = c.pause_for.ensures.spends in
+    inr (needs.0, c.pause_for.ensures.asked needs.2 ∙ needs.1, omega (arith, before, spends))
+
+pub returns-in-Ran-clause-rested : goal.returns-in-Ran-clause-rested
+returns-in-Ran-clause-rested g c none =
+    ran_rests (g.T.TogetherRuns.shares c.args.runs.now) (g.T.TogetherRuns.shares c.turn-stepped.new.self) _ _ c.args.at c.requires.calm c.requires.goes_on c.stands.ensures.shared c.in-Ran.ensures.turned c.requires.rested

@@ -1,7 +1,9 @@
-use Rattle.std.proofs.Common.{refl, subst, ◌∙◌, true, arith}
+use Rattle.std.proofs.Common.{refl, subst, sym, ◌∙◌, ◌≤◌, true, arith}
 use Rattle.schedule_drive.specs.Together.{Has}
 use Rattle.schedule_drive.proofs.Ending.{ended_none, nearer, waiting_few}
-use Rattle.schedule_drive.proofs.Turns.{calm_but, has_at, no_turn, turn_begins}
+use Rattle.schedule_drive.specs.Spending.{SpentInTurn, asked_at}
+use Rattle.schedule_drive.proofs.Spending.{spent_few, spent_on}
+use Rattle.schedule_drive.proofs.Turns.{calm_but, calm_rests, has_at, no_turn, turn_begins}
 use Rattle.schedule_drive.proofs.turning.take_turn.Goals as goal
 
 pub returns-then-has_ended-clause-taken : goal.returns-then-has_ended-clause-taken
@@ -18,9 +20,11 @@ turns-init g c =
       commands = refl;
       calm = calm_but (g.T.TogetherRuns.seen c.args.runs.now) c.args.at c.requires.calm;
       goes_on = going;
+      rested = calm_rests (g.T.TogetherRuns.seen c.args.runs.now) c.args.at c.requires.calm;
       waits = omega arith;
       others = λ e other. refl;
       midst = λ p follow. turn_begins (g.T.TogetherRuns.shares c.args.runs.now) (g.T.TogetherRuns.seen c.args.runs.now) p c.args.at c.requires.inside c.stands.ensures.shared follow going;
+      spent = let same : g.T.TogetherRuns.spare c.args.runs.now ≤ g.T.TogetherRuns.spare c.args.runs.now = omega arith in subst (λ b. SpentInTurn b (g.T.TogetherRuns.spare c.args.runs.now) (g.T.TogetherRuns.spare c.args.runs.now)) (sym (c.requires.calm.none c.args.at)) same;
     }
 
 pub returns-then-step_on-clause-taken : goal.returns-then-step_on-clause-taken
@@ -45,9 +49,11 @@ turns-preserved g c =
       commands = a.commands ∙ was.commands;
       calm = a.calm;
       goes_on = a.goes_on c.if-step_on.false;
+      rested = c.step_on.ensures.rested c.if-step_on.false;
       waits = let one = a.waits c.if-step_on.false in let two = was.waits in omega (arith, one, two);
       others = λ e other. a.others e other ∙ was.others e other;
       midst = λ p follow. a.stays p (was.midst p follow) c.if-step_on.false;
+      spent = spent_on (asked_at (g.T.TogetherRuns.seen c.turns.runs) c.args.at) (asked_at (g.T.TogetherRuns.seen c.step_on.new.runs) c.args.at) (g.T.TogetherRuns.spare c.args.runs.now) (g.T.TogetherRuns.spare c.turns.runs) (g.T.TogetherRuns.spare c.step_on.new.runs) was.spent (c.step_on.ensures.spends c.if-step_on.false);
     }
 
 pub returns-then-step_on-clause-one : goal.returns-then-step_on-clause-one
@@ -64,3 +70,15 @@ turns-smaller g c =
     let v = g.T.TogetherRuns.seen c.turns.runs in
     let w = g.T.TogetherRuns.seen c.step_on.new.runs in
     nearer v w c.args.at (c.step_on.ensures.nears c.if-step_on.false) (waiting_few w c.args.at c.stands-in-turns.ensures.stands)
+
+pub step_on-requires-clause-room : goal.step_on-requires-clause-room
+step_on-requires-clause-room g c =
+    let room = c.requires.room in
+    let spent = spent_few (asked_at (g.T.TogetherRuns.seen c.turns.runs) c.args.at) (g.T.TogetherRuns.spare c.args.runs.now) (g.T.TogetherRuns.spare c.turns.runs) c.turns.invariant.spent in
+    omega (arith, room, spent)
+
+pub returns-then-step_on-clause-spends : goal.returns-then-step_on-clause-spends
+returns-then-step_on-clause-spends g c =
+    let last = c.step_on.ensures.spends_last c.if-step_on.true in
+    let spent = spent_few (asked_at (g.T.TogetherRuns.seen c.turns.runs) c.args.at) (g.T.TogetherRuns.spare c.args.runs.now) (g.T.TogetherRuns.spare c.turns.runs) c.turns.invariant.spent in
+    omega (arith, last, spent)

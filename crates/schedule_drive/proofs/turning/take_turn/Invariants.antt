@@ -1,8 +1,9 @@
 use Rattle.std.proofs.Common.{◌≡◌, ◌≢◌, ◌≤◌, ◌+◌, ◌*◌, ℕ, false, length}
 use Rattle.schedule_laws.specs.Scheduled.{Played}
-use Rattle.schedule_drive.specs.Pausing.{all_commands}
+use Rattle.schedule_drive.specs.Pausing.{RestedAt, all_commands}
 use Rattle.schedule_drive.specs.Ending.{rank_at, turns_at, waiting_at}
 use Rattle.schedule_drive.specs.Following.{AllFollow, AllMidst, IsCalmBut}
+use Rattle.schedule_drive.specs.Spending.{SpentInTurn, asked_at}
 use Rattle.schedule_drive.specs.Together.{Has}
 use Rattle.schedule_drive.proofs.turning.take_turn.Given as goal
 
@@ -12,10 +13,12 @@ invariant-turns g l = record {
   count : length (g.T.TogetherRuns.seen l.runs).runs ≡ length (g.T.TogetherRuns.seen l.fn.runs).runs;
   commands : all_commands (g.T.TogetherRuns.seen l.runs) ≡ all_commands (g.T.TogetherRuns.seen l.fn.runs);
   calm : IsCalmBut (g.T.TogetherRuns.seen l.runs) l.at;
+  rested : RestedAt (g.T.TogetherRuns.seen l.runs) l.at;
   goes_on : Has (λ x. x.ended) false (g.T.TogetherRuns.seen l.runs) l.at;
   waits : turns_at (g.T.TogetherRuns.seen l.runs) l.at ≤ turns_at (g.T.TogetherRuns.seen l.fn.runs) l.at;
   others : (e : ℕ) → e ≢ l.at → turns_at (g.T.TogetherRuns.seen l.runs) e ≡ turns_at (g.T.TogetherRuns.seen l.fn.runs) e;
   midst : (p : Played) → AllFollow (g.T.TogetherRuns.seen l.fn.runs) (g.T.TogetherRuns.shares l.fn.runs) p → AllMidst (g.T.TogetherRuns.seen l.runs) (g.T.TogetherRuns.shares l.runs) p l.at;
+  spent : SpentInTurn (asked_at (g.T.TogetherRuns.seen l.runs) l.at) (g.T.TogetherRuns.spare l.fn.runs) (g.T.TogetherRuns.spare l.runs);
 }
 
 abbrev pub decreases-turns : goal.decreases-turns

@@ -6,7 +6,7 @@ use Rattle.replay_turns.proofs.gathered.Gathered.run.Goals as goal
 pub unreachable-requires : goal.unreachable-requires
 unreachable-requires c =
     let within = subst (λ (g : GatheredView). c.args.at < length g.runs) (sym c.self.view_is) c.requires.inside in
-    let f = c.self.invariant.filled c.args.at within in never_none _ c.args.at _ f.0 f.1 (sym c.index.ensures ∙ c.in-None.is)
+    let f = c.self.invariant.0.filled c.args.at within in never_none _ c.args.at _ f.0 f.1 (sym c.index.ensures ∙ c.in-None.is)
 
 pub returns : goal.returns
 returns c =

@@ -7,9 +7,9 @@ use Rattle.replay_turns.proofs.Sharing.{shared_is}
 use Rattle.replay_turns.proofs.together.GatheredTogetherRuns.stands.Goals as goal
 
 pub returns-clause-shared : goal.returns-clause-shared
-returns-clause-shared c = λ h ms. shared_is c.args.self.now (subst IsGathered c.self.view_is c.self.invariant) h ms
+returns-clause-shared c = λ h ms. shared_is c.args.self.now (subst IsGathered c.self.view_is c.self.invariant.0) h ms
 
 pub returns-clause-stands : goal.returns-clause-stands
 returns-clause-stands c =
     let limits = subst (λ (v : GatheredView). IsWithinLimits (sizes_in v.heap.config)) c.self.view_is c.config-limits.ensures.limits in
-    stands_of c.args.self.now (subst IsGathered c.self.view_is c.self.invariant) limits
+    stands_of c.args.self.now (subst IsGathered c.self.view_is c.self.invariant.0) limits
