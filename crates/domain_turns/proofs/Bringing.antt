@@ -1,13 +1,13 @@
 -- The domains of the runs at some places are brought together.
-use Rattle.std.proofs.Common.{◌≡◌, ◌≢◌, ◌⊎◌, ⊎_elim, inl, inr, ◌∙◌, ℕ, zero, suc, ◌+◌, ◌<◌, ◌≤◌, List, [], ◌∷◌, ◌++◌, append_assoc, append-nil, length, map, set, slice_get, Option, Some, None, refl, sym, ap, subst, arith}
+use Rattle.std.proofs.Common.{◌≡◌, ◌≢◌, ⊎_elim, inl, inr, ◌∙◌, ℕ, zero, suc, ◌+◌, ◌<◌, ◌≤◌, List, [], ◌∷◌, ◌++◌, append_assoc, append-nil, length, map, set, slice_get, Option, Some, None, refl, sym, ap, subst, arith}
 use Rattle.heap_model.specs.declared.entry.Entry.{Entry}
 use Rattle.heap_rule.specs.declared.config.Config.{Config}
 use Rattle.heap_rule.specs.declared.view.DomainView.{DomainView}
 use Rattle.heap_rule.specs.Ending.{AllIn, Begins}
-use Rattle.heap_rule.specs.Meeting.{Meeting, MetAll, TakesPart, all_seeing, each_seeing, seeing}
+use Rattle.heap_rule.specs.Meeting.{Meeting, MetAll, TakesPart, each_seeing, seeing}
 use Rattle.heap_rule.specs.Phases.{Pause}
 use Rattle.heap_rule.specs.Standing.{with_front}
-use Rattle.heap_rule.specs.Token.{Token, SharedHeap, IsIn, views_of}
+use Rattle.heap_rule.specs.Token.{Token, SharedHeap, views_of}
 use Rattle.heap_rule.specs.Views.{AllDomains, SomeDomain, rest_of}
 use Rattle.heap_rule.proofs.Lists.{got_set}
 use Rattle.heap_rule.proofs.Meetings.{tokens_seeing}

@@ -1,5 +1,5 @@
 -- A run of which a look at the barrier came to something is a run still.
-use Rattle.std.proofs.Common.{◌≡◌, ◌∙◌, ◌+◌, ◌∷◌, ◌++◌, ◌&&◌, ◌^◌, ◌<◌, [], ℕ, Bool, true, false, List, Option, Some, None, length, slice_get, refl, sym, ap, inl, inr, subst}
+use Rattle.std.proofs.Common.{◌≡◌, ◌∙◌, ◌+◌, ◌∷◌, ◌++◌, ◌&&◌, ◌^◌, ◌<◌, [], ℕ, Bool, true, false, List, Option, Some, None, length, refl, sym, ap, inl, inr, subst}
 use Rattle.heap_model.specs.declared.command.Command.TheVariants.{FullMajor}
 use Rattle.heap_model.specs.declared.reply.Reply.{Reply}
 use Rattle.heap_model.specs.declared.entry.Entry.{Entry}

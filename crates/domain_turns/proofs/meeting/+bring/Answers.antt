@@ -1,4 +1,4 @@
-use Rattle.std.proofs.Common.{◌≡◌, ◌∙◌, ◌∷◌, ◌++◌, ◌+◌, ◌-◌, ◌<◌, ◌≤◌, [], ℕ, List, Option, Some, None, length, length-append, length-set, set, sym, ap, subst, arith}
+use Rattle.std.proofs.Common.{◌≡◌, ◌∙◌, ◌∷◌, ◌+◌, ◌<◌, [], List, Option, None, length, length-append, length-set, sym, ap, subst, arith}
 use Rattle.heap_rule.specs.Ending.{AllIn}
 use Rattle.heap_rule.specs.Token.{Token, IsIn}
 use Rattle.heap_rule.proofs.Ends.{popped}
