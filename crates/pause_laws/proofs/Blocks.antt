@@ -1,5 +1,5 @@
 -- A history has made as many blocks as it has allocations, at most, and a domain owes no more finalisers than wait.
-use Rattle.std.proofs.Common.{◌≡◌, ⊎_elim, ℕ, zero, suc, ◌+◌, ◌≤◌, Bool, true, false, List, [], ◌∷◌, ◌++◌, length, map, get_or, set, replicate, Option, Some, None, refl, sym, ap, ◌∙◌, subst, arith, length-append}
+use Rattle.std.proofs.Common.{◌≡◌, ℕ, zero, suc, ◌+◌, ◌≤◌, true, false, List, [], ◌∷◌, ◌++◌, length, map, get_or, set, replicate, Option, Some, None, refl, ap, arith, length-append}
 use Rattle.heap_model.specs.declared.command.Command.{Command}
 use Rattle.heap_model.specs.declared.entry.Entry.{Entry}
 use Rattle.heap_model.specs.declared.entry.Entry.TheVariants.{Command as CommandOf, End, Cut, Queue, Seal, Wipe, Last as LastOf, Collected, Done, Ran}
@@ -11,8 +11,8 @@ use Rattle.heap_model.specs.declared.state.Pending.TheVariants.{Fin, Last}
 use Rattle.heap_model.specs.declared.state.Sizes.{Sizes}
 use Rattle.heap_model.specs.declared.state.State.{State}
 use Rattle.heap_model.specs.Graph.{node_at}
-use Rattle.heap_model.specs.Domains.{domain_at, no_domain, opening, opening_domain, with_block, with_domain}
-use Rattle.heap_model.specs.Commands.{allocated, is_allocation, outcome}
+use Rattle.heap_model.specs.Domains.{domain_at, no_domain, opening, opening_domain, with_domain}
+use Rattle.heap_model.specs.Commands.{is_allocation, outcome}
 use Rattle.heap_model.specs.Entries.{after_run, at_places, freshened, next, queued_final, queued_last, with_finals_open, with_lasts_open, with_last_queued, with_queued, with_wiped, wiped, without_first}
 use Rattle.heap_model.specs.History.{state_after}
 use Rattle.heap_model.proofs.Commands.MoveLemmas.{moved}
