@@ -19,3 +19,4 @@ pub mod Ample
 pub mod Asking
 pub mod Served
 pub mod Serving
+pub mod RefusedSteps
