@@ -49,6 +49,7 @@ pub(crate) fn outside_code(field: u32) -> u32
 }
 
 // Why a command isn't taken.
+#[inline(always)]
 pub(crate) fn refusal_code(refused: Refused) -> u32
     ensures { result ≡ refused_form refused }
 {

@@ -173,6 +173,7 @@ pub(crate) fn command_of(c: &CamlheapCommand) -> Option<Command>
 }
 
 // A reply of this kind, with no number.
+#[inline(always)]
 fn plain(kind: u32) -> CamlheapReply
     ensures { result ≡ plain_form kind }
 {
@@ -188,6 +189,7 @@ fn plain(kind: u32) -> CamlheapReply
 }
 
 // What C reads of a reply.
+#[inline(always)]
 pub(crate) fn reply_of(reply: Reply) -> CamlheapReply
     ensures { result ≡ reply_form reply }
 {

@@ -32,6 +32,7 @@ impl Model for CamlheapDomain {
 
 impl CamlheapDomain {
     // A handle of a loose box.
+    #[inline(always)]
     fn of_loose(loose: Loose<SharedRun, Global>) -> CamlheapDomain
         ensures { (result.full ≡ true) × (result.value ≡ loose.value) }
     {
@@ -44,6 +45,7 @@ impl CamlheapDomain {
     }
 
     // A handle of none.
+    #[inline(always)]
     fn none(alloc: Global) -> CamlheapDomain
         ensures { result.full ≡ false }
     {
@@ -55,6 +57,7 @@ impl CamlheapDomain {
     }
 
     // The loose box of a handle.
+    #[inline(always)]
     fn into_loose(self) -> Option<Loose<SharedRun, Global>>
         ensures { MatchOption result (self.full ≡ false) (λ l. (self.full ≡ true) × (l.value ≡ self.value)) }
     {
@@ -70,6 +73,7 @@ impl CamlheapDomain {
     }
 
     // A handle of a run.
+    #[inline(always)]
     pub(crate) fn of(run: Box<SharedRun>) -> CamlheapDomain
         ensures { (result.full ≡ true) × (result.value ≡ run.value) }
     {
@@ -77,6 +81,7 @@ impl CamlheapDomain {
     }
 
     // Puts another handle in its place, and answers the run that it held.
+    #[inline(always)]
     fn replaced(&mut self, by: CamlheapDomain) -> Option<Box<SharedRun>>
         ensures some { IfSome result (λ b. (self.old.full ≡ true) × (b.value ≡ self.old.value)) }
         ensures none { result ≡ None → self.old.full ≡ false }
@@ -96,6 +101,7 @@ impl CamlheapDomain {
     }
 
     // Takes the run out of a handle.
+    #[inline(always)]
     pub(crate) fn take(&mut self, alloc: Global) -> Option<Box<SharedRun>>
         ensures some { IfSome result (λ b. (self.old.full ≡ true) × (b.value ≡ self.old.value)) }
         ensures none { result ≡ None → self.old.full ≡ false }

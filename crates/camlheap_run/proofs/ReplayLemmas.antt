@@ -86,7 +86,7 @@ begun_may k script b begun many ample = record {
     each = λ d r at. subst (λ (q : RunView). MayBeHeld b.heap d q) (first_at k script b begun d r at) (record { here = (refl, sym begun.config); number = refl; listed = refl; collected = refl; left = refl; asked = refl; armed = λ zeroth. refl; unswept = λ zeroth. refl });
     enough = subst (λ (w : Config × List (List Command)). HasAmple w.0 w.1) (λ i. (sym begun.config i, sym (begun_sections k script b begun many) i)) ample;
   };
-  each = λ d r at. subst IsUntouched (first_at k script b begun d r at) (record { front = refl; asked = refl; next = refl });
+  each = λ d r at. subst IsUntouched (first_at k script b begun d r at) (record { front = refl; arrivals = refl; asked = refl; next = refl });
 }
 
 -- the items are for these runs

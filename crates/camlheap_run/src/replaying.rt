@@ -15,12 +15,10 @@ use outer_io::{Failed, Sink};
 use replay_turns::replay_runs;
 use schedule_text::Replay;
 use std::alloc::{AllocError, Global};
-use std::sync::Wait;
 
 // Runs the sections of a script on one heap by a schedule, on this thread, and then writes the replies. All memory is
 // taken before the first command.
-pub(crate) fn run_replay<R: Wait, K: Sink>(
-    rt: &R,
+pub(crate) fn run_replay<K: Sink>(
     alloc: Global,
     sizes: &Sizes,
     replay: Replay,
@@ -41,7 +39,7 @@ pub(crate) fn run_replay<R: Wait, K: Sink>(
         Ok(begun) => begun,
         Err(AllocError) => return Status::Memory,
     };
-    let (heap, runs) = match replay_runs(rt, alloc, heap, runs, schedule.items()) {
+    let (heap, runs) = match replay_runs(alloc, heap, runs, schedule.items()) {
         Ok(driven) => driven,
         Err(AllocError) => return Status::Memory,
     };

@@ -76,8 +76,7 @@ fn refused(fault: ReplayFault) -> Status
 }
 
 // Reads a schedule and a script, runs the script under the schedule, and writes its replies.
-pub(crate) fn run_replay_source<R: Wait, S: Source, K: Sink>(
-    rt: &R,
+pub(crate) fn run_replay_source<S: Source, K: Sink>(
     alloc: Global,
     sizes: &Sizes,
     src: &mut S,
@@ -105,7 +104,7 @@ pub(crate) fn run_replay_source<R: Wait, S: Source, K: Sink>(
         → IsEither result (fault_status f) Status.Memory }
 {
     match replay_of(alloc, sizes, src) {
-        Ok(replay) => run_replay(rt, alloc, sizes, replay, out),
+        Ok(replay) => run_replay(alloc, sizes, replay, out),
         Err(NoReplay::ReadFault) => Status::ReadFault,
         Err(NoReplay::Refused(fault)) => refused(fault),
         Err(NoReplay::Memory) => Status::Memory,

@@ -146,7 +146,7 @@ pub fn camlheap<R: Threads + Wait + Sync, S: Source, K: Sink, G: Gate + Sync>(
 {
     match read_words(alloc, words) {
         Ok(Some(Job::Run(sizes))) => run_source(rt, alloc, &sizes, src, out, gate),
-        Ok(Some(Job::Replay(sizes))) => run_replay_source(rt, alloc, &sizes, src, out),
+        Ok(Some(Job::Replay(sizes))) => run_replay_source(alloc, &sizes, src, out),
         Ok(Some(Job::Table(sizes))) => run_table_source(rt, alloc, &sizes, src, out),
         Ok(Some(Job::Gen(generated))) => generate_script(alloc, &generated, out),
         Ok(Some(Job::Load(generated))) => load(rt, alloc, &generated, out, gate),

@@ -24,3 +24,5 @@ pub mod StretchLemmas
 pub mod PassingLemmas
 pub mod Refused
 pub mod MeetingLemmas
+pub mod Passed
+pub mod Bringing

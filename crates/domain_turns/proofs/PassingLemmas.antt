@@ -31,11 +31,12 @@ use Rattle.steps_pauses.specs.Pauses.{kind_in, IsModeOf}
 use Rattle.mark_slices.specs.Decks.{DeckCounts, StaysDeck}
 use Rattle.pause_phases.specs.declared.decider.Decider.{Decider}
 use Rattle.safepoint.specs.Looks.{PassedBarrier}
+use Rattle.safepoint.specs.declared.answer.Look.{Look}
 use Rattle.steps_sweep.specs.Answering.{LiveBlocksTold}
 use Rattle.heap_rule.specs.declared.phase.Progress.{Progress}
 use Rattle.domain_turns.specs.declared.passing.LookOutcome.TheVariants.{Answered}
 use Rattle.domain_turns.specs.Pausing.{HasLeft, IsCollected, KnowsProgress, ComesToAnswer, CountsAndAnswers, GivesBack, due_of}
-use Rattle.domain_turns.specs.LookOutcomes.{PassAnswers}
+use Rattle.domain_turns.specs.LookOutcomes.{CameOf, PassAnswers}
 use Rattle.domain_turns.specs.Runs.{RunView, IsRun, IsBetween, Passes}
 use Rattle.domain_turns.proofs.Owing.{due_on}
 use Rattle.domain_turns.proofs.Moving.{moved_is_run, still_moves, view_moves}
@@ -101,6 +102,11 @@ answers_pass decider k x begun y known live blocks (Some reply) c counts =
         due = subst (λ (v : DomainView). due_of k v ≡ length v.own.finalisers.queue.items) (sym a.1.2) l.due;
       },
     )
+
+pub answers_came : (decider : Decider) (k : Config) (x begun y : DomainView) (known : Kind) (live : Bool) (blocks : ℕ) (o : Option Reply) (found : Look) → ComesToAnswer k x begun → CountsAndAnswers k begun y live blocks o → (says : PassAnswers k decider x y known live (Answered blocks o)) × CameOf k decider x y known live (Answered blocks o) says found begun
+unfolding answers_pass
+answers_came decider k x begun y known live blocks None found c counts = (answers_pass decider k x begun y known live blocks None c counts, refl)
+answers_came decider k x begun y known live blocks (Some reply) found c counts = (answers_pass decider k x begun y known live blocks (Some reply) c counts, refl)
 
 -- who goes on still does where the whole history is seen, and owes what it did
 pub counts_goes_on : (k : Config) (x y : DomainView) (blocks : ℕ) → LiveBlocksTold k x blocks y → (domain_at (state_of k x.seen.front) x.own.number).ended ≡ false → (domain_at (state_of k y.seen.front) y.own.number).ended ≡ false

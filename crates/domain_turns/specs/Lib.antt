@@ -6,3 +6,4 @@ pub mod Pausing
 pub mod Driving
 pub mod Kept
 pub mod Handed
+pub mod Meeting

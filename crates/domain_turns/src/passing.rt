@@ -3,7 +3,8 @@ ghost use Rattle.std.specs.Prelude.{◌≡◌, ◌<◌, ◌^◌, [], false, leng
 ghost use Rattle.heap_model.specs.Domains.{domain_at};
 ghost use Rattle.heap_model.specs.declared.entry.Entry.{Entry};
 ghost use Rattle.heap_rule.specs.declared.phase.Kind.TheVariants.{Run, Promote, Reset, Answer};
-ghost use Rattle.heap_rule.specs.declared.phase.Stage.TheVariants.{In, Gone, Leads};
+ghost use Rattle.heap_rule.specs.declared.phase.Stage.TheVariants.{In, Leads};
+ghost use Rattle.heap_rule.specs.declared.view.DomainView.{DomainView};
 ghost use Rattle.heap_rule.specs.declared.view.Hunt.TheVariants.{Rests};
 ghost use Rattle.heap_rule.specs.Rule.{state_of};
 ghost use Rattle.heap_rule.specs.Running.{RemembersAll};
@@ -12,8 +13,8 @@ ghost use Rattle.heap_rule.specs.Views.{voided};
 ghost use Rattle.steps_pauses.specs.Pauses.{arrived_view};
 ghost use Rattle.pause_phases.specs.Sharing.{HintsIn};
 ghost use Rattle.mark_slices.specs.Decks.{StaysDeck};
-ghost use Rattle.domain_turns.specs.LookOutcomes.{PassAnswers, PassHints, left_after};
-ghost use Rattle.domain_turns.specs.Pausing.{HasNothingPending, HasLeft, KnowsProgress, LeavesEven, LeavesOdd, LeavesPromote, LeavesReset, IsReady, CountsAndAnswers, LivesAs, due_of};
+ghost use Rattle.domain_turns.specs.LookOutcomes.{CameOf, Looked, PassAnswers, PassHints, left_after};
+ghost use Rattle.domain_turns.specs.Pausing.{HasNothingPending, KnowsProgress, LeavesEven, LeavesOdd, LeavesPromote, LeavesReset, IsReady, CountsAndAnswers, LivesAs, due_of};
 
 use heap_model::reply::Reply;
 use heap_rule::{Domain, Heap, Kind, Progress};
@@ -21,7 +22,7 @@ use mark_slices::Hints;
 use minor_area::reset;
 use pause_phases::{Decider, give_back, lead_on, share};
 use promote_claim::promote;
-use safepoint::{Look, arrive, look};
+use safepoint::{Look, arrive};
 use steps_sweep::{live_blocks_load, live_words_load};
 
 // What a look at the barrier came to.
@@ -159,8 +160,8 @@ fn answer(heap: &Heap, dom: &mut Domain, live: bool) -> (u64, Option<Reply>)
     (blocks, reply)
 }
 
-// Looks at the barrier, and where all have arrived does the domain's share of the phase that has begun,
-// and arrives. Where the domains run again its minor area is empty. `live`: its next command is a
+// After a look at the barrier: where all have arrived the domain does its share of the phase that has
+// begun, and arrives. Where the domains run again its minor area is empty. `live`: its next command is a
 // `full_major`, which is answered where a collection is, and it owes no finaliser before it.
 #[inline(never)]
 pub(crate) fn pass(
@@ -171,36 +172,30 @@ pub(crate) fn pass(
     progress: &mut Progress,
     live: bool,
     hints: &mut Hints,
+    found: Look,
 ) -> LookOutcome
     requires here { IsIn dom.old heap.now }
-    requires inside { dom.old.view.own.number < heap.now.config.domains }
-    requires gone { dom.old.view.seen.stage ≡ Gone last }
-    requires at_rest { dom.old.view.seen.hunt ≡ Rests }
-    requires idle { dom.old.view.seen.made ≡ [] }
-    requires few { dom.old.view.own.arrivals < 2 ^ 60 }
-    requires quiet { HasNothingPending dom.old.view }
-    requires left { HasLeft heap.now.config last dom.old.view }
-    requires knows { KnowsProgress progress.old dom.old.view }
-    requires goes_on { live ≡ true → (domain_at (state_of heap.now.config dom.old.view.seen.front) dom.old.view.own.number).ended ≡ false }
-    requires paid { live ≡ true → due_of heap.now.config dom.old.view ≡ 0 }
+    requires looked { (before : DomainView) × Looked heap.now.config before dom.old.view last live progress.old found }
     ensures here { IsIn dom.new heap.now }
-    ensures answer { PassAnswers heap.now.config decider dom.old.view dom.new.view last live result }
+    ensures answer { (before : DomainView) → Looked heap.now.config before dom.old.view last live progress.old found → (says : PassAnswers heap.now.config decider before dom.new.view last live result) × CameOf heap.now.config decider before dom.new.view last live result says found dom.old.view }
     ensures knows { KnowsProgress progress.new dom.new.view }
     ensures deck { StaysDeck hints.old hints.new }
-    ensures hints { PassHints dom.old.view result hints.old hints.new }
+    ensures hints { (before : DomainView) → Looked heap.now.config before dom.old.view last live progress.old found → PassHints before result hints.old hints.new }
 {
-    match look(heap, dom) {
+    match found {
         Look::NotAll(b) => LookOutcome::Waits(b),
         Look::Lead => LookOutcome::Arrived(leave_odd(heap, dom, last, decider, progress)),
-        Look::Next(Kind::Run) => LookOutcome::Runs,
-        Look::Next(Kind::Answer) => {
-            let (blocks, reply) = answer(heap, dom, live);
-            LookOutcome::Answered { blocks, reply }
-        }
-        Look::Next(kind) => {
-            leave_even(heap, dom, kind, hints);
-            LookOutcome::Arrived(kind)
-        }
+        Look::Next(kind) => match kind {
+            Kind::Run => LookOutcome::Runs,
+            Kind::Answer => {
+                let (blocks, reply) = answer(heap, dom, live);
+                LookOutcome::Answered { blocks, reply }
+            }
+            _ => {
+                leave_even(heap, dom, kind, hints);
+                LookOutcome::Arrived(kind)
+            }
+        },
     }
 }
 

@@ -1,5 +1,5 @@
 //! Turns.
-ghost use Rattle.std.specs.Prelude.{◌≡◌, ◌≢◌, ◌≤◌, ◌<◌, ◌^◌, ◌&&◌, nat_lt, true, false, length, slice_get, vec_capacity, vec_len, Some, None};
+ghost use Rattle.std.specs.Prelude.{◌≡◌, ◌≢◌, ◌≤◌, ◌<◌, ◌^◌, ◌&&◌, ℕ, nat_lt, true, false, length, slice_get, vec_capacity, vec_len, Some, None};
 ghost use Rattle.heap_model.specs.declared.command.Command.TheVariants.{Poll};
 ghost use Rattle.safepoint.specs.declared.answer.Want.TheVariants.{Finish, Full};
 ghost use Rattle.heap_rule.specs.declared.phase.Note.TheVariants as note;
@@ -14,7 +14,9 @@ ghost use Rattle.heap_model.specs.Domains.{domain_at};
 ghost use Rattle.heap_rule.specs.Rule.{state_of};
 ghost use Rattle.domain_turns.specs.Runs.{Stretches, HasEnded, EndsTrace, RunAnswers, TurnAnswers, RestAnswers, CalmAnswers, GoesOn, CalmDid, IsHandedIn, IsUnqueued, PassesOn, Polls, RunsFinaliser, TrialAnswers, WaitsForAnswer, is_asked, may_use_up, served_since, noted_token, ran_with, said_with, WorksBeside};
 ghost use Rattle.domain_turns.specs.Sections.{IsOrdinary, IsTold};
-ghost use Rattle.domain_turns.specs.LookOutcomes.{PastAnswers};
+ghost use Rattle.domain_turns.specs.LookOutcomes.{PastAnswers, asked_after, collected_after, due_after, next_after, replies_after};
+ghost use Rattle.heap_model.specs.declared.reply.Reply as says;
+ghost use Rattle.domain_turns.specs.declared.passing.LookOutcome.TheVariants.{Answered};
 ghost use Rattle.domain_turns.specs.declared.turned.Turned as turned;
 
 use crate::command::{Attempt, try_command};
@@ -30,7 +32,7 @@ use heap_model::reply::Reply;
 use heap_rule::{Domain, Heap, Kind};
 use mark_slices::{Why, slice};
 use pause_phases::Decider;
-use safepoint::{Want, arrive, ask, wants};
+use safepoint::{Want, arrive, ask, look, wants};
 use size_classes::reserve;
 use steps_marking::armed_now;
 use steps_pauses::{ended_add, ended_load};
@@ -382,7 +384,7 @@ fn turn_running(heap: &Heap, run: &mut DomainRun) -> Turned
 
 // Whether the next command is a `full_major` for which the domain has asked for a pause, which is
 // answered where a complete collection is, and the domain owes no finaliser before it.
-fn waits_for_answer(run: &DomainRun) -> bool
+pub(crate) fn waits_for_answer(run: &DomainRun) -> bool
     ensures yes { result ≡ true → WaitsForAnswer run.now }
     ensures no { result ≡ false → WaitsForAnswer run.now → ⊥ }
 {
@@ -408,6 +410,46 @@ fn lets_refuse(heap: &Heap, asked: Option<u64>, blocks: u64) -> bool
     asked.is_some() && may_use_up(heap, blocks)
 }
 
+// What a run keeps of its commands where a collection was answered, and `queued` finalisers wait in its
+// domain's queue.
+pub(crate) fn keep_answer(
+    heap: &Heap,
+    past: &LookOutcome,
+    queued: usize,
+    next: &mut usize,
+    replies: &mut Vec<Reply>,
+    asked: &mut Option<u64>,
+    collected: &mut bool,
+    due: &mut usize,
+)
+    requires few { next.old ≤ 200000 }
+    requires room { (blocks : ℕ) (reply : says.Reply) → past.now ≡ Answered blocks (Some reply) → vec_len replies.old < vec_capacity replies.old }
+    ensures next { next.new ≡ next_after past.now next.old }
+    ensures replies { replies.new.items ≡ replies_after past.now replies.old.items }
+    ensures asked { asked.new ≡ asked_after past.now asked.old }
+    ensures collected { collected.new ≡ collected_after heap.now.config past.now asked.old collected.old }
+    ensures due { due.new ≡ due_after past.now queued due.old }
+    ensures capacity { vec_capacity replies.new ≡ vec_capacity replies.old }
+{
+    match *past {
+        LookOutcome::Answered {
+            blocks: _,
+            reply: Some(reply),
+        } => {
+            replies.push_reserved(reply);
+            *next += 1;
+            *asked = None;
+            *collected = false;
+            *due = queued;
+        }
+        LookOutcome::Answered {
+            blocks,
+            reply: None,
+        } => *collected = lets_refuse(heap, *asked, blocks),
+        LookOutcome::Waits(_) | LookOutcome::Arrived(_) | LookOutcome::Runs => (),
+    }
+}
+
 // What a domain that has arrived does with the phase that has begun, if one has.
 #[inline(never)]
 fn pass_by(heap: &Heap, run: &mut DomainRun, last: Kind, decider: Decider) -> LookOutcome
@@ -418,6 +460,7 @@ fn pass_by(heap: &Heap, run: &mut DomainRun, last: Kind, decider: Decider) -> Lo
     ensures answer { PastAnswers heap.now decider run.old run.new result }
 {
     let live = waits_for_answer(run);
+    let found = look(heap, &mut run.domain);
     let past = pass(
         heap,
         &mut run.domain,
@@ -426,21 +469,19 @@ fn pass_by(heap: &Heap, run: &mut DomainRun, last: Kind, decider: Decider) -> Lo
         &mut run.progress,
         live,
         &mut run.hints,
+        found,
     );
     run.left = left_after(&past, last);
-    match past {
-        LookOutcome::Answered { blocks, reply } => {
-            run.collected = lets_refuse(heap, run.asked, blocks);
-            if let Some(reply) = reply {
-                run.replies.push_reserved(reply);
-                run.next += 1;
-                run.asked = None;
-                run.collected = false;
-                run.due = run.domain.queued();
-            }
-        }
-        LookOutcome::Waits(_) | LookOutcome::Arrived(_) | LookOutcome::Runs => (),
-    }
+    keep_answer(
+        heap,
+        &past,
+        run.domain.queued(),
+        &mut run.next,
+        &mut run.replies,
+        &mut run.asked,
+        &mut run.collected,
+        &mut run.due,
+    );
     past
 }
 

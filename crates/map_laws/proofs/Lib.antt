@@ -16,6 +16,5 @@ pub mod RefusedBodies
 pub mod ExampleLemmas
 pub mod PrivateLemmas
 pub mod LabelLemmas
-pub mod CacheLemmas
 pub mod EmptyLemmas
 pub mod TidyLemmas

@@ -4,13 +4,15 @@ use Rattle.heap_model.specs.declared.label.Label.{Label}
 use Rattle.heap_model.specs.declared.entry.Entry.{Entry}
 use Rattle.heap_model.specs.declared.graph.Value.{Value}
 use Rattle.heap_model.specs.declared.graph.Value.TheVariants.{Block, Int, Nothing}
+use Rattle.heap_model.specs.declared.graph.Node.TheVariants.{Ephe}
 use Rattle.heap_model.specs.declared.reply.Reply.{Reply}
 use Rattle.heap_model.specs.declared.reply.Reply.TheVariants as reply
 use Rattle.heap_model.specs.declared.state.Sizes.{Sizes}
+use Rattle.heap_model.specs.Graph.{node_at}
 use Rattle.heap_model.specs.Commands.{shown}
 use Rattle.heap_model.specs.History.{IsPrefix, is_entry_of}
 use Rattle.table_laws.specs.Stages.{graph_of}
-use Rattle.map_laws.specs.Tries.{bound_by, ends, inside, low_digits, number_of, root_width}
+use Rattle.map_laws.specs.Tries.{at, bound_by, ends, inside, is_leaf, low_digits, number_of, root_width}
 use Rattle.map_laws.specs.Calls.{bound_after, value_of, ChangesOne, GetAnswers, PutsOrFull, TakeAnswers, CleanAnswers}
 use Rattle.map_laws.proofs.WalkLemmas.{ends_step}
 use Rattle.map_laws.proofs.SetLemmas.{stays}
@@ -68,6 +70,13 @@ no_unbound_key_is_found z root d old new k r all (datum, x, answers) =
 pub no_live_leaf_is_dropped : (z : Sizes) (root : Label) (d : ℕ) (old new : List Entry) (empty : Bool) → CleanAnswers z root d old new empty → (front : List Entry) (e : Entry) → IsPrefix old front → IsPrefix (front ++ e ∷ []) new → is_entry_of d e ≡ true
     → (k : Label) → bound_after z root (front ++ e ∷ []) k ≡ bound_after z root front k
 no_live_leaf_is_dropped z root d old new empty x front e since until own k = x.keeps front e since until own k
+
+-- a clean leaves no leaf that had lost its key when it began
+pub no_dead_leaf_is_left : (z : Sizes) (root : Label) (d : ℕ) (old new : List Entry) (empty : Bool) → CleanAnswers z root d old new empty → (l : Label) (datum : Value) → node_at (graph_of z old) l ≡ Some (Ephe (None ∷ []) datum)
+    → (p : List ℕ) → at (inside (graph_of z new)) p (Block root) ≡ Some (Block l) → is_leaf (node_at (graph_of z new) l) → ⊥
+no_dead_leaf_is_left z root d old new empty x l datum dead p there leaf =
+    let had = x.live p l there leaf in
+    let clash : Some (Ephe (Some had.key ∷ []) had.datum) ≡ Some (Ephe (None ∷ []) datum) = sym had.node ∙ dead in cc
 
 -- and answers of no map that binds a key that it holds nothing
 pub no_full_map_is_empty : (z : Sizes) (root : Label) (d : ℕ) (old new : List Entry) → CleanAnswers z root d old new true → (k : Label) → bound_after z root new k ≡ None

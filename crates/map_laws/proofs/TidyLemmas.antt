@@ -1,18 +1,22 @@
 -- How many blocks a map without spent ones has.
-use Rattle.std.proofs.Common.{◌≡◌, ◌≢◌, inl, inr, ℕ, zero, suc, ◌+◌, ◌*◌, ◌<◌, ◌≤◌, Bool, true, false, ◌||◌, IsTrue, List, [], ◌∷◌, ◌++◌, length, map, get_or, pos, Some, refl, ap, sym, ◌∙◌, subst, arith, append_assoc, length-append}
+use Rattle.std.proofs.Common.{◌≡◌, ◌≢◌, inl, inr, ℕ, zero, suc, ◌+◌, ◌*◌, ◌<◌, ◌≤◌, Bool, true, false, ◌||◌, IsTrue, List, [], ◌∷◌, ◌++◌, length, map, get_or, pos, Option, Some, None, cond, refl, ap, sym, ◌∙◌, subst, arith, append_assoc, length-append}
+use Rattle.std.specs.Option.{option_map_or}
 use Rattle.std.proofs.lemmas.List.{length-map}
 use Rattle.heap_model.specs.declared.label.Label.{Label}
 use Rattle.heap_model.specs.declared.entry.Entry.{Entry}
+use Rattle.heap_model.specs.declared.graph.Value.{Value}
 use Rattle.heap_model.specs.declared.graph.Value.TheVariants.{Int, Block, Nothing}
 use Rattle.heap_model.specs.declared.graph.Node.TheVariants.{Plain}
 use Rattle.heap_model.specs.declared.state.Sizes.{Sizes}
 use Rattle.heap_model.specs.Graph.{Graph, has_label, node_at, same_label}
-use Rattle.heap_model.proofs.Graphs.GraphLemmas.{same_label-true}
+use Rattle.heap_model.proofs.Graphs.GraphLemmas.{same_label-true, same_label_refl}
 use Rattle.table_laws.specs.Stages.{graph_of}
-use Rattle.map_laws.specs.Tries.{at, inside, fields_of, is_leaf, node_width, way_length, way_to, IsMap}
-use Rattle.map_laws.specs.Calls.{IsTidy}
-use Rattle.map_laws.specs.Tidy.{AreDistinct, IsIn, IsInner, IsLeafAt, TidyBlocksAreFew, TidyBlocksLead}
+use Rattle.map_laws.specs.Tries.{at, bound_by, bound_in, ends, inside, fields_of, is_leaf, node_width, way_length, way_to, IsInPlace, IsMap}
+use Rattle.map_laws.specs.Calls.{bound_after, CleanAnswers, IsTidy}
+use Rattle.map_laws.specs.Tidy.{AreDistinct, CleanedBlocksAreFew, CleanedLeavesAreFew, IsIn, IsInner, IsLeafAt, TidyBlocksAreFew, TidyBlocksLead}
 use Rattle.map_laws.proofs.FieldLemmas.{FieldHolds, Deeper, Leaf, Zero, at_field, field_holds, plain_is}
+use Rattle.map_laws.proofs.SetLemmas.{stays}
+use Rattle.map_laws.proofs.WalkLemmas.{Walk, at_step, at_stop, ends_at}
 
 module _ (z : Sizes) (h : List Entry) (root : Label) (map_is : IsMap (graph_of z h) root) (tidy : IsTidy (graph_of z h) root) where
   abbrev g : Graph
@@ -127,28 +131,97 @@ no_more (x ∷ xs) ys (apart, rest) all =
     let short = length-append s.0 s.1 in
     omega (arith, fewer, whole, long, short)
 
--- the way of one of some keys is one of their ways
-way_in : (n : ℕ) (k : Label) (keys : List Label) → IsTrue (has_label keys k) → IsIn (way_to n k) (map (way_to n) keys)
-way_in n k [] there = let clash : false ≡ true = there in cc
-way_in n k (m ∷ keys) there = by (same_label m k) refl (λ later. way_in n k keys later) there
+-- what is told of one of some keys is among what is told of all
+way_in : (way : Label → List ℕ) (k : Label) (keys : List Label) → IsTrue (has_label keys k) → IsIn (way k) (map way keys)
+way_in way k [] there = let clash : false ≡ true = there in cc
+way_in way k (m ∷ keys) there = by (same_label m k) refl (λ later. way_in way k keys later) there
   where
-    by : (b : Bool) → same_label m k ≡ b → (IsTrue (has_label keys k) → IsIn (way_to n k) (map (way_to n) keys)) → IsTrue (has_label (m ∷ keys) k) → IsIn (way_to n k) (map (way_to n) (m ∷ keys))
-    by true same rec here = inl (ap (way_to n) (sym (same_label-true m k same)))
+    by : (b : Bool) → same_label m k ≡ b → (IsTrue (has_label keys k) → IsIn (way k) (map way keys)) → IsTrue (has_label (m ∷ keys) k) → IsIn (way k) (map way (m ∷ keys))
+    by true same rec here = inl (ap way (sym (same_label-true m k same)))
     by false other rec here = inr (rec (subst (λ (b : Bool). IsTrue (b || has_label keys k)) other here))
 
-pub tidy_few : TidyBlocksAreFew
-tidy_few z h root map_is tidy keys binds placed blocks distinct inner =
-    let few = no_more blocks (all_heads (map (way_to z.domains) keys)) distinct each in
-    let most = all_few (map (way_to z.domains) keys) in
-    let same = length-map keys (way_to z.domains) in
-    omega (arith, few, most, same)
+-- where each leaf stands on one of some ways, there are at most six blocks for each way
+few_on_ways : (z : Sizes) (h : List Entry) (root : Label) → IsMap (graph_of z h) root → (ways blocks : List (List ℕ)) → AreDistinct blocks → ((p : List ℕ) → IsIn p blocks → IsInner (graph_of z h) root p) → IsTidy (graph_of z h) root
+    → ((p : List ℕ) → IsLeafAt (graph_of z h) root p → (way : List ℕ) × (q : List ℕ) × IsIn way ways × (way ≡ p ++ q)) → length blocks ≤ 6 * length ways
+few_on_ways z h root map_is ways blocks distinct inner tidy on =
+    let few = no_more blocks (all_heads ways) distinct each in
+    let most = all_few ways in
+    omega (arith, few, most)
   where
-    each : (p : List ℕ) → IsIn p blocks → IsIn p (all_heads (map (way_to z.domains) keys))
+    each : (p : List ℕ) → IsIn p blocks → IsIn p (all_heads ways)
     each p there =
         let x = inner p there in
         let low = map_is.low p (Block x.1.0) x.1.1 x.1.2 x.1.3 in
         let leaf = tidy_lead z h root map_is tidy p x in
-        let key = binds (p ++ leaf.0) leaf.1.0 leaf.1.1 leaf.1.2 in
-        let way = placed (p ++ leaf.0) leaf.1.0 key.0 leaf.1.1 key.2 in
-        let split : way_to z.domains key.0 ≡ p ++ (leaf.0 ++ way.0) = way.1 ∙ append_assoc p leaf.0 way.0 in
-        all_have p (way_to z.domains key.0) (map (way_to z.domains) keys) (way_in z.domains key.0 keys key.1) (subst (λ (w : List ℕ). IsIn p (heads 6 w)) (sym split) (heads_has 6 p (leaf.0 ++ way.0) x.0 (omega (arith, low))))
+        let w = on (p ++ leaf.0) leaf.1 in
+        let split : w.0 ≡ p ++ (leaf.0 ++ w.1) = w.3 ∙ append_assoc p leaf.0 w.1 in
+        all_have p w.0 ways w.2 (subst (λ (y : List ℕ). IsIn p (heads 6 y)) (sym split) (heads_has 6 p (leaf.0 ++ w.1) x.0 (omega (arith, low))))
+
+pub tidy_few : TidyBlocksAreFew
+tidy_few z h root map_is tidy keys binds placed blocks distinct inner =
+    let few = few_on_ways z h root map_is (map (way_to z.domains) keys) blocks distinct inner tidy on in
+    let same = length-map keys (way_to z.domains) in
+    omega (arith, few, same)
+  where
+    on : (p : List ℕ) → IsLeafAt (graph_of z h) root p → (way : List ℕ) × (q : List ℕ) × IsIn way (map (way_to z.domains) keys) × (way ≡ p ++ q)
+    on p leaf =
+        let key = binds p leaf.0 leaf.1 leaf.2 in
+        let way = placed p leaf.0 key.0 leaf.1 key.2 in
+        (way_to z.domains key.0, way.0, way_in (way_to z.domains) key.0 keys key.1, way.1)
+
+-- the steps of a way that are at plain blocks
+abbrev walked : Walk → List ℕ → Value → List ℕ
+walked f [] v = []
+walked f (i ∷ is) v = option_map_or (λ fields. i ∷ walked f is (get_or fields i Nothing)) (f v) []
+
+walked_to : (f : Walk) (p q : List ℕ) (v u : Value) → at f p v ≡ Some u → f u ≡ None → walked f (p ++ q) v ≡ p
+walked_to f [] [] v u there end = refl
+walked_to f [] (j ∷ q) v u there end = let same : v ≡ u = cc in let none : f v ≡ None = ap f same ∙ end in rw none refl
+walked_to f (i ∷ p) q v u there end = go (f v) refl (λ x here. walked_to f p q x u here end)
+  where
+    go : (o : Option (List Value)) → f v ≡ o → ((x : Value) → at f p x ≡ Some u → walked f (p ++ q) x ≡ p) → walked f (i ∷ (p ++ q)) v ≡ i ∷ p
+    go None e rec = let clash : None ≡ Some u = sym (at_stop f i p v e) ∙ there in cc
+    go (Some fields) e rec = rw e (ap (λ (w : List ℕ). i ∷ w) (rec (get_or fields i Nothing) (sym (at_step f i p v fields e) ∙ there)))
+
+-- a leaf that a clean leaves had a key that was bound when the clean began, on whose way it stands
+module _ (z : Sizes) (root : Label) (d : ℕ) (old new : List Entry) (empty : Bool) (placed : IsInPlace z.domains (graph_of z old) root) (x : CleanAnswers z root d old new empty) where
+  abbrev f : Walk
+  f = inside (graph_of z old)
+
+  record Bound (p : List ℕ) : Type 0 where
+    pub key : Label
+    pub bound : bound_after z root old key ≢ None
+    pub q : List ℕ
+    pub way : way_to z.domains key ≡ p ++ q
+    pub steps : walked f (way_to z.domains key) (Block root) ≡ p
+
+  bound_leaf : (p : List ℕ) → IsLeafAt (graph_of z new) root p → Bound p
+  bound_leaf p (l, there, leaf) =
+      let had = x.live p l there leaf in
+      let end : f (Block l) ≡ None = ap fields_of had.node in
+      let own : bound_by (graph_of z old) had.key (Block l) ≡ Some had.datum = ap (bound_in had.key) had.node ∙ ap (λ (b : Bool). cond b (Some had.datum) None) (same_label_refl had.key) in
+      let way = placed p l had.key had.there (λ none. let clash : Some had.datum ≡ None = sym own ∙ none in cc) in
+      let ends_it : ends f (way_to z.domains had.key) (Block root) ≡ Block l = ap (λ (w : List ℕ). ends f w (Block root)) way.1 ∙ (ends_at f p way.0 (Block root) (Block l) had.there ∙ stays f way.0 (Block l) end) in
+      let is : bound_after z root old had.key ≡ Some had.datum = ap (bound_by (graph_of z old) had.key) ends_it ∙ own in record {
+        key = had.key;
+        bound = λ none. (let clash : Some had.datum ≡ None = sym is ∙ none in cc);
+        q = way.0;
+        way = way.1;
+        steps = ap (λ (w : List ℕ). walked f w (Block root)) way.1 ∙ walked_to f p way.0 (Block root) (Block l) had.there end;
+      }
+
+pub cleaned_blocks : CleanedBlocksAreFew
+cleaned_blocks z root d old new empty placed map_is x keys all blocks distinct inner =
+    let few = few_on_ways z new root map_is (map (way_to z.domains) keys) blocks distinct inner x.tidy
+    (λ p leaf. let b = bound_leaf z root d old new empty placed x p leaf in (way_to z.domains b.key, b.q, way_in (way_to z.domains) b.key keys (all b.key b.bound), b.way)) in
+    let same = length-map keys (way_to z.domains) in
+    omega (arith, few, same)
+
+pub cleaned_leaves : CleanedLeavesAreFew
+cleaned_leaves z root d old new empty placed x keys all leaves distinct are =
+    let places : List (List ℕ) = map (λ (k : Label). walked (inside (graph_of z old)) (way_to z.domains k) (Block root)) keys in
+    let few = no_more leaves places distinct (λ p there.
+    let b = bound_leaf z root d old new empty placed x p (are p there) in
+    subst (λ (w : List ℕ). IsIn w places) b.steps (way_in (λ (k : Label). walked (inside (graph_of z old)) (way_to z.domains k) (Block root)) b.key keys (all b.key b.bound))) in
+    let same = length-map keys (λ (k : Label). walked (inside (graph_of z old)) (way_to z.domains k) (Block root)) in
+    omega (arith, few, same)

@@ -10,7 +10,8 @@ use Rattle.heap_model.specs.declared.reply.Reply.{Reply}
 use Rattle.heap_model.specs.declared.reply.Reply.TheVariants as reply
 use Rattle.heap_model.specs.declared.reply.Applied.TheVariants.{Replied}
 use Rattle.heap_model.specs.declared.state.Sizes.{Sizes}
-use Rattle.heap_model.specs.Graph.{Graph}
+use Rattle.heap_model.specs.declared.graph.Node.TheVariants.{Ephe}
+use Rattle.heap_model.specs.Graph.{Graph, node_at}
 use Rattle.heap_model.specs.Commands.{shown}
 use Rattle.heap_model.specs.Domains.{domain_at}
 use Rattle.heap_model.specs.Entries.{reply as reply_of}
@@ -18,7 +19,7 @@ use Rattle.heap_model.specs.Fronts.{NoneOf}
 use Rattle.heap_model.specs.History.{IsPrefix, Legal, is_entry_of}
 use Rattle.table_laws.specs.Thinning.{state_of}
 use Rattle.table_laws.specs.Stages.{graph_of}
-use Rattle.map_laws.specs.Tries.{at, found, inside, node_width, root_width}
+use Rattle.map_laws.specs.Tries.{at, found, inside, is_leaf, node_width, root_width}
 use Rattle.map_laws.specs.Steps.{OwnRespect}
 
 -- what a map binds a key to after a history
@@ -96,10 +97,22 @@ AreZero false n fields = (j : ℕ) × (j < n) × (slice_index_or fields j Nothin
 abbrev pub IsTidy : Graph → Label → Type 0
 IsTidy g root = (i : ℕ) (q : List ℕ) (u : Value) (fields : List Value) → at (inside g) (i ∷ q) (Block root) ≡ Some u → inside g u ≡ Some fields → (j : ℕ) × (j < node_width) × (slice_index_or fields j Nothing ≢ Int (pos 0))
 
--- `clean` changes no binding, leaves no block that is spent, and answers whether the map holds nothing any more
+-- at a place of a map stands a leaf that has its key
+pub record HasKey (g : Graph) (root : Label) (p : List ℕ) (l : Label) : Type 0 where
+  pub there : at (inside g) p (Block root) ≡ Some (Block l)
+  pub key : Label
+  pub datum : Value
+  pub node : node_at g l ≡ Some (Ephe (Some key ∷ []) datum)
+
+-- each leaf that a map has at a later front stood at its place at an earlier one, and had its key then
+abbrev pub HadKeys : Sizes → Label → List Entry → List Entry → Type 0
+HadKeys z root old new = (p : List ℕ) (l : Label) → at (inside (graph_of z new)) p (Block root) ≡ Some (Block l) → is_leaf (node_at (graph_of z new) l) → HasKey (graph_of z old) root p l
+
+-- `clean` changes no binding, leaves no block that is spent and no leaf that had lost its key when it began, and answers whether the map holds nothing any more
 pub record CleanAnswers (z : Sizes) (root : Label) (d : ℕ) (old new : List Entry) (empty : Bool) : Type 0 where
   pub keeps : OwnKeep z root d old new
   pub tidy : IsTidy (graph_of z new) root
+  pub live : HadKeys z root old new
   pub fields : List Value
   pub plain : inside (graph_of z new) (Block root) ≡ Some fields
   pub holds : AreZero empty root_width fields

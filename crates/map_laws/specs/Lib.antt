@@ -4,5 +4,4 @@ pub mod Calls
 pub mod Private
 pub mod MapLaws
 pub mod Examples
-pub mod Caches
 pub mod Tidy

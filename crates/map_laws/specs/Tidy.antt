@@ -1,5 +1,5 @@
 -- How many blocks a map has that was cleaned.
-use Rattle.std.specs.Prelude.{◌≡◌, ◌≢◌, ◌⊎◌, ◌≤◌, ◌*◌, ℕ, IsTrue, List, [], ◌∷◌, ◌++◌, length, Some, None}
+use Rattle.std.specs.Prelude.{◌≡◌, ◌≢◌, ◌⊎◌, ◌≤◌, ◌*◌, ℕ, Bool, IsTrue, List, [], ◌∷◌, ◌++◌, length, Some, None}
 use Rattle.heap_model.specs.declared.label.Label.{Label}
 use Rattle.heap_model.specs.declared.entry.Entry.{Entry}
 use Rattle.heap_model.specs.declared.graph.Value.{Value}
@@ -7,8 +7,8 @@ use Rattle.heap_model.specs.declared.graph.Value.TheVariants.{Block}
 use Rattle.heap_model.specs.declared.state.Sizes.{Sizes}
 use Rattle.heap_model.specs.Graph.{Graph, has_label, node_at}
 use Rattle.table_laws.specs.Stages.{graph_of}
-use Rattle.map_laws.specs.Tries.{at, bound_by, inside, is_leaf, way_to, IsMap}
-use Rattle.map_laws.specs.Calls.{IsTidy}
+use Rattle.map_laws.specs.Tries.{at, bound_by, inside, is_leaf, IsInPlace, IsMap}
+use Rattle.map_laws.specs.Calls.{bound_after, CleanAnswers, IsTidy}
 
 -- a place is one of these
 abbrev pub IsIn : List ℕ → List (List ℕ) → Type 0
@@ -36,5 +36,17 @@ TidyBlocksLead = (z : Sizes) (h : List Entry) (root : Label) → IsMap (graph_of
 abbrev pub TidyBlocksAreFew : Type 0
 TidyBlocksAreFew = (z : Sizes) (h : List Entry) (root : Label) → IsMap (graph_of z h) root → IsTidy (graph_of z h) root → (keys : List Label)
     → ((p : List ℕ) (l : Label) → at (inside (graph_of z h)) p (Block root) ≡ Some (Block l) → is_leaf (node_at (graph_of z h) l) → (k : Label) × IsTrue (has_label keys k) × (bound_by (graph_of z h) k (Block l) ≢ None))
-    → ((p : List ℕ) (l k : Label) → at (inside (graph_of z h)) p (Block root) ≡ Some (Block l) → bound_by (graph_of z h) k (Block l) ≢ None → (q : List ℕ) × (way_to z.domains k ≡ p ++ q))
+    → IsInPlace z.domains (graph_of z h) root
     → (blocks : List (List ℕ)) → AreDistinct blocks → ((p : List ℕ) → IsIn p blocks → IsInner (graph_of z h) root p) → length blocks ≤ 6 * length keys
+
+-- so a clean leaves at most six for each key that was bound when it began
+abbrev pub CleanedBlocksAreFew : Type 0
+CleanedBlocksAreFew = (z : Sizes) (root : Label) (d : ℕ) (old new : List Entry) (empty : Bool) → IsInPlace z.domains (graph_of z old) root → IsMap (graph_of z new) root → CleanAnswers z root d old new empty
+    → (keys : List Label) → ((k : Label) → bound_after z root old k ≢ None → IsTrue (has_label keys k))
+    → (blocks : List (List ℕ)) → AreDistinct blocks → ((p : List ℕ) → IsIn p blocks → IsInner (graph_of z new) root p) → length blocks ≤ 6 * length keys
+
+-- and no more leaves than such keys
+abbrev pub CleanedLeavesAreFew : Type 0
+CleanedLeavesAreFew = (z : Sizes) (root : Label) (d : ℕ) (old new : List Entry) (empty : Bool) → IsInPlace z.domains (graph_of z old) root → CleanAnswers z root d old new empty
+    → (keys : List Label) → ((k : Label) → bound_after z root old k ≢ None → IsTrue (has_label keys k))
+    → (leaves : List (List ℕ)) → AreDistinct leaves → ((p : List ℕ) → IsIn p leaves → IsLeafAt (graph_of z new) root p) → length leaves ≤ length keys

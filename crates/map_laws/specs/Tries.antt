@@ -1,5 +1,5 @@
 -- Weak maps: a trie of plain blocks whose leaves are ephemerons of one key. What a map binds is a function of the graph.
-use Rattle.std.specs.Prelude.{◌≡◌, ℕ, zero, suc, ◌+◌, ◌*◌, ◌/◌, ◌%◌, ◌^◌, ◌<◌, cond, List, [], ◌∷◌, length, slice_index_or, option_and_then, pos, Option, Some, None, ◌⊎◌}
+use Rattle.std.specs.Prelude.{◌≡◌, ◌≢◌, ℕ, zero, suc, ◌+◌, ◌*◌, ◌/◌, ◌%◌, ◌^◌, ◌<◌, cond, List, [], ◌∷◌, ◌++◌, length, slice_index_or, option_and_then, pos, Option, Some, None, ◌⊎◌}
 use Rattle.std.specs.Option.{option_map_or}
 use Rattle.heap_model.specs.declared.label.Label.{Label}
 use Rattle.heap_model.specs.declared.graph.Value.{Value}
@@ -99,3 +99,7 @@ pub record IsMap (g : Graph) (root : Label) : Type 0 where
   pub wide : (p : List ℕ) (v : Value) (fields : List Value) → at (inside g) p (Block root) ≡ Some v → inside g v ≡ Some fields → length fields ≡ width_at p
   pub low : (p : List ℕ) (v : Value) (fields : List Value) → at (inside g) p (Block root) ≡ Some v → inside g v ≡ Some fields → length p < way_length
   pub own : (fields : List Value) × (inside g (Block root) ≡ Some fields)
+
+-- each leaf that binds a key stands on the key's way
+abbrev pub IsInPlace : ℕ → Graph → Label → Type 0
+IsInPlace n g root = (p : List ℕ) (l k : Label) → at (inside g) p (Block root) ≡ Some (Block l) → bound_by g k (Block l) ≢ None → (q : List ℕ) × (way_to n k ≡ p ++ q)

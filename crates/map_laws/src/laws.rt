@@ -1,7 +1,6 @@
 //! Laws of maps. Each function's contract is one law, and it does nothing else.
 ghost use Rattle.map_laws.specs.MapLaws.{SetBinds, DeepenKeeps, ClearKeeps, EmptyKeeps, BlocksStay, ReadTells, CollectorTakes, MapStays, PlacesStay, StepTells, AloneRespects, AloneLeaves, WaysDiffer, WaysPart, RespectedMapStays, LookupAnswersLastPut, HeldBindingIsFound, PutIsFound, CollectedKeysAreReached, DatumKeepsNoKey, NewMapIsEmpty, PrivateStays, PrivateStandsNowhere};
-ghost use Rattle.map_laws.specs.Tidy.{TidyBlocksAreFew, TidyBlocksLead};
-ghost use Rattle.map_laws.specs.Caches.{PutIsBounded, PutIsFound as CachedPutIsFound, PutKeepsUsed, GetKeeps};
+ghost use Rattle.map_laws.specs.Tidy.{CleanedBlocksAreFew, CleanedLeavesAreFew, TidyBlocksAreFew, TidyBlocksLead};
 ghost use Rattle.map_laws.specs.Examples.{IsLegalExample, PutIsAStep, DeepenIsAStep, IsBoundDeeper, IsEmptyOnceCleaned, IsBoundWhileHeld, IsUnboundAfterwards, NoneLeavesIt, StoredNumberBreaksMap};
 
 /// A root whose fields are 0 is a map, and binds nothing.
@@ -45,10 +44,14 @@ pub fn empty_keeps()
     ensures { EmptyKeeps }
 {}
 
-/// In a map that was cleaned each block but the first stands on the way to a leaf, so there are at most six for each leaf.
+/// In a map without spent blocks each block but the first stands on the way to a leaf, so there are at most six for each leaf.
+/// A clean leaves no more leaves than keys were bound when it began, and at most six blocks for each of those, beside the
+/// first.
 pub fn tidy_maps_are_small()
     ensures lead { TidyBlocksLead }
     ensures few { TidyBlocksAreFew }
+    ensures blocks { CleanedBlocksAreFew }
+    ensures leaves { CleanedLeavesAreFew }
 {}
 
 /// After each step a map is a map, and its blocks stand where they stood.
@@ -136,13 +139,4 @@ pub fn cleaned_map_is_empty()
 /// Another: a number that is stored into a map's block by a command that is no map call's makes it no map.
 pub fn stored_number_breaks_map()
     ensures { StoredNumberBreaksMap }
-{}
-
-/// A bounded cache, as plain data: no more entries than its bound, what was put is found, an entry stays until as many others
-/// were used, and a lookup changes no entry.
-pub fn caches()
-    ensures bounded { PutIsBounded }
-    ensures found { CachedPutIsFound }
-    ensures used { PutKeepsUsed }
-    ensures kept { GetKeeps }
 {}

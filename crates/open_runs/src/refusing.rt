@@ -25,6 +25,7 @@ const LEAST: i64 = -(1 << 62);
 const MOST: i64 = (1 << 62) - 1;
 
 /// Whether a command is one that runs on the shared heap, with its numbers in their ranges.
+#[inline(always)]
 pub fn fits(command: &Command) -> bool
     ensures { (result ≡ true) ↔ FitsHeap command.now }
 {
@@ -66,6 +67,7 @@ pub fn fits(command: &Command) -> bool
 }
 
 // Whether a command makes an ephemeron.
+#[inline(always)]
 fn makes_ephemeron(command: &Command) -> bool
     ensures { ephemerons_of command.now ≡ cond result 1 0 }
 {
@@ -73,6 +75,7 @@ fn makes_ephemeron(command: &Command) -> bool
 }
 
 // Whether it registers a finaliser.
+#[inline(always)]
 fn registers(command: &Command) -> bool
     ensures { registrations_of command.now ≡ cond result 1 0 }
 {
@@ -83,6 +86,7 @@ fn registers(command: &Command) -> bool
 }
 
 // Whether it allocates a block.
+#[inline(always)]
 fn allocates(command: &Command) -> bool
     ensures { labels_of command.now ≡ cond result 1 0 }
 {
@@ -97,6 +101,7 @@ fn allocates(command: &Command) -> bool
 
 /// Why a command isn't taken where there are room for so many ephemerons and finalisers and so many labels. None
 /// exactly where it is.
+#[inline(always)]
 pub fn refuses(command: &Command, ephes: usize, finals: usize, labels: u32) -> Option<Refusal>
     ensures none { (result ≡ None) ↔ Takes ephes finals labels command.now }
     ensures why { IsRefused ephes finals labels command.now result }

@@ -11,3 +11,4 @@ mod Phases
 mod Copies
 mod Rooms
 mod Waiting
+mod Meetings

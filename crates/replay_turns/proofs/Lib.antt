@@ -15,6 +15,7 @@ pub mod Joining
 pub mod Turning
 pub mod EndLemmas
 mod Gathering
+mod RefusedBodies
 pub mod Ample
 pub mod Asking
 pub mod Served

@@ -82,7 +82,7 @@ last_odd all arrivals left kind p unmarked is odd =
     ap (λ (o : Option Kind). last_arrival all arrivals o p unmarked) is ∙ ap (λ (b : Bool). if b then arrivals + 1 + any_named all kind p unmarked * 2 else arrivals + any_left all kind p unmarked * 2) (odd_is arrivals odd)
 
 -- a kind in which the domains don't run
-named_left : (all : ℕ) (kind : Kind) (p : Progress) (unmarked : ℕ) → (kind ≡ Run → ⊥) → any_named all kind p unmarked ≡ any_left all kind p unmarked
+pub named_left : (all : ℕ) (kind : Kind) (p : Progress) (unmarked : ℕ) → (kind ≡ Run → ⊥) → any_named all kind p unmarked ≡ any_left all kind p unmarked
 named_left all Run p unmarked other = absurd (other refl)
 named_left all Promote p unmarked other = refl
 named_left all Reset p unmarked other = refl

@@ -15,15 +15,9 @@ use heap_rule::Heap;
 use schedule_drive::{TogetherRuns, replay};
 use schedule_laws::Item;
 use std::alloc::{AllocError, Global};
-use std::sync::Wait;
 
 // Gathered runs, driven by a schedule, and then taken apart.
-fn drive<R: Wait>(
-    rt: &R,
-    gathered: Gathered,
-    room: Vec<DomainRun>,
-    items: &[Item],
-) -> (Heap, Vec<DomainRun>)
+fn drive(gathered: Gathered, room: Vec<DomainRun>, items: &[Item]) -> (Heap, Vec<DomainRun>)
     requires calm { IsCalm (seen_in gathered) }
     requires fresh { (h : List Entry) → MayShare gathered h → h ≡ [] }
     requires empty { room.items ≡ [] }
@@ -33,7 +27,7 @@ fn drive<R: Wait>(
     ensures { (runs : List RunView) → gathered.runs ≡ map Some runs → ((d : ℕ) (r : RunView) → slice_get runs d ≡ Some r → IsUntouched r) → Replayed gathered.heap.config runs items.now result.0 result.1.items }
 {
     let mut gathered = gathered;
-    replay(rt, &mut gathered, items);
+    replay(&mut gathered, items);
     gathered.is_whole();
     gathered.apart(room)
 }
@@ -45,10 +39,7 @@ fn drive<R: Wait>(
 ///
 /// Each domain has then made its commands, each once and in order, and its end, and its replies are those of the scheduled
 /// history. That is a function of the numbers of the heap, the commands and the items.
-///
-/// As with [`replay`], this call may wait without end.
-pub fn replay_runs<R: Wait>(
-    rt: &R,
+pub fn replay_runs(
     alloc: Global,
     heap: Heap,
     runs: Vec<DomainRun>,
@@ -63,5 +54,5 @@ pub fn replay_runs<R: Wait>(
     let gathered = Gathered::gather(alloc, heap, runs)?;
     gathered.is_whole();
     gathered.stands();
-    Ok(drive(rt, gathered, room, items))
+    Ok(drive(gathered, room, items))
 }

@@ -7,7 +7,6 @@ use crate::halting::halt_all;
 use crate::passing::{gone, pass_at};
 use crate::stepping::step_at;
 use schedule_drive::{Stepped, TogetherRuns};
-use std::sync::Wait;
 
 impl TogetherRuns for Gathered {
     ghost seen = { λ g. seen_in g };
@@ -38,17 +37,17 @@ impl TogetherRuns for Gathered {
         self.run(at).running()
     }
 
-    fn turn<R: Wait>(&mut self, _rt: &R, at: usize) -> Stepped {
+    fn turn(&mut self, at: usize) -> Stepped {
         step_at(&self.heap, self.runs.as_mut_slice(), &mut self.meeting, at)
     }
 
-    fn halt_all<R: Wait>(&mut self, _rt: &R, complete: bool) {
+    fn halt_all(&mut self, complete: bool) {
         let _limits = self.heap.config();
         halt_all(&self.heap, self.runs.as_mut_slice(), &mut self.meeting);
         self.complete = complete;
     }
 
-    fn pass_next<R: Wait>(&mut self, _rt: &R) {
+    fn pass_next(&mut self) {
         let at = gone(self.runs.as_slice());
         pass_at(
             &self.heap,

@@ -1,14 +1,14 @@
 -- A field of a map is cleaned, command by command, beside a collector.
-use Rattle.std.proofs.Common.{◌≡◌, inl, inr, ℕ, ◌≤◌, Bool, true, false, not, ◌&&◌, cond, nat_le, List, [], ◌∷◌, ◌++◌, Option, Some, None, refl, ap, sym, ◌∙◌, subst, arith, append_assoc, append-nil}
+use Rattle.std.proofs.Common.{◌≡◌, ◌⊎◌, inl, inr, ℕ, ◌≤◌, Bool, true, false, not, ◌&&◌, cond, nat_le, List, [], ◌∷◌, ◌++◌, Option, Some, None, refl, ap, sym, ◌∙◌, subst, arith, append_assoc, append-nil}
 use Rattle.std.proofs.lemmas.Bool.Decides.{nat_tests}
 use Rattle.heap_model.specs.declared.label.Label.{Label}
 use Rattle.heap_model.specs.declared.command.Command.{Command}
 use Rattle.heap_model.specs.declared.entry.Entry.{Entry}
 use Rattle.heap_model.specs.declared.reply.Reply.{Reply}
 use Rattle.heap_model.specs.declared.graph.Value.{Value}
-use Rattle.heap_model.specs.declared.graph.Value.TheVariants.{Block}
+use Rattle.heap_model.specs.declared.graph.Value.TheVariants.{Block, Nothing}
 use Rattle.heap_model.specs.declared.graph.Node.{Node}
-use Rattle.heap_model.specs.declared.graph.Node.TheVariants.{Ephe}
+use Rattle.heap_model.specs.declared.graph.Node.TheVariants.{Ephe, Plain}
 use Rattle.heap_model.specs.declared.state.Sizes.{Sizes}
 use Rattle.heap_model.specs.Graph.{Graph, node_at}
 use Rattle.heap_model.specs.Entries.{next}
@@ -18,17 +18,17 @@ use Rattle.heap_model.proofs.Histories.FrontLemmas.{none_cons}
 use Rattle.table_laws.specs.Thinning.{IsOutside, Thin, state_of}
 use Rattle.table_laws.specs.Performing.{is_spared}
 use Rattle.table_laws.specs.Stages.{graph_of}
-use Rattle.map_laws.specs.Tries.{at, found, inside, IsMap}
+use Rattle.map_laws.specs.Tries.{at, fields_of, found, inside, is_leaf, IsMap, IsInPlace}
 use Rattle.map_laws.specs.Steps.{IsThinned, OthersLeave}
-use Rattle.map_laws.specs.Calls.{OwnKeep, PerformedBy, bound_after}
+use Rattle.map_laws.specs.Calls.{HasKey, OwnKeep, PerformedBy, bound_after}
 use Rattle.map_laws.proofs.FrontLemmas.{other_between, prefix_same, prefix_trans}
 use Rattle.map_laws.proofs.MapLemmas.{at_same, inside_same, thinned_map}
 use Rattle.map_laws.proofs.OwnLemmas.{keeps_none, keeps_once, keeps_twice}
 use Rattle.map_laws.proofs.RespectLemmas.{graph_push}
 use Rattle.map_laws.proofs.SetLemmas.{no_longer}
 use Rattle.weak_maps.specs.Cleans.{Below, Cleans, LeftAlone}
-use Rattle.weak_maps.specs.Puts.{IsInPlace}
 use Rattle.weak_maps.proofs.BesideLemmas.{until_new}
+use Rattle.weak_maps.proofs.DescendLemmas.{leaf_node, plain_node}
 use Rattle.weak_maps.proofs.GetLemmas.{grows_by}
 use Rattle.weak_maps.proofs.PlaceLemmas.{thin_place}
 
@@ -63,13 +63,13 @@ leaves_within z root d old new later earlier after before leaves front e since u
 module _ (z : Sizes) (root : Label) (d : ℕ) where
   -- nothing was done
   pub cleans_none : (h : List Entry) → IsMap (graph_of z h) root → IsInPlace z.domains (graph_of z h) root → Cleans z root d h h
-  cleans_none h map placed = record { keeps = keeps_none z root d h; grows = prefix_same h; map = map; placed = placed }
+  cleans_none h map placed = record { keeps = keeps_none z root d h; grows = prefix_same h; map = map; placed = placed; stood = λ p l x. x }
 
   pub left_none : (h : List Entry) → IsMap (graph_of z h) root → IsInPlace z.domains (graph_of z h) root → LeftAlone z root d h h
   left_none h map placed = record { cleans = cleans_none h map placed; places = λ q. refl; blocks = λ q u there. refl; dead = λ q l datum there is. is }
 
   pub cleans_twice : (a b c : List Entry) → Cleans z root d a b → Cleans z root d b c → Cleans z root d a c
-  cleans_twice a b c x y = record { keeps = keeps_twice z root d a b c y.grows x.keeps y.keeps; grows = prefix_trans a b c x.grows y.grows; map = y.map; placed = y.placed }
+  cleans_twice a b c x y = record { keeps = keeps_twice z root d a b c y.grows x.keeps y.keeps; grows = prefix_trans a b c x.grows y.grows; map = y.map; placed = y.placed; stood = λ p l k. x.stood p l (y.stood p l k) }
 
   pub left_twice : (a b c : List Entry) → LeftAlone z root d a b → LeftAlone z root d b c → LeftAlone z root d a c
   left_twice a b c x y = record {
@@ -97,9 +97,25 @@ module _ (z : Sizes) (root : Label) (d : ℕ) where
     still o datum (inl same) = same
     still o datum (inr (j, full, gone, empty)) = cc
 
+    stood_one : (p : List ℕ) (l : Label) → HasKey h root p l → HasKey g root p l
+    stood_one p l x = of_slot (map.slots p (Block l) there)
+      where
+        there : at (inside g) p (Block root) ≡ Some (Block l)
+        there = sym (at_same P g h root map thinned p) ∙ x.there
+
+        had : (o : Option Label) (datum : Value) → node_at g l ≡ Some (Ephe (o ∷ []) datum) → Thin P (Ephe (o ∷ []) datum) (node_at h l) → HasKey g root p l
+        had o datum is (inl same) = record { there = there; key = x.key; datum = x.datum; node = is ∙ (sym same ∙ x.node) }
+        had o datum is (inr (k, full, gone, empty)) = let clash : Some (Ephe (None ∷ []) Nothing) ≡ Some (Ephe (Some x.key ∷ []) x.datum) = sym empty ∙ x.node in cc
+
+        of_slot : (is_leaf (node_at g l) ⊎ ((fields : List Value) × (fields_of (node_at g l) ≡ Some fields))) → HasKey g root p l
+        of_slot (inl leaf) = let n = leaf_node (node_at g l) leaf in had n.0 n.1 n.2 (thinned p l (Ephe (n.0 ∷ []) n.1) there n.2)
+        of_slot (inr (fields, plain)) =
+            let n = plain_node (node_at g l) fields plain in
+            let clash : Some (Plain n.0 fields) ≡ Some (Ephe (Some x.key ∷ []) x.datum) = sym (thinned p l (Plain n.0 fields) there n.1) ∙ x.node in cc
+
     pub left_one : OwnKeep z root d front (front ++ e ∷ []) → LeftAlone z root d front (front ++ e ∷ [])
     left_one keeps = record {
-      cleans = record { keeps = keeps; grows = record { rest = e ∷ []; appends = refl }; map = thinned_map P g h root map thinned; placed = thin_place z.domains P g h root map thinned placed };
+      cleans = record { keeps = keeps; grows = record { rest = e ∷ []; appends = refl }; map = thinned_map P g h root map thinned; placed = thin_place z.domains P g h root map thinned placed; stood = stood_one };
       places = λ q. at_same P g h root map thinned q;
       blocks = λ q u there. inside_same P g h root map thinned q u there;
       dead = λ q l datum there is. still (node_at h l) datum (thinned q l (Ephe (None ∷ []) datum) there is);
@@ -131,18 +147,20 @@ module _ (z : Sizes) (root : Label) (d : ℕ) where
     to_command = left_others now p.between p.others map placed (leaves_within z root d now new now mid (prefix_same now) (until_new z d now new c r p) leaves)
 
     -- the command's own part, by what it leaves of the bindings
-    pub behind_command : IsMap (graph_of z new) root → IsInPlace z.domains (graph_of z new) root → ((l : Label) → found z.domains (graph_of z new) root l ≡ found z.domains (graph_of z mid) root l) → Cleans z root d now new
-    behind_command map_new placed_new kept = record {
+    pub behind_command : IsMap (graph_of z new) root → IsInPlace z.domains (graph_of z new) root → ((l : Label) → found z.domains (graph_of z new) root l ≡ found z.domains (graph_of z mid) root l)
+        → ((q : List ℕ) (l : Label) → HasKey (graph_of z new) root q l → HasKey (graph_of z mid) root q l) → Cleans z root d now new
+    behind_command map_new placed_new kept stood = record {
       keeps = keeps_once z root d now new c r p (λ l. ap (λ (h : List Entry). bound_after z root h l) (sym p.appends) ∙ kept l);
       grows = grows_by z d now new c r p;
       map = map_new;
       placed = placed_new;
+      stood = λ q l x. to_command.cleans.stood q l (stood q l x);
     }
 
     pub left_command : graph_of z new ≡ graph_of z mid → LeftAlone z root d now new
     left_command same =
         let x = to_command in record {
-          cleans = behind_command (subst (λ (y : Graph). IsMap y root) (sym same) x.cleans.map) (subst (λ (y : Graph). IsInPlace z.domains y root) (sym same) x.cleans.placed) (λ l. ap (λ (y : Graph). found z.domains y root l) same);
+          cleans = behind_command (subst (λ (y : Graph). IsMap y root) (sym same) x.cleans.map) (subst (λ (y : Graph). IsInPlace z.domains y root) (sym same) x.cleans.placed) (λ l. ap (λ (y : Graph). found z.domains y root l) same) (λ q l had. subst (λ (y : Graph). HasKey y root q l) same had);
           places = λ q. ap (λ (y : Graph). at (inside y) q (Block root)) same ∙ x.places q;
           blocks = λ q u there. ap (λ (y : Graph). inside y u) same ∙ x.blocks q u there;
           dead = λ q l datum there is. ap (λ (y : Graph). node_at y l) same ∙ x.dead q l datum there is;

@@ -12,23 +12,24 @@ use Rattle.heap_model.specs.declared.state.Sizes.{Sizes}
 use Rattle.heap_model.specs.Graph.{Graph, node_at, with_node}
 use Rattle.heap_model.specs.Commands.{shown, key_value}
 use Rattle.heap_model.specs.Domains.{IsWithinLimits}
+use Rattle.heap_model.proofs.Commands.FrameLemmas.{label_cases}
+use Rattle.heap_model.proofs.Graphs.GraphLemmas.{node_at-with_node_other}
 use Rattle.table_laws.specs.Stages.{graph_of}
-use Rattle.map_laws.specs.Tries.{at, bound_by, bound_in, fields_of, inside, is_leaf, node_width, root_width, width_at, IsSlot}
+use Rattle.map_laws.specs.Tries.{at, bound_by, bound_in, fields_of, inside, is_leaf, node_width, root_width, width_at, IsSlot, IsInPlace}
 use Rattle.map_laws.specs.Steps.{Empties, HoldsNothing, OthersLeave}
-use Rattle.map_laws.specs.Calls.{AreZero, PerformedBy}
+use Rattle.map_laws.specs.Calls.{AreZero, HasKey, PerformedBy}
 use Rattle.map_laws.proofs.CallLemmas.{get_key_plain_step, get_key_step, load_step, store_step}
 use Rattle.map_laws.proofs.EmptyLemmas.{emptied_any, emptied_binds, emptied_blocks, emptied_places, empty_keeps, leaf_nothing, now_in, spent_nothing}
 use Rattle.map_laws.proofs.FieldLemmas.{at_field, field_holds}
 use Rattle.map_laws.proofs.SetLemmas.{no_longer}
 use Rattle.map_laws.proofs.WalkLemmas.{at_stop, same_number, set_else, set_same}
 use Rattle.weak_maps.specs.Beside.{held_by}
-use Rattle.weak_maps.specs.Cleans.{AtBlock, Below, BlockCleaned, Cleans, Elsewhere, FieldCleaned, IsTidyAt, IsZero, KeepsLow, LeftAlone, width_of}
+use Rattle.weak_maps.specs.Cleans.{AtBlock, Below, BlockCleaned, Cleans, Elsewhere, FieldCleaned, HadKeysAt, IsTidyAt, IsZero, KeepsLow, LeftAlone, width_of}
 use Rattle.weak_maps.specs.Commands.{IsBlock}
-use Rattle.weak_maps.specs.Puts.{IsInPlace}
 use Rattle.weak_maps.proofs.BesideLemmas.{same_held, set_here, set_other, sixteen}
 use Rattle.weak_maps.proofs.CleanLemmas.{behind_command, below_more, below_same, cleans_none, cleans_twice, left_command, left_twice, not_below, other_below, to_command}
-use Rattle.weak_maps.proofs.DescendLemmas.{at_append, leaf_node, plain_node}
-use Rattle.weak_maps.proofs.PlaceLemmas.{plain_unbound}
+use Rattle.weak_maps.proofs.DescendLemmas.{at_append, leaf_node, leaf_none, plain_node, still_leaf}
+use Rattle.weak_maps.proofs.PlaceLemmas.{only_there, plain_unbound}
 
 -- there is no field behind the last
 pub beyond : (fs : List Value) (j : ℕ) → length fs ≤ j → get_or fs j Nothing ≡ Nothing
@@ -63,6 +64,12 @@ nothing_there g root here (j ∷ q) v u fields there end at_it plain =
 
 tidy_end : (g : Graph) (root : Label) (here : List ℕ) (v : Value) → at (inside g) here (Block root) ≡ Some v → inside g v ≡ None → IsTidyAt g root here
 tidy_end g root here v there end q u fields at_it plain = absurd (nothing_there g root here q v u fields there end at_it plain)
+
+-- of a place that holds no block of the map: if that is a leaf that had its key, then each there had
+end_had : (z : Sizes) (root : Label) (old now : List Entry) (here : List ℕ) (v : Value) → at (inside (graph_of z now)) here (Block root) ≡ Some v → inside (graph_of z now) v ≡ None → ((l : Label) → v ≡ Block l → HasKey (graph_of z old) root here l) → HadKeysAt z root old now here
+end_had z root old now here v there end had q l at_it leaf =
+    let only = only_there (graph_of z now) q v l end (sym (at_append (inside (graph_of z now)) here q (Block root) v there) ∙ at_it) in
+    subst (λ (w : List ℕ). HasKey (graph_of z old) root w l) (sym (append-nil here) ∙ ap (λ (r : List ℕ). here ++ r) (sym only.0)) (had l only.1)
 
 module _ (z : Sizes) (limits : IsWithinLimits z) (root : Label) (d : ℕ) (p : List ℕ) (l : Label) (i block left value : ℕ) (few : (left ≤ 6) × (block < value)) (is_value : value + left ≡ 14) where
   abbrev here : List ℕ
@@ -171,8 +178,8 @@ module _ (z : Sizes) (limits : IsWithinLimits z) (root : Label) (d : ℕ) (p : L
   }
 
   -- a field that keeps what it holds
-  kept_field : (old now : List Entry) (v : Value) (empty : Bool) → Ready old now v → IsZero empty v → IsTidyAt (graph_of z now) root here → FieldCleaned z d old now root p i l value empty
-  kept_field old now v empty x is_zero tidy = record {
+  kept_field : (old now : List Entry) (v : Value) (empty : Bool) → Ready old now v → IsZero empty v → IsTidyAt (graph_of z now) root here → HadKeysAt z root old now here → FieldCleaned z d old now root p i l value empty
+  kept_field old now v empty x is_zero tidy live = record {
     cleans = x.cleans;
     elsewhere = x.elsewhere;
     fields = x.fields;
@@ -180,18 +187,19 @@ module _ (z : Sizes) (limits : IsWithinLimits z) (root : Label) (d : ℕ) (p : L
     others = λ was plain j other. let both : Some x.fields ≡ Some was = sym x.plain_was ∙ plain in let same : x.fields ≡ was = cc in ap (λ (fs : List Value). get_or fs j Nothing) same;
     holds = subst (IsZero empty) (sym x.field) is_zero;
     tidy = tidy;
+    live = live;
     low = x.low;
   }
 
-  end_field : (old now : List Entry) (v : Value) (empty : Bool) → Read old now v → inside (graph_of z now) v ≡ None → IsZero empty v → FieldCleaned z d old now root p i l value empty
-  end_field old now v empty x end is_zero = kept_field old now v empty (read_ready old now v x) is_zero (tidy_end (graph_of z now) root here v x.at_it end)
+  end_field : (old now : List Entry) (v : Value) (empty : Bool) → Read old now v → inside (graph_of z now) v ≡ None → IsZero empty v → ((b : Label) → v ≡ Block b → HasKey (graph_of z old) root here b) → FieldCleaned z d old now root p i l value empty
+  end_field old now v empty x end is_zero had = kept_field old now v empty (read_ready old now v x) is_zero (tidy_end (graph_of z now) root here v x.at_it end) (end_had z root old now here v x.at_it end had)
 
   -- it holds no block
   pub free_field : (old now : List Entry) (v : Value) → Read old now v → (IsBlock (shown v) → ⊥) → FieldCleaned z d old now root p i l value true
   free_field old now v x none = go v x (x.alone.cleans.map.slots here v x.at_it) none
     where
       go : (w : Value) → Read old now w → IsSlot (graph_of z now) w → (IsBlock (shown w) → ⊥) → FieldCleaned z d old now root p i l value true
-      go (Int a) y slot none = end_field old now (Int a) true y refl (ap Int slot)
+      go (Int a) y slot none = end_field old now (Int a) true y refl (ap Int slot) (λ b same. cc)
       go (Block b) y slot none = absurd (none tt)
       go Nothing y slot none = absurd (y.full refl)
 
@@ -229,9 +237,11 @@ module _ (z : Sizes) (limits : IsWithinLimits z) (root : Label) (d : ℕ) (p : L
   not_zero b same = cc
 
   -- a leaf that has its key stays
-  pub live_field : (old now : List Entry) (b : Label) (r : Reply) → Read old now (Block b) → Met old now b r → (r ≡ reply.BadType → ⊥) → FieldCleaned z d old now root p i l value false
-  live_field old now b r x (inl (key, datum, node, is)) other = end_field old now (Block b) false x (ap fields_of node) (not_zero b)
-  live_field old now b r x (inr (fields, plain, held, is)) other = absurd (other is)
+  pub live_field : (old now : List Entry) (b : Label) (r : Reply) → Read old now (Block b) → Met old now b r → (r ≡ reply.BadType → ⊥) → (r ≡ reply.Empty → ⊥) → FieldCleaned z d old now root p i l value false
+  live_field old now b r x (inl (None, datum, node, is)) other empty = absurd (empty is)
+  live_field old now b r x (inl (Some k, datum, node, is)) other empty = end_field old now (Block b) false x (ap fields_of node) (not_zero b)
+      (λ m same. let it : b ≡ m = cc in subst (HasKey (graph_of z old) root here) it (x.alone.cleans.stood here b (record { there = x.at_it; key = k; datum = datum; node = node })))
+  live_field old now b r x (inr (fields, plain, held, is)) other empty = absurd (other is)
 
   -- 0 comes into a field that holds nothing
   module _ (old now new : List Entry) (r : Reply) (v : Value) (x : Ready old now v) (q : PerformedBy z d now new (Store block i 15) r) (leaves : OthersLeave z root d now new) (narrow : i < width_at p) (nothing : HoldsNothing (graph_of z (now ++ q.between)) v) where
@@ -278,19 +288,36 @@ module _ (z : Sizes) (limits : IsWithinLimits z) (root : Label) (d : ℕ) (p : L
         (λ same. cc)
         (emptied_any g h root alone.cleans.map empties y (Block m) at_m)
 
+    plain_left : inside h (Block l) ≡ Some left_over
+    plain_left = now_in g h root alone.cleans.map empties
+
+    -- a leaf that has its key then stood there before
+    stood_new : (y : List ℕ) (m : Label) → HasKey h root y m → HasKey g root y m
+    stood_new y m had = ⊎_elim
+        (λ there. record {
+          there = there;
+          key = had.key;
+          datum = had.datum;
+          node = label_cases (node_at g m ≡ Some (Ephe (Some had.key ∷ []) had.datum)) m l
+              (λ same. let clash : None ≡ Some left_over = sym (ap fields_of had.node) ∙ (ap (λ (n : Label). inside h (Block n)) same ∙ plain_left) in cc)
+              (λ other. sym (ap (λ (x : Graph). node_at x m) stored.0 ∙ node_at-with_node_other g l m (Plain node.0 left_over) other) ∙ had.node);
+        })
+        (λ same. cc)
+        (emptied_any g h root alone.cleans.map empties y (Block m) had.there)
+
     cleans_it : Cleans z root d now new
     cleans_it =
         let laws = empty_keeps z.domains g h root alone.cleans.map empties in
-        behind_command z root d now new (Store block i 15) r q leaves x.cleans.map x.cleans.placed laws.0 placed_new laws.1
+        behind_command z root d now new (Store block i 15) r q leaves x.cleans.map x.cleans.placed laws.0 placed_new laws.1 stood_new
 
     places_left : (y : List ℕ) → (Below here y → ⊥) → at (inside h) y (Block root) ≡ at (inside (graph_of z now)) y (Block root)
     places_left y apart = emptied_places g h root alone.cleans.map empties y (λ t is. apart (t, is)) ∙ alone.places y
 
-    plain_left : inside h (Block l) ≡ Some left_over
-    plain_left = now_in g h root alone.cleans.map empties
-
     zero_left : get_or left_over i Nothing ≡ Int (pos 0)
     zero_left = set_same x.fields i (Int (pos 0)) Nothing x.below
+
+    zero_there : at (inside h) here (Block root) ≡ Some (Int (pos 0))
+    zero_there = at_field h p (Block root) l left_over i (places_left p (not_below p i) ∙ x.there) plain_left ∙ ap Some zero_left
 
     pub emptied_field : FieldCleaned z d old new root p i l value true
     emptied_field = record {
@@ -305,7 +332,8 @@ module _ (z : Sizes) (limits : IsWithinLimits z) (root : Label) (d : ℕ) (p : L
       plain = plain_left;
       others = λ was plain j other. let both : Some x.fields ≡ Some was = sym x.plain_was ∙ plain in let same : x.fields ≡ was = cc in set_else x.fields i j (Int (pos 0)) Nothing other ∙ ap (λ (fs : List Value). get_or fs j Nothing) same;
       holds = zero_left;
-      tidy = tidy_end h root here (Int (pos 0)) (at_field h p (Block root) l left_over i (places_left p (not_below p i) ∙ x.there) plain_left ∙ ap Some zero_left) refl;
+      tidy = tidy_end h root here (Int (pos 0)) zero_there refl;
+      live = end_had z root old new here (Int (pos 0)) zero_there refl (λ b same. cc);
       low = ((λ j small. stored.1 j ∙ x.low.0 j small), stored.1 15 ∙ x.low.1);
     }
 
@@ -353,7 +381,7 @@ module _ (z : Sizes) (limits : IsWithinLimits z) (root : Label) (d : ℕ) (p : L
 
       -- it holds something
       pub kept_block : e ≡ false → FieldCleaned z d old n2 root p i l value false
-      kept_block is = kept_field old n2 (Block b) false block_ready (not_zero b) tidy
+      kept_block is = kept_field old n2 (Block b) false block_ready (not_zero b) tidy live
         where
           some : (j : ℕ) × (j < node_width) × (get_or y.fields j Nothing ≢ Int (pos 0))
           some = subst (λ (w : Bool × ℕ). AreZero w.0 w.1 y.fields) (λ k. (is k, wide_it k)) y.holds
@@ -374,6 +402,23 @@ module _ (z : Sizes) (limits : IsWithinLimits z) (root : Label) (d : ℕ) (p : L
           tidy (j ∷ q) u fields at_it plain = ⊎_elim
               (λ small. y.tidy j (subst (λ (w : ℕ). j < w) (sym wide_it) small) q u fields (ap (λ (w : List ℕ). at (inside (graph_of z n2)) w (Block root)) (append_assoc here (j ∷ []) q) ∙ at_it) plain)
               (λ far. absurd (past j q u fields far at_it plain))
+              (less_or j node_width)
+
+          live : HadKeysAt z root old n2 here
+          live [] m at_it leaf =
+              let same : Some (Block b) ≡ Some (Block m) = sym y.there ∙ (ap (λ (w : List ℕ). at (inside (graph_of z n2)) w (Block root)) (sym (append-nil here)) ∙ at_it) in
+              let block_it : b ≡ m = cc in
+              let clash : Some y.fields ≡ None = sym y.plain ∙ (ap (λ (n : Label). inside (graph_of z n2) (Block n)) block_it ∙ leaf_none (node_at (graph_of z n2) m) leaf) in cc
+          live (j ∷ q) m at_it leaf = ⊎_elim
+              (λ small.
+              let split = append_assoc here (j ∷ []) q in
+              let had = y.live j (subst (λ (w : ℕ). j < w) (sym wide_it) small) q m (ap (λ (w : List ℕ). at (inside (graph_of z n2)) w (Block root)) split ∙ at_it) leaf in
+              x.alone.cleans.stood (here ++ j ∷ q) m (subst (λ (w : List ℕ). HasKey (graph_of z now) root w m) split had))
+              (λ far.
+              let none : get_or y.fields j Nothing ≡ Nothing = beyond y.fields j (omega (arith, far, length_it)) in
+              let there : at (inside (graph_of z n2)) (here ++ j ∷ []) (Block root) ≡ Some Nothing = at_field (graph_of z n2) here (Block root) b y.fields j y.there y.plain ∙ ap Some none in
+              let only = only_there (graph_of z n2) q Nothing m refl (sym (at_append (inside (graph_of z n2)) (here ++ j ∷ []) q (Block root) Nothing there) ∙ (ap (λ (w : List ℕ). at (inside (graph_of z n2)) w (Block root)) (append_assoc here (j ∷ []) q) ∙ at_it)) in
+              let clash : Nothing ≡ Block m = only.1 in cc)
               (less_or j node_width)
 
       -- it is spent, and goes
@@ -424,6 +469,7 @@ module _ (z : Sizes) (root : Label) (d : ℕ) (old : List Entry) (p : List ℕ) 
     plain = x.plain;
     holds = λ j small. absurd (omega (arith, small));
     tidy = λ j small. absurd (omega (arith, small));
+    live = λ j small. absurd (omega (arith, small));
     low = ((λ j small. refl), x.zero);
   }
 
@@ -443,16 +489,35 @@ module _ (z : Sizes) (root : Label) (d : ℕ) (old : List Entry) (p : List ℕ) 
     plain = f.plain;
     holds = holds_next e zero_it n y.fields f.fields y.holds (f.others y.fields y.plain) f.holds;
     tidy = λ j small. ⊎_elim (λ same. subst (λ (m : ℕ). IsTidyAt (graph_of z new) root (p ++ m ∷ [])) (sym same) f.tidy) (λ other. tidy_still j other (before j small other)) (same_number j n);
+    live = λ j small. ⊎_elim (λ same. subst (λ (m : ℕ). HadKeysAt z root old new (p ++ m ∷ [])) (sym same) live_last) (λ other. live_still j other (before j small other)) (same_number j n);
     low = ((λ j small. f.low.0 j small ∙ y.low.0 j small), f.low.1);
   }
     where
       before : (j : ℕ) → j < n + 1 → (j ≡ n → ⊥) → j < n
       before j small other = ⊎_elim (λ less. less) (λ far. absurd (other (omega (arith, small, far)))) (less_or j n)
 
+      -- what stands below another field
+      split : (j : ℕ) (q : List ℕ) → (p ++ j ∷ []) ++ q ≡ p ++ j ∷ q
+      split j q = append_assoc p (j ∷ []) q
+
+      apart : (j : ℕ) → (j ≡ n → ⊥) → (q : List ℕ) → Below (p ++ n ∷ []) ((p ++ j ∷ []) ++ q) → ⊥
+      apart j other q below = other_below p n j q other (subst (Below (p ++ n ∷ [])) (split j q) below)
+
+      at_now : (j : ℕ) → (j ≡ n → ⊥) → (q : List ℕ) (u : Value) → at (inside (graph_of z new)) ((p ++ j ∷ []) ++ q) (Block root) ≡ Some u → at (inside (graph_of z now)) ((p ++ j ∷ []) ++ q) (Block root) ≡ Some u
+      at_now j other q u there = sym (f.elsewhere.places ((p ++ j ∷ []) ++ q) (apart j other q)) ∙ there
+
+      inside_now : (j : ℕ) → (j ≡ n → ⊥) → (q : List ℕ) (u : Value) → at (inside (graph_of z now)) ((p ++ j ∷ []) ++ q) (Block root) ≡ Some u → inside (graph_of z new) u ≡ inside (graph_of z now) u
+      inside_now j other q u = f.elsewhere.blocks ((p ++ j ∷ []) ++ q) u (apart j other q) (λ same. no_longer p j q (sym same ∙ split j q))
+
       tidy_still : (j : ℕ) → (j ≡ n → ⊥) → j < n → IsTidyAt (graph_of z new) root (p ++ j ∷ [])
       tidy_still j other small q u fields there plain =
-          let split : (p ++ j ∷ []) ++ q ≡ p ++ j ∷ q = append_assoc p (j ∷ []) q in
-          let apart : Below (p ++ n ∷ []) ((p ++ j ∷ []) ++ q) → ⊥ = λ below. other_below p n j q other (subst (Below (p ++ n ∷ [])) split below) in
-          let at_now = sym (f.elsewhere.places ((p ++ j ∷ []) ++ q) apart) ∙ there in
-          let longer : (p ++ j ∷ []) ++ q ≢ p = λ same. no_longer p j q (sym same ∙ split) in
-          y.tidy j small q u fields at_now (sym (f.elsewhere.blocks ((p ++ j ∷ []) ++ q) u apart longer at_now) ∙ plain)
+          let here = at_now j other q u there in
+          y.tidy j small q u fields here (sym (inside_now j other q u here) ∙ plain)
+
+      live_still : (j : ℕ) → (j ≡ n → ⊥) → j < n → HadKeysAt z root old new (p ++ j ∷ [])
+      live_still j other small q m there leaf =
+          let here = at_now j other q (Block m) there in
+          y.live j small q m here (still_leaf (graph_of z now) (graph_of z new) root ((p ++ j ∷ []) ++ q) m y.cleans.map here (inside_now j other q (Block m) here) leaf)
+
+      live_last : HadKeysAt z root old new (p ++ n ∷ [])
+      live_last q m there leaf = y.cleans.stood ((p ++ n ∷ []) ++ q) m (f.live q m there leaf)

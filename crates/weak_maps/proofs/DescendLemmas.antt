@@ -63,6 +63,13 @@ leaf_node (Some (Ephe (key ∷ other ∷ keys) datum)) leaf = absurd leaf
 pub leaf_none : (o : Option Node) → is_leaf o → fields_of o ≡ None
 leaf_none o leaf = let n = leaf_node o leaf in ap fields_of n.2
 
+-- a block of a map that is a leaf at a later front was one before, if it has no fields in either
+pub still_leaf : (g h : Graph) (root : Label) (q : List ℕ) (l : Label) → IsMap g root → at (inside g) q (Block root) ≡ Some (Block l) → inside h (Block l) ≡ inside g (Block l) → is_leaf (node_at h l) → is_leaf (node_at g l)
+still_leaf g h root q l map there same leaf = ⊎_elim
+    (λ old. old)
+    (λ plain. let clash : Some plain.0 ≡ None = sym plain.1 ∙ (sym same ∙ leaf_none (node_at h l) leaf) in cc)
+    (map.slots q (Block l) there)
+
 -- what a leaf tells of a key
 pub leaf_tells : (g : Graph) (l k : Label) → is_leaf (node_at g l) → LeafTells g l k (bound_by g k (Block l))
 leaf_tells g l k leaf = go n.0 n.2

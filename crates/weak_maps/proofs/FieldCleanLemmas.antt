@@ -67,10 +67,10 @@ module _ (z : Sizes) (limits : IsWithinLimits z) (d : ℕ) (old n0 : List Entry)
       free_field z limits root d p l i block left value few is_value old n0 y.0 y.1 (λ is. none (subst IsBlock (sym y.3) is))
 
   module _ (n1 : List Entry) (r1 : Reply) (is : IsBlock r0) (p1 : PerformedBy z d n0 n1 (GetKey value value 0) r1) where
-    pub field_live : (r1 ≡ reply.BadType → ⊥) → CleansField z d old n1 block left i false
-    field_live other root p l x narrow leaves =
+    pub field_live : (r1 ≡ reply.BadType → ⊥) → (r1 ≡ reply.Empty → ⊥) → CleansField z d old n1 block left i false
+    field_live other some root p l x narrow leaves =
         let y = met_it root p l x narrow n1 r1 is p1 leaves in
-        live_field z limits root d p l i block left value few is_value old n1 y.0 r1 y.1 y.2 other
+        live_field z limits root d p l i block left value few is_value old n1 y.0 r1 y.1 y.2 other some
 
     -- below the lowest block there is none
     pub field_low : left ≡ 0 → r1 ≡ reply.BadType → CleansField z d old n1 block left i false

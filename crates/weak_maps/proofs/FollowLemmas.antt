@@ -8,11 +8,10 @@ use Rattle.heap_model.specs.declared.reply.Reply.{Reply}
 use Rattle.heap_model.specs.declared.state.Sizes.{Sizes}
 use Rattle.heap_model.specs.History.{IsPrefix}
 use Rattle.table_laws.specs.Stages.{graph_of}
-use Rattle.map_laws.specs.Tries.{IsMap}
+use Rattle.map_laws.specs.Tries.{IsMap, IsInPlace}
 use Rattle.map_laws.specs.Steps.{OthersRespect, OwnRespect}
 use Rattle.map_laws.proofs.FrontLemmas.{prefix_same}
 use Rattle.map_laws.proofs.RespectLemmas.{respect_both}
-use Rattle.weak_maps.specs.Puts.{IsInPlace}
 use Rattle.weak_maps.specs.Returns.{GetReturns, PutReturns, TakeReturns}
 use Rattle.weak_maps.proofs.PlaceLemmas.{place_after}
 

@@ -150,9 +150,9 @@ module _ (z : Sizes) (d : ℕ) (root : Label) (now new : List Entry) (c : Comman
       (ap (λ (rs : List Value). get_or rs j Nothing) (registers_kept z d now new c r p) ∙ (is ∙ ap Block (sym born_is)))
 
   -- a command that makes a block
-  pub own_born : (i : ℕ) (n : Node) → ((j : ℕ) → is_item c j ≡ true → ⊥) → IsMap (graph_of z mid) root → node_at (graph_of z mid) (made z d now new c r p) ≡ None → graph_of z new ≡ graph_of z mid ++ (made z d now new c r p, n) ∷ []
+  pub own_born : (i : ℕ) (n : Node) → ((j : ℕ) → is_item c j ≡ true → ⊥) → ((fields : List Value) × (inside (graph_of z mid) (Block root) ≡ Some fields)) → node_at (graph_of z mid) (made z d now new c r p) ≡ None → graph_of z new ≡ graph_of z mid ++ (made z d now new c r p, n) ∷ []
       → held_by z d new i ≡ Block (made z d now new c r p) → OwnBlock z d new root i (made z d now new c r p) n
-  own_born i n none map fresh grown held = record {
+  own_born i n none plain fresh grown held = record {
     held = held;
     private = private;
     apart = apart;
@@ -175,7 +175,7 @@ module _ (z : Sizes) (d : ℕ) (root : Label) (now new : List Entry) (c : Comman
       before_none former q before there leaf = let is = leaf_stays z former mid l before leaf in let clash : None ≡ Some (Ephe (is.0 ∷ []) is.1) = sym fresh ∙ is.2 in cc
 
       apart : root ≢ l
-      apart same = let clash : None ≡ Some map.own.0 = sym (ap fields_of fresh) ∙ (ap (λ (x : Label). inside (graph_of z mid) (Block x)) (sym same) ∙ map.own.1) in cc
+      apart same = let clash : None ≡ Some plain.0 = sym (ap fields_of fresh) ∙ (ap (λ (x : Label). inside (graph_of z mid) (Block x)) (sym same) ∙ plain.1) in cc
 
       never : Never z d root l new
       never = subst (λ (h : List Entry). Never z d root l h) (sym p.appends) (never_push z d root l mid entry apart before_none (subst (λ (h : List Entry). IsPrivate (state_of z h) d l) p.appends private))

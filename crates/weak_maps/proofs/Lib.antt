@@ -13,11 +13,13 @@ pub mod FreshLemmas
 pub mod PutLemmas
 pub mod PublishLemmas
 pub mod FoundLemmas
+pub mod StillLemmas
 pub mod RoomLemmas
 pub mod DigitLemmas
 pub mod LeafLemmas
 pub mod TryLemmas
 pub mod SettleLemmas
+pub mod AloneLemmas
 pub mod CrowdLemmas
 pub mod RefusedBodies
 pub mod FollowLemmas

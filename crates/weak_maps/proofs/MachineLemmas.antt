@@ -11,13 +11,14 @@ use Rattle.heap_model.specs.declared.reply.Reply.TheVariants as reply
 use Rattle.heap_model.specs.Commands.{shown}
 use Rattle.heap_model.specs.declared.state.Sizes.{Sizes}
 use Rattle.table_laws.specs.Stages.{graph_of}
+use Rattle.map_laws.specs.Tries.{IsInPlace}
 use Rattle.map_laws.specs.Calls.{PerformedBy, PutsOrFull}
 use Rattle.weak_maps.specs.Walks.{Descended, Emptied}
 use Rattle.weak_maps.specs.Fields.{Cleared, Finds}
 use Rattle.weak_maps.specs.Beside.{held_by}
 use Rattle.weak_maps.specs.declared.putting.Try.{Try}
-use Rattle.weak_maps.specs.Puts.{FindsField, IsInPlace, KeepsLeaf, MakesLeaf}
-use Rattle.weak_maps.specs.Settles.{Settles}
+use Rattle.weak_maps.specs.Puts.{FindsField, KeepsLeaf, MakesLeaf}
+use Rattle.weak_maps.specs.Settles.{Settles, SettlesAlone}
 use Rattle.weak_maps.specs.Returns.{GetReturns, PutReturns, TakeLeaves, TakeReturns}
 
 pub at_machine : (z now : Sizes) (d e : ℕ) (old new : List Entry) (c : Command) (r : Reply) → now ≡ z → e ≡ d → PerformedBy now e old new c r → PerformedBy z d old new c r
@@ -64,6 +65,9 @@ keeps_at z now d e old new kr k i rest s sizes domain x = subst (λ (w : Sizes �
 
 pub settles_at : (z now : Sizes) (d e : ℕ) (old new : List Entry) (k : Label) (i rest level : ℕ) (other : Option Label) (a b : Try) → now ≡ z → e ≡ d → b ≡ a → Settles now e old new k i rest level other b → Settles z d old new k i rest level other a
 settles_at z now d e old new k i rest level other a b sizes domain is x = subst (λ (w : Sizes × ℕ × Try). Settles w.0 w.1 old new k i rest level other w.2) (λ j. (sizes j, domain j, is j)) x
+
+pub alone_at : (z now : Sizes) (d e : ℕ) (old new : List Entry) (k : Label) (i rest level : ℕ) (other : Option Label) (rooms : ℕ) (a b : Try) → now ≡ z → e ≡ d → b ≡ a → SettlesAlone now e old new k i rest level other rooms b → SettlesAlone z d old new k i rest level other rooms a
+alone_at z now d e old new k i rest level other rooms a b sizes domain is x = subst (λ (w : Sizes × ℕ × Try). SettlesAlone w.0 w.1 old new k i rest level other rooms w.2) (λ j. (sizes j, domain j, is j)) x
 
 pub put_at : (z : Sizes) (d : ℕ) (old new : List Entry) (root : Label) (v w : Value) (k : Label) (r : Reply) → v ≡ Block k → w ≢ Nothing → PutsOrFull z root d old new k w r × TakeLeaves z d old new root → IsInPlace z.domains (graph_of z new) root → PutReturns z d old new root v w r
 put_at z d old new root v w k r held some x placed = subst (λ (u : Value). PutReturns z d old new root u w r) (sym held) (of w some x)

@@ -13,12 +13,11 @@ use Rattle.heap_model.specs.Domains.{IsWithinLimits}
 use Rattle.heap_model.specs.Commands.{new_plain}
 use Rattle.heap_model.proofs.Graphs.GraphLemmas.{node_at-append_new}
 use Rattle.table_laws.specs.Stages.{graph_of}
-use Rattle.map_laws.specs.Tries.{at, ends, inside, fields_of, found, bound_by, bound_in, IsSlot, way_to, root_width, width_at, way_length, IsMap}
+use Rattle.map_laws.specs.Tries.{at, ends, inside, fields_of, found, bound_by, bound_in, IsSlot, way_to, root_width, width_at, way_length, IsMap, IsInPlace}
 use Rattle.map_laws.specs.Calls.{PerformedBy}
 use Rattle.map_laws.proofs.WalkLemmas.{at_step, at_stop, ends_step}
 use Rattle.map_laws.proofs.SetLemmas.{stays}
 use Rattle.map_laws.proofs.CallLemmas.{made, alloc_step}
-use Rattle.weak_maps.specs.Puts.{IsInPlace}
 use Rattle.weak_maps.specs.Returns.{MakeReturns}
 use Rattle.weak_maps.proofs.BesideLemmas.{sixteen, set_here, set_other, same_held, since_old, until_new}
 use Rattle.weak_maps.proofs.StayLemmas.{no_entry, quiet_on}

@@ -1,30 +1,31 @@
 -- A whole map is cleaned, and the registers between are emptied.
-use Rattle.std.proofs.Common.{◌≡◌, ◌≢◌, ⊎_elim, ℕ, ◌+◌, ◌<◌, ◌≤◌, Bool, List, [], ◌∷◌, length, get_or, set, pos, Some, refl, ap, sym, ◌∙◌, subst, arith}
+use Rattle.std.proofs.Common.{◌≡◌, ◌≢◌, ⊎_elim, ℕ, ◌+◌, ◌<◌, ◌≤◌, Bool, List, [], ◌∷◌, length, get_or, set, pos, Some, None, refl, ap, sym, ◌∙◌, subst, arith}
 use Rattle.heap_model.specs.declared.label.Label.{Label}
 use Rattle.heap_model.specs.declared.command.Command.TheVariants.{Forget, PutInt}
 use Rattle.heap_model.specs.declared.entry.Entry.{Entry}
 use Rattle.heap_model.specs.declared.reply.Reply.{Reply}
 use Rattle.heap_model.specs.declared.graph.Value.TheVariants.{Int, Block, Nothing}
 use Rattle.heap_model.specs.declared.state.Sizes.{Sizes}
-use Rattle.heap_model.specs.Graph.{Graph}
+use Rattle.heap_model.specs.Graph.{Graph, node_at}
 use Rattle.heap_model.specs.Domains.{IsWithinLimits}
 use Rattle.heap_model.specs.History.{IsPrefix}
 use Rattle.table_laws.specs.Stages.{graph_of}
-use Rattle.map_laws.specs.Tries.{at, inside, root_width, IsMap}
+use Rattle.map_laws.specs.Tries.{at, inside, root_width, IsMap, IsInPlace}
 use Rattle.map_laws.specs.Steps.{OthersLeave}
-use Rattle.map_laws.specs.Calls.{CleanAnswers, IsTidy, PerformedBy, registers_after}
+use Rattle.map_laws.specs.Calls.{CleanAnswers, HadKeys, IsTidy, PerformedBy, registers_after}
 use Rattle.map_laws.proofs.CallLemmas.{forget_step, put_step}
 use Rattle.map_laws.proofs.FieldLemmas.{at_field}
 use Rattle.map_laws.proofs.FrontLemmas.{prefix_same, prefix_trans}
 use Rattle.map_laws.proofs.OwnLemmas.{keeps_twice}
-use Rattle.map_laws.proofs.WalkLemmas.{same_number}
+use Rattle.map_laws.proofs.WalkLemmas.{at_step, same_number}
 use Rattle.weak_maps.specs.Beside.{held_by}
 use Rattle.weak_maps.specs.Cleans.{AtBlock, BlockCleaned, CleanLeaves, CleansBlock, ForgetsHigh, LeftAlone}
-use Rattle.weak_maps.specs.Puts.{IsInPlace}
 use Rattle.weak_maps.proofs.BesideLemmas.{set_here, set_other, sixteen}
 use Rattle.weak_maps.proofs.CleanLemmas.{leaves_within, left_command, left_none, left_twice}
 use Rattle.weak_maps.proofs.CleanedLemmas.{beyond, less_or, nothing_there}
+use Rattle.weak_maps.proofs.DescendLemmas.{leaf_none, still_leaf}
 use Rattle.weak_maps.proofs.GetLemmas.{grows_by}
+use Rattle.weak_maps.proofs.PlaceLemmas.{only_there}
 
 module _ (z : Sizes) (limits : IsWithinLimits z) (d : ℕ) (old : List Entry) where
   -- no register was emptied so far
@@ -54,6 +55,7 @@ module _ (z : Sizes) (limits : IsWithinLimits z) (d : ℕ) (old : List Entry) wh
     record {
       keeps = keeps_twice z root d old n0 new (prefix_trans n0 n1 new g1 g2) zeroed.cleans.keeps (keeps_twice z root d n0 n1 new g2 y.cleans.keeps after.cleans.keeps);
       tidy = tidy;
+      live = live;
       fields = y.fields;
       plain = after.blocks [] (Block root) refl ∙ y.plain;
       holds = y.holds;
@@ -99,16 +101,35 @@ module _ (z : Sizes) (limits : IsWithinLimits z) (d : ℕ) (old : List Entry) wh
       g : Graph
       g = graph_of z n1
 
+      none_beyond : (i : ℕ) → root_width ≤ i → get_or y.fields i Nothing ≡ Nothing
+      none_beyond i far =
+          let wide : length y.fields ≡ root_width = y.cleans.map.wide [] (Block root) y.fields refl y.plain in
+          beyond y.fields i (omega (arith, far, wide))
+
+      end_beyond : (i : ℕ) → root_width ≤ i → inside g (get_or y.fields i Nothing) ≡ None
+      end_beyond i far = ap (inside g) (none_beyond i far)
+
       tidy : IsTidy (graph_of z new) root
       tidy i q u fields there plain =
           let at_then : at (inside g) (i ∷ q) (Block root) ≡ Some u = sym (after.places (i ∷ q)) ∙ there in
           let plain_then : inside g u ≡ Some fields = sym (after.blocks (i ∷ q) u at_then) ∙ plain in
           ⊎_elim (λ few. y.tidy i few q u fields at_then plain_then)
           (λ far.
-          let wide : length y.fields ≡ root_width = y.cleans.map.wide [] (Block root) y.fields refl y.plain in
-          let none : get_or y.fields i Nothing ≡ Nothing = beyond y.fields i (omega (arith, far, wide)) in
-          let end : at (inside g) (i ∷ []) (Block root) ≡ Some Nothing = at_field g [] (Block root) root y.fields i refl y.plain ∙ ap Some none in
+          let end : at (inside g) (i ∷ []) (Block root) ≡ Some Nothing = at_field g [] (Block root) root y.fields i refl y.plain ∙ ap Some (none_beyond i far) in
           absurd (nothing_there g root (i ∷ []) q Nothing u fields end refl at_then plain_then))
+          (less_or i root_width)
+
+      live : HadKeys z root old new
+      live [] l there leaf =
+          let same : root ≡ l = cc in
+          let clash : Some after.cleans.map.own.0 ≡ None = sym after.cleans.map.own.1 ∙ (ap (λ (m : Label). inside (graph_of z new) (Block m)) same ∙ leaf_none (node_at (graph_of z new) l) leaf) in cc
+      live (i ∷ q) l there leaf =
+          let at_then : at (inside g) (i ∷ q) (Block root) ≡ Some (Block l) = sym (after.places (i ∷ q)) ∙ there in
+          let leaf_then = still_leaf g (graph_of z new) root (i ∷ q) l y.cleans.map at_then (after.blocks (i ∷ q) (Block l) at_then) leaf in
+          ⊎_elim (λ few. zeroed.cleans.stood (i ∷ q) l (y.live i few q l at_then leaf_then))
+          (λ far.
+          let only = only_there g q (get_or y.fields i Nothing) l (end_beyond i far) (sym (at_step (inside g) i q (Block root) y.fields y.plain) ∙ at_then) in
+          let clash : Nothing ≡ Block l = sym (none_beyond i far) ∙ only.1 in cc)
           (less_or i root_width)
 
 pub forgets_at : (z now : Sizes) (d e : ℕ) (old new : List Entry) (n : ℕ) → now ≡ z → e ≡ d → ForgetsHigh now e old new n → ForgetsHigh z d old new n

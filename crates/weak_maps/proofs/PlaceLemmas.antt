@@ -12,7 +12,7 @@ use Rattle.heap_model.specs.Entries.{next}
 use Rattle.heap_model.specs.History.{IsPrefix}
 use Rattle.table_laws.specs.Thinning.{IsOutside, state_of}
 use Rattle.table_laws.specs.Stages.{graph_of}
-use Rattle.map_laws.specs.Tries.{at, inside, fields_of, bound_by, bound_in, is_leaf, node_width, way_to, IsMap}
+use Rattle.map_laws.specs.Tries.{at, inside, fields_of, bound_by, bound_in, is_leaf, node_width, way_to, IsMap, IsInPlace}
 use Rattle.map_laws.specs.Steps.{WritesField, Sets, Deepens, Clears, MapStep, Untouched, SetsKey, GoesDeeper, ClearsField, TakesKeys, IsThinned, AllRespect}
 use Rattle.map_laws.proofs.WalkLemmas.{Walk, set_same, set_else, same_number, at_step, at_stop}
 use Rattle.map_laws.proofs.SetLemmas.{block_is, binds_same, now_inside, others_inside, still_end, was_inside}
@@ -20,7 +20,6 @@ use Rattle.map_laws.proofs.MapLemmas.{NoLabel, at_same, untouched_thinned}
 use Rattle.map_laws.proofs.RespectLemmas.{graph_push, map_between}
 use Rattle.map_laws.proofs.FrontLemmas.{prefix_before, walk_along}
 use Rattle.map_laws.proofs.TreeLemmas.{leads_nowhere}
-use Rattle.weak_maps.specs.Puts.{IsInPlace}
 use Rattle.weak_maps.proofs.DescendLemmas.{leaf_node, plain_node}
 
 -- field i of the block n is written and holds w: each way leads to what it led to, or through the field
@@ -87,7 +86,7 @@ module _ (n : ℕ) (g h : Graph) (root : Label) (p : List ℕ) (i : ℕ) (held n
       ⊎_elim (λ old. placed is l k old old_binds) (λ new_there. let x = through new_there.0 l k new_there.2 old_binds in (x.0, x.1 ∙ ap (λ (y : List ℕ). y ++ x.0) (sym new_there.1))) (leads is l there)
 
 -- a leaf is all that stands behind its field
-only_there : (h : Graph) (q : List ℕ) (new : Value) (l : Label) → inside h new ≡ None → at (inside h) q new ≡ Some (Block l) → (q ≡ []) × (new ≡ Block l)
+pub only_there : (h : Graph) (q : List ℕ) (new : Value) (l : Label) → inside h new ≡ None → at (inside h) q new ≡ Some (Block l) → (q ≡ []) × (new ≡ Block l)
 only_there h [] new l end there = (refl, cc)
 only_there h (j ∷ q) new l end there = let clash : None ≡ Some (Block l) = sym (at_stop (inside h) j q new end) ∙ there in cc
 

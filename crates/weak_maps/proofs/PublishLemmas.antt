@@ -101,6 +101,11 @@ value_same (Block a) (Int b) is = cc
 value_same (Block a) Nothing is = cc
 value_same Nothing w is = cc
 
+pub same_itself : (v : Value) → v ≢ Nothing → same_value v v ≡ true
+same_itself (Int a) some = (Decides-int_eq a a).1 refl
+same_itself (Block l) some = same_label_refl l
+same_itself Nothing some = absurd (some refl)
+
 block_is : (s : State) (d r : ℕ) (l : Label) (n : Node) → register s d r ≡ Block l → node_at s.graph l ≡ Some n → block_in s d r ≡ Some (l, n)
 block_is s d r l n held node = ap (λ v. option_and_then (block_at s.graph) (label_of v)) held ∙ ap (option_map (λ m. (l, m))) node
 

@@ -88,7 +88,7 @@ module _ (z : Sizes) (limits : IsWithinLimits z) (root : Label) (d : ℕ) where
         let on = makes_on z d root old n0 (NewEphe 10 1) r0 p0 e0 map (l, Ephe (None ∷ []) Nothing) granted.2.0 in (
           record { looks = on.0; grows = g0; map = on.1 },
           set_other z d old n0 10 (Block l) granted.2.1,
-          own_born z d root old n0 (NewEphe 10 1) r0 p0 10 (Ephe (None ∷ []) Nothing) (λ j is. let clash : false ≡ true = is in cc) (map_mid z d root old n0 (NewEphe 10 1) r0 p0 e0 map) granted.1 granted.2.0
+          own_born z d root old n0 (NewEphe 10 1) r0 p0 10 (Ephe (None ∷ []) Nothing) (λ j is. let clash : false ≡ true = is in cc) (map_mid z d root old n0 (NewEphe 10 1) r0 p0 e0 map).own granted.1 granted.2.0
               (set_here z d old n0 10 (Block l) granted.2.1 (sixteen z d old n0 (NewEphe 10 1) r0 p0 limits) (omega arith)),
         ))
         (ephe_step z d old n0 r0 10 p0)

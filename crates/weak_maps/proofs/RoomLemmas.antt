@@ -23,24 +23,28 @@ use Rattle.heap_model.proofs.Graphs.GraphLemmas.{node_at-append_old, node_at-wit
 use Rattle.table_laws.specs.Thinning.{state_of}
 use Rattle.table_laws.specs.Stages.{graph_of}
 use Rattle.map_laws.specs.Tries.{at, inside, fields_of, found, node_width, way_length, way_to, IsMap}
-use Rattle.map_laws.specs.Steps.{AllRespect, Deepens, GoesDeeper, OthersRespect, RespectsMap, WasUnreached}
+use Rattle.map_laws.specs.Steps.{AllRespect, Deepens, GoesDeeper, OthersLeave, OthersRespect, RespectsMap, WasUnreached}
 use Rattle.map_laws.specs.Calls.{PerformedBy, Looks, registers_after}
 use Rattle.map_laws.proofs.CallLemmas.{alloc_step, cas_step, made, store_step}
 use Rattle.map_laws.proofs.DeepenLemmas.{deepen_keeps}
+use Rattle.map_laws.proofs.FieldLemmas.{at_field}
 use Rattle.map_laws.proofs.FrontLemmas.{prefix_same, prefix_trans}
-use Rattle.map_laws.proofs.OwnLemmas.{looks_once, plain_spares}
+use Rattle.map_laws.proofs.OwnLemmas.{apart_untouched, fresh_untouched, looks_once, plain_spares}
 use Rattle.map_laws.proofs.PrivateLemmas.{private_outside}
 use Rattle.map_laws.proofs.RespectLemmas.{graph_push, map_after, place_after, respect_both}
+use Rattle.map_laws.proofs.WalkLemmas.{set_same}
 use Rattle.weak_maps.specs.Beside.{held_by}
 use Rattle.weak_maps.specs.Fields.{AtField, Stays}
-use Rattle.weak_maps.specs.Puts.{FieldBinds, GoesOn, OwnBlock, RoomMade, RoomRefused}
+use Rattle.weak_maps.specs.Puts.{FieldBinds, GoesOn, IsBlockAt, OwnBlock, RoomMade, RoomRefused}
 use Rattle.weak_maps.proofs.BesideLemmas.{same_held, set_here, set_other, sixteen, until_new}
+use Rattle.weak_maps.proofs.CleanLemmas.{leaves_within}
 use Rattle.weak_maps.proofs.DescendLemmas.{plain_node}
 use Rattle.weak_maps.proofs.FreshLemmas.{held_not_outside, makes_on, map_by, map_mid, next_is, not_held_before, own_born, own_middle, own_on, reads_on, thin_held, thin_plain, writes_on}
 use Rattle.weak_maps.proofs.GetLemmas.{grows_by}
-use Rattle.weak_maps.proofs.PublishLemmas.{binds_all, binds_along, binds_end, binds_other, binds_some, value_same}
+use Rattle.weak_maps.proofs.PublishLemmas.{binds_all, binds_along, binds_end, binds_other, binds_some, same_itself, value_same}
 use Rattle.weak_maps.proofs.PutLemmas.{goes_by}
 use Rattle.weak_maps.proofs.StayLemmas.{respects_within, stays_middle, stays_twice}
+use Rattle.weak_maps.proofs.StillLemmas.{still_between, still_untouched}
 
 -- over a history whose entries respect a map its blocks stay
 pub stays_all : (z : Sizes) (root : Label) (old new : List Entry) → IsPrefix old new → AllRespect z root old new → IsMap (graph_of z old) root → Stays z root old new
@@ -50,7 +54,7 @@ pub goes_all : (z : Sizes) (root : Label) (d : ℕ) (old new : List Entry) → O
 goes_all z root d old new others on = respect_both z root d old new others on.looks.respects
 
 -- how long the part of a way is behind which two digits are left
-two_left : (n : ℕ) (j : Label) (p : List ℕ) (i digit : ℕ) (q : List ℕ) → way_to n j ≡ p ++ i ∷ digit ∷ q → length p + 1 < way_length
+pub two_left : (n : ℕ) (j : Label) (p : List ℕ) (i digit : ℕ) (q : List ℕ) → way_to n j ≡ p ++ i ∷ digit ∷ q → length p + 1 < way_length
 two_left n j p i digit q way =
     let whole : way_length ≡ length (p ++ i ∷ digit ∷ q) = ap length way in
     let parts = length-append p (i ∷ digit ∷ q) in
@@ -131,7 +135,7 @@ module _ (z : Sizes) (limits : IsWithinLimits z) (root : Label) (d : ℕ) (first
       let leaf_mid = own_middle z d root now n0 (Alloc 11 0 32) r0 p0 10 l mine (λ o. thin_held (WasUnreached z now (now ++ p0.between)) k v o (held_not_outside z d now p0.between k kr p0.others key)) leaf in (
         record { looks = on.0; grows = g0; map = on.1 },
         keeps,
-        own_born z d root now n0 (Alloc 11 0 32) r0 p0 11 blank (λ m is. let clash : false ≡ true = is in cc) (map_mid z d root now n0 (Alloc 11 0 32) r0 p0 e0 map) granted.1 granted.2.0
+        own_born z d root now n0 (Alloc 11 0 32) r0 p0 11 blank (λ m is. let clash : false ≡ true = is in cc) (map_mid z d root now n0 (Alloc 11 0 32) r0 p0 e0 map).own granted.1 granted.2.0
             (set_here z d now n0 11 (Block b) granted.2.1 (sixteen z d now n0 (Alloc 11 0 32) r0 p0 limits) (omega arith)),
         own_on z d root now n0 (Alloc 11 0 32) r0 p0 10 l mine mine 8 leaf_mid (λ m is. let clash : false ≡ true = is in cc) not_eight (keeps 10 (λ e. absurd (omega (arith, e))))
             (ap (λ (g : Graph). node_at g l) granted.2.0 ∙ node_at-append_old (graph_of z (now ++ p0.between)) (b, blank) l mine leaf_mid.node),
@@ -148,13 +152,21 @@ module _ (z : Sizes) (limits : IsWithinLimits z) (root : Label) (d : ℕ) (first
   abbrev Stored : Type 0
   Stored = GoesOn z root d now n1 × ((m : ℕ) → m ≢ 11 → held_by z d n1 m ≡ held_by z d now m) × OwnBlock z d n1 root 11 b (Plain 0 filled) × OwnBlock z d n1 root 10 l mine
 
+  blank_then : OwnBlock z d (n0 ++ p1.between) root 11 b blank
+  blank_then = own_middle z d root n0 n1 (Store 11 digit 9) r1 p1 11 b blank (thin_plain (WasUnreached z n0 (n0 ++ p1.between)) 0 (replicate node_width (Int (pos 0)))) first_made.2
+
+  filled_now : (graph_of z n1 ≡ with_node (graph_of z (n0 ++ p1.between)) b (Plain 0 filled)) × (registers_after z d n1 ≡ registers_after z d n0)
+  filled_now =
+      let below : digit < length (replicate node_width (Int (pos 0))) = subst (λ (m : ℕ). digit < m) (sym (length-replicate node_width (Int (pos 0)))) small in
+      let all = store_step z d n0 n1 r1 11 digit 9 p1 b 0 (replicate node_width (Int (pos 0))) x.v (get_or (replicate node_width (Int (pos 0))) digit Nothing) first_made.2.held blank_then.node (slice_get-get_or (replicate node_width (Int (pos 0))) digit Nothing below) nine0 (binds_some (graph_of z now) j x.v field.binds) in
+      (all.0, all.1)
+
   stored : Stored
   stored =
       let mid : List Entry = n0 ++ p1.between in
-      let inner = own_middle z d root n0 n1 (Store 11 digit 9) r1 p1 11 b blank (thin_plain (WasUnreached z n0 mid) 0 (replicate node_width (Int (pos 0)))) first_made.2 in
+      let inner = blank_then in
       let leaf_mid = own_middle z d root n0 n1 (Store 11 digit 9) r1 p1 10 l mine (λ o. thin_held (WasUnreached z n0 mid) k v o (held_not_outside z d n0 p1.between k kr p1.others key0)) first_made.3 in
-      let below : digit < length (replicate node_width (Int (pos 0))) = subst (λ (m : ℕ). digit < m) (sym (length-replicate node_width (Int (pos 0)))) small in
-      let all = store_step z d n0 n1 r1 11 digit 9 p1 b 0 (replicate node_width (Int (pos 0))) x.v (get_or (replicate node_width (Int (pos 0))) digit Nothing) first_made.2.held inner.node (slice_get-get_or (replicate node_width (Int (pos 0))) digit Nothing below) nine0 (binds_some (graph_of z now) j x.v field.binds) in
+      let all = filled_now in
       let on = writes_on z d root n0 n1 (Store 11 digit 9) r1 p1 e1 first_made.0.map 11 b blank (Plain 0 filled) inner all.0 in
       let keeps : (m : ℕ) → held_by z d n1 m ≡ held_by z d n0 m = same_held z d n0 n1 all.1 in
       let apart : l ≢ b = λ same. (let clash : Some mine ≡ Some blank = sym leaf_mid.node ∙ (ap (node_at (graph_of z mid)) same ∙ inner.node) in cc) in (
@@ -230,14 +242,42 @@ module _ (z : Sizes) (limits : IsWithinLimits z) (root : Label) (d : ℕ) (first
   leaf_kept keeps is = own_on z d root n1 new (Cas 8 i 9 11) r2 p2 10 l mine mine 11 leaf_then (λ m e. sym (eqb-true 11 m e))
       (λ e. let both : Block b ≡ Block l = sym stored.2.held ∙ e in let same : b ≡ l = cc in let clash : Some (Plain 0 filled) ≡ Some mine = sym inner.node ∙ (ap (node_at g) same ∙ leaf_then.node) in cc) (keeps 10) is
 
-  leaves : (on : Looks z root d n1 new × IsMap (graph_of z new) root) → ((m : ℕ) → held_by z d new m ≡ held_by z d n1 m) → node_at (graph_of z new) l ≡ Some mine → RoomMade z d front now new root k l v
-  leaves on keeps is =
-      let whole = goes_by z root d now n1 new (Cas 8 i 9 11) r2 p2 stored.0 (record { looks = on.0; grows = g2; map = on.1 }) in record {
+  abbrev place : List ℕ
+  place = x.p ++ i ∷ []
+
+  abbrev GoesDown : Type 0
+  GoesDown = at (inside (graph_of z now)) place (Block root) ≡ Some x.v → OthersLeave z root d now new → IsBlockAt z new root place
+
+  leaves : (on : Looks z root d n1 new × IsMap (graph_of z new) root) → ((m : ℕ) → held_by z d new m ≡ held_by z d n1 m) → node_at (graph_of z new) l ≡ Some mine → (Stays z root front new → GoesDown) → RoomMade z d front now new root k l v place x.v
+  leaves on keeps is deeper =
+      let whole = goes_by z root d now n1 new (Cas 8 i 9 11) r2 p2 stored.0 (record { looks = on.0; grows = g2; map = on.1 }) in
+      let stays = stays_twice z root front now new x.stays (stays_all z root now new whole.grows (goes_all z root d now new respects whole) map) in record {
         on = whole;
-        stays = stays_twice z root front now new x.stays (stays_all z root now new whole.grows (goes_all z root d now new respects whole) map);
+        stays = stays;
         leaf = leaf_kept keeps is;
         keeps = λ m2 other. keeps m2 ∙ stored.1 m2 other;
+        deeper = deeper stays;
       }
+
+  -- where no other domain uses the map, the field holds what it held
+  still_was : at (inside (graph_of z now)) place (Block root) ≡ Some x.v → OthersLeave z root d now new → was ≡ x.v
+  still_was held leave =
+      let e_made = leaves_within z root d now new now (now ++ p0.between) (prefix_same now) (prefix_trans (now ++ p0.between) n0 new (until_new z d now n0 (Alloc 11 0 32) r0 p0) (prefix_trans n0 n1 new g1 g2)) leave in
+      let e_stored = leaves_within z root d now new n0 (n0 ++ p1.between) g0 (prefix_trans (n0 ++ p1.between) n1 new (until_new z d n0 n1 (Store 11 digit 9) r1 p1) g2) leave in
+      let e_cas = leaves_within z root d now new n1 mid (prefix_trans now n0 n1 g0 g1) (until_new z d n1 new (Cas 8 i 9 11) r2 p2) leave in
+      let made_then = map_mid z d root now n0 (Alloc 11 0 32) r0 p0 e0 map in
+      let stored_then = map_mid z d root n0 n1 (Store 11 digit 9) r1 p1 e1 first_made.0.map in
+      let a = still_between z root d now p0.between p0.others e_made map place in
+      let b1 : at (inside (graph_of z n0)) place (Block root) ≡ at (inside (graph_of z (now ++ p0.between))) place (Block root) = ⊎_elim
+      (λ refused. absurd (granted_it refused.1.2))
+      (λ granted. still_untouched (graph_of z (now ++ p0.between)) (graph_of z n0) root made_then (fresh_untouched (graph_of z (now ++ p0.between)) (graph_of z n0) root made_then (b, blank) granted.2.0) place)
+      (alloc_step z d now n0 r0 11 0 32 p0) in
+      let c = still_between z root d n0 p1.between p1.others e_stored first_made.0.map place in
+      let d1 = still_untouched (graph_of z (n0 ++ p1.between)) (graph_of z n1) root stored_then
+      (apart_untouched (graph_of z (n0 ++ p1.between)) (graph_of z n1) root b (Plain 0 filled) (private_outside z d b root (n0 ++ p1.between) blank_then.private blank_then.apart) filled_now.0) place in
+      let e = still_between z root d n1 p2.between p2.others e_cas stored.0.map place in
+      let there : at (inside g) place (Block root) ≡ Some was = at_field g x.p (Block root) x.l fields i moved.0 moved.1.1 in
+      let both : Some was ≡ Some x.v = sym there ∙ (e ∙ (d1 ∙ (c ∙ (b1 ∙ (a ∙ held))))) in cc
 
   module _ (same : same_value was x.v ≡ true) (graph : graph_of z new ≡ h) where
     is : (next (state_of z mid) entry).graph ≡ h
@@ -267,9 +307,26 @@ module _ (z : Sizes) (limits : IsWithinLimits z) (root : Label) (d : ℕ) (first
       map_by z d root n1 new (Cas 8 i 9 11) r2 p2 e2 stored.0.map own,
     )
 
-  pub room_made : RoomMade z d front now new root k l v
+  -- so the exchange is made, and the block stands there
+  module _ (won : graph_of z new ≡ h) (stays : Stays z root front new) where
+    goes_down : IsBlockAt z new root place
+    goes_down =
+        let above : inside (graph_of z new) (Block x.l) ≡ Some (set fields i (Block b)) = ap (λ (y : Graph). inside y (Block x.l)) won ∙ ap fields_of (node_at-with_node_same g x.l (Plain node.0 (set fields i (Block b))) (Plain node.0 fields) node.1) in
+        let apart : b ≢ x.l = λ same. private_outside z d b root mid inner.private inner.apart x.p (moved.0 ∙ ap (λ (m : Label). Some (Block m)) (sym same)) in (
+          b,
+          filled,
+          at_field (graph_of z new) x.p (Block root) x.l (set fields i (Block b)) i (stays.block x.p (Block x.l) x.fields x.there x.plain).0 above ∙ ap Some (set_same fields i (Block b) Nothing below_then),
+          ap (λ (y : Graph). inside y (Block b)) won ∙ ap fields_of (node_at-with_node_other g x.l b (Plain node.0 (set fields i (Block b))) apart ∙ inner.node),
+        )
+
+  goes_anyway : same_value was x.v ≡ false → GoesDown
+  goes_anyway lost held leave =
+      let same = still_was held leave in
+      let clash : true ≡ false = sym (same_itself x.v (binds_some g j x.v binds.binds)) ∙ (ap (λ (w : Value). same_value w x.v) (sym same) ∙ lost) in cc
+
+  pub room_made : RoomMade z d front now new root k l v place x.v
   room_made = ⊎_elim
       (λ won. leaves (deepened won.0 won.1.0) (same_held z d n1 new won.1.1)
-      (ap (λ (y : Graph). node_at y l) won.1.0 ∙ (node_at-with_node_other g x.l l (Plain node.0 (set fields i (Block b))) (λ e. not_block (sym e)) ∙ leaf_then.node)))
-      (λ lost. leaves (reads_on z d root n1 new (Cas 8 i 9 11) r2 p2 e2 stored.0.map lost.1.0) (same_held z d n1 new lost.1.1) (ap (λ (y : Graph). node_at y l) lost.1.0 ∙ leaf_then.node))
+      (ap (λ (y : Graph). node_at y l) won.1.0 ∙ (node_at-with_node_other g x.l l (Plain node.0 (set fields i (Block b))) (λ e. not_block (sym e)) ∙ leaf_then.node)) (λ stays held leave. goes_down won.1.0 stays))
+      (λ lost. leaves (reads_on z d root n1 new (Cas 8 i 9 11) r2 p2 e2 stored.0.map lost.1.0) (same_held z d n1 new lost.1.1) (ap (λ (y : Graph). node_at y l) lost.1.0 ∙ leaf_then.node) (λ stays. goes_anyway lost.0))
       took

@@ -16,7 +16,7 @@ use Rattle.heap_model.specs.History.{IsPrefix, Legal}
 use Rattle.heap_model.proofs.Graphs.GraphLemmas.{same_label-true}
 use Rattle.table_laws.specs.Stages.{graph_of}
 use Rattle.table_laws.proofs.StepLemmas.{legal_parts}
-use Rattle.map_laws.specs.Tries.{bound_by, bound_in, node_width, number_of, IsLabelOf, IsMap}
+use Rattle.map_laws.specs.Tries.{bound_by, bound_in, node_width, number_of, IsLabelOf, IsMap, IsInPlace}
 use Rattle.map_laws.specs.Steps.{OthersRespect}
 use Rattle.map_laws.specs.Calls.{PerformedBy, PutsOrFull}
 use Rattle.map_laws.proofs.FrontLemmas.{prefix_same}
@@ -24,7 +24,7 @@ use Rattle.map_laws.proofs.RespectLemmas.{respect_both}
 use Rattle.map_laws.proofs.LabelLemmas.{held_below, key_below}
 use Rattle.weak_maps.specs.Beside.{held_by}
 use Rattle.weak_maps.specs.Fields.{Cleared}
-use Rattle.weak_maps.specs.Puts.{Arrived, FindsField, IsInPlace, KeepsLeaf, MakesRoom, Publishes, Putting, rest_of}
+use Rattle.weak_maps.specs.Puts.{Arrived, FindsField, KeepsLeaf, MakesRoom, Publishes, Putting, rest_of}
 use Rattle.weak_maps.specs.declared.putting.Try.{Try}
 use Rattle.weak_maps.specs.Settles.{SettledBy, Settles}
 use Rattle.weak_maps.specs.Returns.{TakeLeaves}
@@ -53,10 +53,10 @@ bound_node (Some (Ephe (Some m ∷ other ∷ keys) datum)) j some = absurd (some
 
 module _ (z : Sizes) (limits : IsWithinLimits z) (root : Label) (d : ℕ) (old now : List Entry) (k : Label) (v : Value) (kr : ℕ) (few : kr < 8) (key : held_by z d old kr ≡ Block k) (legal : Legal z now) (i rest level : ℕ) where
   -- the labels are labels of the heap
-  key_label : (other : Option Label) → Arrived z d old now root k v i rest level other → k.serial < 2 ^ 32 → IsLabelOf z.domains k
+  pub key_label : (other : Option Label) → Arrived z d old now root k v i rest level other → k.serial < 2 ^ 32 → IsLabelOf z.domains k
   key_label other t serial = (held_below z now limits.some_domain legal d kr k (t.keeps kr few ∙ key), serial)
 
-  other_label : (j : Label) → Arrived z d old now root k v i rest level (Some j) → j.serial < 2 ^ 32 → IsLabelOf z.domains j
+  pub other_label : (j : Label) → Arrived z d old now root k v i rest level (Some j) → j.serial < 2 ^ 32 → IsLabelOf z.domains j
   other_label j t serial = (of t.found.field.v (t.found.alive j refl), serial)
     where
       legal_front : Legal z t.found.front
@@ -109,18 +109,24 @@ module _ (z : Sizes) (limits : IsWithinLimits z) (root : Label) (d : ℕ) (old n
       put_read z limits root d old k v kr few key t.found.front now n1 new t.first r i rest t.found.shows level t.found.field t.found.deep (goes_twice z root d old now n1 t.on x.on) x.stays (x.keeps 8 (λ e. absurd (omega (arith, e))))
       (λ m small. x.keeps m (λ e. absurd (omega (arith, small, e))) ∙ t.keeps m small) t.l x.leaf p respects
 
--- a search from a field that was read, and what the try there leads to
+-- a search from a field that was read
+pub put_searched : (z : Sizes) (limits : IsWithinLimits z) (root : Label) (d : ℕ) (old : List Entry) (k : Label) (v : Value) (kr : ℕ) → kr < 8 → held_by z d old kr ≡ Block k → (now n0 : List Entry) (i rest i2 rest2 level steps sum : ℕ) (s : Reply) (other : Option Label) → sum ≡ min (level + steps) 255
+    → (OthersRespect z root d old now → Putting z d old now root k v i rest s level) → FindsField z d now n0 kr k i rest s i2 rest2 steps other → KeepsLeaf z d now n0 kr k i rest s → IsPrefix now n0 → OthersRespect z root d old n0 → Arrived z d old n0 root k v i2 rest2 sum other
+put_searched z limits root d old k v kr few key now n0 i rest i2 rest2 level steps sum s other is putting finds own grows respects =
+    let e1 = respects_within z root d old n0 old now (prefix_same old) grows respects in
+    let t = put_arrives z limits root d old k v kr few key now n0 i rest i2 rest2 level steps s other (putting e1) finds own grows respects in
+    let deep = t.found.deep in
+    let all = t.found.field.all in
+    let exact : level + steps ≡ sum = omega (arith, is, deep, all) in
+    subst (λ (n : ℕ). Arrived z d old n0 root k v i2 rest2 n other) exact t
+
+-- and what the try there leads to
 pub put_settles : (z : Sizes) (limits : IsWithinLimits z) (root : Label) (d : ℕ) (old : List Entry) (k : Label) (v : Value) (kr : ℕ) → kr < 8 → held_by z d old kr ≡ Block k → (now n0 new : List Entry) (i rest i2 rest2 level steps sum : ℕ) (s : Reply) (other : Option Label) (try : Try) → sum ≡ min (level + steps) 255
     → (OthersRespect z root d old now → Putting z d old now root k v i rest s level) → FindsField z d now n0 kr k i rest s i2 rest2 steps other → KeepsLeaf z d now n0 kr k i rest s → IsPrefix now n0 → Settles z d n0 new k i2 rest2 sum other try → IsPrefix n0 new
     → IsMap (graph_of z old) root → IsInPlace z.domains (graph_of z old) root → OthersRespect z root d old new → SettledBy z d old new root k v i2 rest2 sum try
 put_settles z limits root d old k v kr few key now n0 new i rest i2 rest2 level steps sum s other try is putting finds own grows settles later map placed respects =
-    let e0 = respects_within z root d old new old n0 (prefix_same old) later respects in
-    let e1 = respects_within z root d old n0 old now (prefix_same old) grows e0 in
-    let t = put_arrives z limits root d old k v kr few key now n0 i rest i2 rest2 level steps s other (putting e1) finds own grows e0 in
-    let deep = t.found.deep in
-    let all = t.found.field.all in
-    let exact : level + steps ≡ sum = omega (arith, is, deep, all) in
-    settles old root v kr few key map placed (subst (λ (n : ℕ). Arrived z d old n0 root k v i2 rest2 n other) exact t) respects
+    settles old root v kr few key map placed
+    (put_searched z limits root d old k v kr few key now n0 i rest i2 rest2 level steps sum s other is putting finds own grows (respects_within z root d old new old n0 (prefix_same old) later respects)) respects
 
 -- whatever is answered, each leaf stands on its key's way still
 pub put_placed : (z : Sizes) (root : Label) (d : ℕ) (old new : List Entry) (k : Label) (v : Value) (r : Reply) → IsPrefix old new → IsMap (graph_of z old) root → IsInPlace z.domains (graph_of z old) root → OthersRespect z root d old new → PutsOrFull z root d old new k v r

@@ -11,7 +11,7 @@ use Rattle.heap_model.specs.declared.state.Sizes.{Sizes}
 use Rattle.heap_model.specs.Domains.{IsWithinLimits}
 use Rattle.heap_model.specs.History.{IsPrefix}
 use Rattle.table_laws.specs.Stages.{graph_of}
-use Rattle.map_laws.specs.Tries.{at, inside, bound_by, node_width, number_of, root_width, way_to, IsLabelOf, IsMap}
+use Rattle.map_laws.specs.Tries.{at, inside, bound_by, node_width, number_of, root_width, way_to, IsLabelOf, IsMap, IsInPlace}
 use Rattle.map_laws.specs.Steps.{OthersRespect}
 use Rattle.map_laws.specs.Calls.{ChangesOne, Looks, PerformedBy}
 use Rattle.map_laws.proofs.CallLemmas.{copy_step}
@@ -21,7 +21,7 @@ use Rattle.map_laws.proofs.RespectLemmas.{respect_within}
 use Rattle.weak_maps.specs.Beside.{held_by}
 use Rattle.weak_maps.specs.Walks.{Looking, OwnQuiet}
 use Rattle.weak_maps.specs.Fields.{AtField, Cleared, Stays}
-use Rattle.weak_maps.specs.Puts.{Arrived, FieldFound, FindsField, GoesOn, IsInPlace, KeepsLeaf, LeafMade, OwnBlock, Published, Putting, rest_of}
+use Rattle.weak_maps.specs.Puts.{Arrived, FieldFound, FindsField, GoesOn, KeepsLeaf, LeafMade, OwnBlock, Published, Putting, rest_of}
 use Rattle.weak_maps.specs.Returns.{TakeLeaves}
 use Rattle.weak_maps.proofs.BesideLemmas.{set_here, set_other, sixteen}
 use Rattle.weak_maps.proofs.DescendLemmas.{below_root}
@@ -35,7 +35,7 @@ use Rattle.weak_maps.proofs.StayLemmas.{looking_from, looking_on, quiet_looks, r
 use Rattle.weak_maps.proofs.TakeLemmas.{cleared_clean, cleared_grows, cleared_keeps, cleared_looking}
 
 -- entries that change no block, from a later front on
-quiet_later : (z : Sizes) (d : ℕ) (first now new : List Entry) → IsPrefix first now → OwnQuiet z d first new → OwnQuiet z d now new
+pub quiet_later : (z : Sizes) (d : ℕ) (first now new : List Entry) → IsPrefix first now → OwnQuiet z d first new → OwnQuiet z d now new
 quiet_later z d first now new grows quiet front e since until mine = quiet front e (prefix_trans first now front grows since) until mine
 
 -- a call that goes on by looking
@@ -99,6 +99,7 @@ module _ (z : Sizes) (limits : IsWithinLimits z) (root : Label) (d : ℕ) (old :
         on = goes_looking z root d old t.first now n0 t.on t.looking.grows grows f.0;
         first = t.first;
         since = t.since;
+        looking = f.0;
         found = subst (λ (n : ℕ). FieldFound z d t.first n0 root k i2 rest2 (n + steps) other) (sym t.deep) f.2;
         keeps = λ j small. f.1 j (λ e. absurd (omega (arith, small, e))) (λ e. absurd (omega (arith, small, e))) (λ e. absurd (omega (arith, small, e))) ∙ t.keeps j small;
         l = t.l;

@@ -11,11 +11,10 @@ use Rattle.heap_model.specs.declared.state.Sizes.{Sizes}
 use Rattle.heap_model.specs.Graph.{Graph, node_at}
 use Rattle.heap_model.specs.History.{IsPrefix}
 use Rattle.table_laws.specs.Stages.{graph_of}
-use Rattle.map_laws.specs.Tries.{at, inside, node_width, root_width, width_at, IsMap}
+use Rattle.map_laws.specs.Tries.{at, inside, is_leaf, node_width, root_width, width_at, IsMap, IsInPlace}
 use Rattle.map_laws.specs.Steps.{OthersLeave}
-use Rattle.map_laws.specs.Calls.{AreZero, OwnKeep, PerformedBy}
+use Rattle.map_laws.specs.Calls.{AreZero, HasKey, OwnKeep, PerformedBy}
 use Rattle.weak_maps.specs.Beside.{held_by}
-use Rattle.weak_maps.specs.Puts.{IsInPlace}
 
 -- how many fields a block has below which there may be so many in a row
 abbrev pub width_of : ℕ → ℕ
@@ -25,12 +24,13 @@ width_of left = cond (left == 6) root_width node_width
 abbrev pub Below : List ℕ → List ℕ → Type 0
 Below p q = (r : List ℕ) × (q ≡ p ++ r)
 
--- what a domain has done changed no binding, a map is one still, and each leaf that binds a key stands on the key's way
+-- what a domain has done changed no binding, a map is one still, each leaf that binds a key stands on the key's way, and each that has its key stood where it stands, and had it
 pub record Cleans (z : Sizes) (root : Label) (d : ℕ) (old new : List Entry) : Type 0 where
   pub keeps : OwnKeep z root d old new
   pub grows : IsPrefix old new
   pub map : IsMap (graph_of z new) root
   pub placed : IsInPlace z.domains (graph_of z new) root
+  pub stood : (p : List ℕ) (l : Label) → HasKey (graph_of z new) root p l → HasKey (graph_of z old) root p l
 
 -- what isn't at a place or below it stands where it stood, and each block there has the fields that it had, but for one
 pub record Elsewhere (g h : Graph) (root : Label) (here but : List ℕ) : Type 0 where
@@ -47,6 +47,10 @@ pub record LeftAlone (z : Sizes) (root : Label) (d : ℕ) (old new : List Entry)
 -- each block at a place or below it holds something
 abbrev pub IsTidyAt : Graph → Label → List ℕ → Type 0
 IsTidyAt g root here = (q : List ℕ) (u : Value) (fields : List Value) → at (inside g) (here ++ q) (Block root) ≡ Some u → inside g u ≡ Some fields → (j : ℕ) × (j < node_width) × (slice_index_or fields j Nothing ≢ Int (pos 0))
+
+-- each leaf at a place or below it stood there before, and had its key then
+abbrev pub HadKeysAt : Sizes → Label → List Entry → List Entry → List ℕ → Type 0
+HadKeysAt z root old new here = (q : List ℕ) (l : Label) → at (inside (graph_of z new)) (here ++ q) (Block root) ≡ Some (Block l) → is_leaf (node_at (graph_of z new) l) → HasKey (graph_of z old) root (here ++ q) l
 
 -- a register holds a block of a map, so many blocks above the lowest, and register 15 holds 0
 pub record AtBlock (z : Sizes) (d : ℕ) (now : List Entry) (root : Label) (p : List ℕ) (l : Label) (block left : ℕ) : Type 0 where
@@ -77,6 +81,7 @@ pub record FieldCleaned (z : Sizes) (d : ℕ) (old new : List Entry) (root : Lab
   pub others : (was : List Value) → inside (graph_of z old) (Block l) ≡ Some was → (j : ℕ) → j ≢ i → slice_index_or fields j Nothing ≡ slice_index_or was j Nothing
   pub holds : IsZero empty (slice_index_or fields i Nothing)
   pub tidy : IsTidyAt (graph_of z new) root (p ++ i ∷ [])
+  pub live : HadKeysAt z root old new (p ++ i ∷ [])
   pub low : KeepsLow z d old new value
 
 -- so many fields of a block were cleaned, and hold 0 then, or one holds something
@@ -88,6 +93,7 @@ pub record BlockCleaned (z : Sizes) (d : ℕ) (old new : List Entry) (root : Lab
   pub plain : inside (graph_of z new) (Block l) ≡ Some fields
   pub holds : AreZero empty n fields
   pub tidy : (j : ℕ) → j < n → IsTidyAt (graph_of z new) root (p ++ j ∷ [])
+  pub live : (j : ℕ) → j < n → HadKeysAt z root old new (p ++ j ∷ [])
   pub low : KeepsLow z d old new value
 
 -- 0 was stored into a field of the block in a register

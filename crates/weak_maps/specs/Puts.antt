@@ -14,16 +14,12 @@ use Rattle.heap_model.specs.History.{IsPrefix}
 use Rattle.table_laws.specs.Thinning.{state_of}
 use Rattle.table_laws.specs.Stages.{graph_of}
 use Rattle.map_laws.specs.Tries.{at, inside, bound_by, is_leaf, node_width, root_width, way_to, IsMap}
-use Rattle.map_laws.specs.Steps.{OthersRespect}
+use Rattle.map_laws.specs.Steps.{OthersLeave, OthersRespect}
 use Rattle.map_laws.specs.Calls.{ChangesOne, Looks}
 use Rattle.map_laws.specs.Private.{IsPrivate}
 use Rattle.weak_maps.specs.Beside.{held_by}
 use Rattle.weak_maps.specs.Walks.{Looking}
 use Rattle.weak_maps.specs.Fields.{AtField, KeepsWalked, Stays}
-
--- each leaf that binds a key stands on the key's way
-abbrev pub IsInPlace : ℕ → Graph → Label → Type 0
-IsInPlace n g root = (p : List ℕ) (l k : Label) → at (inside g) p (Block root) ≡ Some (Block l) → bound_by g k (Block l) ≢ None → (q : List ℕ) × (way_to n k ≡ p ++ q)
 
 -- a leaf of this key, or of none
 abbrev pub IsLeafOf : Graph → Label → Label → Type 0
@@ -124,26 +120,31 @@ abbrev pub FindsField : Sizes → ℕ → List Entry → List Entry → ℕ → 
 FindsField z d old new kr k index rest at_end index_now rest_now steps other = (first : List Entry) (root : Label) → held_by z d old kr ≡ Block k → Looking z root d first old → (x : AtField z d first old old root k index rest at_end) → OthersRespect z root d first new
     → Looking z root d first new × KeepsWalked z d old new × FieldFound z d first new root k index_now rest_now (length x.p + steps) other
 
--- room was made at a field, or another call wrote it first: either way the call goes on from the same block, with the leaf in the making
-pub record RoomMade (z : Sizes) (d : ℕ) (front old new : List Entry) (root k l : Label) (v : Value) : Type 0 where
+-- at a place stands a block of the map
+abbrev pub IsBlockAt : Sizes → List Entry → Label → List ℕ → Type 0
+IsBlockAt z h root place = (b : Label) × (fields : List Value) × (at (inside (graph_of z h)) place (Block root) ≡ Some (Block b)) × (inside (graph_of z h) (Block b) ≡ Some fields)
+
+-- room was made at a field, or another call wrote it first: either way the call goes on from the same block, with the leaf in the making. Where the field held what it was to hold, and no other domain uses the map, it holds a block
+pub record RoomMade (z : Sizes) (d : ℕ) (front old new : List Entry) (root k l : Label) (v : Value) (place : List ℕ) (held : Value) : Type 0 where
   pub on : GoesOn z root d old new
   pub stays : Stays z root front new
   pub leaf : OwnBlock z d new root 10 l (Ephe (Some k ∷ []) v)
   pub keeps : (i : ℕ) → i ≢ 11 → held_by z d new i ≡ held_by z d old i
+  pub deeper : at (inside (graph_of z old)) place (Block root) ≡ Some held → OthersLeave z root d old new → IsBlockAt z new root place
 
 -- or the allocation was refused
 pub record RoomRefused (z : Sizes) (d : ℕ) (old new : List Entry) (root : Label) : Type 0 where
   pub on : GoesOn z root d old new
   pub keeps : (i : ℕ) → held_by z d new i ≡ held_by z d old i
 
-abbrev pub MakesRoomBy : Sizes → ℕ → List Entry → List Entry → List Entry → Label → Label → Label → Value → Bool → Type 0
-MakesRoomBy z d front old new root k l v true = RoomMade z d front old new root k l v
-MakesRoomBy z d front old new root k l v false = RoomRefused z d old new root
+abbrev pub MakesRoomBy : Sizes → ℕ → List Entry → List Entry → List Entry → Label → Label → Label → Value → List ℕ → Value → Bool → Type 0
+MakesRoomBy z d front old new root k l v place held true = RoomMade z d front old new root k l v place held
+MakesRoomBy z d front old new root k l v place held false = RoomRefused z d old new root
 
 -- whatever map that is in, if others respect it, a register holds the key, and the way to the other key goes on by this digit
 abbrev pub MakesRoom : Sizes → ℕ → List Entry → List Entry → ℕ → ℕ → Bool → Type 0
 MakesRoom z d old new index digit made = (first front : List Entry) (root k j l : Label) (v : Value) (rest key : ℕ) (shows : Reply) → key < 8 → held_by z d old key ≡ Block k → (field : AtField z d first front old root k index rest shows) → FieldBinds z front old field.v j
-    → ((q : List ℕ) × (way_to z.domains j ≡ field.p ++ index ∷ digit ∷ q)) → OwnBlock z d old root 10 l (Ephe (Some k ∷ []) v) → IsMap (graph_of z old) root → OthersRespect z root d old new → MakesRoomBy z d front old new root k l v made
+    → ((q : List ℕ) × (way_to z.domains j ≡ field.p ++ index ∷ digit ∷ q)) → OwnBlock z d old root 10 l (Ephe (Some k ∷ []) v) → IsMap (graph_of z old) root → OthersRespect z root d old new → MakesRoomBy z d front old new root k l v (field.p ++ index ∷ []) field.v made
 
 -- what is left of a number below its first digit and so many others
 abbrev pub rest_of : ℕ → ℕ → ℕ
@@ -172,6 +173,7 @@ pub record Arrived (z : Sizes) (d : ℕ) (old now : List Entry) (root k : Label)
   pub on : GoesOn z root d old now
   pub first : List Entry
   pub since : IsPrefix old first
+  pub looking : Looking z root d first now
   pub found : FieldFound z d first now root k index rest level other
   pub keeps : (i : ℕ) → i < 8 → held_by z d now i ≡ held_by z d old i
   pub l : Label

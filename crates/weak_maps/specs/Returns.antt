@@ -11,11 +11,10 @@ use Rattle.heap_model.specs.Graph.{node_at}
 use Rattle.heap_model.specs.Commands.{new_plain, shown}
 use Rattle.heap_model.specs.History.{IsPrefix}
 use Rattle.table_laws.specs.Stages.{graph_of}
-use Rattle.map_laws.specs.Tries.{IsMap, root_width}
+use Rattle.map_laws.specs.Tries.{IsMap, root_width, IsInPlace}
 use Rattle.map_laws.specs.Calls.{GetAnswers, PutAnswers, TakeAnswers, bound_after}
 use Rattle.weak_maps.specs.Beside.{held_by}
 use Rattle.weak_maps.specs.Walks.{OwnQuiet}
-use Rattle.weak_maps.specs.Puts.{IsInPlace}
 
 -- what `map_get` leaves: the map is one still, no block was changed by the domain, the register of the answer holds what the reply shows, register 8 nothing, and the others what they held
 pub record GetLeaves (z : Sizes) (d : ℕ) (old new : List Entry) (root : Label) (dst : ℕ) (r : Reply) : Type 0 where

@@ -5,12 +5,11 @@ ghost use Rattle.heap_model.specs.declared.graph.Value.TheVariants.{Block};
 ghost use Rattle.heap_model.specs.declared.label.Label as labels;
 ghost use Rattle.heap_model.specs.History.{IsPrefix};
 ghost use Rattle.table_laws.specs.Stages.{graph_of};
-ghost use Rattle.map_laws.specs.Tries.{IsMap};
+ghost use Rattle.map_laws.specs.Tries.{IsMap, IsInPlace};
 ghost use Rattle.map_laws.specs.Steps.{OthersLeave};
 ghost use Rattle.map_laws.specs.Calls.{CleanAnswers, PerformedBy};
 ghost use Rattle.weak_maps.specs.Beside.{held_by, refusals_by, writings_by};
 ghost use Rattle.weak_maps.specs.Cleans.{CleanLeaves, CleansBlock, CleansField, EmptiesField, ForgetsHigh, width_of};
-ghost use Rattle.weak_maps.specs.Puts.{IsInPlace};
 
 use crate::machine::{Machine, perform};
 use crate::replies::{is_block, is_empty, is_other_kind};
@@ -179,9 +178,9 @@ fn forget_high<M: Machine, R: Wait>(m: &mut M, rt: &R)
 }
 
 /// Cleans the map in a register, which no other domain uses meanwhile: the fields of leaves that have lost their key are
-/// emptied, and each block of the map that holds nothing any more is given back, but for the first. Tells whether the map
-/// holds nothing any more: then it binds no key. No binding is changed, and nothing is made. Registers are below 8. Registers
-/// 8 to 15 hold nothing afterwards.
+/// emptied, and each block of the map that holds nothing any more is given back, but for the first. Each leaf that is left had
+/// its key when the call began. Tells whether the map holds nothing any more: then it binds no key. No binding is changed, and
+/// nothing is made. Registers are below 8. Registers 8 to 15 hold nothing afterwards.
 pub fn map_clean<M: Machine, R: Wait>(m: &mut M, rt: &R, map: u8) -> bool
     requires few { map < 8 }
     ensures sizes { M.sizes m.new ≡ M.sizes m.old }

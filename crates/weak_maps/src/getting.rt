@@ -6,11 +6,10 @@ ghost use Rattle.heap_model.specs.declared.reply.Reply.TheVariants as variant;
 ghost use Rattle.heap_model.specs.History.{IsPrefix};
 ghost use Rattle.table_laws.specs.Performing.{is_spared};
 ghost use Rattle.table_laws.specs.Stages.{graph_of};
-ghost use Rattle.map_laws.specs.Tries.{IsMap};
+ghost use Rattle.map_laws.specs.Tries.{IsMap, IsInPlace};
 ghost use Rattle.map_laws.specs.Steps.{OthersRespect};
 ghost use Rattle.weak_maps.specs.Beside.{held_by, refusals_by, writings_by};
 ghost use Rattle.weak_maps.specs.Walks.{Descended, Emptied};
-ghost use Rattle.weak_maps.specs.Puts.{IsInPlace};
 ghost use Rattle.weak_maps.specs.Returns.{GetReturns};
 
 use crate::digits::{node_index, number_of, root_index};

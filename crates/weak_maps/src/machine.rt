@@ -79,9 +79,9 @@ pub trait Machine {
         ensures performed { PerformedBy (sizes self.old) (domain self.old) (front self.old) (front self.new) c result };
 }
 
-// Makes a command: one entry more of the domain is refused exactly where it is answered `full`, and an allocation gives out a
-// label or is.
-pub(crate) fn perform<M: Machine, R: Wait>(m: &mut M, rt: &R, c: Command) -> Reply
+/// Makes a command: one entry more of the domain is refused exactly where it is answered `full`, and an allocation gives out a
+/// label or is.
+pub fn perform<M: Machine, R: Wait>(m: &mut M, rt: &R, c: Command) -> Reply
     requires fits { IsMapCommand c }
     requires label { labels_of c ≤ M.labels_left m.old }
     requires room { ephemerons_of c ≤ M.ephes_room m.old }

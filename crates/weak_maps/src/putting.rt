@@ -5,13 +5,13 @@ ghost use Rattle.heap_model.specs.declared.label.Label as labels;
 ghost use Rattle.heap_model.specs.declared.reply.Reply.TheVariants as variant;
 ghost use Rattle.heap_model.specs.History.{IsPrefix};
 ghost use Rattle.table_laws.specs.Stages.{graph_of};
-ghost use Rattle.map_laws.specs.Steps.{OthersRespect};
-ghost use Rattle.map_laws.specs.Tries.{node_width, IsMap};
+ghost use Rattle.map_laws.specs.Steps.{OthersLeave, OthersRespect};
+ghost use Rattle.map_laws.specs.Tries.{node_width, IsMap, IsInPlace};
 ghost use Rattle.weak_maps.specs.Beside.{held_by, refusals_by, writings_by};
-ghost use Rattle.weak_maps.specs.Puts.{IsInPlace, MakesLeaf, MakesRoom, Publishes};
+ghost use Rattle.weak_maps.specs.Puts.{MakesLeaf, MakesRoom, Publishes};
 ghost use Rattle.weak_maps.specs.Crowds.{IsCrowded, PutCounts};
 ghost use Rattle.weak_maps.specs.Returns.{PutReturns};
-ghost use Rattle.weak_maps.specs.Settles.{rooms_after, Settles, TryRefuses};
+ghost use Rattle.weak_maps.specs.Settles.{rooms_after, Settles, SettlesAlone, TryRefuses};
 
 use crate::digits::{node_index, number_of, rest_below, serial_of};
 use crate::machine::{Machine, perform};
@@ -159,6 +159,7 @@ fn settle<M: Machine, R: Wait>(
     ensures written { writings_by (M.domain m.old) (M.front m.new) ≡ writings_by (M.domain m.old) (M.front m.old) }
     ensures grows { IsPrefix (M.front m.old) (M.front m.new) }
     ensures settled { Settles (M.sizes m.old) (M.domain m.old) (M.front m.old) (M.front m.new) label.now from.index from.rest level from.other result }
+    ensures alone { SettlesAlone (M.sizes m.old) (M.domain m.old) (M.front m.old) (M.front m.new) label.now from.index from.rest level from.other rooms result }
 {
     m.stands();
     let _serial = serial_of(label);
@@ -170,11 +171,11 @@ fn settle<M: Machine, R: Wait>(
         let shows = read_again(m, rt, from.index);
         return Try::Again { shows, rooms };
     };
+    let _other_serial = serial_of(&other);
     if rooms == 0 {
         clear(m, rt);
         return Try::Over(Reply::Full);
     }
-    let _other_serial = serial_of(&other);
     let rest = rest_below(number_of(m.domains(), &other), level);
     if !make_room(m, rt, from.index, node_index(rest)) {
         clear(m, rt);
@@ -190,10 +191,10 @@ fn settle<M: Machine, R: Wait>(
 /// Binds the key in a register to what another holds, in the map in a third, whose leaves each stand on their key's way.
 /// Answers `type` exactly where the key's register holds no label or the other nothing, and then changes nothing; `full` where
 /// an allocation was refused, or where none was, a leaf and six blocks for room were made, and another key's leaf was in the
-/// way still, as it may be where other domains won fields: then no binding was changed; and else that it is done: an entry of
-/// the call bound the key, and changed no other key, and no allocation was refused. Registers are below 8. Registers 8 to 11
-/// hold nothing afterwards, but for `type`. Other domains may use the map meanwhile, by its calls. Where one of them wins a
-/// field, the call tries again.
+/// way still, as it may be only where other domains use the map meanwhile: then no binding was changed; and else that it is
+/// done: an entry of the call bound the key, and changed no other key, and no allocation was refused. Registers are below 8.
+/// Registers 8 to 11 hold nothing afterwards, but for `type`. Other domains may use the map meanwhile, by its calls. Where one
+/// of them wins a field, the call tries again.
 pub fn map_put<M: Machine, R: Wait>(m: &mut M, rt: &R, map: u8, key: u8, item: u8) -> Reply
     requires few { (map < 8) × (key < 8) × (item < 8) }
     requires labels { 7 ≤ M.labels_left m.old }
@@ -211,6 +212,9 @@ pub fn map_put<M: Machine, R: Wait>(m: &mut M, rt: &R, map: u8, key: u8, item: u
     ensures crowded { (root k : labels.Label) → held_by (M.sizes m.old) (M.domain m.old) (M.front m.old) map ≡ Block root → held_by (M.sizes m.old) (M.domain m.old) (M.front m.old) key ≡ Block k → IsMap (graph_of (M.sizes m.old) (M.front m.old)) root
         → IsInPlace (M.sizes m.old).domains (graph_of (M.sizes m.old) (M.front m.old)) root → OthersRespect (M.sizes m.old) root (M.domain m.old) (M.front m.old) (M.front m.new)
         → result ≡ variant.Full → refusals_by (M.domain m.old) (M.front m.new) ≡ refusals_by (M.domain m.old) (M.front m.old) → IsCrowded (M.sizes m.old) (M.domain m.old) (M.front m.old) (M.front m.new) root k }
+    ensures alone { (root k : labels.Label) → held_by (M.sizes m.old) (M.domain m.old) (M.front m.old) map ≡ Block root → held_by (M.sizes m.old) (M.domain m.old) (M.front m.old) key ≡ Block k → IsMap (graph_of (M.sizes m.old) (M.front m.old)) root
+        → IsInPlace (M.sizes m.old).domains (graph_of (M.sizes m.old) (M.front m.old)) root → OthersRespect (M.sizes m.old) root (M.domain m.old) (M.front m.old) (M.front m.new) → OthersLeave (M.sizes m.old) root (M.domain m.old) (M.front m.old) (M.front m.new)
+        → result ≡ variant.Full → refusals_by (M.domain m.old) (M.front m.new) ≡ refusals_by (M.domain m.old) (M.front m.old) + 1 }
     ensures follows { (root : labels.Label) → held_by (M.sizes m.old) (M.domain m.old) (M.front m.old) map ≡ Block root → IsMap (graph_of (M.sizes m.old) (M.front m.old)) root
         → IsInPlace (M.sizes m.old).domains (graph_of (M.sizes m.old) (M.front m.old)) root → OthersRespect (M.sizes m.old) root (M.domain m.old) (M.front m.old) (M.front m.new)
         → IsMap (graph_of (M.sizes m.old) (M.front m.new)) root × IsInPlace (M.sizes m.old).domains (graph_of (M.sizes m.old) (M.front m.new)) root }

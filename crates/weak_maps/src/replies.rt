@@ -8,8 +8,8 @@ ghost use Rattle.weak_maps.specs.Puts.{other_block};
 use heap_model::label::Label;
 use heap_model::reply::Reply;
 
-// Whether a reply shows a block.
-pub(crate) fn is_block(reply: &Reply) -> bool
+/// Whether a reply shows a block.
+pub fn is_block(reply: &Reply) -> bool
     ensures { (result ≡ true) ↔ IsBlock reply.now }
 {
     match reply {
@@ -18,8 +18,8 @@ pub(crate) fn is_block(reply: &Reply) -> bool
     }
 }
 
-// Whether a reply shows this block.
-pub(crate) fn is_this(reply: &Reply, label: &Label) -> bool
+/// Whether a reply shows this block.
+pub fn is_this(reply: &Reply, label: &Label) -> bool
     ensures { (result ≡ true) ↔ (reply.now ≡ variant.Block label.now) }
 {
     match reply {
@@ -51,8 +51,8 @@ pub(crate) fn is_other_kind(reply: &Reply) -> bool
     matches!(reply, Reply::BadType)
 }
 
-// Whether a reply shows nothing.
-pub(crate) fn is_empty(reply: &Reply) -> bool
+/// Whether a reply shows nothing.
+pub fn is_empty(reply: &Reply) -> bool
     ensures { (result ≡ true) ↔ (reply.now ≡ variant.Empty) }
 {
     matches!(reply, Reply::Empty)
@@ -65,8 +65,8 @@ pub(crate) fn is_yes(reply: &Reply) -> bool
     matches!(reply, Reply::Yes)
 }
 
-// Whether an allocation was refused.
-pub(crate) fn is_full(reply: &Reply) -> bool
+/// Whether an allocation was refused.
+pub fn is_full(reply: &Reply) -> bool
     ensures full { (result ≡ true) ↔ (reply.now ≡ variant.Full) }
     ensures count { full_of reply.now ≡ cond result 1 0 }
 {

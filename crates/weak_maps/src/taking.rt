@@ -6,11 +6,11 @@ ghost use Rattle.heap_model.specs.declared.label.Label as labels;
 ghost use Rattle.heap_model.specs.History.{IsPrefix};
 ghost use Rattle.table_laws.specs.Stages.{graph_of};
 ghost use Rattle.map_laws.specs.Calls.{PerformedBy};
-ghost use Rattle.map_laws.specs.Tries.{IsMap, root_width};
+ghost use Rattle.map_laws.specs.Tries.{IsMap, root_width, IsInPlace};
 ghost use Rattle.map_laws.specs.Steps.{OthersRespect};
 ghost use Rattle.weak_maps.specs.Beside.{held_by, refusals_by, writings_by};
 ghost use Rattle.weak_maps.specs.Fields.{Cleared, Finds};
-ghost use Rattle.weak_maps.specs.Puts.{FindsField, IsInPlace, KeepsLeaf};
+ghost use Rattle.weak_maps.specs.Puts.{FindsField, KeepsLeaf};
 ghost use Rattle.weak_maps.specs.Returns.{TakeReturns};
 
 use crate::digits::{node_index, number_of, root_index};

@@ -1,4 +1,4 @@
-use Rattle.std.proofs.Common.{◌≡◌, ap, arith, subst, sym, Some, true}
+use Rattle.std.proofs.Common.{◌≡◌, ◌≤◌, length, ap, arith, subst, sym, Some, true}
 use Rattle.std.specs.Prelude.{Option}
 use Rattle.std.specs.List.{list_all}
 use Rattle.schedule_drive.specs.Following.{is_for}
@@ -23,6 +23,10 @@ pub replay_runs-requires-clause-inside : goal.replay_runs-requires-clause-inside
 replay_runs-requires-clause-inside g c =
     items_for c.config_of.result c.replay.inside.script.sections c.in-Ok.begun c.args.sizes.now.domains c.items.result.now c.in-Ok.ensures (ap (λ (y : Sizes). y.domains) c.config_of.ensures.sizes)
     (subst (λ is. list_all (is_for c.args.sizes.now.domains) is ≡ true) (sym c.items.ensures) (subst (IsSpelledReplay c.args.sizes.now) (sym c.replay.view_is) c.requires.replay).1.schedule.for_domains)
+
+pub replay_runs-requires-clause-few : goal.replay_runs-requires-clause-few
+replay_runs-requires-clause-few g c =
+    subst (λ is. length is ≤ 200000) (sym c.items.ensures) (subst (IsSpelledReplay c.args.sizes.now) (sym c.replay.view_is) c.requires.replay).1.schedule.few
 
 pub end-requires-clause-here : goal.end-requires-clause-here
 end-requires-clause-here g c =

@@ -1,4 +1,4 @@
-use Rattle.map_laws.proofs.TidyLemmas.{tidy_few, tidy_lead}
+use Rattle.map_laws.proofs.TidyLemmas.{cleaned_blocks, cleaned_leaves, tidy_few, tidy_lead}
 use Rattle.map_laws.proofs.laws.tidy_maps_are_small.Goals as goal
 
 pub returns-clause-lead : goal.returns-clause-lead
@@ -6,3 +6,9 @@ returns-clause-lead c = tidy_lead
 
 pub returns-clause-few : goal.returns-clause-few
 returns-clause-few c = tidy_few
+
+pub returns-clause-blocks : goal.returns-clause-blocks
+returns-clause-blocks c = cleaned_blocks
+
+pub returns-clause-leaves : goal.returns-clause-leaves
+returns-clause-leaves c = cleaned_leaves

@@ -11,14 +11,14 @@ use Rattle.replay_turns.proofs.Gathering.{begins_calm, begins_fresh, begins_room
 use Rattle.replay_turns.proofs.replay.replay_runs.Goals as goal
 
 pub drive-requires-clause-calm : goal.drive-requires-clause-calm
-drive-requires-clause-calm g c = subst (λ (v : GatheredView). IsCalm (seen_in v)) (sym c.in_ok-gathered.ensures) (begins_calm c.args.heap c.args.runs.items c.requires.may)
+drive-requires-clause-calm c = subst (λ (v : GatheredView). IsCalm (seen_in v)) (sym c.in_ok-gathered.ensures) (begins_calm c.args.heap c.args.runs.items c.requires.may)
 
 pub drive-requires-clause-fresh : goal.drive-requires-clause-fresh
-drive-requires-clause-fresh g c =
+drive-requires-clause-fresh c =
     subst (λ (v : GatheredView). (h : List Entry) → MayShare v h → h ≡ []) (sym c.in_ok-gathered.ensures)
     (begins_fresh c.args.heap c.args.runs.items c.requires.may (subst IsGathered c.in_ok-gathered.ensures c.is_whole.ensures))
 
 pub drive-requires-clause-arrivals : goal.drive-requires-clause-arrivals
-drive-requires-clause-arrivals g c =
+drive-requires-clause-arrivals c =
     subst (λ (v : GatheredView). most_in_replay (seen_in v) c.args.items.now < spare_of v) (sym c.in_ok-gathered.ensures)
     (begins_room c.args.heap c.args.runs.items c.args.items.now c.requires.may (subst IsGathered c.in_ok-gathered.ensures c.is_whole.ensures) (subst (λ (v : GatheredView). IsWithinLimits (sizes_in v.heap.config)) c.in_ok-gathered.ensures c.stands.ensures.stands.limits) c.requires.few)

@@ -104,6 +104,7 @@ clean_field-returns-then-not-is_empty-clause-cleaned g t c =
     let d : ℕ = g.M.Machine.domain c.args.m.now in
     field_live z c.stands.ensures.limits d _ _ c.args.block c.args.left c.args.index c.requires.few _ c.read_field-at.ensures.read _ _ (c.is_block.ensures.0 c.if-not-is_block.false)
     (at_machine z _ d _ _ _ _ _ c.read_field-at.ensures.sizes c.read_field-at.ensures.domain c.read_key-key.ensures.read) (λ e. let clash : true ≡ false = sym (c.is_other_kind.ensures.1 e) ∙ c.if-is_other_kind.false in cc)
+    (λ e. let clash : true ≡ false = sym (c.is_empty.ensures.1 e) ∙ c.if-not-is_empty.true in cc)
 
 pub clean_field-returns-clause-cleaned : goal.clean_field-returns-clause-cleaned
 clean_field-returns-clause-cleaned g t c =

@@ -14,9 +14,10 @@ use Rattle.weak_maps.specs.declared.putting.Try.TheVariants.{Over, Again}
 use Rattle.weak_maps.specs.Beside.{held_by, refusals_by, writings_by}
 use Rattle.weak_maps.specs.Puts.{Putting}
 use Rattle.weak_maps.specs.Crowds.{IsCrowded, made_by}
-use Rattle.weak_maps.specs.Settles.{rooms_after, TryRefuses}
+use Rattle.weak_maps.specs.Settles.{AloneBy, rooms_after, TryRefuses}
+use Rattle.weak_maps.proofs.AloneLemmas.{deep_root, put_alone}
 use Rattle.weak_maps.proofs.CrowdLemmas.{full_crowded, put_counts, put_crowded}
-use Rattle.weak_maps.proofs.MachineLemmas.{at_machine, cleared_at, counted_by, field_at, keeps_at, leaf_at, put_at, settles_at, shows_some}
+use Rattle.weak_maps.proofs.MachineLemmas.{alone_at, at_machine, cleared_at, counted_by, field_at, keeps_at, leaf_at, put_at, settles_at, shows_some}
 use Rattle.weak_maps.proofs.FollowLemmas.{grown_from, none_follows, none_grows, put_follows}
 use Rattle.weak_maps.proofs.GetLemmas.{grows_by, shown_label}
 use Rattle.weak_maps.proofs.SettleLemmas.{put_placed, put_settles}
@@ -132,6 +133,9 @@ tries-init g c =
       walk = λ root held map placed respects.
           subst (λ (w : ℕ × ℕ). Putting z d old new root k v w.0 w.1 c.read_again-at.result 0) (λ i. (sym first i, sym left i))
           (put_begins z c.stands.ensures.limits root d old k v c.args.key c.requires.few.1 key n0 n1 new c.perform-root.result c.read_again-at.result c.args.map c.requires.few.0 held (makes root k key some map (respects_within z root d old new old n0 (prefix_same old) later respects)) p1 p2 respects);
+      deep = λ root held map placed respects leaves.
+          deep_root z new root k
+          (put_begins z c.stands.ensures.limits root d old k v c.args.key c.requires.few.1 key n0 n1 new c.perform-root.result c.read_again-at.result c.args.map c.requires.few.0 held (makes root k key some map (respects_within z root d old new old n0 (prefix_same old) later respects)) p1 p2 respects).on.map;
     }
 
 pub returns-in-Over-clause-answer : goal.returns-in-Over-clause-answer
@@ -171,6 +175,43 @@ returns-in-Over-clause-counts g c =
     let l1 = c.find-from.ensures.labels in
     let l2 = subst (λ (n : ℕ). g.M.Machine.labels_left c.find-from.new.m + n ≡ g.M.Machine.labels_left c.settle.new.m + c.tries.rooms) (ap (rooms_after c.tries.rooms) c.in-Over.is) c.settle.ensures.labels in
     put_counts c.in-Over.answer c.tries.rooms c.find-from.result.other _ _ _ (refusals_by (g.M.Machine.domain c.args.m.now) n0) _ c.tries.invariant.few (omega (arith, l0, l1, l2)) (f1 ∙ f0) f2
+
+pub returns-then-not-make_leaf-clause-alone : goal.returns-then-not-make_leaf-clause-alone
+returns-then-not-make_leaf-clause-alone g c =
+    let d : ℕ = g.M.Machine.domain c.args.m.now in
+    let n0 : List Entry = g.M.Machine.front c.make_leaf.new.m in
+    let new : List Entry = g.M.Machine.front c.clear.new.m in
+    let o0 : g.M.Machine.domain c.show-datum.new.self ≡ d = c.show-datum.ensures.domain ∙ c.show.ensures.domain in
+    let f0 : g.M.Machine.front c.show-datum.new.self ≡ g.M.Machine.front c.args.m.now = c.show-datum.ensures.front ∙ c.show.ensures.front in
+    let h0 = ap (refusals_by d) f0 in
+    let h1 = counted_by refusals_by d _ _ _ n0 o0 (c.make_leaf.ensures.refused ∙ ap (λ (b : Bool). refusals_by (g.M.Machine.domain c.show-datum.new.self) (g.M.Machine.front c.show-datum.new.self) + cond b 0 1) c.if-not-make_leaf.true) in
+    let h2 = subst (λ (e : ℕ). refusals_by e new ≡ refusals_by e n0) (c.make_leaf.ensures.domain ∙ o0) c.clear.ensures.given in
+    λ root k held key map placed respects leaves full. omega (arith, h0, h1, h2)
+
+pub returns-in-Over-clause-alone : goal.returns-in-Over-clause-alone
+returns-in-Over-clause-alone g c =
+    let z : Sizes = g.M.Machine.sizes c.args.m.now in
+    let d : ℕ = g.M.Machine.domain c.args.m.now in
+    let old : List Entry = g.M.Machine.front c.args.m.now in
+    let k = c.in-Block.label in
+    let v : Value = held_by z d old c.args.item in
+    let now : List Entry = g.M.Machine.front c.tries.m in
+    let n0 : List Entry = g.M.Machine.front c.find-from.new.m in
+    let new : List Entry = g.M.Machine.front c.settle.new.m in
+    let s0 : g.M.Machine.sizes c.tries.m ≡ z = c.tries.invariant.same in
+    let o0 : g.M.Machine.domain c.tries.m ≡ d = c.tries.invariant.own in
+    let s1 : g.M.Machine.sizes c.find-from.new.m ≡ z = c.find-from.ensures.sizes ∙ s0 in
+    let o1 : g.M.Machine.domain c.find-from.new.m ≡ d = c.find-from.ensures.domain ∙ o0 in
+    let own_key : held_by z d old c.args.key ≡ Block k = shown_label _ _ (sym c.show.ensures.reply ∙ c.in-Block.is) in
+    let finds = field_at z _ d _ now n0 c.args.key k _ _ _ _ _ _ _ s0 o0 c.find-from.ensures.field in
+    let own = keeps_at z _ d _ now n0 c.args.key k _ _ _ s0 o0 c.find-from.ensures.leaf in
+    let alone = alone_at z _ d _ n0 new k _ _ _ _ c.tries.rooms (Over c.in-Over.answer) _ s1 o1 c.in-Over.is c.settle.ensures.alone in
+    let f0 = c.tries.invariant.refused in
+    let f1 = subst (λ (e : ℕ). refusals_by e n0 ≡ refusals_by e now) o0 c.find-from.ensures.given in
+    λ root k2 held key map placed respects leaves full.
+    let one : refusals_by d new ≡ refusals_by d n0 + 1 = subst (λ (r : Reply). AloneBy z d n0 new root k (Over r)) full
+    (put_alone z c.stands.ensures.limits root d old k v c.args.key c.requires.few.1 own_key now n0 new _ _ _ _ c.tries.level c.find-from.result.steps c.saturating_add-level.result c.tries.rooms c.tries.at _ (Over c.in-Over.answer) c.saturating_add-level.ensures (c.tries.invariant.walk root held map placed) (c.tries.invariant.deep root held map placed) finds own c.find-from.ensures.grows alone c.settle.ensures.grows map placed respects leaves) in
+    omega (arith, f0, f1, one)
 
 pub returns-in-Over-clause-crowded : goal.returns-in-Over-clause-crowded
 returns-in-Over-clause-crowded g c =
@@ -221,6 +262,7 @@ tries-preserved g c =
     let finds = field_at z _ d _ now n0 c.args.key k _ _ _ _ _ _ _ s0 o0 c.find-from.ensures.field in
     let own = keeps_at z _ d _ now n0 c.args.key k _ _ _ s0 o0 c.find-from.ensures.leaf in
     let settles = settles_at z _ d _ n0 new k _ _ _ _ (Again c.in-Again.shows c.in-Again.left) _ s1 o1 c.in-Again.is c.settle.ensures.settled in
+    let alone = alone_at z _ d _ n0 new k _ _ _ _ c.tries.rooms (Again c.in-Again.shows c.in-Again.left) _ s1 o1 c.in-Again.is c.settle.ensures.alone in
     let l0 = c.tries.invariant.labels in
     let l1 = c.find-from.ensures.labels in
     let l2 = subst (λ (n : ℕ). g.M.Machine.labels_left c.find-from.new.m + n ≡ g.M.Machine.labels_left c.settle.new.m + c.tries.rooms) (ap (rooms_after c.tries.rooms) c.in-Again.is) c.settle.ensures.labels in
@@ -246,6 +288,8 @@ tries-preserved g c =
       written = omega (arith, w0, w1, w2);
       walk = λ root held map placed respects.
           put_settles z c.stands.ensures.limits root d old k v c.args.key c.requires.few.1 key now n0 new _ _ _ _ c.tries.level c.find-from.result.steps c.saturating_add-level.result c.tries.at _ (Again c.in-Again.shows c.in-Again.left) c.saturating_add-level.ensures (c.tries.invariant.walk root held map placed) finds own c.find-from.ensures.grows settles c.settle.ensures.grows map placed respects;
+      deep = λ root held map placed respects leaves.
+          put_alone z c.stands.ensures.limits root d old k v c.args.key c.requires.few.1 key now n0 new _ _ _ _ c.tries.level c.find-from.result.steps c.saturating_add-level.result c.tries.rooms c.tries.at _ (Again c.in-Again.shows c.in-Again.left) c.saturating_add-level.ensures (c.tries.invariant.walk root held map placed) (c.tries.invariant.deep root held map placed) finds own c.find-from.ensures.grows alone c.settle.ensures.grows map placed respects leaves;
     }
 
 pub returns-then-not-make_leaf-clause-grows : goal.returns-then-not-make_leaf-clause-grows

@@ -3,10 +3,11 @@ use Rattle.heap_model.specs.declared.label.Label.{Label}
 use Rattle.heap_model.specs.declared.graph.Value.TheVariants.{Block}
 use Rattle.heap_model.specs.History.{IsPrefix}
 use Rattle.table_laws.specs.Stages.{graph_of}
-use Rattle.map_laws.specs.Tries.{IsMap}
-use Rattle.map_laws.specs.Steps.{OthersRespect}
+use Rattle.map_laws.specs.Tries.{IsMap, IsInPlace}
+use Rattle.map_laws.specs.Steps.{OthersLeave, OthersRespect}
 use Rattle.weak_maps.specs.Beside.{held_by, refusals_by, writings_by}
-use Rattle.weak_maps.specs.Puts.{IsInPlace, Putting}
+use Rattle.weak_maps.specs.Puts.{Putting}
+use Rattle.weak_maps.specs.Settles.{IsDeep}
 use Rattle.weak_maps.proofs.putting.map_put.Given as goal
 
 abbrev pub invariant-tries : goal.invariant-tries
@@ -23,4 +24,7 @@ invariant-tries g l = record {
   walk : (root : Label) → held_by (g.M.Machine.sizes l.fn.m) (g.M.Machine.domain l.fn.m) (g.M.Machine.front l.fn.m) l.map ≡ Block root → IsMap (graph_of (g.M.Machine.sizes l.fn.m) (g.M.Machine.front l.fn.m)) root
       → IsInPlace (g.M.Machine.sizes l.fn.m).domains (graph_of (g.M.Machine.sizes l.fn.m) (g.M.Machine.front l.fn.m)) root → OthersRespect (g.M.Machine.sizes l.fn.m) root (g.M.Machine.domain l.fn.m) (g.M.Machine.front l.fn.m) (g.M.Machine.front l.m)
       → Putting (g.M.Machine.sizes l.fn.m) (g.M.Machine.domain l.fn.m) (g.M.Machine.front l.fn.m) (g.M.Machine.front l.m) root l.label (held_by (g.M.Machine.sizes l.fn.m) (g.M.Machine.domain l.fn.m) (g.M.Machine.front l.fn.m) l.item) l.from.index l.from.rest l.at l.level;
+  deep : (root : Label) → held_by (g.M.Machine.sizes l.fn.m) (g.M.Machine.domain l.fn.m) (g.M.Machine.front l.fn.m) l.map ≡ Block root → IsMap (graph_of (g.M.Machine.sizes l.fn.m) (g.M.Machine.front l.fn.m)) root
+      → IsInPlace (g.M.Machine.sizes l.fn.m).domains (graph_of (g.M.Machine.sizes l.fn.m) (g.M.Machine.front l.fn.m)) root → OthersRespect (g.M.Machine.sizes l.fn.m) root (g.M.Machine.domain l.fn.m) (g.M.Machine.front l.fn.m) (g.M.Machine.front l.m)
+      → OthersLeave (g.M.Machine.sizes l.fn.m) root (g.M.Machine.domain l.fn.m) (g.M.Machine.front l.fn.m) (g.M.Machine.front l.m) → IsDeep (g.M.Machine.sizes l.fn.m) (g.M.Machine.front l.m) root l.label l.rooms;
 }

@@ -1,11 +1,15 @@
-use Rattle.std.proofs.Common.{◌≡◌, ◌∙◌, ℕ, ◌%◌, Bool, List, Option, None, true, false, ap, subst}
+use Rattle.std.proofs.Common.{◌≡◌, ◌∙◌, ℕ, ◌-◌, ◌%◌, Bool, List, Option, None, true, false, ap, subst, arith}
 use Rattle.heap_model.specs.declared.entry.Entry.{Entry}
 use Rattle.heap_model.specs.declared.label.Label.{Label}
 use Rattle.heap_model.specs.declared.state.Sizes.{Sizes}
 use Rattle.map_laws.specs.Tries.{node_width, number_of}
 use Rattle.weak_maps.specs.Puts.{Arrived, MakesRoom, Publishes, rest_of}
+use Rattle.map_laws.proofs.FrontLemmas.{prefix_same, prefix_trans}
+use Rattle.weak_maps.proofs.AloneLemmas.{lost_deep, never_spent, room_deeper}
+use Rattle.weak_maps.proofs.CleanLemmas.{leaves_within}
 use Rattle.weak_maps.proofs.MachineLemmas.{at_machine, cleared_at}
 use Rattle.weak_maps.proofs.SettleLemmas.{settle_again, settle_done, settle_full, settle_lost, settle_spent}
+use Rattle.weak_maps.proofs.StayLemmas.{respects_within}
 use Rattle.weak_maps.proofs.putting.settle.Goals as goal
 
 pub returns-then-publish-clause-settled : goal.returns-then-publish-clause-settled
@@ -76,3 +80,50 @@ returns-clause-settled g c =
     settle_again z c.stands.ensures.limits root d old now k v key few held c.stands.ensures.legal c.args.from.index c.args.from.rest c.args.level n1 _ _ j
     (subst (λ (o : Option Label). Arrived z d old now root k v c.args.from.index c.args.from.rest c.args.level o) c.in-Some.is t)
     c.serial_of-serial.ensures.range c.serial_of-other_serial.ensures.range map placed makes c.make_room.ensures.grows p respects
+
+pub returns-in_default-clause-alone : goal.returns-in_default-clause-alone
+returns-in_default-clause-alone g c =
+    let z : Sizes = g.M.Machine.sizes c.args.m.now in
+    let d : ℕ = g.M.Machine.domain c.args.m.now in
+    let now : List Entry = g.M.Machine.front c.args.m.now in
+    let n1 : List Entry = g.M.Machine.front c.publish.new.m in
+    let k : Label = c.args.label.now in
+    let other : c.args.from.other ≡ None = c.in_default.is in
+    let p = at_machine z _ d _ n1 _ _ _ c.publish.ensures.sizes c.publish.ensures.domain c.read_again-shows.ensures.read in
+    let publishes = subst (λ (b : Bool). Publishes z d now n1 c.args.from.index b) c.if-publish.false c.publish.ensures.published in
+    λ old root v key few held map placed t deep respects leaves.
+    lost_deep z c.stands.ensures.limits root d old now k v key few held c.stands.ensures.legal c.args.from.index c.args.from.rest c.args.level c.args.rooms n1 _ _
+    (subst (λ (o : Option Label). Arrived z d old now root k v c.args.from.index c.args.from.rest c.args.level o) other t) publishes c.publish.ensures.grows p respects deep
+
+pub returns-then-rooms-eq0-clause-alone : goal.returns-then-rooms-eq0-clause-alone
+returns-then-rooms-eq0-clause-alone g c =
+    let z : Sizes = g.M.Machine.sizes c.args.m.now in
+    let d : ℕ = g.M.Machine.domain c.args.m.now in
+    let now : List Entry = g.M.Machine.front c.args.m.now in
+    let k : Label = c.args.label.now in
+    let j : Label = c.in-Some.other in
+    let grows = c.clear-then-rooms-eq0.ensures.grows in
+    λ old root v key few held map placed t deep respects leaves.
+    absurd (never_spent z c.stands.ensures.limits root d old now k v key few held c.stands.ensures.legal c.args.from.index c.args.from.rest c.args.level j
+    (subst (λ (o : Option Label). Arrived z d old now root k v c.args.from.index c.args.from.rest c.args.level o) c.in-Some.is t) (leaves_within z root d old _ old now (prefix_same old) grows leaves) c.args.rooms deep
+    c.serial_of-serial.ensures.range c.serial_of-other_serial.ensures.range map placed (respects_within z root d old _ old now (prefix_same old) grows respects) c.if-rooms-eq0.true)
+
+pub returns-clause-alone : goal.returns-clause-alone
+returns-clause-alone g c =
+    let z : Sizes = g.M.Machine.sizes c.args.m.now in
+    let d : ℕ = g.M.Machine.domain c.args.m.now in
+    let now : List Entry = g.M.Machine.front c.args.m.now in
+    let n1 : List Entry = g.M.Machine.front c.make_room.new.m in
+    let k : Label = c.args.label.now in
+    let j : Label = c.in-Some.other in
+    let p = at_machine z _ d _ n1 _ _ _ c.make_room.ensures.sizes c.make_room.ensures.domain c.read_again-shows-2.ensures.read in
+    let later = prefix_trans now n1 _ c.make_room.ensures.grows c.read_again-shows-2.ensures.grows in
+    let number : c.number_of.result ≡ number_of z.domains j = c.number_of.ensures.number ∙ ap (λ (n : ℕ). number_of n j) c.domains.ensures in
+    let digit : c.node_index.result ≡ rest_of (number_of z.domains j) c.args.level % node_width = c.node_index.ensures ∙ ap (λ (n : ℕ). n % node_width) (c.rest_below-rest.ensures ∙ ap (λ (n : ℕ). rest_of n c.args.level) number) in
+    let made : c.make_room.result ≡ true = c.if-not-make_room.false in
+    let makes = subst (λ (w : ℕ × Bool). MakesRoom z d now n1 c.args.from.index w.0 w.1) (λ i. (digit i, made i)) c.make_room.ensures.made in
+    let some = c.if-rooms-eq0.false in
+    λ old root v key few held map placed t deep respects leaves.
+    room_deeper z c.stands.ensures.limits root d old now k v key few held c.stands.ensures.legal c.args.from.index c.args.from.rest c.args.level j
+    (subst (λ (o : Option Label). Arrived z d old now root k v c.args.from.index c.args.from.rest c.args.level o) c.in-Some.is t) (leaves_within z root d old _ old now (prefix_same old) later leaves) c.args.rooms deep
+    c.serial_of-serial.ensures.range c.serial_of-other_serial.ensures.range map placed n1 _ _ (c.args.rooms - 1) (omega (arith, some)) makes c.make_room.ensures.grows p respects leaves

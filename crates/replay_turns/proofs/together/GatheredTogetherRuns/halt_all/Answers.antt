@@ -12,33 +12,33 @@ use Rattle.replay_turns.proofs.Joining.{all_here, first_few, halted_all_are, hal
 use Rattle.replay_turns.proofs.together.GatheredTogetherRuns.halt_all.Goals as goal
 
 pub halt_all-requires-clause-some : goal.halt_all-requires-clause-some
-halt_all-requires-clause-some g c = let l = c.config-limits.ensures.limits.domains in let count = c.self.invariant.0.count in let same = ap length c.as_mut_slice.ensures.value in omega (arith, l, count, same)
+halt_all-requires-clause-some c = let l = c.config-limits.ensures.limits.domains in let count = c.self.invariant.0.count in let same = ap length c.as_mut_slice.ensures.value in omega (arith, l, count, same)
 
 pub halt_all-requires-clause-here : goal.halt_all-requires-clause-here
-halt_all-requires-clause-here g c =
+halt_all-requires-clause-here c =
     let g0 : GatheredView = record { heap = c.self.inside.heap; runs = c.self.inside.runs.items; complete = c.self.inside.complete } in
     subst (AllHere c.self.inside.heap) (sym c.as_mut_slice.ensures.value) (all_here g0 c.self.invariant.0)
 
 pub halt_all-requires-clause-running : goal.halt_all-requires-clause-running
-halt_all-requires-clause-running g c = λ d r there.
+halt_all-requires-clause-running c = λ d r there.
     let run = subst (λ (v : GatheredView). AllHave (λ x. x.runs) true (seen_in v)) (sym c.self.view_is) c.requires.run in
     let g0 : GatheredView = record { heap = c.self.inside.heap; runs = c.self.inside.runs.items; complete = c.self.inside.complete } in
     runs_run g0 run d r (subst (λ (rs : List (Option RunView)). HasRun rs d r) c.as_mut_slice.ensures.value there)
 
 pub halt_all-requires-clause-few : goal.halt_all-requires-clause-few
-halt_all-requires-clause-few g c = λ r there.
+halt_all-requires-clause-few c = λ r there.
     let g0 : GatheredView = record { heap = c.self.inside.heap; runs = c.self.inside.runs.items; complete = c.self.inside.complete } in
     let room = subst (λ (v : GatheredView). most_in_pause < spare_of v) (sym c.self.view_is) c.requires.room in
     first_few g0 (omega (arith, room)) r (subst (λ (rs : List (Option RunView)). HasRun rs 0 r) c.as_mut_slice.ensures.value there)
 
 pub halt_all-requires-clause-empty : goal.halt_all-requires-clause-empty
-halt_all-requires-clause-empty g c = c.self.invariant.1.0
+halt_all-requires-clause-empty c = c.self.invariant.1.0
 
 pub halt_all-requires-clause-fits : goal.halt_all-requires-clause-fits
-halt_all-requires-clause-fits g c = subst (λ n. n < vec_capacity c.self.inside.meeting) (ap length (sym c.as_mut_slice.ensures.value)) c.self.invariant.1.1
+halt_all-requires-clause-fits c = subst (λ n. n < vec_capacity c.self.inside.meeting) (ap length (sym c.as_mut_slice.ensures.value)) c.self.invariant.1.1
 
 pub invariant_of-self : goal.invariant_of-self
-invariant_of-self g c =
+invariant_of-self c =
     let g0 : GatheredView = record { heap = c.self.inside.heap; runs = c.self.inside.runs.items; complete = c.self.inside.complete } in
     let new = c.halt_all.new.runs in
     let run = subst (λ (v : GatheredView). AllHave (λ x. x.runs) true (seen_in v)) (sym c.self.view_is) c.requires.run in
@@ -49,7 +49,7 @@ invariant_of-self g c =
     (all, keeps_room _ _ _ _ _ _ c.self.invariant.1 (ap length same ∙ (c.halt_all.auto.runs ∙ ap length c.as_mut_slice.ensures.value)) c.halt_all.ensures.room.0 c.halt_all.ensures.room.1)
 
 pub returns-clause-on : goal.returns-clause-on
-returns-clause-on g c =
+returns-clause-on c =
     let g0 : GatheredView = record { heap = c.self.inside.heap; runs = c.self.inside.runs.items; complete = c.self.inside.complete } in
     let new = c.halt_all.new.runs in
     let run = subst (λ (v : GatheredView). AllHave (λ x. x.runs) true (seen_in v)) (sym c.self.view_is) c.requires.run in
@@ -60,7 +60,7 @@ returns-clause-on g c =
     subst (λ (v : GatheredView). SharesOn (MayShare v) (MayShare (record { heap = c.self.inside.heap; runs = (Rattle.std.specs.Vec.with_items c.self.inside.runs new).items; complete = c.args.complete })) []) c.self.view_is here
 
 pub returns-clause-seen : goal.returns-clause-seen
-returns-clause-seen g c =
+returns-clause-seen c =
     let g0 : GatheredView = record { heap = c.self.inside.heap; runs = c.self.inside.runs.items; complete = c.self.inside.complete } in
     let new = c.halt_all.new.runs in
     let run = subst (λ (v : GatheredView). AllHave (λ x. x.runs) true (seen_in v)) (sym c.self.view_is) c.requires.run in
@@ -71,7 +71,7 @@ returns-clause-seen g c =
     subst (λ (v : GatheredView). seen_in (record { heap = c.self.inside.heap; runs = (Rattle.std.specs.Vec.with_items c.self.inside.runs new).items; complete = c.args.complete }) ≡ all_halted c.args.complete (seen_in v)) c.self.view_is here
 
 pub returns-clause-spends : goal.returns-clause-spends
-returns-clause-spends g c =
+returns-clause-spends c =
     let g0 : GatheredView = record { heap = c.self.inside.heap; runs = c.self.inside.runs.items; complete = c.self.inside.complete } in
     let new = c.halt_all.new.runs in
     let run = subst (λ (v : GatheredView). AllHave (λ x. x.runs) true (seen_in v)) (sym c.self.view_is) c.requires.run in

@@ -11,33 +11,33 @@ use Rattle.replay_turns.proofs.Joining.{all_here, gone_few, gone_least, gone_the
 use Rattle.replay_turns.proofs.together.GatheredTogetherRuns.pass_next.Goals as goal
 
 pub gone-at-requires-clause-some : goal.gone-at-requires-clause-some
-gone-at-requires-clause-some g c =
+gone-at-requires-clause-some c =
     let g0 : GatheredView = record { heap = c.self.inside.heap; runs = c.self.inside.runs.items; complete = c.self.inside.complete } in
     let some = subst (λ (v : GatheredView). SomeGone (seen_in v)) (sym c.self.view_is) c.requires.gone in
     subst (λ (rs : List (Option RunView)). (d : ℕ) × (d < length rs) × GoneAt rs d) (sym c.as_slice.ensures.value) (gone_there g0 c.self.invariant.0 some)
 
 pub gone-at-requires-clause-filled : goal.gone-at-requires-clause-filled
-gone-at-requires-clause-filled g c =
+gone-at-requires-clause-filled c =
     subst (λ (rs : List (Option RunView)). (d : ℕ) → d < length rs → (r : RunView) × HasRun rs d r) (sym c.as_slice.ensures.value) c.self.invariant.0.filled
 
 pub pass_at-requires-clause-inside : goal.pass_at-requires-clause-inside
-pass_at-requires-clause-inside g c = let inside = c.gone-at.ensures.inside in let one = ap length c.as_slice.ensures.value in let two = ap length c.as_mut_slice.ensures.value in omega (arith, inside, one, two)
+pass_at-requires-clause-inside c = let inside = c.gone-at.ensures.inside in let one = ap length c.as_slice.ensures.value in let two = ap length c.as_mut_slice.ensures.value in omega (arith, inside, one, two)
 
 pub pass_at-requires-clause-count : goal.pass_at-requires-clause-count
-pass_at-requires-clause-count g c = ap length c.as_mut_slice.ensures.value ∙ c.self.invariant.0.count
+pass_at-requires-clause-count c = ap length c.as_mut_slice.ensures.value ∙ c.self.invariant.0.count
 
 pub pass_at-requires-clause-here : goal.pass_at-requires-clause-here
-pass_at-requires-clause-here g c =
+pass_at-requires-clause-here c =
     let g0 : GatheredView = record { heap = c.self.inside.heap; runs = c.self.inside.runs.items; complete = c.self.inside.complete } in
     subst (AllHere c.self.inside.heap) (sym c.as_mut_slice.ensures.value) (all_here g0 c.self.invariant.0)
 
 pub pass_at-requires-clause-gone : goal.pass_at-requires-clause-gone
-pass_at-requires-clause-gone g c = λ r there.
+pass_at-requires-clause-gone c = λ r there.
     let gone = subst (λ (rs : List (Option RunView)). GoneAt rs c.gone-at.result) c.as_slice.ensures.value c.gone-at.ensures.gone in
     gone r (subst (λ (rs : List (Option RunView)). HasRun rs c.gone-at.result r) c.as_mut_slice.ensures.value there)
 
 pub pass_at-requires-clause-few : goal.pass_at-requires-clause-few
-pass_at-requires-clause-few g c = λ r there.
+pass_at-requires-clause-few c = λ r there.
     let g0 : GatheredView = record { heap = c.self.inside.heap; runs = c.self.inside.runs.items; complete = c.self.inside.complete } in
     let gone = subst (λ (rs : List (Option RunView)). GoneAt rs c.gone-at.result) c.as_slice.ensures.value c.gone-at.ensures.gone in
     let sooner = subst (λ (rs : List (Option RunView)). (d : ℕ) → d < length rs → GoneAt rs d → IsSooner rs c.gone-at.result d) c.as_slice.ensures.value c.gone-at.ensures.least in
@@ -46,7 +46,7 @@ pass_at-requires-clause-few g c = λ r there.
     gone_few g0 c.self.invariant.0 c.gone-at.result least room r (subst (λ (rs : List (Option RunView)). HasRun rs c.gone-at.result r) c.as_mut_slice.ensures.value there)
 
 pub pass_at-requires-clause-least : goal.pass_at-requires-clause-least
-pass_at-requires-clause-least g c = λ d.
+pass_at-requires-clause-least c = λ d.
     let g0 : GatheredView = record { heap = c.self.inside.heap; runs = c.self.inside.runs.items; complete = c.self.inside.complete } in
     let gone = subst (λ (rs : List (Option RunView)). GoneAt rs c.gone-at.result) c.as_slice.ensures.value c.gone-at.ensures.gone in
     let sooner = subst (λ (rs : List (Option RunView)). (d : ℕ) → d < length rs → GoneAt rs d → IsSooner rs c.gone-at.result d) c.as_slice.ensures.value c.gone-at.ensures.least in
@@ -54,13 +54,13 @@ pass_at-requires-clause-least g c = λ d.
     subst (λ (rs : List (Option RunView)). IsSooner rs c.gone-at.result d) (sym c.as_mut_slice.ensures.value) (least d)
 
 pub pass_at-requires-clause-empty : goal.pass_at-requires-clause-empty
-pass_at-requires-clause-empty g c = c.self.invariant.1.0
+pass_at-requires-clause-empty c = c.self.invariant.1.0
 
 pub pass_at-requires-clause-fits : goal.pass_at-requires-clause-fits
-pass_at-requires-clause-fits g c = subst (λ n. n < vec_capacity c.self.inside.meeting) (ap length (sym c.as_mut_slice.ensures.value)) c.self.invariant.1.1
+pass_at-requires-clause-fits c = subst (λ n. n < vec_capacity c.self.inside.meeting) (ap length (sym c.as_mut_slice.ensures.value)) c.self.invariant.1.1
 
 pub invariant_of-self : goal.invariant_of-self
-invariant_of-self g c =
+invariant_of-self c =
     let g0 : GatheredView = record { heap = c.self.inside.heap; runs = c.self.inside.runs.items; complete = c.self.inside.complete } in
     let gone = subst (λ (rs : List (Option RunView)). GoneAt rs c.gone-at.result) c.as_slice.ensures.value c.gone-at.ensures.gone in
     let sooner = subst (λ (rs : List (Option RunView)). (d : ℕ) → d < length rs → GoneAt rs d → IsSooner rs c.gone-at.result d) c.as_slice.ensures.value c.gone-at.ensures.least in
@@ -72,7 +72,7 @@ invariant_of-self g c =
     (all, keeps_room _ _ _ _ _ _ c.self.invariant.1 (ap length same ∙ (c.pass_at.auto.runs ∙ ap length c.as_mut_slice.ensures.value)) c.pass_at.ensures.room.0 c.pass_at.ensures.room.1)
 
 pub returns-clause-passed : goal.returns-clause-passed
-returns-clause-passed g c =
+returns-clause-passed c =
     let g0 : GatheredView = record { heap = c.self.inside.heap; runs = c.self.inside.runs.items; complete = c.self.inside.complete } in
     let gone = subst (λ (rs : List (Option RunView)). GoneAt rs c.gone-at.result) c.as_slice.ensures.value c.gone-at.ensures.gone in
     let sooner = subst (λ (rs : List (Option RunView)). (d : ℕ) → d < length rs → GoneAt rs d → IsSooner rs c.gone-at.result d) c.as_slice.ensures.value c.gone-at.ensures.least in
@@ -85,7 +85,7 @@ returns-clause-passed g c =
     (c.gone-at.result, subst (λ (v : GatheredView). Passed (MayShare v) (MayShare (record g0 { runs = (Rattle.std.specs.Vec.with_items c.self.inside.runs new).items })) (seen_in v) (seen_in (record g0 { runs = (Rattle.std.specs.Vec.with_items c.self.inside.runs new).items })) c.gone-at.result) c.self.view_is here)
 
 pub returns-clause-nearer : goal.returns-clause-nearer
-returns-clause-nearer g c =
+returns-clause-nearer c =
     let g0 : GatheredView = record { heap = c.self.inside.heap; runs = c.self.inside.runs.items; complete = c.self.inside.complete } in
     let gone = subst (λ (rs : List (Option RunView)). GoneAt rs c.gone-at.result) c.as_slice.ensures.value c.gone-at.ensures.gone in
     let sooner = subst (λ (rs : List (Option RunView)). (d : ℕ) → d < length rs → GoneAt rs d → IsSooner rs c.gone-at.result d) c.as_slice.ensures.value c.gone-at.ensures.least in
@@ -97,7 +97,7 @@ returns-clause-nearer g c =
     subst (λ (v : GatheredView). pace_of (record g0 { runs = (Rattle.std.specs.Vec.with_items c.self.inside.runs new).items }) < pace_of v) c.self.view_is here
 
 pub returns-clause-spares : goal.returns-clause-spares
-returns-clause-spares g c =
+returns-clause-spares c =
     let g0 : GatheredView = record { heap = c.self.inside.heap; runs = c.self.inside.runs.items; complete = c.self.inside.complete } in
     let gone = subst (λ (rs : List (Option RunView)). GoneAt rs c.gone-at.result) c.as_slice.ensures.value c.gone-at.ensures.gone in
     let sooner = subst (λ (rs : List (Option RunView)). (d : ℕ) → d < length rs → GoneAt rs d → IsSooner rs c.gone-at.result d) c.as_slice.ensures.value c.gone-at.ensures.least in

@@ -14,34 +14,34 @@ use Rattle.replay_turns.proofs.Turning.{turned_all, turned_spares, turned_tells}
 use Rattle.replay_turns.proofs.together.GatheredTogetherRuns.turn.Goals as goal
 
 pub step_at-requires-clause-here : goal.step_at-requires-clause-here
-step_at-requires-clause-here g c =
+step_at-requires-clause-here c =
     let g0 : GatheredView = record { heap = c.self.inside.heap; runs = c.self.inside.runs.items; complete = c.self.inside.complete } in
     subst (AllHere c.self.inside.heap) (sym c.as_mut_slice.ensures.value) (all_here g0 c.self.invariant.0)
 
 pub step_at-requires-clause-running : goal.step_at-requires-clause-running
-step_at-requires-clause-running g c = λ r there.
+step_at-requires-clause-running c = λ r there.
     let run = subst (λ (v : GatheredView). AllHave (λ x. x.runs) true (seen_in v)) (sym c.self.view_is) c.requires.run in
     let g0 : GatheredView = record { heap = c.self.inside.heap; runs = c.self.inside.runs.items; complete = c.self.inside.complete } in
     runs_run g0 run c.args.at r (subst (λ (rs : List (Option RunView)). HasRun rs c.args.at r) c.as_mut_slice.ensures.value there)
 
 pub step_at-requires-clause-goes_on : goal.step_at-requires-clause-goes_on
-step_at-requires-clause-goes_on g c = λ r there.
+step_at-requires-clause-goes_on c = λ r there.
     let going = subst (λ (v : GatheredView). Has (λ x. x.ended) false (seen_in v) c.args.at) (sym c.self.view_is) c.requires.goes_on in
     going (one_run r) (get_map run_at c.self.inside.runs.items c.args.at (Some r) (subst (λ (rs : List (Option RunView)). HasRun rs c.args.at r) c.as_mut_slice.ensures.value there))
 
 pub step_at-requires-clause-few : goal.step_at-requires-clause-few
-step_at-requires-clause-few g c =
+step_at-requires-clause-few c =
     let g0 : GatheredView = record { heap = c.self.inside.heap; runs = c.self.inside.runs.items; complete = c.self.inside.complete } in
     subst (AskFew c.self.inside.heap) (sym c.as_mut_slice.ensures.value) (all_few g0 c.self.invariant.0)
 
 pub step_at-requires-clause-empty : goal.step_at-requires-clause-empty
-step_at-requires-clause-empty g c = c.self.invariant.1.0
+step_at-requires-clause-empty c = c.self.invariant.1.0
 
 pub step_at-requires-clause-fits : goal.step_at-requires-clause-fits
-step_at-requires-clause-fits g c = subst (λ n. n < vec_capacity c.self.inside.meeting) (ap length (sym c.as_mut_slice.ensures.value)) c.self.invariant.1.1
+step_at-requires-clause-fits c = subst (λ n. n < vec_capacity c.self.inside.meeting) (ap length (sym c.as_mut_slice.ensures.value)) c.self.invariant.1.1
 
 pub invariant_of-self : goal.invariant_of-self
-invariant_of-self g c =
+invariant_of-self c =
     let g0 : GatheredView = record { heap = c.self.inside.heap; runs = c.self.inside.runs.items; complete = c.self.inside.complete } in
     let new = c.step_at.new.runs in
     let run = subst (λ (v : GatheredView). AllHave (λ x. x.runs) true (seen_in v)) (sym c.self.view_is) c.requires.run in
@@ -52,7 +52,7 @@ invariant_of-self g c =
     (all, keeps_room _ _ _ _ _ _ c.self.invariant.1 (ap length same ∙ (c.step_at.auto.runs ∙ ap length c.as_mut_slice.ensures.value)) c.step_at.ensures.room.0 c.step_at.ensures.room.1)
 
 pub returns : goal.returns
-returns g c =
+returns c =
     let g0 : GatheredView = record { heap = c.self.inside.heap; runs = c.self.inside.runs.items; complete = c.self.inside.complete } in
     let new = c.step_at.new.runs in
     let run = subst (λ (v : GatheredView). AllHave (λ x. x.runs) true (seen_in v)) (sym c.self.view_is) c.requires.run in

@@ -1,0 +1,251 @@
+-- How many keys of some stand behind a key, or nowhere, and what a use does to that.
+use Rattle.std.proofs.Common.{◌≡◌, ◌≢◌, ◌⊎◌, inl, inr, ⊎_elim, ℕ, suc, ◌+◌, ◌<◌, ◌≤◌, Bool, true, false, cond, IsTrue, ◌||◌, List, [], ◌∷◌, length, Option, Some, refl, ap, sym, ◌∙◌, subst, arith}
+use Rattle.heap_model.specs.declared.label.Label.{Label}
+use Rattle.heap_model.specs.declared.graph.Value.{Value}
+use Rattle.heap_model.specs.Graph.{has_label, same_label}
+use Rattle.heap_model.proofs.Commands.FrameLemmas.{label_cases}
+use Rattle.heap_model.proofs.Graphs.GraphLemmas.{same_label-true}
+use Rattle.table_laws.specs.Structures.{Binding}
+use Rattle.weak_maps.proofs.CleanedLemmas.{less_or}
+use Rattle.weak_cache.specs.Uses.{SlotsLeft, age, cached_in, is_of, pushed, put_first}
+use Rattle.weak_cache.specs.Laws.{AreOf, IsAmong, NoneUses, Use, Used, UsedLastIsFound}
+use Rattle.weak_cache.proofs.LawLemmas.{Slots, age_hit, age_skip, apart_put, further, loss_left, of_one, one_back, others_back, others_stay, put_found}
+
+-- a key that stands before another stands behind fewer slots than there are, and no other stands there
+age_apart : (x y : Label) (ss : Slots) → x ≢ y → age x ss < length ss → age x ss ≢ age y ss
+age_apart x y [] differ less same = absurd (omega (arith, less))
+age_apart x y (t ∷ ts) differ less same = by (is_of x t) refl (is_of y t) refl (λ a b. age_apart x y ts differ a b)
+  where
+    by : (a : Bool) → is_of x t ≡ a → (b : Bool) → is_of y t ≡ b → (age x ts < length ts → age x ts ≢ age y ts) → ⊥
+    by true own b e rec =
+        let other = of_one x y t (λ s. differ (sym s)) own in
+        let none = age_hit x t ts own in
+        let some = age_skip y t ts other in
+        absurd (omega (arith, none, some, same))
+    by false skip true own rec = let some = age_skip x t ts skip in let none = age_hit y t ts own in absurd (omega (arith, some, none, same))
+    by false skip false other rec =
+        let a = age_skip x t ts skip in
+        let b = age_skip y t ts other in
+        rec (omega (arith, less, a)) (omega (arith, same, a, b))
+
+-- one before the key that is used goes one back, if there is a slot more
+goes_one : (k l : Label) (differ : l ≢ k) (ss : Slots) (s : Option Binding) → is_of l s ≡ false → age l ss < age k ss → age l ss + 1 < length ss → age l (pushed k s ss) ≡ age l ss + 1
+goes_one k l differ [] s apart less small = absurd (omega (arith, less))
+goes_one k l differ (t ∷ ts) s apart less small = by (is_of k t) refl (is_of l t) refl (λ x y z. goes_one k l differ ts t x y z)
+  where
+    last : (us : Slots) → ts ≡ us → is_of k t ≡ false → is_of l t ≡ true → age l (pushed k s (t ∷ ts)) ≡ age l (t ∷ ts) + 1
+    last [] is other own = let none = age_hit l t ts own in let long = ap length is in absurd (omega (arith, small, none, long))
+    last (u ∷ us) is other own =
+        let f = (further k l differ s t ts apart other).1 in
+        let there : age l (pushed k t ts) ≡ 0 = ap (λ (xs : Slots). age l (pushed k t xs)) is ∙ (one_back k l differ t u us own).1 in
+        let none = age_hit l t ts own in
+        omega (arith, f, there, none)
+
+    by : (a : Bool) → is_of k t ≡ a → (b : Bool) → is_of l t ≡ b → (is_of l t ≡ false → age l ts < age k ts → age l ts + 1 < length ts → age l (pushed k t ts) ≡ age l ts + 1) → age l (pushed k s (t ∷ ts)) ≡ age l (t ∷ ts) + 1
+    by true own b e rec = let none = age_hit k t ts own in absurd (omega (arith, less, none))
+    by false other true own rec = last ts refl other own
+    by false other false skip rec =
+        let a = age_skip l t ts skip in
+        let b = age_skip k t ts other in
+        let r = rec skip (omega (arith, less, a, b)) (omega (arith, small, a)) in
+        let f = (further k l differ s t ts apart other).1 in
+        omega (arith, f, r, a)
+
+pushed_long : (k : Label) (s : Option Binding) (ss : Slots) → length (pushed k s ss) ≡ length ss
+pushed_long k s [] = refl
+pushed_long k s (t ∷ ts) = ap suc (by (is_of k t) (pushed_long k t ts))
+  where
+    by : (b : Bool) → length (pushed k t ts) ≡ length ts → length (cond b ts (pushed k t ts)) ≡ length ts
+    by true r = refl
+    by false r = r
+
+left_long : (P : Label → Type 0) (ss ts : Slots) → SlotsLeft P ss ts → length ts ≡ length ss
+left_long P [] [] left = refl
+left_long P [] (t ∷ ts) left = absurd left
+left_long P (s ∷ ss) [] left = absurd left
+left_long P (s ∷ ss) (t ∷ ts) (one, rest) = ap suc (left_long P ss ts rest)
+
+-- a key that stood before another stands before it still
+before_stays : (k l m : Label) (w : Value) (ss : Slots) → l ≢ k → m ≢ k → age m ss < age k ss → age k ss < length ss → (age l ss < age k ss) ⊎ (age k ss + 1 < length ss) → age m (put_first l w ss) < age k (put_first l w ss)
+before_stays k l m w ss differ other less there room = label_cases (age m (put_first l w ss) < age k (put_first l w ss)) m l same apart
+  where
+    some : 0 < length ss
+    some = omega (arith, there)
+
+    -- what becomes of the key behind
+    behind : (age l ss < age k ss) ⊎ (age k ss < age l ss) → ((age k (put_first l w ss) ≡ age k ss) × (age l ss < age k ss)) ⊎ (age k (put_first l w ss) ≡ age k ss + 1)
+    behind (inl first) = inl ((others_stay l k w ss (λ e. differ (sym e)) first).1, first)
+    behind (inr later) = inr (goes_one l k (λ e. differ (sym e)) ss (Some (l, w)) (apart_put l k w (λ e. differ (sym e))) later
+        (⊎_elim (λ first. absurd (omega (arith, first, later))) (λ more. more) room))
+
+    order : (x y : Label) → x ≢ y → age x ss < length ss → (age y ss < age x ss) ⊎ (age x ss < age y ss)
+    order x y apart small = ⊎_elim (λ first. inl first) (λ far. inr (⊎_elim (λ less. less) (λ equal. absurd (age_apart x y ss apart small (omega (arith, far, equal)))) (less_or (age x ss) (age y ss)))) (less_or (age y ss) (age x ss))
+
+    same : m ≡ l → age m (put_first l w ss) < age k (put_first l w ss)
+    same is =
+        let first : age m (put_first l w ss) ≡ 0 = ap (λ (x : Label). age x (put_first l w ss)) is ∙ (put_found l w ss some).1 in
+        ⊎_elim (λ b. let stays = b.0 in omega (arith, first, stays, less)) (λ b. omega (arith, first, b)) (behind (order k l (λ e. differ (sym e)) there))
+
+    apart : m ≢ l → age m (put_first l w ss) < age k (put_first l w ss)
+    apart is = ⊎_elim
+        (λ first.
+        let stays = (others_stay l m w ss is first).1 in
+        ⊎_elim (λ b. let k_stays = b.0 in omega (arith, stays, k_stays, less)) (λ b. omega (arith, stays, b, less)) (behind (order k l (λ e. differ (sym e)) there)))
+        (λ later.
+        let back = goes_one l m is ss (Some (l, w)) (apart_put l m w is) later (omega (arith, less, there)) in
+        ⊎_elim (λ b. let k_stays = b.0 in let first = b.1 in omega (arith, back, k_stays, first, later)) (λ b. omega (arith, back, b, less)) (behind (order k l (λ e. differ (sym e)) there)))
+        (order m l is (omega (arith, less, there)))
+
+-- 1 for a key that doesn't stand before another, and how many of some don't
+abbrev newcomer : (a b : ℕ) → (a < b) ⊎ (b ≤ a) → ℕ
+newcomer a b (inl before) = 0
+newcomer a b (inr behind) = 1
+
+abbrev newcomers : Label → List Label → Slots → ℕ
+newcomers k [] ss = 0
+newcomers k (m ∷ ms) ss = newcomer (age m ss) (age k ss) (less_or (age m ss) (age k ss)) + newcomers k ms ss
+
+newcomer_most : (a b : ℕ) (x : (a < b) ⊎ (b ≤ a)) → newcomer a b x ≤ 1
+newcomer_most a b (inl before) = omega arith
+newcomer_most a b (inr behind) = omega arith
+
+newcomer_none : (a b : ℕ) (x : (a < b) ⊎ (b ≤ a)) → a < b → newcomer a b x ≡ 0
+newcomer_none a b (inl before) less = refl
+newcomer_none a b (inr behind) less = absurd (omega (arith, behind, less))
+
+newcomer_one : (a b : ℕ) (x : (a < b) ⊎ (b ≤ a)) → b ≤ a → newcomer a b x ≡ 1
+newcomer_one a b (inl before) far = absurd (omega (arith, before, far))
+newcomer_one a b (inr behind) far = refl
+
+-- no more than before, where one that stood before stands before still
+newcomer_less : (a b e f : ℕ) (x : (a < b) ⊎ (b ≤ a)) (y : (e < f) ⊎ (f ≤ e)) → (a < b → e < f) → newcomer e f y ≤ newcomer a b x
+newcomer_less a b e f (inl before) y on = let none = newcomer_none e f y (on before) in omega (arith, none)
+newcomer_less a b e f (inr behind) y on = newcomer_most e f y
+
+newcomers_few : (k : Label) (ms : List Label) (ss : Slots) → newcomers k ms ss ≤ length ms
+newcomers_few k [] ss = omega arith
+newcomers_few k (m ∷ ms) ss = let one = newcomer_most (age m ss) (age k ss) (less_or (age m ss) (age k ss)) in let rest = newcomers_few k ms ss in omega (arith, one, rest)
+
+newcomers_less : (k : Label) (ms : List Label) (ss ts : Slots) → ((m : Label) → age m ss < age k ss → age m ts < age k ts) → newcomers k ms ts ≤ newcomers k ms ss
+newcomers_less k [] ss ts on = omega arith
+newcomers_less k (m ∷ ms) ss ts on =
+    let one = newcomer_less (age m ss) (age k ss) (age m ts) (age k ts) (less_or (age m ss) (age k ss)) (less_or (age m ts) (age k ts)) (on m) in
+    let rest = newcomers_less k ms ss ts on in
+    omega (arith, one, rest)
+
+-- one fewer, where one comes before
+newcomers_one : (k l : Label) (ms : List Label) (ss ts : Slots) → ((m : Label) → age m ss < age k ss → age m ts < age k ts) → IsAmong ms l → age k ss ≤ age l ss → age l ts < age k ts → newcomers k ms ts + 1 ≤ newcomers k ms ss
+newcomers_one k l [] ss ts on there far before = let clash : false ≡ true = there in cc
+newcomers_one k l (m ∷ ms) ss ts on there far before = by (same_label m l) refl (λ x. newcomers_one k l ms ss ts on x far before)
+  where
+    by : (b : Bool) → same_label m l ≡ b → (IsAmong ms l → newcomers k ms ts + 1 ≤ newcomers k ms ss) → newcomers k (m ∷ ms) ts + 1 ≤ newcomers k (m ∷ ms) ss
+    by true own rec =
+        let is = same_label-true m l own in
+        let was = newcomer_one (age m ss) (age k ss) (less_or (age m ss) (age k ss)) (subst (λ (x : Label). age k ss ≤ age x ss) (sym is) far) in
+        let now = newcomer_none (age m ts) (age k ts) (less_or (age m ts) (age k ts)) (subst (λ (x : Label). age x ts < age k ts) (sym is) before) in
+        let rest = newcomers_less k ms ss ts on in
+        omega (arith, was, now, rest)
+    by false other rec =
+        let one = newcomer_less (age m ss) (age k ss) (age m ts) (age k ts) (less_or (age m ss) (age k ss)) (less_or (age m ts) (age k ts)) (on m) in
+        let r = rec (subst (λ (b : Bool). IsTrue (b || has_label ms l)) other there) in
+        omega (arith, one, r)
+
+newcomers_some : (k l : Label) (ms : List Label) (ss : Slots) → IsAmong ms l → age k ss ≤ age l ss → 1 ≤ newcomers k ms ss
+newcomers_some k l [] ss there far = let clash : false ≡ true = there in cc
+newcomers_some k l (m ∷ ms) ss there far = by (same_label m l) refl (λ x. newcomers_some k l ms ss x far)
+  where
+    by : (b : Bool) → same_label m l ≡ b → (IsAmong ms l → 1 ≤ newcomers k ms ss) → 1 ≤ newcomers k (m ∷ ms) ss
+    by true own rec =
+        let is = same_label-true m l own in
+        let was = newcomer_one (age m ss) (age k ss) (less_or (age m ss) (age k ss)) (subst (λ (x : Label). age k ss ≤ age x ss) (sym is) far) in
+        omega (arith, was)
+    by false other rec = let r = rec (subst (λ (b : Bool). IsTrue (b || has_label ms l)) other there) in omega (arith, r)
+
+-- the names that aren't lost
+abbrev without_lost : List Label → List Label → List Label
+without_lost lost [] = []
+without_lost lost (m ∷ ms) = cond (has_label lost m) (without_lost lost ms) (m ∷ without_lost lost ms)
+
+not_there : (b : Bool) → (IsTrue b → ⊥) → b ≡ false
+not_there true none = absurd (none refl)
+not_there false none = refl
+
+newcomers_lost : (k : Label) (lost ms : List Label) (ss ts : Slots) → SlotsLeft (IsAmong lost) ss ts → (IsAmong lost k → ⊥) → newcomers k (without_lost lost ms) ts ≤ newcomers k ms ss
+newcomers_lost k lost [] ss ts left own = omega arith
+newcomers_lost k lost (m ∷ ms) ss ts left own = by (has_label lost m) refl (newcomers_lost k lost ms ss ts left own)
+  where
+    by : (b : Bool) → has_label lost m ≡ b → newcomers k (without_lost lost ms) ts ≤ newcomers k ms ss → newcomers k (cond b (without_lost lost ms) (m ∷ without_lost lost ms)) ts ≤ newcomers k (m ∷ ms) ss
+    by true e rec = omega (arith, rec)
+    by false e rec =
+        let a = (loss_left (IsAmong lost) ss ts left m (λ there. let clash : false ≡ true = sym e ∙ there in cc)).1 in
+        let b = (loss_left (IsAmong lost) ss ts left k own).1 in
+        let one = newcomer_less (age m ss) (age k ss) (age m ts) (age k ts) (less_or (age m ss) (age k ss)) (less_or (age m ts) (age k ts)) (λ less. omega (arith, less, a, b)) in
+        omega (arith, one, rec)
+
+among_kept : (lost ms : List Label) (l : Label) → IsAmong ms l → (IsAmong lost l → ⊥) → IsAmong (without_lost lost ms) l
+among_kept lost [] l there none = there
+among_kept lost (m ∷ ms) l there none = by (has_label lost m) refl (same_label m l) refl (λ x. among_kept lost ms l x none)
+  where
+    by : (a : Bool) → has_label lost m ≡ a → (b : Bool) → same_label m l ≡ b → (IsAmong ms l → IsAmong (without_lost lost ms) l) → IsAmong (cond a (without_lost lost ms) (m ∷ without_lost lost ms)) l
+    by true e true own rec = absurd (none (ap (has_label lost) (sym (same_label-true m l own)) ∙ e))
+    by true e false other rec = rec (subst (λ (b : Bool). IsTrue (b || has_label ms l)) other there)
+    by false e true own rec = ap (λ (b : Bool). b || has_label (without_lost lost ms) l) own
+    by false e false other rec = subst (λ (b : Bool). IsTrue (b || has_label (without_lost lost ms) l)) (sym other) (rec (subst (λ (b : Bool). IsTrue (b || has_label ms l)) other there))
+
+of_kept : (lost names : List Label) (k : Label) (us : List Use) → AreOf names k us → NoneUses lost us → AreOf (without_lost lost names) k us
+of_kept lost names k [] are none = tt
+of_kept lost names k (u ∷ us) (there, differ, own, rest) (unused, more) = (among_kept lost names u.key there unused, differ, own, of_kept lost names k us rest more)
+
+behind_first : (k l : Label) (w : Value) (ss : Slots) → k ≢ l → 0 < length ss → 0 < age k (put_first l w ss)
+behind_first k l w [] differ some = absurd (omega (arith, some))
+behind_first k l w (t ∷ ts) differ some = let later = age_skip k (Some (l, w)) (cond (is_of l t) ts (pushed l t ts)) (apart_put l k w differ) in omega (arith, later)
+
+-- a key stays as long as there is a slot for each newcomer
+stays_on : (k : Label) (v : Value) (us : List Use) (names : List Label) (ss ts : Slots) → Used us ss ts → AreOf names k us → cached_in k ss ≡ Some v → age k ss + newcomers k names ss < length ss → cached_in k ts ≡ Some v
+stays_on k v [] names ss ts is are has room = ap (cached_in k) is ∙ has
+stays_on k v (u ∷ us) names ss ts (ms, left, unused, later) (there, differ, own, rest) has room =
+    stays_on k v us (without_lost u.lost names) ms ts later (of_kept u.lost names k us rest unused) (kept.0 ∙ used.0)
+    (let lost = newcomers_lost k u.lost names (put_first u.key u.value ss) ms left own in
+    let same = kept.1 in
+    let fewer = used.1 in
+    let long = left_long (IsAmong u.lost) (put_first u.key u.value ss) ms left in
+    let long2 = pushed_long u.key (Some (u.key, u.value)) ss in
+    omega (arith, lost, same, fewer, long, long2, room))
+  where
+    l : Label
+    l = u.key
+
+    w : Value
+    w = u.value
+
+    kept : (cached_in k ms ≡ cached_in k (put_first u.key u.value ss)) × (age k ms ≡ age k (put_first u.key u.value ss))
+    kept = loss_left (IsAmong u.lost) (put_first u.key u.value ss) ms left k own
+
+    on : (age u.key ss < age k ss) ⊎ (age k ss + 1 < length ss) → (m : Label) → age m ss < age k ss → age m (put_first u.key u.value ss) < age k (put_first u.key u.value ss)
+    on either m less = before_stays k u.key m u.value ss differ (λ same. absurd (let e : age m ss ≡ age k ss = ap (λ (x : Label). age x ss) same in omega (arith, less, e))) less (omega (arith, room)) either
+
+    used : (cached_in k (put_first u.key u.value ss) ≡ Some v) × (age k (put_first u.key u.value ss) + newcomers k names (put_first u.key u.value ss) ≤ age k ss + newcomers k names ss)
+    used = ⊎_elim
+        (λ first.
+        let stay = others_stay u.key k u.value ss (λ e. differ (sym e)) first in
+        let fewer = newcomers_less k names ss (put_first u.key u.value ss) (on (inl first)) in
+        let same = stay.1 in
+        (stay.0 ∙ has, omega (arith, fewer, same)))
+        (λ far.
+        let one = newcomers_some k u.key names ss there far in
+        let small : age k ss + 1 < length ss = omega (arith, one, room) in
+        let back = others_back u.key k u.value v ss (λ e. differ (sym e)) has small in
+        let put = (put_found u.key u.value ss (omega (arith, small))).1 in
+        let behind = behind_first k u.key u.value ss (λ e. differ (sym e)) (omega (arith, small)) in
+        let fewer = newcomers_one k u.key names ss (put_first u.key u.value ss) (on (inr small)) there far (omega (arith, put, behind)) in
+        let less = back.1 in
+        (back.0, omega (arith, fewer, less)))
+        (less_or (age u.key ss) (age k ss))
+
+pub used_found : UsedLastIsFound
+used_found k v names us ss ts uses are few =
+    let put = put_found k v ss (omega (arith, few)) in
+    let first = put.1 in
+    let most = newcomers_few k names (put_first k v ss) in
+    let long = pushed_long k (Some (k, v)) ss in
+    stays_on k v us names (put_first k v ss) ts uses are put.0 (omega (arith, few, first, most, long))

@@ -1,0 +1,43 @@
+-- What the clauses of the calls on a cache refuse: where a clause holds a wrong outcome doesn't, whatever body met it.
+use Rattle.std.proofs.Common.{◌≡◌, ◌≢◌, ◌<◌, inl, inr, ℕ, ◌+◌, List, length, Option, Some, None, refl, ap, ◌∙◌}
+use Rattle.heap_model.specs.declared.label.Label.{Label}
+use Rattle.heap_model.specs.declared.entry.Entry.{Entry}
+use Rattle.heap_model.specs.declared.graph.Value.{Value}
+use Rattle.heap_model.specs.declared.graph.Value.TheVariants.{Block}
+use Rattle.heap_model.specs.declared.reply.Reply.{Reply}
+use Rattle.heap_model.specs.declared.reply.Reply.TheVariants as reply
+use Rattle.heap_model.specs.declared.state.Sizes.{Sizes}
+use Rattle.heap_model.specs.Commands.{shown}
+use Rattle.map_laws.specs.Calls.{value_of}
+use Rattle.weak_cache.specs.Uses.{age, cached_in, put_first}
+use Rattle.weak_cache.specs.Caches.{Gone, slots_after}
+use Rattle.weak_cache.specs.Calls.{GetReturns, PutsOrFull}
+use Rattle.weak_cache.proofs.LawLemmas.{loss_keeps, others_back, put_found}
+
+-- a lookup answers the value of its own key, and not of another
+pub no_value_of_another_key : (z : Sizes) (d : ℕ) (old new : List Entry) (c : Label) (size dst : ℕ) (k : Label) (v : Value) (r : Reply) → GetReturns z d old new c size dst (Block k) r → cached_in k (slots_after z old c) ≡ Some v → r ≡ shown v
+no_value_of_another_key z d old new c size dst k v r x has = x.0 ∙ ap (λ (o : Option Value). shown (value_of o)) has
+
+-- and none where the cache has none of it
+pub no_value_of_no_key : (z : Sizes) (d : ℕ) (old new : List Entry) (c : Label) (size dst : ℕ) (k : Label) (r : Reply) → GetReturns z d old new c size dst (Block k) r → cached_in k (slots_after z old c) ≡ None → r ≡ reply.Empty
+no_value_of_no_key z d old new c size dst k r x has = x.0 ∙ ap (λ (o : Option Value). shown (value_of o)) has
+
+-- a put that is done isn't lost: its key has the value, and stands first
+pub no_put_is_lost : (z : Sizes) (d : ℕ) (old new : List Entry) (c : Label) (size : ℕ) (k : Label) (v : Value) → PutsOrFull z d old new c size k v reply.Done → 0 < length (slots_after z old c) → (cached_in k (slots_after z new c) ≡ Some v) × (age k (slots_after z new c) ≡ 0)
+no_put_is_lost z d old new c size k v (low, inl (is, x)) some =
+    let left = loss_keeps z k old new (put_first k v (slots_after z old c)) (slots_after z new c) x.left k (λ gone. gone.1 refl) in
+    let put = put_found k v (slots_after z old c) some in
+    (left.0 ∙ put.0, left.1 ∙ put.1)
+no_put_is_lost z d old new c size k v (low, inr (is, x)) some = cc
+
+-- a put drops no other key that doesn't stand last, while that key is reached
+pub no_other_is_dropped : (z : Sizes) (d : ℕ) (old new : List Entry) (c : Label) (size : ℕ) (k l : Label) (v w : Value) → PutsOrFull z d old new c size k v reply.Done → l ≢ k → cached_in l (slots_after z old c) ≡ Some w → age l (slots_after z old c) + 1 < length (slots_after z old c)
+    → (Gone z k old new l → ⊥) → cached_in l (slots_after z new c) ≡ Some w
+no_other_is_dropped z d old new c size k l v w (low, inl (is, x)) differ has small lives =
+    (loss_keeps z k old new (put_first k v (slots_after z old c)) (slots_after z new c) x.left l lives).0 ∙ (others_back k l v w (slots_after z old c) differ has small).0
+no_other_is_dropped z d old new c size k l v w (low, inr (is, x)) differ has small lives = cc
+
+-- a put that is answered `full` drops nothing
+pub no_full_drops : (z : Sizes) (d : ℕ) (old new : List Entry) (c : Label) (size : ℕ) (k l : Label) (v : Value) → PutsOrFull z d old new c size k v reply.Full → (Gone z k old new l → ⊥) → cached_in l (slots_after z new c) ≡ cached_in l (slots_after z old c)
+no_full_drops z d old new c size k l v (low, inl (is, x)) lives = cc
+no_full_drops z d old new c size k l v (low, inr (is, x)) lives = (loss_keeps z k old new (slots_after z old c) (slots_after z new c) x.left l lives).0

@@ -1,0 +1,5 @@
+use Rattle.weak_cache.proofs.ReturnLemmas.{made_cache}
+use Rattle.weak_cache.proofs.cache.cache_make.Goals as goal
+
+pub returns-clause-made : goal.returns-clause-made
+returns-clause-made g c = made_cache (g.M.Machine.sizes c.args.m.now) c.stands.ensures.limits (g.M.Machine.domain c.args.m.now) _ _ c.perform.result c.args.dst c.args.size c.requires.few.0 c.requires.few.1 c.perform.ensures.performed

@@ -1,0 +1,62 @@
+-- What the calls on a cache answer and leave.
+use Rattle.std.specs.Prelude.{◌≡◌, ◌≢◌, ◌⊎◌, ◌<◌, ◌≤◌, ℕ, List, [], ◌∷◌, ◌++◌, replicate, Option, None}
+use Rattle.heap_model.specs.declared.label.Label.{Label}
+use Rattle.heap_model.specs.declared.entry.Entry.{Entry}
+use Rattle.heap_model.specs.declared.graph.Value.{Value}
+use Rattle.heap_model.specs.declared.graph.Value.TheVariants.{Int, Block, Nothing}
+use Rattle.heap_model.specs.declared.reply.Reply.{Reply}
+use Rattle.heap_model.specs.declared.reply.Reply.TheVariants as reply
+use Rattle.heap_model.specs.declared.state.Sizes.{Sizes}
+use Rattle.heap_model.specs.Graph.{node_at}
+use Rattle.heap_model.specs.Commands.{new_plain, shown}
+use Rattle.heap_model.specs.History.{IsPrefix}
+use Rattle.table_laws.specs.Structures.{Binding}
+use Rattle.table_laws.specs.Stages.{graph_of}
+use Rattle.map_laws.specs.Calls.{value_of}
+use Rattle.weak_maps.specs.Beside.{held_by}
+use Rattle.weak_maps.specs.Returns.{MakesNone}
+use Rattle.weak_cache.specs.Uses.{SlotsLeft, cached_in, put_first, touched}
+use Rattle.weak_cache.specs.Caches.{Gone, IsCache, slots_after}
+
+-- a cache is one still, and has these slots, but for keys that were outside reach
+pub record LeavesCache (z : Sizes) (k : Label) (old new : List Entry) (c : Label) (size : ℕ) (slots : List (Option Binding)) : Type 0 where
+  pub cache : IsCache (graph_of z new) c size
+  pub left : SlotsLeft (Gone z k old new) slots (slots_after z new c)
+
+-- registers 9 to 13 hold nothing, and those below 8 but for one what they held
+abbrev pub LeavesRegisters : Sizes → ℕ → List Entry → List Entry → ℕ → Type 0
+LeavesRegisters z d old new but = ((i : ℕ) → 9 ≤ i → i ≤ 13 → held_by z d new i ≡ Nothing) × ((i : ℕ) → i < 8 → i ≢ but → held_by z d new i ≡ held_by z d old i)
+
+-- `cache_get`, by what the register of the key holds: `type` exactly where it is no label, else the value that the cache had of the key when the call began, or `none`. The key is the last used then
+abbrev pub GetReturns : Sizes → ℕ → List Entry → List Entry → Label → ℕ → ℕ → Value → Reply → Type 0
+GetReturns z d old new c size dst (Block k) r = (r ≡ shown (value_of (cached_in k (slots_after z old c)))) × (shown (held_by z d new dst) ≡ r)
+    × LeavesCache z k old new c size (touched k (cached_in k (slots_after z old c)) (slots_after z old c)) × LeavesRegisters z d old new dst
+GetReturns z d old new c size dst key r = (r ≡ reply.BadType) × (new ≡ old)
+
+-- `cache_put` of a value: done, and it is the last used, or `full`, and the cache has what it had
+abbrev pub PutsOrFull : Sizes → ℕ → List Entry → List Entry → Label → ℕ → Label → Value → Reply → Type 0
+PutsOrFull z d old new c size k v r = LeavesRegisters z d old new 8
+    × (((r ≡ reply.Done) × LeavesCache z k old new c size (put_first k v (slots_after z old c)))
+    ⊎ ((r ≡ reply.Full) × LeavesCache z k old new c size (slots_after z old c)))
+
+-- `cache_put`, by what the registers of the key and of the value hold: `type` exactly where the first is no label or the second nothing
+abbrev pub PutReturns : Sizes → ℕ → List Entry → List Entry → Label → ℕ → Value → Value → Reply → Type 0
+PutReturns z d old new c size (Block k) (Int i) r = PutsOrFull z d old new c size k (Int i) r
+PutReturns z d old new c size (Block k) (Block l) r = PutsOrFull z d old new c size k (Block l) r
+PutReturns z d old new c size key v r = (r ≡ reply.BadType) × (new ≡ old)
+
+-- `cache_make`: a new cache that has nothing
+pub record MakesCache (z : Sizes) (d : ℕ) (old new : List Entry) (dst size : ℕ) (c : Label) : Type 0 where
+  pub cache : IsCache (graph_of z new) c size
+  pub empty : slots_after z new c ≡ replicate size None
+  pub holds : held_by z d new dst ≡ Block c
+  pub keeps : (i : ℕ) → i ≢ dst → held_by z d new i ≡ held_by z d old i
+  pub front : List Entry
+  pub since : IsPrefix old front
+  pub until : IsPrefix front new
+  pub fresh : node_at (graph_of z front) c ≡ None
+  pub made : graph_of z new ≡ graph_of z front ++ (c, new_plain 0 size) ∷ []
+
+-- or the allocation was refused: the domain changed nothing
+abbrev pub MakeReturns : Sizes → ℕ → List Entry → List Entry → ℕ → ℕ → Reply → Type 0
+MakeReturns z d old new dst size r = ((c : Label) × (r ≡ reply.Block c) × MakesCache z d old new dst size c) ⊎ ((r ≡ reply.Full) × MakesNone z d old new)

@@ -1,0 +1,11 @@
+-- What a put counts.
+use Rattle.std.specs.Prelude.{◌≡◌, ℕ, ◌+◌}
+use Rattle.heap_model.specs.declared.reply.Reply.{Reply}
+use Rattle.heap_model.specs.declared.reply.Reply.TheVariants as reply
+
+-- labels that were left and are left, and commands of the domain that were refused and are. Done: a leaf was made. `full`: its allocation was refused. `type`: nothing was made. There is no other answer
+abbrev pub PutCounts : ℕ → ℕ → ℕ → ℕ → Reply → Type 0
+PutCounts labels left refused now reply.Done = (now ≡ refused) × (labels ≡ left + 1)
+PutCounts labels left refused now reply.Full = (now ≡ refused + 1) × (labels ≡ left)
+PutCounts labels left refused now reply.BadType = (now ≡ refused) × (labels ≡ left)
+PutCounts labels left refused now r = ⊥

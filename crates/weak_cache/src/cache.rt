@@ -1,0 +1,345 @@
+//! The calls on a cache.
+ghost use Rattle.std.specs.Prelude.{◌≡◌, ◌+◌, ◌<◌, ◌≤◌, cond};
+ghost use Rattle.heap_model.specs.declared.command.Command.TheVariants as command;
+ghost use Rattle.heap_model.specs.declared.graph.Value.TheVariants.{Block};
+ghost use Rattle.heap_model.specs.declared.label.Label as labels;
+ghost use Rattle.heap_model.specs.History.{IsPrefix};
+ghost use Rattle.table_laws.specs.Performing.{full_of, is_spared};
+ghost use Rattle.table_laws.specs.Stages.{graph_of};
+ghost use Rattle.map_laws.specs.Calls.{PerformedBy};
+ghost use Rattle.weak_maps.specs.Beside.{held_by, refusals_by, writings_by};
+ghost use Rattle.weak_cache.specs.Caches.{IsCache, OthersSpare};
+ghost use Rattle.weak_cache.specs.Calls.{GetReturns, MakeReturns, PutReturns};
+ghost use Rattle.weak_cache.specs.Counts.{PutCounts};
+ghost use Rattle.weak_cache.specs.Passes.{Begun, Cleared, FindsLeaf, MakesLeaf, MovesFirst, Passes, Tells};
+
+use heap_model::command::Command;
+use heap_model::label::Label;
+use heap_model::reply::Reply;
+use std::sync::Wait;
+use weak_maps::machine::{Machine, perform};
+use weak_maps::replies::{is_block, is_empty, is_full, is_this};
+
+/// Makes a cache of so many slots, into a register below 8. It has nothing. Answers its block, or `full` where the allocation
+/// was refused: then the register is as before. One label is left.
+pub fn cache_make<M: Machine, R: Wait>(m: &mut M, rt: &R, dst: u8, size: u16) -> Reply
+    requires few { (dst < 8) × (1 ≤ size) × (size ≤ 1022) }
+    requires labels { 1 ≤ M.labels_left m.old }
+    ensures sizes { M.sizes m.new ≡ M.sizes m.old }
+    ensures domain { M.domain m.new ≡ M.domain m.old }
+    ensures heap { M.heap m.new ≡ M.heap m.old }
+    ensures grows { IsPrefix (M.front m.old) (M.front m.new) }
+    ensures labels { M.labels_left m.old + full_of result ≡ M.labels_left m.new + 1 }
+    ensures room { M.ephes_room m.old ≤ M.ephes_room m.new }
+    ensures refused { refusals_by (M.domain m.old) (M.front m.new) ≡ refusals_by (M.domain m.old) (M.front m.old) + full_of result }
+    ensures written { writings_by (M.domain m.old) (M.front m.new) ≡ writings_by (M.domain m.old) (M.front m.old) + is_spared dst }
+    ensures made { MakeReturns (M.sizes m.old) (M.domain m.old) (M.front m.old) (M.front m.new) dst size result }
+{
+    m.stands();
+    perform(
+        m,
+        rt,
+        Command::Alloc {
+            dst,
+            tag: 0,
+            fields: size,
+        },
+    )
+}
+
+// Whether a register, which holds what a reply shows, holds a leaf of a key. Register 11 is used between.
+fn is_leaf_of<M: Machine, R: Wait>(
+    m: &mut M,
+    rt: &R,
+    slot: u8,
+    shows: &Reply,
+    label: &Label,
+) -> bool
+    requires few { slot < 16 }
+    ensures sizes { M.sizes m.new ≡ M.sizes m.old }
+    ensures domain { M.domain m.new ≡ M.domain m.old }
+    ensures heap { M.heap m.new ≡ M.heap m.old }
+    ensures grows { IsPrefix (M.front m.old) (M.front m.new) }
+    ensures labels { M.labels_left m.new ≡ M.labels_left m.old }
+    ensures room { M.ephes_room m.old ≤ M.ephes_room m.new }
+    ensures given { refusals_by (M.domain m.old) (M.front m.new) ≡ refusals_by (M.domain m.old) (M.front m.old) }
+    ensures written { writings_by (M.domain m.old) (M.front m.new) ≡ writings_by (M.domain m.old) (M.front m.old) }
+    ensures told { Tells (M.sizes m.old) (M.domain m.old) (M.front m.old) (M.front m.new) slot shows.now label.now result }
+{
+    if !is_block(shows) {
+        return false;
+    }
+    let found = perform(
+        m,
+        rt,
+        Command::GetKey {
+            dst: 11,
+            ephe: slot,
+            index: 0,
+        },
+    );
+    is_this(&found, label)
+}
+
+// Reads a slot of the cache in register 13 into another from 9 on.
+fn read_slot<M: Machine, R: Wait>(m: &mut M, rt: &R, dst: u8, index: u16) -> Reply
+    requires few { (9 ≤ dst) × (dst < 16) }
+    ensures sizes { M.sizes m.new ≡ M.sizes m.old }
+    ensures domain { M.domain m.new ≡ M.domain m.old }
+    ensures heap { M.heap m.new ≡ M.heap m.old }
+    ensures grows { IsPrefix (M.front m.old) (M.front m.new) }
+    ensures labels { M.labels_left m.new ≡ M.labels_left m.old }
+    ensures room { M.ephes_room m.old ≤ M.ephes_room m.new }
+    ensures given { refusals_by (M.domain m.old) (M.front m.new) ≡ refusals_by (M.domain m.old) (M.front m.old) }
+    ensures written { writings_by (M.domain m.old) (M.front m.new) ≡ writings_by (M.domain m.old) (M.front m.old) }
+    ensures read { PerformedBy (M.sizes m.old) (M.domain m.old) (M.front m.old) (M.front m.new) (command.Load dst 13 index) result }
+{
+    perform(
+        m,
+        rt,
+        Command::Load {
+            dst,
+            src: 13,
+            index,
+        },
+    )
+}
+
+// Looks for the leaf of the key in register 12 in the cache in register 13: register 10 holds it, where there is one.
+fn find<M: Machine, R: Wait>(m: &mut M, rt: &R, size: u16, label: &Label) -> bool
+    ensures sizes { M.sizes m.new ≡ M.sizes m.old }
+    ensures domain { M.domain m.new ≡ M.domain m.old }
+    ensures heap { M.heap m.new ≡ M.heap m.old }
+    ensures grows { IsPrefix (M.front m.old) (M.front m.new) }
+    ensures labels { M.labels_left m.new ≡ M.labels_left m.old }
+    ensures room { M.ephes_room m.old ≤ M.ephes_room m.new }
+    ensures given { refusals_by (M.domain m.old) (M.front m.new) ≡ refusals_by (M.domain m.old) (M.front m.old) }
+    ensures written { writings_by (M.domain m.old) (M.front m.new) ≡ writings_by (M.domain m.old) (M.front m.old) }
+    ensures found { FindsLeaf (M.sizes m.old) (M.domain m.old) (M.front m.old) (M.front m.new) label.now size result }
+{
+    m.stands();
+    'slots: for index in 0..size {
+        let shows = read_slot(m, rt, 10, index);
+        if is_leaf_of(m, rt, 10, &shows, label) {
+            return true;
+        }
+    }
+    false
+}
+
+// Puts what register 10 holds into a slot of the cache in register 13, and takes what that held. Tells whether it wasn't the
+// leaf of the key in register 12.
+fn pass<M: Machine, R: Wait>(m: &mut M, rt: &R, label: &Label, index: u16) -> bool
+    ensures sizes { M.sizes m.new ≡ M.sizes m.old }
+    ensures domain { M.domain m.new ≡ M.domain m.old }
+    ensures heap { M.heap m.new ≡ M.heap m.old }
+    ensures grows { IsPrefix (M.front m.old) (M.front m.new) }
+    ensures labels { M.labels_left m.new ≡ M.labels_left m.old }
+    ensures room { M.ephes_room m.old ≤ M.ephes_room m.new }
+    ensures given { refusals_by (M.domain m.old) (M.front m.new) ≡ refusals_by (M.domain m.old) (M.front m.old) }
+    ensures written { writings_by (M.domain m.old) (M.front m.new) ≡ writings_by (M.domain m.old) (M.front m.old) }
+    ensures passed { Passes (M.sizes m.old) (M.domain m.old) (M.front m.old) (M.front m.new) label.now index result }
+{
+    m.stands();
+    let shows = read_slot(m, rt, 9, index);
+    let _done = perform(
+        m,
+        rt,
+        Command::Store {
+            block: 13,
+            index,
+            item: 10,
+        },
+    );
+    if is_leaf_of(m, rt, 9, &shows, label) {
+        return false;
+    }
+    let _moved = perform(m, rt, Command::Copy { dst: 10, src: 9 });
+    true
+}
+
+// Puts the leaf in register 10 first in the cache in register 13. Those before that of its key, which register 12 holds, go
+// one slot on, and that one goes, or the last.
+fn put_first<M: Machine, R: Wait>(m: &mut M, rt: &R, size: u16, label: &Label)
+    ensures sizes { M.sizes m.new ≡ M.sizes m.old }
+    ensures domain { M.domain m.new ≡ M.domain m.old }
+    ensures heap { M.heap m.new ≡ M.heap m.old }
+    ensures grows { IsPrefix (M.front m.old) (M.front m.new) }
+    ensures labels { M.labels_left m.new ≡ M.labels_left m.old }
+    ensures room { M.ephes_room m.old ≤ M.ephes_room m.new }
+    ensures given { refusals_by (M.domain m.old) (M.front m.new) ≡ refusals_by (M.domain m.old) (M.front m.old) }
+    ensures written { writings_by (M.domain m.old) (M.front m.new) ≡ writings_by (M.domain m.old) (M.front m.old) }
+    ensures moved { MovesFirst (M.sizes m.old) (M.domain m.old) (M.front m.old) (M.front m.new) label.now size }
+{
+    m.stands();
+    'slots: for index in 0..size {
+        if !pass(m, rt, label, index) {
+            return;
+        }
+    }
+}
+
+// Copies the key in a register into register 12, and the cache in another into register 13.
+fn begin<M: Machine, R: Wait>(m: &mut M, rt: &R, cache: u8, key: u8)
+    requires few { (cache < 8) × (key < 8) }
+    ensures sizes { M.sizes m.new ≡ M.sizes m.old }
+    ensures domain { M.domain m.new ≡ M.domain m.old }
+    ensures heap { M.heap m.new ≡ M.heap m.old }
+    ensures grows { IsPrefix (M.front m.old) (M.front m.new) }
+    ensures labels { M.labels_left m.new ≡ M.labels_left m.old }
+    ensures room { M.ephes_room m.old ≤ M.ephes_room m.new }
+    ensures given { refusals_by (M.domain m.old) (M.front m.new) ≡ refusals_by (M.domain m.old) (M.front m.old) }
+    ensures written { writings_by (M.domain m.old) (M.front m.new) ≡ writings_by (M.domain m.old) (M.front m.old) }
+    ensures begun { Begun (M.sizes m.old) (M.domain m.old) (M.front m.old) (M.front m.new) cache key }
+{
+    let _key = perform(m, rt, Command::Copy { dst: 12, src: key });
+    let _cache = perform(
+        m,
+        rt,
+        Command::Copy {
+            dst: 13,
+            src: cache,
+        },
+    );
+}
+
+// Empties the registers that the calls use between, that of the key last.
+fn clear<M: Machine, R: Wait>(m: &mut M, rt: &R)
+    ensures sizes { M.sizes m.new ≡ M.sizes m.old }
+    ensures domain { M.domain m.new ≡ M.domain m.old }
+    ensures heap { M.heap m.new ≡ M.heap m.old }
+    ensures grows { IsPrefix (M.front m.old) (M.front m.new) }
+    ensures labels { M.labels_left m.new ≡ M.labels_left m.old }
+    ensures room { M.ephes_room m.old ≤ M.ephes_room m.new }
+    ensures given { refusals_by (M.domain m.old) (M.front m.new) ≡ refusals_by (M.domain m.old) (M.front m.old) }
+    ensures written { writings_by (M.domain m.old) (M.front m.new) ≡ writings_by (M.domain m.old) (M.front m.old) }
+    ensures cleared { Cleared (M.sizes m.old) (M.domain m.old) (M.front m.old) (M.front m.new) }
+{
+    let _nine = perform(m, rt, Command::Forget { dst: 9 });
+    let _ten = perform(m, rt, Command::Forget { dst: 10 });
+    let _eleven = perform(m, rt, Command::Forget { dst: 11 });
+    let _cache = perform(m, rt, Command::Forget { dst: 13 });
+    let _key = perform(m, rt, Command::Forget { dst: 12 });
+}
+
+// Makes a leaf of the key in a register, with the value in another, into register 10. Tells whether the allocation wasn't
+// refused.
+fn make_leaf<M: Machine, R: Wait>(m: &mut M, rt: &R, key: u8, item: u8) -> bool
+    requires few { (key < 8) × (item < 8) }
+    requires label { 1 ≤ M.labels_left m.old }
+    requires room { 1 ≤ M.ephes_room m.old }
+    ensures sizes { M.sizes m.new ≡ M.sizes m.old }
+    ensures domain { M.domain m.new ≡ M.domain m.old }
+    ensures heap { M.heap m.new ≡ M.heap m.old }
+    ensures grows { IsPrefix (M.front m.old) (M.front m.new) }
+    ensures labels { M.labels_left m.old ≡ M.labels_left m.new + cond result 1 0 }
+    ensures room { M.ephes_room m.old ≤ M.ephes_room m.new + 1 }
+    ensures refused { refusals_by (M.domain m.old) (M.front m.new) ≡ refusals_by (M.domain m.old) (M.front m.old) + cond result 0 1 }
+    ensures written { writings_by (M.domain m.old) (M.front m.new) ≡ writings_by (M.domain m.old) (M.front m.old) }
+    ensures made { MakesLeaf (M.sizes m.old) (M.domain m.old) (M.front m.old) (M.front m.new) key item result }
+{
+    m.stands();
+    let made = perform(m, rt, Command::Ephe { dst: 10, keys: 1 });
+    if is_full(&made) {
+        return false;
+    }
+    let _datum = perform(m, rt, Command::SetData { ephe: 10, item });
+    let _key = perform(
+        m,
+        rt,
+        Command::SetKey {
+            ephe: 10,
+            index: 0,
+            item: key,
+        },
+    );
+    true
+}
+
+/// Reads the value that the cache in a register has of the key in another, into a third, and makes that key the last used.
+/// Answers `type` exactly where the second holds no label, and then changes nothing. Else it answers what the cache had of the
+/// key when the call began, which the third register holds afterwards: a value, or `none` and nothing. A slot loses what it has
+/// only where its key is outside reach, and isn't this one. No other domain uses the cache meanwhile. Registers are below 8.
+/// Registers 9 to 13 hold nothing afterwards, but for `type`.
+pub fn cache_get<M: Machine, R: Wait>(
+    m: &mut M,
+    rt: &R,
+    dst: u8,
+    cache: u8,
+    size: u16,
+    key: u8,
+) -> Reply
+    requires few { (dst < 8) × (cache < 8) × (key < 8) }
+    ensures sizes { M.sizes m.new ≡ M.sizes m.old }
+    ensures domain { M.domain m.new ≡ M.domain m.old }
+    ensures heap { M.heap m.new ≡ M.heap m.old }
+    ensures grows { IsPrefix (M.front m.old) (M.front m.new) }
+    ensures labels { M.labels_left m.new ≡ M.labels_left m.old }
+    ensures room { M.ephes_room m.old ≤ M.ephes_room m.new }
+    ensures given { refusals_by (M.domain m.old) (M.front m.new) ≡ refusals_by (M.domain m.old) (M.front m.old) }
+    ensures written { writings_by (M.domain m.old) (M.front m.new) ≤ writings_by (M.domain m.old) (M.front m.old) + is_spared dst }
+    ensures answer { (c : labels.Label) → held_by (M.sizes m.old) (M.domain m.old) (M.front m.old) cache ≡ Block c → IsCache (graph_of (M.sizes m.old) (M.front m.old)) c size
+        → OthersSpare (M.sizes m.old) c (M.domain m.old) (M.front m.old) (M.front m.new)
+        → GetReturns (M.sizes m.old) (M.domain m.old) (M.front m.old) (M.front m.new) c size dst (held_by (M.sizes m.old) (M.domain m.old) (M.front m.old) key) result }
+{
+    m.stands();
+    let Reply::Block(label) = m.show(key) else {
+        return Reply::BadType;
+    };
+    begin(m, rt, cache, key);
+    if !find(m, rt, size, &label) {
+        let _none = perform(m, rt, Command::Forget { dst });
+        clear(m, rt);
+        return Reply::Empty;
+    }
+    let value = perform(m, rt, Command::GetData { dst, ephe: 10 });
+    put_first(m, rt, size, &label);
+    clear(m, rt);
+    value
+}
+
+/// Puts what a register holds into the cache in another as the value of the key in a third, and makes that key the last used:
+/// the others go one slot back, but for those behind a slot that the key had, which goes. Else the last goes. Answers `type`
+/// exactly where the key's register holds no label or the value's nothing, and then changes nothing; `full` where the
+/// allocation was refused, and then the cache has what it had; else that it is done. A slot loses what it has only where its
+/// key is outside reach, and isn't this one. No other domain uses the cache meanwhile. Registers are below 8. Registers 9 to 13
+/// hold nothing afterwards, but for `type`.
+pub fn cache_put<M: Machine, R: Wait>(
+    m: &mut M,
+    rt: &R,
+    cache: u8,
+    size: u16,
+    key: u8,
+    item: u8,
+) -> Reply
+    requires few { (cache < 8) × (key < 8) × (item < 8) }
+    requires labels { 1 ≤ M.labels_left m.old }
+    requires room { 1 ≤ M.ephes_room m.old }
+    ensures sizes { M.sizes m.new ≡ M.sizes m.old }
+    ensures domain { M.domain m.new ≡ M.domain m.old }
+    ensures heap { M.heap m.new ≡ M.heap m.old }
+    ensures grows { IsPrefix (M.front m.old) (M.front m.new) }
+    ensures counts { PutCounts (M.labels_left m.old) (M.labels_left m.new) (refusals_by (M.domain m.old) (M.front m.old)) (refusals_by (M.domain m.old) (M.front m.new)) result }
+    ensures room { M.ephes_room m.old ≤ M.ephes_room m.new + 1 }
+    ensures written { writings_by (M.domain m.old) (M.front m.new) ≡ writings_by (M.domain m.old) (M.front m.old) }
+    ensures answer { (c : labels.Label) → held_by (M.sizes m.old) (M.domain m.old) (M.front m.old) cache ≡ Block c → IsCache (graph_of (M.sizes m.old) (M.front m.old)) c size
+        → OthersSpare (M.sizes m.old) c (M.domain m.old) (M.front m.old) (M.front m.new)
+        → PutReturns (M.sizes m.old) (M.domain m.old) (M.front m.old) (M.front m.new) c size (held_by (M.sizes m.old) (M.domain m.old) (M.front m.old) key) (held_by (M.sizes m.old) (M.domain m.old) (M.front m.old) item) result }
+{
+    m.stands();
+    let Reply::Block(label) = m.show(key) else {
+        return Reply::BadType;
+    };
+    let value = m.show(item);
+    if is_empty(&value) {
+        return Reply::BadType;
+    }
+    begin(m, rt, cache, key);
+    if !make_leaf(m, rt, key, item) {
+        clear(m, rt);
+        return Reply::Full;
+    }
+    put_first(m, rt, size, &label);
+    clear(m, rt);
+    Reply::Done
+}
