@@ -11,7 +11,7 @@ use Rattle.heap_rule.specs.declared.view.Own.{Own}
 use Rattle.heap_rule.specs.Limits.{sizes_in}
 use Rattle.heap_rule.specs.Token.{SharedHeap, IsIn}
 use Rattle.domain_turns.specs.declared.supply.Supply.TheVariants.{Open}
-use Rattle.domain_turns.specs.Handed.{Finalised, PerformedOn}
+use Rattle.domain_turns.specs.Handed.{PerformedOn}
 use Rattle.domain_turns.specs.Runs.{MakesNow, MaySubmit, RunView, cleared, wanting}
 use Rattle.domain_turns.proofs.AtOnce.{HasWaited}
 use Rattle.domain_turns.proofs.Handed.{finalised_none, finalised_others, performed_on}

@@ -1,5 +1,5 @@
 -- What the clauses of `turn` refuse.
-use Rattle.std.proofs.Common.{◌≡◌, ◌≢◌, ◌∙◌, ℕ, ◌+◌, ◌<◌, ◌≤◌, Bool, true, false, None, List, [], ◌∷◌, ◌++◌, ◌&&◌, length, Option, refl, sym, ap, ⊎_elim, arith}
+use Rattle.std.proofs.Common.{◌≡◌, ◌≢◌, ◌∙◌, ℕ, ◌+◌, ◌*◌, ◌<◌, ◌≤◌, Bool, true, false, None, List, [], ◌∷◌, ◌++◌, ◌&&◌, length, Option, refl, sym, ap, ⊎_elim, arith}
 use Rattle.heap_model.specs.declared.command.Command.TheVariants.{AllocMaj, Minor}
 use Rattle.heap_model.specs.declared.reply.Reply.{Reply}
 use Rattle.heap_rule.specs.declared.config.Config.{Config}
@@ -10,7 +10,8 @@ use Rattle.heap_rule.specs.declared.view.Waiting.{Waiting}
 use Rattle.heap_rule.specs.Token.{Token, SharedHeap}
 use Rattle.safepoint.specs.Looks.{bit_of}
 use Rattle.safepoint.specs.declared.answer.Want.TheVariants.{Finish}
-use Rattle.heap_model.specs.Domains.{reserve}
+use Rattle.heap_model.specs.Domains.{class_count, reserve}
+use Rattle.heap_rule.specs.Rule.{state_of}
 use Rattle.heap_rule.specs.Limits.{sizes_in}
 use Rattle.std.proofs.lemmas.Bool.{le-leb, lt-leb}
 use Rattle.pause_phases.specs.declared.decider.Decider.{Decider}
@@ -19,10 +20,13 @@ use Rattle.domain_turns.specs.Runs.{CalmDid, EndsTrace, IsAnswered, IsHandedIn, 
 use Rattle.domain_turns.specs.Runs.CalmDid.{Finalises, Wishes, Refuses, Tries, Works, Ends, Sees, Makes, Tells, WishesToTell}
 use Rattle.domain_turns.specs.declared.supply.Supply.{Supply}
 use Rattle.domain_turns.specs.declared.supply.Supply.TheVariants.{Listed, Section, Open, Closed}
-use Rattle.domain_turns.specs.Tries.{HasPool, Stands}
+use Rattle.domain_turns.specs.Tries.{HasPool, Refused, Stands}
 use Rattle.domain_turns.proofs.Kept.{said_apart}
 use Rattle.finaliser_queues.specs.Running.{reply_of}
 use Rattle.heap_model.specs.declared.command.Command as model
+
+few_refuse : (pools made : ℕ) → made < pools → pools ≤ made → ⊥
+few_refuse pools made few many = omega (arith, few, many)
 
 -- the domain's queue of finalisers
 abbrev queue_of : RunView → List Waiting
@@ -51,6 +55,10 @@ waiting_finalisers_come_first h old new first rest waits (WishesToTell a) = let 
 -- a `minor` isn't made before a pause has served it
 pub minor_waits_for_its_pause : (h : SharedHeap) (start : Token) (old new : RunView) → TriesCommand h start old new Minor → served_since old.asked old.token.view.own.arrivals ≡ false → ⊥
 minor_waits_for_its_pause h start old new t unserved = t.ready unserved
+
+-- no allocation is refused while few blocks were made
+pub few_blocks_refuse_nothing : (h : SharedHeap) (old new : Token) (c : model.Command) (collected : Bool) → Refused h old new c collected → length (state_of h.config new.view.seen.front).graph + reserve (sizes_in h.config) + class_count * h.config.domains < h.config.pools → ⊥
+few_blocks_refuse_nothing h old new c collected refused few = few_refuse h.config.pools (length (state_of h.config new.view.seen.front).graph + reserve (sizes_in h.config) + class_count * h.config.domains) few refused.many
 
 -- an allocation in the major heap is answered `full` only after a complete collection for it, and with no own pool left to be swept
 pub full_comes_after_a_collection : (h : SharedHeap) (old new : Token) (dst tag fields : ℕ) (r : Reply) → Stands h old new (AllocMaj dst tag fields) false r → HasPool h.config (fields + 2) old.view new.view

@@ -20,3 +20,4 @@ pub mod Ample
 pub mod Asking
 pub mod Served
 pub mod Serving
+pub mod RefusedSteps

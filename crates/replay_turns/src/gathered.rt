@@ -66,9 +66,10 @@ impl Model for Gathered {
 
 impl Gathered {
     /// Gathers the runs of all domains of a heap, in the order of their domains. Each is of commands that were
-    /// all listed, its domain runs, no collection goes on or has left garbage, and no command of it may be
-    /// answered `full`. Room for them, and for a meeting, is taken here. Fails for want of memory alone, and then the heap and
-    /// its runs are given up.
+    /// all listed, its domain runs, it has asked for no pause, no collection goes on or has left garbage, and no command
+    /// of it may be answered `full`. The heap has at least twice as many pools as the commands may use, and two more than
+    /// twice the reserve of promotion. Room for the runs, and for a meeting, is taken here. Fails for want of memory
+    /// alone, and then the heap and its runs are given up.
     pub fn gather(alloc: Global, heap: Heap, runs: Vec<DomainRun>) -> Result<Gathered, AllocError>
         requires may { MayGather heap runs.items }
         ensures { IfOk result (λ g. g ≡ record { heap = heap; runs = map Some runs.items; complete = false }) }

@@ -34,8 +34,11 @@ fn drive(gathered: Gathered, room: Vec<DomainRun>, items: &[Item]) -> (Heap, Vec
 
 /// Drives the runs of all domains of a heap on this thread, by a schedule and then in rounds until all have ended. The
 /// runs have done nothing yet, and stand in the order of their domains, as do those that come back; each item is for one of
-/// them, and there are 200,000 items at most. All memory is taken before the first command. Fails for want of memory alone, and then the heap and its runs are
-/// given up.
+/// them, and there are 200,000 items at most. All memory is taken before the first command. Fails for want of memory alone, and
+/// then the heap and its runs are given up.
+///
+/// The heap has at least twice as many pools as the commands may use, and two more than twice the reserve of promotion. So no
+/// allocation is refused.
 ///
 /// Each domain has then made its commands, each once and in order, and its end, and its replies are those of the scheduled
 /// history. That is a function of the numbers of the heap, the commands and the items.

@@ -6,3 +6,4 @@ mod Ending
 mod Turns
 mod Spending
 mod Rounds
+pub mod RefusedBodies

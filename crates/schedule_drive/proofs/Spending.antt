@@ -1,16 +1,15 @@
 -- How often the domains may still arrive, as a replay goes on.
-use Rattle.std.proofs.Common.{◌≡◌, ◌⊎◌, ⊎_elim, ℕ, suc, ◌+◌, ◌*◌, ◌<◌, ◌≤◌, Bool, true, false, List, [], ◌∷◌, get_or, set, slice_get, map, length, Some, sym, ap, ◌∙◌, subst, inl, inr, arith}
+use Rattle.std.proofs.Common.{◌≡◌, ⊎_elim, ℕ, suc, ◌+◌, ◌*◌, ◌<◌, ◌≤◌, Bool, true, false, List, [], get_or, set, slice_get, Some, sym, ap, ◌∙◌, subst, arith}
 use Rattle.std.proofs.Math.Nat.{mul-le-mul_right}
 use Rattle.std.proofs.lemmas.Bool.{false≢true}
 use Rattle.std.proofs.lemmas.List.{get_or-set_same, length-map, map-set}
 use Rattle.std.proofs.lemmas.Option.{slice_get_within}
 use Rattle.heap_model.specs.declared.command.Command.{Command}
-use Rattle.heap_model.specs.declared.command.Command.TheVariants.{FullMajor}
 use Rattle.heap_model.specs.declared.entry.Entry.{Entry}
 use Rattle.schedule_drive.specs.Pausing.{Answered, AsksAlone, NotYet, Paused, RestedAt, askeds, lefts}
-use Rattle.schedule_drive.specs.Spending.{IsShort, SpendsFor, SpentInTurn, asked_at, most_in_pause, most_in_turn}
+use Rattle.schedule_drive.specs.Spending.{IsShort, SpendsFor, SpentInTurn, asked_at, most_in_pause}
 use Rattle.schedule_drive.specs.Together.{AllRuns, OneRun, Turned}
-use Rattle.schedule_drive.specs.declared.together.Stepped.TheVariants.{Ran, Made, Needs}
+use Rattle.schedule_drive.specs.declared.together.Stepped.TheVariants.{Ran, Needs}
 use Rattle.schedule_drive.proofs.Listing.{kept_at, read_at}
 
 -- a turn goes on with a step
