@@ -85,7 +85,7 @@ apart_respects z root front e l n apart written = record {
 }
 
 -- a leaf stays an ephemeron of one key
-grew_along : (z : Sizes) (old new : List Entry) → IsPrefix old new → Grew (graph_of z old) (graph_of z new)
+pub grew_along : (z : Sizes) (old new : List Entry) → IsPrefix old new → Grew (graph_of z old) (graph_of z new)
 grew_along z old new grows = walk_along (λ h. Grew (graph_of z old) (graph_of z h)) old new grows
     (λ f e a b grew. subst (λ (g : Graph). Grew (graph_of z old) g) (sym (graph_push z f e)) (grew_after (graph_of z old) (graph_of z f) (next (state_of z f) e).graph grew (grew_next (state_of z f) e)))
     (grew_same (graph_of z old) (graph_of z old) refl)

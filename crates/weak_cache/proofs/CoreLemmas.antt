@@ -1,8 +1,9 @@
 -- What a call on a cache finds again behind a command: the block, and what the leaves had.
-use Rattle.std.proofs.Common.{◌≡◌, inl, inr, ℕ, ◌<◌, List, [], ◌∷◌, ◌++◌, length, get_or, Option, Some, None, refl, ap, sym, ◌∙◌, subst}
+use Rattle.std.proofs.Common.{◌≡◌, ◌≢◌, inl, inr, ⊎_elim, ℕ, ◌<◌, List, [], ◌∷◌, ◌++◌, length, get_or, Option, Some, None, refl, ap, sym, ◌∙◌, subst}
 use Rattle.heap_model.specs.declared.label.Label.{Label}
 use Rattle.heap_model.specs.declared.command.Command.{Command}
 use Rattle.heap_model.specs.declared.entry.Entry.{Entry}
+use Rattle.heap_model.specs.declared.entry.Entry.TheVariants.{Command as CommandOf}
 use Rattle.heap_model.specs.declared.reply.Reply.{Reply}
 use Rattle.heap_model.specs.declared.graph.Value.{Value}
 use Rattle.heap_model.specs.declared.graph.Value.TheVariants.{Int, Block, Nothing}
@@ -25,10 +26,12 @@ use Rattle.map_laws.proofs.RespectLemmas.{graph_push, outside_wider}
 use Rattle.weak_maps.specs.Beside.{held_by}
 use Rattle.weak_maps.proofs.BesideLemmas.{since_old, until_new}
 use Rattle.weak_maps.proofs.DescendLemmas.{leaf_node}
+use Rattle.weak_maps.proofs.EntryLemmas.{own_entry}
 use Rattle.weak_maps.proofs.FreshLemmas.{held_not_outside, thin_held}
 use Rattle.weak_maps.proofs.GetLemmas.{grows_by}
+use Rattle.weak_maps.proofs.StayLemmas.{no_entry}
 use Rattle.weak_cache.specs.Uses.{SlotLeft}
-use Rattle.weak_cache.specs.Caches.{Gone, IsUse, OthersSpare, slot_in, slot_of}
+use Rattle.weak_cache.specs.Caches.{Gone, IsUse, OthersSpare, OwnSpare, slot_in, slot_of}
 use Rattle.weak_cache.specs.Passes.{Core, StoodIn, UseLeft}
 
 pub spares_within : (z : Sizes) (c : Label) (d : ℕ) (old new later earlier : List Entry) → IsPrefix old later → IsPrefix earlier new → OthersSpare z c d old new → OthersSpare z c d later earlier
@@ -134,6 +137,20 @@ module _ (z : Sizes) (c k : Label) (d : ℕ) (first now new : List Entry) (cmd :
 
     pub leaf_quiet : (l : Label) (v : Value) → StoodIn z c now l → node_at (graph_of z now) l ≡ Some (Ephe (Some k ∷ []) v) → StoodIn z c new l × (node_at (graph_of z new) l ≡ Some (Ephe (Some k ∷ []) v))
     leaf_quiet l v stood node = (stood_more z c l now new (grows_by z d now new cmd r p) stood, ap (λ (g : Graph). node_at g l) quiet ∙ leaf_mid l v stood node)
+
+-- a command that writes no block that was there but the cache's
+module _ (z : Sizes) (c : Label) (d : ℕ) (first now new : List Entry) (cmd : Command) (r : Reply) (p : PerformedBy z d now new cmd r) where
+  pub spared_on : ((l : Label) (n : Node) → node_at (graph_of z first) l ≡ Some n → l ≢ c → node_at (graph_of z new) l ≡ node_at (graph_of z (now ++ p.between)) l) → OwnSpare z c d first now → OwnSpare z c d first new
+  spared_on same spared front e since until mine l n there other = ⊎_elim
+      (λ early. spared front e since early mine l n there other)
+      (λ is. subst (λ (w : List Entry × Entry). node_at (graph_of z (w.0 ++ w.1 ∷ [])) l ≡ node_at (graph_of z w.0) l) (λ i. (sym is.0 i, sym is.1 i)) (ap (λ (h : List Entry). node_at (graph_of z h) l) (sym p.appends) ∙ same l n there other))
+      (own_entry d now p.between (CommandOf d cmd p.full) front e p.others (subst (IsPrefix (front ++ e ∷ [])) p.appends until) mine)
+
+  pub spared_quiet : graph_of z new ≡ graph_of z (now ++ p.between) → OwnSpare z c d first now → OwnSpare z c d first new
+  spared_quiet same = spared_on (λ l n there other. ap (λ (g : Graph). node_at g l) same)
+
+pub spared_none : (z : Sizes) (c : Label) (d : ℕ) (h : List Entry) → OwnSpare z c d h h
+spared_none z c d h front e since until mine l n there other = absurd (no_entry h front e since until)
 
 -- what the fields of a cache hold when a call begins
 pub use_first : (z : Sizes) (c k : Label) (h : List Entry) (fs : List Value) (tag i : ℕ) → node_at (graph_of z h) c ≡ Some (Plain tag fs) → i < length fs → IsUse (graph_of z h) (get_or fs i Nothing) → UseLeft z c k h h (get_or fs i Nothing)

@@ -22,10 +22,10 @@ use Rattle.weak_maps.proofs.BesideLemmas.{set_here, set_other, sixteen}
 use Rattle.weak_maps.proofs.CleanedLemmas.{less_or}
 use Rattle.weak_maps.proofs.GetLemmas.{grows_by}
 use Rattle.weak_cache.specs.Uses.{SlotLeft, SlotsLeft, put_first}
-use Rattle.weak_cache.specs.Caches.{Gone, IsCache, IsUse, OthersSpare, fields_or_none, slot_in, slot_of, slots_after}
+use Rattle.weak_cache.specs.Caches.{Gone, IsCache, IsUse, OthersSpare, OwnSpare, fields_or_none, slot_in, slot_of, slots_after}
 use Rattle.weak_cache.specs.Calls.{LeavesCache}
 use Rattle.weak_cache.specs.Passes.{Begun, Cleared, Core, Keeping, KeepsLow, StoodIn, UseLeft, moved_by, was_of}
-use Rattle.weak_cache.proofs.CoreLemmas.{core_quiet, leaf_quiet, spares_within, use_first}
+use Rattle.weak_cache.proofs.CoreLemmas.{core_quiet, leaf_quiet, spared_none, spared_quiet, spares_within, use_first}
 use Rattle.weak_cache.proofs.ListLemmas.{all_left, moved_by_long, moved_each, moved_left}
 
 -- what a field held is what a cache may hold
@@ -47,8 +47,9 @@ module _ (z : Sizes) (limits : IsWithinLimits z) (d : ℕ) (c k : Label) (first 
   fs = cache_is.fields
 
   -- the cache as it was, but for keys that are gone
-  pub left_alone : (new : List Entry) → Core z first new c k fs fs → LeavesCache z k first new c size (slots_after z first c)
-  left_alone new x = record {
+  pub left_alone : (new : List Entry) → OwnSpare z c d first new → Core z first new c k fs fs → LeavesCache z d k first new c size (slots_after z first c)
+  left_alone new spared x = record {
+    spared = spared;
     cache = record {
       some = cache_is.some;
       tag = x.tag;
@@ -62,8 +63,9 @@ module _ (z : Sizes) (limits : IsWithinLimits z) (d : ℕ) (c k : Label) (first 
   }
 
   -- and with a leaf first
-  pub left_first : (new : List Entry) (l : Label) (v : Value) → Core z first new c k fs (moved_by (was_of z first k) (Block l) fs) → node_at (graph_of z new) l ≡ Some (Ephe (Some k ∷ []) v) → LeavesCache z k first new c size (put_first k v (slots_after z first c))
-  left_first new l v x node = record {
+  pub left_first : (new : List Entry) (l : Label) (v : Value) → OwnSpare z c d first new → Core z first new c k fs (moved_by (was_of z first k) (Block l) fs) → node_at (graph_of z new) l ≡ Some (Ephe (Some k ∷ []) v) → LeavesCache z d k first new c size (put_first k v (slots_after z first c))
+  left_first new l v spared x node = record {
+    spared = spared;
     cache = record {
       some = cache_is.some;
       tag = x.tag;
@@ -113,6 +115,7 @@ module _ (z : Sizes) (limits : IsWithinLimits z) (d : ℕ) (c k : Label) (first 
       core = core_quiet z c k d first b.one new (Copy 13 cr) b.cache_reply b.caches spares core1.grows 12 key1 caches_taken.0 fs fs core1;
       key = others2 12 (λ e. absurd (omega (arith, e))) ∙ key1;
       cache = set_here z d b.one new 13 (held_by z d b.one cr) caches_taken.1 (sixteen z d b.one new (Copy 13 cr) b.cache_reply b.caches limits) (omega arith) ∙ (others1 cr (λ e. absurd (omega (arith, few_c, e))) ∙ holds);
+      spared = spared_quiet z c d first b.one new (Copy 13 cr) b.cache_reply b.caches caches_taken.0 (spared_quiet z c d first first b.one (Copy 12 kr) b.key_reply b.keys keys_taken.0 (spared_none z c d first));
     }
 
     pub begun_low : KeepsLow z d first new
@@ -131,6 +134,9 @@ module _ (z : Sizes) (limits : IsWithinLimits z) (d : ℕ) (c k : Label) (first 
 
     pub forgot_core : (gs : List Value) → OthersSpare z c d first new → held_by z d now 12 ≡ Block k → Core z first now c k fs gs → Core z first new c k fs gs
     forgot_core gs spares key x = core_quiet z c k d first now new (Forget n) r p spares x.grows 12 key forgotten.0 fs gs x
+
+    pub forgot_spared : OwnSpare z c d first now → OwnSpare z c d first new
+    forgot_spared = spared_quiet z c d first now new (Forget n) r p forgotten.0
 
     pub forgot_leaf : (l : Label) (v : Value) → IsPrefix first now → OthersSpare z c d first new → held_by z d now 12 ≡ Block k → StoodIn z c now l → node_at (graph_of z now) l ≡ Some (Ephe (Some k ∷ []) v) → StoodIn z c new l × (node_at (graph_of z new) l ≡ Some (Ephe (Some k ∷ []) v))
     forgot_leaf l v grows spares key stood node = leaf_quiet z c k d first now new (Forget n) r p spares grows 12 key forgotten.0 l v stood node
@@ -193,6 +199,14 @@ module _ (z : Sizes) (limits : IsWithinLimits z) (d : ℕ) (c k : Label) (first 
 
     pub cleared_core : Core z first new c k fs gs
     cleared_core = forgot_core e.four new e.twelve_reply 12 e.twelve gs spares key_thirteen core_thirteen
+
+    pub cleared_spared : OwnSpare z c d first new
+    cleared_spared =
+        let a = forgot_spared now e.one e.nine_reply 9 e.nine x.spared in
+        let b = forgot_spared e.one e.two e.ten_reply 10 e.ten a in
+        let f = forgot_spared e.two e.three e.eleven_reply 11 e.eleven b in
+        let g = forgot_spared e.three e.four e.thirteen_reply 13 e.thirteen f in
+        forgot_spared e.four new e.twelve_reply 12 e.twelve g
 
     pub cleared_leaf : (l : Label) (v : Value) → StoodIn z c now l → node_at (graph_of z now) l ≡ Some (Ephe (Some k ∷ []) v) → node_at (graph_of z new) l ≡ Some (Ephe (Some k ∷ []) v)
     cleared_leaf l v stood node =

@@ -35,7 +35,7 @@ use Rattle.weak_maps.proofs.GetLemmas.{grows_by}
 use Rattle.weak_cache.specs.Uses.{SlotLeft, is_of}
 use Rattle.weak_cache.specs.Caches.{Gone, OthersSpare, slot_in, slot_of}
 use Rattle.weak_cache.specs.Passes.{Core, Finding, FoundLeaf, IsAtHand, Keeping, KeepsLow, Moved, Moving, NoneIsOf, StoodIn, Tells, UseLeft, carried, moved, was_of}
-use Rattle.weak_cache.proofs.CoreLemmas.{core_mid, core_own, core_quiet, leaf_mid, leaf_quiet, spares_within, stood_more, use_mid}
+use Rattle.weak_cache.proofs.CoreLemmas.{core_mid, core_own, core_quiet, leaf_mid, leaf_quiet, spared_on, spared_quiet, spares_within, stood_more, use_mid}
 use Rattle.weak_cache.proofs.ListLemmas.{carried_next, carried_some, is_of_some, left_of, moved_all, moved_long, moved_stop, read_moved, store_moved, stored_there}
 
 -- what a field held is something
@@ -102,6 +102,7 @@ module _ (z : Sizes) (limits : IsWithinLimits z) (d : ℕ) (first : List Entry) 
       core = core_quiet z c k d first now new (Load dst 13 n) r p spares x.core.grows 12 x.key read.0 fs gs x.core;
       key = read_others 12 (λ e. absurd (omega (arith, few, e))) ∙ x.key;
       cache = read_others 13 (λ e. absurd (omega (arith, few, e))) ∙ x.cache;
+      spared = spared_quiet z c d first now new (Load dst 13 n) r p read.0 x.spared;
     }
 
   -- what was told of a register's leaf
@@ -118,6 +119,7 @@ module _ (z : Sizes) (limits : IsWithinLimits z) (d : ℕ) (first : List Entry) 
         core = core_quiet z c k d first now new (GetKey 11 slot 0) r p spares x.core.grows 12 x.key all.0 fs gs x.core;
         key = others 12 (λ e. absurd (omega (arith, e))) ∙ x.key;
         cache = others 13 (λ e. absurd (omega (arith, e))) ∙ x.cache;
+        spared = spared_quiet z c d first now new (GetKey 11 slot 0) r p all.0 x.spared;
       };
       others = others;
       is = told n.0 refl ∙ left_of (WasUnreached z first mid) k (slot_of (graph_of z first) (Block l)) (slot_of (graph_of z mid) (Block l)) mid_use.2;
@@ -289,6 +291,8 @@ module _ (z : Sizes) (limits : IsWithinLimits z) (d : ℕ) (first : List Entry) 
       core = core_own z c k d first n0 n1 (Store 13 n 10) r1 p1 e1 keeps0.core.grows 12 keeps0.key (λ m o w stood node. leaves1 m o w node) fs gs (moved (suc n) (Block l) fs) core_then.tag core_then block1;
       key = stored.1 12 ∙ keeps0.key;
       cache = stored.1 13 ∙ keeps0.cache;
+      spared = spared_on z c d first n0 n1 (Store 13 n 10) r1 p1
+          (λ m o there other. ap (λ (g : Graph). node_at g m) stored.0 ∙ node_at-with_node_other (graph_of z mid) c m (Plain core_then.tag (set gs n (carried n (Block l) fs))) other) keeps0.spared;
     }
 
     node1 : node_at (graph_of z n1) l ≡ Some leaf
@@ -347,6 +351,7 @@ module _ (z : Sizes) (limits : IsWithinLimits z) (d : ℕ) (first : List Entry) 
               core = subst (λ (i : ℕ). Core z first new c k fs (moved i (Block l) fs)) next (core_quiet z c k d first n2 new (Copy 10 9) r3 p3 spares3 told_it.keeps.core.grows 12 told_it.keeps.key copied.0 fs (moved (suc n) (Block l) fs) told_it.keeps.core);
               key = others3 12 (λ e. absurd (omega (arith, e))) ∙ told_it.keeps.key;
               cache = others3 13 (λ e. absurd (omega (arith, e))) ∙ told_it.keeps.cache;
+              spared = spared_quiet z c d first n2 new (Copy 10 9) r3 p3 copied.0 told_it.keeps.spared;
             };
             none = none_more n x.none (sym told_it.is ∙ not_so);
             held = set_here z d n2 new 10 (held_by z d n2 9) copied.1 (sixteen z d n2 new (Copy 10 9) r3 p3 limits) (omega arith)

@@ -1,5 +1,5 @@
 -- What the clauses of the calls on a cache refuse: where a clause holds a wrong outcome doesn't, whatever body met it.
-use Rattle.std.proofs.Common.{◌≡◌, ◌≢◌, ◌<◌, inl, inr, ℕ, ◌+◌, List, length, Option, Some, None, refl, ap, ◌∙◌}
+use Rattle.std.proofs.Common.{◌≡◌, ◌≢◌, ◌<◌, inl, inr, true, [], ◌∷◌, ◌++◌, ℕ, ◌+◌, List, length, Option, Some, None, refl, ap, ◌∙◌}
 use Rattle.heap_model.specs.declared.label.Label.{Label}
 use Rattle.heap_model.specs.declared.entry.Entry.{Entry}
 use Rattle.heap_model.specs.declared.graph.Value.{Value}
@@ -7,11 +7,16 @@ use Rattle.heap_model.specs.declared.graph.Value.TheVariants.{Block}
 use Rattle.heap_model.specs.declared.reply.Reply.{Reply}
 use Rattle.heap_model.specs.declared.reply.Reply.TheVariants as reply
 use Rattle.heap_model.specs.declared.state.Sizes.{Sizes}
+use Rattle.heap_model.specs.declared.graph.Node.{Node}
+use Rattle.heap_model.specs.Graph.{node_at}
 use Rattle.heap_model.specs.Commands.{shown}
+use Rattle.heap_model.specs.History.{IsPrefix, is_entry_of}
+use Rattle.table_laws.specs.Structures.{Binding}
+use Rattle.table_laws.specs.Stages.{graph_of}
 use Rattle.map_laws.specs.Calls.{value_of}
 use Rattle.weak_cache.specs.Uses.{age, cached_in, put_first}
 use Rattle.weak_cache.specs.Caches.{Gone, slots_after}
-use Rattle.weak_cache.specs.Calls.{GetReturns, PutsOrFull}
+use Rattle.weak_cache.specs.Calls.{GetReturns, LeavesCache, PutsOrFull}
 use Rattle.weak_cache.proofs.LawLemmas.{loss_keeps, others_back, put_found}
 
 -- a lookup answers the value of its own key, and not of another
@@ -41,3 +46,8 @@ no_other_is_dropped z d old new c size k l v w (low, inr (is, x)) differ has sma
 pub no_full_drops : (z : Sizes) (d : ℕ) (old new : List Entry) (c : Label) (size : ℕ) (k l : Label) (v : Value) → PutsOrFull z d old new c size k v reply.Full → (Gone z k old new l → ⊥) → cached_in l (slots_after z new c) ≡ cached_in l (slots_after z old c)
 no_full_drops z d old new c size k l v (low, inl (is, x)) lives = cc
 no_full_drops z d old new c size k l v (low, inr (is, x)) lives = (loss_keeps z k old new (slots_after z old c) (slots_after z new c) x.left l lives).0
+
+-- a call writes no block that was there but the cache's
+pub no_other_block_is_written : (z : Sizes) (d : ℕ) (k : Label) (old new : List Entry) (c : Label) (size : ℕ) (slots : List (Option Binding)) → LeavesCache z d k old new c size slots → (front : List Entry) (e : Entry) → IsPrefix old front → IsPrefix (front ++ e ∷ []) new → is_entry_of d e ≡ true
+    → (l : Label) (n : Node) → node_at (graph_of z old) l ≡ Some n → l ≢ c → node_at (graph_of z (front ++ e ∷ [])) l ≡ node_at (graph_of z front) l
+no_other_block_is_written z d k old new c size slots x = x.spared

@@ -23,6 +23,7 @@ use Rattle.map_laws.specs.Steps.{WasUnreached}
 use Rattle.map_laws.specs.Calls.{PerformedBy, registers_after, value_of}
 use Rattle.map_laws.proofs.CallLemmas.{alloc_step, ephe_step, get_data_step, made, set_data_step, set_key_step}
 use Rattle.map_laws.proofs.FrontLemmas.{prefix_same, prefix_trans}
+use Rattle.map_laws.proofs.OwnLemmas.{grew_along}
 use Rattle.weak_maps.specs.Beside.{held_by}
 use Rattle.weak_maps.specs.Puts.{OwnBlock}
 use Rattle.weak_maps.proofs.BesideLemmas.{same_held, set_here, set_other, since_old, sixteen, until_new}
@@ -30,11 +31,11 @@ use Rattle.weak_maps.proofs.FreshLemmas.{not_held_before, own_born, own_middle, 
 use Rattle.weak_maps.proofs.GetLemmas.{grows_by}
 use Rattle.weak_maps.proofs.StayLemmas.{no_entry, quiet_on}
 use Rattle.weak_cache.specs.Uses.{cached_in, is_of, touched}
-use Rattle.weak_cache.specs.Caches.{IsCache, IsUse, OthersSpare, slot_of, slots_after}
+use Rattle.weak_cache.specs.Caches.{IsCache, IsUse, OthersSpare, OwnSpare, slot_of, slots_after}
 use Rattle.weak_cache.specs.Calls.{GetReturns, LeavesCache, MakeReturns, PutReturns, PutsOrFull}
 use Rattle.weak_cache.specs.Passes.{Cleared, Core, Finding, FoundLeaf, Keeping, KeepsLow, MadeLeaf, Moved, Moving, StoodIn, UseLeft, moved_by, was_of}
-use Rattle.weak_cache.proofs.CoreLemmas.{core_mid, core_own, core_quiet, leaf_mid, leaf_quiet, spares_within}
-use Rattle.weak_cache.proofs.EndLemmas.{cleared_clean, cleared_core, cleared_leaf, cleared_low, forgot_core, forgot_here, forgot_others, left_alone, left_first, slots_are}
+use Rattle.weak_cache.proofs.CoreLemmas.{core_mid, core_own, core_quiet, leaf_mid, leaf_quiet, spared_on, spared_quiet, spares_within}
+use Rattle.weak_cache.proofs.EndLemmas.{cleared_clean, cleared_core, cleared_leaf, cleared_low, cleared_spared, forgot_core, forgot_here, forgot_others, forgot_spared, left_alone, left_first, slots_are}
 use Rattle.weak_cache.proofs.ListLemmas.{cached_found, cached_none}
 
 module _ (z : Sizes) (limits : IsWithinLimits z) (d : ℕ) (c k : Label) (first : List Entry) (size : ℕ) (cache_is : IsCache (graph_of z first) c size) where
@@ -63,6 +64,10 @@ module _ (z : Sizes) (limits : IsWithinLimits z) (d : ℕ) (c k : Label) (first 
 
     abbrev First : Type 0
     First = Core z first e.one c k fs fs × ((i : ℕ) → i ≢ 10 → held_by z d e.one i ≡ held_by z d now i) × OwnBlock z d e.one c 10 l (Ephe (None ∷ []) Nothing)
+        × (node_at (graph_of z (now ++ e.makes.between)) l ≡ None) × OwnSpare z c d first e.one
+
+    there_then : (m : Label) (n : Node) → node_at (graph_of z first) m ≡ Some n → (h : List Entry) → IsPrefix first h → (n2 : Node) × (node_at (graph_of z h) m ≡ Some n2)
+    there_then m n there h until = let x = grew_along z first h until m n there in (x.0, x.1)
 
     first_made : First
     first_made = ⊎_elim
@@ -75,6 +80,11 @@ module _ (z : Sizes) (limits : IsWithinLimits z) (d : ℕ) (c k : Label) (first 
           set_other z d now e.one 10 (Block l) granted.2.1,
           own_born z d c now e.one (NewEphe 10 1) e.made_reply e.makes 10 (Ephe (None ∷ []) Nothing) (λ j is. let clash : false ≡ true = is in cc) (fs, ap fields_of core_a.block) granted.1 granted.2.0
               (set_here z d now e.one 10 (Block l) granted.2.1 (sixteen z d now e.one (NewEphe 10 1) e.made_reply e.makes limits) (omega arith)),
+          granted.1,
+          spared_on z c d first now e.one (NewEphe 10 1) e.made_reply e.makes
+              (λ m n there other.
+              let old = there_then m n there (now ++ e.makes.between) core_a.grows in
+              ap (λ (y : Graph). node_at y m) granted.2.0 ∙ (node_at-append_old g (l, Ephe (None ∷ []) Nothing) m old.0 old.1 ∙ sym old.1)) x.spared,
         ))
         (ephe_step z d now e.one e.made_reply 10 e.makes)
 
@@ -85,10 +95,13 @@ module _ (z : Sizes) (limits : IsWithinLimits z) (d : ℕ) (c k : Label) (first 
     apart_leaf : (h : List Entry) (n : Node) → OwnBlock z d h c 10 l n → (m : Label) → StoodIn z c h m → m ≢ l
     apart_leaf h n own m stood same = own.never stood.former stood.place stood.before (stood.there ∙ ap (λ (y : Label). Some (Block y)) same) (subst (λ (y : Label). is_leaf (node_at (graph_of z stood.former) y)) same stood.leaf)
 
-    -- the value
-    mid1 : List Entry
-    mid1 = e.one ++ e.sets.between
+    -- and so does each block that was there
+    apart_old : (m : Label) (n : Node) → node_at (graph_of z first) m ≡ Some n → m ≢ l
+    apart_old m n there same =
+        let old = there_then m n there (now ++ e.makes.between) core_a.grows in
+        let clash : None ≡ Some old.0 = sym first_made.3 ∙ (ap (node_at (graph_of z (now ++ e.makes.between))) (sym same) ∙ old.1) in cc
 
+    -- the value
     own_mid1 : OwnBlock z d (e.one ++ e.sets.between) c 10 l (Ephe (None ∷ []) Nothing)
     own_mid1 = own_middle z d c e.one e.two (SetData 10 item) e.data_reply e.sets 10 l (Ephe (None ∷ []) Nothing) (thin_empty (WasUnreached z e.one (e.one ++ e.sets.between)) Nothing) first_made.2
 
@@ -96,7 +109,7 @@ module _ (z : Sizes) (limits : IsWithinLimits z) (d : ℕ) (c k : Label) (first 
     core_b = core_mid z c k d first e.one e.two (SetData 10 item) e.data_reply e.sets (upto e.two g2) first_made.0.grows 12 key_one fs fs first_made.0
 
     abbrev Second : Type 0
-    Second = Core z first e.two c k fs fs × ((i : ℕ) → held_by z d e.two i ≡ held_by z d e.one i) × OwnBlock z d e.two c 10 l (Ephe (None ∷ []) v)
+    Second = Core z first e.two c k fs fs × ((i : ℕ) → held_by z d e.two i ≡ held_by z d e.one i) × OwnBlock z d e.two c 10 l (Ephe (None ∷ []) v) × OwnSpare z c d first e.two
 
     second_made : Second
     second_made =
@@ -110,6 +123,7 @@ module _ (z : Sizes) (limits : IsWithinLimits z) (d : ℕ) (c k : Label) (first 
           own_on z d c e.one e.two (SetData 10 item) e.data_reply e.sets 10 l (Ephe (None ∷ []) Nothing) (Ephe (None ∷ []) v) item own_mid1 (λ j s. sym (eqb-true item j s))
               (λ s. not_held_before z d c now e.one (NewEphe 10 1) e.made_reply e.makes item (sym is ∙ s)) (same_held z d e.one e.two all.1 10)
               (ap (λ (y : Graph). node_at y l) all.0 ∙ node_at-with_node_same g l (Ephe (None ∷ []) v) (Ephe (None ∷ []) Nothing) own_mid1.node),
+          spared_on z c d first e.one e.two (SetData 10 item) e.data_reply e.sets (λ m n there other. ap (λ (y : Graph). node_at y m) all.0 ∙ node_at-with_node_other g l m (Ephe (None ∷ []) v) (apart_old m n there)) first_made.4,
         )
 
     -- and the key
@@ -139,6 +153,7 @@ module _ (z : Sizes) (limits : IsWithinLimits z) (d : ℕ) (c k : Label) (first 
                   (ap (λ (y : Graph). node_at y c) all.0 ∙ (node_at-with_node_other g l c (Ephe (Some k ∷ []) v) own_mid2.apart ∙ core_c.block));
               key = others 12 (λ s. absurd (omega (arith, s))) ∙ x.key;
               cache = others 13 (λ s. absurd (omega (arith, s))) ∙ x.cache;
+              spared = spared_on z c d first e.two new (SetKey 10 0 key) e.key_reply e.keys (λ m n there other. ap (λ (y : Graph). node_at y m) all.0 ∙ node_at-with_node_other g l m (Ephe (Some k ∷ []) v) (apart_old m n there)) second_made.3;
             };
             none = λ j less. absurd (omega (arith, less));
             held = own.held;
@@ -156,7 +171,7 @@ module _ (z : Sizes) (limits : IsWithinLimits z) (d : ℕ) (c k : Label) (first 
           cleared_clean z limits d c k first size cache_is now new e spares gs x.keeps,
           (λ i small other. cleared_low z limits d c k first size cache_is now new e spares gs x.keeps i small ∙ low i small),
         ),
-        inl (refl, left_first z limits d c k first size cache_is new l v (cleared_core z limits d c k first size cache_is now new e spares gs x.keeps) (cleared_leaf z limits d c k first size cache_is now new e spares gs x.keeps l v x.stood x.node)),
+        inl (refl, left_first z limits d c k first size cache_is new l v (cleared_spared z limits d c k first size cache_is now new e spares gs x.keeps) (cleared_core z limits d c k first size cache_is now new e spares gs x.keeps) (cleared_leaf z limits d c k first size cache_is now new e spares gs x.keeps l v x.stood x.node)),
       )
 
   -- or refused
@@ -168,12 +183,13 @@ module _ (z : Sizes) (limits : IsWithinLimits z) (d : ℕ) (c k : Label) (first 
         core = core_quiet z c k d first now one (NewEphe 10 1) r p (spares_within z c d first new first one (prefix_same first) later spares) x.core.grows 12 x.key refused.1.0 fs fs x.core;
         key = others 12 ∙ x.key;
         cache = others 13 ∙ x.cache;
+        spared = spared_quiet z c d first now one (NewEphe 10 1) r p refused.1.0 x.spared;
       } in (
         (
           cleared_clean z limits d c k first size cache_is one new e spares fs y,
           (λ i small other. cleared_low z limits d c k first size cache_is one new e spares fs y i small ∙ (others i ∙ low i small)),
         ),
-        inr (refl, left_alone z limits d c k first size cache_is new (cleared_core z limits d c k first size cache_is one new e spares fs y)),
+        inr (refl, left_alone z limits d c k first size cache_is new (cleared_spared z limits d c k first size cache_is one new e spares fs y) (cleared_core z limits d c k first size cache_is one new e spares fs y)),
       ))
       (λ granted. let clash : reply.Block (made z d now one (NewEphe 10 1) r p) ≡ reply.Full = sym granted.2.2 ∙ full in cc)
       (ephe_step z d now one r 10 p)
@@ -202,6 +218,7 @@ module _ (z : Sizes) (limits : IsWithinLimits z) (d : ℕ) (c k : Label) (first 
             core = core_quiet z c k d first now n0 (GetData dst 10) r p spares x.keeps.core.grows 12 x.keeps.key read.0 fs fs x.keeps.core;
             key = others 12 (λ s. absurd (omega (arith, few, s))) ∙ x.keeps.key;
             cache = others 13 (λ s. absurd (omega (arith, few, s))) ∙ x.keeps.cache;
+            spared = spared_quiet z c d first now n0 (GetData dst 10) r p read.0 x.keeps.spared;
           };
           none = λ j less. absurd (omega (arith, less));
           held = others 10 (λ s. absurd (omega (arith, few, s))) ∙ x.held;
@@ -221,8 +238,8 @@ module _ (z : Sizes) (limits : IsWithinLimits z) (d : ℕ) (c k : Label) (first 
         let holds : held_by z d new dst ≡ x.v = low2 dst few ∙ (low1 dst few ∙ set_here z d now n0 dst x.v read.1 (sixteen z d now n0 (GetData dst 10) r p limits) (omega (arith, few))) in (
           read.2 ∙ sym (ap (λ (o : Option Value). shown (value_of o)) cached),
           ap shown holds ∙ sym read.2,
-          subst (λ (o : Option Value). LeavesCache z k first new c size (touched k o (slots_after z first c))) (sym cached)
-              (left_first z limits d c k first size cache_is new x.l x.v (cleared_core z limits d c k first size cache_is n1 new e spares1 gs y.keeps) (cleared_leaf z limits d c k first size cache_is n1 new e spares1 gs y.keeps x.l x.v y.stood y.node)),
+          subst (λ (o : Option Value). LeavesCache z d k first new c size (touched k o (slots_after z first c))) (sym cached)
+              (left_first z limits d c k first size cache_is new x.l x.v (cleared_spared z limits d c k first size cache_is n1 new e spares1 gs y.keeps) (cleared_core z limits d c k first size cache_is n1 new e spares1 gs y.keeps) (cleared_leaf z limits d c k first size cache_is n1 new e spares1 gs y.keeps x.l x.v y.stood y.node)),
           (
             cleared_clean z limits d c k first size cache_is n1 new e spares1 gs y.keeps,
             (λ i small other. low2 i small ∙ (low1 i small ∙ (others i other ∙ low i small))),
@@ -237,12 +254,13 @@ module _ (z : Sizes) (limits : IsWithinLimits z) (d : ℕ) (c k : Label) (first 
         core = forgot_core z limits d c k first size cache_is now n0 r dst p fs (spares_within z c d first new first n0 (prefix_same first) later spares) x.0.key x.0.core;
         key = others 12 (λ s. absurd (omega (arith, few, s))) ∙ x.0.key;
         cache = others 13 (λ s. absurd (omega (arith, few, s))) ∙ x.0.cache;
+        spared = forgot_spared z limits d c k first size cache_is now n0 r dst p x.0.spared;
       } in
       let none : cached_in k (slots_after z first c) ≡ None = ap (cached_in k) (slots_are z first c cache_is.tag fs cache_is.node) ∙ cached_none k (graph_of z first) fs x.1 in
       let low2 = cleared_low z limits d c k first size cache_is n0 new e spares fs y in (
         sym (ap (λ (o : Option Value). shown (value_of o)) none),
         ap shown (low2 dst few ∙ forgot_here z limits d c k first size cache_is now n0 r dst p (omega (arith, few))),
-        subst (λ (o : Option Value). LeavesCache z k first new c size (touched k o (slots_after z first c))) (sym none) (left_alone z limits d c k first size cache_is new (cleared_core z limits d c k first size cache_is n0 new e spares fs y)),
+        subst (λ (o : Option Value). LeavesCache z d k first new c size (touched k o (slots_after z first c))) (sym none) (left_alone z limits d c k first size cache_is new (cleared_spared z limits d c k first size cache_is n0 new e spares fs y) (cleared_core z limits d c k first size cache_is n0 new e spares fs y)),
         (
           cleared_clean z limits d c k first size cache_is n0 new e spares fs y,
           (λ i small other. low2 i small ∙ (others i other ∙ low i small)),

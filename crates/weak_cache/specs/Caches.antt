@@ -1,5 +1,5 @@
 -- A cache in a heap: a plain block whose fields hold 0 or leaves, ephemerons of one key.
-use Rattle.std.specs.Prelude.{◌≡◌, ◌≢◌, ◌<◌, ◌≤◌, ℕ, false, List, [], ◌∷◌, ◌++◌, length, map, slice_index_or, pos, Option, Some, None}
+use Rattle.std.specs.Prelude.{◌≡◌, ◌≢◌, ◌<◌, ◌≤◌, ℕ, false, true, List, [], ◌∷◌, ◌++◌, length, map, slice_index_or, pos, Option, Some, None}
 use Rattle.heap_model.specs.declared.label.Label.{Label}
 use Rattle.heap_model.specs.declared.entry.Entry.{Entry}
 use Rattle.heap_model.specs.declared.graph.Value.{Value}
@@ -60,3 +60,8 @@ OthersSpare z c d old new = (front : List Entry) (e : Entry) → IsPrefix old fr
 -- a label that was outside reach at some front, and isn't the key in hand
 abbrev pub Gone : Sizes → Label → List Entry → List Entry → Label → Type 0
 Gone z k old new l = WasUnreached z old new l × (l ≢ k)
+
+-- from one front to a later one, entries of domain d write no block that was there at the first, but that of a cache
+abbrev pub OwnSpare : Sizes → Label → ℕ → List Entry → List Entry → Type 0
+OwnSpare z c d old new = (front : List Entry) (e : Entry) → IsPrefix old front → IsPrefix (front ++ e ∷ []) new → is_entry_of d e ≡ true
+    → (l : Label) (n : Node) → node_at (graph_of z old) l ≡ Some n → l ≢ c → node_at (graph_of z (front ++ e ∷ [])) l ≡ node_at (graph_of z front) l

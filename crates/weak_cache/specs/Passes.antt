@@ -18,7 +18,7 @@ use Rattle.weak_maps.specs.Beside.{held_by}
 use Rattle.weak_maps.specs.Commands.{IsBlock}
 use Rattle.weak_maps.specs.Puts.{OwnBlock}
 use Rattle.weak_cache.specs.Uses.{SlotLeft, is_of}
-use Rattle.weak_cache.specs.Caches.{Gone, OthersSpare, slot_of}
+use Rattle.weak_cache.specs.Caches.{Gone, OthersSpare, OwnSpare, slot_of}
 
 -- a block stood in a cache as a leaf, at this front or an earlier one
 pub record StoodIn (z : Sizes) (c : Label) (h : List Entry) (l : Label) : Type 0 where
@@ -46,6 +46,7 @@ pub record Keeping (z : Sizes) (d : ℕ) (first now : List Entry) (c k : Label) 
   pub core : Core z first now c k fs gs
   pub key : held_by z d now 12 ≡ Block k
   pub cache : held_by z d now 13 ≡ Block c
+  pub spared : OwnSpare z c d first now
 
 -- registers below 8 are as they were
 abbrev pub KeepsLow : Sizes → ℕ → List Entry → List Entry → Type 0

@@ -259,8 +259,8 @@ fn make_leaf<M: Machine, R: Wait>(m: &mut M, rt: &R, key: u8, item: u8) -> bool
 /// Reads the value that the cache in a register has of the key in another, into a third, and makes that key the last used.
 /// Answers `type` exactly where the second holds no label, and then changes nothing. Else it answers what the cache had of the
 /// key when the call began, which the third register holds afterwards: a value, or `none` and nothing. A slot loses what it has
-/// only where its key is outside reach, and isn't this one. No other domain uses the cache meanwhile. Registers are below 8.
-/// Registers 9 to 13 hold nothing afterwards, but for `type`.
+/// only where its key is outside reach, and isn't this one, and no other block is written that was there. No other domain uses
+/// the cache meanwhile. Registers are below 8. Registers 9 to 13 hold nothing afterwards, but for `type`.
 pub fn cache_get<M: Machine, R: Wait>(
     m: &mut M,
     rt: &R,
@@ -302,8 +302,8 @@ pub fn cache_get<M: Machine, R: Wait>(
 /// the others go one slot back, but for those behind a slot that the key had, which goes. Else the last goes. Answers `type`
 /// exactly where the key's register holds no label or the value's nothing, and then changes nothing; `full` where the
 /// allocation was refused, and then the cache has what it had; else that it is done. A slot loses what it has only where its
-/// key is outside reach, and isn't this one. No other domain uses the cache meanwhile. Registers are below 8. Registers 9 to 13
-/// hold nothing afterwards, but for `type`.
+/// key is outside reach, and isn't this one, and no other block is written that was there. No other domain uses the cache
+/// meanwhile. Registers are below 8. Registers 9 to 13 hold nothing afterwards, but for `type`.
 pub fn cache_put<M: Machine, R: Wait>(
     m: &mut M,
     rt: &R,
