@@ -56,7 +56,7 @@ use Rattle.domain_turns.specs.declared.turned.Turned.TheVariants.{Did, Waiting, 
 use Rattle.domain_turns.specs.declared.turned.Turned.TheVariants.{Ended as Over}
 use Rattle.heap_rule.specs.declared.view.Hunt.TheVariants.{Rests as AtRest}
 use Rattle.heap_rule.specs.Limits.{sizes_in}
-use Rattle.heap_rule.specs.Meeting.{Trails, seeing}
+use Rattle.heap_rule.specs.Meeting.{seeing}
 use Rattle.heap_rule.specs.Standing.{noted, Acts, with_front}
 use Rattle.heap_rule.specs.Token.{Token, SharedHeap, IsIn}
 use Rattle.domain_turns.specs.Pausing.{HasNothingPending, HasLeft, KnowsProgress, LeavesEven, LeavesOdd, GivesBack, AnswersLive, IsCollected, blocks_left, due_of}
@@ -630,15 +630,6 @@ PassesOn h decider old new _ = ⊥
 -- the run of a domain that has seen this history
 abbrev pub run_seeing : RunView → List Entry → RunView
 run_seeing r history = record r { token = seeing r.token history }
-
--- The domains of two runs have met. Both see one history. Behind the front of each it has no entry of that domain, none of the collector while that domain runs, and behind domain 0's none by which a collection begins, goes on or ends
-pub record RunsMet (k : Config) (a b new_a new_b : RunView) : Type 0 where
-  pub history : List Entry
-  pub legal : Legal (sizes_in k) history
-  pub first : Trails history a.token.view
-  pub second : Trails history b.token.view
-  pub first_is : new_a ≡ run_seeing a history
-  pub second_is : new_b ≡ run_seeing b history
 
 -- the front has grown by entries of others, and then by this one of the domain, to which the answer is that of the state before it
 pub record Appended (z : Sizes) (d : ℕ) (old new : List Entry) (e : Entry) (answer : Applied) : Type 0 where

@@ -1,11 +1,9 @@
-//! Runs that meet: two of them, or all runs of a heap at once.
+//! All runs of a heap, which meet at once.
 ghost use Rattle.std.specs.Prelude.{◌≡◌, ◌≢◌, ◌+◌, ◌-◌, ◌<◌, ◌≤◌, ◌^◌, [], true, false, length, slice_get, slice_set, vec_capacity, None, Some};
 ghost use Rattle.heap_rule.specs.Ending.{AllIn};
-ghost use Rattle.heap_rule.specs.Meeting.{InOnePause};
-ghost use Rattle.heap_rule.specs.Phases.{Agree};
 ghost use Rattle.heap_rule.specs.Token.{IsIn};
 ghost use Rattle.domain_turns.specs.Meeting.{AllButOne, AllRunsMet, AreHere, ArrivedLeast, Brought, MayLook, PassesAmong};
-ghost use Rattle.domain_turns.specs.Runs.{GoesOn, RunsMet};
+ghost use Rattle.domain_turns.specs.Runs.{GoesOn};
 
 use crate::passing::{left_after, pass};
 use crate::run::DomainRun;
@@ -84,27 +82,6 @@ fn bring(
 }
 
 impl DomainRun {
-    /// Brings the domains of two runs together for a moment. Both then see one history, in which neither
-    /// has an entry that it hadn't seen, and are else as they were. Behind what a running domain had seen
-    /// there is no entry of the collector, and behind what domain 0 had seen none by which a collection
-    /// begins, goes on or ends. While one domain is in a phase of a pause the other doesn't run. Both have
-    /// arrived as often as the number of one phase or once more, and know the same kinds of phases.
-    pub fn meet(self, heap: &Heap, other: DomainRun) -> (DomainRun, DomainRun)
-        requires here { IsIn self.token heap.now × IsIn other.token heap.now }
-        ensures here { IsIn result.0.token heap.now × IsIn result.1.token heap.now }
-        ensures agree { Agree self.token.view.seen.stage other.token.view.seen.stage }
-        ensures one_pause { InOnePause self.token.view other.token.view }
-        ensures met { RunsMet heap.now.config self other result.0 result.1 }
-    {
-        let (domain, other_domain) = heap.meet(self.domain, other.domain);
-        let first = DomainRun { domain, ..self };
-        let second = DomainRun {
-            domain: other_domain,
-            ..other
-        };
-        (first, second)
-    }
-
     /// Brings the domains of all these runs together for a moment, in room that is empty and has a place
     /// for each. All then see one history, in which none has an entry that it hadn't seen, and stand in one
     /// pause; they are else as they were. A place with no run is passed over.
