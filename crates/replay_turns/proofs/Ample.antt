@@ -1,5 +1,5 @@
 -- The blocks that the runs of a replay make are few: no allocation is refused.
-use Rattle.std.proofs.Common.{◌≡◌, ◌≢◌, ◌∙◌, ◌+◌, ◌*◌, ◌<◌, ◌≤◌, ℕ, zero, suc, Bool, true, false, List, [], ◌∷◌, ◌++◌, append_assoc, append-nil, cond, count_by, sum_by, drop, take, length, map, get_or, set, Option, Some, arith, eq-eqb, ne_eqb, refl, sym, ap, subst, ⊎_elim}
+use Rattle.std.proofs.Common.{◌≡◌, ◌≢◌, ◌∙◌, ◌+◌, ◌*◌, ◌<◌, ◌≤◌, ℕ, Bool, true, false, List, [], ◌∷◌, ◌++◌, append_assoc, append-nil, cond, count_by, drop, take, length, map, get_or, set, Option, Some, arith, eq-eqb, ne_eqb, refl, sym, ap, subst, ⊎_elim}
 use Rattle.std.proofs.lemmas.Bool.{cases_eq, cases_lt}
 use Rattle.std.proofs.lemmas.List.{get_or-set_other, get_or-set_same, get_or_past, length-map, take-append-drop}
 use Rattle.std.proofs.lemmas.List.Sums.{sum_by-cons, sum_by-set}
@@ -7,7 +7,7 @@ use Rattle.heap_model.specs.declared.command.Command.{Command}
 use Rattle.heap_model.specs.declared.entry.Entry.{Entry}
 use Rattle.heap_model.specs.declared.entry.Entry.TheVariants.{Command as CommandOf, End, Cut, Queue, Seal, Wipe, Last, Collected, Done, Ran}
 use Rattle.heap_model.specs.Commands.{is_allocation}
-use Rattle.heap_model.specs.Domains.{IsWithinLimits, class_count, opening, reserve}
+use Rattle.heap_model.specs.Domains.{class_count, opening, reserve}
 use Rattle.heap_model.specs.Fronts.{IsFrontOf}
 use Rattle.heap_model.specs.History.{Legal, commands, state_after}
 use Rattle.heap_model.proofs.Histories.HistoryLemmas.{commands-append, commands-others}
@@ -23,9 +23,9 @@ use Rattle.domain_turns.specs.declared.supply.Supply.{Supply}
 use Rattle.domain_turns.specs.declared.supply.Supply.TheVariants.{Listed}
 use Rattle.domain_turns.specs.Runs.{RunView, AsksFull, EndsIn, IsRun}
 use Rattle.domain_turns.specs.Tries.{HasMany}
-use Rattle.pause_laws.specs.Blocks.{made_by, makes_of, one_if}
+use Rattle.pause_laws.specs.Blocks.{made_by, one_if}
 use Rattle.pause_laws.proofs.Blocks.{blocks_few}
-use Rattle.schedule_laws.specs.Pools.{allocations, pools_of}
+use Rattle.schedule_laws.specs.Pools.{allocations}
 use Rattle.replay_turns.specs.Asking.{AskFew, HasAmple, commands_at}
 use Rattle.replay_turns.specs.Gathered.{HasRun}
 use Rattle.replay_turns.specs.Leveled.{AllHere}

@@ -2,7 +2,7 @@
 use Rattle.std.proofs.Common.{true≢false, ◌≡◌, ◌≢◌, ◌∙◌, ◌+◌, ◌<◌, ◌≤◌, ℕ, Bool, true, false, List, [], ◌∷◌, ◌++◌, Option, Some, None, length, length-append, slice_get, drop, arith, refl, sym, ap, subst, ⊎_elim, ltb-true, lt-ltb}
 use Rattle.std.proofs.lemmas.Bool.Decides.{nat_tests}
 use Rattle.heap_model.specs.declared.command.Command as model
-use Rattle.heap_model.specs.declared.command.Command.TheVariants.{PutInt, Copy, Forget, Alloc, AllocMaj, Load, Store, Ephe, SetKey, UnsetKey, GetKey, CheckKey, SetData, UnsetData, GetData, CheckData, Finalise, FinaliseLast, Poll, Minor, Major, FullMajor, Raw, Cas, Spawn, PutResult}
+use Rattle.heap_model.specs.declared.command.Command.TheVariants.{Alloc, Store, SetKey, SetData, Minor, Major, FullMajor, Raw, Cas, Spawn, PutResult}
 use Rattle.heap_model.specs.declared.entry.Entry.{Entry}
 use Rattle.heap_model.specs.Domains.{IsWithinLimits}
 use Rattle.heap_rule.specs.declared.config.Config.{Config}
@@ -23,10 +23,9 @@ use Rattle.domain_turns.specs.declared.supply.Supply.TheVariants.{Listed, Open, 
 use Rattle.domain_turns.specs.declared.turned.Turned.{Turned}
 use Rattle.domain_turns.specs.declared.turned.Turned.TheVariants.{Did, Waiting, Hungry, Held, Idle}
 use Rattle.domain_turns.specs.declared.turned.Turned.TheVariants.{Ended as Over}
-use Rattle.domain_turns.specs.Runs.{RunView, AsksFull, CalmAnswers, CalmDid, GoesBy, IsAnswered, IsRun, PassesOn, Resumes, SeesAnswer, asking_end, run_seeing, said_with, served_since}
+use Rattle.domain_turns.specs.Runs.{RunView, AsksFull, CalmAnswers, CalmDid, GoesBy, IsAnswered, IsRun, PassesOn, Resumes, SeesAnswer, run_seeing, said_with, served_since}
 use Rattle.domain_turns.specs.Runs.CalmDid.{Finalises, Wishes, Refuses, Tries, Works, Ends, Sees, Makes, Tells, WishesToTell}
-use Rattle.domain_turns.specs.Sections.{AllFitIn}
-use Rattle.domain_turns.specs.Tries.{FitsHeap, NeedsPause}
+use Rattle.domain_turns.specs.Tries.{NeedsPause}
 use Rattle.domain_turns.proofs.LeavingLemmas.{passes_leaves}
 use Rattle.schedule_drive.specs.declared.together.Stepped.TheVariants.{Needs}
 use Rattle.schedule_drive.specs.Together.{IsRested, halted}

@@ -1,5 +1,5 @@
 -- The runs of a heap as they are gathered, and as they are taken apart.
-use Rattle.std.proofs.Common.{◌≡◌, ◌∙◌, ◌<◌, ◌≤◌, ⊎_elim, ℕ, zero, suc, true, false, true≢false, List, [], ◌∷◌, Option, Some, None, length, map, not, arith, eq-eqb, refl, sym, ap, subst}
+use Rattle.std.proofs.Common.{◌≡◌, ◌∙◌, ◌<◌, ◌≤◌, ⊎_elim, ℕ, zero, suc, true, false, true≢false, List, [], ◌∷◌, Option, Some, None, length, map, arith, eq-eqb, refl, sym, ap, subst}
 use Rattle.std.specs.Prelude.{slice_get}
 use Rattle.std.specs.List.{AllByRecursion, list_all}
 use Rattle.std.proofs.lemmas.Bool.{cases_lt}
@@ -33,7 +33,6 @@ use Rattle.replay_turns.proofs.Places.{get_map}
 use Rattle.replay_turns.proofs.Sharing.{legal_part}
 use Rattle.replay_turns.proofs.Served.{none_serves}
 use Rattle.replay_turns.proofs.Serving.{running_tied}
-use Rattle.replay_turns.proofs.SlotLemmas.{inside, one_there}
 
 -- what is so of each is so of the one at a place
 all_at : {A : Type 0} (P : A → Type 0) (xs : List A) (d : ℕ) (x : A) → AllByRecursion P xs → slice_get xs d ≡ Some x → P x

@@ -1,5 +1,5 @@
 -- The runs of a heap, as a replay sees them, from their start to their end.
-use Rattle.std.proofs.Common.{◌≡◌, ◌<◌, ◌≤◌, ◌+◌, ◌*◌, ◌^◌, ℕ, zero, suc, true, false, arith, fold, max, List, [], ◌∷◌, map, length, get_or, slice_get, drop, option_map, Some, None, refl, sym, ap, ◌∙◌, subst, Option}
+use Rattle.std.proofs.Common.{◌≡◌, ◌<◌, ◌≤◌, ◌+◌, ◌*◌, ℕ, zero, suc, true, false, arith, fold, max, List, [], ◌∷◌, map, length, get_or, slice_get, drop, option_map, Some, None, refl, sym, ap, ◌∙◌, subst, Option}
 use Rattle.std.proofs.Math.Nat.{max-le}
 use Rattle.std.proofs.lemmas.List.{length-drop, length-map}
 use Rattle.std.proofs.lemmas.Nat.{mul-le}

@@ -15,9 +15,9 @@ use Rattle.heap_rule.specs.Phases.{IsEven}
 use Rattle.heap_rule.specs.Token.{SharedHeap, IsIn}
 use Rattle.domain_turns.specs.declared.supply.Supply.{Supply}
 use Rattle.domain_turns.specs.declared.supply.Supply.TheVariants.{Listed}
-use Rattle.domain_turns.specs.Runs.{RunView, IsRun, StandsAt, most_ran, registrations_in, run_seeing}
+use Rattle.domain_turns.specs.Runs.{RunView, IsRun, StandsAt, most_ran, registrations_in}
 use Rattle.domain_turns.specs.Tries.{registrations_of}
-use Rattle.schedule_drive.specs.Together.{AllRuns, OneRun, Lead, Rests, Leads, Has, AllHave, LeadStep, Passed, SharesOn, SomeGone, Stands, Turned, Unqueued, all_halted, halted}
+use Rattle.schedule_drive.specs.Together.{OneRun, Lead, Rests, Leads, Has, AllHave, LeadStep, Passed, SharesOn, SomeGone, Stands, Turned, Unqueued, all_halted, halted}
 use Rattle.replay_turns.specs.Walk.{IsWalk}
 use Rattle.pause_phases.specs.declared.decider.Decider.TheVariants.{Caller}
 use Rattle.replay_turns.specs.Asking.{AskFew, AsksOnce, HasAmple, commands_at}

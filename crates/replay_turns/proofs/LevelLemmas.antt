@@ -1,15 +1,22 @@
 -- How the runs of a heap come to see one history, and come to rest.
-use Rattle.std.proofs.Common.{◌≡◌, ◌≢◌, ◌∙◌, ◌<◌, ◌≤◌, ◌+◌, ⊎_elim, ℕ, zero, suc, List, [], ◌∷◌, map, Option, Some, None, length, length-set, arith, refl, sym, ap, subst}
+use Rattle.std.proofs.Common.{◌≡◌, ◌≢◌, ◌∙◌, ◌<◌, ◌≤◌, ◌+◌, ⊎_elim, false, ℕ, zero, suc, List, [], ◌∷◌, map, Option, Some, None, length, length-set, arith, refl, sym, ap, subst}
 use Rattle.std.specs.Prelude.{slice_get, slice_set}
 use Rattle.std.proofs.lemmas.Bool.{cases_lt}
 use Rattle.std.proofs.lemmas.List.{length-map}
+use Rattle.std.proofs.Math.Seq.{drop-length}
 use mathlib.Core.Logic.{dite}
 use native.Mathlib.Decide.{ℕ_discrete}
 use Rattle.heap_model.specs.declared.entry.Entry.{Entry}
+use Rattle.heap_model.specs.Fronts.{AreCalls, AreNotControls}
+use Rattle.heap_model.proofs.Histories.FrontLemmas.{front_whole}
+use Rattle.heap_rule.specs.declared.phase.Kind.{Kind}
+use Rattle.heap_rule.specs.declared.phase.Kind.TheVariants.{Run}
+use Rattle.heap_rule.specs.declared.phase.Stage.{Stage}
 use Rattle.heap_rule.specs.Meeting.{TakesPart, Trails}
+use Rattle.heap_rule.specs.Phases.{AtStage, IsEven, Pause}
 use Rattle.heap_rule.specs.Token.{SharedHeap, IsIn}
 use Rattle.domain_turns.specs.Meeting.{AllButOne, AllRunsMet, AreHere, slot_seeing}
-use Rattle.domain_turns.specs.Runs.{RunView, IsRun, run_seeing}
+use Rattle.domain_turns.specs.Runs.{RunView, IsRun, StandsAt, run_seeing}
 use Rattle.domain_turns.proofs.MeetingLemmas.{seeing_is_run}
 use Rattle.replay_turns.specs.Gathered.{HasRun}
 use Rattle.replay_turns.specs.Leveled.{AllHere, Leveled, SawAll}
@@ -186,3 +193,36 @@ halt_next h old mid new at u m =
           (λ no. u.halted d s (let c = below in let n = no in omega arith) (sym (else_ d no) ∙ is));
       others = λ d past. else_ d (λ e. past (omega (arith, e))) ∙ u.others d (λ less. past (omega (arith, less)));
     }
+
+-- one that is alone and runs has seen all that there is, and stands in a pause of its own
+module _ (h : SharedHeap) (runs : List (Option RunView)) (all : AllHere h runs) (one : length runs ≡ 1) (r : RunView) (there : HasRun runs 0 r) (running : r.left ≡ None) where
+  abbrev alone_pause : Pause
+  alone_pause = record { arrived = λ _. r.token.view.own.arrivals; phase = r.token.view.own.arrivals; kinds = λ _. Run; led = false }
+
+  alone_stage : AtStage alone_pause r.token.view.own.number r.token.view.own.arrivals r.token.view.seen.stage
+  alone_stage =
+      let is : IsRun r = all.are 0 r there in
+      let even : IsEven r.token.view.own.arrivals = is.between.even running in
+      let stands : StandsAt None r.token.view.seen.stage = subst (λ (k : Option Kind). StandsAt k r.token.view.seen.stage) running is.between.stands in
+      subst (λ (s : Stage). AtStage alone_pause r.token.view.own.number r.token.view.own.arrivals s) (sym stands) (refl, (even.0, even.1, refl))
+
+  alone_part : TakesPart r.token.view.seen.front alone_pause r.token.view
+  alone_part = record {
+    trails = record {
+      begins = front_whole r.token.view.own.number r.token.view.seen.front;
+      calls = λ _. subst AreCalls (sym (drop-length r.token.view.seen.front)) refl;
+      led = λ _. subst AreNotControls (sym (drop-length r.token.view.seen.front)) refl;
+    };
+    staged = record { arrivals = refl; stage = alone_stage };
+    near = (omega arith, omega arith);
+  }
+
+  alone_more : (d : ℕ) (q : RunView) → HasRun runs d q → (p : RunView) × HasRun runs d p × SawAll r.token.view.seen.front alone_pause p q
+  alone_more d q at =
+      let within : d < length runs = inside runs d (Some q) at in
+      let first : d ≡ 0 = omega (arith, within, one) in
+      let same : r ≡ q = one_there runs 0 r q there (subst (λ (n : ℕ). HasRun runs n q) first at) in
+      (q, at, subst (λ (s : RunView). SawAll r.token.view.seen.front alone_pause s s) same (record { part = alone_part; is = refl }))
+
+  pub alone_leveled : Leveled runs runs
+  alone_leveled = record { history = r.token.view.seen.front; pause = alone_pause; count = refl; more = alone_more; stay = all.filled; are = all.are }

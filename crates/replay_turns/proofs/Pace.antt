@@ -2,26 +2,23 @@
 use Rattle.std.proofs.Common.{◌≡◌, ◌≢◌, ◌∙◌, ◌⊎◌, ◌<◌, ◌≤◌, ◌+◌, ◌-◌, ◌*◌, ◌^◌, ⊎_elim, ℕ, zero, suc, Bool, true, false, if◌then◌else◌, List, [], ◌∷◌, Option, Some, None, length, arith, refl, sym, ap, subst}
 use Rattle.std.specs.Prelude.{slice_get, sum_by}
 use Rattle.std.proofs.lemmas.List.Sums.{sum_by-cons}
-use mathlib.Core.Logic.{dite}
-use native.Mathlib.Decide.{ℕ_discrete}
 use Rattle.heap_rule.specs.declared.config.Config.{Config}
 use Rattle.heap_rule.specs.declared.phase.Kind.{Kind}
 use Rattle.heap_rule.specs.declared.phase.Kind.TheVariants.{Run, Promote, Reset, Roots, Mark, Rounds, Decide, Queued, Clean, Lasts, Sweep, Answer}
 use Rattle.heap_rule.specs.declared.phase.Progress.{Progress}
-use Rattle.heap_rule.specs.declared.phase.Stage.{Stage}
 use Rattle.heap_rule.specs.declared.phase.Stage.TheVariants.{In, Leads as Leading}
 use Rattle.heap_rule.specs.declared.view.DomainView.{DomainView}
 use Rattle.heap_rule.specs.Phases.{Comes, IsEven, IsOdd}
 use Rattle.heap_rule.specs.Rule.{state_of}
 use Rattle.heap_rule.specs.Token.{SharedHeap}
-use Rattle.steps_pauses.specs.Pauses.{IsModeOf, arrived_view, kind_in, progress_after}
+use Rattle.steps_pauses.specs.Pauses.{IsModeOf, arrived_view, progress_after}
 use Rattle.pause_phases.specs.declared.decider.Decider.TheVariants.{Caller}
 use Rattle.pause_phases.specs.Leading.{LeadsOn}
-use Rattle.pause_phases.specs.Measure.{IsNearer, any_left, any_named}
+use Rattle.pause_phases.specs.Measure.{any_left, any_named}
 use Rattle.pause_phases.proofs.Measure.{leads_nearer}
 use Rattle.domain_turns.specs.Pausing.{ComesToAnswer, LeavesEven, LeavesOdd}
 use Rattle.domain_turns.specs.declared.turned.Turned.TheVariants.{Did}
-use Rattle.domain_turns.specs.Runs.{GoesBy, IsRun, PassesOn, Resumes, RunView, SeesAnswer, StandsAt, run_seeing}
+use Rattle.domain_turns.specs.Runs.{GoesBy, IsRun, PassesOn, Resumes, RunView, SeesAnswer, run_seeing}
 use Rattle.domain_turns.specs.Runs.{IsAnswered as RunIsAnswered}
 use Rattle.domain_turns.proofs.LeavingLemmas.{passes_leaves}
 use Rattle.domain_turns.proofs.PauseLemmas.{even_next, odd_next}
@@ -29,7 +26,7 @@ use Rattle.replay_turns.specs.Gathered.{HasRun, is_even}
 use Rattle.replay_turns.specs.Leveled.{Leveled}
 use Rattle.replay_turns.specs.Moves.{IsSooner, PassesAt, forgetting, halted_run}
 use Rattle.replay_turns.specs.Pace.{last_arrival, last_by, last_of, steps_at, steps_of}
-use Rattle.replay_turns.proofs.InStep.{Went, becomes_stood, runs_here, went}
+use Rattle.replay_turns.proofs.InStep.{becomes_stood, runs_here, went}
 use Rattle.replay_turns.proofs.PassLemmas.{even_is, odd_is, stands_gone}
 use Rattle.replay_turns.proofs.SlotLemmas.{inside, one_there}
 

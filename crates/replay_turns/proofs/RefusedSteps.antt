@@ -1,5 +1,5 @@
 -- What the clauses of a step in a replay refuse.
-use Rattle.std.proofs.Common.{◌≡◌, ◌≢◌, ◌∙◌, ℕ, List, Option, Some, ap, sym}
+use Rattle.std.proofs.Common.{◌≢◌, ◌∙◌, ℕ, List, Option, Some, ap}
 use Rattle.std.specs.Prelude.{slice_get}
 use Rattle.heap_model.specs.declared.entry.Entry.{Entry}
 use Rattle.heap_rule.specs.Meeting.{Trails}

@@ -1,5 +1,5 @@
 -- A `full_major` that has asked for a pause is answered in it, where a complete collection is made.
-use Rattle.std.proofs.Common.{true≢false, ◌≡◌, ◌≢◌, ◌∙◌, ◌⊎◌, inl, inr, ◌+◌, ◌*◌, ◌<◌, ◌≤◌, ⊎_elim, ℕ, zero, suc, Bool, true, false, List, [], ◌∷◌, Option, Some, None, length, map, slice_get, arith, refl, sym, ap, subst}
+use Rattle.std.proofs.Common.{true≢false, ◌≡◌, ◌≢◌, ◌∙◌, inl, inr, ◌+◌, ◌*◌, ◌<◌, ⊎_elim, ℕ, Bool, true, false, List, [], Option, Some, None, length, map, slice_get, arith, refl, sym, ap, subst}
 use Rattle.std.proofs.lemmas.List.{length-map}
 use Rattle.heap_model.specs.declared.command.Command as model
 use Rattle.heap_model.specs.declared.command.Command.TheVariants.{FullMajor}

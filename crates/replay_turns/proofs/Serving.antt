@@ -1,12 +1,11 @@
 -- The runs in a pause: which kinds of phases they know, and that each `full_major` that waits is answered.
-use Rattle.std.proofs.Common.{true≢false, ◌≡◌, ◌≢◌, ◌∙◌, ◌⊎◌, inl, inr, ◌+◌, ◌*◌, ◌<◌, ◌≤◌, ⊎_elim, ℕ, Bool, true, false, List, Option, Some, None, arith, refl, sym, ap, subst}
+use Rattle.std.proofs.Common.{true≢false, ◌≡◌, ◌≢◌, ◌∙◌, inl, inr, ◌+◌, ◌*◌, ⊎_elim, ℕ, Bool, true, false, List, Option, Some, None, arith, refl, sym, ap, subst}
 use mathlib.Core.Logic.{dite}
 use native.Mathlib.Decide.{ℕ_discrete}
 use Rattle.heap_model.specs.declared.entry.Entry.{Entry}
 use Rattle.heap_rule.specs.declared.phase.Kind.{Kind}
 use Rattle.heap_rule.specs.declared.phase.Kind.TheVariants.{Run, Promote, Reset, Roots, Mark, Rounds, Decide, Queued, Clean, Lasts, Sweep, Answer}
 use Rattle.heap_rule.specs.declared.phase.Progress.{Progress}
-use Rattle.heap_rule.specs.declared.phase.Stage.{Stage}
 use Rattle.heap_rule.specs.declared.phase.Stage.TheVariants.{In, Gone}
 use Rattle.heap_rule.specs.declared.view.DomainView.{DomainView}
 use Rattle.heap_rule.specs.Phases.{AtStage, IsEven, IsOdd, LeftOdd, Pause, Staged}

@@ -11,8 +11,6 @@ use Rattle.heap_model.specs.Domains.{domain_at, opening}
 use Rattle.heap_model.specs.Fronts.{AreNotControls, IsFrontOf, NoneOf, is_control, unseen}
 use Rattle.heap_model.specs.History.{IsPrefix, Legal, is_entry_of, replies, state_after}
 use Rattle.heap_rule.specs.declared.config.Config.{Config}
-use Rattle.heap_rule.specs.declared.phase.Kind.TheVariants.{Run}
-use Rattle.heap_rule.specs.declared.phase.Stage.TheVariants.{In}
 use Rattle.heap_rule.specs.Limits.{sizes_in}
 use Rattle.heap_rule.specs.Meeting.{Trails}
 use Rattle.heap_rule.specs.Standing.{with_front}

@@ -27,15 +27,19 @@ pub(crate) fn put_run(runs: &mut [Option<DomainRun>], at: usize, run: DomainRun)
     runs[at] = Some(run);
 }
 
-// Brings all domains together, in room for them: each sees one history then.
+// Brings all domains together, in room for them: each sees one history then. One that is alone has seen all of it, and runs.
 pub(crate) fn meet(heap: &Heap, runs: &mut [Option<DomainRun>], room: &mut Vec<Domain>)
     requires some { 0 < length runs.old }
+    requires running { length runs.old ≡ 1 → (r : RunView) → HasRun runs.old 0 r → r.left ≡ None }
     requires here { AllHere heap.now runs.old }
     requires empty { room.old.items ≡ [] }
     requires fits { length runs.old < vec_capacity room.old }
     ensures leveled { Leveled runs.old runs.new }
     ensures room { (room.new.items ≡ []) × (vec_capacity room.new ≡ vec_capacity room.old) }
 {
+    if runs.len() == 1 {
+        return;
+    }
     let first = take_run(runs, 0);
     let first = first.meet_all(heap, runs, room);
     put_run(runs, 0, first);

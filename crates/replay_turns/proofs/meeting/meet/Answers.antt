@@ -1,9 +1,8 @@
-use Rattle.std.proofs.Common.{◌≡◌, ◌∙◌, ◌<◌, List, None, Option, Some, ap, length, length-set, subst, sym}
-use Rattle.std.specs.Prelude.{slice_set, vec_capacity}
+use Rattle.std.proofs.Common.{◌∙◌, ◌<◌, None, ap, length, length-set, subst, sym}
+use Rattle.std.specs.Prelude.{vec_capacity}
 use Rattle.domain_turns.specs.Meeting.{AllRunsMet, AreHere}
-use Rattle.domain_turns.specs.Runs.{RunView}
 use Rattle.replay_turns.specs.Leveled.{Leveled}
-use Rattle.replay_turns.proofs.LevelLemmas.{leveled_all, others_here}
+use Rattle.replay_turns.proofs.LevelLemmas.{alone_leveled, leveled_all, others_here}
 use Rattle.replay_turns.proofs.meeting.meet.Goals as goal
 
 pub take_run-first-requires : goal.take_run-first-requires
@@ -22,3 +21,8 @@ pub returns-clause-leveled : goal.returns-clause-leveled
 returns-clause-leveled c =
     let m = subst (λ rs. AllRunsMet c.args.heap.now c.take_run-first.result c.meet_all-first.result rs c.meet_all-first.new.others) c.take_run-first.ensures.rest c.meet_all-first.ensures.met in
     subst (Leveled c.args.runs.now) (sym c.put_run.ensures) (leveled_all c.args.heap.now c.args.runs.now c.meet_all-first.new.others 0 c.take_run-first.result c.meet_all-first.result c.requires.here c.take_run-first.ensures.taken m)
+
+pub returns-then-runs-eq1-clause-leveled : goal.returns-then-runs-eq1-clause-leveled
+returns-then-runs-eq1-clause-leveled c =
+    let f = c.requires.here.filled 0 c.requires.some in
+    alone_leveled c.args.heap.now c.args.runs.now c.requires.here c.if-runs-eq1.true f.0 f.1 (c.requires.running c.if-runs-eq1.true f.0 f.1)

@@ -1,4 +1,4 @@
-use Rattle.std.proofs.Common.{◌≡◌, ◌≢◌, ◌<◌, ℕ, ⊎_elim, arith, rules, sym, subst}
+use Rattle.std.proofs.Common.{◌≡◌, ◌≢◌, ⊎_elim, arith, rules, sym, subst}
 use Rattle.std.proofs.lemmas.Bool.{cases_eq}
 use Rattle.replay_turns.specs.Gathered.{GoneAt}
 use Rattle.replay_turns.specs.Moves.{IsSooner}

@@ -1,14 +1,11 @@
-use Rattle.std.proofs.Common.{◌≡◌, ◌∙◌, ◌<◌, ℕ, List, None, Option, Some, ap, length, length-set, refl, subst, sym}
-use Rattle.std.specs.Prelude.{slice_get, slice_set, vec_capacity}
-use Rattle.heap_rule.specs.Token.{IsIn}
-use Rattle.domain_turns.specs.Meeting.{AllButOne, AllRunsMet, AreHere, PassesAmong}
+use Rattle.std.proofs.Common.{◌∙◌, ◌<◌, ℕ, None, Some, ap, length, length-set, subst, sym}
+use Rattle.std.specs.Prelude.{slice_set, vec_capacity}
+use Rattle.domain_turns.specs.Meeting.{AllButOne, AreHere, PassesAmong}
 use Rattle.domain_turns.specs.Runs.{IsRun, RunView}
 use Rattle.pause_phases.specs.declared.decider.Decider.TheVariants.{Caller}
 use Rattle.replay_turns.specs.Gathered.{HasRun}
-use Rattle.replay_turns.specs.Moves.{MetThen, PassesAt}
 use Rattle.replay_turns.proofs.LevelLemmas.{all_but_one, leveled_all, level_mid, level_new, others_here, others_later, twice_set}
-use Rattle.replay_turns.proofs.Places.{set_else, set_here}
-use Rattle.replay_turns.proofs.SlotLemmas.{inside}
+use Rattle.replay_turns.proofs.Places.{set_here}
 use Rattle.replay_turns.proofs.passing.pass_at.Goals as goal
 
 pub take_run-run-requires : goal.take_run-run-requires

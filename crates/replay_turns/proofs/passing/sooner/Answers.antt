@@ -1,5 +1,3 @@
-use Rattle.std.proofs.Common.{◌≡◌, ◌≤◌, ◌<◌, arith, Some, subst}
-use Rattle.domain_turns.specs.Runs.{RunView}
 use Rattle.replay_turns.proofs.SlotLemmas.{slot_at}
 use Rattle.replay_turns.proofs.passing.sooner.Goals as goal
 

@@ -1,5 +1,5 @@
-use Rattle.std.proofs.Common.{◌≡◌, ◌≢◌, ◌∙◌, ◌+◌, ◌<◌, false, List, Option, ap, arith, length, length-set, refl, subst, sym, Some, None, ℕ}
-use Rattle.std.specs.Prelude.{slice_get, slice_set, vec_capacity}
+use Rattle.std.proofs.Common.{◌≡◌, ◌∙◌, ◌+◌, ◌<◌, false, List, Option, ap, arith, length, length-set, refl, subst, sym, Some, ℕ}
+use Rattle.std.specs.Prelude.{slice_set, vec_capacity}
 use Rattle.domain_turns.specs.declared.supply.Supply.TheVariants.{Listed, Section}
 use Rattle.heap_rule.specs.declared.view.TheConstants.{REMEMBERED_ROOM}
 use Rattle.heap_rule.specs.Token.{SharedHeap, Token, IsIn}
@@ -13,7 +13,7 @@ use Rattle.replay_turns.proofs.Asking.{asks_no_more, once_paused}
 use Rattle.replay_turns.proofs.CalmLemmas.{calm_keeps}
 use Rattle.replay_turns.proofs.LevelLemmas.{level_shared, set_all_here}
 use Rattle.replay_turns.proofs.Places.{set_else, set_here}
-use Rattle.replay_turns.proofs.SlotLemmas.{has_run, never_none}
+use Rattle.replay_turns.proofs.SlotLemmas.{has_run, never_none, one_there}
 use Rattle.replay_turns.proofs.stepping.step_alone.Goals as goal
 
 pub unreachable-requires : goal.unreachable-requires
@@ -83,3 +83,13 @@ returns c = record {
   };
   room = (c.requires.empty, refl);
 }
+
+pub meet-requires-clause-running : goal.meet-requires-clause-running
+meet-requires-clause-running c = λ one r there.
+    let within = c.requires.inside in
+    let long = length-set c.args.runs.now c.args.at (Some c.came_to-stepped.new.run) in
+    let first : 0 ≡ c.args.at = omega (arith, one, long, within) in
+    let set : List (Option RunView) = slice_set c.args.runs.now c.args.at (Some c.came_to-stepped.new.run) in
+    let mine : HasRun set c.args.at c.came_to-stepped.new.run = set_here c.args.runs.now c.args.at (Some c.came_to-stepped.new.run) c.requires.inside in
+    let same : c.came_to-stepped.new.run ≡ r = one_there set c.args.at c.came_to-stepped.new.run r mine (subst (λ (n : ℕ). HasRun set n r) first there) in
+    ap (λ (x : RunView). x.left) (sym same ∙ c.came_to-stepped.ensures.same) ∙ ((calm_keeps c.args.heap.now c.in-Some.run' c.go_on.new.run c.go_on.result c.go_on.ensures.answer).left ∙ c.requires.running _ (has_run _ c.args.at _ _ c.requires.inside c.in-Some.is))

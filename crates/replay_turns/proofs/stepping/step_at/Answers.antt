@@ -1,5 +1,6 @@
-use Rattle.std.proofs.Common.{◌∙◌, ap}
+use Rattle.std.proofs.Common.{◌≡◌, ◌∙◌, ℕ, ap, arith, subst}
 use Rattle.domain_turns.specs.Runs.{RunView}
+use Rattle.replay_turns.specs.Gathered.{HasRun}
 use Rattle.replay_turns.proofs.Joining.{level_few}
 use Rattle.replay_turns.proofs.LevelLemmas.{level_here}
 use Rattle.replay_turns.proofs.stepping.step_at.Goals as goal
@@ -15,3 +16,9 @@ step_alone-requires-clause-goes_on c = λ r there. let m = c.meet.ensures.levele
 
 pub step_alone-requires-clause-few : goal.step_alone-requires-clause-few
 step_alone-requires-clause-few c = level_few c.args.heap.now c.args.runs.now c.meet.new.runs c.requires.few c.meet.ensures.leveled
+
+pub meet-requires-clause-running : goal.meet-requires-clause-running
+meet-requires-clause-running c = λ one r there.
+    let within = c.requires.inside in
+    let first : 0 ≡ c.args.at = omega (arith, one, within) in
+    c.requires.running r (subst (λ (n : ℕ). HasRun c.args.runs.now n r) first there)
