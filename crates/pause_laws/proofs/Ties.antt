@@ -7,13 +7,13 @@ use Rattle.heap_rule.specs.declared.phase.Stage.TheVariants.{In, Gone}
 use Rattle.heap_rule.specs.Phases.{AtStage, IsEven, IsOdd, LeftOdd, Pause}
 use Rattle.pause_laws.specs.Ties.{InPause, KnowsKind, NamesRun, Started, Tied}
 
-some_is : (a b : Kind) → ◌≡◌ {A = Option Kind} (Some a) (Some b) → a ≡ b
+pub some_is : (a b : Kind) → ◌≡◌ {A = Option Kind} (Some a) (Some b) → a ≡ b
 some_is a b is = cc
 
 some_none : (a : Kind) → ◌≡◌ {A = Option Kind} (Some a) None → ⊥
 some_none a is = cc
 
-none_some : (a : Kind) → ◌≡◌ {A = Option Kind} None (Some a) → ⊥
+pub none_some : (a : Kind) → ◌≡◌ {A = Option Kind} None (Some a) → ⊥
 none_some a is = cc
 
 -- a domain that has arrived

@@ -13,6 +13,7 @@ use Rattle.heap_rule.specs.Rule.{state_of}
 use Rattle.heap_rule.specs.Token.{SharedHeap}
 use Rattle.steps_pauses.specs.Pauses.{IsModeOf}
 use Rattle.pause_phases.specs.declared.decider.Decider.TheVariants.{Caller}
+use Rattle.pause_laws.proofs.Ties.{none_some, some_is}
 use Rattle.domain_turns.specs.Meeting.{StandsBehind}
 use Rattle.domain_turns.specs.Pausing.{LeavesEven, LeavesOdd}
 use Rattle.domain_turns.specs.declared.turned.Turned.TheVariants.{Did}
@@ -26,11 +27,9 @@ use Rattle.replay_turns.specs.Moves.{Becomes, IsSooner, PassesAt, forgetting, ha
 use Rattle.replay_turns.proofs.Places.{set_else, set_here}
 use Rattle.replay_turns.proofs.SlotLemmas.{inside, one_there}
 
-none_some : (k : Kind) → ◌≡◌ {A = Option Kind} None (Some k) → ⊥
-none_some k e = cc
-
-some_is : (a b : Kind) → ◌≡◌ {A = Option Kind} (Some a) (Some b) → a ≡ b
-some_is a b e = cc
+-- no number is both
+pub not_even : (n : ℕ) → IsOdd n → IsEven n → ⊥
+not_even n o e = let i : ℕ = o.0 in let j : ℕ = e.0 in let a : n ≡ i * 2 + 1 = o.1 in let b : n ≡ j * 2 = e.1 in omega (arith, a, b)
 
 run_answer : Run ≡ Answer → ⊥
 run_answer e = cc
@@ -142,9 +141,6 @@ module _ (h : SharedHeap) (complete : Bool) (t : Pause) (r s : RunView) where
       rest)
       more)
       p
-
-  not_even : (n : ℕ) → IsOdd n → IsEven n → ⊥
-  not_even n o e = let i : ℕ = o.0 in let j : ℕ = e.0 in let a : n ≡ i * 2 + 1 = o.1 in let b : n ≡ j * 2 = e.1 in omega (arith, a, b)
 
   -- it goes through no even phase in which the domains run: it hasn't just been halted behind its step
   pub not_started : PassesOn h (Caller complete) r s Did → s.left ≡ Some Run → IsOdd y.own.arrivals → ⊥

@@ -35,6 +35,7 @@ use Rattle.replay_turns.specs.Moves.{CameTo, halted_run}
 use Rattle.replay_turns.specs.Served.{IsBehindAnswer, Serves, WaitsAt}
 use Rattle.replay_turns.specs.Walk.{IsOfCollection}
 use Rattle.replay_turns.proofs.CalmLemmas.{asking_asked, calm_keeps}
+use Rattle.replay_turns.proofs.InStep.{not_even}
 use Rattle.replay_turns.proofs.SlotLemmas.{at_first, inside}
 use Rattle.replay_turns.proofs.TurnLemmas.{empty_list}
 
@@ -42,14 +43,11 @@ use Rattle.replay_turns.proofs.TurnLemmas.{empty_list}
 none_behind : (d arrivals : ℕ) → IsBehindAnswer d arrivals None → ⊥
 none_behind d arrivals = ⊎_elim (λ other. let e : ◌≡◌ {A = Option Kind} None (Some Answer) = other.1 in cc) (λ first. ⊎_elim (λ gone. let e : ◌≡◌ {A = Option Kind} None (Some Answer) = gone.0 in cc) (λ named. let e : ◌≡◌ {A = Option Kind} None (Some Run) = named.0 in cc) first.1)
 
-odd_even : (n : ℕ) → IsOdd n → IsEven n → ⊥
-odd_even n o e = let j : ℕ = o.0 in let i : ℕ = e.0 in let a : n ≡ j * 2 + 1 = o.1 in let b : n ≡ i * 2 = e.1 in omega (arith, a, b)
-
 -- nor as it has gone through another phase
 other_behind : (d arrivals : ℕ) (kind : Kind) → kind ≢ Answer → IsOdd arrivals → IsBehindAnswer d arrivals (Some kind) → ⊥
 other_behind d arrivals kind other odd = ⊎_elim
     (λ away. other (let e : ◌≡◌ {A = Option Kind} (Some kind) (Some Answer) = away.1 in cc))
-    (λ first. ⊎_elim (λ gone. other (let e : ◌≡◌ {A = Option Kind} (Some kind) (Some Answer) = gone.0 in cc)) (λ named. odd_even arrivals odd named.1) first.1)
+    (λ first. ⊎_elim (λ gone. other (let e : ◌≡◌ {A = Option Kind} (Some kind) (Some Answer) = gone.0 in cc)) (λ named. not_even arrivals odd named.1) first.1)
 
 -- a run that waits as another did
 waits_as : (r s : RunView) → s.commands ≡ r.commands → s.next ≡ r.next → s.asked ≡ r.asked → WaitsAt s → WaitsAt r
@@ -223,7 +221,7 @@ module _ (h : SharedHeap) (complete : Bool) (d : ℕ) (r s : RunView) (number : 
         let first : d ≡ 0 = sym begun_number ∙ l.0 in
         ⊎_elim (λ away. away.0 first)
         (λ zeroth. ⊎_elim
-        (λ gone. odd_even s.token.view.own.arrivals gone.1 (even_after o.0))
+        (λ gone. not_even s.token.view.own.arrivals gone.1 (even_after o.0))
         (λ named.
         let run : g.kind ≡ Run = (let e : ◌≡◌ {A = Option Kind} (Some g.kind) (Some Run) = named.0 in cc) in
         v.answered full (inr (first, inl (g.arrived ∙ ap Some (ends full first run), o.0))) w)

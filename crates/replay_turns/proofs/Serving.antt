@@ -14,7 +14,7 @@ use Rattle.steps_pauses.specs.Pauses.{entry_of}
 use Rattle.pause_phases.specs.declared.decider.Decider.TheVariants.{Caller}
 use Rattle.pause_phases.specs.Leading.{next_kind}
 use Rattle.pause_laws.specs.Ties.{InPause, Started, Tied}
-use Rattle.pause_laws.proofs.Ties.{same_even, same_run, tied_arrives, tied_ends, tied_leads, tied_odd, tied_passes, tied_runs}
+use Rattle.pause_laws.proofs.Ties.{none_some, same_even, same_run, tied_arrives, tied_ends, tied_leads, tied_odd, tied_passes, tied_runs}
 use Rattle.domain_turns.specs.declared.turned.Turned.TheVariants.{Did}
 use Rattle.domain_turns.specs.Meeting.{StandsBehind}
 use Rattle.domain_turns.specs.Pausing.{LeavesEven}
@@ -26,12 +26,9 @@ use Rattle.replay_turns.specs.Leveled.{Leveled}
 use Rattle.replay_turns.specs.Moves.{PassesAt, forgetting, halted_run}
 use Rattle.replay_turns.specs.Served.{AllTied, IsBehindAnswer, Serves}
 use Rattle.replay_turns.specs.Walk.{IsOfCollection, controls_of, lead_left, lead_named}
-use Rattle.replay_turns.proofs.InStep.{at_stage, becomes_stood, met_in_step, near, stands}
+use Rattle.replay_turns.proofs.InStep.{at_stage, becomes_stood, met_in_step, near, not_even, stands}
 use Rattle.replay_turns.proofs.Served.{goes_serves, none_serves, resumes_serves, resumes_served, sees_serves}
 use Rattle.replay_turns.proofs.Walk.{Goes, walk_goes}
-
-none_some : (k : Kind) → ◌≡◌ {A = Option Kind} None (Some k) → ⊥
-none_some k e = cc
 
 -- where all run nothing is known of a phase
 pub running_tied : (complete : Bool) (runs : List (Option RunView)) → ((d : ℕ) (r : RunView) → HasRun runs d r → r.left ≡ None) → AllTied complete runs
@@ -121,9 +118,6 @@ module _ (old mid : List (Option RunView)) (l : Leveled old mid) (are : (d : ℕ
       by : (b : Bool) → IsOfCollection kind ≡ b → IsOfCollection kind ≡ false
       by true of = absurd (true≢false (sym (known first.0.left refl of) ∙ none))
       by false of = of
-
-    not_even : (n : ℕ) → IsOdd n → IsEven n → ⊥
-    not_even n o e = let i : ℕ = o.0 in let j : ℕ = e.0 in let a : n ≡ i * 2 + 1 = o.1 in let b : n ≡ j * 2 = e.1 in omega (arith, a, b)
 
     -- domain 0 names that the domains run behind the answer alone
     ends : (g : GoesBy h (Caller complete) r s) → complete ≡ true → at ≡ 0 → g.kind ≡ Run → g.last ≡ Answer
