@@ -45,6 +45,7 @@ fn darken_expected(heap: &Heap, dom: &mut Domain, r: u8)
     }
 }
 
+#[inline(always)]
 fn cas_as(heap: &Heap, dom: &mut Domain, block: u8, index: u16, expected: u8, item: u8) -> Reply
     ghost entry: { Entry }
     requires entry { entry ≡ own_entry dom.old (Cas block index expected item) }
@@ -101,6 +102,7 @@ fn cas_as(heap: &Heap, dom: &mut Domain, block: u8, index: u16, expected: u8, it
 /// of a block in a pool that gets a block in a minor area is one more that the domain remembers.
 /// Registers are below 16, the domain's trace hasn't ended, no finaliser waits in its queue, and it has
 /// room for one more field.
+#[inline(always)]
 pub fn cas(heap: &Heap, dom: &mut Domain, block: u8, index: u16, expected: u8, item: u8) -> Reply
     requires runs { Runs heap.now dom.old }
     requires block { block < 16 }

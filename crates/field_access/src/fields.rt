@@ -147,6 +147,7 @@ pub fn must_remember(heap: &Heap, block: u32, value: Value) -> bool
     }
 }
 
+#[inline(always)]
 fn store_as(heap: &Heap, dom: &mut Domain, block: u8, index: u16, item: u8) -> Reply
     ghost entry: { Entry }
     requires entry { entry ≡ own_entry dom.old (Store block index item) }
@@ -193,6 +194,7 @@ fn store_as(heap: &Heap, dom: &mut Domain, block: u8, index: u16, item: u8) -> R
 /// refers to is marked before it is overwritten. A field of a block in a pool that gets a block in a
 /// minor area is one more that the domain remembers. Registers are below 16, the domain's trace hasn't ended, no
 /// finaliser waits in its queue, and it has room for one more field.
+#[inline(always)]
 pub fn store(heap: &Heap, dom: &mut Domain, block: u8, index: u16, item: u8) -> Reply
     requires runs { Runs heap.now dom.old }
     requires block { block < 16 }
