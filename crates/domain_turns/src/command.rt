@@ -39,6 +39,7 @@ pub(crate) enum Attempt {
     NoRoom,
 }
 
+#[inline(always)]
 fn quiet_as(heap: &Heap, dom: &mut Domain, _command: &Command) -> Reply
     ghost entry: { Entry }
     requires entry { entry ≡ own_entry dom.old _command.now }
@@ -53,6 +54,7 @@ fn quiet_as(heap: &Heap, dom: &mut Domain, _command: &Command) -> Reply
 }
 
 // Makes the entry of a command that changes nothing.
+#[inline(always)]
 fn quiet(heap: &Heap, dom: &mut Domain, command: &Command) -> Reply
     requires runs { Runs heap.now dom.old }
     requires quiet { is_quiet command.now ≡ true }
@@ -148,6 +150,7 @@ fn create_in_pools(heap: &Heap, dom: &mut Domain, dst: u8, keys: u16, collected:
 }
 
 // Allocates a young block, a plain one: the call of its own command.
+#[inline(always)]
 fn alloc_plain(heap: &Heap, dom: &mut Domain, dst: u8, tag: u8, fields: u16) -> Result<Label, Need>
     requires runs { Runs heap.now dom.old }
     requires dst { dst < 16 }
@@ -182,6 +185,7 @@ fn alloc_raw(heap: &Heap, dom: &mut Domain, dst: u8, tag: u8, fields: u16) -> Re
 }
 
 // Allocates in the minor area, or answers that the area has no room, or that too few pools are free.
+#[inline(always)]
 fn alloc_in_area(
     heap: &Heap,
     dom: &mut Domain,
@@ -260,6 +264,7 @@ fn try_store(heap: &Heap, dom: &mut Domain, command: &Command) -> Attempt
 }
 
 // Makes the entry of a registration.
+#[inline(always)]
 fn try_registration(heap: &Heap, dom: &mut Domain, command: &Command) -> Attempt
     requires runs { Runs heap.now dom.old }
     requires fits { FitsHeap command.now }
