@@ -70,7 +70,7 @@ module _ (z : Sizes) (limits : IsWithinLimits z) (root : Label) (d : ℕ) (old n
   pub settle_done : (n1 new : List Entry) → Arrived z d old now root k v i rest level None → Publishes z d now n1 i true → IsPrefix now n1 → Cleared z d n1 new → OthersRespect z root d old new → PutsOrFull z root d old new k v reply.Done × TakeLeaves z d old new root
   settle_done n1 new t publishes grows c respects =
       let x = publishes t.first t.found.front root k t.l v rest kr t.found.shows (t.keeps kr few ∙ key) t.found.field t.found.binds t.leaf t.on.map (respects_within z root d old new now n1 t.on.grows (cleared_grows z d n1 new c) respects) in
-      let y = put_done z limits root d old k v kr few key now n1 new t.on t.keeps x c respects in
+      let y = put_done z limits root d old k v kr few key now n1 new t.l t.made t.on t.keeps x c respects in
       (inl (refl, y.0), y.1)
 
   pub settle_lost : (n1 new : List Entry) (r : Reply) → Arrived z d old now root k v i rest level None → Publishes z d now n1 i false → IsPrefix now n1 → PerformedBy z d n1 new (Load 9 8 i) r → OthersRespect z root d old new → Putting z d old new root k v i rest r level
@@ -79,7 +79,7 @@ module _ (z : Sizes) (limits : IsWithinLimits z) (root : Label) (d : ℕ) (old n
       let others = respects_within z root d old new now n1 t.on.grows g respects in
       let x = publishes t.first t.found.front root k t.l v rest kr t.found.shows (t.keeps kr few ∙ key) t.found.field t.found.binds t.leaf t.on.map others in
       put_read z limits root d old k v kr few key t.found.front now n1 new t.first r i rest t.found.shows level t.found.field t.found.deep (goes_twice z root d old now n1 t.on x.on)
-      (stays_twice z root t.found.front now n1 t.found.field.stays (stays_all z root now n1 grows (goes_all z root d now n1 others x.on) t.on.map)) (x.keeps 8) (λ j small. x.keeps j ∙ t.keeps j small) t.l x.leaf p respects
+      (stays_twice z root t.found.front now n1 t.found.field.stays (stays_all z root now n1 grows (goes_all z root d now n1 others x.on) t.on.map)) (x.keeps 8) (λ j small. x.keeps j ∙ t.keeps j small) t.l t.made x.leaf p respects
 
   -- no room is made
   pub settle_full : (n1 new : List Entry) (j : Label) → Arrived z d old now root k v i rest level (Some j) → k.serial < 2 ^ 32 → j.serial < 2 ^ 32 → IsMap (graph_of z old) root → IsInPlace z.domains (graph_of z old) root → MakesRoom z d now n1 i (rest_of (number_of z.domains j) level % node_width) false
@@ -107,7 +107,7 @@ module _ (z : Sizes) (limits : IsWithinLimits z) (root : Label) (d : ℕ) (old n
       let way = put_digit z limits root d old k v kr few key now i rest level (Some j) t map placed before j refl (key_label (Some j) t serial_k) (other_label j t serial_j) in
       let x = makes t.first t.found.front root k j t.l v rest kr t.found.shows few (t.keeps kr few ∙ key) t.found.field t.found.binds way t.leaf t.on.map others in
       put_read z limits root d old k v kr few key t.found.front now n1 new t.first r i rest t.found.shows level t.found.field t.found.deep (goes_twice z root d old now n1 t.on x.on) x.stays (x.keeps 8 (λ e. absurd (omega (arith, e))))
-      (λ m small. x.keeps m (λ e. absurd (omega (arith, small, e))) ∙ t.keeps m small) t.l x.leaf p respects
+      (λ m small. x.keeps m (λ e. absurd (omega (arith, small, e))) ∙ t.keeps m small) t.l t.made x.leaf p respects
 
 -- a search from a field that was read
 pub put_searched : (z : Sizes) (limits : IsWithinLimits z) (root : Label) (d : ℕ) (old : List Entry) (k : Label) (v : Value) (kr : ℕ) → kr < 8 → held_by z d old kr ≡ Block k → (now n0 : List Entry) (i rest i2 rest2 level steps sum : ℕ) (s : Reply) (other : Option Label) → sum ≡ min (level + steps) 255

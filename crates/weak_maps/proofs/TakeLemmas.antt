@@ -35,13 +35,16 @@ use Rattle.map_laws.proofs.WalkLemmas.{same_number}
 use Rattle.map_laws.proofs.FrontLemmas.{before_or_behind}
 use Rattle.map_laws.proofs.MapLemmas.{map_stays}
 use Rattle.map_laws.proofs.SetLemmas.{set_binds}
+use Rattle.map_laws.specs.Within.{IsMadeBehind, OwnWithin}
+use Rattle.map_laws.proofs.WithinLemmas.{within_twice, within_written}
 use Rattle.weak_maps.specs.Beside.{held_by}
 use Rattle.weak_maps.specs.Walks.{HoldsLeaf, Looking, OwnQuiet}
 use Rattle.weak_maps.specs.Fields.{AtField, Cleared, Finds, FoundBy, Stays, Taking}
 use Rattle.weak_maps.specs.Returns.{TakeReturns}
 use Rattle.weak_maps.proofs.BesideLemmas.{sixteen, set_here, set_other, same_held, since_old, left_is}
 use Rattle.weak_maps.proofs.EntryLemmas.{own_entry}
-use Rattle.weak_maps.proofs.StayLemmas.{leaf_middle, looking_from, looking_on, no_entry, prefix_same, quiet_looks, respects_within, stays_middle, stays_twice}
+use Rattle.weak_maps.proofs.FreshLemmas.{within_by}
+use Rattle.weak_maps.proofs.StayLemmas.{leaf_middle, looking_from, looking_on, no_entry, prefix_same, quiet_looks, respects_within, stays_middle, stays_twice, within_quiet}
 use Rattle.weak_maps.proofs.DescendLemmas.{at_one, plain_node, way_ends}
 use Rattle.weak_maps.proofs.GetLemmas.{grows_by}
 use Rattle.weak_maps.proofs.FieldLemmas.{field_again, field_begins, field_on}
@@ -193,6 +196,11 @@ module _ (z : Sizes) (limits : IsWithinLimits z) (root : Label) (d : ℕ) (first
       pushed : graph_of z (mid ++ entry ∷ []) ≡ (next (state_of z mid) entry).graph
       pushed = ap (λ (t : State). t.graph) (state_after-push (opening z) mid entry)
 
+      within : (base : List Entry) → OwnWithin z root d base now new
+      unfolding sets
+      within base = within_by z d root now new c r p base (within_written (IsMadeBehind z d base) g (next (state_of z mid) entry).graph root x.p i (Block leaf.l) (Int (pos 0)) sets.writes stay.map
+          (map_stays z.domains root (state_of z mid) entry stay.map (SetsKey k (Int (pos 0)) sets)) refl (λ m same. cc))
+
       -- and what follows changes nothing
       changes : (last : List Entry) → Looking z root d new last → ChangesOne z root d first last k (Some datum) None
       changes last after = record {
@@ -216,7 +224,8 @@ module _ (z : Sizes) (limits : IsWithinLimits z) (root : Label) (d : ℕ) (first
       }
 
     pub cas_won : r ≡ reply.Yes → IsMap (graph_of z new) root × ((last : List Entry) → Looking z root d new last → ChangesOne z root d first last k (Some datum) None) × ((j : ℕ) → held_by z d new j ≡ held_by z d now j)
-    cas_won is = ⊎_elim (λ won. (map_new won.0 won.1.0, changes won.0 won.1.0, (λ j. same_held z d now new won.1.1 j)))
+        × ((base : List Entry) → OwnWithin z root d base now new)
+    cas_won is = ⊎_elim (λ won. (map_new won.0 won.1.0, changes won.0 won.1.0, (λ j. same_held z d now new won.1.1 j), within won.0 won.1.0))
         (λ lost. let clash : reply.No ≡ reply.Yes = sym lost.1.2 ∙ is in cc) took
 
   -- the registers between are emptied
@@ -316,7 +325,7 @@ module _ (z : Sizes) (limits : IsWithinLimits z) (root : Label) (d : ℕ) (old :
         let f = found_from now n0 i rest i2 rest2 s false finds taking grows (respects_within z root d old new old n0 (prefix_same old) later respects) in
         let looking = cleared_looking z limits root d old k old n0 new x respects f.0 in (
           inr (refl, record { looks = quiet_looks z root d old new looking.quiet; front = f.3.front; since = f.3.since; until = prefix_trans f.3.front n0 new f.3.until later; bound = f.3.bound }),
-          record { map = looking.map; clean = cleared_clean z limits root d old k old n0 new x respects f.0; keeps = λ j small. cleared_keeps z limits root d old k old n0 new x respects f.0 j small ∙ f.1 j small },
+          record { map = looking.map; within = within_quiet z root d old old new looking.quiet; clean = cleared_clean z limits root d old k old n0 new x respects f.0; keeps = λ j small. cleared_keeps z limits root d old k old n0 new x respects f.0 j small ∙ f.1 j small },
         )
 
     pub take_done : (now n0 n1 new : List Entry) (i rest i2 rest2 : ℕ) (s r : Reply) → Finds z d now n0 kr k i rest s i2 rest2 true → (OthersRespect z root d old now → Taking z d old now root k i rest s) → IsPrefix now n0 → PerformedBy z d n0 n1 (Cas 8 i2 9 10) r → r ≡ reply.Yes → Cleared z d n1 new → IsPrefix n1 new
@@ -331,7 +340,7 @@ module _ (z : Sizes) (limits : IsWithinLimits z) (root : Label) (d : ℕ) (old :
         let from = looking_from z root d n1 won.0 in
         let looking = cleared_looking z limits root d old k n1 n1 new x tail from in (
           inl (refl, (m.datum, won.1 new looking)),
-          record { map = looking.map; clean = cleared_clean z limits root d old k n1 n1 new x tail from; keeps = λ j small. cleared_keeps z limits root d old k n1 n1 new x tail from j small ∙ (won.2 j ∙ f.1 j small) },
+          record { map = looking.map; within = within_twice z root d old old n0 new (prefix_trans n0 n1 new g1 later) (within_quiet z root d old old n0 f.0.quiet) (within_twice z root d old n0 n1 new later (won.3 old) (within_quiet z root d old n1 new looking.quiet)); clean = cleared_clean z limits root d old k n1 n1 new x tail from; keeps = λ j small. cleared_keeps z limits root d old k n1 n1 new x tail from j small ∙ (won.2 j ∙ f.1 j small) },
         )
 
     pub take_again : (now n0 n1 new : List Entry) (i rest i2 rest2 : ℕ) (s r r2 : Reply) → Finds z d now n0 kr k i rest s i2 rest2 true → (OthersRespect z root d old now → Taking z d old now root k i rest s) → IsPrefix now n0 → PerformedBy z d n0 n1 (Cas 8 i2 9 10) r → (r ≡ reply.Yes → ⊥) → PerformedBy z d n1 new (Load 9 8 i2) r2
