@@ -39,9 +39,9 @@ use Rattle.map_laws.specs.Within.{IsMadeBehind, OwnWithin}
 use Rattle.map_laws.proofs.WithinLemmas.{within_twice, within_written}
 use Rattle.weak_maps.specs.Beside.{held_by}
 use Rattle.weak_maps.specs.Walks.{HoldsLeaf, Looking, OwnQuiet}
-use Rattle.weak_maps.specs.Fields.{AtField, Cleared, Finds, FoundBy, Stays, Taking}
+use Rattle.weak_maps.specs.Fields.{AtField, Cleared, Finds, FoundBy, IsBeside, Stays, Taking}
 use Rattle.weak_maps.specs.Returns.{TakeReturns}
-use Rattle.weak_maps.proofs.BesideLemmas.{sixteen, set_here, set_other, same_held, since_old, left_is}
+use Rattle.weak_maps.proofs.BesideLemmas.{left_is, low_beside, same_held, set_here, set_other, since_old, sixteen}
 use Rattle.weak_maps.proofs.EntryLemmas.{own_entry}
 use Rattle.weak_maps.proofs.FreshLemmas.{within_by}
 use Rattle.weak_maps.proofs.StayLemmas.{leaf_middle, looking_from, looking_on, no_entry, prefix_same, quiet_looks, respects_within, stays_middle, stays_twice, within_quiet}
@@ -258,12 +258,12 @@ module _ (z : Sizes) (limits : IsWithinLimits z) (root : Label) (d : ℕ) (first
         (looking_on z root d base x.first x.second (Forget 9) x.nine_reply x.nine nine.0 (respects_within z root d base new base x.second (prefix_same base) after_second respects)
         (looking_on z root d base now x.first (Forget 8) x.eight_reply x.eight eight.0 (respects_within z root d base new base x.first (prefix_same base) after_first respects) looking)))
 
-    pub cleared_keeps : (j : ℕ) → j < 8 → held_by z d new j ≡ held_by z d now j
-    cleared_keeps j few =
-        set_other z d x.third new 11 Nothing eleven.1 j (λ e. absurd (omega (arith, few, e)))
-        ∙ (set_other z d x.second x.third 10 Nothing ten.1 j (λ e. absurd (omega (arith, few, e)))
-        ∙ (set_other z d x.first x.second 9 Nothing nine.1 j (λ e. absurd (omega (arith, few, e)))
-        ∙ set_other z d now x.first 8 Nothing eight.1 j (λ e. absurd (omega (arith, few, e)))))
+    pub cleared_keeps : (j : ℕ) → IsBeside j → held_by z d new j ≡ held_by z d now j
+    cleared_keeps j beside =
+        set_other z d x.third new 11 Nothing eleven.1 j beside.3
+        ∙ (set_other z d x.second x.third 10 Nothing ten.1 j beside.2
+        ∙ (set_other z d x.first x.second 9 Nothing nine.1 j beside.1
+        ∙ set_other z d now x.first 8 Nothing eight.1 j beside.0))
 
     last_empty : held_by z d new 11 ≡ Nothing
     last_empty = set_here z d x.third new 11 Nothing eleven.1 (sixteen z d x.third new (Forget 11) x.eleven_reply x.eleven limits) (omega arith)
@@ -302,19 +302,19 @@ module _ (z : Sizes) (limits : IsWithinLimits z) (root : Label) (d : ℕ) (old :
       let y = field_begins z limits root d old k n0 n1 new r1 r2 map there p1 p2 e1 respects looking in record {
         looking = y.0;
         field = y.1;
-        keeps = λ j small. y.2 j (λ e. absurd (omega (arith, small, e))) (λ e. absurd (omega (arith, small, e))) ∙ set_other z d old n0 10 (Int (pos 0)) all.1 j (λ e. absurd (omega (arith, small, e)));
+        keeps = λ j beside. y.2 j beside.0 beside.1 ∙ set_other z d old n0 10 (Int (pos 0)) all.1 j beside.2;
         ten = y.2 10 (λ e. absurd (omega (arith, e))) (λ e. absurd (omega (arith, e))) ∙ set_here z d old n0 10 (Int (pos 0)) all.1 (sixteen z d old n0 (PutInt 10 (pos 0)) r0 p0 limits) (omega arith);
       }
 
   module _ (kr : ℕ) (few : kr < 8) (key : held_by z d old kr ≡ Block k) where
     -- what a walk finds from there
     found_from : (now n0 : List Entry) (i rest i2 rest2 : ℕ) (s : Reply) (mine : Bool) → Finds z d now n0 kr k i rest s i2 rest2 mine → (OthersRespect z root d old now → Taking z d old now root k i rest s) → IsPrefix now n0 → OthersRespect z root d old n0
-        → Looking z root d old n0 × ((j : ℕ) → j < 8 → held_by z d n0 j ≡ held_by z d old j) × (held_by z d n0 10 ≡ Int (pos 0)) × FoundBy z d old n0 root k i2 rest2 mine
+        → Looking z root d old n0 × ((j : ℕ) → IsBeside j → held_by z d n0 j ≡ held_by z d old j) × (held_by z d n0 10 ≡ Int (pos 0)) × FoundBy z d old n0 root k i2 rest2 mine
     found_from now n0 i rest i2 rest2 s mine finds taking grows respects =
         let t = taking (respects_within z root d old n0 old now (prefix_same old) grows respects) in
-        let f = finds old root (t.keeps kr few ∙ key) t.looking t.field respects in (
+        let f = finds old root (t.keeps kr (low_beside kr few) ∙ key) t.looking t.field respects in (
           f.0,
-          (λ j small. f.1 j (λ e. absurd (omega (arith, small, e))) (λ e. absurd (omega (arith, small, e))) (λ e. absurd (omega (arith, small, e))) ∙ t.keeps j small),
+          (λ j beside. f.1 j beside.0 beside.1 beside.3 ∙ t.keeps j beside),
           f.1 10 (λ e. absurd (omega (arith, e))) (λ e. absurd (omega (arith, e))) (λ e. absurd (omega (arith, e))) ∙ t.ten,
           f.2,
         )
@@ -335,7 +335,7 @@ module _ (z : Sizes) (limits : IsWithinLimits z) (root : Label) (d : ℕ) (old :
         let e1 = respects_within z root d old new old n1 (prefix_same old) later respects in
         let f = found_from now n0 i rest i2 rest2 s true finds taking grows (respects_within z root d old new old n0 (prefix_same old) (prefix_trans n0 n1 new g1 later) respects) in
         let m = f.3 in
-        let won = cas_won z limits root d old k m.front n0 n1 r i2 rest2 m.shows m.datum kr p e1 f.0 m.field m.leaf (f.1 kr few ∙ key) f.2 is in
+        let won = cas_won z limits root d old k m.front n0 n1 r i2 rest2 m.shows m.datum kr p e1 f.0 m.field m.leaf (f.1 kr (low_beside kr few) ∙ key) f.2 is in
         let tail = respects_within z root d old new n1 new (prefix_trans old n0 n1 f.0.grows g1) (prefix_same new) respects in
         let from = looking_from z root d n1 won.0 in
         let looking = cleared_looking z limits root d old k n1 n1 new x tail from in (
@@ -351,11 +351,11 @@ module _ (z : Sizes) (limits : IsWithinLimits z) (root : Label) (d : ℕ) (old :
         let e1 = respects_within z root d old new old n1 (prefix_same old) g2 respects in
         let f = found_from now n0 i rest i2 rest2 s true finds taking grows (respects_within z root d old new old n0 (prefix_same old) g1 respects) in
         let m = f.3 in
-        let lost = cas_lost z limits root d old k m.front n0 n1 r i2 rest2 m.shows m.datum kr p e1 f.0 m.field m.leaf (f.1 kr few ∙ key) f.2 other in
+        let lost = cas_lost z limits root d old k m.front n0 n1 r i2 rest2 m.shows m.datum kr p e1 f.0 m.field m.leaf (f.1 kr (low_beside kr few) ∙ key) f.2 other in
         let y = field_again z limits root d old k m.front n1 new r2 i2 rest2 m.shows lost.1 p2 respects lost.0 in record {
           looking = y.0;
           field = y.1;
-          keeps = λ j small. y.2 j (λ e. absurd (omega (arith, small, e))) ∙ (lost.2 j ∙ f.1 j small);
+          keeps = λ j beside. y.2 j beside.1 ∙ (lost.2 j ∙ f.1 j beside);
           ten = y.2 10 (λ e. absurd (omega (arith, e))) ∙ (lost.2 10 ∙ f.2);
         }
 

@@ -20,7 +20,7 @@ use Rattle.map_laws.specs.Private.{IsPrivate}
 use Rattle.map_laws.specs.Within.{IsMadeBehind, OwnWithin}
 use Rattle.weak_maps.specs.Beside.{held_by}
 use Rattle.weak_maps.specs.Walks.{Looking}
-use Rattle.weak_maps.specs.Fields.{AtField, KeepsWalked, Stays}
+use Rattle.weak_maps.specs.Fields.{AtField, IsBeside, KeepsWalked, Stays}
 
 -- a leaf of this key, or of none
 abbrev pub IsLeafOf : Graph → Label → Label → Type 0
@@ -168,7 +168,7 @@ pub record Putting (z : Sizes) (d : ℕ) (old now : List Entry) (root k : Label)
   pub looking : Looking z root d first now
   pub field : AtField z d first now now root k index rest shows
   pub deep : level ≡ length field.p
-  pub keeps : (i : ℕ) → i < 8 → held_by z d now i ≡ held_by z d old i
+  pub keeps : (i : ℕ) → IsBeside i → held_by z d now i ≡ held_by z d old i
   pub l : Label
   pub made : IsMadeBehind z d old l
   pub leaf : OwnBlock z d now root 10 l (Ephe (Some k ∷ []) v)
@@ -180,7 +180,7 @@ pub record Arrived (z : Sizes) (d : ℕ) (old now : List Entry) (root k : Label)
   pub since : IsPrefix old first
   pub looking : Looking z root d first now
   pub found : FieldFound z d first now root k index rest level other
-  pub keeps : (i : ℕ) → i < 8 → held_by z d now i ≡ held_by z d old i
+  pub keeps : (i : ℕ) → IsBeside i → held_by z d now i ≡ held_by z d old i
   pub l : Label
   pub made : IsMadeBehind z d old l
   pub leaf : OwnBlock z d now root 10 l (Ephe (Some k ∷ []) v)

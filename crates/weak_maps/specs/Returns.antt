@@ -15,6 +15,7 @@ use Rattle.map_laws.specs.Tries.{IsMap, root_width, IsInPlace}
 use Rattle.map_laws.specs.Calls.{GetAnswers, PutAnswers, TakeAnswers, bound_after}
 use Rattle.map_laws.specs.Within.{OwnWithin}
 use Rattle.weak_maps.specs.Beside.{held_by}
+use Rattle.weak_maps.specs.Fields.{IsBeside}
 use Rattle.weak_maps.specs.Walks.{OwnQuiet}
 
 -- what `map_get` leaves: the map is one still, no block was changed by the domain, the register of the answer holds what the reply shows, register 8 nothing, and the others what they held
@@ -56,7 +57,7 @@ pub record TakeLeaves (z : Sizes) (d : ℕ) (old new : List Entry) (root : Label
   pub map : IsMap (graph_of z new) root
   pub within : OwnWithin z root d old old new
   pub clean : (i : ℕ) → 8 ≤ i → i ≤ 11 → held_by z d new i ≡ Nothing
-  pub keeps : (i : ℕ) → i < 8 → held_by z d new i ≡ held_by z d old i
+  pub keeps : (i : ℕ) → IsBeside i → held_by z d new i ≡ held_by z d old i
 
 -- `map_take`, by what the register of the key holds
 abbrev pub TakeReturns : Sizes → ℕ → List Entry → List Entry → Label → Value → Reply → Type 0
