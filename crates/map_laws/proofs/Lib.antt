@@ -10,6 +10,7 @@ pub mod WayLemmas
 pub mod FrontLemmas
 pub mod CallLemmas
 pub mod OwnLemmas
+pub mod WithinLemmas
 pub mod ReachLemmas
 pub mod FieldLemmas
 pub mod RefusedBodies

@@ -129,7 +129,7 @@ untouched_keeps z root front e map same l =
     ap (λ (g : Graph). found z.domains g root l) (graph_push z front e) ∙ untouched_binds z.domains (graph_of z front) (next (state_of z front) e).graph root map same l
 
 -- no entry stands behind a front and before it
-nothing_between : (h front : List Entry) (e : Entry) → IsPrefix h front → IsPrefix (front ++ e ∷ []) h → ⊥
+pub nothing_between : (h front : List Entry) (e : Entry) → IsPrefix h front → IsPrefix (front ++ e ∷ []) h → ⊥
 nothing_between h front e since until = clash since.rest (drop_front h [] (since.rest ++ e ∷ until.rest)
     (append-nil h ∙ (until.appends ∙ (append_assoc front (e ∷ []) until.rest ∙ (ap (λ (x : List Entry). x ++ e ∷ until.rest) since.appends ∙ append_assoc h since.rest (e ∷ until.rest))))))
   where
@@ -187,7 +187,7 @@ module _ (z : Sizes) (root : Label) (d : ℕ) where
 
   -- one command
   module _ (old new : List Entry) (c : Command) (r : Reply) (p : PerformedBy z d old new c r) where
-    at_the_end : (f : List Entry) (e : Entry) → IsPrefix old f → IsPrefix (f ++ e ∷ []) new → is_entry_of d e ≡ true → (f ≡ old ++ p.between) × (e ≡ CommandOf d c p.full)
+    pub at_the_end : (f : List Entry) (e : Entry) → IsPrefix old f → IsPrefix (f ++ e ∷ []) new → is_entry_of d e ≡ true → (f ≡ old ++ p.between) × (e ≡ CommandOf d c p.full)
     at_the_end f e a b own = own_is_last d old p.between (CommandOf d c p.full) f e p.others a (subst (λ (h : List Entry). IsPrefix (f ++ e ∷ []) h) p.appends b) own
 
     pub keeps_once : ((l : Label) → bound_after z root (old ++ p.between ++ CommandOf d c p.full ∷ []) l ≡ bound_after z root (old ++ p.between) l) → OwnKeep z root d old new

@@ -4,6 +4,7 @@ use Rattle.heap_model.specs.declared.label.Label.{Label}
 use Rattle.heap_model.specs.declared.entry.Entry.{Entry}
 use Rattle.heap_model.specs.declared.graph.Value.{Value}
 use Rattle.heap_model.specs.declared.graph.Value.TheVariants.{Block, Int, Nothing}
+use Rattle.heap_model.specs.declared.graph.Node.{Node}
 use Rattle.heap_model.specs.declared.graph.Node.TheVariants.{Ephe}
 use Rattle.heap_model.specs.declared.reply.Reply.{Reply}
 use Rattle.heap_model.specs.declared.reply.Reply.TheVariants as reply
@@ -14,6 +15,7 @@ use Rattle.heap_model.specs.History.{IsPrefix, is_entry_of}
 use Rattle.table_laws.specs.Stages.{graph_of}
 use Rattle.map_laws.specs.Tries.{at, bound_by, ends, inside, is_leaf, low_digits, number_of, root_width}
 use Rattle.map_laws.specs.Calls.{bound_after, value_of, ChangesOne, GetAnswers, PutsOrFull, TakeAnswers, CleanAnswers}
+use Rattle.map_laws.specs.Within.{IsBlockOf, OwnWithin, StandsIn}
 use Rattle.map_laws.proofs.WalkLemmas.{ends_step}
 use Rattle.map_laws.proofs.SetLemmas.{stays}
 use Rattle.map_laws.proofs.FrontLemmas.{prefix_before, before_or_behind, last_or_before}
@@ -91,3 +93,24 @@ no_full_map_is_empty z root d old new x k =
 -- nor that it holds something of one whose fields are 0
 pub no_empty_map_is_full : (z : Sizes) (root : Label) (d : ℕ) (old new : List Entry) → (x : CleanAnswers z root d old new false) → ((j : ℕ) → j < root_width → get_or x.fields j Nothing ≡ Int (pos 0)) → ⊥
 no_empty_map_is_full z root d old new x zeros = x.holds.2 (zeros x.holds.0 x.holds.1)
+
+-- a call writes no block that was there but those of its map
+pub no_block_beside_is_written : (z : Sizes) (root : Label) (d : ℕ) (old new : List Entry) → OwnWithin z root d old old new → (front : List Entry) (e : Entry) → IsPrefix old front → IsPrefix (front ++ e ∷ []) new → is_entry_of d e ≡ true
+    → (l : Label) (n : Node) → node_at (graph_of z old) l ≡ Some n → (IsBlockOf (graph_of z front) root l → ⊥) → node_at (graph_of z (front ++ e ∷ [])) l ≡ node_at (graph_of z front) l
+no_block_beside_is_written z root d old new within front e since until own l n there beside = ⊎_elim (λ same. same)
+    (λ wrote. ⊎_elim (λ block. absurd (beside block)) (λ mine. let clash : None ≡ Some n = sym mine.1 ∙ there in cc) wrote)
+    ((within front e since until own).writes l)
+
+-- nor a block that another domain made
+pub no_block_of_another_domain_is_written : (z : Sizes) (root : Label) (d : ℕ) (old new : List Entry) → OwnWithin z root d old old new → (front : List Entry) (e : Entry) → IsPrefix old front → IsPrefix (front ++ e ∷ []) new → is_entry_of d e ≡ true
+    → (l : Label) → l.domain ≢ d → (IsBlockOf (graph_of z front) root l → ⊥) → node_at (graph_of z (front ++ e ∷ [])) l ≡ node_at (graph_of z front) l
+no_block_of_another_domain_is_written z root d old new within front e since until own l other beside = ⊎_elim (λ same. same)
+    (λ wrote. ⊎_elim (λ block. absurd (beside block)) (λ mine. absurd (other mine.0)) wrote)
+    ((within front e since until own).writes l)
+
+-- nor brings a block that was there into the map, as a block of another map for room
+pub no_block_beside_joins : (z : Sizes) (root : Label) (d : ℕ) (old new : List Entry) → OwnWithin z root d old old new → (front : List Entry) (e : Entry) → IsPrefix old front → IsPrefix (front ++ e ∷ []) new → is_entry_of d e ≡ true
+    → (l : Label) (n : Node) → node_at (graph_of z old) l ≡ Some n → (StandsIn (graph_of z front) root l → ⊥) → StandsIn (graph_of z (front ++ e ∷ [])) root l → ⊥
+no_block_beside_joins z root d old new within front e since until own l n there beside joined = ⊎_elim (λ stood. beside stood)
+    (λ mine. let clash : None ≡ Some n = sym mine.1 ∙ there in cc)
+    ((within front e since until own).joins joined.0 l joined.1)

@@ -5,3 +5,4 @@ pub mod Private
 pub mod MapLaws
 pub mod Examples
 pub mod Tidy
+pub mod Within

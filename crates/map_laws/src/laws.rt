@@ -1,4 +1,5 @@
 //! Laws of maps. Each function's contract is one law, and it does nothing else.
+ghost use Rattle.map_laws.specs.Within.{OtherMapsStay};
 ghost use Rattle.map_laws.specs.MapLaws.{SetBinds, DeepenKeeps, ClearKeeps, EmptyKeeps, BlocksStay, ReadTells, CollectorTakes, MapStays, PlacesStay, StepTells, AloneRespects, AloneLeaves, WaysDiffer, WaysPart, RespectedMapStays, LookupAnswersLastPut, HeldBindingIsFound, PutIsFound, CollectedKeysAreReached, DatumKeepsNoKey, NewMapIsEmpty, PrivateStays, PrivateStandsNowhere};
 ghost use Rattle.map_laws.specs.Tidy.{CleanedBlocksAreFew, CleanedLeavesAreFew, TidyBlocksAreFew, TidyBlocksLead};
 ghost use Rattle.map_laws.specs.Examples.{IsLegalExample, PutIsAStep, DeepenIsAStep, IsBoundDeeper, IsEmptyOnceCleaned, IsBoundWhileHeld, IsUnboundAfterwards, NoneLeavesIt, StoredNumberBreaksMap};
@@ -103,6 +104,12 @@ pub fn held_binding_is_found()
 /// What a put put, a later lookup of any domain answers, as long as the key is reached and no entry sets it between.
 pub fn put_is_found()
     ensures { PutIsFound }
+{}
+
+/// To another map, with which its own shares nothing, a call does no more than a lookup: no binding of it is lost but of keys
+/// that were outside reach.
+pub fn other_maps_stay()
+    ensures { OtherMapsStay }
 {}
 
 /// After a complete collection in which a map is reached, each key that it binds is reached.

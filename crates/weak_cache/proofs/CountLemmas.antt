@@ -1,15 +1,25 @@
 -- How many keys of some stand behind a key, or nowhere, and what a use does to that.
-use Rattle.std.proofs.Common.{◌≡◌, ◌≢◌, ◌⊎◌, inl, inr, ⊎_elim, ℕ, suc, ◌+◌, ◌<◌, ◌≤◌, Bool, true, false, cond, IsTrue, ◌||◌, List, [], ◌∷◌, length, Option, Some, refl, ap, sym, ◌∙◌, subst, arith}
+use Rattle.std.proofs.Common.{◌≡◌, ◌≢◌, ◌⊎◌, inl, inr, ⊎_elim, ℕ, suc, ◌+◌, ◌<◌, ◌≤◌, Bool, true, false, cond, IsTrue, ◌||◌, List, [], ◌∷◌, length, Option, Some, None, refl, ap, sym, ◌∙◌, subst, arith}
 use Rattle.heap_model.specs.declared.label.Label.{Label}
+use Rattle.heap_model.specs.declared.entry.Entry.{Entry}
 use Rattle.heap_model.specs.declared.graph.Value.{Value}
+use Rattle.heap_model.specs.declared.graph.Value.TheVariants.{Block}
+use Rattle.heap_model.specs.declared.reply.Reply.{Reply}
+use Rattle.heap_model.specs.declared.state.Sizes.{Sizes}
+use Rattle.heap_model.specs.History.{IsPrefix}
 use Rattle.heap_model.specs.Graph.{has_label, same_label}
 use Rattle.heap_model.proofs.Commands.FrameLemmas.{label_cases}
-use Rattle.heap_model.proofs.Graphs.GraphLemmas.{same_label-true}
+use Rattle.heap_model.proofs.Graphs.GraphLemmas.{same_label-true, same_label_refl}
+use Rattle.heap_model.proofs.Reach.ReachLemmas.{or_left, or_right}
 use Rattle.table_laws.specs.Structures.{Binding}
+use Rattle.map_laws.specs.Steps.{WasUnreached}
+use Rattle.map_laws.proofs.FrontLemmas.{prefix_same, prefix_trans}
 use Rattle.weak_maps.proofs.CleanedLemmas.{less_or}
-use Rattle.weak_cache.specs.Uses.{SlotsLeft, age, cached_in, is_of, pushed, put_first}
-use Rattle.weak_cache.specs.Laws.{AreOf, IsAmong, NoneUses, Use, Used, UsedLastIsFound}
-use Rattle.weak_cache.proofs.LawLemmas.{Slots, age_hit, age_skip, apart_put, further, loss_left, of_one, one_back, others_back, others_stay, put_found}
+use Rattle.weak_cache.specs.Uses.{SlotsLeft, age, cached_in, is_of, pushed, put_first, touched}
+use Rattle.weak_cache.specs.Laws.{AreOf, Call, CallsOn, IsAmong, IsUseOf, NoneUses, Use, Used, UsedInCallsIsFound, UsedLastIsFound, UsesOf}
+use Rattle.weak_cache.specs.Caches.{Gone, slots_after}
+use Rattle.weak_cache.specs.Calls.{GetReturns, LeavesCache, PutsOrFull}
+use Rattle.weak_cache.proofs.LawLemmas.{Slots, age_hit, age_skip, apart_put, cache_bounded, further, loss_left, of_one, one_back, others_back, others_stay, put_found}
 
 -- a key that stands before another stands behind fewer slots than there are, and no other stands there
 age_apart : (x y : Label) (ss : Slots) → x ≢ y → age x ss < length ss → age x ss ≢ age y ss
@@ -200,7 +210,30 @@ behind_first : (k l : Label) (w : Value) (ss : Slots) → k ≢ l → 0 < length
 behind_first k l w [] differ some = absurd (omega (arith, some))
 behind_first k l w (t ∷ ts) differ some = let later = age_skip k (Some (l, w)) (cond (is_of l t) ts (pushed l t ts)) (apart_put l k w differ) in omega (arith, later)
 
--- a key stays as long as there is a slot for each newcomer
+-- a use of one of the names: a key stays as long as there is a slot for each newcomer
+use_step : (k l : Label) (v w : Value) (names : List Label) (ss : Slots) → l ≢ k → IsAmong names l → cached_in k ss ≡ Some v → age k ss + newcomers k names ss < length ss
+    → (cached_in k (put_first l w ss) ≡ Some v) × (age k (put_first l w ss) + newcomers k names (put_first l w ss) ≤ age k ss + newcomers k names ss)
+use_step k l v w names ss differ there has room = ⊎_elim
+    (λ first.
+    let stay = others_stay l k w ss (λ e. differ (sym e)) first in
+    let fewer = newcomers_less k names ss (put_first l w ss) (on (inl first)) in
+    let same = stay.1 in
+    (stay.0 ∙ has, omega (arith, fewer, same)))
+    (λ far.
+    let one = newcomers_some k l names ss there far in
+    let small : age k ss + 1 < length ss = omega (arith, one, room) in
+    let back = others_back l k w v ss (λ e. differ (sym e)) has small in
+    let put = (put_found l w ss (omega (arith, small))).1 in
+    let behind = behind_first k l w ss (λ e. differ (sym e)) (omega (arith, small)) in
+    let fewer = newcomers_one k l names ss (put_first l w ss) (on (inr small)) there far (omega (arith, put, behind)) in
+    let less = back.1 in
+    (back.0, omega (arith, fewer, less)))
+    (less_or (age l ss) (age k ss))
+  where
+    on : (age l ss < age k ss) ⊎ (age k ss + 1 < length ss) → (m : Label) → age m ss < age k ss → age m (put_first l w ss) < age k (put_first l w ss)
+    on either m less = before_stays k l m w ss differ (λ same. absurd (let e : age m ss ≡ age k ss = ap (λ (x : Label). age x ss) same in omega (arith, less, e))) less (omega (arith, room)) either
+
+-- over all uses
 stays_on : (k : Label) (v : Value) (us : List Use) (names : List Label) (ss ts : Slots) → Used us ss ts → AreOf names k us → cached_in k ss ≡ Some v → age k ss + newcomers k names ss < length ss → cached_in k ts ≡ Some v
 stays_on k v [] names ss ts is are has room = ap (cached_in k) is ∙ has
 stays_on k v (u ∷ us) names ss ts (ms, left, unused, later) (there, differ, own, rest) has room =
@@ -212,35 +245,11 @@ stays_on k v (u ∷ us) names ss ts (ms, left, unused, later) (there, differ, ow
     let long2 = pushed_long u.key (Some (u.key, u.value)) ss in
     omega (arith, lost, same, fewer, long, long2, room))
   where
-    l : Label
-    l = u.key
-
-    w : Value
-    w = u.value
-
     kept : (cached_in k ms ≡ cached_in k (put_first u.key u.value ss)) × (age k ms ≡ age k (put_first u.key u.value ss))
     kept = loss_left (IsAmong u.lost) (put_first u.key u.value ss) ms left k own
 
-    on : (age u.key ss < age k ss) ⊎ (age k ss + 1 < length ss) → (m : Label) → age m ss < age k ss → age m (put_first u.key u.value ss) < age k (put_first u.key u.value ss)
-    on either m less = before_stays k u.key m u.value ss differ (λ same. absurd (let e : age m ss ≡ age k ss = ap (λ (x : Label). age x ss) same in omega (arith, less, e))) less (omega (arith, room)) either
-
     used : (cached_in k (put_first u.key u.value ss) ≡ Some v) × (age k (put_first u.key u.value ss) + newcomers k names (put_first u.key u.value ss) ≤ age k ss + newcomers k names ss)
-    used = ⊎_elim
-        (λ first.
-        let stay = others_stay u.key k u.value ss (λ e. differ (sym e)) first in
-        let fewer = newcomers_less k names ss (put_first u.key u.value ss) (on (inl first)) in
-        let same = stay.1 in
-        (stay.0 ∙ has, omega (arith, fewer, same)))
-        (λ far.
-        let one = newcomers_some k u.key names ss there far in
-        let small : age k ss + 1 < length ss = omega (arith, one, room) in
-        let back = others_back u.key k u.value v ss (λ e. differ (sym e)) has small in
-        let put = (put_found u.key u.value ss (omega (arith, small))).1 in
-        let behind = behind_first k u.key u.value ss (λ e. differ (sym e)) (omega (arith, small)) in
-        let fewer = newcomers_one k u.key names ss (put_first u.key u.value ss) (on (inr small)) there far (omega (arith, put, behind)) in
-        let less = back.1 in
-        (back.0, omega (arith, fewer, less)))
-        (less_or (age u.key ss) (age k ss))
+    used = use_step k u.key v u.value names ss differ there has room
 
 pub used_found : UsedLastIsFound
 used_found k v names us ss ts uses are few =
@@ -249,3 +258,79 @@ used_found k v names us ss ts uses are few =
     let most = newcomers_few k names (put_first k v ss) in
     let long = pushed_long k (Some (k, v)) ss in
     stays_on k v us names (put_first k v ss) ts uses are put.0 (omega (arith, few, first, most, long))
+
+-- what was outside reach in a part of a history was so in all of it
+unreached_wider : (z : Sizes) (old new later earlier : List Entry) (l : Label) → IsPrefix old later → IsPrefix earlier new → WasUnreached z later earlier l → WasUnreached z old new l
+unreached_wider z old new later earlier l since until w = record { front = w.front; since = prefix_trans old later w.front since w.since; until = prefix_trans w.front earlier new w.until until; outside = w.outside }
+
+calls_grow : (z : Sizes) (d : ℕ) (c : Label) (size : ℕ) (calls : List Call) (old new : List Entry) → CallsOn z d c size calls old new → IsPrefix old new
+calls_grow z d c size [] old new x = x.0
+calls_grow z d c size (y ∷ ys) old new (rests, grows, leaves, more) = prefix_trans old y.old new rests.0 (prefix_trans y.old y.new new grows (calls_grow z d c size ys y.new new more))
+
+-- where no name is lost, nor the key, all stays
+newcomers_kept : (P : Label → Type 0) (k : Label) (ms : List Label) (ss ts : Slots) → SlotsLeft P ss ts → (P k → ⊥) → ((m : Label) → IsAmong ms m → P m → ⊥) → newcomers k ms ts ≤ newcomers k ms ss
+newcomers_kept P k [] ss ts left own none = omega arith
+newcomers_kept P k (m ∷ ms) ss ts left own none =
+    let a = (loss_left P ss ts left m (none m (or_left (same_label m m) (has_label ms m) (same_label_refl m)))).1 in
+    let b = (loss_left P ss ts left k own).1 in
+    let one = newcomer_less (age m ss) (age k ss) (age m ts) (age k ts) (less_or (age m ss) (age k ss)) (less_or (age m ts) (age k ts)) (λ less. omega (arith, less, a, b)) in
+    let rest = newcomers_kept P k ms ss ts left own (λ x there. none x (or_right (same_label m x) (has_label ms x) there)) in
+    omega (arith, one, rest)
+
+-- a key is there, with a slot for each newcomer
+record Stays (k : Label) (v : Value) (names : List Label) (ss : Slots) : Type 0 where
+  has : cached_in k ss ≡ Some v
+  room : age k ss + newcomers k names ss < length ss
+
+stays_left : (P : Label → Type 0) (k : Label) (v : Value) (names : List Label) (ss ts : Slots) → SlotsLeft P ss ts → ((m : Label) → (m ≡ k) ⊎ IsAmong names m → P m → ⊥) → Stays k v names ss → Stays k v names ts
+stays_left P k v names ss ts left none x =
+    let kept = loss_left P ss ts left k (none k (inl refl)) in
+    let fewer = newcomers_kept P k names ss ts left (none k (inl refl)) (λ m there. none m (inr there)) in
+    let long = left_long P ss ts left in
+    let same = kept.1 in
+    let room = x.room in
+    record { has = kept.0 ∙ x.has; room = omega (arith, fewer, long, same, room) }
+
+stays_used : (k l : Label) (v : Value) (names : List Label) (value : Option Value) (ss : Slots) → IsUseOf names k l value → Stays k v names ss → Stays k v names (touched l value ss)
+stays_used k l v names None ss of x = x
+stays_used k l v names (Some w) ss of x =
+    let used = use_step k l v w names ss of.1 of.0 x.has x.room in
+    let long = pushed_long l (Some (l, w)) ss in
+    let fewer = used.1 in
+    let room = x.room in
+    record { has = used.0; room = omega (arith, fewer, long, room) }
+
+calls_keep : (z : Sizes) (d : ℕ) (c : Label) (size : ℕ) (k : Label) (v : Value) (names : List Label) (calls : List Call) (old last : List Entry) → CallsOn z d c size calls old last → UsesOf names k calls
+    → ((l : Label) → (l ≡ k) ⊎ IsAmong names l → WasUnreached z old last l → ⊥) → Stays k v names (slots_after z old c) → Stays k v names (slots_after z last c)
+calls_keep z d c size k v names [] old last (grows, left) uses reached x = stays_left (WasUnreached z old last) k v names (slots_after z old c) (slots_after z last c) left reached x
+calls_keep z d c size k v names (y ∷ ys) old last (rests, grows, leaves, more) (first_use, uses) reached x =
+    let later = calls_grow z d c size ys y.new last more in
+    let whole = prefix_trans y.old y.new last grows later in
+    let ready = stays_left (WasUnreached z old y.old) k v names (slots_after z old c) (slots_after z y.old c) rests.1
+    (λ l one gone. reached l one (unreached_wider z old last old y.old l (prefix_same old) whole gone)) x in
+    let used = stays_used k y.key v names y.value (slots_after z y.old c) first_use ready in
+    let left = stays_left (Gone z y.key y.old y.new) k v names (touched y.key y.value (slots_after z y.old c)) (slots_after z y.new c) leaves.left
+    (λ l one gone. reached l one (unreached_wider z old last y.old y.new l rests.0 later gone.0)) used in
+    calls_keep z d c size k v names ys y.new last more uses (λ l one gone. reached l one (unreached_wider z old last y.new last l (prefix_trans old y.old y.new rests.0 grows) (prefix_same last) gone)) left
+
+pub used_in_calls : UsedInCallsIsFound
+used_in_calls z d c size k v names calls before first last grows leaves on uses few reached =
+    let ss : Slots = slots_after z before c in
+    let long = left_long (Gone z k before first) (put_first k v ss) (slots_after z first c) leaves.left in
+    let size_is = cache_bounded z first c size leaves.cache in
+    let long2 = pushed_long k (Some (k, v)) ss in
+    let put = put_found k v ss (omega (arith, few, long, long2, size_is)) in
+    let most = newcomers_few k names (put_first k v ss) in
+    let young = put.1 in
+    let start : Stays k v names (put_first k v ss) = record { has = put.0; room = omega (arith, young, most, few, long, long2, size_is) } in
+    let later = calls_grow z d c size calls first last on in
+    let begun = stays_left (Gone z k before first) k v names (put_first k v ss) (slots_after z first c) leaves.left
+    (λ l one gone. reached l one (unreached_wider z before last before first l (prefix_same before) later gone.0)) start in
+    (calls_keep z d c size k v names calls first last on uses (λ l one gone. reached l one (unreached_wider z before last first last l grows (prefix_same last) gone)) begun).has
+
+-- each call that isn't answered `type` is such a call
+pub get_is_call : (z : Sizes) (d : ℕ) (old new : List Entry) (c : Label) (size dst : ℕ) (k : Label) (r : Reply) → GetReturns z d old new c size dst (Block k) r → LeavesCache z d k old new c size (touched k (cached_in k (slots_after z old c)) (slots_after z old c))
+get_is_call z d old new c size dst k r x = x.2
+
+pub put_is_call : (z : Sizes) (d : ℕ) (old new : List Entry) (c : Label) (size : ℕ) (k : Label) (v : Value) (r : Reply) → PutsOrFull z d old new c size k v r → (value : Option Value) × LeavesCache z d k old new c size (touched k value (slots_after z old c))
+put_is_call z d old new c size k v r x = ⊎_elim (λ done. (Some v, done.1)) (λ full. (None, full.1)) x.1

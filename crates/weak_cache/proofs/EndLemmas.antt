@@ -22,11 +22,15 @@ use Rattle.weak_maps.proofs.BesideLemmas.{set_here, set_other, sixteen}
 use Rattle.weak_maps.proofs.CleanedLemmas.{less_or}
 use Rattle.weak_maps.proofs.GetLemmas.{grows_by}
 use Rattle.weak_cache.specs.Uses.{SlotLeft, SlotsLeft, put_first}
-use Rattle.weak_cache.specs.Caches.{Gone, IsCache, IsUse, OthersSpare, OwnSpare, fields_or_none, slot_in, slot_of, slots_after}
+use Rattle.weak_cache.specs.Caches.{Gone, IsBeside, IsCache, IsUse, OthersSpare, OwnSpare, fields_or_none, slot_in, slot_of, slots_after}
 use Rattle.weak_cache.specs.Calls.{LeavesCache}
-use Rattle.weak_cache.specs.Passes.{Begun, Cleared, Core, Keeping, KeepsLow, StoodIn, UseLeft, moved_by, was_of}
+use Rattle.weak_cache.specs.Passes.{Begun, Cleared, Core, Keeping, KeepsBeside, StoodIn, UseLeft, moved_by, was_of}
 use Rattle.weak_cache.proofs.CoreLemmas.{core_quiet, leaf_quiet, spared_none, spared_quiet, spares_within, use_first}
 use Rattle.weak_cache.proofs.ListLemmas.{all_left, moved_by_long, moved_each, moved_left}
+
+-- a register below 8 is one that the calls don't use
+pub low_beside : (r : ℕ) → r < 8 → IsBeside r
+low_beside r low = ((λ e. absurd (omega (arith, low, e))), (λ e. absurd (omega (arith, low, e))), (λ e. absurd (omega (arith, low, e))), (λ e. absurd (omega (arith, low, e))), (λ e. absurd (omega (arith, low, e))))
 
 -- what a field held is what a cache may hold
 use_is : (z : Sizes) (c k : Label) (first now : List Entry) (v : Value) → UseLeft z c k first now v → IsUse (graph_of z now) v
@@ -118,8 +122,8 @@ module _ (z : Sizes) (limits : IsWithinLimits z) (d : ℕ) (c k : Label) (first 
       spared = spared_quiet z c d first b.one new (Copy 13 cr) b.cache_reply b.caches caches_taken.0 (spared_quiet z c d first first b.one (Copy 12 kr) b.key_reply b.keys keys_taken.0 (spared_none z c d first));
     }
 
-    pub begun_low : KeepsLow z d first new
-    begun_low j low = others2 j (λ e. absurd (omega (arith, low, e))) ∙ others1 j (λ e. absurd (omega (arith, low, e)))
+    pub begun_low : KeepsBeside z d first new
+    begun_low j beside = others2 j beside.4 ∙ others1 j beside.3
 
   -- a register is emptied
   module _ (now new : List Entry) (r : Reply) (n : ℕ) (p : PerformedBy z d now new (Forget n) r) where
@@ -216,8 +220,8 @@ module _ (z : Sizes) (limits : IsWithinLimits z) (d : ℕ) (c k : Label) (first 
         let g = forgot_leaf e.three e.four e.thirteen_reply 13 e.thirteen l v core_eleven.grows (upto e.four g5) key_eleven f.0 f.1 in
         (forgot_leaf e.four new e.twelve_reply 12 e.twelve l v core_thirteen.grows spares key_thirteen g.0 g.1).1
 
-    pub cleared_low : KeepsLow z d now new
-    cleared_low j low = twelve j (λ s. absurd (omega (arith, low, s))) ∙ (thirteen j (λ s. absurd (omega (arith, low, s))) ∙ (eleven j (λ s. absurd (omega (arith, low, s))) ∙ (ten j (λ s. absurd (omega (arith, low, s))) ∙ nine j (λ s. absurd (omega (arith, low, s))))))
+    pub cleared_low : KeepsBeside z d now new
+    cleared_low j beside = twelve j beside.3 ∙ (thirteen j beside.4 ∙ (eleven j beside.2 ∙ (ten j beside.1 ∙ nine j beside.0)))
 
     pub cleared_clean : (i : ℕ) → 9 ≤ i → i ≤ 13 → held_by z d new i ≡ Nothing
     cleared_clean i high few = ⊎_elim (λ small. ⊎_elim (λ small2. ⊎_elim (λ small3. ⊎_elim

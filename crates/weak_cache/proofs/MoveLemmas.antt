@@ -34,7 +34,7 @@ use Rattle.weak_maps.proofs.FreshLemmas.{held_not_outside, own_middle, own_on, t
 use Rattle.weak_maps.proofs.GetLemmas.{grows_by}
 use Rattle.weak_cache.specs.Uses.{SlotLeft, is_of}
 use Rattle.weak_cache.specs.Caches.{Gone, OthersSpare, slot_in, slot_of}
-use Rattle.weak_cache.specs.Passes.{Core, Finding, FoundLeaf, IsAtHand, Keeping, KeepsLow, Moved, Moving, NoneIsOf, StoodIn, Tells, UseLeft, carried, moved, was_of}
+use Rattle.weak_cache.specs.Passes.{Core, Finding, FoundLeaf, IsAtHand, Keeping, KeepsBeside, Moved, Moving, NoneIsOf, StoodIn, Tells, UseLeft, carried, moved, was_of}
 use Rattle.weak_cache.proofs.CoreLemmas.{core_mid, core_own, core_quiet, leaf_mid, leaf_quiet, spared_on, spared_quiet, spares_within, stood_more, use_mid}
 use Rattle.weak_cache.proofs.ListLemmas.{carried_next, carried_some, is_of_some, left_of, moved_all, moved_long, moved_stop, read_moved, store_moved, stored_there}
 
@@ -179,8 +179,8 @@ module _ (z : Sizes) (limits : IsWithinLimits z) (d : ℕ) (first : List Entry) 
     found_told : (mine : Bool) → Tells z d n0 new 10 r k mine → Told n0 new fs field mine
     found_told mine t = told_by n0 new 10 (omega arith) spares fs at_slot field r mine (read_shows now n0 r 10 n (omega arith) (omega arith) p early fs x.0 small) (read_held now n0 r 10 n (omega arith) (omega arith) p early fs x.0 small) (at_slot.core.uses n small) t
 
-    pub search_low : (mine : Bool) → Tells z d n0 new 10 r k mine → KeepsLow z d now new
-    search_low mine t j low = (found_told mine t).others j (λ e. absurd (omega (arith, low, e))) ∙ read_others now n0 r 10 n (omega arith) (omega arith) p early fs x.0 small j (λ e. absurd (omega (arith, low, e)))
+    pub search_low : (mine : Bool) → Tells z d n0 new 10 r k mine → KeepsBeside z d now new
+    search_low mine t j beside = (found_told mine t).others j beside.2 ∙ read_others now n0 r 10 n (omega arith) (omega arith) p early fs x.0 small j beside.1
 
     pub search_on : Tells z d n0 new 10 r k false → Finding z d first new c k fs (n + 1)
     search_on t = let y = found_told false t in (y.keeps, none_more n x.1 (sym y.is))
@@ -320,8 +320,8 @@ module _ (z : Sizes) (limits : IsWithinLimits z) (d : ℕ) (first : List Entry) 
     told_it = told_by n1 n2 9 (omega arith) spares (moved (suc n) (Block l) fs) keeps1 (get_or fs n Nothing) r0 mine
         (read_shows now n0 r0 9 n (omega arith) (omega arith) p0 e0 gs x.keeps small_gs ∙ ap shown (read_moved n (Block l) fs small)) (stored.1 9 ∙ nine0) (keeps1.core.uses n small) t
 
-    pub pass_low : KeepsLow z d now n2
-    pass_low j low = told_it.others j (λ e. absurd (omega (arith, low, e))) ∙ (stored.1 j ∙ others0 j (λ e. absurd (omega (arith, low, e))))
+    pub pass_low : KeepsBeside z d now n2
+    pass_low j beside = told_it.others j beside.2 ∙ (stored.1 j ∙ others0 j beside.0)
 
     pub pass_met : mine ≡ true → Moved z d first n2 c k l v fs
     pass_met so =
@@ -339,8 +339,8 @@ module _ (z : Sizes) (limits : IsWithinLimits z) (d : ℕ) (first : List Entry) 
       others3 : (j : ℕ) → j ≢ 10 → held_by z d new j ≡ held_by z d n2 j
       others3 = set_other z d n2 new 10 (held_by z d n2 9) copied.1
 
-      pub pass_low_on : KeepsLow z d now new
-      pass_low_on j low = others3 j (λ e. absurd (omega (arith, low, e))) ∙ pass_low j low
+      pub pass_low_on : KeepsBeside z d now new
+      pass_low_on j beside = others3 j beside.1 ∙ pass_low j beside
 
       pub pass_on : Moving z d first new c k l v fs (n + 1)
       pass_on =

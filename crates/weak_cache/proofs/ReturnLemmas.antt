@@ -33,9 +33,9 @@ use Rattle.weak_maps.proofs.StayLemmas.{no_entry, quiet_on}
 use Rattle.weak_cache.specs.Uses.{cached_in, is_of, touched}
 use Rattle.weak_cache.specs.Caches.{IsCache, IsUse, OthersSpare, OwnSpare, slot_of, slots_after}
 use Rattle.weak_cache.specs.Calls.{GetReturns, LeavesCache, MakeReturns, PutReturns, PutsOrFull}
-use Rattle.weak_cache.specs.Passes.{Cleared, Core, Finding, FoundLeaf, Keeping, KeepsLow, MadeLeaf, Moved, Moving, StoodIn, UseLeft, moved_by, was_of}
+use Rattle.weak_cache.specs.Passes.{Cleared, Core, Finding, FoundLeaf, Keeping, KeepsBeside, MadeLeaf, Moved, Moving, StoodIn, UseLeft, moved_by, was_of}
 use Rattle.weak_cache.proofs.CoreLemmas.{core_mid, core_own, core_quiet, leaf_mid, leaf_quiet, spared_on, spared_quiet, spares_within}
-use Rattle.weak_cache.proofs.EndLemmas.{cleared_clean, cleared_core, cleared_leaf, cleared_low, cleared_spared, forgot_core, forgot_here, forgot_others, forgot_spared, left_alone, left_first, slots_are}
+use Rattle.weak_cache.proofs.EndLemmas.{low_beside, cleared_clean, cleared_core, cleared_leaf, cleared_low, cleared_spared, forgot_core, forgot_here, forgot_others, forgot_spared, left_alone, left_first, slots_are}
 use Rattle.weak_cache.proofs.ListLemmas.{cached_found, cached_none}
 
 module _ (z : Sizes) (limits : IsWithinLimits z) (d : ℕ) (c k : Label) (first : List Entry) (size : ℕ) (cache_is : IsCache (graph_of z first) c size) where
@@ -136,7 +136,7 @@ module _ (z : Sizes) (limits : IsWithinLimits z) (d : ℕ) (c k : Label) (first 
     core_c : Core z first (e.two ++ e.keys.between) c k fs fs
     core_c = core_mid z c k d first e.two new (SetKey 10 0 key) e.key_reply e.keys spares second_made.0.grows 12 key_two fs fs second_made.0
 
-    pub leaf_made : Moving z d first new c k l v fs 0 × KeepsLow z d now new
+    pub leaf_made : Moving z d first new c k l v fs 0 × KeepsBeside z d now new
     leaf_made =
         let is : held_by z d e.two key ≡ held_by z d now key = second_made.1 key ∙ first_made.1 key (λ s. absurd (omega (arith, few_key, s))) in
         let all = set_key_step z d e.two new e.key_reply 10 key e.keys l k None v second_made.2.held (is ∙ holds_key) own_mid2.node in
@@ -160,11 +160,11 @@ module _ (z : Sizes) (limits : IsWithinLimits z) (d : ℕ) (c k : Label) (first 
             at_hand = inl (refl, own);
             node = node;
           },
-          (λ i low. others i (λ s. absurd (omega (arith, low, s)))),
+          (λ i beside. others i beside.1),
         )
 
   -- `put` is done
-  pub put_done : (now new : List Entry) (l : Label) (v : Value) → KeepsLow z d first now → Moved z d first now c k l v fs → Cleared z d now new → OthersSpare z c d first new → PutsOrFull z d first new c size k v reply.Done
+  pub put_done : (now new : List Entry) (l : Label) (v : Value) → KeepsBeside z d first now → Moved z d first now c k l v fs → Cleared z d now new → OthersSpare z c d first new → PutsOrFull z d first new c size k v reply.Done
   put_done now new l v low x e spares =
       let gs = moved_by (was_of z first k) (Block l) fs in (
         (
@@ -175,7 +175,7 @@ module _ (z : Sizes) (limits : IsWithinLimits z) (d : ℕ) (c k : Label) (first 
       )
 
   -- or refused
-  pub put_full : (now one new : List Entry) (r : Reply) (v : Value) → KeepsLow z d first now → Keeping z d first now c k fs fs → PerformedBy z d now one (NewEphe 10 1) r → r ≡ reply.Full → Cleared z d one new → IsPrefix one new → OthersSpare z c d first new → PutsOrFull z d first new c size k v reply.Full
+  pub put_full : (now one new : List Entry) (r : Reply) (v : Value) → KeepsBeside z d first now → Keeping z d first now c k fs fs → PerformedBy z d now one (NewEphe 10 1) r → r ≡ reply.Full → Cleared z d one new → IsPrefix one new → OthersSpare z c d first new → PutsOrFull z d first new c size k v reply.Full
   put_full now one new r v low x p full e later spares = ⊎_elim
       (λ refused.
       let others : (i : ℕ) → held_by z d one i ≡ held_by z d now i = same_held z d now one refused.1.1 in
@@ -231,11 +231,11 @@ module _ (z : Sizes) (limits : IsWithinLimits z) (d : ℕ) (c k : Label) (first 
         let slot : slot_of (graph_of z first) (get_or fs x.i Nothing) ≡ Some (k, x.v) = ap (slot_of (graph_of z first)) x.field ∙ x.had in
         ap (cached_in k) (slots_are z first c cache_is.tag fs cache_is.node) ∙ cached_found k x.v (graph_of z first) fs x.i x.inner x.none slot (ap (is_of k) slot ∙ same_label_refl k)
 
-    pub get_found : (n1 new : List Entry) → KeepsLow z d first now → Moved z d first n1 c k x.l x.v fs → KeepsLow z d n0 n1 → Cleared z d n1 new → OthersSpare z c d first new → GetReturns z d first new c size dst (Block k) r
+    pub get_found : (n1 new : List Entry) → KeepsBeside z d first now → Moved z d first n1 c k x.l x.v fs → KeepsBeside z d n0 n1 → Cleared z d n1 new → OthersSpare z c d first new → GetReturns z d first new c size dst (Block k) r
     get_found n1 new low y low1 e spares1 =
         let gs = moved_by (was_of z first k) (Block x.l) fs in
         let low2 = cleared_low z limits d c k first size cache_is n1 new e spares1 gs y.keeps in
-        let holds : held_by z d new dst ≡ x.v = low2 dst few ∙ (low1 dst few ∙ set_here z d now n0 dst x.v read.1 (sixteen z d now n0 (GetData dst 10) r p limits) (omega (arith, few))) in (
+        let holds : held_by z d new dst ≡ x.v = low2 dst (low_beside dst few) ∙ (low1 dst (low_beside dst few) ∙ set_here z d now n0 dst x.v read.1 (sixteen z d now n0 (GetData dst 10) r p limits) (omega (arith, few))) in (
           read.2 ∙ sym (ap (λ (o : Option Value). shown (value_of o)) cached),
           ap shown holds ∙ sym read.2,
           subst (λ (o : Option Value). LeavesCache z d k first new c size (touched k o (slots_after z first c))) (sym cached)
@@ -247,7 +247,7 @@ module _ (z : Sizes) (limits : IsWithinLimits z) (d : ℕ) (c k : Label) (first 
         )
 
   -- or finds none
-  pub get_none : (now n0 new : List Entry) (r : Reply) (dst : ℕ) → dst < 8 → KeepsLow z d first now → Finding z d first now c k fs (length fs) → PerformedBy z d now n0 (Forget dst) r → IsPrefix n0 new → Cleared z d n0 new → OthersSpare z c d first new → GetReturns z d first new c size dst (Block k) reply.Empty
+  pub get_none : (now n0 new : List Entry) (r : Reply) (dst : ℕ) → dst < 8 → KeepsBeside z d first now → Finding z d first now c k fs (length fs) → PerformedBy z d now n0 (Forget dst) r → IsPrefix n0 new → Cleared z d n0 new → OthersSpare z c d first new → GetReturns z d first new c size dst (Block k) reply.Empty
   get_none now n0 new r dst few low x p later e spares =
       let others : (j : ℕ) → j ≢ dst → held_by z d n0 j ≡ held_by z d now j = forgot_others z limits d c k first size cache_is now n0 r dst p in
       let y : Keeping z d first n0 c k fs fs = record {
@@ -259,7 +259,7 @@ module _ (z : Sizes) (limits : IsWithinLimits z) (d : ℕ) (c k : Label) (first 
       let none : cached_in k (slots_after z first c) ≡ None = ap (cached_in k) (slots_are z first c cache_is.tag fs cache_is.node) ∙ cached_none k (graph_of z first) fs x.1 in
       let low2 = cleared_low z limits d c k first size cache_is n0 new e spares fs y in (
         sym (ap (λ (o : Option Value). shown (value_of o)) none),
-        ap shown (low2 dst few ∙ forgot_here z limits d c k first size cache_is now n0 r dst p (omega (arith, few))),
+        ap shown (low2 dst (low_beside dst few) ∙ forgot_here z limits d c k first size cache_is now n0 r dst p (omega (arith, few))),
         subst (λ (o : Option Value). LeavesCache z d k first new c size (touched k o (slots_after z first c))) (sym none) (left_alone z limits d c k first size cache_is new (cleared_spared z limits d c k first size cache_is n0 new e spares fs y) (cleared_core z limits d c k first size cache_is n0 new e spares fs y)),
         (
           cleared_clean z limits d c k first size cache_is n0 new e spares fs y,

@@ -16,6 +16,10 @@ use Rattle.table_laws.specs.Stages.{graph_of}
 use Rattle.map_laws.specs.Tries.{inside, is_leaf}
 use Rattle.map_laws.specs.Steps.{SparesLeaves, WasUnreached}
 
+-- registers that the calls on a cache don't use
+abbrev pub IsBeside : ℕ → Type 0
+IsBeside i = (i ≢ 9) × (i ≢ 10) × (i ≢ 11) × (i ≢ 12) × (i ≢ 13)
+
 -- what a leaf has
 abbrev pub slot_in : Option Node → Option Binding
 slot_in (Some (Ephe (Some k ∷ []) datum)) = Some (k, datum)

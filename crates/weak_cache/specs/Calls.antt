@@ -16,7 +16,7 @@ use Rattle.map_laws.specs.Calls.{value_of}
 use Rattle.weak_maps.specs.Beside.{held_by}
 use Rattle.weak_maps.specs.Returns.{MakesNone}
 use Rattle.weak_cache.specs.Uses.{SlotsLeft, cached_in, put_first, touched}
-use Rattle.weak_cache.specs.Caches.{Gone, IsCache, OwnSpare, slots_after}
+use Rattle.weak_cache.specs.Caches.{Gone, IsBeside, IsCache, OwnSpare, slots_after}
 
 -- a cache is one still, and has these slots, but for keys that were outside reach. No other block was written that was there
 pub record LeavesCache (z : Sizes) (d : ℕ) (k : Label) (old new : List Entry) (c : Label) (size : ℕ) (slots : List (Option Binding)) : Type 0 where
@@ -24,9 +24,9 @@ pub record LeavesCache (z : Sizes) (d : ℕ) (k : Label) (old new : List Entry) 
   pub left : SlotsLeft (Gone z k old new) slots (slots_after z new c)
   pub spared : OwnSpare z c d old new
 
--- registers 9 to 13 hold nothing, and those below 8 but for one what they held
+-- registers 9 to 13 hold nothing, and the others but for one what they held
 abbrev pub LeavesRegisters : Sizes → ℕ → List Entry → List Entry → ℕ → Type 0
-LeavesRegisters z d old new but = ((i : ℕ) → 9 ≤ i → i ≤ 13 → held_by z d new i ≡ Nothing) × ((i : ℕ) → i < 8 → i ≢ but → held_by z d new i ≡ held_by z d old i)
+LeavesRegisters z d old new but = ((i : ℕ) → 9 ≤ i → i ≤ 13 → held_by z d new i ≡ Nothing) × ((i : ℕ) → IsBeside i → i ≢ but → held_by z d new i ≡ held_by z d old i)
 
 -- `cache_get`, by what the register of the key holds: `type` exactly where it is no label, else the value that the cache had of the key when the call began, or `none`. The key is the last used then
 abbrev pub GetReturns : Sizes → ℕ → List Entry → List Entry → Label → ℕ → ℕ → Value → Reply → Type 0
@@ -36,7 +36,7 @@ GetReturns z d old new c size dst key r = (r ≡ reply.BadType) × (new ≡ old)
 
 -- `cache_put` of a value: done, and it is the last used, or `full`, and the cache has what it had
 abbrev pub PutsOrFull : Sizes → ℕ → List Entry → List Entry → Label → ℕ → Label → Value → Reply → Type 0
-PutsOrFull z d old new c size k v r = LeavesRegisters z d old new 8
+PutsOrFull z d old new c size k v r = LeavesRegisters z d old new 9
     × (((r ≡ reply.Done) × LeavesCache z d k old new c size (put_first k v (slots_after z old c)))
     ⊎ ((r ≡ reply.Full) × LeavesCache z d k old new c size (slots_after z old c)))
 

@@ -1,15 +1,17 @@
 -- Laws of caches, in the words in which a reader would ask for them.
-use Rattle.std.specs.Prelude.{◌≡◌, ◌≢◌, ℕ, ◌+◌, ◌<◌, ◌≤◌, IsTrue, List, [], ◌∷◌, length, slice_index_or, Option, Some, None}
+use Rattle.std.specs.Prelude.{◌≡◌, ◌≢◌, ◌⊎◌, ℕ, ◌+◌, ◌<◌, ◌≤◌, IsTrue, List, [], ◌∷◌, length, slice_index_or, Option, Some, None}
 use Rattle.heap_model.specs.declared.label.Label.{Label}
 use Rattle.heap_model.specs.declared.entry.Entry.{Entry}
 use Rattle.heap_model.specs.declared.graph.Value.{Value}
 use Rattle.heap_model.specs.declared.state.Sizes.{Sizes}
 use Rattle.heap_model.specs.Graph.{has_label}
-use Rattle.heap_model.specs.History.{Legal}
+use Rattle.heap_model.specs.History.{IsPrefix, Legal}
 use Rattle.table_laws.specs.Structures.{Binding}
 use Rattle.table_laws.specs.Stages.{graph_of}
-use Rattle.weak_cache.specs.Uses.{SlotsLeft, age, cached_in, put_first}
+use Rattle.map_laws.specs.Steps.{WasUnreached}
+use Rattle.weak_cache.specs.Uses.{SlotsLeft, age, cached_in, put_first, touched}
 use Rattle.weak_cache.specs.Caches.{Gone, IsCache, OthersSpare, slots_after}
+use Rattle.weak_cache.specs.Calls.{LeavesCache}
 
 -- a cache has no more values than slots
 abbrev pub CacheIsBounded : Type 0
@@ -71,3 +73,34 @@ UsedLastIsFound = (k : Label) (v : Value) (names : List Label) (us : List Use) (
 -- in a heap of one domain nobody else uses a cache
 abbrev pub AloneSpares : Type 0
 AloneSpares = (z : Sizes) (c : Label) (old new : List Entry) → z.domains ≡ 1 → Legal z new → OthersSpare z c 0 old new
+
+-- a call on a cache, from a front to a later one: the key that it used, with the value that was put or found, or none where a lookup found none or a put was refused
+pub record Call : Type 0 where
+  pub key : Label
+  pub value : Option Value
+  pub old : List Entry
+  pub new : List Entry
+
+-- from one front to a later one a cache has lost only what keys had that were outside reach
+abbrev pub LosesOnly : Sizes → Label → List Entry → List Entry → Type 0
+LosesOnly z c old new = IsPrefix old new × SlotsLeft (WasUnreached z old new) (slots_after z old c) (slots_after z new c)
+
+-- calls of domain d on a cache, one after another, each of which leaves what its clause says, and between which the cache loses only that
+abbrev pub CallsOn : Sizes → ℕ → Label → ℕ → List Call → List Entry → List Entry → Type 0
+CallsOn z d c size [] old new = LosesOnly z c old new
+CallsOn z d c size (x ∷ xs) old new = LosesOnly z c old x.old × IsPrefix x.old x.new × LeavesCache z d x.key x.old x.new c size (touched x.key x.value (slots_after z x.old c)) × CallsOn z d c size xs x.new new
+
+-- each call that uses a key uses one of these, and none uses another
+abbrev pub IsUseOf : List Label → Label → Label → Option Value → Type 0
+IsUseOf names k key None = Unit {0}
+IsUseOf names k key (Some v) = IsAmong names key × (key ≢ k)
+
+abbrev pub UsesOf : List Label → Label → List Call → Type 0
+UsesOf names k [] = Unit {0}
+UsesOf names k (x ∷ xs) = IsUseOf names k x.key x.value × UsesOf names k xs
+
+-- over whatever calls, what a put put of a key, or a lookup found, is found as long as fewer different keys were used since than there are slots, and neither the key nor one of those was outside reach meanwhile
+abbrev pub UsedInCallsIsFound : Type 0
+UsedInCallsIsFound = (z : Sizes) (d : ℕ) (c : Label) (size : ℕ) (k : Label) (v : Value) (names : List Label) (calls : List Call) (before first last : List Entry) → IsPrefix before first
+    → LeavesCache z d k before first c size (touched k (Some v) (slots_after z before c)) → CallsOn z d c size calls first last → UsesOf names k calls → length names < size
+    → ((l : Label) → (l ≡ k) ⊎ IsAmong names l → WasUnreached z before last l → ⊥) → cached_in k (slots_after z last c) ≡ Some v

@@ -18,7 +18,7 @@ use Rattle.weak_maps.specs.Beside.{held_by}
 use Rattle.weak_maps.specs.Commands.{IsBlock}
 use Rattle.weak_maps.specs.Puts.{OwnBlock}
 use Rattle.weak_cache.specs.Uses.{SlotLeft, is_of}
-use Rattle.weak_cache.specs.Caches.{Gone, OthersSpare, OwnSpare, slot_of}
+use Rattle.weak_cache.specs.Caches.{Gone, IsBeside, OthersSpare, OwnSpare, slot_of}
 
 -- a block stood in a cache as a leaf, at this front or an earlier one
 pub record StoodIn (z : Sizes) (c : Label) (h : List Entry) (l : Label) : Type 0 where
@@ -48,9 +48,9 @@ pub record Keeping (z : Sizes) (d : ℕ) (first now : List Entry) (c k : Label) 
   pub cache : held_by z d now 13 ≡ Block c
   pub spared : OwnSpare z c d first now
 
--- registers below 8 are as they were
-abbrev pub KeepsLow : Sizes → ℕ → List Entry → List Entry → Type 0
-KeepsLow z d old new = (r : ℕ) → r < 8 → held_by z d new r ≡ held_by z d old r
+-- the other registers are as they were
+abbrev pub KeepsBeside : Sizes → ℕ → List Entry → List Entry → Type 0
+KeepsBeside z d old new = (r : ℕ) → IsBeside r → held_by z d new r ≡ held_by z d old r
 
 -- whether a value was a leaf of a key when the call began
 abbrev pub was_of : Sizes → List Entry → Label → Value → Bool
@@ -125,15 +125,15 @@ Tells z d old new slot shows k mine = ((IsBlock shows → ⊥) × (new ≡ old) 
 
 -- one field is passed, of whatever cache on whatever call, if others spare the cache
 abbrev pub Passes : Sizes → ℕ → List Entry → List Entry → Label → ℕ → Bool → Type 0
-Passes z d old new k n on = (first : List Entry) (c l : Label) (v : Value) (fs : List Value) → OthersSpare z c d first new → n < length fs → Moving z d first old c k l v fs n → MovesOn z d first new c k l v fs n on × KeepsLow z d old new
+Passes z d old new k n on = (first : List Entry) (c l : Label) (v : Value) (fs : List Value) → OthersSpare z c d first new → n < length fs → Moving z d first old c k l v fs n → MovesOn z d first new c k l v fs n on × KeepsBeside z d old new
 
 -- all are
 abbrev pub MovesFirst : Sizes → ℕ → List Entry → List Entry → Label → ℕ → Type 0
-MovesFirst z d old new k size = (first : List Entry) (c l : Label) (v : Value) (fs : List Value) → OthersSpare z c d first new → length fs ≡ size → 1 ≤ size → Moving z d first old c k l v fs 0 → Moved z d first new c k l v fs × KeepsLow z d old new
+MovesFirst z d old new k size = (first : List Entry) (c l : Label) (v : Value) (fs : List Value) → OthersSpare z c d first new → length fs ≡ size → 1 ≤ size → Moving z d first old c k l v fs 0 → Moved z d first new c k l v fs × KeepsBeside z d old new
 
 -- a leaf of the key is looked for
 abbrev pub FindsLeaf : Sizes → ℕ → List Entry → List Entry → Label → ℕ → Bool → Type 0
-FindsLeaf z d old new k size found = (first : List Entry) (c : Label) (fs : List Value) → OthersSpare z c d first new → length fs ≡ size → Finding z d first old c k fs 0 → FoundBy z d first new c k fs found × KeepsLow z d old new
+FindsLeaf z d old new k size found = (first : List Entry) (c : Label) (fs : List Value) → OthersSpare z c d first new → length fs ≡ size → Finding z d first old c k fs 0 → FoundBy z d first new c k fs found × KeepsBeside z d old new
 
 -- a leaf of the key in a register was made, with the value in another
 pub record MadeLeaf (z : Sizes) (d : ℕ) (old new : List Entry) (key item : ℕ) : Type 0 where

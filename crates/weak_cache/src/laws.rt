@@ -1,5 +1,5 @@
 //! Laws of caches. Each function's contract is one law, and it does nothing else.
-ghost use Rattle.weak_cache.specs.Laws.{AloneSpares, CacheIsBounded, GetKeeps, LossKeepsOthers, NoOtherIsFound, OthersGoBack, OthersStay, PutIsFound, UsedLastIsFound};
+ghost use Rattle.weak_cache.specs.Laws.{AloneSpares, CacheIsBounded, GetKeeps, LossKeepsOthers, NoOtherIsFound, OthersGoBack, OthersStay, PutIsFound, UsedInCallsIsFound, UsedLastIsFound};
 
 /// A cache has no more values than it has slots.
 pub fn caches_are_bounded()
@@ -26,7 +26,8 @@ pub fn others_go_back()
 /// What was put of a key, or found, is found again as long as it isn't lost and fewer different keys were used since than there
 /// are slots: it was among the last n different keys of a cache of n slots.
 pub fn used_last_is_found()
-    ensures { UsedLastIsFound }
+    ensures uses { UsedLastIsFound }
+    ensures calls { UsedInCallsIsFound }
 {}
 
 /// To use what is found changes no value.

@@ -20,6 +20,7 @@ use Rattle.weak_maps.specs.Fields.{Stays}
 use Rattle.weak_maps.specs.Puts.{Arrived, FindsField, GoesOn, KeepsLeaf, MakesRoom, Publishes, Putting, rest_of}
 use Rattle.weak_maps.specs.declared.putting.Try.{Try}
 use Rattle.weak_maps.specs.Settles.{AloneBy, IsDeep, SettlesAlone}
+use Rattle.weak_maps.proofs.BesideLemmas.{low_beside}
 use Rattle.weak_maps.proofs.CleanLemmas.{leaves_within}
 use Rattle.weak_maps.proofs.CleanedLemmas.{less_or, nothing_there}
 use Rattle.weak_maps.proofs.GetLemmas.{grows_by}
@@ -97,7 +98,7 @@ module _ (z : Sizes) (limits : IsWithinLimits z) (root : Label) (d : ℕ) (old n
     room_deeper n1 new r left one makes grows p respects leave =
         let g = grows_by z d n1 new (Load 9 8 i) r p in
         let early = respects_within z root d old new old n1 (prefix_same old) g respects in
-        let y = makes t.first t.found.front root k j t.l v rest kr t.found.shows few (t.keeps kr few ∙ key) t.found.field t.found.binds (digit_of (respects_within z root d old n1 old now (prefix_same old) grows early)) t.leaf t.on.map
+        let y = makes t.first t.found.front root k j t.l v rest kr t.found.shows few (t.keeps kr (low_beside kr few) ∙ key) t.found.field t.found.binds (digit_of (respects_within z root d old n1 old now (prefix_same old) grows early)) t.leaf t.on.map
         (respects_within z root d old n1 now n1 t.on.grows (prefix_same n1) early) in
         let down = y.deeper at_field_now (leaves_within z root d old new now n1 t.on.grows g leave) in
         let deep = x.deep in

@@ -19,7 +19,12 @@ use Rattle.heap_model.proofs.Histories.ShapeAfterLemmas.{shaped-history}
 use Rattle.table_laws.specs.Thinning.{state_of}
 use Rattle.map_laws.specs.Calls.{PerformedBy, registers_after}
 use Rattle.weak_maps.specs.Beside.{held_by}
+use Rattle.weak_maps.specs.Fields.{IsBeside}
 use Rattle.weak_maps.proofs.CountLemmas.{legal_both}
+
+-- one below 8 is none that a put or a take uses
+pub low_beside : (r : ℕ) → r < 8 → IsBeside r
+low_beside r low = ((λ e. absurd (omega (arith, low, e))), (λ e. absurd (omega (arith, low, e))), (λ e. absurd (omega (arith, low, e))), (λ e. absurd (omega (arith, low, e))))
 
 -- registers after a command that changes one of them
 module _ (z : Sizes) (d : ℕ) (now new : List Entry) (dst : ℕ) (v : Value) (is : registers_after z d new ≡ set (registers_after z d now) dst v) where

@@ -26,6 +26,8 @@ use Rattle.map_laws.proofs.MapLemmas.{at_same, inside_same, thinned_map}
 use Rattle.map_laws.proofs.OwnLemmas.{keeps_none, keeps_once, keeps_twice}
 use Rattle.map_laws.proofs.RespectLemmas.{graph_push}
 use Rattle.map_laws.proofs.SetLemmas.{no_longer}
+use Rattle.map_laws.specs.Within.{IsMadeBehind, OwnWithin, StepsWithin}
+use Rattle.map_laws.proofs.WithinLemmas.{within_earlier, within_none, within_once, within_same, within_twice}
 use Rattle.weak_maps.specs.Cleans.{Below, Cleans, LeftAlone}
 use Rattle.weak_maps.proofs.BesideLemmas.{until_new}
 use Rattle.weak_maps.proofs.DescendLemmas.{leaf_node, plain_node}
@@ -63,13 +65,13 @@ leaves_within z root d old new later earlier after before leaves front e since u
 module _ (z : Sizes) (root : Label) (d : ℕ) where
   -- nothing was done
   pub cleans_none : (h : List Entry) → IsMap (graph_of z h) root → IsInPlace z.domains (graph_of z h) root → Cleans z root d h h
-  cleans_none h map placed = record { keeps = keeps_none z root d h; grows = prefix_same h; map = map; placed = placed; stood = λ p l x. x }
+  cleans_none h map placed = record { keeps = keeps_none z root d h; within = within_none z root d h h; grows = prefix_same h; map = map; placed = placed; stood = λ p l x. x }
 
   pub left_none : (h : List Entry) → IsMap (graph_of z h) root → IsInPlace z.domains (graph_of z h) root → LeftAlone z root d h h
   left_none h map placed = record { cleans = cleans_none h map placed; places = λ q. refl; blocks = λ q u there. refl; dead = λ q l datum there is. is }
 
   pub cleans_twice : (a b c : List Entry) → Cleans z root d a b → Cleans z root d b c → Cleans z root d a c
-  cleans_twice a b c x y = record { keeps = keeps_twice z root d a b c y.grows x.keeps y.keeps; grows = prefix_trans a b c x.grows y.grows; map = y.map; placed = y.placed; stood = λ p l k. x.stood p l (y.stood p l k) }
+  cleans_twice a b c x y = record { keeps = keeps_twice z root d a b c y.grows x.keeps y.keeps; within = within_twice z root d a a b c y.grows x.within (within_earlier z root d a b b c x.grows y.within); grows = prefix_trans a b c x.grows y.grows; map = y.map; placed = y.placed; stood = λ p l k. x.stood p l (y.stood p l k) }
 
   pub left_twice : (a b c : List Entry) → LeftAlone z root d a b → LeftAlone z root d b c → LeftAlone z root d a c
   left_twice a b c x y = record {
@@ -113,9 +115,9 @@ module _ (z : Sizes) (root : Label) (d : ℕ) where
             let n = plain_node (node_at g l) fields plain in
             let clash : Some (Plain n.0 fields) ≡ Some (Ephe (Some x.key ∷ []) x.datum) = sym (thinned p l (Plain n.0 fields) there n.1) ∙ x.node in cc
 
-    pub left_one : OwnKeep z root d front (front ++ e ∷ []) → LeftAlone z root d front (front ++ e ∷ [])
-    left_one keeps = record {
-      cleans = record { keeps = keeps; grows = record { rest = e ∷ []; appends = refl }; map = thinned_map P g h root map thinned; placed = thin_place z.domains P g h root map thinned placed; stood = stood_one };
+    pub left_one : OwnKeep z root d front (front ++ e ∷ []) → OwnWithin z root d front front (front ++ e ∷ []) → LeftAlone z root d front (front ++ e ∷ [])
+    left_one keeps within = record {
+      cleans = record { keeps = keeps; within = within; grows = record { rest = e ∷ []; appends = refl }; map = thinned_map P g h root map thinned; placed = thin_place z.domains P g h root map thinned placed; stood = stood_one };
       places = λ q. at_same P g h root map thinned q;
       blocks = λ q u there. inside_same P g h root map thinned q u there;
       dead = λ q l datum there is. still (node_at h l) datum (thinned q l (Ephe (None ∷ []) datum) there is);
@@ -124,13 +126,16 @@ module _ (z : Sizes) (root : Label) (d : ℕ) where
   keeps_others : (now between : List Entry) → NoneOf d between → OwnKeep z root d now (now ++ between)
   keeps_others now between none f e a b own l = let clash : true ≡ false = sym own ∙ other_between d now between f e none a b in cc
 
+  within_others : (first now between : List Entry) → NoneOf d between → OwnWithin z root d first now (now ++ between)
+  within_others first now between none f e a b own = let clash : true ≡ false = sym own ∙ other_between d now between f e none a b in cc
+
   -- over entries of others
   pub left_others : (now between : List Entry) → NoneOf d between → IsMap (graph_of z now) root → IsInPlace z.domains (graph_of z now) root → OthersLeave z root d now (now ++ between) → LeftAlone z root d now (now ++ between)
   left_others now [] none map placed leaves = subst (LeftAlone z root d now) (sym (append-nil now)) (left_none now map placed)
   left_others now (e ∷ more) none map placed leaves =
       let parts = none_cons d e more none in
       let whole : (now ++ e ∷ []) ++ more ≡ now ++ e ∷ more = append_assoc now (e ∷ []) more in
-      let one : LeftAlone z root d now (now ++ e ∷ []) = left_one now e (leaves now e (prefix_same now) (record { rest = more; appends = sym whole }) parts.0) map placed (keeps_others now (e ∷ []) (none_one e parts.0)) in
+      let one : LeftAlone z root d now (now ++ e ∷ []) = left_one now e (leaves now e (prefix_same now) (record { rest = more; appends = sym whole }) parts.0) map placed (keeps_others now (e ∷ []) (none_one e parts.0)) (within_others now now (e ∷ []) (none_one e parts.0)) in
       let rest : LeftAlone z root d (now ++ e ∷ []) ((now ++ e ∷ []) ++ more) = left_others (now ++ e ∷ []) more parts.1 one.cleans.map one.cleans.placed
       (leaves_within z root d now (now ++ e ∷ more) (now ++ e ∷ []) ((now ++ e ∷ []) ++ more) (record { rest = e ∷ []; appends = refl }) (record { rest = []; appends = sym whole ∙ sym (append-nil ((now ++ e ∷ []) ++ more)) }) leaves) in
       subst (LeftAlone z root d now) whole (left_twice now (now ++ e ∷ []) ((now ++ e ∷ []) ++ more) one rest)
@@ -148,9 +153,10 @@ module _ (z : Sizes) (root : Label) (d : ℕ) where
 
     -- the command's own part, by what it leaves of the bindings
     pub behind_command : IsMap (graph_of z new) root → IsInPlace z.domains (graph_of z new) root → ((l : Label) → found z.domains (graph_of z new) root l ≡ found z.domains (graph_of z mid) root l)
-        → ((q : List ℕ) (l : Label) → HasKey (graph_of z new) root q l → HasKey (graph_of z mid) root q l) → Cleans z root d now new
-    behind_command map_new placed_new kept stood = record {
+        → ((q : List ℕ) (l : Label) → HasKey (graph_of z new) root q l → HasKey (graph_of z mid) root q l) → StepsWithin (IsMadeBehind z d now) (graph_of z mid) (graph_of z new) root → Cleans z root d now new
+    behind_command map_new placed_new kept stood within = record {
       keeps = keeps_once z root d now new c r p (λ l. ap (λ (h : List Entry). bound_after z root h l) (sym p.appends) ∙ kept l);
+      within = within_once z root d now now new c r p within;
       grows = grows_by z d now new c r p;
       map = map_new;
       placed = placed_new;
@@ -160,7 +166,7 @@ module _ (z : Sizes) (root : Label) (d : ℕ) where
     pub left_command : graph_of z new ≡ graph_of z mid → LeftAlone z root d now new
     left_command same =
         let x = to_command in record {
-          cleans = behind_command (subst (λ (y : Graph). IsMap y root) (sym same) x.cleans.map) (subst (λ (y : Graph). IsInPlace z.domains y root) (sym same) x.cleans.placed) (λ l. ap (λ (y : Graph). found z.domains y root l) same) (λ q l had. subst (λ (y : Graph). HasKey y root q l) same had);
+          cleans = behind_command (subst (λ (y : Graph). IsMap y root) (sym same) x.cleans.map) (subst (λ (y : Graph). IsInPlace z.domains y root) (sym same) x.cleans.placed) (λ l. ap (λ (y : Graph). found z.domains y root l) same) (λ q l had. subst (λ (y : Graph). HasKey y root q l) same had) (within_same (IsMadeBehind z d now) (graph_of z mid) (graph_of z new) root same);
           places = λ q. ap (λ (y : Graph). at (inside y) q (Block root)) same ∙ x.places q;
           blocks = λ q u there. ap (λ (y : Graph). inside y u) same ∙ x.blocks q u there;
           dead = λ q l datum there is. ap (λ (y : Graph). node_at y l) same ∙ x.dead q l datum there is;

@@ -27,6 +27,8 @@ use Rattle.weak_maps.specs.Beside.{held_by}
 use Rattle.weak_maps.specs.Cleans.{AtBlock, Below, BlockCleaned, Cleans, Elsewhere, FieldCleaned, HadKeysAt, IsTidyAt, IsZero, KeepsLow, LeftAlone, width_of}
 use Rattle.weak_maps.specs.Commands.{IsBlock}
 use Rattle.weak_maps.proofs.BesideLemmas.{same_held, set_here, set_other, sixteen}
+use Rattle.map_laws.specs.Within.{IsMadeBehind}
+use Rattle.map_laws.proofs.WithinLemmas.{within_emptied}
 use Rattle.weak_maps.proofs.CleanLemmas.{behind_command, below_more, below_same, cleans_none, cleans_twice, left_command, left_twice, not_below, other_below, to_command}
 use Rattle.weak_maps.proofs.DescendLemmas.{at_append, leaf_node, leaf_none, plain_node, still_leaf}
 use Rattle.weak_maps.proofs.PlaceLemmas.{only_there, plain_unbound}
@@ -308,7 +310,7 @@ module _ (z : Sizes) (limits : IsWithinLimits z) (root : Label) (d : ℕ) (p : L
     cleans_it : Cleans z root d now new
     cleans_it =
         let laws = empty_keeps z.domains g h root alone.cleans.map empties in
-        behind_command z root d now new (Store block i 15) r q leaves x.cleans.map x.cleans.placed laws.0 placed_new laws.1 stood_new
+        behind_command z root d now new (Store block i 15) r q leaves x.cleans.map x.cleans.placed laws.0 placed_new laws.1 stood_new (within_emptied (IsMadeBehind z d now) g h root alone.cleans.map empties)
 
     places_left : (y : List ℕ) → (Below here y → ⊥) → at (inside h) y (Block root) ≡ at (inside (graph_of z now)) y (Block root)
     places_left y apart = emptied_places g h root alone.cleans.map empties y (λ t is. apart (t, is)) ∙ alone.places y

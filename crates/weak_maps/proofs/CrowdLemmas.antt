@@ -19,6 +19,7 @@ use Rattle.weak_maps.specs.Crowds.{IsCrowded, PutCounts, made_by}
 use Rattle.weak_maps.specs.Fields.{AtField}
 use Rattle.weak_maps.specs.Puts.{FieldFound, FindsField, Putting}
 use Rattle.weak_maps.specs.Settles.{TryRefuses}
+use Rattle.weak_maps.proofs.BesideLemmas.{low_beside}
 use Rattle.weak_maps.proofs.DescendLemmas.{ends_there}
 use Rattle.weak_maps.proofs.SettleLemmas.{bound_node}
 use Rattle.weak_maps.proofs.StayLemmas.{looking_from}
@@ -90,7 +91,7 @@ put_crowded z root d old now n0 new k j v kr i rest i2 rest2 level steps s other
     depth = length here.p + steps
 
     f : FieldFound z d now n0 root k i2 rest2 depth other
-    f = (finds now root (t.keeps kr few ∙ key) (looking_from z root d now t.on.map) here respects).2
+    f = (finds now root (t.keeps kr (low_beside kr few) ∙ key) (looking_from z root d now t.on.map) here respects).2
 
     g : Graph
     g = graph_of z f.front

@@ -30,12 +30,14 @@ use Rattle.map_laws.specs.Tries.{at, inside, fields_of, is_leaf, IsMap}
 use Rattle.map_laws.specs.Private.{IsPrivate}
 use Rattle.map_laws.specs.Steps.{OthersRespect, RespectsMap, WasUnreached}
 use Rattle.map_laws.specs.Calls.{Looks, PerformedBy}
+use Rattle.map_laws.specs.Within.{IsMadeBehind, OwnWithin, StepsWithin}
 use Rattle.map_laws.proofs.CallLemmas.{legal_middle, made, registers_kept}
 use Rattle.map_laws.proofs.FrontLemmas.{other_between, prefix_more, prefix_same, prefix_trans, walk_along}
 use Rattle.map_laws.proofs.MapLemmas.{map_stays}
 use Rattle.map_laws.proofs.OwnLemmas.{apart_respects, apart_untouched, fresh_respects, fresh_untouched, leaf_stays, looks_once, reading_respects, reading_untouched, untouched_keeps}
 use Rattle.map_laws.proofs.PrivateLemmas.{born, is_item, private_between, private_born, private_left, private_outside, private_own}
 use Rattle.map_laws.proofs.RespectLemmas.{state_push}
+use Rattle.map_laws.proofs.WithinLemmas.{none_before, within_apart, within_fresh, within_once, within_same}
 use Rattle.weak_maps.specs.Beside.{held_by}
 use Rattle.weak_maps.specs.Puts.{OwnBlock}
 use Rattle.weak_maps.proofs.BesideLemmas.{left_is}
@@ -184,6 +186,13 @@ module _ (z : Sizes) (d : ℕ) (root : Label) (now new : List Entry) (c : Comman
   pub next_is : (g : Graph) → graph_of z new ≡ g → (next (state_of z mid) entry).graph ≡ g
   next_is g is = ap (λ (s : State). s.graph) (sym (left_is z d now new c r p)) ∙ is
 
+  -- what it makes is made behind an earlier front
+  pub made_behind : (first : List Entry) → IsPrefix first now → node_at (graph_of z mid) (made z d now new c r p) ≡ None → IsMadeBehind z d first (made z d now new c r p)
+  made_behind first grows fresh = (refl, none_before z first mid (made z d now new c r p) (prefix_trans first now mid grows (prefix_more now p.between)) fresh)
+
+  pub within_by : (first : List Entry) → StepsWithin (IsMadeBehind z d first) (graph_of z mid) (next (state_of z mid) entry).graph root → OwnWithin z root d first now new
+  within_by first s = within_once z root d first now new c r p (subst (λ (t : State). StepsWithin (IsMadeBehind z d first) (graph_of z mid) t.graph root) (sym (left_is z d now new c r p)) s)
+
   module _ (respects : OthersRespect z root d now new) (map : IsMap (graph_of z now) root) where
     pub map_mid : IsMap (graph_of z mid) root
     map_mid = (stays_middle z root d now now new c r p respects (prefix_same now) map).map
@@ -192,23 +201,23 @@ module _ (z : Sizes) (d : ℕ) (root : Label) (now new : List Entry) (c : Comman
     map_by own = subst (λ (s : State). IsMap s.graph root) (sym (left_is z d now new c r p)) (map_stays z.domains root (state_of z mid) entry map_mid own.step)
 
     -- it reads
-    pub reads_on : graph_of z new ≡ graph_of z mid → Looks z root d now new × IsMap (graph_of z new) root
+    pub reads_on : graph_of z new ≡ graph_of z mid → Looks z root d now new × IsMap (graph_of z new) root × ((first : List Entry) → OwnWithin z root d first now new)
     reads_on same =
         let is = next_is (graph_of z mid) same in
         let own = reading_respects z root mid entry is in
-        (looks_once z root d now new c r p own (untouched_keeps z root mid entry map_mid (reading_untouched (graph_of z mid) (next (state_of z mid) entry).graph root is)), map_by own)
+        (looks_once z root d now new c r p own (untouched_keeps z root mid entry map_mid (reading_untouched (graph_of z mid) (next (state_of z mid) entry).graph root is)), map_by own, (λ first. within_once z root d first now new c r p (within_same (IsMadeBehind z d first) (graph_of z mid) (graph_of z new) root same)))
 
     -- it makes a block
-    pub makes_on : (x : Label × Node) → graph_of z new ≡ graph_of z mid ++ x ∷ [] → Looks z root d now new × IsMap (graph_of z new) root
+    pub makes_on : (x : Label × Node) → graph_of z new ≡ graph_of z mid ++ x ∷ [] → Looks z root d now new × IsMap (graph_of z new) root × ((first : List Entry) → IsMadeBehind z d first x.0 → OwnWithin z root d first now new)
     makes_on x grown =
         let is = next_is (graph_of z mid ++ x ∷ []) grown in
         let own = fresh_respects z root mid entry map_mid x is in
-        (looks_once z root d now new c r p own (untouched_keeps z root mid entry map_mid (fresh_untouched (graph_of z mid) (next (state_of z mid) entry).graph root map_mid x is)), map_by own)
+        (looks_once z root d now new c r p own (untouched_keeps z root mid entry map_mid (fresh_untouched (graph_of z mid) (next (state_of z mid) entry).graph root map_mid x is)), map_by own, (λ first mine. within_once z root d first now new c r p (within_fresh (IsMadeBehind z d first) (graph_of z mid) (graph_of z new) root map_mid x mine grown)))
 
     -- it writes a block of the domain's own
-    pub writes_on : (i : ℕ) (l : Label) (n n2 : Node) → OwnBlock z d mid root i l n → graph_of z new ≡ with_node (graph_of z mid) l n2 → Looks z root d now new × IsMap (graph_of z new) root
+    pub writes_on : (i : ℕ) (l : Label) (n n2 : Node) → OwnBlock z d mid root i l n → graph_of z new ≡ with_node (graph_of z mid) l n2 → Looks z root d now new × IsMap (graph_of z new) root × ((first : List Entry) → IsMadeBehind z d first l → OwnWithin z root d first now new)
     writes_on i l n n2 x written =
         let is = next_is (with_node (graph_of z mid) l n2) written in
         let now_apart : (q : List ℕ) → at (inside (graph_of z mid)) q (Block root) ≡ Some (Block l) → ⊥ = private_outside z d l root mid x.private x.apart in
         let own = apart_respects z root mid entry l n2 (record { now = now_apart; never = x.never }) is in
-        (looks_once z root d now new c r p own (untouched_keeps z root mid entry map_mid (apart_untouched (graph_of z mid) (next (state_of z mid) entry).graph root l n2 now_apart is)), map_by own)
+        (looks_once z root d now new c r p own (untouched_keeps z root mid entry map_mid (apart_untouched (graph_of z mid) (next (state_of z mid) entry).graph root l n2 now_apart is)), map_by own, (λ first mine. within_once z root d first now new c r p (within_apart (IsMadeBehind z d first) (graph_of z mid) (graph_of z new) root map_mid l n2 now_apart mine written)))

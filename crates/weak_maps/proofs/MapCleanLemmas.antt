@@ -21,6 +21,7 @@ use Rattle.map_laws.proofs.WalkLemmas.{at_step, same_number}
 use Rattle.weak_maps.specs.Beside.{held_by}
 use Rattle.weak_maps.specs.Cleans.{AtBlock, BlockCleaned, CleanLeaves, CleansBlock, ForgetsHigh, LeftAlone}
 use Rattle.weak_maps.proofs.BesideLemmas.{set_here, set_other, sixteen}
+use Rattle.map_laws.proofs.WithinLemmas.{within_earlier, within_twice}
 use Rattle.weak_maps.proofs.CleanLemmas.{leaves_within, left_command, left_none, left_twice}
 use Rattle.weak_maps.proofs.CleanedLemmas.{beyond, less_or, nothing_there}
 use Rattle.weak_maps.proofs.DescendLemmas.{leaf_none, still_leaf}
@@ -63,6 +64,8 @@ module _ (z : Sizes) (limits : IsWithinLimits z) (d : ℕ) (old : List Entry) wh
     record {
       map = after.cleans.map;
       placed = after.cleans.placed;
+      within = within_twice z root d old old n0 new (prefix_trans n0 n1 new g1 g2) zeroed.cleans.within
+          (within_twice z root d old n0 n1 new g2 (within_earlier z root d old n0 n0 n1 g0 y.cleans.within) (within_earlier z root d old n1 n1 new (prefix_trans old n0 n1 g0 g1) after.cleans.within));
       clean = forgets.clean;
       registers = λ i few. forgets.low i few ∙ (y.low.0 i few ∙ others i few);
     },

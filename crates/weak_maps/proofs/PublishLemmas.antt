@@ -30,19 +30,22 @@ use Rattle.map_laws.specs.Tries.{at, inside, fields_of, bound_by, bound_in, foun
 use Rattle.map_laws.specs.Private.{IsPrivate}
 use Rattle.map_laws.specs.Steps.{AllRespect, Sets, SetsKey, OthersRespect, RespectsMap, WasUnreached}
 use Rattle.map_laws.specs.Calls.{PerformedBy, bound_after, registers_after}
+use Rattle.map_laws.specs.Within.{IsMadeBehind}
 use Rattle.map_laws.proofs.CallLemmas.{cas_step, registers_kept}
 use Rattle.map_laws.proofs.FrontLemmas.{other_between, prefix_more, prefix_same, prefix_trans, walk_along}
+use Rattle.map_laws.proofs.MapLemmas.{map_stays}
 use Rattle.map_laws.proofs.OwnLemmas.{changes_once, plain_spares}
 use Rattle.map_laws.proofs.PrivateLemmas.{private_own}
 use Rattle.map_laws.proofs.RespectLemmas.{graph_push}
 use Rattle.map_laws.proofs.SetLemmas.{set_binds}
+use Rattle.map_laws.proofs.WithinLemmas.{within_written}
 use Rattle.weak_maps.specs.Beside.{held_by}
 use Rattle.weak_maps.specs.Fields.{AtField, Stays}
 use Rattle.weak_maps.specs.Puts.{BindsOnly, FieldBinds, IsLeafOf, OwnBlock, Published, PublishLost}
 use Rattle.weak_maps.proofs.BesideLemmas.{left_is, same_held, until_new}
 use Rattle.weak_maps.proofs.CountLemmas.{not_refused}
 use Rattle.weak_maps.proofs.DescendLemmas.{plain_node}
-use Rattle.weak_maps.proofs.FreshLemmas.{held_not_outside, map_by, next_is, own_kept, own_middle, reads_on, thin_held}
+use Rattle.weak_maps.proofs.FreshLemmas.{held_not_outside, map_by, next_is, own_kept, own_middle, reads_on, thin_held, within_by}
 use Rattle.weak_maps.proofs.GetLemmas.{grows_by}
 use Rattle.weak_maps.proofs.StayLemmas.{respects_within, stays_middle, stays_same, stays_twice}
 
@@ -197,7 +200,7 @@ module _ (z : Sizes) (limits : IsWithinLimits z) (root : Label) (d : ℕ) (first
       let private : IsPrivate (next (state_of z mid) (CommandOf d c false)) d l = private_lost (state_of z mid) d l c 8 (λ e. not_block (let both : Block x.l ≡ Block l = sym eight ∙ e in let same : x.l ≡ l = cc in same)) state leaf_mid.private in
       let none : p.full ≡ false = not_refused z d now new c r p refl in
       let here : state_of z new ≡ next (state_of z mid) (CommandOf d c false) = left_is z d now new c r p ∙ ap (λ b. next (state_of z mid) (CommandOf d c b)) none in record {
-        on = record { looks = on.0; grows = grows; map = on.1 };
+        on = record { looks = on.0; within = on.2 now; grows = grows; map = on.1 };
         at = (
           record {
             p = x.p;
@@ -253,7 +256,8 @@ module _ (z : Sizes) (limits : IsWithinLimits z) (root : Label) (d : ℕ) (first
     own : RespectsMap z root mid entry
     own = record { step = SetsKey k (Block l) sets; leaves = plain_spares z root mid entry x.l node.0 fields (Plain node.0 (set fields i (Block l))) node.1 is }
 
-    published : Published z d now new root k v
+    published : Published z d now new root k l v
+    unfolding sets
     published = record {
       map = map_by z d root now new c r p respects map own;
       grows = grows_by z d now new c r p;
@@ -261,11 +265,13 @@ module _ (z : Sizes) (limits : IsWithinLimits z) (root : Label) (d : ℕ) (first
       changes = changes_once z root d now new c r p own k (Some v)
           (ap (λ (m : Graph). found z.domains m root k) (graph_push z mid entry) ∙ (law.0 ∙ (binds_of k ∙ ap (λ (b : Bool). cond b (Some v) None) (same_label_refl k))))
           (λ j other. ap (λ (m : Graph). found z.domains m root j) (graph_push z mid entry) ∙ law.1 j other) (eq-eqb d d refl);
+      within = λ base mine. within_by z d root now new c r p base (within_written (IsMadeBehind z d base) g (next (state_of z mid) entry).graph root x.p i x.v (Block l) sets.writes stay.map
+          (map_stays z.domains root (state_of z mid) entry stay.map own.step) (ap fields_of leaf_mid.node) (λ m same. let both : l ≡ m = cc in subst (IsMadeBehind z d base) both mine));
       keeps = λ j. held_now j;
     }
       where
         held_now : (j : ℕ) → held_by z d new j ≡ held_by z d now j
         held_now = ⊎_elim (λ won. same_held z d now new won.1.1) (λ lost. same_held z d now new lost.1.1) took
 
-  pub publish_won : r ≡ reply.Yes → Published z d now new root k v
+  pub publish_won : r ≡ reply.Yes → Published z d now new root k l v
   publish_won won_it = ⊎_elim (λ won. published won.0 won.1.0) (λ lost. let clash : reply.No ≡ reply.Yes = sym lost.1.2 ∙ won_it in cc) took

@@ -17,27 +17,31 @@ use Rattle.heap_model.proofs.Graphs.GraphLemmas.{node_at-with_node_same}
 use Rattle.table_laws.specs.Stages.{graph_of}
 use Rattle.map_laws.specs.Tries.{IsMap}
 use Rattle.map_laws.specs.Steps.{OthersRespect, WasUnreached}
-use Rattle.map_laws.specs.Calls.{PerformedBy}
+use Rattle.map_laws.specs.Calls.{Looks, PerformedBy}
+use Rattle.map_laws.specs.Within.{IsMadeBehind, OwnWithin}
 use Rattle.map_laws.proofs.CallLemmas.{ephe_step, made, set_data_step, set_key_step}
 use Rattle.map_laws.proofs.FrontLemmas.{prefix_same, prefix_trans}
 use Rattle.map_laws.proofs.OwnLemmas.{looks_none, looks_twice}
+use Rattle.map_laws.proofs.WithinLemmas.{within_earlier, within_none, within_twice}
 use Rattle.weak_maps.specs.Beside.{held_by}
 use Rattle.weak_maps.specs.Puts.{GoesOn, LeafMade, LeafRefused, OwnBlock}
 use Rattle.weak_maps.proofs.BesideLemmas.{sixteen, set_here, set_other, same_held}
-use Rattle.weak_maps.proofs.FreshLemmas.{makes_on, map_mid, not_held_before, own_born, own_middle, own_on, reads_on, thin_empty, writes_on}
+use Rattle.weak_maps.proofs.FreshLemmas.{made_behind, makes_on, map_mid, not_held_before, own_born, own_middle, own_on, reads_on, thin_empty, writes_on}
 use Rattle.weak_maps.proofs.GetLemmas.{grows_by}
 use Rattle.weak_maps.proofs.StayLemmas.{respects_within}
 
 pub goes_none : (z : Sizes) (root : Label) (d : ℕ) (old : List Entry) → IsMap (graph_of z old) root → GoesOn z root d old old
-goes_none z root d old map = record { looks = looks_none z root d old; grows = prefix_same old; map = map }
+goes_none z root d old map = record { looks = looks_none z root d old; within = within_none z root d old old; grows = prefix_same old; map = map }
 
 -- two stretches
 pub goes_twice : (z : Sizes) (root : Label) (d : ℕ) (old now new : List Entry) → GoesOn z root d old now → GoesOn z root d now new → GoesOn z root d old new
-goes_twice z root d old now new first last = record { looks = looks_twice z root d old now new last.grows first.looks last.looks; grows = prefix_trans old now new first.grows last.grows; map = last.map }
+goes_twice z root d old now new first last = record { looks = looks_twice z root d old now new last.grows first.looks last.looks; within = within_twice z root d old old now new last.grows first.within (within_earlier z root d old now now new first.grows last.within); grows = prefix_trans old now new first.grows last.grows; map = last.map }
 
 -- one command more
-pub goes_by : (z : Sizes) (root : Label) (d : ℕ) (old now new : List Entry) (c : Command) (r : Reply) → PerformedBy z d now new c r → GoesOn z root d old now → GoesOn z root d now new → GoesOn z root d old new
-goes_by z root d old now new c r p first last = record { looks = looks_twice z root d old now new last.grows first.looks last.looks; grows = prefix_trans old now new first.grows last.grows; map = last.map }
+pub goes_by : (z : Sizes) (root : Label) (d : ℕ) (old now new : List Entry) (c : Command) (r : Reply) → PerformedBy z d now new c r → GoesOn z root d old now → Looks z root d now new → IsMap (graph_of z new) root → OwnWithin z root d old now new → GoesOn z root d old new
+goes_by z root d old now new c r p first looks map within =
+    let grows = grows_by z d now new c r p in
+    record { looks = looks_twice z root d old now new grows first.looks looks; within = within_twice z root d old old now new grows first.within within; grows = prefix_trans old now new first.grows grows; map = map }
 
 module _ (z : Sizes) (limits : IsWithinLimits z) (root : Label) (d : ℕ) where
   -- the allocation is refused
@@ -45,7 +49,7 @@ module _ (z : Sizes) (limits : IsWithinLimits z) (root : Label) (d : ℕ) where
   leaf_refused old new r p full map respects = ⊎_elim
       (λ refused.
       let on = reads_on z d root old new (NewEphe 10 1) r p respects map refused.1.0 in record {
-        on = record { looks = on.0; grows = grows_by z d old new (NewEphe 10 1) r p; map = on.1 };
+        on = record { looks = on.0; within = on.2 old; grows = grows_by z d old new (NewEphe 10 1) r p; map = on.1 };
         keeps = same_held z d old new refused.1.1;
       })
       (λ granted. let clash : reply.Block (made z d old new (NewEphe 10 1) r p) ≡ reply.Full = sym granted.2.2 ∙ full in cc)
@@ -79,17 +83,19 @@ module _ (z : Sizes) (limits : IsWithinLimits z) (root : Label) (d : ℕ) where
     e2 = respects_within z root d old n2 n1 n2 (prefix_trans old n0 n1 g0 g1) (prefix_same n2) respects
 
     abbrev First : Type 0
-    First = GoesOn z root d old n0 × ((i : ℕ) → i ≢ 10 → held_by z d n0 i ≡ held_by z d old i) × OwnBlock z d n0 root 10 l (Ephe (None ∷ []) Nothing)
+    First = GoesOn z root d old n0 × ((i : ℕ) → i ≢ 10 → held_by z d n0 i ≡ held_by z d old i) × OwnBlock z d n0 root 10 l (Ephe (None ∷ []) Nothing) × IsMadeBehind z d old l
 
     first : First
     first = ⊎_elim
         (λ refused. absurd (other refused.1.2))
         (λ granted.
+        let mine = made_behind z d root old n0 (NewEphe 10 1) r0 p0 old (prefix_same old) granted.1 in
         let on = makes_on z d root old n0 (NewEphe 10 1) r0 p0 e0 map (l, Ephe (None ∷ []) Nothing) granted.2.0 in (
-          record { looks = on.0; grows = g0; map = on.1 },
+          record { looks = on.0; within = on.2 old mine; grows = g0; map = on.1 },
           set_other z d old n0 10 (Block l) granted.2.1,
           own_born z d root old n0 (NewEphe 10 1) r0 p0 10 (Ephe (None ∷ []) Nothing) (λ j is. let clash : false ≡ true = is in cc) (map_mid z d root old n0 (NewEphe 10 1) r0 p0 e0 map).own granted.1 granted.2.0
               (set_here z d old n0 10 (Block l) granted.2.1 (sixteen z d old n0 (NewEphe 10 1) r0 p0 limits) (omega arith)),
+          mine,
         ))
         (ephe_step z d old n0 r0 10 p0)
 
@@ -103,7 +109,7 @@ module _ (z : Sizes) (limits : IsWithinLimits z) (root : Label) (d : ℕ) where
         let is : held_by z d n0 item ≡ v = first.1 item (λ e. absurd (omega (arith, few_item, e))) in
         let all = set_data_step z d n0 n1 r1 10 item p1 l v None Nothing first.2.held is some x.node in
         let on = writes_on z d root n0 n1 (SetData 10 item) r1 p1 e1 first.0.map 10 l (Ephe (None ∷ []) Nothing) (Ephe (None ∷ []) v) x all.0 in (
-          goes_by z root d old n0 n1 (SetData 10 item) r1 p1 first.0 (record { looks = on.0; grows = g1; map = on.1 }),
+          goes_by z root d old n0 n1 (SetData 10 item) r1 p1 first.0 on.0 on.1 (on.2 old first.3),
           same_held z d n0 n1 all.1,
           own_on z d root n0 n1 (SetData 10 item) r1 p1 10 l (Ephe (None ∷ []) Nothing) (Ephe (None ∷ []) v) item x (λ j e. sym (eqb-true item j e))
               (λ e. not_held_before z d root old n0 (NewEphe 10 1) r0 p0 item (sym is ∙ e)) (same_held z d n0 n1 all.1 10)
@@ -117,9 +123,10 @@ module _ (z : Sizes) (limits : IsWithinLimits z) (root : Label) (d : ℕ) where
         let is : held_by z d n1 key ≡ held_by z d old key = second.1 key ∙ first.1 key (λ e. absurd (omega (arith, few_key, e))) in
         let all = set_key_step z d n1 n2 r2 10 key p2 l k None v second.2.held (is ∙ holds_key) x.node in
         let on = writes_on z d root n1 n2 (SetKey 10 0 key) r2 p2 e2 second.0.map 10 l (Ephe (None ∷ []) v) (Ephe (Some k ∷ []) v) x all.0 in record {
-          on = goes_by z root d old n1 n2 (SetKey 10 0 key) r2 p2 second.0 (record { looks = on.0; grows = g2; map = on.1 });
+          on = goes_by z root d old n1 n2 (SetKey 10 0 key) r2 p2 second.0 on.0 on.1 (on.2 old first.3);
           keeps = λ i apart. same_held z d n1 n2 all.1 i ∙ (second.1 i ∙ first.1 i apart);
           l = l;
+          made = first.3;
           leaf = own_on z d root n1 n2 (SetKey 10 0 key) r2 p2 10 l (Ephe (None ∷ []) v) (Ephe (Some k ∷ []) v) key x (λ j e. sym (eqb-true key j e))
               (λ e. not_held_before z d root old n0 (NewEphe 10 1) r0 p0 key (sym is ∙ e)) (same_held z d n1 n2 all.1 10)
               (ap (λ (g : Graph). node_at g l) all.0 ∙ node_at-with_node_same (graph_of z (n1 ++ p2.between)) l (Ephe (Some k ∷ []) v) (Ephe (None ∷ []) v) x.node);

@@ -33,13 +33,15 @@ use Rattle.map_laws.proofs.OwnLemmas.{apart_untouched, fresh_untouched, looks_on
 use Rattle.map_laws.proofs.PrivateLemmas.{private_outside}
 use Rattle.map_laws.proofs.RespectLemmas.{graph_push, map_after, place_after, respect_both}
 use Rattle.map_laws.proofs.WalkLemmas.{set_same}
+use Rattle.map_laws.specs.Within.{IsMadeBehind, OwnWithin}
+use Rattle.map_laws.proofs.WithinLemmas.{within_deeper}
 use Rattle.weak_maps.specs.Beside.{held_by}
 use Rattle.weak_maps.specs.Fields.{AtField, Stays}
 use Rattle.weak_maps.specs.Puts.{FieldBinds, GoesOn, IsBlockAt, OwnBlock, RoomMade, RoomRefused}
 use Rattle.weak_maps.proofs.BesideLemmas.{same_held, set_here, set_other, sixteen, until_new}
 use Rattle.weak_maps.proofs.CleanLemmas.{leaves_within}
 use Rattle.weak_maps.proofs.DescendLemmas.{plain_node}
-use Rattle.weak_maps.proofs.FreshLemmas.{held_not_outside, makes_on, map_by, map_mid, next_is, not_held_before, own_born, own_middle, own_on, reads_on, thin_held, thin_plain, writes_on}
+use Rattle.weak_maps.proofs.FreshLemmas.{held_not_outside, made_behind, makes_on, map_by, map_mid, next_is, not_held_before, own_born, own_middle, own_on, reads_on, thin_held, thin_plain, within_by, writes_on}
 use Rattle.weak_maps.proofs.GetLemmas.{grows_by}
 use Rattle.weak_maps.proofs.PublishLemmas.{binds_all, binds_along, binds_end, binds_other, binds_some, same_itself, value_same}
 use Rattle.weak_maps.proofs.PutLemmas.{goes_by}
@@ -65,7 +67,7 @@ pub room_refused : (z : Sizes) (root : Label) (d : ℕ) (old new : List Entry) (
 room_refused z root d old new r p full map respects = ⊎_elim
     (λ refused.
     let on = reads_on z d root old new (Alloc 11 0 32) r p respects map refused.1.0 in record {
-      on = record { looks = on.0; grows = grows_by z d old new (Alloc 11 0 32) r p; map = on.1 };
+      on = record { looks = on.0; within = on.2 old; grows = grows_by z d old new (Alloc 11 0 32) r p; map = on.1 };
       keeps = same_held z d old new refused.1.1;
     })
     (λ granted. let clash : reply.Block (made z d old new (Alloc 11 0 32) r p) ≡ reply.Full = sym granted.2.2 ∙ full in cc)
@@ -124,21 +126,23 @@ module _ (z : Sizes) (limits : IsWithinLimits z) (root : Label) (d : ℕ) (first
 
   -- the block is made
   abbrev Made : Type 0
-  Made = GoesOn z root d now n0 × ((m : ℕ) → m ≢ 11 → held_by z d n0 m ≡ held_by z d now m) × OwnBlock z d n0 root 11 b blank × OwnBlock z d n0 root 10 l mine
+  Made = GoesOn z root d now n0 × ((m : ℕ) → m ≢ 11 → held_by z d n0 m ≡ held_by z d now m) × OwnBlock z d n0 root 11 b blank × OwnBlock z d n0 root 10 l mine × IsMadeBehind z d now b
 
   first_made : Made
   first_made = ⊎_elim
       (λ refused. absurd (granted_it refused.1.2))
       (λ granted.
+      let its = made_behind z d root now n0 (Alloc 11 0 32) r0 p0 now (prefix_same now) granted.1 in
       let on = makes_on z d root now n0 (Alloc 11 0 32) r0 p0 e0 map (b, blank) granted.2.0 in
       let keeps : (m : ℕ) → m ≢ 11 → held_by z d n0 m ≡ held_by z d now m = set_other z d now n0 11 (Block b) granted.2.1 in
       let leaf_mid = own_middle z d root now n0 (Alloc 11 0 32) r0 p0 10 l mine (λ o. thin_held (WasUnreached z now (now ++ p0.between)) k v o (held_not_outside z d now p0.between k kr p0.others key)) leaf in (
-        record { looks = on.0; grows = g0; map = on.1 },
+        record { looks = on.0; within = on.2 now its; grows = g0; map = on.1 },
         keeps,
         own_born z d root now n0 (Alloc 11 0 32) r0 p0 11 blank (λ m is. let clash : false ≡ true = is in cc) (map_mid z d root now n0 (Alloc 11 0 32) r0 p0 e0 map).own granted.1 granted.2.0
             (set_here z d now n0 11 (Block b) granted.2.1 (sixteen z d now n0 (Alloc 11 0 32) r0 p0 limits) (omega arith)),
         own_on z d root now n0 (Alloc 11 0 32) r0 p0 10 l mine mine 8 leaf_mid (λ m is. let clash : false ≡ true = is in cc) not_eight (keeps 10 (λ e. absurd (omega (arith, e))))
             (ap (λ (g : Graph). node_at g l) granted.2.0 ∙ node_at-append_old (graph_of z (now ++ p0.between)) (b, blank) l mine leaf_mid.node),
+        its,
       ))
       (alloc_step z d now n0 r0 11 0 32 p0)
 
@@ -170,7 +174,7 @@ module _ (z : Sizes) (limits : IsWithinLimits z) (root : Label) (d : ℕ) (first
       let on = writes_on z d root n0 n1 (Store 11 digit 9) r1 p1 e1 first_made.0.map 11 b blank (Plain 0 filled) inner all.0 in
       let keeps : (m : ℕ) → held_by z d n1 m ≡ held_by z d n0 m = same_held z d n0 n1 all.1 in
       let apart : l ≢ b = λ same. (let clash : Some mine ≡ Some blank = sym leaf_mid.node ∙ (ap (node_at (graph_of z mid)) same ∙ inner.node) in cc) in (
-        goes_by z root d now n0 n1 (Store 11 digit 9) r1 p1 first_made.0 (record { looks = on.0; grows = g1; map = on.1 }),
+        goes_by z root d now n0 n1 (Store 11 digit 9) r1 p1 first_made.0 on.0 on.1 (on.2 now first_made.4),
         (λ m other. keeps m ∙ first_made.1 m other),
         own_on z d root n0 n1 (Store 11 digit 9) r1 p1 11 b blank (Plain 0 filled) 9 inner (λ m e. sym (eqb-true 9 m e))
             (λ e. not_held_before z d root now n0 (Alloc 11 0 32) r0 p0 9 (x.holds ∙ (sym nine0 ∙ e))) (keeps 11)
@@ -248,9 +252,9 @@ module _ (z : Sizes) (limits : IsWithinLimits z) (root : Label) (d : ℕ) (first
   abbrev GoesDown : Type 0
   GoesDown = at (inside (graph_of z now)) place (Block root) ≡ Some x.v → OthersLeave z root d now new → IsBlockAt z new root place
 
-  leaves : (on : Looks z root d n1 new × IsMap (graph_of z new) root) → ((m : ℕ) → held_by z d new m ≡ held_by z d n1 m) → node_at (graph_of z new) l ≡ Some mine → (Stays z root front new → GoesDown) → RoomMade z d front now new root k l v place x.v
+  leaves : (on : Looks z root d n1 new × IsMap (graph_of z new) root × ((first : List Entry) → IsMadeBehind z d first b → OwnWithin z root d first n1 new)) → ((m : ℕ) → held_by z d new m ≡ held_by z d n1 m) → node_at (graph_of z new) l ≡ Some mine → (Stays z root front new → GoesDown) → RoomMade z d front now new root k l v place x.v
   leaves on keeps is deeper =
-      let whole = goes_by z root d now n1 new (Cas 8 i 9 11) r2 p2 stored.0 (record { looks = on.0; grows = g2; map = on.1 }) in
+      let whole = goes_by z root d now n1 new (Cas 8 i 9 11) r2 p2 stored.0 on.0 on.1 (on.2 now first_made.4) in
       let stays = stays_twice z root front now new x.stays (stays_all z root now new whole.grows (goes_all z root d now new respects whole) map) in record {
         on = whole;
         stays = stays;
@@ -301,10 +305,12 @@ module _ (z : Sizes) (limits : IsWithinLimits z) (root : Label) (d : ℕ) (first
     own : RespectsMap z root mid entry
     own = record { step = GoesDeeper deepens; leaves = plain_spares z root mid entry x.l node.0 fields (Plain node.0 (set fields i (Block b))) node.1 is }
 
-    deepened : Looks z root d n1 new × IsMap (graph_of z new) root
+    deepened : Looks z root d n1 new × IsMap (graph_of z new) root × ((first : List Entry) → IsMadeBehind z d first b → OwnWithin z root d first n1 new)
+    unfolding deepens
     deepened = (
       looks_once z root d n1 new (Cas 8 i 9 11) r2 p2 own (λ m. ap (λ (y : Graph). found z.domains y root m) (graph_push z mid entry) ∙ deepen_keeps z.domains g (next (state_of z mid) entry).graph root mid_map deepens m),
       map_by z d root n1 new (Cas 8 i 9 11) r2 p2 e2 stored.0.map own,
+      (λ base its. within_by z d root n1 new (Cas 8 i 9 11) r2 p2 base (within_deeper (IsMadeBehind z d base) g (next (state_of z mid) entry).graph root z.domains deepens mid_map its)),
     )
 
   -- so the exchange is made, and the block stands there
@@ -328,5 +334,5 @@ module _ (z : Sizes) (limits : IsWithinLimits z) (root : Label) (d : ℕ) (first
   room_made = ⊎_elim
       (λ won. leaves (deepened won.0 won.1.0) (same_held z d n1 new won.1.1)
       (ap (λ (y : Graph). node_at y l) won.1.0 ∙ (node_at-with_node_other g x.l l (Plain node.0 (set fields i (Block b))) (λ e. not_block (sym e)) ∙ leaf_then.node)) (λ stays held leave. goes_down won.1.0 stays))
-      (λ lost. leaves (reads_on z d root n1 new (Cas 8 i 9 11) r2 p2 e2 stored.0.map lost.1.0) (same_held z d n1 new lost.1.1) (ap (λ (y : Graph). node_at y l) lost.1.0 ∙ leaf_then.node) (λ stays. goes_anyway lost.0))
+      (λ lost. leaves (let on = reads_on z d root n1 new (Cas 8 i 9 11) r2 p2 e2 stored.0.map lost.1.0 in (on.0, on.1, (λ base its. on.2 base))) (same_held z d n1 new lost.1.1) (ap (λ (y : Graph). node_at y l) lost.1.0 ∙ leaf_then.node) (λ stays. goes_anyway lost.0))
       took

@@ -28,6 +28,7 @@ use Rattle.weak_maps.specs.Puts.{Arrived, FindsField, KeepsLeaf, MakesRoom, Publ
 use Rattle.weak_maps.specs.declared.putting.Try.{Try}
 use Rattle.weak_maps.specs.Settles.{SettledBy, Settles}
 use Rattle.weak_maps.specs.Returns.{TakeLeaves}
+use Rattle.weak_maps.proofs.BesideLemmas.{low_beside}
 use Rattle.weak_maps.proofs.GetLemmas.{grows_by}
 use Rattle.weak_maps.proofs.PlaceLemmas.{place_after}
 use Rattle.weak_maps.proofs.PutLemmas.{goes_twice}
@@ -54,7 +55,7 @@ bound_node (Some (Ephe (Some m ∷ other ∷ keys) datum)) j some = absurd (some
 module _ (z : Sizes) (limits : IsWithinLimits z) (root : Label) (d : ℕ) (old now : List Entry) (k : Label) (v : Value) (kr : ℕ) (few : kr < 8) (key : held_by z d old kr ≡ Block k) (legal : Legal z now) (i rest level : ℕ) where
   -- the labels are labels of the heap
   pub key_label : (other : Option Label) → Arrived z d old now root k v i rest level other → k.serial < 2 ^ 32 → IsLabelOf z.domains k
-  key_label other t serial = (held_below z now limits.some_domain legal d kr k (t.keeps kr few ∙ key), serial)
+  key_label other t serial = (held_below z now limits.some_domain legal d kr k (t.keeps kr (low_beside kr few) ∙ key), serial)
 
   pub other_label : (j : Label) → Arrived z d old now root k v i rest level (Some j) → j.serial < 2 ^ 32 → IsLabelOf z.domains j
   other_label j t serial = (of t.found.field.v (t.found.alive j refl), serial)
@@ -69,17 +70,17 @@ module _ (z : Sizes) (limits : IsWithinLimits z) (root : Label) (d : ℕ) (old n
 
   pub settle_done : (n1 new : List Entry) → Arrived z d old now root k v i rest level None → Publishes z d now n1 i true → IsPrefix now n1 → Cleared z d n1 new → OthersRespect z root d old new → PutsOrFull z root d old new k v reply.Done × TakeLeaves z d old new root
   settle_done n1 new t publishes grows c respects =
-      let x = publishes t.first t.found.front root k t.l v rest kr t.found.shows (t.keeps kr few ∙ key) t.found.field t.found.binds t.leaf t.on.map (respects_within z root d old new now n1 t.on.grows (cleared_grows z d n1 new c) respects) in
-      let y = put_done z limits root d old k v kr few key now n1 new t.on t.keeps x c respects in
+      let x = publishes t.first t.found.front root k t.l v rest kr t.found.shows (t.keeps kr (low_beside kr few) ∙ key) t.found.field t.found.binds t.leaf t.on.map (respects_within z root d old new now n1 t.on.grows (cleared_grows z d n1 new c) respects) in
+      let y = put_done z limits root d old k v kr few key now n1 new t.l t.made t.on t.keeps x c respects in
       (inl (refl, y.0), y.1)
 
   pub settle_lost : (n1 new : List Entry) (r : Reply) → Arrived z d old now root k v i rest level None → Publishes z d now n1 i false → IsPrefix now n1 → PerformedBy z d n1 new (Load 9 8 i) r → OthersRespect z root d old new → Putting z d old new root k v i rest r level
   settle_lost n1 new r t publishes grows p respects =
       let g = grows_by z d n1 new (Load 9 8 i) r p in
       let others = respects_within z root d old new now n1 t.on.grows g respects in
-      let x = publishes t.first t.found.front root k t.l v rest kr t.found.shows (t.keeps kr few ∙ key) t.found.field t.found.binds t.leaf t.on.map others in
+      let x = publishes t.first t.found.front root k t.l v rest kr t.found.shows (t.keeps kr (low_beside kr few) ∙ key) t.found.field t.found.binds t.leaf t.on.map others in
       put_read z limits root d old k v kr few key t.found.front now n1 new t.first r i rest t.found.shows level t.found.field t.found.deep (goes_twice z root d old now n1 t.on x.on)
-      (stays_twice z root t.found.front now n1 t.found.field.stays (stays_all z root now n1 grows (goes_all z root d now n1 others x.on) t.on.map)) (x.keeps 8) (λ j small. x.keeps j ∙ t.keeps j small) t.l x.leaf p respects
+      (stays_twice z root t.found.front now n1 t.found.field.stays (stays_all z root now n1 grows (goes_all z root d now n1 others x.on) t.on.map)) (x.keeps 8) (λ j small. x.keeps j ∙ t.keeps j small) t.l t.made x.leaf p respects
 
   -- no room is made
   pub settle_full : (n1 new : List Entry) (j : Label) → Arrived z d old now root k v i rest level (Some j) → k.serial < 2 ^ 32 → j.serial < 2 ^ 32 → IsMap (graph_of z old) root → IsInPlace z.domains (graph_of z old) root → MakesRoom z d now n1 i (rest_of (number_of z.domains j) level % node_width) false
@@ -89,7 +90,7 @@ module _ (z : Sizes) (limits : IsWithinLimits z) (root : Label) (d : ℕ) (old n
       let others = respects_within z root d old new now n1 t.on.grows later respects in
       let before = respects_within z root d old n1 old now (prefix_same old) grows (respects_within z root d old new old n1 (prefix_same old) later respects) in
       let way = put_digit z limits root d old k v kr few key now i rest level (Some j) t map placed before j refl (key_label (Some j) t serial_k) (other_label j t serial_j) in
-      let x = makes t.first t.found.front root k j t.l v rest kr t.found.shows few (t.keeps kr few ∙ key) t.found.field t.found.binds way t.leaf t.on.map others in
+      let x = makes t.first t.found.front root k j t.l v rest kr t.found.shows few (t.keeps kr (low_beside kr few) ∙ key) t.found.field t.found.binds way t.leaf t.on.map others in
       let y = put_ended z limits root d old k v kr few key n1 new (goes_twice z root d old now n1 t.on x.on) (λ m small. x.keeps m ∙ t.keeps m small) c respects in
       (inr (refl, y.0), y.1)
 
@@ -105,9 +106,9 @@ module _ (z : Sizes) (limits : IsWithinLimits z) (root : Label) (d : ℕ) (old n
       let others = respects_within z root d old new now n1 t.on.grows g respects in
       let before = respects_within z root d old n1 old now (prefix_same old) grows (respects_within z root d old new old n1 (prefix_same old) g respects) in
       let way = put_digit z limits root d old k v kr few key now i rest level (Some j) t map placed before j refl (key_label (Some j) t serial_k) (other_label j t serial_j) in
-      let x = makes t.first t.found.front root k j t.l v rest kr t.found.shows few (t.keeps kr few ∙ key) t.found.field t.found.binds way t.leaf t.on.map others in
+      let x = makes t.first t.found.front root k j t.l v rest kr t.found.shows few (t.keeps kr (low_beside kr few) ∙ key) t.found.field t.found.binds way t.leaf t.on.map others in
       put_read z limits root d old k v kr few key t.found.front now n1 new t.first r i rest t.found.shows level t.found.field t.found.deep (goes_twice z root d old now n1 t.on x.on) x.stays (x.keeps 8 (λ e. absurd (omega (arith, e))))
-      (λ m small. x.keeps m (λ e. absurd (omega (arith, small, e))) ∙ t.keeps m small) t.l x.leaf p respects
+      (λ m beside. x.keeps m beside.3 ∙ t.keeps m beside) t.l t.made x.leaf p respects
 
 -- a search from a field that was read
 pub put_searched : (z : Sizes) (limits : IsWithinLimits z) (root : Label) (d : ℕ) (old : List Entry) (k : Label) (v : Value) (kr : ℕ) → kr < 8 → held_by z d old kr ≡ Block k → (now n0 : List Entry) (i rest i2 rest2 level steps sum : ℕ) (s : Reply) (other : Option Label) → sum ≡ min (level + steps) 255

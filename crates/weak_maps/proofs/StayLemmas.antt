@@ -27,7 +27,9 @@ use Rattle.table_laws.proofs.StageLemmas.{prefix_trans}
 use Rattle.map_laws.specs.Tries.{at, inside, found, is_leaf, IsMap}
 use Rattle.map_laws.specs.Steps.{MapStep, Untouched, OthersRespect, RespectsMap, SparesLeaves}
 use Rattle.map_laws.specs.Calls.{Looks, PerformedBy}
+use Rattle.map_laws.specs.Within.{IsMadeBehind, OwnWithin}
 use Rattle.map_laws.proofs.MapLemmas.{map_stays, places_stay, plain_stays}
+use Rattle.map_laws.proofs.WithinLemmas.{within_same}
 use Rattle.weak_maps.specs.Beside.{held_by}
 use Rattle.weak_maps.specs.Fields.{Stays}
 use Rattle.weak_maps.specs.Walks.{LeafTells, Looking, OwnQuiet}
@@ -137,6 +139,10 @@ quiet_looks z root d old new quiet = record {
   keeps = λ front e since until mine l. ap (λ (g : Graph). found z.domains g root l) (quiet front e since until mine);
   respects = λ front e since until mine. quiet_respects z root front e (ap (λ (t : State). t.graph) (sym (state_after-push (opening z) front e)) ∙ quiet front e since until mine);
 }
+
+-- and writes nothing
+pub within_quiet : (z : Sizes) (root : Label) (d : ℕ) (first old new : List Entry) → OwnQuiet z d old new → OwnWithin z root d first old new
+within_quiet z root d first old new quiet front e since until mine = within_same (IsMadeBehind z d first) (graph_of z front) (graph_of z (front ++ e ∷ [])) root (quiet front e since until mine)
 
 pub stays_twice : (z : Sizes) (root : Label) (a b c : List Entry) → Stays z root a b → Stays z root b c → Stays z root a c
 stays_twice z root a b c x y = record {

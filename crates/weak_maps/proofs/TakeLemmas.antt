@@ -35,13 +35,16 @@ use Rattle.map_laws.proofs.WalkLemmas.{same_number}
 use Rattle.map_laws.proofs.FrontLemmas.{before_or_behind}
 use Rattle.map_laws.proofs.MapLemmas.{map_stays}
 use Rattle.map_laws.proofs.SetLemmas.{set_binds}
+use Rattle.map_laws.specs.Within.{IsMadeBehind, OwnWithin}
+use Rattle.map_laws.proofs.WithinLemmas.{within_twice, within_written}
 use Rattle.weak_maps.specs.Beside.{held_by}
 use Rattle.weak_maps.specs.Walks.{HoldsLeaf, Looking, OwnQuiet}
-use Rattle.weak_maps.specs.Fields.{AtField, Cleared, Finds, FoundBy, Stays, Taking}
+use Rattle.weak_maps.specs.Fields.{AtField, Cleared, Finds, FoundBy, IsBeside, Stays, Taking}
 use Rattle.weak_maps.specs.Returns.{TakeReturns}
-use Rattle.weak_maps.proofs.BesideLemmas.{sixteen, set_here, set_other, same_held, since_old, left_is}
+use Rattle.weak_maps.proofs.BesideLemmas.{left_is, low_beside, same_held, set_here, set_other, since_old, sixteen}
 use Rattle.weak_maps.proofs.EntryLemmas.{own_entry}
-use Rattle.weak_maps.proofs.StayLemmas.{leaf_middle, looking_from, looking_on, no_entry, prefix_same, quiet_looks, respects_within, stays_middle, stays_twice}
+use Rattle.weak_maps.proofs.FreshLemmas.{within_by}
+use Rattle.weak_maps.proofs.StayLemmas.{leaf_middle, looking_from, looking_on, no_entry, prefix_same, quiet_looks, respects_within, stays_middle, stays_twice, within_quiet}
 use Rattle.weak_maps.proofs.DescendLemmas.{at_one, plain_node, way_ends}
 use Rattle.weak_maps.proofs.GetLemmas.{grows_by}
 use Rattle.weak_maps.proofs.FieldLemmas.{field_again, field_begins, field_on}
@@ -193,6 +196,11 @@ module _ (z : Sizes) (limits : IsWithinLimits z) (root : Label) (d : ℕ) (first
       pushed : graph_of z (mid ++ entry ∷ []) ≡ (next (state_of z mid) entry).graph
       pushed = ap (λ (t : State). t.graph) (state_after-push (opening z) mid entry)
 
+      within : (base : List Entry) → OwnWithin z root d base now new
+      unfolding sets
+      within base = within_by z d root now new c r p base (within_written (IsMadeBehind z d base) g (next (state_of z mid) entry).graph root x.p i (Block leaf.l) (Int (pos 0)) sets.writes stay.map
+          (map_stays z.domains root (state_of z mid) entry stay.map (SetsKey k (Int (pos 0)) sets)) refl (λ m same. cc))
+
       -- and what follows changes nothing
       changes : (last : List Entry) → Looking z root d new last → ChangesOne z root d first last k (Some datum) None
       changes last after = record {
@@ -216,7 +224,8 @@ module _ (z : Sizes) (limits : IsWithinLimits z) (root : Label) (d : ℕ) (first
       }
 
     pub cas_won : r ≡ reply.Yes → IsMap (graph_of z new) root × ((last : List Entry) → Looking z root d new last → ChangesOne z root d first last k (Some datum) None) × ((j : ℕ) → held_by z d new j ≡ held_by z d now j)
-    cas_won is = ⊎_elim (λ won. (map_new won.0 won.1.0, changes won.0 won.1.0, (λ j. same_held z d now new won.1.1 j)))
+        × ((base : List Entry) → OwnWithin z root d base now new)
+    cas_won is = ⊎_elim (λ won. (map_new won.0 won.1.0, changes won.0 won.1.0, (λ j. same_held z d now new won.1.1 j), within won.0 won.1.0))
         (λ lost. let clash : reply.No ≡ reply.Yes = sym lost.1.2 ∙ is in cc) took
 
   -- the registers between are emptied
@@ -249,12 +258,12 @@ module _ (z : Sizes) (limits : IsWithinLimits z) (root : Label) (d : ℕ) (first
         (looking_on z root d base x.first x.second (Forget 9) x.nine_reply x.nine nine.0 (respects_within z root d base new base x.second (prefix_same base) after_second respects)
         (looking_on z root d base now x.first (Forget 8) x.eight_reply x.eight eight.0 (respects_within z root d base new base x.first (prefix_same base) after_first respects) looking)))
 
-    pub cleared_keeps : (j : ℕ) → j < 8 → held_by z d new j ≡ held_by z d now j
-    cleared_keeps j few =
-        set_other z d x.third new 11 Nothing eleven.1 j (λ e. absurd (omega (arith, few, e)))
-        ∙ (set_other z d x.second x.third 10 Nothing ten.1 j (λ e. absurd (omega (arith, few, e)))
-        ∙ (set_other z d x.first x.second 9 Nothing nine.1 j (λ e. absurd (omega (arith, few, e)))
-        ∙ set_other z d now x.first 8 Nothing eight.1 j (λ e. absurd (omega (arith, few, e)))))
+    pub cleared_keeps : (j : ℕ) → IsBeside j → held_by z d new j ≡ held_by z d now j
+    cleared_keeps j beside =
+        set_other z d x.third new 11 Nothing eleven.1 j beside.3
+        ∙ (set_other z d x.second x.third 10 Nothing ten.1 j beside.2
+        ∙ (set_other z d x.first x.second 9 Nothing nine.1 j beside.1
+        ∙ set_other z d now x.first 8 Nothing eight.1 j beside.0))
 
     last_empty : held_by z d new 11 ≡ Nothing
     last_empty = set_here z d x.third new 11 Nothing eleven.1 (sixteen z d x.third new (Forget 11) x.eleven_reply x.eleven limits) (omega arith)
@@ -293,19 +302,19 @@ module _ (z : Sizes) (limits : IsWithinLimits z) (root : Label) (d : ℕ) (old :
       let y = field_begins z limits root d old k n0 n1 new r1 r2 map there p1 p2 e1 respects looking in record {
         looking = y.0;
         field = y.1;
-        keeps = λ j small. y.2 j (λ e. absurd (omega (arith, small, e))) (λ e. absurd (omega (arith, small, e))) ∙ set_other z d old n0 10 (Int (pos 0)) all.1 j (λ e. absurd (omega (arith, small, e)));
+        keeps = λ j beside. y.2 j beside.0 beside.1 ∙ set_other z d old n0 10 (Int (pos 0)) all.1 j beside.2;
         ten = y.2 10 (λ e. absurd (omega (arith, e))) (λ e. absurd (omega (arith, e))) ∙ set_here z d old n0 10 (Int (pos 0)) all.1 (sixteen z d old n0 (PutInt 10 (pos 0)) r0 p0 limits) (omega arith);
       }
 
   module _ (kr : ℕ) (few : kr < 8) (key : held_by z d old kr ≡ Block k) where
     -- what a walk finds from there
     found_from : (now n0 : List Entry) (i rest i2 rest2 : ℕ) (s : Reply) (mine : Bool) → Finds z d now n0 kr k i rest s i2 rest2 mine → (OthersRespect z root d old now → Taking z d old now root k i rest s) → IsPrefix now n0 → OthersRespect z root d old n0
-        → Looking z root d old n0 × ((j : ℕ) → j < 8 → held_by z d n0 j ≡ held_by z d old j) × (held_by z d n0 10 ≡ Int (pos 0)) × FoundBy z d old n0 root k i2 rest2 mine
+        → Looking z root d old n0 × ((j : ℕ) → IsBeside j → held_by z d n0 j ≡ held_by z d old j) × (held_by z d n0 10 ≡ Int (pos 0)) × FoundBy z d old n0 root k i2 rest2 mine
     found_from now n0 i rest i2 rest2 s mine finds taking grows respects =
         let t = taking (respects_within z root d old n0 old now (prefix_same old) grows respects) in
-        let f = finds old root (t.keeps kr few ∙ key) t.looking t.field respects in (
+        let f = finds old root (t.keeps kr (low_beside kr few) ∙ key) t.looking t.field respects in (
           f.0,
-          (λ j small. f.1 j (λ e. absurd (omega (arith, small, e))) (λ e. absurd (omega (arith, small, e))) (λ e. absurd (omega (arith, small, e))) ∙ t.keeps j small),
+          (λ j beside. f.1 j beside.0 beside.1 beside.3 ∙ t.keeps j beside),
           f.1 10 (λ e. absurd (omega (arith, e))) (λ e. absurd (omega (arith, e))) (λ e. absurd (omega (arith, e))) ∙ t.ten,
           f.2,
         )
@@ -316,7 +325,7 @@ module _ (z : Sizes) (limits : IsWithinLimits z) (root : Label) (d : ℕ) (old :
         let f = found_from now n0 i rest i2 rest2 s false finds taking grows (respects_within z root d old new old n0 (prefix_same old) later respects) in
         let looking = cleared_looking z limits root d old k old n0 new x respects f.0 in (
           inr (refl, record { looks = quiet_looks z root d old new looking.quiet; front = f.3.front; since = f.3.since; until = prefix_trans f.3.front n0 new f.3.until later; bound = f.3.bound }),
-          record { map = looking.map; clean = cleared_clean z limits root d old k old n0 new x respects f.0; keeps = λ j small. cleared_keeps z limits root d old k old n0 new x respects f.0 j small ∙ f.1 j small },
+          record { map = looking.map; within = within_quiet z root d old old new looking.quiet; clean = cleared_clean z limits root d old k old n0 new x respects f.0; keeps = λ j small. cleared_keeps z limits root d old k old n0 new x respects f.0 j small ∙ f.1 j small },
         )
 
     pub take_done : (now n0 n1 new : List Entry) (i rest i2 rest2 : ℕ) (s r : Reply) → Finds z d now n0 kr k i rest s i2 rest2 true → (OthersRespect z root d old now → Taking z d old now root k i rest s) → IsPrefix now n0 → PerformedBy z d n0 n1 (Cas 8 i2 9 10) r → r ≡ reply.Yes → Cleared z d n1 new → IsPrefix n1 new
@@ -326,12 +335,12 @@ module _ (z : Sizes) (limits : IsWithinLimits z) (root : Label) (d : ℕ) (old :
         let e1 = respects_within z root d old new old n1 (prefix_same old) later respects in
         let f = found_from now n0 i rest i2 rest2 s true finds taking grows (respects_within z root d old new old n0 (prefix_same old) (prefix_trans n0 n1 new g1 later) respects) in
         let m = f.3 in
-        let won = cas_won z limits root d old k m.front n0 n1 r i2 rest2 m.shows m.datum kr p e1 f.0 m.field m.leaf (f.1 kr few ∙ key) f.2 is in
+        let won = cas_won z limits root d old k m.front n0 n1 r i2 rest2 m.shows m.datum kr p e1 f.0 m.field m.leaf (f.1 kr (low_beside kr few) ∙ key) f.2 is in
         let tail = respects_within z root d old new n1 new (prefix_trans old n0 n1 f.0.grows g1) (prefix_same new) respects in
         let from = looking_from z root d n1 won.0 in
         let looking = cleared_looking z limits root d old k n1 n1 new x tail from in (
           inl (refl, (m.datum, won.1 new looking)),
-          record { map = looking.map; clean = cleared_clean z limits root d old k n1 n1 new x tail from; keeps = λ j small. cleared_keeps z limits root d old k n1 n1 new x tail from j small ∙ (won.2 j ∙ f.1 j small) },
+          record { map = looking.map; within = within_twice z root d old old n0 new (prefix_trans n0 n1 new g1 later) (within_quiet z root d old old n0 f.0.quiet) (within_twice z root d old n0 n1 new later (won.3 old) (within_quiet z root d old n1 new looking.quiet)); clean = cleared_clean z limits root d old k n1 n1 new x tail from; keeps = λ j small. cleared_keeps z limits root d old k n1 n1 new x tail from j small ∙ (won.2 j ∙ f.1 j small) },
         )
 
     pub take_again : (now n0 n1 new : List Entry) (i rest i2 rest2 : ℕ) (s r r2 : Reply) → Finds z d now n0 kr k i rest s i2 rest2 true → (OthersRespect z root d old now → Taking z d old now root k i rest s) → IsPrefix now n0 → PerformedBy z d n0 n1 (Cas 8 i2 9 10) r → (r ≡ reply.Yes → ⊥) → PerformedBy z d n1 new (Load 9 8 i2) r2
@@ -342,11 +351,11 @@ module _ (z : Sizes) (limits : IsWithinLimits z) (root : Label) (d : ℕ) (old :
         let e1 = respects_within z root d old new old n1 (prefix_same old) g2 respects in
         let f = found_from now n0 i rest i2 rest2 s true finds taking grows (respects_within z root d old new old n0 (prefix_same old) g1 respects) in
         let m = f.3 in
-        let lost = cas_lost z limits root d old k m.front n0 n1 r i2 rest2 m.shows m.datum kr p e1 f.0 m.field m.leaf (f.1 kr few ∙ key) f.2 other in
+        let lost = cas_lost z limits root d old k m.front n0 n1 r i2 rest2 m.shows m.datum kr p e1 f.0 m.field m.leaf (f.1 kr (low_beside kr few) ∙ key) f.2 other in
         let y = field_again z limits root d old k m.front n1 new r2 i2 rest2 m.shows lost.1 p2 respects lost.0 in record {
           looking = y.0;
           field = y.1;
-          keeps = λ j small. y.2 j (λ e. absurd (omega (arith, small, e))) ∙ (lost.2 j ∙ f.1 j small);
+          keeps = λ j beside. y.2 j beside.1 ∙ (lost.2 j ∙ f.1 j beside);
           ten = y.2 10 (λ e. absurd (omega (arith, e))) ∙ (lost.2 10 ∙ f.2);
         }
 

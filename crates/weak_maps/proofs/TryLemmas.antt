@@ -18,12 +18,14 @@ use Rattle.map_laws.proofs.CallLemmas.{copy_step}
 use Rattle.map_laws.proofs.FrontLemmas.{prefix_same, prefix_trans}
 use Rattle.map_laws.proofs.OwnLemmas.{changes_before, changes_behind, looks_twice}
 use Rattle.map_laws.proofs.RespectLemmas.{respect_within}
+use Rattle.map_laws.specs.Within.{IsMadeBehind}
+use Rattle.map_laws.proofs.WithinLemmas.{within_twice}
 use Rattle.weak_maps.specs.Beside.{held_by}
 use Rattle.weak_maps.specs.Walks.{Looking, OwnQuiet}
-use Rattle.weak_maps.specs.Fields.{AtField, Cleared, Stays}
+use Rattle.weak_maps.specs.Fields.{AtField, Cleared, IsBeside, Stays}
 use Rattle.weak_maps.specs.Puts.{Arrived, FieldFound, FindsField, GoesOn, KeepsLeaf, LeafMade, OwnBlock, Published, Putting, rest_of}
 use Rattle.weak_maps.specs.Returns.{TakeLeaves}
-use Rattle.weak_maps.proofs.BesideLemmas.{set_here, set_other, sixteen}
+use Rattle.weak_maps.proofs.BesideLemmas.{low_beside, set_here, set_other, sixteen}
 use Rattle.weak_maps.proofs.DescendLemmas.{below_root}
 use Rattle.weak_maps.proofs.DigitLemmas.{other_digit}
 use Rattle.weak_maps.proofs.FieldLemmas.{field_load}
@@ -31,7 +33,7 @@ use Rattle.weak_maps.proofs.GetLemmas.{grows_by}
 use Rattle.weak_maps.proofs.LeafLemmas.{leaf_on}
 use Rattle.weak_maps.proofs.PlaceLemmas.{place_after}
 use Rattle.weak_maps.proofs.RoomLemmas.{goes_all}
-use Rattle.weak_maps.proofs.StayLemmas.{looking_from, looking_on, quiet_looks, respects_within}
+use Rattle.weak_maps.proofs.StayLemmas.{looking_from, looking_on, quiet_looks, respects_within, within_quiet}
 use Rattle.weak_maps.proofs.TakeLemmas.{cleared_clean, cleared_grows, cleared_keeps, cleared_looking}
 
 -- entries that change no block, from a later front on
@@ -42,38 +44,39 @@ quiet_later z d first now new grows quiet front e since until mine = quiet front
 goes_looking : (z : Sizes) (root : Label) (d : ℕ) (old first now new : List Entry) → GoesOn z root d old now → IsPrefix first now → IsPrefix now new → Looking z root d first new → GoesOn z root d old new
 goes_looking z root d old first now new on since grows looking = record {
   looks = looks_twice z root d old now new grows on.looks (quiet_looks z root d now new (quiet_later z d first now new since looking.quiet));
+  within = within_twice z root d old old now new grows on.within (within_quiet z root d old now new (quiet_later z d first now new since looking.quiet));
   grows = prefix_trans old now new on.grows grows;
   map = looking.map;
 }
 
 module _ (z : Sizes) (limits : IsWithinLimits z) (root : Label) (d : ℕ) (old : List Entry) (k : Label) (v : Value) (kr : ℕ) (few : kr < 8) (key : held_by z d old kr ≡ Block k) where
   -- the registers between are emptied at the end
-  pub put_ended : (now new : List Entry) → GoesOn z root d old now → ((j : ℕ) → j < 8 → held_by z d now j ≡ held_by z d old j) → Cleared z d now new → OthersRespect z root d old new → Looks z root d old new × TakeLeaves z d old new root
+  pub put_ended : (now new : List Entry) → GoesOn z root d old now → ((j : ℕ) → IsBeside j → held_by z d now j ≡ held_by z d old j) → Cleared z d now new → OthersRespect z root d old new → Looks z root d old new × TakeLeaves z d old new root
   put_ended now new on keeps x respects =
       let later = cleared_grows z d now new x in
       let tail = respects_within z root d old new now new on.grows (prefix_same new) respects in
       let from = looking_from z root d now on.map in
       let looking = cleared_looking z limits root d now k now now new x tail from in (
         looks_twice z root d old now new later on.looks (quiet_looks z root d now new looking.quiet),
-        record { map = looking.map; clean = cleared_clean z limits root d now k now now new x tail from; keeps = λ j small. cleared_keeps z limits root d now k now now new x tail from j small ∙ keeps j small },
+        record { map = looking.map; within = within_twice z root d old old now new later on.within (within_quiet z root d old now new looking.quiet); clean = cleared_clean z limits root d now k now now new x tail from; keeps = λ j small. cleared_keeps z limits root d now k now now new x tail from j small ∙ keeps j small },
       )
 
   -- the leaf was published
-  pub put_done : (now n1 new : List Entry) → GoesOn z root d old now → ((j : ℕ) → j < 8 → held_by z d now j ≡ held_by z d old j) → Published z d now n1 root k v → Cleared z d n1 new → OthersRespect z root d old new
+  pub put_done : (now n1 new : List Entry) (l : Label) → IsMadeBehind z d old l → GoesOn z root d old now → ((j : ℕ) → IsBeside j → held_by z d now j ≡ held_by z d old j) → Published z d now n1 root k l v → Cleared z d n1 new → OthersRespect z root d old new
       → ((before : Option Value) × ChangesOne z root d old new k before (Some v)) × TakeLeaves z d old new root
-  put_done now n1 new on keeps x c respects =
+  put_done now n1 new l mine on keeps x c respects =
       let later = cleared_grows z d n1 new c in
       let tail = respects_within z root d old new n1 new (prefix_trans old now n1 on.grows x.grows) (prefix_same new) respects in
       let from = looking_from z root d n1 x.map in
       let looking = cleared_looking z limits root d n1 k n1 n1 new c tail from in (
         (x.before, changes_before z root d old n1 new k x.before (Some v) later (changes_behind z root d old now n1 k x.before (Some v) on.grows on.looks x.grows x.changes) (quiet_looks z root d n1 new looking.quiet)),
-        record { map = looking.map; clean = cleared_clean z limits root d n1 k n1 n1 new c tail from; keeps = λ j small. cleared_keeps z limits root d n1 k n1 n1 new c tail from j small ∙ (x.keeps j ∙ keeps j small) },
+        record { map = looking.map; within = within_twice z root d old old n1 new later (within_twice z root d old old now n1 x.grows on.within (x.within old mine)) (within_quiet z root d old n1 new looking.quiet); clean = cleared_clean z limits root d n1 k n1 n1 new c tail from; keeps = λ j small. cleared_keeps z limits root d n1 k n1 n1 new c tail from j small ∙ (x.keeps j ∙ keeps j small) },
       )
 
   -- the field is read once more
   pub put_read : (front now n1 new : List Entry) (first : List Entry) (r : Reply) (i rest : ℕ) (s : Reply) (level : ℕ) (x : AtField z d first front now root k i rest s) → level ≡ length x.p → GoesOn z root d old n1 → Stays z root front n1 → held_by z d n1 8 ≡ held_by z d now 8
-      → ((j : ℕ) → j < 8 → held_by z d n1 j ≡ held_by z d old j) → (l : Label) → OwnBlock z d n1 root 10 l (Ephe (Some k ∷ []) v) → PerformedBy z d n1 new (Load 9 8 i) r → OthersRespect z root d old new → Putting z d old new root k v i rest r level
-  put_read front now n1 new first r i rest s level x deep on stays eight keeps l leaf p respects =
+      → ((j : ℕ) → IsBeside j → held_by z d n1 j ≡ held_by z d old j) → (l : Label) → IsMadeBehind z d old l → OwnBlock z d n1 root 10 l (Ephe (Some k ∷ []) v) → PerformedBy z d n1 new (Load 9 8 i) r → OthersRespect z root d old new → Putting z d old new root k v i rest r level
+  put_read front now n1 new first r i rest s level x deep on stays eight keeps l mine leaf p respects =
       let g = grows_by z d n1 new (Load 9 8 i) r p in
       let tail = respects_within z root d old new n1 new on.grows (prefix_same new) respects in
       let moved = stays.block x.p (Block x.l) x.fields x.there x.plain in
@@ -84,9 +87,10 @@ module _ (z : Sizes) (limits : IsWithinLimits z) (root : Label) (d : ℕ) (old :
         looking = y.0;
         field = y.1.0;
         deep = deep ∙ ap length (sym y.1.1);
-        keeps = λ j small. y.2 j (λ e. absurd (omega (arith, small, e))) ∙ keeps j small;
+        keeps = λ j beside. y.2 j beside.1 ∙ keeps j beside;
         l = l;
-        leaf = leaf_on z limits root d n1 k l v n1 new new (Load 9 8 i) r p (λ j. refl) (prefix_same n1) (prefix_same new) y.0 kr (keeps kr few ∙ key) (y.2 10 (λ e. absurd (omega (arith, e)))) leaf;
+        made = mine;
+        leaf = leaf_on z limits root d n1 k l v n1 new new (Load 9 8 i) r p (λ j. refl) (prefix_same n1) (prefix_same new) y.0 kr (keeps kr (low_beside kr few) ∙ key) (y.2 10 (λ e. absurd (omega (arith, e)))) leaf;
       }
 
   -- a walk from there
@@ -94,15 +98,16 @@ module _ (z : Sizes) (limits : IsWithinLimits z) (root : Label) (d : ℕ) (old :
       → Arrived z d old n0 root k v i2 rest2 (level + steps) other
   put_arrives now n0 i rest i2 rest2 level steps s other t finds own grows respects =
       let tail = respects_within z root d old n0 t.first n0 t.since (prefix_same n0) respects in
-      let held : held_by z d now kr ≡ Block k = t.keeps kr few ∙ key in
+      let held : held_by z d now kr ≡ Block k = t.keeps kr (low_beside kr few) ∙ key in
       let f = finds t.first root held t.looking t.field tail in record {
         on = goes_looking z root d old t.first now n0 t.on t.looking.grows grows f.0;
         first = t.first;
         since = t.since;
         looking = f.0;
         found = subst (λ (n : ℕ). FieldFound z d t.first n0 root k i2 rest2 (n + steps) other) (sym t.deep) f.2;
-        keeps = λ j small. f.1 j (λ e. absurd (omega (arith, small, e))) (λ e. absurd (omega (arith, small, e))) (λ e. absurd (omega (arith, small, e))) ∙ t.keeps j small;
+        keeps = λ j beside. f.1 j beside.0 beside.1 beside.3 ∙ t.keeps j beside;
         l = t.l;
+        made = t.made;
         leaf = own t.first root t.l v held t.looking t.field tail t.leaf;
       }
 
@@ -148,7 +153,8 @@ module _ (z : Sizes) (limits : IsWithinLimits z) (root : Label) (d : ℕ) (old :
         looking = y.0;
         field = y.1.0;
         deep = ap length (sym y.1.1);
-        keeps = λ j small. y.2 j (λ e. absurd (omega (arith, small, e))) ∙ (keeps1 j (λ e. absurd (omega (arith, small, e))) ∙ x.keeps j (ten_apart j small));
+        keeps = λ j beside. y.2 j beside.1 ∙ (keeps1 j beside.0 ∙ x.keeps j beside.2);
         l = x.l;
+        made = x.made;
         leaf = leaf_on z limits root d n0 k x.l v n1 new new c2 r2 p2 (λ j. refl) g1 (prefix_same new) y.0 kr key1 (ten2 ∙ sym ten1) leaf1;
       }

@@ -14,6 +14,7 @@ use Rattle.table_laws.specs.Stages.{graph_of}
 use Rattle.map_laws.specs.Tries.{at, inside, is_leaf, node_width, root_width, width_at, IsMap, IsInPlace}
 use Rattle.map_laws.specs.Steps.{OthersLeave}
 use Rattle.map_laws.specs.Calls.{AreZero, HasKey, OwnKeep, PerformedBy}
+use Rattle.map_laws.specs.Within.{OwnWithin}
 use Rattle.weak_maps.specs.Beside.{held_by}
 
 -- how many fields a block has below which there may be so many in a row
@@ -24,9 +25,10 @@ width_of left = cond (left == 6) root_width node_width
 abbrev pub Below : List ℕ → List ℕ → Type 0
 Below p q = (r : List ℕ) × (q ≡ p ++ r)
 
--- what a domain has done changed no binding, a map is one still, each leaf that binds a key stands on the key's way, and each that has its key stood where it stands, and had it
+-- what a domain has done changed no binding and wrote no block but of a map, which is one still, each leaf that binds a key stands on the key's way, and each that has its key stood where it stands, and had it
 pub record Cleans (z : Sizes) (root : Label) (d : ℕ) (old new : List Entry) : Type 0 where
   pub keeps : OwnKeep z root d old new
+  pub within : OwnWithin z root d old old new
   pub grows : IsPrefix old new
   pub map : IsMap (graph_of z new) root
   pub placed : IsInPlace z.domains (graph_of z new) root
@@ -115,9 +117,10 @@ CleansField z d old new block left i empty = (root : Label) (p : List ℕ) (l : 
 abbrev pub CleansBlock : Sizes → ℕ → List Entry → List Entry → ℕ → ℕ → ℕ → Bool → Type 0
 CleansBlock z d old new block left n empty = (root : Label) (p : List ℕ) (l : Label) → AtBlock z d old root p l block left → OthersLeave z root d old new → BlockCleaned z d old new root p l (14 - left) n empty
 
--- what `map_clean` leaves: the map is one still, each leaf that binds a key stands on the key's way, registers 8 to 15 hold nothing, and the others what they held
+-- what `map_clean` leaves: the map is one still, no block was written but of the map, each leaf that binds a key stands on the key's way, registers 8 to 15 hold nothing, and the others what they held
 pub record CleanLeaves (z : Sizes) (d : ℕ) (old new : List Entry) (root : Label) : Type 0 where
   pub map : IsMap (graph_of z new) root
   pub placed : IsInPlace z.domains (graph_of z new) root
+  pub within : OwnWithin z root d old old new
   pub clean : (i : ℕ) → 8 ≤ i → i < 16 → held_by z d new i ≡ Nothing
   pub registers : (i : ℕ) → i < 8 → held_by z d new i ≡ held_by z d old i

@@ -22,6 +22,10 @@ pub record Stays (z : Sizes) (root : Label) (now later : List Entry) : Type 0 wh
   pub block : (q : List ℕ) (u : Value) (fields : List Value) → at (inside (graph_of z now)) q (Block root) ≡ Some u → inside (graph_of z now) u ≡ Some fields
       → (at (inside (graph_of z later)) q (Block root) ≡ Some u) × ((left : List Value) × (inside (graph_of z later) u ≡ Some left))
 
+-- registers that a put or a take doesn't use
+abbrev pub IsBeside : ℕ → Type 0
+IsBeside i = (i ≢ 8) × (i ≢ 9) × (i ≢ 10) × (i ≢ 11)
+
 -- register 8 holds a block on a key's way, whose next digit is this, the others are the digits of a number, and register 9 holds what its field held at a front
 pub record AtField (z : Sizes) (d : ℕ) (first front now : List Entry) (root k : Label) (index rest : ℕ) (at_end : Reply) : Type 0 where
   pub p : List ℕ
@@ -93,5 +97,5 @@ pub record Cleared (z : Sizes) (d : ℕ) (old new : List Entry) : Type 0 where
 pub record Taking (z : Sizes) (d : ℕ) (old now : List Entry) (root k : Label) (index rest : ℕ) (at_end : Reply) : Type 0 where
   pub looking : Looking z root d old now
   pub field : AtField z d old now now root k index rest at_end
-  pub keeps : (j : ℕ) → j < 8 → held_by z d now j ≡ held_by z d old j
+  pub keeps : (j : ℕ) → IsBeside j → held_by z d now j ≡ held_by z d old j
   pub ten : held_by z d now 10 ≡ Int (pos 0)

@@ -17,9 +17,10 @@ use Rattle.map_laws.specs.Tries.{at, inside, bound_by, is_leaf, node_width, root
 use Rattle.map_laws.specs.Steps.{OthersLeave, OthersRespect}
 use Rattle.map_laws.specs.Calls.{ChangesOne, Looks}
 use Rattle.map_laws.specs.Private.{IsPrivate}
+use Rattle.map_laws.specs.Within.{IsMadeBehind, OwnWithin}
 use Rattle.weak_maps.specs.Beside.{held_by}
 use Rattle.weak_maps.specs.Walks.{Looking}
-use Rattle.weak_maps.specs.Fields.{AtField, KeepsWalked, Stays}
+use Rattle.weak_maps.specs.Fields.{AtField, IsBeside, KeepsWalked, Stays}
 
 -- a leaf of this key, or of none
 abbrev pub IsLeafOf : Graph → Label → Label → Type 0
@@ -42,6 +43,7 @@ pub record OwnBlock (z : Sizes) (d : ℕ) (now : List Entry) (root : Label) (r :
 -- a call went on: it changed no binding so far, and a map is one still
 pub record GoesOn (z : Sizes) (root : Label) (d : ℕ) (old now : List Entry) : Type 0 where
   pub looks : Looks z root d old now
+  pub within : OwnWithin z root d old old now
   pub grows : IsPrefix old now
   pub map : IsMap (graph_of z now) root
 
@@ -50,6 +52,7 @@ pub record LeafMade (z : Sizes) (d : ℕ) (old now : List Entry) (root k : Label
   pub on : GoesOn z root d old now
   pub keeps : (i : ℕ) → i ≢ 10 → held_by z d now i ≡ held_by z d old i
   pub l : Label
+  pub made : IsMadeBehind z d old l
   pub leaf : OwnBlock z d now root 10 l (Ephe (Some k ∷ []) v)
 
 -- or the allocation was refused
@@ -72,11 +75,12 @@ pub record FieldBinds (z : Sizes) (front now : List Entry) (v : Value) (k : Labe
   pub leaf : (l : Label) → v ≡ Block l → is_leaf (node_at (graph_of z front) l)
 
 -- a leaf was published: the key is bound by it
-pub record Published (z : Sizes) (d : ℕ) (old new : List Entry) (root k : Label) (v : Value) : Type 0 where
+pub record Published (z : Sizes) (d : ℕ) (old new : List Entry) (root k l : Label) (v : Value) : Type 0 where
   pub map : IsMap (graph_of z new) root
   pub grows : IsPrefix old new
   pub before : Option Value
   pub changes : ChangesOne z root d old new k before (Some v)
+  pub within : (first : List Entry) → IsMadeBehind z d first l → OwnWithin z root d first old new
   pub keeps : (i : ℕ) → held_by z d new i ≡ held_by z d old i
 
 -- or another call wrote the field first: the leaf is as it was
@@ -87,7 +91,7 @@ pub record PublishLost (z : Sizes) (d : ℕ) (first front old new : List Entry) 
   pub keeps : (i : ℕ) → held_by z d new i ≡ held_by z d old i
 
 abbrev pub PublishesBy : (z : Sizes) (d : ℕ) (first front old new : List Entry) (root k : Label) (index rest : ℕ) (shows : Reply) → AtField z d first front old root k index rest shows → Label → Value → Bool → Type 0
-PublishesBy z d first front old new root k index rest shows field l v true = Published z d old new root k v
+PublishesBy z d first front old new root k index rest shows field l v true = Published z d old new root k l v
 PublishesBy z d first front old new root k index rest shows field l v false = PublishLost z d first front old new root k index rest shows field l v
 
 -- whatever map that is in, if others respect it, and a register holds the key
@@ -164,8 +168,9 @@ pub record Putting (z : Sizes) (d : ℕ) (old now : List Entry) (root k : Label)
   pub looking : Looking z root d first now
   pub field : AtField z d first now now root k index rest shows
   pub deep : level ≡ length field.p
-  pub keeps : (i : ℕ) → i < 8 → held_by z d now i ≡ held_by z d old i
+  pub keeps : (i : ℕ) → IsBeside i → held_by z d now i ≡ held_by z d old i
   pub l : Label
+  pub made : IsMadeBehind z d old l
   pub leaf : OwnBlock z d now root 10 l (Ephe (Some k ∷ []) v)
 
 -- it has come to the field at which the key's way ends
@@ -175,6 +180,7 @@ pub record Arrived (z : Sizes) (d : ℕ) (old now : List Entry) (root k : Label)
   pub since : IsPrefix old first
   pub looking : Looking z root d first now
   pub found : FieldFound z d first now root k index rest level other
-  pub keeps : (i : ℕ) → i < 8 → held_by z d now i ≡ held_by z d old i
+  pub keeps : (i : ℕ) → IsBeside i → held_by z d now i ≡ held_by z d old i
   pub l : Label
+  pub made : IsMadeBehind z d old l
   pub leaf : OwnBlock z d now root 10 l (Ephe (Some k ∷ []) v)

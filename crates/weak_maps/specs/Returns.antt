@@ -13,7 +13,9 @@ use Rattle.heap_model.specs.History.{IsPrefix}
 use Rattle.table_laws.specs.Stages.{graph_of}
 use Rattle.map_laws.specs.Tries.{IsMap, root_width, IsInPlace}
 use Rattle.map_laws.specs.Calls.{GetAnswers, PutAnswers, TakeAnswers, bound_after}
+use Rattle.map_laws.specs.Within.{OwnWithin}
 use Rattle.weak_maps.specs.Beside.{held_by}
+use Rattle.weak_maps.specs.Fields.{IsBeside}
 use Rattle.weak_maps.specs.Walks.{OwnQuiet}
 
 -- what `map_get` leaves: the map is one still, no block was changed by the domain, the register of the answer holds what the reply shows, register 8 nothing, and the others what they held
@@ -50,11 +52,12 @@ pub record MakesNone (z : Sizes) (d : ℕ) (old new : List Entry) : Type 0 where
 abbrev pub MakeReturns : Sizes → ℕ → List Entry → List Entry → ℕ → Reply → Type 0
 MakeReturns z d old new dst r = ((root : Label) × (r ≡ reply.Block root) × MakesMap z d old new dst root) ⊎ ((r ≡ reply.Full) × MakesNone z d old new)
 
--- what `map_take` and `map_put` leave: the map is one still, registers 8 to 11 hold nothing, and the others what they held
+-- what `map_take` and `map_put` leave: the map is one still, no block was written but of the map and of the call's own, registers 8 to 11 hold nothing, and the others what they held
 pub record TakeLeaves (z : Sizes) (d : ℕ) (old new : List Entry) (root : Label) : Type 0 where
   pub map : IsMap (graph_of z new) root
+  pub within : OwnWithin z root d old old new
   pub clean : (i : ℕ) → 8 ≤ i → i ≤ 11 → held_by z d new i ≡ Nothing
-  pub keeps : (i : ℕ) → i < 8 → held_by z d new i ≡ held_by z d old i
+  pub keeps : (i : ℕ) → IsBeside i → held_by z d new i ≡ held_by z d old i
 
 -- `map_take`, by what the register of the key holds
 abbrev pub TakeReturns : Sizes → ℕ → List Entry → List Entry → Label → Value → Reply → Type 0

@@ -13,7 +13,7 @@ use Rattle.weak_maps.proofs.GetLemmas.{shown_label}
 use Rattle.weak_maps.proofs.MachineLemmas.{shows_some}
 use Rattle.weak_cache.specs.Calls.{PutsOrFull}
 use Rattle.weak_cache.proofs.CoreLemmas.{spares_within}
-use Rattle.weak_cache.proofs.EndLemmas.{begun, begun_low}
+use Rattle.weak_cache.proofs.EndLemmas.{begun, begun_low, low_beside}
 use Rattle.weak_cache.proofs.MachineLemmas.{begun_at, cleared_at, leaf_at, moves_at}
 use Rattle.weak_cache.proofs.ReturnLemmas.{leaf_made, put_done, put_full, put_returns}
 use Rattle.weak_cache.proofs.cache.cache_put.Goals as goal
@@ -63,8 +63,8 @@ returns-clause-answer g c =
     let upto = λ (h : List Entry) (until : IsPrefix h new). spares_within z root d old new old h (prefix_same old) until spares in
     let begins = begun z c.stands.ensures.limits d root k old c.args.size cache_is c.args.cache c.args.key c.requires.few.0 c.requires.few.1 holds key n0 b (upto n0 g0) in
     let low0 = begun_low z c.stands.ensures.limits d root k old c.args.size cache_is c.args.cache c.args.key c.requires.few.0 c.requires.few.1 holds key n0 b (upto n0 g0) in
-    let item0 : held_by z d n0 c.args.item ≡ v = low0 c.args.item c.requires.few.2 in
-    let m = leaf_made z c.stands.ensures.limits d root k old c.args.size cache_is n0 n1 c.args.key c.args.item c.requires.few.1 c.requires.few.2 made (upto n1 g1) begins (low0 c.args.key c.requires.few.1 ∙ key) (λ none. some (sym item0 ∙ none)) in
+    let item0 : held_by z d n0 c.args.item ≡ v = low0 c.args.item (low_beside c.args.item c.requires.few.2) in
+    let m = leaf_made z c.stands.ensures.limits d root k old c.args.size cache_is n0 n1 c.args.key c.args.item c.requires.few.1 c.requires.few.2 made (upto n1 g1) begins (low0 c.args.key (low_beside c.args.key c.requires.few.1) ∙ key) (λ none. some (sym item0 ∙ none)) in
     let y = moves old root _ _ cache_is.fields (upto n2 g2) cache_is.many cache_is.some m.0 in
     put_returns z d old new root c.args.size _ v k reply.Done key some
     (subst (λ (w : Value). PutsOrFull z d old new root c.args.size k w reply.Done) item0 (put_done z c.stands.ensures.limits d root k old c.args.size cache_is n2 new _ _ (λ i low. y.1 i low ∙ (m.1 i low ∙ low0 i low)) y.0 e spares))

@@ -5,7 +5,7 @@ use Rattle.heap_model.specs.declared.graph.Value.{Value}
 use Rattle.heap_model.specs.History.{IsPrefix}
 use Rattle.weak_maps.specs.Beside.{refusals_by, writings_by}
 use Rattle.weak_cache.specs.Caches.{OthersSpare}
-use Rattle.weak_cache.specs.Passes.{Finding, KeepsLow}
+use Rattle.weak_cache.specs.Passes.{Finding, KeepsBeside}
 use Rattle.weak_cache.proofs.cache.find.Given as goal
 
 abbrev pub invariant-slots : goal.invariant-slots
@@ -19,5 +19,5 @@ invariant-slots g l = record {
   given : refusals_by (g.M.Machine.domain l.fn.m) (g.M.Machine.front l.m) ≡ refusals_by (g.M.Machine.domain l.fn.m) (g.M.Machine.front l.fn.m);
   written : writings_by (g.M.Machine.domain l.fn.m) (g.M.Machine.front l.m) ≡ writings_by (g.M.Machine.domain l.fn.m) (g.M.Machine.front l.fn.m);
   walk : (first : List Entry) (c : Label) (fs : List Value) → OthersSpare (g.M.Machine.sizes l.fn.m) c (g.M.Machine.domain l.fn.m) first (g.M.Machine.front l.m) → length fs ≡ l.size → Finding (g.M.Machine.sizes l.fn.m) (g.M.Machine.domain l.fn.m) first (g.M.Machine.front l.fn.m) c l.label fs 0
-      → Finding (g.M.Machine.sizes l.fn.m) (g.M.Machine.domain l.fn.m) first (g.M.Machine.front l.m) c l.label fs l.index × KeepsLow (g.M.Machine.sizes l.fn.m) (g.M.Machine.domain l.fn.m) (g.M.Machine.front l.fn.m) (g.M.Machine.front l.m);
+      → Finding (g.M.Machine.sizes l.fn.m) (g.M.Machine.domain l.fn.m) first (g.M.Machine.front l.m) c l.label fs l.index × KeepsBeside (g.M.Machine.sizes l.fn.m) (g.M.Machine.domain l.fn.m) (g.M.Machine.front l.fn.m) (g.M.Machine.front l.m);
 }

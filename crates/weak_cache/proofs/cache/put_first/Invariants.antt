@@ -5,7 +5,7 @@ use Rattle.heap_model.specs.declared.graph.Value.{Value}
 use Rattle.heap_model.specs.History.{IsPrefix}
 use Rattle.weak_maps.specs.Beside.{refusals_by, writings_by}
 use Rattle.weak_cache.specs.Caches.{OthersSpare}
-use Rattle.weak_cache.specs.Passes.{KeepsLow, Moving}
+use Rattle.weak_cache.specs.Passes.{KeepsBeside, Moving}
 use Rattle.weak_cache.proofs.cache.put_first.Given as goal
 
 abbrev pub invariant-slots : goal.invariant-slots
@@ -19,5 +19,5 @@ invariant-slots g l = record {
   given : refusals_by (g.M.Machine.domain l.fn.m) (g.M.Machine.front l.m) ≡ refusals_by (g.M.Machine.domain l.fn.m) (g.M.Machine.front l.fn.m);
   written : writings_by (g.M.Machine.domain l.fn.m) (g.M.Machine.front l.m) ≡ writings_by (g.M.Machine.domain l.fn.m) (g.M.Machine.front l.fn.m);
   walk : (first : List Entry) (c b : Label) (v : Value) (fs : List Value) → OthersSpare (g.M.Machine.sizes l.fn.m) c (g.M.Machine.domain l.fn.m) first (g.M.Machine.front l.m) → length fs ≡ l.size → Moving (g.M.Machine.sizes l.fn.m) (g.M.Machine.domain l.fn.m) first (g.M.Machine.front l.fn.m) c l.label b v fs 0
-      → Moving (g.M.Machine.sizes l.fn.m) (g.M.Machine.domain l.fn.m) first (g.M.Machine.front l.m) c l.label b v fs l.index × KeepsLow (g.M.Machine.sizes l.fn.m) (g.M.Machine.domain l.fn.m) (g.M.Machine.front l.fn.m) (g.M.Machine.front l.m);
+      → Moving (g.M.Machine.sizes l.fn.m) (g.M.Machine.domain l.fn.m) first (g.M.Machine.front l.m) c l.label b v fs l.index × KeepsBeside (g.M.Machine.sizes l.fn.m) (g.M.Machine.domain l.fn.m) (g.M.Machine.front l.fn.m) (g.M.Machine.front l.m);
 }
