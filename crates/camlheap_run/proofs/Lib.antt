@@ -7,6 +7,7 @@ pub mod SumLemmas
 pub mod GeneratingLemmas
 pub mod RunLemmas
 pub mod SpawningLemmas
+pub mod TellingLemmas
 pub mod WordLemmas
 pub mod StatusLemmas
 pub mod TableLemmas

@@ -5,6 +5,7 @@ pub mod Writing
 pub mod Generating
 pub mod Run
 pub mod Running
+pub mod Telling
 pub mod Outcome
 pub mod Tables
 pub mod Replaying

@@ -17,6 +17,8 @@ mod source;
 mod status;
 mod summary;
 mod table;
+mod telling;
+mod text;
 mod top;
 mod writing;
 

@@ -18,7 +18,7 @@ pub(crate) enum Report {
 }
 
 // Writes what a report has of one domain.
-fn write_run<K: Sink>(out: &mut K, report: Report, run: &DomainRun) -> Result<(), Failed>
+pub(crate) fn write_run<K: Sink>(out: &mut K, report: Report, run: &DomainRun) -> Result<(), Failed>
     ensures cause { HasCause (K.faults out.old) (K.faults out.new) result }
     ensures bytes { Writes (K.written out.old) (K.written out.new) result (run_text report run.now) }
 {

@@ -16,8 +16,9 @@ ghost use Rattle.camlheap_run.specs.Outcome.{WritesRun, WritesFrontOfRun, Writes
 use crate::Status;
 use crate::begin::{Begun, begin, config_of};
 use crate::end::end;
-use crate::report::{Report, write_report};
+use crate::report::Report;
 use crate::sectioning::begin_sections;
+use crate::telling::{Tellers, runs_of, tellers_of, write_tellers};
 use heap_model::state::Sizes;
 use heap_text::Script;
 use outer_io::{Failed, Gate, Sink};
@@ -26,9 +27,11 @@ use std::sync::Wait;
 use std::thread::Threads;
 use thread_drive::drive;
 
-// Drives the runs of a heap to their ends, in threads, writes the report, and ends the heap. No memory is taken.
+// Drives the runs of a heap to their ends, in threads, writes the report, and ends the heap. The room for the report is
+// taken before the first command.
 fn run_begun<R: Threads + Wait + Sync, K: Sink, G: Gate + Sync>(
     rt: &R,
+    alloc: Global,
     begun: Begun,
     report: Report,
     out: &mut K,
@@ -43,13 +46,20 @@ fn run_begun<R: Threads + Wait + Sync, K: Sink, G: Gate + Sync>(
     ensures cut { (ended : Option EndedHeap) → result ≡ Status.WriteFault ended → DrivesToEnd begun report ended (AppendsFront (K.written out.old) (K.written out.new)) }
     ensures fault { (ended : Option EndedHeap) → result ≡ Status.WriteFault ended → Rose (K.faults out.old) (K.faults out.new) }
     ensures failed { K.faults out.old < K.faults out.new → IsWriteFault result }
-    ensures enough { result ≡ Status.Memory → ⊥ }
+    ensures quiet { result ≡ Status.Memory → out.new ≡ out.old }
     ensures answers { IsRunAnswer result }
 {
     let Begun { heap, runs, room } = begun;
-    let runs = drive(rt, &heap, runs, gate);
-    let written = write_report(out, report, &runs);
-    let ended = Some(end(heap, runs, room));
+    let Tellers {
+        tellers,
+        room: runs_room,
+    } = match tellers_of(alloc, report, runs) {
+        Ok(tellers) => tellers,
+        Err(AllocError) => return Status::Memory,
+    };
+    let tellers = drive(rt, &heap, tellers, gate);
+    let written = write_tellers(out, &tellers);
+    let ended = Some(end(heap, runs_of(tellers, runs_room), room));
     match written {
         Ok(()) => Status::Done { ended },
         Err(Failed) => Status::WriteFault { ended },
@@ -78,7 +88,7 @@ pub(crate) fn run<R: Threads + Wait + Sync, K: Sink, G: Gate + Sync>(
     ensures answers { IsRunAnswer result }
 {
     match begin(alloc, config_of(sizes, &script), script) {
-        Ok(begun) => run_begun(rt, begun, report, out, gate),
+        Ok(begun) => run_begun(rt, alloc, begun, report, out, gate),
         Err(AllocError) => Status::Memory,
     }
 }
@@ -103,7 +113,7 @@ fn run_sections<R: Threads + Wait + Sync, K: Sink, G: Gate + Sync>(
     ensures answers { IsRunAnswer result }
 {
     match begin_sections(alloc, config_of(sizes, &script), script) {
-        Ok(begun) => run_begun(rt, begun, Report::Replies, out, gate),
+        Ok(begun) => run_begun(rt, alloc, begun, Report::Replies, out, gate),
         Err(AllocError) => Status::Memory,
     }
 }

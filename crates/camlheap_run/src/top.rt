@@ -46,8 +46,9 @@ use std::thread::Threads;
 ///
 /// The refusals come in the order in which the work is done: the words, reading, too long a text, the schedule, the script,
 /// whether it can be replayed, running, writing. A read or a
-/// write that failed isn't tried again. The sink is handed whole lines: up to 64 replies of a domain at once, and each other
-/// line by itself. Want of memory may come at any time before the first byte is written.
+/// write that failed isn't tried again. The sink is handed whole lines: of `run` the section of a domain at once, which its own
+/// thread has printed, of `replay` up to 64 replies, and each other line by itself. Want of memory may come at any time before
+/// the first byte is written.
 ///
 /// It waits for its threads, and so may wait without end: nothing is said of when they run. The clauses also leave
 /// free which allocations are answered `full`.
