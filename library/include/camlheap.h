@@ -27,6 +27,9 @@ extern "C" {
 /* A domain, or none: memory of zeros is none. Only these calls look into it. */
 typedef struct { void *at; bool full; } camlheap_domain;
 
+/* A bed, in which a domain rests, or none: memory of zeros is none. Only these calls look into it. */
+typedef struct { void *at; bool full; } camlheap_bed;
+
 /* How large a heap is: 1 domains (1 to 8), 2 words of each minor area (4096 to 65536 in steps of 4096), 3 pools of 4096
  * words (D * (minor_words / 4096 + 9) + 9 * D + 1 to 2048 for D domains), 4 and 5 room for finalisers and ephemerons of
  * each domain (at most 200000 each). */
@@ -64,7 +67,11 @@ enum {
   CAMLHEAP_NO_REGISTER = 23,  /* no such register */
   CAMLHEAP_MEMORY = 24,       /* memory ran out, and nothing was started */
   CAMLHEAP_TOO_FEW_HANDLES = 25,
-  CAMLHEAP_NO_MORE = 26,      /* no more finalisers have run */
+  CAMLHEAP_NO_MORE = 26,      /* no more finalisers have run; there are 64 beds */
+  CAMLHEAP_NO_BED = 27,       /* the handle holds none */
+  CAMLHEAP_BED_FULL = 28,     /* a domain rests there */
+  CAMLHEAP_HAS_DOMAIN = 29,   /* the handle that is to be filled holds one */
+  CAMLHEAP_BED_EMPTY = 30,    /* no domain rests there */
   CAMLHEAP_OUTSIDE = 32       /* with 1 to 5 added: the first field of the configuration outside its range */
 };
 
@@ -165,25 +172,64 @@ uint32_t camlheap_close(camlheap_domain *domain);
  * heap wait for ever for a domain that was freed before. */
 void camlheap_free(camlheap_domain *domain);
 
+/* A thread that has other work for long, or blocks, puts its domain to rest in a bed: then the others needn't wait for it.
+ * Beds of one room know of each other, and whoever waits in a pause turns with its own bed the domains that rest there. A room
+ * has up to 64 beds, and any domain may rest in any that is free. As with a domain, one thread at a time calls on a bed.
+ *
+ * The first bed of a new room: DONE or MEMORY. A further one, made by the first: DONE, NO_BED, UNFIT where `first` isn't the
+ * first, NO_MORE, or MEMORY. What the handle that is filled held before is freed with DONE, and nothing has changed else. */
+uint32_t camlheap_first_bed(camlheap_bed *bed);
+uint32_t camlheap_another_bed(camlheap_bed *first, camlheap_bed *bed);
+
+/* Puts a domain to rest: the handle is empty then. DONE, NO_BED, NO_DOMAIN, CLOSED, BUSY where its last command isn't made yet,
+ * BED_FULL, or AGAIN where another thread is in the way, which is rare; nothing has changed else. It costs about a queue's push. */
+uint32_t camlheap_rest(camlheap_domain *domain, camlheap_bed *bed);
+
+/* Takes the domain back, into a handle that holds none. It has made no command meanwhile, and finalisers of it may have run
+ * (camlheap_ran). DONE, NO_BED, HAS_DOMAIN, BED_EMPTY, or AGAIN where another thread turns it at the moment. */
+uint32_t camlheap_resume(camlheap_domain *domain, camlheap_bed *bed);
+
+/* One turn of a domain that rests in the room, if one can be had at once: AGAIN where it did something, WAITING, or NO_BED. */
+uint32_t camlheap_attend(camlheap_bed *bed);
+
+/* Frees a bed, and the room with the last of them. A domain that rests there can't be taken back then, and the others of its
+ * heap wait for ever when they end. */
+void camlheap_free_bed(camlheap_bed *bed);
+
 /* What a thread does while it waits for others. */
 #ifndef CAMLHEAP_PAUSE
 #include <sched.h>
 #define CAMLHEAP_PAUSE() sched_yield()
 #endif
 
+/* The same, but it first turns a domain that rests, where the thread has a bed. */
+static inline void camlheap_wait(camlheap_bed *bed) {
+  if (!bed || camlheap_attend(bed) != CAMLHEAP_AGAIN) CAMLHEAP_PAUSE();
+}
+
 /* Goes on with a command until it is made, from what the call that began it has answered. Other threads have to turn the
- * other domains. */
-static inline uint32_t camlheap_await(camlheap_domain *domain, uint32_t told, camlheap_reply *reply) {
+ * other domains, or these rest in the room of the bed; it is NULL where the thread has none. */
+static inline uint32_t camlheap_await(camlheap_domain *domain, camlheap_bed *bed, uint32_t told, camlheap_reply *reply) {
   while (told == CAMLHEAP_AGAIN || told == CAMLHEAP_WAITING) {
-    if (told == CAMLHEAP_WAITING) CAMLHEAP_PAUSE();
+    if (told == CAMLHEAP_WAITING) camlheap_wait(bed);
     told = camlheap_run(domain, 64, reply);
   }
   return told;
 }
 
 /* Makes a command, and waits for its reply: DONE, or why it wasn't taken. */
+static inline uint32_t camlheap_perform_beside(camlheap_domain *domain, camlheap_bed *bed, const camlheap_command *command, camlheap_reply *reply) {
+  return camlheap_await(domain, bed, camlheap_call(domain, command, 64, reply), reply);
+}
 static inline uint32_t camlheap_perform(camlheap_domain *domain, const camlheap_command *command, camlheap_reply *reply) {
-  return camlheap_await(domain, camlheap_call(domain, command, 64, reply), reply);
+  return camlheap_perform_beside(domain, NULL, command, reply);
+}
+
+/* Waits until the domain that rests in a bed is back. */
+static inline uint32_t camlheap_come_back(camlheap_domain *domain, camlheap_bed *bed) {
+  uint32_t told;
+  while ((told = camlheap_resume(domain, bed)) == CAMLHEAP_AGAIN) CAMLHEAP_PAUSE();
+  return told;
 }
 
 /* Closes a domain, turns it until all have ended, and frees it: ENDED, or why it can't be closed. */

@@ -16,7 +16,7 @@ The library is ../out/libcamlheap.so beside this file's folder, or what CAMLHEAP
 import ctypes
 import os
 import time
-from dataclasses import dataclass
+from dataclasses import dataclass, make_dataclass
 
 U8, U16, U32, U64, I64, SIZE = ctypes.c_uint8, ctypes.c_uint16, ctypes.c_uint32, ctypes.c_uint64, ctypes.c_int64, ctypes.c_size_t
 
@@ -45,7 +45,7 @@ class _Counts(ctypes.Structure):
     ]
 
 
-# The operands of each command, in the order of its line; a command's place is its number.
+# The operands of each command, in the order of its line; a command's place is its number. ROOM is what fits into them.
 FORMS = {
     "int": "dst value", "move": "dst a", "drop": "dst", "alloc": "dst tag n", "allocmaj": "dst tag n", "raw": "dst tag n",
     "load": "dst a n", "store": "a n b", "cas": "a n dst b", "ephe": "dst n", "set_key": "a n b", "unset_key": "a n",
@@ -53,7 +53,6 @@ FORMS = {
     "poll": "", "minor": "", "major": "", "full_major": "", "finalise": "a number dst", "finalise_last": "a number",
 }  # fmt: skip
 OPERATIONS = {word: number for number, word in enumerate(FORMS)}
-# What fits into each operand; the library says what is in its range.
 ROOM = {"dst": U8, "a": U8, "b": U8, "tag": U8, "n": U16, "number": U32, "value": I64}
 # The word of each kind of reply, and the fields that it has, in the order of its line.
 KINDS = [
@@ -101,7 +100,7 @@ class Outside(Refused):
 
 
 def _refuse(code):
-    raise _CAUSES[code - 16](code) if code < 32 else Outside(code)
+    raise _CAUSES[code - 16](code) if code < 26 else Refused(code, "the domain doesn't rest") if code < 32 else Outside(code)
 
 
 @dataclass(frozen=True)
@@ -123,19 +122,9 @@ class Reply:
         return " ".join([self.kind, *shown, *([label] if label else [])])
 
 
-@dataclass(frozen=True)
-class Stats:
-    """What a domain counts: labels that it has given out, words of its minor area that its young blocks take, fields that it
-    remembers, ephemerons, registrations of both kinds that don't wait yet, finalisers that wait, and arrivals at the barrier."""
-
-    labels: int
-    young_words: int
-    remembered: int
-    ephemerons: int
-    finals: int
-    lasts: int
-    waiting: int
-    arrivals: int
+Stats = make_dataclass("Stats", [(it, int) for it, _ in _Counts._fields_], frozen=True)
+Stats.__doc__ = """What a domain counts: labels that it has given out, words of its minor area that its young blocks take, fields that it
+remembers, ephemerons, registrations of both kinds that don't wait yet, finalisers that wait, and arrivals at the barrier."""
 
 
 def _reply(raw):
@@ -153,9 +142,10 @@ def _library():
     library.camlheap_ran.argtypes = [domain, SIZE, reply]
     library.camlheap_show.argtypes = [domain, U8, reply]
     library.camlheap_stats.argtypes = [domain, ctypes.POINTER(_Counts)]
-    for it in (library.camlheap_turn, library.camlheap_close, library.camlheap_free):
-        it.argtypes = [domain]
-    library.camlheap_free.restype = None
+    library.camlheap_another_bed.argtypes = library.camlheap_rest.argtypes = library.camlheap_resume.argtypes = [domain, domain]
+    for it in ("turn", "close", "free", "first_bed", "attend", "free_bed"):
+        getattr(library, f"camlheap_{it}").argtypes = [domain]
+    library.camlheap_free.restype = library.camlheap_free_bed.restype = None
     return library
 
 
@@ -164,10 +154,14 @@ def _fits(number, room):
 
 
 class Domain:
-    """A domain of a heap, which `start` makes. One thread at a time calls on it."""
+    """A domain of a heap, with a bed, which `start` makes. One thread at a time calls on it."""
 
-    def __init__(self, library, raw):
-        self._library, self._raw = library, raw
+    def __init__(self, library, raw, bed):
+        self._library, self._raw, self._bed = library, raw, bed
+
+    def _wait(self):
+        if self._library.camlheap_attend(self._bed) != AGAIN:
+            time.sleep(0)
 
     def perform(self, word, *numbers):
         """Makes a command, and answers its reply, as `perform("load", 3, 1, 0)`. Waits for other domains in a pause."""
@@ -182,7 +176,7 @@ class Domain:
         told = self._library.camlheap_call(self._raw, command, 64, reply)
         while told in (AGAIN, WAITING):
             if told == WAITING:
-                time.sleep(0)
+                self._wait()
             told = self._library.camlheap_run(self._raw, 64, reply)
         return _reply(reply) if told == DONE else _refuse(told)
 
@@ -218,12 +212,23 @@ class Domain:
     def free(self):
         """Frees the domain. Do it once `turn` has answered True: the others of the heap wait for it else."""
         self._library.camlheap_free(self._raw)
+        self._library.camlheap_free_bed(self._bed)
+
+    def rest(self):
+        """Lets others turn the domain where they wait for it, until `resume`. It can do nothing else meanwhile."""
+        while told := self._library.camlheap_rest(self._raw, self._bed):
+            time.sleep(0) if told == AGAIN else _refuse(told)
+
+    def resume(self):
+        """Takes the domain back. Its finalisers may have run (`ran`)."""
+        while told := self._library.camlheap_resume(self._raw, self._bed):
+            time.sleep(0) if told == AGAIN else _refuse(told)
 
     def finish(self):
         """Closes the domain, turns it until all have ended, and frees it."""
         self.close()
         while not self.turn():
-            time.sleep(0)
+            self._wait()
         self.free()
 
 
@@ -233,9 +238,11 @@ def start(domains=1, minor_words=4096, pools=64, finals=16, ephes=64):
     wrong = [place for place, number in enumerate(numbers) if not _fits(number, U32)]
     if wrong or domains > 8:
         raise Outside(33 + min(wrong or [0]))
-    library, handles = _library(), (_Domain * domains)()
-    told = library.camlheap_start(_Config(*numbers), handles, domains)
-    return [Domain(library, it) for it in handles] if told == DONE else _refuse(told)
+    library, handles, beds = _library(), (_Domain * domains)(), (_Domain * domains)()
+    told = library.camlheap_start(_Config(*numbers), handles, domains) or library.camlheap_first_bed(beds)
+    for it in beds[1:]:
+        told = told or library.camlheap_another_bed(beds, it)
+    return [Domain(library, *it) for it in zip(handles, beds)] if told == DONE else _refuse(told)
 
 
 _TOUR = [
@@ -267,7 +274,7 @@ def _line(domain, line):
 def tour(ask=input):
     """Shows a heap step by step. Return makes the step that is offered; another line is made as a command."""
     (domain,) = start()
-    print("Return makes the command that is offered; type another, or `show R`, `stats`, `help`, `quit`.")
+    print("Return makes the command that is offered; type another, or `stats`, `help`, `quit`.")
     steps = iter([*_TOUR, (None, None)])
     text, offered = next(steps)
     while offered:
@@ -282,8 +289,6 @@ def tour(ask=input):
             print("\n".join(f"  {word} {numbers}" for word, numbers in FORMS.items()))
         elif typed == "stats":
             print(f"  {domain.stats()}")
-        elif typed.startswith("show ") and typed[5:].isdigit() and int(typed[5:]) < 16:
-            print(f"  {domain.show(int(typed[5:]))}")
         else:
             print(_line(domain, typed or offered))
         if not typed:

@@ -45,7 +45,16 @@ def main():
         pass
     domain.free()
     assert refusal(domain.stats) == refusal(domain.turn) == refusal(domain.show, 0) == refusal(domain.ran) == camlheap.NoDomain
-    typed = iter(["", "alloc 99 0 1", "nonsense", "int 1 x", "stats", "show 1", "help", *[""] * 11])
+    first, second = camlheap.start(2)
+    first.rest()
+    assert second.perform("full_major").kind == "live" and refusal(first.turn) == camlheap.NoDomain
+    first.resume()
+    assert refusal(first.resume) == camlheap.Refused
+    first.close(), second.close()
+    while not first.turn() & second.turn():
+        pass
+    first.free(), second.free()
+    typed = iter(["", "alloc 99 0 1", "nonsense", "int 1 x", "stats", "help", *[""] * 12])
     camlheap.tour(lambda offered: next(typed))
     print("ok")
 

@@ -160,10 +160,11 @@ fn answered(told: u32, reply: &sys::Reply) -> Result<Reply, Refused> {
     if told == sys::DONE { Ok(Reply::of(reply)) } else { Err(Refused::of(told)) }
 }
 
-/// A domain of a heap. It moves between threads; one at a time calls on it. One that is dropped before it has finished
-/// leaves the others of its heap waiting in their next pause, for ever.
+/// A domain of a heap, with a bed. It moves between threads; one at a time calls on it. One that is dropped before it has
+/// finished leaves the others of its heap waiting in their next pause, for ever.
 pub struct Seat {
     raw: sys::Domain,
+    bed: sys::Bed,
     // Two threads don't share one, not even to read.
     _alone: PhantomData<Cell<()>>,
 }
@@ -178,8 +179,28 @@ pub fn start(config: Config) -> Result<Vec<Seat>, Refused> {
     }
     let mut raw: Vec<sys::Domain> = (0..config.domains).map(|_| sys::Domain::NONE).collect();
     match unsafe { sys::camlheap_start(&config, raw.as_mut_ptr(), raw.len()) } {
-        sys::DONE => Ok(raw.into_iter().map(|raw| Seat { raw, _alone: PhantomData }).collect()),
-        told => Err(Refused::of(told)),
+        sys::DONE => (),
+        told => return Err(Refused::of(told)),
+    }
+    let mut seats: Vec<Seat> = raw.into_iter().map(|raw| Seat { raw, bed: sys::Bed::NONE, _alone: PhantomData }).collect();
+    let (first, others) = seats.split_first_mut().expect("a heap has a domain");
+    let mut told = unsafe { sys::camlheap_first_bed(&mut first.bed) };
+    for seat in others {
+        told = told.max(unsafe { sys::camlheap_another_bed(&mut first.bed, &mut seat.bed) });
+    }
+    if told == sys::DONE { Ok(seats) } else { Err(Refused::Memory) }
+}
+
+/// A seat whose thread does something else for long, or blocks: the others needn't wait for it, and turn it where they wait.
+pub struct Resting(Seat);
+
+impl Resting {
+    /// The seat, which has made no command meanwhile. Finalisers of its domain may have [run](Seat::ran).
+    pub fn resume(mut self) -> Seat {
+        while unsafe { sys::camlheap_resume(&mut self.0.raw, &mut self.0.bed) } == sys::AGAIN {
+            thread::yield_now();
+        }
+        self.0
     }
 }
 
@@ -191,7 +212,7 @@ impl Seat {
         let mut told = unsafe { sys::camlheap_call(&mut self.raw, &command.raw(), TURNS, &mut reply) };
         while told == sys::AGAIN || told == sys::WAITING {
             if told == sys::WAITING {
-                thread::yield_now();
+                self.wait();
             }
             told = unsafe { sys::camlheap_run(&mut self.raw, TURNS, &mut reply) };
         }
@@ -225,9 +246,24 @@ impl Seat {
     pub fn turn(&mut self) -> bool {
         let told = unsafe { sys::camlheap_turn(&mut self.raw) };
         if told == sys::WAITING {
-            thread::yield_now();
+            self.wait();
         }
         told == sys::ENDED
+    }
+
+    // Turns a domain that rests, or lets another thread run.
+    fn wait(&mut self) {
+        if unsafe { sys::camlheap_attend(&mut self.bed) } != sys::AGAIN {
+            thread::yield_now();
+        }
+    }
+
+    /// Puts the seat to rest, until it is [resumed](Resting::resume).
+    pub fn rest(mut self) -> Resting {
+        while unsafe { sys::camlheap_rest(&mut self.raw, &mut self.bed) } == sys::AGAIN {
+            thread::yield_now();
+        }
+        Resting(self)
     }
 
     /// No command comes any more. Waits until the other seats are finished too, and frees the domain.
@@ -243,6 +279,9 @@ impl Seat {
 
 impl Drop for Seat {
     fn drop(&mut self) {
-        unsafe { sys::camlheap_free(&mut self.raw) };
+        unsafe {
+            sys::camlheap_free(&mut self.raw);
+            sys::camlheap_free_bed(&mut self.bed);
+        }
     }
 }

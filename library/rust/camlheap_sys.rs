@@ -13,6 +13,17 @@ impl Domain {
     pub const NONE: Domain = Domain { at: core::ptr::null_mut(), full: false };
 }
 
+/// A bed, in which a domain rests, or none.
+#[repr(C)]
+pub struct Bed {
+    at: *mut c_void,
+    full: bool,
+}
+
+impl Bed {
+    pub const NONE: Bed = Bed { at: core::ptr::null_mut(), full: false };
+}
+
 /// A struct of C, with public fields.
 macro_rules! layout {
     ($name:ident { $($field:ident: $kind:ty),* }) => {
@@ -49,4 +60,10 @@ unsafe extern "C" {
     pub fn camlheap_stats(domain: *mut Domain, stats: *mut Stats) -> u32;
     pub fn camlheap_close(domain: *mut Domain) -> u32;
     pub fn camlheap_free(domain: *mut Domain);
+    pub fn camlheap_first_bed(bed: *mut Bed) -> u32;
+    pub fn camlheap_another_bed(first: *mut Bed, bed: *mut Bed) -> u32;
+    pub fn camlheap_rest(domain: *mut Domain, bed: *mut Bed) -> u32;
+    pub fn camlheap_resume(domain: *mut Domain, bed: *mut Bed) -> u32;
+    pub fn camlheap_attend(bed: *mut Bed) -> u32;
+    pub fn camlheap_free_bed(bed: *mut Bed);
 }

@@ -32,7 +32,23 @@ fn performs() -> Result<(), Refused> {
     seat.finish()
 }
 
+// While one rests the other collects alone.
+fn rests() -> Result<(), Refused> {
+    let mut seats = start(Config { domains: 2, pools: 128, ..CONFIG })?;
+    let (mut first, mut second) = (seats.remove(0), seats.remove(0));
+    first.perform(Command::Alloc { dst: 1, tag: 0, fields: 2 })?;
+    let resting = first.rest();
+    assert!(matches!(second.perform(Command::FullMajor)?, Reply::Live { .. }));
+    assert_eq!(second.perform(Command::Minor)?, Reply::Done);
+    let mut first = resting.resume();
+    assert_eq!(first.show(1)?, Reply::Block(Label { domain: 0, serial: 1 }));
+    let other = std::thread::spawn(move || second.finish());
+    first.finish()?;
+    other.join().expect("the other thread ends")
+}
+
 fn main() -> Result<(), Refused> {
     starts();
+    rests()?;
     performs()
 }

@@ -1,3 +1,4 @@
 pub mod Values
+pub mod Bedded
 mod Waiting
 mod Handing

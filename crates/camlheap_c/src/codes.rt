@@ -37,6 +37,14 @@ pub(crate) const TOO_FEW_HANDLES: u32 = 25;
 
 pub(crate) const NO_MORE: u32 = 26;
 
+pub(crate) const NO_BED: u32 = 27;
+
+pub(crate) const BED_FULL: u32 = 28;
+
+pub(crate) const HAS_DOMAIN: u32 = 29;
+
+pub(crate) const BED_EMPTY: u32 = 30;
+
 // With the number of the field of the configuration that is outside its limit added.
 pub(crate) const OUTSIDE: u32 = 32;
 

@@ -5,11 +5,13 @@
 //! each call says so. No call waits: where a domain waits for others, the caller chooses what to do meanwhile.
 #![tactic(auto)]
 
+mod bed;
 mod codes;
 mod crossing;
 mod direct;
 mod driving;
 mod handle;
 mod loose;
+mod resting;
 mod starting;
 mod telling;

@@ -1,5 +1,4 @@
 mod Growing
-mod Idling
 mod Closed
 mod Stopped
 mod Opening

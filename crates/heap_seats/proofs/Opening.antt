@@ -8,7 +8,7 @@ use Rattle.heap_rule.specs.Opening.{opening_token, opening_tokens}
 use Rattle.heap_rule.specs.Token.{SharedHeap}
 use Rattle.open_runs.specs.Counting.{no_stats}
 use Rattle.open_runs.specs.Opening.{opened}
-use Rattle.heap_seats.specs.Idling.{IsIdleIn}
+use Rattle.shared_runs.specs.Idling.{IsIdleIn}
 use Rattle.heap_seats.specs.Seating.{SeatsView, fresh_seats, seat_with}
 
 -- the seats of their runs

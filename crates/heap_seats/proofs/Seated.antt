@@ -16,7 +16,8 @@ use Rattle.rest_pool.specs.Keeping.{KeeperView}
 use Rattle.heap_seats.specs.declared.idle.Idle.{Idle}
 use Rattle.open_runs.specs.Counting.{stats_of}
 use Rattle.open_runs.specs.Driving.{Answered}
-use Rattle.heap_seats.specs.Idling.{IsIdleIn, KeepsHeap, StaysIdle, finals_of}
+use Rattle.shared_runs.specs.Idling.{IsIdleIn, StaysIdle, finals_of}
+use Rattle.heap_seats.specs.Idling.{KeepsHeap}
 use Rattle.heap_seats.specs.Seating.{GoesAlong, IsResting, IsSeat, IsSeatOf, SeatView, SeatsView, heap_of, seat_of, seat_with}
 
 -- a seat of these seats: its run is in their heap, and its keeper is one of their pool

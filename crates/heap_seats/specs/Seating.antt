@@ -16,7 +16,8 @@ use Rattle.open_runs.specs.Refusing.{Takes}
 use Rattle.open_runs.specs.declared.counting.Stats.{Stats}
 use Rattle.rest_pool.specs.Keeping.{KeeperView}
 use Rattle.heap_seats.specs.declared.idle.Idle.{Idle}
-use Rattle.heap_seats.specs.Idling.{KeepsHeap, finals_of}
+use Rattle.shared_runs.specs.Idling.{finals_of}
+use Rattle.heap_seats.specs.Idling.{KeepsHeap}
 
 -- a heap with seats: the heap, and the pool in which they rest
 pub record SeatsView : Type 0 where

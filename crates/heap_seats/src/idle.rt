@@ -1,26 +1,16 @@
 //! A run that has no command to make.
-ghost use Rattle.heap_rule.specs.Token.{IsIn};
-ghost use Rattle.heap_seats.specs.Idling.{IsIdleIn, StaysIdle, same_idle, still_idle, stays_on};
+ghost use Rattle.shared_runs.specs.Idling.{IsIdleIn, StaysIdle, same_idle, still_idle, stays_on};
 
 use domain_turns::DomainRun;
 use heap_rule::Heap;
-use open_runs::{Came, turn_below};
+use open_runs::Came;
 use rest_pool::Restful;
+use shared_runs::attend;
 
 /// The run of a seat that rests. It takes part in the pauses of the others, and runs its finalisers.
 #[derive(Drop)]
 pub struct Idle {
     pub(crate) run: DomainRun,
-}
-
-// One turn of a run that has no command to make.
-pub(crate) fn attend(heap: &Heap, run: &mut DomainRun) -> Came
-    requires here { IsIdleIn heap.now run.old }
-    ensures here { IsIdleIn heap.now run.new }
-    ensures stays { StaysIdle run.old run.new }
-{
-    run.is_faithful();
-    turn_below(heap, run)
 }
 
 impl Restful<Heap> for Idle {

@@ -3,9 +3,10 @@ ghost use Rattle.std.specs.Prelude.{◌≡◌};
 ghost use Rattle.heap_rule.specs.Token.{IsIn};
 ghost use Rattle.domain_turns.specs.Runs.{MaySubmit};
 ghost use Rattle.open_runs.specs.Driving.{Answered};
-ghost use Rattle.heap_seats.specs.Idling.{IsIdleIn, KeepsHeap, StaysIdle};
+ghost use Rattle.shared_runs.specs.Idling.{IsIdleIn, StaysIdle};
+ghost use Rattle.heap_seats.specs.Idling.{KeepsHeap};
 
-use crate::idle::{Idle, attend};
+use crate::idle::Idle;
 use crossbeam_utils::sync::{EventCount, Key};
 use domain_turns::DomainRun;
 use heap_model::command::Command;
@@ -13,6 +14,7 @@ use heap_model::reply::Reply;
 use heap_rule::Heap;
 use open_runs::{Came, Meanwhile, await_reply, begin};
 use rest_pool::{Keeper, Pool};
+use shared_runs::attend;
 use std::sync::Wait;
 use thread_drive::Waiter;
 

@@ -4,7 +4,8 @@ ghost use Rattle.std.specs.List.{AllByRecursion};
 ghost use Rattle.heap_model.specs.History.{Legal};
 ghost use Rattle.heap_rule.specs.Limits.{first_outside, sizes_in};
 ghost use Rattle.heap_seats.specs.Seating.{AllSeatsOf, fresh_seats, seat_with};
-ghost use Rattle.heap_seats.specs.Idling.{IsIdleIn, KeepsHeap};
+ghost use Rattle.shared_runs.specs.Idling.{IsIdleIn};
+ghost use Rattle.heap_seats.specs.Idling.{KeepsHeap};
 ghost use Rattle.heap_seats.specs.Stopping.{StopsEach};
 
 use crate::closing::{close_all, domains_of};

@@ -1,1 +1,3 @@
 mod Opened
+pub mod Idling
+mod Taken

@@ -2,8 +2,13 @@
 //! has no thread to lend turns them when it likes, and is told where others are missing.
 #![tactic(auto)]
 
+mod bed;
+mod idle;
 mod making;
 mod shared;
 
+pub use bed::{NotRested, RunBed};
+pub use idle::{Idle, attend};
 pub use making::make_all;
+pub use rest_beds::NoBed;
 pub use shared::{Refused, SharedRun};

@@ -10,8 +10,10 @@ ghost use Rattle.heap_model.specs.declared.command.Command as model;
 ghost use Rattle.heap_rule.specs.declared.view.DomainView.{DomainView};
 ghost use Rattle.open_runs.specs.Counting.{stats_of};
 ghost use Rattle.open_runs.specs.Driving.{AwaitAnswers, Awaits};
+ghost use Rattle.shared_runs.specs.Idling.{StaysAlong};
 ghost use Rattle.shared_runs.specs.Sharing.{IsRefusedBy, IsUnclosedBy, MayClose};
 
+use crate::idle::attend;
 use domain_turns::{DomainRun, Supply, show};
 use heap_model::command::Command;
 use heap_model::reply::Reply;
@@ -168,6 +170,16 @@ impl SharedRun {
         ensures why { IfErr result (IsUnclosedBy self.old) }
         ensures same { IfErr result (λ _. self.new ≡ self.old) }
     {
+        self.may_close()?;
+        self.run.close();
+        Ok(())
+    }
+
+    // Whether it can be closed, and else why not.
+    pub(crate) fn may_close(&self) -> Result<(), Refused>
+        ensures may { IfOk result (λ _. MayClose self.now) }
+        ensures why { IfErr result (IsUnclosedBy self.now) }
+    {
         if self.run.supply() != Supply::Open {
             return Err(Refused::Closed);
         }
@@ -175,8 +187,16 @@ impl SharedRun {
         if self.run.has_next() {
             return Err(Refused::Busy);
         }
-        self.run.close();
         Ok(())
+    }
+
+    // One turn of a domain that has no command to make.
+    pub(crate) fn attend(&mut self) -> Came
+        requires may { MayClose self.old }
+        ensures may { MayClose self.new }
+        ensures along { StaysAlong self.old self.new }
+    {
+        attend(&self.heap, &mut self.run)
     }
 
     /// Whether the domain's trace has ended.

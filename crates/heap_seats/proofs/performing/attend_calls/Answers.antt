@@ -1,5 +1,5 @@
 use Rattle.std.proofs.Common.{refl, ap, sym, ◌∙◌}
-use Rattle.heap_seats.specs.Idling.{still_idle, stays_on}
+use Rattle.shared_runs.specs.Idling.{still_idle, stays_on}
 use Rattle.heap_seats.proofs.performing.attend_calls.Goals as goal
 
 pub turns-init : goal.turns-init

@@ -1,5 +1,6 @@
 use Rattle.std.proofs.Common.{◌≡◌}
-use Rattle.heap_seats.specs.Idling.{IsIdleIn, KeepsHeap, StaysIdle}
+use Rattle.shared_runs.specs.Idling.{IsIdleIn, StaysIdle}
+use Rattle.heap_seats.specs.Idling.{KeepsHeap}
 use Rattle.heap_seats.proofs.performing.attend_calls.Given as goal
 
 abbrev pub invariant-turns : goal.invariant-turns

@@ -1,6 +1,6 @@
 use Rattle.std.proofs.Common.{subst}
 use Rattle.std.specs.List.{AllByRecursion}
-use Rattle.heap_seats.specs.Idling.{IsIdleIn}
+use Rattle.shared_runs.specs.Idling.{IsIdleIn}
 use Rattle.heap_seats.proofs.Seated.{resting_idle}
 use Rattle.heap_seats.proofs.seats.rest_all.Goals as goal
 

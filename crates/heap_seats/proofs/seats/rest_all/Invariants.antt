@@ -2,7 +2,7 @@ use Rattle.std.proofs.Common.{◌≡◌, ◌+◌, ◌++◌, ◌<◌, ◌≤◌, 
 use Rattle.std.specs.Prelude.{vec_capacity}
 use Rattle.std.specs.List.{AllByRecursion}
 use Rattle.std.specs.Vec.Iter.{into_iter_items, into_iter_len}
-use Rattle.heap_seats.specs.Idling.{IsIdleIn}
+use Rattle.shared_runs.specs.Idling.{IsIdleIn}
 use Rattle.heap_seats.specs.Seating.{seat_with}
 use Rattle.heap_seats.proofs.seats.rest_all.Given as goal
 

@@ -2,7 +2,8 @@ use Rattle.std.proofs.Common.{◌≡◌, ◌∙◌, ◌≤◌, ap, sym, subst, a
 use Rattle.open_runs.specs.Counting.{stats_of}
 use Rattle.rest_pool.specs.Keeping.{KeeperView}
 use Rattle.heap_seats.specs.declared.idle.Idle.{Idle}
-use Rattle.heap_seats.specs.Idling.{KeepsHeap, finals_of}
+use Rattle.shared_runs.specs.Idling.{finals_of}
+use Rattle.heap_seats.specs.Idling.{KeepsHeap}
 use Rattle.heap_seats.specs.Seating.{GoesAlong, SeatView, seat_with}
 use Rattle.heap_seats.proofs.Seated.{along, dozes, idle_after, seat_again}
 use Rattle.heap_seats.proofs.seat.Resting.resume.Goals as goal

@@ -10,7 +10,8 @@ use Rattle.domain_turns.specs.Tries.{registrations_of}
 use Rattle.open_runs.specs.Counting.{stats_of}
 use Rattle.rest_pool.specs.Keeping.{KeeperView}
 use Rattle.heap_seats.specs.declared.idle.Idle.{Idle}
-use Rattle.heap_seats.specs.Idling.{KeepsHeap, finals_of}
+use Rattle.shared_runs.specs.Idling.{finals_of}
+use Rattle.heap_seats.specs.Idling.{KeepsHeap}
 use Rattle.heap_seats.specs.Seating.{MayPerform, SeatView, seat_with}
 use Rattle.heap_seats.proofs.Seated.{answered_idle, finals_left, given, made, performs, seat_after, seat_again, sits}
 use Rattle.heap_seats.proofs.seat.Seat.perform.Goals as goal

@@ -4,7 +4,7 @@ use Rattle.std.specs.List.{AllByRecursion}
 use Rattle.std.specs.Prelude.{cond, insert, is_ok}
 use Rattle.heap_rule.specs.Token.{SharedHeap}
 use Rattle.domain_turns.specs.Runs.{RunView}
-use Rattle.heap_seats.specs.Idling.{IsIdleIn}
+use Rattle.shared_runs.specs.Idling.{IsIdleIn}
 use Rattle.open_runs.specs.Opening.{opened}
 use Rattle.heap_seats.specs.Seating.{SeatsView, seat_of, seat_with}
 use Rattle.heap_seats.proofs.Opening.{all_seats, idle_each, opened_length, parted}

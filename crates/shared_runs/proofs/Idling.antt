@@ -13,7 +13,7 @@ use Rattle.open_runs.specs.Driving.{registered}
 use Rattle.heap_rule.specs.declared.config.Config.{Config}
 use Rattle.heap_model.specs.declared.entry.Entry.TheVariants.{Ran}
 use Rattle.heap_model.specs.declared.reply.Applied.TheVariants.{Replied}
-use Rattle.heap_seats.specs.Idling.{IsIdleIn, StaysIdle, finals_of}
+use Rattle.shared_runs.specs.Idling.{IsIdleIn, StaysIdle, finals_of}
 
 module _ (h : SharedHeap) (old new : RunView) (idle : IsIdleIn h old) (here : IsIn new.token h) (g : GoesOn old new) (was : IsRun old) where
   abbrev z : Sizes

@@ -1,0 +1,51 @@
+-- What the exports on beds leave.
+use Rattle.std.specs.Prelude.{◌≡◌, ◌≢◌, ℕ, ◌+◌, ◌<◌, true, false, Some, None}
+use Rattle.rest_beds.specs.Bedding.{BedView, MakesNone, plain_bed}
+use Rattle.rest_beds.specs.declared.bed.NoBed.{NoBed}
+use Rattle.rest_beds.specs.declared.bed.NoBed.TheVariants.{NotFirst, Full, Memory}
+use Rattle.shared_runs.specs.declared.bed.NotRested.{NotRested}
+use Rattle.shared_runs.specs.declared.bed.NotRested.TheVariants.{Refused, Taken, Blocked}
+use Rattle.shared_runs.specs.Idling.{IsKeptOut, StaysAlong}
+use Rattle.shared_runs.specs.Sharing.{MayClose, SharedView}
+use Rattle.camlheap_c.specs.declared.bed.CamlheapBed.{CamlheapBed}
+use Rattle.camlheap_c.specs.declared.handle.CamlheapDomain.{CamlheapDomain}
+use Rattle.camlheap_c.specs.Forms.{refused_form}
+
+-- why a domain isn't put to rest, as a number
+abbrev pub unrested_form : NotRested → ℕ
+unrested_form (Refused why) = refused_form why
+unrested_form Taken = 28
+unrested_form Blocked = 1
+
+-- why there is no further bed, as a number
+abbrev pub no_bed_form : NoBed → ℕ
+no_bed_form NotFirst = 19
+no_bed_form Full = 26
+no_bed_form Memory = 24
+
+-- a domain was put to rest: it might be, nothing rested in the bed, and the bed has it in place of the handle
+pub record Rests (domain after : CamlheapDomain) (bed left : CamlheapBed) : Type 0 where
+  pub may : MayClose domain.value
+  pub was_free : bed.value.rests ≡ None
+  pub gone : after.full ≡ false
+  pub rests : left.value ≡ record bed.value { rests = Some domain.value }
+
+-- why it wasn't, as a number
+abbrev pub KeptOut : SharedView → BedView SharedView → ℕ → Type 0
+KeptOut s b told = (why : NotRested) × ((told ≡ unrested_form why) × IsKeptOut b s why)
+
+-- a domain was taken back: it follows the one that was put to rest, and the bed is free
+pub record Resumes (after : CamlheapDomain) (bed left : CamlheapBed) : Type 0 where
+  pub rested : SharedView
+  pub was : bed.value.rests ≡ Some rested
+  pub full : after.full ≡ true
+  pub along : StaysAlong rested after.value
+  pub free : left.value ≡ record bed.value { rests = None }
+
+-- a further bed of a room was made
+pub record MakesBed (first after : CamlheapBed) (bed : CamlheapBed) : Type 0 where
+  pub makes : first.value.makes ≡ true
+  pub few : first.value.beds < 64
+  pub full : bed.full ≡ true
+  pub plain : bed.value ≡ plain_bed
+  pub more : after.value ≡ record first.value { beds = first.value.beds + 1 }

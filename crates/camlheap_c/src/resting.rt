@@ -1,0 +1,181 @@
+//! Domains that rest, as C calls them: a thread that has other work puts its domain into a bed, and whoever waits in a
+//! pause turns it there. Beds of one room know of each other, and a domain of any heap may rest in any of them.
+ghost use Rattle.std.specs.Prelude.{◌≡◌, ◌≢◌, ◌↔◌, ◌<◌, false, true, None};
+ghost use Rattle.camlheap_c.specs.Resting.{KeptOut, MakesBed, Rests, Resumes, no_bed_form, unrested_form};
+
+use crate::bed::CamlheapBed;
+use crate::codes::{
+    AGAIN, BED_EMPTY, BED_FULL, DONE, HAS_DOMAIN, MEMORY, NO_BED, NO_DOMAIN, NO_MORE, UNFIT,
+    WAITING, refusal_code,
+};
+use crate::handle::CamlheapDomain;
+use shared_runs::{NoBed, NotRested, RunBed};
+use std::alloc::Global;
+
+// Why a domain isn't put to rest, as a number.
+fn unrested_code(why: NotRested) -> u32
+    ensures { result ≡ unrested_form why }
+{
+    match why {
+        NotRested::Refused(refused) => refusal_code(refused),
+        NotRested::Taken => BED_FULL,
+        NotRested::Blocked => AGAIN,
+    }
+}
+
+// Why there is no further bed, as a number.
+fn no_bed_code(why: NoBed) -> u32
+    ensures { result ≡ no_bed_form why }
+{
+    match why {
+        NoBed::NotFirst => UNFIT,
+        NoBed::Full => NO_MORE,
+        NoBed::Memory => MEMORY,
+    }
+}
+
+/// A bed in a room of its own. `DONE`, or `MEMORY`, and then nothing has changed. What the handle held before is freed.
+#[unsafe(no_mangle)]
+pub extern "C" fn camlheap_first_bed(alloc: Global, bed: &mut CamlheapBed) -> u32
+    ensures made { result ≡ 0 → (bed.new.full ≡ true) × (bed.new.value ≡ record { rests = None; makes = true; beds = 1 }) }
+    ensures told { result ≢ 0 → result ≡ 24 }
+    ensures same { result ≢ 0 → bed.new ≡ bed.old }
+{
+    let Ok(made) = RunBed::make(alloc) else {
+        return MEMORY;
+    };
+    let Ok(boxed) = Box::new(alloc, made) else {
+        return MEMORY;
+    };
+    *bed = CamlheapBed::of(boxed);
+    DONE
+}
+
+/// Another bed in the room of the first, which [`camlheap_first_bed`] made. `DONE`; `NO_BED`; `UNFIT` where that isn't the
+/// first; `NO_MORE` where there are 64; or `MEMORY`. What the second handle held before is freed with `DONE`.
+#[unsafe(no_mangle)]
+pub extern "C" fn camlheap_another_bed(
+    alloc: Global,
+    first: &mut CamlheapBed,
+    bed: &mut CamlheapBed,
+) -> u32
+    ensures kept { first.new.full ≡ first.old.full }
+    ensures none { (first.old.full ≡ false) ↔ (result ≡ 27) }
+    ensures made { first.old.full ≡ true → result ≡ 0 → MakesBed first.old first.new bed.new }
+    ensures not_first { first.old.full ≡ true → (result ≡ 19) ↔ (first.old.value.makes ≡ false) }
+    ensures same { result ≢ 0 → bed.new ≡ bed.old }
+    ensures rests { first.old.full ≡ true → first.new.value.rests ≡ first.old.value.rests }
+{
+    let Some(mut held) = first.take(alloc) else {
+        return NO_BED;
+    };
+    let made = held.another();
+    *first = CamlheapBed::of(held);
+    match made {
+        Ok(made) => {
+            let Ok(boxed) = Box::new(alloc, made) else {
+                return MEMORY;
+            };
+            *bed = CamlheapBed::of(boxed);
+            DONE
+        }
+        Err(why) => no_bed_code(why),
+    }
+}
+
+/// Puts a domain to rest. The handle is empty then, and the bed has the domain. `DONE`; `NO_BED`; `NO_DOMAIN`; `CLOSED`;
+/// `BUSY`, where the last command isn't made yet; `BED_FULL`; or `AGAIN`, where another thread is in the way. Else than
+/// with `DONE` nothing has changed.
+#[unsafe(no_mangle)]
+pub extern "C" fn camlheap_rest(
+    alloc: Global,
+    domain: &mut CamlheapDomain,
+    bed: &mut CamlheapBed,
+) -> u32
+    ensures kept { bed.new.full ≡ bed.old.full }
+    ensures no_bed { (bed.old.full ≡ false) ↔ (result ≡ 27) }
+    ensures no_domain { bed.old.full ≡ true → (domain.old.full ≡ false) ↔ (result ≡ 16) }
+    ensures rests { bed.old.full ≡ true → domain.old.full ≡ true → result ≡ 0 → Rests domain.old domain.new bed.old bed.new }
+    ensures why { bed.old.full ≡ true → domain.old.full ≡ true → result ≢ 0 → KeptOut domain.old.value bed.old.value result }
+    ensures same { result ≢ 0 → (domain.new.full ≡ domain.old.full) × (domain.old.full ≡ true → domain.new.value ≡ domain.old.value) }
+    ensures same_bed { result ≢ 0 → bed.old.full ≡ true → bed.new.value ≡ bed.old.value }
+{
+    let Some(mut held) = bed.take(alloc) else {
+        return NO_BED;
+    };
+    let Some(run) = domain.take(alloc) else {
+        *bed = CamlheapBed::of(held);
+        return NO_DOMAIN;
+    };
+    let rested = held.rest(run);
+    *bed = CamlheapBed::of(held);
+    match rested {
+        Ok(()) => DONE,
+        Err((run, why)) => {
+            *domain = CamlheapDomain::of(run);
+            unrested_code(why)
+        }
+    }
+}
+
+/// Takes the domain back that rests in a bed, into a handle that holds none. `DONE`; `NO_BED`; `HAS_DOMAIN`; `BED_EMPTY`;
+/// or `AGAIN`, where another thread turns it at the moment or is in the way. Else than with `DONE` nothing has changed.
+#[unsafe(no_mangle)]
+pub extern "C" fn camlheap_resume(
+    alloc: Global,
+    domain: &mut CamlheapDomain,
+    bed: &mut CamlheapBed,
+) -> u32
+    ensures kept { bed.new.full ≡ bed.old.full }
+    ensures has_domain { (domain.old.full ≡ true) ↔ (result ≡ 29) }
+    ensures no_bed { domain.old.full ≡ false → (bed.old.full ≡ false) ↔ (result ≡ 27) }
+    ensures empty { domain.old.full ≡ false → bed.old.full ≡ true → (bed.old.value.rests ≡ None) ↔ (result ≡ 30) }
+    ensures resumes { result ≡ 0 → Resumes domain.new bed.old bed.new }
+    ensures same { result ≢ 0 → (domain.new.full ≡ domain.old.full) × (domain.old.full ≡ true → domain.new.value ≡ domain.old.value) }
+    ensures same_bed { result ≢ 0 → bed.old.full ≡ true → bed.new.value ≡ bed.old.value }
+    ensures told { result ≢ 0 → result < 27 → result ≡ 1 }
+{
+    if let Some(run) = domain.take(alloc) {
+        *domain = CamlheapDomain::of(run);
+        return HAS_DOMAIN;
+    }
+    let Some(mut held) = bed.take(alloc) else {
+        return NO_BED;
+    };
+    let is_free = held.is_free();
+    let resumed = held.resume();
+    *bed = CamlheapBed::of(held);
+    match resumed {
+        Some(run) => {
+            *domain = CamlheapDomain::of(run);
+            DONE
+        }
+        None if is_free => BED_EMPTY,
+        None => AGAIN,
+    }
+}
+
+/// One turn of a domain that rests in the room of this bed, if one can be had at once: `AGAIN` where it did something,
+/// `WAITING` where not, `NO_BED`.
+#[unsafe(no_mangle)]
+pub extern "C" fn camlheap_attend(alloc: Global, bed: &mut CamlheapBed) -> u32
+    ensures kept { bed.new.full ≡ bed.old.full }
+    ensures none { (bed.old.full ≡ false) ↔ (result ≡ 27) }
+    ensures same { bed.old.full ≡ true → bed.new.value ≡ bed.old.value }
+    ensures told { bed.old.full ≡ true → result < 3 }
+{
+    let Some(mut held) = bed.take(alloc) else {
+        return NO_BED;
+    };
+    let went = held.attend();
+    *bed = CamlheapBed::of(held);
+    if went { AGAIN } else { WAITING }
+}
+
+/// Frees a bed, and the room with the last of them. Who rests there can't be taken back then.
+#[unsafe(no_mangle)]
+pub extern "C" fn camlheap_free_bed(alloc: Global, bed: &mut CamlheapBed)
+    ensures gone { bed.new.full ≡ false }
+{
+    let _held = bed.take(alloc);
+}
