@@ -2,7 +2,8 @@
  *
  * A heap has 1 to 8 domains, each with 16 registers, which are its roots: a block lives as long as something leads to it
  * from a register, or from a finaliser that waits. A program keeps each domain in a handle of its own. Register 0 of each
- * domain holds the shared block, which has 16 fields, and through its fields domains pass blocks to one another.
+ * domain holds at first the shared block, which has 16 fields, and through its fields domains pass blocks to one another. It
+ * is a register as the others are: a `dst` that was left out overwrites it. All fields hold the integer 0 at first.
  *
  * A command is handed in (camlheap_submit), and turns of its domain make it (camlheap_turn, camlheap_run), or both in one
  * call (camlheap_call). No call waits, locks or starts a thread. A pause of the collector needs all domains: one that has
@@ -50,7 +51,7 @@ typedef struct {
   uint64_t arrivals;
 } camlheap_counts;
 
-/* What the calls answer. */
+/* What the calls answer. The kind of a reply is another number: look at it only behind DONE. */
 enum {
   CAMLHEAP_DONE = 0,          /* done; of camlheap_run and camlheap_call: the command is made, and the reply is there */
   CAMLHEAP_AGAIN = 1,         /* the domain did something, and may go on */
@@ -75,7 +76,7 @@ enum {
   CAMLHEAP_OUTSIDE = 32       /* with 1 to 5 added: the first field of the configuration outside its range */
 };
 
-/* Commands, with the fields that they take. Registers are 0 to 15. */
+/* Commands, with the fields that they take. Registers are 0 to 15. Type and bounds are BAD_TYPE and BAD_INDEX. */
 enum {
   CAMLHEAP_PUT_INT,       /* dst = value, an integer of 63 bits               ok                                  */
   CAMLHEAP_COPY,          /* dst = what a holds                               ok                                  */
@@ -99,7 +100,8 @@ enum {
   CAMLHEAP_MINOR,         /* a minor collection                               ok                                  */
   CAMLHEAP_MAJOR,         /* begins or goes on with a major collection        ok                                  */
   CAMLHEAP_FULL_MAJOR,    /* a complete collection                            live, with what is left             */
-  CAMLHEAP_FINALISE,      /* once nothing leads to the block in a, finaliser `number` runs, and dst holds the block again */
+  CAMLHEAP_FINALISE,      /* once nothing leads to the block in a, finaliser `number` runs, and dst holds the block again;
+                             a weak key of it goes with a later collection, once nothing leads to it anew           */
   CAMLHEAP_FINALISE_LAST  /* once the block in a is gone for good, finaliser `number` runs    both: ok or type      */
 };
 
@@ -156,7 +158,8 @@ uint32_t camlheap_poll(camlheap_domain *domain, camlheap_reply *reply);
 uint32_t camlheap_answer(camlheap_domain *domain, camlheap_reply *reply);
 
 /* The finaliser at this place, from 0, among those of the domain that have run since the last command was handed in: DONE
- * and its reply, or NO_MORE. */
+ * and its reply, or NO_MORE. A collection only has a finaliser wait. It runs on the domain that registered it, before the
+ * next command or in turns between two; so ask behind each command, since the next one begins anew. */
 uint32_t camlheap_ran(camlheap_domain *domain, size_t place, camlheap_reply *reply);
 
 /* What a register holds: DONE with INT, BLOCK or NONE, or NO_REGISTER. */
@@ -209,17 +212,20 @@ static inline void camlheap_wait(camlheap_bed *bed) {
 
 /* Goes on with a command until it is made, from what the call that began it has answered. Other threads have to turn the
  * other domains, or these rest in the room of the bed; it is NULL where the thread has none. */
-static inline uint32_t camlheap_await(camlheap_domain *domain, camlheap_bed *bed, uint32_t told, camlheap_reply *reply) {
+static inline uint32_t camlheap_await_beside(camlheap_domain *domain, camlheap_bed *bed, uint32_t told, camlheap_reply *reply) {
   while (told == CAMLHEAP_AGAIN || told == CAMLHEAP_WAITING) {
     if (told == CAMLHEAP_WAITING) camlheap_wait(bed);
     told = camlheap_run(domain, 64, reply);
   }
   return told;
 }
+static inline uint32_t camlheap_await(camlheap_domain *domain, uint32_t told, camlheap_reply *reply) {
+  return camlheap_await_beside(domain, NULL, told, reply);
+}
 
 /* Makes a command, and waits for its reply: DONE, or why it wasn't taken. */
 static inline uint32_t camlheap_perform_beside(camlheap_domain *domain, camlheap_bed *bed, const camlheap_command *command, camlheap_reply *reply) {
-  return camlheap_await(domain, bed, camlheap_call(domain, command, 64, reply), reply);
+  return camlheap_await_beside(domain, bed, camlheap_call(domain, command, 64, reply), reply);
 }
 static inline uint32_t camlheap_perform(camlheap_domain *domain, const camlheap_command *command, camlheap_reply *reply) {
   return camlheap_perform_beside(domain, NULL, command, reply);
@@ -232,7 +238,9 @@ static inline uint32_t camlheap_come_back(camlheap_domain *domain, camlheap_bed 
   return told;
 }
 
-/* Closes a domain, turns it until all have ended, and frees it: ENDED, or why it can't be closed. */
+/* Closes a domain, turns it until all have ended, and frees it: ENDED, or why it can't be closed. Until then it takes part
+ * in the pauses of the others. Finalisers that wait run in these turns, and nobody hears of them: to hear of them close, turn
+ * until ENDED, ask camlheap_ran, and free. */
 static inline uint32_t camlheap_finish(camlheap_domain *domain) {
   uint32_t told = camlheap_close(domain);
   if (told != CAMLHEAP_DONE && told != CAMLHEAP_CLOSED) return told;
