@@ -20,6 +20,7 @@ use weak_maps::taking::map_take;
 
 // The register of the map or the cache, and that of an answer.
 const HOME: u8 = 7;
+
 const ANSWER: u8 = 6;
 
 // How many values the cache keeps.
@@ -157,35 +158,6 @@ fn a_map_grows_deeper(rt: HostRuntime) -> Result<(), Fail> {
     same(&rt, get(&rt, &mut heap, 4), block(2));
     same(&rt, map_take(&mut heap, &rt, HOME, 4), Reply::Done);
     same(&rt, map_clean(&mut heap, &rt, HOME), true);
-    Ok(())
-}
-
-// Blocks in a row, each as large as a leaf, fill the heap. Then nothing is bound.
-#[test]
-fn a_full_heap_binds_nothing(rt: HostRuntime) -> Result<(), Fail> {
-    let session = TableSession::make(rt.alloc(), 4096, 20, 8)?;
-    let mut heap = SessionDomain::new(session);
-    with_map(&rt, &mut heap);
-    let mut last = make(&rt, &mut heap, 4, 3);
-    for _ in 0..50_000u32 {
-        if last == Some(Reply::Full) {
-            break;
-        }
-        perform(
-            &mut heap,
-            &rt,
-            Command::Store {
-                block: 4,
-                index: 0,
-                item: 5,
-            },
-        );
-        perform(&mut heap, &rt, Command::Copy { dst: 5, src: 4 });
-        last = make(&rt, &mut heap, 4, 3);
-    }
-    same(&rt, last, Some(Reply::Full));
-    same(&rt, put(&rt, &mut heap, 1, 3), Some(Reply::Full));
-    same(&rt, get(&rt, &mut heap, 1), Reply::Empty);
     Ok(())
 }
 
