@@ -4,6 +4,8 @@
 #[cfg(test)]
 mod caches;
 #[cfg(test)]
+mod maps;
+#[cfg(test)]
 mod same;
 #[cfg(test)]
 mod sessions;
