@@ -27,4 +27,10 @@ let () =
   assert (ran seat = [ Fin { number = 3; label = { domain = 0; serial = 1 } } ]);
   assert ((stats seat).labels = 1);
   finish seat;
+  let seats = start { config with domains = 2; pools = 128 } in
+  rest seats.(0);
+  assert (refusal (fun () -> perform seats.(0) Poll) = Some Is_resting);
+  assert (match perform seats.(1) Full_major with Live _ -> true | _ -> false);
+  resume seats.(0);
+  assert (refusal (fun () -> resume seats.(0)) = Some Not_resting);
   assert (refusal (fun () -> perform seat Poll) = Some Closed)

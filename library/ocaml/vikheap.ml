@@ -1,47 +1,6 @@
-type config = { domains : int; minor_words : int; pools : int; finals : int; ephes : int }
-
-type label = { domain : int; serial : int }
-
-type register = int
-
-type command =
-  | Put_int of { dst : register; value : int }
-  | Copy of { dst : register; src : register }
-  | Forget of { dst : register }
-  | Alloc of { dst : register; tag : int; fields : int }
-  | Alloc_major of { dst : register; tag : int; fields : int }
-  | Raw of { dst : register; tag : int; fields : int }
-  | Load of { dst : register; block : register; index : int }
-  | Store of { block : register; index : int; item : register }
-  | Cas of { block : register; index : int; expected : register; item : register }
-  | Ephe of { dst : register; keys : int }
-  | Set_key of { ephe : register; index : int; item : register }
-  | Unset_key of { ephe : register; index : int }
-  | Get_key of { dst : register; ephe : register; index : int }
-  | Check_key of { ephe : register; index : int }
-  | Set_data of { ephe : register; item : register }
-  | Unset_data of { ephe : register }
-  | Get_data of { dst : register; ephe : register }
-  | Check_data of { ephe : register }
-  | Poll | Minor | Major | Full_major
-  | Finalise of { item : register; number : int; dst : register }
-  | Finalise_last of { item : register; number : int }
-
-type reply =
-  | Done | Int of int | Block of label | Bad_type | Bad_index | Empty | Yes | No | Full
-  | Live of { blocks : int; words : int }
-  | Fin of { number : int; label : label }
-  | Last of { number : int }
-
-type refused = Closed | Busy | Unfit | No_ephemeron | No_finaliser | No_label | No_register | Memory | Outside of int
-
-exception Refused of refused
+include Vikheap_types
 
 type seat
-
-type stats = {
-  labels : int; young_words : int; remembered : int; ephemerons : int; finals : int; lasts : int; waiting : int; arrivals : int;
-}
 
 (* A command as C has it, and what a call answers: its number, and the fields of the reply. *)
 type raw = { op : int; dst : int; a : int; b : int; tag : int; n : int; number : int; value : int }
@@ -56,6 +15,9 @@ external raw_ran : seat -> int -> told = "vikheap_ran"
 external stats : seat -> stats = "vikheap_stats"
 external raw_turn : seat -> int = "vikheap_turn"
 external raw_close : seat -> int = "vikheap_close"
+external raw_rest : seat -> int = "vikheap_rest"
+external raw_resume : seat -> int = "vikheap_resume"
+external raw_attend : seat -> int = "vikheap_attend"
 
 let raw ?(dst = 0) ?(a = 0) ?(b = 0) ?(tag = 0) ?(n = 0) ?(number = 0) ?(value = 0) op = { op; dst; a; b; tag; n; number; value }
 
@@ -96,8 +58,8 @@ let reply_of { kind; domain; serial; number; value; blocks; words; _ } =
   | kind -> [| Done; Done; Done; Bad_type; Bad_index; Empty; Yes; No; Full |].(kind)
 
 let refuse code =
-  let why = [| Closed; Busy; Unfit; No_ephemeron; No_finaliser; No_label; No_register; Memory |] in
-  raise (Refused (if code < 32 then why.(code - 17) else Outside (code - 32)))
+  let why = [| Is_resting; Closed; Busy; Unfit; No_ephemeron; No_finaliser; No_label; No_register; Memory |] in
+  raise (Refused (if code < 25 then why.(code - 16) else if code < 32 then Not_resting else Outside (code - 32)))
 
 let answered told = if told.code = 0 then reply_of told else refuse told.code
 let again, waiting, ended = (1, 2, 4)
@@ -107,9 +69,12 @@ let start config =
   let seats = Array.init config.domains (fun _ -> raw_none ()) in
   match raw_start config seats with 0 -> seats | code -> refuse code
 
+(* Turns a seat that rests, or waits for the others. *)
+let wait pause seat = if raw_attend seat <> again then pause ()
+
 let perform ?(pause = ignore) seat command =
   let rec go told =
-    if told.code = waiting then pause ();
+    if told.code = waiting then wait pause seat;
     if told.code = again || told.code = waiting then go (raw_run seat) else answered told
   in
   go (raw_call seat (raw_of command))
@@ -128,5 +93,14 @@ let turn seat = raw_turn seat = ended
 let finish ?(pause = ignore) seat =
   (match raw_close seat with 0 -> () | code -> refuse code);
   while not (turn seat) do
-    pause ()
+    wait pause seat
   done
+
+let rec until_done pause call seat =
+  match call seat with
+  | 0 -> ()
+  | code when code = again -> pause (); until_done pause call seat
+  | code -> refuse code
+
+let rest ?(pause = ignore) = until_done pause raw_rest
+let resume ?(pause = ignore) = until_done pause raw_resume

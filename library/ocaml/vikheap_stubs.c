@@ -1,13 +1,16 @@
-/* The calls of camlheap.h for OCaml. A seat is a custom block that holds a handle; the collector of OCaml frees it. No call
- * here waits, or lets another thread of OCaml run. */
+/* The calls of camlheap.h for OCaml. A seat is a custom block that holds a handle and a bed; the collector of OCaml frees them.
+ * No call here waits, or lets another thread of OCaml run. */
 #define CAML_NAME_SPACE
 #include "camlheap.h"
 #include <caml/alloc.h>
 #include <caml/custom.h>
 #include <caml/mlvalues.h>
 
-static camlheap_domain *domain_of(value seat) { return Data_custom_val(seat); }
-static void free_seat(value seat) { camlheap_free(domain_of(seat)); }
+typedef struct { camlheap_domain domain; camlheap_bed bed; } seat_parts;
+
+static camlheap_domain *domain_of(value seat) { return &((seat_parts *)Data_custom_val(seat))->domain; }
+static camlheap_bed *bed_of(value seat) { return &((seat_parts *)Data_custom_val(seat))->bed; }
+static void free_seat(value seat) { camlheap_free(domain_of(seat)); camlheap_free_bed(bed_of(seat)); }
 
 static struct custom_operations seat_operations = {
     "camlheap.seat", free_seat, custom_compare_default, custom_hash_default,
@@ -30,8 +33,8 @@ static uint32_t size(value config, int field) { return fits(Field(config, field)
 
 value vikheap_none(value unit) {
   (void)unit;
-  value seat = caml_alloc_custom(&seat_operations, sizeof(camlheap_domain), 0, 1);
-  *domain_of(seat) = (camlheap_domain){0};
+  value seat = caml_alloc_custom(&seat_operations, sizeof(seat_parts), 0, 1);
+  *(seat_parts *)Data_custom_val(seat) = (seat_parts){{0}, {0}};
   return seat;
 }
 
@@ -39,7 +42,11 @@ value vikheap_start(value config, value seats) {
   camlheap_domain handles[8] = {{0}};
   camlheap_config sizes = {size(config, 0), size(config, 1), size(config, 2), size(config, 3), size(config, 4)};
   uint32_t code = camlheap_start(&sizes, handles, Wosize_val(seats));
-  for (mlsize_t i = 0; i < Wosize_val(seats); i++) *domain_of(Field(seats, i)) = handles[i];
+  for (mlsize_t i = 0; i < Wosize_val(seats); i++) {
+    camlheap_bed *first = bed_of(Field(seats, 0)), *bed = bed_of(Field(seats, i));
+    *domain_of(Field(seats, i)) = handles[i];
+    if (code == CAMLHEAP_DONE) code = bed == first ? camlheap_first_bed(bed) : camlheap_another_bed(first, bed);
+  }
   return Val_long(code);
 }
 
@@ -80,3 +87,6 @@ value vikheap_stats(value seat) {
 
 value vikheap_turn(value seat) { return Val_long(camlheap_turn(domain_of(seat))); }
 value vikheap_close(value seat) { return Val_long(camlheap_close(domain_of(seat))); }
+value vikheap_rest(value seat) { return Val_long(camlheap_rest(domain_of(seat), bed_of(seat))); }
+value vikheap_resume(value seat) { return Val_long(camlheap_resume(domain_of(seat), bed_of(seat))); }
+value vikheap_attend(value seat) { return Val_long(camlheap_attend(bed_of(seat))); }
