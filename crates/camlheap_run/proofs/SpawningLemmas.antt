@@ -1,8 +1,8 @@
 -- The runs of a script with spawns, from the start of its heap to its end.
 use Rattle.std.proofs.Math.Nat.{le-max_left, le-max_right}
 use Rattle.std.proofs.Common.{◌≡◌, ◌≢◌, ℕ, zero, suc, ◌+◌, ◌<◌, ◌≤◌, Bool, true, false, List, [], ◌∷◌, ◌++◌, length, map, take, get_or, refl, sym, ap, ◌∙◌, subst, arith, Some, None}
-use Rattle.std.specs.Prelude.{Option, IsTrue, flat_map, slice_get, slice_index_or, codes, decimal}
-use Rattle.std.specs.List.{list_any, range_with_len}
+use Rattle.std.specs.Prelude.{Option, IsTrue, flat_map, slice_get, slice_index_or}
+use Rattle.std.specs.List.{list_any}
 use Rattle.std.specs.Io.KnownBytes.{Appends}
 use Rattle.std.proofs.lemmas.List.{take_all}
 use Rattle.std.proofs.lemmas.Option.{none-some, same_Some, slice_get-get_or, slice_get_within}
@@ -26,7 +26,7 @@ use Rattle.heap_rule.specs.Token.{Token, SharedHeap, IsIn}
 use Rattle.heap_rule.proofs.Sizes.{within as within_limits}
 use Rattle.heap_rule.specs.Ending.{EndedHeap, Begins}
 use Rattle.mark_slices.specs.Decks.{DeckCounts, uncounted}
-use Rattle.spawn_laws.specs.Expansion.{IsScriptRun, IsSection, IsFittingScript, section_at, steps_from, AreFitting}
+use Rattle.spawn_laws.specs.Expansion.{IsScriptRun, IsSection, steps_from, AreFitting}
 use Rattle.spawn_laws.specs.Hidden.{prelude}
 use Rattle.spawn_laws.specs.Printed.{printed_replies, spawning_output, spawning_section_text}
 use Rattle.spawn_laws.specs.Joined.{IsJoined}
@@ -36,11 +36,10 @@ use Rattle.domain_spawn.specs.Opening.{IsOpened}
 use Rattle.domain_turns.specs.declared.place.Place.{Place}
 use Rattle.domain_turns.specs.declared.place.Place.TheVariants.{AsEver, Before, Within, Behind}
 use Rattle.domain_turns.specs.declared.supply.Supply.TheVariants.{Section}
-use Rattle.domain_turns.specs.Runs.{RunView, CanBeginSection, GoesOn, IsRun, ephemerons_in, first_place, is_end_of, registrations_in}
+use Rattle.domain_turns.specs.Runs.{RunView, IsRun, ephemerons_in, first_place, is_end_of, registrations_in}
 use Rattle.domain_turns.specs.Sections.{AllFitIn, IsInSection, IsTold, is_spawned_at, place_in}
 use Rattle.domain_turns.proofs.Opened.{opened_begins}
 use Rattle.spawned_scripts.specs.Reads.{IsRead, HasMadeSection, AreTold as FrontsAreTold}
-use Rattle.spawned_scripts.proofs.Fitting.{spelled_fits}
 use Rattle.spawned_scripts.proofs.Reading.{join, fronts}
 use Rattle.camlheap_run.specs.declared.begin.Begun.{Begun}
 use Rattle.camlheap_run.specs.declared.report.Report.TheVariants.{Replies}

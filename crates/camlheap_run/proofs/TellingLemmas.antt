@@ -5,13 +5,11 @@ use Rattle.std.specs.Prelude.{flat_map, slice_get}
 use Rattle.std.specs.List.{AllByRecursion}
 use Rattle.domain_turns.specs.Runs.{RunView, GoesOn}
 use Rattle.heap_rule.specs.Token.{SharedHeap, IsIn}
-use Rattle.thread_drive.specs.Driven.{Driven}
 use Rattle.camlheap_run.specs.declared.report.Report.{Report}
 use Rattle.camlheap_run.specs.declared.telling.Teller.{Teller}
 use Rattle.camlheap_run.specs.declared.telling.Telling.{Telling}
-use Rattle.camlheap_run.specs.declared.telling.Telling.TheVariants.{Later}
 use Rattle.camlheap_run.specs.Running.{AreDriven}
-use Rattle.camlheap_run.specs.Telling.{AreTellersDriven, GoesOnTelling, IsBlank, IsTeller, Tells, run_of, teller_text}
+use Rattle.camlheap_run.specs.Telling.{AreTellersDriven, IsBlank, IsTeller, Tells, run_of, teller_text}
 use Rattle.camlheap_run.specs.Writing.{run_text}
 use Rattle.camlheap_run.proofs.RunLemmas.{all_from_each, each_from_all}
 

@@ -1,4 +1,4 @@
-use Rattle.std.proofs.Common.{◌≡◌, arith, Some, ap, subst, sym, List, ℕ, map, length}
+use Rattle.std.proofs.Common.{◌≡◌, Some, subst, sym, List, ℕ, map}
 use Rattle.std.specs.Prelude.{Option}
 use Rattle.std.specs.List.{AllByRecursion}
 use Rattle.std.specs.Io.KnownBytes.{Appends}

@@ -1,4 +1,4 @@
-use Rattle.std.proofs.Common.{◌≡◌, arith}
+use Rattle.std.proofs.Common.{arith}
 use Rattle.camlheap_run.proofs.SectionLemmas.{spelled_short}
 use Rattle.camlheap_run.proofs.SpawningLemmas.{sectioned_here, sections_run, sections_front}
 use Rattle.camlheap_run.proofs.run.run_sections.Goals as goal

@@ -1,15 +1,14 @@
-use Rattle.std.proofs.Common.{◌≡◌, ℕ, ◌+◌, ◌<◌, ◌≤◌, List, [], length, sym, ap, ◌∙◌, subst, arith, Err, Some}
+use Rattle.std.proofs.Common.{◌≡◌, ℕ, ◌+◌, ◌<◌, ◌≤◌, List, [], length, sym, ap, ◌∙◌, subst, arith, Err}
 use Rattle.std.specs.Prelude.{slice_get, slice_index_or}
 use Rattle.heap_model.specs.declared.command.Command.{Command}
 use Rattle.heap_rule.specs.declared.config.Config.{Config}
-use Rattle.heap_rule.specs.Token.{Token}
 use Rattle.heap_rule.proofs.Sizes.{within}
-use Rattle.mark_slices.specs.Decks.{DeckCounts, uncounted}
+use Rattle.mark_slices.specs.Decks.{uncounted}
 use Rattle.spawn_laws.specs.Expansion.{AreFitting}
 use Rattle.domain_spawn.specs.Opening.{IsOpened}
 use Rattle.domain_turns.specs.Runs.{RunView, ephemerons_in, registrations_in}
 use Rattle.spawned_scripts.proofs.Fitting.{spelled_fits}
-use Rattle.camlheap_run.specs.Running.{BeginsSection, MayBeginSections, most_of, sectioned_each}
+use Rattle.camlheap_run.specs.Running.{MayBeginSections, most_of, sectioned_each}
 use Rattle.camlheap_run.proofs.BeginLemmas.{some_domain}
 use Rattle.camlheap_run.proofs.SectionLemmas.{script_length, spelled_sections, spelled_short}
 use Rattle.camlheap_run.proofs.SpawningLemmas.{begins_section, may_sections, opened_decks, sections_count}
