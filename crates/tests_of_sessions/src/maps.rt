@@ -1,5 +1,5 @@
 //! Weak maps and caches in a heap that a program drives: each call, beside collections that take a dead key's binding.
-ghost use Rattle.std.specs.Prelude.{◌<◌, ◌×◌};
+ghost use Rattle.std.specs.Prelude.{◌<◌};
 
 use crate::same::same;
 use heap_model::command::Command;
