@@ -10,8 +10,8 @@ const READ: &str = "read fault\n";
 
 const WRITE: &str = "write fault\n";
 
-// No read or write has the number 0. The section is written at once.
-const ROWS: [Row; 19] = [
+// No read or write has the number 0. The heading is written by itself, and the replies at once.
+const ROWS: [Row; 20] = [
     (16, 1, 4096, 0, 3, READ, ""),
     (16, 2, 4096, 0, 3, READ, ""),
     (16, 3, 4096, 0, 3, READ, ""),
@@ -20,11 +20,12 @@ const ROWS: [Row; 19] = [
     (4096, 0, 4, 1, 4, WRITE, ""),
     (4096, 0, 4, 2, 4, WRITE, "doma"),
     (4096, 0, 4, 3, 4, WRITE, "domain 0"),
-    (4096, 0, 4, 4, 4, WRITE, "domain 0\nblk"),
-    (4096, 0, 4, 5, 4, WRITE, "domain 0\nblk 0:1"),
+    (4096, 0, 4, 4, 4, WRITE, "domain 0\n"),
+    (4096, 0, 4, 5, 4, WRITE, "domain 0\nblk "),
     (4096, 0, 4096, 1, 4, WRITE, ""),
-    (4096, 0, 4096, 2, 0, "", PLAIN_PRINTS),
-    (4096, 0, 11, 3, 4, WRITE, "domain 0\nblk 0:1\nok\nok"),
+    (4096, 0, 4096, 2, 4, WRITE, "domain 0\n"),
+    (4096, 0, 4096, 3, 0, "", PLAIN_PRINTS),
+    (4096, 0, 11, 3, 4, WRITE, "domain 0\nblk 0:1\nok\n"),
     // The size of pieces changes nothing.
     (1, 0, 1, 0, 0, "", PLAIN_PRINTS),
     (2, 0, 2, 0, 0, "", PLAIN_PRINTS),
