@@ -16,7 +16,7 @@ ghost use Rattle.camlheap_run.specs.Outcome.{WritesRun, WritesFrontOfRun, Writes
 use crate::Status;
 use crate::begin::{Begun, begin, config_of};
 use crate::end::end;
-use crate::report::Report;
+use crate::report::{Report, write_report};
 use crate::sectioning::begin_sections;
 use crate::telling::{Tellers, runs_of, tellers_of, write_tellers};
 use heap_model::state::Sizes;
@@ -27,9 +27,39 @@ use std::sync::Wait;
 use std::thread::Threads;
 use thread_drive::drive;
 
-// Drives the runs of a heap to their ends, in threads, writes the report, and ends the heap. The room for the report is
-// taken before the first command.
-fn run_begun<R: Threads + Wait + Sync, K: Sink, G: Gate + Sync>(
+// Drives the runs of a heap to their ends, writes the report line by line, and ends the heap. No memory is taken.
+fn run_alone<R: Threads + Wait + Sync, K: Sink, G: Gate + Sync>(
+    rt: &R,
+    begun: Begun,
+    report: Report,
+    out: &mut K,
+    gate: &G,
+) -> Status
+    requires here { (i : ℕ) (r : RunView) → slice_get begun.runs.items i ≡ Some r → IsIn r.token begun.heap }
+    requires some { 0 < length begun.runs.items }
+    requires empty { begun.room.items ≡ [] }
+    requires room { length begun.runs.items ≤ vec_capacity begun.room }
+    ensures later { K.faults out.old ≤ K.faults out.new }
+    ensures done { (ended : Option EndedHeap) → result ≡ Status.Done ended → DrivesToEnd begun report ended (Appends (K.written out.old) (K.written out.new)) }
+    ensures cut { (ended : Option EndedHeap) → result ≡ Status.WriteFault ended → DrivesToEnd begun report ended (AppendsFront (K.written out.old) (K.written out.new)) }
+    ensures fault { (ended : Option EndedHeap) → result ≡ Status.WriteFault ended → Rose (K.faults out.old) (K.faults out.new) }
+    ensures failed { K.faults out.old < K.faults out.new → IsWriteFault result }
+    ensures enough { result ≡ Status.Memory → ⊥ }
+    ensures answers { IsRunAnswer result }
+{
+    let Begun { heap, runs, room } = begun;
+    let runs = drive(rt, &heap, runs, gate);
+    let written = write_report(out, report, &runs);
+    let ended = Some(end(heap, runs, room));
+    match written {
+        Ok(()) => Status::Done { ended },
+        Err(Failed) => Status::WriteFault { ended },
+    }
+}
+
+// Drives the runs of a heap to their ends, in threads that each print what the report has of a run, writes that, and ends the
+// heap. The room for the report is taken before the first command.
+fn run_together<R: Threads + Wait + Sync, K: Sink, G: Gate + Sync>(
     rt: &R,
     alloc: Global,
     begun: Begun,
@@ -63,6 +93,35 @@ fn run_begun<R: Threads + Wait + Sync, K: Sink, G: Gate + Sync>(
     match written {
         Ok(()) => Status::Done { ended },
         Err(Failed) => Status::WriteFault { ended },
+    }
+}
+
+// Drives the runs of a heap to their ends, writes the report, and ends the heap. Where there are several runs, the thread of each
+// prints.
+fn run_begun<R: Threads + Wait + Sync, K: Sink, G: Gate + Sync>(
+    rt: &R,
+    alloc: Global,
+    begun: Begun,
+    report: Report,
+    out: &mut K,
+    gate: &G,
+) -> Status
+    requires here { (i : ℕ) (r : RunView) → slice_get begun.runs.items i ≡ Some r → IsIn r.token begun.heap }
+    requires some { 0 < length begun.runs.items }
+    requires empty { begun.room.items ≡ [] }
+    requires room { length begun.runs.items ≤ vec_capacity begun.room }
+    ensures later { K.faults out.old ≤ K.faults out.new }
+    ensures done { (ended : Option EndedHeap) → result ≡ Status.Done ended → DrivesToEnd begun report ended (Appends (K.written out.old) (K.written out.new)) }
+    ensures cut { (ended : Option EndedHeap) → result ≡ Status.WriteFault ended → DrivesToEnd begun report ended (AppendsFront (K.written out.old) (K.written out.new)) }
+    ensures fault { (ended : Option EndedHeap) → result ≡ Status.WriteFault ended → Rose (K.faults out.old) (K.faults out.new) }
+    ensures failed { K.faults out.old < K.faults out.new → IsWriteFault result }
+    ensures quiet { result ≡ Status.Memory → out.new ≡ out.old }
+    ensures answers { IsRunAnswer result }
+{
+    if begun.runs.len() == 1 {
+        run_alone(rt, begun, report, out, gate)
+    } else {
+        run_together(rt, alloc, begun, report, out, gate)
     }
 }
 

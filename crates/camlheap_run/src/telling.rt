@@ -42,12 +42,8 @@ pub(crate) struct Teller {
     telling: Telling,
 }
 
-// How long the text of what a report has of a run is at most. One that is alone has none: its thread is the caller's, which
-// writes each line at once.
-fn room_of(report: Report, run: &DomainRun, is_alone: bool) -> usize {
-    if is_alone {
-        return 0;
-    }
+// How long the text of what a report has of a run is at most.
+fn room_of(report: Report, run: &DomainRun) -> usize {
     match report {
         Report::Replies => {
             let replies = run
@@ -63,16 +59,11 @@ fn room_of(report: Report, run: &DomainRun, is_alone: bool) -> usize {
 
 impl Teller {
     // A run of which nothing is told so far. The room for its text is taken here.
-    fn make(
-        alloc: Global,
-        report: Report,
-        run: DomainRun,
-        is_alone: bool,
-    ) -> Result<Teller, AllocError>
+    fn make(alloc: Global, report: Report, run: DomainRun) -> Result<Teller, AllocError>
         ensures run { IfOk result (λ t. t.run ≡ run) }
         ensures blank { IfOk result (IsBlank report) }
     {
-        let room = room_of(report, &run, is_alone);
+        let room = room_of(report, &run);
         Ok(Teller {
             run,
             report,
@@ -159,9 +150,8 @@ pub(crate) fn tellers_of(
 {
     let room = Vec::with_capacity(alloc, runs.len())?;
     let mut tellers = Vec::with_capacity(alloc, runs.len())?;
-    let is_alone = runs.len() == 1;
     'runs: for run in runs {
-        tellers.push(Teller::make(alloc, report, run, is_alone)?)?;
+        tellers.push(Teller::make(alloc, report, run)?)?;
     }
     Ok(Tellers { tellers, room })
 }

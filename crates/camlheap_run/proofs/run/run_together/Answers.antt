@@ -10,7 +10,7 @@ use Rattle.camlheap_run.specs.Telling.{IsTeller, run_of}
 use Rattle.camlheap_run.specs.Writing.{AppendsFront}
 use Rattle.camlheap_run.proofs.RunLemmas.{all_here, all_over}
 use Rattle.camlheap_run.proofs.TellingLemmas.{runs_driven, tellers_here, tellers_tell, texts_told}
-use Rattle.camlheap_run.proofs.run.run_begun.Goals as goal
+use Rattle.camlheap_run.proofs.run.run_together.Goals as goal
 
 pub drive-tellers-requires-clause-here : goal.drive-tellers-requires-clause-here
 drive-tellers-requires-clause-here g c κs within = tellers_here c.args.begun.heap c.args.report c.args.begun.runs.items c.in-Ok.tellers.tellers.items c.in-Ok.ensures.runs c.in-Ok.ensures.blank c.requires.here
