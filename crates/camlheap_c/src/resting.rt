@@ -1,6 +1,6 @@
 //! Domains that rest, as C calls them: a thread that has other work puts its domain into a bed, and whoever waits in a
 //! pause turns it there. Beds of one room know of each other, and a domain of any heap may rest in any of them.
-ghost use Rattle.std.specs.Prelude.{◌≡◌, ◌≢◌, ◌↔◌, ◌<◌, false, true, None};
+ghost use Rattle.std.specs.Prelude.{◌≡◌, ◌≢◌, ◌↔◌, ◌⊎◌, ◌<◌, false, true, None};
 ghost use Rattle.camlheap_c.specs.Resting.{KeptOut, MakesBed, Rests, Resumes, no_bed_form, unrested_form};
 
 use crate::bed::CamlheapBed;
@@ -37,7 +37,7 @@ fn no_bed_code(why: NoBed) -> u32
 /// A bed in a room of its own. `DONE`, or `MEMORY`, and then nothing has changed. What the handle held before is freed.
 #[unsafe(no_mangle)]
 pub extern "C" fn camlheap_first_bed(alloc: Global, bed: &mut CamlheapBed) -> u32
-    ensures made { result ≡ 0 → (bed.new.full ≡ true) × (bed.new.value ≡ record { rests = None; makes = true; beds = 1 }) }
+    ensures made { result ≡ 0 → (bed.new.full ≡ true) × (bed.new.value ≡ record { rests = None; makes = true; beds = 1; lost = false }) }
     ensures told { result ≢ 0 → result ≡ 24 }
     ensures same { result ≢ 0 → bed.new ≡ bed.old }
 {
@@ -162,7 +162,7 @@ pub extern "C" fn camlheap_attend(alloc: Global, bed: &mut CamlheapBed) -> u32
     ensures kept { bed.new.full ≡ bed.old.full }
     ensures none { (bed.old.full ≡ false) ↔ (result ≡ 27) }
     ensures same { bed.old.full ≡ true → bed.new.value ≡ bed.old.value }
-    ensures told { bed.old.full ≡ true → result < 3 }
+    ensures told { bed.old.full ≡ true → (result ≡ 1) ⊎ (result ≡ 2) }
 {
     let Some(mut held) = bed.take(alloc) else {
         return NO_BED;

@@ -3,7 +3,7 @@ use Rattle.std.proofs.Common.{◌≡◌, ◌∙◌, ℕ, ◌+◌, Bool, true, fa
 use Rattle.std.specs.Prelude.{Option, Some, None, is_some}
 use Rattle.rest_beds.specs.declared.rule.Knows.{Knows}
 use Rattle.rest_beds.specs.declared.rule.Rested.{Rested}
-use Rattle.rest_beds.specs.Bedding.{HasTaken, IsBed, one_more, putting, taking}
+use Rattle.rest_beds.specs.Bedding.{HasTaken, IsBed, is_lost, one_more, putting, taking}
 
 module _ {T : Type 0} (follows : T → T → Type 0) (v w : Knows T) (number stamp next : ℕ) (is_taken makes : Bool) (guest : Option (Rested T)) (b : IsBed follows v number stamp next is_taken makes guest) where
   -- it has made another
@@ -14,6 +14,7 @@ module _ {T : Type 0} (follows : T → T → Type 0) (v w : Knows T) (number sta
     next_is = ap (λ (n : ℕ). n + 1) b.next_is;
     makes_is = b.makes_is;
     keeps = λ x is. let h = b.keeps x is in record { old = h.old; turns = h.turns; number = h.number; stamp = h.stamp; follows_it = h.follows_it };
+    loses = b.loses;
     lies = b.lies;
   })
 
@@ -25,6 +26,7 @@ module _ {T : Type 0} (follows : T → T → Type 0) (v w : Knows T) (number sta
     next_is = b.next_is;
     makes_is = b.makes_is;
     keeps = λ y is. absurd (let clash : None ≡ Some y = sym none ∙ is in cc);
+    loses = refl;
     lies = λ t. (x.item, refl);
   })
 
@@ -36,6 +38,7 @@ module _ {T : Type 0} (follows : T → T → Type 0) (v w : Knows T) (number sta
     next_is = ap (λ (u : Knows T). u.next) e ∙ b.next_is;
     makes_is = ap (λ (u : Knows T). u.makes) e ∙ b.makes_is;
     keeps = λ z is. let same : y ≡ z = cc in subst (λ (r : Rested T). HasTaken follows w r) same has;
+    loses = ap (λ (u : Knows T). is_lost is_taken number u.turns (Some y)) e;
     lies = λ t. let l = b.lies t in (l.0, ap (λ (u : Knows T). u.rests) e ∙ l.1);
   }
 

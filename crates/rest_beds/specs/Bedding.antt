@@ -1,5 +1,5 @@
 -- The rule of a room with beds: what rests in it, and what each bed knows.
-use Rattle.std.specs.Prelude.{◌≡◌, ℕ, ◌+◌, ◌<◌, ◌≤◌, Bool, true, false, List, Option, Some, None}
+use Rattle.std.specs.Prelude.{◌≡◌, ◌==◌, ℕ, ◌+◌, ◌<◌, ◌≤◌, Bool, true, false, not, ◌||◌, List, Option, Some, None}
 use mathlib.Core.Option.{some}
 use lib.ListN.{get_elem?}
 use Rattle.rest_beds.specs.declared.bed.NoBed.{NoBed}
@@ -70,24 +70,32 @@ pub record HasTaken {T : Type 0} (follows : T → T → Type 0) (v : Knows T) (x
 abbrev pub KeepsGuest : {T : Type 0} → (T → T → Type 0) → Knows T → Option (Rested T) → Type 0
 KeepsGuest {T} follows v o = (x : Rested T) → o ≡ Some x → HasTaken follows v x
 
--- a bed: the thing that rests there, as it was put, whether it makes other beds, and how many there are so far
+-- whether a thing is lost that a bed took out of the room: it was neither put back nor kept, and it isn't the bed's own, which was taken back
+abbrev pub is_lost : {T : Type 0} → Bool → ℕ → Option (Rested T) → Option (Rested T) → Bool
+is_lost is_taken number None guest = false
+is_lost is_taken number (Some x) None = is_taken || not (x.number == number)
+is_lost is_taken number (Some x) (Some y) = false
+
+-- a bed: the thing that rests there, as it was put, whether it makes other beds, how many there are so far, and whether it has lost a thing that it took out of the room
 pub record BedView (T : Type 0) : Type 0 where
   pub rests : Option T
   pub makes : Bool
   pub beds : ℕ
+  pub lost : Bool
 
 -- what rests in a bed of which it is known whether something does
 abbrev pub lies_in : {T : Type 0} → Bool → Option T → Option T
 lies_in true o = o
 lies_in false o = None
 
--- a bed is one of a room, and where something rests there it knows what
+-- a bed is one of a room, has lost nothing, and where something rests there it knows what
 pub record IsBed {T : Type 0} (follows : T → T → Type 0) (v : Knows T) (number stamp next : ℕ) (is_taken makes : Bool) (guest : Option (Rested T)) : Type 0 where
   pub number_is : v.number ≡ number
   pub stamp_is : v.stamp ≡ stamp
   pub next_is : v.next ≡ next
   pub makes_is : v.makes ≡ makes
   pub keeps : KeepsGuest follows v guest
+  pub loses : is_lost is_taken number v.turns guest ≡ false
   pub lies : is_taken ≡ true → (y : T) × (v.rests ≡ Some y)
 
 -- why a bed makes no other: it isn't the first, it has made all that there may be, or memory ran out
@@ -98,4 +106,4 @@ MakesNone b Memory = (b.makes ≡ true) × (b.beds < 64)
 
 -- a bed in which nothing rests, and that makes no others
 abbrev pub plain_bed : {T : Type 0} → BedView T
-plain_bed = record { rests = None; makes = false; beds = 0 }
+plain_bed = record { rests = None; makes = false; beds = 0; lost = false }

@@ -24,7 +24,8 @@ pub enum NoBed {
     Memory,
 }
 
-/// A bed of a room. Contracts see what rests there, as it was put, and of the first how many there are so far.
+/// A bed of a room. Contracts see what rests there, as it was put, of the first how many there are so far, and whether it has
+/// lost a thing that it took out of the room, which it never has.
 #[derive(Drop)]
 pub struct Bed<T: Restful + Drop> {
     room: Arc<Queue<T>>,
@@ -40,11 +41,11 @@ pub struct Bed<T: Restful + Drop> {
 
 impl<T: Restful + Drop> Model for Bed<T> {
     ghost use Rattle.crossbeam_queue.specs.Passes.{IsPassOf, view as known};
-    ghost use Rattle.rest_beds.specs.Bedding.{BedView, IsBed, lies_in};
+    ghost use Rattle.rest_beds.specs.Bedding.{BedView, IsBed, is_lost, lies_in};
 
     ghost Value = { BedView T };
 
-    ghost view = { λ b. record { rests = lies_in b.is_taken (known b.pass).rests; makes = b.makes; beds = b.next } };
+    ghost view = { λ b. record { rests = lies_in b.is_taken (known b.pass).rests; makes = b.makes; beds = b.next; lost = is_lost b.is_taken b.number (known b.pass).turns b.guest } };
 
     ghost invariant = { λ b. IsPassOf b.room.value b.pass × IsBed T.follows (known b.pass) b.number b.stamp b.next b.is_taken b.makes b.guest };
 }
@@ -52,7 +53,7 @@ impl<T: Restful + Drop> Model for Bed<T> {
 impl<T: Restful + Drop> Bed<T> {
     /// The first bed of a new room.
     pub fn make(alloc: Global) -> Result<Bed<T>, AllocError>
-        ensures { IfOk result (λ b. b ≡ record { rests = None; makes = true; beds = 1 }) }
+        ensures { IfOk result (λ b. b ≡ record { rests = None; makes = true; beds = 1; lost = false }) }
     {
         let (room, pass) = Queue::<T>::ruled(alloc, MOST_BEDS as usize)?;
         Ok(Bed {

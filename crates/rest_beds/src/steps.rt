@@ -1,7 +1,7 @@
 //! The steps of a room. Each is tried a few times.
-ghost use Rattle.std.specs.Prelude.{◌≡◌, ◌+◌, true, IfErr, IfOk, MatchOption, MatchResult, Some};
+ghost use Rattle.std.specs.Prelude.{◌≡◌, ◌+◌, true, false, IfErr, IfOk, MatchOption, MatchResult, Some, None};
 ghost use Rattle.crossbeam_queue.specs.Passes.{IsPassOf, view};
-ghost use Rattle.rest_beds.specs.Bedding.{Finds, HasTaken, KeepsGuest, holding, next_bed, one_more, putting, taking, without};
+ghost use Rattle.rest_beds.specs.Bedding.{Finds, HasTaken, KeepsGuest, holding, is_lost, next_bed, one_more, putting, taking, without};
 
 use crate::restful::Restful;
 use crate::rule::{Another, Gives, Knows, Law, Puts, Rested, Takes};
@@ -90,10 +90,12 @@ fn look<T: Restful + Drop>(
     requires queue { IsPassOf queue.now pass.old }
     requires number { (view pass.old).number ≡ number }
     requires stamp { (view pass.old).stamp ≡ stamp }
+    requires loses { is_lost true number (view pass.old).turns None ≡ false }
     ensures queue { IsPassOf queue.now pass.new }
     ensures same { view pass.new ≡ holding (view pass.old) (view pass.new).turns }
     ensures follows { IfOk result (λ t. (y : T) → (view pass.old).rests ≡ Some y → T.follows y t) }
     ensures guest { IfErr result (KeepsGuest T.follows (view pass.new)) }
+    ensures loses { MatchResult result (λ _. is_lost false number (view pass.new).turns None ≡ false) (λ o. is_lost true number (view pass.new).turns o ≡ false) }
 {
     let Some(found) = take(queue, pass) else {
         return Err(None);
@@ -117,10 +119,12 @@ pub(crate) fn take_own<T: Restful + Drop>(
     requires queue { IsPassOf queue.now pass.old }
     requires number { (view pass.old).number ≡ number }
     requires stamp { (view pass.old).stamp ≡ stamp }
+    requires loses { is_lost true number (view pass.old).turns None ≡ false }
     ensures queue { IsPassOf queue.now pass.new }
     ensures same { view pass.new ≡ holding (view pass.old) (view pass.new).turns }
     ensures follows { IfOk result (λ t. (y : T) → (view pass.old).rests ≡ Some y → T.follows y t) }
     ensures guest { IfErr result (KeepsGuest T.follows (view pass.new)) }
+    ensures loses { MatchResult result (λ _. is_lost false number (view pass.new).turns None ≡ false) (λ o. is_lost true number (view pass.new).turns o ≡ false) }
 {
     'looks: for _ in 0..TRIES {
         match look(queue, pass, number, stamp) {

@@ -1,5 +1,5 @@
 //! A bed in which a domain rests.
-ghost use Rattle.std.specs.Prelude.{◌≡◌, ◌↔◌, ◌+◌, ◌<◌, true, IfOk, IfErr, IfSome, None, Some};
+ghost use Rattle.std.specs.Prelude.{◌≡◌, ◌↔◌, ◌+◌, ◌<◌, true, false, IfOk, IfErr, IfSome, None, Some};
 ghost use Rattle.rest_beds.specs.Bedding.{MakesNone, plain_bed};
 ghost use Rattle.shared_runs.specs.Idling.{IsKeptOut, StaysAlong};
 ghost use Rattle.shared_runs.specs.Sharing.{MayClose, SharedView};
@@ -39,7 +39,7 @@ impl Model for RunBed {
 impl RunBed {
     /// The first bed of a new room.
     pub fn make(alloc: Global) -> Result<RunBed, AllocError>
-        ensures { IfOk result (λ b. b ≡ record { rests = None; makes = true; beds = 1 }) }
+        ensures { IfOk result (λ b. b ≡ record { rests = None; makes = true; beds = 1; lost = false }) }
     {
         Ok(RunBed {
             bed: Bed::make(alloc)?,
