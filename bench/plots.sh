@@ -1,11 +1,15 @@
 #!/usr/bin/env bash
-# Measures tables of docs/figures, and has bench/plots.py write them into docs/FIGURES.md and draw the pictures of the page.
+# Measures the tables of docs/figures, and has bench/plots.py write them into docs/FIGURES.md and draw the pictures of the page.
 #
 #   bench/plots.sh           measures all that count instructions by valgrind: they differ little from machine to machine
-#   bench/plots.sh TABLE..   measures these. Times, which want a machine that does nothing else, are minor_by_domains and threads
+#   bench/plots.sh timed     those of times, which want a machine that does nothing else
+#   bench/plots.sh tried     those of runs that were judged, or tried under stress: some hours
+#   bench/plots.sh all       all of them, in one sitting
+#   bench/plots.sh TABLE..   these, by their names
 #
-# It measures the proved program, or PROGRAM, which is of the commit COMMIT, beside the twin without a proof, and beside
-# bench/ocaml5/alone.ml where bench/ocaml5.sh finds an OCaml 5. It claims nothing.
+# It measures the proved program, or PROGRAM, which is of the commit COMMIT, beside the twin without a proof; the library for C that
+# `make -C library` builds, or LIBRARY; and beside OCaml 5 where bench/ocaml5.sh finds one, else columns or tables say `none`. RUNS and
+# COUNT, which the scripts take that it calls, are left to them. It claims nothing.
 set -euo pipefail
 shopt -s inherit_errexit
 export LC_ALL=C
@@ -22,8 +26,17 @@ cp "$PROGRAM" "$work/camlheap"
 rustc -O --edition 2024 -o "$work/twin" "$top/bench/twin/main.rs"
 # Status 3: there is no OCaml 5, and its columns aren't measured.
 "$top/bench/ocaml5.sh" alone "$work/alone" || [ $? -eq 3 ]
-tables=("$@")
-[ $# -gt 0 ] || tables=(commands command_by_size full_major_by_blocks collections chains)
+counted=(commands command_by_size calls full_major_by_blocks collections empty_pauses chains bindings)
+timed=(minor_by_domains threads start beside ocaml5_times)
+tried=(refused judged stressed)
+case "${1:-counted}" in
+    counted) tables=("${counted[@]}") ;;
+    timed) tables=("${timed[@]}") ;;
+    tried) tables=("${tried[@]}") ;;
+    all) tables=("${counted[@]}" "${timed[@]}" "${tried[@]}") ;;
+    *) tables=("$@") ;;
+esac
+export PROGRAM
 
 # Instructions that a command with its words takes over the script $work/script.
 count() {
@@ -239,6 +252,173 @@ threads() {
         private "$domains" 200000 >"$work/many"
         columns "$domains" "$(least camlheap "$domains" 1000)" "$(least twin "$domains" 1000)"
     done
+}
+
+# The library for C, built where none is named.
+library() {
+    if [ -n "${LIBRARY:-}" ]; then echo "$LIBRARY" && return; fi
+    make -s -C "$top/library" >&2
+    echo "$top/library/out/libcamlheap.a"
+}
+
+calls() {
+    head_of bench/calls.sh
+    columns "a call of the library for C" camlheap
+    LIBRARY=$(library) "$top/bench/calls.sh" | awk '{ print "`" $1 "`\t" $2 }'
+}
+
+# What a run of $1 domains takes for each command $2 of domain 0, with the words from $3 on. The other sections are empty.
+each_of_first() {
+    local times
+    for times in 20 120; do
+        awk -v domains="$1" -v times="$times" -v line="$2" 'BEGIN {
+            print "heap 1"
+            for (d = 0; d < domains; d++) { print "domain " d; if (d == 0) for (k = 0; k < times; k++) print line }
+        }' >"$work/script"
+        count "$work/camlheap" run --domains "$1" "${@:3}"
+    done | paste -s | awk '{ print int(($2 - $1) / 100) }'
+}
+
+# What each `collect` of a replay takes with $1 domains whose sections are empty.
+each_collect() {
+    local times
+    for times in 20 120; do
+        awk -v domains="$1" -v times="$times" 'BEGIN {
+            print "schedule 1"
+            for (k = 0; k < times; k++) print "collect"
+            print "end\nheap 1"
+            for (d = 0; d < domains; d++) print "domain " d
+        }' >"$work/script"
+        count "$work/camlheap" replay --domains "$1"
+    done | paste -s | awk '{ print int(($2 - $1) / 100) }'
+}
+
+empty_pauses() {
+    local domains
+    head_of bench/plots.sh
+    columns "a pause with nothing to do" pools "1 domain" "2 domains" 4 8
+    columns '`minor`' 512 $(for domains in 1 2 4 8; do each_of_first "$domains" minor; done)
+    columns '`full_major`' 512 $(for domains in 1 2 4 8; do each_of_first "$domains" full_major; done)
+    columns '`full_major`' 2048 $(for domains in 1 2 4 8; do each_of_first "$domains" full_major --pools 2048; done)
+    columns "\`collect\` of a replay" 512 $(for domains in 1 2 4 8; do each_collect "$domains"; done)
+}
+
+bindings() {
+    head_of bench/bindings.sh
+    printf '# note: A program drives the session itself; a text takes some 500 more, for its line and its reply.\n'
+    columns bindings "cells in a bucket" "\`get\` of the last key, whose cell is the first of its bucket" "of the key in the middle" "of the first key, whose cell is the last"
+    "$top/bench/bindings.sh" | awk '
+        { cost[$6, $4] = $(NF - 1); if (!($6 in seen)) { seen[$6]; order[++n] = $6 } }
+        END {
+            for (i = 1; i <= n; i++) {
+                keys = order[i]; least = int(keys / 64)
+                print keys "\t" least (keys % 64 ? " or " least + 1 : "") "\t" cost[keys, "last"] "\t" cost[keys, "middle"] "\t" cost[keys, "first"]
+            }
+        }'
+}
+
+# Milliseconds of a run of no command by the program $1, the least of several, with the setting $2 of the C library.
+first() {
+    local start
+    for _ in $(seq "${RUNS:-15}"); do
+        start=$EPOCHREALTIME
+        GLIBC_TUNABLES=$2 "$work/$1" run --domains 1 <"$work/script" >"$work/out"
+        echo "$start $EPOCHREALTIME"
+    done | awk '{ t = $2 - $1; if (NR == 1 || t < least) least = t } END { printf "%.1f", least * 1e3 }'
+}
+
+# The most memory that a run of no command by the program $1 has, in MB. It isn't told where Python, which asks, has more itself.
+memory() {
+    python3 -c 'import resource, subprocess, sys
+with open(sys.argv[2]) as script:
+    subprocess.run([sys.argv[1], "run", "--domains", "1"], stdin=script, stdout=subprocess.DEVNULL, check=True)
+most, own = (resource.getrusage(it).ru_maxrss / 1000 for it in (resource.RUSAGE_CHILDREN, resource.RUSAGE_SELF))
+print("%.1f" % most if most > 1.2 * own else "less than %.0f" % (1.2 * own))' "$work/$1" "$work/script"
+}
+
+start() {
+    local program
+    timed start
+    columns "a run of no command, in the usual heap of 17.3 MB of words" "small pages, ms" "large pages, ms" "memory, MB"
+    printf 'heap 1\ndomain 0\n' >"$work/script"
+    for program in camlheap twin; do
+        columns "${program/twin/the twin}" "$(first "$program" '')" "$(first "$program" glibc.malloc.hugetlb=1)" "$(memory "$program")"
+    done
+}
+
+# The longest pause of each way, as bench/beside.sh has it with the words $2.., whose work is told as $1.
+ways() {
+    local what=$1
+    shift
+    "$top/bench/beside.sh" "$@" | awk -v what="$what" '
+        / blocks are .* in one pause:$/ { way = "in one pause" }
+        / blocks are .* beside:$/ { way = "beside the domain, in polls" }
+        /longest/ { line = $0; sub(/^ */, "", line); print what "\t" way "\t" line }'
+}
+
+beside() {
+    timed beside
+    columns "what a cycle does" where "its longest pause"
+    ways "marks a chain of 95,000 blocks"
+    ways "frees 100,000 dead blocks" garbage
+}
+
+ocaml5_times() {
+    timed ocaml5_times
+    columns what camlheap "OCaml 5" ratio
+    "$top/bench/ocaml5.sh" times | awk -F ' [|] ' 'NR > 3 { sub(/^[|] /, "", $1); sub(/ [|]$/, "", $4); print $1 "\t" $2 "\t" $3 "\t" $4 }' || columns "there is no OCaml 5" none none none
+}
+
+# A row of a table of runs: what ran, the last line of the script $2 with its words, and which it was. A script that ends with another
+# status than 0 ends the sitting.
+ran() {
+    local what=$1
+    shift
+    "$top/$1" "${@:2}" >"$work/said"
+    columns "$what" "$(tail -n 1 "$work/said")" "\`$*\`"
+}
+
+# The same of a script whose lines each count runs that went right.
+went_right() {
+    local what=$1
+    shift
+    "$top/$1" "${@:2}" >"$work/said"
+    columns "$what" "$(awk '{ for (i = 2; i <= NF; i++) if ($i ~ /^right/) n += $(i - 1) } END { print n + 0 }' "$work/said")" "\`$*\`"
+}
+
+refused() {
+    head_of examples/hostile.sh | sed '2s/.*/# machine: each request for memory refused in turn/'
+    columns "a run" requests "refused ones that end with status 5"
+    (trap - HUP PIPE; "$top/examples/hostile.sh") | awk '/^right memory refused, / {
+        what = $0; sub(/^right memory refused, /, "", what); sub(/:.*/, "", what)
+        print what "\t" $(NF - 14) "\t" $(NF - 12)
+    }'
+}
+
+judged() {
+    head_of "the scripts that are named" | sed '2s/.*/# machine: outputs of the proved program/; 3s/`//g'
+    columns outputs "what the script says in the end" by
+    ran "of random scripts of version 2 with one to eight domains" bench/judge.sh
+    ran "of random scripts of one to four domains" bench/check_outputs.sh
+    ran "of random scripts of versions 1 to 3 with one to three domains" bench/repeats.sh outputs
+    ran "of random scripts with two to four domains, each printed again by a replay of the schedule of its history" bench/repeats.sh schedules
+    ran "of random scripts of version 3, in threads and with fewer" bench/spawns.sh
+    ran "of random scripts under random schedules" bench/schedules.sh
+    ran "of random texts of tables on three sizes of the heap" bench/tables.sh
+    ran "of the examples" examples/check.sh
+}
+
+stressed() {
+    head_of "the scripts that are named" | sed '2s/.*/# machine: some processors, and limits of threads/; 3s/`//g'
+    columns what "runs, all of them right" by
+    went_right "1 to 8 domains that ask for pauses" bench/pauses.sh stress
+    went_right "1 to 8 domains that store and copy young blocks, 200,000 commands" bench/promotion.sh stress
+    went_right "8 domains that store, load, read weakly and poll beside cycles" bench/beside.sh stress
+    went_right "domains stopped between a look at a field and the store" bench/beside.sh window
+    went_right "100,000 blocks dropped at once, in the least heap" bench/collections.sh dead
+    ran "random scripts of 1 to 8 domains with finalisers" bench/finalisers.sh stress
+    went_right "eight domains with 3,125 commands \`cas\` each on one field" bench/exchanges.sh
+    went_right "eight seats on one and on two processors, beside busy processes" bench/seats.sh
 }
 
 mkdir -p "$into"
