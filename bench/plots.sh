@@ -132,7 +132,7 @@ private() {
 }
 
 # A row of a table of collections: what is counted, what each program takes, OCaml, and the ratios.
-beside() {
+row_beside() {
     columns "$1" "$2" "$3" "$4" "$(of "$2" "$3")" "$(of "$2" "$4")"
 }
 
@@ -188,14 +188,14 @@ collections() {
     copies 0 100 >"$work/few"
     copies 0 1100 >"$work/many"
     mapfile -t each < <(for program in camlheap twin; do between "$program" "$work/few" "$work/many" 1000; done; alone minor 0 100 1100)
-    beside "a minor collection with nothing to copy" "${each[@]}"
+    row_beside "a minor collection with nothing to copy" "${each[@]}"
     copies 10000 0 >"$work/few"
     copies 10000 1 >"$work/many"
     mapfile -t each < <(for program in camlheap twin; do between "$program" "$work/few" "$work/many" 10000 --minor 65536; done; echo $(($(alone copies 10000 0 1) / 10000)))
-    beside "a block of four fields, copied by a minor collection" "${each[@]}"
+    row_beside "a block of four fields, copied by a minor collection" "${each[@]}"
     while read -r kind number what; do
         mapfile -t each < <(later "$kind" "$number")
-        beside "a later complete collection over $what" "${each[@]}"
+        row_beside "a later complete collection over $what" "${each[@]}"
     done <<'END'
 chain 0 the shared block alone
 chain 60000 a chain of 60,000 blocks
@@ -206,7 +206,7 @@ END
     halves 5000 0 >"$work/few"
     halves 5000 1 >"$work/many"
     mapfile -t each < <(for program in camlheap twin; do between "$program" "$work/few" "$work/many" 1 --minor 4096 --pools 600; done; alone halves 5000 0 1)
-    beside "the first one over 5,000 registrations of \`finalise\`, half of which run" "${each[@]}"
+    row_beside "the first one over 5,000 registrations of \`finalise\`, half of which run" "${each[@]}"
 }
 
 chains() {
@@ -351,14 +351,18 @@ ways() {
     local what=$1
     shift
     "$top/bench/beside.sh" "$@" | awk -v what="$what" '
-        / blocks are .* in one pause:$/ { way = "in one pause" }
-        / blocks are .* beside:$/ { way = "beside the domain, in polls" }
-        /longest/ { line = $0; sub(/^ */, "", line); print what "\t" way "\t" line }'
+        / blocks are .* in one pause:$/ { way = "in one pause"; order[++n] = way }
+        / blocks are .* beside:$/ { way = "beside the domain, in polls"; order[++n] = way }
+        /, the longest / {
+            for (i = 1; i < NF; i++) { if ($i == "of") phases = $(i + 1); if ($i == "longest") took = $(i + 1) }
+            if (took > most[way] + 0) { most[way] = took; those[way] = phases }
+        }
+        END { for (i = 1; i <= n; i++) print what "\t" order[i] "\t" those[order[i]] "\t" most[order[i]] }'
 }
 
 beside() {
     timed beside
-    columns "what a cycle does" where "its longest pause"
+    columns "what a cycle does" where "phases of its longest pause" "the longest pause, ms"
     ways "marks a chain of 95,000 blocks"
     ways "frees 100,000 dead blocks" garbage
 }
