@@ -26,7 +26,7 @@ cp "$PROGRAM" "$work/camlheap"
 rustc -O --edition 2024 -o "$work/twin" "$top/bench/twin/main.rs"
 # Status 3: there is no OCaml 5, and its columns aren't measured.
 "$top/bench/ocaml5.sh" alone "$work/alone" || [ $? -eq 3 ]
-counted=(commands command_by_size calls full_major_by_blocks collections empty_pauses chains bindings)
+counted=(commands command_by_size calls full_major_by_blocks collections empty_pauses chains bindings maps)
 timed=(minor_by_domains threads start beside ocaml5_times)
 tried=(refused judged stressed)
 case "${1:-counted}" in
@@ -315,6 +315,12 @@ bindings() {
                 print keys "\t" least (keys % 64 ? " or " least + 1 : "") "\t" cost[keys, "last"] "\t" cost[keys, "middle"] "\t" cost[keys, "first"]
             }
         }'
+}
+
+maps() {
+    head_of bench/maps.sh
+    columns "a call" keys "in the mean" "the dearest of 400"
+    "$top/bench/maps.sh" | awk '{ print "`" ($1 == "move" ? "take` and `put" : $1) "`\t" $4 "\t" $6 "\t" $NF }'
 }
 
 # Milliseconds of a run of no command by the program $1, the least of several, with the setting $2 of the C library.

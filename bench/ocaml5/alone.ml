@@ -1,5 +1,6 @@
 (* OCaml 5's own heap alone: `alone WHAT COUNT TIMES` makes COUNT of something, keeps them, and then makes TIMES collections, of the minor
-   heap where WHAT is `minor` or `copies`, and else complete ones.
+   heap where WHAT is `minor` or `copies`, and else complete ones. Where WHAT is `lookups` or `picks` it makes no collection, but draws a key
+   TIMES times of a table of COUNT ephemerons, and looks it up or doesn't.
    It reads no script, prints nothing, and keeps nothing for itself, as the player does that counts what lives. The blocks are those of
    the scripts of bench/plots.sh, which counts the instructions of both. *)
 let zero = Obj.repr 0
@@ -39,7 +40,27 @@ let registered times register () =
   ignore (Sys.opaque_identity (block ()));
   block ()
 
-let () =
+type key = { id : int }
+
+module Table = Ephemeron.K1.Make (struct
+  type t = key
+  let equal = ( == )
+  let hash key = key.id
+end)
+
+(* Draws a key so often, as bench/maps does, of a table of so many, and looks it up. *)
+let lookups count times look =
+  let keys = Array.init count (fun id -> { id }) and table = Table.create count in
+  Array.iter (fun key -> Table.add table key 7) keys;
+  let drawn = ref 1 in
+  for _ = 1 to times do
+    drawn := ((!drawn * 1_664_525) + 1_013_904_223) land 0xffffffff;
+    let key = keys.(!drawn mod count) in
+    if look && Table.find table key <> 7 then exit 3 else ignore (Sys.opaque_identity key)
+  done;
+  ignore (Sys.opaque_identity (keys, table))
+
+let collections () =
   let count = int_of_string Sys.argv.(2) and key = Obj.repr (Array.make 16 zero) in
   let it = match Sys.argv.(1) with
     | "minor" -> zero
@@ -55,3 +76,10 @@ let () =
   let it = Sys.opaque_identity it in
   for _ = 1 to int_of_string Sys.argv.(3) do collect () done;
   ignore (Sys.opaque_identity (it, key))
+
+let () =
+  let number at = int_of_string Sys.argv.(at) in
+  match Sys.argv.(1) with
+  | "lookups" -> lookups (number 2) (number 3) true
+  | "picks" -> lookups (number 2) (number 3) false
+  | _ -> collections ()
