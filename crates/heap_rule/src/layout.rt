@@ -1,5 +1,5 @@
 //! The words of the table at the start. docs/HEAP.md draws where they lie.
-ghost use Rattle.std.specs.Prelude.{◌≡◌, ◌≢◌, ℕ, ◌+◌, ◌*◌, ◌-◌, ◌<◌, ◌≤◌, length, slice_index, false, None, IfOk};
+ghost use Rattle.std.specs.Prelude.{◌≡◌, ◌≢◌, ℕ, ◌+◌, ◌*◌, ◌-◌, ◌<◌, ◌≤◌, length, replicate, slice_index, false, None, IfOk};
 ghost use Rattle.heap_model.specs.Domains.{IsWithinLimits};
 ghost use Rattle.heap_model.specs.Fronts.{PlainShape};
 ghost use Rattle.heap_rule.specs.Limits.{sizes_in};
@@ -132,12 +132,28 @@ fn fill_opening(words: &mut [u64], config: &Config)
     put_zeros(words, shared + 2, SHARED_FIELDS as usize);
 }
 
+// How many words are laid at once.
+const PIECE: usize = 512;
+
+// So many words that are 0.
+fn zeros(alloc: Global, count: usize) -> Result<Vec<u64>, AllocError>
+    ensures { IfOk result (λ v. v.items ≡ replicate count 0) }
+{
+    let piece = [0; PIECE];
+    let mut words = Vec::with_capacity(alloc, count)?;
+    for _ in 0..count / PIECE {
+        words.extend_from_slice(&piece)?;
+    }
+    words.extend_from_slice(&piece[..count % PIECE])?;
+    Ok(words)
+}
+
 /// The words of the table at the start.
 pub(crate) fn opening_words(alloc: Global, config: &Config) -> Result<Vec<u64>, AllocError>
     requires { IsWithinLimits (sizes_in config.now) }
     ensures { IfOk result (λ v. IsOpening config.now v.items) }
 {
-    let mut words = vec![in alloc; 0; count_of(config)]?;
+    let mut words = zeros(alloc, count_of(config))?;
     fill_opening(words.as_mut_slice(), config);
     Ok(words)
 }
