@@ -26,7 +26,7 @@ cp "$PROGRAM" "$work/camlheap"
 rustc -O --edition 2024 -o "$work/twin" "$top/bench/twin/main.rs"
 # Status 3: there is no OCaml 5, and its columns aren't measured.
 "$top/bench/ocaml5.sh" alone "$work/alone" || [ $? -eq 3 ]
-counted=(commands command_by_size calls full_major_by_blocks collections empty_pauses chains bindings maps)
+counted=(commands command_by_size calls full_major_by_blocks collections empty_pauses longest_threads chains bindings maps)
 timed=(minor_by_domains threads start beside ocaml5_times)
 tried=(refused judged stressed)
 case "${1:-counted}" in
@@ -244,13 +244,38 @@ minor_by_domains() {
 }
 
 threads() {
-    local domains
+    local domains here there first_here first_there
     timed threads
-    columns "200,000 commands on private blocks, domains" "the program, ms" "the twin, ms"
+    columns "200,000 commands on private blocks, domains" "camlheap, ms" "to one domain" "the twin, ms" "to one domain"
     for domains in 1 2 4 8; do
         private "$domains" 0 >"$work/few"
         private "$domains" 200000 >"$work/many"
-        columns "$domains" "$(least camlheap "$domains" 1000)" "$(least twin "$domains" 1000)"
+        here=$(least camlheap "$domains" 1000)
+        there=$(least twin "$domains" 1000)
+        first_here=${first_here:-$here} first_there=${first_there:-$there}
+        columns "$domains" "$here" "$(of "$here" "$first_here")" "$there" "$(of "$there" "$first_there")"
+    done
+}
+
+# The instructions of the thread that makes the most of them, in a run of the script $work/script with $1 domains.
+longest() {
+    rm -rf "$work/threads" && mkdir "$work/threads"
+    valgrind --tool=callgrind --separate-threads=yes --callgrind-out-file="$work/threads/one" "$work/camlheap" run --domains "$1" <"$work/script" >"$work/out" 2>"$work/error"
+    awk '/^totals:/ { if ($2 > most) most = $2 } END { print most }' "$work"/threads/one-*
+}
+
+longest_threads() {
+    local domains start all beyond first first_beyond
+    head_of bench/plots.sh
+    columns "200,000 commands on private blocks, domains" "the longest thread" "to one domain" "beyond the start" "to one domain"
+    for domains in 1 2 4 8; do
+        private "$domains" 0 >"$work/script"
+        start=$(longest "$domains")
+        private "$domains" 200000 >"$work/script"
+        all=$(longest "$domains")
+        beyond=$((all - start))
+        first=${first:-$all} first_beyond=${first_beyond:-$beyond}
+        columns "$domains" "$all" "$(of "$all" "$first")" "$beyond" "$(of "$beyond" "$first_beyond")"
     done
 }
 
