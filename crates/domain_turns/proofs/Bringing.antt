@@ -287,7 +287,7 @@ all_met h one old new rest t runs met answer was brought popped =
 
 -- who goes on behind a meeting goes on
 pub goes_behind : (one new : RunView) (history : List Entry) → Begins history one.token.view → GoesOn (run_seeing one history) new → GoesOn one new
-goes_behind one new history begins g = record { commands = g.commands; supply = g.supply; spawned = g.spawned; number = g.number; front = prefix_trans one.token.view.seen.front history new.token.view.seen.front (front_prefix _ _ _ begins) g.front }
+goes_behind one new history begins g = record { commands = g.commands; supply = g.supply; spawned = g.spawned; number = g.number; front = prefix_trans one.token.view.seen.front history new.token.view.seen.front (front_prefix _ _ _ begins) g.front; over = λ ended. let o = g.over ended in record { ended = o.ended; next = o.next; replies = o.replies } }
 
 -- the other places are as they were
 pub here_else : (h : SharedHeap) (runs : List (Option RunView)) (n : ℕ) → AreHere h runs → AreHere h (set runs n None)

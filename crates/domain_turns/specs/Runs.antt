@@ -738,10 +738,17 @@ abbrev pub NowAnswers : SharedHeap → RunView → RunView → model.Command →
 NowAnswers h old new c (Some reply) = MakesNow h old new c reply
 NowAnswers h old new c None = PutsOff h old new c
 
--- the same domain's run of the same commands, from the same supply, begun by a spawn or not: what the domain saw of the history is a front part of what it sees now
+-- once the trace has ended it stays so, and no reply comes
+pub record StaysOver (old new : RunView) : Type 0 where
+  pub ended : new.ended ≡ true
+  pub next : new.next ≡ old.next
+  pub replies : new.replies ≡ old.replies
+
+-- the same domain's run of the same commands, from the same supply, begun by a spawn or not: what the domain saw of the history is a front part of what it sees now, and once its trace has ended it stays as it is
 pub record GoesOn (old new : RunView) : Type 0 where
   pub commands : new.commands ≡ old.commands
   pub supply : new.supply ≡ old.supply
   pub spawned : is_spawned_at new.place ≡ is_spawned_at old.place
   pub number : new.token.view.own.number ≡ old.token.view.own.number
   pub front : IsPrefix old.token.view.seen.front new.token.view.seen.front
+  pub over : old.ended ≡ true → StaysOver old new

@@ -1,5 +1,5 @@
 //! A run as a trace that is turned to its end: those of one heap share it.
-ghost use Rattle.std.specs.Prelude.{◌≡◌, ◌<◌, true, length};
+ghost use Rattle.std.specs.Prelude.{◌≡◌, ◌<◌, ℕ, true, length};
 ghost use Rattle.heap_rule.specs.Token.{IsIn};
 ghost use Rattle.domain_turns.specs.Runs.{GoesOn};
 ghost use Rattle.domain_turns.specs.Driving.{goes_nowhere, goes_further};
@@ -15,12 +15,14 @@ const MOST_ARRIVALS: u64 = 1 << 60;
 
 // How far a turn with this answer came.
 fn reached(turned: Turned) -> Went
-    ensures { result ≡ Went.Ended → turned ≡ Turned.Ended }
+    ensures ended { result ≡ Went.Ended → turned ≡ Turned.Ended }
+    ensures idle { result ≡ Went.Idle → (n : ℕ) × (turned ≡ Turned.Idle n) }
 {
     match turned {
         Turned::Did => Went::On,
         Turned::Held { .. } => Went::Held,
-        Turned::Waiting(_) | Turned::Hungry | Turned::Idle { .. } => Went::Nowhere,
+        Turned::Waiting(_) | Turned::Hungry => Went::Nowhere,
+        Turned::Idle { .. } => Went::Idle,
         Turned::Ended => Went::Ended,
     }
 }
@@ -58,7 +60,13 @@ impl Trace<Heap> for DomainRun {
     }
 
     #[inline(always)]
-    fn turn(&mut self, shared: &Heap) -> Went {
+    fn turn(&mut self, shared: &Heap) -> Went
+        requires here { IsIn self.old.token shared.now }
+        ensures here { IsIn self.new.token shared.now }
+        ensures follows { GoesOn self.old self.new }
+        ensures over { result ≡ Went.Ended → self.new.ended ≡ true }
+        ensures idle { result ≡ Went.Idle → self.new.ended ≡ true }
+    {
         if self.domain().arrivals() >= MOST_ARRIVALS {
             return Went::Nowhere;
         }

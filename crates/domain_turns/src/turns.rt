@@ -12,7 +12,7 @@ ghost use Rattle.safepoint.specs.Looks.{bit_of};
 ghost use Rattle.heap_rule.specs.Limits.{sizes_in};
 ghost use Rattle.heap_model.specs.Domains.{domain_at};
 ghost use Rattle.heap_rule.specs.Rule.{state_of};
-ghost use Rattle.domain_turns.specs.Runs.{Stretches, HasEnded, EndsTrace, RunAnswers, TurnAnswers, RestAnswers, CalmAnswers, GoesOn, CalmDid, IsHandedIn, IsUnqueued, PassesOn, Polls, RunsFinaliser, TrialAnswers, WaitsForAnswer, is_asked, may_use_up, served_since, noted_token, ran_with, said_with, WorksBeside};
+ghost use Rattle.domain_turns.specs.Runs.{StaysOver, Stretches, HasEnded, EndsTrace, RunAnswers, TurnAnswers, RestAnswers, CalmAnswers, GoesOn, CalmDid, IsHandedIn, IsUnqueued, PassesOn, Polls, RunsFinaliser, TrialAnswers, WaitsForAnswer, is_asked, may_use_up, served_since, noted_token, ran_with, said_with, WorksBeside};
 ghost use Rattle.domain_turns.specs.Sections.{IsOrdinary, IsTold};
 ghost use Rattle.domain_turns.specs.LookOutcomes.{PastAnswers, asked_after, collected_after, due_after, next_after, replies_after};
 ghost use Rattle.heap_model.specs.declared.reply.Reply as says;
@@ -359,6 +359,7 @@ pub fn go_on(heap: &Heap, run: &mut DomainRun) -> Turned
     requires shows { run.old.supply ≡ Supply.Section → ShowsRegisters heap.now.config run.old.token.view }
     ensures here { IsIn run.new.token heap.now }
     ensures answer { CalmAnswers heap.now run.old run.new result }
+    ensures over { run.old.ended ≡ true → StaysOver run.old run.new }
 {
     if run.ended {
         return rest(heap, run);
@@ -374,6 +375,7 @@ fn turn_running(heap: &Heap, run: &mut DomainRun) -> Turned
     requires few { run.old.token.view.own.arrivals < 2 ^ 60 }
     ensures here { IsIn run.new.token heap.now }
     ensures answer { RunAnswers heap.now run.old run.new result }
+    ensures over { run.old.ended ≡ true → StaysOver run.old run.new }
 {
     if find_wants(heap, run) != 0 {
         stop(heap, run);
@@ -496,6 +498,7 @@ pub fn pass_on(heap: &Heap, run: &mut DomainRun, decider: Decider) -> Turned
     ensures answer { PassesOn heap.now decider run.old run.new result }
     ensures goes_on { GoesOn run.old run.new }
 {
+    run.is_faithful();
     let Some(last) = run.left else { unreachable!() };
     match pass_by(heap, run, last, decider) {
         LookOutcome::Waits(b) => Turned::Waiting(b),
@@ -554,7 +557,9 @@ fn turn_on(heap: &Heap, run: &mut DomainRun) -> Turned
     ensures answer { TurnAnswers heap.now run.old run.new result }
     ensures goes_on { GoesOn run.old run.new }
     ensures ended { result ≡ Turned.Ended → run.new.ended ≡ true }
+    ensures idle { (n : ℕ) → result ≡ Turned.Idle n → run.new.ended ≡ true }
 {
+    run.is_faithful();
     let Some(last) = run.left else {
         return turn_running(heap, run);
     };
@@ -609,6 +614,7 @@ pub fn turn(heap: &Heap, run: &mut DomainRun) -> Turned
     ensures goes_on { GoesOn run.old run.new }
     ensures stretch { Stretches (sizes_in heap.now.config) run.old run.new }
     ensures ended { result ≡ Turned.Ended → run.new.ended ≡ true }
+    ensures idle { (n : ℕ) → result ≡ Turned.Idle n → run.new.ended ≡ true }
 {
     turn_on(heap, run)
 }

@@ -1,3 +1,4 @@
 pub mod PutBack
 pub mod Places
 pub mod Drives
+pub mod Placing

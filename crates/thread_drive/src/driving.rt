@@ -1,48 +1,43 @@
 //! The threads. A trace whose thread is refused is turned by the caller.
-ghost use Rattle.std.specs.Prelude.{◌≡◌, ◌⊎◌, ◌<◌, ℕ, true, length, vec_len, vec_capacity, slice_get, Some, IfOk, IfErr};
+ghost use Rattle.std.specs.Prelude.{◌≡◌, ◌≢◌, ◌<◌, ◌≤◌, ℕ, [], true, length, vec_len, vec_capacity, slice_get, slice_index_or, slice_set, Some};
 ghost use Rattle.thread_drive.specs.Driven.{AllAre, AllFollow, Driven};
-ghost use Rattle.thread_drive.specs.Taking.{IsTakenOut};
+ghost use Rattle.thread_drive.specs.Placing.{Began, Stands};
 
-use crate::rotation::rotate;
-use crate::taking::{put_back, take_out};
-use crate::trace::Trace;
-use crate::turning::turn_to_end;
+use crate::alone::drive_alone;
+use crate::beside::turn_beside;
+use crate::place::{Place, SameTrace};
+use crate::rotation::{MOST_TRACES, rotate};
+use crate::trace::{Trace, Went};
+use crate::turning::{Worked, turn_on, turn_to_end};
 use crossbeam_utils::sync::EventCount;
 use outer_io::Gate;
 use std::snapshot::Snapshot;
 use std::sync::Wait;
 use std::sync::atomic::{AtomicU32, Ordering};
-use std::thread;
-use std::thread::{Promise, PromisedHandle, Scope, Threads};
+use std::thread::{Scope, Threads};
+use std::{mem, thread};
 
-// What a thread gives back: its trace, and whether it has ended, which it has unless the thread was refused.
+// Larger traces have no places on a thread's stack.
+const MOST_SIZE: usize = 1 << 16;
+
+// What the threads of some traces and the caller tell one another.
 #[derive(Drop)]
-struct Worked<T> {
-    trace: T,
-    ended: bool,
+struct Signals {
+    // Turns that went on without a command, and threads that returned.
+    events: EventCount,
+    // The bit of the place whose thread was refused, while its trace is taken back.
+    refused: AtomicU32,
+    // The bits of the places whose threads are about to return.
+    returned: AtomicU32,
 }
 
-// The promise of a thread: the trace that it was given comes back, maybe further on.
-#[derive(Drop)]
-struct SameTrace<S, T> {
-    shared: Snapshot<S>,
-    trace: Snapshot<T>,
-}
-
-impl<S, T: Trace<S>> Promise<Worked<T>> for SameTrace<S, T> {
-    ghost kept_by = { λ p r. T.shares p.shared.value r.trace × T.follows p.trace.value r.trace × (r.ended ≡ true → T.is_over r.trace) };
-}
-
-// No trace has this number.
-const NONE: u32 = u32::MAX;
-
-// What a thread does. The caller does it too where the thread was refused, once it has put the trace's number into `refused`.
+// What a thread does. The caller does it too where the thread was refused, once it has put the bit of its place into `refused`.
 fn work<S, T: Trace<S>, R: Wait, G: Gate>(
     rt: &R,
     shared: &S,
     gate: &G,
-    events: &EventCount,
-    refused: &AtomicU32,
+    signals: &Signals,
+    bit: u32,
     trace: T,
 ) -> Worked<T>
     requires { T.shares shared.now trace }
@@ -50,20 +45,142 @@ fn work<S, T: Trace<S>, R: Wait, G: Gate>(
     ensures follows { T.follows trace result.trace }
     ensures over { result.ended ≡ true → T.is_over result.trace }
 {
-    if refused.load(Ordering::SeqCst) == trace.number(shared) {
+    if signals.refused.load(Ordering::SeqCst) == bit {
         return Worked {
             trace,
             ended: false,
         };
     }
-    Worked {
-        trace: turn_to_end(rt, shared, gate, events, trace),
-        ended: true,
+    let worked = turn_on(rt, shared, gate, &signals.events, false, trace);
+    signals.returned.fetch_or(bit, Ordering::SeqCst);
+    signals.events.notify_all();
+    worked
+}
+
+// Starts a thread for the trace of a place, or keeps it here where the thread is refused.
+fn start<'s, E, S: Sync, T: Trace<S> + Send + Drop + 's, R: Threads + Wait + Sync, G: Gate + Sync>(
+    scope: &Scope<'s, E>,
+    rt: &'s R,
+    shared: &'s S,
+    gate: &'s G,
+    signals: &'s Signals,
+    bit: u32,
+    trace: T,
+) -> Place<S, T>
+    requires { T.shares shared.now trace }
+    ensures stands { Stands T.shares T.is_over shared.now result }
+    ensures began { Began T.follows trace result }
+{
+    let promise = SameTrace {
+        shared: Snapshot::of(shared),
+        trace: Snapshot::of(&trace),
+    };
+    match scope.spawn_with(promise, move || {
+        work(rt, shared, gate, signals, bit, trace)
+    }) {
+        Ok(child) => Place::Away(child),
+        Err(error) => {
+            signals.refused.store(bit, Ordering::SeqCst);
+            let back = (error.value)();
+            signals.refused.store(0, Ordering::SeqCst);
+            Place::Here {
+                trace: back.trace,
+                told: 0,
+                went: Went::On,
+            }
+        }
     }
 }
 
-// The trace that a thread gave back, turned to its end.
-fn ended_trace<S, T: Trace<S>, R: Wait, G: Gate>(
+// The place of a trace: the first one is here, and each other one in a thread.
+fn place_of<
+    's,
+    E,
+    S: Sync,
+    T: Trace<S> + Send + Drop + 's,
+    R: Threads + Wait + Sync,
+    G: Gate + Sync,
+>(
+    scope: &Scope<'s, E>,
+    rt: &'s R,
+    shared: &'s S,
+    gate: &'s G,
+    signals: &'s Signals,
+    at: usize,
+    trace: T,
+) -> Place<S, T>
+    requires few { at < MOST_TRACES }
+    requires here { T.shares shared.now trace }
+    ensures stands { Stands T.shares T.is_over shared.now result }
+    ensures began { Began T.follows trace result }
+{
+    if at == 0 {
+        Place::Here {
+            trace,
+            told: 0,
+            went: Went::On,
+        }
+    } else {
+        start(scope, rt, shared, gate, signals, 1 << at, trace)
+    }
+}
+
+// Puts the place of a trace where none was.
+fn put<S, T: Trace<S> + Drop>(places: &mut [Place<S, T>], at: usize, place: Place<S, T>)
+    requires { at < length places.old }
+    ensures { places.new ≡ slice_set places.old at place }
+{
+    places[at] = place;
+}
+
+// Takes the place of a trace.
+fn take<S, T: Trace<S> + Drop>(places: &mut [Place<S, T>], at: usize) -> Place<S, T>
+    requires { at < length places.old }
+    ensures place { (e : _) → result ≡ slice_index_or places.old at e }
+    ensures places { places.new ≡ slice_set places.old at Place.Empty }
+{
+    mem::replace(&mut places[at], Place::Empty)
+}
+
+// Puts each trace at its place.
+fn place_all<
+    's,
+    E,
+    S: Sync,
+    T: Trace<S> + Send + Drop + 's,
+    R: Threads + Wait + Sync,
+    G: Gate + Sync,
+>(
+    scope: &Scope<'s, E>,
+    rt: &'s R,
+    shared: &'s S,
+    gate: &'s G,
+    signals: &'s Signals,
+    traces: &mut Vec<T>,
+    places: &mut [Place<S, T>],
+)
+    requires few { length traces.old.items ≤ length places.old }
+    requires most { length places.old ≡ MOST_TRACES }
+    requires here { AllAre (T.shares shared.now) traces.old.items }
+    requires stand { AllAre (Stands T.shares T.is_over shared.now) places.old }
+    ensures stand { AllAre (Stands T.shares T.is_over shared.now) places.new }
+    ensures began { (k : ℕ) (d : T) (e : _) → k < length traces.old.items → Began T.follows (slice_index_or traces.old.items k d) (slice_index_or places.new k e) }
+    ensures many { length places.new ≡ length places.old }
+    ensures empty { traces.new.items ≡ [] }
+    ensures capacity { vec_capacity traces.new ≡ vec_capacity traces.old }
+{
+    'traces: while let Some(trace) = traces.pop() {
+        let at = traces.len();
+        put(
+            places,
+            at,
+            place_of(scope, rt, shared, gate, signals, at, trace),
+        );
+    }
+}
+
+// What a thread gave back, turned to its end.
+fn ended_work<S, T: Trace<S>, R: Wait, G: Gate>(
     rt: &R,
     shared: &S,
     gate: &G,
@@ -84,73 +201,59 @@ fn ended_trace<S, T: Trace<S>, R: Wait, G: Gate>(
     }
 }
 
-// Starts a thread for a trace, or gives the trace back where the thread is refused.
-fn start<'s, E, S: Sync, T: Trace<S> + Send + Drop + 's, R: Threads + Wait + Sync, G: Gate + Sync>(
-    scope: &Scope<'s, E>,
-    rt: &'s R,
-    shared: &'s S,
-    gate: &'s G,
-    events: &'s EventCount,
-    refused: &'s AtomicU32,
-    trace: T,
-) -> Result<PromisedHandle<Worked<T>, SameTrace<S, T>>, T>
-    requires { T.shares shared.now trace }
-    ensures started { IfOk result (λ child. (child.promise.shared.value ≡ shared.now) × (child.promise.trace.value ≡ trace)) }
-    ensures back { IfErr result (λ back. T.shares shared.now back × T.follows trace back) }
-{
-    let number = trace.number(shared);
-    let promise = SameTrace {
-        shared: Snapshot::of(shared),
-        trace: Snapshot::of(&trace),
-    };
-    match scope.spawn_with(promise, move || {
-        work(rt, shared, gate, events, refused, trace)
-    }) {
-        Ok(child) => Ok(child),
-        Err(error) => {
-            refused.store(number, Ordering::SeqCst);
-            let back = (error.value)();
-            refused.store(NONE, Ordering::SeqCst);
-            Err(back.trace)
-        }
-    }
-}
-
-// The trace of a thread that has returned, turned to its end.
-fn joined<S, T: Trace<S> + Send + Drop, R: Threads + Wait, G: Gate>(
+// The trace of a place, turned to its end.
+fn ended_trace<S, T: Trace<S> + Drop, R: Threads + Wait, G: Gate>(
     rt: &R,
     shared: &S,
     gate: &G,
     events: &EventCount,
-    child: PromisedHandle<Worked<T>, SameTrace<S, T>>,
+    place: Place<S, T>,
 ) -> T
-    requires { child.promise.shared.value ≡ shared.now }
+    requires stands { Stands T.shares T.is_over shared.now place }
+    requires some { place ≢ Place.Empty }
     ensures here { T.shares shared.now result }
-    ensures follows { T.follows child.promise.trace.value result }
     ensures over { T.is_over result }
+    ensures follows { (began : T) → Began T.follows began place → T.follows began result }
 {
-    let worked = child.join(rt);
-    ended_trace(rt, shared, gate, events, worked)
+    let worked = match place {
+        Place::Here { trace, went, .. } => Worked {
+            trace,
+            ended: went == Went::Ended,
+        },
+        Place::Away(child) => child.join(rt),
+        Place::Empty => unreachable!(),
+    };
+    ended_work(rt, shared, gate, events, worked)
 }
 
-// Takes the trace at this place out. The last one moves there. The trait's laws are told here, since a proof of a function that starts threads can't cite them.
-fn take_here<S, T: Trace<S> + Drop>(shared: &S, traces: &mut Vec<T>, at: usize) -> T
-    requires inside { at < length traces.old.items }
-    requires here { AllAre (T.shares shared.now) traces.old.items }
-    ensures taken { IsTakenOut traces.old.items traces.new.items at result }
-    ensures here { T.shares shared.now result }
-    ensures others { AllAre (T.shares shared.now) traces.new.items }
-    ensures itself { (t : T) → T.follows t t }
-    ensures on { (t u v : T) → T.follows t u → T.follows u v → T.follows t v }
-    ensures room { length traces.new.items < vec_capacity traces.new }
-    ensures capacity { vec_capacity traces.new ≡ vec_capacity traces.old }
+// Takes the traces from the first places, each turned to its end.
+fn take_ended<S, T: Trace<S> + Drop, R: Threads + Wait, G: Gate>(
+    rt: &R,
+    shared: &S,
+    gate: &G,
+    events: &EventCount,
+    places: &mut [Place<S, T>],
+    count: usize,
+    traces: &mut Vec<T>,
+)
+    requires few { count ≤ length places.old }
+    requires room { count ≤ vec_capacity traces.old }
+    requires empty { traces.old.items ≡ [] }
+    requires stand { AllAre (Stands T.shares T.is_over shared.now) places.old }
+    requires some { (k : ℕ) (e : _) → k < count → slice_index_or places.old k e ≢ Place.Empty }
+    ensures many { length traces.new.items ≡ count }
+    ensures here { AllAre (T.shares shared.now) traces.new.items }
+    ensures over { AllAre T.is_over traces.new.items }
+    ensures follow { (k : ℕ) (began : T) (d : T) (e : _) → k < count → Began T.follows began (slice_index_or places.old k e) → T.follows began (slice_index_or traces.new.items k d) }
 {
-    let _shared = shared;
-    take_out(traces, at)
+    'places: for at in 0..count {
+        let place = take(places, at);
+        traces.push_reserved(ended_trace(rt, shared, gate, events, place));
+    }
 }
 
-// Starts a thread for each trace at the places 1 to `at`, turns the others, and joins.
-fn drive_to<
+// Turns each trace to its end: the first here, and each other one in a thread of its own until its commands are over.
+fn drive_each<
     's,
     E,
     S: Sync,
@@ -162,34 +265,39 @@ fn drive_to<
     rt: &'s R,
     shared: &'s S,
     gate: &'s G,
-    events: &'s EventCount,
-    refused: &'s AtomicU32,
+    signals: &'s Signals,
     traces: &mut Vec<T>,
-    at: usize,
 )
-    requires inside { at ≡ 0 ⊎ at < length traces.old.items }
+    requires few { length traces.old.items ≤ MOST_TRACES }
     requires here { AllAre (T.shares shared.now) traces.old.items }
     ensures here { AllAre (T.shares shared.now) traces.new.items }
     ensures follow { AllFollow T.follows traces.old.items traces.new.items }
     ensures over { AllAre T.is_over traces.new.items }
-    ensures capacity { vec_capacity traces.new ≡ vec_capacity traces.old }
 {
-    if at == 0 {
-        rotate(rt, shared, gate, events, traces);
+    let count = traces.len();
+    let first = Place::Empty;
+    if MOST_SIZE < mem::size_of_val(&first) {
+        rotate(rt, shared, gate, &signals.events, traces);
         return;
     }
-    let trace = take_here(shared, traces, at);
-    match start(scope, rt, shared, gate, events, refused, trace) {
-        Ok(child) => {
-            drive_to(scope, rt, shared, gate, events, refused, traces, at - 1);
-            let trace = joined(rt, shared, gate, events, child);
-            put_back(traces, at, trace);
-        }
-        Err(trace) => {
-            put_back(traces, at, trace);
-            drive_to(scope, rt, shared, gate, events, refused, traces, at - 1);
-        }
-    }
+    let mut places = [
+        first,
+        Place::Empty,
+        Place::Empty,
+        Place::Empty,
+        Place::Empty,
+        Place::Empty,
+        Place::Empty,
+        Place::Empty,
+    ];
+    let Signals {
+        events,
+        returned,
+        ..
+    } = signals;
+    place_all(scope, rt, shared, gate, signals, traces, &mut places);
+    turn_beside(rt, shared, gate, events, returned, &mut places);
+    take_ended(rt, shared, gate, events, &mut places, count, traces);
 }
 
 /// Turns each trace until it has ended: the first in this thread, and each other one in a thread of its own, or in
@@ -209,32 +317,25 @@ pub fn drive<S: Sync, T: Trace<S> + Send + Drop, R: Threads + Wait + Sync, G: Ga
     requires here { (i : ℕ) (t : T) → slice_get traces.items i ≡ Some t → T.shares shared.now t }
     ensures driven { Driven T.shares T.follows T.is_over shared.now traces.items result.items }
 {
-    if traces.is_empty() {
-        return traces;
+    let count = traces.len();
+    if count < 2 || MOST_TRACES < count {
+        return drive_alone(rt, shared, traces, gate);
     }
-    let refused = AtomicU32::new(NONE);
-    let handed_back = &refused;
-    let events = EventCount::new();
-    let told = &events;
+    let signals = Signals {
+        events: EventCount::new(),
+        refused: AtomicU32::new(0),
+        returned: AtomicU32::new(0),
+    };
+    let told = &signals;
     thread::scope(
         thread::scope_env(),
         rt,
         move |scope| -> Vec<T>
-            requires { (0 < vec_len traces) × AllAre (T.shares shared.now) traces.items }
+            requires { (vec_len traces ≤ MOST_TRACES) × AllAre (T.shares shared.now) traces.items }
             ensures { AllAre (T.shares shared.entry.now) result.items × AllFollow T.follows traces.items result.items × AllAre T.is_over result.items }
         {
             let mut traces = traces;
-            let last = traces.len() - 1;
-            drive_to(
-                scope,
-                rt,
-                shared,
-                gate,
-                told,
-                handed_back,
-                &mut traces,
-                last,
-            );
+            drive_each(scope, rt, shared, gate, told, &mut traces);
             traces
         },
     )

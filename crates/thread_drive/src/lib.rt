@@ -2,7 +2,9 @@
 #![tactic(auto)]
 
 mod alone;
+mod beside;
 mod driving;
+mod place;
 mod rotation;
 mod taking;
 mod trace;

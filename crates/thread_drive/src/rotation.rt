@@ -11,7 +11,7 @@ use outer_io::Gate;
 use std::sync::Wait;
 
 // How many traces share one thing at most.
-const MOST_TRACES: usize = 8;
+pub(crate) const MOST_TRACES: usize = 8;
 
 // One turn of each trace. It answers how far they came: nowhere only where none did anything, and none is held.
 #[inline(always)]
@@ -37,7 +37,7 @@ fn turn_each<S, T: Trace<S>, G: Gate>(
                 all = false;
                 some = true;
             }
-            Went::Nowhere => all = false,
+            Went::Nowhere | Went::Idle => all = false,
             Went::Held => {
                 all = false;
                 held = true;
@@ -100,7 +100,7 @@ pub(crate) fn rotate<S, T: Trace<S> + Drop, R: Wait, G: Gate>(
         let announced = waiter.announced();
         match turn_each(shared, gate, events, &mut told, traces.as_mut_slice()) {
             Went::On => waiter.went_on(),
-            Went::Nowhere => waiter.wait(rt, announced),
+            Went::Nowhere | Went::Idle => waiter.wait(rt, announced),
             Went::Held => waiter.held(),
             Went::Ended => return,
         }

@@ -1,5 +1,5 @@
 //! The turns of one trace, with the gate around each command.
-ghost use Rattle.std.specs.Prelude.{◌≡◌};
+ghost use Rattle.std.specs.Prelude.{◌≡◌, true};
 
 use crate::trace::{Trace, Went};
 use crate::waiting::Waiter;
@@ -45,29 +45,59 @@ pub(crate) fn turn_once<S, T: Trace<S>, G: Gate>(
     went
 }
 
+// What turns of a trace came to: the trace, and whether it has ended.
+#[derive(Drop)]
+pub(crate) struct Worked<T> {
+    pub(crate) trace: T,
+    pub(crate) ended: bool,
+}
+
+// Turns a trace until it has ended, or, unless it stays here, until its commands are over and it waits for those of others.
+pub(crate) fn turn_on<S, T: Trace<S>, R: Wait, G: Gate>(
+    rt: &R,
+    shared: &S,
+    gate: &G,
+    events: &EventCount,
+    stays: bool,
+    mut trace: T,
+) -> Worked<T>
+    requires { T.shares shared.now trace }
+    ensures here { T.shares shared.now result.trace }
+    ensures follows { T.follows trace result.trace }
+    ensures over { result.ended ≡ true → T.is_over result.trace }
+    ensures stays { stays ≡ true → result.ended ≡ true }
+{
+    let mut waiter = Waiter::new(events);
+    let mut told = 0;
+    'turns: for _ in rt.forever() {
+        let announced = waiter.announced();
+        let went = turn_once(shared, gate, events, &mut told, &mut trace);
+        if went == Went::On {
+            waiter.went_on();
+        } else if went == Went::Ended || went == Went::Idle && !stays {
+            return Worked {
+                trace,
+                ended: went == Went::Ended,
+            };
+        } else {
+            waiter.rest(rt, went, announced);
+        }
+    }
+    unreachable!()
+}
+
 // Turns a trace until it has ended.
 pub(crate) fn turn_to_end<S, T: Trace<S>, R: Wait, G: Gate>(
     rt: &R,
     shared: &S,
     gate: &G,
     events: &EventCount,
-    mut trace: T,
+    trace: T,
 ) -> T
     requires { T.shares shared.now trace }
     ensures here { T.shares shared.now result }
     ensures follows { T.follows trace result }
     ensures over { T.is_over result }
 {
-    let mut waiter = Waiter::new(events);
-    let mut told = 0;
-    'turns: for _ in rt.forever() {
-        let announced = waiter.announced();
-        match turn_once(shared, gate, events, &mut told, &mut trace) {
-            Went::On => waiter.went_on(),
-            Went::Nowhere => waiter.wait(rt, announced),
-            Went::Held => waiter.held(),
-            Went::Ended => return trace,
-        }
-    }
-    unreachable!()
+    turn_on(rt, shared, gate, events, true, trace).trace
 }

@@ -1,4 +1,5 @@
 //! How a thread waits that has nothing to do.
+use crate::trace::Went;
 use crossbeam_utils::Backoff;
 use crossbeam_utils::sync::{EventCount, Key};
 use std::sync::Wait;
@@ -44,6 +45,26 @@ impl<'a> Waiter<'a> {
                 self.backoff.spin();
                 self.spins = self.spins.saturating_add(1);
             }
+        }
+    }
+
+    // A turn came nowhere, or was held.
+    #[inline(never)]
+    pub(crate) fn rest<R: Wait>(&mut self, rt: &R, went: Went, announced: Option<Key<'_>>) {
+        if went == Went::Held {
+            self.held();
+        } else {
+            self.wait(rt, announced);
+        }
+    }
+
+    // A turn came so far.
+    #[inline(always)]
+    pub(crate) fn after<R: Wait>(&mut self, rt: &R, went: Went, announced: Option<Key<'_>>) {
+        if went == Went::On {
+            self.went_on();
+        } else {
+            self.rest(rt, went, announced);
         }
     }
 

@@ -130,7 +130,7 @@ returns-clause-goes_on c =
     let kept = c.keep_answer.ensures in
     let now = kept_run c.args.heap.now.config q z past last c.pass-past.new.progress c.pass-past.new.hints c.keep_answer.new.next c.queued.result c.keep_answer.new.due c.keep_answer.new.replies.items c.left_after-run-inside.result c.keep_answer.new.asked c.keep_answer.new.collected kept.next kept.replies c.left_after-run-inside.ensures kept.asked kept.collected kept.due c.queued.ensures in
     let past_is = after_answers c.args.decider c.args.heap.now q z last live c.pass-past.new.progress c.pass-past.new.hints past c.in-Some.is here c.pass-past.ensures.here given.0 hints waits rests in
-    subst (λ (p : RunView × RunView). GoesOn p.0 p.1) (λ i. (c.self.view_is i, sym now i)) (goes_behind r _ m.history m.begins (past_goes c.args.decider c.args.heap.now q _ past past_is))
+    subst (λ (p : RunView × RunView). GoesOn p.0 p.1) (λ i. (c.self.view_is i, sym now i)) (goes_behind r _ m.history m.begins (past_goes c.args.decider c.args.heap.now q _ past past_is is))
 
 pub returns-clause-room : goal.returns-clause-room
 returns-clause-room c =
