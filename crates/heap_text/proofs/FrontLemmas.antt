@@ -1,7 +1,10 @@
 -- What lies behind the front of a line.
-use Rattle.std.proofs.Common.{◌≡◌, ℕ, ◌+◌, ◌-◌, ◌<◌, ◌≤◌, zero, suc, pos, List, [], ◌∷◌, ◌++◌, map, length, get_or, drop, take, append_assoc, refl, ap, sym, ◌∙◌, arith, decimal}
-use Rattle.std.proofs.Math.Seq.{drop-nil, take-length}
+use Rattle.std.proofs.Common.{◌≡◌, ℕ, ◌+◌, ◌-◌, ◌*◌, ◌/◌, ◌%◌, ◌^◌, ◌<◌, ◌≤◌, zero, suc, ℤ, pos, negsuc, List, [], ◌∷◌, ◌++◌, map, length, get_or, drop, take, append_assoc, refl, ap, sym, ◌∙◌, arith, decimal, length-append, FitsSigned, w64}
+use Rattle.std.proofs.Math.Seq.{drop-nil, take-length, drop-append_seam}
+use Rattle.std.proofs.Math.Nat.{one-le-pow}
 use Rattle.std.proofs.lemmas.List.{length-drop}
+use Rattle.std.proofs.lemmas.Fmt.{decimal_by_steps, length-decimal-le, length_signed_le}
+use Rattle.std.specs.Fmt.{signed_decimal}
 use Rattle.heap_text.proofs.TextLemmas.{spaced}
 
 pub drop_on : (a b : ℕ) (xs : List ℕ) → drop (a + b) xs ≡ drop b (drop a xs)
@@ -36,3 +39,39 @@ number_at (n ∷ ns) zero h = refl
 number_at (n ∷ ns) (suc i) h =
     let same : suc (i + 1) ≡ suc i + 1 = omega arith in
     number_at ns i (omega arith) ∙ ap (λ k. get_or ns i 0 ∷ drop k (n ∷ ns)) same
+
+-- a number that isn't below a power of ten has a digit more than the power
+digits_above : (n : ℕ) → n < 2 ^ 64 → (k : ℕ) → 10 ^ k ≤ n → k < length (decimal n)
+digits_above = decimal_by_steps (λ m ds. (k : ℕ) → 10 ^ k ≤ m → k < length ds) one more
+  where
+    one : (m : ℕ) → m < 10 → (k : ℕ) → 10 ^ k ≤ m → k < 1
+    one m l zero a = omega arith
+    one m l (suc k) a = absurd (omega (arith, one-le-pow k 10 (omega arith)))
+
+    more : (m : ℕ) (ds : List ℕ) → 10 ≤ m → ((k : ℕ) → 10 ^ k ≤ m / 10 → k < length ds) → (k : ℕ) → 10 ^ k ≤ m → k < length (ds ++ ((48 + m % 10) ∷ []))
+    more m ds l h zero a = omega (arith, length-append ds ((48 + m % 10) ∷ []))
+    more m ds l h (suc k) a = omega (arith, length-append ds ((48 + m % 10) ∷ []), h k (omega arith))
+
+-- a number between two powers of ten has as many digits as the greater power
+pub count_of_digits : (n k : ℕ) → n < 2 ^ 64 → 10 ^ k ≤ n → n < 10 * 10 ^ k → k + 1 ≡ length (decimal n)
+count_of_digits n k small low high =
+    let least : k < length (decimal n) = digits_above n small k low in
+    let most : length (decimal n) ≤ suc k = length-decimal-le (suc k) n (omega arith) (omega arith) small in
+    omega arith
+
+-- what lies behind digits that were written up to a place
+pub behind_digits : (at from : ℕ) (ds old new : List ℕ) → from + length ds ≡ at + length ds → drop from new ≡ ds ++ drop (at + length ds) old → drop (at + length ds) new ≡ drop (at + length ds) old
+behind_digits at from ds old new place written =
+    let same : from ≡ at = omega arith in
+    drop_on at (length ds) new ∙ ap (λ k. drop (length ds) (drop k new)) (sym same) ∙ ap (drop (length ds)) written ∙ drop-append_seam ds (drop (at + length ds) old)
+
+-- how long the text of a number is at most
+pub short_number : (n : ℕ) → n < 2 ^ 32 → length (decimal n) ≤ 10
+short_number n small = length-decimal-le 10 n (omega arith) (omega arith) (omega arith)
+
+pub long_number : (n : ℕ) → n < 2 ^ 64 → length (decimal n) ≤ 20
+long_number n small = length-decimal-le 20 n (omega arith) (omega arith) small
+
+pub integer_number : (z : ℤ) → FitsSigned w64 z → length (signed_decimal z) ≤ 20
+integer_number (pos n) small = let fits = small.sfits in length_signed_le 19 (pos n) (omega arith) (omega arith)
+integer_number (negsuc n) small = let fits = small.sfits in length_signed_le 19 (negsuc n) (omega arith) (omega arith)

@@ -21,3 +21,4 @@ pub mod HeadingLemmas
 pub mod SpawnRows
 pub mod CommonLemmas
 pub mod DigitLemmas
+pub mod SoleLemmas

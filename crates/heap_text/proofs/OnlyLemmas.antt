@@ -73,7 +73,7 @@ decoded-script ver domains sections small w =
     ∙ decoded-sections ver domains 0 sections ([] ∷ []) (omega (arith, w.few_sections)) (decoded-end ver) w.writable
 
 -- two scripts with one spelling are one
-spelled_once : (ver : Version) (domains : ℕ) (a b : List (List Command)) → domains < 2 ^ 32 → IsWritten ver domains a → IsWritten ver domains b → spelling ver a ≡ spelling ver b → a ≡ b
+pub spelled_once : (ver : Version) (domains : ℕ) (a b : List (List Command)) → domains < 2 ^ 32 → IsWritten ver domains a → IsWritten ver domains b → spelling ver a ≡ spelling ver b → a ≡ b
 spelled_once ver domains a b small v w e =
     ap (λ (s : Sections). s.sections) (sym (decoded-script ver domains a small v) ∙ ap (λ x. decoded ver (slice_split (λ b. b == 10) x)) e ∙ decoded-script ver domains b small w)
 

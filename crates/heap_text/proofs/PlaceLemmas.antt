@@ -133,6 +133,14 @@ pub first_in_order : (p : Place) (sections : List (List Command)) → sections_f
 first_in_order p [] = refl
 first_in_order p (cs ∷ sections) = both_true (follow One (opened p) cs) _ (first_follow (opened p) cs) (first_in_order (fold called (opened p) cs) sections)
 
+second_follow : (p : Place) (cs : List Command) → follow Two p cs ≡ true
+second_follow p [] = refl
+second_follow p (c ∷ cs) = second_follow (called p c) cs
+
+pub second_in_order : (p : Place) (sections : List (List Command)) → sections_follow Two p sections ≡ true
+second_in_order p [] = refl
+second_in_order p (cs ∷ sections) = both_true (follow Two (opened p) cs) _ (second_follow (opened p) cs) (second_in_order (fold called (opened p) cs) sections)
+
 -- a command of a row that may stand anywhere
 stands_well : (p : Place) (w : Word) (zs : List ℤ) → stands_anywhere w ≡ true → may_follow Three p (made w zs) ≡ true
 stands_well p word.Spawn zs e = cc

@@ -7,3 +7,4 @@ pub mod Generated
 pub mod Faults
 pub mod Split
 pub mod Steps
+pub mod Sections

@@ -1,10 +1,14 @@
 //! The laws of scripts as text.
-ghost use Rattle.std.specs.Prelude.{◌≡◌, ◌≢◌, ◌⊎◌, ℕ, ◌≤◌, ◌<◌, ◌^◌, List, length, take, map, pos, Some};
+ghost use Rattle.std.specs.Prelude.{◌≡◌, ◌≢◌, ◌⊎◌, ℕ, ◌≤◌, ◌<◌, ◌^◌, List, length, take, map, pos, sum_by, Some};
 ghost use Rattle.heap_text.specs.declared.fault.ScriptFault as declared_fault;
 ghost use Rattle.heap_text.specs.declared.fault.ScriptFault.TheVariants.{Memory};
 ghost use Rattle.heap_text.specs.declared.version.Version.{Version};
 ghost use Rattle.heap_text.specs.Script.{Scripted};
-ghost use Rattle.heap_text.specs.Spelling.{spelling, Spells};
+ghost use Rattle.heap_model.specs.declared.command.Command.{Command};
+ghost use Rattle.heap_text.specs.declared.version.Version.TheVariants.{Three};
+ghost use Rattle.heap_text.specs.Forms.{version_number};
+ghost use Rattle.heap_text.specs.Sections.{AreSectionTexts, text_with};
+ghost use Rattle.heap_text.specs.Spelling.{spelling, with_empty, Spells};
 ghost use Rattle.heap_text.specs.Faults.{first_fault};
 
 /// A script that is printed gives its bytes again, up to the last section that is written, and no
@@ -22,4 +26,12 @@ pub fn spelled_or_faulty()
     ensures { (newest : Version) (domains : ℕ) (bytes : List ℕ) → domains < 2 ^ 32
         → ((script : Scripted) × Spells newest domains script bytes)
         ⊎ ((fault : declared_fault.ScriptFault) × (fault ≢ Memory) × (first_fault newest domains bytes ≡ Some fault)) }
+{}
+
+/// Sections that are each read alone make the script whose text they are behind their headings, unless its sections
+/// begin by spawns. It does nothing when it runs.
+pub fn sections_join()
+    ensures { (newest version : Version) (domains : ℕ) (texts : List (List ℕ)) (sections : List (List Command)) → version ≢ Three → version_number version ≤ version_number newest
+        → AreSectionTexts version domains texts sections → length sections ≤ domains → sum_by length sections ≤ 200000 → length (text_with version texts) ≤ 16777216
+        → Spells newest domains (record { version = version; sections = with_empty domains sections }) (text_with version texts) }
 {}

@@ -19,7 +19,7 @@ use heap_model::command::Command;
 use std::alloc::Global;
 
 // The greatest count of commands of a script.
-const MAX_COMMANDS: u32 = 200_000;
+pub(crate) const MAX_COMMANDS: u32 = 200_000;
 
 // The place of the first number outside the range of its operand, counted from 1.
 #[inline(always)]

@@ -5,7 +5,7 @@ ghost use Rattle.heap_text.specs.Spelling.{row_text, command_text, heading_text}
 ghost use Rattle.heap_text.specs.Forms.{form, parts};
 
 use crate::form::Word;
-use crate::front::{Line, end_line, put, put_number};
+use crate::front::{Line, end_line, put, put_integer, put_number};
 use crate::table::text_of;
 use heap_model::command::Command;
 use heap_model::label::Label;
@@ -24,12 +24,13 @@ pub fn print_reply(reply: &Reply, out: &mut Line) -> usize
 
 /// Puts the heading `domain d`, with its line feed, at the front of `out`, and answers its length.
 /// The rest of `out` stays as it was.
+#[tactic(auto, using(crate::proofs::FrontLemmas::short_number))]
 pub fn print_heading(domain: u32, out: &mut Line) -> usize
     ensures length { result ≡ length (line (heading_text domain)) }
     ensures fits { result ≤ 64 }
     ensures text { out.new ≡ line (heading_text domain) ++ drop result out.old }
 {
-    let end = put_number(out, 0, b"domain ", domain);
+    let end = put_number(out, 0, b"domain ", u64::from(domain));
     end_line(out, end)
 }
 
@@ -45,7 +46,7 @@ pub fn print_command(command: &Command, out: &mut Line) -> usize
 }
 
 // Puts a text, and behind it a label, behind the first `at` bytes, and answers where it ends.
-#[tactic(auto, using(crate::proofs::FrontLemmas::same_further))]
+#[tactic(auto, using(crate::proofs::FrontLemmas::same_further, crate::proofs::FrontLemmas::short_number))]
 fn put_label(out: &mut Line, at: usize, text: &[u8], label: Label) -> usize
     requires { at + length text.now ≤ 40 }
     ensures end { result ≤ at + length text.now + 21 }
@@ -53,11 +54,11 @@ fn put_label(out: &mut Line, at: usize, text: &[u8], label: Label) -> usize
     ensures front { take result out.new ≡ take at out.old ++ text.now ++ label_text label }
     ensures rest { drop result out.new ≡ drop result out.old }
 {
-    let at = put_number(out, at, text, label.domain);
-    put_number(out, at, b":", label.serial)
+    let at = put_number(out, at, text, u64::from(label.domain));
+    put_number(out, at, b":", u64::from(label.serial))
 }
 
-#[tactic(auto, using(crate::proofs::FrontLemmas::same_further))]
+#[tactic(auto, using(crate::proofs::FrontLemmas::same_further, crate::proofs::FrontLemmas::long_number))]
 fn put_live(out: &mut Line, blocks: u64, words: u64) -> usize
     ensures end { result ≤ 63 }
     ensures front { take result out.new ≡ reply_text (Reply.Live blocks words) }
@@ -67,18 +68,18 @@ fn put_live(out: &mut Line, blocks: u64, words: u64) -> usize
     put_number(out, at, b" ", words)
 }
 
-#[tactic(auto, using(crate::proofs::FrontLemmas::same_further))]
+#[tactic(auto, using(crate::proofs::FrontLemmas::same_further, crate::proofs::FrontLemmas::short_number))]
 fn put_fin(out: &mut Line, number: u32, label: Label) -> usize
     ensures end { result ≤ 63 }
     ensures front { take result out.new ≡ reply_text (Reply.Fin number label) }
     ensures rest { drop result out.new ≡ drop result out.old }
 {
-    let at = put_number(out, 0, b"fin ", number);
+    let at = put_number(out, 0, b"fin ", u64::from(number));
     put_label(out, at, b" ", label)
 }
 
 // Puts the text of a reply at the front of the line, and answers where it ends. What lies behind it stays as it was.
-#[tactic(auto, using(crate::proofs::FrontLemmas::same_further))]
+#[tactic(auto, using(crate::proofs::FrontLemmas::same_further, crate::proofs::FrontLemmas::short_number, crate::proofs::FrontLemmas::integer_number))]
 fn put_reply(out: &mut Line, reply: &Reply) -> usize
     ensures end { result ≤ 63 }
     ensures front { take result out.new ≡ reply_text reply.now }
@@ -86,7 +87,7 @@ fn put_reply(out: &mut Line, reply: &Reply) -> usize
 {
     match *reply {
         Reply::Done => put(out, 0, b"ok"),
-        Reply::Int(value) => put_number(out, 0, b"int ", value),
+        Reply::Int(value) => put_integer(out, 0, b"int ", value),
         Reply::Block(label) => put_label(out, 0, b"blk ", label),
         Reply::BadType => put(out, 0, b"type"),
         Reply::BadIndex => put(out, 0, b"bounds"),
@@ -96,7 +97,7 @@ fn put_reply(out: &mut Line, reply: &Reply) -> usize
         Reply::Full => put(out, 0, b"full"),
         Reply::Live { blocks, words } => put_live(out, blocks, words),
         Reply::Fin { number, label } => put_fin(out, number, label),
-        Reply::Last { number } => put_number(out, 0, b"last ", number),
+        Reply::Last { number } => put_number(out, 0, b"last ", u64::from(number)),
     }
 }
 
@@ -109,7 +110,7 @@ fn put_row(out: &mut Line, word: Word, numbers: &[u32]) -> usize
 {
     let mut at = put(out, 0, text_of(word));
     for number in numbers {
-        at = put_number(out, at, b" ", *number);
+        at = put_number(out, at, b" ", u64::from(*number));
     }
     at
 }
@@ -192,7 +193,7 @@ fn row_of(command: &Command) -> Row
 }
 
 // Puts the text of a command at the front of the line, and answers where it ends. What lies behind it stays as it was.
-#[tactic(auto, using(crate::proofs::FrontLemmas::same_further))]
+#[tactic(auto, using(crate::proofs::FrontLemmas::same_further, crate::proofs::FrontLemmas::integer_number))]
 fn put_command(out: &mut Line, command: &Command) -> usize
     ensures end { result ≤ 63 }
     ensures front { take result out.new ≡ command_text command.now }
@@ -201,7 +202,7 @@ fn put_command(out: &mut Line, command: &Command) -> usize
     let row = row_of(command);
     let end = put_row(out, row.word, &row.numbers[..row.count]);
     match row.integer {
-        Some(value) => put_number(out, end, b" ", value),
+        Some(value) => put_integer(out, end, b" ", value),
         None => end,
     }
 }

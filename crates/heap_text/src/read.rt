@@ -1,11 +1,13 @@
 //! Reading a script.
-ghost use Rattle.std.specs.Prelude.{◌≡◌, ◌≤◌, ◌<◌, ◌^◌, ◌++◌, ◌∷◌, [], ◌==◌, length, Some, Ok, Err, IfOk, IfErr};
+ghost use Rattle.std.specs.Prelude.{◌≡◌, ◌≤◌, ◌<◌, ◌^◌, ◌+◌, ◌++◌, ◌∷◌, [], ◌==◌, ℕ, List, length, Some, Ok, Err, IfOk, IfErr};
 ghost use Rattle.std.specs.List.{slice_split};
 ghost use Rattle.heap_model.specs.Output.{line as line_text};
 ghost use Rattle.heap_text.specs.declared.fault.ScriptFault as declared_fault;
 ghost use Rattle.heap_text.specs.Forms.{first_line};
 ghost use Rattle.heap_text.specs.Script.{Scripted};
-ghost use Rattle.heap_text.specs.Spelling.{spelling, with_empty, Spells, IsUnlessMemory, IsWritten};
+ghost use Rattle.heap_text.specs.Spelling.{script_lines, spelling, with_empty, Spells, IsUnlessMemory, IsWritten};
+ghost use Rattle.heap_text.specs.Spawning.{place_in};
+ghost use Rattle.heap_text.specs.Steps.{Knows};
 ghost use Rattle.heap_text.specs.Faults.{fault_from, first_fault, version_of as version_of_line, read_version as read_version_of, IsFaultUnlessMemory};
 
 use crate::fault::ScriptFault;
@@ -20,20 +22,29 @@ use std::alloc::Global;
 /// The greatest count of bytes of a script.
 const MAX_BYTES: usize = 16_777_216;
 
-// The sections that stand behind the first line.
+// Reads on behind sections that were read, the next line of which has this number.
 #[inline(never)]
-fn read_sections(alloc: Global, grammar: &Grammar, behind: &[u8]) -> Result<Script, ScriptFault>
+pub(crate) fn read_on(
+    alloc: Global,
+    grammar: &Grammar,
+    mut script: Script,
+    mut spawns: Spawns,
+    mut line: u32,
+    behind: &[u8],
+) -> Result<Script, ScriptFault>
     requires few { length behind.now ≤ 16777216 }
     requires domains { grammar.now.domains < 2 ^ 32 }
+    requires version { script.version ≡ grammar.now.version }
+    requires written { IsWritten grammar.now.version grammar.now.domains script.sections }
+    requires number { line ≡ length (script_lines grammar.now.version script.sections) + 1 }
+    requires near { line ≤ 3 }
+    requires knows { Knows spawns.named spawns.own (place_in script.sections) }
     ensures version { IfOk result (λ s. s.version ≡ grammar.now.version) }
     ensures written { IfOk result (λ s. IsWritten grammar.now.version grammar.now.domains s.sections) }
-    ensures found { IfOk result (λ s. line_text (first_line grammar.now.version) ++ behind.now ≡ spelling grammar.now.version s.sections) }
-    ensures fault { IfErr result (λ e. IsFaultUnlessMemory e
-        (fault_from grammar.now.version grammar.now.domains (first_line grammar.now.version ∷ []) (slice_split (λ b. b == 10) behind.now))) }
+    ensures found { IfOk result (λ s. spelling grammar.now.version script.sections ++ behind.now ≡ spelling grammar.now.version s.sections) }
+    ensures fault { (whole : List ℕ) → line_text (first_line grammar.now.version) ++ whole ≡ spelling grammar.now.version script.sections ++ behind.now
+        → IfErr result (λ e. IsFaultUnlessMemory e (fault_from grammar.now.version grammar.now.domains (first_line grammar.now.version ∷ []) (slice_split (λ b. b == 10) whole))) }
 {
-    let mut script = Script::new(alloc, grammar.version());
-    let mut spawns = Spawns::new();
-    let mut line: u32 = 2;
     let mut at = 0;
     'lines: while at < behind.len() {
         match take_line(alloc, grammar, line, &mut script, &mut spawns, behind, at) {
@@ -45,8 +56,26 @@ fn read_sections(alloc: Global, grammar: &Grammar, behind: &[u8]) -> Result<Scri
     Ok(script)
 }
 
+// The sections that stand behind the first line.
+fn read_sections(alloc: Global, grammar: &Grammar, behind: &[u8]) -> Result<Script, ScriptFault>
+    requires few { length behind.now ≤ 16777216 }
+    requires domains { grammar.now.domains < 2 ^ 32 }
+    ensures version { IfOk result (λ s. s.version ≡ grammar.now.version) }
+    ensures written { IfOk result (λ s. IsWritten grammar.now.version grammar.now.domains s.sections) }
+    ensures found { IfOk result (λ s. line_text (first_line grammar.now.version) ++ behind.now ≡ spelling grammar.now.version s.sections) }
+    ensures fault { IfErr result (λ e. IsFaultUnlessMemory e
+        (fault_from grammar.now.version grammar.now.domains (first_line grammar.now.version ∷ []) (slice_split (λ b. b == 10) behind.now))) }
+{
+    let script = Script::new(alloc, grammar.version());
+    read_on(alloc, grammar, script, Spawns::new(), 2, behind)
+}
+
 // A script with an empty section for each further domain.
-fn with_all_sections(alloc: Global, domains: u32, mut script: Script) -> Result<Script, ScriptFault>
+pub(crate) fn with_all_sections(
+    alloc: Global,
+    domains: u32,
+    mut script: Script,
+) -> Result<Script, ScriptFault>
     ensures ok { IfOk result (λ s. s ≡ record script { sections = with_empty domains script.sections }) }
     ensures err { IfErr result (λ e. e ≡ ScriptFault.Memory) }
 {

@@ -1,5 +1,5 @@
 //! Scripts: a version, and a list of commands for each domain.
-ghost use Rattle.std.specs.Prelude.{◌≡◌, ◌≤◌, ◌<◌, ◌+◌, ◌++◌, ◌∷◌, [], length, map, slice_index_or, sum_by, IfOk, OnOk};
+ghost use Rattle.std.specs.Prelude.{◌≡◌, ◌≢◌, ◌≤◌, ◌<◌, ◌+◌, ◌++◌, ◌∷◌, [], length, map, slice_index_or, sum_by, IfSome, IfNone, IfOk, OnOk};
 ghost use Rattle.heap_text.specs.Forms.{version_number};
 ghost use Rattle.std.specs.List.{list_any};
 ghost use Rattle.heap_text.specs.Script.{with_command};
@@ -79,6 +79,19 @@ impl Script {
         ensures { map (λ v. v.items) result.items ≡ self.sections }
     {
         self.sections
+    }
+
+    // The commands of the only section, if there is just one.
+    pub(crate) fn into_only_section(self) -> Option<Vec<Command>>
+        ensures one { IfSome result (λ v. self.sections ≡ v.items ∷ []) }
+        ensures others { IfNone result (length self.sections ≢ 1) }
+    {
+        let mut sections = self.sections;
+        if sections.len() == 1 {
+            sections.pop()
+        } else {
+            None
+        }
     }
 
     // A script with no section.

@@ -27,8 +27,8 @@ impl Version {
         }
     }
 
-    // The first line of a script of the version, without its line feed.
-    pub(crate) fn first_line(self) -> &'static [u8]
+    /// The first line of a script of the version, without its line feed.
+    pub fn first_line(self) -> &'static [u8]
         ensures { result.now ≡ first_line self }
     {
         match self {

@@ -2,12 +2,12 @@ use Rattle.std.proofs.Common.{arith, ◌∙◌, ap, drop, length, length-append,
 use Rattle.std.proofs.lemmas.List.{length-drop}
 use Rattle.heap_text.specs.Spelling.{script_lines}
 use Rattle.heap_text.proofs.ReadLemmas.{said_taken, said_fault}
-use Rattle.heap_text.proofs.read.read_sections.Goals as goal
+use Rattle.heap_text.proofs.read.read_on.Goals as goal
 
 pub returns-in-Err-clause-fault : goal.returns-in-Err-clause-fault
-returns-in-Err-clause-fault c =
+returns-in-Err-clause-fault c = λ whole said.
     let i = c.lines.invariant in
-    said_fault c.args.grammar.now.version c.args.grammar.now.domains c.lines.line c.lines.script.sections c.args.behind.now (drop c.lines.at c.args.behind.now) c.in-Err.fault c.requires.domains i.is_written i.spelled i.number
+    said_fault c.args.grammar.now.version c.args.grammar.now.domains c.lines.line c.lines.script.sections whole (drop c.lines.at c.args.behind.now) c.in-Err.fault c.requires.domains i.is_written (said ∙ i.spelled) i.number
     (omega (arith, length-drop c.lines.at c.args.behind.now, c.lines-test.true)) c.in-Err.ensures.fault
 
 pub lines-preserved : goal.lines-preserved

@@ -1,20 +1,18 @@
 use Rattle.std.proofs.Common.{◌≡◌, ◌≤◌, ◌+◌, ◌-◌, ◌++◌, length, drop}
-use Rattle.heap_model.specs.Output.{line}
-use Rattle.heap_text.specs.Forms.{first_line}
 use Rattle.heap_text.specs.Spelling.{spelling, script_lines, IsWritten}
 use Rattle.heap_text.specs.Spawning.{place_in}
 use Rattle.heap_text.specs.Steps.{Knows}
-use Rattle.heap_text.proofs.read.read_sections.Given as goal
+use Rattle.heap_text.proofs.read.read_on.Given as goal
 
 -- what was read is spelled as the script so far
 abbrev pub invariant-lines : goal.invariant-lines
 invariant-lines l = record {
   version : l.script.version ≡ l.grammar.version;
-  spelled : line (first_line l.grammar.version) ++ l.behind ≡ spelling l.grammar.version l.script.sections ++ drop l.at l.behind;
+  spelled : spelling l.grammar.version l.fn.script.sections ++ l.behind ≡ spelling l.grammar.version l.script.sections ++ drop l.at l.behind;
   is_written : IsWritten l.grammar.version l.grammar.domains l.script.sections;
   number : l.line ≡ length (script_lines l.grammar.version l.script.sections) + 1;
   knows : Knows l.spawns.named l.spawns.own (place_in l.script.sections);
-  few : l.line ≤ 2 + l.at;
+  few : l.line ≤ 3 + l.at;
   inside : l.at ≤ length l.behind;
 }
 
