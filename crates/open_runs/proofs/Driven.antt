@@ -20,6 +20,7 @@ use Rattle.domain_turns.specs.Tries.{registrations_of}
 use Rattle.domain_turns.proofs.Turning.{apart_few}
 use Rattle.heap_rule.specs.declared.config.Config.{Config}
 use Rattle.steps_finalisers.specs.Registering.{count_of}
+use Rattle.domain_turns.specs.Driving.{goes_nowhere}
 use Rattle.open_runs.specs.Driving.{AwaitAnswers, Awaits}
 use Rattle.command_counts.specs.Counts.{ephemerons_given, labels_given}
 use Rattle.heap_rule.specs.declared.view.DomainView.{DomainView}
@@ -29,7 +30,7 @@ pub still_stretches : (z : Sizes) (r : RunView) → Stretches z r r
 still_stretches z r = ByOthers (record { next = refl; replies = refl; ran = refl; ended = refl; front = front_whole r.token.view.own.number r.token.view.seen.front; listed = refl; takes = takes_none r.token.view r.token.view refl refl })
 
 pub still_goes : (r : RunView) → GoesOn r r
-still_goes r = record { commands = refl; supply = refl; spawned = refl; number = refl; front = record { rest = []; appends = sym (append-nil r.token.view.seen.front) } }
+still_goes r = goes_nowhere r
 
 pub open_handed : (s : Supply) → s ≡ Open → IsHandedIn s
 open_handed s is = subst IsHandedIn (sym is) tt

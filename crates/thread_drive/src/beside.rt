@@ -4,6 +4,7 @@ ghost use Rattle.thread_drive.specs.Driven.{AllAre};
 ghost use Rattle.thread_drive.specs.Placing.{AllBegan, Began, Stands};
 
 use crate::place::Place;
+use crate::signals::Signals;
 use crate::trace::{Trace, Went};
 use crate::turning::{Worked, turn_once};
 use crate::waiting::Waiter;
@@ -11,7 +12,7 @@ use crossbeam_utils::sync::EventCount;
 use outer_io::Gate;
 use std::mem;
 use std::sync::Wait;
-use std::sync::atomic::{AtomicU32, Ordering};
+use std::sync::atomic::Ordering;
 use std::thread::Threads;
 
 // How far two came of which each came so far.
@@ -155,13 +156,8 @@ fn take_back<S, T: Trace<S> + Drop, R: Threads>(
     }
     match mem::replace(place, Place::Empty) {
         Place::Away(child) => {
-            let Worked { trace, ended } = child.join(rt);
-            let went = if ended { Went::Ended } else { Went::Idle };
-            *place = Place::Here {
-                trace,
-                told: 0,
-                went,
-            };
+            let Worked { trace, told, went } = child.join(rt);
+            *place = Place::Here { trace, told, went };
             true
         }
         other => {
@@ -192,14 +188,32 @@ fn take_all_back<S, T: Trace<S> + Drop, R: Threads>(
     some
 }
 
+// Whether the caller turns all traces but one, and none of these is busy.
+fn lacks_one<S, T: Trace<S>>(places: &[Place<S, T>]) -> bool {
+    let mut away: usize = 0;
+    'places: for place in places {
+        if place.is_away() {
+            away = away.saturating_add(1);
+        }
+    }
+    away == 1 && count_busy(places) == 0
+}
+
+// Calls for the last trace that the caller lacks, once all that it has are idle: where it has that one too no thread waits for another.
+fn call_back<S, T: Trace<S>>(signals: &Signals, places: &[Place<S, T>]) {
+    if signals.called.load(Ordering::SeqCst) == 0 && lacks_one(places) {
+        signals.called.store(1, Ordering::SeqCst);
+        signals.events.notify_all();
+    }
+}
+
 // The same, and where nothing went on the caller takes those traces back whose threads are about to return. Where it took one this
 // counts as if a trace had gone on.
 fn turn_and_take<S, T: Trace<S> + Drop, R: Threads + Wait, G: Gate>(
     rt: &R,
     shared: &S,
     gate: &G,
-    events: &EventCount,
-    returned: &AtomicU32,
+    signals: &Signals,
     waiter: &mut Waiter<'_>,
     places: &mut [Place<S, T>],
 ) -> Went
@@ -207,13 +221,17 @@ fn turn_and_take<S, T: Trace<S> + Drop, R: Threads + Wait, G: Gate>(
     ensures stand { AllAre (Stands T.shares T.is_over shared.now) places.new }
     ensures began { AllBegan T.follows places.old places.new }
 {
-    let went = turn_here(rt, shared, gate, events, waiter, places);
+    let went = turn_here(rt, shared, gate, &signals.events, waiter, places);
     if matches!(went, Went::On | Went::Ended) {
         return went;
     }
-    let bits = returned.load(Ordering::SeqCst);
+    let bits = signals.returned.load(Ordering::SeqCst);
     let taken = take_all_back(rt, shared, bits, places);
-    if taken { Went::On } else { went }
+    if taken {
+        return Went::On;
+    }
+    call_back(signals, places);
+    went
 }
 
 // Turns the traces that the caller has, among them those that threads give back, until they have ended. Then all have, and the
@@ -222,18 +240,17 @@ pub(crate) fn turn_beside<S, T: Trace<S> + Drop, R: Threads + Wait, G: Gate>(
     rt: &R,
     shared: &S,
     gate: &G,
-    events: &EventCount,
-    returned: &AtomicU32,
+    signals: &Signals,
     places: &mut [Place<S, T>],
 )
     requires { AllAre (Stands T.shares T.is_over shared.now) places.old }
     ensures stand { AllAre (Stands T.shares T.is_over shared.now) places.new }
     ensures began { AllBegan T.follows places.old places.new }
 {
-    let mut waiter = Waiter::new(events);
+    let mut waiter = Waiter::new(&signals.events);
     'turns: for _ in rt.forever() {
         let announced = waiter.announced();
-        let went = turn_and_take(rt, shared, gate, events, returned, &mut waiter, places);
+        let went = turn_and_take(rt, shared, gate, signals, &mut waiter, places);
         if went == Went::Ended {
             return;
         }

@@ -7,29 +7,19 @@ use crate::alone::drive_alone;
 use crate::beside::turn_beside;
 use crate::place::{Place, SameTrace};
 use crate::rotation::{MOST_TRACES, rotate};
+use crate::signals::Signals;
 use crate::trace::{Trace, Went};
 use crate::turning::{Worked, turn_on, turn_to_end};
 use crossbeam_utils::sync::EventCount;
 use outer_io::Gate;
 use std::snapshot::Snapshot;
 use std::sync::Wait;
-use std::sync::atomic::{AtomicU32, Ordering};
+use std::sync::atomic::Ordering;
 use std::thread::{Scope, Threads};
 use std::{mem, thread};
 
 // Larger traces have no places on a thread's stack.
 const MOST_SIZE: usize = 1 << 16;
-
-// What the threads of some traces and the caller tell one another.
-#[derive(Drop)]
-struct Signals {
-    // Turns that went on without a command, and threads that returned.
-    events: EventCount,
-    // The bit of the place whose thread was refused, while its trace is taken back.
-    refused: AtomicU32,
-    // The bits of the places whose threads are about to return.
-    returned: AtomicU32,
-}
 
 // What a thread does. The caller does it too where the thread was refused, once it has put the bit of its place into `refused`.
 fn work<S, T: Trace<S>, R: Wait, G: Gate>(
@@ -43,15 +33,24 @@ fn work<S, T: Trace<S>, R: Wait, G: Gate>(
     requires { T.shares shared.now trace }
     ensures here { T.shares shared.now result.trace }
     ensures follows { T.follows trace result.trace }
-    ensures over { result.ended ≡ true → T.is_over result.trace }
+    ensures over { result.went ≡ Went.Ended → T.is_over result.trace }
 {
     if signals.refused.load(Ordering::SeqCst) == bit {
         return Worked {
             trace,
-            ended: false,
+            told: 0,
+            went: Went::On,
         };
     }
-    let worked = turn_on(rt, shared, gate, &signals.events, false, trace);
+    let worked = turn_on(
+        rt,
+        shared,
+        gate,
+        &signals.events,
+        false,
+        &signals.called,
+        trace,
+    );
     signals.returned.fetch_or(bit, Ordering::SeqCst);
     signals.events.notify_all();
     worked
@@ -83,11 +82,8 @@ fn start<'s, E, S: Sync, T: Trace<S> + Send + Drop + 's, R: Threads + Wait + Syn
             signals.refused.store(bit, Ordering::SeqCst);
             let back = (error.value)();
             signals.refused.store(0, Ordering::SeqCst);
-            Place::Here {
-                trace: back.trace,
-                told: 0,
-                went: Went::On,
-            }
+            let Worked { trace, told, went } = back;
+            Place::Here { trace, told, went }
         }
     }
 }
@@ -187,14 +183,14 @@ fn ended_work<S, T: Trace<S>, R: Wait, G: Gate>(
     events: &EventCount,
     worked: Worked<T>,
 ) -> T
-    requires over { worked.ended ≡ true → T.is_over worked.trace }
+    requires over { worked.went ≡ Went.Ended → T.is_over worked.trace }
     requires here { T.shares shared.now worked.trace }
     ensures here { T.shares shared.now result }
     ensures follows { T.follows worked.trace result }
     ensures over { T.is_over result }
 {
-    let Worked { trace, ended } = worked;
-    if ended {
+    let Worked { trace, went, .. } = worked;
+    if went == Went::Ended {
         trace
     } else {
         turn_to_end(rt, shared, gate, events, trace)
@@ -216,10 +212,7 @@ fn ended_trace<S, T: Trace<S> + Drop, R: Threads + Wait, G: Gate>(
     ensures follows { (began : T) → Began T.follows began place → T.follows began result }
 {
     let worked = match place {
-        Place::Here { trace, went, .. } => Worked {
-            trace,
-            ended: went == Went::Ended,
-        },
+        Place::Here { trace, told, went } => Worked { trace, told, went },
         Place::Away(child) => child.join(rt),
         Place::Empty => unreachable!(),
     };
@@ -290,20 +283,25 @@ fn drive_each<
         Place::Empty,
         Place::Empty,
     ];
-    let Signals {
-        events,
-        returned,
-        ..
-    } = signals;
     place_all(scope, rt, shared, gate, signals, traces, &mut places);
-    turn_beside(rt, shared, gate, events, returned, &mut places);
-    take_ended(rt, shared, gate, events, &mut places, count, traces);
+    turn_beside(rt, shared, gate, signals, &mut places);
+    take_ended(
+        rt,
+        shared,
+        gate,
+        &signals.events,
+        &mut places,
+        count,
+        traces,
+    );
 }
 
 /// Turns each trace until it has ended: the first in this thread, and each other one in a thread of its own, or in
-/// this one in rotation where its thread is refused. They come back in their order. No memory is taken. A thread
-/// whose traces wait for others spins for some microseconds and then sleeps until another trace goes on without a
-/// command. Where a trace never ends this call waits without end.
+/// this one where its thread is refused. They come back in their order. No memory is taken. A trace that is
+/// idle comes back to this thread, and so does the last one that isn't where it waits: this thread turns what it has
+/// in rotation, and idle traces only where no other one goes on. More than eight traces are all turned in this
+/// thread. A thread whose traces wait for others spins for some microseconds and then sleeps until another trace goes
+/// on without a command. Where a trace never ends this call waits without end.
 ///
 /// The gate is called with a trace's number and the index of a command before the command's first turn, and once
 /// its reply is kept.
@@ -321,11 +319,7 @@ pub fn drive<S: Sync, T: Trace<S> + Send + Drop, R: Threads + Wait + Sync, G: Ga
     if count < 2 || MOST_TRACES < count {
         return drive_alone(rt, shared, traces, gate);
     }
-    let signals = Signals {
-        events: EventCount::new(),
-        refused: AtomicU32::new(0),
-        returned: AtomicU32::new(0),
-    };
+    let signals = Signals::new();
     let told = &signals;
     thread::scope(
         thread::scope_env(),

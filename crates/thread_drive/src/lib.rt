@@ -6,6 +6,7 @@ mod beside;
 mod driving;
 mod place;
 mod rotation;
+mod signals;
 mod taking;
 mod trace;
 mod turning;

@@ -1,5 +1,6 @@
 //! Where a trace is, of those that the caller and some threads turn.
-ghost use Rattle.std.specs.Prelude.{◌≡◌, true};
+ghost use Rattle.std.specs.Prelude.{◌≡◌};
+ghost use Rattle.thread_drive.specs.declared.trace.Went.TheVariants.{Ended};
 
 use crate::trace::{Trace, Went};
 use crate::turning::Worked;
@@ -14,7 +15,7 @@ pub(crate) struct SameTrace<S, T> {
 }
 
 impl<S, T: Trace<S>> Promise<Worked<T>> for SameTrace<S, T> {
-    ghost kept_by = { λ p r. T.shares p.shared.value r.trace × T.follows p.trace.value r.trace × (r.ended ≡ true → T.is_over r.trace) };
+    ghost kept_by = { λ p r. T.shares p.shared.value r.trace × T.follows p.trace.value r.trace × (r.went ≡ Ended → T.is_over r.trace) };
 }
 
 // Where a trace is.
@@ -24,7 +25,7 @@ pub(crate) enum Place<S, T: Trace<S>> {
     Empty,
     // The caller turns it: the gate was told of its commands below `told`, and its last turn came so far.
     Here { trace: T, told: u32, went: Went },
-    // A thread turns it.
+    // A thread turns it, or has given it back.
     Away(PromisedHandle<Worked<T>, SameTrace<S, T>>),
 }
 

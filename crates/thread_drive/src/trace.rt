@@ -11,7 +11,8 @@ pub enum Went {
     /// It waits for a command of another trace. Nobody tells of a command, so it is turned again soon, and
     /// its thread doesn't sleep meanwhile.
     Held,
-    /// Its commands are over, and it waits for those of other traces: whoever waits may turn it.
+    /// Its commands are over, and it waits for those of other traces: whoever waits may turn it. It gets no
+    /// command any more.
     Idle,
     /// The trace has ended.
     Ended,

@@ -6,6 +6,7 @@ use crate::waiting::Waiter;
 use crossbeam_utils::sync::EventCount;
 use outer_io::Gate;
 use std::sync::Wait;
+use std::sync::atomic::{AtomicU32, Ordering};
 
 // Tells the gate of the next command, if one is left that it wasn't told of: it was told of those before `told`.
 #[inline(always)]
@@ -45,27 +46,42 @@ pub(crate) fn turn_once<S, T: Trace<S>, G: Gate>(
     went
 }
 
-// What turns of a trace came to: the trace, and whether it has ended.
+// What turns of a trace came to: the trace, the index below which the gate was told of its commands, and how far the last turn came.
 #[derive(Drop)]
 pub(crate) struct Worked<T> {
     pub(crate) trace: T,
-    pub(crate) ended: bool,
+    pub(crate) told: u32,
+    pub(crate) went: Went,
 }
 
-// Turns a trace until it has ended, or, unless it stays here, until its commands are over and it waits for those of others.
+// Whether the turns of a trace end here that didn't go on: where it has ended, or, unless it stays, where it is idle or the caller calls
+// for it.
+#[inline(never)]
+fn is_done(stays: bool, called: &AtomicU32, went: Went) -> bool
+    ensures { stays ≡ true → result ≡ true → went ≡ Went.Ended }
+{
+    match went {
+        Went::Ended => true,
+        Went::Idle => !stays,
+        Went::On | Went::Nowhere | Went::Held => !stays && called.load(Ordering::SeqCst) != 0,
+    }
+}
+
+// Turns a trace until it has ended, or, unless it stays, until it is given back.
 pub(crate) fn turn_on<S, T: Trace<S>, R: Wait, G: Gate>(
     rt: &R,
     shared: &S,
     gate: &G,
     events: &EventCount,
     stays: bool,
+    called: &AtomicU32,
     mut trace: T,
 ) -> Worked<T>
     requires { T.shares shared.now trace }
     ensures here { T.shares shared.now result.trace }
     ensures follows { T.follows trace result.trace }
-    ensures over { result.ended ≡ true → T.is_over result.trace }
-    ensures stays { stays ≡ true → result.ended ≡ true }
+    ensures over { result.went ≡ Went.Ended → T.is_over result.trace }
+    ensures stays { stays ≡ true → result.went ≡ Went.Ended }
 {
     let mut waiter = Waiter::new(events);
     let mut told = 0;
@@ -74,11 +90,8 @@ pub(crate) fn turn_on<S, T: Trace<S>, R: Wait, G: Gate>(
         let went = turn_once(shared, gate, events, &mut told, &mut trace);
         if went == Went::On {
             waiter.went_on();
-        } else if went == Went::Ended || went == Went::Idle && !stays {
-            return Worked {
-                trace,
-                ended: went == Went::Ended,
-            };
+        } else if is_done(stays, called, went) {
+            return Worked { trace, told, went };
         } else {
             waiter.rest(rt, went, announced);
         }
@@ -99,5 +112,6 @@ pub(crate) fn turn_to_end<S, T: Trace<S>, R: Wait, G: Gate>(
     ensures follows { T.follows trace result }
     ensures over { T.is_over result }
 {
-    turn_on(rt, shared, gate, events, true, trace).trace
+    let uncalled = AtomicU32::new(0);
+    turn_on(rt, shared, gate, events, true, &uncalled, trace).trace
 }
