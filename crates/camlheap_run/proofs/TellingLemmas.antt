@@ -1,13 +1,19 @@
 -- Tellers that were driven to their ends, and the runs in them.
 use Rattle.std.proofs.Common.{◌≡◌, ℕ, zero, suc, List, [], ◌∷◌, ◌++◌, length, map, get_or, ◌<◌, refl, true, sym, ap, ◌∙◌, subst, Some}
 use Rattle.std.proofs.lemmas.Option.{slice_get-get_or, slice_get_within}
-use Rattle.std.specs.Prelude.{flat_map, slice_get}
+use Rattle.std.specs.Prelude.{flat_map, slice_get, codes, decimal}
 use Rattle.std.specs.List.{AllByRecursion}
+use Rattle.heap_model.specs.declared.reply.Reply.{Reply}
+use Rattle.heap_model.specs.Output.{line, printed, ints_of, int_sum}
+use Rattle.heap_text.specs.Spelling.{heading_text}
 use Rattle.domain_turns.specs.Runs.{RunView, GoesOn}
 use Rattle.heap_rule.specs.Token.{SharedHeap, IsIn}
 use Rattle.camlheap_run.specs.declared.report.Report.{Report}
+use Rattle.camlheap_run.specs.declared.report.Report.TheVariants.{Replies, Summary}
+use Rattle.camlheap_run.specs.declared.text.Text.{Text}
 use Rattle.camlheap_run.specs.declared.telling.Teller.{Teller}
 use Rattle.camlheap_run.specs.declared.telling.Telling.{Telling}
+use Rattle.camlheap_run.specs.declared.telling.Telling.TheVariants.{Later, Told, Untold}
 use Rattle.camlheap_run.specs.Running.{AreDriven}
 use Rattle.camlheap_run.specs.Telling.{AreTellersDriven, IsBlank, IsTeller, Tells, run_of, teller_text}
 use Rattle.camlheap_run.specs.Writing.{run_text}
@@ -83,3 +89,30 @@ texts_told h report old new blank driven = texts_of report new (reports_kept h r
 pub all_pushed : {A : Type 0} (P : A → Type 0) (xs : List A) (x : A) → AllByRecursion P xs → P x → AllByRecursion P (xs ++ x ∷ [])
 all_pushed P [] x all more = (more, tt)
 all_pushed P (y ∷ xs) x all more = (all.0, all_pushed P xs x all.1 more)
+
+abbrev summary_line : ℕ → ℕ → List Reply → List ℕ
+summary_line number next said =
+    line (codes "domain " ++ decimal number ++ codes " commands " ++ decimal next
+    ++ codes " ints " ++ decimal (length (flat_map ints_of said)) ++ codes " sum " ++ decimal (int_sum (flat_map ints_of said)))
+
+-- what a report has of a run whose trace has ended stays as it is
+kept_text : (report : Report) (old new : RunView) → GoesOn old new → old.ended ≡ true → run_text report new ≡ run_text report old
+kept_text Replies old new g ended =
+    ap (λ (n : ℕ). line (heading_text n) ++ printed new.replies) g.number
+    ∙ ap (λ (said : List Reply). line (heading_text old.token.view.own.number) ++ printed said) (g.over ended).replies
+kept_text Summary old new g ended =
+    ap (λ (n : ℕ). summary_line n new.next new.replies) g.number
+    ∙ ap (λ (n : ℕ). summary_line old.token.view.own.number n new.replies) (g.over ended).next
+    ∙ ap (λ (said : List Reply). summary_line old.token.view.own.number old.next said) (g.over ended).replies
+
+-- a teller whose run has gone on tells what it told before
+pub tells_still : (old new : Teller) → IsTeller old → GoesOn old.run new.run → new.report ≡ old.report → new.text ≡ old.text → new.telling ≡ old.telling → IsTeller new
+tells_still old new is g report text telling = subst (λ (x : Telling). Tells x new) (sym telling) (by_telling old.telling is)
+  where
+    by_telling : (x : Telling) → Tells x old → Tells x new
+    by_telling Later is = ap (λ (t : Text). t.bytes.items) text ∙ is
+    by_telling Told is = (
+      (g.over is.0).ended,
+      ap (λ (t : Text). t.bytes.items) text ∙ is.1 ∙ sym (kept_text old.report old.run new.run g is.0) ∙ ap (λ (r : Report). run_text r new.run) (sym report),
+    )
+    by_telling Untold is = (g.over is).ended

@@ -38,7 +38,7 @@ fn put_line(page: &mut Page, at: usize, reply: &Reply) -> usize
 }
 
 // Puts the lines of replies at the front of the page, in order, and answers where they end.
-#[inline(always)]
+#[inline(never)]
 pub(crate) fn put_lines(page: &mut Page, replies: &[Reply]) -> usize
     requires { length replies.now ≤ LINES }
     ensures within { result ≤ 4096 }

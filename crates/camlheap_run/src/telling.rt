@@ -33,7 +33,7 @@ pub(crate) enum Telling {
     Untold,
 }
 
-/// A run, and the text of what a report has of it. Its thread prints that once all runs of the heap have ended.
+/// A run, and the text of what a report has of it. Its thread prints that once its trace has ended.
 #[derive(Drop)]
 pub(crate) struct Teller {
     run: DomainRun,
@@ -117,13 +117,11 @@ impl Trace<Heap> for Teller {
         self.run.has_next()
     }
 
+    #[tactic(auto, using(crate::proofs::TellingLemmas::tells_still))]
     #[inline(always)]
     fn turn(&mut self, shared: &Heap) -> Went {
-        if self.telling != Telling::Later {
-            return Went::Ended;
-        }
         let went = Trace::turn(&mut self.run, shared);
-        if went == Went::Ended {
+        if matches!(went, Went::Idle | Went::Ended) && self.telling == Telling::Later {
             self.tell();
         }
         went
