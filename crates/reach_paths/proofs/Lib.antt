@@ -5,3 +5,4 @@ pub mod Adding
 pub mod Going
 pub mod Visiting
 pub mod BlockSteps
+pub mod Leading

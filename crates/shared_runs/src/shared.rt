@@ -37,8 +37,8 @@ pub enum Refused {
 /// heap and the run.
 #[derive(Drop)]
 pub struct SharedRun {
-    heap: Arc<Heap>,
-    run: DomainRun,
+    pub(crate) heap: Arc<Heap>,
+    pub(crate) run: DomainRun,
 }
 
 impl Model for SharedRun {
@@ -63,7 +63,7 @@ impl SharedRun {
 
     // Why no command is taken, or not this one.
     #[inline(always)]
-    fn refuses(&self, command: &Command) -> Option<Refused>
+    pub(crate) fn refuses(&self, command: &Command) -> Option<Refused>
         ensures none { result ≡ None → MaySubmit self.now.run command.now }
         ensures why { IfSome result (IsRefusedBy self.now command.now) }
     {
