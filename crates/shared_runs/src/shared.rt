@@ -175,8 +175,8 @@ impl SharedRun {
         Ok(())
     }
 
-    // Whether it can be closed, and else why not.
-    pub(crate) fn may_close(&self) -> Result<(), Refused>
+    /// Whether it can be closed, as it can where it takes the next command, and else why not.
+    pub fn may_close(&self) -> Result<(), Refused>
         ensures may { IfOk result (λ _. MayClose self.now) }
         ensures why { IfErr result (IsUnclosedBy self.now) }
     {
