@@ -51,6 +51,9 @@ typedef struct {
   uint64_t arrivals;
 } camlheap_counts;
 
+/* What leads to a block: the kind of the answer, and of a way its register and how many fields it takes. */
+typedef struct { uint32_t kind, reg; size_t fields; } camlheap_way;
+
 /* What the calls answer. The kind of a reply is another number: look at it only behind DONE. */
 enum {
   CAMLHEAP_DONE = 0,          /* done; of camlheap_run and camlheap_call: the command is made, and the reply is there */
@@ -68,7 +71,7 @@ enum {
   CAMLHEAP_NO_REGISTER = 23,  /* no such register */
   CAMLHEAP_MEMORY = 24,       /* memory ran out, and nothing was started */
   CAMLHEAP_TOO_FEW_HANDLES = 25,
-  CAMLHEAP_NO_MORE = 26,      /* no more finalisers have run; there are 64 beds */
+  CAMLHEAP_NO_MORE = 26,      /* no more finalisers have run; there are 64 beds; more blocks */
   CAMLHEAP_NO_BED = 27,       /* the handle holds none */
   CAMLHEAP_BED_FULL = 28,     /* a domain rests there */
   CAMLHEAP_HAS_DOMAIN = 29,   /* the handle that is to be filled holds one */
@@ -115,6 +118,13 @@ enum {
   CAMLHEAP_LIVE,       /* blocks, words */
   CAMLHEAP_FIN,        /* number; domain and serial of its block */
   CAMLHEAP_LAST        /* number */
+};
+
+/* Kinds of answers to what leads to a block. */
+enum {
+  CAMLHEAP_WAY,        /* reg, fields: this way does */
+  CAMLHEAP_NOTHING,    /* nothing does */
+  CAMLHEAP_NO_FIELD    /* no field does; an ephemeron is there whose data may */
 };
 
 /* CAMLHEAP_VERSION of the archive. */
@@ -167,6 +177,24 @@ uint32_t camlheap_show(camlheap_domain *domain, uint8_t reg, camlheap_reply *rep
 
 /* What the domain counts: DONE. It costs no look at the heap. */
 uint32_t camlheap_stats(camlheap_domain *domain, camlheap_counts *counts);
+
+/* Why a block is still there. Looks for a way from registers 0 to 13 of the domain through fields of blocks, one behind the
+ * other, to the block with this label, which a reply BLOCK names by its domain and serial. *way tells whether there is one: it
+ * begins in register way->reg and takes way->fields fields. The first `room` of their indices are written to `fields`, the one
+ * of the block in the register first; more aren't written. A block in a register itself takes none.
+ *
+ * It is made of loads of this domain into registers 14 and 15, which hold blocks that it came to afterwards: put nothing there
+ * that is needed, and camlheap_forget them behind it. A register of another domain, a finaliser and the data of an ephemeron
+ * aren't looked through: NOTHING says that the block isn't led to from these registers, and that no ephemeron is, and NO_FIELD
+ * the first alone. While other domains make commands it may miss one; where none has made any, and no collection came, the
+ * answer is exact.
+ *
+ * It looks into at most `most` blocks. DONE; NO_DOMAIN, CLOSED or BUSY; AGAIN where the domain stands in a pause, one is
+ * wanted, or a finaliser waits: take a turn, ask camlheap_ran, since loads begin that anew, and then this again; NO_MORE where
+ * there are more blocks than `most`; or MEMORY. *way and *fields are as they were else than with DONE. A block costs as many
+ * loads as the way to it and itself have fields, and the time to look for each block that these refer to among those it came
+ * to. */
+uint32_t camlheap_why(camlheap_domain *domain, uint32_t maker, uint32_t serial, uint32_t most, camlheap_way *way, uint16_t *fields, size_t room);
 
 /* No command comes any more: DONE, BUSY or CLOSED. The trace ends in later turns, behind the finalisers that wait. */
 uint32_t camlheap_close(camlheap_domain *domain);

@@ -45,6 +45,10 @@ class _Counts(ctypes.Structure):
     ]
 
 
+class _Way(ctypes.Structure):
+    _fields_ = [("kind", U32), ("register", U32), ("fields", SIZE)]
+
+
 # The operands of each command, in the order of its line; a command's place is its number. ROOM is what fits into them.
 FORMS = {
     "int": "dst value", "move": "dst a", "drop": "dst", "alloc": "dst tag n", "allocmaj": "dst tag n", "raw": "dst tag n",
@@ -89,6 +93,14 @@ _CAUSES = NoDomain, Closed, Busy, Unfit, NoEphemeron, NoFinaliser, NoLabel, NoRe
 )
 
 
+class MoreBlocks(Refused):
+    """there are more blocks than were to be looked into"""
+
+
+class NotNow(Refused):
+    """a pause is wanted, or a finaliser waits: take a `turn`, and ask anew"""
+
+
 class Outside(Refused):
     """a number of the heap's size is outside its range; `field` names it"""
 
@@ -100,7 +112,11 @@ class Outside(Refused):
 
 
 def _refuse(code):
-    raise _CAUSES[code - 16](code) if code < 26 else Refused(code, "the domain doesn't rest") if code < 32 else Outside(code)
+    if code < 26:
+        raise _CAUSES[code - 16](code)
+    if code == 26:
+        raise MoreBlocks(code)
+    raise Refused(code, "the domain doesn't rest") if code < 32 else Outside(code)
 
 
 @dataclass(frozen=True)
@@ -120,6 +136,15 @@ class Reply:
         numbers = [self.number, self.value, self.blocks, self.words]
         shown = [str(it) for it in numbers if it is not None]
         return " ".join([self.kind, *shown, *([label] if label else [])])
+
+
+@dataclass(frozen=True)
+class Why:
+    """What leads to a block: `kind` is `way`, with its register and fields, `nothing`, or `no_field`, where an ephemeron is there whose data may."""
+
+    kind: str
+    register: int | None = None
+    fields: tuple[int, ...] = ()
 
 
 Stats = make_dataclass("Stats", [(it, int) for it, _ in _Counts._fields_], frozen=True)
@@ -142,6 +167,7 @@ def _library():
     library.camlheap_ran.argtypes = [domain, SIZE, reply]
     library.camlheap_show.argtypes = [domain, U8, reply]
     library.camlheap_stats.argtypes = [domain, ctypes.POINTER(_Counts)]
+    library.camlheap_why.argtypes = [domain, U32, U32, U32, ctypes.POINTER(_Way), ctypes.POINTER(U16), SIZE]
     library.camlheap_another_bed.argtypes = library.camlheap_rest.argtypes = library.camlheap_resume.argtypes = [domain, domain]
     for it in ("turn", "close", "free", "first_bed", "attend", "free_bed"):
         getattr(library, f"camlheap_{it}").argtypes = [domain]
@@ -198,6 +224,25 @@ class Domain:
         counts = _Counts()
         told = self._library.camlheap_stats(self._raw, counts)
         return Stats(*(getattr(counts, it) for it, _ in _Counts._fields_)) if told == DONE else _refuse(told)
+
+    def why(self, maker, serial, most=100000):
+        """What leads to the block with this label from registers 0 to 13, through fields. It looks into at most `most` blocks, by loads
+        into registers 14 and 15. It is exact where no other domain makes a command meanwhile. Ask what has `ran` before."""
+        if not all(_fits(it, U32) for it in (maker, serial, most)):
+            raise Unfit(19)
+        way, room = _Way(), 64
+        while True:
+            fields = (U16 * room)()
+            told = self._library.camlheap_why(self._raw, maker, serial, most, way, fields, room)
+            if told == AGAIN:
+                raise NotNow(told)
+            if told != DONE:
+                _refuse(told)
+            if way.kind:
+                return Why("nothing" if way.kind == 1 else "no_field")
+            if way.fields <= room:
+                return Why("way", way.register, tuple(fields[: way.fields]))
+            room = way.fields
 
     def turn(self):
         """One turn: whether the traces of all domains have ended. A thread with no command calls it now and then."""

@@ -30,8 +30,11 @@ def main():
     for words in [("copy", 1), ("int", 2, 2**62), ("int", 2, 2**70), ("move", 16, 0), ("move", 256, 0), ("move", -1, 0), ("raw", 1, 507, 1)]:
         assert refusal(domain.perform, *words) == camlheap.Unfit
     assert refusal(domain.show, 16) == refusal(domain.show, 256) == refusal(domain.show, -1) == camlheap.NoRegister
+    assert domain.why(0, 1) == camlheap.Why("way", 1) and refusal(domain.why, 0, 1, 1) == camlheap.MoreBlocks
+    assert domain.why(0, 9) == camlheap.Why("nothing") and refusal(domain.why, 0, -1) == camlheap.Unfit
     domain.perform("finalise_last", 1, 7)
     domain.perform("ephe", 4, 1)
+    assert domain.why(0, 9) == camlheap.Why("no_field")
     assert refusal(domain.perform, "finalise", 1, 8, 5) == camlheap.NoFinaliser
     assert refusal(domain.perform, "ephe", 5, 1) == camlheap.NoEphemeron
     assert domain.stats().labels == 2 and domain.stats().lasts == 1 and domain.stats().ephemerons == 1

@@ -115,10 +115,24 @@ impl Reply {
     }
 }
 
+/// What leads to a block.
+#[derive(Clone, Debug, PartialEq, Eq)]
+pub enum Why {
+    /// This register does, through these fields, one behind the other.
+    Way { register: Register, fields: Vec<u16> },
+    Nothing,
+    /// No field does; an ephemeron is there whose data may.
+    NoField,
+}
+
 /// Why something wasn't done. Nothing has changed then.
 #[derive(Clone, Copy, Debug, PartialEq, Eq)]
 pub enum Refused {
     Closed, Busy, Unfit, NoEphemeron, NoFinaliser, NoLabel, NoRegister, Memory,
+    /// There are more blocks than were to be looked into.
+    MoreBlocks,
+    /// A pause is wanted, or a finaliser waits: take a [turn](Seat::turn), and ask anew.
+    NotNow,
     /// The first field of the configuration outside its range, counted from 1.
     Outside(u32),
 }
@@ -137,8 +151,12 @@ const REFUSALS: [(Refused, &str); 8] = [
 
 impl Refused {
     fn of(told: u32) -> Refused {
+        if told == sys::AGAIN {
+            return Refused::NotNow;
+        }
         match REFUSALS.get((told - sys::CLOSED) as usize) {
             Some((refused, _)) => *refused,
+            None if told == sys::NO_MORE => Refused::MoreBlocks,
             None => Refused::Outside(told - sys::OUTSIDE),
         }
     }
@@ -147,6 +165,8 @@ impl Refused {
 impl fmt::Display for Refused {
     fn fmt(&self, out: &mut fmt::Formatter<'_>) -> fmt::Result {
         match (self, REFUSALS.iter().find(|(refused, _)| refused == self)) {
+            (Refused::MoreBlocks, _) => out.write_str("there are more blocks than were to be looked into"),
+            (Refused::NotNow, _) => out.write_str("a pause is wanted, or a finaliser waits"),
             (Refused::Outside(field), _) => write!(out, "field {field} of the configuration is outside its range"),
             (_, said) => out.write_str(said.map_or("", |(_, text)| text)),
         }
@@ -239,6 +259,27 @@ impl Seat {
         let mut stats = Stats::default();
         unsafe { sys::camlheap_stats(&mut self.raw, &mut stats) };
         stats
+    }
+
+    /// What leads to a block from registers 0 to 13, through fields. It looks into at most `most` blocks, by loads into registers 14
+    /// and 15. It is exact where no other seat makes a command meanwhile. Ask what has [run](Seat::ran) before.
+    pub fn why(&mut self, block: Label, most: u32) -> Result<Why, Refused> {
+        let mut fields = vec![0; 64];
+        loop {
+            let mut way = sys::Way::default();
+            let told = unsafe {
+                sys::camlheap_why(&mut self.raw, block.domain, block.serial, most, &mut way, fields.as_mut_ptr(), fields.len())
+            };
+            match (told, way.kind) {
+                (sys::DONE, 0) if way.fields > fields.len() => fields.resize(way.fields, 0),
+                (sys::DONE, 0) => {
+                    fields.truncate(way.fields);
+                    return Ok(Why::Way { register: way.register as Register, fields });
+                }
+                (sys::DONE, kind) => return Ok(if kind == 1 { Why::Nothing } else { Why::NoField }),
+                _ => return Err(Refused::of(told)),
+            }
+        }
     }
 
     /// One turn, for a thread that has no command now: takes part in the pause that goes on, if there is one. Answers

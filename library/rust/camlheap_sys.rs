@@ -37,6 +37,7 @@ layout!(Config { domains: u32, minor_words: u32, pools: u32, finals: u32, ephes:
 layout!(Command { op: u8, dst: u8, a: u8, b: u8, tag: u8, n: u16, number: u32, value: i64 });
 layout!(Reply { kind: u32, domain: u32, serial: u32, number: u32, value: i64, blocks: u64, words: u64 });
 layout!(Stats { labels: u32, young_words: u32, remembered: usize, ephemerons: usize, finals: usize, lasts: usize, waiting: usize, arrivals: u64 });
+layout!(Way { kind: u32, register: u32, fields: usize });
 
 pub const DONE: u32 = 0;
 pub const AGAIN: u32 = 1;
@@ -45,6 +46,7 @@ pub const HUNGRY: u32 = 3;
 pub const ENDED: u32 = 4;
 /// The first refusal of a command, and the number before those of a configuration's fields.
 pub const CLOSED: u32 = 17;
+pub const NO_MORE: u32 = 26;
 pub const OUTSIDE: u32 = 32;
 
 unsafe extern "C" {
@@ -58,6 +60,9 @@ unsafe extern "C" {
     pub fn camlheap_ran(domain: *mut Domain, place: usize, reply: *mut Reply) -> u32;
     pub fn camlheap_show(domain: *mut Domain, register: u8, reply: *mut Reply) -> u32;
     pub fn camlheap_stats(domain: *mut Domain, stats: *mut Stats) -> u32;
+    pub fn camlheap_why(
+        domain: *mut Domain, maker: u32, serial: u32, most: u32, way: *mut Way, fields: *mut u16, room: usize,
+    ) -> u32;
     pub fn camlheap_close(domain: *mut Domain) -> u32;
     pub fn camlheap_free(domain: *mut Domain);
     pub fn camlheap_first_bed(bed: *mut Bed) -> u32;

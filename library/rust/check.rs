@@ -1,5 +1,5 @@
 //! Tries the wrapper: each call once, and each refusal that a program can come to. Ends with 0 where all is as it should be.
-use camlheap::{Command, Config, Label, Refused, Reply, start};
+use camlheap::{Command, Config, Label, Refused, Reply, Why, start};
 
 const CONFIG: Config = Config { domains: 1, minor_words: 4096, pools: 64, finals: 1, ephes: 1 };
 
@@ -47,8 +47,25 @@ fn rests() -> Result<(), Refused> {
     other.join().expect("the other thread ends")
 }
 
+// A block is asked for while a field leads to it, and when none does.
+fn asks() -> Result<(), Refused> {
+    let mut seat = start(CONFIG)?.remove(0);
+    let block = Label { domain: 0, serial: 2 };
+    seat.perform(Command::Alloc { dst: 1, tag: 0, fields: 2 })?;
+    seat.perform(Command::Alloc { dst: 2, tag: 0, fields: 1 })?;
+    seat.perform(Command::Store { block: 1, index: 1, item: 2 })?;
+    assert_eq!(seat.why(block, 9)?, Why::Way { register: 2, fields: vec![] });
+    seat.perform(Command::Forget { dst: 2 })?;
+    assert_eq!(seat.why(block, 9)?, Why::Way { register: 1, fields: vec![1] });
+    assert_eq!(seat.why(block, 2), Err(Refused::MoreBlocks));
+    seat.perform(Command::Forget { dst: 1 })?;
+    assert_eq!(seat.why(block, 9)?, Why::Nothing);
+    seat.finish()
+}
+
 fn main() -> Result<(), Refused> {
     starts();
+    asks()?;
     rests()?;
     performs()
 }

@@ -1,3 +1,4 @@
 pub mod Forms
 pub mod Exported
 pub mod Resting
+pub mod Asking

@@ -5,6 +5,7 @@
 //! each call says so. No call waits: where a domain waits for others, the caller chooses what to do meanwhile.
 #![tactic(auto)]
 
+mod asking;
 mod bed;
 mod codes;
 mod crossing;

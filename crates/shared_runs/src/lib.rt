@@ -6,6 +6,7 @@ mod bed;
 mod idle;
 mod making;
 mod shared;
+mod walking;
 
 pub use bed::{NotRested, RunBed};
 pub use idle::{Idle, attend};

@@ -37,8 +37,8 @@ pub enum Refused {
 /// heap and the run.
 #[derive(Drop)]
 pub struct SharedRun {
-    heap: Arc<Heap>,
-    run: DomainRun,
+    pub(crate) heap: Arc<Heap>,
+    pub(crate) run: DomainRun,
 }
 
 impl Model for SharedRun {
@@ -63,7 +63,7 @@ impl SharedRun {
 
     // Why no command is taken, or not this one.
     #[inline(always)]
-    fn refuses(&self, command: &Command) -> Option<Refused>
+    pub(crate) fn refuses(&self, command: &Command) -> Option<Refused>
         ensures none { result ≡ None → MaySubmit self.now.run command.now }
         ensures why { IfSome result (IsRefusedBy self.now command.now) }
     {
@@ -175,8 +175,8 @@ impl SharedRun {
         Ok(())
     }
 
-    // Whether it can be closed, and else why not.
-    pub(crate) fn may_close(&self) -> Result<(), Refused>
+    /// Whether it can be closed, as it can where it takes the next command, and else why not.
+    pub fn may_close(&self) -> Result<(), Refused>
         ensures may { IfOk result (λ _. MayClose self.now) }
         ensures why { IfErr result (IsUnclosedBy self.now) }
     {

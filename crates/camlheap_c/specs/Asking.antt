@@ -1,0 +1,48 @@
+-- Why a block is still there, as C is told.
+use Rattle.std.specs.Prelude.{◌≡◌, ℕ, ◌<◌, ◌≤◌, ◌⊎◌, List, length, slice_get, Option, Some}
+use Rattle.heap_model.specs.declared.label.Label.{Label}
+use Rattle.heap_model.specs.History.{IsPrefix}
+use Rattle.heap_rule.specs.Limits.{sizes_in}
+use Rattle.reach_paths.specs.declared.asking.Reason.{Reason}
+use Rattle.reach_paths.specs.declared.asking.Reason.TheVariants.{Way, Nothing, NoField}
+use Rattle.reach_paths.specs.declared.exploring.Stop.{Stop}
+use Rattle.reach_paths.specs.declared.exploring.Stop.TheVariants.{PutOff, Many, Memory}
+use Rattle.reach_paths.specs.Asking.{IsWhy}
+use Rattle.reach_paths.specs.Exploring.{graph_of, roots_of}
+use Rattle.reach_paths.specs.Walks.{Still, Walked}
+use Rattle.shared_runs.specs.Sharing.{SharedView}
+use Rattle.camlheap_c.specs.declared.asking.CamlheapWay.{CamlheapWay}
+
+-- why a search has stopped, as a number
+abbrev pub stop_form : Stop → ℕ
+stop_form PutOff = 1
+stop_form Many = 26
+stop_form Memory = 24
+
+-- what a search answers, as a number
+abbrev pub Stops : ℕ → Type 0
+Stops told = (told ≡ 0) ⊎ ((told ≡ 1) ⊎ ((told ≡ 17) ⊎ ((told ≡ 18) ⊎ ((told ≡ 24) ⊎ (told ≡ 26)))))
+
+-- the first of these fields stand in C's room, as many as fit
+pub record Copies (fields old new : List ℕ) : Type 0 where
+  pub room : length new ≡ length old
+  pub copied : (i n : ℕ) → slice_get fields i ≡ Some n → i < length new → slice_get new i ≡ Some n
+
+-- what C reads of the answer
+abbrev pub TellsWay : Reason → List ℕ → List ℕ → CamlheapWay → Type 0
+TellsWay (Way way) old new told = (told ≡ record { kind = 0; register = way.register; fields = length way.fields.items }) × Copies way.fields.items old new
+TellsWay Nothing old new told = (told ≡ record { kind = 1; register = 0; fields = 0 }) × (new ≡ old)
+TellsWay NoField old new told = (told ≡ record { kind = 2; register = 0; fields = 0 }) × (new ≡ old)
+
+-- the domain is the same, in a heap of the same numbers, and what it saw of the history is a front part of what it sees now
+pub record GoesAlong (old new : SharedView) : Type 0 where
+  pub sizes : sizes_in new.heap.config ≡ sizes_in old.heap.config
+  pub number : new.run.token.view.own.number ≡ old.run.token.view.own.number
+  pub front : IsPrefix old.run.token.view.seen.front new.run.token.view.seen.front
+
+-- C reads an answer that is so, where the front has grown by the loads of the search alone
+pub record Whys (old new : SharedView) (l : Label) (told : CamlheapWay) (before read : List ℕ) : Type 0 where
+  pub reason : Reason
+  pub tells : TellsWay reason before read told
+  pub still : Walked old.run.token.view.own.number old.run.token.view.seen.front new.run.token.view.seen.front → Still (sizes_in old.heap.config) old.run.token.view.own.number old.run.token.view.seen.front new.run.token.view.seen.front
+  pub why : Walked old.run.token.view.own.number old.run.token.view.seen.front new.run.token.view.seen.front → IsWhy (graph_of (sizes_in old.heap.config) old.run.token.view.seen.front) (roots_of (sizes_in old.heap.config) old.run.token.view.own.number old.run.token.view.seen.front) l reason

@@ -1,0 +1,51 @@
+use Rattle.std.proofs.Common.{◌≡◌, ◌∙◌, ap, sym, subst, ℕ, ◌+◌, ◌<◌, ◌≤◌, Bool, false, List, [], length, refl, arith, rules}
+use Rattle.heap_model.specs.declared.entry.Entry.{Entry}
+use Rattle.heap_model.specs.declared.state.Sizes.{Sizes}
+use Rattle.heap_model.specs.History.{IsPrefix}
+use Rattle.reach_paths.specs.declared.seen.Seen.{Seen}
+use Rattle.reach_paths.specs.Exploring.{Explored, graph_of, roots_of}
+use Rattle.reach_paths.specs.Walks.{Still, Walked}
+use Rattle.reach_paths.proofs.Adding.{extends_long}
+use Rattle.reach_paths.proofs.BlockSteps.{explored_on}
+use Rattle.reach_paths.proofs.Going.{still_same}
+use Rattle.reach_paths.proofs.WalkSteps.{prefix_same, prefix_trans}
+use Rattle.reach_paths.proofs.exploring.explore.Goals as goal
+
+pub places-init : goal.places-init
+places-init g c =
+    let z : Sizes = g.M.Walker.sizes c.args.m.now in
+    let d : ℕ = g.M.Walker.number c.args.m.now in
+    let first : List Entry = g.M.Walker.front c.args.m.now in
+    let e = c.note_roots.ensures in
+    let front : g.M.Walker.front c.note_roots.new.m ≡ first = e.front in record {
+      sizes = e.sizes;
+      number = e.number;
+      grows = subst (IsPrefix first) (sym front) (prefix_same first);
+      ordered = c.in_ok-note_roots.ensures.ordered;
+      once = c.in_ok-note_roots.ensures.once;
+      inside = omega arith;
+      explored = λ walked. (
+        subst (Still z d first) (sym front) (still_same z d first),
+        c.in_ok-note_roots.ensures.noted c.args.stop,
+      );
+    }
+
+pub places-preserved : goal.places-preserved
+places-preserved g c =
+    let z : Sizes = g.M.Walker.sizes c.args.m.now in
+    let d : ℕ = g.M.Walker.number c.args.m.now in
+    let first : List Entry = g.M.Walker.front c.args.m.now in
+    let now : List Entry = g.M.Walker.front c.places.m in
+    let next : List Entry = g.M.Walker.front c.look.new.m in
+    let seen : List Seen = c.places.seen.items in
+    let new : List Seen = c.look.new.seen.items in
+    let i = c.places.invariant in
+    let e = c.in_ok-weak.ensures in record {
+      sizes = c.look.ensures.sizes ∙ i.sizes;
+      number = c.look.ensures.number ∙ i.number;
+      grows = prefix_trans first now next i.grows c.look.ensures.grows;
+      ordered = e.ordered;
+      once = e.once;
+      inside = (let more : c.places.at < length new = extends_long seen new e.goes_on c.places.at (let h : c.places.at < length seen = search rules in h) in omega arith);
+      explored = explored_on z _ d _ first now next c.args.stop c.places.at seen new c.places.weak c.in_ok-weak.field-0 i.sizes i.number i.grows c.look.ensures.grows i.ordered e.ordered i.explored e.looked;
+    }

@@ -1,0 +1,17 @@
+-- What leads to a block.
+use Rattle.std.specs.Prelude.{◌≡◌, ℕ, ◌<◌, Option, Some}
+use Rattle.heap_model.specs.declared.label.Label.{Label}
+use Rattle.heap_model.specs.Graph.{Graph}
+use Rattle.reach_paths.specs.declared.asking.Reason as answer
+use Rattle.reach_paths.specs.declared.asking.Reason.TheVariants.{Way, Nothing, NoField}
+use Rattle.reach_paths.specs.Ways.{IsLedTo, IsNoEphemeron, leads, refers}
+
+-- no way leads to the block
+abbrev pub IsUnled : Graph → (ℕ → Option Label) → Label → Type 0
+IsUnled g roots l = IsLedTo (refers g) roots l → ⊥
+
+-- the answer is so: its way leads from a register below 14 to the block, or no way does; and where it says that nothing does, each block to which some way leads is no ephemeron
+abbrev pub IsWhy : Graph → (ℕ → Option Label) → Label → answer.Reason → Type 0
+IsWhy g roots l (Way way) = (way.register < 14) × (leads (refers g) roots way ≡ Some l)
+IsWhy g roots l Nothing = IsUnled g roots l × ((m : Label) → IsLedTo (refers g) roots m → IsNoEphemeron g m)
+IsWhy g roots l NoField = IsUnled g roots l

@@ -1,0 +1,4 @@
+pub mod Ways
+pub mod Walks
+pub mod Exploring
+pub mod Asking
