@@ -8,5 +8,6 @@ pub mod EndLemmas
 pub mod ReturnLemmas
 pub mod LawLemmas
 pub mod TakenLemmas
+pub mod AfterLemmas
 pub mod RefusedBodies
 pub mod CountLemmas

@@ -4,13 +4,16 @@ use Rattle.heap_model.specs.declared.label.Label.{Label}
 use Rattle.heap_model.specs.declared.entry.Entry.{Entry}
 use Rattle.heap_model.specs.declared.graph.Value.{Value}
 use Rattle.heap_model.specs.declared.state.Sizes.{Sizes}
-use Rattle.heap_model.specs.Graph.{has_label}
+use Rattle.heap_model.specs.declared.graph.Value.TheVariants.{Block, Nothing}
+use Rattle.heap_model.specs.Graph.{Graph, has_label}
 use Rattle.heap_model.specs.History.{IsPrefix, Legal}
 use Rattle.table_laws.specs.Structures.{Binding}
 use Rattle.table_laws.specs.Stages.{graph_of}
+use Rattle.table_laws.specs.Performing.{After}
+use Rattle.map_laws.specs.Tries.{inside}
 use Rattle.map_laws.specs.Steps.{WasUnreached}
 use Rattle.weak_cache.specs.Uses.{AreOnce, SlotsLeft, age, cached_in, put_first, taken}
-use Rattle.weak_cache.specs.Caches.{Gone, IsCache, OthersSpare, slots_after}
+use Rattle.weak_cache.specs.Caches.{Gone, IsCache, OthersSpare, fields_or_none, slots_after}
 use Rattle.weak_cache.specs.Calls.{LeavesCache}
 
 -- a cache has no more values than slots
@@ -107,6 +110,15 @@ DoesCall z d c size x = IsPrefix x.old x.new × IsThere x.deed x.key (slots_afte
 -- from one front to a later one a cache has lost only what keys had that were outside reach
 abbrev pub LosesOnly : Sizes → Label → List Entry → List Entry → Type 0
 LosesOnly z c old new = IsPrefix old new × SlotsLeft (WasUnreached z old new) (slots_after z old c) (slots_after z new c)
+
+-- a block is neither a cache nor in a field of it
+abbrev pub IsApart : Graph → Label → Label → Type 0
+IsApart g c l = (l ≢ c) × ((i : ℕ) → slice_index_or (fields_or_none (inside g (Block c))) i Nothing ≢ Block l)
+
+-- in a heap of one domain a command that changes only blocks apart from a cache leaves it one, and has it lose only that
+abbrev pub OtherCommandsSpare : Type 0
+OtherCommandsSpare = (z : Sizes) (old new : List Entry) (own : List Label) (registers : List Value) (c : Label) (size : ℕ) → After z old new own registers → ((l : Label) → IsTrue (has_label own l) → IsApart (graph_of z old) c l)
+    → IsCache (graph_of z old) c size → IsCache (graph_of z new) c size × LosesOnly z c old new
 
 -- calls of domain d on a cache, one after another, between which the cache loses only that
 abbrev pub CallsOn : Sizes → ℕ → Label → ℕ → List Call → List Entry → List Entry → Type 0

@@ -1,5 +1,5 @@
 //! Laws of caches. Each function's contract is one law, and it does nothing else.
-ghost use Rattle.weak_cache.specs.Laws.{AloneSpares, CacheIsBounded, GetKeeps, LossKeepsOthers, NoOtherIsFound, OthersGoBack, OthersStay, PutIsFound, TakenInCallsIsNotFound, TakenIsNotFound, TakingKeepsOthers, UsedInCallsIsFound, UsedLastIsFound};
+ghost use Rattle.weak_cache.specs.Laws.{AloneSpares, CacheIsBounded, GetKeeps, LossKeepsOthers, NoOtherIsFound, OtherCommandsSpare, OthersGoBack, OthersStay, PutIsFound, TakenInCallsIsNotFound, TakenIsNotFound, TakingKeepsOthers, UsedInCallsIsFound, UsedLastIsFound};
 
 /// A cache has no more values than it has slots.
 pub fn caches_are_bounded()
@@ -54,4 +54,10 @@ pub fn loss_keeps_others()
 /// In a heap of one domain nobody else uses a cache.
 pub fn alone_spares()
     ensures { AloneSpares }
+{}
+
+/// In a heap of one domain a command that changes only blocks apart from a cache has it lose only what keys had that were
+/// outside reach.
+pub fn other_commands_spare()
+    ensures { OtherCommandsSpare }
 {}
