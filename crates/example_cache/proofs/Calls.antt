@@ -1,5 +1,5 @@
 -- What each call of a cache answers and leaves.
-use Rattle.std.proofs.Common.{◌≡◌, ◌≢◌, ◌∙◌, ◌⊎◌, ◌-◌, ◌≤◌, inl, inr, ⊎_elim, ℕ, ◌<◌, List, replicate, Option, Some, None, refl, ap, sym, subst, arith}
+use Rattle.std.proofs.Common.{◌≡◌, ◌≢◌, ◌∙◌, ◌⊎◌, ◌-◌, ◌≤◌, inl, inr, ⊎_elim, ℕ, ◌<◌, true, false, List, replicate, Option, Some, None, refl, ap, sym, subst, arith}
 use Rattle.heap_model.specs.declared.label.Label.{Label}
 use Rattle.command_counts.specs.Counts.{labels_of}
 use Rattle.heap_model.specs.declared.command.Command.{Command}
@@ -17,20 +17,21 @@ use Rattle.heap_model.specs.History.{IsPrefix, Legal}
 use Rattle.heap_rule.specs.Limits.{sizes_in}
 use Rattle.heap_session.specs.Sessions.{MayPerform, SessionView}
 use Rattle.table_laws.specs.Structures.{Binding}
-use Rattle.table_laws.specs.Stages.{graph_of, held_in}
+use Rattle.table_laws.specs.Stages.{held_in}
 use Rattle.table_laws.specs.Performing.{Performed}
 use Rattle.map_domains.proofs.Performs.{performs}
 use Rattle.map_laws.proofs.CallLemmas.{alloc_step, forget_step, made as new_label}
 use Rattle.weak_maps.proofs.BesideLemmas.{set_here, sixteen}
 use Rattle.map_laws.specs.Calls.{value_of}
-use Rattle.weak_cache.specs.Uses.{SlotsLeft, cached_in, put_first, taken, touched}
+use Rattle.weak_cache.specs.Uses.{cached_in, put_first, taken, touched}
 use Rattle.weak_cache.specs.Caches.{Gone, OthersSpare, slots_after}
+use Rattle.weak_maps.specs.Beside.{refusals_by}
+use Rattle.weak_cache.specs.Counts.{PutCounts}
 use Rattle.weak_cache.specs.Calls.{GetReturns, LeavesCache, LeavesRegisters, MakeReturns, PutReturns, PutsOrFull, TakeReturns}
 use Rattle.weak_cache.proofs.EndLemmas.{low_beside}
 use Rattle.weak_cache.proofs.LawLemmas.{alone_spares}
 use Rattle.example_cache.specs.declared.cache.Inserted.{Inserted}
-use Rattle.example_cache.specs.declared.cache.Inserted.TheVariants.{Stored, NoRoom, NoKey}
-use Rattle.example_cache.specs.Caching.{CacheView, GetAnswers, HasCache, InsertAnswers, IsCache, KeepsRegisters, Leaves, SparesCache, TakeAnswers, WasGone, entry_of, holds, inserted_of, places, places_in}
+use Rattle.example_cache.specs.Caching.{CacheView, GetAnswers, HasCache, InsertAnswers, IsCache, KeepsRegisters, KeyAnswers, Leaves, RoomAnswers, SparesCache, TakeAnswers, WasGone, entry_of, holds, inserted_of, places_in}
 use Rattle.example_cache.proofs.Entries.{here, holds_on, is_on, is_same, keeps_same, leaves, left_wider}
 
 shown_same : (v w : Value) → shown v ≡ shown w → v ≡ w
@@ -167,18 +168,37 @@ module _ (old new : CacheView) (limits : IsWithinLimits (sizes_in old.heap.confi
       subst (λ (w : Sizes). held_in w new.heap.front r ≡ Nothing) (sym sizes)
       (set_here o 0 old.heap.front new.heap.front r Nothing (forget_step o 0 old.heap.front new.heap.front a r q).1 (sixteen o 0 old.heap.front new.heap.front (Forget r) a q limits) (omega (arith, few)))
 
-  pub key_made : (l : Label) → a ≡ reply.Block l → Performed o old.heap.front new.heap.front (Alloc r 0 1) a → (k : Label) × (holds new r ≡ Block k)
+  abbrev Made : Reply → Type 0
+  Made b = Performed o old.heap.front new.heap.front (Alloc r 0 1) b
+
+  pub key_made : (l : Label) → a ≡ reply.Block l → Made a → KeyAnswers old new r true
   key_made l is p =
       let q = performs o old.heap.front new.heap.front (Alloc r 0 1) a p in
-      let k : Label = new_label o 0 old.heap.front new.heap.front (Alloc r 0 1) a q in
       ⊎_elim
       (λ refused. absurd (let clash : reply.Block l ≡ reply.Full = sym is ∙ refused.1.2 in cc))
-      (λ granted. (
+      (λ granted.
+      let k : Label = new_label o 0 old.heap.front new.heap.front (Alloc r 0 1) a q in (
         k,
+        subst Made granted.2.2 p,
         subst (λ (w : Sizes). held_in w new.heap.front r ≡ Block k) (sym sizes)
             (set_here o 0 old.heap.front new.heap.front r (Block k) granted.2.1 (sixteen o 0 old.heap.front new.heap.front (Alloc r 0 1) a q limits) (omega (arith, few))),
       ))
       (alloc_step o 0 old.heap.front new.heap.front a r 0 1 q)
+
+  pub key_refused : ((l : Label) → a ≡ reply.Block l → ⊥) → Made a → KeyAnswers old new r false
+  key_refused none p =
+      let q = performs o old.heap.front new.heap.front (Alloc r 0 1) a p in
+      ⊎_elim
+      (λ refused. inr (subst Made refused.1.2 p))
+      (λ granted. absurd (none (new_label o 0 old.heap.front new.heap.front (Alloc r 0 1) a q) granted.2.2))
+      (alloc_step o 0 old.heap.front new.heap.front a r 0 1 q)
+
+-- what a put counts
+pub room_says : (old new : CacheView) (r : Reply) (labels left : ℕ) → old.heap.labels < 4294967295 → 0 < old.heap.room → PutCounts labels left (refusals_by 0 old.heap.front) (refusals_by 0 new.heap.front) r → RoomAnswers old new (inserted_of r)
+room_says old new reply.Done labels left some fits x = (some, fits, x.0)
+room_says old new reply.Full labels left some fits x = inr (inr x.0)
+room_says old new reply.BadType labels left some fits x = (some, fits, x.0)
+room_says old new r labels left some fits x = absurd x
 
 -- a command that spares the cache may be made where its label is left
 pub may_spare : (s : SessionView) (c : Command) → SparesCache c → labels_of c ≤ 4294967295 - s.labels → MayPerform s c

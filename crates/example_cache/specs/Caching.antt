@@ -1,5 +1,5 @@
 -- A cache as the program that uses it sees it.
-use Rattle.std.specs.Prelude.{◌≡◌, ◌≢◌, ◌⊎◌, ℕ, ◌<◌, ◌≤◌, List, [], Option, Some, None}
+use Rattle.std.specs.Prelude.{◌≡◌, ◌≢◌, ◌⊎◌, ℕ, ◌+◌, ◌<◌, ◌≤◌, Bool, true, false, List, [], Option, Some, None}
 use Rattle.heap_model.specs.declared.command.Command.{Command}
 use Rattle.heap_model.specs.declared.command.Command.TheVariants.{Alloc, Forget, FullMajor}
 use Rattle.heap_model.specs.declared.label.Label.{Label}
@@ -7,7 +7,7 @@ use Rattle.heap_model.specs.declared.entry.Entry.{Entry}
 use Rattle.heap_model.specs.declared.graph.Value.{Value}
 use Rattle.heap_model.specs.declared.graph.Value.TheVariants.{Block, Nothing}
 use Rattle.heap_model.specs.declared.reply.Reply.{Reply}
-use Rattle.heap_model.specs.declared.reply.Reply.TheVariants.{BadType, Empty, Full}
+use Rattle.heap_model.specs.declared.reply.Reply.TheVariants as reply
 use Rattle.heap_model.specs.declared.state.Sizes.{Sizes}
 use Rattle.heap_model.specs.Commands.{shown}
 use Rattle.heap_model.specs.History.{IsPrefix}
@@ -15,8 +15,10 @@ use Rattle.heap_rule.specs.Limits.{sizes_in}
 use Rattle.heap_session.specs.Sessions.{SessionView}
 use Rattle.table_laws.specs.Structures.{Binding}
 use Rattle.table_laws.specs.Stages.{graph_of, held_in}
+use Rattle.table_laws.specs.Performing.{Performed}
 use Rattle.map_laws.specs.Steps.{WasUnreached}
 use Rattle.map_laws.specs.Calls.{value_of}
+use Rattle.weak_maps.specs.Beside.{refusals_by}
 use Rattle.weak_cache.specs.Uses.{SlotsLeft, cached_in, put_first, taken, touched}
 use Rattle.weak_cache.specs.Caches.{slots_after}
 use Rattle.weak_cache.specs.Caches as weak
@@ -85,6 +87,16 @@ IsKept (Alloc dst tag fields) r = r ≢ dst
 IsKept (Forget dst) r = r ≢ dst
 IsKept _ r = Unit {0}
 
+-- what making a key answers: a block that was made; or none was, where no label is left or the allocation was refused
+abbrev pub KeyAnswers : CacheView → CacheView → ℕ → Bool → Type 0
+KeyAnswers old new r true = (k : Label) × Performed (sizes_in old.heap.config) old.heap.front new.heap.front (Alloc r 0 1) (reply.Block k) × (holds new r ≡ Block k)
+KeyAnswers old new r false = ((old.heap.labels ≡ 4294967295) × (new.heap.front ≡ old.heap.front)) ⊎ Performed (sizes_in old.heap.config) old.heap.front new.heap.front (Alloc r 0 1) reply.Full
+
+-- the heap has no room for an insertion exactly where no label is left, no ephemeron fits, or an allocation was refused
+abbrev pub RoomAnswers : CacheView → CacheView → Inserted → Type 0
+RoomAnswers old new NoRoom = (old.heap.labels ≡ 4294967295) ⊎ (old.heap.room ≡ 0) ⊎ (refusals_by 0 new.heap.front ≡ refusals_by 0 old.heap.front + 1)
+RoomAnswers old new r = (old.heap.labels < 4294967295) × (0 < old.heap.room) × (refusals_by 0 new.heap.front ≡ refusals_by 0 old.heap.front)
+
 -- what an insertion leaves: the new entry first, for which the last goes unless the key had one; or what there was, where the heap had no room, or one register held no key or the other nothing
 abbrev pub InsertAnswers : CacheView → CacheView → Option Label → Value → Inserted → Type 0
 InsertAnswers old new key item Stored = (k : Label) × (key ≡ Some k) × (item ≢ Nothing) × Leaves old new key (put_first k item (places old))
@@ -93,14 +105,14 @@ InsertAnswers old new key item NoKey = ((key ≡ None) ⊎ (item ≡ Nothing)) �
 
 -- the entry that a reply shows, if it shows one
 abbrev pub entry_of : Reply → Option Reply
-entry_of BadType = None
-entry_of Empty = None
+entry_of reply.BadType = None
+entry_of reply.Empty = None
 entry_of r = Some r
 
 -- what the reply of a put says of it
 abbrev pub inserted_of : Reply → Inserted
-inserted_of BadType = NoKey
-inserted_of Full = NoRoom
+inserted_of reply.BadType = NoKey
+inserted_of reply.Full = NoRoom
 inserted_of r = Stored
 
 -- what a look-up answers and leaves: nothing where the register holds no key, or the cache has no entry of it; else the entry, whose key is the last used then

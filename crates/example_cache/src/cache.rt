@@ -1,13 +1,14 @@
 //! A cache, and its calls.
-ghost use Rattle.std.specs.Prelude.{◌≡◌, ◌<◌, ◌≤◌, ◌-◌, ℕ, IfOk, None, replicate, true};
+ghost use Rattle.std.specs.Prelude.{◌≡◌, ◌<◌, ◌≤◌, ◌-◌, ℕ, IfOk, None, replicate};
 ghost use Rattle.command_counts.specs.Counts.{labels_of};
 ghost use Rattle.heap_model.specs.Domains.{IsWithinLimits};
 ghost use Rattle.heap_rule.specs.Limits.{sizes_in};
 ghost use Rattle.table_laws.specs.Performing.{Performed};
 ghost use Rattle.heap_model.specs.declared.graph.Value.TheVariants as value;
-ghost use Rattle.heap_model.specs.declared.label.Label as labels;
+ghost use Rattle.heap_model.specs.declared.command.Command.TheVariants as command;
+ghost use Rattle.heap_model.specs.declared.reply.Reply.{Reply};
 ghost use Rattle.heap_model.specs.Graph.{label_of};
-ghost use Rattle.example_cache.specs.Caching.{GetAnswers, InsertAnswers, IsKept, KeepsAll, KeepsRegisters, SparesCache, TakeAnswers, holds, places, entry_of as entry_shown, inserted_of as inserted_by};
+ghost use Rattle.example_cache.specs.Caching.{GetAnswers, InsertAnswers, IsKept, KeepsAll, KeepsRegisters, KeyAnswers, RoomAnswers, SparesCache, TakeAnswers, holds, places, entry_of as entry_shown, inserted_of as inserted_by};
 
 use heap_model::command::Command;
 use heap_model::reply::Reply;
@@ -91,7 +92,7 @@ impl Cache {
     /// Makes a key, into a register below 7. Answers whether there was room.
     pub fn new_key<R: Wait>(&mut self, rt: &R, r: u8) -> bool
         requires few { r < 7 }
-        ensures key { result ≡ true → (k : labels.Label) × (holds self.new r ≡ value.Block k) }
+        ensures key { KeyAnswers self.old self.new r result }
         ensures entries { KeepsAll self.old self.new }
         ensures registers { KeepsRegisters self.old self.new r }
     {
@@ -118,6 +119,7 @@ impl Cache {
 
     /// Has the heap collect all that can't be reached.
     pub fn collect<R: Wait>(&mut self, rt: &R)
+        ensures collected { (r : Reply) × Performed (sizes_in self.old.heap.config) self.old.heap.front self.new.heap.front command.FullMajor r }
         ensures entries { KeepsAll self.old self.new }
         ensures registers { KeepsRegisters self.old self.new 7 }
     {
@@ -128,6 +130,7 @@ impl Cache {
     /// of that key, the entry goes whose key was used least recently. Registers are below 7.
     pub fn insert<R: Wait>(&mut self, rt: &R, key: u8, item: u8) -> Inserted
         requires few { (key < 7) × (item < 7) }
+        ensures room { RoomAnswers self.old self.new result }
         ensures answers { InsertAnswers self.old self.new (label_of (holds self.old key)) (holds self.old item) result }
         ensures registers { KeepsRegisters self.old self.new 7 }
     {
