@@ -1,6 +1,7 @@
--- What each call of a cache leaves.
-use Rattle.std.proofs.Common.{◌≡◌, ◌≢◌, ◌∙◌, ◌⊎◌, inl, inr, ⊎_elim, ℕ, ◌-◌, ◌<◌, ◌≤◌, List, [], length, get_or, append-nil, Option, Some, None, refl, ap, sym, subst, arith}
+-- What each call of a cache answers and leaves.
+use Rattle.std.proofs.Common.{◌≡◌, ◌≢◌, ◌∙◌, ◌⊎◌, ◌-◌, ◌≤◌, inl, inr, ⊎_elim, ℕ, ◌<◌, true, false, List, replicate, Option, Some, None, refl, ap, sym, subst, arith}
 use Rattle.heap_model.specs.declared.label.Label.{Label}
+use Rattle.command_counts.specs.Counts.{labels_of}
 use Rattle.heap_model.specs.declared.command.Command.{Command}
 use Rattle.heap_model.specs.declared.command.Command.TheVariants.{Alloc, Forget, FullMajor}
 use Rattle.heap_model.specs.declared.entry.Entry.{Entry}
@@ -9,255 +10,199 @@ use Rattle.heap_model.specs.declared.graph.Value.TheVariants.{Int, Block, Nothin
 use Rattle.heap_model.specs.declared.reply.Reply.{Reply}
 use Rattle.heap_model.specs.declared.reply.Reply.TheVariants as reply
 use Rattle.heap_model.specs.declared.state.Sizes.{Sizes}
+use Rattle.heap_model.specs.Commands.{shown}
 use Rattle.heap_model.specs.Domains.{IsWithinLimits}
+use Rattle.heap_model.specs.Graph.{label_of}
 use Rattle.heap_model.specs.History.{IsPrefix, Legal}
 use Rattle.heap_rule.specs.Limits.{sizes_in}
 use Rattle.heap_session.specs.Sessions.{MayPerform, SessionView}
-use Rattle.command_counts.specs.Counts.{labels_of}
-use Rattle.table_laws.specs.Structures.{Binding, IsTable, bindings, bucket_count, datum_at, empty_chains, without}
-use Rattle.table_laws.proofs.MakeLemmas.{binds_nothing}
-use Rattle.table_laws.proofs.StepLemmas.{alloc_step, forget_step}
-use Rattle.table_laws.specs.Stages.{graph_of, held_in}
-use Rattle.table_laws.specs.Thinning.{ThinnedBy, WasOutside}
-use Rattle.table_laws.specs.Performing.{After, Performed}
-use Rattle.table_laws.proofs.LawLemmas.{differ_law}
-use Rattle.table_laws.proofs.LookupLemmas.{without_unbound}
-use Rattle.table_laws.proofs.WalkLemmas.{thinned_length}
-use Rattle.weak_tables.specs.Held.{IsClean, Reads}
-use Rattle.weak_tables.specs.Walks.{Refused}
-use Rattle.weak_tables.specs.Tables.{MakeAnswers, Puts, Takes}
-use Rattle.weak_tables.specs.Tables.{PutAnswers as TablePuts, GetAnswers as TableGets, TakeAnswers as TableTakes}
-use Rattle.weak_tables.specs.Tables.{Counts as TableCounts}
-use Rattle.weak_tables.proofs.RefusedBodies.{other_stays}
-use Rattle.weak_tables.proofs.SearchLemmas.{below_eight, reads_from, set_here}
+use Rattle.table_laws.specs.Structures.{Binding}
+use Rattle.table_laws.specs.Stages.{held_in}
+use Rattle.table_laws.specs.Performing.{Performed}
+use Rattle.map_domains.proofs.Performs.{performs}
+use Rattle.map_laws.proofs.CallLemmas.{alloc_step, forget_step, made as new_label}
+use Rattle.weak_maps.proofs.BesideLemmas.{set_here, sixteen}
+use Rattle.map_laws.specs.Calls.{value_of}
+use Rattle.weak_cache.specs.Uses.{cached_in, put_first, taken, touched}
+use Rattle.weak_cache.specs.Caches.{Gone, OthersSpare, slots_after}
+use Rattle.weak_maps.specs.Beside.{refusals_by}
+use Rattle.weak_cache.specs.Counts.{PutCounts}
+use Rattle.weak_cache.specs.Calls.{GetReturns, LeavesCache, LeavesRegisters, MakeReturns, PutReturns, PutsOrFull, TakeReturns}
+use Rattle.weak_cache.proofs.EndLemmas.{low_beside}
+use Rattle.weak_cache.proofs.LawLemmas.{alone_spares}
 use Rattle.example_cache.specs.declared.cache.Inserted.{Inserted}
-use Rattle.example_cache.specs.declared.cache.Inserted.TheVariants.{Stored, AtBound, NoRoom, NoKey}
-use Rattle.example_cache.specs.Caching.{CacheView, Counts, ForgetAnswers, GetAnswers, HasEntries, HasEntry, Holds, InsertAnswers, IsCache, KeepsAll, KeepsOthers, KeepsRegisters, PutAnswers, SparesTable, holds, inserted_of, entry_of, is_for_key}
-use Rattle.example_cache.proofs.Entries.{Stays, entries_here, is_cache, keeps, keeps_all, keeps_both, spared, stays_after, thins_after, without_length, without_less}
+use Rattle.example_cache.specs.Caching.{CacheView, GetAnswers, HasCache, InsertAnswers, IsCache, KeepsRegisters, KeyAnswers, Leaves, RoomAnswers, SparesCache, TakeAnswers, WasGone, entry_of, holds, inserted_of, places_in}
+use Rattle.example_cache.proofs.Entries.{here, holds_on, is_on, is_same, keeps_same, leaves, left_wider}
 
-prefix_same : (h : List Entry) → IsPrefix h h
-prefix_same h = record { rest = []; appends = sym (append-nil h) }
+shown_same : (v w : Value) → shown v ≡ shown w → v ≡ w
+shown_same (Int a) (Int b) e = cc
+shown_same (Int a) (Block b) e = cc
+shown_same (Int a) Nothing e = cc
+shown_same (Block a) (Int b) e = cc
+shown_same (Block a) (Block b) e = let same : a ≡ b = cc in ap Block same
+shown_same (Block a) Nothing e = cc
+shown_same Nothing (Int b) e = cc
+shown_same Nothing (Block b) e = cc
+shown_same Nothing Nothing e = refl
 
--- no call at all
-pub keeps_same : (c : CacheView) → KeepsAll c c
-keeps_same c = record { sizes = refl; most = refl; grows = prefix_same c.session.front; stays = λ k v p alive e. e; none = λ k p e. e }
-
--- a command that spares the table
-module _ (old new : CacheView) (limits : IsWithinLimits (sizes_in old.session.config)) (sizes : sizes_in new.session.config ≡ sizes_in old.session.config) (most : new.most ≡ old.most) (cache : IsCache old) (c : Command) (r : Reply) (spares : SparesTable c)
-    (p : Performed (sizes_in old.session.config) old.session.front new.session.front c r) where
+-- from one view of a cache to a later one, by what the call on the cache says
+module _ (old new : CacheView) (sizes : sizes_in new.heap.config ≡ sizes_in old.heap.config) (most : new.most ≡ old.most) (has : IsCache old) (grows : IsPrefix old.heap.front new.heap.front) where
   abbrev z : Sizes
-  z = sizes_in old.session.config
+  z = sizes_in old.heap.config
 
-  abbrev step : (rs : List Value) × After z old.session.front new.session.front [] rs × (get_or rs 7 Nothing ≡ held_in z old.session.front 7)
-  step = spared z limits old.session.front new.session.front r c spares p
+  abbrev slots : List (Option Binding)
+  slots = slots_after z old.heap.front has.root
 
-  abbrev stays : Stays z old.session.front new.session.front
-  stays = stays_after z old.session.front new.session.front step.0 cache.0 cache.1 step.1 step.2
+  at_home : (but : ℕ) → 7 ≢ but → LeavesRegisters z 0 old.heap.front new.heap.front but → held_in z new.heap.front 7 ≡ Block has.root
+  at_home but other low = low.1 7 (low_beside 7 (omega arith)) other ∙ has.held
 
-  thins : ThinnedBy (WasOutside z old.session.front new.session.front) (bindings (graph_of z old.session.front) stays.chains) (bindings (graph_of z new.session.front) stays.grown)
-  thins = thins_after z old.session.front new.session.front step.0 cache.0 cache.1 step.1
+  keep_registers : (but : ℕ) → LeavesRegisters z 0 old.heap.front new.heap.front but → KeepsRegisters old new but
+  keep_registers but low r small other = holds_on old new sizes most has r ∙ low.1 r (low_beside r (omega (arith, small))) other
 
-  pub spare_keeps : KeepsAll old new
-  spare_keeps = keeps_all old new sizes most step.1.grows stays thins
+  keep_all : new.heap.front ≡ old.heap.front → (but : ℕ) → KeepsRegisters old new but
+  keep_all same but r small other = holds_on old new sizes most has r ∙ ap (λ (h : List Entry). held_in z h r) same
 
-  pub spare_is : IsCache new
-  spare_is =
-      let less = thinned_length _ _ _ thins in
-      let number = cache.1.number in
-      let few = cache.2 in
-      is_cache old new sizes stays (omega (arith, less, number, few, most))
+  -- a call about a key
+  module _ (k : Label) (but : ℕ) (other : 7 ≢ but) (low : LeavesRegisters z 0 old.heap.front new.heap.front but) (left : List (Option Binding)) (x : LeavesCache z 0 k old.heap.front new.heap.front has.root old.most left) where
+    call_leaves : Leaves old new (Some k) left
+    call_leaves = leaves old new sizes most has grows (at_home but other low) (Some k) left
+        (left_wider (Gone z k old.heap.front new.heap.front) (WasGone old new (Some k)) (λ l gone. (gone.0, (λ e. gone.1 (let same : l ≡ k = cc in same)))) left (slots_after z new.heap.front has.root) x.left)
 
--- a call that only reads
-module _ (old new : CacheView) (sizes : sizes_in new.session.config ≡ sizes_in old.session.config) (most : new.most ≡ old.most) (cache : IsCache old) where
-  abbrev y : Sizes
-  y = sizes_in old.session.config
+    call_is : IsCache new
+    call_is = is_on old new sizes most has grows (at_home but other low) x.cache
 
-  abbrev e : HasEntries y old.session.front cache.0
-  e = cache.1
+  abbrev pub GetSays : ℕ → Value → Reply → Type 0
+  GetSays dst v r = GetAnswers old new dst (label_of v) (entry_of r) × KeepsRegisters old new dst × IsCache new
 
-  module _ (x : Reads y old.session.front new.session.front e.root e.chains) (same : held_in y new.session.front 7 ≡ held_in y old.session.front 7) where
-    abbrev reading : Stays y old.session.front new.session.front
-    reading = record { root = e.root; chains = e.chains; grown = e.chains; held = e.held; table = e.table; held_on = same ∙ e.held; table_on = x.table }
-
-    pub reads_keeps : KeepsAll old new
-    reads_keeps = keeps_all old new sizes most x.goes.grows reading x.thinned
-
-    pub reads_is : IsCache new
-    reads_is =
-        let less = thinned_length _ _ _ x.thinned in
-        let number = e.number in
-        let few = cache.2 in
-        is_cache old new sizes reading (omega (arith, less, number, few, most))
-
--- a call that keeps register 7 and the table's block, where the table may have grown
-module _ (old new : CacheView) (sizes : sizes_in new.session.config ≡ sizes_in old.session.config) (most : new.most ≡ old.most) (count : ℕ) (here : HasEntries (sizes_in old.session.config) old.session.front count) (k : Label) where
-  abbrev w : Sizes
-  w = sizes_in old.session.config
-
-  abbrev put_stays : (v : Value) (x : Puts w old.session.front new.session.front here.root here.chains k v) → Stays w old.session.front new.session.front
-  put_stays v x = record { root = here.root; chains = here.chains; grown = x.grown; held = here.held; table = here.table; held_on = below_eight w old.session.front new.session.front 7 (omega arith) x.keeps ∙ here.held; table_on = x.table }
-
-  pub put_keeps : (v : Value) → Puts w old.session.front new.session.front here.root here.chains k v → KeepsOthers k old new
-  put_keeps v x = keeps (λ j. j ≢ k) old new (without k) sizes most x.goes.grows (put_stays v x) (λ j other bs. other_stays k j bs other) x.left
-
-  pub put_holds : (v : Value) → Puts w old.session.front new.session.front here.root here.chains k v → Holds new k (Some v)
-  put_holds v x =
-      let s = put_stays v x in
-      subst (λ (z : Sizes). HasEntry z new.session.front k (Some v)) (sym sizes) (record { root = s.root; chains = s.grown; held = s.held_on; table = s.table_on; datum = x.bound })
-
-  pub put_is : (v : Value) → count < old.most → Puts w old.session.front new.session.front here.root here.chains k v → IsCache new
-  put_is v fewer x =
-      let s = put_stays v x in
-      let one = without_length k (bindings (graph_of w new.session.front) x.grown) (differ_law (graph_of w new.session.front) here.root x.grown x.table) in
-      let thin = thinned_length _ _ _ x.left in
-      let less = without_less k (bindings (graph_of w old.session.front) here.chains) in
-      let number = here.number in
-      is_cache old new sizes s (omega (arith, one, thin, less, number, fewer, most))
-
-  abbrev take_stays : (x : Takes w old.session.front new.session.front here.root here.chains k) → Stays w old.session.front new.session.front
-  take_stays x = record { root = here.root; chains = here.chains; grown = here.chains; held = here.held; table = here.table; held_on = below_eight w old.session.front new.session.front 7 (omega arith) x.keeps ∙ here.held; table_on = x.table }
-
-  pub take_keeps : Takes w old.session.front new.session.front here.root here.chains k → KeepsOthers k old new
-  take_keeps x = keeps (λ j. j ≢ k) old new (without k) sizes most x.goes.grows (take_stays x) (λ j other bs. other_stays k j bs other)
-      (subst (λ (bs : List Binding). ThinnedBy (WasOutside w old.session.front new.session.front) (without k (bindings (graph_of w old.session.front) here.chains)) bs) (sym (without_unbound k _ x.none)) x.left)
-
-  pub none_holds : held_in w new.session.front 7 ≡ held_in w old.session.front 7 → IsTable (graph_of w new.session.front) here.root here.chains → datum_at (bindings (graph_of w new.session.front) here.chains) k ≡ None → Holds new k None
-  none_holds same table none = subst (λ (z : Sizes). HasEntry z new.session.front k None) (sym sizes) (record { root = here.root; chains = here.chains; held = same ∙ here.held; table = table; datum = none })
-
-  pub take_is : count ≤ old.most → Takes w old.session.front new.session.front here.root here.chains k → IsCache new
-  take_is few x =
-      let thin = thinned_length _ _ _ x.left in
-      let less = without_less k (bindings (graph_of w old.session.front) here.chains) in
-      let number = here.number in
-      is_cache old new sizes (take_stays x) (omega (arith, thin, less, number, few, most))
-
--- by what the call on the table answers
-module _ (old new : CacheView) (legal : Legal (sizes_in old.session.config) old.session.front) (sizes : sizes_in new.session.config ≡ sizes_in old.session.config) (most : new.most ≡ old.most) (cache : IsCache old) where
-  abbrev x : Sizes
-  x = sizes_in old.session.config
-
-  abbrev f : List Entry
-  f = old.session.front
-
-  abbrev g : List Entry
-  g = new.session.front
-
-  abbrev b : HasEntries x f cache.0
-  b = cache.1
-
-  not_at_all : g ≡ f → Reads x f g b.root b.chains
-  not_at_all same = subst (λ (h : List Entry). Reads x f h b.root b.chains) (sym same) (reads_from x f b.root b.chains legal b.table)
-
-  held_at_all : g ≡ f → held_in x g 7 ≡ held_in x f 7
-  held_at_all same = ap (λ (h : List Entry). held_in x h 7) same
-
-  pub same_keeps : g ≡ f → KeepsAll old new × IsCache new
-  same_keeps same = (reads_keeps old new sizes most cache (not_at_all same) (held_at_all same), reads_is old new sizes most cache (not_at_all same) (held_at_all same))
-
-  put_full : Refused x f g b.root b.chains → KeepsAll old new × IsCache new
-  put_full r = let same = below_eight x f g 7 (omega arith) r.keeps in (reads_keeps old new sizes most cache r.reads same, reads_is old new sizes most cache r.reads same)
-
-  put_case : cache.0 < old.most → (k : Label) (v : Value) → v ≢ Nothing → (r : Reply) → ((r ≡ reply.Done) × Puts x f g b.root b.chains k v) ⊎ ((r ≡ reply.Full) × Refused x f g b.root b.chains × IsClean x g) → PutAnswers old new (Some k) v (inserted_of r) × IsCache new
-  put_case fewer k v some r = ⊎_elim
-      (λ done. subst (λ (a : Reply). PutAnswers old new (Some k) v (inserted_of a) × IsCache new) (sym done.0) ((k, refl, some, put_holds old new sizes most cache.0 b k v done.1, put_keeps old new sizes most cache.0 b k v done.1), put_is old new sizes most cache.0 b k v fewer done.1))
-      (λ full. subst (λ (a : Reply). PutAnswers old new (Some k) v (inserted_of a) × IsCache new) (sym full.0) (put_full full.1))
-
-  pub put_answers : cache.0 < old.most → (o : Option Label) (v : Value) (r : Reply) → TablePuts x f g b.root b.chains o v r → PutAnswers old new o v (inserted_of r) × IsCache new
-  put_answers fewer None v r says = let kept = same_keeps says.1 in subst (λ (a : Reply). PutAnswers old new None v (inserted_of a) × IsCache new) (sym says.0) ((inl refl, kept.0), kept.1)
-  put_answers fewer (Some k) Nothing r says = let kept = same_keeps says.1 in subst (λ (a : Reply). PutAnswers old new (Some k) Nothing (inserted_of a) × IsCache new) (sym says.0) ((inr refl, kept.0), kept.1)
-  put_answers fewer (Some k) (Int i) r says = put_case fewer k (Int i) (λ e. cc) r says
-  put_answers fewer (Some k) (Block l) r says = put_case fewer k (Block l) (λ e. cc) r says
-
-  pub get_answers : (dst : ℕ) → dst < 7 → (o : Option Label) (r : Reply) → TableGets x f g b.root b.chains dst o r → GetAnswers old new o (entry_of r) × KeepsAll old new × IsCache new
-  get_answers dst few None r says = let kept = same_keeps says.1 in (ap entry_of says.0, kept.0, kept.1)
-  get_answers dst few (Some k) r says =
-      let same : held_in x g 7 ≡ held_in x f 7 = says.keeps 7 (λ e. absurd (omega arith)) (λ e. absurd (omega arith)) (λ e. absurd (omega arith)) (λ e. absurd (omega (arith, e, few))) in (
-        (says.found, record { root = b.root; chains = b.chains; held = b.held; table = b.table; front = says.front; since = says.since; until = says.until; datum = says.bound }, ap entry_of says.answers),
-        reads_keeps old new sizes most cache says.reads same,
-        reads_is old new sizes most cache says.reads same,
+  pub get_says : (dst : ℕ) → dst < 7 → (v : Value) (r : Reply) → GetReturns z 0 old.heap.front new.heap.front has.root old.most dst v r → GetSays dst v r
+  get_says dst few (Block k) r x =
+      let apart : 7 ≢ dst = λ e. absurd (omega (arith, few, e)) in (
+        subst (λ (ps : List (Option Binding)). (entry_of r ≡ entry_of (shown (value_of (cached_in k ps)))) × (holds new dst ≡ value_of (cached_in k ps)) × Leaves old new (Some k) (touched k (cached_in k ps) ps)) (sym (here old new sizes most has)) (
+          ap entry_of x.0,
+          holds_on old new sizes most has dst ∙ shown_same _ (value_of (cached_in k slots)) (x.1 ∙ x.0),
+          call_leaves k dst apart x.3 (touched k (cached_in k slots) slots) x.2,
+        ),
+        keep_registers dst x.3,
+        call_is k dst apart x.3 (touched k (cached_in k slots) slots) x.2,
       )
+  get_says dst few (Int i) r x = ((ap entry_of x.0, keeps_same old new sizes most has x.1 None), keep_all x.1 dst, is_same old new sizes most has x.1)
+  get_says dst few Nothing r x = ((ap entry_of x.0, keeps_same old new sizes most has x.1 None), keep_all x.1 dst, is_same old new sizes most has x.1)
 
-  pub take_answers : (o : Option Label) (r : Reply) → TableTakes x f g b.root b.chains o r → ForgetAnswers old new o (is_for_key r) × IsCache new
-  take_answers None r says = let kept = same_keeps says.1 in ((ap is_for_key says.0, kept.0), kept.1)
-  take_answers (Some k) r says = ⊎_elim
-      (λ done.
-      let same = below_eight x f g 7 (omega arith) done.1.keeps in
-      ((ap is_for_key done.0, none_holds old new sizes most cache.0 b k same done.1.table done.1.none, take_keeps old new sizes most cache.0 b k done.1), take_is old new sizes most cache.0 b k cache.2 done.1))
-      (λ empty.
-      let same = below_eight x f g 7 (omega arith) empty.2 in
-      let all = reads_keeps old new sizes most cache empty.1.reads same in
-      ((ap is_for_key empty.0, none_holds old new sizes most cache.0 b k same empty.1.reads.table empty.3, record { sizes = all.sizes; most = all.most; grows = all.grows; stays = λ j v p alive e. all.stays j v tt alive e; none = λ j p e. all.none j tt e }), reads_is old new sizes most cache empty.1.reads same))
-      says
+  abbrev pub TakeSays : ℕ → Value → Reply → Type 0
+  TakeSays dst v r = TakeAnswers old new dst (label_of v) (entry_of r) × KeepsRegisters old new dst × IsCache new
 
-  pub count_answers : (n : ℕ) → TableCounts x f g b.root b.chains n → Counts old new n × KeepsRegisters old new × KeepsAll old new × IsCache new
-  count_answers n says =
-      let same = below_eight x f g 7 (omega arith) says.keeps in
-      let number = b.number in
-      let many = says.many in (
-        record {
-          first = cache.0;
-          last = length (bindings (graph_of x g) b.chains);
-          before = b;
-          after = subst (λ (z : Sizes). HasEntries z g (length (bindings (graph_of x g) b.chains))) (sym sizes) (record { root = b.root; chains = b.chains; held = same ∙ b.held; table = says.leaves.reads.table; number = refl });
-          bound = cache.2;
-          most = omega (arith, many, number);
-          least = says.few;
-        },
-        λ r few. subst (λ (z : Sizes). held_in z g r ≡ held_in x f r) (sym sizes) (below_eight x f g r (omega (arith, few)) says.keeps),
-        reads_keeps old new sizes most cache says.leaves.reads same,
-        reads_is old new sizes most cache says.leaves.reads same,
+  pub take_says : (dst : ℕ) → dst < 7 → (v : Value) (r : Reply) → TakeReturns z 0 old.heap.front new.heap.front has.root old.most dst v r → TakeSays dst v r
+  take_says dst few (Block k) r x =
+      let apart : 7 ≢ dst = λ e. absurd (omega (arith, few, e)) in (
+        subst (λ (ps : List (Option Binding)). (entry_of r ≡ entry_of (shown (value_of (cached_in k ps)))) × (holds new dst ≡ value_of (cached_in k ps)) × Leaves old new (Some k) (taken k ps)) (sym (here old new sizes most has)) (
+          ap entry_of x.0,
+          holds_on old new sizes most has dst ∙ shown_same _ (value_of (cached_in k slots)) (x.1 ∙ x.0),
+          call_leaves k dst apart x.3 (taken k slots) x.2,
+        ),
+        keep_registers dst x.3,
+        call_is k dst apart x.3 (taken k slots) x.2,
       )
+  take_says dst few (Int i) r x = ((ap entry_of x.0, keeps_same old new sizes most has x.1 None), keep_all x.1 dst, is_same old new sizes most has x.1)
+  take_says dst few Nothing r x = ((ap entry_of x.0, keeps_same old new sizes most has x.1 None), keep_all x.1 dst, is_same old new sizes most has x.1)
 
--- an insertion whose count came first
-pub insert_answers : (old mid new : CacheView) (key : Option Label) (item : Value) (r : Inserted) → KeepsAll old mid → PutAnswers mid new key item r → InsertAnswers old new key item r
-insert_answers old mid new key item Stored a p = (p.0, p.1, p.2, p.3, keeps_both _ old mid new a p.4)
-insert_answers old mid new key item AtBound a p = absurd p
-insert_answers old mid new key item NoRoom a p = keeps_both _ old mid new a p
-insert_answers old mid new key item NoKey a p = (p.0, keeps_both _ old mid new a p.1)
+  abbrev pub PutSays : Value → Value → Reply → Type 0
+  PutSays key item r = InsertAnswers old new (label_of key) item (inserted_of r) × KeepsRegisters old new 7 × IsCache new
 
--- as many entries as there may be
-pub at_bound : (old mid : CacheView) (n : ℕ) → Counts old mid n → old.most ≤ n → HasEntries (sizes_in old.session.config) old.session.front old.most
-at_bound old mid n c many =
-    let few = c.bound in
-    let most = c.most in
-    let all : c.first ≡ old.most = omega (arith, few, most, many) in
-    subst (HasEntries (sizes_in old.session.config) old.session.front) all c.before
+  put_stores : (k : Label) (item : Value) (r : Reply) → item ≢ Nothing → PutsOrFull z 0 old.heap.front new.heap.front has.root old.most k item r → PutSays (Block k) item r
+  put_stores k item r some (low, stored) =
+      let apart : 7 ≢ 9 = λ e. absurd (omega (arith, e)) in
+      let registers : KeepsRegisters old new 7 = λ i small other. keep_registers 9 low i small (λ e. absurd (omega (arith, small, e))) in
+      ⊎_elim
+      (λ done. (
+        subst (λ (a : Inserted). InsertAnswers old new (Some k) item a) (sym (ap inserted_of done.0))
+            (k, refl, some, subst (λ (ps : List (Option Binding)). Leaves old new (Some k) (put_first k item ps)) (sym (here old new sizes most has)) (call_leaves k 9 apart low (put_first k item slots) done.1)),
+        registers,
+        call_is k 9 apart low (put_first k item slots) done.1,
+      ))
+      (λ full. (
+        subst (λ (a : Inserted). InsertAnswers old new (Some k) item a) (sym (ap inserted_of full.0))
+            (subst (λ (ps : List (Option Binding)). Leaves old new (Some k) ps) (sym (here old new sizes most has)) (call_leaves k 9 apart low slots full.1)),
+        registers,
+        call_is k 9 apart low slots full.1,
+      ))
+      stored
 
--- a register that was emptied, and one that holds a new key
-module _ (old new : CacheView) (limits : IsWithinLimits (sizes_in old.session.config)) (sizes : sizes_in new.session.config ≡ sizes_in old.session.config) (r : ℕ) (few : r < 7) (a : Reply) where
-  abbrev o : Sizes
-  o = sizes_in old.session.config
+  put_none : (key item : Value) (r : Reply) → (label_of key ≡ None) ⊎ (item ≡ Nothing) → (r ≡ reply.BadType) × (new.heap.front ≡ old.heap.front) → PutSays key item r
+  put_none key item r none x = (
+    subst (λ (a : Inserted). InsertAnswers old new (label_of key) item a) (sym (ap inserted_of x.0)) (none, keeps_same old new sizes most has x.1 (label_of key)),
+    keep_all x.1 7,
+    is_same old new sizes most has x.1,
+  )
 
-  pub forgotten : Performed o old.session.front new.session.front (Forget r) a → holds new r ≡ Nothing
-  forgotten p = subst (λ (z : Sizes). held_in z new.session.front r ≡ Nothing) (sym sizes)
-      (set_here o limits old.session.front old.session.front new.session.front r Nothing (forget_step o limits old.session.front new.session.front a r p).0.registers_are (omega (arith, few)))
+  pub put_says : (key item : Value) (r : Reply) → PutReturns z 0 old.heap.front new.heap.front has.root old.most key item r → PutSays key item r
+  put_says (Block k) (Int i) r x = put_stores k (Int i) r (λ e. cc) x
+  put_says (Block k) (Block l) r x = put_stores k (Block l) r (λ e. cc) x
+  put_says (Block k) Nothing r x = put_none (Block k) Nothing r (inr refl) x
+  put_says (Int a) item r x = put_none (Int a) item r (inl refl) x
+  put_says Nothing item r x = put_none Nothing item r (inl refl) x
 
-  pub key_made : (l : Label) → a ≡ reply.Block l → Performed o old.session.front new.session.front (Alloc r 0 1) a → (k : Label) × (holds new r ≡ Block k)
-  key_made l is p = ⊎_elim
-      (λ refused. absurd (let clash : reply.Block l ≡ reply.Full = sym is ∙ refused.1 in cc))
-      (λ made. (made.0, subst (λ (z : Sizes). held_in z new.session.front r ≡ Block made.0) (sym sizes) (set_here o limits old.session.front old.session.front new.session.front r (Block made.0) made.1.registers_are (omega (arith, few)))))
-      (alloc_step o limits old.session.front new.session.front a r 0 1 p)
+-- nobody else uses a cache on a session
+pub alone : (old new : CacheView) (root : Label) (first last : SessionView) → sizes_in new.heap.config ≡ sizes_in old.heap.config → first ≡ old.heap → last ≡ new.heap → first.config.domains ≡ 1 → Legal (sizes_in last.config) last.front
+    → OthersSpare (sizes_in old.heap.config) root 0 old.heap.front new.heap.front
+alone old new root first last sizes is_first is_last one legal = alone_spares (sizes_in old.heap.config) root old.heap.front new.heap.front (subst (λ (s : SessionView). s.config.domains ≡ 1) is_first one)
+    (subst (λ (w : Sizes). Legal w new.heap.front) sizes (subst (λ (s : SessionView). Legal (sizes_in s.config) s.front) is_last legal))
 
--- a new table has no entries
-pub table_made : (z y : Sizes) (old new : List Entry) (a : Reply) (l : Label) → y ≡ z → a ≡ reply.Block l → MakeAnswers z old new 7 a → HasEntries y new 0 × ((k : Label) → HasEntry y new k None)
-table_made z y old new a l same is made = ⊎_elim
-    (λ m. subst (λ (x : Sizes). HasEntries x new 0 × ((k : Label) → HasEntry x new k None)) (sym same) (
-      record { root = m.0; chains = empty_chains bucket_count; held = m.2.holds; table = m.2.table; number = ap (λ (bs : List Binding). length bs) (binds_nothing (graph_of z new)) },
-      λ k. record { root = m.0; chains = empty_chains bucket_count; held = m.2.holds; table = m.2.table; datum = ap (λ (bs : List Binding). datum_at bs k) (binds_nothing (graph_of z new)) },
+-- a new cache
+pub made : (z y : Sizes) (old new : List Entry) (size : ℕ) (r : Reply) (l : Label) → y ≡ z → r ≡ reply.Block l → MakeReturns z 0 old new 7 size r → HasCache y new size × (places_in y new (held_in y new 7) ≡ replicate size None)
+made z y old new size r l same is x = ⊎_elim
+    (λ m. subst (λ (w : Sizes). HasCache w new size × (places_in w new (held_in w new 7) ≡ replicate size None)) (sym same) (
+      record { root = m.0; held = m.2.holds; cache = m.2.cache },
+      ap (places_in z new) m.2.holds ∙ m.2.empty,
     ))
     (λ full. absurd (let clash : reply.Block l ≡ reply.Full = sym is ∙ full.0 in cc))
-    made
+    x
 
--- a command that spares the table may be made where its label is left
-pub may_spare : (s : SessionView) (c : Command) → SparesTable c → labels_of c ≤ 4294967295 - s.labels → MayPerform s c
+-- a register that a command writes
+module _ (old new : CacheView) (limits : IsWithinLimits (sizes_in old.heap.config)) (sizes : sizes_in new.heap.config ≡ sizes_in old.heap.config) (r : ℕ) (few : r < 7) (a : Reply) where
+  abbrev o : Sizes
+  o = sizes_in old.heap.config
+
+  pub forgotten : Performed o old.heap.front new.heap.front (Forget r) a → holds new r ≡ Nothing
+  forgotten p =
+      let q = performs o old.heap.front new.heap.front (Forget r) a p in
+      subst (λ (w : Sizes). held_in w new.heap.front r ≡ Nothing) (sym sizes)
+      (set_here o 0 old.heap.front new.heap.front r Nothing (forget_step o 0 old.heap.front new.heap.front a r q).1 (sixteen o 0 old.heap.front new.heap.front (Forget r) a q limits) (omega (arith, few)))
+
+  abbrev Made : Reply → Type 0
+  Made b = Performed o old.heap.front new.heap.front (Alloc r 0 1) b
+
+  pub key_made : (l : Label) → a ≡ reply.Block l → Made a → KeyAnswers old new r true
+  key_made l is p =
+      let q = performs o old.heap.front new.heap.front (Alloc r 0 1) a p in
+      ⊎_elim
+      (λ refused. absurd (let clash : reply.Block l ≡ reply.Full = sym is ∙ refused.1.2 in cc))
+      (λ granted.
+      let k : Label = new_label o 0 old.heap.front new.heap.front (Alloc r 0 1) a q in (
+        k,
+        subst Made granted.2.2 p,
+        subst (λ (w : Sizes). held_in w new.heap.front r ≡ Block k) (sym sizes)
+            (set_here o 0 old.heap.front new.heap.front r (Block k) granted.2.1 (sixteen o 0 old.heap.front new.heap.front (Alloc r 0 1) a q limits) (omega (arith, few))),
+      ))
+      (alloc_step o 0 old.heap.front new.heap.front a r 0 1 q)
+
+  pub key_refused : ((l : Label) → a ≡ reply.Block l → ⊥) → Made a → KeyAnswers old new r false
+  key_refused none p =
+      let q = performs o old.heap.front new.heap.front (Alloc r 0 1) a p in
+      ⊎_elim
+      (λ refused. inr (subst Made refused.1.2 p))
+      (λ granted. absurd (none (new_label o 0 old.heap.front new.heap.front (Alloc r 0 1) a q) granted.2.2))
+      (alloc_step o 0 old.heap.front new.heap.front a r 0 1 q)
+
+-- what a put counts
+pub room_says : (old new : CacheView) (r : Reply) (labels left : ℕ) → old.heap.labels < 4294967295 → 0 < old.heap.room → PutCounts labels left (refusals_by 0 old.heap.front) (refusals_by 0 new.heap.front) r → RoomAnswers old new (inserted_of r)
+room_says old new reply.Done labels left some fits x = (some, fits, x.0)
+room_says old new reply.Full labels left some fits x = inr (inr x.0)
+room_says old new reply.BadType labels left some fits x = (some, fits, x.0)
+room_says old new r labels left some fits x = absurd x
+
+-- a command that spares the cache may be made where its label is left
+pub may_spare : (s : SessionView) (c : Command) → SparesCache c → labels_of c ≤ 4294967295 - s.labels → MayPerform s c
 may_spare s (Alloc dst tag fields) spares few = record { fits = (let below = spares.0 in omega (arith, below), spares.1, spares.2, spares.3); enlists = omega arith; room = omega arith; labels = few }
 may_spare s (Forget dst) spares few = record { fits = omega (arith, spares); enlists = omega arith; room = omega arith; labels = few }
 may_spare s FullMajor spares few = record { fits = tt; enlists = omega arith; room = omega arith; labels = few }
 may_spare s c spares few = absurd spares
-
--- a cache that has fewer entries than it may have
-pub few_here : (old : CacheView) (cache : IsCache old) (n : ℕ) → HasEntries (sizes_in old.session.config) old.session.front n → n < old.most → cache.0 < old.most
-few_here old cache n h few =
-    let first = entries_here (sizes_in old.session.config) old.session.front cache.1.root cache.1.chains cache.1.held cache.1.table n h in
-    let number = cache.1.number in
-    omega (arith, first, number, few)

@@ -1,5 +1,5 @@
 -- A cache as the program that uses it sees it.
-use Rattle.std.specs.Prelude.{◌≡◌, ◌≢◌, ◌⊎◌, ℕ, ◌<◌, ◌≤◌, Bool, true, false, List, length, Option, Some, None}
+use Rattle.std.specs.Prelude.{◌≡◌, ◌≢◌, ◌⊎◌, ℕ, ◌+◌, ◌<◌, ◌≤◌, Bool, true, false, List, [], Option, Some, None}
 use Rattle.heap_model.specs.declared.command.Command.{Command}
 use Rattle.heap_model.specs.declared.command.Command.TheVariants.{Alloc, Forget, FullMajor}
 use Rattle.heap_model.specs.declared.label.Label.{Label}
@@ -7,139 +7,120 @@ use Rattle.heap_model.specs.declared.entry.Entry.{Entry}
 use Rattle.heap_model.specs.declared.graph.Value.{Value}
 use Rattle.heap_model.specs.declared.graph.Value.TheVariants.{Block, Nothing}
 use Rattle.heap_model.specs.declared.reply.Reply.{Reply}
-use Rattle.heap_model.specs.declared.reply.Reply.TheVariants.{BadType, Empty, Full}
+use Rattle.heap_model.specs.declared.reply.Reply.TheVariants as reply
 use Rattle.heap_model.specs.declared.state.Sizes.{Sizes}
 use Rattle.heap_model.specs.Commands.{shown}
 use Rattle.heap_model.specs.History.{IsPrefix}
 use Rattle.heap_rule.specs.Limits.{sizes_in}
 use Rattle.heap_session.specs.Sessions.{SessionView}
-use Rattle.table_laws.specs.Structures.{Cell, IsTable, bindings, datum_at}
+use Rattle.table_laws.specs.Structures.{Binding}
 use Rattle.table_laws.specs.Stages.{graph_of, held_in}
-use Rattle.table_laws.specs.Thinning.{WasOutside}
-use Rattle.weak_tables.specs.Commands.{value_of}
+use Rattle.table_laws.specs.Performing.{Performed}
+use Rattle.map_laws.specs.Steps.{WasUnreached}
+use Rattle.map_laws.specs.Calls.{value_of}
+use Rattle.weak_maps.specs.Beside.{refusals_by}
+use Rattle.weak_cache.specs.Uses.{SlotsLeft, cached_in, put_first, taken, touched}
+use Rattle.weak_cache.specs.Caches.{slots_after}
+use Rattle.weak_cache.specs.Caches as weak
 use Rattle.example_cache.specs.declared.cache.Inserted.{Inserted}
-use Rattle.example_cache.specs.declared.cache.Inserted.TheVariants.{Stored, AtBound, NoRoom, NoKey}
+use Rattle.example_cache.specs.declared.cache.Inserted.TheVariants.{Stored, NoRoom, NoKey}
 
 -- a cache: the heap, and how many entries it has at most
 pub record CacheView : Type 0 where
-  pub session : SessionView
+  pub heap : SessionView
   pub most : ℕ
 
 -- what a register of the program holds
 abbrev pub holds : CacheView → ℕ → Value
-holds c r = held_in (sizes_in c.session.config) c.session.front r
+holds c r = held_in (sizes_in c.heap.config) c.heap.front r
 
--- after a history the table in register 7 has so many entries
-pub record HasEntries (z : Sizes) (h : List Entry) (count : ℕ) : Type 0 where
+-- the block of a cache of so many slots is in register 7
+pub record HasCache (z : Sizes) (h : List Entry) (size : ℕ) : Type 0 where
   pub root : Label
-  pub chains : List (List Cell)
   pub held : held_in z h 7 ≡ Block root
-  pub table : IsTable (graph_of z h) root chains
-  pub number : length (bindings (graph_of z h) chains) ≡ count
+  pub cache : weak.IsCache (graph_of z h) root size
 
--- and of this key this one, or none
-pub record HasEntry (z : Sizes) (h : List Entry) (k : Label) (entry : Option Value) : Type 0 where
-  pub root : Label
-  pub chains : List (List Cell)
-  pub held : held_in z h 7 ≡ Block root
-  pub table : IsTable (graph_of z h) root chains
-  pub datum : datum_at (bindings (graph_of z h) chains) k ≡ entry
-
--- there is a table, with no more entries than there may be
 abbrev pub IsCache : CacheView → Type 0
-IsCache c = (count : ℕ) × HasEntries (sizes_in c.session.config) c.session.front count × (count ≤ c.most)
+IsCache c = HasCache (sizes_in c.heap.config) c.heap.front c.most
 
--- the cache has this entry of a key, or none
-abbrev pub Holds : CacheView → Label → Option Value → Type 0
-Holds c k entry = HasEntry (sizes_in c.session.config) c.session.front k entry
+-- the places of a cache in the order of use, the last used first: each has a key and its entry, or nothing
+abbrev pub places_in : Sizes → List Entry → Value → List (Option Binding)
+places_in z h (Block root) = slots_after z h root
+places_in z h v = []
 
--- the key was outside reach at some moment of the call
-abbrev pub WasGone : CacheView → CacheView → Label → Type 0
-WasGone old new k = WasOutside (sizes_in old.session.config) old.session.front new.session.front k
+abbrev pub places : CacheView → List (Option Binding)
+places c = places_in (sizes_in c.heap.config) c.heap.front (holds c 7)
 
--- of these keys no entry was lost but of keys that were gone, and none was put
-pub record KeepsEntries (P : Label → Type 0) (old new : CacheView) : Type 0 where
-  pub sizes : sizes_in new.session.config ≡ sizes_in old.session.config
+-- the entry of a key, or none
+abbrev pub entry : CacheView → Label → Option Value
+entry c k = cached_in k (places c)
+
+-- a key was outside reach at some moment of a call, and isn't the one that the call is about
+abbrev pub WasGone : CacheView → CacheView → Option Label → Label → Type 0
+WasGone old new key k = WasUnreached (sizes_in old.heap.config) old.heap.front new.heap.front k × (key ≢ Some k)
+
+-- a call leaves these places, but for the entries of keys that were gone, and the bound as it was
+pub record Leaves (old new : CacheView) (key : Option Label) (left : List (Option Binding)) : Type 0 where
   pub most : new.most ≡ old.most
-  pub grows : IsPrefix old.session.front new.session.front
-  pub stays : (k : Label) (v : Value) → P k → (WasGone old new k → ⊥) → Holds old k (Some v) → Holds new k (Some v)
-  pub none : (k : Label) → P k → Holds old k None → Holds new k None
+  pub sizes : sizes_in new.heap.config ≡ sizes_in old.heap.config
+  pub grows : IsPrefix old.heap.front new.heap.front
+  pub places : SlotsLeft (WasGone old new key) left (places new)
 
--- of all keys
+-- it leaves all as it was
 abbrev pub KeepsAll : CacheView → CacheView → Type 0
-KeepsAll old new = KeepsEntries (λ k. Unit {0}) old new
+KeepsAll old new = Leaves old new None (places old)
 
--- of all but one
-abbrev pub KeepsOthers : Label → CacheView → CacheView → Type 0
-KeepsOthers key old new = KeepsEntries (λ k. k ≢ key) old new
+-- the program's registers hold what they held, all but one
+abbrev pub KeepsRegisters : CacheView → CacheView → ℕ → Type 0
+KeepsRegisters old new but = (r : ℕ) → r < 7 → r ≢ but → holds new r ≡ holds old r
 
--- commands that change no block of the table, nor register 7
-abbrev pub SparesTable : Command → Type 0
-SparesTable (Alloc dst tag fields) = (dst < 7) × (tag ≤ 245) × (1 ≤ fields) × (fields ≤ 1022)
-SparesTable (Forget dst) = dst < 7
-SparesTable FullMajor = Unit {0}
-SparesTable _ = ⊥
+-- commands that change no block of the cache, nor register 7
+abbrev pub SparesCache : Command → Type 0
+SparesCache (Alloc dst tag fields) = (dst < 7) × (tag ≤ 245) × (1 ≤ fields) × (fields ≤ 1022)
+SparesCache (Forget dst) = dst < 7
+SparesCache FullMajor = Unit {0}
+SparesCache _ = ⊥
 
--- so many entries were counted: no more than at the start, and no fewer than at the end
-pub record Counts (old new : CacheView) (count : ℕ) : Type 0 where
-  pub first : ℕ
-  pub last : ℕ
-  pub before : HasEntries (sizes_in old.session.config) old.session.front first
-  pub after : HasEntries (sizes_in new.session.config) new.session.front last
-  pub bound : first ≤ old.most
-  pub most : count ≤ first
-  pub least : last ≤ count
+-- registers that such a command leaves
+abbrev pub IsKept : Command → ℕ → Type 0
+IsKept (Alloc dst tag fields) r = r ≢ dst
+IsKept (Forget dst) r = r ≢ dst
+IsKept _ r = Unit {0}
 
--- and the program's registers hold what they held
-abbrev pub KeepsRegisters : CacheView → CacheView → Type 0
-KeepsRegisters old new = (r : ℕ) → r < 7 → holds new r ≡ holds old r
+-- what making a key answers: a block that was made; or none was, where no label is left or the allocation was refused
+abbrev pub KeyAnswers : CacheView → CacheView → ℕ → Bool → Type 0
+KeyAnswers old new r true = (k : Label) × Performed (sizes_in old.heap.config) old.heap.front new.heap.front (Alloc r 0 1) (reply.Block k) × (holds new r ≡ Block k)
+KeyAnswers old new r false = ((old.heap.labels ≡ 4294967295) × (new.heap.front ≡ old.heap.front)) ⊎ Performed (sizes_in old.heap.config) old.heap.front new.heap.front (Alloc r 0 1) reply.Full
 
--- what an insertion leaves: the new entry, and of other keys what it had; or what it had, where it had as many entries as it may have, the heap had no room, or one register held no key or the other nothing
+-- the heap has no room for an insertion exactly where no label is left, no ephemeron fits, or an allocation was refused
+abbrev pub RoomAnswers : CacheView → CacheView → Inserted → Type 0
+RoomAnswers old new NoRoom = (old.heap.labels ≡ 4294967295) ⊎ (old.heap.room ≡ 0) ⊎ (refusals_by 0 new.heap.front ≡ refusals_by 0 old.heap.front + 1)
+RoomAnswers old new r = (old.heap.labels < 4294967295) × (0 < old.heap.room) × (refusals_by 0 new.heap.front ≡ refusals_by 0 old.heap.front)
+
+-- what an insertion leaves: the new entry first, for which the last goes unless the key had one; or what there was, where the heap had no room, or one register held no key or the other nothing
 abbrev pub InsertAnswers : CacheView → CacheView → Option Label → Value → Inserted → Type 0
-InsertAnswers old new key item Stored = (k : Label) × (key ≡ Some k) × (item ≢ Nothing) × Holds new k (Some item) × KeepsOthers k old new
-InsertAnswers old new key item AtBound = HasEntries (sizes_in old.session.config) old.session.front old.most × KeepsAll old new
-InsertAnswers old new key item NoRoom = KeepsAll old new
-InsertAnswers old new key item NoKey = ((key ≡ None) ⊎ (item ≡ Nothing)) × KeepsAll old new
-
--- the same where the cache had fewer
-abbrev pub PutAnswers : CacheView → CacheView → Option Label → Value → Inserted → Type 0
-PutAnswers old new key item AtBound = ⊥
-PutAnswers old new key item r = InsertAnswers old new key item r
-
--- at some moment of a call the cache had this entry of a key, or none
-pub record HadEntry (old new : CacheView) (k : Label) (entry : Option Value) : Type 0 where
-  pub root : Label
-  pub chains : List (List Cell)
-  pub held : holds old 7 ≡ Block root
-  pub table : IsTable (graph_of (sizes_in old.session.config) old.session.front) root chains
-  pub front : List Entry
-  pub since : IsPrefix old.session.front front
-  pub until : IsPrefix front new.session.front
-  pub datum : datum_at (bindings (graph_of (sizes_in old.session.config) front) chains) k ≡ entry
+InsertAnswers old new key item Stored = (k : Label) × (key ≡ Some k) × (item ≢ Nothing) × Leaves old new key (put_first k item (places old))
+InsertAnswers old new key item NoRoom = Leaves old new key (places old)
+InsertAnswers old new key item NoKey = ((key ≡ None) ⊎ (item ≡ Nothing)) × Leaves old new key (places old)
 
 -- the entry that a reply shows, if it shows one
 abbrev pub entry_of : Reply → Option Reply
-entry_of BadType = None
-entry_of Empty = None
+entry_of reply.BadType = None
+entry_of reply.Empty = None
 entry_of r = Some r
-
--- what a look-up answers: nothing where the register holds no key, or the cache had no entry of it, and else the entry
-abbrev pub GetAnswers : CacheView → CacheView → Option Label → Option Reply → Type 0
-GetAnswers old new None result = result ≡ None
-GetAnswers old new (Some k) result = (entry : Option Value) × HadEntry old new k entry × (result ≡ entry_of (shown (value_of entry)))
-
--- whether a reply says that a register held a key
-abbrev pub is_for_key : Reply → Bool
-is_for_key BadType = false
-is_for_key r = true
 
 -- what the reply of a put says of it
 abbrev pub inserted_of : Reply → Inserted
-inserted_of BadType = NoKey
-inserted_of Full = NoRoom
+inserted_of reply.BadType = NoKey
+inserted_of reply.Full = NoRoom
 inserted_of r = Stored
 
--- what is forgotten: the entry of the key in a register, if there was one
-abbrev pub ForgetAnswers : CacheView → CacheView → Option Label → Bool → Type 0
-ForgetAnswers old new None result = (result ≡ false) × KeepsAll old new
-ForgetAnswers old new (Some k) result = (result ≡ true) × Holds new k None × KeepsOthers k old new
+-- what a look-up answers and leaves: nothing where the register holds no key, or the cache has no entry of it; else the entry, whose key is the last used then
+abbrev pub GetAnswers : CacheView → CacheView → ℕ → Option Label → Option Reply → Type 0
+GetAnswers old new dst None result = (result ≡ None) × Leaves old new None (places old)
+GetAnswers old new dst (Some k) result = (result ≡ entry_of (shown (value_of (entry old k)))) × (holds new dst ≡ value_of (entry old k)) × Leaves old new (Some k) (touched k (entry old k) (places old))
+
+-- what taking an entry out answers and leaves: the cache has none of the key then
+abbrev pub TakeAnswers : CacheView → CacheView → ℕ → Option Label → Option Reply → Type 0
+TakeAnswers old new dst None result = (result ≡ None) × Leaves old new None (places old)
+TakeAnswers old new dst (Some k) result = (result ≡ entry_of (shown (value_of (entry old k)))) × (holds new dst ≡ value_of (entry old k)) × Leaves old new (Some k) (taken k (places old))

@@ -1,34 +1,31 @@
 //! A cache, and its calls.
-ghost use Rattle.std.specs.Prelude.{◌≡◌, ◌<◌, ◌≤◌, ◌-◌, ℕ, IfOk, None, true};
+ghost use Rattle.std.specs.Prelude.{◌≡◌, ◌<◌, ◌≤◌, ◌-◌, ℕ, IfOk, None, replicate};
 ghost use Rattle.command_counts.specs.Counts.{labels_of};
 ghost use Rattle.heap_model.specs.Domains.{IsWithinLimits};
 ghost use Rattle.heap_rule.specs.Limits.{sizes_in};
 ghost use Rattle.table_laws.specs.Performing.{Performed};
 ghost use Rattle.heap_model.specs.declared.graph.Value.TheVariants as value;
-ghost use Rattle.heap_model.specs.declared.label.Label as labels;
+ghost use Rattle.heap_model.specs.declared.command.Command.TheVariants as command;
+ghost use Rattle.heap_model.specs.declared.reply.Reply.{Reply};
 ghost use Rattle.heap_model.specs.Graph.{label_of};
-ghost use Rattle.example_cache.specs.Caching.{Counts, ForgetAnswers, GetAnswers, HasEntries, Holds, InsertAnswers, KeepsAll, KeepsRegisters, PutAnswers, SparesTable, holds, entry_of as entry_shown, inserted_of as inserted_by, is_for_key as shows_key};
+ghost use Rattle.example_cache.specs.Caching.{GetAnswers, InsertAnswers, IsKept, KeepsAll, KeepsRegisters, KeyAnswers, RoomAnswers, SparesCache, TakeAnswers, holds, places, entry_of as entry_shown, inserted_of as inserted_by};
 
 use heap_model::command::Command;
 use heap_model::reply::Reply;
 use heap_session::TableSession;
+use map_domains::SessionDomain;
 use std::marker::Model;
 use std::sync::Wait;
-use weak_tables::counting::table_count;
-use weak_tables::making::table_make;
-use weak_tables::putting::{table_get, table_put};
-use weak_tables::taking::table_take;
+use weak_cache::cache::{cache_get, cache_make, cache_put, cache_take};
 
-// The register that holds the table.
-const TABLE: u8 = 7;
+// The register that holds the block of the cache.
+const HOME: u8 = 7;
 
 /// What an insertion came to.
 #[derive(Clone, Copy, Debug, PartialEq, Eq)]
 pub enum Inserted {
     /// The cache has the entry.
     Stored,
-    /// It had as many entries as it may have.
-    AtBound,
     /// The heap has no room.
     NoRoom,
     /// One register holds no key, or the other nothing.
@@ -36,11 +33,12 @@ pub enum Inserted {
 }
 
 /// A cache on a heap: so many entries at most, each of a key. A key is a block that the program holds in one of the
-/// registers 0 to 6, and so is what the cache has of it, or an integer. An entry stays while its key can be reached.
+/// registers 0 to 6, and so is what the cache has of it, or an integer. An entry stays while its key can be reached, and
+/// goes where so many other keys were used since.
 #[derive(Drop)]
 pub struct Cache {
-    session: TableSession,
-    most: u32,
+    heap: SessionDomain,
+    most: u16,
 }
 
 impl Model for Cache {
@@ -48,9 +46,9 @@ impl Model for Cache {
 
     ghost Value = { CacheView };
 
-    ghost view = { λ c. record { session = c.session; most = c.most } };
+    ghost view = { λ c. record { heap = c.heap; most = c.most } };
 
-    ghost invariant = { λ c. IsCache (record { session = c.session; most = c.most }) };
+    ghost invariant = { λ c. IsCache (record { heap = c.heap; most = c.most }) };
 }
 
 // The entry that a reply shows, if it shows one.
@@ -61,13 +59,6 @@ fn entry_of(reply: Reply) -> Option<Reply>
         Reply::BadType | Reply::Empty => None,
         _ => Some(reply),
     }
-}
-
-// Whether a reply says that a register held a key.
-fn is_for_key(reply: &Reply) -> bool
-    ensures { result ≡ shows_key reply.now }
-{
-    !matches!(reply, Reply::BadType)
 }
 
 // What the reply of a put says of it.
@@ -82,29 +73,30 @@ fn inserted_of(reply: &Reply) -> Inserted
 }
 
 impl Cache {
-    /// An empty cache of at most so many entries. Hands the heap back where it has no room for the table.
-    pub fn make<R: Wait>(rt: &R, session: TableSession, most: u32) -> Result<Cache, TableSession>
+    /// An empty cache of at most so many entries. Hands the heap back where it has no room for the cache.
+    pub fn make<R: Wait>(rt: &R, session: TableSession, most: u16) -> Result<Cache, TableSession>
+        requires few { (1 ≤ most) × (most ≤ 1022) }
         ensures most { IfOk result (λ c. c.most ≡ most) }
-        ensures empty { IfOk result (λ c. (k : labels.Label) → Holds c k None) }
+        ensures empty { IfOk result (λ c. places c ≡ replicate most None) }
     {
-        let mut session = session;
-        session.is_legal();
-        if session.labels_left() < 1 {
-            return Err(session);
+        let mut heap = SessionDomain::new(session);
+        if heap.session().labels_left() < 1 {
+            return Err(heap.into_inner());
         }
-        match table_make(&mut session, rt, TABLE) {
-            Reply::Block(_) => Ok(Cache { session, most }),
-            _ => Err(session),
+        match cache_make(&mut heap, rt, HOME, most) {
+            Reply::Block(_) => Ok(Cache { heap, most }),
+            _ => Err(heap.into_inner()),
         }
     }
 
     /// Makes a key, into a register below 7. Answers whether there was room.
     pub fn new_key<R: Wait>(&mut self, rt: &R, r: u8) -> bool
         requires few { r < 7 }
-        ensures key { result ≡ true → (k : labels.Label) × (holds self.new r ≡ value.Block k) }
+        ensures key { KeyAnswers self.old self.new r result }
         ensures entries { KeepsAll self.old self.new }
+        ensures registers { KeepsRegisters self.old self.new r }
     {
-        if self.session.labels_left() < 1 {
+        if self.heap.session().labels_left() < 1 {
             return false;
         }
         let key = Command::Alloc {
@@ -120,80 +112,72 @@ impl Cache {
         requires few { r < 7 }
         ensures none { holds self.new r ≡ value.Nothing }
         ensures entries { KeepsAll self.old self.new }
+        ensures registers { KeepsRegisters self.old self.new r }
     {
         self.make_spare(rt, Command::Forget { dst: r });
     }
 
     /// Has the heap collect all that can't be reached.
     pub fn collect<R: Wait>(&mut self, rt: &R)
+        ensures collected { (r : Reply) × Performed (sizes_in self.old.heap.config) self.old.heap.front self.new.heap.front command.FullMajor r }
         ensures entries { KeepsAll self.old self.new }
+        ensures registers { KeepsRegisters self.old self.new 7 }
     {
         self.make_spare(rt, Command::FullMajor);
     }
 
-    /// Puts an entry: of the key in one register what the other holds. Registers are below 7.
+    /// Puts an entry: of the key in one register what the other holds. Where the cache has as many as it may have, and none
+    /// of that key, the entry goes whose key was used least recently. Registers are below 7.
     pub fn insert<R: Wait>(&mut self, rt: &R, key: u8, item: u8) -> Inserted
         requires few { (key < 7) × (item < 7) }
+        ensures room { RoomAnswers self.old self.new result }
         ensures answers { InsertAnswers self.old self.new (label_of (holds self.old key)) (holds self.old item) result }
+        ensures registers { KeepsRegisters self.old self.new 7 }
     {
-        if self.count(rt) >= self.most {
-            return Inserted::AtBound;
+        if self.heap.session().labels_left() < 1 || self.heap.session().ephes_room() < 1 {
+            return Inserted::NoRoom;
         }
-        self.put(rt, key, item)
+        self.heap.session().is_legal();
+        let reply = cache_put(&mut self.heap, rt, HOME, self.most, key, item);
+        self.heap.session().is_legal();
+        inserted_of(&reply)
     }
 
     /// The entry of the key in a register, which goes into another and is shown, or none. Registers are below 7.
     pub fn get<R: Wait>(&mut self, rt: &R, dst: u8, key: u8) -> Option<Reply>
         requires few { (dst < 7) × (key < 7) }
-        ensures answers { GetAnswers self.old self.new (label_of (holds self.old key)) result }
-        ensures entries { KeepsAll self.old self.new }
+        ensures answers { GetAnswers self.old self.new dst (label_of (holds self.old key)) result }
+        ensures registers { KeepsRegisters self.old self.new dst }
     {
-        self.session.is_legal();
-        entry_of(table_get(&mut self.session, rt, dst, TABLE, key))
+        self.heap.session().is_legal();
+        let reply = cache_get(&mut self.heap, rt, dst, HOME, self.most, key);
+        self.heap.session().is_legal();
+        entry_of(reply)
     }
 
-    /// Forgets the entry of the key in a register below 7, if there is one. Answers whether the register holds a key.
-    pub fn forget<R: Wait>(&mut self, rt: &R, key: u8) -> bool
-        requires few { key < 7 }
-        ensures answers { ForgetAnswers self.old self.new (label_of (holds self.old key)) result }
+    /// Takes the entry of the key in a register out: it goes into another and is shown, or none. Registers are below 7.
+    pub fn take<R: Wait>(&mut self, rt: &R, dst: u8, key: u8) -> Option<Reply>
+        requires few { (dst < 7) × (key < 7) }
+        ensures answers { TakeAnswers self.old self.new dst (label_of (holds self.old key)) result }
+        ensures registers { KeepsRegisters self.old self.new dst }
     {
-        self.session.is_legal();
-        is_for_key(&table_take(&mut self.session, rt, TABLE, key))
+        self.heap.session().is_legal();
+        let reply = cache_take(&mut self.heap, rt, dst, HOME, self.most, key);
+        self.heap.session().is_legal();
+        entry_of(reply)
     }
 
-    // Makes a command that spares the table.
+    // Makes a command that spares the cache.
     fn make_spare<R: Wait>(&mut self, rt: &R, command: Command) -> Reply
-        requires spares { SparesTable command }
-        requires label { labels_of command ≤ 4294967295 - self.old.session.labels }
-        ensures limits { IsWithinLimits (sizes_in self.old.session.config) }
-        ensures sizes { sizes_in self.new.session.config ≡ sizes_in self.old.session.config }
-        ensures performed { Performed (sizes_in self.old.session.config) self.old.session.front self.new.session.front command result }
+        requires spares { SparesCache command }
+        requires label { labels_of command ≤ 4294967295 - self.old.heap.labels }
+        ensures limits { IsWithinLimits (sizes_in self.old.heap.config) }
+        ensures sizes { sizes_in self.new.heap.config ≡ sizes_in self.old.heap.config }
+        ensures performed { Performed (sizes_in self.old.heap.config) self.old.heap.front self.new.heap.front command result }
         ensures entries { KeepsAll self.old self.new }
+        ensures registers { (r : ℕ) → IsKept command r → holds self.new r ≡ holds self.old r }
     {
-        self.session.is_legal();
-        self.session.perform(rt, command)
-    }
-
-    // Counts the entries.
-    fn count<R: Wait>(&mut self, rt: &R) -> u32
-        ensures counts { Counts self.old self.new result }
-        ensures registers { KeepsRegisters self.old self.new }
-        ensures entries { KeepsAll self.old self.new }
-    {
-        self.session.is_legal();
-        table_count(&mut self.session, rt, TABLE)
-    }
-
-    // Puts an entry into a cache that has fewer than it may have.
-    fn put<R: Wait>(&mut self, rt: &R, key: u8, item: u8) -> Inserted
-        requires few { (key < 7) × (item < 7) }
-        requires fewer { (count : ℕ) × HasEntries (sizes_in self.old.session.config) self.old.session.front count × (count < self.old.most) }
-        ensures answers { PutAnswers self.old self.new (label_of (holds self.old key)) (holds self.old item) result }
-    {
-        self.session.is_legal();
-        if self.session.labels_left() < 2 || self.session.ephes_room() < 1 {
-            return Inserted::NoRoom;
-        }
-        inserted_of(&table_put(&mut self.session, rt, TABLE, key, item))
+        self.heap.session().is_legal();
+        self.heap.command(rt, command)
     }
 }

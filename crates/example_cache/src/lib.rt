@@ -1,5 +1,6 @@
 //! An example of a program of one's own on a heap session: a cache with a bounded number of entries, each of a key that
-//! the program holds in a register. An entry stays as long as its key does, and goes once the key is gone.
+//! the program holds in a register. An entry goes once its key is gone, or where so many other keys were used since as the
+//! cache may have entries.
 //!
 //! ```text
 //! let mut cache = Cache::make(rt, TableSession::make(alloc, 4096, 64, 100)?, 100)?;

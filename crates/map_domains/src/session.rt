@@ -1,6 +1,9 @@
 //! The one domain of a session.
-ghost use Rattle.std.specs.Prelude.{◌≡◌, ◌-◌};
+ghost use Rattle.std.specs.Prelude.{◌≡◌, ◌+◌, ◌-◌, ◌≤◌};
+ghost use Rattle.command_counts.specs.Counts.{ephemerons_given, labels_given};
 ghost use Rattle.heap_rule.specs.Limits.{sizes_in};
+ghost use Rattle.heap_session.specs.Sessions.{MayPerform};
+ghost use Rattle.table_laws.specs.Performing.{Performed};
 
 use heap_model::command::Command;
 use heap_model::reply::Reply;
@@ -44,6 +47,17 @@ impl SessionDomain {
         ensures { result.now ≡ self.now }
     {
         &self.session
+    }
+
+    /// Makes a command of any kind but one that registers a finaliser, as the session does.
+    pub fn command<R: Wait>(&mut self, rt: &R, command: Command) -> Reply
+        requires may { MayPerform self.old command }
+        ensures config { self.new.config ≡ self.old.config }
+        ensures labels { self.new.labels ≡ self.old.labels + labels_given command result }
+        ensures room { self.old.room ≤ self.new.room + ephemerons_given command result }
+        ensures performed { Performed (sizes_in self.old.config) self.old.front self.new.front command result }
+    {
+        self.session.perform(rt, command)
     }
 }
 

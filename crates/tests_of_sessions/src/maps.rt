@@ -10,7 +10,7 @@ use map_domains::SessionDomain;
 use std::process::Abort;
 use std::sync::Wait;
 use std::test::Fail;
-use weak_cache::cache::{cache_get, cache_make, cache_put};
+use weak_cache::cache::{cache_get, cache_make, cache_put, cache_take};
 use weak_maps::cleaning::map_clean;
 use weak_maps::getting::map_get;
 use weak_maps::machine::perform;
@@ -181,6 +181,15 @@ fn a_cache_keeps_the_last_used(rt: HostRuntime) -> Result<(), Fail> {
     same(&rt, kept(&rt, &mut heap, 5), Reply::BadType);
     let mut heap = let_go(&rt, heap, ANSWER);
     same(&rt, kept(&rt, &mut heap, 3), block(2));
+    same(&rt, kept(&rt, &mut heap, 1), block(3));
+    same(
+        &rt,
+        cache_take(&mut heap, &rt, ANSWER, HOME, SLOTS, 3),
+        block(2),
+    );
+    same(&rt, kept(&rt, &mut heap, 3), Reply::Empty);
+    same(&rt, kept(&rt, &mut heap, 1), block(3));
+    same(&rt, keep(&rt, &mut heap, 2, 2), Some(Reply::Done));
     same(&rt, kept(&rt, &mut heap, 1), block(3));
     Ok(())
 }

@@ -41,7 +41,7 @@ pub stood_more : (z : Sizes) (c l : Label) (now new : List Entry) → IsPrefix n
 stood_more z c l now new grows x = record { former = x.former; before = prefix_trans x.former now new x.before grows; place = x.place; there = x.there; leaf = x.leaf }
 
 -- what a leaf has that is left
-slot_thin : (P : Label → Type 0) (key : Option Label) (datum : Value) (o : Option Node) → Thin P (Ephe (key ∷ []) datum) o → is_leaf o × SlotLeft P (slot_in (Some (Ephe (key ∷ []) datum))) (slot_in o)
+pub slot_thin : (P : Label → Type 0) (key : Option Label) (datum : Value) (o : Option Node) → Thin P (Ephe (key ∷ []) datum) o → is_leaf o × SlotLeft P (slot_in (Some (Ephe (key ∷ []) datum))) (slot_in o)
 slot_thin P key datum o (inl same) = (subst is_leaf (sym same) tt, inl (ap slot_in same))
 slot_thin P key datum o (inr (k, is, gone, left)) = (
   subst is_leaf (sym left) tt,

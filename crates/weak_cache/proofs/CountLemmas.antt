@@ -15,11 +15,14 @@ use Rattle.table_laws.specs.Structures.{Binding}
 use Rattle.map_laws.specs.Steps.{WasUnreached}
 use Rattle.map_laws.proofs.FrontLemmas.{prefix_same, prefix_trans}
 use Rattle.weak_maps.proofs.CleanedLemmas.{less_or}
-use Rattle.weak_cache.specs.Uses.{SlotsLeft, age, cached_in, is_of, pushed, put_first, touched}
-use Rattle.weak_cache.specs.Laws.{AreOf, Call, CallsOn, IsAmong, IsUseOf, NoneUses, Use, Used, UsedInCallsIsFound, UsedLastIsFound, UsesOf}
+use Rattle.weak_cache.specs.Uses.{AreOnce, SlotsLeft, age, cached_in, is_of, pushed, put_first, taken, touched}
+use Rattle.weak_cache.specs.Laws.{AreOf, Call, CallsOn, Deed, DoesCall, Found, Idle, IsAmong, IsNoPutOf, IsThere, IsUseOf, NonePuts, NoneUses, Put, Taken, TakenInCallsIsNotFound, Use, Used, UsedInCallsIsFound, UsedLastIsFound, UsesOf, done_by}
 use Rattle.weak_cache.specs.Caches.{Gone, slots_after}
-use Rattle.weak_cache.specs.Calls.{GetReturns, LeavesCache, PutsOrFull}
-use Rattle.weak_cache.proofs.LawLemmas.{Slots, age_hit, age_skip, apart_put, cache_bounded, further, loss_left, of_one, one_back, others_back, others_stay, put_found}
+use Rattle.weak_cache.specs.Calls.{GetReturns, LeavesCache, PutsOrFull, TakeReturns}
+use Rattle.weak_cache.proofs.EndLemmas.{slots_are}
+use Rattle.weak_cache.proofs.OnceLemmas.{Slots, none_left, none_pushed, none_taken, taken_gone}
+use Rattle.weak_cache.proofs.TakenLemmas.{comes_forward, order_kept, taken_long, taking_keeps}
+use Rattle.weak_cache.proofs.LawLemmas.{age_hit, age_skip, apart_put, cache_bounded, further, loss_left, of_one, one_back, others_back, others_stay, put_found}
 
 -- a key that stands before another stands behind fewer slots than there are, and no other stands there
 age_apart : (x y : Label) (ss : Slots) → x ≢ y → age x ss < length ss → age x ss ≢ age y ss
@@ -265,7 +268,7 @@ unreached_wider z old new later earlier l since until w = record { front = w.fro
 
 calls_grow : (z : Sizes) (d : ℕ) (c : Label) (size : ℕ) (calls : List Call) (old new : List Entry) → CallsOn z d c size calls old new → IsPrefix old new
 calls_grow z d c size [] old new x = x.0
-calls_grow z d c size (y ∷ ys) old new (rests, grows, leaves, more) = prefix_trans old y.old new rests.0 (prefix_trans y.old y.new new grows (calls_grow z d c size ys y.new new more))
+calls_grow z d c size (y ∷ ys) old new (rests, (grows, there, leaves), more) = prefix_trans old y.old new rests.0 (prefix_trans y.old y.new new grows (calls_grow z d c size ys y.new new more))
 
 -- where no name is lost, nor the key, all stays
 newcomers_kept : (P : Label → Type 0) (k : Label) (ms : List Label) (ss ts : Slots) → SlotsLeft P ss ts → (P k → ⊥) → ((m : Label) → IsAmong ms m → P m → ⊥) → newcomers k ms ts ≤ newcomers k ms ss
@@ -291,46 +294,181 @@ stays_left P k v names ss ts left none x =
     let room = x.room in
     record { has = kept.0 ∙ x.has; room = omega (arith, fewer, long, same, room) }
 
-stays_used : (k l : Label) (v : Value) (names : List Label) (value : Option Value) (ss : Slots) → IsUseOf names k l value → Stays k v names ss → Stays k v names (touched l value ss)
-stays_used k l v names None ss of x = x
-stays_used k l v names (Some w) ss of x =
-    let used = use_step k l v w names ss of.1 of.0 x.has x.room in
+-- where one name is taken out at most one stands before the key no more
+newcomers_kept_among : (k : Label) (ms : List Label) (ss ts : Slots) → ((m : Label) → IsAmong ms m → age m ss < age k ss → age m ts < age k ts) → newcomers k ms ts ≤ newcomers k ms ss
+newcomers_kept_among k [] ss ts on = omega arith
+newcomers_kept_among k (m ∷ ms) ss ts on =
+    let one = newcomer_less (age m ss) (age k ss) (age m ts) (age k ts) (less_or (age m ss) (age k ss)) (less_or (age m ts) (age k ts)) (on m (or_left (same_label m m) (has_label ms m) (same_label_refl m))) in
+    let rest = newcomers_kept_among k ms ss ts (λ x there. on x (or_right (same_label m x) (has_label ms x) there)) in
+    omega (arith, one, rest)
+
+-- names of which none comes twice
+abbrev Distinct : List Label → Type 0
+Distinct [] = Unit {0}
+Distinct (m ∷ ms) = (IsAmong ms m → ⊥) × Distinct ms
+
+newcomers_most : (k l : Label) (ms : List Label) (ss ts : Slots) → Distinct ms → ((m : Label) → m ≢ l → age m ss < age k ss → age m ts < age k ts) → newcomers k ms ts ≤ newcomers k ms ss + 1
+newcomers_most k l [] ss ts once on = omega arith
+newcomers_most k l (m ∷ ms) ss ts (new, once) on = label_cases (newcomers k (m ∷ ms) ts ≤ newcomers k (m ∷ ms) ss + 1) m l
+    (λ same.
+    let one = newcomer_most (age m ts) (age k ts) (less_or (age m ts) (age k ts)) in
+    let rest = newcomers_kept_among k ms ss ts (λ x there less. on x (λ e. new (subst (IsAmong ms) (e ∙ sym same) there)) less) in
+    omega (arith, one, rest))
+    (λ differ.
+    let one = newcomer_less (age m ss) (age k ss) (age m ts) (age k ts) (less_or (age m ss) (age k ss)) (less_or (age m ts) (age k ts)) (on m differ) in
+    let rest = newcomers_most k l ms ss ts once on in
+    omega (arith, one, rest))
+
+take_step : (k l : Label) (names : List Label) (ss : Slots) → k ≢ l → Distinct names → age k ss < length ss → age k (taken l ss) + newcomers k names (taken l ss) ≤ age k ss + newcomers k names ss
+take_step k l names ss differ once small = ⊎_elim
+    (λ first.
+    let one = comes_forward l k ss differ first small in
+    let more = newcomers_most k l names ss (taken l ss) once (λ m other less. order_kept l k m ss differ other less) in
+    omega (arith, one, more))
+    (λ far.
+    let kept = (taking_keeps l k ss differ).1 in
+    let same = newcomers_kept_among k names ss (taken l ss) (λ m there less. order_kept l k m ss differ (λ e. let is : age m ss ≡ age l ss = ap (λ (x : Label). age x ss) e in absurd (omega (arith, less, far, is))) less) in
+    omega (arith, kept, same))
+    (less_or (age l ss) (age k ss))
+
+-- names without those that come again
+abbrev distinct : List Label → List Label
+distinct [] = []
+distinct (m ∷ ms) = cond (has_label ms m) (distinct ms) (m ∷ distinct ms)
+
+distinct_short : (ms : List Label) → length (distinct ms) ≤ length ms
+distinct_short [] = omega arith
+distinct_short (m ∷ ms) = by (has_label ms m) (distinct_short ms)
+  where
+    by : (b : Bool) → length (distinct ms) ≤ length ms → length (cond b (distinct ms) (m ∷ distinct ms)) ≤ suc (length ms)
+    by true rest = omega (arith, rest)
+    by false rest = omega (arith, rest)
+
+to_distinct : (ms : List Label) (l : Label) → IsAmong ms l → IsAmong (distinct ms) l
+to_distinct [] l there = there
+to_distinct (m ∷ ms) l there = by (has_label ms m) refl (same_label m l) refl (λ x. to_distinct ms l x)
+  where
+    by : (a : Bool) → has_label ms m ≡ a → (b : Bool) → same_label m l ≡ b → (IsAmong ms l → IsAmong (distinct ms) l) → IsAmong (cond a (distinct ms) (m ∷ distinct ms)) l
+    by true e true own rec = rec (subst (IsAmong ms) (same_label-true m l own) e)
+    by true e false other rec = rec (subst (λ (b : Bool). IsTrue (b || has_label ms l)) other there)
+    by false e true own rec = ap (λ (b : Bool). b || has_label (distinct ms) l) own
+    by false e false other rec = subst (λ (b : Bool). IsTrue (b || has_label (distinct ms) l)) (sym other) (rec (subst (λ (b : Bool). IsTrue (b || has_label ms l)) other there))
+
+from_distinct : (ms : List Label) (l : Label) → IsAmong (distinct ms) l → IsAmong ms l
+from_distinct [] l there = there
+from_distinct (m ∷ ms) l there = by (has_label ms m) (λ x. from_distinct ms l x) there
+  where
+    by : (a : Bool) → (IsAmong (distinct ms) l → IsAmong ms l) → IsAmong (cond a (distinct ms) (m ∷ distinct ms)) l → IsAmong (m ∷ ms) l
+    by true rec x = or_right (same_label m l) (has_label ms l) (rec x)
+    by false rec x = again (same_label m l) refl rec x
+      where
+        again : (b : Bool) → same_label m l ≡ b → (IsAmong (distinct ms) l → IsAmong ms l) → IsAmong (m ∷ distinct ms) l → IsAmong (m ∷ ms) l
+        again true own more y = or_left (same_label m l) (has_label ms l) own
+        again false other more y = or_right (same_label m l) (has_label ms l) (more (subst (λ (b : Bool). IsTrue (b || has_label (distinct ms) l)) other y))
+
+distinct_once : (ms : List Label) → Distinct (distinct ms)
+distinct_once [] = tt
+distinct_once (m ∷ ms) = by (has_label ms m) refl (distinct_once ms)
+  where
+    by : (a : Bool) → has_label ms m ≡ a → Distinct (distinct ms) → Distinct (cond a (distinct ms) (m ∷ distinct ms))
+    by true e rest = rest
+    by false e rest = ((λ there. let clash : false ≡ true = sym e ∙ from_distinct ms m there in cc), rest)
+
+of_distinct : (names : List Label) (k : Label) (calls : List Call) → UsesOf names k calls → UsesOf (distinct names) k calls
+of_distinct names k [] uses = tt
+of_distinct names k (y ∷ ys) (first_use, uses) = (by y.deed first_use, of_distinct names k ys uses)
+  where
+    by : (deed : Deed) → IsUseOf names k y.key deed → IsUseOf (distinct names) k y.key deed
+    by (Put v) x = (to_distinct names y.key x.0, x.1)
+    by (Found v) x = (to_distinct names y.key x.0, x.1)
+    by Taken x = x
+    by Idle x = x
+
+stays_put : (k l : Label) (v w : Value) (names : List Label) (ss : Slots) → l ≢ k → IsAmong names l → Stays k v names ss → Stays k v names (put_first l w ss)
+stays_put k l v w names ss differ there x =
+    let used = use_step k l v w names ss differ there x.has x.room in
     let long = pushed_long l (Some (l, w)) ss in
     let fewer = used.1 in
     let room = x.room in
     record { has = used.0; room = omega (arith, fewer, long, room) }
 
-calls_keep : (z : Sizes) (d : ℕ) (c : Label) (size : ℕ) (k : Label) (v : Value) (names : List Label) (calls : List Call) (old last : List Entry) → CallsOn z d c size calls old last → UsesOf names k calls
+stays_done : (k l : Label) (v : Value) (names : List Label) (deed : Deed) (ss : Slots) → Distinct names → IsUseOf names k l deed → Stays k v names ss → Stays k v names (done_by deed l ss)
+stays_done k l v names (Put w) ss once of x = stays_put k l v w names ss of.1 of.0 x
+stays_done k l v names (Found w) ss once of x = stays_put k l v w names ss of.1 of.0 x
+stays_done k l v names Taken ss once of x =
+    let room = x.room in
+    let step = take_step k l names ss (λ e. of (sym e)) once (omega (arith, room)) in
+    let long = taken_long l ss in
+    record { has = (taking_keeps l k ss (λ e. of (sym e))).0 ∙ x.has; room = omega (arith, step, long, room) }
+stays_done k l v names Idle ss once of x = x
+
+calls_keep : (z : Sizes) (d : ℕ) (c : Label) (size : ℕ) (k : Label) (v : Value) (names : List Label) (calls : List Call) (old last : List Entry) → Distinct names → CallsOn z d c size calls old last → UsesOf names k calls
     → ((l : Label) → (l ≡ k) ⊎ IsAmong names l → WasUnreached z old last l → ⊥) → Stays k v names (slots_after z old c) → Stays k v names (slots_after z last c)
-calls_keep z d c size k v names [] old last (grows, left) uses reached x = stays_left (WasUnreached z old last) k v names (slots_after z old c) (slots_after z last c) left reached x
-calls_keep z d c size k v names (y ∷ ys) old last (rests, grows, leaves, more) (first_use, uses) reached x =
+calls_keep z d c size k v names [] old last once (grows, left) uses reached x = stays_left (WasUnreached z old last) k v names (slots_after z old c) (slots_after z last c) left reached x
+calls_keep z d c size k v names (y ∷ ys) old last once (rests, (grows, there, leaves), more) (first_use, uses) reached x =
     let later = calls_grow z d c size ys y.new last more in
     let whole = prefix_trans y.old y.new last grows later in
     let ready = stays_left (WasUnreached z old y.old) k v names (slots_after z old c) (slots_after z y.old c) rests.1
     (λ l one gone. reached l one (unreached_wider z old last old y.old l (prefix_same old) whole gone)) x in
-    let used = stays_used k y.key v names y.value (slots_after z y.old c) first_use ready in
-    let left = stays_left (Gone z y.key y.old y.new) k v names (touched y.key y.value (slots_after z y.old c)) (slots_after z y.new c) leaves.left
-    (λ l one gone. reached l one (unreached_wider z old last y.old y.new l rests.0 later gone.0)) used in
-    calls_keep z d c size k v names ys y.new last more uses (λ l one gone. reached l one (unreached_wider z old last y.new last l (prefix_trans old y.old y.new rests.0 grows) (prefix_same last) gone)) left
+    let done = stays_done k y.key v names y.deed (slots_after z y.old c) once first_use ready in
+    let left = stays_left (Gone z y.key y.old y.new) k v names (done_by y.deed y.key (slots_after z y.old c)) (slots_after z y.new c) leaves.left
+    (λ l one gone. reached l one (unreached_wider z old last y.old y.new l rests.0 later gone.0)) done in
+    calls_keep z d c size k v names ys y.new last once more uses (λ l one gone. reached l one (unreached_wider z old last y.new last l (prefix_trans old y.old y.new rests.0 grows) (prefix_same last) gone)) left
 
 pub used_in_calls : UsedInCallsIsFound
 used_in_calls z d c size k v names calls before first last grows leaves on uses few reached =
     let ss : Slots = slots_after z before c in
+    let ms : List Label = distinct names in
+    let apart = (λ (l : Label) (one : (l ≡ k) ⊎ IsAmong ms l). ⊎_elim (λ same. reached l (inl same)) (λ there. reached l (inr (from_distinct names l there))) one) in
+    let short = distinct_short names in
     let long = left_long (Gone z k before first) (put_first k v ss) (slots_after z first c) leaves.left in
     let size_is = cache_bounded z first c size leaves.cache in
     let long2 = pushed_long k (Some (k, v)) ss in
     let put = put_found k v ss (omega (arith, few, long, long2, size_is)) in
-    let most = newcomers_few k names (put_first k v ss) in
+    let most = newcomers_few k ms (put_first k v ss) in
     let young = put.1 in
-    let start : Stays k v names (put_first k v ss) = record { has = put.0; room = omega (arith, young, most, few, long, long2, size_is) } in
+    let start : Stays k v ms (put_first k v ss) = record { has = put.0; room = omega (arith, young, most, few, short, long, long2, size_is) } in
     let later = calls_grow z d c size calls first last on in
-    let begun = stays_left (Gone z k before first) k v names (put_first k v ss) (slots_after z first c) leaves.left
-    (λ l one gone. reached l one (unreached_wider z before last before first l (prefix_same before) later gone.0)) start in
-    (calls_keep z d c size k v names calls first last on uses (λ l one gone. reached l one (unreached_wider z before last first last l grows (prefix_same last) gone)) begun).has
+    let begun = stays_left (Gone z k before first) k v ms (put_first k v ss) (slots_after z first c) leaves.left
+    (λ l one gone. apart l one (unreached_wider z before last before first l (prefix_same before) later gone.0)) start in
+    (calls_keep z d c size k v ms calls first last (distinct_once names) on (of_distinct names k calls uses) (λ l one gone. apart l one (unreached_wider z before last first last l grows (prefix_same last) gone)) begun).has
+
+-- what no call puts stays away
+away_done : (k l : Label) (deed : Deed) (ss : Slots) → IsThere deed l ss → IsNoPutOf k l deed → cached_in k ss ≡ None → cached_in k (done_by deed l ss) ≡ None
+away_done k l (Put v) ss there other none = none_pushed l k (Some (l, v)) ss (apart_put l k v (λ e. other (sym e))) none
+away_done k l (Found v) ss there other none = label_cases (cached_in k (put_first l v ss) ≡ None) l k
+    (λ same. let clash : Some v ≡ None = sym there ∙ (ap (λ (m : Label). cached_in m ss) same ∙ none) in cc)
+    (λ differ. none_pushed l k (Some (l, v)) ss (apart_put l k v (λ e. differ (sym e))) none)
+away_done k l Taken ss there other none = none_taken l k ss none
+away_done k l Idle ss there other none = none
+
+stays_away : (z : Sizes) (d : ℕ) (c : Label) (size : ℕ) (k : Label) (calls : List Call) (old last : List Entry) → CallsOn z d c size calls old last → NonePuts k calls → cached_in k (slots_after z old c) ≡ None → cached_in k (slots_after z last c) ≡ None
+stays_away z d c size k [] old last (grows, left) puts none = none_left (WasUnreached z old last) k (slots_after z old c) (slots_after z last c) left none
+stays_away z d c size k (y ∷ ys) old last (rests, (grows, there, leaves), more) (first_put, puts) none =
+    let ready = none_left (WasUnreached z old y.old) k (slots_after z old c) (slots_after z y.old c) rests.1 none in
+    let done = away_done k y.key y.deed (slots_after z y.old c) there first_put ready in
+    stays_away z d c size k ys y.new last more puts (none_left (Gone z y.key y.old y.new) k (done_by y.deed y.key (slots_after z y.old c)) (slots_after z y.new c) leaves.left done)
+
+pub taken_in_calls : TakenInCallsIsNotFound
+taken_in_calls z d c size k calls before first last cache leaves on puts =
+    let once : AreOnce (slots_after z before c) = subst AreOnce (sym (slots_are z before c cache.tag cache.fields cache.node)) cache.once in
+    stays_away z d c size k calls first last on puts (none_left (Gone z k before first) k (taken k (slots_after z before c)) (slots_after z first c) leaves.left (taken_gone k (slots_after z before c) once))
+
+-- what a lookup did, by what it found
+abbrev found_deed : Option Value → Deed
+found_deed (Some v) = Found v
+found_deed None = Idle
 
 -- each call that isn't answered `type` is such a call
-pub get_is_call : (z : Sizes) (d : ℕ) (old new : List Entry) (c : Label) (size dst : ℕ) (k : Label) (r : Reply) → GetReturns z d old new c size dst (Block k) r → LeavesCache z d k old new c size (touched k (cached_in k (slots_after z old c)) (slots_after z old c))
-get_is_call z d old new c size dst k r x = x.2
+pub get_is_call : (z : Sizes) (d : ℕ) (old new : List Entry) (c : Label) (size dst : ℕ) (k : Label) (r : Reply) → IsPrefix old new → GetReturns z d old new c size dst (Block k) r → DoesCall z d c size (record { key = k; deed = found_deed (cached_in k (slots_after z old c)); old = old; new = new })
+get_is_call z d old new c size dst k r grows x = by (cached_in k (slots_after z old c)) refl x.2
+  where
+    by : (o : Option Value) → cached_in k (slots_after z old c) ≡ o → LeavesCache z d k old new c size (touched k o (slots_after z old c)) → DoesCall z d c size (record { key = k; deed = found_deed o; old = old; new = new })
+    by (Some v) is leaves = (grows, is, leaves)
+    by None is leaves = (grows, tt, leaves)
 
-pub put_is_call : (z : Sizes) (d : ℕ) (old new : List Entry) (c : Label) (size : ℕ) (k : Label) (v : Value) (r : Reply) → PutsOrFull z d old new c size k v r → (value : Option Value) × LeavesCache z d k old new c size (touched k value (slots_after z old c))
-put_is_call z d old new c size k v r x = ⊎_elim (λ done. (Some v, done.1)) (λ full. (None, full.1)) x.1
+pub take_is_call : (z : Sizes) (d : ℕ) (old new : List Entry) (c : Label) (size dst : ℕ) (k : Label) (r : Reply) → IsPrefix old new → TakeReturns z d old new c size dst (Block k) r → DoesCall z d c size (record { key = k; deed = Taken; old = old; new = new })
+take_is_call z d old new c size dst k r grows x = (grows, tt, x.2)
+
+pub put_is_call : (z : Sizes) (d : ℕ) (old new : List Entry) (c : Label) (size : ℕ) (k : Label) (v : Value) (r : Reply) → IsPrefix old new → PutsOrFull z d old new c size k v r → DoesCall z d c size (record { key = k; deed = Put v; old = old; new = new }) ⊎ DoesCall z d c size (record { key = k; deed = Idle; old = old; new = new })
+put_is_call z d old new c size k v r grows x = ⊎_elim (λ done. inl (grows, tt, done.1)) (λ full. inr (grows, tt, full.1)) x.1

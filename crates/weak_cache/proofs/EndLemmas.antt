@@ -1,5 +1,5 @@
 -- How the calls on a cache begin and end.
-use Rattle.std.proofs.Common.{◌≡◌, ◌≢◌, inl, ⊎_elim, ℕ, ◌<◌, ◌≤◌, List, [], ◌∷◌, ◌++◌, length, map, get_or, set, Option, Some, refl, ap, sym, ◌∙◌, subst, arith}
+use Rattle.std.proofs.Common.{◌≡◌, ◌≢◌, inl, ⊎_elim, true, ℕ, ◌<◌, ◌≤◌, List, [], ◌∷◌, ◌++◌, length, map, get_or, set, Option, Some, refl, ap, sym, ◌∙◌, subst, arith}
 use Rattle.heap_model.specs.declared.label.Label.{Label}
 use Rattle.heap_model.specs.declared.command.Command.TheVariants.{Copy, Forget}
 use Rattle.heap_model.specs.declared.entry.Entry.{Entry}
@@ -21,12 +21,13 @@ use Rattle.weak_maps.specs.Beside.{held_by}
 use Rattle.weak_maps.proofs.BesideLemmas.{set_here, set_other, sixteen}
 use Rattle.weak_maps.proofs.CleanedLemmas.{less_or}
 use Rattle.weak_maps.proofs.GetLemmas.{grows_by}
-use Rattle.weak_cache.specs.Uses.{SlotLeft, SlotsLeft, put_first}
+use Rattle.weak_cache.specs.Uses.{SlotLeft, SlotsLeft, put_first, taken}
 use Rattle.weak_cache.specs.Caches.{Gone, IsBeside, IsCache, IsUse, OthersSpare, OwnSpare, fields_or_none, slot_in, slot_of, slots_after}
 use Rattle.weak_cache.specs.Calls.{LeavesCache}
-use Rattle.weak_cache.specs.Passes.{Begun, Cleared, Core, Keeping, KeepsBeside, StoodIn, UseLeft, moved_by, was_of}
+use Rattle.weak_cache.specs.Passes.{Begun, Cleared, Core, Keeping, KeepsBeside, NoneIsOf, StoodIn, UseLeft, cut_out, moved_by, was_of}
 use Rattle.weak_cache.proofs.CoreLemmas.{core_quiet, leaf_quiet, spared_none, spared_quiet, spares_within, use_first}
-use Rattle.weak_cache.proofs.ListLemmas.{all_left, moved_by_long, moved_each, moved_left}
+use Rattle.weak_cache.proofs.ListLemmas.{all_left, cut_each, cut_left, cut_long, moved_by_long, moved_each, moved_left}
+use Rattle.weak_cache.proofs.OnceLemmas.{once_left, once_put, once_taken}
 
 -- a register below 8 is one that the calls don't use
 pub low_beside : (r : ℕ) → r < 8 → IsBeside r
@@ -61,10 +62,13 @@ module _ (z : Sizes) (limits : IsWithinLimits z) (d : ℕ) (c k : Label) (first 
       node = x.block;
       many = cache_is.many;
       uses = λ i small. use_is z c k first new (get_or fs i Nothing) (x.uses i (let many = cache_is.many in omega (arith, small, many)));
+      once = once_left (Gone z k first new) (map (slot_of (graph_of z first)) fs) (map (slot_of (graph_of z new)) fs) slots cache_is.once;
     };
-    left = subst (λ (w : List (Option Binding) × List (Option Binding)). SlotsLeft (Gone z k first new) w.0 w.1) (λ i. (sym (slots_are z first c cache_is.tag fs cache_is.node) i, sym (slots_are z new c x.tag fs x.block) i))
-        (all_left (Gone z k first new) (graph_of z first) (graph_of z new) fs (λ j small. use_left z c k first new (get_or fs j Nothing) (x.uses j small)));
+    left = subst (λ (w : List (Option Binding) × List (Option Binding)). SlotsLeft (Gone z k first new) w.0 w.1) (λ i. (sym (slots_are z first c cache_is.tag fs cache_is.node) i, sym (slots_are z new c x.tag fs x.block) i)) slots;
   }
+    where
+      slots : SlotsLeft (Gone z k first new) (map (slot_of (graph_of z first)) fs) (map (slot_of (graph_of z new)) fs)
+      slots = all_left (Gone z k first new) (graph_of z first) (graph_of z new) fs (λ j small. use_left z c k first new (get_or fs j Nothing) (x.uses j small))
 
   -- and with a leaf first
   pub left_first : (new : List Entry) (l : Label) (v : Value) → OwnSpare z c d first new → Core z first new c k fs (moved_by (was_of z first k) (Block l) fs) → node_at (graph_of z new) l ≡ Some (Ephe (Some k ∷ []) v) → LeavesCache z d k first new c size (put_first k v (slots_after z first c))
@@ -77,9 +81,9 @@ module _ (z : Sizes) (limits : IsWithinLimits z) (d : ℕ) (c k : Label) (first 
       node = x.block;
       many = long ∙ cache_is.many;
       uses = λ i small. moved_each (IsUse (graph_of z new)) (was_of z first k) (Block l) fs (subst is_leaf (sym node) tt) (λ j less. use_is z c k first new (get_or fs j Nothing) (x.uses j less)) i (let many = cache_is.many in omega (arith, small, many));
+      once = once_left (Gone z k first new) (put_first k v (map (slot_of (graph_of z first)) fs)) (map (slot_of (graph_of z new)) gs) slots (once_put k v (map (slot_of (graph_of z first)) fs) cache_is.once);
     };
-    left = subst (λ (w : List (Option Binding) × List (Option Binding)). SlotsLeft (Gone z k first new) (put_first k v w.0) w.1) (λ i. (sym (slots_are z first c cache_is.tag fs cache_is.node) i, sym (slots_are z new c x.tag gs x.block) i))
-        (moved_left (Gone z k first new) (graph_of z first) (graph_of z new) k (Block l) (Some (k, v)) fs (inl (ap slot_in node)) (λ j small. use_left z c k first new (get_or fs j Nothing) (x.uses j small)));
+    left = subst (λ (w : List (Option Binding) × List (Option Binding)). SlotsLeft (Gone z k first new) (put_first k v w.0) w.1) (λ i. (sym (slots_are z first c cache_is.tag fs cache_is.node) i, sym (slots_are z new c x.tag gs x.block) i)) slots;
   }
     where
       gs : List Value
@@ -87,6 +91,28 @@ module _ (z : Sizes) (limits : IsWithinLimits z) (d : ℕ) (c k : Label) (first 
 
       long : length gs ≡ length fs
       long = moved_by_long (was_of z first k) (Block l) fs
+
+      slots : SlotsLeft (Gone z k first new) (put_first k v (map (slot_of (graph_of z first)) fs)) (map (slot_of (graph_of z new)) gs)
+      slots = moved_left (Gone z k first new) (graph_of z first) (graph_of z new) k (Block l) (Some (k, v)) fs (inl (ap slot_in node)) (λ j small. use_left z c k first new (get_or fs j Nothing) (x.uses j small))
+
+  -- and with one taken out
+  pub left_taken : (new : List Entry) (n : ℕ) → n < length fs → NoneIsOf z first k fs n → was_of z first k (get_or fs n Nothing) ≡ true → OwnSpare z c d first new → Core z first new c k fs (cut_out n fs) → LeavesCache z d k first new c size (taken k (slots_after z first c))
+  left_taken new n inner none own spared x = record {
+    spared = spared;
+    cache = record {
+      some = cache_is.some;
+      tag = x.tag;
+      fields = cut_out n fs;
+      node = x.block;
+      many = cut_long n fs ∙ cache_is.many;
+      uses = λ i small. cut_each (IsUse (graph_of z new)) n fs refl (λ j less. use_is z c k first new (get_or fs j Nothing) (x.uses j less)) i (let many = cache_is.many in omega (arith, small, many));
+      once = once_left (Gone z k first new) (taken k (map (slot_of (graph_of z first)) fs)) (map (slot_of (graph_of z new)) (cut_out n fs)) slots (once_taken k (map (slot_of (graph_of z first)) fs) cache_is.once);
+    };
+    left = subst (λ (w : List (Option Binding) × List (Option Binding)). SlotsLeft (Gone z k first new) (taken k w.0) w.1) (λ i. (sym (slots_are z first c cache_is.tag fs cache_is.node) i, sym (slots_are z new c x.tag (cut_out n fs) x.block) i)) slots;
+  }
+    where
+      slots : SlotsLeft (Gone z k first new) (taken k (map (slot_of (graph_of z first)) fs)) (map (slot_of (graph_of z new)) (cut_out n fs))
+      slots = cut_left (Gone z k first new) (graph_of z first) (graph_of z new) k n fs inner none own (λ j small. use_left z c k first new (get_or fs j Nothing) (x.uses j small))
 
   -- the key and the cache are copied
   module _ (cr kr : ℕ) (few_c : cr < 8) (few_k : kr < 8) (holds : held_by z d first cr ≡ Block c) (key : held_by z d first kr ≡ Block k) (new : List Entry) (b : Begun z d first new cr kr) (spares : OthersSpare z c d first new) where

@@ -1,5 +1,5 @@
 -- What a use does to the slots of a cache.
-use Rattle.std.proofs.Common.{◌≡◌, ◌≢◌, inl, inr, ℕ, zero, suc, ◌+◌, ◌<◌, ◌≤◌, Bool, true, false, cond, List, [], ◌∷◌, length, get_or, Option, Some, None, refl, ap, sym, ◌∙◌, subst, arith}
+use Rattle.std.proofs.Common.{◌≡◌, ◌≢◌, inl, inr, ℕ, zero, suc, ◌+◌, ◌<◌, ◌≤◌, Bool, true, false, cond, [], ◌∷◌, length, get_or, Option, Some, None, refl, ap, sym, ◌∙◌, subst, arith}
 use Rattle.std.proofs.lemmas.List.{length-map}
 use Rattle.heap_model.specs.declared.label.Label.{Label}
 use Rattle.heap_model.specs.declared.graph.Value.{Value}
@@ -13,15 +13,7 @@ use Rattle.weak_cache.specs.Caches.{Gone, slot_of}
 use Rattle.weak_cache.specs.Laws.{AloneSpares, CacheIsBounded, GetKeeps, LossKeepsOthers, NoOtherIsFound, OthersGoBack, OthersStay, PutIsFound}
 use Rattle.weak_cache.proofs.EndLemmas.{slots_are}
 use Rattle.weak_cache.proofs.ListLemmas.{is_of_some}
-
-abbrev pub Slots : Type 0
-Slots = List (Option Binding)
-
-cached_hit : (l : Label) (t : Option Binding) (ts : Slots) → is_of l t ≡ true → cached_in l (t ∷ ts) ≡ datum_of t
-cached_hit l t ts own = ap (λ (b : Bool). cond b (datum_of t) (cached_in l ts)) own
-
-pub cached_skip : (l : Label) (t : Option Binding) (ts : Slots) → is_of l t ≡ false → cached_in l (t ∷ ts) ≡ cached_in l ts
-cached_skip l t ts other = ap (λ (b : Bool). cond b (datum_of t) (cached_in l ts)) other
+use Rattle.weak_cache.proofs.OnceLemmas.{Slots, cached_hit, cached_skip}
 
 pub age_hit : (l : Label) (t : Option Binding) (ts : Slots) → is_of l t ≡ true → age l (t ∷ ts) ≡ 0
 age_hit l t ts own = ap (λ (b : Bool). cond b 0 (suc (age l ts))) own

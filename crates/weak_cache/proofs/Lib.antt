@@ -1,9 +1,13 @@
 pub mod ListLemmas
+pub mod OnceLemmas
 pub mod CoreLemmas
 pub mod MoveLemmas
+pub mod DrawLemmas
 pub mod MachineLemmas
 pub mod EndLemmas
 pub mod ReturnLemmas
 pub mod LawLemmas
+pub mod TakenLemmas
+pub mod AfterLemmas
 pub mod RefusedBodies
 pub mod CountLemmas

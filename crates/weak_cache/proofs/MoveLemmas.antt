@@ -185,20 +185,19 @@ module _ (z : Sizes) (limits : IsWithinLimits z) (d : ℕ) (first : List Entry) 
     pub search_on : Tells z d n0 new 10 r k false → Finding z d first new c k fs (n + 1)
     search_on t = let y = found_told false t in (y.keeps, none_more n x.1 (sym y.is))
 
-    pub search_found : Tells z d n0 new 10 r k true → FoundLeaf z d first new c k fs
+    pub search_found : Tells z d n0 new 10 r k true → FoundLeaf z d first new c k fs n
     search_found t = by field refl
       where
         y : Told n0 new fs field true
         y = found_told true t
 
-        by : (v : Value) → field ≡ v → FoundLeaf z d first new c k fs
+        by : (v : Value) → field ≡ v → FoundLeaf z d first new c k fs n
         by (Int a) is = let clash : true ≡ false = y.is ∙ ap (was_of z first k) is in cc
         by Nothing is = let clash : true ≡ false = y.is ∙ ap (was_of z first k) is in cc
         by (Block l) is =
             let own = is_of_some k (slot_of (graph_of z first) (Block l)) (sym (ap (was_of z first k) is) ∙ sym y.is) in
             let had_it : UseLeft z c k first new (Block l) = subst (UseLeft z c k first new) is (y.keeps.core.uses n small) in record {
               keeps = y.keeps;
-              i = n;
               inner = small;
               none = x.1;
               l = l;

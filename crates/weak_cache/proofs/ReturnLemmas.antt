@@ -30,13 +30,14 @@ use Rattle.weak_maps.proofs.BesideLemmas.{same_held, set_here, set_other, since_
 use Rattle.weak_maps.proofs.FreshLemmas.{not_held_before, own_born, own_middle, own_on, thin_empty}
 use Rattle.weak_maps.proofs.GetLemmas.{grows_by}
 use Rattle.weak_maps.proofs.StayLemmas.{no_entry, quiet_on}
-use Rattle.weak_cache.specs.Uses.{cached_in, is_of, touched}
+use Rattle.weak_cache.specs.Uses.{AreOnce, cached_in, is_of, touched}
 use Rattle.weak_cache.specs.Caches.{IsCache, IsUse, OthersSpare, OwnSpare, slot_of, slots_after}
-use Rattle.weak_cache.specs.Calls.{GetReturns, LeavesCache, MakeReturns, PutReturns, PutsOrFull}
-use Rattle.weak_cache.specs.Passes.{Cleared, Core, Finding, FoundLeaf, Keeping, KeepsBeside, MadeLeaf, Moved, Moving, StoodIn, UseLeft, moved_by, was_of}
+use Rattle.weak_cache.specs.Calls.{GetReturns, LeavesCache, MakeReturns, PutReturns, PutsOrFull, TakeReturns}
+use Rattle.weak_cache.specs.Passes.{Cleared, Core, Finding, FoundLeaf, Keeping, KeepsBeside, MadeLeaf, Moved, Moving, StoodIn, UseLeft, cut_out, moved_by, was_of}
 use Rattle.weak_cache.proofs.CoreLemmas.{core_mid, core_own, core_quiet, leaf_mid, leaf_quiet, spared_on, spared_quiet, spares_within}
-use Rattle.weak_cache.proofs.EndLemmas.{low_beside, cleared_clean, cleared_core, cleared_leaf, cleared_low, cleared_spared, forgot_core, forgot_here, forgot_others, forgot_spared, left_alone, left_first, slots_are}
-use Rattle.weak_cache.proofs.ListLemmas.{cached_found, cached_none}
+use Rattle.weak_cache.proofs.EndLemmas.{low_beside, cleared_clean, cleared_core, cleared_leaf, cleared_low, cleared_spared, forgot_core, forgot_here, forgot_others, forgot_spared, left_alone, left_first, left_taken, slots_are}
+use Rattle.weak_cache.proofs.ListLemmas.{cached_found, cached_none, taken_none}
+use Rattle.weak_cache.proofs.OnceLemmas.{once_empty}
 
 module _ (z : Sizes) (limits : IsWithinLimits z) (d : ℕ) (c k : Label) (first : List Entry) (size : ℕ) (cache_is : IsCache (graph_of z first) c size) where
   abbrev fs : List Value
@@ -198,9 +199,9 @@ module _ (z : Sizes) (limits : IsWithinLimits z) (d : ℕ) (c k : Label) (first 
   long_fs = cache_is.many
 
   -- `get` finds a leaf, and reads its value
-  module _ (now n0 : List Entry) (r : Reply) (dst : ℕ) (few : dst < 8) (p : PerformedBy z d now n0 (GetData dst 10) r) (spares : OthersSpare z c d first n0) (x : FoundLeaf z d first now c k fs) where
+  module _ (now n0 : List Entry) (r : Reply) (dst : ℕ) (few : dst < 8) (p : PerformedBy z d now n0 (GetData dst 10) r) (spares : OthersSpare z c d first n0) (slot : ℕ) (x : FoundLeaf z d first now c k fs slot) where
     stood : StoodIn z c now x.l
-    stood = (subst (UseLeft z c k first now) x.field (x.keeps.core.uses x.i x.inner)).0
+    stood = (subst (UseLeft z c k first now) x.field (x.keeps.core.uses slot x.inner)).0
 
     core_read : Core z first (now ++ p.between) c k fs fs
     core_read = core_mid z c k d first now n0 (GetData dst 10) r p spares x.keeps.core.grows 12 x.keeps.key fs fs x.keeps.core
@@ -226,10 +227,14 @@ module _ (z : Sizes) (limits : IsWithinLimits z) (d : ℕ) (c k : Label) (first 
           node = y.1;
         }
 
+    had : slot_of (graph_of z first) (get_or fs slot Nothing) ≡ Some (k, x.v)
+    had = ap (slot_of (graph_of z first)) x.field ∙ x.had
+
+    own : was_of z first k (get_or fs slot Nothing) ≡ true
+    own = ap (is_of k) had ∙ same_label_refl k
+
     cached : cached_in k (slots_after z first c) ≡ Some x.v
-    cached =
-        let slot : slot_of (graph_of z first) (get_or fs x.i Nothing) ≡ Some (k, x.v) = ap (slot_of (graph_of z first)) x.field ∙ x.had in
-        ap (cached_in k) (slots_are z first c cache_is.tag fs cache_is.node) ∙ cached_found k x.v (graph_of z first) fs x.i x.inner x.none slot (ap (is_of k) slot ∙ same_label_refl k)
+    cached = ap (cached_in k) (slots_are z first c cache_is.tag fs cache_is.node) ∙ cached_found k x.v (graph_of z first) fs slot x.inner x.none had own
 
     pub get_found : (n1 new : List Entry) → KeepsBeside z d first now → Moved z d first n1 c k x.l x.v fs → KeepsBeside z d n0 n1 → Cleared z d n1 new → OthersSpare z c d first new → GetReturns z d first new c size dst (Block k) r
     get_found n1 new low y low1 e spares1 =
@@ -242,6 +247,21 @@ module _ (z : Sizes) (limits : IsWithinLimits z) (d : ℕ) (c k : Label) (first 
               (left_first z limits d c k first size cache_is new x.l x.v (cleared_spared z limits d c k first size cache_is n1 new e spares1 gs y.keeps) (cleared_core z limits d c k first size cache_is n1 new e spares1 gs y.keeps) (cleared_leaf z limits d c k first size cache_is n1 new e spares1 gs y.keeps x.l x.v y.stood y.node)),
           (
             cleared_clean z limits d c k first size cache_is n1 new e spares1 gs y.keeps,
+            (λ i small other. low2 i small ∙ (low1 i small ∙ (others i other ∙ low i small))),
+          ),
+        )
+
+    -- and takes it out
+    pub take_found : (n1 new : List Entry) → KeepsBeside z d first now → Keeping z d first n1 c k fs (cut_out slot fs) → KeepsBeside z d n0 n1 → Cleared z d n1 new → OthersSpare z c d first new → TakeReturns z d first new c size dst (Block k) r
+    take_found n1 new low y low1 e spares1 =
+        let gs = cut_out slot fs in
+        let low2 = cleared_low z limits d c k first size cache_is n1 new e spares1 gs y in
+        let holds : held_by z d new dst ≡ x.v = low2 dst (low_beside dst few) ∙ (low1 dst (low_beside dst few) ∙ set_here z d now n0 dst x.v read.1 (sixteen z d now n0 (GetData dst 10) r p limits) (omega (arith, few))) in (
+          read.2 ∙ sym (ap (λ (o : Option Value). shown (value_of o)) cached),
+          ap shown holds ∙ sym read.2,
+          left_taken z limits d c k first size cache_is new slot x.inner x.none own (cleared_spared z limits d c k first size cache_is n1 new e spares1 gs y) (cleared_core z limits d c k first size cache_is n1 new e spares1 gs y),
+          (
+            cleared_clean z limits d c k first size cache_is n1 new e spares1 gs y,
             (λ i small other. low2 i small ∙ (low1 i small ∙ (others i other ∙ low i small))),
           ),
         )
@@ -265,6 +285,17 @@ module _ (z : Sizes) (limits : IsWithinLimits z) (d : ℕ) (c k : Label) (first 
           cleared_clean z limits d c k first size cache_is n0 new e spares fs y,
           (λ i small other. low2 i small ∙ (others i other ∙ low i small)),
         ),
+      )
+
+  -- so there is none to take out
+  pub take_none : (now n0 new : List Entry) (r : Reply) (dst : ℕ) → dst < 8 → KeepsBeside z d first now → Finding z d first now c k fs (length fs) → PerformedBy z d now n0 (Forget dst) r → IsPrefix n0 new → Cleared z d n0 new → OthersSpare z c d first new → TakeReturns z d first new c size dst (Block k) reply.Empty
+  take_none now n0 new r dst few low x p later e spares =
+      let none : cached_in k (slots_after z first c) ≡ None = ap (cached_in k) (slots_are z first c cache_is.tag fs cache_is.node) ∙ cached_none k (graph_of z first) fs x.1 in
+      let got = get_none now n0 new r dst few low x p later e spares in (
+        got.0,
+        got.1,
+        subst (λ (ss : List (Option Binding)). LeavesCache z d k first new c size ss) (ap (λ (o : Option Value). touched k o (slots_after z first c)) none ∙ sym (taken_none k (slots_after z first c) none)) got.2,
+        got.3,
       )
 
 -- a new cache
@@ -293,7 +324,7 @@ made_cache z limits d old new r dst size few some p = ⊎_elim
       l,
       granted.2.2,
       record {
-        cache = record { some = some; tag = 0; fields = replicate size (Int (pos 0)); node = node; many = length-replicate size (Int (pos 0)); uses = zeros_use (graph_of z new) size };
+        cache = record { some = some; tag = 0; fields = replicate size (Int (pos 0)); node = node; many = length-replicate size (Int (pos 0)); uses = zeros_use (graph_of z new) size; once = subst AreOnce (sym (zeros_slots (graph_of z new) size)) (once_empty size) };
         empty = slots_are z new l 0 (replicate size (Int (pos 0))) node ∙ zeros_slots (graph_of z new) size;
         holds = set_here z d old new dst (Block l) granted.2.1 (sixteen z d old new (Alloc dst 0 size) r p limits) (omega (arith, few));
         keeps = set_other z d old new dst (Block l) granted.2.1;

@@ -15,6 +15,7 @@ use Rattle.table_laws.specs.Thinning.{state_of}
 use Rattle.table_laws.specs.Stages.{graph_of}
 use Rattle.map_laws.specs.Tries.{inside, is_leaf}
 use Rattle.map_laws.specs.Steps.{SparesLeaves, WasUnreached}
+use Rattle.weak_cache.specs.Uses.{AreOnce}
 
 -- registers that the calls on a cache don't use
 abbrev pub IsBeside : ℕ → Type 0
@@ -43,7 +44,7 @@ IsUse g (Int a) = a ≡ pos 0
 IsUse g (Block l) = is_leaf (node_at g l)
 IsUse g Nothing = ⊥
 
--- a cache of so many slots
+-- a cache of so many slots, in which each key has one at most
 pub record IsCache (g : Graph) (c : Label) (size : ℕ) : Type 0 where
   pub some : 1 ≤ size
   pub tag : ℕ
@@ -51,6 +52,7 @@ pub record IsCache (g : Graph) (c : Label) (size : ℕ) : Type 0 where
   pub node : node_at g c ≡ Some (Plain tag fields)
   pub many : length fields ≡ size
   pub uses : (i : ℕ) → i < size → IsUse g (slice_index_or fields i Nothing)
+  pub once : AreOnce (map (slot_of g) fields)
 
 -- an entry behind a front leaves the block of a cache as it is, and each leaf that it had, but for keys that are outside reach
 pub record SparesCache (z : Sizes) (c : Label) (front : List Entry) (e : Entry) : Type 0 where

@@ -15,7 +15,7 @@ use Rattle.table_laws.specs.Stages.{graph_of}
 use Rattle.map_laws.specs.Calls.{value_of}
 use Rattle.weak_maps.specs.Beside.{held_by}
 use Rattle.weak_maps.specs.Returns.{MakesNone}
-use Rattle.weak_cache.specs.Uses.{SlotsLeft, cached_in, put_first, touched}
+use Rattle.weak_cache.specs.Uses.{SlotsLeft, cached_in, put_first, taken, touched}
 use Rattle.weak_cache.specs.Caches.{Gone, IsBeside, IsCache, OwnSpare, slots_after}
 
 -- a cache is one still, and has these slots, but for keys that were outside reach. No other block was written that was there
@@ -33,6 +33,12 @@ abbrev pub GetReturns : Sizes → ℕ → List Entry → List Entry → Label �
 GetReturns z d old new c size dst (Block k) r = (r ≡ shown (value_of (cached_in k (slots_after z old c)))) × (shown (held_by z d new dst) ≡ r)
     × LeavesCache z d k old new c size (touched k (cached_in k (slots_after z old c)) (slots_after z old c)) × LeavesRegisters z d old new dst
 GetReturns z d old new c size dst key r = (r ≡ reply.BadType) × (new ≡ old)
+
+-- `cache_take`, by what the register of the key holds: `type` exactly where it is no label, else the value that the cache had of the key when the call began, or `none`. The cache has the key no more then
+abbrev pub TakeReturns : Sizes → ℕ → List Entry → List Entry → Label → ℕ → ℕ → Value → Reply → Type 0
+TakeReturns z d old new c size dst (Block k) r = (r ≡ shown (value_of (cached_in k (slots_after z old c)))) × (shown (held_by z d new dst) ≡ r)
+    × LeavesCache z d k old new c size (taken k (slots_after z old c)) × LeavesRegisters z d old new dst
+TakeReturns z d old new c size dst key r = (r ≡ reply.BadType) × (new ≡ old)
 
 -- `cache_put` of a value: done, and it is the last used, or `full`, and the cache has what it had
 abbrev pub PutsOrFull : Sizes → ℕ → List Entry → List Entry → Label → ℕ → Label → Value → Reply → Type 0

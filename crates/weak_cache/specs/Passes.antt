@@ -1,5 +1,5 @@
 -- Where a call on a cache stands between its commands.
-use Rattle.std.specs.Prelude.{◌≡◌, ◌≢◌, ◌⊎◌, ◌<◌, ◌≤◌, ◌↔◌, ℕ, zero, suc, ◌+◌, Bool, true, false, cond, List, [], ◌∷◌, length, slice_index_or, pos, Some}
+use Rattle.std.specs.Prelude.{◌≡◌, ◌≢◌, ◌⊎◌, ◌<◌, ◌≤◌, ◌↔◌, ℕ, zero, suc, ◌+◌, Bool, true, false, cond, List, [], ◌∷◌, ◌++◌, length, slice_index_or, pos, Option, Some, None}
 use Rattle.heap_model.specs.declared.label.Label.{Label}
 use Rattle.heap_model.specs.declared.command.Command.TheVariants.{Copy, Ephe as NewEphe, Forget, GetKey, SetData, SetKey}
 use Rattle.heap_model.specs.declared.entry.Entry.{Entry}
@@ -64,10 +64,9 @@ NoneIsOf z first k fs n = (j : ℕ) → j < n → was_of z first k (slice_index_
 abbrev pub Finding : Sizes → ℕ → List Entry → List Entry → Label → Label → List Value → ℕ → Type 0
 Finding z d first now c k fs n = Keeping z d first now c k fs fs × NoneIsOf z first k fs n
 
--- it has found a leaf of the key, which register 10 holds
-pub record FoundLeaf (z : Sizes) (d : ℕ) (first now : List Entry) (c k : Label) (fs : List Value) : Type 0 where
+-- it has found a leaf of the key in the i-th, which register 10 holds
+pub record FoundLeaf (z : Sizes) (d : ℕ) (first now : List Entry) (c k : Label) (fs : List Value) (i : ℕ) : Type 0 where
   pub keeps : Keeping z d first now c k fs fs
-  pub i : ℕ
   pub inner : i < length fs
   pub none : NoneIsOf z first k fs i
   pub l : Label
@@ -77,9 +76,9 @@ pub record FoundLeaf (z : Sizes) (d : ℕ) (first now : List Entry) (c k : Label
   pub node : node_at (graph_of z now) l ≡ Some (Ephe (Some k ∷ []) v)
   pub had : slot_of (graph_of z first) (Block l) ≡ Some (k, v)
 
-abbrev pub FoundBy : Sizes → ℕ → List Entry → List Entry → Label → Label → List Value → Bool → Type 0
-FoundBy z d first now c k fs true = FoundLeaf z d first now c k fs
-FoundBy z d first now c k fs false = Finding z d first now c k fs (length fs)
+abbrev pub FoundBy : Sizes → ℕ → List Entry → List Entry → Label → Label → List Value → Option ℕ → Type 0
+FoundBy z d first now c k fs (Some i) = FoundLeaf z d first now c k fs i
+FoundBy z d first now c k fs None = Finding z d first now c k fs (length fs)
 
 -- a leaf has come into the first so many fields, each that they held one field on, and this is what is left to come into the next
 abbrev pub moved : ℕ → Value → List Value → List Value
@@ -132,8 +131,34 @@ abbrev pub MovesFirst : Sizes → ℕ → List Entry → List Entry → Label �
 MovesFirst z d old new k size = (first : List Entry) (c l : Label) (v : Value) (fs : List Value) → OthersSpare z c d first new → length fs ≡ size → 1 ≤ size → Moving z d first old c k l v fs 0 → Moved z d first new c k l v fs × KeepsBeside z d old new
 
 -- a leaf of the key is looked for
-abbrev pub FindsLeaf : Sizes → ℕ → List Entry → List Entry → Label → ℕ → Bool → Type 0
+abbrev pub FindsLeaf : Sizes → ℕ → List Entry → List Entry → Label → ℕ → Option ℕ → Type 0
 FindsLeaf z d old new k size found = (first : List Entry) (c : Label) (fs : List Value) → OthersSpare z c d first new → length fs ≡ size → Finding z d first old c k fs 0 → FoundBy z d first new c k fs found × KeepsBeside z d old new
+
+-- so many fields behind the i-th have each come one field forward
+abbrev pub drawn : ℕ → ℕ → List Value → List Value
+drawn zero zero fs = fs
+drawn zero (suc n) [] = []
+drawn zero (suc n) (f ∷ fs) = slice_index_or fs 0 f ∷ drawn zero n fs
+drawn (suc i) n [] = []
+drawn (suc i) n (f ∷ fs) = f ∷ drawn i n fs
+
+-- all have, and the last is 0
+abbrev pub cut_out : ℕ → List Value → List Value
+cut_out i [] = []
+cut_out zero (f ∷ fs) = fs ++ Int (pos 0) ∷ []
+cut_out (suc i) (f ∷ fs) = f ∷ cut_out i fs
+
+-- one more has, of whatever cache on whatever call, if others spare the cache
+abbrev pub Draws : Sizes → ℕ → List Entry → List Entry → ℕ → Type 0
+Draws z d old new j = (first : List Entry) (c k : Label) (fs : List Value) (i n : ℕ) → OthersSpare z c d first new → j ≡ i + n → j + 1 < length fs → Keeping z d first old c k fs (drawn i n fs) → Keeping z d first new c k fs (drawn i (n + 1) fs) × KeepsBeside z d old new
+
+-- all have
+abbrev pub DrawsBehind : Sizes → ℕ → List Entry → List Entry → ℕ → ℕ → Type 0
+DrawsBehind z d old new i size = (first : List Entry) (c k : Label) (fs : List Value) (n : ℕ) → OthersSpare z c d first new → length fs ≡ size → i + n + 1 ≡ size → Keeping z d first old c k fs fs → Keeping z d first new c k fs (drawn i n fs) × KeepsBeside z d old new
+
+-- and the last is 0
+abbrev pub CutsOut : Sizes → ℕ → List Entry → List Entry → ℕ → ℕ → Type 0
+CutsOut z d old new i size = (first : List Entry) (c k : Label) (fs : List Value) → OthersSpare z c d first new → length fs ≡ size → i < size → Keeping z d first old c k fs fs → Keeping z d first new c k fs (cut_out i fs) × KeepsBeside z d old new
 
 -- a leaf of the key in a register was made, with the value in another
 pub record MadeLeaf (z : Sizes) (d : ℕ) (old new : List Entry) (key item : ℕ) : Type 0 where

@@ -1,5 +1,5 @@
 -- What a cache has, as plain data: slots in the order of use, the last used first. A slot has a key and its value, or nothing.
-use Rattle.std.specs.Prelude.{◌≡◌, ◌⊎◌, ℕ, suc, Bool, false, cond, List, [], ◌∷◌, Option, Some, None}
+use Rattle.std.specs.Prelude.{◌≡◌, ◌⊎◌, ℕ, suc, Bool, true, false, cond, List, [], ◌∷◌, ◌++◌, Option, Some, None}
 use Rattle.heap_model.specs.declared.label.Label.{Label}
 use Rattle.heap_model.specs.declared.graph.Value.{Value}
 use Rattle.heap_model.specs.Graph.{same_label}
@@ -32,6 +32,16 @@ put_first k v ss = pushed k (Some (k, v)) ss
 abbrev pub touched : Label → Option Value → List (Option Binding) → List (Option Binding)
 touched k None ss = ss
 touched k (Some v) ss = put_first k v ss
+
+-- a key's slot is taken out: those behind it go one forward, and the last has nothing
+abbrev pub taken : Label → List (Option Binding) → List (Option Binding)
+taken k [] = []
+taken k (s ∷ ss) = cond (is_of k s) (ss ++ None ∷ []) (s ∷ taken k ss)
+
+-- each key has one slot at most
+abbrev pub AreOnce : List (Option Binding) → Type 0
+AreOnce [] = Unit {0}
+AreOnce (s ∷ ss) = ((k : Label) → is_of k s ≡ true → cached_in k ss ≡ None) × AreOnce ss
 
 -- how many slots stand before the first of a key
 abbrev pub age : Label → List (Option Binding) → ℕ

@@ -1,5 +1,5 @@
 //! The calls on a cache.
-ghost use Rattle.std.specs.Prelude.{◌≡◌, ◌+◌, ◌<◌, ◌≤◌, cond};
+ghost use Rattle.std.specs.Prelude.{◌≡◌, ◌+◌, ◌<◌, ◌≤◌, ℕ, Some, cond};
 ghost use Rattle.heap_model.specs.declared.command.Command.TheVariants as command;
 ghost use Rattle.heap_model.specs.declared.graph.Value.TheVariants.{Block};
 ghost use Rattle.heap_model.specs.declared.label.Label as labels;
@@ -9,9 +9,9 @@ ghost use Rattle.table_laws.specs.Stages.{graph_of};
 ghost use Rattle.map_laws.specs.Calls.{PerformedBy};
 ghost use Rattle.weak_maps.specs.Beside.{held_by, refusals_by, writings_by};
 ghost use Rattle.weak_cache.specs.Caches.{IsCache, OthersSpare};
-ghost use Rattle.weak_cache.specs.Calls.{GetReturns, MakeReturns, PutReturns};
+ghost use Rattle.weak_cache.specs.Calls.{GetReturns, MakeReturns, PutReturns, TakeReturns};
 ghost use Rattle.weak_cache.specs.Counts.{PutCounts};
-ghost use Rattle.weak_cache.specs.Passes.{Begun, Cleared, FindsLeaf, MakesLeaf, MovesFirst, Passes, Tells};
+ghost use Rattle.weak_cache.specs.Passes.{Begun, Cleared, CutsOut, Draws, DrawsBehind, FindsLeaf, MakesLeaf, MovesFirst, Passes, Tells};
 
 use heap_model::command::Command;
 use heap_model::label::Label;
@@ -105,8 +105,9 @@ fn read_slot<M: Machine, R: Wait>(m: &mut M, rt: &R, dst: u8, index: u16) -> Rep
     )
 }
 
-// Looks for the leaf of the key in register 12 in the cache in register 13: register 10 holds it, where there is one.
-fn find<M: Machine, R: Wait>(m: &mut M, rt: &R, size: u16, label: &Label) -> bool
+// Looks for the leaf of the key in register 12 in the cache in register 13. Where there is one register 10 holds it, and its
+// slot is told.
+fn find<M: Machine, R: Wait>(m: &mut M, rt: &R, size: u16, label: &Label) -> Option<u16>
     ensures sizes { M.sizes m.new ≡ M.sizes m.old }
     ensures domain { M.domain m.new ≡ M.domain m.old }
     ensures heap { M.heap m.new ≡ M.heap m.old }
@@ -115,16 +116,17 @@ fn find<M: Machine, R: Wait>(m: &mut M, rt: &R, size: u16, label: &Label) -> boo
     ensures room { M.ephes_room m.old ≤ M.ephes_room m.new }
     ensures given { refusals_by (M.domain m.old) (M.front m.new) ≡ refusals_by (M.domain m.old) (M.front m.old) }
     ensures written { writings_by (M.domain m.old) (M.front m.new) ≡ writings_by (M.domain m.old) (M.front m.old) }
+    ensures inner { (i : ℕ) → result ≡ Some i → i < size }
     ensures found { FindsLeaf (M.sizes m.old) (M.domain m.old) (M.front m.old) (M.front m.new) label.now size result }
 {
     m.stands();
     'slots: for index in 0..size {
         let shows = read_slot(m, rt, 10, index);
         if is_leaf_of(m, rt, 10, &shows, label) {
-            return true;
+            return Some(index);
         }
     }
-    false
+    None
 }
 
 // Puts what register 10 holds into a slot of the cache in register 13, and takes what that held. Tells whether it wasn't the
@@ -177,6 +179,78 @@ fn put_first<M: Machine, R: Wait>(m: &mut M, rt: &R, size: u16, label: &Label)
             return;
         }
     }
+}
+
+// Puts what a slot of the cache in register 13 holds into the slot before it.
+fn draw<M: Machine, R: Wait>(m: &mut M, rt: &R, index: u16)
+    requires few { index < 65535 }
+    ensures sizes { M.sizes m.new ≡ M.sizes m.old }
+    ensures domain { M.domain m.new ≡ M.domain m.old }
+    ensures heap { M.heap m.new ≡ M.heap m.old }
+    ensures grows { IsPrefix (M.front m.old) (M.front m.new) }
+    ensures labels { M.labels_left m.new ≡ M.labels_left m.old }
+    ensures room { M.ephes_room m.old ≤ M.ephes_room m.new }
+    ensures given { refusals_by (M.domain m.old) (M.front m.new) ≡ refusals_by (M.domain m.old) (M.front m.old) }
+    ensures written { writings_by (M.domain m.old) (M.front m.new) ≡ writings_by (M.domain m.old) (M.front m.old) }
+    ensures drawn { Draws (M.sizes m.old) (M.domain m.old) (M.front m.old) (M.front m.new) index }
+{
+    m.stands();
+    let _shows = read_slot(m, rt, 10, index + 1);
+    let _done = perform(
+        m,
+        rt,
+        Command::Store {
+            block: 13,
+            index,
+            item: 10,
+        },
+    );
+}
+
+// Puts what each slot behind one of the cache in register 13 holds into the slot before it.
+fn draw_behind<M: Machine, R: Wait>(m: &mut M, rt: &R, size: u16, from: u16)
+    requires inner { from < size }
+    ensures sizes { M.sizes m.new ≡ M.sizes m.old }
+    ensures domain { M.domain m.new ≡ M.domain m.old }
+    ensures heap { M.heap m.new ≡ M.heap m.old }
+    ensures grows { IsPrefix (M.front m.old) (M.front m.new) }
+    ensures labels { M.labels_left m.new ≡ M.labels_left m.old }
+    ensures room { M.ephes_room m.old ≤ M.ephes_room m.new }
+    ensures given { refusals_by (M.domain m.old) (M.front m.new) ≡ refusals_by (M.domain m.old) (M.front m.old) }
+    ensures written { writings_by (M.domain m.old) (M.front m.new) ≡ writings_by (M.domain m.old) (M.front m.old) }
+    ensures drawn { DrawsBehind (M.sizes m.old) (M.domain m.old) (M.front m.old) (M.front m.new) from size }
+{
+    m.stands();
+    'behind: for passed in 0..size - 1 - from {
+        draw(m, rt, from + passed);
+    }
+}
+
+// Takes a slot out of the cache in register 13: those behind it go one forward, and the last holds 0.
+fn cut_out<M: Machine, R: Wait>(m: &mut M, rt: &R, size: u16, from: u16)
+    requires inner { from < size }
+    ensures sizes { M.sizes m.new ≡ M.sizes m.old }
+    ensures domain { M.domain m.new ≡ M.domain m.old }
+    ensures heap { M.heap m.new ≡ M.heap m.old }
+    ensures grows { IsPrefix (M.front m.old) (M.front m.new) }
+    ensures labels { M.labels_left m.new ≡ M.labels_left m.old }
+    ensures room { M.ephes_room m.old ≤ M.ephes_room m.new }
+    ensures given { refusals_by (M.domain m.old) (M.front m.new) ≡ refusals_by (M.domain m.old) (M.front m.old) }
+    ensures written { writings_by (M.domain m.old) (M.front m.new) ≡ writings_by (M.domain m.old) (M.front m.old) }
+    ensures cut { CutsOut (M.sizes m.old) (M.domain m.old) (M.front m.old) (M.front m.new) from size }
+{
+    m.stands();
+    draw_behind(m, rt, size, from);
+    let _zero = perform(m, rt, Command::PutInt { dst: 10, value: 0 });
+    let _done = perform(
+        m,
+        rt,
+        Command::Store {
+            block: 13,
+            index: size - 1,
+            item: 10,
+        },
+    );
 }
 
 // Copies the key in a register into register 12, and the cache in another into register 13.
@@ -287,13 +361,55 @@ pub fn cache_get<M: Machine, R: Wait>(
         return Reply::BadType;
     };
     begin(m, rt, cache, key);
-    if !find(m, rt, size, &label) {
+    let Some(_slot) = find(m, rt, size, &label) else {
         let _none = perform(m, rt, Command::Forget { dst });
         clear(m, rt);
         return Reply::Empty;
-    }
+    };
     let value = perform(m, rt, Command::GetData { dst, ephe: 10 });
     put_first(m, rt, size, &label);
+    clear(m, rt);
+    value
+}
+
+/// Takes the key in a register out of the cache in another: the value that the cache had of it goes into a third, and the keys
+/// behind it go one slot forward. Answers `type` exactly where the first holds no label, and then changes nothing. Else it
+/// answers what the cache had of the key when the call began, which the third register holds afterwards: a value, or `none` and
+/// nothing. A slot loses what it has only where its key is outside reach, and no other block is written that was there. No
+/// other domain uses the cache meanwhile. Registers are below 8. Registers 9 to 13 hold nothing afterwards, but for `type`.
+pub fn cache_take<M: Machine, R: Wait>(
+    m: &mut M,
+    rt: &R,
+    dst: u8,
+    cache: u8,
+    size: u16,
+    key: u8,
+) -> Reply
+    requires few { (dst < 8) × (cache < 8) × (key < 8) }
+    ensures sizes { M.sizes m.new ≡ M.sizes m.old }
+    ensures domain { M.domain m.new ≡ M.domain m.old }
+    ensures heap { M.heap m.new ≡ M.heap m.old }
+    ensures grows { IsPrefix (M.front m.old) (M.front m.new) }
+    ensures labels { M.labels_left m.new ≡ M.labels_left m.old }
+    ensures room { M.ephes_room m.old ≤ M.ephes_room m.new }
+    ensures given { refusals_by (M.domain m.old) (M.front m.new) ≡ refusals_by (M.domain m.old) (M.front m.old) }
+    ensures written { writings_by (M.domain m.old) (M.front m.new) ≤ writings_by (M.domain m.old) (M.front m.old) + is_spared dst }
+    ensures answer { (c : labels.Label) → held_by (M.sizes m.old) (M.domain m.old) (M.front m.old) cache ≡ Block c → IsCache (graph_of (M.sizes m.old) (M.front m.old)) c size
+        → OthersSpare (M.sizes m.old) c (M.domain m.old) (M.front m.old) (M.front m.new)
+        → TakeReturns (M.sizes m.old) (M.domain m.old) (M.front m.old) (M.front m.new) c size dst (held_by (M.sizes m.old) (M.domain m.old) (M.front m.old) key) result }
+{
+    m.stands();
+    let Reply::Block(label) = m.show(key) else {
+        return Reply::BadType;
+    };
+    begin(m, rt, cache, key);
+    let Some(slot) = find(m, rt, size, &label) else {
+        let _none = perform(m, rt, Command::Forget { dst });
+        clear(m, rt);
+        return Reply::Empty;
+    };
+    let value = perform(m, rt, Command::GetData { dst, ephe: 10 });
+    cut_out(m, rt, size, slot);
     clear(m, rt);
     value
 }

@@ -1,4 +1,4 @@
-use Rattle.std.proofs.Common.{◌≡◌, ◌∙◌, ℕ, List, true, false, sym, subst, arith}
+use Rattle.std.proofs.Common.{◌≡◌, ◌∙◌, ℕ, List, Some, None, sym, subst, arith}
 use Rattle.heap_model.specs.declared.entry.Entry.{Entry}
 use Rattle.heap_model.specs.declared.graph.Value.{Value}
 use Rattle.heap_model.specs.declared.graph.Value.TheVariants.{Block}
@@ -21,8 +21,8 @@ use Rattle.weak_cache.proofs.cache.cache_get.Goals as goal
 pub returns-clause-grows : goal.returns-clause-grows
 returns-clause-grows g c = prefix_trans _ _ _ (grown_from _ _ _ c.show.ensures.front c.begin.ensures.grows) (prefix_trans _ _ _ c.find.ensures.grows (prefix_trans _ _ _ c.perform-value.ensures.grows (prefix_trans _ _ _ c.put_first.ensures.grows c.clear-2.ensures.grows)))
 
-pub returns-then-not-find-clause-grows : goal.returns-then-not-find-clause-grows
-returns-then-not-find-clause-grows g c = prefix_trans _ _ _ (grown_from _ _ _ c.show.ensures.front c.begin.ensures.grows) (prefix_trans _ _ _ c.find.ensures.grows (prefix_trans _ _ _ c.perform-none.ensures.grows c.clear.ensures.grows))
+pub returns-in_default-find-clause-grows : goal.returns-in_default-find-clause-grows
+returns-in_default-find-clause-grows g c = prefix_trans _ _ _ (grown_from _ _ _ c.show.ensures.front c.begin.ensures.grows) (prefix_trans _ _ _ c.find.ensures.grows (prefix_trans _ _ _ c.perform-none.ensures.grows c.clear.ensures.grows))
 
 pub returns-in_default-clause-grows : goal.returns-in_default-clause-grows
 returns-in_default-clause-grows g c = none_grows _ _ c.show.ensures.front
@@ -50,7 +50,7 @@ returns-clause-answer g c =
     let o4 = c.put_first.ensures.domain ∙ o3 in
     let key : held_by z d old c.args.key ≡ Block k = shown_label _ _ (sym c.show.ensures.reply ∙ c.in-Block.is) in
     let b = begun_at z _ d _ old _ n0 c.args.cache c.args.key s0 o0 c.show.ensures.front c.begin.ensures.begun in
-    let finds = finds_at z _ d _ n0 n1 k c.args.size true _ s1 o1 c.if-not-find.false c.find.ensures.found in
+    let finds = finds_at z _ d _ n0 n1 k c.args.size (Some c.in-Some._slot) _ s1 o1 c.in-Some.is c.find.ensures.found in
     let p = at_machine z _ d _ n1 n2 _ _ s2 o2 c.perform-value.ensures.performed in
     let moves = moves_at z _ d _ n2 n3 k c.args.size s3 o3 c.put_first.ensures.moved in
     let e = cleared_at z _ d _ n3 new s4 o4 c.clear-2.ensures.cleared in
@@ -63,13 +63,13 @@ returns-clause-answer g c =
     let begins = begun z c.stands.ensures.limits d root k old c.args.size cache_is c.args.cache c.args.key c.requires.few.1 c.requires.few.2 holds key n0 b (upto n0 g0) in
     let low0 = begun_low z c.stands.ensures.limits d root k old c.args.size cache_is c.args.cache c.args.key c.requires.few.1 c.requires.few.2 holds key n0 b (upto n0 g0) in
     let f = finds old root cache_is.fields (upto n1 g1) cache_is.many (begins, (λ j less. absurd (omega (arith, less)))) in
-    let mv = found_moves z c.stands.ensures.limits d root k old c.args.size cache_is n1 n2 c.perform-value.result c.args.dst c.requires.few.0 p (upto n2 g2) f.0 in
+    let mv = found_moves z c.stands.ensures.limits d root k old c.args.size cache_is n1 n2 c.perform-value.result c.args.dst c.requires.few.0 p (upto n2 g2) c.in-Some._slot f.0 in
     let y = moves old root f.0.l f.0.v cache_is.fields (upto n3 g3) cache_is.many cache_is.some mv in
     subst (λ (v : Value). GetReturns z d old new root c.args.size c.args.dst v c.perform-value.result) (sym key)
-    (get_found z c.stands.ensures.limits d root k old c.args.size cache_is n1 n2 c.perform-value.result c.args.dst c.requires.few.0 p (upto n2 g2) f.0 n3 new (λ i low. f.1 i low ∙ low0 i low) y.0 y.1 e spares)
+    (get_found z c.stands.ensures.limits d root k old c.args.size cache_is n1 n2 c.perform-value.result c.args.dst c.requires.few.0 p (upto n2 g2) c.in-Some._slot f.0 n3 new (λ i low. f.1 i low ∙ low0 i low) y.0 y.1 e spares)
 
-pub returns-then-not-find-clause-answer : goal.returns-then-not-find-clause-answer
-returns-then-not-find-clause-answer g c =
+pub returns-in_default-find-clause-answer : goal.returns-in_default-find-clause-answer
+returns-in_default-find-clause-answer g c =
     let z : Sizes = g.M.Machine.sizes c.args.m.now in
     let d : ℕ = g.M.Machine.domain c.args.m.now in
     let old : List Entry = g.M.Machine.front c.args.m.now in
@@ -88,7 +88,7 @@ returns-then-not-find-clause-answer g c =
     let o3 = c.perform-none.ensures.domain ∙ o2 in
     let key : held_by z d old c.args.key ≡ Block k = shown_label _ _ (sym c.show.ensures.reply ∙ c.in-Block.is) in
     let b = begun_at z _ d _ old _ n0 c.args.cache c.args.key s0 o0 c.show.ensures.front c.begin.ensures.begun in
-    let finds = finds_at z _ d _ n0 n1 k c.args.size false _ s1 o1 c.if-not-find.true c.find.ensures.found in
+    let finds = finds_at z _ d _ n0 n1 k c.args.size None _ s1 o1 c.in_default-find.is c.find.ensures.found in
     let p = at_machine z _ d _ n1 n2 _ _ s2 o2 c.perform-none.ensures.performed in
     let e = cleared_at z _ d _ n2 new s3 o3 c.clear.ensures.cleared in
     let g2 : IsPrefix n2 new = c.clear.ensures.grows in

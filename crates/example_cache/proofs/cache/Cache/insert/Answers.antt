@@ -1,20 +1,66 @@
-use Rattle.std.proofs.Common.{ap, arith, subst}
-use Rattle.heap_model.specs.declared.graph.Value.{Value}
+use Rattle.std.proofs.Common.{◌∙◌, inl, inr, refl, ap, subst, sym, arith}
 use Rattle.heap_model.specs.Graph.{label_of}
-use Rattle.example_cache.specs.Caching.{CacheView, PutAnswers, holds}
-use Rattle.example_cache.proofs.Calls.{at_bound, insert_answers}
+use Rattle.heap_session.specs.Sessions.{SessionView}
+use Rattle.example_cache.specs.declared.cache.Inserted.{Inserted}
+use Rattle.example_cache.specs.Caching.{CacheView, InsertAnswers, IsCache, KeepsRegisters, RoomAnswers, inserted_of, holds}
+use Rattle.example_cache.proofs.Entries.{keeps_same}
+use Rattle.example_cache.proofs.Calls.{alone, put_says, room_says}
+use Rattle.example_cache.proofs.cache.Cache.insert.Goals.{then-labels_left-lt1-via-then-labels_left-lt1, then-labels_left-lt1-via-else-labels_left-lt1+then-ephes_room-lt1}
 use Rattle.example_cache.proofs.cache.Cache.insert.Goals as goal
 
-pub returns-then-count-self : goal.returns-then-count-self
-returns-then-count-self g c =
-    let same = ap (λ (v : CacheView). v.most) c.self.view_is in
-    let most = c.count.ensures.entries.most in
-    record { answers = (at_bound c.args.self.now c.count.new.self c.count.result c.count.ensures.counts (omega (arith, c.if-count-self.true, same, most)), c.count.ensures.entries) }
+pub invariant_of-self : goal.invariant_of-self
+invariant_of-self g c =
+    let old : CacheView = record { heap = c.self.inside.heap; most = c.self.inside.most } in
+    let new : CacheView = record { heap = c.cache_put-reply.new.m; most = c.self.inside.most } in
+    let has = c.self.invariant in
+    let spares = alone old new has.root c.session-2.result.now c.session-3.result.now c.cache_put-reply.ensures.sizes c.session-2.ensures c.session-3.ensures c.is_legal.ensures.alone c.is_legal-2.ensures.legal in
+    let says = put_says old new c.cache_put-reply.ensures.sizes refl has c.cache_put-reply.ensures.grows (holds old c.args.key) (holds old c.args.item) c.cache_put-reply.result (c.cache_put-reply.ensures.answer has.root has.held has.cache spares) in
+    says.2
 
-pub returns : goal.returns
-returns g c =
-    let kept = c.count.ensures.registers in
-    record {
-      answers = insert_answers c.args.self.now c.count.new.self c.put.new.self (label_of (holds c.args.self.now c.args.key)) (holds c.args.self.now c.args.item) c.put.result c.count.ensures.entries
-          (subst (λ (v : Value × Value). PutAnswers c.count.new.self c.put.new.self (label_of v.0) v.1 c.put.result) (λ i. (kept c.args.key c.requires.few.0 i, kept c.args.item c.requires.few.1 i)) c.put.ensures.answers);
-    }
+pub returns-clause-answers : goal.returns-clause-answers
+returns-clause-answers g c =
+    let old : CacheView = record { heap = c.self.inside.heap; most = c.self.inside.most } in
+    let new : CacheView = record { heap = c.cache_put-reply.new.m; most = c.self.inside.most } in
+    let has = c.self.invariant in
+    let spares = alone old new has.root c.session-2.result.now c.session-3.result.now c.cache_put-reply.ensures.sizes c.session-2.ensures c.session-3.ensures c.is_legal.ensures.alone c.is_legal-2.ensures.legal in
+    let says = put_says old new c.cache_put-reply.ensures.sizes refl has c.cache_put-reply.ensures.grows (holds old c.args.key) (holds old c.args.item) c.cache_put-reply.result (c.cache_put-reply.ensures.answer has.root has.held has.cache spares) in
+    subst (λ (r : Inserted). InsertAnswers c.args.self.now new (label_of (holds c.args.self.now c.args.key)) (holds c.args.self.now c.args.item) r) (sym c.inserted_of.ensures) (subst (λ (v : CacheView). InsertAnswers v new (label_of (holds v c.args.key)) (holds v c.args.item) (inserted_of c.cache_put-reply.result)) c.self.view_is says.0)
+
+pub returns-clause-registers : goal.returns-clause-registers
+returns-clause-registers g c =
+    let old : CacheView = record { heap = c.self.inside.heap; most = c.self.inside.most } in
+    let new : CacheView = record { heap = c.cache_put-reply.new.m; most = c.self.inside.most } in
+    let has = c.self.invariant in
+    let spares = alone old new has.root c.session-2.result.now c.session-3.result.now c.cache_put-reply.ensures.sizes c.session-2.ensures c.session-3.ensures c.is_legal.ensures.alone c.is_legal-2.ensures.legal in
+    let says = put_says old new c.cache_put-reply.ensures.sizes refl has c.cache_put-reply.ensures.grows (holds old c.args.key) (holds old c.args.item) c.cache_put-reply.result (c.cache_put-reply.ensures.answer has.root has.held has.cache spares) in
+    subst (λ (v : CacheView). KeepsRegisters v new 7) c.self.view_is says.1
+
+pub returns-then-labels_left-lt1-clause-answers : goal.returns-then-labels_left-lt1-clause-answers
+returns-then-labels_left-lt1-clause-answers g c = keeps_same c.args.self.now c.args.self.now refl refl (subst IsCache c.self.view_is c.self.invariant) refl (label_of (holds c.args.self.now c.args.key))
+
+pub returns-clause-room : goal.returns-clause-room
+returns-clause-room g c =
+    let new : CacheView = record { heap = c.cache_put-reply.new.m; most = c.self.inside.most } in
+    let left = c.labels_left.ensures in
+    let some = c.if-labels_left-lt1.false in
+    let labels = ap (λ (s : SessionView). s.labels) c.session.ensures in
+    let fits = c.if-ephes_room-lt1.false in
+    let room = c.ephes_room.ensures in
+    let rooms = ap (λ (s : SessionView). s.room) c.session-else-labels_left-lt1.ensures in
+    subst (λ (r : Inserted). RoomAnswers c.args.self.now new r) (sym c.inserted_of.ensures)
+    (subst (λ (v : CacheView). RoomAnswers v new (inserted_of c.cache_put-reply.result)) c.self.view_is
+    (room_says (record { heap = c.self.inside.heap; most = c.self.inside.most }) new c.cache_put-reply.result _ _ (omega (arith, left, some, labels)) (omega (arith, fits, room, rooms)) c.cache_put-reply.ensures.counts))
+
+pub returns-then-labels_left-lt1-clause-room : goal.returns-then-labels_left-lt1-clause-room
+returns-then-labels_left-lt1-clause-room g c =
+    let heap = ap (λ (v : CacheView). v.heap) c.self.view_is in
+    let labels = ap (λ (s : SessionView). s.labels) (c.session.ensures ∙ heap) in
+    let left = c.labels_left.ensures in
+    elim c.then-labels_left-lt1.branch [
+      | then-labels_left-lt1-via-then-labels_left-lt1 w ↦ let none = w.if-labels_left-lt1.true in inl (omega (arith, labels, left, none))
+      | then-labels_left-lt1-via-else-labels_left-lt1+then-ephes_room-lt1 w ↦
+          let none = w.if-ephes_room-lt1.true in
+          let room = w.ephes_room.ensures in
+          let rooms = ap (λ (s : SessionView). s.room) (w.session-else-labels_left-lt1.ensures ∙ heap) in
+          inr (inl (omega (arith, none, room, rooms)))
+    ]
