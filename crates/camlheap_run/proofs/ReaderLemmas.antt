@@ -1,12 +1,11 @@
 -- Sections that were read in threads, and the script that they make.
-use Rattle.std.proofs.Common.{◌≡◌, ℕ, zero, suc, ◌+◌, ◌-◌, ◌<◌, ◌≤◌, List, [], ◌∷◌, ◌++◌, map, length, take, drop, get_or, refl, ap, sym, ◌∙◌, subst, arith, append_assoc, append-nil, sum_by, Some, Ok, Vec, Global}
-use Rattle.std.specs.Prelude.{Option, Result, slice_get}
+use Rattle.std.proofs.Common.{◌≡◌, ℕ, suc, ◌+◌, ◌-◌, ◌<◌, ◌≤◌, List, [], ◌∷◌, ◌++◌, map, length, take, drop, get_or, refl, ap, sym, ◌∙◌, subst, arith, append_assoc, append-nil, sum_by, Some, Vec, Global}
+use Rattle.std.specs.Prelude.{slice_get}
 use Rattle.std.specs.List.{AllByRecursion}
 use Rattle.std.proofs.lemmas.List.{take-append-drop, append-nil}
 use Rattle.std.proofs.lemmas.Option.{slice_get-get_or, slice_get_within}
 use Rattle.heap_model.specs.declared.command.Command.{Command}
 use Rattle.heap_model.specs.Output.{line}
-use Rattle.heap_text.specs.declared.section.NoSection.{NoSection}
 use Rattle.heap_text.specs.declared.version.Version.{Version}
 use Rattle.heap_text.specs.declared.version.Version.TheVariants.{One, Two, Three}
 use Rattle.heap_text.specs.Forms.{version_number}
@@ -17,7 +16,7 @@ use Rattle.heap_text.proofs.SoleLemmas.{sections_join}
 use Rattle.heap_text.proofs.FrontLemmas.{drop_on}
 use Rattle.camlheap_run.specs.declared.cutting.Cut.{Cut}
 use Rattle.camlheap_run.specs.declared.reader.Reader.{Reader}
-use Rattle.camlheap_run.specs.Readers.{AreRead, IsCut, IsOf, IsReader, SameSection, Tells, lines_of, read_of, whole}
+use Rattle.camlheap_run.specs.Readers.{AreReadersDriven, IsCut, IsReaderOf, SameSection, SaysLines, lines_of, read_of, whole}
 use Rattle.camlheap_run.proofs.RunLemmas.{all_from_each, each_from_all}
 
 -- where a part stands in a text, the rest stands behind it
@@ -72,22 +71,22 @@ lines_same : (text : List ℕ) (r q : Reader) → SameSection r q → lines_of t
 lines_same text r q same = ap (λ n. take (n - q.start) (drop q.start text)) same.end ∙ ap (λ n. take (r.end - n) (drop n text)) same.start
 
 -- readers that were driven to their ends are those of the same sections
-still_of : (ver : Version) (domains : ℕ) (text : List ℕ) (old new : List Reader) → AllByRecursion (IsOf ver domains text) old → AreRead text old new → AllByRecursion (IsOf ver domains text) new
-still_of ver domains text old new each driven = all_from_each (IsOf ver domains text) new (λ i q at.
+still_of : (ver : Version) (domains : ℕ) (text : List ℕ) (old new : List Reader) → AllByRecursion (IsReaderOf ver domains text) old → AreReadersDriven text old new → AllByRecursion (IsReaderOf ver domains text) new
+still_of ver domains text old new each driven = all_from_each (IsReaderOf ver domains text) new (λ i q at.
     let within : i < length old = subst (λ (n : ℕ). i < n) driven.count (slice_get_within new i q at) in
     let r : Reader = get_or old i q in
     let there : slice_get old i ≡ Some r = slice_get-get_or old i q within in
-    let was = each_from_all (IsOf ver domains text) old i r each there in
+    let was = each_from_all (IsReaderOf ver domains text) old i r each there in
     let same = driven.further i r q there at in
     record { reads = driven.here i q at; version = same.version ∙ was.version; domains = same.domains ∙ was.domains })
 
 -- what they have read are the sections with these lines
-section_read : (ver : Version) (domains : ℕ) (text : List ℕ) (r : Reader) (v : Vec Command Global) → IsOf ver domains text r → read_of r ≡ whole v → IsSectionText ver domains (lines_of text r) v.items
+section_read : (ver : Version) (domains : ℕ) (text : List ℕ) (r : Reader) (v : Vec Command Global) → IsReaderOf ver domains text r → read_of r ≡ whole v → IsSectionText ver domains (lines_of text r) v.items
 section_read ver domains text r v is said =
-    let told : IsSectionText r.version r.domains (lines_of text r) v.items = subst (Tells (lines_of text r) r) said is.reads.tells in
+    let told : IsSectionText r.version r.domains (lines_of text r) v.items = subst (SaysLines (lines_of text r) r) said is.reads.tells in
     subst (λ (d : ℕ). IsSectionText ver d (lines_of text r) v.items) is.domains (subst (λ (u : Version). IsSectionText u r.domains (lines_of text r) v.items) is.version told)
 
-sections_read : (ver : Version) (domains : ℕ) (text : List ℕ) (readers : List Reader) (sections : List (Vec Command Global)) → AllByRecursion (IsOf ver domains text) readers → map read_of readers ≡ map whole sections
+sections_read : (ver : Version) (domains : ℕ) (text : List ℕ) (readers : List Reader) (sections : List (Vec Command Global)) → AllByRecursion (IsReaderOf ver domains text) readers → map read_of readers ≡ map whole sections
     → AreSectionTexts ver domains (map (lines_of text) readers) (map (λ v. v.items) sections)
 sections_read ver domains text [] [] each said = tt
 sections_read ver domains text [] (v ∷ sections) each said = cc
@@ -105,7 +104,7 @@ at_most_three Two = omega arith
 at_most_three Three = omega arith
 
 -- the script that they make is the one that the text spells
-pub together_spelled : (domains : ℕ) (text : List ℕ) (c : Cut) (new : List Reader) (sections : List (Vec Command Global)) (s : Scripted) → IsCut domains text c → AreRead text c.readers.items new → map whole sections ≡ map read_of new
+pub together_spelled : (domains : ℕ) (text : List ℕ) (c : Cut) (new : List Reader) (sections : List (Vec Command Global)) (s : Scripted) → IsCut domains text c → AreReadersDriven text c.readers.items new → map whole sections ≡ map read_of new
     → s.version ≡ c.version → s.sections ≡ with_empty domains (map (λ v. v.items) sections) → sum_by length (map (λ v. v.items) sections) ≤ 200000 → Spells Three domains s text
 together_spelled domains text c new sections s cut driven said ver joined few =
     let lines = mapped_same (lines_of text) c.readers.items new driven.count (λ i r q from to. lines_same text r q (driven.further i r q from to)) in

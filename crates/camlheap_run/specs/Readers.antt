@@ -1,5 +1,5 @@
 -- Sections of a text that threads read.
-use Rattle.std.specs.Prelude.{◌≡◌, ◌≢◌, ℕ, ◌-◌, ◌<◌, ◌≤◌, List, map, length, take, drop, Option, None, Some, Result, Ok, Err, IsSome, Vec, refl}
+use Rattle.std.specs.Prelude.{◌≡◌, ◌≢◌, ℕ, ◌-◌, ◌<◌, ◌≤◌, List, map, length, take, drop, Option, Some, Result, Ok, IsSome, Vec, refl}
 use Rattle.std.specs.Global.{Global}
 use Rattle.std.proofs.Common.{◌∙◌}
 use Rattle.std.specs.List.{AllByRecursion}
@@ -17,9 +17,9 @@ abbrev pub lines_of : List ℕ → Reader → List ℕ
 lines_of text r = take (r.end - r.start) (drop r.start text)
 
 -- what was read, if anything was, is what these lines say
-abbrev pub Tells : List ℕ → Reader → Option (Result (Vec Command Global) NoSection) → Type 0
-Tells lines r (Some (Ok commands)) = IsSectionText r.version r.domains lines commands.items
-Tells lines r _ = Unit {0}
+abbrev pub SaysLines : List ℕ → Reader → Option (Result (Vec Command Global) NoSection) → Type 0
+SaysLines lines r (Some (Ok commands)) = IsSectionText r.version r.domains lines commands.items
+SaysLines lines r _ = Unit {0}
 
 -- as a reader of a text stands between any two turns
 pub record IsReader (text : List ℕ) (r : Reader) : Type 0 where
@@ -28,7 +28,7 @@ pub record IsReader (text : List ℕ) (r : Reader) : Type 0 where
   pub begins : r.start ≤ r.end
   pub ends : r.end ≤ length text
   pub short : length text ≤ 16777216
-  pub tells : Tells (lines_of text r) r r.read
+  pub tells : SaysLines (lines_of text r) r r.read
 
 -- the reader of the same section
 pub record SameSection (old new : Reader) : Type 0 where
@@ -46,11 +46,11 @@ pub same_further : (a b c : Reader) → SameSection a b → SameSection b c → 
 same_further a b c p q = record { version = q.version ∙ p.version; domains = q.domains ∙ p.domains; start = q.start ∙ p.start; end = q.end ∙ p.end }
 
 -- its section was read, or not
-abbrev pub IsOver : Reader → Type 0
-IsOver r = IsSome r.read
+abbrev pub HasRead : Reader → Type 0
+HasRead r = IsSome r.read
 
 -- a reader in a run with so many domains, of a section of a text of this version
-pub record IsOf (ver : Version) (count : ℕ) (text : List ℕ) (r : Reader) : Type 0 where
+pub record IsReaderOf (ver : Version) (count : ℕ) (text : List ℕ) (r : Reader) : Type 0 where
   pub reads : IsReader text r
   pub version : r.version ≡ ver
   pub domains : r.domains ≡ count
@@ -58,14 +58,14 @@ pub record IsOf (ver : Version) (count : ℕ) (text : List ℕ) (r : Reader) : T
 -- a text of a version without spawns, cut into its sections, with a reader of each
 pub record IsCut (domains : ℕ) (text : List ℕ) (c : Cut) : Type 0 where
   pub unspawned : c.version ≢ Three
-  pub each : AllByRecursion (IsOf c.version domains text) c.readers.items
+  pub each : AllByRecursion (IsReaderOf c.version domains text) c.readers.items
   pub few : length c.readers.items ≤ domains
   pub short : length text ≤ 16777216
   pub is_text : text ≡ text_with c.version (map (lines_of text) c.readers.items)
 
 -- the readers of a text, driven to their ends
-abbrev pub AreRead : List ℕ → List Reader → List Reader → Type 0
-AreRead text old new = Driven IsReader SameSection IsOver text old new
+abbrev pub AreReadersDriven : List ℕ → List Reader → List Reader → Type 0
+AreReadersDriven text old new = Driven IsReader SameSection HasRead text old new
 
 -- what a reader has read
 abbrev pub read_of : Reader → Option (Result (Vec Command Global) NoSection)

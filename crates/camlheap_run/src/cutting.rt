@@ -5,15 +5,13 @@ ghost use Rattle.heap_text.specs.Forms.{first_line};
 ghost use Rattle.heap_text.specs.Spelling.{heading_text};
 ghost use Rattle.std.specs.List.{AllByRecursion};
 ghost use Rattle.heap_text.specs.Sections.{headed};
-ghost use Rattle.camlheap_run.specs.Readers.{IsCut, IsOf, lines_of};
+ghost use Rattle.camlheap_run.specs.Readers.{IsCut, IsReaderOf, lines_of};
 
 use crate::reader::Reader;
+use crate::reading::MOST_READ;
 use heap_text::{Line, Version, print_heading};
 use memchr::memmem;
 use std::alloc::{AllocError, Global};
-
-// The most bytes of a script.
-const MAX_BYTES: usize = 16_777_216;
 
 /// A text's version, and a reader of each of its sections.
 #[derive(Drop)]
@@ -97,7 +95,7 @@ fn readers_of(
     requires few { domains ≤ 8 }
     requires first { first ≤ length text.now }
     requires short { length text.now ≤ 16777216 }
-    ensures each { IfOk result (λ o. IfSome o (λ readers. AllByRecursion (IsOf version domains text.now) readers.items)) }
+    ensures each { IfOk result (λ o. IfSome o (λ readers. AllByRecursion (IsReaderOf version domains text.now) readers.items)) }
     ensures few { IfOk result (λ o. IfSome o (λ readers. length readers.items ≤ domains)) }
     ensures cut { IfOk result (λ o. IfSome o (λ readers. drop first text.now ≡ headed 0 (map (lines_of text.now) readers.items))) }
 {
@@ -135,7 +133,7 @@ pub(crate) fn cut_of(alloc: Global, domains: u32, text: &[u8]) -> Result<Option<
     requires few { domains ≤ 8 }
     ensures { IfOk result (λ o. IfSome o (IsCut domains text.now)) }
 {
-    if MAX_BYTES < text.len() {
+    if MOST_READ <= text.len() {
         return Ok(None);
     }
     let Some((version, first)) = first_of(text) else {

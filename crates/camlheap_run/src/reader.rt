@@ -1,6 +1,6 @@
 //! A section of a text that a thread of its own reads.
 ghost use Rattle.std.specs.Prelude.{◌≡◌, ◌≤◌, ◌<◌, ℕ, None, IfOk};
-ghost use Rattle.camlheap_run.specs.Readers.{IsOver, IsReader, SameSection, same_further, same_section};
+ghost use Rattle.camlheap_run.specs.Readers.{HasRead, IsReader, SameSection, same_further, same_section};
 
 use heap_model::command::Command;
 use heap_text::{NoSection, Version, read_section};
@@ -24,7 +24,7 @@ impl Trace<Vec<u8>> for Reader {
 
     ghost follows = { SameSection };
 
-    ghost is_over = { IsOver };
+    ghost is_over = { HasRead };
 
     ghost index = { λ _. 0 };
 

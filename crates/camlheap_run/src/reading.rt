@@ -30,7 +30,7 @@ pub(crate) enum ReadStop {
 }
 
 // The most bytes that are read: one more than a script may have, so that a longer one is seen.
-const MOST_READ: usize = 16_777_217;
+pub(crate) const MOST_READ: usize = 16_777_217;
 
 // Reads to the end of the source, or the most bytes that are read. Each read asks for at most 4096 bytes.
 pub(crate) fn read_bytes<S: Source>(alloc: Global, src: &mut S) -> Result<Vec<u8>, ReadStop>

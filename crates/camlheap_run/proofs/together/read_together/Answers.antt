@@ -1,4 +1,3 @@
-use Rattle.std.proofs.Common.{◌∙◌}
 use Rattle.camlheap_run.proofs.ReaderLemmas.{together_spelled}
 use Rattle.camlheap_run.proofs.together.read_together.Goals as goal
 
