@@ -12,3 +12,4 @@ pub mod WordLemmas
 pub mod StatusLemmas
 pub mod TableLemmas
 mod ReplayLemmas
+pub mod ReaderLemmas

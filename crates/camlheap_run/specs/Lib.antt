@@ -9,3 +9,4 @@ pub mod Telling
 pub mod Outcome
 pub mod Tables
 pub mod Replaying
+pub mod Readers

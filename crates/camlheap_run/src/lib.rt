@@ -3,11 +3,13 @@
 
 mod answering;
 mod begin;
+mod cutting;
 mod end;
 mod generating;
 mod load;
 mod page;
 mod putting;
+mod reader;
 mod reading;
 mod replaying;
 mod report;
@@ -19,6 +21,7 @@ mod summary;
 mod table;
 mod telling;
 mod text;
+mod together;
 mod top;
 mod writing;
 

@@ -1,7 +1,10 @@
 //! Reads the script, the text of a replay, or the text of a table that a source gives.
-ghost use Rattle.std.specs.Prelude.{◌≡◌, ◌<◌, ◌≤◌, List, IfOk, IsErr, Err};
+ghost use Rattle.std.specs.Prelude.{◌≡◌, ◌<◌, ◌≤◌, List, IfOk, IfErr, IsErr, Some, Ok, Err};
 ghost use Rattle.outer_io.specs.Faults.{Rose};
 ghost use Rattle.heap_text.specs.Script.{Scripted};
+ghost use Rattle.heap_text.specs.Spelling.{IsUnlessMemory, Spells};
+ghost use Rattle.heap_text.specs.Faults.{first_fault, IsFaultUnlessMemory};
+ghost use Rattle.heap_text.specs.declared.version.Version.TheVariants.{Three};
 ghost use Rattle.heap_text.specs.declared.fault.ScriptFault.{ScriptFault};
 ghost use Rattle.schedule_text.specs.declared.replay.ReplayFault.{ReplayFault as declared_fault};
 ghost use Rattle.schedule_text.specs.Replays.{Replayed};
@@ -9,11 +12,14 @@ ghost use Rattle.table_text.specs.declared.line.TableLine.{TableLine};
 ghost use Rattle.table_text.specs.Faults.{first_fault as table_fault};
 ghost use Rattle.camlheap_run.specs.Reading.{AreRead, IsFirst, IsNoReplay, IsNoScript, ReadsFault, ReadsFirstFault, ReadsReplay, ReadsReplayFault, ReadsScript, ReadsTable, TellsFault, TellsFirst, TellsReplay, TellsReplayFault, TellsScript, TellsTable};
 
+use crate::together::read_together;
 use heap_model::state::Sizes;
 use heap_text::{Script, ScriptFault, Version, read_script};
 use outer_io::Source;
 use schedule_text::{Replay, ReplayFault, read_replay};
-use std::alloc::Global;
+use std::alloc::{AllocError, Global};
+use std::sync::Wait;
+use std::thread::Threads;
 use table_text::{TableText, read_table};
 
 /// Why not all bytes of a source were read.
@@ -24,7 +30,7 @@ pub(crate) enum ReadStop {
 }
 
 // The most bytes that are read: one more than a script may have, so that a longer one is seen.
-const MOST_READ: usize = 16_777_217;
+pub(crate) const MOST_READ: usize = 16_777_217;
 
 // Reads to the end of the source, or the most bytes that are read. Each read asks for at most 4096 bytes.
 pub(crate) fn read_bytes<S: Source>(alloc: Global, src: &mut S) -> Result<Vec<u8>, ReadStop>
@@ -68,8 +74,33 @@ fn no_script(fault: ScriptFault) -> NoScript
     }
 }
 
+// Reads a script of any version. The sections of one without spawns are read in threads, where there may be several. It is
+// read again as a whole where that gives none, so that its first fault is told.
+fn read_text<R: Threads + Wait + Sync>(
+    rt: &R,
+    alloc: Global,
+    domains: u32,
+    text: &Vec<u8>,
+) -> Result<Script, ScriptFault>
+    requires { (1 ≤ domains) × (domains ≤ 8) }
+    ensures found { IfOk result (λ s. Spells Three domains s text.now.items) }
+    ensures only { (s : Scripted) → Spells Three domains s text.now.items → IsUnlessMemory result (Ok s) }
+    ensures fault { IfErr result (λ e. IsFaultUnlessMemory e (first_fault Three domains text.now.items)) }
+    ensures refused { (e : ScriptFault) → first_fault Three domains text.now.items ≡ Some e → IsUnlessMemory result (Err e) }
+{
+    if domains < 2 {
+        return read_script(alloc, Version::Three, domains, text.as_slice());
+    }
+    match read_together(rt, alloc, domains, text) {
+        Ok(Some(script)) => Ok(script),
+        Ok(None) => read_script(alloc, Version::Three, domains, text.as_slice()),
+        Err(AllocError) => Err(ScriptFault::Memory),
+    }
+}
+
 // Reads the source, and the script that its bytes spell.
-pub(crate) fn script_of<S: Source>(
+pub(crate) fn script_of<R: Threads + Wait + Sync, S: Source>(
+    rt: &R,
     alloc: Global,
     domains: u32,
     src: &mut S,
@@ -90,7 +121,7 @@ pub(crate) fn script_of<S: Source>(
         Err(ReadStop::Fault) => return Err(NoScript::ReadFault),
         Err(ReadStop::Memory) => return Err(NoScript::Memory),
     };
-    match read_script(alloc, Version::Three, domains, &bytes) {
+    match read_text(rt, alloc, domains, &bytes) {
         Ok(script) => Ok(script),
         Err(fault) => Err(no_script(fault)),
     }

@@ -55,7 +55,7 @@ pub(crate) fn run_source<R: Threads + Wait + Sync, S: Source, K: Sink, G: Gate +
         → ¬ (Rose (S.faults src.old) (S.faults src.new))
         → IsEither result (Status.Script f) Status.Memory }
 {
-    match script_of(alloc, sizes.domains, src) {
+    match script_of(rt, alloc, sizes.domains, src) {
         Ok(script) => run_script(rt, alloc, sizes, script, out, gate),
         Err(NoScript::ReadFault) => Status::ReadFault,
         Err(NoScript::Refused(fault)) => Status::Script(fault),

@@ -6,10 +6,8 @@ use Rattle.camlheap_run.proofs.reading.script_of.Goals as goal
 
 pub returns-clause-only_faults : goal.returns-clause-only_faults
 returns-clause-only_faults g c = λ s f told refused.
-    let read = rw (← c.deref.ensures.value) at c.in-Ok.ensures.bytes in
-    not_refused s c.in-Err.fault f c.no_script.result c.no_script.ensures (cc) (c.in-Err.ensures.only s (told_script _ _ _ _ s read told))
+    not_refused s c.in-Err.fault f c.no_script.result c.no_script.ensures (cc) (c.in-Err.ensures.only s (told_script _ _ _ _ s c.in-Ok.ensures.bytes told))
 
-pub returns-in-Ok-read_script-clause-only_scripts : goal.returns-in-Ok-read_script-clause-only_scripts
-returns-in-Ok-read_script-clause-only_scripts g c = λ f told.
-    let read = rw (← c.deref.ensures.value) at c.in-Ok.ensures.bytes in
-    let given = c.in-Ok-read_script.ensures.refused f (told_fault (IsFirst (first_fault Three c.args.domains)) _ _ _ f read told) in cc given
+pub returns-in-Ok-read_text-clause-only_scripts : goal.returns-in-Ok-read_text-clause-only_scripts
+returns-in-Ok-read_text-clause-only_scripts g c = λ f told.
+    let given = c.in-Ok-read_text.ensures.refused f (told_fault (IsFirst (first_fault Three c.args.domains)) _ _ _ f c.in-Ok.ensures.bytes told) in cc given
