@@ -1,7 +1,6 @@
 -- Why a block is still there, as C is told.
-use Rattle.std.specs.Prelude.{◌≡◌, ℕ, ◌<◌, ◌≤◌, ◌⊎◌, List, length, slice_get, Option, Some}
+use Rattle.std.specs.Prelude.{◌≡◌, ℕ, ◌<◌, ◌⊎◌, List, length, slice_get, Option, Some}
 use Rattle.heap_model.specs.declared.label.Label.{Label}
-use Rattle.heap_model.specs.History.{IsPrefix}
 use Rattle.heap_rule.specs.Limits.{sizes_in}
 use Rattle.reach_paths.specs.declared.asking.Reason.{Reason}
 use Rattle.reach_paths.specs.declared.asking.Reason.TheVariants.{Way, Nothing, NoField}
@@ -9,7 +8,7 @@ use Rattle.reach_paths.specs.declared.exploring.Stop.{Stop}
 use Rattle.reach_paths.specs.declared.exploring.Stop.TheVariants.{PutOff, Many, Memory}
 use Rattle.reach_paths.specs.Asking.{IsWhy}
 use Rattle.reach_paths.specs.Exploring.{graph_of, roots_of}
-use Rattle.reach_paths.specs.Walks.{Still, Walked}
+use Rattle.reach_paths.specs.Walks.{Still, Walked, Walks}
 use Rattle.shared_runs.specs.Sharing.{SharedView}
 use Rattle.camlheap_c.specs.declared.asking.CamlheapWay.{CamlheapWay}
 
@@ -34,11 +33,11 @@ TellsWay (Way way) old new told = (told ≡ record { kind = 0; register = way.re
 TellsWay Nothing old new told = (told ≡ record { kind = 1; register = 0; fields = 0 }) × (new ≡ old)
 TellsWay NoField old new told = (told ≡ record { kind = 2; register = 0; fields = 0 }) × (new ≡ old)
 
--- the domain is the same, in a heap of the same numbers, and what it saw of the history is a front part of what it sees now
+-- the domain is the same, in the same heap. The history as it sees it has grown by the loads and copies of the search, and by entries of other domains: no collection has come
 pub record GoesAlong (old new : SharedView) : Type 0 where
-  pub sizes : sizes_in new.heap.config ≡ sizes_in old.heap.config
+  pub heap : new.heap ≡ old.heap
   pub number : new.run.token.view.own.number ≡ old.run.token.view.own.number
-  pub front : IsPrefix old.run.token.view.seen.front new.run.token.view.seen.front
+  pub walks : Walks old.run.token.view.own.number old.run.token.view.seen.front new.run.token.view.seen.front
 
 -- C reads an answer that is so, where the front has grown by the loads of the search alone
 pub record Whys (old new : SharedView) (l : Label) (told : CamlheapWay) (before read : List ℕ) : Type 0 where

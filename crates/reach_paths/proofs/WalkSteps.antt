@@ -1,5 +1,5 @@
 -- One command by which a search walks, where nobody else has made an entry.
-use Rattle.std.proofs.Common.{◌≡◌, ◌≢◌, ◌∙◌, ℕ, ◌<◌, ◌≤◌, Bool, true, false, ◌&&◌, eqb, IsTrue, List, [], ◌∷◌, ◌++◌, length, set, get_or, append_assoc, not, refl, ap, sym, subst, Some, arith}
+use Rattle.std.proofs.Common.{◌≡◌, ◌≢◌, ◌∙◌, ℕ, ◌<◌, ◌≤◌, Bool, true, false, ◌&&◌, ◌||◌, eqb, eq-eqb, IsTrue, List, [], ◌∷◌, ◌++◌, length, set, get_or, append_assoc, not, refl, ap, sym, subst, Some, arith}
 use Rattle.std.specs.List.{list_all}
 use Rattle.std.proofs.lemmas.List.{append_cancel_left}
 use Rattle.std.proofs.lemmas.List.Folds.{list_all-append}
@@ -13,14 +13,14 @@ use Rattle.heap_model.specs.declared.state.Sizes.{Sizes}
 use Rattle.heap_model.specs.declared.state.State.{State}
 use Rattle.heap_model.specs.Domains.{IsWithinLimits, domain_at, opening}
 use Rattle.heap_model.specs.Entries.{next, reply, Allowed}
-use Rattle.heap_model.specs.Fronts.{Answers, NoneOf}
+use Rattle.heap_model.specs.Fronts.{Answers, AreCalls, NoneOf, is_call, is_full_major}
 use Rattle.heap_model.specs.History.{state_after, LegalFrom, is_entry_of, IsPrefix}
 use Rattle.heap_model.proofs.Commands.FrameLemmas.{inside_running}
 use Rattle.heap_model.proofs.Histories.FrontLemmas.{none_cons}
 use Rattle.heap_model.proofs.Histories.HistoryLemmas.{state_after-push}
 use Rattle.heap_model.proofs.Histories.ShapeAfterLemmas.{shaped-history}
-use Rattle.heap_model.proofs.Reach.ReachLemmas.{and_left, and_right, and_both}
-use Rattle.reach_paths.specs.Walks.{is_walk, is_walk_of, Walked, state_of}
+use Rattle.heap_model.proofs.Reach.ReachLemmas.{and_left, and_right, and_both, not_false, or_left, or_right}
+use Rattle.reach_paths.specs.Walks.{is_walk, is_others, is_walk_of, Walked, Walks, state_of}
 
 -- who makes an entry by which domain d walks is domain d
 walk_is_own : (d : ℕ) (e : Entry) → IsTrue (is_walk_of d e) → is_entry_of d e ≡ true
@@ -97,4 +97,41 @@ stepped z d old new c r limits a w =
       reply_is = ap (λ (h : List Entry). reply (state_of z h) e) (sym same) ∙ a.replies;
       inside = inside;
       wide = (shaped-history z old limits).register_count d inside;
+    }
+
+pub walks_prefix : (d : ℕ) (a b : List Entry) → Walks d a b → IsPrefix a b
+walks_prefix d a b w = record { rest = w.rest; appends = w.appends }
+
+pub walks_same : (d : ℕ) (h : List Entry) → Walks d h h
+walks_same d h = record { rest = []; appends = sym (append_nothing h); each = refl }
+
+pub walks_trans : (d : ℕ) (a b c : List Entry) → Walks d a b → Walks d b c → Walks d a c
+walks_trans d a b c p q = record {
+  rest = p.rest ++ q.rest;
+  appends = q.appends ∙ (ap (λ (h : List Entry). h ++ q.rest) p.appends ∙ append_assoc a p.rest q.rest);
+  each = list_all-append (λ e. is_walk_of d e || is_others d e) p.rest q.rest ∙ and_both (list_all (λ e. is_walk_of d e || is_others d e) p.rest) (list_all (λ e. is_walk_of d e || is_others d e) q.rest) p.each q.each;
+}
+
+-- likewise of one that has another name for its domain
+pub walks_at : (d k : ℕ) (a b : List Entry) → k ≡ d → Walks k a b → Walks d a b
+walks_at d k a b same w = subst (λ (n : ℕ). Walks n a b) same w
+
+others_walk : (d : ℕ) (h : List Entry) → NoneOf d h → AreCalls h → IsTrue (list_all (λ e. is_walk_of d e || is_others d e) h)
+others_walk d [] none calls = refl
+others_walk d (e ∷ h) none calls =
+    let parts = none_cons d e h none in
+    and_both (is_walk_of d e || is_others d e) (list_all (λ x. is_walk_of d x || is_others d x) h)
+    (or_right (is_walk_of d e) (is_others d e) (and_both (is_call e) (not (is_entry_of d e)) (and_left (is_call e) (list_all is_call h) calls) (not_false (is_entry_of d e) parts.0)))
+    (others_walk d h parts.1 (and_right (is_call e) (list_all is_call h) calls))
+
+-- a call that makes such a command
+pub walks_once : (z : Sizes) (d : ℕ) (old new : List Entry) (c : model.Command) (a : Applied) → IsTrue (is_walk c) → is_full_major (Command d c false) ≡ false → Answers z d old new (Command d c false) a → Walks d old new
+walks_once z d old new c a walk common x =
+    let e : Entry = Command d c false in record {
+      rest = x.between ++ e ∷ [];
+      appends = x.appends ∙ append_assoc old x.between (e ∷ []);
+      each = list_all-append (λ y. is_walk_of d y || is_others d y) x.between (e ∷ [])
+          ∙ and_both (list_all (λ y. is_walk_of d y || is_others d y) x.between) (list_all (λ y. is_walk_of d y || is_others d y) (e ∷ []))
+          (others_walk d x.between x.others (x.calls common))
+          (and_both (is_walk_of d e || is_others d e) true (or_left (is_walk_of d e) (is_others d e) (and_both (eqb d d) (is_walk c) (eq-eqb d d refl) walk)) refl);
     }

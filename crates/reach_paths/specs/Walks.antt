@@ -1,5 +1,5 @@
 -- The commands by which a search walks through a heap.
-use Rattle.std.specs.Prelude.{◌≡◌, ◌≢◌, ℕ, ◌<◌, ◌≤◌, Some, None, Bool, true, false, ◌||◌, ◌&&◌, ◌==◌, IsTrue, List, ◌++◌}
+use Rattle.std.specs.Prelude.{◌≡◌, ◌≢◌, ℕ, ◌<◌, ◌≤◌, Some, None, Bool, true, false, ◌||◌, ◌&&◌, ◌==◌, not, IsTrue, List, ◌++◌}
 use Rattle.std.specs.List.{list_all}
 use Rattle.heap_model.specs.declared.command.Command as model
 use Rattle.heap_model.specs.declared.command.Command.TheVariants.{Copy, Load}
@@ -12,8 +12,9 @@ use Rattle.heap_model.specs.declared.reply.Reply.TheVariants.{Block, BadIndex, B
 use Rattle.heap_model.specs.declared.state.Sizes.{Sizes}
 use Rattle.heap_model.specs.declared.state.State.{State}
 use Rattle.heap_model.specs.Domains.{opening, register}
+use Rattle.heap_model.specs.Fronts.{is_call}
 use Rattle.heap_model.specs.Graph.{Graph}
-use Rattle.heap_model.specs.History.{state_after}
+use Rattle.heap_model.specs.History.{state_after, is_entry_of}
 use Rattle.reach_paths.specs.Ways.{IsNoEphemeron, refers}
 
 -- whether a register is one of the two in which a search has what it finds
@@ -30,6 +31,16 @@ is_walk _ = false
 abbrev pub is_walk_of : ℕ → Entry → Bool
 is_walk_of d (Command k c false) = k == d && is_walk c
 is_walk_of d _ = false
+
+-- whether an entry is one of another domain's
+abbrev pub is_others : ℕ → Entry → Bool
+is_others d e = is_call e && not (is_entry_of d e)
+
+-- the front has grown by such commands of domain d, and by entries of other domains: no collection has come
+pub record Walks (d : ℕ) (old new : List Entry) : Type 0 where
+  pub rest : List Entry
+  pub appends : new ≡ old ++ rest
+  pub each : IsTrue (list_all (λ e. is_walk_of d e || is_others d e) rest)
 
 -- the front has grown by such commands of domain d alone: no other domain has made an entry, and no collection
 pub record Walked (d : ℕ) (old new : List Entry) : Type 0 where

@@ -1,11 +1,10 @@
 //! Why a block is still there.
 ghost use Rattle.std.specs.Prelude.{◌≡◌, IfOk, position};
 ghost use Rattle.heap_model.specs.Graph.{same_label};
-ghost use Rattle.heap_model.specs.History.{IsPrefix};
 ghost use Rattle.reach_paths.specs.declared.seen.Seen as blocks;
 ghost use Rattle.reach_paths.specs.Asking.{IsWhy};
 ghost use Rattle.reach_paths.specs.Exploring.{graph_of, roots_of};
-ghost use Rattle.reach_paths.specs.Walks.{Still, Walked};
+ghost use Rattle.reach_paths.specs.Walks.{Still, Walked, Walks};
 
 use crate::exploring::{Stop, explore};
 use crate::seen::{Seen, Way, way_to};
@@ -34,9 +33,10 @@ fn place_of(seen: &[Seen], label: Label) -> Option<usize>
 /// Looks for a way from registers 0 to 13 through fields to a block. It looks into so many blocks at most. Registers 14 and
 /// 15 hold blocks that it came to. Where nobody else has made an entry meanwhile, the answer is exact.
 pub fn why<M: Walker>(alloc: Global, m: &mut M, target: Label, most: u32) -> Result<Reason, Stop>
+    ensures home { M.home m.new ≡ M.home m.old }
     ensures sizes { M.sizes m.new ≡ M.sizes m.old }
     ensures number { M.number m.new ≡ M.number m.old }
-    ensures grows { IsPrefix (M.front m.old) (M.front m.new) }
+    ensures walks { Walks (M.number m.old) (M.front m.old) (M.front m.new) }
     ensures still { IfOk result (λ _. Walked (M.number m.old) (M.front m.old) (M.front m.new) → Still (M.sizes m.old) (M.number m.old) (M.front m.old) (M.front m.new)) }
     ensures why { IfOk result (λ w. Walked (M.number m.old) (M.front m.old) (M.front m.new) → IsWhy (graph_of (M.sizes m.old) (M.front m.old)) (roots_of (M.sizes m.old) (M.number m.old) (M.front m.old)) target w) }
 {

@@ -3,9 +3,8 @@ ghost use Rattle.std.specs.Prelude.{◌≡◌, ◌≢◌, ◌<◌, ◌≤◌, �
 ghost use Rattle.heap_model.specs.declared.graph.Value.TheVariants.{Block as BlockValue};
 ghost use Rattle.heap_model.specs.Domains.{register as held};
 ghost use Rattle.heap_model.specs.declared.label.Label as labels;
-ghost use Rattle.heap_model.specs.History.{IsPrefix};
 ghost use Rattle.reach_paths.specs.Exploring.{Explored, Extends, IsOnce, IsOrdered, Looked, Notes, Visited, Went, graph_of, roots_of};
-ghost use Rattle.reach_paths.specs.Walks.{Copied, Loaded, Still, Walked, is_hand, state_of};
+ghost use Rattle.reach_paths.specs.Walks.{Copied, Loaded, Still, Walked, Walks, is_hand, state_of};
 
 use crate::seen::{Origin, Seen, Way, add, way_to};
 use crate::walker::Walker;
@@ -33,9 +32,10 @@ impl From<AllocError> for Stop {
 
 // Brings the block in a register into register 14.
 fn take_up<M: Walker>(m: &mut M, src: u8) -> Result<(), Stop>
+    ensures home { M.home m.new ≡ M.home m.old }
     ensures sizes { M.sizes m.new ≡ M.sizes m.old }
     ensures number { M.number m.new ≡ M.number m.old }
-    ensures grows { IsPrefix (M.front m.old) (M.front m.new) }
+    ensures walks { Walks (M.number m.old) (M.front m.old) (M.front m.new) }
     ensures copied { IfOk result (λ _. Walked (M.number m.old) (M.front m.old) (M.front m.new) → Copied (M.sizes m.old) (M.number m.old) (M.front m.old) (M.front m.new) src) }
 {
     m.stands();
@@ -48,9 +48,10 @@ fn take_up<M: Walker>(m: &mut M, src: u8) -> Result<(), Stop>
 // Loads a field of the block in register 14 into one of the two registers.
 fn load<M: Walker>(m: &mut M, dst: u8, index: u16) -> Result<Reply, Stop>
     requires hand { IsTrue (is_hand dst) }
+    ensures home { M.home m.new ≡ M.home m.old }
     ensures sizes { M.sizes m.new ≡ M.sizes m.old }
     ensures number { M.number m.new ≡ M.number m.old }
-    ensures grows { IsPrefix (M.front m.old) (M.front m.new) }
+    ensures walks { Walks (M.number m.old) (M.front m.old) (M.front m.new) }
     ensures loaded { IfOk result (λ r. Walked (M.number m.old) (M.front m.old) (M.front m.new) → Loaded (M.sizes m.old) (M.number m.old) (M.front m.old) (M.front m.new) dst index r) }
 {
     m.stands();
@@ -77,9 +78,10 @@ fn note(seen: &mut Vec<Seen>, reply: Reply, origin: Origin) -> Result<(), Stop>
 
 // Goes along a way: register 14 then holds the block to which it leads.
 fn go<M: Walker>(m: &mut M, way: &Way) -> Result<(), Stop>
+    ensures home { M.home m.new ≡ M.home m.old }
     ensures sizes { M.sizes m.new ≡ M.sizes m.old }
     ensures number { M.number m.new ≡ M.number m.old }
-    ensures grows { IsPrefix (M.front m.old) (M.front m.new) }
+    ensures walks { Walks (M.number m.old) (M.front m.old) (M.front m.new) }
     ensures went { IfOk result (λ _. Walked (M.number m.old) (M.front m.old) (M.front m.new) → Went (M.sizes m.old) (M.number m.old) (M.front m.old) (M.front m.new) way.now) }
 {
     take_up(m, way.register)?;
@@ -95,9 +97,10 @@ fn visit<M: Walker>(m: &mut M, seen: &mut Vec<Seen>, at: usize) -> Result<bool, 
     requires inside { at < length seen.old.items }
     requires ordered { IsOrdered seen.old.items }
     requires once { IsOnce seen.old.items }
+    ensures home { M.home m.new ≡ M.home m.old }
     ensures sizes { M.sizes m.new ≡ M.sizes m.old }
     ensures number { M.number m.new ≡ M.number m.old }
-    ensures grows { IsPrefix (M.front m.old) (M.front m.new) }
+    ensures walks { Walks (M.number m.old) (M.front m.old) (M.front m.new) }
     ensures ordered { IfOk result (λ _. IsOrdered seen.new.items) }
     ensures once { IfOk result (λ _. IsOnce seen.new.items) }
     ensures goes_on { IfOk result (λ _. Extends seen.old.items seen.new.items) }
@@ -119,6 +122,7 @@ fn visit<M: Walker>(m: &mut M, seen: &mut Vec<Seen>, at: usize) -> Result<bool, 
 // Notes the blocks that the registers hold.
 fn note_roots<M: Walker>(m: &mut M, seen: &mut Vec<Seen>) -> Result<(), Stop>
     requires empty { seen.old.items ≡ [] }
+    ensures home { M.home m.new ≡ M.home m.old }
     ensures sizes { M.sizes m.new ≡ M.sizes m.old }
     ensures number { M.number m.new ≡ M.number m.old }
     ensures front { M.front m.new ≡ M.front m.old }
@@ -153,9 +157,10 @@ fn look<M: Walker>(
     requires inside { at < length seen.old.items }
     requires ordered { IsOrdered seen.old.items }
     requires once { IsOnce seen.old.items }
+    ensures home { M.home m.new ≡ M.home m.old }
     ensures sizes { M.sizes m.new ≡ M.sizes m.old }
     ensures number { M.number m.new ≡ M.number m.old }
-    ensures grows { IsPrefix (M.front m.old) (M.front m.new) }
+    ensures walks { Walks (M.number m.old) (M.front m.old) (M.front m.new) }
     ensures ordered { IfOk result (λ _. IsOrdered seen.new.items) }
     ensures once { IfOk result (λ _. IsOnce seen.new.items) }
     ensures goes_on { IfOk result (λ _. Extends seen.old.items seen.new.items) }
@@ -184,9 +189,10 @@ pub fn explore<M: Walker>(
     stop: Option<Label>,
     most: u32,
 ) -> Result<Blocks, Stop>
+    ensures home { M.home m.new ≡ M.home m.old }
     ensures sizes { M.sizes m.new ≡ M.sizes m.old }
     ensures number { M.number m.new ≡ M.number m.old }
-    ensures grows { IsPrefix (M.front m.old) (M.front m.new) }
+    ensures walks { Walks (M.number m.old) (M.front m.old) (M.front m.new) }
     ensures ordered { IfOk result (λ x. IsOrdered x.seen.items) }
     ensures once { IfOk result (λ x. IsOnce x.seen.items) }
     ensures explored { IfOk result (λ x. Walked (M.number m.old) (M.front m.old) (M.front m.new) → Still (M.sizes m.old) (M.number m.old) (M.front m.old) (M.front m.new)

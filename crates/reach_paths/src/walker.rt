@@ -14,6 +14,12 @@ use heap_model::reply::Reply;
 
 /// A domain whose commands are made at once, or not at all.
 pub trait Walker {
+    /// What the heap is.
+    type Home;
+
+    /// The heap of the domain.
+    ghost home: { Self → Self.Home };
+
     /// The numbers of the heap.
     ghost sizes: { Self → Sizes };
 
@@ -30,6 +36,7 @@ pub trait Walker {
     /// The reply that shows what a register holds. No entry is made.
     fn show(&mut self, r: u8) -> Reply
         requires few { r < 16 }
+        ensures home { home self.new ≡ home self.old }
         ensures sizes { sizes self.new ≡ sizes self.old }
         ensures number { number self.new ≡ number self.old }
         ensures front { front self.new ≡ front self.old }
@@ -39,6 +46,7 @@ pub trait Walker {
     /// entry is made.
     fn perform(&mut self, c: Command) -> Option<Reply>
         requires walks { IsTrue (is_walk c) }
+        ensures home { home self.new ≡ home self.old }
         ensures sizes { sizes self.new ≡ sizes self.old }
         ensures number { number self.new ≡ number self.old }
         ensures put_off { result ≡ None → front self.new ≡ front self.old }

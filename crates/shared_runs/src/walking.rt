@@ -7,10 +7,15 @@ use crate::shared::SharedRun;
 use domain_turns::show;
 use heap_model::command::Command;
 use heap_model::reply::Reply;
+use heap_rule::Heap;
 use reach_paths::walker::Walker;
 
 impl Walker for SharedRun {
+    type Home = Heap;
+
     ghost use Rattle.heap_rule.specs.Limits.{sizes_in};
+
+    ghost home = { λ s. s.heap };
 
     ghost sizes = { λ s. sizes_in s.heap.config };
 

@@ -1,14 +1,13 @@
 use Rattle.std.proofs.Common.{◌≡◌, ◌∙◌, ap, sym, subst, ℕ, ◌+◌, ◌<◌, ◌≤◌, Bool, false, List, [], length, refl, arith, rules}
 use Rattle.heap_model.specs.declared.entry.Entry.{Entry}
 use Rattle.heap_model.specs.declared.state.Sizes.{Sizes}
-use Rattle.heap_model.specs.History.{IsPrefix}
 use Rattle.reach_paths.specs.declared.seen.Seen.{Seen}
 use Rattle.reach_paths.specs.Exploring.{Explored, graph_of, roots_of}
-use Rattle.reach_paths.specs.Walks.{Still, Walked}
+use Rattle.reach_paths.specs.Walks.{Still, Walked, Walks}
 use Rattle.reach_paths.proofs.Adding.{extends_long}
 use Rattle.reach_paths.proofs.BlockSteps.{explored_on}
 use Rattle.reach_paths.proofs.Going.{still_same}
-use Rattle.reach_paths.proofs.WalkSteps.{prefix_same, prefix_trans}
+use Rattle.reach_paths.proofs.WalkSteps.{walks_at, walks_prefix, walks_same, walks_trans}
 use Rattle.reach_paths.proofs.exploring.explore.Goals as goal
 
 pub places-init : goal.places-init
@@ -18,9 +17,10 @@ places-init g c =
     let first : List Entry = g.M.Walker.front c.args.m.now in
     let e = c.note_roots.ensures in
     let front : g.M.Walker.front c.note_roots.new.m ≡ first = e.front in record {
+      home = e.home;
       sizes = e.sizes;
       number = e.number;
-      grows = subst (IsPrefix first) (sym front) (prefix_same first);
+      walks = subst (Walks d first) (sym front) (walks_same d first);
       ordered = c.in_ok-note_roots.ensures.ordered;
       once = c.in_ok-note_roots.ensures.once;
       inside = omega arith;
@@ -41,11 +41,12 @@ places-preserved g c =
     let new : List Seen = c.look.new.seen.items in
     let i = c.places.invariant in
     let e = c.in_ok-weak.ensures in record {
+      home = c.look.ensures.home ∙ i.home;
       sizes = c.look.ensures.sizes ∙ i.sizes;
       number = c.look.ensures.number ∙ i.number;
-      grows = prefix_trans first now next i.grows c.look.ensures.grows;
+      walks = walks_trans d first now next i.walks (walks_at d (g.M.Walker.number c.places.m) now next i.number c.look.ensures.walks);
       ordered = e.ordered;
       once = e.once;
       inside = (let more : c.places.at < length new = extends_long seen new e.goes_on c.places.at (let h : c.places.at < length seen = search rules in h) in omega arith);
-      explored = explored_on z _ d _ first now next c.args.stop c.places.at seen new c.places.weak c.in_ok-weak.field-0 i.sizes i.number i.grows c.look.ensures.grows i.ordered e.ordered i.explored e.looked;
+      explored = explored_on z _ d _ first now next c.args.stop c.places.at seen new c.places.weak c.in_ok-weak.field-0 i.sizes i.number (walks_prefix d first now i.walks) (walks_prefix (g.M.Walker.number c.places.m) now next c.look.ensures.walks) i.ordered e.ordered i.explored e.looked;
     }

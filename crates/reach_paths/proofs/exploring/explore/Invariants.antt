@@ -1,14 +1,14 @@
 use Rattle.std.proofs.Common.{◌≡◌, ℕ, ◌≤◌, length}
-use Rattle.heap_model.specs.History.{IsPrefix}
 use Rattle.reach_paths.specs.Exploring.{Explored, IsOnce, IsOrdered, graph_of, roots_of}
-use Rattle.reach_paths.specs.Walks.{Still, Walked}
+use Rattle.reach_paths.specs.Walks.{Still, Walked, Walks}
 use Rattle.reach_paths.proofs.exploring.explore.Given as goal
 
 abbrev pub invariant-places : goal.invariant-places
 invariant-places g l = record {
+  home : g.M.Walker.home l.m ≡ g.M.Walker.home l.fn.m;
   sizes : g.M.Walker.sizes l.m ≡ g.M.Walker.sizes l.fn.m;
   number : g.M.Walker.number l.m ≡ g.M.Walker.number l.fn.m;
-  grows : IsPrefix (g.M.Walker.front l.fn.m) (g.M.Walker.front l.m);
+  walks : Walks (g.M.Walker.number l.fn.m) (g.M.Walker.front l.fn.m) (g.M.Walker.front l.m);
   ordered : IsOrdered l.seen.items;
   once : IsOnce l.seen.items;
   inside : l.at ≤ length l.seen.items;

@@ -1,13 +1,13 @@
 use Rattle.std.proofs.Common.{◌≡◌, ℕ, Some}
-use Rattle.heap_model.specs.History.{IsPrefix}
-use Rattle.reach_paths.specs.Walks.{Walked}
+use Rattle.reach_paths.specs.Walks.{Walked, Walks}
 use Rattle.reach_paths.proofs.Going.{Going}
 use Rattle.reach_paths.proofs.exploring.go.Given as goal
 
 abbrev pub invariant-fields : goal.invariant-fields
 invariant-fields g l = record {
+  home : g.M.Walker.home l.m ≡ g.M.Walker.home l.fn.m;
   sizes : g.M.Walker.sizes l.m ≡ g.M.Walker.sizes l.fn.m;
   number : g.M.Walker.number l.m ≡ g.M.Walker.number l.fn.m;
-  grows : IsPrefix (g.M.Walker.front l.fn.m) (g.M.Walker.front l.m);
+  walks : Walks (g.M.Walker.number l.fn.m) (g.M.Walker.front l.fn.m) (g.M.Walker.front l.m);
   going : Walked (g.M.Walker.number l.fn.m) (g.M.Walker.front l.fn.m) (g.M.Walker.front l.m) → Going (g.M.Walker.sizes l.fn.m) (g.M.Walker.number l.fn.m) (g.M.Walker.front l.fn.m) (g.M.Walker.front l.m) l.way l.field-index;
 }

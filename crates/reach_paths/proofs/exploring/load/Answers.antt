@@ -1,5 +1,12 @@
+use Rattle.std.proofs.Common.{refl}
+use Rattle.heap_model.specs.declared.command.Command.TheVariants.{Load}
+use Rattle.heap_model.specs.declared.reply.Applied.TheVariants.{Replied}
+use Rattle.reach_paths.proofs.WalkSteps.{walks_once}
 use Rattle.reach_paths.proofs.LoadSteps.{walk_load}
 use Rattle.reach_paths.proofs.exploring.load.Goals as goal
 
 pub returns-in-Some-clause-loaded : goal.returns-in-Some-clause-loaded
 returns-in-Some-clause-loaded g c = λ walked. walk_load (g.M.Walker.sizes c.args.m.now) (g.M.Walker.number c.args.m.now) (g.M.Walker.front c.args.m.now) (g.M.Walker.front c.perform.new.self) c.args.dst c.args.index c.in-Some.reply c.stands.ensures.limits c.requires.hand c.in-Some.ensures.made walked
+
+pub returns-in-Some-clause-walks : goal.returns-in-Some-clause-walks
+returns-in-Some-clause-walks g c = walks_once (g.M.Walker.sizes c.args.m.now) (g.M.Walker.number c.args.m.now) (g.M.Walker.front c.args.m.now) (g.M.Walker.front c.perform.new.self) (Load c.args.dst 14 c.args.index) (Replied c.in-Some.reply) c.requires.hand refl c.in-Some.ensures.made

@@ -27,6 +27,7 @@ registers-preserved g c =
     let reply : c.show-reply.result ≡ shown v = e.reply ∙ (ap (λ (y : Sizes). shown (register (state_of y (g.M.Walker.front c.registers.m)) (g.M.Walker.number c.registers.m) q)) i.sizes ∙ (ap (λ (k : ℕ). shown (register (state_of z (g.M.Walker.front c.registers.m)) k q)) i.number ∙ ap (λ (h : List Entry). shown (register (state_of z h) d q)) i.front)) in
     let notes : Notes old new (shown v) (Register q) = subst (λ (r : Reply). Notes old new r (Register q)) reply c.in_ok-note.ensures in
     let more = λ (f : Edges). noted_root f (roots_of z d first) old new q v refl notes (i.traced f) i.rooted in record {
+      home = e.home ∙ i.home;
       sizes = e.sizes ∙ i.sizes;
       number = e.number ∙ i.number;
       front = e.front ∙ i.front;

@@ -6,6 +6,7 @@ use Rattle.reach_paths.proofs.exploring.note_roots.Given as goal
 
 abbrev pub invariant-registers : goal.invariant-registers
 invariant-registers g l = record {
+  home : g.M.Walker.home l.m ≡ g.M.Walker.home l.fn.m;
   sizes : g.M.Walker.sizes l.m ≡ g.M.Walker.sizes l.fn.m;
   number : g.M.Walker.number l.m ≡ g.M.Walker.number l.fn.m;
   front : g.M.Walker.front l.m ≡ g.M.Walker.front l.fn.m;

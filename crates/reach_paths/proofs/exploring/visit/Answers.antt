@@ -5,7 +5,7 @@ use Rattle.heap_model.specs.declared.reply.Reply.TheVariants.{BadIndex, BadType}
 use Rattle.heap_model.specs.declared.state.Sizes.{Sizes}
 use Rattle.reach_paths.specs.declared.seen.Seen.{Seen}
 use Rattle.reach_paths.specs.declared.seen.Origin.TheVariants.{Field}
-use Rattle.reach_paths.proofs.WalkSteps.{prefix_trans}
+use Rattle.reach_paths.proofs.WalkSteps.{walks_at, walks_prefix, walks_trans}
 use Rattle.reach_paths.proofs.Adding.{extends_long, extends_trans, notes_extends, notes_once, notes_ordered}
 use Rattle.reach_paths.proofs.Visiting.{notes_reply, still_on, visited_all, visited_none}
 use Rattle.reach_paths.proofs.exploring.visit.Goals as goal
@@ -18,8 +18,8 @@ returns-in-BadIndex-clause-visited g c =
     let now : List Entry = g.M.Walker.front c.fields.m in
     let next : List Entry = g.M.Walker.front c.load.new.m in
     let i = c.fields.invariant in λ walked. (
-      still_on z _ d _ first now next c.args.at c.args.seen.now.items c.fields.seen.items c.fields.index c.in_ok-reply.reply i.sizes i.number i.grows c.load.ensures.grows i.reading c.in_ok-reply.ensures.loaded walked,
-      visited_all z _ d _ first now next c.args.at c.args.seen.now.items c.fields.seen.items c.fields.index c.in_ok-reply.reply i.sizes i.number i.grows c.load.ensures.grows i.reading c.in_ok-reply.ensures.loaded walked c.in-BadIndex.is,
+      still_on z _ d _ first now next c.args.at c.args.seen.now.items c.fields.seen.items c.fields.index c.in_ok-reply.reply i.sizes i.number (walks_prefix d first now i.walks) (walks_prefix (g.M.Walker.number c.fields.m) now next c.load.ensures.walks) i.reading c.in_ok-reply.ensures.loaded walked,
+      visited_all z _ d _ first now next c.args.at c.args.seen.now.items c.fields.seen.items c.fields.index c.in_ok-reply.reply i.sizes i.number (walks_prefix d first now i.walks) (walks_prefix (g.M.Walker.number c.fields.m) now next c.load.ensures.walks) i.reading c.in_ok-reply.ensures.loaded walked c.in-BadIndex.is,
     )
 
 pub returns-in-BadType-clause-visited : goal.returns-in-BadType-clause-visited
@@ -30,8 +30,8 @@ returns-in-BadType-clause-visited g c =
     let now : List Entry = g.M.Walker.front c.fields.m in
     let next : List Entry = g.M.Walker.front c.load.new.m in
     let i = c.fields.invariant in λ walked. (
-      still_on z _ d _ first now next c.args.at c.args.seen.now.items c.fields.seen.items c.fields.index c.in_ok-reply.reply i.sizes i.number i.grows c.load.ensures.grows i.reading c.in_ok-reply.ensures.loaded walked,
-      visited_none z _ d _ first now next c.args.at c.args.seen.now.items c.fields.seen.items c.fields.index c.in_ok-reply.reply i.sizes i.number i.grows c.load.ensures.grows i.reading c.in_ok-reply.ensures.loaded walked c.in-BadType.is,
+      still_on z _ d _ first now next c.args.at c.args.seen.now.items c.fields.seen.items c.fields.index c.in_ok-reply.reply i.sizes i.number (walks_prefix d first now i.walks) (walks_prefix (g.M.Walker.number c.fields.m) now next c.load.ensures.walks) i.reading c.in_ok-reply.ensures.loaded walked,
+      visited_none z _ d _ first now next c.args.at c.args.seen.now.items c.fields.seen.items c.fields.index c.in_ok-reply.reply i.sizes i.number (walks_prefix d first now i.walks) (walks_prefix (g.M.Walker.number c.fields.m) now next c.load.ensures.walks) i.reading c.in_ok-reply.ensures.loaded walked c.in-BadType.is,
     )
 
 pub fields-preserved : goal.fields-preserved
@@ -47,11 +47,12 @@ fields-preserved g c =
     let r : Reply = c.in_ok-reply.reply in
     let i = c.fields.invariant in
     let notes = c.in_ok-note-in_default.ensures in record {
+      home = c.load.ensures.home ∙ i.home;
       sizes = c.load.ensures.sizes ∙ i.sizes;
       number = c.load.ensures.number ∙ i.number;
-      grows = prefix_trans first now next i.grows c.load.ensures.grows;
+      walks = walks_trans d first now next i.walks (walks_at d (g.M.Walker.number c.fields.m) now next i.number c.load.ensures.walks);
       ordered = notes_ordered seen new r (Field c.args.at c.fields.index) notes i.ordered (extends_long old seen i.goes_on c.args.at c.requires.inside);
       once = notes_once seen new r (Field c.args.at c.fields.index) notes i.once;
       goes_on = extends_trans old seen new i.goes_on (notes_extends seen new r (Field c.args.at c.fields.index) notes);
-      reading = λ walked. notes_reply z _ d _ first now next c.args.at old seen c.fields.index r i.sizes i.number i.grows c.load.ensures.grows i.reading c.in_ok-reply.ensures.loaded walked i.goes_on new notes;
+      reading = λ walked. notes_reply z _ d _ first now next c.args.at old seen c.fields.index r i.sizes i.number (walks_prefix d first now i.walks) (walks_prefix (g.M.Walker.number c.fields.m) now next c.load.ensures.walks) i.reading c.in_ok-reply.ensures.loaded walked i.goes_on new notes;
     }

@@ -1,15 +1,15 @@
 use Rattle.std.proofs.Common.{◌≡◌}
-use Rattle.heap_model.specs.History.{IsPrefix}
 use Rattle.reach_paths.specs.Exploring.{Extends, IsOnce, IsOrdered}
-use Rattle.reach_paths.specs.Walks.{Walked}
+use Rattle.reach_paths.specs.Walks.{Walked, Walks}
 use Rattle.reach_paths.proofs.Visiting.{Reading}
 use Rattle.reach_paths.proofs.exploring.visit.Given as goal
 
 abbrev pub invariant-fields : goal.invariant-fields
 invariant-fields g l = record {
+  home : g.M.Walker.home l.m ≡ g.M.Walker.home l.fn.m;
   sizes : g.M.Walker.sizes l.m ≡ g.M.Walker.sizes l.fn.m;
   number : g.M.Walker.number l.m ≡ g.M.Walker.number l.fn.m;
-  grows : IsPrefix (g.M.Walker.front l.fn.m) (g.M.Walker.front l.m);
+  walks : Walks (g.M.Walker.number l.fn.m) (g.M.Walker.front l.fn.m) (g.M.Walker.front l.m);
   ordered : IsOrdered l.seen.items;
   once : IsOnce l.seen.items;
   goes_on : Extends l.fn.seen.items l.seen.items;
