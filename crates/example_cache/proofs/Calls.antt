@@ -1,5 +1,5 @@
 -- What each call of a cache answers and leaves.
-use Rattle.std.proofs.Common.{◌≡◌, ◌≢◌, ◌∙◌, ◌⊎◌, ◌-◌, ◌≤◌, inl, inr, ⊎_elim, ℕ, ◌<◌, true, false, List, replicate, Option, Some, None, refl, ap, sym, subst, arith}
+use Rattle.std.proofs.Common.{◌≡◌, ◌≢◌, ◌∙◌, ◌⊎◌, ◌-◌, ◌≤◌, inl, inr, ⊎_elim, ℕ, ◌+◌, ◌<◌, true, false, List, replicate, Option, Some, None, refl, ap, sym, subst, arith}
 use Rattle.heap_model.specs.declared.label.Label.{Label}
 use Rattle.command_counts.specs.Counts.{labels_of}
 use Rattle.heap_model.specs.declared.command.Command.{Command}
@@ -18,7 +18,7 @@ use Rattle.heap_rule.specs.Limits.{sizes_in}
 use Rattle.heap_session.specs.Sessions.{MayPerform, SessionView}
 use Rattle.table_laws.specs.Structures.{Binding}
 use Rattle.table_laws.specs.Stages.{held_in}
-use Rattle.table_laws.specs.Performing.{Performed}
+use Rattle.table_laws.specs.Performing.{Performed, full_of}
 use Rattle.map_domains.proofs.Performs.{performs}
 use Rattle.map_laws.proofs.CallLemmas.{alloc_step, forget_step, made as new_label}
 use Rattle.weak_maps.proofs.BesideLemmas.{set_here, sixteen}
@@ -31,7 +31,7 @@ use Rattle.weak_cache.specs.Calls.{GetReturns, LeavesCache, LeavesRegisters, Mak
 use Rattle.weak_cache.proofs.EndLemmas.{low_beside}
 use Rattle.weak_cache.proofs.LawLemmas.{alone_spares}
 use Rattle.example_cache.specs.declared.cache.Inserted.{Inserted}
-use Rattle.example_cache.specs.Caching.{CacheView, GetAnswers, HasCache, InsertAnswers, IsCache, KeepsRegisters, KeyAnswers, Leaves, RoomAnswers, SparesCache, TakeAnswers, WasGone, entry_of, holds, inserted_of, places_in}
+use Rattle.example_cache.specs.Caching.{CacheView, GetAnswers, HasCache, InsertAnswers, IsCache, KeepsRegisters, KeyAnswers, Leaves, NoCache, RoomAnswers, SparesCache, TakeAnswers, WasGone, entry_of, holds, inserted_of, places_in}
 use Rattle.example_cache.proofs.Entries.{here, holds_on, is_on, is_same, keeps_same, leaves, left_wider}
 
 shown_same : (v w : Value) → shown v ≡ shown w → v ≡ w
@@ -155,6 +155,13 @@ made z y old new size r l same is x = ⊎_elim
       ap (places_in z new) m.2.holds ∙ m.2.empty,
     ))
     (λ full. absurd (let clash : reply.Block l ≡ reply.Full = sym is ∙ full.0 in cc))
+    x
+
+-- or none is
+pub none_made : (z : Sizes) (old new : SessionView) (size : ℕ) (r : Reply) → new.config ≡ old.config → ((l : Label) → r ≡ reply.Block l → ⊥) → MakeReturns z 0 old.front new.front 7 size r → refusals_by 0 new.front ≡ refusals_by 0 old.front + full_of r → NoCache old new
+none_made z old new size r config none x refused = ⊎_elim
+    (λ m. absurd (none m.0 m.1))
+    (λ full. (config, inr (refused ∙ ap (λ (a : Reply). refusals_by 0 old.front + full_of a) full.0)))
     x
 
 -- a register that a command writes

@@ -87,6 +87,10 @@ IsKept (Alloc dst tag fields) r = r ≢ dst
 IsKept (Forget dst) r = r ≢ dst
 IsKept _ r = Unit {0}
 
+-- no cache was made: no label was left, or the allocation was refused
+abbrev pub NoCache : SessionView → SessionView → Type 0
+NoCache old new = (new.config ≡ old.config) × (((old.labels ≡ 4294967295) × (new ≡ old)) ⊎ (refusals_by 0 new.front ≡ refusals_by 0 old.front + 1))
+
 -- what making a key answers: a block that was made; or none was, where no label is left or the allocation was refused
 abbrev pub KeyAnswers : CacheView → CacheView → ℕ → Bool → Type 0
 KeyAnswers old new r true = (k : Label) × Performed (sizes_in old.heap.config) old.heap.front new.heap.front (Alloc r 0 1) (reply.Block k) × (holds new r ≡ Block k)

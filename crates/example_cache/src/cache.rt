@@ -1,5 +1,5 @@
 //! A cache, and its calls.
-ghost use Rattle.std.specs.Prelude.{◌≡◌, ◌<◌, ◌≤◌, ◌-◌, ℕ, IfOk, None, replicate};
+ghost use Rattle.std.specs.Prelude.{◌≡◌, ◌<◌, ◌≤◌, ◌-◌, ℕ, IfErr, IfOk, None, replicate};
 ghost use Rattle.command_counts.specs.Counts.{labels_of};
 ghost use Rattle.heap_model.specs.Domains.{IsWithinLimits};
 ghost use Rattle.heap_rule.specs.Limits.{sizes_in};
@@ -8,7 +8,7 @@ ghost use Rattle.heap_model.specs.declared.graph.Value.TheVariants as value;
 ghost use Rattle.heap_model.specs.declared.command.Command.TheVariants as command;
 ghost use Rattle.heap_model.specs.declared.reply.Reply.{Reply};
 ghost use Rattle.heap_model.specs.Graph.{label_of};
-ghost use Rattle.example_cache.specs.Caching.{GetAnswers, InsertAnswers, IsKept, KeepsAll, KeepsRegisters, KeyAnswers, RoomAnswers, SparesCache, TakeAnswers, holds, places, entry_of as entry_shown, inserted_of as inserted_by};
+ghost use Rattle.example_cache.specs.Caching.{GetAnswers, InsertAnswers, IsKept, KeepsAll, KeepsRegisters, KeyAnswers, NoCache, RoomAnswers, SparesCache, TakeAnswers, holds, places, entry_of as entry_shown, inserted_of as inserted_by};
 
 use heap_model::command::Command;
 use heap_model::reply::Reply;
@@ -78,6 +78,7 @@ impl Cache {
         requires few { (1 ≤ most) × (most ≤ 1022) }
         ensures most { IfOk result (λ c. c.most ≡ most) }
         ensures empty { IfOk result (λ c. places c ≡ replicate most None) }
+        ensures none { IfErr result (λ s. NoCache session s) }
     {
         let mut heap = SessionDomain::new(session);
         if heap.session().labels_left() < 1 {
