@@ -101,6 +101,9 @@ static void refuses(camlheap_domain *domain, uint32_t told) {
   for (int i = 0; i < UNFITS; i++) CHECK(own_call(domain, &UNFIT[i], &reply) == told && is_untouched(&reply));
   for (uint8_t op = 0; told != CAMLHEAP_UNFIT && op < 24; op++)
     CHECK(own_call(domain, &(camlheap_command){.op = op, .n = 1, .tag = 251}, &reply) == told && is_untouched(&reply));
+  camlheap_way way = {.kind = 77};
+  uint16_t field = 77;
+  if (told != CAMLHEAP_UNFIT) CHECK(camlheap_why(domain, UINT32_MAX, 0, UINT32_MAX, &way, &field, 1) == told && way.kind == 77 && field == 77);
   uint32_t unknown = told == CAMLHEAP_NO_DOMAIN ? told : CAMLHEAP_UNFIT;
   for (int op = 24; op < 256; op++) CHECK(camlheap_submit(domain, &(camlheap_command){.op = (uint8_t)op}) == unknown);
   for (int op = 24; op < 256; op++) CHECK(called(domain, (camlheap_command){.op = (uint8_t)op}) == unknown);
