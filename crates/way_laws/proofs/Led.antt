@@ -1,6 +1,5 @@
 -- Where a way leads is reachable.
-use Rattle.std.proofs.Common.{◌≡◌, ◌∙◌, ℕ, zero, suc, ◌<◌, Bool, true, false, IsTrue, List, [], ◌∷◌, get_or, slice_get, option_and_then, filter_map, flat_map, refl, ap, sym, subst, Option, Some, None}
-use Rattle.std.specs.List.{list_all}
+use Rattle.std.proofs.Common.{◌≡◌, ◌∙◌, ℕ, zero, suc, Bool, true, false, IsTrue, List, [], ◌∷◌, get_or, slice_get, option_and_then, filter_map, flat_map, refl, ap, sym, subst, Option, Some, None}
 use Rattle.std.specs.Option.{option_map_or}
 use Rattle.std.proofs.lemmas.Option.{same_Some}
 use Rattle.heap_model.specs.declared.entry.Entry.{Entry}
@@ -12,17 +11,17 @@ use Rattle.heap_model.specs.declared.label.Label.{Label}
 use Rattle.heap_model.specs.declared.state.DomainState.{DomainState}
 use Rattle.heap_model.specs.declared.state.Sizes.{Sizes}
 use Rattle.heap_model.specs.declared.state.State.{State}
-use Rattle.heap_model.specs.Commands.{has_full_fields, is_int_value}
-use Rattle.heap_model.specs.Domains.{domain_at, no_domain, pending_label, queues, reach, roots}
+use Rattle.heap_model.specs.Commands.{is_int_value}
+use Rattle.heap_model.specs.Domains.{no_domain, pending_label, queues, reach}
 use Rattle.heap_model.specs.Graph.{Graph, has_label, label_of, node_at, same_label}
-use Rattle.heap_model.specs.Reach.{edges_at, edges_of}
+use Rattle.heap_model.specs.Reach.{edges_of}
 use Rattle.heap_model.proofs.Graphs.GraphLemmas.{same_label_refl}
 use Rattle.heap_model.proofs.Graphs.ListLemmas.{all_at}
 use Rattle.heap_model.proofs.Histories.FieldLemmas.{fields_law}
 use Rattle.heap_model.proofs.Histories.WellFormedLemmas.{reach_after}
 use Rattle.heap_model.proofs.Reach.ReachLemmas.{has-append_left, has-append_right, or_left, or_right}
 use Rattle.reach_paths.specs.Exploring.{graph_of, roots_of}
-use Rattle.reach_paths.specs.Ways.{IsLedTo, fields_of, follow, refers}
+use Rattle.reach_paths.specs.Ways.{fields_of, follow, refers}
 use Rattle.reach_paths.specs.Walks.{state_of}
 use Rattle.reach_paths.proofs.Going.{follow_none, follow_step}
 use Rattle.way_laws.specs.Reached.{LedIsReached}

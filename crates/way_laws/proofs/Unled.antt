@@ -1,5 +1,5 @@
 -- Where no way leads isn't reachable.
-use Rattle.std.proofs.Common.{◌≡◌, ◌∙◌, ℕ, zero, suc, ◌<◌, ◌⊎◌, Bool, false, IsTrue, List, [], ◌∷◌, ◌++◌, fold, get_or, length, slice_get, take, option_and_then, filter_map, flat_map, refl, ap, sym, subst, ⊎_elim, Option, Some, None, arith}
+use Rattle.std.proofs.Common.{◌≡◌, ◌∙◌, ℕ, zero, suc, ◌<◌, Bool, IsTrue, List, [], ◌∷◌, ◌++◌, fold, get_or, length, slice_get, take, option_and_then, filter_map, flat_map, refl, ap, ⊎_elim, Option, Some, None, arith}
 use Rattle.std.specs.Option.{option_map_or}
 use Rattle.heap_model.specs.declared.graph.Node.{Node}
 use Rattle.heap_model.specs.declared.graph.Node.TheVariants.{Plain, Raw, Ephe}
