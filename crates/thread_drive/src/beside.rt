@@ -6,7 +6,7 @@ ghost use Rattle.thread_drive.specs.Placing.{AllBegan, Began, Stands};
 use crate::place::Place;
 use crate::signals::Signals;
 use crate::trace::{Trace, Went};
-use crate::turning::{Worked, turn_once};
+use crate::turning::{Worked, turn_once, turn_while_on};
 use crate::waiting::Waiter;
 use crossbeam_utils::sync::EventCount;
 use outer_io::Gate;
@@ -42,16 +42,15 @@ fn turn_some<S, T: Trace<S>, R: Wait, G: Gate>(
     ensures follows { T.follows trace.old trace.new }
     ensures over { result ≡ Went.Ended → T.is_over trace.new }
 {
-    'turns: for _ in rt.forever() {
-        let went = turn_once(shared, gate, events, told, trace);
-        if went == Went::On {
-            waiter.went_on();
-        }
-        if went != Went::On || !many {
-            return went;
-        }
+    let (went, some) = if many {
+        turn_while_on(rt, shared, gate, events, told, trace)
+    } else {
+        (turn_once(shared, gate, events, told, trace), false)
+    };
+    if some || went == Went::On {
+        waiter.went_on();
     }
-    unreachable!()
+    went
 }
 
 // The same of the trace of a place, if it is here and is an idle one, or else a busy one.

@@ -46,6 +46,32 @@ pub(crate) fn turn_once<S, T: Trace<S>, G: Gate>(
     went
 }
 
+// Turns a trace as long as it goes on. Answers how far the last turn came, and whether one before it went on.
+#[inline(always)]
+pub(crate) fn turn_while_on<S, T: Trace<S>, R: Wait, G: Gate>(
+    rt: &R,
+    shared: &S,
+    gate: &G,
+    events: &EventCount,
+    told: &mut u32,
+    trace: &mut T,
+) -> (Went, bool)
+    requires { T.shares shared.now trace.old }
+    ensures here { T.shares shared.now trace.new }
+    ensures follows { T.follows trace.old trace.new }
+    ensures over { result.0 ≡ Went.Ended → T.is_over trace.new }
+{
+    let mut some = false;
+    'turns: for _ in rt.forever() {
+        let went = turn_once(shared, gate, events, told, trace);
+        if went != Went::On {
+            return (went, some);
+        }
+        some = true;
+    }
+    unreachable!()
+}
+
 // What turns of a trace came to: the trace, the index below which the gate was told of its commands, and how far the last turn came.
 #[derive(Drop)]
 pub(crate) struct Worked<T> {
@@ -87,14 +113,16 @@ pub(crate) fn turn_on<S, T: Trace<S>, R: Wait, G: Gate>(
     let mut told = 0;
     'turns: for _ in rt.forever() {
         let announced = waiter.announced();
-        let went = turn_once(shared, gate, events, &mut told, &mut trace);
-        if went == Went::On {
+        let (went, some) = turn_while_on(rt, shared, gate, events, &mut told, &mut trace);
+        if some {
             waiter.went_on();
-        } else if is_done(stays, called, went) {
-            return Worked { trace, told, went };
-        } else {
-            waiter.rest(rt, went, announced);
         }
+        if is_done(stays, called, went) {
+            // The last turn told of the next command, if one is left.
+            let told = trace.next_index().saturating_add(1);
+            return Worked { trace, told, went };
+        }
+        waiter.rest(rt, went, if some { None } else { announced });
     }
     unreachable!()
 }

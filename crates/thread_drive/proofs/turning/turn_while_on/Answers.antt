@@ -1,4 +1,4 @@
-use Rattle.thread_drive.proofs.beside.turn_some.Goals as goal
+use Rattle.thread_drive.proofs.turning.turn_while_on.Goals as goal
 
 pub turns-init : goal.turns-init
 turns-init g c = (g.met.T.Trace.follows_itself c.args.trace.now, c.requires)
