@@ -345,7 +345,7 @@ bindings() {
 maps() {
     head_of bench/maps.sh
     columns "a call" keys "in the mean" "the dearest of 400"
-    "$top/bench/maps.sh" | awk '{ print "`" ($1 == "move" ? "take` and `put" : $1) "`\t" $4 "\t" $6 "\t" $NF }'
+    "$top/bench/maps.sh" | awk '{ print "`" ($1 == "move" ? "take` and `put" : $1) "`\t" $5 "\t" $7 "\t" $NF }'
 }
 
 # Milliseconds of a run of no command by the program $1, the least of several, with the setting $2 of the C library.
