@@ -424,9 +424,10 @@ went_right() {
 refused() {
     head_of examples/hostile.sh | sed '2s/.*/# machine: each request for memory refused in turn/'
     columns "a run" requests "refused ones that end with status 5"
-    (trap - HUP PIPE; "$top/examples/hostile.sh") | awk '/^right memory refused, / {
+    "$top/examples/hostile.sh" | awk '/^right memory refused, / {
         what = $0; sub(/^right memory refused, /, "", what); sub(/:.*/, "", what)
-        print what "\t" $(NF - 14) "\t" $(NF - 12)
+        counts = $0; sub(/.*: of /, "", counts); split(counts, word, " ")
+        print what "\t" word[1] "\t" (word[3] == word[1] ? "all" : word[3])
     }'
 }
 

@@ -124,7 +124,7 @@ try "a write that a handled signal interrupts" 0 long.out "" "$interrupted"
 # Signals in the middle of a run.
 for signal in INT TERM HUP; do
     try "SIG$signal in a long run" $((128 + $(kill -l "$signal"))) - "" \
-        "timeout --preserve-status -s $signal 0.5 env --default-signal=$signal $run <slow.heap"
+        "timeout --preserve-status -s $signal 0.1 env --default-signal=$signal $run <slow.heap"
 done
 
 # Three domains, where the system refuses all threads, or all but one or two.
