@@ -13,12 +13,14 @@ use thread_drive::{Trace, Went};
 // A domain that has arrived so often isn't turned any more.
 const MOST_ARRIVALS: u64 = 1 << 60;
 
-// How far a turn with this answer came.
-fn reached(turned: Turned) -> Went
+// How far a turn with this answer came: one that did something and stands in a pause then has arrived.
+#[inline(always)]
+fn reached(turned: Turned, stands: bool) -> Went
     ensures ended { result ≡ Went.Ended → turned ≡ Turned.Ended }
     ensures idle { result ≡ Went.Idle → (n : ℕ) × (turned ≡ Turned.Idle n) }
 {
     match turned {
+        Turned::Did if stands => Went::Arrived,
         Turned::Did => Went::On,
         Turned::Held { .. } => Went::Held,
         Turned::Waiting(_) | Turned::Hungry => Went::Nowhere,
@@ -70,6 +72,7 @@ impl Trace<Heap> for DomainRun {
         if self.domain().arrivals() >= MOST_ARRIVALS {
             return Went::Nowhere;
         }
-        reached(turn(shared, self))
+        let turned = turn(shared, self);
+        reached(turned, self.left.is_some())
     }
 }

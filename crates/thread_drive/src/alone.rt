@@ -3,8 +3,8 @@ ghost use Rattle.std.specs.Prelude.{◌≡◌, ℕ, slice_get, Some};
 ghost use Rattle.thread_drive.specs.Driven.{Driven};
 
 use crate::rotation::rotate;
+use crate::signals::Events;
 use crate::trace::Trace;
-use crossbeam_utils::sync::EventCount;
 use outer_io::Gate;
 use std::sync::Wait;
 
@@ -23,7 +23,7 @@ pub fn drive_alone<S, T: Trace<S> + Drop, R: Wait, G: Gate>(
     requires here { (i : ℕ) (t : T) → slice_get traces.items i ≡ Some t → T.shares shared.now t }
     ensures driven { Driven T.shares T.follows T.is_over shared.now traces.items result.items }
 {
-    let events = EventCount::new();
+    let events = Events::of(1);
     let mut traces = traces;
     rotate(rt, shared, gate, &events, &mut traces);
     traces

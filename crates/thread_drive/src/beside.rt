@@ -4,11 +4,10 @@ ghost use Rattle.thread_drive.specs.Driven.{AllAre};
 ghost use Rattle.thread_drive.specs.Placing.{AllBegan, Began, Stands};
 
 use crate::place::Place;
-use crate::signals::Signals;
+use crate::signals::{Events, Signals};
 use crate::trace::{Trace, Went};
-use crate::turning::{Worked, turn_once, turn_while_on};
+use crate::turning::{Told, Worked, arrived, turn_once, turn_while_on};
 use crate::waiting::Waiter;
-use crossbeam_utils::sync::EventCount;
 use outer_io::Gate;
 use std::mem;
 use std::sync::Wait;
@@ -21,6 +20,8 @@ fn further(one: Went, other: Went) -> Went {
         (Went::On, _) | (_, Went::On) => Went::On,
         (Went::Held, _) | (_, Went::Held) => Went::Held,
         (Went::Nowhere, _) | (_, Went::Nowhere) => Went::Nowhere,
+        (Went::Arrived, Went::Idle) | (Went::Idle, Went::Arrived) => Went::Nowhere,
+        (Went::Arrived, _) | (_, Went::Arrived) => Went::Arrived,
         (Went::Idle, _) | (_, Went::Idle) => Went::Idle,
         (Went::Ended, Went::Ended) => Went::Ended,
     }
@@ -31,10 +32,10 @@ fn turn_some<S, T: Trace<S>, R: Wait, G: Gate>(
     rt: &R,
     shared: &S,
     gate: &G,
-    events: &EventCount,
+    events: &Events,
     waiter: &mut Waiter<'_>,
     many: bool,
-    told: &mut u32,
+    told: &mut Told,
     trace: &mut T,
 ) -> Went
     requires { T.shares shared.now trace.old }
@@ -43,11 +44,12 @@ fn turn_some<S, T: Trace<S>, R: Wait, G: Gate>(
     ensures over { result ≡ Went.Ended → T.is_over trace.new }
 {
     let (went, some) = if many {
-        turn_while_on(rt, shared, gate, events, told, trace)
+        turn_while_on(rt, shared, gate, events, waiter, told, trace)
     } else {
-        (turn_once(shared, gate, events, told, trace), false)
+        let went = turn_once(shared, gate, events, told, trace);
+        (arrived(events, waiter, told, went), false)
     };
-    if some || went == Went::On {
+    if some || matches!(went, Went::On | Went::Arrived) {
         waiter.went_on();
     }
     went
@@ -58,7 +60,7 @@ fn turn_at<S, T: Trace<S> + Drop, R: Wait, G: Gate>(
     rt: &R,
     shared: &S,
     gate: &G,
-    events: &EventCount,
+    events: &Events,
     waiter: &mut Waiter<'_>,
     idle: bool,
     many: bool,
@@ -99,7 +101,7 @@ fn turn_those<S, T: Trace<S> + Drop, R: Wait, G: Gate>(
     rt: &R,
     shared: &S,
     gate: &G,
-    events: &EventCount,
+    events: &Events,
     waiter: &mut Waiter<'_>,
     idle: bool,
     places: &mut [Place<S, T>],
@@ -122,7 +124,7 @@ fn turn_here<S, T: Trace<S> + Drop, R: Wait, G: Gate>(
     rt: &R,
     shared: &S,
     gate: &G,
-    events: &EventCount,
+    events: &Events,
     waiter: &mut Waiter<'_>,
     places: &mut [Place<S, T>],
 ) -> Went
@@ -142,6 +144,7 @@ fn turn_here<S, T: Trace<S> + Drop, R: Wait, G: Gate>(
 fn take_back<S, T: Trace<S> + Drop, R: Threads>(
     rt: &R,
     shared: &S,
+    signals: &Signals,
     wished: bool,
     place: &mut Place<S, T>,
 ) -> bool
@@ -156,6 +159,7 @@ fn take_back<S, T: Trace<S> + Drop, R: Threads>(
     match mem::replace(place, Place::Empty) {
         Place::Away(child) => {
             let Worked { trace, told, went } = child.join(rt);
+            signals.events.leave();
             *place = Place::Here { trace, told, went };
             true
         }
@@ -170,17 +174,20 @@ fn take_back<S, T: Trace<S> + Drop, R: Threads>(
 fn take_all_back<S, T: Trace<S> + Drop, R: Threads>(
     rt: &R,
     shared: &S,
-    bits: u32,
+    signals: &Signals,
     places: &mut [Place<S, T>],
 ) -> bool
     requires { AllAre (Stands T.shares T.is_over shared.now) places.old }
     ensures stand { AllAre (Stands T.shares T.is_over shared.now) places.new }
     ensures began { AllBegan T.follows places.old places.new }
 {
-    let mut left = bits;
+    let mut left = signals.returned.load(Ordering::SeqCst);
     let mut some = false;
+    if left == 0 {
+        return some;
+    }
     'places: for place in places.iter_mut() {
-        let taken = take_back(rt, shared, left & 1 == 1, place);
+        let taken = take_back(rt, shared, signals, left & 1 == 1, place);
         some = some || taken;
         left >>= 1;
     }
@@ -202,7 +209,7 @@ fn lacks_one<S, T: Trace<S>>(places: &[Place<S, T>]) -> bool {
 fn call_back<S, T: Trace<S>>(signals: &Signals, places: &[Place<S, T>]) {
     if signals.called.load(Ordering::SeqCst) == 0 && lacks_one(places) {
         signals.called.store(1, Ordering::SeqCst);
-        signals.events.notify_all();
+        signals.events.tell();
     }
 }
 
@@ -224,8 +231,7 @@ fn turn_and_take<S, T: Trace<S> + Drop, R: Threads + Wait, G: Gate>(
     if matches!(went, Went::On | Went::Ended) {
         return went;
     }
-    let bits = signals.returned.load(Ordering::SeqCst);
-    let taken = take_all_back(rt, shared, bits, places);
+    let taken = take_all_back(rt, shared, signals, places);
     if taken {
         return Went::On;
     }
@@ -246,14 +252,14 @@ pub(crate) fn turn_beside<S, T: Trace<S> + Drop, R: Threads + Wait, G: Gate>(
     ensures stand { AllAre (Stands T.shares T.is_over shared.now) places.new }
     ensures began { AllBegan T.follows places.old places.new }
 {
-    let mut waiter = Waiter::new(&signals.events);
+    let mut waiter = Waiter::new(&signals.events.sleepers);
     'turns: for _ in rt.forever() {
         let announced = waiter.announced();
         let went = turn_and_take(rt, shared, gate, signals, &mut waiter, places);
         if went == Went::Ended {
             return;
         }
-        waiter.after(rt, went, announced);
+        waiter.after(rt, &signals.events, went, announced);
     }
     unreachable!()
 }

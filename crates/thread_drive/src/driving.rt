@@ -7,10 +7,9 @@ use crate::alone::drive_alone;
 use crate::beside::turn_beside;
 use crate::place::{Place, SameTrace};
 use crate::rotation::{MOST_TRACES, rotate};
-use crate::signals::Signals;
+use crate::signals::{Events, Signals};
 use crate::trace::{Trace, Went};
-use crate::turning::{Worked, turn_on, turn_to_end};
-use crossbeam_utils::sync::EventCount;
+use crate::turning::{Told, Worked, turn_on, turn_to_end};
 use outer_io::Gate;
 use std::snapshot::Snapshot;
 use std::sync::Wait;
@@ -38,7 +37,7 @@ fn work<S, T: Trace<S>, R: Wait, G: Gate>(
     if signals.refused.load(Ordering::SeqCst) == bit {
         return Worked {
             trace,
-            told: 0,
+            told: Told::NOTHING,
             went: Went::On,
         };
     }
@@ -52,7 +51,7 @@ fn work<S, T: Trace<S>, R: Wait, G: Gate>(
         trace,
     );
     signals.returned.fetch_or(bit, Ordering::SeqCst);
-    signals.events.notify_all();
+    signals.events.tell();
     worked
 }
 
@@ -82,6 +81,7 @@ fn start<'s, E, S: Sync, T: Trace<S> + Send + Drop + 's, R: Threads + Wait + Syn
             signals.refused.store(bit, Ordering::SeqCst);
             let back = (error.value)();
             signals.refused.store(0, Ordering::SeqCst);
+            signals.events.leave();
             let Worked { trace, told, went } = back;
             Place::Here { trace, told, went }
         }
@@ -113,7 +113,7 @@ fn place_of<
     if at == 0 {
         Place::Here {
             trace,
-            told: 0,
+            told: Told::NOTHING,
             went: Went::On,
         }
     } else {
@@ -180,7 +180,7 @@ fn ended_work<S, T: Trace<S>, R: Wait, G: Gate>(
     rt: &R,
     shared: &S,
     gate: &G,
-    events: &EventCount,
+    events: &Events,
     worked: Worked<T>,
 ) -> T
     requires over { worked.went ≡ Went.Ended → T.is_over worked.trace }
@@ -202,7 +202,7 @@ fn ended_trace<S, T: Trace<S> + Drop, R: Threads + Wait, G: Gate>(
     rt: &R,
     shared: &S,
     gate: &G,
-    events: &EventCount,
+    events: &Events,
     place: Place<S, T>,
 ) -> T
     requires stands { Stands T.shares T.is_over shared.now place }
@@ -224,7 +224,7 @@ fn take_ended<S, T: Trace<S> + Drop, R: Threads + Wait, G: Gate>(
     rt: &R,
     shared: &S,
     gate: &G,
-    events: &EventCount,
+    events: &Events,
     places: &mut [Place<S, T>],
     count: usize,
     traces: &mut Vec<T>,
@@ -270,7 +270,7 @@ fn drive_each<
     let count = traces.len();
     let first = Place::Empty;
     if MOST_SIZE < mem::size_of_val(&first) {
-        rotate(rt, shared, gate, &signals.events, traces);
+        rotate(rt, shared, gate, &Events::of(1), traces);
         return;
     }
     let mut places = [
@@ -319,7 +319,7 @@ pub fn drive<S: Sync, T: Trace<S> + Send + Drop, R: Threads + Wait + Sync, G: Ga
     if count < 2 || MOST_TRACES < count {
         return drive_alone(rt, shared, traces, gate);
     }
-    let signals = Signals::new();
+    let signals = Signals::of(count as u32);
     let told = &signals;
     thread::scope(
         thread::scope_env(),

@@ -3,7 +3,7 @@ ghost use Rattle.std.specs.Prelude.{◌≡◌};
 ghost use Rattle.thread_drive.specs.declared.trace.Went.TheVariants.{Ended};
 
 use crate::trace::{Trace, Went};
-use crate::turning::Worked;
+use crate::turning::{Told, Worked};
 use std::snapshot::Snapshot;
 use std::thread::{Promise, PromisedHandle};
 
@@ -23,8 +23,8 @@ impl<S, T: Trace<S>> Promise<Worked<T>> for SameTrace<S, T> {
 pub(crate) enum Place<S, T: Trace<S>> {
     // No trace has this place.
     Empty,
-    // The caller turns it: the gate was told of its commands below `told`, and its last turn came so far.
-    Here { trace: T, told: u32, went: Went },
+    // The caller turns it: what was told of it, and how far its last turn came.
+    Here { trace: T, told: Told, went: Went },
     // A thread turns it, or has given it back.
     Away(PromisedHandle<Worked<T>, SameTrace<S, T>>),
 }

@@ -2,11 +2,11 @@
 ghost use Rattle.std.specs.Prelude.{◌≡◌, length, vec_capacity};
 ghost use Rattle.thread_drive.specs.Driven.{AllAre, AllFollow};
 
+use crate::signals::Events;
 use crate::taking::{put_back, take_out};
 use crate::trace::{Trace, Went};
-use crate::turning::{turn_once, turn_to_end};
+use crate::turning::{Told, turn_once, turn_to_end};
 use crate::waiting::Waiter;
-use crossbeam_utils::sync::EventCount;
 use outer_io::Gate;
 use std::sync::Wait;
 
@@ -18,8 +18,8 @@ pub(crate) const MOST_TRACES: usize = 8;
 fn turn_each<S, T: Trace<S>, G: Gate>(
     shared: &S,
     gate: &G,
-    events: &EventCount,
-    told: &mut [u32; 8],
+    events: &Events,
+    told: &mut [Told; 8],
     traces: &mut [T],
 ) -> Went
     requires { AllAre (T.shares shared.now) traces.old }
@@ -33,7 +33,7 @@ fn turn_each<S, T: Trace<S>, G: Gate>(
     for trace in traces.iter_mut() {
         let place = trace.number(shared) as usize;
         match turn_once(shared, gate, events, &mut told[place], trace) {
-            Went::On => {
+            Went::On | Went::Arrived => {
                 all = false;
                 some = true;
             }
@@ -61,7 +61,7 @@ fn turn_only<S, T: Trace<S> + Drop, R: Wait, G: Gate>(
     rt: &R,
     shared: &S,
     gate: &G,
-    events: &EventCount,
+    events: &Events,
     traces: &mut Vec<T>,
 )
     requires one { length traces.old.items ≡ 1 }
@@ -81,7 +81,7 @@ pub(crate) fn rotate<S, T: Trace<S> + Drop, R: Wait, G: Gate>(
     rt: &R,
     shared: &S,
     gate: &G,
-    events: &EventCount,
+    events: &Events,
     traces: &mut Vec<T>,
 )
     requires { AllAre (T.shares shared.now) traces.old.items }
@@ -94,12 +94,12 @@ pub(crate) fn rotate<S, T: Trace<S> + Drop, R: Wait, G: Gate>(
         turn_only(rt, shared, gate, events, traces);
         return;
     }
-    let mut waiter = Waiter::new(events);
-    let mut told = [0; MOST_TRACES];
+    let mut waiter = Waiter::new(&events.sleepers);
+    let mut told = [Told::NOTHING; MOST_TRACES];
     'turns: for _ in rt.forever() {
         let announced = waiter.announced();
         match turn_each(shared, gate, events, &mut told, traces.as_mut_slice()) {
-            Went::On => waiter.went_on(),
+            Went::On | Went::Arrived => waiter.went_on(),
             Went::Nowhere | Went::Idle => waiter.wait(rt, announced),
             Went::Held => waiter.held(),
             Went::Ended => return,

@@ -6,6 +6,9 @@ ghost use Rattle.std.specs.Prelude.{◌≡◌, ◌↔◌, ◌<◌, ℕ, true};
 pub enum Went {
     /// It did something.
     On,
+    /// It did something, and came to where each trace waits until all have come as often: its next turn does something
+    /// only then.
+    Arrived,
     /// It waits for others, or for its next command.
     Nowhere,
     /// It waits for a command of another trace. Nobody tells of a command, so it is turned again soon, and

@@ -1,21 +1,38 @@
 //! The turns of one trace, with the gate around each command.
 ghost use Rattle.std.specs.Prelude.{◌≡◌, true};
 
+use crate::signals::Events;
 use crate::trace::{Trace, Went};
 use crate::waiting::Waiter;
-use crossbeam_utils::sync::EventCount;
 use outer_io::Gate;
 use std::sync::Wait;
 use std::sync::atomic::{AtomicU32, Ordering};
 
-// Tells the gate of the next command, if one is left that it wasn't told of: it was told of those before `told`.
+// What was told of a trace.
+#[derive(Clone, Copy)]
+pub(crate) struct Told {
+    // The index of the command that the gate was told of last.
+    pub(crate) command: u32,
+    // How often it has come to where each waits for all.
+    pub(crate) arrivals: u64,
+}
+
+impl Told {
+    // No command has this index.
+    pub(crate) const NOTHING: Told = Told {
+        command: u32::MAX,
+        arrivals: 0,
+    };
+}
+
+// Tells the gate of the next command, if one is left that it wasn't told of.
 #[inline(always)]
-fn tell_before<S, T: Trace<S>, G: Gate>(shared: &S, gate: &G, told: &mut u32, trace: &T)
+fn tell_before<S, T: Trace<S>, G: Gate>(shared: &S, gate: &G, told: &mut Told, trace: &T)
     requires { T.shares shared.now trace.now }
 {
     let at = trace.next_index();
-    if trace.has_next() && *told <= at {
-        *told = at.saturating_add(1);
+    if trace.has_next() && told.command != at {
+        told.command = at;
         gate.before(trace.number(shared), at);
     }
 }
@@ -26,8 +43,8 @@ fn tell_before<S, T: Trace<S>, G: Gate>(shared: &S, gate: &G, told: &mut u32, tr
 pub(crate) fn turn_once<S, T: Trace<S>, G: Gate>(
     shared: &S,
     gate: &G,
-    events: &EventCount,
-    told: &mut u32,
+    events: &Events,
+    told: &mut Told,
     trace: &mut T,
 ) -> Went
     requires { T.shares shared.now trace.old }
@@ -41,9 +58,21 @@ pub(crate) fn turn_once<S, T: Trace<S>, G: Gate>(
     if trace.next_index() != at {
         gate.after(trace.number(shared), at);
     } else if went == Went::On {
-        events.notify_all();
+        events.tell();
     }
     went
+}
+
+// How far a trace came whose turn came so far: one that has arrived as the last goes on at once.
+#[inline(always)]
+pub(crate) fn arrived(events: &Events, waiter: &mut Waiter<'_>, told: &mut Told, went: Went) -> Went
+    ensures { result ≡ Went.Ended → went ≡ Went.Ended }
+{
+    if went == Went::Arrived && waiter.arrives_last(events, &mut told.arrivals) {
+        Went::On
+    } else {
+        went
+    }
 }
 
 // Turns a trace as long as it goes on. Answers how far the last turn came, and whether one before it went on.
@@ -52,8 +81,9 @@ pub(crate) fn turn_while_on<S, T: Trace<S>, R: Wait, G: Gate>(
     rt: &R,
     shared: &S,
     gate: &G,
-    events: &EventCount,
-    told: &mut u32,
+    events: &Events,
+    waiter: &mut Waiter<'_>,
+    told: &mut Told,
     trace: &mut T,
 ) -> (Went, bool)
     requires { T.shares shared.now trace.old }
@@ -65,18 +95,21 @@ pub(crate) fn turn_while_on<S, T: Trace<S>, R: Wait, G: Gate>(
     'turns: for _ in rt.forever() {
         let went = turn_once(shared, gate, events, told, trace);
         if went != Went::On {
-            return (went, some);
+            let went = arrived(events, waiter, told, went);
+            if went != Went::On {
+                return (went, some || went == Went::Arrived);
+            }
         }
         some = true;
     }
     unreachable!()
 }
 
-// What turns of a trace came to: the trace, the index below which the gate was told of its commands, and how far the last turn came.
+// What turns of a trace came to: the trace, what was told of it, and how far the last turn came.
 #[derive(Drop)]
 pub(crate) struct Worked<T> {
     pub(crate) trace: T,
-    pub(crate) told: u32,
+    pub(crate) told: Told,
     pub(crate) went: Went,
 }
 
@@ -89,7 +122,8 @@ fn is_done(stays: bool, called: &AtomicU32, went: Went) -> bool
     match went {
         Went::Ended => true,
         Went::Idle => !stays,
-        Went::On | Went::Nowhere | Went::Held => !stays && called.load(Ordering::SeqCst) != 0,
+        Went::On | Went::Arrived | Went::Nowhere | Went::Held => !stays
+            && called.load(Ordering::SeqCst) != 0,
     }
 }
 
@@ -98,7 +132,7 @@ pub(crate) fn turn_on<S, T: Trace<S>, R: Wait, G: Gate>(
     rt: &R,
     shared: &S,
     gate: &G,
-    events: &EventCount,
+    events: &Events,
     stays: bool,
     called: &AtomicU32,
     mut trace: T,
@@ -109,20 +143,30 @@ pub(crate) fn turn_on<S, T: Trace<S>, R: Wait, G: Gate>(
     ensures over { result.went ≡ Went.Ended → T.is_over result.trace }
     ensures stays { stays ≡ true → result.went ≡ Went.Ended }
 {
-    let mut waiter = Waiter::new(events);
-    let mut told = 0;
+    let mut waiter = Waiter::new(&events.sleepers);
+    let mut told = Told::NOTHING;
     'turns: for _ in rt.forever() {
         let announced = waiter.announced();
-        let (went, some) = turn_while_on(rt, shared, gate, events, &mut told, &mut trace);
+        let (went, some) = turn_while_on(
+            rt,
+            shared,
+            gate,
+            events,
+            &mut waiter,
+            &mut told,
+            &mut trace,
+        );
         if some {
             waiter.went_on();
         }
         if is_done(stays, called, went) {
-            // The last turn told of the next command, if one is left.
-            let told = trace.next_index().saturating_add(1);
             return Worked { trace, told, went };
         }
-        waiter.rest(rt, went, if some { None } else { announced });
+        if went == Went::Arrived {
+            waiter.meet(rt, events);
+        } else {
+            waiter.rest(rt, went, if some { None } else { announced });
+        }
     }
     unreachable!()
 }
@@ -132,7 +176,7 @@ pub(crate) fn turn_to_end<S, T: Trace<S>, R: Wait, G: Gate>(
     rt: &R,
     shared: &S,
     gate: &G,
-    events: &EventCount,
+    events: &Events,
     trace: T,
 ) -> T
     requires { T.shares shared.now trace }

@@ -1,4 +1,4 @@
-use Rattle.std.proofs.Common.{rules, ◌≡◌, ◌<◌, ◌∙◌, ℕ, length, sym, subst}
+use Rattle.std.proofs.Common.{rules, ◌<◌, length, subst}
 use Rattle.std.specs.Prelude.{slice_index_or}
 use Rattle.thread_drive.specs.Placing.{Began}
 use Rattle.thread_drive.specs.declared.place.Place.TheVariants.{Empty}

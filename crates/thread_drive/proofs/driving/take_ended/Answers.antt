@@ -1,4 +1,4 @@
-use Rattle.std.proofs.Common.{rules, arith, ℕ, ◌≡◌, ◌<◌, ◌≤◌, ◌+◌, ◌∙◌, length, List, ◌∷◌, [], ◌++◌, length-append, sym, ap, subst, refl}
+use Rattle.std.proofs.Common.{arith, ℕ, ◌≡◌, ◌<◌, ◌+◌, ◌∙◌, length, List, ◌∷◌, [], ◌++◌, length-append, sym, ap, subst}
 use Rattle.std.specs.Prelude.{slice_index_or, slice_set}
 use Rattle.thread_drive.specs.Placing.{Began, Stands}
 use Rattle.thread_drive.specs.declared.place.Place.TheVariants.{Empty}

@@ -1,8 +1,7 @@
-use Rattle.std.proofs.Common.{◌≡◌, ◌≢◌, ◌<◌, ◌≤◌, ℕ, length, vec_capacity}
+use Rattle.std.proofs.Common.{◌≡◌, ◌<◌, ◌≤◌, ℕ, length, vec_capacity}
 use Rattle.std.specs.Prelude.{slice_index_or}
 use Rattle.thread_drive.specs.Driven.{AllAre}
 use Rattle.thread_drive.specs.Placing.{Began, Stands}
-use Rattle.thread_drive.specs.declared.place.Place.TheVariants.{Empty}
 use Rattle.thread_drive.proofs.driving.take_ended.Given as goal
 
 abbrev pub invariant-places : goal.invariant-places
