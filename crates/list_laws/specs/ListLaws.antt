@@ -1,0 +1,58 @@
+-- Laws of a map's list of bindings.
+use Rattle.std.specs.Prelude.{◌≡◌, ℕ, IsTrue, List, [], None}
+use Rattle.heap_model.specs.declared.label.Label.{Label}
+use Rattle.heap_model.specs.declared.entry.Entry.{Entry}
+use Rattle.heap_model.specs.declared.graph.Value.{Value}
+use Rattle.heap_model.specs.declared.state.Sizes.{Sizes}
+use Rattle.heap_model.specs.declared.state.State.{State}
+use Rattle.heap_model.specs.Graph.{Graph, has_no_repeats}
+use Rattle.table_laws.specs.Structures.{datum_at, keys_of, without}
+use Rattle.table_laws.specs.Thinning.{IsOutside, ThinnedBy, WasOutside}
+use Rattle.table_laws.specs.Stages.{Goes, graph_of}
+use Rattle.map_laws.specs.Tries.{bound_by, found, IsMap, IsInPlace}
+use Rattle.map_laws.specs.Steps.{Sets, Deepens, Clears, Empties, IsThinned, IsUntouched}
+use Rattle.list_laws.specs.Lists.{bindings_of}
+
+-- the list binds each key as a lookup in the map does
+abbrev pub ListedIsFound : Type 0
+ListedIsFound = (n : ℕ) (g : Graph) (root : Label) → IsInPlace n g root → (k : Label) → datum_at (bindings_of g root) k ≡ found n g root k
+
+-- and no key twice
+abbrev pub ListedOnce : Type 0
+ListedOnce = (n : ℕ) (g : Graph) (root : Label) → IsInPlace n g root → IsTrue (has_no_repeats (keys_of (bindings_of g root)))
+
+-- where a leaf of a key is set, or taken out, the list without the key is as it was
+abbrev pub SetListed : Type 0
+SetListed = (n : ℕ) (g h : Graph) (root k : Label) (new : Value) → IsMap g root → Sets n g h root k new → without k (bindings_of h root) ≡ without k (bindings_of g root)
+
+-- and it binds the key as the new leaf does
+abbrev pub SetBindsListed : Type 0
+SetBindsListed = (n : ℕ) (g h : Graph) (root k : Label) (new : Value) → IsMap g root → IsInPlace n h root → Sets n g h root k new → datum_at (bindings_of h root) k ≡ bound_by g k new
+
+-- where the key is taken out, what is left is the list without it
+abbrev pub TakenListed : Type 0
+TakenListed = (n : ℕ) (g h : Graph) (root k : Label) (new : Value) → IsMap g root → IsInPlace n h root → Sets n g h root k new → bound_by g k new ≡ None → bindings_of h root ≡ without k (bindings_of g root)
+
+-- a leaf that goes one step deeper changes nothing of the list
+abbrev pub DeepenListed : Type 0
+DeepenListed = (n : ℕ) (g h : Graph) (root : Label) → IsMap g root → Deepens n g h root → bindings_of h root ≡ bindings_of g root
+
+-- nor does a leaf that binds nothing and is taken out
+abbrev pub ClearListed : Type 0
+ClearListed = (g h : Graph) (root : Label) → IsMap g root → Clears g h root → bindings_of h root ≡ bindings_of g root
+
+-- nor a field that holds nothing and is emptied
+abbrev pub EmptyListed : Type 0
+EmptyListed = (g h : Graph) (root : Label) → IsMap g root → Empties g h root → bindings_of h root ≡ bindings_of g root
+
+-- nor what writes none of the map's blocks
+abbrev pub UntouchedListed : Type 0
+UntouchedListed = (g h : Graph) (root : Label) → IsMap g root → IsUntouched g h root → bindings_of h root ≡ bindings_of g root
+
+-- where leaves lose keys that are outside reach, and nothing else changes, the list loses pairs of such keys
+abbrev pub ThinnedListed : Type 0
+ThinnedListed = (s : State) (h : Graph) (root : Label) → IsMap s.graph root → IsThinned (IsOutside s) s.graph h root → ThinnedBy (IsOutside s) (bindings_of s.graph root) (bindings_of h root)
+
+-- so from one front to a later one between which no call wrote a block, it loses pairs of keys that were outside reach
+abbrev pub CollectorListed : Type 0
+CollectorListed = (z : Sizes) (old new : List Entry) (root : Label) → Goes z old new [] → IsMap (graph_of z old) root → ThinnedBy (WasOutside z old new) (bindings_of (graph_of z old) root) (bindings_of (graph_of z new) root)
