@@ -14,9 +14,8 @@ use Rattle.table_laws.proofs.LookupLemmas.{datum_first, datum_second, unbound_ke
 use Rattle.map_laws.specs.Tries.{inside, at, bound_by, bound_in, ends, way_to, way_length, IsInPlace}
 use Rattle.map_laws.proofs.SetLemmas.{append_one, prefixed, tail_is}
 use Rattle.map_laws.proofs.WalkLemmas.{ends_step, ends_stop}
-use Rattle.list_laws.specs.Lists.{leaf_bindings, bindings_below, bindings_of}
 use Rattle.list_laws.specs.ListLaws.{ListedIsFound, ListedOnce}
-use Rattle.list_laws.proofs.ListLemmas.{at_more, below_end, below_plain}
+use Rattle.list_laws.proofs.ListLemmas.{at_more, below_end, below_plain, bindings_below, leaf_bindings, listed}
 
 -- a leaf's list binds what the leaf does
 leaf_datum : (g : Graph) (k : Label) (v : Value) → datum_at (leaf_bindings g v) k ≡ bound_by g k v
@@ -145,9 +144,7 @@ module _ (n : ℕ) (g : Graph) (root : Label) (placed : IsInPlace n g root) wher
           (λ j l b bound. let way = key_way l d (p ++ j ∷ []) (get_or fields j Nothing) (at_more g p v root fields j there e) bound in (way.0, way.1 ∙ sym (append_one p j way.0))))
 
 pub listed_is_found : ListedIsFound
-unfolding bindings_of
-listed_is_found n g root placed k = along n g root placed k way_length [] (way_to n k) (Block root) refl refl refl
+listed_is_found n g root placed k = ap (λ (bs : List Binding). datum_at bs k) (listed g root) ∙ along n g root placed k way_length [] (way_to n k) (Block root) refl refl refl
 
 pub listed_once : ListedOnce
-unfolding bindings_of
-listed_once n g root placed = once n g root placed way_length [] (Block root) refl
+listed_once n g root placed = subst (λ (bs : List Binding). IsTrue (has_no_repeats (keys_of bs))) (sym (listed g root)) (once n g root placed way_length [] (Block root) refl)

@@ -8,7 +8,7 @@ use Rattle.heap_model.specs.declared.graph.Node.{Node}
 use Rattle.heap_model.specs.declared.graph.Node.TheVariants.{Plain, Raw, Ephe}
 use Rattle.heap_model.specs.Graph.{Graph, same_label, node_at, with_node}
 use Rattle.heap_model.proofs.Graphs.GraphLemmas.{same_label_refl, node_at-with_node_same, node_at-with_node_other}
-use Rattle.table_laws.specs.Structures.{Binding, binding_of, bound, without}
+use Rattle.table_laws.specs.Structures.{Binding, binding_of, bound, is_weak, without}
 use Rattle.table_laws.specs.Thinning.{IsOutside, Thin, ThinnedBy, WasOutside}
 use Rattle.table_laws.specs.Stages.{graph_of}
 use Rattle.table_laws.proofs.BindingLemmas.{thinned_append, thinned_same, without_append}
@@ -18,9 +18,9 @@ use Rattle.map_laws.specs.Steps.{WritesField, IsThinned, HoldsNothing}
 use Rattle.map_laws.proofs.MapLemmas.{NoLabel, untouched_thinned}
 use Rattle.map_laws.proofs.SetLemmas.{block_is, set_binds}
 use Rattle.map_laws.proofs.WalkLemmas.{ends_step, same_number, set_else, set_same}
-use Rattle.list_laws.specs.Lists.{leaf_bindings, bindings_below, bindings_of}
+use Rattle.list_laws.specs.Lists.{gathered, block_label, leaf_label, map_labels, map_leaves, bindings_of}
 use Rattle.list_laws.specs.ListLaws.{SetListed, SetBindsListed, TakenListed, DeepenListed, ClearListed, EmptyListed, UntouchedListed, ThinnedListed, CollectorListed}
-use Rattle.list_laws.proofs.ListLemmas.{below_end, below_plain, walk, Kept, Ends, Holds, FieldKept}
+use Rattle.list_laws.proofs.ListLemmas.{below_end, below_plain, bindings_below, leaf_bindings, listed, plain_leafless, walk, Kept, Ends, Holds, FieldKept}
 use Rattle.list_laws.proofs.FoundLemmas.{listed_is_found}
 
 -- a leaf that binds no key but one has no list without it
@@ -98,26 +98,29 @@ module _ (g h : Graph) (root block : Label) (tag : ℕ) (fields : List Value) (i
   module _ (R : List Binding → List Binding → Type 0) (same : (a : List Binding) → R a a) (join : (a b c d : List Binding) → R a b → R c d → R (a ++ c) (b ++ d))
       (here : List ℕ) (one : (p : List ℕ) → at (inside g) p (Block root) ≡ Some (Block block) → p ≡ here)
       (field : (d : ℕ) → length here + suc d ≡ way_length → R (bindings_below g d (get_or fields i Nothing)) (bindings_below h d new)) where
-    kept : (p : List ℕ) (v : Value) → at (inside g) p (Block root) ≡ Some v → Kept R same join g h root p v
+    kept : (p : List ℕ) (v : Value) → at (inside g) p (Block root) ≡ Some v → Kept Binding R same join g h (leaf_bindings g) (leaf_bindings h) root p v
     kept p v there = go (block_is block v)
       where
-        at_field : p ≡ here → (j : ℕ) → (j ≡ i) ⊎ (j ≡ i → ⊥) → FieldKept R same join g h root p (get_or fields j Nothing) (get_or (set fields i new) j Nothing)
+        at_field : p ≡ here → (j : ℕ) → (j ≡ i) ⊎ (j ≡ i → ⊥) → FieldKept Binding R same join g h (leaf_bindings g) (leaf_bindings h) root p (get_or fields j Nothing) (get_or (set fields i new) j Nothing)
         at_field place j (inr other) = inl (set_else fields i j new Nothing other)
         at_field place j (inl hit) = inr (λ d deep.
             subst (λ (x : Value). R (bindings_below g d (get_or fields j Nothing)) (bindings_below h d x)) (sym (ap (λ (m : ℕ). get_or (set fields i new) m Nothing) hit ∙ set_same fields i new Nothing below))
             (subst (λ (m : ℕ). R (bindings_below g d (get_or fields m Nothing)) (bindings_below h d new)) (sym hit) (field d (ap (λ (q : List ℕ). length q + suc d) (sym place) ∙ deep))))
 
-        beside : (v ≡ Block block → ⊥) → (o : Option (List Value)) → inside g v ≡ o → Kept R same join g h root p v
+        beside : (v ≡ Block block → ⊥) → (o : Option (List Value)) → inside g v ≡ o → Kept Binding R same join g h (leaf_bindings g) (leaf_bindings h) root p v
         beside other None e = Ends e ((other_in v other).0 ∙ e) (subst (R (leaf_bindings g v)) (sym (other_in v other).1) (same (leaf_bindings g v)))
-        beside other (Some fs) e = Holds fs fs e ((other_in v other).0 ∙ e) refl (λ j b. inl refl)
+        beside other (Some fs) e = Holds fs fs e ((other_in v other).0 ∙ e) (subst (R (leaf_bindings g v)) (sym (other_in v other).1) (same (leaf_bindings g v))) refl (λ j b. inl refl)
 
-        go : (v ≡ Block block) ⊎ (v ≡ Block block → ⊥) → Kept R same join g h root p v
-        go (inl is) = Holds fields (set fields i new) (ap (inside g) is ∙ was_in) (ap (inside h) is ∙ now_in) (length-set fields i new) (λ j b. at_field (one p (there ∙ ap Some is)) j (same_number j i))
+        unbound : (u : Value) → u ≡ Block block → R (leaf_bindings g u) (leaf_bindings h u)
+        unbound u is = subst (λ (x : List Binding). R x (leaf_bindings h u)) (sym (plain_leafless g u fields (ap (inside g) is ∙ was_in))) (subst (R []) (sym (plain_leafless h u (set fields i new) (ap (inside h) is ∙ now_in))) (same []))
+
+        go : (v ≡ Block block) ⊎ (v ≡ Block block → ⊥) → Kept Binding R same join g h (leaf_bindings g) (leaf_bindings h) root p v
+        go (inl is) = Holds fields (set fields i new) (ap (inside g) is ∙ was_in) (ap (inside h) is ∙ now_in) (unbound v is) (length-set fields i new) (λ j b. at_field (one p (there ∙ ap Some is)) j (same_number j i))
         go (inr other) = beside other (inside g v) refl
 
     pub written : R (bindings_of g root) (bindings_of h root)
-    unfolding bindings_of
-    written = walk R same join g h root kept way_length [] (Block root) refl refl
+    written = subst (λ (bs : List Binding). R bs (bindings_of h root)) (sym (listed g root)) (subst (R (bindings_below g way_length (Block root))) (sym (listed h root))
+        (walk Binding R same join g h (leaf_bindings g) (leaf_bindings h) root kept way_length [] (Block root) refl refl))
 
 -- two lists are one
 abbrev Same : List Binding → List Binding → Type 0
@@ -203,43 +206,88 @@ leaf_thinned P key datum o (inl same) = subst (λ (x : Option Node). ThinnedBy P
 leaf_thinned P key datum o (inr (k, is, gone, empty)) =
     subst (λ (x : Option Node). ThinnedBy P (bound key datum) (binding_of x)) (sym empty) (subst (λ (x : Option Label). ThinnedBy P (bound x datum) []) (sym is) (inr (gone, refl)))
 
-pub leaves_thinned : (P : Label → Type 0) (g h : Graph) (root : Label) → IsMap g root → IsThinned P g h root → ThinnedBy P (bindings_of g root) (bindings_of h root)
-unfolding bindings_of
-leaves_thinned P g h root map thin = walk (ThinnedBy P) (thinned_same P) (thinned_append_in P) g h root kept way_length [] (Block root) refl refl
-  where
-    thinned_append_in : (P : Label → Type 0) (a b c d : List Binding) → ThinnedBy P a b → ThinnedBy P c d → ThinnedBy P (a ++ c) (b ++ d)
-    thinned_append_in P a b c d t u = thinned_append P a b c d t u
+-- what stands in a map that is thinned stands where it stood, so what is gathered from it is related where what leaves have is
+abbrev pub Slot : Option Node → Type 0
+Slot o = is_leaf o ⊎ ((fields : List Value) × (fields_of o ≡ Some fields))
 
-    Slot : Option Node → Type 0
-    Slot o = is_leaf o ⊎ ((fields : List Value) × (fields_of o ≡ Some fields))
-
-    KeptHere : List ℕ → Value → Type 0
-    KeptHere p v = Kept (ThinnedBy P) (thinned_same P) (thinned_append_in P) g h root p v
-
-    at_node : (p : List ℕ) (l : Label) (n : Node) → node_at g l ≡ Some n → Slot (Some n) → Thin P n (node_at h l) → KeptHere p (Block l)
-    at_node p l (Plain tag fields) e slot left = Holds fields fields (ap fields_of e) (ap fields_of left) refl (λ j b. inl refl)
-    at_node p l (Raw tag fields) e (inl leaf) left = absurd leaf
+module _ (P : Label → Type 0) (g h : Graph) (root : Label) (map : IsMap g root) (thin : IsThinned P g h root) where
+  module _ (A : Type 0) (R : List A → List A → Type 0) (same : (a : List A) → R a a) (join : (a b c d : List A) → R a b → R c d → R (a ++ c) (b ++ d)) (was now : Value → List A)
+      (plain : (v : Value) → ((l : Label) → v ≡ Block l → ⊥) → now v ≡ was v)
+      (leaf : (l : Label) (n : Node) → node_at g l ≡ Some n → Slot (Some n) → Thin P n (node_at h l) → R (was (Block l)) (now (Block l))) where
+    at_node : (p : List ℕ) (l : Label) (n : Node) → node_at g l ≡ Some n → Slot (Some n) → Thin P n (node_at h l) → Kept A R same join g h was now root p (Block l)
+    at_node p l (Plain tag fields) e slot left = Holds fields fields (ap fields_of e) (ap fields_of left) (leaf l (Plain tag fields) e slot left) refl (λ j b. inl refl)
+    at_node p l (Raw tag fields) e (inl is) left = absurd is
     at_node p l (Raw tag fields) e (inr (fs, is)) left = cc
-    at_node p l (Ephe [] datum) e (inl leaf) left = absurd leaf
+    at_node p l (Ephe [] datum) e (inl is) left = absurd is
     at_node p l (Ephe [] datum) e (inr (fs, is)) left = cc
-    at_node p l (Ephe (key ∷ []) datum) e slot left =
-        Ends (ap fields_of e) (no_fields left) (subst (λ (x : Option Node). ThinnedBy P (binding_of x) (binding_of (node_at h l))) (sym e) (leaf_thinned P key datum (node_at h l) left))
+    at_node p l (Ephe (key ∷ []) datum) e slot left = Ends (ap fields_of e) (no_fields left) (leaf l (Ephe (key ∷ []) datum) e slot left)
       where
         no_fields : Thin P (Ephe (key ∷ []) datum) (node_at h l) → inside h (Block l) ≡ None
-        no_fields (inl same) = ap fields_of same
+        no_fields (inl still) = ap fields_of still
         no_fields (inr (k, is, gone, empty)) = ap fields_of empty
-    at_node p l (Ephe (key ∷ key2 ∷ keys) datum) e (inl leaf) left = absurd leaf
+    at_node p l (Ephe (key ∷ key2 ∷ keys) datum) e (inl is) left = absurd is
     at_node p l (Ephe (key ∷ key2 ∷ keys) datum) e (inr (fs, is)) left = cc
 
-    kept : (p : List ℕ) (v : Value) → at (inside g) p (Block root) ≡ Some v → KeptHere p v
-    kept p (Int z) there = Ends refl refl refl
-    kept p Nothing there = Ends refl refl refl
-    kept p (Block l) there = go (node_at g l) refl (map.slots p (Block l) there)
+    at_place : (p : List ℕ) (v : Value) → at (inside g) p (Block root) ≡ Some v → Kept A R same join g h was now root p v
+    at_place p (Int z) there = Ends refl refl (subst (R (was (Int z))) (sym (plain (Int z) (λ l e. cc))) (same (was (Int z))))
+    at_place p Nothing there = Ends refl refl (subst (R (was Nothing)) (sym (plain Nothing (λ l e. cc))) (same (was Nothing)))
+    at_place p (Block l) there = go (node_at g l) refl (map.slots p (Block l) there)
       where
-        go : (o : Option Node) → node_at g l ≡ o → Slot o → KeptHere p (Block l)
-        go None e (inl leaf) = absurd leaf
+        go : (o : Option Node) → node_at g l ≡ o → Slot o → Kept A R same join g h was now root p (Block l)
+        go None e (inl is) = absurd is
         go None e (inr (fs, is)) = cc
         go (Some n) e slot = at_node p l n e slot (thin p l n there e)
+
+    thinned_walk : R (gathered (inside g) was way_length (Block root)) (gathered (inside h) now way_length (Block root))
+    thinned_walk = walk A R same join g h was now root at_place way_length [] (Block root) refl refl
+
+  -- its blocks and its leaves are as they were
+  pub labels_kept : map_labels h root ≡ map_labels g root
+  unfolding map_labels
+  labels_kept = thinned_walk Label (λ (a b : List Label). b ≡ a) (λ a. refl) (λ a b c d x y. (λ t. x t ++ y t)) block_label block_label (λ v apart. refl) (λ l n e slot left. refl)
+
+  leaf_kept : (l : Label) (n : Node) → node_at g l ≡ Some n → Slot (Some n) → Thin P n (node_at h l) → leaf_label h (Block l) ≡ leaf_label g (Block l)
+  leaf_kept l n e slot left = ap (λ (b : Bool). cond b (l ∷ []) []) (go n slot left ∙ sym (ap is_weak e))
+    where
+      go : (n : Node) → Slot (Some n) → Thin P n (node_at h l) → is_weak (node_at h l) ≡ is_weak (Some n)
+      go (Plain tag fields) slot left = ap is_weak left
+      go (Raw tag fields) slot left = ap is_weak left
+      go (Ephe [] datum) (inl is) left = absurd is
+      go (Ephe [] datum) (inr (fs, is)) left = cc
+      go (Ephe (key ∷ []) datum) slot (inl still) = ap is_weak still
+      go (Ephe (key ∷ []) datum) slot (inr (k, is, gone, empty)) = ap is_weak empty
+      go (Ephe (key ∷ key2 ∷ keys) datum) (inl is) left = absurd is
+      go (Ephe (key ∷ key2 ∷ keys) datum) (inr (fs, is)) left = cc
+
+  pub leaves_kept : map_leaves h root ≡ map_leaves g root
+  unfolding map_leaves
+  leaves_kept = thinned_walk Label (λ (a b : List Label). b ≡ a) (λ a. refl) (λ a b c d x y. (λ t. x t ++ y t)) (leaf_label g) (leaf_label h) other leaf_kept
+    where
+      other : (v : Value) → ((l : Label) → v ≡ Block l → ⊥) → leaf_label h v ≡ leaf_label g v
+      other (Int z) apart = refl
+      other Nothing apart = refl
+      other (Block l) apart = absurd (apart l refl)
+
+  binding_thinned : (l : Label) (n : Node) → node_at g l ≡ Some n → Slot (Some n) → Thin P n (node_at h l) → ThinnedBy P (leaf_bindings g (Block l)) (leaf_bindings h (Block l))
+  binding_thinned l n e slot left = subst (λ (x : Option Node). ThinnedBy P (binding_of x) (binding_of (node_at h l))) (sym e) (go n slot left)
+    where
+      go : (n : Node) → Slot (Some n) → Thin P n (node_at h l) → ThinnedBy P (binding_of (Some n)) (binding_of (node_at h l))
+      go (Plain tag fields) slot left = ap binding_of left
+      go (Raw tag fields) slot left = ap binding_of left
+      go (Ephe [] datum) (inl is) left = absurd is
+      go (Ephe [] datum) (inr (fs, is)) left = cc
+      go (Ephe (key ∷ []) datum) slot left = leaf_thinned P key datum (node_at h l) left
+      go (Ephe (key ∷ key2 ∷ keys) datum) (inl is) left = absurd is
+      go (Ephe (key ∷ key2 ∷ keys) datum) (inr (fs, is)) left = cc
+
+  pub leaves_thinned : ThinnedBy P (bindings_of g root) (bindings_of h root)
+  leaves_thinned = subst (λ (bs : List Binding). ThinnedBy P bs (bindings_of h root)) (sym (listed g root)) (subst (ThinnedBy P (bindings_below g way_length (Block root))) (sym (listed h root))
+      (thinned_walk Binding (ThinnedBy P) (thinned_same P) (thinned_append P) (leaf_bindings g) (leaf_bindings h) other binding_thinned))
+    where
+      other : (v : Value) → ((l : Label) → v ≡ Block l → ⊥) → leaf_bindings h v ≡ leaf_bindings g v
+      other (Int z) apart = refl
+      other Nothing apart = refl
+      other (Block l) apart = absurd (apart l refl)
 
 pub thinned_listed : ThinnedListed
 thinned_listed s h root map thin = leaves_thinned (IsOutside s) s.graph h root map thin
