@@ -18,7 +18,7 @@ use Rattle.list_laws.specs.ListLaws.{ListedIsFound, ListedOnce}
 use Rattle.list_laws.proofs.ListLemmas.{at_more, below_end, below_plain, bindings_below, leaf_bindings, listed}
 
 -- a leaf's list binds what the leaf does
-leaf_datum : (g : Graph) (k : Label) (v : Value) → datum_at (leaf_bindings g v) k ≡ bound_by g k v
+pub leaf_datum : (g : Graph) (k : Label) (v : Value) → datum_at (leaf_bindings g v) k ≡ bound_by g k v
 leaf_datum g k (Int z) = refl
 leaf_datum g k Nothing = refl
 leaf_datum g k (Block l) = go (node_at g l)

@@ -1,3 +1,5 @@
 pub mod ListLemmas
 pub mod FoundLemmas
 pub mod StepLemmas
+pub mod KeepLemmas
+pub mod LabelLemmas

@@ -123,10 +123,10 @@ module _ (g h : Graph) (root block : Label) (tag : ℕ) (fields : List Value) (i
         (walk Binding R same join g h (leaf_bindings g) (leaf_bindings h) root kept way_length [] (Block root) refl refl))
 
 -- two lists are one
-abbrev Same : List Binding → List Binding → Type 0
+abbrev pub Same : List Binding → List Binding → Type 0
 Same a b = b ≡ a
 
-same_join : (a b c d : List Binding) → Same a b → Same c d → Same (a ++ c) (b ++ d)
+pub same_join : (a b c d : List Binding) → Same a b → Same c d → Same (a ++ c) (b ++ d)
 same_join a b c d x y = λ t. x t ++ y t
 
 -- two lists are one without a key
@@ -136,7 +136,7 @@ SameBut k a b = without k b ≡ without k a
 but_join : (k : Label) (a b c d : List Binding) → SameBut k a b → SameBut k c d → SameBut k (a ++ c) (b ++ d)
 but_join k a b c d x y = without_append k b d ∙ ((λ t. x t ++ y t) ∙ sym (without_append k a c))
 
-one_place : (g h : Graph) (root : Label) (p : List ℕ) (i : ℕ) (held new : Value) → IsMap g root → (w : WritesField g h root p i held new) → (q : List ℕ) → at (inside g) q (Block root) ≡ Some (Block w.block) → q ≡ p
+pub one_place : (g h : Graph) (root : Label) (p : List ℕ) (i : ℕ) (held new : Value) → IsMap g root → (w : WritesField g h root p i held new) → (q : List ℕ) → at (inside g) q (Block root) ≡ Some (Block w.block) → q ≡ p
 one_place g h root p i held new map w q there = map.tree q p (Block w.block) w.fields there w.there (ap fields_of w.node)
 
 pub set_listed : SetListed
@@ -293,13 +293,13 @@ pub thinned_listed : ThinnedListed
 thinned_listed s h root map thin = leaves_thinned (IsOutside s) s.graph h root map thin
 
 -- nothing is taken where nothing may be
-untaken : (a b : List Binding) → ThinnedBy NoLabel a b → b ≡ a
-untaken [] b t = t
-untaken (x ∷ a) b (inl (rest, is, t)) = is ∙ ap (λ (l : List Binding). x ∷ l) (untaken a rest t)
-untaken (x ∷ a) b (inr (none, t)) = absurd none
+none_taken : (a b : List Binding) → ThinnedBy NoLabel a b → b ≡ a
+none_taken [] b t = t
+none_taken (x ∷ a) b (inl (rest, is, t)) = is ∙ ap (λ (l : List Binding). x ∷ l) (none_taken a rest t)
+none_taken (x ∷ a) b (inr (none, t)) = absurd none
 
 pub untouched_listed : UntouchedListed
-untouched_listed g h root map same = untaken (bindings_of g root) (bindings_of h root) (leaves_thinned NoLabel g h root map (untouched_thinned NoLabel g h root same))
+untouched_listed g h root map same = none_taken (bindings_of g root) (bindings_of h root) (leaves_thinned NoLabel g h root map (untouched_thinned NoLabel g h root same))
 
 pub collector_listed : CollectorListed
 collector_listed z old new root goes map = leaves_thinned (WasOutside z old new) (graph_of z old) (graph_of z new) root map (λ p l n there node. goes.changes l n node refl)

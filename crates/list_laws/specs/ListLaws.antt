@@ -1,17 +1,20 @@
 -- Laws of a map's list of bindings.
-use Rattle.std.specs.Prelude.{◌≡◌, ℕ, IsTrue, List, [], None}
+use Rattle.std.specs.Prelude.{◌≡◌, ◌≢◌, ◌↔◌, ℕ, IsTrue, List, [], Some, None}
 use Rattle.heap_model.specs.declared.label.Label.{Label}
 use Rattle.heap_model.specs.declared.entry.Entry.{Entry}
 use Rattle.heap_model.specs.declared.graph.Value.{Value}
+use Rattle.heap_model.specs.declared.graph.Value.TheVariants.{Block}
 use Rattle.heap_model.specs.declared.state.Sizes.{Sizes}
 use Rattle.heap_model.specs.declared.state.State.{State}
-use Rattle.heap_model.specs.Graph.{Graph, has_no_repeats}
-use Rattle.table_laws.specs.Structures.{datum_at, keys_of, without}
-use Rattle.table_laws.specs.Thinning.{IsOutside, ThinnedBy, WasOutside}
+use Rattle.heap_model.specs.Graph.{Graph, has_label, has_no_repeats, node_at}
+use Rattle.heap_model.specs.Entries.{next}
+use Rattle.table_laws.specs.Structures.{Apart, datum_at, keys_of, without}
+use Rattle.table_laws.specs.Thinning.{Changes, IsOutside, ThinnedBy, WasOutside}
 use Rattle.table_laws.specs.Stages.{Goes, graph_of}
-use Rattle.map_laws.specs.Tries.{bound_by, found, IsMap, IsInPlace}
-use Rattle.map_laws.specs.Steps.{Sets, Deepens, Clears, Empties, IsThinned, IsUntouched}
-use Rattle.list_laws.specs.Lists.{bindings_of}
+use Rattle.map_laws.specs.Tries.{at, bound_by, found, inside, is_leaf, IsMap, IsInPlace}
+use Rattle.map_laws.specs.Steps.{Sets, Deepens, Clears, Empties, IsThinned, IsUntouched, MapStep}
+use Rattle.map_laws.specs.Within.{StandsIn}
+use Rattle.list_laws.specs.Lists.{bindings_of, map_labels, map_leaves}
 
 -- the list binds each key as a lookup in the map does
 abbrev pub ListedIsFound : Type 0
@@ -56,3 +59,29 @@ ThinnedListed = (s : State) (h : Graph) (root : Label) → IsMap s.graph root �
 -- so from one front to a later one between which no call wrote a block, it loses pairs of keys that were outside reach
 abbrev pub CollectorListed : Type 0
 CollectorListed = (z : Sizes) (old new : List Entry) (root : Label) → Goes z old new [] → IsMap (graph_of z old) root → ThinnedBy (WasOutside z old new) (bindings_of (graph_of z old) root) (bindings_of (graph_of z new) root)
+
+-- a step that changes no binding leaves the list as it is
+abbrev pub KeptListed : Type 0
+KeptListed = (n : ℕ) (root : Label) (s : State) (e : Entry) → IsMap s.graph root → IsInPlace n s.graph root → IsInPlace n (next s e).graph root → MapStep n root s e
+    → ((l : Label) → found n (next s e).graph root l ≡ found n s.graph root l) → bindings_of (next s e).graph root ≡ bindings_of s.graph root
+
+-- and one that changes the binding of one key leaves the list without the key
+abbrev pub ChangedListed : Type 0
+ChangedListed = (n : ℕ) (root : Label) (s : State) (e : Entry) (k : Label) → IsMap s.graph root → IsInPlace n s.graph root → IsInPlace n (next s e).graph root → MapStep n root s e
+    → ((l : Label) → l ≢ k → found n (next s e).graph root l ≡ found n s.graph root l) → without k (bindings_of (next s e).graph root) ≡ without k (bindings_of s.graph root)
+
+-- the labels of a map's blocks are those that stand in it
+abbrev pub LabelsStand : Type 0
+LabelsStand = (g : Graph) (root : Label) → IsMap g root → (l : Label) → IsTrue (has_label (map_labels g root) l) ↔ StandsIn g root l
+
+-- a leaf stands in a map
+abbrev pub StandsAsLeaf : Graph → Label → Label → Type 0
+StandsAsLeaf g root l = (p : List ℕ) × (at (inside g) p (Block root) ≡ Some (Block l)) × is_leaf (node_at g l)
+
+-- and those of its leaves are those at which leaves stand
+abbrev pub LeavesStand : Type 0
+LeavesStand = (g : Graph) (root : Label) → IsMap g root → (l : Label) → IsTrue (has_label (map_leaves g root) l) ↔ StandsAsLeaf g root l
+
+-- what changes no block of a map but by thinning it thins the map
+abbrev pub ApartThinned : Type 0
+ApartThinned = (written : List Label) (g h : Graph) (root : Label) → IsMap g root → Changes (λ l. Unit {0}) written g h → Apart (map_labels g root) written → IsThinned (λ l. Unit {0}) g h root

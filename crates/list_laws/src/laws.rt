@@ -1,5 +1,5 @@
 //! Laws of the list of a map's bindings. Each function's contract is one law or two, and it does nothing else.
-ghost use Rattle.list_laws.specs.ListLaws.{ListedIsFound, ListedOnce, SetListed, SetBindsListed, TakenListed, DeepenListed, ClearListed, EmptyListed, UntouchedListed, ThinnedListed, CollectorListed};
+ghost use Rattle.list_laws.specs.ListLaws.{ListedIsFound, ListedOnce, SetListed, SetBindsListed, TakenListed, DeepenListed, ClearListed, EmptyListed, UntouchedListed, ThinnedListed, CollectorListed, KeptListed, ChangedListed, LabelsStand, LeavesStand, ApartThinned};
 
 /// The list binds each key as a lookup in the map does, and no key twice.
 pub fn listed_is_found()
@@ -29,4 +29,19 @@ pub fn other_steps_keep_the_list()
 pub fn lost_keys_are_listed()
     ensures thinned { ThinnedListed }
     ensures collector { CollectorListed }
+{}
+
+/// A step that changes no binding leaves the list as it is, in its order. One that changes the binding of one key leaves the
+/// list without that key.
+pub fn steps_keep_the_rest()
+    ensures kept { KeptListed }
+    ensures changed { ChangedListed }
+{}
+
+/// The labels that are listed as those of a map's blocks are those that stand in it, and those of its leaves are those at
+/// which leaves stand. So what writes none of them leaves the map as it is, but for keys that its leaves lose.
+pub fn listed_labels_stand()
+    ensures labels { LabelsStand }
+    ensures leaves { LeavesStand }
+    ensures apart { ApartThinned }
 {}
