@@ -60,7 +60,7 @@ module _ (f : Value → List Binding) where
       datum_second k (f x) (flat_map f xs) (each zero (omega arith) (λ e. omega (arith, e)))
       ∙ flat_only k xs i none (λ j b other. each (suc j) (omega (arith, b)) (λ e. other (omega (arith, e))))
 
-  flat_owner : (l : Label) (xs : List Value) → IsTrue (has_label (keys_of (flat_map f xs)) l) → (j : ℕ) × (j < length xs) × IsTrue (has_label (keys_of (f (get_or xs j Nothing))) l)
+  pub flat_owner : (l : Label) (xs : List Value) → IsTrue (has_label (keys_of (flat_map f xs)) l) → (j : ℕ) × (j < length xs) × IsTrue (has_label (keys_of (f (get_or xs j Nothing))) l)
   flat_owner l [] there = cc
   flat_owner l (x ∷ xs) there = go (has-append_cases (keys_of (f x)) (keys_of (flat_map f xs)) l (subst (λ (ls : List Label). IsTrue (has_label ls l)) (map-append (λ (b : Binding). b.0) (f x) (flat_map f xs)) there)) (flat_owner l xs)
     where
@@ -122,7 +122,7 @@ module _ (n : ℕ) (g : Graph) (root : Label) (placed : IsInPlace n g root) wher
           ∙ (rec (get_or fields i Nothing) (at_more g p v root fields i there e) ∙ sym (ap (bound_by g k) (ends_step (inside g) i q v fields e))))
 
   -- a key that is bound below a place has it on its way
-  key_way : (k : Label) (d : ℕ) (p : List ℕ) (v : Value) → at (inside g) p (Block root) ≡ Some v → IsTrue (has_label (keys_of (bindings_below g d v)) k) → (q : List ℕ) × (way_to n k ≡ p ++ q)
+  pub key_way : (k : Label) (d : ℕ) (p : List ℕ) (v : Value) → at (inside g) p (Block root) ≡ Some v → IsTrue (has_label (keys_of (bindings_below g d v)) k) → (q : List ℕ) × (way_to n k ≡ p ++ q)
   key_way k d p v there bound = go (prefixed p (way_to n k))
     where
       go : ((q : List ℕ) × (way_to n k ≡ p ++ q)) ⊎ ((q : List ℕ) → way_to n k ≡ p ++ q → ⊥) → (q : List ℕ) × (way_to n k ≡ p ++ q)

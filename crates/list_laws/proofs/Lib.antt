@@ -1,5 +1,5 @@
 pub mod ListLemmas
 pub mod FoundLemmas
 pub mod StepLemmas
-pub mod KeepLemmas
+pub mod OrderLemmas
 pub mod LabelLemmas

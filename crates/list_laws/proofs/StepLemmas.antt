@@ -123,10 +123,10 @@ module _ (g h : Graph) (root block : Label) (tag : ℕ) (fields : List Value) (i
         (walk Binding R same join g h (leaf_bindings g) (leaf_bindings h) root kept way_length [] (Block root) refl refl))
 
 -- two lists are one
-abbrev pub Same : List Binding → List Binding → Type 0
+abbrev Same : List Binding → List Binding → Type 0
 Same a b = b ≡ a
 
-pub same_join : (a b c d : List Binding) → Same a b → Same c d → Same (a ++ c) (b ++ d)
+same_join : (a b c d : List Binding) → Same a b → Same c d → Same (a ++ c) (b ++ d)
 same_join a b c d x y = λ t. x t ++ y t
 
 -- two lists are one without a key
@@ -136,7 +136,7 @@ SameBut k a b = without k b ≡ without k a
 but_join : (k : Label) (a b c d : List Binding) → SameBut k a b → SameBut k c d → SameBut k (a ++ c) (b ++ d)
 but_join k a b c d x y = without_append k b d ∙ ((λ t. x t ++ y t) ∙ sym (without_append k a c))
 
-pub one_place : (g h : Graph) (root : Label) (p : List ℕ) (i : ℕ) (held new : Value) → IsMap g root → (w : WritesField g h root p i held new) → (q : List ℕ) → at (inside g) q (Block root) ≡ Some (Block w.block) → q ≡ p
+one_place : (g h : Graph) (root : Label) (p : List ℕ) (i : ℕ) (held new : Value) → IsMap g root → (w : WritesField g h root p i held new) → (q : List ℕ) → at (inside g) q (Block root) ≡ Some (Block w.block) → q ≡ p
 one_place g h root p i held new map w q there = map.tree q p (Block w.block) w.fields there w.there (ap fields_of w.node)
 
 pub set_listed : SetListed

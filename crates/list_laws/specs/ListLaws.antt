@@ -7,13 +7,13 @@ use Rattle.heap_model.specs.declared.graph.Value.TheVariants.{Block}
 use Rattle.heap_model.specs.declared.state.Sizes.{Sizes}
 use Rattle.heap_model.specs.declared.state.State.{State}
 use Rattle.heap_model.specs.Graph.{Graph, has_label, has_no_repeats, node_at}
-use Rattle.heap_model.specs.Entries.{next}
 use Rattle.table_laws.specs.Structures.{Apart, datum_at, keys_of, without}
 use Rattle.table_laws.specs.Thinning.{Changes, IsOutside, ThinnedBy, WasOutside}
 use Rattle.table_laws.specs.Stages.{Goes, graph_of}
-use Rattle.map_laws.specs.Tries.{at, bound_by, found, inside, is_leaf, IsMap, IsInPlace}
-use Rattle.map_laws.specs.Steps.{Sets, Deepens, Clears, Empties, IsThinned, IsUntouched, MapStep}
+use Rattle.map_laws.specs.Tries.{at, bound_by, found, inside, is_leaf, way_to, IsMap, IsInPlace}
+use Rattle.map_laws.specs.Steps.{Sets, Deepens, Clears, Empties, IsThinned, IsUntouched}
 use Rattle.map_laws.specs.Within.{StandsIn}
+use Rattle.list_laws.specs.Orders.{OrderedBy}
 use Rattle.list_laws.specs.Lists.{bindings_of, map_labels, map_leaves}
 
 -- the list binds each key as a lookup in the map does
@@ -60,15 +60,17 @@ ThinnedListed = (s : State) (h : Graph) (root : Label) → IsMap s.graph root �
 abbrev pub CollectorListed : Type 0
 CollectorListed = (z : Sizes) (old new : List Entry) (root : Label) → Goes z old new [] → IsMap (graph_of z old) root → ThinnedBy (WasOutside z old new) (bindings_of (graph_of z old) root) (bindings_of (graph_of z new) root)
 
--- a step that changes no binding leaves the list as it is
-abbrev pub KeptListed : Type 0
-KeptListed = (n : ℕ) (root : Label) (s : State) (e : Entry) → IsMap s.graph root → IsInPlace n s.graph root → IsInPlace n (next s e).graph root → MapStep n root s e
-    → ((l : Label) → found n (next s e).graph root l ≡ found n s.graph root l) → bindings_of (next s e).graph root ≡ bindings_of s.graph root
+-- the list stands in the order of its keys' ways
+abbrev pub ListedInOrder : Type 0
+ListedInOrder = (n : ℕ) (g : Graph) (root : Label) → IsInPlace n g root → OrderedBy (way_to n) (bindings_of g root)
 
--- and one that changes the binding of one key leaves the list without the key
-abbrev pub ChangedListed : Type 0
-ChangedListed = (n : ℕ) (root : Label) (s : State) (e : Entry) (k : Label) → IsMap s.graph root → IsInPlace n s.graph root → IsInPlace n (next s e).graph root → MapStep n root s e
-    → ((l : Label) → l ≢ k → found n (next s e).graph root l ≡ found n s.graph root l) → without k (bindings_of (next s e).graph root) ≡ without k (bindings_of s.graph root)
+-- so two maps that bind the same have one list, whatever their blocks are
+abbrev pub FoundListed : Type 0
+FoundListed = (n : ℕ) (g h : Graph) (a b : Label) → IsInPlace n g a → IsInPlace n h b → ((l : Label) → found n h b l ≡ found n g a l) → bindings_of h b ≡ bindings_of g a
+
+-- and two that bind the same but for one key have one without it
+abbrev pub FoundButListed : Type 0
+FoundButListed = (n : ℕ) (g h : Graph) (a b k : Label) → IsInPlace n g a → IsInPlace n h b → ((l : Label) → l ≢ k → found n h b l ≡ found n g a l) → without k (bindings_of h b) ≡ without k (bindings_of g a)
 
 -- the labels of a map's blocks are those that stand in it
 abbrev pub LabelsStand : Type 0

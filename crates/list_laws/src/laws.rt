@@ -1,5 +1,5 @@
 //! Laws of the list of a map's bindings. Each function's contract is one law or two, and it does nothing else.
-ghost use Rattle.list_laws.specs.ListLaws.{ListedIsFound, ListedOnce, SetListed, SetBindsListed, TakenListed, DeepenListed, ClearListed, EmptyListed, UntouchedListed, ThinnedListed, CollectorListed, KeptListed, ChangedListed, LabelsStand, LeavesStand, ApartThinned};
+ghost use Rattle.list_laws.specs.ListLaws.{ListedIsFound, ListedOnce, SetListed, SetBindsListed, TakenListed, DeepenListed, ClearListed, EmptyListed, UntouchedListed, ThinnedListed, CollectorListed, ListedInOrder, FoundListed, FoundButListed, LabelsStand, LeavesStand, ApartThinned};
 
 /// The list binds each key as a lookup in the map does, and no key twice.
 pub fn listed_is_found()
@@ -31,11 +31,12 @@ pub fn lost_keys_are_listed()
     ensures collector { CollectorListed }
 {}
 
-/// A step that changes no binding leaves the list as it is, in its order. One that changes the binding of one key leaves the
-/// list without that key.
-pub fn steps_keep_the_rest()
-    ensures kept { KeptListed }
-    ensures changed { ChangedListed }
+/// The list stands in the order of its keys' ways. So what a map binds determines its list: two maps that bind the same have
+/// one list, and two that bind the same but for one key have one without it.
+pub fn list_is_in_order()
+    ensures ordered { ListedInOrder }
+    ensures found { FoundListed }
+    ensures rest { FoundButListed }
 {}
 
 /// The labels that are listed as those of a map's blocks are those that stand in it, and those of its leaves are those at
