@@ -48,7 +48,7 @@ bound_key bs k v is = go (has_label (keys_of bs) k) refl
     go true e = refl
     go false e = let clash : ◌≡◌ {A = Option Value} None (Some v) = sym (key_unbound k bs e) ∙ is in cc
 
-first_datum : (x : Binding) (a : List Binding) → datum_at (x ∷ a) x.0 ≡ Some x.1
+pub first_datum : (x : Binding) (a : List Binding) → datum_at (x ∷ a) x.0 ≡ Some x.1
 first_datum x a = ap (λ (c : Bool). cond c (Some x.1) (datum_at a x.0)) (same_label_refl x.0)
 
 other_datum : (x : Binding) (a : List Binding) (l : Label) → same_label x.0 l ≡ false → datum_at (x ∷ a) l ≡ datum_at a l

@@ -1,5 +1,5 @@
 -- In a heap of one domain each entry that isn't the domain's is the collector's.
-use Rattle.std.proofs.Common.{◌≡◌, ℕ, true, false, eq-eqb, IsTrue, List, [], ◌∷◌, ◌++◌, length, refl, ap, sym, ◌∙◌, subst, arith, append_assoc}
+use Rattle.std.proofs.Common.{◌≡◌, ℕ, true, false, eq-eqb, IsTrue, List, [], ◌∷◌, ◌++◌, length, refl, sym, ◌∙◌, subst, arith, append_assoc}
 use Rattle.std.proofs.lemmas.List.{length-replicate}
 use Rattle.heap_model.specs.declared.label.Label.{Label}
 use Rattle.heap_model.specs.declared.entry.Entry.{Entry}
@@ -13,9 +13,10 @@ use Rattle.heap_model.specs.Graph.{Graph}
 use Rattle.heap_model.specs.Domains.{IsWithinLimits, domain_at, opening, opening_domain}
 use Rattle.heap_model.specs.Entries.{Allowed, next}
 use Rattle.heap_model.specs.Fronts.{NoneOf}
-use Rattle.heap_model.specs.History.{IsPrefix, Legal, LegalFrom, state_after, is_entry_of}
+use Rattle.heap_model.specs.History.{IsPrefix, Legal, state_after, is_entry_of}
 use Rattle.heap_model.proofs.Commands.FrameLemmas.{inside_running}
 use Rattle.heap_model.proofs.Histories.FrontLemmas.{none_cons}
+use Rattle.heap_model.proofs.Histories.ShapeAfterLemmas.{shaped-history}
 use Rattle.heap_model.proofs.Reach.ReachLemmas.{and_both}
 use Rattle.table_laws.specs.Performing.{Performed}
 use Rattle.table_laws.specs.Thinning.{AllCollector, Changes, IsTakenBy, WasOutside, is_collector, state_of}
@@ -24,7 +25,7 @@ use Rattle.table_laws.proofs.ChangeLemmas.{changes_more}
 use Rattle.table_laws.proofs.CollectorLemmas.{collector_thins}
 use Rattle.table_laws.proofs.StageLemmas.{later_outside, since_outside}
 use Rattle.table_laws.proofs.StepLemmas.{is_major, legal_parts, step_open}
-use Rattle.map_laws.specs.Calls.{PerformedBy}
+use Rattle.map_laws.specs.Calls.{PerformedBy, registers_after}
 use Rattle.map_laws.proofs.FrontLemmas.{prefix_more, prefix_same}
 use Rattle.map_laws.proofs.RespectLemmas.{allowed_at, count_next, graph_push}
 
@@ -90,3 +91,9 @@ module _ (z : Sizes) (one : z.domains ≡ 1) where
   -- behind which no collection is under way
   pub calm_behind : IsWithinLimits z → (old new : List Entry) (c : Command) (r : Reply) → is_major c ≡ false → PerformedBy z 0 old new c r → (state_of z new).mode ≡ Open
   calm_behind limits old new c r other p = step_open z limits old new c r (performed old new c r p) other
+
+  -- the domain has sixteen registers
+  pub registers_many : IsWithinLimits z → (h : List Entry) → length (registers_after z 0 h) ≡ 16
+  registers_many limits h =
+      let count : length (state_of z h).domains ≡ z.domains = count_along (opening z) h ∙ length-replicate z.domains opening_domain in
+      (shaped-history z h limits).register_count 0 (omega (arith, count, one))

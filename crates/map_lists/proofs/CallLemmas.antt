@@ -1,5 +1,5 @@
 -- What the calls on a map answer and leave, told of the list.
-use Rattle.std.proofs.Common.{◌≡◌, ◌≢◌, ◌⊎◌, inl, inr, ⊎_elim, ℕ, zero, suc, ◌<◌, ◌≤◌, true, false, IsTrue, ℤ, List, [], ◌∷◌, ◌++◌, get_or, set, Bool, is_some, Option, Some, None, refl, ap, sym, ◌∙◌, subst, arith, get_or-set_other}
+use Rattle.std.proofs.Common.{◌≡◌, ◌≢◌, ◌⊎◌, inl, inr, ⊎_elim, ℕ, zero, suc, ◌<◌, ◌≤◌, true, IsTrue, List, [], ◌∷◌, ◌++◌, length, get_or, set, Bool, is_some, Option, Some, None, refl, ap, sym, ◌∙◌, subst, arith, get_or-set_other}
 use Rattle.std.proofs.lemmas.Bool.Decides.{leb_tells}
 use Rattle.heap_model.specs.declared.label.Label.{Label}
 use Rattle.heap_model.specs.declared.command.Command.TheVariants.{Forget}
@@ -11,7 +11,7 @@ use Rattle.heap_model.specs.declared.graph.Node.TheVariants.{Plain, Raw, Ephe}
 use Rattle.heap_model.specs.declared.reply.Reply.{Reply}
 use Rattle.heap_model.specs.declared.reply.Reply.TheVariants as reply
 use Rattle.heap_model.specs.declared.state.Sizes.{Sizes}
-use Rattle.heap_model.specs.Graph.{has_label, label_of, node_at}
+use Rattle.heap_model.specs.Graph.{has_label, node_at}
 use Rattle.heap_model.specs.Commands.{shown}
 use Rattle.heap_model.specs.Domains.{IsWithinLimits}
 use Rattle.heap_model.specs.History.{IsPrefix, Legal, is_entry_of}
@@ -21,42 +21,57 @@ use Rattle.table_laws.specs.Stages.{Goes, graph_of, held_in}
 use Rattle.table_laws.proofs.LookupLemmas.{without_unbound}
 use Rattle.map_laws.specs.Tries.{at, fields_of, inside, is_leaf, IsMap, IsInPlace}
 use Rattle.map_laws.specs.Steps.{IsThinned}
-use Rattle.map_laws.specs.Calls.{bound_after, ChangesOne, CleanAnswers, Gets, HasKey, OwnKeep, PerformedBy, PutsOrFull, registers_after, TakeAnswers, value_of}
-use Rattle.map_laws.specs.Within.{OwnWithin, StandsIn}
+use Rattle.map_laws.specs.Calls.{bound_after, ChangesOne, CleanAnswers, Gets, OwnKeep, PerformedBy, PutsOrFull, registers_after, TakeAnswers, value_of}
+use Rattle.map_laws.specs.Within.{OwnWithin}
 use Rattle.map_laws.proofs.CallLemmas.{forget_step, grows as step_grows}
-use Rattle.map_laws.proofs.FrontLemmas.{before_or_behind, last_or_before, prefix_before, prefix_more, prefix_same, prefix_trans}
+use Rattle.map_laws.proofs.FrontLemmas.{before_or_behind, last_or_before, prefix_more, prefix_same, prefix_trans}
 use Rattle.map_laws.proofs.MapLemmas.{at_same}
 use Rattle.map_laws.proofs.OwnLemmas.{at_the_end, keeps_twice}
 use Rattle.map_laws.proofs.TakeLemmas.{Left}
-use Rattle.map_laws.proofs.WithinLemmas.{within_earlier, within_twice}
+use Rattle.map_laws.proofs.WithinLemmas.{within_twice}
 use Rattle.map_laws.proofs.WalkLemmas.{same_number}
 use Rattle.weak_maps.specs.Cleans.{CleanLeaves}
-use Rattle.weak_maps.specs.Returns.{GetLeaves, GetReturns, PutReturns, TakeLeaves, TakeReturns}
+use Rattle.weak_maps.specs.Returns.{GetLeaves, TakeLeaves}
 use Rattle.weak_maps.specs.Walks.{OwnQuiet}
 use Rattle.weak_maps.proofs.StayLemmas.{quiet_looks, within_quiet}
 use Rattle.list_laws.specs.Lists.{map_leaves}
 use Rattle.list_laws.proofs.FoundLemmas.{listed_is_found}
 use Rattle.list_laws.proofs.LabelLemmas.{leaf_stands}
 use Rattle.list_laws.proofs.OrderLemmas.{lost_but_listed, lost_listed}
-use Rattle.map_lists.specs.Stretches.{bound_in, labels_in, IsListed, IsSettled, KeepsLow, ReadsList, WritesMap}
-use Rattle.map_lists.specs.Answers.{ListCleans, ListGetAnswers, ListGets, ListPutAnswers, ListPuts, ListStays, ListTakeAnswers, ListTakes, IsTidyLeaf}
-use Rattle.map_lists.proofs.AloneLemmas.{calm_behind, legal_before, was_wider}
-use Rattle.map_lists.proofs.StretchLemmas.{leaf_along, left_along, left_more, left_twice, goes_listed, quiet_goes, reads_list, within_at, writes_map}
+use Rattle.map_lists.specs.Stretches.{bound_in, IsListed, IsSettled, KeepsLow, WritesMap}
+use Rattle.map_lists.specs.Answers.{ListCleans, ListGets, ListPuts, ListStays, ListTakeAnswers, IsTidyLeaf}
+use Rattle.map_lists.proofs.AloneLemmas.{calm_behind, legal_before, registers_many, was_wider}
+use Rattle.map_lists.proofs.StretchLemmas.{leaf_along, left_along, left_more, goes_listed, quiet_goes, reads_list, within_at, writes_map}
 
 -- what a call that may write the map leaves
-record Leaves (z : Sizes) (old mid : List Entry) (root : Label) : Type 0 where
-  map : IsMap (graph_of z mid) root
-  within : OwnWithin z root 0 old old mid
-  low : (r : ℕ) → r < 8 → held_in z mid r ≡ held_in z old r
-  high : (r : ℕ) → 8 ≤ r → held_in z old r ≡ Nothing → held_in z mid r ≡ Nothing
+pub record Leaves (z : Sizes) (old mid : List Entry) (root : Label) : Type 0 where
+  pub map : IsMap (graph_of z mid) root
+  pub within : OwnWithin z root 0 old old mid
+  pub low : (r : ℕ) → r < 8 → held_in z mid r ≡ held_in z old r
+  pub high : (r : ℕ) → 8 ≤ r → held_in z old r ≡ Nothing → held_in z mid r ≡ Nothing
 
-of_take : (z : Sizes) (old mid : List Entry) (root : Label) → TakeLeaves z 0 old mid root → Leaves z old mid root
+pub of_take : (z : Sizes) (old mid : List Entry) (root : Label) → TakeLeaves z 0 old mid root → Leaves z old mid root
 of_take z old mid root leaves = record {
   map = leaves.map;
   within = leaves.within;
   low = λ r few. leaves.keeps r ((λ e. omega (arith, e, few)), (λ e. omega (arith, e, few)), (λ e. omega (arith, e, few)), (λ e. omega (arith, e, few)));
   high = λ r high none. ⊎_elim (λ used. leaves.clean r high used.1)
       (λ more. let above : 11 < r = more.1 in leaves.keeps r ((λ e. omega (arith, e, above)), (λ e. omega (arith, e, above)), (λ e. omega (arith, e, above)), (λ e. omega (arith, e, above))) ∙ none) (leb_tells r 11);
+}
+
+-- a register past the last holds nothing
+past_end : (rs : List Value) (r : ℕ) → length rs ≤ r → get_or rs r Nothing ≡ Nothing
+past_end [] r few = refl
+past_end (v ∷ rs) zero few = absurd (omega (arith, few))
+past_end (v ∷ rs) (suc r) few = past_end rs r (omega (arith, few))
+
+pub of_clean : (z : Sizes) (limits : IsWithinLimits z) (one : z.domains ≡ 1) (old mid : List Entry) (root : Label) → Legal z mid → CleanLeaves z 0 old mid root → Leaves z old mid root
+of_clean z limits one old mid root legal leaves = record {
+  map = leaves.map;
+  within = leaves.within;
+  low = leaves.registers;
+  high = λ r high none. ⊎_elim (λ used. leaves.clean r high (let few = used.1 in omega (arith, few)))
+      (λ more. let above : 15 < r = more.1 in let sixteen = registers_many z one limits mid in past_end (registers_after z 0 mid) r (omega (arith, above, sixteen))) (leb_tells r 15);
 }
 
 -- a call of a map and then a register that is emptied
@@ -180,27 +195,33 @@ module _ (z : Sizes) (limits : IsWithinLimits z) (one : z.domains ≡ 1) (root :
       others_left : ThinnedBy (WasOutside z old new) (without k (bound_in z old root)) (without k (bound_in z new root))
       others_left = lost_but_listed z.domains (graph_of z old) (graph_of z new) root root listed.placed (placed_new placed) (WasOutside z old new) k rest_left
 
-  put_list : (k : Label) (v : Value) (r : Reply) → PutsOrFull z root 0 old mid k v r → Leaves z old mid root → IsInPlace z.domains (graph_of z mid) root
+  pub put_list : (k : Label) (v : Value) (r : Reply) → PutsOrFull z root 0 old mid k v r → Leaves z old mid root → IsInPlace z.domains (graph_of z mid) root
       → ((r ≡ reply.Done) × ListPuts z old new root k v) ⊎ ((r ≡ reply.Full) × ListStays z old new root)
-  put_list k v r (inl (is, (before, x))) leaves placed = inl (is, record {
-    writes = written leaves placed;
-    keeps = kept_low leaves;
-    settled = left_settled leaves;
-    left = others_left leaves placed k before (Some v) x;
-    bound = λ held. now_is leaves placed k before (Some v) x ∙ ⊎_elim (λ same. same) (λ gone. absurd (held gone.0)) (key_left leaves placed k before (Some v) x);
-  })
+  put_list k v r (inl (is, (before, x))) leaves placed = inl (
+    is,
+    record {
+      writes = written leaves placed;
+      keeps = kept_low leaves;
+      settled = left_settled leaves;
+      left = others_left leaves placed k before (Some v) x;
+      bound = λ held. now_is leaves placed k before (Some v) x ∙ ⊎_elim (λ same. same) (λ gone. absurd (held gone.0)) (key_left leaves placed k before (Some v) x);
+    },
+  )
   put_list k v r (inr (is, looks)) leaves placed = inr (is, stays_list leaves placed looks.keeps)
 
-  take_list : (k : Label) (r : Reply) → TakeAnswers z root 0 old mid (Block k) r → Leaves z old mid root → IsInPlace z.domains (graph_of z mid) root → ListTakeAnswers z old new root (Some k) r
-  take_list k r (inl (is, (was, x))) leaves placed = inl (is, record {
-    writes = written leaves placed;
-    keeps = kept_low leaves;
-    settled = left_settled leaves;
-    was = was;
-    bound = listed_is_found z.domains (graph_of z old) root listed.placed k ∙ ⊎_elim (λ same. sym same) (λ gone. let clash : ◌≡◌ {A = Option Value} None (Some was) = sym gone.1 in cc) (key_was leaves placed k (Some was) None x);
-    left = subst (ThinnedBy (WasOutside z old new) (without k (bound_in z old root))) (without_unbound k (bound_in z new root) none) (others_left leaves placed k (Some was) None x);
-    none = none;
-  })
+  pub take_list : (k : Label) (r : Reply) → TakeAnswers z root 0 old mid (Block k) r → Leaves z old mid root → IsInPlace z.domains (graph_of z mid) root → ListTakeAnswers z old new root (Some k) r
+  take_list k r (inl (is, (was, x))) leaves placed = inl (
+    is,
+    record {
+      writes = written leaves placed;
+      keeps = kept_low leaves;
+      settled = left_settled leaves;
+      was = was;
+      bound = listed_is_found z.domains (graph_of z old) root listed.placed k ∙ ⊎_elim (λ same. sym same) (λ gone. let clash : ◌≡◌ {A = Option Value} None (Some was) = sym gone.1 in cc) (key_was leaves placed k (Some was) None x);
+      left = subst (ThinnedBy (WasOutside z old new) (without k (bound_in z old root))) (without_unbound k (bound_in z new root) none) (others_left leaves placed k (Some was) None x);
+      none = none;
+    },
+  )
     where
       none : datum_at (bound_in z new root) k ≡ None
       none = now_is leaves placed k (Some was) None x ∙ ⊎_elim (λ same. same) (λ gone. gone.1) (key_left leaves placed k (Some was) None x)
@@ -211,7 +232,7 @@ module _ (z : Sizes) (limits : IsWithinLimits z) (one : z.domains ≡ 1) (root :
           ∙ ⊎_elim (λ same. same ∙ g.bound) (λ gone. gone.1) (left_over leaves g.front new g.since (prefix_trans g.front mid new g.until ends) (prefix_same new) k (λ f e a b own. keeps_on leaves old g.looks.keeps f e (prefix_trans old g.front f g.since a) b own k))
 
   -- a lookup
-  get_list : (k : Label) (dst : ℕ) (r : Reply) → dst < 8 → (datum : Option Value) → Gets z root 0 old mid k datum → r ≡ shown (value_of datum) → GetLeaves z 0 old mid root dst r → ListGets z old new root k dst r
+  pub get_list : (k : Label) (dst : ℕ) (r : Reply) → dst < 8 → (datum : Option Value) → Gets z root 0 old mid k datum → r ≡ shown (value_of datum) → GetLeaves z 0 old mid root dst r → ListGets z old new root k dst r
   get_list k dst r low datum g is leaves = record {
     reads = reads_list z old new root (quiet_goes z one old new whole p.legal quiet) listed;
     keeps = λ i few other. last_keeps i (λ e. omega (arith, e, few)) ∙ leaves.keeps i (λ e. omega (arith, e, few)) other;
@@ -246,7 +267,7 @@ module _ (z : Sizes) (limits : IsWithinLimits z) (one : z.domains ≡ 1) (root :
       same_shown Nothing Nothing e = refl
 
   -- what a clean leaves
-  clean_list : Leaves z old mid root → IsInPlace z.domains (graph_of z mid) root → (empty : Bool) → CleanAnswers z root 0 old mid empty → ListCleans z old new root
+  pub clean_list : Leaves z old mid root → IsInPlace z.domains (graph_of z mid) root → (empty : Bool) → CleanAnswers z root 0 old mid empty → ListCleans z old new root
   clean_list leaves placed empty x = record { stays = stays_list leaves placed x.keeps; tidy = tidy }
     where
       there : IsListed z mid root

@@ -1,33 +1,29 @@
 -- What a stretch of a history leaves of a map, of its blocks and of its bindings.
-use Rattle.std.proofs.Common.{◌≡◌, ◌⊎◌, inl, inr, ⊎_elim, ℕ, Bool, true, false, IsTrue, List, [], ◌∷◌, ◌++◌, Option, Some, None, refl, ap, sym, ◌∙◌, subst}
+use Rattle.std.proofs.Common.{◌≡◌, ◌⊎◌, inl, inr, ⊎_elim, Bool, true, false, List, [], ◌∷◌, ◌++◌, Option, Some, None, refl, ap, sym, ◌∙◌, subst}
 use Rattle.heap_model.specs.declared.label.Label.{Label}
 use Rattle.heap_model.specs.declared.entry.Entry.{Entry}
 use Rattle.heap_model.specs.declared.graph.Value.{Value}
-use Rattle.heap_model.specs.declared.graph.Value.TheVariants.{Block}
 use Rattle.heap_model.specs.declared.graph.Node.{Node}
 use Rattle.heap_model.specs.declared.graph.Node.TheVariants.{Ephe}
 use Rattle.heap_model.specs.declared.state.Sizes.{Sizes}
-use Rattle.heap_model.specs.Graph.{Graph, has_label, node_at}
+use Rattle.heap_model.specs.Graph.{has_label, node_at}
 use Rattle.heap_model.specs.History.{IsPrefix, Legal, is_entry_of}
-use Rattle.table_laws.specs.Thinning.{Changes, Thin, ThinnedBy, WasOutside, state_of}
+use Rattle.table_laws.specs.Thinning.{Changes, Thin, WasOutside}
 use Rattle.table_laws.specs.Stages.{Goes, graph_of}
 use Rattle.table_laws.proofs.ChangeLemmas.{changes_more, changes_same, changes_twice, thin_is, thin_more, thin_twice}
-use Rattle.map_laws.specs.Tries.{at, fields_of, found, inside, is_leaf, IsMap, IsInPlace}
+use Rattle.map_laws.specs.Tries.{fields_of, is_leaf, IsMap, IsInPlace}
 use Rattle.map_laws.specs.Steps.{IsThinned}
 use Rattle.map_laws.specs.Calls.{bound_after}
 use Rattle.map_laws.specs.Within.{IsBlockOf, IsMadeBehind, OwnWithin, StandsIn, StepsWithin}
-use Rattle.map_laws.proofs.FrontLemmas.{before_or_behind, prefix_before, prefix_more, prefix_same, prefix_trans, walk_along}
+use Rattle.map_laws.proofs.FrontLemmas.{prefix_before, prefix_more, prefix_same, prefix_trans, walk_along}
 use Rattle.map_laws.proofs.MapLemmas.{at_same, thinned_binds, thinned_map}
 use Rattle.map_laws.proofs.OwnLemmas.{leaf_stays}
-use Rattle.map_laws.proofs.RespectLemmas.{graph_push}
 use Rattle.map_laws.proofs.TakeLemmas.{Left}
 use Rattle.weak_maps.specs.Walks.{OwnQuiet}
 use Rattle.weak_maps.proofs.PlaceLemmas.{thin_place}
-use Rattle.list_laws.specs.Lists.{bindings_of, map_labels}
 use Rattle.list_laws.proofs.LabelLemmas.{label_stands, stands_label}
-use Rattle.list_laws.proofs.OrderLemmas.{lost_listed, lost_but_listed}
 use Rattle.list_laws.proofs.StepLemmas.{leaves_thinned}
-use Rattle.map_lists.specs.Stretches.{bound_in, labels_in, IsListed, ReadsList, WritesMap}
+use Rattle.map_lists.specs.Stretches.{labels_in, IsListed, ReadsList, WritesMap}
 use Rattle.map_lists.proofs.AloneLemmas.{legal_before, other_thins, was_wider}
 
 -- a binding is left as it was, or was taken: over two stretches

@@ -11,7 +11,6 @@ use Rattle.heap_model.specs.declared.reply.Reply.TheVariants as reply
 use Rattle.heap_model.specs.declared.state.Sizes.{Sizes}
 use Rattle.heap_model.specs.Graph.{has_label, label_of, node_at}
 use Rattle.heap_model.specs.Commands.{shown}
-use Rattle.heap_model.specs.History.{IsPrefix}
 use Rattle.table_laws.specs.Structures.{datum_at, without}
 use Rattle.table_laws.specs.Thinning.{ThinnedBy, WasOutside}
 use Rattle.table_laws.specs.Stages.{Goes, graph_of, held_in}
