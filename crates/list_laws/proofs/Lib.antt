@@ -3,3 +3,4 @@ pub mod FoundLemmas
 pub mod StepLemmas
 pub mod OrderLemmas
 pub mod LabelLemmas
+pub mod HeldLemmas

@@ -1,12 +1,15 @@
 -- Laws of a map's list of bindings.
-use Rattle.std.specs.Prelude.{◌≡◌, ◌≢◌, ◌↔◌, ℕ, IsTrue, List, [], Some, None}
+use Rattle.std.specs.Prelude.{◌≡◌, ◌≢◌, ◌↔◌, ℕ, Bool, IsTrue, List, [], ◌∷◌, Some, None}
 use Rattle.heap_model.specs.declared.label.Label.{Label}
 use Rattle.heap_model.specs.declared.entry.Entry.{Entry}
 use Rattle.heap_model.specs.declared.graph.Value.{Value}
-use Rattle.heap_model.specs.declared.graph.Value.TheVariants.{Block}
+use Rattle.heap_model.specs.declared.graph.Value.TheVariants.{Block, Nothing}
+use Rattle.heap_model.specs.declared.graph.Node.TheVariants.{Ephe}
 use Rattle.heap_model.specs.declared.state.Sizes.{Sizes}
 use Rattle.heap_model.specs.declared.state.State.{State}
 use Rattle.heap_model.specs.Graph.{Graph, has_label, has_no_repeats, node_at}
+use Rattle.heap_model.specs.Entries.{keys_are_live}
+use Rattle.heap_model.specs.Reach.{IsClosedUnder, edges_at}
 use Rattle.table_laws.specs.Structures.{Apart, datum_at, keys_of, without}
 use Rattle.table_laws.specs.Thinning.{Changes, IsOutside, ThinnedBy, WasOutside}
 use Rattle.table_laws.specs.Stages.{Goes, graph_of}
@@ -87,3 +90,25 @@ LeavesStand = (g : Graph) (root : Label) → IsMap g root → (l : Label) → Is
 -- what changes no block of a map but by thinning it thins the map
 abbrev pub ApartThinned : Type 0
 ApartThinned = (written : List Label) (g h : Graph) (root : Label) → IsMap g root → Changes (λ l. Unit {0}) written g h → Apart (map_labels g root) written → IsThinned (λ l. Unit {0}) g h root
+
+-- a set of labels that is closed under the edges of a graph, has the keys of its ephemerons and holds a map's root holds each key that the map binds
+abbrev pub HeldKeysLive : Type 0
+HeldKeysLive = (n : ℕ) (g : Graph) (alive : Label → Bool) (root : Label) → IsClosedUnder g alive → ((l : Label) → IsTrue (alive l) → IsTrue (keys_are_live alive (node_at g l)))
+    → IsInPlace n g root → IsTrue (alive root) → (k : Label) → IsTrue (has_label (keys_of (bindings_of g root)) k) → IsTrue (alive k)
+
+-- what a leaf of the map binds is in the list
+abbrev pub LeafIsListed : Type 0
+LeafIsListed = (n : ℕ) (g : Graph) (root : Label) → IsInPlace n g root → (l k : Label) (datum : Value) → IsTrue (has_label (map_leaves g root) l) → node_at g l ≡ Some (Ephe (Some k ∷ []) datum) → datum_at (bindings_of g root) k ≡ Some datum
+
+-- no key is bound to a block
+abbrev pub NoDatumIsBlock : Graph → Label → Type 0
+NoDatumIsBlock g root = (k : Label) (v : Value) (m : Label) → datum_at (bindings_of g root) k ≡ Some v → v ≡ Block m → ⊥
+
+-- a leaf without its key has no datum
+abbrev pub NoDatumLeft : Graph → Label → Type 0
+NoDatumLeft g root = (l : Label) (datum : Value) → IsTrue (has_label (map_leaves g root) l) → node_at g l ≡ Some (Ephe (None ∷ []) datum) → datum ≡ Nothing
+
+-- then what a map's blocks keep alive are blocks of the map
+abbrev pub MapHoldsItself : Type 0
+MapHoldsItself = (n : ℕ) (g : Graph) (alive : Label → Bool) (root : Label) → IsMap g root → IsInPlace n g root → NoDatumIsBlock g root → NoDatumLeft g root
+    → (l m : Label) → IsTrue (has_label (map_labels g root) l) → IsTrue (has_label (edges_at g alive l) m) → IsTrue (has_label (map_labels g root) m)

@@ -1,5 +1,5 @@
 //! Laws of the list of a map's bindings. Each function's contract is one law or two, and it does nothing else.
-ghost use Rattle.list_laws.specs.ListLaws.{ListedIsFound, ListedOnce, SetListed, SetBindsListed, TakenListed, DeepenListed, ClearListed, EmptyListed, UntouchedListed, ThinnedListed, CollectorListed, ListedInOrder, FoundListed, FoundButListed, LabelsStand, LeavesStand, ApartThinned};
+ghost use Rattle.list_laws.specs.ListLaws.{ListedIsFound, ListedOnce, SetListed, SetBindsListed, TakenListed, DeepenListed, ClearListed, EmptyListed, UntouchedListed, ThinnedListed, CollectorListed, ListedInOrder, FoundListed, FoundButListed, LabelsStand, LeavesStand, ApartThinned, HeldKeysLive, LeafIsListed, MapHoldsItself};
 
 /// The list binds each key as a lookup in the map does, and no key twice.
 pub fn listed_is_found()
@@ -45,4 +45,12 @@ pub fn listed_labels_stand()
     ensures labels { LabelsStand }
     ensures leaves { LeavesStand }
     ensures apart { ApartThinned }
+{}
+
+/// What is reached with a map: each key that it binds, once no leaf is left whose key isn't reached. Its own blocks keep no
+/// others alive, where no key is bound to a block and no leaf without its key has a datum.
+pub fn listed_keys_are_held()
+    ensures keys { HeldKeysLive }
+    ensures leaves { LeafIsListed }
+    ensures blocks { MapHoldsItself }
 {}
