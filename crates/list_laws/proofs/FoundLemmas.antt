@@ -14,8 +14,9 @@ use Rattle.table_laws.proofs.LookupLemmas.{datum_first, datum_second, unbound_ke
 use Rattle.map_laws.specs.Tries.{inside, at, bound_by, bound_in, ends, way_to, way_length, IsInPlace}
 use Rattle.map_laws.proofs.SetLemmas.{append_one, prefixed, tail_is}
 use Rattle.map_laws.proofs.WalkLemmas.{ends_step, ends_stop}
+use Rattle.list_laws.specs.Lists.{bindings_below, leaf_bindings}
 use Rattle.list_laws.specs.ListLaws.{ListedIsFound, ListedOnce}
-use Rattle.list_laws.proofs.ListLemmas.{at_more, below_end, below_plain, bindings_below, leaf_bindings, listed}
+use Rattle.list_laws.proofs.ListLemmas.{at_more, below_end, below_plain, listed}
 
 -- a leaf's list binds what the leaf does
 pub leaf_datum : (g : Graph) (k : Label) (v : Value) → datum_at (leaf_bindings g v) k ≡ bound_by g k v

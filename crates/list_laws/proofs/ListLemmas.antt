@@ -12,7 +12,7 @@ use Rattle.table_laws.specs.Structures.{Binding, binding_of, is_weak}
 use Rattle.map_laws.specs.Tries.{inside, fields_of, at, way_length}
 use Rattle.map_laws.proofs.FieldLemmas.{at_field}
 use Rattle.map_laws.proofs.WalkLemmas.{Walk}
-use Rattle.list_laws.specs.Lists.{gathered, leaf_label, map_leaves, bindings_of}
+use Rattle.list_laws.specs.Lists.{gathered, leaf_label, map_leaves, bindings_below, bindings_of, leaf_bindings}
 
 -- from a value that is no plain block on, and from a plain block
 pub gathered_end : {A : Type 0} (f : Walk) (own : Value → List A) (d : ℕ) (v : Value) → f v ≡ None → gathered f own d v ≡ own v
@@ -73,15 +73,6 @@ module _ (A : Type 0) (R : List A → List A → Type 0) (same : (a : List A) �
             (subst (R (was v ++ flat_map (gathered (inside g) was d) fs)) (sym (gathered_plain (inside h) now d v hs eh))
             (join (was v) (now v) (flat_map (gathered (inside g) was d) fs) (flat_map (gathered (inside h) now d) hs) r
             (rel_flat (gathered (inside g) was d) (gathered (inside h) now d) fs hs len (λ j b. field rec fs hs e j (each j b)))))
-
--- what a leaf binds
-abbrev pub leaf_bindings : Graph → Value → List Binding
-leaf_bindings g (Block l) = binding_of (node_at g l)
-leaf_bindings g v = []
-
--- and what is bound from a value on
-abbrev pub bindings_below : Graph → ℕ → Value → List Binding
-bindings_below g d v = gathered (inside g) (leaf_bindings g) d v
 
 -- a plain block binds nothing by itself
 pub plain_leafless : (g : Graph) (v : Value) (fields : List Value) → inside g v ≡ Some fields → leaf_bindings g v ≡ []

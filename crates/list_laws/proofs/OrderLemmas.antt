@@ -16,10 +16,10 @@ use Rattle.table_laws.proofs.LookupLemmas.{key_unbound}
 use Rattle.table_laws.proofs.OnceLemmas.{lacks}
 use Rattle.map_laws.specs.Tries.{inside, at, found, way_to, way_length, IsInPlace}
 use Rattle.map_laws.proofs.SetLemmas.{append_one}
-use Rattle.list_laws.specs.Lists.{bindings_of}
+use Rattle.list_laws.specs.Lists.{bindings_of, bindings_below, leaf_bindings}
 use Rattle.list_laws.specs.Orders.{ComesBefore, OrderedBy}
 use Rattle.list_laws.specs.ListLaws.{ListedInOrder, FoundListed, FoundButListed}
-use Rattle.list_laws.proofs.ListLemmas.{at_more, below_end, below_plain, bindings_below, leaf_bindings, listed}
+use Rattle.list_laws.proofs.ListLemmas.{at_more, below_end, below_plain, listed}
 use Rattle.list_laws.proofs.FoundLemmas.{flat_owner, key_way, listed_is_found}
 
 not_itself : (a : List ℕ) → ComesBefore a a → ⊥

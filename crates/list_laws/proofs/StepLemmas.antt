@@ -18,9 +18,9 @@ use Rattle.map_laws.specs.Steps.{WritesField, IsThinned, HoldsNothing}
 use Rattle.map_laws.proofs.MapLemmas.{NoLabel, untouched_thinned}
 use Rattle.map_laws.proofs.SetLemmas.{block_is, set_binds}
 use Rattle.map_laws.proofs.WalkLemmas.{ends_step, same_number, set_else, set_same}
-use Rattle.list_laws.specs.Lists.{gathered, block_label, leaf_label, map_labels, map_leaves, bindings_of}
+use Rattle.list_laws.specs.Lists.{gathered, block_label, leaf_label, map_labels, map_leaves, bindings_of, bindings_below, leaf_bindings}
 use Rattle.list_laws.specs.ListLaws.{SetListed, SetBindsListed, TakenListed, DeepenListed, ClearListed, EmptyListed, UntouchedListed, ThinnedListed, CollectorListed}
-use Rattle.list_laws.proofs.ListLemmas.{below_end, below_plain, bindings_below, leaf_bindings, listed, plain_leafless, walk, Kept, Ends, Holds, FieldKept}
+use Rattle.list_laws.proofs.ListLemmas.{below_end, below_plain, listed, plain_leafless, walk, Kept, Ends, Holds, FieldKept}
 use Rattle.list_laws.proofs.FoundLemmas.{listed_is_found}
 
 -- a leaf that binds no key but one has no list without it
@@ -238,8 +238,11 @@ module _ (P : Label → Type 0) (g h : Graph) (root : Label) (map : IsMap g root
         go None e (inr (fs, is)) = cc
         go (Some n) e slot = at_node p l n e slot (thin p l n there e)
 
+    walk_at : (d : ℕ) (p : List ℕ) (v : Value) → length p + d ≡ way_length → at (inside g) p (Block root) ≡ Some v → R (gathered (inside g) was d v) (gathered (inside h) now d v)
+    walk_at d p v deep there = walk A R same join g h was now root at_place d p v deep there
+
     thinned_walk : R (gathered (inside g) was way_length (Block root)) (gathered (inside h) now way_length (Block root))
-    thinned_walk = walk A R same join g h was now root at_place way_length [] (Block root) refl refl
+    thinned_walk = walk_at way_length [] (Block root) refl refl
 
   -- its blocks and its leaves are as they were
   pub labels_kept : map_labels h root ≡ map_labels g root
@@ -280,14 +283,18 @@ module _ (P : Label → Type 0) (g h : Graph) (root : Label) (map : IsMap g root
       go (Ephe (key ∷ key2 ∷ keys) datum) (inl is) left = absurd is
       go (Ephe (key ∷ key2 ∷ keys) datum) (inr (fs, is)) left = cc
 
+  other_leaf : (v : Value) → ((l : Label) → v ≡ Block l → ⊥) → leaf_bindings h v ≡ leaf_bindings g v
+  other_leaf (Int z) apart = refl
+  other_leaf Nothing apart = refl
+  other_leaf (Block l) apart = absurd (apart l refl)
+
+  -- what is bound from a place on
+  pub thinned_below : (d : ℕ) (p : List ℕ) (v : Value) → length p + d ≡ way_length → at (inside g) p (Block root) ≡ Some v → ThinnedBy P (bindings_below g d v) (bindings_below h d v)
+  thinned_below d p v deep there = walk_at Binding (ThinnedBy P) (thinned_same P) (thinned_append P) (leaf_bindings g) (leaf_bindings h) other_leaf binding_thinned d p v deep there
+
   pub leaves_thinned : ThinnedBy P (bindings_of g root) (bindings_of h root)
   leaves_thinned = subst (λ (bs : List Binding). ThinnedBy P bs (bindings_of h root)) (sym (listed g root)) (subst (ThinnedBy P (bindings_below g way_length (Block root))) (sym (listed h root))
-      (thinned_walk Binding (ThinnedBy P) (thinned_same P) (thinned_append P) (leaf_bindings g) (leaf_bindings h) other binding_thinned))
-    where
-      other : (v : Value) → ((l : Label) → v ≡ Block l → ⊥) → leaf_bindings h v ≡ leaf_bindings g v
-      other (Int z) apart = refl
-      other Nothing apart = refl
-      other (Block l) apart = absurd (apart l refl)
+      (thinned_below way_length [] (Block root) refl refl))
 
 pub thinned_listed : ThinnedListed
 thinned_listed s h root map thin = leaves_thinned (IsOutside s) s.graph h root map thin

@@ -31,6 +31,15 @@ map_labels g root = gathered (inside g) block_label way_length (Block root)
 unfoldable pub map_leaves : Graph → Label → List Label
 map_leaves g root = gathered (inside g) (leaf_label g) way_length (Block root)
 
+-- what a leaf binds
+abbrev pub leaf_bindings : Graph → Value → List Binding
+leaf_bindings g (Block l) = binding_of (node_at g l)
+leaf_bindings g v = []
+
+-- and what is bound from a value on, so many steps deep
+abbrev pub bindings_below : Graph → ℕ → Value → List Binding
+bindings_below g depth v = gathered (inside g) (leaf_bindings g) depth v
+
 -- what the map binds: what its leaves do, one after the other
 abbrev pub bindings_of : Graph → Label → List Binding
 bindings_of g root = flat_map (λ e. binding_of (node_at g e)) (map_leaves g root)

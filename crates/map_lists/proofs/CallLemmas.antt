@@ -60,7 +60,7 @@ of_take z old mid root leaves = record {
 }
 
 -- a register past the last holds nothing
-past_end : (rs : List Value) (r : ℕ) → length rs ≤ r → get_or rs r Nothing ≡ Nothing
+pub past_end : (rs : List Value) (r : ℕ) → length rs ≤ r → get_or rs r Nothing ≡ Nothing
 past_end [] r few = refl
 past_end (v ∷ rs) zero few = absurd (omega (arith, few))
 past_end (v ∷ rs) (suc r) few = past_end rs r (omega (arith, few))
@@ -83,7 +83,7 @@ module _ (z : Sizes) (limits : IsWithinLimits z) (one : z.domains ≡ 1) (root :
   whole = prefix_trans old mid new grows ends
 
   -- the last command writes no block
-  last_quiet : OwnQuiet z 0 mid new
+  pub last_quiet : OwnQuiet z 0 mid new
   last_quiet f e since until own =
       let is = at_the_end z root 0 mid new (Forget 8) done p f e since until own in
       subst (λ (w : List Entry × Entry). graph_of z (w.0 ++ w.1 ∷ []) ≡ graph_of z w.0) (λ i. (sym is.0 i, sym is.1 i)) (ap (graph_of z) (sym p.appends) ∙ (forget_step z 0 mid new done 8 p).0)
@@ -104,10 +104,10 @@ module _ (z : Sizes) (limits : IsWithinLimits z) (one : z.domains ≡ 1) (root :
       emptied (v ∷ rs) (suc r) = emptied rs r
 
   -- registers, by what the call leaves of them
-  low_kept : ((r : ℕ) → r < 8 → held_in z mid r ≡ held_in z old r) → KeepsLow z old new
+  pub low_kept : ((r : ℕ) → r < 8 → held_in z mid r ≡ held_in z old r) → KeepsLow z old new
   low_kept kept r low = last_keeps r (λ e. omega (arith, e, low)) ∙ kept r low
 
-  settled : ((r : ℕ) → 8 ≤ r → held_in z old r ≡ Nothing → held_in z mid r ≡ Nothing) → IsSettled z old new
+  pub settled : ((r : ℕ) → 8 ≤ r → held_in z old r ≡ Nothing → held_in z mid r ≡ Nothing) → IsSettled z old new
   settled empties = record {
     high = λ r high none. ⊎_elim (λ is. ap (held_in z new) is ∙ last_empty) (λ other. last_keeps r other ∙ empties r high none) (is_eight r);
     calm = calm_behind z one limits mid new (Forget 8) done refl p;

@@ -3,3 +3,7 @@ pub mod StretchLemmas
 pub mod CallLemmas
 pub mod MachineLemmas
 pub mod MakeLemmas
+pub mod DeclineLemmas
+pub mod CountLemmas
+pub mod FewLemmas
+pub mod CountedLemmas

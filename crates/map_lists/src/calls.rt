@@ -18,14 +18,14 @@ use weak_maps::putting::map_put;
 use weak_maps::taking::map_take;
 
 // Whether a reply says that a register holds nothing of the kind that was asked for.
-fn is_other_kind(reply: &Reply) -> bool
+pub(crate) fn is_other_kind(reply: &Reply) -> bool
     ensures { (result ≡ true) ↔ (reply.now ≡ variant.BadType) }
 {
     matches!(reply, Reply::BadType)
 }
 
 // Empties register 8 once more, which holds nothing: no collection is under way then.
-fn settle<M: Machine, R: Wait>(m: &mut M, rt: &R)
+pub(crate) fn settle<M: Machine, R: Wait>(m: &mut M, rt: &R)
     ensures sizes { M.sizes m.new ≡ M.sizes m.old }
     ensures domain { M.domain m.new ≡ M.domain m.old }
     ensures heap { M.heap m.new ≡ M.heap m.old }
