@@ -1,9 +1,8 @@
 -- A count of a map's bindings, field by field.
-use Rattle.std.proofs.Common.{◌≡◌, ◌≢◌, ◌⊎◌, inl, inr, ⊎_elim, ℕ, zero, suc, ◌+◌, ◌-◌, ◌<◌, ◌≤◌, Bool, true, false, List, [], ◌∷◌, ◌++◌, length, get_or, take, flat_map, set, Option, Some, None, refl, ap, sym, ◌∙◌, subst, arith}
+use Rattle.std.proofs.Common.{◌≡◌, ◌⊎◌, inl, inr, ⊎_elim, ℕ, zero, suc, ◌+◌, ◌-◌, ◌<◌, ◌≤◌, min, true, false, List, [], ◌∷◌, ◌++◌, length, get_or, take, flat_map, set, Option, Some, None, refl, ap, sym, ◌∙◌, subst, arith}
 use Rattle.std.proofs.lemmas.Grind.{flat_map-append}
 use Rattle.std.proofs.lemmas.List.{append-nil, length-append, take_all, take_more}
 use Rattle.heap_model.specs.declared.label.Label.{Label}
-use Rattle.heap_model.specs.declared.command.Command.{Command}
 use Rattle.heap_model.specs.declared.command.Command.TheVariants.{GetKey, Load}
 use Rattle.heap_model.specs.declared.entry.Entry.{Entry}
 use Rattle.heap_model.specs.declared.graph.Value.{Value}
@@ -16,16 +15,16 @@ use Rattle.heap_model.specs.declared.state.Sizes.{Sizes}
 use Rattle.heap_model.specs.Graph.{Graph, node_at}
 use Rattle.heap_model.specs.Commands.{key_value, shown}
 use Rattle.heap_model.specs.Domains.{IsWithinLimits}
-use Rattle.heap_model.specs.History.{IsPrefix, Legal, is_entry_of}
+use Rattle.heap_model.specs.History.{IsPrefix, Legal}
 use Rattle.table_laws.specs.Structures.{Binding, binding_of, bound}
 use Rattle.table_laws.specs.Thinning.{WasOutside}
 use Rattle.table_laws.specs.Stages.{Goes, graph_of, held_in}
 use Rattle.table_laws.proofs.WalkLemmas.{thinned_length}
-use Rattle.map_laws.specs.Tries.{at, fields_of, inside, is_leaf, node_width, root_width, way_length, width_at, IsMap}
+use Rattle.map_laws.specs.Tries.{at, fields_of, inside, is_leaf, way_length, width_at}
 use Rattle.map_laws.specs.Steps.{IsThinned}
 use Rattle.map_laws.specs.Calls.{PerformedBy, registers_after}
 use Rattle.map_laws.proofs.CallLemmas.{get_key_plain_step, get_key_step, grows as step_grows, legal_middle, load_step}
-use Rattle.map_laws.proofs.FieldLemmas.{at_field, field_holds, plain_is}
+use Rattle.map_laws.proofs.FieldLemmas.{field_holds, plain_is}
 use Rattle.map_laws.proofs.FrontLemmas.{before_or_behind, other_between, prefix_more, prefix_same, prefix_trans}
 use Rattle.map_laws.proofs.MapLemmas.{at_same, inside_same}
 use Rattle.map_laws.proofs.OwnLemmas.{at_the_end, nothing_between}
@@ -34,11 +33,11 @@ use Rattle.weak_maps.specs.Commands.{IsBlock}
 use Rattle.weak_maps.specs.Walks.{OwnQuiet}
 use Rattle.weak_maps.proofs.BesideLemmas.{same_held, set_here, set_other, sixteen}
 use Rattle.weak_maps.proofs.CleanedLemmas.{width_below}
-use Rattle.list_laws.specs.Lists.{bindings_below, leaf_bindings}
+use Rattle.list_laws.specs.Lists.{bindings_below}
 use Rattle.list_laws.proofs.ListLemmas.{below_end, below_plain, at_more}
 use Rattle.list_laws.proofs.StepLemmas.{thinned_below}
 use Rattle.map_lists.specs.Stretches.{IsListed}
-use Rattle.map_lists.specs.Counts.{AtBlock, BlockCounted, CountsBlock, CountsField, FieldCounted, IsBetween, LooksOnly, many_from, many_in}
+use Rattle.map_lists.specs.Counts.{AtBlock, CountsBlock, CountsField, FieldCounted, LooksOnly, many_from, many_in}
 use Rattle.map_lists.proofs.AloneLemmas.{legal_before}
 use Rattle.map_lists.proofs.StretchLemmas.{goes_listed, quiet_goes}
 
@@ -74,6 +73,10 @@ module _ (z : Sizes) (one : z.domains ≡ 1) (old new : List Entry) (grows : IsP
 
   fewer_below : (d : ℕ) (p : List ℕ) (v : Value) → length p + d ≡ way_length → at (inside (graph_of z old)) p (Block root) ≡ Some v → length (bindings_below (graph_of z new) d v) ≤ length (bindings_below (graph_of z old) d v)
   fewer_below d p v deep there = thinned_length (WasOutside z old new) (bindings_below (graph_of z old) d v) (bindings_below (graph_of z new) d v) (thinned_below (WasOutside z old new) (graph_of z old) (graph_of z new) root listed.map thin d p v deep there)
+
+-- a sum that stays at the most that fits
+pub saturates : (a b sum : ℕ) → sum ≡ min (a + b) 4294967295 → (sum ≤ a + b) × (sum < 4294967295 → sum ≡ a + b)
+saturates a b sum is = (omega (arith, is), (λ fits. omega (arith, is, fits)))
 
 -- the sums over so many fields
 sum_more : (f : Value → List Binding) (xs : List Value) (n : ℕ) → n < length xs → length (flat_map f (take (n + 1) xs)) ≡ length (flat_map f (take n xs)) + length (f (get_or xs n Nothing))

@@ -2,7 +2,6 @@
 use Rattle.std.proofs.Common.{◌≡◌, ⊎_elim, ℕ, leb, true, false, ◌+◌, ◌<◌, ◌≤◌, List, [], ◌∷◌, ◌++◌, length, take, flat_map, refl, ap, sym, ◌∙◌, subst, arith}
 use Rattle.std.proofs.lemmas.Bool.Decides.{leb_tells}
 use Rattle.std.proofs.lemmas.List.{take_all}
-use Rattle.heap_model.specs.declared.label.Label.{Label}
 use Rattle.heap_model.specs.declared.command.Command.TheVariants.{Forget}
 use Rattle.heap_model.specs.declared.entry.Entry.{Entry}
 use Rattle.heap_model.specs.declared.graph.Value.{Value}
@@ -11,7 +10,6 @@ use Rattle.heap_model.specs.declared.reply.Reply.{Reply}
 use Rattle.heap_model.specs.declared.state.Sizes.{Sizes}
 use Rattle.heap_model.specs.Domains.{IsWithinLimits, domain_at, shared_label}
 use Rattle.heap_model.specs.History.{IsPrefix, Legal}
-use Rattle.table_laws.specs.Structures.{Binding}
 use Rattle.table_laws.specs.Thinning.{WasOutside, state_of}
 use Rattle.table_laws.specs.Stages.{Goes, graph_of, held_in}
 use Rattle.table_laws.proofs.WalkLemmas.{thinned_length}
@@ -25,9 +23,9 @@ use Rattle.weak_maps.specs.Walks.{OwnQuiet}
 use Rattle.weak_maps.proofs.BesideLemmas.{set_here, set_other, sixteen}
 use Rattle.list_laws.specs.Lists.{bindings_below}
 use Rattle.list_laws.proofs.ListLemmas.{below_plain, listed}
-use Rattle.map_lists.specs.Stretches.{Forgets, IsListed, bound_in}
+use Rattle.map_lists.specs.Stretches.{Forgets, bound_in}
 use Rattle.map_lists.specs.Counts.{AtBlock, BlockCounted, CountsBlock, ForgetsUsed, many_in, most_counted}
-use Rattle.map_lists.specs.Answers.{ListCounts, ListCountsAt}
+use Rattle.map_lists.specs.Answers.{ListCountsAt}
 use Rattle.map_lists.proofs.AloneLemmas.{legal_before, registers_many}
 use Rattle.map_lists.proofs.CallLemmas.{last_quiet, low_kept, past_end, settled}
 use Rattle.map_lists.proofs.CountLemmas.{looks_none, looks_twice, plain_new, quiet_twice}

@@ -1,5 +1,5 @@
 -- The number of a map's bindings falls by one at most at each entry, so each number between is that of some front.
-use Rattle.std.proofs.Common.{◌≡◌, ◌≢◌, ◌⊎◌, inl, inr, ⊎_elim, ℕ, zero, suc, ◌+◌, ◌<◌, ◌≤◌, Bool, true, false, IsTrue, List, [], ◌∷◌, ◌++◌, length, flat_map, Option, Some, None, refl, ap, sym, ◌∙◌, subst, arith}
+use Rattle.std.proofs.Common.{◌≡◌, ◌≢◌, ⊎_elim, ℕ, ◌+◌, ◌≤◌, Bool, true, false, IsTrue, List, [], ◌∷◌, ◌++◌, length, flat_map, Option, Some, None, refl, ap, sym, ◌∙◌, subst, arith}
 use Rattle.std.proofs.lemmas.Bool.Decides.{leb_tells}
 use Rattle.std.proofs.lemmas.List.{length-append, map-append}
 use Rattle.heap_model.specs.declared.label.Label.{Label}
@@ -10,16 +10,15 @@ use Rattle.heap_model.specs.declared.graph.Node.{Node}
 use Rattle.heap_model.specs.declared.graph.Node.TheVariants.{Plain, Raw, Ephe}
 use Rattle.heap_model.specs.declared.state.Sizes.{Sizes}
 use Rattle.heap_model.specs.declared.state.State.{State}
-use Rattle.heap_model.specs.Graph.{Graph, has_label, has_no_repeats, labels, node_at, same_label}
-use Rattle.heap_model.specs.Domains.{domain_at, opening, shared_label}
+use Rattle.heap_model.specs.Graph.{Graph, has_label, has_no_repeats, node_at, same_label}
+use Rattle.heap_model.specs.Domains.{shared_label}
 use Rattle.heap_model.specs.Entries.{next, wiped, with_wiped}
 use Rattle.heap_model.specs.History.{IsPrefix, Legal, is_entry_of}
 use Rattle.heap_model.proofs.Commands.FrameLemmas.{label_cases}
-use Rattle.heap_model.proofs.Graphs.GraphLemmas.{node_at-with_node_other, same_label_refl, same_label-true}
-use Rattle.heap_model.proofs.Reach.LabelListLemmas.{length_within}
-use Rattle.heap_model.proofs.Reach.ReachLemmas.{or_left, or_right, has-append_left, has-append_right}
+use Rattle.heap_model.proofs.Graphs.GraphLemmas.{node_at-with_node_other, same_label_refl}
+use Rattle.heap_model.proofs.Reach.ReachLemmas.{or_left, has-append_left, has-append_right}
 use Rattle.table_laws.specs.Structures.{Binding, binding_of, keys_of}
-use Rattle.table_laws.specs.Thinning.{Changes, WasOutside, is_collector, state_of}
+use Rattle.table_laws.specs.Thinning.{WasOutside, is_collector, state_of}
 use Rattle.table_laws.specs.Stages.{Goes, graph_of}
 use Rattle.table_laws.proofs.ChangeLemmas.{changes_more, changes_twice}
 use Rattle.table_laws.proofs.OnceLemmas.{lacks, once_parts}

@@ -1,5 +1,5 @@
 -- A map binds fewer keys than labels were given out: each has a leaf of its own, and the root is none.
-use Rattle.std.proofs.Common.{◌≡◌, ◌≢◌, ◌⊎◌, inl, inr, ⊎_elim, ℕ, ◌+◌, ◌≤◌, Bool, true, false, cond, not, ◌&&◌, IsTrue, List, [], ◌∷◌, ◌++◌, length, flat_map, Option, Some, None, refl, ap, sym, ◌∙◌, subst, arith}
+use Rattle.std.proofs.Common.{◌≡◌, ⊎_elim, ◌+◌, ◌≤◌, Bool, true, false, cond, not, IsTrue, List, [], ◌∷◌, ◌++◌, length, flat_map, Option, Some, None, refl, ap, sym, ◌∙◌, subst, arith}
 use Rattle.std.proofs.lemmas.List.{length-append, length-map, map-append}
 use Rattle.heap_model.specs.declared.label.Label.{Label}
 use Rattle.heap_model.specs.declared.entry.Entry.{Entry}
@@ -18,7 +18,7 @@ use Rattle.table_laws.specs.Thinning.{state_of}
 use Rattle.table_laws.specs.Stages.{graph_of}
 use Rattle.table_laws.proofs.OnceLemmas.{lacks, once_parts}
 use Rattle.table_laws.proofs.SizeLemmas.{blocks_counted}
-use Rattle.map_laws.specs.Tries.{fields_of, inside, is_leaf}
+use Rattle.map_laws.specs.Tries.{fields_of, is_leaf}
 use Rattle.list_laws.specs.Lists.{map_labels, map_leaves}
 use Rattle.list_laws.proofs.FoundLemmas.{listed_once}
 use Rattle.list_laws.proofs.LabelLemmas.{label_node, leaf_label_in, leaf_stands, root_label}

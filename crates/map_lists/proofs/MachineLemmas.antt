@@ -9,11 +9,11 @@ use Rattle.heap_model.specs.declared.reply.Reply.{Reply}
 use Rattle.heap_model.specs.declared.reply.Reply.TheVariants as reply
 use Rattle.heap_model.specs.declared.state.Sizes.{Sizes}
 use Rattle.heap_model.specs.Graph.{label_of}
-use Rattle.heap_model.specs.Domains.{IsWithinLimits}
+use Rattle.heap_model.specs.Domains.{IsWithinLimits, domain_at}
 use Rattle.heap_model.specs.Commands.{shown}
 use Rattle.heap_model.specs.History.{IsPrefix, Legal, is_entry_of}
 use Rattle.table_laws.specs.Performing.{full_of, refused, refusals, written, writings}
-use Rattle.table_laws.specs.Thinning.{is_collector}
+use Rattle.table_laws.specs.Thinning.{is_collector, state_of}
 use Rattle.table_laws.specs.Stages.{graph_of, held_in}
 use Rattle.map_laws.specs.Tries.{IsMap, IsInPlace}
 use Rattle.map_laws.specs.Steps.{OthersLeave, OthersRespect}
@@ -26,6 +26,7 @@ use Rattle.weak_maps.specs.Crowds.{PutCounts}
 use Rattle.weak_maps.specs.Returns.{GetReturns, PutReturns, TakeReturns}
 use Rattle.map_lists.specs.Stretches.{Forgets, IsListed}
 use Rattle.map_lists.specs.Answers.{ListCleansAt, ListGetAnswers, ListGetsAt, ListPutAnswers, ListPutsAt, ListTakeAnswers, ListTakesAt}
+use Rattle.map_lists.specs.Counts.{CountsBlock, CountsField, ForgetsUsed}
 use Rattle.map_lists.proofs.AloneLemmas.{collects, legal_before}
 use Rattle.map_lists.proofs.CallLemmas.{clean_list, get_list, of_clean, of_take, put_list, take_list}
 
@@ -284,3 +285,19 @@ module _ (z : Sizes) (limits : IsWithinLimits z) (one : z.domains ≡ 1) (d : �
           go (Block k) e ret = alone k there e respects (subst (λ (x : ℕ). OthersLeave z root x old mid) (sym first) (alone_leaves z root old mid one legal)) is
           go (Int i) e ret = absurd (bad ret.0)
           go Nothing e ret = absurd (bad ret.0)
+
+-- what is told of a count by a later machine
+pub counts_field_at : (z z2 : Sizes) (old new : List Entry) (block left i count : ℕ) → z2 ≡ z → CountsField z2 old new block left i count → CountsField z old new block left i count
+counts_field_at z z2 old new block left i count same x = subst (λ (w : Sizes). CountsField w old new block left i count) same x
+
+pub counts_block_at : (z z2 : Sizes) (old new : List Entry) (block left n count : ℕ) → z2 ≡ z → CountsBlock z2 old new block left n count → CountsBlock z old new block left n count
+counts_block_at z z2 old new block left n count same x = subst (λ (w : Sizes). CountsBlock w old new block left n count) same x
+
+pub used_at : (z z2 : Sizes) (old new : List Entry) (n : ℕ) → z2 ≡ z → ForgetsUsed z2 old new n → ForgetsUsed z old new n
+used_at z z2 old new n same x = subst (λ (w : Sizes). ForgetsUsed w old new n) same x
+
+pub forgets_first : (z z2 : Sizes) (d : ℕ) (old new : List Entry) → z2 ≡ z → d ≡ 0 → Forgets z2 d old new → Forgets z 0 old new
+forgets_first z z2 d old new same first x = forgets_at z z2 0 d old new same first x
+
+pub serials_first : (z : Sizes) (d : ℕ) (h : List Entry) (left : ℕ) → d ≡ 0 → (domain_at (state_of z h) d).serial + left ≡ 4294967295 → (domain_at (state_of z h) 0).serial + left ≡ 4294967295
+serials_first z d h left first told = subst (λ (x : ℕ). (domain_at (state_of z h) x).serial + left ≡ 4294967295) first told
