@@ -7,3 +7,4 @@ pub mod DeclineLemmas
 pub mod CountLemmas
 pub mod FewLemmas
 pub mod CountedLemmas
+pub mod RefusedBodies
