@@ -1,0 +1,10 @@
+pub mod AloneLemmas
+pub mod StretchLemmas
+pub mod CallLemmas
+pub mod MachineLemmas
+pub mod MakeLemmas
+pub mod DeclineLemmas
+pub mod CountLemmas
+pub mod FewLemmas
+pub mod CountedLemmas
+pub mod RefusedBodies
