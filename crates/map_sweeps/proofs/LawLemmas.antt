@@ -1,30 +1,32 @@
 -- How many leaves a swept map has, and what domains that rest leave of a map.
-use Rattle.std.proofs.Common.{◌≡◌, ◌⊎◌, inl, inr, ⊎_elim, ℕ, Bool, true, false, not, IsTrue, List, [], ◌∷◌, ◌++◌, length, Option, Some, None, refl, ap, sym, ◌∙◌, subst, arith, length-append}
+use Rattle.std.proofs.Common.{◌≡◌, ◌⊎◌, inl, inr, ⊎_elim, ℕ, Bool, true, false, not, cond, IsTrue, List, [], ◌∷◌, ◌++◌, map, length, Option, Some, None, refl, ap, sym, ◌∙◌, subst, arith, length-append}
+use Rattle.std.proofs.lemmas.List.{length-map}
 use Rattle.heap_model.specs.declared.label.Label.{Label}
 use Rattle.heap_model.specs.declared.entry.Entry.{Entry}
 use Rattle.heap_model.specs.declared.graph.Value.{Value}
 use Rattle.heap_model.specs.declared.graph.Value.TheVariants.{Block}
 use Rattle.heap_model.specs.declared.graph.Node.TheVariants.{Plain, Ephe}
 use Rattle.heap_model.specs.declared.state.Sizes.{Sizes}
-use Rattle.heap_model.specs.Graph.{Graph, has_label, node_at}
+use Rattle.heap_model.specs.Graph.{Graph, has_label, node_at, same_label}
 use Rattle.heap_model.specs.Entries.{next}
 use Rattle.heap_model.specs.Fronts.{EpheShape, PlainShape, is_call, shape_of}
 use Rattle.heap_model.specs.History.{IsPrefix}
+use Rattle.heap_model.proofs.Graphs.GraphLemmas.{same_label-true, same_label_refl}
 use Rattle.heap_model.proofs.Graphs.GraphStepLemmas.{nodes_stay_law}
 use Rattle.heap_model.proofs.Reach.LabelListLemmas.{length_within}
-use Rattle.heap_model.proofs.Reach.ReachLemmas.{has-append_left, has-append_right}
+use Rattle.heap_model.proofs.Reach.ReachLemmas.{has-append_left, has-append_right, or_cases, or_left, or_right}
 use Rattle.table_laws.specs.Thinning.{IsOutside, is_collector, state_of}
 use Rattle.table_laws.specs.Stages.{graph_of}
 use Rattle.table_laws.proofs.ChangeLemmas.{thin_is}
-use Rattle.map_laws.specs.Tries.{at, fields_of, inside, IsMap}
-use Rattle.map_laws.specs.Calls.{HasKey}
+use Rattle.map_laws.specs.Tries.{at, bound_by, bound_in, ends, fields_of, inside, way_to, IsMap}
+use Rattle.map_laws.specs.Calls.{HasKey, bound_after}
 use Rattle.map_laws.specs.Within.{StandsIn}
 use Rattle.map_laws.proofs.FrontLemmas.{prefix_before, walk_along}
 use Rattle.map_laws.proofs.OwnLemmas.{grew_along}
-use Rattle.map_laws.proofs.RespectLemmas.{allowed_at, collector_respects, collector_spares, graph_push, map_between, respect_both}
-use Rattle.weak_maps.proofs.DescendLemmas.{leaf_node, plain_node}
+use Rattle.map_laws.proofs.RespectLemmas.{alone_leaves, alone_respects, allowed_at, collector_respects, collector_spares, graph_push, map_between, respect_both}
+use Rattle.weak_maps.proofs.DescendLemmas.{ends_there, leaf_node, plain_node}
 use Rattle.map_sweeps.specs.Dead.{BringsNoDead}
-use Rattle.map_sweeps.specs.SweepLaws.{CameSince, LeavingBringsNoDead, RestingLeaves, SettingBringsNoDead, SweptLeavesAreFew, SweptLeavesLived, WritingElsewhereLeaves}
+use Rattle.map_sweeps.specs.SweepLaws.{AloneBringsNoDead, CameSince, LeavingBringsNoDead, RestingLeaves, SettingBringsNoDead, SweptLeavesAreFew, SweptLeavesHaveKeys, SweptLeavesLived, WritingElsewhereLeaves}
 use Rattle.map_sweeps.proofs.SpanLemmas.{steps_bring, thinned_brings}
 
 pub setting_brings : SettingBringsNoDead
@@ -36,6 +38,9 @@ pub leaving_brings : LeavingBringsNoDead
 leaving_brings z root d old new grows map respects own leaves f e since until other =
     let here : IsMap (graph_of z f) root = map_between z root old new grows (respect_both z root d old new respects own) map f since (prefix_before f e new until) in
     subst (λ (g : Graph). BringsNoDead (graph_of z f) g root) (sym (graph_push z f e)) (thinned_brings (IsOutside (state_of z f)) (graph_of z f) (next (state_of z f) e).graph root here (leaves f e since until other))
+
+pub alone_brings : AloneBringsNoDead
+alone_brings z root old new one legal grows map own = leaving_brings z root 0 old new grows map (alone_respects z root old new one legal) own (alone_leaves z root old new one legal)
 
 -- what stands in a map stood there, or came since
 came_since : (z : Sizes) (root : Label) (old new : List Entry) → IsPrefix old new → (since : List Label) → CameSince z root old new since → (l : Label) → StandsIn (graph_of z new) root l → StandsIn (graph_of z old) root l ⊎ IsTrue (has_label since l)
@@ -75,6 +80,39 @@ swept_few z root d old new grows map brings swept since came live lives leaves o
     ⊎_elim (λ had. has-append_left live since l (lives had.0 l had.1)) (λ new_one. has-append_right live since l new_one) (swept_lived z root d old new grows map brings swept since came l x.0 x.1)) in
     let long = length-append live since in
     omega (arith, few, long)
+
+-- a value that a list has is among those of its images
+map_has : (f : Label → Label) (keys : List Label) (k : Label) → IsTrue (has_label keys k) → IsTrue (has_label (map f keys) (f k))
+map_has f [] k there = cc
+map_has f (x ∷ xs) k there = ⊎_elim
+    (λ same. let is : x ≡ k = same_label-true x k same in or_left (same_label (f x) (f k)) (has_label (map f xs) (f k)) (ap (λ (y : Label). same_label (f y) (f k)) is ∙ same_label_refl (f k)))
+    (λ rest. or_right (same_label (f x) (f k)) (has_label (map f xs) (f k)) (map_has f xs k rest))
+    (or_cases (same_label x k) (has_label xs k) there)
+
+-- the label of a value, or another one
+label_or : Label → Value → Label
+label_or other (Block l) = l
+label_or other v = other
+
+-- the leaf at which the way to a key ends
+leaf_at_end : Sizes → List Entry → Label → Label → Label
+leaf_at_end z h root k = label_or root (ends (inside (graph_of z h)) (way_to z.domains k) (Block root))
+
+pub swept_keys : SweptLeavesHaveKeys
+unfolding label_or leaf_at_end
+swept_keys z root d old new grows map_is placed brings swept since came keys bound leaves once each =
+    let few = swept_few z root d old new grows map_is brings swept since came (map (leaf_at_end z old root) keys) lives leaves once each in
+    let same = length-map keys (leaf_at_end z old root) in
+    omega (arith, few, same)
+  where
+    lives : (p : List ℕ) (l : Label) → HasKey (graph_of z old) root p l → IsTrue (has_label (map (leaf_at_end z old root) keys) l)
+    lives p l had =
+        let own : bound_by (graph_of z old) had.key (Block l) ≡ Some had.datum = ap (bound_in had.key) had.node ∙ ap (λ (b : Bool). cond b (Some had.datum) None) (same_label_refl had.key) in
+        let way = placed p l had.key had.there (λ none. let clash : Some had.datum ≡ None = sym own ∙ none in cc) in
+        let ends_it = ends_there z.domains (graph_of z old) root had.key p way.0 (Block l) way.1 had.there (ap fields_of had.node) in
+        let is : bound_after z root old had.key ≡ Some had.datum = ap (bound_by (graph_of z old) had.key) ends_it ∙ own in
+        let key = bound had.key (λ none. let clash : Some had.datum ≡ None = sym is ∙ none in cc) in
+        subst (λ (m : Label). IsTrue (has_label (map (leaf_at_end z old root) keys) m)) (ap (label_or root) ends_it) (map_has (leaf_at_end z old root) keys had.key key)
 
 -- an entry is a domain's or the collector's
 call_or : (e : Entry) → IsTrue (is_call e) ⊎ IsTrue (is_collector e)

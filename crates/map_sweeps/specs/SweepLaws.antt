@@ -1,5 +1,5 @@
 -- Laws of maps that are swept, and of domains that rest.
-use Rattle.std.specs.Prelude.{◌≡◌, ◌⊎◌, ℕ, ◌+◌, ◌≤◌, false, IsTrue, List, [], ◌∷◌, ◌++◌, length, Some}
+use Rattle.std.specs.Prelude.{◌≡◌, ◌≢◌, ◌⊎◌, ℕ, ◌+◌, ◌≤◌, false, IsTrue, List, [], ◌∷◌, ◌++◌, length, None, Some}
 use Rattle.heap_model.specs.declared.label.Label.{Label}
 use Rattle.heap_model.specs.declared.entry.Entry.{Entry}
 use Rattle.heap_model.specs.declared.graph.Value.TheVariants.{Block}
@@ -12,9 +12,9 @@ use Rattle.heap_model.specs.History.{IsPrefix, Legal, is_entry_of}
 use Rattle.heap_model.specs.Laws.{written}
 use Rattle.table_laws.specs.Thinning.{is_collector, state_of}
 use Rattle.table_laws.specs.Stages.{graph_of}
-use Rattle.map_laws.specs.Tries.{is_leaf, IsMap}
+use Rattle.map_laws.specs.Tries.{is_leaf, IsInPlace, IsMap}
 use Rattle.map_laws.specs.Steps.{MapStep, Untouched, SetsKey, GoesDeeper, ClearsField, TakesKeys, OthersLeave, OthersRespect, OwnRespect}
-use Rattle.map_laws.specs.Calls.{HasKey}
+use Rattle.map_laws.specs.Calls.{HasKey, bound_after}
 use Rattle.map_laws.specs.Within.{StandsIn}
 use Rattle.map_sweeps.specs.Dead.{BringsNoDead, IsDeadLeaf, OthersBringNoDead}
 use Rattle.map_sweeps.specs.Sweeps.{SweepAnswers}
@@ -42,6 +42,10 @@ abbrev pub LeavingBringsNoDead : Type 0
 LeavingBringsNoDead = (z : Sizes) (root : Label) (d : ℕ) (old new : List Entry) → IsPrefix old new → IsMap (graph_of z old) root → OthersRespect z root d old new → OwnRespect z root d old new → OthersLeave z root d old new
     → OthersBringNoDead z root d old new
 
+-- in a heap of one domain nobody brings one
+abbrev pub AloneBringsNoDead : Type 0
+AloneBringsNoDead = (z : Sizes) (root : Label) (old new : List Entry) → z.domains ≡ 1 → Legal z new → IsPrefix old new → IsMap (graph_of z old) root → OwnRespect z root 0 old new → OthersBringNoDead z root 0 old new
+
 -- what entries bring into a map from one front to a later one is among these
 abbrev pub CameSince : Sizes → Label → List Entry → List Entry → List Label → Type 0
 CameSince z root old new since = (front : List Entry) (e : Entry) → IsPrefix old front → IsPrefix (front ++ e ∷ []) new → (l : Label) → StandsIn (graph_of z (front ++ e ∷ [])) root l → StandsIn (graph_of z front) root l ⊎ IsTrue (has_label since l)
@@ -56,6 +60,12 @@ abbrev pub SweptLeavesAreFew : Type 0
 SweptLeavesAreFew = (z : Sizes) (root : Label) (d : ℕ) (old new : List Entry) → IsPrefix old new → IsMap (graph_of z old) root → OthersBringNoDead z root d old new → SweepAnswers z root d old new → (since : List Label) → CameSince z root old new since
     → (live : List Label) → ((p : List ℕ) (l : Label) → HasKey (graph_of z old) root p l → IsTrue (has_label live l))
     → (leaves : List Label) → IsTrue (has_no_repeats leaves) → ((l : Label) → IsTrue (has_label leaves l) → StandsIn (graph_of z new) root l × is_leaf (node_at (graph_of z new) l)) → length leaves ≤ length live + length since
+
+-- counted by keys, where each leaf that bound one stood on its way: no more than the keys that were bound then and those that came since
+abbrev pub SweptLeavesHaveKeys : Type 0
+SweptLeavesHaveKeys = (z : Sizes) (root : Label) (d : ℕ) (old new : List Entry) → IsPrefix old new → IsMap (graph_of z old) root → IsInPlace z.domains (graph_of z old) root → OthersBringNoDead z root d old new → SweepAnswers z root d old new
+    → (since : List Label) → CameSince z root old new since → (keys : List Label) → ((k : Label) → bound_after z root old k ≢ None → IsTrue (has_label keys k))
+    → (leaves : List Label) → IsTrue (has_no_repeats leaves) → ((l : Label) → IsTrue (has_label leaves l) → StandsIn (graph_of z new) root l × is_leaf (node_at (graph_of z new) l)) → length leaves ≤ length keys + length since
 
 -- each call of another domain from one front to a later one writes no block that stands in a map: it only reads, makes blocks, or writes elsewhere
 abbrev pub OthersWriteElsewhere : Sizes → Label → ℕ → List Entry → List Entry → Type 0

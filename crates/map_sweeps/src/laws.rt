@@ -1,19 +1,22 @@
 //! Laws of maps that are swept, and of domains that rest. Each function's contract is one law, and it does nothing else.
-ghost use Rattle.map_sweeps.specs.SweepLaws.{LeavingBringsNoDead, RestingLeaves, SettingBringsNoDead, StepsBringNoDead, SweptLeavesAreFew, SweptLeavesLived, WritingElsewhereLeaves};
+ghost use Rattle.map_sweeps.specs.SweepLaws.{AloneBringsNoDead, LeavingBringsNoDead, RestingLeaves, SettingBringsNoDead, StepsBringNoDead, SweptLeavesAreFew, SweptLeavesHaveKeys, SweptLeavesLived, WritingElsewhereLeaves};
 
-/// No step of another domain brings a leaf that has lost its key to a place of a map, but one that sets a key by such a leaf:
-/// each stood there before, or was taken one block deeper. A domain that leaves the map brings none.
+/// A leaf that has lost its key comes to no place of a map by any step but one that sets a key by it: it stood there before, or
+/// was taken one block deeper. So other domains bring none where they set keys by 0 and by leaves that have theirs, or leave
+/// the map alone, nor does anybody in a heap of one domain.
 pub fn dead_leaves_stay_out()
     ensures steps { StepsBringNoDead }
     ensures setting { SettingBringsNoDead }
     ensures leaving { LeavingBringsNoDead }
+    ensures alone { AloneBringsNoDead }
 {}
 
 /// Each leaf that a map has behind a sweep stood there with its key when the sweep began, or came since. So there are no more
-/// than the two together.
+/// than the two together, and no more than keys were bound when it began and leaves came since.
 pub fn swept_leaves_are_few()
     ensures lived { SweptLeavesLived }
     ensures few { SweptLeavesAreFew }
+    ensures keys { SweptLeavesHaveKeys }
 {}
 
 /// Where from one front to a later one no other domain writes a block of a map, as where each rests, only reads, or writes

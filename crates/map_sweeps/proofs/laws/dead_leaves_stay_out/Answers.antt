@@ -1,4 +1,4 @@
-use Rattle.map_sweeps.proofs.LawLemmas.{leaving_brings, setting_brings}
+use Rattle.map_sweeps.proofs.LawLemmas.{alone_brings, leaving_brings, setting_brings}
 use Rattle.map_sweeps.proofs.SpanLemmas.{steps_bring}
 use Rattle.map_sweeps.proofs.laws.dead_leaves_stay_out.Goals as goal
 
@@ -10,3 +10,6 @@ returns-clause-setting c = setting_brings
 
 pub returns-clause-leaving : goal.returns-clause-leaving
 returns-clause-leaving c = leaving_brings
+
+pub returns-clause-alone : goal.returns-clause-alone
+returns-clause-alone c = alone_brings
