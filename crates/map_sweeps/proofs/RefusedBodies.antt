@@ -49,19 +49,19 @@ live_stays g h root map c p l had = go (goes_through (inside h) (inside g) (Bloc
         let some : bound_by g had.key (Block l) ≡ Some had.datum = ap (bound_in had.key) had.node ∙ ap (λ (b : Bool). cond b (Some had.datum) None) (same_label_refl had.key) in
         let clash : None ≡ Some had.datum = sym none ∙ some in cc
 
-module _ (z : Sizes) (root : Label) (d : ℕ) (old new : List Entry) (x : SweepAnswers z root d old new) where
-  -- a sweep drops no leaf that has its key, also none that another call put while it went on
-  pub no_live_leaf_is_dropped : (front : List Entry) (e : Entry) → IsPrefix old front → IsPrefix (front ++ e ∷ []) new → is_entry_of d e ≡ true → IsMap (graph_of z front) root → (p : List ℕ) (l : Label) → HasKey (graph_of z front) root p l
-      → at (inside (graph_of z (front ++ e ∷ []))) p (Block root) ≢ Some (Block l) → ⊥
-  no_live_leaf_is_dropped front e since until own map p l had gone = gone (⊎_elim
-      (λ same. ap (λ (g : Graph). at (inside g) p (Block root)) same ∙ had.there)
-      (λ c. live_stays (graph_of z front) (graph_of z (front ++ e ∷ [])) root map c p l had)
-      (x.clear front e since until own))
+-- a sweep drops no leaf that has its key, also none that another call put while it went on
+pub no_live_leaf_is_dropped : (z : Sizes) (root : Label) (d : ℕ) (old new : List Entry) → SweepAnswers z root d old new → (front : List Entry) (e : Entry) → IsPrefix old front → IsPrefix (front ++ e ∷ []) new → is_entry_of d e ≡ true → IsMap (graph_of z front) root → (p : List ℕ) (l : Label)
+    → HasKey (graph_of z front) root p l → at (inside (graph_of z (front ++ e ∷ []))) p (Block root) ≢ Some (Block l) → ⊥
+no_live_leaf_is_dropped z root d old new x front e since until own map p l had gone = gone (⊎_elim
+    (λ same. ap (λ (g : Graph). at (inside g) p (Block root)) same ∙ had.there)
+    (λ c. live_stays (graph_of z front) (graph_of z (front ++ e ∷ [])) root map c p l had)
+    (x.clear front e since until own))
 
-  -- nor does it overwrite a binding, whoever put it and when
-  pub no_put_is_overwritten : (front : List Entry) (e : Entry) → IsPrefix old front → IsPrefix (front ++ e ∷ []) new → is_entry_of d e ≡ true → (k : Label) (v : Value) → bound_after z root front k ≡ Some v → bound_after z root (front ++ e ∷ []) k ≢ Some v → ⊥
-  no_put_is_overwritten front e since until own k v bound other = other (x.looks.keeps front e since until own k ∙ bound)
+-- nor does it overwrite a binding, whoever put it and when
+pub no_put_is_overwritten : (z : Sizes) (root : Label) (d : ℕ) (old new : List Entry) → SweepAnswers z root d old new → (front : List Entry) (e : Entry) → IsPrefix old front → IsPrefix (front ++ e ∷ []) new → is_entry_of d e ≡ true → (k : Label) (v : Value)
+    → bound_after z root front k ≡ Some v → bound_after z root (front ++ e ∷ []) k ≢ Some v → ⊥
+no_put_is_overwritten z root d old new x front e since until own k v bound other = other (x.looks.keeps front e since until own k ∙ bound)
 
-  -- nor does it leave a dead leaf that nobody puts back: a body that does nothing is none
-  pub no_dead_leaf_is_left : OthersBringNoDead z root d old new → (l : Label) → StandsDead (graph_of z old) root l → StandsDead (graph_of z new) root l → ⊥
-  no_dead_leaf_is_left brings l before after = x.gone brings l before (after.p, after.there)
+-- nor does it leave a leaf that had lost its key when it began, and that no other domain brings back: a body that does nothing is none
+pub no_dead_leaf_is_left : (z : Sizes) (root : Label) (d : ℕ) (old new : List Entry) → SweepAnswers z root d old new → OthersBringNoDead z root d old new → (l : Label) → StandsDead (graph_of z old) root l → StandsDead (graph_of z new) root l → ⊥
+no_dead_leaf_is_left z root d old new x brings l before after = x.gone brings l before (after.p, after.there)

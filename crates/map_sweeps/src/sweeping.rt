@@ -202,10 +202,10 @@ fn forget_high<M: Machine, R: Wait>(m: &mut M, rt: &R)
 }
 
 /// Sweeps the map in a register, which other domains may use meanwhile by its calls: each leaf that had lost its key when the
-/// call began stands in the map no more, unless another domain has put it back. Each is taken out by one compare-and-set, and
-/// nothing else is written: no binding changes, no leaf goes that has its key or that was put since, and inner blocks stay.
-/// Nothing is made. Where another call wins a field, it is read once more, and no more, so the commands are at most four for
-/// each field, and two more. Registers are below 8. Registers 8 to 15 hold nothing afterwards.
+/// call began stands in the map no more, unless another domain sets a key by such a leaf. Each is taken out by one
+/// compare-and-set, and nothing else is written: no binding changes, no leaf goes that has its key or that was put since, and
+/// inner blocks stay. Nothing is made. Where another call wins a field, it is read once more, and no more: a field takes six
+/// commands at most. Registers are below 8. Registers 8 to 15 hold nothing afterwards.
 pub fn map_sweep<M: Machine, R: Wait>(m: &mut M, rt: &R, map: u8)
     requires few { map < 8 }
     ensures sizes { M.sizes m.new ≡ M.sizes m.old }
