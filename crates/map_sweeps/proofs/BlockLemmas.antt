@@ -27,7 +27,7 @@ use Rattle.weak_maps.proofs.StayLemmas.{no_entry, quiet_on}
 use Rattle.map_sweeps.specs.Dead.{OthersBringNoDead, StandsDead, StoodDead}
 use Rattle.map_sweeps.specs.Sweeps.{AtBlock, BlockSwept, EmptiedHigh, FieldSwept, NoDeadAt, Settled, SweepReturns, SweepsBlock, SweepsField}
 use Rattle.map_sweeps.proofs.SettleLemmas.{block_later}
-use Rattle.map_sweeps.proofs.SpanLemmas.{Span, brings_within, clear_none, clear_twice, dead_end, no_dead_earlier, span_all, span_brings, span_dead, span_down, span_looks, span_map, span_own_within, span_pinned, span_twice}
+use Rattle.map_sweeps.proofs.SpanLemmas.{Span, brings_within, clear_none, clear_twice, dead_end, no_dead_earlier, span_all, span_brings, span_dead, span_down, span_looks, span_map, span_others_bring, span_own_within, span_pinned, span_twice}
 
 -- others respect a part of a stretch
 respects_part : (z : Sizes) (root : Label) (d : ℕ) (old new a b : List Entry) → IsPrefix old a → IsPrefix b new → OthersRespect z root d old new → OthersRespect z root d a b
@@ -208,7 +208,10 @@ module _ (z : Sizes) (limits : IsWithinLimits z) (d : ℕ) (old : List Entry) wh
       nothing_at : NoDeadAt z root d old n1 []
       nothing_at = whole z d root [] root old n1 map 6 root_width (omega (arith, small)) start y g0 early refl
 
-      gone : OthersBringNoDead z root d old new → (l : Label) → StandsDead (graph_of z old) root l → StandsIn (graph_of z new) root l → ⊥
-      gone brings l s (p, there) =
+      brings : OthersBringNoDead z root d old new
+      brings = span_others_bring z root d old new over
+
+      gone : (l : Label) → StandsDead (graph_of z old) root l → StandsIn (graph_of z new) root l → ⊥
+      gone l s (p, there) =
           let y = span_down z root d n1 new last (brings_within z root d old new n1 new g0 (prefix_same new) brings) l (span_dead z root d old n1 first l (stood l s)) p there in
           nothing_at (brings_within z root d old new old n1 (prefix_same old) g1 brings) l (stood l s) y.0 y.3

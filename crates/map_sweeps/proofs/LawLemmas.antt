@@ -23,24 +23,16 @@ use Rattle.map_laws.specs.Calls.{HasKey, bound_after}
 use Rattle.map_laws.specs.Within.{StandsIn}
 use Rattle.map_laws.proofs.FrontLemmas.{prefix_before, walk_along}
 use Rattle.map_laws.proofs.OwnLemmas.{grew_along}
-use Rattle.map_laws.proofs.RespectLemmas.{alone_leaves, alone_respects, allowed_at, collector_respects, collector_spares, graph_push, map_between, respect_both}
+use Rattle.map_laws.proofs.RespectLemmas.{allowed_at, collector_respects, collector_spares, graph_push, map_between, respect_both}
 use Rattle.weak_maps.proofs.DescendLemmas.{ends_there, leaf_node, plain_node}
 use Rattle.map_sweeps.specs.Dead.{BringsNoDead}
-use Rattle.map_sweeps.specs.SweepLaws.{AloneBringsNoDead, CameSince, LeavingBringsNoDead, RestingLeaves, SettingBringsNoDead, SweptLeavesAreFew, SweptLeavesHaveKeys, SweptLeavesLived, WritingElsewhereLeaves}
-use Rattle.map_sweeps.proofs.SpanLemmas.{steps_bring, thinned_brings}
+use Rattle.map_sweeps.specs.SweepLaws.{CameSince, RespectingBringsNoDead, RestingLeaves, SweptLeavesAreFew, SweptLeavesHaveKeys, SweptLeavesLived, WritingElsewhereLeaves}
+use Rattle.map_sweeps.proofs.SpanLemmas.{steps_bring}
 
-pub setting_brings : SettingBringsNoDead
-setting_brings z root d old new grows map respects own none f e since until other =
+pub respecting_brings : RespectingBringsNoDead
+respecting_brings z root d old new grows map respects own f e since until other =
     let here : IsMap (graph_of z f) root = map_between z root old new grows (respect_both z root d old new respects own) map f since (prefix_before f e new until) in
-    subst (λ (g : Graph). BringsNoDead (graph_of z f) g root) (sym (graph_push z f e)) (steps_bring z.domains root (state_of z f) e here (respects f e since until other).step (none f e since until other))
-
-pub leaving_brings : LeavingBringsNoDead
-leaving_brings z root d old new grows map respects own leaves f e since until other =
-    let here : IsMap (graph_of z f) root = map_between z root old new grows (respect_both z root d old new respects own) map f since (prefix_before f e new until) in
-    subst (λ (g : Graph). BringsNoDead (graph_of z f) g root) (sym (graph_push z f e)) (thinned_brings (IsOutside (state_of z f)) (graph_of z f) (next (state_of z f) e).graph root here (leaves f e since until other))
-
-pub alone_brings : AloneBringsNoDead
-alone_brings z root old new one legal grows map own = leaving_brings z root 0 old new grows map (alone_respects z root old new one legal) own (alone_leaves z root old new one legal)
+    subst (λ (g : Graph). BringsNoDead (graph_of z f) g root) (sym (graph_push z f e)) (steps_bring z.domains root (state_of z f) e here (respects f e since until other).step)
 
 -- what stands in a map stood there, or came since
 came_since : (z : Sizes) (root : Label) (old new : List Entry) → IsPrefix old new → (since : List Label) → CameSince z root old new since → (l : Label) → StandsIn (graph_of z new) root l → StandsIn (graph_of z old) root l ⊎ IsTrue (has_label since l)
@@ -48,7 +40,7 @@ came_since z root old new grows since came l = walk_along (λ h. StandsIn (graph
     (λ f e a b so_far there. ⊎_elim so_far (λ new_one. inr new_one) (came f e a b l there)) (λ there. inl there)
 
 pub swept_lived : SweptLeavesLived
-swept_lived z root d old new grows map brings swept since came l there leaf = ⊎_elim (λ stood. go stood) (λ new_one. inr new_one) (came_since z root old new grows since came l there)
+swept_lived z root d old new grows map swept since came l there leaf = ⊎_elim (λ stood. go stood) (λ new_one. inr new_one) (came_since z root old new grows since came l there)
   where
     now : (key : Option Label) × (datum : Value) × (node_at (graph_of z new) l ≡ Some (Ephe (key ∷ []) datum))
     now = leaf_node (node_at (graph_of z new) l) leaf
@@ -66,18 +58,18 @@ swept_lived z root d old new grows map brings swept since came l there leaf = �
         let clash : EpheShape 1 ≡ PlainShape (length fields) n.0 = sym (ap shape_of is) ∙ later.2 in cc
 
     of_key : (p : List ℕ) → at (inside (graph_of z old)) p (Block root) ≡ Some (Block l) → (key : Option Label) (datum : Value) → node_at (graph_of z old) l ≡ Some (Ephe (key ∷ []) datum) → Out
-    of_key p stood None datum node = absurd (swept.gone brings l (record { p = p; there = stood; dead = (datum, node) }) there)
+    of_key p stood None datum node = absurd (swept.gone l (record { p = p; there = stood; dead = (datum, node) }) there)
     of_key p stood (Some k) datum node = inl (p, record { there = stood; key = k; datum = datum; node = node })
 
     go : StandsIn (graph_of z old) root l → Out
     go (p, stood) = ⊎_elim (λ was. let n = leaf_node (node_at (graph_of z old) l) was in of_key p stood n.0 n.1 n.2) (λ plain. absurd (not_block plain.0 plain.1)) (map.slots p (Block l) stood)
 
 pub swept_few : SweptLeavesAreFew
-swept_few z root d old new grows map brings swept since came live lives leaves once each =
+swept_few z root d old new grows map swept since came live lives leaves once each =
     let few = length_within leaves (live ++ since) once
     (λ l there.
     let x = each l there in
-    ⊎_elim (λ had. has-append_left live since l (lives had.0 l had.1)) (λ new_one. has-append_right live since l new_one) (swept_lived z root d old new grows map brings swept since came l x.0 x.1)) in
+    ⊎_elim (λ had. has-append_left live since l (lives had.0 l had.1)) (λ new_one. has-append_right live since l new_one) (swept_lived z root d old new grows map swept since came l x.0 x.1)) in
     let long = length-append live since in
     omega (arith, few, long)
 
@@ -100,8 +92,8 @@ leaf_at_end z h root k = label_or root (ends (inside (graph_of z h)) (way_to z.d
 
 pub swept_keys : SweptLeavesHaveKeys
 unfolding label_or leaf_at_end
-swept_keys z root d old new grows map_is placed brings swept since came keys bound leaves once each =
-    let few = swept_few z root d old new grows map_is brings swept since came (map (leaf_at_end z old root) keys) lives leaves once each in
+swept_keys z root d old new grows map_is placed swept since came keys bound leaves once each =
+    let few = swept_few z root d old new grows map_is swept since came (map (leaf_at_end z old root) keys) lives leaves once each in
     let same = length-map keys (leaf_at_end z old root) in
     omega (arith, few, same)
   where

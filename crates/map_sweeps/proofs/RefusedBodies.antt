@@ -14,7 +14,7 @@ use Rattle.map_laws.specs.Steps.{Clears}
 use Rattle.map_laws.specs.Calls.{HasKey, bound_after}
 use Rattle.map_laws.proofs.SetLemmas.{block_is, now_inside, others_inside, was_inside}
 use Rattle.weak_maps.proofs.PlaceLemmas.{goes_through, only_there}
-use Rattle.map_sweeps.specs.Dead.{OthersBringNoDead, StandsDead}
+use Rattle.map_sweeps.specs.Dead.{StandsDead}
 use Rattle.map_sweeps.specs.Sweeps.{SweepAnswers}
 
 put_back : (xs : List Value) (i : ℕ) (w d : Value) → i < length xs → set (set xs i w) i (get_or xs i d) ≡ xs
@@ -62,6 +62,6 @@ pub no_put_is_overwritten : (z : Sizes) (root : Label) (d : ℕ) (old new : List
     → bound_after z root front k ≡ Some v → bound_after z root (front ++ e ∷ []) k ≢ Some v → ⊥
 no_put_is_overwritten z root d old new x front e since until own k v bound other = other (x.looks.keeps front e since until own k ∙ bound)
 
--- nor does it leave a leaf that had lost its key when it began, and that no other domain brings back: a body that does nothing is none
-pub no_dead_leaf_is_left : (z : Sizes) (root : Label) (d : ℕ) (old new : List Entry) → SweepAnswers z root d old new → OthersBringNoDead z root d old new → (l : Label) → StandsDead (graph_of z old) root l → StandsDead (graph_of z new) root l → ⊥
-no_dead_leaf_is_left z root d old new x brings l before after = x.gone brings l before (after.p, after.there)
+-- nor does it leave a leaf that had lost its key when it began: a body that does nothing is none
+pub no_dead_leaf_is_left : (z : Sizes) (root : Label) (d : ℕ) (old new : List Entry) → SweepAnswers z root d old new → (l : Label) → StandsDead (graph_of z old) root l → StandsDead (graph_of z new) root l → ⊥
+no_dead_leaf_is_left z root d old new x l before after = x.gone l before (after.p, after.there)

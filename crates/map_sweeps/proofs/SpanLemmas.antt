@@ -110,11 +110,11 @@ deeper_brings n g h root map s x l dead there = go (goes_through (inside g) (ins
     go (inr (p2, q, split, at_block, rest)) = behind p2 q split at_block rest
 
 pub steps_bring : StepsBringNoDead
-steps_bring n root s e map (Untouched same) none = thinned_brings NoLabel s.graph (next s e).graph root map (untouched_thinned NoLabel s.graph (next s e).graph root same)
-steps_bring n root s e map (SetsKey k new set) none = written_brings s.graph (next s e).graph root set.p set.i set.held new set.writes map set.leaf none
-steps_bring n root s e map (GoesDeeper deeper) none = deeper_brings n s.graph (next s e).graph root map deeper
-steps_bring n root s e map (ClearsField cleared) none = clear_brings s.graph (next s e).graph root map cleared
-steps_bring n root s e map (TakesKeys thin) none = thinned_brings (IsOutside s) s.graph (next s e).graph root map thin
+steps_bring n root s e map (Untouched same) = thinned_brings NoLabel s.graph (next s e).graph root map (untouched_thinned NoLabel s.graph (next s e).graph root same)
+steps_bring n root s e map (SetsKey k new set) = written_brings s.graph (next s e).graph root set.p set.i set.held new set.writes map set.leaf (λ l same dead. set.alive l dead.0 same dead.1)
+steps_bring n root s e map (GoesDeeper deeper) = deeper_brings n s.graph (next s e).graph root map deeper
+steps_bring n root s e map (ClearsField cleared) = clear_brings s.graph (next s e).graph root map cleared
+steps_bring n root s e map (TakesKeys thin) = thinned_brings (IsOutside s) s.graph (next s e).graph root map thin
 
 -- of two ways of which each begins a third, one begins the other
 pub prefix_cases : (p q x w : List ℕ) → p ++ x ≡ q ++ w → ((s : List ℕ) × (p ≡ q ++ s)) ⊎ ((s : List ℕ) × (q ≡ p ++ s) × (x ≡ s ++ w))
@@ -222,6 +222,10 @@ module _ (z : Sizes) (root : Label) (d : ℕ) where
         go : IsMap (graph_of z f) root → (graph_of z (f ++ e ∷ []) ≡ graph_of z f) ⊎ Clears (graph_of z f) (graph_of z (f ++ e ∷ [])) root → BringsNoDead (graph_of z f) (graph_of z (f ++ e ∷ [])) root
         go map (inl same) p l dead there = stays_put (graph_of z f) root p l (ap (λ (g : Graph). at (inside g) p (Block root)) (sym same) ∙ there)
         go map (inr c) p l dead there = clear_brings (graph_of z f) (graph_of z (f ++ e ∷ [])) root map c p l dead there
+
+    pub span_others_bring : OthersBringNoDead z root d old new
+    span_others_bring f e since until other = subst (λ (g : Graph). BringsNoDead (graph_of z f) g root) (sym (graph_push z f e))
+        (steps_bring z.domains root (state_of z f) e (span_between f since (prefix_before f e new until)) (x.others f e since until other).step)
 
     -- a dead leaf that stands in the map at the end stood there, or on the way there
     pub span_down : OthersBringNoDead z root d old new → (l : Label) → StoodDead z root old l → (p : List ℕ) → at (inside (graph_of z new)) p (Block root) ≡ Some (Block l)

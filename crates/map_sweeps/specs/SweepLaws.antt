@@ -2,7 +2,6 @@
 use Rattle.std.specs.Prelude.{◌≡◌, ◌≢◌, ◌⊎◌, ℕ, ◌+◌, ◌≤◌, false, IsTrue, List, [], ◌∷◌, ◌++◌, length, None, Some}
 use Rattle.heap_model.specs.declared.label.Label.{Label}
 use Rattle.heap_model.specs.declared.entry.Entry.{Entry}
-use Rattle.heap_model.specs.declared.graph.Value.TheVariants.{Block}
 use Rattle.heap_model.specs.declared.state.Sizes.{Sizes}
 use Rattle.heap_model.specs.declared.state.State.{State}
 use Rattle.heap_model.specs.Graph.{has_label, has_no_repeats, node_at}
@@ -13,38 +12,19 @@ use Rattle.heap_model.specs.Laws.{written}
 use Rattle.table_laws.specs.Thinning.{is_collector, state_of}
 use Rattle.table_laws.specs.Stages.{graph_of}
 use Rattle.map_laws.specs.Tries.{is_leaf, IsInPlace, IsMap}
-use Rattle.map_laws.specs.Steps.{MapStep, Untouched, SetsKey, GoesDeeper, ClearsField, TakesKeys, OthersLeave, OthersRespect, OwnRespect}
+use Rattle.map_laws.specs.Steps.{MapStep, OthersLeave, OthersRespect, OwnRespect}
 use Rattle.map_laws.specs.Calls.{HasKey, bound_after}
 use Rattle.map_laws.specs.Within.{StandsIn}
-use Rattle.map_sweeps.specs.Dead.{BringsNoDead, IsDeadLeaf, OthersBringNoDead}
+use Rattle.map_sweeps.specs.Dead.{BringsNoDead, OthersBringNoDead}
 use Rattle.map_sweeps.specs.Sweeps.{SweepAnswers}
 
--- a step that sets a key doesn't do so by a leaf that has lost its key
-abbrev pub SetsNoDead : (n : ℕ) (root : Label) (s : State) (e : Entry) → MapStep n root s e → Type 0
-SetsNoDead n root s e (Untouched same) = Unit {0}
-SetsNoDead n root s e (SetsKey k new set) = (l : Label) → new ≡ Block l → IsDeadLeaf s.graph l → ⊥
-SetsNoDead n root s e (GoesDeeper deeper) = Unit {0}
-SetsNoDead n root s e (ClearsField cleared) = Unit {0}
-SetsNoDead n root s e (TakesKeys thinned) = Unit {0}
-
--- no other step brings one to a place: it stood there before, or the step took it one block deeper
+-- no step brings a leaf that has lost its key to a place: it stood there before, or the step took it one block deeper
 abbrev pub StepsBringNoDead : Type 0
-StepsBringNoDead = (n : ℕ) (root : Label) (s : State) (e : Entry) → IsMap s.graph root → (step : MapStep n root s e) → SetsNoDead n root s e step → BringsNoDead s.graph (next s e).graph root
+StepsBringNoDead = (n : ℕ) (root : Label) (s : State) (e : Entry) → IsMap s.graph root → MapStep n root s e → BringsNoDead s.graph (next s e).graph root
 
--- so where no step of other domains sets a key by such a leaf they bring none
-abbrev pub SettingBringsNoDead : Type 0
-SettingBringsNoDead = (z : Sizes) (root : Label) (d : ℕ) (old new : List Entry) → IsPrefix old new → IsMap (graph_of z old) root → (respects : OthersRespect z root d old new) → OwnRespect z root d old new
-    → ((front : List Entry) (e : Entry) (since : IsPrefix old front) (until : IsPrefix (front ++ e ∷ []) new) (other : is_entry_of d e ≡ false) → SetsNoDead z.domains root (state_of z front) e (respects front e since until other).step)
-    → OthersBringNoDead z root d old new
-
--- domains that leave a map bring none into it
-abbrev pub LeavingBringsNoDead : Type 0
-LeavingBringsNoDead = (z : Sizes) (root : Label) (d : ℕ) (old new : List Entry) → IsPrefix old new → IsMap (graph_of z old) root → OthersRespect z root d old new → OwnRespect z root d old new → OthersLeave z root d old new
-    → OthersBringNoDead z root d old new
-
--- in a heap of one domain nobody brings one
-abbrev pub AloneBringsNoDead : Type 0
-AloneBringsNoDead = (z : Sizes) (root : Label) (old new : List Entry) → z.domains ≡ 1 → Legal z new → IsPrefix old new → IsMap (graph_of z old) root → OwnRespect z root 0 old new → OthersBringNoDead z root 0 old new
+-- so domains that respect a map bring none
+abbrev pub RespectingBringsNoDead : Type 0
+RespectingBringsNoDead = (z : Sizes) (root : Label) (d : ℕ) (old new : List Entry) → IsPrefix old new → IsMap (graph_of z old) root → OthersRespect z root d old new → OwnRespect z root d old new → OthersBringNoDead z root d old new
 
 -- what entries bring into a map from one front to a later one is among these
 abbrev pub CameSince : Sizes → Label → List Entry → List Entry → List Label → Type 0
@@ -52,18 +32,18 @@ CameSince z root old new since = (front : List Entry) (e : Entry) → IsPrefix o
 
 -- a leaf that stands in a map behind a sweep stood there with its key when the sweep began, or came since
 abbrev pub SweptLeavesLived : Type 0
-SweptLeavesLived = (z : Sizes) (root : Label) (d : ℕ) (old new : List Entry) → IsPrefix old new → IsMap (graph_of z old) root → OthersBringNoDead z root d old new → SweepAnswers z root d old new → (since : List Label) → CameSince z root old new since
+SweptLeavesLived = (z : Sizes) (root : Label) (d : ℕ) (old new : List Entry) → IsPrefix old new → IsMap (graph_of z old) root → SweepAnswers z root d old new → (since : List Label) → CameSince z root old new since
     → (l : Label) → StandsIn (graph_of z new) root l → is_leaf (node_at (graph_of z new) l) → ((p : List ℕ) × HasKey (graph_of z old) root p l) ⊎ IsTrue (has_label since l)
 
 -- so there are no more than those that had their key then and those that came since
 abbrev pub SweptLeavesAreFew : Type 0
-SweptLeavesAreFew = (z : Sizes) (root : Label) (d : ℕ) (old new : List Entry) → IsPrefix old new → IsMap (graph_of z old) root → OthersBringNoDead z root d old new → SweepAnswers z root d old new → (since : List Label) → CameSince z root old new since
+SweptLeavesAreFew = (z : Sizes) (root : Label) (d : ℕ) (old new : List Entry) → IsPrefix old new → IsMap (graph_of z old) root → SweepAnswers z root d old new → (since : List Label) → CameSince z root old new since
     → (live : List Label) → ((p : List ℕ) (l : Label) → HasKey (graph_of z old) root p l → IsTrue (has_label live l))
     → (leaves : List Label) → IsTrue (has_no_repeats leaves) → ((l : Label) → IsTrue (has_label leaves l) → StandsIn (graph_of z new) root l × is_leaf (node_at (graph_of z new) l)) → length leaves ≤ length live + length since
 
 -- counted by keys, where each leaf that bound one stood on its way: no more than the keys that were bound then and those that came since
 abbrev pub SweptLeavesHaveKeys : Type 0
-SweptLeavesHaveKeys = (z : Sizes) (root : Label) (d : ℕ) (old new : List Entry) → IsPrefix old new → IsMap (graph_of z old) root → IsInPlace z.domains (graph_of z old) root → OthersBringNoDead z root d old new → SweepAnswers z root d old new
+SweptLeavesHaveKeys = (z : Sizes) (root : Label) (d : ℕ) (old new : List Entry) → IsPrefix old new → IsMap (graph_of z old) root → IsInPlace z.domains (graph_of z old) root → SweepAnswers z root d old new
     → (since : List Label) → CameSince z root old new since → (keys : List Label) → ((k : Label) → bound_after z root old k ≢ None → IsTrue (has_label keys k))
     → (leaves : List Label) → IsTrue (has_no_repeats leaves) → ((l : Label) → IsTrue (has_label leaves l) → StandsIn (graph_of z new) root l × is_leaf (node_at (graph_of z new) l)) → length leaves ≤ length keys + length since
 

@@ -115,12 +115,12 @@ pub record EmptiedHigh (z : Sizes) (d : ℕ) (old new : List Entry) (n : ℕ) : 
   pub quiet : OwnQuiet z d old new
 
 -- A sweep changes no binding, and does to the map only what others may rely on: each of its entries leaves all blocks, or takes a leaf that binds nothing out.
--- Unless others bring them back, no leaf stands in the map then that stood there dead when it began. Its own entries bring none
+-- No leaf stands in the map then that stood there dead when it began. Its own entries bring none
 pub record SweepAnswers (z : Sizes) (root : Label) (d : ℕ) (old new : List Entry) : Type 0 where
   pub looks : Looks z root d old new
   pub clear : OwnClear z root d old new
   pub own : OwnBringNoDead z root d old new
-  pub gone : OthersBringNoDead z root d old new → (l : Label) → StandsDead (graph_of z old) root l → StandsIn (graph_of z new) root l → ⊥
+  pub gone : (l : Label) → StandsDead (graph_of z old) root l → StandsIn (graph_of z new) root l → ⊥
 
 -- what `map_sweep` leaves: the map is one still, each leaf that binds a key stands on its way if it did, no block was written but of the map, registers 8 to 15 hold nothing, and the others what they held
 pub record SweepLeaves (z : Sizes) (d : ℕ) (old new : List Entry) (root : Label) : Type 0 where

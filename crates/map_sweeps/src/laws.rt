@@ -1,14 +1,11 @@
 //! Laws of maps that are swept, and of domains that rest. Each function's contract is one law, and it does nothing else.
-ghost use Rattle.map_sweeps.specs.SweepLaws.{AloneBringsNoDead, LeavingBringsNoDead, RestingLeaves, SettingBringsNoDead, StepsBringNoDead, SweptLeavesAreFew, SweptLeavesHaveKeys, SweptLeavesLived, WritingElsewhereLeaves};
+ghost use Rattle.map_sweeps.specs.SweepLaws.{RespectingBringsNoDead, RestingLeaves, StepsBringNoDead, SweptLeavesAreFew, SweptLeavesHaveKeys, SweptLeavesLived, WritingElsewhereLeaves};
 
-/// A leaf that has lost its key comes to no place of a map by any step but one that sets a key by it: it stood there before, or
-/// was taken one block deeper. So other domains bring none where they set keys by 0 and by leaves that have theirs, or leave
-/// the map alone, nor does anybody in a heap of one domain.
+/// A leaf that has lost its key comes to no place of a map by any step: it stood there before, or was taken one block deeper. So
+/// domains that respect a map bring none.
 pub fn dead_leaves_stay_out()
     ensures steps { StepsBringNoDead }
-    ensures setting { SettingBringsNoDead }
-    ensures leaving { LeavingBringsNoDead }
-    ensures alone { AloneBringsNoDead }
+    ensures respecting { RespectingBringsNoDead }
 {}
 
 /// Each leaf that a map has behind a sweep stood there with its key when the sweep began, or came since. So there are no more

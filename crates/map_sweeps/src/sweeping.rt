@@ -1,8 +1,6 @@
 //! Maps that are swept while other domains use them.
-ghost use Rattle.std.specs.Prelude.{◌≡◌, ◌+◌, ◌-◌, ◌<◌, ◌≤◌, cond, true, ◌↔◌};
-ghost use Rattle.heap_model.specs.declared.reply.Reply.TheVariants as variant;
+ghost use Rattle.std.specs.Prelude.{◌≡◌, ◌-◌, ◌<◌, ◌≤◌, true, ◌↔◌};
 ghost use Rattle.heap_model.specs.History.{IsPrefix};
-ghost use Rattle.weak_maps.specs.Beside.{refusals_by, writings_by};
 ghost use Rattle.weak_maps.specs.Cleans.{width_of};
 ghost use Rattle.map_sweeps.specs.Sweeps.{EmptiedHigh, Exchanged, Peeks, Settled, SweepReturns, SweepsBlock, SweepsField};
 ghost use Rattle.map_sweeps.specs.declared.sweeping.Held.TheVariants.{Dead, Inner};
@@ -202,9 +200,8 @@ fn forget_high<M: Machine, R: Wait>(m: &mut M, rt: &R)
 }
 
 /// Sweeps the map in a register, which other domains may use meanwhile by its calls: each leaf that had lost its key when the
-/// call began stands in the map no more, unless another domain sets a key by such a leaf. Each is taken out by one
-/// compare-and-set, and nothing else is written: no binding changes, no leaf goes that has its key or that was put since, and
-/// inner blocks stay. Nothing is made. Where another call wins a field, it is read once more, and no more: a field takes six
+/// call began stands in the map no more. Each is taken out by one compare-and-set, and nothing else is written: no binding
+/// changes, no leaf goes that has its key or that was put since, and inner blocks stay. Nothing is made. Where another call wins a field, it is read once more, and no more: a field takes six
 /// commands at most. Registers are below 8. Registers 8 to 15 hold nothing afterwards.
 pub fn map_sweep<M: Machine, R: Wait>(m: &mut M, rt: &R, map: u8)
     requires few { map < 8 }
