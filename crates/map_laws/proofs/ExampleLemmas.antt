@@ -5,8 +5,10 @@ use Rattle.heap_model.specs.declared.graph.Value.{Value}
 use Rattle.heap_model.specs.declared.graph.Value.TheVariants.{Int, Block, Nothing}
 use Rattle.heap_model.proofs.Graphs.GraphLemmas.{same_label-false}
 use Rattle.heap_model.specs.Reach.{reachable}
-use Rattle.map_laws.specs.Examples.{block, IsBoundWhileHeld, IsUnboundAfterwards, IsLegalExample, NoneLeavesIt, StoredNumberBreaksMap, PutIsAStep, root_fields, room_graph, DeepenIsAStep, IsBoundDeeper, IsEmptyOnceCleaned}
-use Rattle.heap_model.specs.Graph.{same_label}
+use Rattle.map_laws.specs.Examples.{block, leaf_made, small_sizes, IsBoundWhileHeld, IsUnboundAfterwards, IsLegalExample, NoneLeavesIt, StoredNumberBreaksMap, PutIsAStep, root_fields, room_graph, DeepenIsAStep, IsBoundDeeper, IsEmptyOnceCleaned}
+use Rattle.heap_model.specs.Graph.{node_at, same_label}
+use Rattle.heap_model.specs.declared.graph.Node.TheVariants.{Ephe}
+use Rattle.table_laws.specs.Stages.{graph_of}
 use Rattle.heap_model.proofs.Graphs.GraphLemmas.{same_label-true}
 use Rattle.map_laws.specs.Tries.{low_digits, way_to, inside, at, bound_by}
 use Rattle.map_laws.proofs.WalkLemmas.{at_step, at_stop}
@@ -39,6 +41,7 @@ put_is_a_step = record {
   writes = record { block = block 1; tag = 0; fields = _; there = refl; node = refl; below = omega arith; was = refl; end = refl; now = refl };
   leaf = refl;
   slot = inl tt;
+  alive = λ l datum it dead. (let is : block 4 ≡ l = cc in let none : Some (Ephe (Some (block 2) ∷ []) (Block (block 3))) ≡ Some (Ephe (None ∷ []) datum) = ap (node_at (graph_of small_sizes leaf_made)) is ∙ dead in cc);
   mine = λ l other. (refl, ap (λ (b : Bool). cond b (Some (Block (block 3))) None) (same_label-false (block 2) l (λ same. other (sym same))));
 }
 

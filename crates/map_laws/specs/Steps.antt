@@ -5,7 +5,7 @@ use Rattle.heap_model.specs.declared.entry.Entry.{Entry}
 use Rattle.heap_model.specs.declared.graph.Value.{Value}
 use Rattle.heap_model.specs.declared.graph.Value.TheVariants.{Int, Block, Nothing}
 use Rattle.heap_model.specs.declared.graph.Node.{Node}
-use Rattle.heap_model.specs.declared.graph.Node.TheVariants.{Plain}
+use Rattle.heap_model.specs.declared.graph.Node.TheVariants.{Plain, Ephe}
 use Rattle.heap_model.specs.declared.state.Sizes.{Sizes}
 use Rattle.heap_model.specs.declared.state.State.{State}
 use Rattle.heap_model.specs.Graph.{Graph, node_at, with_node}
@@ -34,7 +34,7 @@ pub record WritesField (g h : Graph) (root : Label) (p : List ℕ) (i : ℕ) (he
   pub end : inside g held ≡ None
   pub now : h ≡ with_node g block (Plain tag (slice_set fields i new))
 
--- a leaf of a key, or 0 in place of one, comes into the field at which the key's way ends: the one step by which a put or a take is made
+-- a leaf of a key, which has it, or 0 in place of one, comes into the field at which the key's way ends: the one step by which a put or a take is made
 pub record Sets (n : ℕ) (g h : Graph) (root : Label) (k : Label) (new : Value) : Type 0 where
   pub p : List ℕ
   pub i : ℕ
@@ -44,6 +44,7 @@ pub record Sets (n : ℕ) (g h : Graph) (root : Label) (k : Label) (new : Value)
   pub writes : WritesField g h root p i held new
   pub leaf : inside g new ≡ None
   pub slot : IsSlot g new
+  pub alive : (l : Label) (datum : Value) → new ≡ Block l → node_at g l ≢ Some (Ephe (None ∷ []) datum)
   pub mine : (l : Label) → l ≢ k → (bound_by g l held ≡ None) × (bound_by g l new ≡ None)
 
 -- a fresh block that holds only the leaf comes in the place of a leaf, which stands one step deeper on the way to its key then

@@ -7,6 +7,7 @@ use heap_model::label::Label;
 use heap_model::reply::Reply;
 use heap_session::TableSession;
 use map_domains::SessionDomain;
+use map_sweeps::sweeping::map_sweep;
 use std::process::Abort;
 use std::sync::Wait;
 use std::test::Fail;
@@ -137,6 +138,39 @@ fn a_map_loses_dead_keys(rt: HostRuntime) -> Result<(), Fail> {
     same(&rt, get(&rt, &mut heap, 2), Reply::Int(9));
     let mut heap = let_go(&rt, heap, 2);
     same(&rt, map_clean(&mut heap, &rt, HOME), true);
+    Ok(())
+}
+
+// What a field of the map's first block holds.
+fn field(rt: &impl Wait, heap: &mut SessionDomain, index: u16) -> Reply {
+    perform(
+        heap,
+        rt,
+        Command::Load {
+            dst: ANSWER,
+            src: HOME,
+            index,
+        },
+    )
+}
+
+// A sweep takes the leaf of the key that was let go out of its field, and leaves the other's.
+#[test]
+fn a_map_is_swept(rt: HostRuntime) -> Result<(), Fail> {
+    let session = TableSession::make(rt.alloc(), 4096, 20, 8)?;
+    let mut heap = SessionDomain::new(session);
+    with_map(&rt, &mut heap);
+    same(&rt, put(&rt, &mut heap, 1, 3), Some(Reply::Done));
+    same(&rt, put(&rt, &mut heap, 2, 3), Some(Reply::Done));
+    let mut heap = let_go(&rt, heap, 1);
+    same(&rt, field(&rt, &mut heap, 2), block(4));
+    map_sweep(&mut heap, &rt, HOME);
+    same(&rt, field(&rt, &mut heap, 2), Reply::Int(0));
+    same(&rt, field(&rt, &mut heap, 3), block(5));
+    same(&rt, get(&rt, &mut heap, 2), Reply::Int(9));
+    let mut heap = let_go(&rt, heap, 2);
+    map_sweep(&mut heap, &rt, HOME);
+    same(&rt, field(&rt, &mut heap, 3), Reply::Int(0));
     Ok(())
 }
 

@@ -247,6 +247,7 @@ module _ (z : Sizes) (limits : IsWithinLimits z) (root : Label) (d : ℕ) (first
       writes = record { block = x.l; tag = node.0; fields = fields; there = moved.0; node = node.1; below = below; was = value_same was x.v same; end = binds_end g k x.v binds.binds; now = is };
       leaf = ap fields_of leaf_mid.node;
       slot = inl (subst is_leaf (sym leaf_mid.node) tt);
+      alive = λ m datum it dead. (let is_m : l ≡ m = cc in let clash : Some (Ephe (Some k ∷ []) v) ≡ Some (Ephe (None ∷ []) datum) = sym leaf_mid.node ∙ (ap (node_at g) is_m ∙ dead) in cc);
       mine = λ j other. (binds_other g k j x.v other binds.binds, binds_of j ∙ ap (λ (b : Bool). cond b (Some v) None) (same_label-false k j (λ e. other (sym e))));
     }
 

@@ -170,6 +170,7 @@ module _ (z : Sizes) (limits : IsWithinLimits z) (root : Label) (d : ℕ) (first
         writes = record { block = x.l; tag = node.0; fields = fields; there = moved.0; node = node.1; below = below; was = was_leaf; end = end; now = next_is };
         leaf = refl;
         slot = refl;
+        alive = λ m was it dead. cc;
         mine = λ l other. (binds_of l ∙ ap (λ (b : Bool). cond b (Some datum) None) (same_label-false k l (λ e. other (sym e))), refl);
       }
 

@@ -1,0 +1,6 @@
+pub mod CountLemmas
+pub mod SpanLemmas
+pub mod SettleLemmas
+pub mod BlockLemmas
+pub mod LawLemmas
+pub mod RefusedBodies

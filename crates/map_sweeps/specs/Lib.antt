@@ -1,0 +1,4 @@
+pub mod Counts
+pub mod Dead
+pub mod Sweeps
+pub mod SweepLaws
