@@ -41,12 +41,14 @@ impl Events {
         self.threads.load(Ordering::SeqCst) < 2
     }
 
-    // A trace has come to where each waits for all. Where all have come as often as one that sleeps waits for, it is woken.
+    // A trace has come to where each waits for all. Those that sleep are woken where all have come as often as one of them waits
+    // for, and where one has come as the first: a command may have asked for that without telling anybody.
     #[inline(never)]
     pub(crate) fn arrive(&self) {
         let arrivals = self.arrivals.fetch_add(1, Ordering::SeqCst).wrapping_add(1);
-        if arrivals.is_multiple_of(self.traces) {
-            self.tell();
+        match arrivals.checked_rem(self.traces) {
+            None | Some(0 | 1) => self.tell(),
+            Some(_) => (),
         }
     }
 
