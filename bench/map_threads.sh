@@ -17,7 +17,7 @@ trap 'leave; rm -rf "$work"' EXIT
 . "$top/bench/room.sh"
 
 if [ -z "${PROGRAM:-}" ]; then
-    room map_threads "$top/bench/map_threads" map_domains weak_maps heap_seats heap_rule heap_model domain_turns
+    room map_threads "$top/bench/map_threads" map_domains weak_maps heap_seats domain_turns command_counts heap_rule heap_model
     PROGRAM=$work/map_threads
 fi
 rustc -O --edition 2024 -o "$work/map_orders" "$top/bench/map_orders/main.rs"
