@@ -4,9 +4,9 @@
 # the map has 4, 64 and 1,000 keys that are kept, and always 8 that are dropped and replaced. bench/map_orders, which isn't proved, looks in
 # each output for one order of all calls in which each domain keeps its own, each call lies between the stamps that its thread took, and each
 # lookup answers what was put last and not taken since. Counted are the outputs that have such an order, those that have none, and the runs
-# that hang, which are those that don't end within LIMIT seconds (120 without it). Of SPOILT outputs (12 without it) 10 changed ones of each kind are judged too.
-# First the judge is compared with a trial of all orders on small histories. It ends with 1 where an output has no order, or a run hangs or
-# fails. PROGRAM names another build of bench/map_threads, which is proved and built first without it.
+# that hang, which are those that don't end within LIMIT seconds (120 without it). Of the first SPOILT runs (12 without it) 10 changed outputs
+# of each kind are judged too. First the judge is compared with a trial of all orders on small histories. It ends with 1 where an output has
+# no order, or a run hangs or fails. PROGRAM names another build of bench/map_threads, which is proved and built first without it.
 set -euo pipefail
 shopt -s inherit_errexit
 export LC_ALL=C
