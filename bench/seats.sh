@@ -7,8 +7,8 @@ set -euo pipefail
 shopt -s inherit_errexit
 top=$(cd "$(dirname "${BASH_SOURCE[0]}")/.." && pwd)
 work=$(mktemp -d)
-busy=()
-trap 'kill "${busy[@]}" 2>/dev/null || true; rm -rf "$work"' EXIT
+. "$top/bench/busy.sh"
+trap 'leave; rm -rf "$work"' EXIT
 if [ -z "${PROGRAM:-}" ]; then
     (cd "$top/crates/tests_of_seats" && rt test >"$work/built")
     PROGRAM=$top/crates/tests_of_seats/out/tests_of_seats_tests
@@ -19,21 +19,6 @@ tests=(
     eight::eight_threads_are_told_what_the_slow_heap_prints
     threads::one_builds_while_another_dozes
 )
-
-# Keeps the processors $1 busy, by $2 processes.
-keep_busy() {
-    local processors=$1 count=$2
-    for _ in $(seq "$count"); do
-        taskset -c "$processors" bash -c 'while :; do :; done' &
-        busy+=($!)
-    done
-}
-
-leave() {
-    kill "${busy[@]}" 2>/dev/null || true
-    wait "${busy[@]}" 2>/dev/null || true
-    busy=()
-}
 
 # Runs the test $2 once on the processors $1, and prints how it went and, of one that ended well, the hundredths of a second.
 outcome() {
