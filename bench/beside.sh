@@ -12,16 +12,8 @@
 # domain often stands between its look at what it overwrites and its store, while the others run. It needs gcc.
 # PROGRAM names another program to be run, RUNS how often, DOMAINS how many domains, LIMITS which limits of threads, and BLOCKS
 # how many blocks are marked.
-set -euo pipefail
-shopt -s inherit_errexit
-top=$(cd "$(dirname "${BASH_SOURCE[0]}")/.." && pwd)
-work=$(mktemp -d)
-trap 'rm -rf "$work"' EXIT
-if [ -z "${PROGRAM:-}" ]; then
-    "$top/camlheap" run --domains 1 <"$top/examples/chain.heap" >/dev/null
-    PROGRAM=$top/crates/camlheap/out/camlheap
-fi
-cp "$PROGRAM" "$work/camlheap" && chmod 755 "$work"
+. "$(dirname "${BASH_SOURCE[0]}")/begin.sh"
+program_here camlheap
 
 . "$top/examples/limited.sh"
 

@@ -3,12 +3,7 @@
 # of a table has lines for: of the key that was bound first, whose cell is the last of its bucket, of the one in the middle, and of the
 # last, whose cell is the first. The program is bench/bindings, which is proved and built first. SESSION names another such program. It
 # claims nothing.
-set -euo pipefail
-shopt -s inherit_errexit
-export LC_ALL=C
-top=$(cd "$(dirname "${BASH_SOURCE[0]}")/.." && pwd)
-work=$(mktemp -d)
-trap 'rm -rf "$work"' EXIT
+. "$(dirname "${BASH_SOURCE[0]}")/begin.sh"
 
 . "$top/bench/room.sh"
 

@@ -3,10 +3,7 @@
 # loop and the operands, which calls of a function that does nothing have too.
 #
 #   bench/calls.sh [KIND..]   of library/out/libcamlheap.a, which `make -C library` builds, or of the archive that LIBRARY names
-set -euo pipefail
-top=$(cd "$(dirname "${BASH_SOURCE[0]}")/.." && pwd)
-work=$(mktemp -d)
-trap 'rm -rf "$work"' EXIT
+. "$(dirname "${BASH_SOURCE[0]}")/begin.sh"
 cc -O2 -I"$top/library/include" "$top/bench/calls.c" "${LIBRARY:-$top/library/out/libcamlheap.a}" -lpthread -o "$work/calls"
 
 count() {

@@ -4,18 +4,14 @@
 # same with the ephemerons dealt to several domains; and those in which the data are a block whose field leads to the next key. All
 # domains are in one thread, so the counts are the same in each run; of a program that needs a thread for each domain it says `none`.
 # It counts for each program that its words name, else for the proved one. It claims nothing.
-set -euo pipefail
-shopt -s inherit_errexit
-export LC_ALL=C
-top=$(cd "$(dirname "${BASH_SOURCE[0]}")/.." && pwd)
-work=$(mktemp -d)
-trap 'rm -rf "$work"' EXIT
+. "$(dirname "${BASH_SOURCE[0]}")/begin.sh"
 programs=("$@")
 if [ $# = 0 ]; then
-    "$top/camlheap" run --domains 1 <"$top/examples/chain.heap" >/dev/null
-    programs=("$top/crates/camlheap/out/camlheap")
+    program_here camlheap
+    programs=(camlheap)
+else
+    cp "${programs[@]}" "$work/"
 fi
-for program in "${programs[@]}"; do cp "$program" "$work/"; done
 chmod -R a+rwX "$work"
 . "$top/examples/limited.sh"
 

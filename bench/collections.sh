@@ -5,13 +5,8 @@
 # With the word `dead` it times nothing: 1, 2, 4 and 8 domains make 100,000 blocks in the least heap, each dropped at once but one,
 # with threads and without, and the runs that hang, end badly or answer an allocation `full` are counted. It ends with 1 where
 # there is one.
-set -euo pipefail
-shopt -s inherit_errexit
-top=$(cd "$(dirname "${BASH_SOURCE[0]}")/.." && pwd)
-work=$(mktemp -d)
-trap 'rm -rf "$work"' EXIT
-"$top/camlheap" run --domains 1 <"$top/examples/chain.heap" >/dev/null
-cp "$top/crates/camlheap/out/camlheap" "$work/camlheap" && chmod 755 "$work"
+. "$(dirname "${BASH_SOURCE[0]}")/begin.sh"
+program_here camlheap
 runs=${RUNS:-7}
 
 . "$top/examples/limited.sh"

@@ -2,13 +2,8 @@
 # Times complete collections of ephemerons: of 10^3, 10^4 and about 10^5 ephemerons of one key, half of which nothing leads to, and
 # of chains of ephemerons, each of whose data is the key of the one that was made before, so that a look through the list in the
 # order of making finds one more datum to mark. The fastest of several runs counts. It claims nothing.
-set -euo pipefail
-shopt -s inherit_errexit
-top=$(cd "$(dirname "${BASH_SOURCE[0]}")/.." && pwd)
-work=$(mktemp -d)
-trap 'rm -rf "$work"' EXIT
-"$top/camlheap" run --domains 1 <"$top/examples/chain.heap" >/dev/null
-cp "$top/crates/camlheap/out/camlheap" "$work/camlheap" && chmod 755 "$work"
+. "$(dirname "${BASH_SOURCE[0]}")/begin.sh"
+program_here camlheap
 runs=${RUNS:-7}
 
 # Seconds of one run of the script $1, the least of several. Its last reply must be $2.

@@ -3,16 +3,8 @@
 # without: alone, beside minor collections and cycles, and with a block in place of each number, which the domain has just made.
 # Each output is checked, and the runs that hang or print something wrong are counted. It ends with 1 where there is one.
 # PROGRAM names another program to be run, RUNS how often, LIMITS which limits of threads, and KINDS which scripts.
-set -euo pipefail
-shopt -s inherit_errexit
-top=$(cd "$(dirname "${BASH_SOURCE[0]}")/.." && pwd)
-work=$(mktemp -d)
-trap 'rm -rf "$work"' EXIT
-if [ -z "${PROGRAM:-}" ]; then
-    "$top/camlheap" run --domains 1 <"$top/examples/chain.heap" >/dev/null
-    PROGRAM=$top/crates/camlheap/out/camlheap
-fi
-cp "$PROGRAM" "$work/program" && chmod 755 "$work"
+. "$(dirname "${BASH_SOURCE[0]}")/begin.sh"
+program_here program
 
 . "$top/examples/limited.sh"
 

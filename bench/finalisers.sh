@@ -3,13 +3,8 @@
 # leads. Each block has two. The fastest of several runs counts. It claims nothing.
 # With the word stress it runs scripts of 1 to 8 domains, each of up to 600 commands drawn by chance, and checks that each run ends,
 # that each command has its reply, and that no finaliser runs twice.
-set -euo pipefail
-shopt -s inherit_errexit
-top=$(cd "$(dirname "${BASH_SOURCE[0]}")/.." && pwd)
-work=$(mktemp -d)
-trap 'rm -rf "$work"' EXIT
-"$top/camlheap" run --domains 1 <"$top/examples/chain.heap" >/dev/null
-cp "$top/crates/camlheap/out/camlheap" "$work/camlheap" && chmod 755 "$work"
+. "$(dirname "${BASH_SOURCE[0]}")/begin.sh"
+program_here camlheap
 runs=${RUNS:-7}
 
 # Seconds of one run of the script $1, the least of several. So many finalisers as $2 must have run, and the last reply of a

@@ -2,16 +2,10 @@
 # Counts instructions by valgrind: what a command of each kind costs between scripts of 20,000 and 100,000 commands of one domain in
 # the usual heap, and what the first complete collection costs that queues finalisers. It counts for each program that its words name,
 # else for the proved one and for its twin without a proof, bench/twin, which it builds. It claims nothing.
-set -euo pipefail
-shopt -s inherit_errexit
-export LC_ALL=C
-top=$(cd "$(dirname "${BASH_SOURCE[0]}")/.." && pwd)
-work=$(mktemp -d)
-trap 'rm -rf "$work"' EXIT
+. "$(dirname "${BASH_SOURCE[0]}")/begin.sh"
 programs=("$@")
 if [ $# = 0 ]; then
-    "$top/camlheap" run --domains 1 <"$top/examples/chain.heap" >/dev/null
-    cp "$top/crates/camlheap/out/camlheap" "$work/proved"
+    program_here proved
     rustc -O --edition 2024 -o "$work/twin" "$top/bench/twin/main.rs"
     programs=("$work/proved" "$work/twin")
 fi
@@ -52,25 +46,6 @@ script() {
                 print line
             }
         }
-    }'
-}
-
-# A script with $1 registrations of finalise, two on each block. Nothing leads to each second block; a field of another block keeps
-# each other one, 125 in each, which the last field links. Then come $2 complete collections.
-halves() {
-    awk -v count="$1" -v times="$2" 'BEGIN {
-        print "heap 1\ndomain 0"
-        for (k = 0; k < count / 4; k++) {
-            if (k % 125 == 0) {
-                print "allocmaj 4 0 126"
-                if (k > 0) print "store 4 125 1"
-                print "move 1 4"
-            }
-            print "allocmaj 2 0 1\nfinalise 2 1 5\nfinalise 2 2 5"
-            print "allocmaj 3 0 1\nfinalise 3 3 5\nfinalise 3 4 5\nstore 1 " k % 125 " 3"
-        }
-        print "drop 2\ndrop 3\ndrop 4\nminor"
-        for (k = 0; k < times; k++) print "full_major"
     }'
 }
 

@@ -7,11 +7,7 @@
 # that hang, which are those that don't end within LIMIT seconds (120 without it). Of the first SPOILT runs (12 without it) 10 changed outputs
 # of each kind are judged too. First the judge is compared with a trial of all orders on small histories. It ends with 1 where an output has
 # no order, or a run hangs or fails. PROGRAM names another build of bench/map_threads, which is proved and built first without it.
-set -euo pipefail
-shopt -s inherit_errexit
-export LC_ALL=C
-top=$(cd "$(dirname "${BASH_SOURCE[0]}")/.." && pwd)
-work=$(mktemp -d)
+. "$(dirname "${BASH_SOURCE[0]}")/begin.sh"
 . "$top/bench/busy.sh"
 trap 'leave; rm -rf "$work"' EXIT
 . "$top/bench/room.sh"

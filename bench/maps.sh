@@ -4,12 +4,7 @@
 # which is proved and built first. SESSION names another such program. It claims nothing.
 # With the word `times` it times a `get` among 10,000 keys instead, beside a lookup in a table of ephemerons by OCaml 5, where
 # bench/ocaml5.sh finds one: the difference of the fastest of several runs that draw keys and look them up, and of those that draw.
-set -euo pipefail
-shopt -s inherit_errexit
-export LC_ALL=C
-top=$(cd "$(dirname "${BASH_SOURCE[0]}")/.." && pwd)
-work=$(mktemp -d)
-trap 'rm -rf "$work"' EXIT
+. "$(dirname "${BASH_SOURCE[0]}")/begin.sh"
 
 . "$top/bench/room.sh"
 

@@ -3,12 +3,7 @@
 # one operation divided by OCaml's: for commands on private blocks, complete collections over blocks in a chain and over ephemerons
 # half of which are dead, and one that queues and runs finalisers. bench/ocaml/heap.ml says what isn't comparable. The fastest of
 # several runs counts. It claims nothing. Where no OCaml is installed it says so, and times nothing.
-set -euo pipefail
-shopt -s inherit_errexit
-export LC_ALL=C
-top=$(cd "$(dirname "${BASH_SOURCE[0]}")/.." && pwd)
-work=$(mktemp -d)
-trap 'rm -rf "$work"' EXIT
+. "$(dirname "${BASH_SOURCE[0]}")/begin.sh"
 cp "$top/bench/ocaml/heap.ml" "$work/heap.ml"
 if command -v ocamlfind >/dev/null; then
     compile=(ocamlfind ocamlopt)
@@ -19,8 +14,7 @@ else
     exit 0
 fi
 (cd "$work" && "${compile[@]}" -o ocaml heap.ml)
-"$top/camlheap" run --domains 1 <"$top/examples/chain.heap" >/dev/null
-cp "$top/crates/camlheap/out/camlheap" "$work/camlheap"
+program_here camlheap
 runs=${RUNS:-5}
 
 # The least number of several runs of a command that prints one.

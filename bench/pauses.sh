@@ -4,14 +4,10 @@
 # With the word `stress` it times nothing: it runs scripts of 1 to 8 domains that each ask for 200 pauses, 20 times each, as
 # they are and with all traces but the first ending early, with threads and without, and counts the runs that hang or print
 # something wrong. It ends with 1 where there is one.
-set -euo pipefail
-shopt -s inherit_errexit
-top=$(cd "$(dirname "${BASH_SOURCE[0]}")/.." && pwd)
-work=$(mktemp -d)
+. "$(dirname "${BASH_SOURCE[0]}")/begin.sh"
 busy=()
 trap 'rm -rf "$work"; kill "${busy[@]}" 2>/dev/null || true' EXIT
-"$top/camlheap" run --domains 1 <"$top/examples/chain.heap" >/dev/null
-cp "$top/crates/camlheap/out/camlheap" "$work/camlheap" && chmod 755 "$work"
+program_here camlheap
 
 # A script of $1 domains. Domain 0 asks for $2 pauses, and each other one for $3.
 script() {

@@ -10,19 +10,10 @@
 # It measures the proved program, or PROGRAM, which is of the commit COMMIT, beside the twin without a proof; the library for C that
 # `make -C library` builds, or LIBRARY; and beside OCaml 5 where bench/ocaml5.sh finds one, else columns or tables say `none`. RUNS and
 # COUNT, which the scripts take that it calls, are left to them. It claims nothing.
-set -euo pipefail
-shopt -s inherit_errexit
-export LC_ALL=C
-top=$(cd "$(dirname "${BASH_SOURCE[0]}")/.." && pwd)
+. "$(dirname "${BASH_SOURCE[0]}")/begin.sh"
 into=$top/docs/figures
-work=$(mktemp -d)
-trap 'rm -rf "$work"' EXIT
-if [ -z "${PROGRAM:-}" ]; then
-    "$top/camlheap" run --domains 1 <"$top/examples/chain.heap" >/dev/null
-    PROGRAM=$top/crates/camlheap/out/camlheap
-fi
 commit=${COMMIT:-$(git -C "$top" rev-parse --short=8 HEAD)}
-cp "$PROGRAM" "$work/camlheap"
+program_here camlheap
 rustc -O --edition 2024 -o "$work/twin" "$top/bench/twin/main.rs"
 # Status 3: there is no OCaml 5, and its columns aren't measured.
 "$top/bench/ocaml5.sh" alone "$work/alone" || [ $? -eq 3 ]
@@ -78,25 +69,6 @@ sizes() {
     awk -v times="$1" -v fields="$2" 'BEGIN {
         print "heap 1\ndomain 0"
         for (k = 0; k < times; k++) print "alloc 1 0 " fields "\nstore 1 " k % fields " 0\nload 2 1 " k % fields
-    }'
-}
-
-# A script with $1 registrations of finalise, two on each block. Nothing leads to each second block; a field of another block keeps
-# each other one, 125 in each, which the last field links. Then come $2 complete collections.
-halves() {
-    awk -v count="$1" -v times="$2" 'BEGIN {
-        print "heap 1\ndomain 0"
-        for (k = 0; k < count / 4; k++) {
-            if (k % 125 == 0) {
-                print "allocmaj 4 0 126"
-                if (k > 0) print "store 4 125 1"
-                print "move 1 4"
-            }
-            print "allocmaj 2 0 1\nfinalise 2 1 5\nfinalise 2 2 5"
-            print "allocmaj 3 0 1\nfinalise 3 3 5\nfinalise 3 4 5\nstore 1 " k % 125 " 3"
-        }
-        print "drop 2\ndrop 3\ndrop 4\nminor"
-        for (k = 0; k < times; k++) print "full_major"
     }'
 }
 

@@ -1,11 +1,7 @@
 #!/usr/bin/env bash
 # Times allocations in the major heap, 100,000 blocks of each size class or as many as the largest heap has room for, and prints
 # what a block of the second half costs beside one of the first. The fastest of several runs counts. It claims nothing.
-set -euo pipefail
-shopt -s inherit_errexit
-top=$(cd "$(dirname "${BASH_SOURCE[0]}")/.." && pwd)
-work=$(mktemp -d)
-trap 'rm -rf "$work"' EXIT
+. "$(dirname "${BASH_SOURCE[0]}")/begin.sh"
 program=${CAMLHEAP:-$top/camlheap}
 runs=${RUNS:-7}
 TIMEFORMAT='%3U %3S'

@@ -6,13 +6,8 @@
 # others, 200,000 commands in all with the smallest areas, 20 times each, with threads and without. Each output is checked, and
 # the runs that hang or print something wrong are counted. It ends with 1 where there is one. With the words `stress major` the
 # domains ask for collections of the major heap in place of minor ones.
-set -euo pipefail
-shopt -s inherit_errexit
-top=$(cd "$(dirname "${BASH_SOURCE[0]}")/.." && pwd)
-work=$(mktemp -d)
-trap 'rm -rf "$work"' EXIT
-"$top/camlheap" run --domains 1 <"$top/examples/chain.heap" >/dev/null
-cp "$top/crates/camlheap/out/camlheap" "$work/camlheap" && chmod 755 "$work"
+. "$(dirname "${BASH_SOURCE[0]}")/begin.sh"
+program_here camlheap
 runs=${RUNS:-15}
 
 . "$top/examples/limited.sh"

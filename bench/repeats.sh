@@ -7,11 +7,6 @@
 #                                        must be legal. Of one in ten it changes a reply besides, and prints it if it is legal all the same
 #
 # PROGRAM and CHECKER name other programs for camlheap and history_check. It ends with 1 where an output isn't judged as it should be.
-set -euo pipefail
-shopt -s inherit_errexit
-top=$(cd "$(dirname "${BASH_SOURCE[0]}")/.." && pwd)
-if [ -z "${PROGRAM:-}" ]; then
-    "$top/camlheap" run --domains 1 <"$top/examples/chain.heap" >/dev/null
-    PROGRAM=$top/crates/camlheap/out/camlheap
-fi
-exec python3 "$top/bench/repeats/main.py" "$PROGRAM" "$top/history_check" "${1:-outputs}" "${FIRST:-1}" "${2:-1000}"
+. "$(dirname "${BASH_SOURCE[0]}")/begin.sh"
+program_here camlheap
+python3 "$top/bench/repeats/main.py" "$work/camlheap" "$top/history_check" "${1:-outputs}" "${FIRST:-1}" "${2:-1000}"

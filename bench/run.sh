@@ -1,11 +1,7 @@
 #!/usr/bin/env bash
 # Times `camlheap run` on generated scripts: 10,000 and 100,000 commands in all, with 1, 2 and 4 domains.
 # Prints commands per second, and the ratios between sizes and between numbers of domains. It claims nothing.
-set -euo pipefail
-shopt -s inherit_errexit
-top=$(cd "$(dirname "${BASH_SOURCE[0]}")/.." && pwd)
-work=$(mktemp -d)
-trap 'rm -rf "$work"' EXIT
+. "$(dirname "${BASH_SOURCE[0]}")/begin.sh"
 
 # A script of $1 domains with $2 commands in all: stores to and loads from the shared block, each domain in its own field.
 script() {

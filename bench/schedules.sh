@@ -4,17 +4,10 @@
 # isn't legal. Its program is bench/schedules/slow_schedules, which is proved and built first. A second simulation, in bench/schedules
 # itself, goes over the graph of bench/judge and isn't proved. It ends with 1 where two outputs differ, or an entry isn't legal. PROGRAM
 # names another program to be run, and SLOW another simulation.
-set -euo pipefail
-shopt -s inherit_errexit
-top=$(cd "$(dirname "${BASH_SOURCE[0]}")/.." && pwd)
-work=$(mktemp -d)
+. "$(dirname "${BASH_SOURCE[0]}")/begin.sh"
 busy=()
 trap 'kill "${busy[@]}" 2>/dev/null; rm -rf "$work"' EXIT
-if [ -z "${PROGRAM:-}" ]; then
-    "$top/camlheap" run --domains 1 <"$top/examples/chain.heap" >/dev/null
-    PROGRAM=$top/crates/camlheap/out/camlheap
-fi
-cp "$PROGRAM" "$work/program"
+program_here program
 
 . "$top/bench/room.sh"
 

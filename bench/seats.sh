@@ -3,10 +3,7 @@
 # these, and counts the runs that hang, which are those that don't end within a minute, and those that fail. In one of the tests eight
 # threads with a seat each rest, wait for one another outside of the heap, and end at different times; each run compares what they were
 # told with what the slow heap prints. It ends with 1 where a run hangs or fails. PROGRAM names another build of the tests.
-set -euo pipefail
-shopt -s inherit_errexit
-top=$(cd "$(dirname "${BASH_SOURCE[0]}")/.." && pwd)
-work=$(mktemp -d)
+. "$(dirname "${BASH_SOURCE[0]}")/begin.sh"
 . "$top/bench/busy.sh"
 trap 'leave; rm -rf "$work"' EXIT
 if [ -z "${PROGRAM:-}" ]; then

@@ -3,16 +3,8 @@
 # system refuses all threads, where it refuses all but one, and on one processor. It looks for a legal history of each output by
 # bench/spawns, a search that isn't proved, and ends with 1 where an output has none, or a run doesn't end. PROGRAM names another program
 # to be run.
-set -euo pipefail
-shopt -s inherit_errexit
-top=$(cd "$(dirname "${BASH_SOURCE[0]}")/.." && pwd)
-work=$(mktemp -d)
-trap 'rm -rf "$work"' EXIT
-if [ -z "${PROGRAM:-}" ]; then
-    "$top/camlheap" run --domains 1 <"$top/examples/chain.heap" >/dev/null
-    PROGRAM=$top/crates/camlheap/out/camlheap
-fi
-cp "$PROGRAM" "$work/threads"
+. "$(dirname "${BASH_SOURCE[0]}")/begin.sh"
+program_here threads
 chmod 755 "$work"
 # Runs the program by a command.
 by() {

@@ -5,12 +5,7 @@
 # instructions by valgrind: what `get` costs by how many bindings there are, and what a command costs that a session is handed beside one
 # of a script. bench/bindings.sh counts `get` among more bindings than a text has lines for. COUNT says how many random texts there are,
 # 2000 without it. It ends with 1 where an output is wrong. PROGRAM names another program than the proved one.
-set -euo pipefail
-shopt -s inherit_errexit
-export LC_ALL=C
-top=$(cd "$(dirname "${BASH_SOURCE[0]}")/.." && pwd)
-work=$(mktemp -d)
-trap 'rm -rf "$work"' EXIT
+. "$(dirname "${BASH_SOURCE[0]}")/begin.sh"
 if [ -n "${PROGRAM:-}" ]; then
     program=$PROGRAM
 else

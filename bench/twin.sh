@@ -5,14 +5,8 @@
 # in turn, and the fastest of several runs of each counts. It claims nothing.
 # With the word `same` it times nothing: it compares the outputs of both for the examples and for scripts that are drawn by chance,
 # and ends with 1 where two differ.
-set -euo pipefail
-shopt -s inherit_errexit
-export LC_ALL=C
-top=$(cd "$(dirname "${BASH_SOURCE[0]}")/.." && pwd)
-work=$(mktemp -d)
-trap 'rm -rf "$work"' EXIT
-"$top/camlheap" run --domains 1 <"$top/examples/chain.heap" >/dev/null
-cp "$top/crates/camlheap/out/camlheap" "$work/proved"
+. "$(dirname "${BASH_SOURCE[0]}")/begin.sh"
+program_here proved
 rustc -O --edition 2024 -o "$work/twin" "$top/bench/twin/main.rs"
 runs=${RUNS:-5}
 

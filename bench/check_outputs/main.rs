@@ -5,6 +5,8 @@
 mod collector;
 #[path = "../judge/model.rs"]
 mod model;
+#[path = "../judge/outputs.rs"]
+mod outputs;
 #[allow(dead_code)]
 #[path = "../judge/random.rs"]
 mod random;
@@ -14,6 +16,7 @@ mod script;
 #[path = "../judge/search.rs"]
 mod search;
 
+use outputs::sections;
 use random::{Dice, Kind};
 use search::{Question, Verdict};
 use std::io::Write;
@@ -80,19 +83,6 @@ impl Programs {
         let status = piped(&mut command, &input).expect("history_check runs").1;
         (status, begun.elapsed())
     }
-}
-
-/// The lines of each domain, where the headings are those of so many domains.
-fn sections(output: &str, domains: usize) -> Option<Vec<Vec<String>>> {
-    let mut sections: Vec<Vec<String>> = Vec::new();
-    for line in output.lines() {
-        if line == format!("domain {}", sections.len()) {
-            sections.push(Vec::new());
-        } else {
-            sections.last_mut()?.push(line.to_owned());
-        }
-    }
-    (sections.len() == domains).then_some(sections)
 }
 
 /// The status that bench/judge would have, or `None` where it gives up.

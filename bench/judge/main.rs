@@ -3,12 +3,14 @@
 
 mod collector;
 mod model;
+mod outputs;
 mod random;
 #[allow(dead_code)]
 #[path = "../twin/script.rs"]
 mod script;
 mod search;
 
+use outputs::sections;
 use random::Dice;
 use search::{Question, Verdict};
 use std::io::Write;
@@ -31,19 +33,6 @@ fn output(program: &str, script: &str, domains: usize) -> std::io::Result<String
         .write_all(script.as_bytes())?;
     let done = run.wait_with_output()?;
     Ok(String::from_utf8_lossy(&done.stdout).into_owned())
-}
-
-/// The lines of each domain, where the headings are those of so many domains.
-fn sections(output: &str, domains: usize) -> Option<Vec<Vec<String>>> {
-    let mut sections: Vec<Vec<String>> = Vec::new();
-    for line in output.lines() {
-        if line == format!("domain {}", sections.len()) {
-            sections.push(Vec::new());
-        } else {
-            sections.last_mut()?.push(line.to_owned());
-        }
-    }
-    (sections.len() == domains).then_some(sections)
 }
 
 fn judged(script: &str, output: &str, domains: usize) -> Verdict {

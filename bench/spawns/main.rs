@@ -5,6 +5,8 @@
 mod collector;
 #[path = "../judge/model.rs"]
 mod model;
+#[path = "../judge/outputs.rs"]
+mod outputs;
 #[allow(dead_code)]
 #[path = "../judge/random.rs"]
 mod random;
@@ -16,6 +18,7 @@ mod script;
 mod search;
 
 use model::State;
+use outputs::sections;
 use random::Dice;
 use search::{Question, Step, Verdict};
 use std::io::Write;
@@ -132,19 +135,6 @@ fn output(program: &str, script: &Script) -> std::io::Result<(String, Option<i32
         .write_all(script.text(3).as_bytes())?;
     let done = run.wait_with_output()?;
     Ok((String::from_utf8_lossy(&done.stdout).into_owned(), done.status.code()))
-}
-
-/// The lines of each domain, where the headings are those of so many domains.
-fn sections(output: &str, domains: usize) -> Option<Vec<Vec<String>>> {
-    let mut sections: Vec<Vec<String>> = Vec::new();
-    for line in output.lines() {
-        if line == format!("domain {}", sections.len()) {
-            sections.push(Vec::new());
-        } else {
-            sections.last_mut()?.push(line.to_owned());
-        }
-    }
-    (sections.len() == domains).then_some(sections)
 }
 
 fn judged(script: &Script, output: &str) -> Verdict {
