@@ -1,16 +1,18 @@
 -- What a running domain comes to know of marks while it darkens blocks.
-use Rattle.std.specs.Prelude.{◌≡◌, ℕ, ◌+◌, Bool, true, false, cond, List, [], ◌∷◌, Some}
+use Rattle.std.specs.Prelude.{◌≡◌, ℕ, ◌+◌, ◌≤◌, Bool, true, false, cond, List, [], ◌∷◌, Some}
 use Rattle.heap_words.specs.declared.colours.Colours.{Colours}
 use Rattle.heap_rule.specs.declared.config.Config.{Config}
 use Rattle.heap_rule.specs.declared.phase.Kind.TheVariants.{Run}
 use Rattle.heap_rule.specs.declared.phase.Stage.TheVariants.{In}
 use Rattle.heap_rule.specs.declared.view.DomainView.{DomainView}
 use Rattle.heap_rule.specs.declared.view.Known.{Known}
-use Rattle.heap_rule.specs.declared.view.Known.TheVariants.{Darkened, Scanned, Vain}
+use Rattle.heap_rule.specs.declared.view.Known.TheVariants.{Darkened, Marked, Scanned, Vain}
 use Rattle.heap_rule.specs.Beside.{IsKnown}
+use Rattle.heap_rule.specs.Layout.{heap_words}
 use Rattle.heap_rule.specs.Places.{IsOldAt}
+use Rattle.heap_rule.specs.Standing.{FieldMay}
 use Rattle.steps_marking.specs.Looks.{with_share}
-use Rattle.steps_marking_beside.specs.Marking.{Reason, Warrants}
+use Rattle.steps_marking_beside.specs.Marking.{Reason, StillFound, Warrants, weak_on}
 
 -- the domain with what another knows of the colours, of the armed word and of blocks, and with what that owes
 abbrev pub aware_as : DomainView → DomainView → DomainView
@@ -59,6 +61,16 @@ pub record CountsDarkening (won : Bool) (known after : List Known) : Type 0 wher
   pub vain : vain_in after ≡ vain_in known
   pub darkened : darkened_in after ≡ darkened_in known + cond won 1 0
 
+-- the block at an address is marked, and known to be darkened where this domain wins. Of the share nothing has changed but what is known, and what is owed for the reason
+pub record DarkenedAt (at : ℕ) (reason : Reason) (wins : Bool) (x y : DomainView) : Type 0 where
+  pub colours : y.seen.share.colours ≡ x.seen.share.colours
+  pub armed : y.seen.share.armed ≡ x.seen.share.armed
+  pub marked : IsKnown y.seen.share.known (Marked at)
+  pub owes : y.seen.share.weak ≡ weak_on reason x.seen.share.weak
+  pub won : wins ≡ true → IsKnown y.seen.share.known (Darkened at)
+  pub counts : CountsDarkening wins x.seen.share.known y.seen.share.known
+  pub found : StillFound x y
+
 -- a running domain, which knows the colours and that a cycle goes on, has a reason to darken the block of the pools at an address
 pub record DarkensBeside (k : Config) (colours : Colours) (at : ℕ) (reason : Reason) (x : DomainView) : Type 0 where
   pub runs : x.seen.stage ≡ In Run
@@ -73,6 +85,12 @@ pub record OughtToDarken (k : Config) (at : ℕ) (reason : Reason) (x : DomainVi
   pub armed : x.seen.share.armed ≡ Some true
   pub old : IsOldAt k at
   pub reason_is : Warrants x at reason
+
+-- the register holds the block, into whose field it may be stored, and the field lies in the heap
+pub record MayOverwrite (k : Config) (x : DomainView) (block register field : ℕ) : Type 0 where
+  pub may : FieldMay k x (block + 2 + field) register field
+  pub of_block : may.address ≡ block
+  pub inside : block + field + 2 ≤ heap_words k
 
 -- which register holds the block that is stored into, and why the block is darkened to which its field refers
 pub record Overwriting : Type 0 where

@@ -1,12 +1,12 @@
 //! The darkening of a block beside running domains.
-ghost use Rattle.std.specs.Prelude.{◌≡◌, true};
+ghost use Rattle.std.specs.Prelude.{◌≡◌};
 ghost use Rattle.heap_words.specs.ColourWords.{IsPermutation};
-ghost use Rattle.heap_rule.specs.declared.view.Known.TheVariants.{Darkened, Marked};
+ghost use Rattle.heap_rule.specs.declared.view.Known.TheVariants.{Marked};
 ghost use Rattle.heap_rule.specs.Beside.{IsKnown};
 ghost use Rattle.heap_rule.specs.Standing.{IsInHeap};
 ghost use Rattle.heap_rule.specs.Token.{IsIn};
-ghost use Rattle.steps_marking_beside.specs.Marking.{Reason, StillFound, weak_on};
-ghost use Rattle.darkening_beside.specs.Aware.{CountsDarkening, DarkensBeside, Learnt, OughtToDarken};
+ghost use Rattle.steps_marking_beside.specs.Marking.{Reason, weak_on};
+ghost use Rattle.darkening_beside.specs.Aware.{DarkenedAt, DarkensBeside, Learnt, OughtToDarken};
 
 use crate::heads::darkened_head;
 use heap_rule::{Domain, Heap};
@@ -27,13 +27,7 @@ pub fn darken_beside(heap: &Heap, dom: &mut Domain, at: u32, colours: Colours) -
     requires darkens { DarkensBeside heap.now.config colours at reason dom.old.view }
     ensures here { IsIn dom.new heap.now }
     ensures learnt { Learnt dom.old.view dom.new.view }
-    ensures colours { dom.new.view.seen.share.colours ≡ dom.old.view.seen.share.colours }
-    ensures armed { dom.new.view.seen.share.armed ≡ dom.old.view.seen.share.armed }
-    ensures marked { IsKnown dom.new.view.seen.share.known (Marked at) }
-    ensures owes { dom.new.view.seen.share.weak ≡ weak_on reason dom.old.view.seen.share.weak }
-    ensures won { result ≡ true → IsKnown dom.new.view.seen.share.known (Darkened at) }
-    ensures counts { CountsDarkening result dom.old.view.seen.share.known dom.new.view.seen.share.known }
-    ensures found { StillFound dom.old.view dom.new.view }
+    ensures darkened { DarkenedAt at reason result dom.old.view dom.new.view }
 {
     let word = beside_target_load(heap, dom, at);
     let Some(new) = darkened_head(word, colours) else {

@@ -1,13 +1,11 @@
 //! The deletion barrier.
-ghost use Rattle.std.specs.Prelude.{◌≡◌, ◌+◌, ◌≤◌, ℕ, None};
+ghost use Rattle.std.specs.Prelude.{◌≡◌, ℕ};
 ghost use Rattle.heap_rule.specs.Beside.{Barrier};
-ghost use Rattle.heap_rule.specs.Layout.{heap_words};
-ghost use Rattle.heap_rule.specs.Standing.{FieldMay};
 ghost use Rattle.heap_rule.specs.Token.{IsIn};
 ghost use Rattle.heap_rule.specs.declared.phase.Kind.TheVariants.{Run};
 ghost use Rattle.heap_rule.specs.declared.phase.Stage.TheVariants.{In};
 ghost use Rattle.steps_marking_beside.specs.Marking.{Field};
-ghost use Rattle.darkening_beside.specs.Aware.{Learnt, Overwriting};
+ghost use Rattle.darkening_beside.specs.Aware.{Learnt, MayOverwrite, Overwriting};
 
 use crate::darkening::darken_now;
 use heap_rule::{Domain, Heap, Reading, read_as};
@@ -22,8 +20,7 @@ fn darken_overwritten(heap: &Heap, dom: &mut Domain, block: u32, field: u32)
     requires reason { why.reason ≡ Field block field }
     requires here { IsIn dom.old heap.now }
     requires runs { dom.old.view.seen.stage ≡ In Run }
-    requires field { (may : FieldMay heap.now.config dom.old.view (block + 2 + field) why.register field) × (may.address ≡ block) }
-    requires inside { block + field + 2 ≤ heap_words heap.now.config }
+    requires field { MayOverwrite heap.now.config dom.old.view block why.register field }
     ensures here { IsIn dom.new heap.now }
     ensures learnt { Learnt dom.old.view dom.new.view }
     ensures owes { dom.new.view.seen.share.weak ≡ dom.old.view.seen.share.weak }
@@ -49,8 +46,7 @@ pub fn overwrite_barrier(heap: &Heap, dom: &mut Domain, block: u32, field: u32)
     ghost register: { ℕ }
     requires here { IsIn dom.old heap.now }
     requires runs { dom.old.view.seen.stage ≡ In Run }
-    requires field { (may : FieldMay heap.now.config dom.old.view (block + 2 + field) register field) × (may.address ≡ block) }
-    requires inside { block + field + 2 ≤ heap_words heap.now.config }
+    requires field { MayOverwrite heap.now.config dom.old.view block register field }
     ensures here { IsIn dom.new heap.now }
     ensures learnt { Learnt dom.old.view dom.new.view }
     ensures owes { dom.new.view.seen.share.weak ≡ dom.old.view.seen.share.weak }

@@ -3,18 +3,16 @@ ghost use Rattle.std.specs.Prelude.{◌≡◌, ◌<◌, ◌≤◌, ◌^◌, true
 ghost use Rattle.heap_model.specs.declared.command.Command.{Command};
 ghost use Rattle.heap_model.specs.declared.command.Command.TheVariants.{SetKey, UnsetKey, SetData, UnsetData};
 ghost use Rattle.heap_words.specs.Values.{IsPackable};
-ghost use Rattle.heap_rule.specs.Changes.{value_at};
 ghost use Rattle.heap_rule.specs.Running.{Runs, Did, own_entry};
 ghost use Rattle.heap_rule.specs.Standing.{IsInHeap};
 ghost use Rattle.heap_rule.specs.Token.{Holds, IsIn};
-ghost use Rattle.field_access.specs.Remembered.{ChangesRemembered, PutsYoung, one_more};
 ghost use Rattle.steps_fields.specs.Stores.{StoreTold};
 ghost use Rattle.steps_ephemeron_commands.specs.Heads.{key_in};
 ghost use Rattle.steps_ephemeron_commands.specs.Loads.{word_of};
 ghost use Rattle.steps_ephemeron_commands.specs.Stores.{WeakStoreMay};
 ghost use Rattle.ephemeron_rounds.specs.Items.{FitsItem, IsChange, LacksItem, item_in, value_of};
 ghost use Rattle.ephemeron_rounds.specs.Naming.{LooksInto};
-ghost use Rattle.ephemeron_rounds.specs.Words.{word_in};
+ghost use Rattle.ephemeron_rounds.specs.Words.{WordRemembers};
 
 use crate::finding::{find, refuse, word_at};
 use field_access::must_remember;
@@ -82,12 +80,7 @@ fn put(heap: &Heap, dom: &mut Domain, ephe: u8, key: Option<u16>, item: Option<u
     requires item { item_in command ≡ item }
     requires room { IfSome item (λ r. 1 ≤ dom.old.view.own.remembered.room) }
     ensures did { Did heap.now dom.old dom.new command result }
-    ensures rest { ChangesRemembered dom.old dom.new }
-    ensures remembered { PutsYoung heap.now.config result (value_at dom.old.view.own.registers ephe) (value_of dom.old.view.own.registers item)
-        → dom.new.view.own.remembered ≡ one_more (word_in (value_at dom.old.view.own.registers ephe) key) dom.old.view.own.remembered }
-    ensures unremembered { (PutsYoung heap.now.config result (value_at dom.old.view.own.registers ephe) (value_of dom.old.view.own.registers item) → ⊥)
-        → dom.new.view.own.remembered ≡ dom.old.view.own.remembered }
-    ensures registers { dom.new.view.own.registers ≡ dom.old.view.own.registers }
+    ensures remembers { WordRemembers heap.now.config result ephe key item dom.old dom.new }
     ensures holds { Holds heap.now.config dom.new.view.own.registers }
 {
     let _limits = heap.config();
@@ -115,12 +108,7 @@ pub fn set_key(heap: &Heap, dom: &mut Domain, ephe: u8, index: u16, item: u8) ->
     requires item { item < 16 }
     requires room { 1 ≤ dom.old.view.own.remembered.room }
     ensures did { Did heap.now dom.old dom.new (SetKey ephe index item) result }
-    ensures rest { ChangesRemembered dom.old dom.new }
-    ensures remembered { PutsYoung heap.now.config result (value_at dom.old.view.own.registers ephe) (value_at dom.old.view.own.registers item)
-        → dom.new.view.own.remembered ≡ one_more (word_in (value_at dom.old.view.own.registers ephe) (Some index)) dom.old.view.own.remembered }
-    ensures unremembered { (PutsYoung heap.now.config result (value_at dom.old.view.own.registers ephe) (value_at dom.old.view.own.registers item) → ⊥)
-        → dom.new.view.own.remembered ≡ dom.old.view.own.remembered }
-    ensures registers { dom.new.view.own.registers ≡ dom.old.view.own.registers }
+    ensures remembers { WordRemembers heap.now.config result ephe (Some index) (Some item) dom.old dom.new }
     ensures holds { Holds heap.now.config dom.new.view.own.registers }
 {
     put(heap, dom, ephe, Some(index), Some(item))
@@ -150,12 +138,7 @@ pub fn set_data(heap: &Heap, dom: &mut Domain, ephe: u8, item: u8) -> Reply
     requires item { item < 16 }
     requires room { 1 ≤ dom.old.view.own.remembered.room }
     ensures did { Did heap.now dom.old dom.new (SetData ephe item) result }
-    ensures rest { ChangesRemembered dom.old dom.new }
-    ensures remembered { PutsYoung heap.now.config result (value_at dom.old.view.own.registers ephe) (value_at dom.old.view.own.registers item)
-        → dom.new.view.own.remembered ≡ one_more (word_in (value_at dom.old.view.own.registers ephe) None) dom.old.view.own.remembered }
-    ensures unremembered { (PutsYoung heap.now.config result (value_at dom.old.view.own.registers ephe) (value_at dom.old.view.own.registers item) → ⊥)
-        → dom.new.view.own.remembered ≡ dom.old.view.own.remembered }
-    ensures registers { dom.new.view.own.registers ≡ dom.old.view.own.registers }
+    ensures remembers { WordRemembers heap.now.config result ephe None (Some item) dom.old dom.new }
     ensures holds { Holds heap.now.config dom.new.view.own.registers }
 {
     put(heap, dom, ephe, None, Some(item))

@@ -10,7 +10,7 @@ ghost use Rattle.heap_rule.specs.declared.phase.Stage.TheVariants.{In};
 ghost use Rattle.steps_marking_beside.specs.Marking.{Reason, Expected};
 ghost use Rattle.darkening_beside.specs.Aware.{Learnt};
 ghost use Rattle.steps_exchange.specs.Exchanges.{ExpectedMarked};
-ghost use Rattle.field_access.specs.Remembered.{ChangesRemembered, SetsYoung, field_of, one_more};
+ghost use Rattle.field_access.specs.Remembered.{CasRemembers};
 
 use crate::fields::{fields_for, must_remember};
 use darkening_beside::darken_now;
@@ -55,12 +55,7 @@ fn cas_as(heap: &Heap, dom: &mut Domain, block: u8, index: u16, expected: u8, it
     requires item { item < 16 }
     requires room { 1 ≤ dom.old.view.own.remembered.room }
     ensures did { Did heap.now dom.old dom.new (Cas block index expected item) result }
-    ensures rest { ChangesRemembered dom.old dom.new }
-    ensures remembered { SetsYoung heap.now.config result (value_at dom.old.view.own.registers block) (value_at dom.old.view.own.registers item)
-        → dom.new.view.own.remembered ≡ one_more (field_of (value_at dom.old.view.own.registers block) index) dom.old.view.own.remembered }
-    ensures unremembered { (SetsYoung heap.now.config result (value_at dom.old.view.own.registers block) (value_at dom.old.view.own.registers item) → ⊥)
-        → dom.new.view.own.remembered ≡ dom.old.view.own.remembered }
-    ensures registers { dom.new.view.own.registers ≡ dom.old.view.own.registers }
+    ensures remembers { CasRemembers heap.now.config result block index item dom.old dom.new }
     ensures holds { Holds heap.now.config dom.new.view.own.registers }
 {
     let _limits = heap.config();
@@ -110,12 +105,7 @@ pub fn cas(heap: &Heap, dom: &mut Domain, block: u8, index: u16, expected: u8, i
     requires item { item < 16 }
     requires room { 1 ≤ dom.old.view.own.remembered.room }
     ensures did { Did heap.now dom.old dom.new (Cas block index expected item) result }
-    ensures rest { ChangesRemembered dom.old dom.new }
-    ensures remembered { SetsYoung heap.now.config result (value_at dom.old.view.own.registers block) (value_at dom.old.view.own.registers item)
-        → dom.new.view.own.remembered ≡ one_more (field_of (value_at dom.old.view.own.registers block) index) dom.old.view.own.remembered }
-    ensures unremembered { (SetsYoung heap.now.config result (value_at dom.old.view.own.registers block) (value_at dom.old.view.own.registers item) → ⊥)
-        → dom.new.view.own.remembered ≡ dom.old.view.own.remembered }
-    ensures registers { dom.new.view.own.registers ≡ dom.old.view.own.registers }
+    ensures remembers { CasRemembers heap.now.config result block index item dom.old dom.new }
     ensures holds { Holds heap.now.config dom.new.view.own.registers }
 {
     cas_as(heap, dom, block, index, expected, item)

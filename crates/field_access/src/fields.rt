@@ -6,20 +6,18 @@ ghost use Rattle.heap_model.specs.declared.reply.Reply.TheVariants.{Empty};
 ghost use Rattle.heap_model.specs.declared.graph.Value as model;
 ghost use Rattle.heap_model.specs.declared.label.Label as labels;
 ghost use Rattle.heap_model.specs.Commands.{shown};
-ghost use Rattle.heap_model.specs.Domains.{register as register_value};
 ghost use Rattle.heap_model.specs.Fronts.{Shape};
 ghost use Rattle.heap_words.specs.Heads.{IsPackableHead};
 ghost use Rattle.heap_words.specs.Labels.{IsPackableLabel, label_word};
 ghost use Rattle.heap_rule.specs.Changes.{value_at};
 ghost use Rattle.heap_rule.specs.Places.{Shows, IsHeadOf};
-ghost use Rattle.heap_rule.specs.Rule.{state_of};
 ghost use Rattle.heap_rule.specs.Running.{Runs, Did, ChangesRegisters, own_entry};
 ghost use Rattle.heap_rule.specs.Token.{Holds, IsIn};
 ghost use Rattle.heap_words.specs.declared.value.Value as words;
 ghost use Rattle.heap_words.specs.declared.value.Value.TheVariants.{Ref};
 ghost use Rattle.steps_fields.specs.Stores.{MustRemember};
-ghost use Rattle.field_access.specs.Registers.{LoadsInto};
-ghost use Rattle.field_access.specs.Remembered.{ChangesRemembered, PutsYoung, field_of, one_more};
+ghost use Rattle.field_access.specs.Registers.{LoadsInto, traced};
+ghost use Rattle.field_access.specs.Remembered.{StoreRemembers};
 ghost use Rattle.field_access.specs.Shapes.{size_of, fields_for};
 
 use darkening_beside::overwrite_barrier;
@@ -76,10 +74,10 @@ pub fn shown_register(heap: &Heap, dom: &mut Domain, r: u8) -> Reply
     requires register { register ≡ r }
     requires here { IsIn dom.old heap.now }
     requires few { r < 16 }
-    requires shows { Shows (value_at dom.old.view.own.registers r) (register_value (state_of heap.now.config dom.old.view.seen.front) dom.old.view.own.number r) }
+    requires shows { Shows (value_at dom.old.view.own.registers r) (traced heap.now.config dom.old.view r) }
     ensures here { IsIn dom.new heap.now }
     ensures same { dom.new.view ≡ dom.old.view }
-    ensures reply { result ≡ shown (register_value (state_of heap.now.config dom.old.view.seen.front) dom.old.view.own.number r) }
+    ensures reply { result ≡ shown (traced heap.now.config dom.old.view r) }
 {
     let _limits = heap.config();
     match dom.register(r) {
@@ -156,12 +154,7 @@ fn store_as(heap: &Heap, dom: &mut Domain, block: u8, index: u16, item: u8) -> R
     requires item { item < 16 }
     requires room { 1 ≤ dom.old.view.own.remembered.room }
     ensures did { Did heap.now dom.old dom.new (Store block index item) result }
-    ensures rest { ChangesRemembered dom.old dom.new }
-    ensures remembered { PutsYoung heap.now.config result (value_at dom.old.view.own.registers block) (value_at dom.old.view.own.registers item)
-        → dom.new.view.own.remembered ≡ one_more (field_of (value_at dom.old.view.own.registers block) index) dom.old.view.own.remembered }
-    ensures unremembered { (PutsYoung heap.now.config result (value_at dom.old.view.own.registers block) (value_at dom.old.view.own.registers item) → ⊥)
-        → dom.new.view.own.remembered ≡ dom.old.view.own.remembered }
-    ensures registers { dom.new.view.own.registers ≡ dom.old.view.own.registers }
+    ensures remembers { StoreRemembers heap.now.config result block index item dom.old dom.new }
     ensures holds { Holds heap.now.config dom.new.view.own.registers }
 {
     let _limits = heap.config();
@@ -201,12 +194,7 @@ pub fn store(heap: &Heap, dom: &mut Domain, block: u8, index: u16, item: u8) -> 
     requires item { item < 16 }
     requires room { 1 ≤ dom.old.view.own.remembered.room }
     ensures did { Did heap.now dom.old dom.new (Store block index item) result }
-    ensures rest { ChangesRemembered dom.old dom.new }
-    ensures remembered { PutsYoung heap.now.config result (value_at dom.old.view.own.registers block) (value_at dom.old.view.own.registers item)
-        → dom.new.view.own.remembered ≡ one_more (field_of (value_at dom.old.view.own.registers block) index) dom.old.view.own.remembered }
-    ensures unremembered { (PutsYoung heap.now.config result (value_at dom.old.view.own.registers block) (value_at dom.old.view.own.registers item) → ⊥)
-        → dom.new.view.own.remembered ≡ dom.old.view.own.remembered }
-    ensures registers { dom.new.view.own.registers ≡ dom.old.view.own.registers }
+    ensures remembers { StoreRemembers heap.now.config result block index item dom.old dom.new }
     ensures holds { Holds heap.now.config dom.new.view.own.registers }
 {
     store_as(heap, dom, block, index, item)

@@ -4,11 +4,11 @@ ghost use Rattle.heap_model.specs.declared.entry.Entry.{Entry};
 ghost use Rattle.heap_model.specs.declared.command.Command.TheVariants.{PutInt, Copy, Forget};
 ghost use Rattle.heap_words.specs.declared.value.Value.TheVariants.{Int, Nothing};
 ghost use Rattle.heap_words.specs.Values.{IsPackable};
-ghost use Rattle.heap_rule.specs.Changes.{value_at};
 ghost use Rattle.heap_rule.specs.Items.{item_of};
 ghost use Rattle.heap_rule.specs.Running.{Runs, Did, ChangesRegisters};
 ghost use Rattle.heap_rule.specs.Running.{own_entry};
 ghost use Rattle.heap_rule.specs.Token.{Holds};
+ghost use Rattle.field_access.specs.Registers.{CopiesInto};
 
 use heap_model::reply::Reply;
 use heap_rule::{Change, Domain, Heap, Item, Part};
@@ -67,7 +67,7 @@ fn copy_as(heap: &Heap, dom: &mut Domain, dst: u8, src: u8) -> Reply
     requires src { src < 16 }
     ensures did { Did heap.now dom.old dom.new (Copy dst src) result }
     ensures rest { ChangesRegisters dom.old dom.new }
-    ensures registers { dom.new.view.own.registers ≡ slice_set dom.old.view.own.registers dst (value_at dom.old.view.own.registers src) }
+    ensures registers { CopiesInto dst src dom.old.view.own.registers dom.new.view.own.registers }
     ensures holds { Holds heap.now.config dom.new.view.own.registers }
 {
     let value = dom.register(src);
@@ -83,7 +83,7 @@ pub fn copy(heap: &Heap, dom: &mut Domain, dst: u8, src: u8) -> Reply
     requires src { src < 16 }
     ensures did { Did heap.now dom.old dom.new (Copy dst src) result }
     ensures rest { ChangesRegisters dom.old dom.new }
-    ensures registers { dom.new.view.own.registers ≡ slice_set dom.old.view.own.registers dst (value_at dom.old.view.own.registers src) }
+    ensures registers { CopiesInto dst src dom.old.view.own.registers dom.new.view.own.registers }
     ensures holds { Holds heap.now.config dom.new.view.own.registers }
 {
     copy_as(heap, dom, dst, src)

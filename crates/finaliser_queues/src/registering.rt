@@ -8,7 +8,7 @@ ghost use Rattle.heap_rule.specs.Places.{IsNoBlock};
 ghost use Rattle.heap_rule.specs.Running.{Runs, Did, own_entry};
 ghost use Rattle.heap_rule.specs.Token.{Holds};
 ghost use Rattle.steps_finalisers.specs.Registering.{HasRoom};
-ghost use Rattle.finaliser_queues.specs.Registering.{own_finalised, own_finalised_last, registering_reply};
+ghost use Rattle.finaliser_queues.specs.Registering.{finalising, finalising_last, registering_reply};
 
 use heap_model::reply::Reply;
 use heap_rule::{Domain, Heap, Registered, RegisteredLast};
@@ -36,7 +36,7 @@ fn finalise_as(heap: &Heap, dom: &mut Domain, item: u8, number: u32, dst: u8) ->
     requires dst { dst < 16 }
     requires room { HasRoom heap.now.config dom.old.view.own.finalisers }
     ensures did { Did heap.now dom.old dom.new (Finalise item number dst) result }
-    ensures own { dom.new.view.own ≡ own_finalised (value_at dom.old.view.own.registers item) number dst dom.old.view.own }
+    ensures own { dom.new.view.own ≡ finalising item number dst dom.old.view.own }
     ensures reply { result ≡ registering_reply (value_at dom.old.view.own.registers item) }
     ensures holds { Holds heap.now.config dom.new.view.own.registers }
 {
@@ -67,7 +67,7 @@ pub fn finalise(heap: &Heap, dom: &mut Domain, item: u8, number: u32, dst: u8) -
     requires dst { dst < 16 }
     requires room { HasRoom heap.now.config dom.old.view.own.finalisers }
     ensures did { Did heap.now dom.old dom.new (Finalise item number dst) result }
-    ensures own { dom.new.view.own ≡ own_finalised (value_at dom.old.view.own.registers item) number dst dom.old.view.own }
+    ensures own { dom.new.view.own ≡ finalising item number dst dom.old.view.own }
     ensures reply { result ≡ registering_reply (value_at dom.old.view.own.registers item) }
     ensures holds { Holds heap.now.config dom.new.view.own.registers }
 {
@@ -81,7 +81,7 @@ fn finalise_last_as(heap: &Heap, dom: &mut Domain, item: u8, number: u32) -> Rep
     requires item { item < 16 }
     requires room { HasRoom heap.now.config dom.old.view.own.finalisers }
     ensures did { Did heap.now dom.old dom.new (FinaliseLast item number) result }
-    ensures own { dom.new.view.own ≡ own_finalised_last (value_at dom.old.view.own.registers item) number dom.old.view.own }
+    ensures own { dom.new.view.own ≡ finalising_last item number dom.old.view.own }
     ensures reply { result ≡ registering_reply (value_at dom.old.view.own.registers item) }
     ensures holds { Holds heap.now.config dom.new.view.own.registers }
 {
@@ -106,7 +106,7 @@ pub fn finalise_last(heap: &Heap, dom: &mut Domain, item: u8, number: u32) -> Re
     requires item { item < 16 }
     requires room { HasRoom heap.now.config dom.old.view.own.finalisers }
     ensures did { Did heap.now dom.old dom.new (FinaliseLast item number) result }
-    ensures own { dom.new.view.own ≡ own_finalised_last (value_at dom.old.view.own.registers item) number dom.old.view.own }
+    ensures own { dom.new.view.own ≡ finalising_last item number dom.old.view.own }
     ensures reply { result ≡ registering_reply (value_at dom.old.view.own.registers item) }
     ensures holds { Holds heap.now.config dom.new.view.own.registers }
 {

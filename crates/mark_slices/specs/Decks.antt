@@ -1,5 +1,5 @@
 -- What a deck of hints counts.
-use Rattle.std.specs.Prelude.{◌≡◌, ◌≢◌, ℕ, ◌+◌, ◌<◌, ◌≤◌, ◌⊎◌, Bool, false, List, replicate, slice_index}
+use Rattle.std.specs.Prelude.{◌≡◌, ◌≢◌, ℕ, ◌+◌, ◌<◌, ◌≤◌, ◌⊎◌, Bool, false, List, replicate, slice_index, slice_index_or}
 
 -- its domain's number, how many domains there are, how often each was found without a hint, how many hints were taken, how many were noted or let go, whether the domain has found no hint of its own since it last noted or took one, and how often it asked another domain for a hint before it had found none of its own
 pub record DeckCounts : Type 0 where
@@ -14,6 +14,10 @@ pub record DeckCounts : Type 0 where
 -- a domain's deck that has counted nothing so far
 abbrev pub uncounted : ℕ → ℕ → DeckCounts
 uncounted number domains = record { number = number; domains = domains; misses = replicate 8 0; taken = 0; pushes = 0; is_dry = false; early = 0 }
+
+-- so many domains' decks, in order
+abbrev pub AreUncounted : ℕ → List DeckCounts → Type 0
+AreUncounted domains decks = (k : ℕ) (d : DeckCounts) → k < domains → slice_index_or decks k d ≡ uncounted k domains
 
 -- an address that lies in the pools of the largest heap
 abbrev pub IsPooled : ℕ → Type 0
@@ -77,6 +81,11 @@ HasNoted before after l m = (l.pushes + after ≤ m.pushes + before) ⊎ (last_c
 -- and no more was noted
 abbrev pub NotesNoMore : ℕ → ℕ → DeckCounts → DeckCounts → Type 0
 NotesNoMore before after l m = m.pushes + before ≤ l.pushes + after
+
+-- both
+pub record NotesEach (before after : ℕ) (l m : DeckCounts) : Type 0 where
+  pub noted : HasNoted before after l m
+  pub no_more : NotesNoMore before after l m
 
 -- no more than so many were noted
 abbrev pub NotesAtMost : ℕ → DeckCounts → DeckCounts → Type 0

@@ -22,6 +22,7 @@ use Rattle.heap_rule.specs.Pools.{blocks_of, owned, owner_word}
 use Rattle.steps_marking.specs.Looks.{with_share}
 use Rattle.steps_marking.specs.Marking.{IsDarkening, Reason, Site, Warrants, account_on, moved_on, owes_on, places_seen_on, walk_on}
 use Rattle.darkening_beside.specs.Heads.{IsScanOf}
+use Rattle.mark_slices.specs.Decks.{DeckCounts, NotesEach}
 
 -- the domain is in a phase in which blocks are darkened, knows the colours, and has a reason to mark the block
 pub record Darkens (colours : Colours) (at : ℕ) (reason : Reason) (x : DomainView) : Type 0 where
@@ -52,6 +53,10 @@ IsRoot x r = IsTrue (list_any (λ q. q == r) x.seen.share.roots)
 -- and a place of the queue is among those
 abbrev pub IsQueueRoot : DomainView → ℕ → Type 0
 IsQueueRoot x i = IsTrue (seen_by x.seen.share.waiting i)
+
+-- each block that a domain has darkened was noted, and no more
+abbrev pub NotesDarkenings : DomainView → DomainView → DeckCounts → DeckCounts → Type 0
+NotesDarkenings x y l m = NotesEach x.seen.share.darkenings y.seen.share.darkenings l m
 
 -- roots are marked in a phase
 abbrev pub MarksRoots : Stage → Type 0
@@ -139,6 +144,11 @@ pub record Scans (colours : Colours) (x : DomainView) : Type 0 where
   pub known : x.seen.share.colours ≡ Some colours
   pub idle : x.seen.share.scan ≡ Idle
 
+-- it has marked the block at an address itself, and so owes a store of the changed word
+pub record MarkedItself (x : DomainView) (at : ℕ) : Type 0 where
+  pub marked : IsTrue (seen_by x.seen.share.marked at)
+  pub owes : x.seen.share.owes ≡ true
+
 -- it has scanned blocks, wherever they lie. Where it has darkened one it owes a store of the changed word
 abbrev pub Followed : Bool → DomainView → DomainView → Type 0
 Followed won x y = y ≡ with_share x (scanning x.seen.share y.seen.share x.seen.share.scan won)
@@ -148,6 +158,13 @@ pub record Marks (colours : Colours) (x : DomainView) : Type 0 where
   pub stage : x.seen.stage ≡ In Mark
   pub known : x.seen.share.colours ≡ Some colours
   pub idle : x.seen.share.scan ≡ Idle
+
+-- and before it has begun the walk it knows of no place and no block
+pub record StartsWalk (x : DomainView) : Type 0 where
+  pub stage : x.seen.stage ≡ In Mark
+  pub begins : x.seen.share.walk ≡ record { pool = 0; slot = 0 }
+  pub idle : x.seen.share.scan ≡ Idle
+  pub followed : x.seen.share.account ≡ []
 
 -- where a walk through a pool is when it has been at so many of its places: at the next one, or in the next pool
 abbrev pub spot_from : ℕ → ℕ → ℕ → Spot

@@ -22,6 +22,12 @@ pub record Slices (colours : Colours) (x : DomainView) : Type 0 where
   pub armed : x.seen.share.armed ≡ Some true
   pub known : x.seen.share.colours ≡ Some colours
 
+-- a slice teaches a running domain more, and what it owes, and that a cycle goes on, stays
+pub record LearntBeside (x y : DomainView) : Type 0 where
+  pub learnt : Learnt x y
+  pub owes : y.seen.share.weak ≡ x.seen.share.weak
+  pub armed : y.seen.share.armed ≡ x.seen.share.armed
+
 -- the owner word names nobody, or a domain's class
 abbrev pub IsOwner : ℕ → Type 0
 IsOwner word = (word ≡ 0) ⊎ ((d : ℕ) × (class : ℕ) × (class < class_count) × (word ≡ owner_word (owned d class)))

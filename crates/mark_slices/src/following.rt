@@ -3,7 +3,7 @@ ghost use Rattle.std.specs.Prelude.{◌≡◌, ◌*◌, ◌≤◌, ◌++◌, ◌
 ghost use Rattle.heap_words.specs.ColourWords.{IsPermutation};
 ghost use Rattle.heap_rule.specs.Cycles.{seen_by};
 ghost use Rattle.heap_rule.specs.Token.{IsIn};
-ghost use Rattle.mark_slices.specs.Shares.{Followed, Noted, Scans};
+ghost use Rattle.mark_slices.specs.Shares.{Followed, MarkedItself, Noted, Scans};
 
 use crate::hints::Hints;
 use crate::scanning::scan_block;
@@ -79,8 +79,7 @@ pub fn scan_marked(heap: &Heap, dom: &mut Domain, at: u32, colours: Colours, hin
     requires scans { Scans colours dom.old.view }
     requires meanings { IsPermutation colours }
     requires inside { (1 ≤ at) × (at ≤ heap.now.config.pools * 4096) }
-    requires marked { IsTrue (seen_by dom.old.view.seen.share.marked at) }
-    requires owes { dom.old.view.seen.share.owes ≡ true }
+    requires marked { MarkedItself dom.old.view at }
     ensures here { IsIn dom.new heap.now }
     ensures followed { Followed true dom.old.view dom.new.view }
     ensures hints { hints.new ≡ hints.old }

@@ -1,7 +1,7 @@
 //! The hints of a domain: of blocks that it is to scan next.
 ghost use Rattle.std.specs.Prelude.{◌≡◌, ◌<◌, ◌≤◌, ◌+◌, ℕ, true, false, length, IfOk, vec_len, slice_index_or};
 ghost use Rattle.crossbeam_deque.specs.Handles.{worker_flavor};
-ghost use Rattle.mark_slices.specs.Decks.{uncounted, Missed, NotesOn, TakesOwn, Took};
+ghost use Rattle.mark_slices.specs.Decks.{AreUncounted, uncounted, Missed, NotesOn, TakesOwn, Took};
 
 use crate::darkening::Hint;
 use crate::deck::Deck;
@@ -100,7 +100,7 @@ impl Hints {
     pub fn make(alloc: Global, domains: u32, ephemerons: u32) -> Result<Vec<Hints>, AllocError>
         requires some { 1 ≤ domains }
         requires few { domains ≤ 8 }
-        ensures { IfOk result (λ v. (vec_len v ≡ domains) × ((k : ℕ) (d : _) → k < domains → slice_index_or v.items k d ≡ uncounted k domains)) }
+        ensures { IfOk result (λ v. (vec_len v ≡ domains) × AreUncounted domains v.items) }
     {
         let mut workers = make_workers(alloc, domains)?;
         let mut lists = all_others(alloc, &workers)?;

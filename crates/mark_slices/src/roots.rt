@@ -6,8 +6,8 @@ ghost use Rattle.heap_rule.specs.declared.phase.Stage.TheVariants.{In};
 ghost use Rattle.heap_rule.specs.Token.{IsIn};
 ghost use Rattle.steps_marking.specs.Marking.{Reason, Register};
 ghost use Rattle.steps_marking.specs.Looks.{HeldInside};
-ghost use Rattle.mark_slices.specs.Decks.{HasNoted, NotesAlone, NotesAtMost, NotesNoMore, NotesOn};
-ghost use Rattle.mark_slices.specs.Shares.{Rooted, AllRooted, AllQueueRooted};
+ghost use Rattle.mark_slices.specs.Decks.{NotesAlone, NotesAtMost, NotesOn};
+ghost use Rattle.mark_slices.specs.Shares.{NotesDarkenings, Rooted, AllRooted, AllQueueRooted};
 
 use crate::darkening::darken;
 use crate::deck::Deck;
@@ -30,8 +30,7 @@ fn mark_root(heap: &Heap, dom: &mut Domain, register: u8, colours: Colours, hint
     ensures here { IsIn dom.new heap.now }
     ensures rooted { Rooted register dom.old.view dom.new.view }
     ensures notes { NotesOn hints.old hints.new }
-    ensures noted { HasNoted dom.old.view.seen.share.darkenings dom.new.view.seen.share.darkenings hints.old hints.new }
-    ensures no_more { NotesNoMore dom.old.view.seen.share.darkenings dom.new.view.seen.share.darkenings hints.old hints.new }
+    ensures noted { NotesDarkenings dom.old.view dom.new.view hints.old hints.new }
     ensures alone { NotesAlone hints.old hints.new }
     ensures few { NotesAtMost 1 hints.old hints.new }
 {
@@ -53,8 +52,7 @@ fn mark_waiting(heap: &Heap, dom: &mut Domain, colours: Colours, hints: &mut Hin
     ensures here { IsIn dom.new heap.now }
     ensures queued { AllQueueRooted dom.old.view dom.new.view }
     ensures notes { NotesOn hints.old hints.new }
-    ensures noted { HasNoted dom.old.view.seen.share.darkenings dom.new.view.seen.share.darkenings hints.old hints.new }
-    ensures no_more { NotesNoMore dom.old.view.seen.share.darkenings dom.new.view.seen.share.darkenings hints.old hints.new }
+    ensures noted { NotesDarkenings dom.old.view dom.new.view hints.old hints.new }
     ensures alone { NotesAlone hints.old hints.new }
     ensures few { NotesAtMost (length dom.old.view.own.finalisers.queue.items) hints.old hints.new }
 {
@@ -82,8 +80,7 @@ pub fn start_roots(heap: &Heap, dom: &mut Domain, hints: &mut Hints)
     ensures here { IsIn dom.new heap.now }
     ensures rooted { AllRooted dom.old.view dom.new.view }
     ensures notes { NotesOn hints.old hints.new }
-    ensures noted { HasNoted dom.old.view.seen.share.darkenings dom.new.view.seen.share.darkenings hints.old hints.new }
-    ensures no_more { NotesNoMore dom.old.view.seen.share.darkenings dom.new.view.seen.share.darkenings hints.old hints.new }
+    ensures noted { NotesDarkenings dom.old.view dom.new.view hints.old hints.new }
     ensures alone { NotesAlone hints.old hints.new }
     ensures few { NotesAtMost (16 + length dom.old.view.own.finalisers.queue.items) hints.old hints.new }
 {

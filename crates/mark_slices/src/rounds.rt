@@ -2,13 +2,10 @@
 ghost use Rattle.std.specs.Prelude.{◌≡◌, ◌≢◌, ◌<◌, ◌+◌, ℕ, MatchOption, []};
 ghost use Rattle.heap_model.specs.Domains.{class_count};
 ghost use Rattle.heap_words.specs.ColourWords.{IsPermutation};
-ghost use Rattle.heap_rule.specs.declared.phase.Kind.TheVariants.{Mark};
-ghost use Rattle.heap_rule.specs.declared.phase.Stage.TheVariants.{In};
-ghost use Rattle.heap_rule.specs.declared.view.Scan.TheVariants.{Idle};
 ghost use Rattle.heap_rule.specs.Pools.{owned, owner_word};
 ghost use Rattle.heap_rule.specs.Token.{IsIn};
 ghost use Rattle.mark_slices.specs.Decks.{NotesOn, TakesOwn};
-ghost use Rattle.mark_slices.specs.Shares.{IsNotOf, IsOfClass, Marks, Noted, Walked, AllWalked};
+ghost use Rattle.mark_slices.specs.Shares.{IsNotOf, IsOfClass, Marks, Noted, StartsWalk, Walked, AllWalked};
 
 use crate::hints::Hints;
 use crate::places::mark_pool;
@@ -66,10 +63,7 @@ fn visit_pool(
 // the domain has marked and not followed.
 fn walk_pools(heap: &Heap, dom: &mut Domain, trail: &mut Trail, waiting: &mut Waiting)
     requires here { IsIn dom.old heap.now }
-    requires stage { dom.old.view.seen.stage ≡ In Mark }
-    requires begins { dom.old.view.seen.share.walk ≡ record { pool = 0; slot = 0 } }
-    requires idle { dom.old.view.seen.share.scan ≡ Idle }
-    requires followed { dom.old.view.seen.share.account ≡ [] }
+    requires starts { StartsWalk dom.old.view }
     ensures here { IsIn dom.new heap.now }
     ensures walked { AllWalked dom.old.view dom.new.view }
 {
@@ -100,10 +94,7 @@ fn walk_pools(heap: &Heap, dom: &mut Domain, trail: &mut Trail, waiting: &mut Wa
 /// onto OCaml", section 3.2).
 pub fn mark_round(heap: &Heap, dom: &mut Domain, hints: &mut Hints)
     requires here { IsIn dom.old heap.now }
-    requires stage { dom.old.view.seen.stage ≡ In Mark }
-    requires begins { dom.old.view.seen.share.walk ≡ record { pool = 0; slot = 0 } }
-    requires idle { dom.old.view.seen.share.scan ≡ Idle }
-    requires followed { dom.old.view.seen.share.account ≡ [] }
+    requires starts { StartsWalk dom.old.view }
     ensures here { IsIn dom.new heap.now }
     ensures walked { AllWalked dom.old.view dom.new.view }
     ensures notes { NotesOn hints.old hints.new }

@@ -1,15 +1,12 @@
 //! The marking of a running domain.
-ghost use Rattle.std.specs.Prelude.{◌≡◌, ◌≢◌, ◌+◌, ◌<◌, ◌≤◌, ◌↔◌, ℕ, true, Some, cond, IfNone, IfSome};
+ghost use Rattle.std.specs.Prelude.{◌≡◌, ◌≢◌, ◌+◌, ◌<◌, ◌≤◌, ℕ, true, cond, IfNone, IfSome};
 ghost use Rattle.heap_words.specs.declared.colours.Colours.{Colours};
 ghost use Rattle.heap_words.specs.ColourWords.{IsPermutation};
-ghost use Rattle.heap_rule.specs.declared.phase.Kind.TheVariants.{Run};
-ghost use Rattle.heap_rule.specs.declared.phase.Stage.TheVariants.{In};
 ghost use Rattle.heap_rule.specs.Token.{IsIn};
-ghost use Rattle.darkening_beside.specs.Aware.{Learnt, darkened_in, scanned_in, vain_in};
-ghost use Rattle.mark_slices.specs.declared.slices.Why.TheVariants.{Enough, NoneFound, Stale};
-ghost use Rattle.mark_slices.specs.Decks.{AllMissed, HasMissed, HasNoted, HasTaken, NotesNoMore, NotesOn};
-ghost use Rattle.mark_slices.specs.Slices.{IsDeckOf, Slices, Tries, Went};
-ghost use Rattle.mark_slices.specs.Ends.{EndsSlice, HasLooked};
+ghost use Rattle.steps_marking_beside.specs.Marking.{IsBeside};
+ghost use Rattle.mark_slices.specs.Decks.{AllMissed, HasMissed};
+ghost use Rattle.mark_slices.specs.Slices.{IsDeckOf, LearntBeside, Slices, Tries, Went};
+ghost use Rattle.mark_slices.specs.Ends.{CountsSlice, EndsSlice, ScansUpTo};
 
 use crate::darkening::Hint;
 use crate::deck::Deck;
@@ -150,27 +147,13 @@ fn scan_next<K: Deck>(
 /// OCaml", section 4.3).
 pub fn slice<K: Deck>(heap: &Heap, dom: &mut Domain, deck: &mut K, most: u32) -> Scanned
     requires here { IsIn dom.old heap.now }
-    requires runs { dom.old.view.seen.stage ≡ In Run }
-    requires armed { dom.old.view.seen.share.armed ≡ Some true }
+    requires beside { IsBeside dom.old.view }
     requires decked { IsDeckOf heap.now.config dom.old.view (K.counts deck.old) }
     requires some { 1 ≤ most }
     ensures here { IsIn dom.new heap.now }
-    ensures learnt { Learnt dom.old.view dom.new.view }
-    ensures owes { dom.new.view.seen.share.weak ≡ dom.old.view.seen.share.weak }
-    ensures armed { dom.new.view.seen.share.armed ≡ dom.old.view.seen.share.armed }
-    ensures few { result.count ≤ most }
-    ensures enough { (result.why ≡ Enough) ↔ (result.count ≡ most) }
-    ensures scanned { scanned_in dom.new.view.seen.share.known ≡ scanned_in dom.old.view.seen.share.known + result.count }
-    ensures none { result.why ≡ NoneFound → AllMissed (K.counts deck.old) (K.counts deck.new) }
-    ensures stale { result.why ≡ Stale → HasTaken 8192 (K.counts deck.old) (K.counts deck.new) }
-    ensures let_go { vain_in dom.new.view.seen.share.known ≤ vain_in dom.old.view.seen.share.known + 8192 }
-    ensures ends { (result.why ≡ Stale) ↔ (vain_in dom.new.view.seen.share.known ≡ vain_in dom.old.view.seen.share.known + 8192) }
-    ensures taken { (K.counts deck.new).taken + vain_in dom.old.view.seen.share.known ≤ (K.counts deck.old).taken + result.count + vain_in dom.new.view.seen.share.known }
-    ensures looked { HasLooked result.count dom.old.view dom.new.view (K.counts deck.old) (K.counts deck.new) }
-    ensures pushes { HasNoted (darkened_in dom.old.view.seen.share.known) (darkened_in dom.new.view.seen.share.known) (K.counts deck.old) (K.counts deck.new) }
-    ensures no_more { NotesNoMore (darkened_in dom.old.view.seen.share.known) (darkened_in dom.new.view.seen.share.known) (K.counts deck.old) (K.counts deck.new) }
-    ensures notes { NotesOn (K.counts deck.old) (K.counts deck.new) }
-    ensures own_first { (K.counts deck.new).early ≡ (K.counts deck.old).early }
+    ensures learnt { LearntBeside dom.old.view dom.new.view }
+    ensures scans { ScansUpTo most result dom.old.view dom.new.view }
+    ensures counts { CountsSlice result dom.old.view dom.new.view (K.counts deck.old) (K.counts deck.new) }
 {
     let colours = colours_now(heap, dom);
     let mut left = MOST_STALE;

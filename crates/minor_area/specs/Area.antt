@@ -1,14 +1,18 @@
 -- What an allocation finds and leaves.
-use Rattle.std.specs.Prelude.{◌≡◌, ◌⊎◌, ◌∷◌, ℕ, ◌+◌, ◌<◌, ◌≤◌, Bool, Some, nat_le, if◌then◌else◌}
+use Rattle.std.specs.Prelude.{◌≡◌, ◌⊎◌, ◌∷◌, ℕ, ◌+◌, ◌<◌, ◌≤◌, Bool, Some, nat_le, if◌then◌else◌, slice_set}
 use Rattle.heap_model.specs.declared.command.Command.{Command}
 use Rattle.heap_model.specs.declared.command.Command.TheVariants.{Alloc, Raw as NewRaw}
+use Rattle.heap_model.specs.declared.label.Label.{Label}
+use Rattle.heap_model.specs.declared.reply.Reply.TheVariants.{Block}
 use Rattle.heap_model.specs.Domains.{reserve}
 use Rattle.heap_rule.specs.declared.config.Config.{Config}
 use Rattle.heap_rule.specs.declared.view.DomainView.{DomainView}
 use Rattle.heap_rule.specs.declared.view.Hunt.TheVariants.{Rests}
 use Rattle.heap_rule.specs.Limits.{sizes_in}
-use Rattle.heap_rule.specs.Token.{Token, SharedHeap}
+use Rattle.heap_rule.specs.Running.{Did}
+use Rattle.heap_rule.specs.Token.{Holds, Token, SharedHeap, next_address}
 use Rattle.heap_words.specs.declared.colours.Colours.{Colours}
+use Rattle.heap_words.specs.declared.value.Value.TheVariants.{Ref}
 use Rattle.heap_rule.specs.Places.{class_words, new_colour}
 use Rattle.steps_pools.specs.Takes.{found_free}
 use Rattle.minor_area.specs.declared.need.Need.{Need}
@@ -71,3 +75,12 @@ pub record IsClosed (h : SharedHeap) (old new : Token) (fields free : ℕ) : Typ
 abbrev pub Needs : SharedHeap → Token → Token → ℕ → Need → Type 0
 Needs h old new fields (AreaFull used) = IsFull h old new fields used
 Needs h old new fields (Closed free) = IsClosed h old new fields free
+
+-- a block is made in the minor area, which has room for it, at the next address, and register dst holds it
+pub record MadeYoung (h : SharedHeap) (dst tag fields : ℕ) (label : Label) (old new : Token) : Type 0 where
+  pub did : Did h old new (young_command dst tag fields) (Block label)
+  pub grows : Grows old new (class_words (fields + 2))
+  pub registers : new.view.own.registers ≡ slice_set old.view.own.registers dst (Ref (next_address h.config old.view))
+  pub holds : Holds h.config new.view.own.registers
+  pub room : HasRoom h.config old.view fields
+  pub opened : IsOpened h.config old.view new.view

@@ -1,5 +1,5 @@
 //! The allocation of a young block.
-ghost use Rattle.std.specs.Prelude.{◌≡◌, ◌+◌, ◌^◌, ◌<◌, ◌≤◌, Bool, slice_set, IfOk, IfErr, OnOk, OnErr};
+ghost use Rattle.std.specs.Prelude.{◌≡◌, ◌+◌, ◌^◌, ◌<◌, ◌≤◌, Bool, slice_set, IfOk, IfErr, OnErr};
 ghost use Rattle.heap_model.specs.declared.entry.Entry.{Entry};
 ghost use Rattle.heap_model.specs.declared.reply.Reply.TheVariants.{Block};
 ghost use Rattle.heap_words.specs.declared.colours.Colours.{Colours};
@@ -13,7 +13,7 @@ ghost use Rattle.heap_rule.specs.Running.{Runs, Did, own_entry};
 ghost use Rattle.heap_rule.specs.Token.{Holds, IsIn};
 ghost use Rattle.steps_marking.specs.Arming.{knowing_armed};
 ghost use Rattle.steps_marking.specs.Looks.{knowing_colours};
-ghost use Rattle.minor_area.specs.Area.{IsBlockTag, young_command, IsNewColour, Grows, HasRoom, IsOpened, Needs};
+ghost use Rattle.minor_area.specs.Area.{IsBlockTag, young_command, IsNewColour, Grows, MadeYoung, Needs};
 
 use crate::Need;
 use heap_model::label::Label;
@@ -120,12 +120,7 @@ pub fn alloc_young(
     requires tag { IsBlockTag tag }
     requires fields { (1 ≤ fields) × (fields ≤ 1022) }
     requires serial { dom.old.view.own.serial + 1 < 2 ^ 32 }
-    ensures did { IfOk result (λ l. Did heap.now dom.old dom.new (young_command dst tag fields) (Block l)) }
-    ensures grows { OnOk result (Grows dom.old dom.new (class_words (fields + 2))) }
-    ensures registers { OnOk result (dom.new.view.own.registers ≡ slice_set dom.old.view.own.registers dst (Ref (next_address heap.now.config dom.old.view))) }
-    ensures holds { OnOk result (Holds heap.now.config dom.new.view.own.registers) }
-    ensures room { OnOk result (HasRoom heap.now.config dom.old.view fields) }
-    ensures open { OnOk result (IsOpened heap.now.config dom.old.view dom.new.view) }
+    ensures made { IfOk result (λ l. MadeYoung heap.now dst tag fields l dom.old dom.new) }
     ensures needs { IfErr result (λ need. Needs heap.now dom.old dom.new fields need) }
     ensures runs { OnErr result (Runs heap.now dom.new) }
 {

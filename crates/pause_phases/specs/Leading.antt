@@ -1,5 +1,5 @@
 -- How domain 0 leads through a collection of the major heap.
-use Rattle.std.specs.Prelude.{◌≡◌, ℕ, ◌≤◌, ◌*◌, ◌==◌, ◌||◌, nat_lt, if◌then◌else◌, Bool, List, [], ◌∷◌, ◌++◌, Option, Some, None}
+use Rattle.std.specs.Prelude.{◌≡◌, ℕ, ◌<◌, ◌≤◌, ◌*◌, ◌^◌, ◌==◌, ◌||◌, nat_lt, if◌then◌else◌, Bool, List, [], ◌∷◌, ◌++◌, Option, Some, None}
 use Rattle.heap_model.specs.declared.entry.Entry.{Entry}
 use Rattle.heap_model.specs.Fronts.{IsFrontOf}
 use Rattle.heap_rule.specs.declared.config.Config.{Config}
@@ -9,9 +9,10 @@ use Rattle.heap_rule.specs.declared.phase.Kind.TheVariants.{Run, Promote, Reset,
 use Rattle.heap_rule.specs.declared.phase.Note.{Note}
 use Rattle.heap_rule.specs.declared.phase.Note.TheVariants.{Want, Changed, Listed, SetBack}
 use Rattle.heap_rule.specs.declared.phase.Progress.{Progress}
-use Rattle.heap_rule.specs.declared.phase.Stage.TheVariants.{Led}
+use Rattle.heap_rule.specs.declared.phase.Stage.TheVariants.{Leads, Led}
+use Rattle.heap_rule.specs.declared.view.Hunt.TheVariants.{Rests}
 use Rattle.heap_rule.specs.Phases.{Follows, last_note}
-use Rattle.heap_rule.specs.Views.{fresh_share}
+use Rattle.heap_rule.specs.Views.{fresh_share, voided}
 use Rattle.steps_pauses.specs.Pauses.{EndsWith, MayFollow, arrived_view, asks_again, entry_of, progress_after, unmarked_after}
 use Rattle.heap_rule.specs.Cycles.{IsMarking}
 use Rattle.steps_pools.specs.Listings.{NamesAll}
@@ -95,6 +96,15 @@ opened_view x y notes = record x { seen = record x.seen { notes = notes; listing
 abbrev pub set_back_for : Kind → Option ℕ
 set_back_for Mark = Some 0
 set_back_for _ = None
+
+-- the domain is domain 0 in the odd phase behind a kind: it rests, has arrived few enough times, and has forgotten what it knew of the phase before
+pub record HasToLead (last : Kind) (x : DomainView) : Type 0 where
+  pub first : x.own.number ≡ 0
+  pub odd : x.seen.stage ≡ Leads last
+  pub at_rest : x.seen.hunt ≡ Rests
+  pub idle : x.seen.made ≡ []
+  pub few : x.own.arrivals < 2 ^ 60
+  pub forgot : x.seen.share ≡ voided x.seen.share
 
 -- domain 0 has named the next kind, and before blocks are marked it has set the changed word back
 pub record Named (k : Config) (next : Kind) (x y : DomainView) : Type 0 where

@@ -5,6 +5,7 @@ use Rattle.heap_rule.specs.declared.config.Config.{Config}
 use Rattle.heap_rule.specs.declared.phase.Kind.{Kind}
 use Rattle.heap_rule.specs.declared.phase.Kind.TheVariants.{Run, Promote, Reset, Roots, Mark, Rounds, Decide, Queued, Clean, Lasts, Sweep, Answer}
 use Rattle.heap_rule.specs.declared.phase.Progress.{Progress}
+use Rattle.heap_rule.specs.declared.view.DomainView.{DomainView}
 
 -- the place of a kind that was gone through, by whether the cut is made
 abbrev pub marking_place : Bool → Turn → Place
@@ -51,3 +52,7 @@ any_named all kind p unmarked = any_left all kind p unmarked
 -- domain 0 has named a kind after another: fewer phases of the pause are left than before, where as many blocks may live as the pools have places
 abbrev pub IsNearer : Config → Kind → Kind → Progress → Progress → ℕ → ℕ → Type 0
 IsNearer k last kind before after was now = any_named (k.pools * 1024) kind after now < any_left (k.pools * 1024) last before was
+
+-- and so by how many blocks aren't marked at most, as the domain knew before and knows then
+abbrev pub NearerBy : Config → Kind → Kind → Progress → Progress → DomainView → DomainView → Type 0
+NearerBy k last kind before after x y = IsNearer k last kind before after x.seen.share.unmarked y.seen.share.unmarked

@@ -1,17 +1,20 @@
 -- A domain's share of a phase of a collection of the major heap.
-use Rattle.std.specs.Prelude.{◌≡◌, ◌≢◌, ◌+◌, ◌≤◌, ℕ, List, ◌++◌}
+use Rattle.std.specs.Prelude.{◌≡◌, ◌≢◌, ◌+◌, ◌<◌, ◌≤◌, ◌^◌, ℕ, List, [], ◌++◌, None}
 use Rattle.heap_model.specs.Fronts.{IsFrontOf}
 use Rattle.heap_model.specs.History.{Legal}
 use Rattle.control_entries.specs.Led.{IsLed}
 use Rattle.heap_rule.specs.declared.config.Config.{Config}
 use Rattle.heap_rule.specs.declared.phase.Kind.{Kind}
 use Rattle.heap_rule.specs.declared.phase.Kind.TheVariants.{Run, Promote, Reset, Roots, Mark, Decide, Clean, Lasts, Sweep, Answer}
+use Rattle.heap_rule.specs.declared.phase.Stage.TheVariants.{In}
 use Rattle.heap_rule.specs.declared.view.DomainView.{DomainView}
 use Rattle.heap_rule.specs.declared.view.Finalisers.{Finalisers}
+use Rattle.heap_rule.specs.declared.view.Hunt.TheVariants.{Rests}
 use Rattle.heap_rule.specs.declared.view.Waiting.{Waiting}
 use Rattle.heap_rule.specs.Finalisers.{RefersOld}
 use Rattle.heap_rule.specs.Limits.{sizes_in}
 use Rattle.heap_rule.specs.Sweeping.{nothing_swept}
+use Rattle.heap_rule.specs.Views.{voided}
 use Rattle.sweeper.specs.Emptiness.{sunk}
 use Rattle.steps_finalisers.specs.Registering.{count_of}
 use Rattle.steps_pauses.specs.Pauses.{HasDone, arrived_view}
@@ -26,6 +29,25 @@ IsShared Promote = ⊥
 IsShared Reset = ⊥
 IsShared Answer = ⊥
 IsShared _ = Unit {0}
+
+-- the domain has to do its share of an even phase, and to arrive: it rests, has arrived few enough times, and has forgotten what it knew of the phase before
+pub record HasToShare (kind : Kind) (x : DomainView) : Type 0 where
+  pub phase : IsShared kind
+  pub stage : x.seen.stage ≡ In kind
+  pub at_rest : x.seen.hunt ≡ Rests
+  pub idle : x.seen.made ≡ []
+  pub few : x.own.arrivals < 2 ^ 60
+  pub forgot : x.seen.share ≡ voided x.seen.share
+
+-- it has to give back pools where a collection is answered, and to arrive: it rests, owes no darkening, and has looked at none of its pools
+pub record HasToGiveBack (x : DomainView) : Type 0 where
+  pub stage : x.seen.stage ≡ In Answer
+  pub at_rest : x.seen.hunt ≡ Rests
+  pub idle : x.seen.made ≡ []
+  pub few : x.own.arrivals < 2 ^ 60
+  pub paid : x.seen.share.weak ≡ None
+  pub first : x.seen.share.held ≡ 0
+  pub none : x.seen.share.vacant ≡ 0
 
 -- what a share makes of the counts of the domain's hints, where so many finalisers wait in its queue as the share begins: in Roots none is taken, and no more are noted than one for each register and one for each place of the queue; in Mark its own hints are taken and none is noted; and in each other phase they stay as they are
 abbrev pub HintsIn : Kind → ℕ → DeckCounts → DeckCounts → Type 0

@@ -1,16 +1,11 @@
 //! How domain 0 goes from one kind of phase to the next.
-ghost use Rattle.std.specs.Prelude.{◌≡◌, ◌<◌, ◌^◌, [], Some};
-ghost use Rattle.heap_rule.specs.declared.phase.Kind.TheVariants.{Run, Promote};
-ghost use Rattle.heap_rule.specs.declared.phase.Note.TheVariants.{SetBack};
+ghost use Rattle.std.specs.Prelude.{◌≡◌};
 ghost use Rattle.heap_rule.specs.declared.phase.Stage.TheVariants.{Leads};
-ghost use Rattle.heap_rule.specs.declared.view.Hunt.TheVariants.{Rests};
-ghost use Rattle.heap_rule.specs.Phases.{Follows, last_note};
 ghost use Rattle.heap_rule.specs.Token.{IsIn};
-ghost use Rattle.heap_rule.specs.Views.{voided};
-ghost use Rattle.steps_pauses.specs.Pauses.{MayFollow, kind_in};
-ghost use Rattle.steps_pools.specs.Listings.{NamesAll};
-ghost use Rattle.pause_phases.specs.Leading.{LeadsOn, Named};
-ghost use Rattle.pause_phases.specs.Measure.{IsNearer};
+ghost use Rattle.steps_pauses.specs.Pauses.{kind_in};
+ghost use Rattle.safepoint.specs.Looks.{MayName};
+ghost use Rattle.pause_phases.specs.Leading.{HasToLead, LeadsOn, Named};
+ghost use Rattle.pause_phases.specs.Measure.{NearerBy};
 
 use crate::decider::Decider;
 use crate::opening::open;
@@ -24,10 +19,7 @@ fn name(heap: &Heap, dom: &mut Domain, next: Kind)
     requires here { IsIn dom.old heap.now }
     requires first { dom.old.view.own.number ≡ 0 }
     requires odd { dom.old.view.seen.stage ≡ Leads (kind_in dom.old.view.seen.stage) }
-    requires follows { Follows (kind_in dom.old.view.seen.stage) next }
-    requires may { MayFollow dom.old.view.seen.share (kind_in dom.old.view.seen.stage) next }
-    requires list { next ≡ Run → NamesAll heap.now.config dom.old.view }
-    requires set_back { next ≡ Promote → last_note dom.old.view.seen.notes ≡ Some SetBack }
+    requires may { MayName heap.now.config next dom.old.view }
     ensures here { IsIn dom.new heap.now }
     ensures named { Named heap.now.config next dom.old.view dom.new.view }
 {
@@ -69,17 +61,12 @@ pub fn lead_on(
     progress: &mut Progress,
 ) -> Kind
     requires here { IsIn dom.old heap.now }
-    requires first { dom.old.view.own.number ≡ 0 }
-    requires odd { dom.old.view.seen.stage ≡ Leads last }
-    requires at_rest { dom.old.view.seen.hunt ≡ Rests }
-    requires idle { dom.old.view.seen.made ≡ [] }
-    requires few { dom.old.view.own.arrivals < 2 ^ 60 }
-    requires forgot { dom.old.view.seen.share ≡ voided dom.old.view.seen.share }
+    requires leads { HasToLead last dom.old.view }
     requires knows { progress.old ≡ dom.old.view.seen.share.progress }
     ensures here { IsIn dom.new heap.now }
     ensures leads { LeadsOn heap.now.config decider dom.old.view dom.new.view last result }
     ensures knows { progress.new ≡ dom.new.view.seen.share.progress }
-    ensures nearer { IsNearer heap.now.config last result progress.old progress.new dom.old.view.seen.share.unmarked dom.new.view.seen.share.unmarked }
+    ensures nearer { NearerBy heap.now.config last result progress.old progress.new dom.old.view dom.new.view }
 {
     let next = open(heap, dom, last, decider, *progress);
     name(heap, dom, next);

@@ -1,12 +1,12 @@
 //! What a domain does in the even phases of a collection of the major heap.
-ghost use Rattle.std.specs.Prelude.{◌≡◌, ◌<◌, ◌≤◌, ◌^◌, [], None, length};
-ghost use Rattle.heap_rule.specs.declared.phase.Kind.TheVariants.{Answer, Lasts, Sweep};
+ghost use Rattle.std.specs.Prelude.{◌≡◌, ◌≤◌, length};
+ghost use Rattle.heap_rule.specs.declared.phase.Kind.TheVariants.{Lasts, Sweep};
 ghost use Rattle.heap_rule.specs.declared.phase.Stage.TheVariants.{In};
 ghost use Rattle.heap_rule.specs.declared.view.Hunt.TheVariants.{Rests};
 ghost use Rattle.heap_rule.specs.Token.{IsIn};
 ghost use Rattle.heap_rule.specs.Views.{voided};
 ghost use Rattle.mark_slices.specs.Decks.{NotesOn};
-ghost use Rattle.pause_phases.specs.Sharing.{gave_back, HintsIn, IsShared, SharesIn, Works};
+ghost use Rattle.pause_phases.specs.Sharing.{gave_back, HasToGiveBack, HasToShare, HintsIn, IsShared, SharesIn, Works};
 
 use ephemeron_rounds::{clean, round};
 use finaliser_queues::{darken_queued, decide, last};
@@ -89,12 +89,7 @@ fn work(heap: &Heap, dom: &mut Domain, kind: Kind, hints: &mut Hints)
 /// notes at most one for each register and one for each place of its queue.
 pub fn share(heap: &Heap, dom: &mut Domain, kind: Kind, hints: &mut Hints)
     requires here { IsIn dom.old heap.now }
-    requires phase { IsShared kind }
-    requires stage { dom.old.view.seen.stage ≡ In kind }
-    requires at_rest { dom.old.view.seen.hunt ≡ Rests }
-    requires idle { dom.old.view.seen.made ≡ [] }
-    requires few { dom.old.view.own.arrivals < 2 ^ 60 }
-    requires forgot { dom.old.view.seen.share ≡ voided dom.old.view.seen.share }
+    requires shares { HasToShare kind dom.old.view }
     ensures here { IsIn dom.new heap.now }
     ensures shares { SharesIn heap.now.config kind dom.old.view dom.new.view }
     ensures notes { NotesOn hints.old hints.new }
@@ -109,13 +104,7 @@ pub fn share(heap: &Heap, dom: &mut Domain, kind: Kind, hints: &mut Hints)
 /// that it owns stays as it was but the number of its arrivals, and the top, which sinks to behind its last pool.
 pub fn give_back(heap: &Heap, dom: &mut Domain)
     requires here { IsIn dom.old heap.now }
-    requires stage { dom.old.view.seen.stage ≡ In Answer }
-    requires at_rest { dom.old.view.seen.hunt ≡ Rests }
-    requires idle { dom.old.view.seen.made ≡ [] }
-    requires few { dom.old.view.own.arrivals < 2 ^ 60 }
-    requires paid { dom.old.view.seen.share.weak ≡ None }
-    requires first { dom.old.view.seen.share.held ≡ 0 }
-    requires none { dom.old.view.seen.share.vacant ≡ 0 }
+    requires gives { HasToGiveBack dom.old.view }
     ensures here { IsIn dom.new heap.now }
     ensures view { dom.new.view ≡ gave_back dom.old.view dom.new.view }
     ensures sinks { dom.new.view.own.swept.top ≤ dom.old.view.own.swept.top }

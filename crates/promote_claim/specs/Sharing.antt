@@ -5,8 +5,9 @@ use Rattle.heap_rule.specs.declared.config.Config.{Config}
 use Rattle.heap_rule.specs.declared.view.DomainView.{DomainView}
 use Rattle.heap_rule.specs.declared.view.Hunt.TheVariants.{Rests}
 use Rattle.heap_rule.specs.Changes.{value_at}
-use Rattle.heap_rule.specs.Copies.{HoldsOld}
+use Rattle.heap_rule.specs.Copies.{HoldsOld, nothing_copied}
 use Rattle.heap_rule.specs.Pools.{prepared_at}
+use Rattle.heap_rule.specs.Running.{RemembersAll}
 use Rattle.promote_claim.specs.Held.{ListsBecome}
 use Rattle.promote_claim.specs.Roots.{Becomes}
 use Rattle.promote_claim.specs.Working.{with_claims, AllPlaced}
@@ -16,6 +17,13 @@ use Rattle.heap_rule.specs.declared.phase.Stage.TheVariants.{In}
 -- no place is prepared for a copy
 abbrev pub Unprepared : DomainView → Type 0
 Unprepared x = (class : ℕ) → class < class_count → prepared_at x.own.prepared class ≡ None
+
+-- nothing has been copied or prepared, and the fields to be looked through are those of the domain's list
+pub record HasToCopy (x : DomainView) : Type 0 where
+  pub quiet : x.seen.copying ≡ nothing_copied
+  pub no_copies : x.own.pending.items ≡ []
+  pub remembers : RemembersAll x
+  pub unprepared : Unprepared x
 
 -- a domain that has begun to give its places back
 pub record Gives (k : Config) (class : ℕ) (x y : DomainView) : Type 0 where

@@ -1,13 +1,11 @@
 //! A domain's share of a collection.
-ghost use Rattle.std.specs.Prelude.{◌≡◌, ◌<◌, ◌+◌, []};
+ghost use Rattle.std.specs.Prelude.{◌≡◌, ◌<◌, ◌+◌};
 ghost use Rattle.heap_model.specs.Domains.{class_count};
 ghost use Rattle.heap_rule.specs.declared.phase.Kind.TheVariants.{Promote};
 ghost use Rattle.heap_rule.specs.declared.phase.Stage.TheVariants.{In};
 ghost use Rattle.heap_rule.specs.declared.view.Hunt.TheVariants.{Rests};
-ghost use Rattle.heap_rule.specs.Copies.{nothing_copied};
-ghost use Rattle.heap_rule.specs.Running.{RemembersAll};
 ghost use Rattle.heap_rule.specs.Token.{IsIn};
-ghost use Rattle.promote_claim.specs.Sharing.{Unprepared, Gives, GaveBack, Shared};
+ghost use Rattle.promote_claim.specs.Sharing.{Gives, GaveBack, HasToCopy, Shared};
 ghost use Rattle.promote_claim.specs.Working.{Works};
 
 use crate::filling::fill_all;
@@ -60,10 +58,7 @@ pub fn promote(heap: &Heap, dom: &mut Domain)
     requires here { IsIn dom.old heap.now }
     requires stage { dom.old.view.seen.stage ≡ In Promote }
     requires at_rest { dom.old.view.seen.hunt ≡ Rests }
-    requires quiet { dom.old.view.seen.copying ≡ nothing_copied }
-    requires no_copies { dom.old.view.own.pending.items ≡ [] }
-    requires remembers { RemembersAll dom.old.view }
-    requires unprepared { Unprepared dom.old.view }
+    requires begins { HasToCopy dom.old.view }
     ensures here { IsIn dom.new heap.now }
     ensures shared { Shared heap.now.config dom.old.view dom.new.view }
 {

@@ -94,7 +94,7 @@ no_last_is_decided_with_the_others x at i marked r m stage = let e : In Decide �
 pub no_pool_is_drawn_before_a_look : (k : Config) (x : DomainView) (class : ℕ) → CopyDrawMay k x class → (spot_at x.own.looked class).pool < k.pools → ⊥
 no_pool_is_drawn_before_a_look k x class m left = let none = m.none_free in omega (arith, none, left)
 
--- where a slice has scanned nothing, and looked at nothing in vain, it has taken no hint. The premise is the clause `taken` of `slice`. A look takes its hint by value, so each hint that is taken is looked at
+-- where a slice has scanned nothing, and looked at nothing in vain, it has taken no hint. The premise is `taken` of `CountsSlice`, which `slice` promises. A look takes its hint by value, so each hint that is taken is looked at
 pub no_hint_is_taken_without_a_look : (taken_before taken_after vain_before vain_after count : ℕ) → taken_after + vain_before ≤ taken_before + count + vain_after → count ≡ 0 → vain_after ≡ vain_before → taken_before < taken_after → ⊥
 no_hint_is_taken_without_a_look taken_before taken_after vain_before vain_after count says none same more = omega (arith, says, none, same, more)
 

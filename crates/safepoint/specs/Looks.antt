@@ -5,16 +5,17 @@ use Rattle.heap_model.specs.Fronts.{AreNotControls, IsFrontOf, unseen}
 use Rattle.heap_rule.specs.declared.config.Config.{Config}
 use Rattle.heap_rule.specs.declared.view.DomainView.{DomainView}
 use Rattle.heap_rule.specs.declared.phase.Kind.{Kind}
-use Rattle.heap_rule.specs.declared.phase.Kind.TheVariants.{Run}
+use Rattle.heap_rule.specs.declared.phase.Kind.TheVariants.{Run, Promote}
 use Rattle.heap_rule.specs.declared.phase.Stage.TheVariants.{In, Leads, Led}
 use Rattle.heap_rule.specs.declared.phase.Note.{Note}
-use Rattle.heap_rule.specs.declared.phase.Note.TheVariants.{Barrier, Cleared}
+use Rattle.heap_rule.specs.declared.phase.Note.TheVariants.{Barrier, Cleared, SetBack}
 use Rattle.heap_rule.specs.Limits.{sizes_in}
-use Rattle.heap_rule.specs.Phases.{Comes, IsEven, IsOdd, Pause, Staged}
+use Rattle.heap_rule.specs.Phases.{Comes, Follows, IsEven, IsOdd, Pause, Staged, last_note}
 use Rattle.heap_rule.specs.Rule.{state_of}
 use Rattle.heap_rule.specs.Standing.{noted, with_front}
 use Rattle.heap_rule.specs.Cycles.{IsMarking}
-use Rattle.steps_pauses.specs.Pauses.{kind_in, IsModeOf, asks_again, entry_of, progress_after, unmarked_after, EndsWith}
+use Rattle.steps_pauses.specs.Pauses.{kind_in, IsModeOf, MayFollow, asks_again, entry_of, progress_after, unmarked_after, EndsWith}
+use Rattle.steps_pools.specs.Listings.{NamesAll}
 use Rattle.safepoint.specs.declared.answer.Look.{Look}
 use Rattle.safepoint.specs.declared.answer.Look.TheVariants.{Next, Lead, NotAll}
 use Rattle.safepoint.specs.declared.answer.Want as wish
@@ -63,6 +64,13 @@ pub record LooksTogether (k : Config) (xs ys : List DomainView) (answer : Look) 
 abbrev pub cleared : Kind → List Note
 cleared Run = Cleared ∷ []
 cleared _ = []
+
+-- domain 0 may name the kind next: it may follow the last one, before domains run the list of free pools names all, and before they copy the cursor was just set back
+pub record MayName (k : Config) (next : Kind) (x : DomainView) : Type 0 where
+  pub follows : Follows (kind_in x.seen.stage) next
+  pub may : MayFollow x.seen.share (kind_in x.seen.stage) next
+  pub list : next ≡ Run → NamesAll k x
+  pub set_back : next ≡ Promote → last_note x.seen.notes ≡ Some SetBack
 
 -- domain 0 has named the next kind, and the collector's entry stands, if there is one. Of the phase it knows no more than whether the cut is made, whether the cycle is whole, whether a sweep is owed, and how many blocks aren't marked at most: behind a phase of the marking that asks for another one, one fewer
 pub record LedTo (k : Config) (next : Kind) (x y : DomainView) : Type 0 where

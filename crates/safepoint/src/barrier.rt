@@ -1,18 +1,16 @@
 //! The steps of a pause, for a domain that takes turns.
-ghost use Rattle.std.specs.Prelude.{◌≡◌, ◌≤◌, ◌<◌, ◌^◌, ◌++◌, [], ◌∷◌, length, vec_capacity, Some};
-ghost use Rattle.heap_rule.specs.declared.phase.Kind as kinds;
-ghost use Rattle.heap_rule.specs.declared.phase.Kind.TheVariants.{Run, Promote};
+ghost use Rattle.std.specs.Prelude.{◌≡◌, ◌≤◌, ◌<◌, ◌^◌, ◌++◌, length, vec_capacity};
+ghost use Rattle.heap_rule.specs.declared.phase.Kind.TheVariants.{Run};
 ghost use Rattle.heap_rule.specs.declared.phase.Stage.TheVariants.{In, Leads};
 ghost use Rattle.heap_rule.specs.declared.phase.Note.TheVariants as note;
-ghost use Rattle.heap_rule.specs.Phases.{code, kind_at, Follows, last_note};
+ghost use Rattle.heap_rule.specs.Phases.{code, kind_at};
 ghost use Rattle.heap_rule.specs.Standing.{noted, ShowsRegisters};
-ghost use Rattle.steps_pauses.specs.Pauses.{IsGone, ArriveMay, ClearMay, LookTold, MayFollow, kind_in, arrived_view};
+ghost use Rattle.steps_pauses.specs.Pauses.{IsGone, ArriveMay, ClearMay, LookTold, kind_in, arrived_view};
 ghost use Rattle.heap_rule.specs.declared.view.DomainView.{DomainView};
 ghost use Rattle.heap_rule.specs.Ending.{AllIn};
 ghost use Rattle.heap_rule.specs.Token.{IsIn, views_of};
 ghost use Rattle.heap_rule.specs.Views.{domain_in};
-ghost use Rattle.safepoint.specs.Looks.{bit_of, cleared, is_wanted, LedTo, LookAnswers, LooksTogether};
-ghost use Rattle.steps_pools.specs.Listings.{NamesAll};
+ghost use Rattle.safepoint.specs.Looks.{bit_of, cleared, is_wanted, LedTo, LookAnswers, LooksTogether, MayName};
 
 use crate::answer::{Look, Want, Wants};
 use heap_rule::{Domain, Heap, Kind};
@@ -180,10 +178,7 @@ pub fn lead(heap: &Heap, dom: &mut Domain, next: Kind)
     requires here { IsIn dom.old heap.now }
     requires leads { dom.old.view.own.number ≡ 0 }
     requires odd { dom.old.view.seen.stage ≡ Leads (kind_in dom.old.view.seen.stage) }
-    requires follows { Follows (kind_in dom.old.view.seen.stage) next }
-    requires may { MayFollow dom.old.view.seen.share (kind_in dom.old.view.seen.stage) next }
-    requires list { next ≡ Run → NamesAll heap.now.config dom.old.view }
-    requires set_back { next ≡ Promote → last_note dom.old.view.seen.notes ≡ Some note.SetBack }
+    requires may { MayName heap.now.config next dom.old.view }
     ensures here { IsIn dom.new heap.now }
     ensures led { LedTo heap.now.config next dom.old.view dom.new.view }
 {

@@ -14,7 +14,7 @@ use Rattle.sweeper.specs.Pruning.{Shortens}
 use Rattle.sweeper.specs.Sweeping.{SweptAll, with_sweep}
 use Rattle.sweeper.specs.Walks.{IsWalk}
 use Rattle.size_pools.proofs.Searching.{below_of}
-use Rattle.size_pools.specs.Taken.{CountedFree, FoundFew, FoundOwn, HasPlace, Hunted, HuntedBelow, KnowsNone, Reserved, Sought, SweptFirst, Taken, Took, Unreserved}
+use Rattle.size_pools.specs.Taken.{CountedFree, FoundFew, FoundNone, FoundOwn, HasPlace, Hunted, HuntedBelow, KnowsNone, Reserved, Sought, SweptFirst, Taken, Took, Unreserved}
 
 -- nothing was looked at before
 pub counted_later : (free : ℕ) (x v y : DomainView) → v.seen.free ≡ x.seen.free → CountedFree free v y → CountedFree free x y
@@ -112,17 +112,26 @@ module _ (k : Config) (class : ℕ) (x v w y : DomainView) (before : ℕ) (h : H
 
   -- or none was
   module _ (free : ℕ) (r : Reserved k free w y) where
-    pub reserved_swept : Reserved k free x y
+    reserved_swept : Reserved k free x y
     reserved_swept = reserved_again k free before x w y counted_swept r
 
-    pub sought_swept : Hunted w y Rests → Sought k x y Rests
+    sought_swept : Hunted w y Rests → Sought k x y Rests
     sought_swept next = inr (swept_first Rests (below_of w y Rests next) (few_found (free ∷ r.found.0) r.found.1))
 
--- two facts of a call's answer give a third
+    pub none_swept : KnowsNone class x → NoneFree k y class → Hunted w y Rests → FoundNone k class free x y
+    none_swept known none_free next = record {
+      reserved = reserved_swept;
+      none_free = none_free;
+      known = known;
+      swept = subst (λ (q : Swept). k.pools ≤ q.spot.pool) (sym (ap (λ (z : DomainView). z.own.swept) next)) s.done;
+      same = sought_swept next;
+    }
+
+-- facts of a call's answer give another
 pub both_ok : {T E : Type 0} {P Q R : T → Type 0} (r : Result T E) → ((x : T) → P x → Q x → R x) → IfOk r P → IfOk r Q → IfOk r R
 both_ok (Ok x) f p q = f x p q
 both_ok (Err e) f p q = tt
 
-pub both_err : {T E : Type 0} {P Q R : E → Type 0} (r : Result T E) → ((e : E) → P e → Q e → R e) → IfErr r P → IfErr r Q → IfErr r R
-both_err (Ok x) f p q = tt
-both_err (Err e) f p q = f e p q
+pub three_err : {T E : Type 0} {P Q R S : E → Type 0} (r : Result T E) → ((e : E) → P e → Q e → R e → S e) → IfErr r P → IfErr r Q → IfErr r R → IfErr r S
+three_err (Ok x) f p q s = tt
+three_err (Err e) f p q s = f e p q s

@@ -1,6 +1,9 @@
 -- What a domain knows of the pools after a search for a free place.
 use Rattle.std.specs.Prelude.{◌≡◌, ℕ, ◌+◌, ◌<◌, ◌≤◌, ◌⊎◌, slice_set, replicate, [], ◌∷◌, List, ◌++◌, Some, ◌≢◌}
 use Rattle.heap_model.specs.Domains.{class_count, reserve}
+use Rattle.heap_model.specs.declared.command.Command.TheVariants.{AllocMaj}
+use Rattle.heap_model.specs.declared.label.Label.{Label}
+use Rattle.heap_model.specs.declared.reply.Reply.TheVariants.{Block}
 use Rattle.heap_words.specs.declared.value.Value.TheVariants.{Ref}
 use Rattle.heap_words.specs.Labels.{label_word}
 use Rattle.size_classes.specs.Table.{IsLeastFor}
@@ -14,7 +17,7 @@ use Rattle.heap_rule.specs.declared.view.Spare.{Spare}
 use Rattle.heap_rule.specs.declared.view.Spot.{Spot}
 use Rattle.heap_rule.specs.Pools.{size_of, blocks_of, place_in, spot_at, hunting_below, hunting_free}
 use Rattle.heap_rule.specs.Token.{Token, SharedHeap, IsIn}
-use Rattle.heap_rule.specs.Running.{RemembersAll}
+use Rattle.heap_rule.specs.Running.{Did, RemembersAll}
 use Rattle.heap_rule.specs.Standing.{Acts}
 use Rattle.steps_pools.specs.Takes.{HasNoDraw, NoneFree, with_hunt}
 use Rattle.sweeper.specs.Pruning.{Shortens}
@@ -96,6 +99,22 @@ SoughtBelow k x y hunt = HuntedBelow x y hunt ⊎ SweptFirst k x y hunt
 abbrev pub Sought : Config → DomainView → DomainView → Hunt → Type 0
 Sought k x y hunt = Hunted x y hunt ⊎ SweptFirst k x y hunt
 
+-- a search for a place of the class found none: none of an own pool is free, or was known to be, no own pool is left to be swept, and so many pools were found free, no more than the reserve
+pub record FoundNone (k : Config) (class free : ℕ) (x y : DomainView) : Type 0 where
+  pub reserved : Reserved k free x y
+  pub none_free : NoneFree k y class
+  pub known : KnowsNone class x
+  pub swept : k.pools ≤ y.own.swept.spot.pool
+  pub same : Sought k x y Rests
+
+-- the same of the class for so many words
+pub record FoundNoneFor (k : Config) (words free : ℕ) (x y : DomainView) : Type 0 where
+  pub reserved : Reserved k free x y
+  pub none_free : (class : ℕ) → IsLeastFor SIZES words class → NoneFree k y class
+  pub known : (class : ℕ) → IsLeastFor SIZES words class → KnowsNone class x
+  pub swept : k.pools ≤ y.own.swept.spot.pool
+  pub same : Sought k x y Rests
+
 -- the list of ephemerons and the next place to be swept are as before
 pub record SweptNone (x y : DomainView) : Type 0 where
   pub listed : y.own.ephemerons ≡ x.own.ephemerons
@@ -146,6 +165,11 @@ pub record Taken (k : Config) (class a : ℕ) (x y : DomainView) : Type 0 where
   pub address : a ≡ place_in pool class slot
   pub view : SoughtBelow k x y (Fills pool class slot [])
   pub next : spot_at y.own.looked class ≡ record { pool = pool; slot = slot }
+
+-- the free place at an address is taken without a look at how many pools are free
+pub record TookUnseen (k : Config) (class a : ℕ) (x y : DomainView) : Type 0 where
+  pub took : Took k class a x y
+  pub free : y.seen.free ≡ x.seen.free
 
 -- none is taken, and no pool is drawn
 pub record Missed (x y : DomainView) : Type 0 where
@@ -205,3 +229,10 @@ pub record PutsPlace (k : Config) (dst words : ℕ) (old new : Token) : Type 0 w
   pub least : IsLeastFor SIZES words class
   pub below : slot < blocks_of class
   pub registers : new.view.own.registers ≡ slice_set old.view.own.registers dst (Ref (place_in pool class slot))
+
+-- a plain block is made in the major heap, at a place that a search has found, and register dst holds it
+pub record MadeBlock (h : SharedHeap) (dst tag fields : ℕ) (label : Label) (old new : Token) : Type 0 where
+  pub did : Did h old new (AllocMaj dst tag fields) (Block label)
+  pub grows : GrowsBy old new
+  pub registers : PutsPlace h.config dst (fields + 2) old new
+  pub has_place : (class : ℕ) → IsLeastFor SIZES (fields + 2) class → HasPlace h.config class old.view new.view

@@ -1,17 +1,13 @@
 //! The allocation of a block in the major heap.
-ghost use Rattle.std.specs.Prelude.{◌≡◌, ◌+◌, ◌^◌, ◌<◌, ◌≤◌, ℕ, slice_set, Some, IfOk, IfErr, OnOk, OnErr};
+ghost use Rattle.std.specs.Prelude.{◌≡◌, ◌+◌, ◌^◌, ◌<◌, ◌≤◌, ℕ, slice_set, Some, IfOk, IfErr};
 ghost use Rattle.heap_model.specs.declared.command.Command.TheVariants.{AllocMaj};
 ghost use Rattle.heap_model.specs.declared.entry.Entry.{Entry};
 ghost use Rattle.heap_model.specs.declared.reply.Reply.TheVariants.{Block};
 ghost use Rattle.heap_words.specs.declared.value.Value.TheVariants.{Ref};
-ghost use Rattle.heap_rule.specs.declared.view.Hunt.TheVariants.{Rests};
 ghost use Rattle.heap_rule.specs.Running.{Runs, Did, own_entry};
-ghost use Rattle.steps_pools.specs.Takes.{NoneFree};
 ghost use Rattle.heap_rule.specs.Token.{Holds, IsIn};
-ghost use Rattle.size_classes.specs.Table.{IsLeastFor};
-ghost use Rattle.size_classes.specs.declared.TheConstants.{SIZES};
 ghost use Rattle.size_pools.specs.NewMarks.{AreNewMarks};
-ghost use Rattle.size_pools.specs.Taken.{KnowsNone, Reserved, HasPlace, Sought, IsBusy, IsRoom, Grows, GrowsBy, PutsPlace};
+ghost use Rattle.size_pools.specs.Taken.{FoundNoneFor, Grows, IsBusy, IsRoom, MadeBlock};
 
 use crate::new_marks::{NewMarks, new_marks};
 use crate::no_pool::NoPool;
@@ -111,15 +107,8 @@ pub fn alloc_major(
     requires tag { tag ≤ 245 }
     requires fields { (1 ≤ fields) × (fields ≤ 1022) }
     requires serial { dom.old.view.own.serial + 1 < 2 ^ 32 }
-    ensures did { IfOk result (λ l. Did heap.now dom.old dom.new (AllocMaj dst tag fields) (Block l)) }
-    ensures grows { OnOk result (GrowsBy dom.old dom.new) }
-    ensures registers { OnOk result (PutsPlace heap.now.config dst (fields + 2) dom.old dom.new) }
-    ensures has_place { OnOk result ((class : ℕ) → IsLeastFor SIZES (fields + 2) class → HasPlace heap.now.config class dom.old.view dom.new.view) }
-    ensures reserved { IfErr result (λ n. Reserved heap.now.config n.free dom.old.view dom.new.view) }
-    ensures none_free { OnErr result ((class : ℕ) → IsLeastFor SIZES (fields + 2) class → NoneFree heap.now.config dom.new.view class) }
-    ensures known { OnErr result ((class : ℕ) → IsLeastFor SIZES (fields + 2) class → KnowsNone class dom.old.view) }
-    ensures swept { OnErr result (heap.now.config.pools ≤ dom.new.view.own.swept.spot.pool) }
-    ensures same { OnErr result (Sought heap.now.config dom.old.view dom.new.view Rests) }
+    ensures made { IfOk result (λ l. MadeBlock heap.now dst tag fields l dom.old dom.new) }
+    ensures none { IfErr result (λ n. FoundNoneFor heap.now.config (fields + 2) n.free dom.old.view dom.new.view) }
     ensures here { IsIn dom.new heap.now }
 {
     let class = class_for(usize::from(fields) + 2);

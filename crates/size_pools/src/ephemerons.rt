@@ -1,18 +1,14 @@
 //! The allocation of an ephemeron.
-ghost use Rattle.std.specs.Prelude.{◌≡◌, ◌+◌, ◌^◌, ◌<◌, ◌≤◌, ℕ, slice_set, Some, IfOk, IfErr, OnOk, OnErr};
+ghost use Rattle.std.specs.Prelude.{◌≡◌, ◌+◌, ◌^◌, ◌<◌, ◌≤◌, ℕ, slice_set, Some, IfOk, IfErr};
 ghost use Rattle.heap_model.specs.declared.command.Command.TheVariants.{Ephe};
 ghost use Rattle.heap_model.specs.declared.entry.Entry.{Entry};
 ghost use Rattle.heap_model.specs.declared.reply.Reply.TheVariants.{Block};
 ghost use Rattle.heap_words.specs.declared.value.Value.TheVariants.{Ref};
-ghost use Rattle.heap_rule.specs.declared.view.Hunt.TheVariants.{Rests};
 ghost use Rattle.heap_rule.specs.Running.{Runs, Did, own_entry};
-ghost use Rattle.steps_pools.specs.Takes.{NoneFree};
 ghost use Rattle.heap_rule.specs.Token.{Holds, IsIn};
-ghost use Rattle.size_classes.specs.Table.{IsLeastFor};
-ghost use Rattle.size_classes.specs.declared.TheConstants.{SIZES};
-ghost use Rattle.size_pools.specs.Created.{ListsCreated, ListsHeld};
+ghost use Rattle.size_pools.specs.Created.{ListsCreated, MadeEphemeron};
 ghost use Rattle.size_pools.specs.NewMarks.{AreNewMarks};
-ghost use Rattle.size_pools.specs.Taken.{KnowsNone, Reserved, HasPlace, Sought, IsBusy, IsRoom, PutsPlace};
+ghost use Rattle.size_pools.specs.Taken.{FoundNoneFor, IsBusy, IsRoom};
 
 use crate::new_marks::{NewMarks, new_marks};
 use crate::no_pool::NoPool;
@@ -105,15 +101,8 @@ pub fn create(heap: &Heap, dom: &mut Domain, dst: u8, keys: u16) -> Result<Label
     requires keys { (1 ≤ keys) × (keys ≤ 8) }
     requires list { 1 ≤ dom.old.view.own.ephemerons.room }
     requires serial { dom.old.view.own.serial + 1 < 2 ^ 32 }
-    ensures did { IfOk result (λ l. Did heap.now dom.old dom.new (Ephe dst keys) (Block l)) }
-    ensures lists { OnOk result (ListsHeld dst dom.old dom.new) }
-    ensures registers { OnOk result (PutsPlace heap.now.config dst (keys + 3) dom.old dom.new) }
-    ensures has_place { OnOk result ((class : ℕ) → IsLeastFor SIZES (keys + 3) class → HasPlace heap.now.config class dom.old.view dom.new.view) }
-    ensures reserved { IfErr result (λ n. Reserved heap.now.config n.free dom.old.view dom.new.view) }
-    ensures none_free { OnErr result ((class : ℕ) → IsLeastFor SIZES (keys + 3) class → NoneFree heap.now.config dom.new.view class) }
-    ensures known { OnErr result ((class : ℕ) → IsLeastFor SIZES (keys + 3) class → KnowsNone class dom.old.view) }
-    ensures swept { OnErr result (heap.now.config.pools ≤ dom.new.view.own.swept.spot.pool) }
-    ensures same { OnErr result (Sought heap.now.config dom.old.view dom.new.view Rests) }
+    ensures made { IfOk result (λ l. MadeEphemeron heap.now dst keys l dom.old dom.new) }
+    ensures none { IfErr result (λ n. FoundNoneFor heap.now.config (keys + 3) n.free dom.old.view dom.new.view) }
     ensures here { IsIn dom.new heap.now }
 {
     let class = class_for(usize::from(keys) + 3);

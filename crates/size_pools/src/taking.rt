@@ -7,7 +7,7 @@ ghost use Rattle.heap_rule.specs.declared.phase.Stage.TheVariants.{In};
 ghost use Rattle.heap_rule.specs.declared.view.Hunt.TheVariants.{Rests};
 ghost use Rattle.steps_pools.specs.Takes.{HasNoDraw, HasYoung, NoneFree};
 ghost use Rattle.heap_rule.specs.Token.{IsIn};
-ghost use Rattle.size_pools.specs.Taken.{FoundOwn, HasPlace, Hunted, KnowsNone, Reserved, Sought, Taken, Took, Unreserved};
+ghost use Rattle.size_pools.specs.Taken.{FoundNone, FoundOwn, HasPlace, Hunted, KnowsNone, Reserved, Taken, Took, TookUnseen, Unreserved};
 
 use crate::draw::{draw, draw_for_copy};
 use crate::no_pool::NoPool;
@@ -55,11 +55,7 @@ pub fn take(heap: &Heap, dom: &mut Domain, class: u32) -> Result<u32, NoPool>
     ensures here { IsIn dom.new heap.now }
     ensures took { IfOk result (λ a. Taken heap.now.config class a dom.old.view dom.new.view) }
     ensures has_place { OnOk result (HasPlace heap.now.config class dom.old.view dom.new.view) }
-    ensures reserved { IfErr result (λ n. Reserved heap.now.config n.free dom.old.view dom.new.view) }
-    ensures none_free { OnErr result (NoneFree heap.now.config dom.new.view class) }
-    ensures known { OnErr result (KnowsNone class dom.old.view) }
-    ensures swept { OnErr result (heap.now.config.pools ≤ dom.new.view.own.swept.spot.pool) }
-    ensures same { OnErr result (Sought heap.now.config dom.old.view dom.new.view Rests) }
+    ensures none { IfErr result (λ n. FoundNone heap.now.config class n.free dom.old.view dom.new.view) }
 {
     match find_or_draw(heap, dom, class) {
         Err(_) if dom.swept().spot.pool < heap.config().pools => {
@@ -82,8 +78,7 @@ pub fn take_for_copy(heap: &Heap, dom: &mut Domain, class: u32) -> u32
     requires unprepared { prepared_at dom.old.view.own.prepared class ≡ None }
     requires met { HasYoung heap.now.config dom.old.view }
     ensures here { IsIn dom.new heap.now }
-    ensures took { Took heap.now.config class result dom.old.view dom.new.view }
-    ensures free { dom.new.view.seen.free ≡ dom.old.view.seen.free }
+    ensures took { TookUnseen heap.now.config class result dom.old.view dom.new.view }
 {
     match find_free(heap, dom, class) {
         Some(at) => at,

@@ -9,7 +9,7 @@ beside_read-word-requires g c =
     let f : ℕ = c.args.field in (
       c.armed_now.ensures.here,
       (
-        (omega arith, let h = q.1.1.1 in omega (arith, h)),
-        read_after c.args.heap.now.config c.args.dom.now.view c.armed_now.new.dom.view c.armed_now.result (b + 2 + f) b g.why.register f c.armed_now.ensures.knows c.if-not-armed_now.false q.1.0 q.1.1.0,
+        (omega arith, let h = q.1.1.inside in omega (arith, h)),
+        read_after c.args.heap.now.config c.args.dom.now.view c.armed_now.new.dom.view c.armed_now.result (b + 2 + f) b g.why.register f c.armed_now.ensures.knows c.if-not-armed_now.false q.1.0 (q.1.1.may, q.1.1.of_block),
       ),
     )

@@ -9,6 +9,6 @@ pub returns : goal.returns
 returns c = record {
   makes =
       subst (λ (n : ℕ). MakesAll c.args.heap.now c.args.dom.now c.store.new.dom (PutInt scratch (pos 2) ∷ Store hidden n scratch ∷ [])) c.number-section.ensures.value
-      (made_flag _ _ _ _ _ _ _ _ c.put_int.ensures.did c.put_int.ensures.rest c.store.ensures.did c.store.ensures.rest);
-  rest = words_both _ _ _ (words_of_registers _ _ c.put_int.ensures.rest) (words_of_remembered _ _ c.store.ensures.rest);
+      (made_flag _ _ _ _ _ _ _ _ c.put_int.ensures.did c.put_int.ensures.rest c.store.ensures.did c.store.ensures.remembers.rest);
+  rest = words_both _ _ _ (words_of_registers _ _ c.put_int.ensures.rest) (words_of_remembered _ _ c.store.ensures.remembers.rest);
 }

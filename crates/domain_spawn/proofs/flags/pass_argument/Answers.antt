@@ -15,7 +15,7 @@ returns-in-Nothing-clause-makes c =
     let here : is_full_value (get_or (held_at c.args.dom.now) c.args.item Nothing) ≡ false =
     subst (λ (k : Config). is_full_value (register (state_of k c.args.dom.now.view.seen.front) c.args.dom.now.view.own.number c.args.item) ≡ false) (sym c.requires.runs.here.1) told in
     let one = made_one _ _ _ _ _ c.put_int.ensures.did (λ e. cc) (number_of_registers _ _ c.put_int.ensures.rest) in
-    let two = made_one _ _ _ _ _ c.store.ensures.did (λ e. cc) (number_of_remembered _ _ c.store.ensures.rest) in
+    let two = made_one _ _ _ _ _ c.store.ensures.did (λ e. cc) (number_of_remembered _ _ c.store.ensures.remembers.rest) in
     record { first = _; more = _; makes = made_both _ _ _ _ _ _ one two; are = sym (ap (λ (b : Bool). argument_commands b c.args.section c.args.item) here) }
 
 pub returns-in_default : goal.returns-in_default
@@ -23,13 +23,13 @@ returns-in_default c =
     let told = shows_full _ _ c.requires.shows (λ empty. c.in_default.not-Nothing (c.register.ensures.value ∙ empty)) in
     let here : is_full_value (get_or (held_at c.args.dom.now) c.args.item Nothing) ≡ true =
     subst (λ (k : Config). is_full_value (register (state_of k c.args.dom.now.view.seen.front) c.args.dom.now.view.own.number c.args.item) ≡ true) (sym c.requires.runs.here.1) told in
-    let one = made_one _ _ _ _ _ c.store-in_default.ensures.did (λ e. cc) (number_of_remembered _ _ c.store-in_default.ensures.rest) in
+    let one = made_one _ _ _ _ _ c.store-in_default.ensures.did (λ e. cc) (number_of_remembered _ _ c.store-in_default.ensures.remembers.rest) in
     record {
       makes = record { first = _; more = _; makes = one; are = sym (ap (λ (b : Bool). argument_commands b c.args.section c.args.item) here) };
-      rest = words_of_remembered _ _ c.store-in_default.ensures.rest;
+      rest = words_of_remembered _ _ c.store-in_default.ensures.remembers.rest;
       room = room_kept _ c.args.dom.now.view.own.remembered.room c.store-in_default.new.dom.view.own.remembered.room c.requires.room
-          (λ p. ap (λ (b : Bounded ℕ). b.room) (c.store-in_default.ensures.remembered p)) (λ never. ap (λ (b : Bounded ℕ). b.room) (c.store-in_default.ensures.unremembered never));
+          (λ p. ap (λ (b : Bounded ℕ). b.room) (c.store-in_default.ensures.remembers.remembered p)) (λ never. ap (λ (b : Bounded ℕ). b.room) (c.store-in_default.ensures.remembers.unremembered never));
     }
 
 pub returns-in-Nothing-clause-rest : goal.returns-in-Nothing-clause-rest
-returns-in-Nothing-clause-rest c = words_both _ _ _ (words_of_registers _ _ c.put_int.ensures.rest) (words_of_remembered _ _ c.store.ensures.rest)
+returns-in-Nothing-clause-rest c = words_both _ _ _ (words_of_registers _ _ c.put_int.ensures.rest) (words_of_remembered _ _ c.store.ensures.remembers.rest)

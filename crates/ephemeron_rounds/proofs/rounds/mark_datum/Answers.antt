@@ -37,12 +37,9 @@ scan_marked-requires-clause-inside c =
     (low, darkened_lies c.args.heap.now.config a c.darken.result (sym c.is_some-won.ensures ∙ c.if-won.true) c.darken.ensures.hint)
 
 pub scan_marked-requires-clause-marked : goal.scan_marked-requires-clause-marked
-scan_marked-requires-clause-marked c = datum_marked c.datum_load-word.new.dom.view c.darken.new.dom.view c.in-Ref.address (is_some c.darken.result) c.darken.ensures.darkened
-
-pub scan_marked-requires-clause-owes : goal.scan_marked-requires-clause-owes
-scan_marked-requires-clause-owes c =
+scan_marked-requires-clause-marked c =
     let t = subst (λ (b : Bool). Through c.args.at b c.args.dom.now.view c.darken.new.dom.view) (sym c.is_some-won.ensures ∙ c.if-won.true) (datum_darkened c.args.heap.now.config c.args.dom.now.view c.datum_load-word.new.dom.view c.args.at c.requires.done.0 c.datum_load-word.result c.read_as.result c.requires.done.1 c.datum_load-word.ensures.told c.read_as.ensures c.in-Ref.address c.in-Ref.is c.darken.new.dom.view (is_some c.darken.result) c.args.colours c.requires.darkening c.darken.ensures.darkened) in
-    datum_owes c.args.dom.now.view c.darken.new.dom.view c.args.at t
+    record { marked = datum_marked c.datum_load-word.new.dom.view c.darken.new.dom.view c.in-Ref.address (is_some c.darken.result) c.darken.ensures.darkened; owes = datum_owes c.args.dom.now.view c.darken.new.dom.view c.args.at t }
 
 pub returns-then-won-clause-through : goal.returns-then-won-clause-through
 returns-then-won-clause-through c =

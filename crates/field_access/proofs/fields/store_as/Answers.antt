@@ -2,7 +2,8 @@ use Rattle.std.proofs.Common.{◌≡◌, ◌↔◌, ◌∙◌, ◌&&◌, true, f
 use Rattle.heap_model.specs.declared.command.Command.TheVariants.{Store}
 use Rattle.heap_rule.specs.Running.{own_entry}
 use Rattle.heap_rule.specs.Beside.{Barrier}
-use Rattle.heap_rule.specs.Standing.{FieldMay}
+use Rattle.heap_rule.specs.Layout.{heap_words}
+use Rattle.darkening_beside.specs.Aware.{MayOverwrite}
 use Rattle.heap_model.specs.declared.reply.Reply.TheVariants.{Done}
 use Rattle.heap_rule.specs.Changes.{value_at}
 use Rattle.heap_rule.specs.Places.{needs_no_scan}
@@ -58,7 +59,8 @@ overwrite_barrier-requires g c =
     let i : ℕ = c.args.index in
     let index_is : c.from.result ≡ i = c.from.ensures in
     let register_is : subject g.entry ≡ c.args.block = ap subject c.requires.0 in
-    (c.head_load-head.ensures.here, (field.acts.runs, (subst (λ (m : ℕ × ℕ). (may : FieldMay c.args.heap.now.config c.head_load-head.new.dom.view (a + 2 + m.0) m.1 m.0) × (may.address ≡ a)) (λ j. (sym index_is j, sym register_is j)) (field.may, at_address c.args.heap.now.config c.head_load-head.new.dom.view c.args.block i a field), (let h = field.inside.1 in omega (arith, h, index_is)))))
+    let low : a + i + 2 ≤ heap_words c.args.heap.now.config = (let h = field.inside.1 in omega (arith, h)) in
+    (c.head_load-head.ensures.here, (field.acts.runs, subst (λ (m : ℕ × ℕ). MayOverwrite c.args.heap.now.config c.head_load-head.new.dom.view a m.1 m.0) (λ j. (sym index_is j, sym register_is j)) (record { may = field.may; of_block = at_address c.args.heap.now.config c.head_load-head.new.dom.view c.args.block i a field; inside = low })))
 
 pub field_store-requires : goal.field_store-requires
 field_store-requires g c =

@@ -5,7 +5,7 @@ use Rattle.size_classes.specs.Table.{IsLeastFor}
 use Rattle.size_classes.specs.declared.TheConstants.{SIZES}
 use Rattle.size_pools.specs.Taken.{HasPlace}
 use Rattle.size_pools.proofs.Seeking.{below_view}
-use Rattle.size_pools.proofs.Writing.{searched_runs, taken_room, taken_puts, has_still, least_one}
+use Rattle.size_pools.proofs.Writing.{searched_did, searched_grows, searched_runs, taken_room, taken_puts, has_still, least_one}
 use Rattle.size_pools.proofs.allocation.alloc_major.Goals as goal
 
 pub write_block-requires : goal.write_block-requires
@@ -23,9 +23,11 @@ write_block-requires c =
       ),
     )
 
-pub returns-clause-registers : goal.returns-clause-registers
-returns-clause-registers c = taken_puts c.args.heap.now.config c.class_for-class.result c.in_ok-at.at (c.args.fields + 2) c.args.dst c.args.dom.now c.take.new.dom c.write_block.new.dom (subst (λ (n : ℕ). IsLeastFor SIZES (n + 2) c.class_for-class.result) c.from.ensures c.class_for-class.ensures.least) c.in_ok-at.ensures.took c.write_block.ensures.registers
-
-pub returns-clause-has_place : goal.returns-clause-has_place
-returns-clause-has_place c = λ class least. subst (λ (d : ℕ). HasPlace c.args.heap.now.config d c.args.dom.now.view c.write_block.new.dom.view) (least_one (c.args.fields + 2) c.class_for-class.result class (subst (λ (n : ℕ). IsLeastFor SIZES (n + 2) c.class_for-class.result) c.from.ensures c.class_for-class.ensures.least) least)
-    (has_still c.args.heap.now.config c.class_for-class.result c.args.dom.now.view c.take.new.dom.view c.write_block.new.dom.view c.in_ok-at.ensures.has_place c.write_block.ensures.free (ap (λ (o : Own). o.swept) c.write_block.ensures.grows.own))
+pub returns-clause-made : goal.returns-clause-made
+returns-clause-made c = record {
+  did = searched_did c.args.heap.now c.args.dom.now c.take.new.dom c.write_block.new.dom _ _ _ c.requires.runs c.take.ensures.here (below_view c.args.heap.now.config c.args.dom.now.view c.take.new.dom.view _ c.in_ok-at.ensures.took.view) c.write_block.ensures.did;
+  grows = searched_grows c.args.heap.now c.args.dom.now c.take.new.dom c.write_block.new.dom _ c.requires.runs.here c.in_ok-at.ensures.took.view c.write_block.ensures.grows;
+  registers = taken_puts c.args.heap.now.config c.class_for-class.result c.in_ok-at.at (c.args.fields + 2) c.args.dst c.args.dom.now c.take.new.dom c.write_block.new.dom (subst (λ (n : ℕ). IsLeastFor SIZES (n + 2) c.class_for-class.result) c.from.ensures c.class_for-class.ensures.least) c.in_ok-at.ensures.took c.write_block.ensures.registers;
+  has_place = λ class least. subst (λ (d : ℕ). HasPlace c.args.heap.now.config d c.args.dom.now.view c.write_block.new.dom.view) (least_one (c.args.fields + 2) c.class_for-class.result class (subst (λ (n : ℕ). IsLeastFor SIZES (n + 2) c.class_for-class.result) c.from.ensures c.class_for-class.ensures.least) least)
+      (has_still c.args.heap.now.config c.class_for-class.result c.args.dom.now.view c.take.new.dom.view c.write_block.new.dom.view c.in_ok-at.ensures.has_place c.write_block.ensures.free (ap (λ (o : Own). o.swept) c.write_block.ensures.grows.own));
+}
