@@ -85,8 +85,8 @@ pub record Explored (g : Graph) (roots : ℕ → Option Label) (stop : Option La
   pub plain : weak ≡ false → (j : ℕ) (b : Seen) → j < at → slice_get seen j ≡ Some b → stop ≢ Some b.label → IsNoEphemeron g b.label
 
 -- where nobody else has made an entry the search has changed nothing but its two registers, and has been at each block that it found
-abbrev pub ExploresAlone : Sizes → ℕ → List Entry → List Entry → Option Label → Blocks → Type 0
-ExploresAlone z d old new stop x = Walked d old new → Still z d old new × Explored (graph_of z old) (roots_of z d old) stop x.seen.items (length x.seen.items) x.weak
+abbrev pub FindsAlone : Sizes → ℕ → List Entry → List Entry → Option Label → Blocks → Type 0
+FindsAlone z d old new stop x = Walked d old new → Still z d old new × Explored (graph_of z old) (roots_of z d old) stop x.seen.items (length x.seen.items) x.weak
 
 -- the search has been at the block at a place
 pub record Looked (z : Sizes) (d : ℕ) (old new : List Entry) (stop : Option Label) (at : ℕ) (seen more : List Seen) (weak : Bool) : Type 0 where
