@@ -214,7 +214,7 @@ pub fn judge_turns<S: Source, K: Sink, F: Seek>(
     search: &mut F,
 ) -> TurnsJudged
     requires { IsWithinLimits sizes.now }
-    // What was written: a schedule only where a legal history makes the output, that of its turns, which prints it again.
+    // What was written: a schedule only where a legal history makes the output, of its turns, which print it again.
     ensures wrote { Wrote sizes.now result (S.left src.old) (S.left src.new) (K.written out.old) (K.written out.new) }
     ensures quiet { IsTurnsSilent result → out.new ≡ out.old }
 
