@@ -1,15 +1,12 @@
 -- Domains with a share of their heap, as their owners see them.
-use Rattle.std.specs.Prelude.{◌≡◌, ◌≢◌, ℕ, ◌-◌, ◌<◌, false, List, [], ◌∷◌, length, map, Some, None}
-use Rattle.heap_model.specs.Commands.{shown}
-use Rattle.heap_model.specs.Domains.{register}
+use Rattle.std.specs.Prelude.{◌≡◌, ◌≢◌, ℕ, ◌-◌, ◌<◌, List, length, map, Some}
 use Rattle.heap_model.specs.declared.command.Command.{Command}
 use Rattle.heap_model.specs.declared.reply.Reply.{Reply}
 use Rattle.heap_rule.specs.declared.config.Config.{Config}
-use Rattle.heap_rule.specs.Rule.{state_of}
 use Rattle.heap_rule.specs.Token.{SharedHeap}
 use Rattle.domain_turns.specs.declared.supply.Supply.TheVariants as supply
 use Rattle.domain_turns.specs.declared.supply.Supply.TheVariants.{Open}
-use Rattle.domain_turns.specs.Runs.{RunView}
+use Rattle.domain_turns.specs.Runs.{RunView, shown_in, submitted}
 use Rattle.open_runs.specs.Driving.{registered}
 use Rattle.open_runs.specs.Opening.{opened_runs}
 use Rattle.open_runs.specs.Refusing.{IsRefused}
@@ -33,7 +30,7 @@ pub record ShareOne (k : Config) (views : List SharedView) : Type 0 where
 
 -- it has this command to make, and forgets what the one before left
 abbrev pub with_command : SharedView → Command → SharedView
-with_command s c = record s { run = record s.run { commands = c ∷ []; next = 0; replies = []; ran = []; asked = None; collected = false } }
+with_command s c = record s { run = submitted s.run c }
 
 -- it gets no more
 abbrev pub closed_of : SharedView → SharedView
@@ -41,7 +38,7 @@ closed_of s = record s { run = record s.run { supply = supply.Closed } }
 
 -- the reply that shows what a register holds, by the history as its domain sees it
 abbrev pub shown_by : SharedView → ℕ → Reply
-shown_by s r = shown (register (state_of s.heap.config s.run.token.view.seen.front) s.run.token.view.own.number r)
+shown_by s r = shown_in s.heap.config s.run.token r
 
 -- how many finalisers more fit
 abbrev pub finals_left : SharedView → ℕ
