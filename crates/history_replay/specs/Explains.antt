@@ -23,7 +23,7 @@ pub record Explains (z : Sizes) (sections : List (List Command)) (bytes : List �
 
 -- an answer is yes where a history explains an output
 abbrev pub IsYesTo : Sizes → List (List Command) → List ℕ → List Entry → Bool → Type 0
-IsYesTo z sections bytes history yes = Explains z sections bytes history → IsTrue yes
+IsYesTo z sections bytes history says = Explains z sections bytes history → IsTrue says
 
 -- the lines of a domain's section, behind its heading
 abbrev pub section_lines : ℕ → List Reply → List ℕ
