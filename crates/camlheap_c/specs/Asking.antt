@@ -1,16 +1,17 @@
 -- Why a block is still there, as C is told.
-use Rattle.std.specs.Prelude.{◌≡◌, ℕ, ◌<◌, ◌⊎◌, List, length, slice_get, Option, Some}
+use Rattle.std.specs.Prelude.{◌≡◌, ◌↔◌, ℕ, ◌<◌, ◌⊎◌, true, false, List, length, slice_get, Option, Some}
 use Rattle.heap_model.specs.declared.label.Label.{Label}
 use Rattle.heap_rule.specs.Limits.{sizes_in}
 use Rattle.reach_paths.specs.declared.asking.Reason.{Reason}
 use Rattle.reach_paths.specs.declared.asking.Reason.TheVariants.{Way, Nothing, NoField}
 use Rattle.reach_paths.specs.declared.exploring.Stop.{Stop}
 use Rattle.reach_paths.specs.declared.exploring.Stop.TheVariants.{PutOff, Many, Memory}
-use Rattle.reach_paths.specs.Asking.{IsWhy}
-use Rattle.reach_paths.specs.Exploring.{graph_of, roots_of}
-use Rattle.reach_paths.specs.Walks.{Still, Walked, Walks}
+use Rattle.reach_paths.specs.Asking.{IsWhyAlone}
+use Rattle.reach_paths.specs.Walks.{StaysAlone, Walks}
 use Rattle.shared_runs.specs.Sharing.{SharedView}
 use Rattle.camlheap_c.specs.declared.asking.CamlheapWay.{CamlheapWay}
+use Rattle.camlheap_c.specs.declared.handle.CamlheapDomain.{CamlheapDomain}
+use Rattle.camlheap_c.specs.Exported.{RefusesClose}
 
 -- why a search has stopped, as a number
 abbrev pub stop_form : Stop → ℕ
@@ -43,5 +44,18 @@ pub record GoesAlong (old new : SharedView) : Type 0 where
 pub record Whys (old new : SharedView) (l : Label) (told : CamlheapWay) (before read : List ℕ) : Type 0 where
   pub reason : Reason
   pub tells : TellsWay reason before read told
-  pub still : Walked old.run.token.view.own.number old.run.token.view.seen.front new.run.token.view.seen.front → Still (sizes_in old.heap.config) old.run.token.view.own.number old.run.token.view.seen.front new.run.token.view.seen.front
-  pub why : Walked old.run.token.view.own.number old.run.token.view.seen.front new.run.token.view.seen.front → IsWhy (graph_of (sizes_in old.heap.config) old.run.token.view.seen.front) (roots_of (sizes_in old.heap.config) old.run.token.view.own.number old.run.token.view.seen.front) l reason
+  pub still : StaysAlone (sizes_in old.heap.config) old.run.token.view.own.number old.run.token.view.seen.front new.run.token.view.seen.front
+  pub why : IsWhyAlone (sizes_in old.heap.config) old.run.token.view.own.number old.run.token.view.seen.front new.run.token.view.seen.front l reason
+
+-- the block that a domain made, by its serial
+abbrev pub label_of : ℕ → ℕ → Label
+label_of maker serial = record { domain = maker; serial = serial }
+
+-- what a search for a way to a block leaves: a handle that holds none is told as such; the domain can't be asked, and then nothing has changed; or the search has an answer, or has stopped
+pub record AsksWhy (old new : CamlheapDomain) (l : Label) (way : CamlheapWay) (before read : List ℕ) (told : ℕ) : Type 0 where
+  pub kept : new.full ≡ old.full
+  pub none : (old.full ≡ false) ↔ (told ≡ 16)
+  pub why : old.full ≡ true → told ≡ 0 → Whys old.value new.value l way before read
+  pub refused : old.full ≡ true → 16 < told → told < 24 → RefusesClose old.value told × (new.value ≡ old.value)
+  pub goes_on : old.full ≡ true → GoesAlong old.value new.value
+  pub stops : old.full ≡ true → Stops told

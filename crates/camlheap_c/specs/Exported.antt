@@ -1,15 +1,16 @@
 -- What the exports leave in a handle that holds a domain.
-use Rattle.std.specs.Prelude.{slice_get, ◌≡◌, ◌≢◌, ◌↔◌, ℕ, ◌<◌, ◌≤◌, List, true, false, Option, Some, None, [], ◌∷◌}
+use Rattle.std.specs.Prelude.{slice_get, ◌≡◌, ◌≢◌, ◌↔◌, ℕ, ◌+◌, ◌<◌, ◌≤◌, List, true, false, Option, Some, None, [], ◌∷◌}
 use Rattle.heap_model.specs.declared.command.Command as model
 use Rattle.heap_model.specs.declared.reply.Reply.{Reply}
 use Rattle.heap_rule.specs.declared.config.Config.{Config}
 use Rattle.heap_rule.specs.declared.view.DomainView.{DomainView}
+use Rattle.heap_rule.specs.Limits.{first_outside, sizes_in}
 use Rattle.heap_rule.specs.Token.{SharedHeap}
-use Rattle.domain_turns.specs.Runs.{IsUnanswered, MaySubmit, answer_of}
+use Rattle.domain_turns.specs.Runs.{HasLooked, IsUnanswered, MaySubmit, Stretches, answer_of}
 use Rattle.open_runs.specs.Driving.{Answered, Awaits}
 use Rattle.open_runs.specs.Opening.{opened_runs}
 use Rattle.shared_runs.specs.declared.shared.Refused.{Refused}
-use Rattle.shared_runs.specs.Sharing.{SharedView, IsRefusedBy, IsUnclosedBy, shared_by}
+use Rattle.shared_runs.specs.Sharing.{SharedView, IsRefusedBy, IsUnclosedBy, shared_by, shown_by, with_command}
 use Rattle.camlheap_c.specs.declared.crossing.CamlheapCommand.{CamlheapCommand}
 use Rattle.camlheap_c.specs.declared.crossing.CamlheapConfig.{CamlheapConfig}
 use Rattle.camlheap_c.specs.declared.crossing.CamlheapReply.{CamlheapReply}
@@ -21,7 +22,7 @@ pub record Submits (old new : SharedView) (c : CamlheapCommand) : Type 0 where
   pub command : model.Command
   pub stands_for : command_as c ≡ Some command
   pub may : MaySubmit old.run command
-  pub leaves : new ≡ record old { run = record old.run { commands = command ∷ []; next = 0; replies = []; ran = []; asked = None; collected = false } }
+  pub leaves : new ≡ with_command old command
 
 -- the command that was handed in last is made, and C reads its reply: since then the history has grown by entries of others and by runs of finalisers, and then by this command, once, with the reply of the state before it
 pub record Makes (start : DomainView) (c : model.Command) (new : SharedView) (read : CamlheapReply) : Type 0 where
@@ -35,6 +36,14 @@ pub record GoesOn (start : DomainView) (c : model.Command) (old new : SharedView
   pub made : told ≡ 0 → Makes start c new read
   pub waits : told ≢ 0 → Awaits new.heap start c new.run
   pub unread : told ≢ 0 → read ≡ before
+
+-- turns were taken: whichever command the domain had to make, by what the call answers it is made or waits still
+abbrev pub TakesTurns : SharedView → SharedView → CamlheapReply → CamlheapReply → ℕ → Type 0
+TakesTurns old new before read told = (start : DomainView) (c : model.Command) → Awaits old.heap start c old.run → GoesOn start c old new before read told
+
+-- one turn was taken: the run went on by a stretch of its own steps
+abbrev pub TakesTurn : SharedView → SharedView → Type 0
+TakesTurn old new = Stretches (sizes_in old.heap.config) old.run new.run
 
 -- the command that C's stands for was taken, and by what the call answers it is made or waits still
 pub record Calls (old new : SharedView) (c : CamlheapCommand) (before read : CamlheapReply) (told : ℕ) : Type 0 where
@@ -61,6 +70,10 @@ pub record TellsRan (s : SharedView) (place : ℕ) (before read : CamlheapReply)
 -- the numbers of a heap, as C has them
 abbrev pub config_of : CamlheapConfig → Config
 config_of c = record { domains = c.domains; minor_words = c.minor_words; pools = c.pools; finals = c.finals; ephes = c.ephes }
+
+-- by what a call answers: which is the first of a heap's numbers that is outside its limit, if any is
+abbrev pub TellsOutside : CamlheapConfig → ℕ → Type 0
+TellsOutside c told = (k : ℕ) → (told ≡ 32 + k) ↔ (first_outside (config_of c) ≡ Some k)
 
 -- the handle holds this domain
 abbrev pub IsHandleOf : SharedView → CamlheapDomain → Type 0
@@ -97,4 +110,26 @@ pub record CallsDirectly (old new : CamlheapDomain) (c : model.Command) (before 
   pub few : old.full ≡ true → told < 17 → told < 2
   pub why : old.full ≡ true → 17 ≤ told → RefusesAs old.value (Some c) told
   pub same : old.full ≡ true → 17 ≤ told → (new.value ≡ old.value) × (read ≡ before)
+  pub unread : old.full ≡ false → read ≡ before
+
+-- what a call for a command of C's leaves: a handle that holds none is told as such, and nothing else is; the command was taken, or it isn't, and then nothing has changed
+pub record CallsAsked (old new : CamlheapDomain) (c : CamlheapCommand) (before read : CamlheapReply) (told : ℕ) : Type 0 where
+  pub kept : new.full ≡ old.full
+  pub none : (old.full ≡ false) ↔ (told ≡ 16)
+  pub called : old.full ≡ true → told < 17 → Calls old.value new.value c before read told
+  pub why : old.full ≡ true → 17 ≤ told → RefusesAs old.value (command_as c) told
+  pub refused : old.full ≡ true → 17 ≤ told → (new.value ≡ old.value) × (read ≡ before)
+  pub few : old.full ≡ true → told < 17 → told < 5
+  pub unread : old.full ≡ false → read ≡ before
+
+-- what a look at a register leaves: where there is such a register C reads what it holds, and the domain has looked; else nothing has changed
+pub record ShowsRegister (old new : CamlheapDomain) (register : ℕ) (before read : CamlheapReply) (told : ℕ) : Type 0 where
+  pub kept : new.full ≡ old.full
+  pub none : (old.full ≡ false) ↔ (told ≡ 16)
+  pub shown : old.full ≡ true → told ≡ 0 → read ≡ reply_form (shown_by old.value register)
+  pub missing : old.full ≡ true → (told ≡ 23) ↔ (16 ≤ register)
+  pub there : old.full ≡ true → (told ≡ 0) ↔ (register < 16)
+  pub heap : old.full ≡ true → new.value.heap ≡ old.value.heap
+  pub looked : old.full ≡ true → told ≡ 0 → HasLooked old.value.run new.value.run
+  pub same : old.full ≡ true → told ≢ 0 → (new.value ≡ old.value) × (read ≡ before)
   pub unread : old.full ≡ false → read ≡ before

@@ -23,6 +23,19 @@ no_bed_form NotFirst = 19
 no_bed_form Full = 26
 no_bed_form Memory = 24
 
+-- the first bed of a room of its own
+abbrev pub first_bed : BedView SharedView
+first_bed = record { rests = None; makes = true; beds = 1; lost = false }
+
+-- a handle holds a domain, and another a bed
+abbrev pub AreFull : CamlheapDomain → CamlheapBed → Type 0
+AreFull domain bed = (bed.full ≡ true) × (domain.full ≡ true)
+
+-- a handle is as it was: it holds the same domain, or none
+pub record HoldsSame (old new : CamlheapDomain) : Type 0 where
+  pub full : new.full ≡ old.full
+  pub value : old.full ≡ true → new.value ≡ old.value
+
 -- a domain was put to rest: it might be, nothing rested in the bed, and the bed has it in place of the handle
 pub record Rests (domain after : CamlheapDomain) (bed left : CamlheapBed) : Type 0 where
   pub may : MayClose domain.value

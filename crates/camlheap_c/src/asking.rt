@@ -1,6 +1,6 @@
 //! Why a block is still there, as C asks it.
-ghost use Rattle.std.specs.Prelude.{◌≡◌, ◌≢◌, ◌↔◌, ◌<◌, true, false};
-ghost use Rattle.camlheap_c.specs.Asking.{Copies, GoesAlong, Stops, TellsWay, Whys, stop_form};
+ghost use Rattle.std.specs.Prelude.{◌≡◌, ◌≢◌, ◌<◌};
+ghost use Rattle.camlheap_c.specs.Asking.{AsksWhy, Copies, GoesAlong, Stops, TellsWay, Whys, label_of, stop_form};
 ghost use Rattle.camlheap_c.specs.Exported.{RefusesClose};
 
 use crate::codes::{AGAIN, DONE, MEMORY, NO_DOMAIN, NO_MORE, refusal_code};
@@ -106,12 +106,7 @@ pub extern "C" fn camlheap_why(
     way: &mut CamlheapWay,
     fields: &mut [u16],
 ) -> u32
-    ensures kept { handle.new.full ≡ handle.old.full }
-    ensures none { (handle.old.full ≡ false) ↔ (result ≡ 16) }
-    ensures why { handle.old.full ≡ true → result ≡ 0 → Whys handle.old.value handle.new.value (record { domain = maker; serial = serial }) way.new fields.old fields.new }
-    ensures refused { handle.old.full ≡ true → 16 < result → result < 24 → RefusesClose handle.old.value result × (handle.new.value ≡ handle.old.value) }
-    ensures goes_on { handle.old.full ≡ true → GoesAlong handle.old.value handle.new.value }
-    ensures told { handle.old.full ≡ true → Stops result }
+    ensures asks { AsksWhy handle.old handle.new (label_of maker serial) way.new fields.old fields.new result }
     ensures unread { result ≢ 0 → (way.new ≡ way.old) × (fields.new ≡ fields.old) }
 {
     let Some(mut run) = handle.take(alloc) else {

@@ -41,7 +41,7 @@ fn call(
     command: Command,
     reply: &mut CamlheapReply,
 ) -> u32
-    ensures calls { CallsDirectly handle.old handle.new command reply.old reply.new result }
+    ensures { CallsDirectly handle.old handle.new command reply.old reply.new result }
 {
     let Some(mut run) = handle.take(alloc) else {
         return NO_DOMAIN;
@@ -60,7 +60,7 @@ pub extern "C" fn camlheap_put_int(
     value: i64,
     reply: &mut CamlheapReply,
 ) -> u32
-    ensures calls { CallsDirectly handle.old handle.new (model.PutInt dst value) reply.old reply.new result }
+    ensures { CallsDirectly handle.old handle.new (model.PutInt dst value) reply.old reply.new result }
 {
     call(alloc, handle, Command::PutInt { dst, value }, reply)
 }
@@ -74,7 +74,7 @@ pub extern "C" fn camlheap_copy(
     src: u8,
     reply: &mut CamlheapReply,
 ) -> u32
-    ensures calls { CallsDirectly handle.old handle.new (model.Copy dst src) reply.old reply.new result }
+    ensures { CallsDirectly handle.old handle.new (model.Copy dst src) reply.old reply.new result }
 {
     call(alloc, handle, Command::Copy { dst, src }, reply)
 }
@@ -87,7 +87,7 @@ pub extern "C" fn camlheap_forget(
     dst: u8,
     reply: &mut CamlheapReply,
 ) -> u32
-    ensures calls { CallsDirectly handle.old handle.new (model.Forget dst) reply.old reply.new result }
+    ensures { CallsDirectly handle.old handle.new (model.Forget dst) reply.old reply.new result }
 {
     call(alloc, handle, Command::Forget { dst }, reply)
 }
@@ -102,7 +102,7 @@ pub extern "C" fn camlheap_alloc(
     fields: u16,
     reply: &mut CamlheapReply,
 ) -> u32
-    ensures calls { CallsDirectly handle.old handle.new (model.Alloc dst tag fields) reply.old reply.new result }
+    ensures { CallsDirectly handle.old handle.new (model.Alloc dst tag fields) reply.old reply.new result }
 {
     call(alloc, handle, Command::Alloc { dst, tag, fields }, reply)
 }
@@ -117,7 +117,7 @@ pub extern "C" fn camlheap_load(
     index: u16,
     reply: &mut CamlheapReply,
 ) -> u32
-    ensures calls { CallsDirectly handle.old handle.new (model.Load dst src index) reply.old reply.new result }
+    ensures { CallsDirectly handle.old handle.new (model.Load dst src index) reply.old reply.new result }
 {
     call(alloc, handle, Command::Load { dst, src, index }, reply)
 }
@@ -132,7 +132,7 @@ pub extern "C" fn camlheap_store(
     item: u8,
     reply: &mut CamlheapReply,
 ) -> u32
-    ensures calls { CallsDirectly handle.old handle.new (model.Store block index item) reply.old reply.new result }
+    ensures { CallsDirectly handle.old handle.new (model.Store block index item) reply.old reply.new result }
 {
     call(alloc, handle, Command::Store { block, index, item }, reply)
 }
@@ -148,7 +148,7 @@ pub extern "C" fn camlheap_cas(
     item: u8,
     reply: &mut CamlheapReply,
 ) -> u32
-    ensures calls { CallsDirectly handle.old handle.new (model.Cas block index expected item) reply.old reply.new result }
+    ensures { CallsDirectly handle.old handle.new (model.Cas block index expected item) reply.old reply.new result }
 {
     call(
         alloc,
@@ -173,7 +173,7 @@ pub extern "C" fn camlheap_set_key(
     item: u8,
     reply: &mut CamlheapReply,
 ) -> u32
-    ensures calls { CallsDirectly handle.old handle.new (model.SetKey ephe index item) reply.old reply.new result }
+    ensures { CallsDirectly handle.old handle.new (model.SetKey ephe index item) reply.old reply.new result }
 {
     call(alloc, handle, Command::SetKey { ephe, index, item }, reply)
 }
@@ -188,7 +188,7 @@ pub extern "C" fn camlheap_get_key(
     index: u16,
     reply: &mut CamlheapReply,
 ) -> u32
-    ensures calls { CallsDirectly handle.old handle.new (model.GetKey dst ephe index) reply.old reply.new result }
+    ensures { CallsDirectly handle.old handle.new (model.GetKey dst ephe index) reply.old reply.new result }
 {
     call(alloc, handle, Command::GetKey { dst, ephe, index }, reply)
 }
@@ -202,7 +202,7 @@ pub extern "C" fn camlheap_check_key(
     index: u16,
     reply: &mut CamlheapReply,
 ) -> u32
-    ensures calls { CallsDirectly handle.old handle.new (model.CheckKey ephe index) reply.old reply.new result }
+    ensures { CallsDirectly handle.old handle.new (model.CheckKey ephe index) reply.old reply.new result }
 {
     call(alloc, handle, Command::CheckKey { ephe, index }, reply)
 }
@@ -216,7 +216,7 @@ pub extern "C" fn camlheap_set_data(
     item: u8,
     reply: &mut CamlheapReply,
 ) -> u32
-    ensures calls { CallsDirectly handle.old handle.new (model.SetData ephe item) reply.old reply.new result }
+    ensures { CallsDirectly handle.old handle.new (model.SetData ephe item) reply.old reply.new result }
 {
     call(alloc, handle, Command::SetData { ephe, item }, reply)
 }
@@ -230,7 +230,7 @@ pub extern "C" fn camlheap_get_data(
     ephe: u8,
     reply: &mut CamlheapReply,
 ) -> u32
-    ensures calls { CallsDirectly handle.old handle.new (model.GetData dst ephe) reply.old reply.new result }
+    ensures { CallsDirectly handle.old handle.new (model.GetData dst ephe) reply.old reply.new result }
 {
     call(alloc, handle, Command::GetData { dst, ephe }, reply)
 }
@@ -242,7 +242,7 @@ pub extern "C" fn camlheap_poll(
     handle: &mut CamlheapDomain,
     reply: &mut CamlheapReply,
 ) -> u32
-    ensures calls { CallsDirectly handle.old handle.new (model.Poll) reply.old reply.new result }
+    ensures { CallsDirectly handle.old handle.new (model.Poll) reply.old reply.new result }
 {
     call(alloc, handle, Command::Poll, reply)
 }

@@ -1,11 +1,6 @@
 //! Commands and turns, as C calls them.
-ghost use Rattle.std.specs.Prelude.{◌≡◌, ◌≢◌, ◌↔◌, ◌<◌, ◌≤◌, true, false, None, Some};
-ghost use Rattle.heap_model.specs.declared.command.Command as model;
-ghost use Rattle.heap_rule.specs.Limits.{sizes_in};
-ghost use Rattle.heap_rule.specs.declared.view.DomainView.{DomainView};
-ghost use Rattle.domain_turns.specs.Runs.{Stretches};
-ghost use Rattle.open_runs.specs.Driving.{Awaits};
-ghost use Rattle.camlheap_c.specs.Exported.{Calls, GoesOn, RefusesAs, Submits};
+ghost use Rattle.std.specs.Prelude.{◌≡◌, ◌≢◌, ◌↔◌, ◌<◌, ◌≤◌, true, false};
+ghost use Rattle.camlheap_c.specs.Exported.{Calls, CallsAsked, RefusesAs, Submits, TakesTurn, TakesTurns};
 ghost use Rattle.camlheap_c.specs.Forms.{command_as};
 
 use crate::codes::{AGAIN, DONE, NO_DOMAIN, UNFIT, refusal_code, turn_code};
@@ -58,7 +53,7 @@ pub extern "C" fn camlheap_turn(alloc: Global, handle: &mut CamlheapDomain) -> u
     ensures kept { handle.new.full ≡ handle.old.full }
     ensures none { (handle.old.full ≡ false) ↔ (result ≡ 16) }
     ensures heap { handle.old.full ≡ true → handle.new.value.heap ≡ handle.old.value.heap }
-    ensures stretch { handle.old.full ≡ true → Stretches (sizes_in handle.old.value.heap.config) handle.old.value.run handle.new.value.run }
+    ensures stretch { handle.old.full ≡ true → TakesTurn handle.old.value handle.new.value }
     ensures ended { handle.old.full ≡ true → result ≡ 4 → handle.new.value.run.ended ≡ true }
 {
     let Some(mut run) = handle.take(alloc) else {
@@ -71,7 +66,7 @@ pub extern "C" fn camlheap_turn(alloc: Global, handle: &mut CamlheapDomain) -> u
 
 // Turns of a domain until its command is made, or it can't go on by itself.
 fn turns_of(run: &mut SharedRun, turns: u32, reply: &mut CamlheapReply) -> u32
-    ensures goes_on { (start : DomainView) (c : model.Command) → Awaits run.old.heap start c run.old.run → GoesOn start c run.old run.new reply.old reply.new result }
+    ensures goes_on { TakesTurns run.old run.new reply.old reply.new result }
     ensures told { result < 5 }
 {
     'turns: for _ in 0..turns {
@@ -99,7 +94,7 @@ pub extern "C" fn camlheap_run(
 ) -> u32
     ensures kept { handle.new.full ≡ handle.old.full }
     ensures none { (handle.old.full ≡ false) ↔ (result ≡ 16) }
-    ensures goes_on { handle.old.full ≡ true → (start : DomainView) (c : model.Command) → Awaits handle.old.value.heap start c handle.old.value.run → GoesOn start c handle.old.value handle.new.value reply.old reply.new result }
+    ensures goes_on { handle.old.full ≡ true → TakesTurns handle.old.value handle.new.value reply.old reply.new result }
     ensures told { handle.old.full ≡ true → result < 5 }
     ensures unread { handle.old.full ≡ false → reply.new ≡ reply.old }
 {
@@ -148,13 +143,7 @@ pub extern "C" fn camlheap_call(
     turns: u32,
     reply: &mut CamlheapReply,
 ) -> u32
-    ensures kept { handle.new.full ≡ handle.old.full }
-    ensures none { (handle.old.full ≡ false) ↔ (result ≡ 16) }
-    ensures called { handle.old.full ≡ true → result < 17 → Calls handle.old.value handle.new.value command.now reply.old reply.new result }
-    ensures why { handle.old.full ≡ true → 17 ≤ result → RefusesAs handle.old.value (command_as command.now) result }
-    ensures refused { handle.old.full ≡ true → 17 ≤ result → (handle.new.value ≡ handle.old.value) × (reply.new ≡ reply.old) }
-    ensures few { handle.old.full ≡ true → result < 17 → result < 5 }
-    ensures unread { handle.old.full ≡ false → reply.new ≡ reply.old }
+    ensures { CallsAsked handle.old handle.new command.now reply.old reply.new result }
 {
     let Some(mut run) = handle.take(alloc) else {
         return NO_DOMAIN;

@@ -1,7 +1,7 @@
 //! Domains that rest, as C calls them: a thread that has other work puts its domain into a bed, and whoever waits in a
 //! pause turns it there. Beds of one room know of each other, and a domain of any heap may rest in any of them.
 ghost use Rattle.std.specs.Prelude.{◌≡◌, ◌≢◌, ◌↔◌, ◌⊎◌, ◌<◌, false, true, None};
-ghost use Rattle.camlheap_c.specs.Resting.{KeptOut, MakesBed, Rests, Resumes, no_bed_form, unrested_form};
+ghost use Rattle.camlheap_c.specs.Resting.{AreFull, HoldsSame, KeptOut, MakesBed, Rests, Resumes, first_bed, no_bed_form, unrested_form};
 
 use crate::bed::CamlheapBed;
 use crate::codes::{
@@ -37,7 +37,7 @@ fn no_bed_code(why: NoBed) -> u32
 /// A bed in a room of its own. `DONE`, or `MEMORY`, and then nothing has changed. What the handle held before is freed.
 #[unsafe(no_mangle)]
 pub extern "C" fn camlheap_first_bed(alloc: Global, bed: &mut CamlheapBed) -> u32
-    ensures made { result ≡ 0 → (bed.new.full ≡ true) × (bed.new.value ≡ record { rests = None; makes = true; beds = 1; lost = false }) }
+    ensures made { result ≡ 0 → (bed.new.full ≡ true) × (bed.new.value ≡ first_bed) }
     ensures told { result ≢ 0 → result ≡ 24 }
     ensures same { result ≢ 0 → bed.new ≡ bed.old }
 {
@@ -95,9 +95,9 @@ pub extern "C" fn camlheap_rest(
     ensures kept { bed.new.full ≡ bed.old.full }
     ensures no_bed { (bed.old.full ≡ false) ↔ (result ≡ 27) }
     ensures no_domain { bed.old.full ≡ true → (domain.old.full ≡ false) ↔ (result ≡ 16) }
-    ensures rests { bed.old.full ≡ true → domain.old.full ≡ true → result ≡ 0 → Rests domain.old domain.new bed.old bed.new }
-    ensures why { bed.old.full ≡ true → domain.old.full ≡ true → result ≢ 0 → KeptOut domain.old.value bed.old.value result }
-    ensures same { result ≢ 0 → (domain.new.full ≡ domain.old.full) × (domain.old.full ≡ true → domain.new.value ≡ domain.old.value) }
+    ensures rests { result ≡ 0 → Rests domain.old domain.new bed.old bed.new }
+    ensures why { AreFull domain.old bed.old → result ≢ 0 → KeptOut domain.old.value bed.old.value result }
+    ensures same { result ≢ 0 → HoldsSame domain.old domain.new }
     ensures same_bed { result ≢ 0 → bed.old.full ≡ true → bed.new.value ≡ bed.old.value }
 {
     let Some(mut held) = bed.take(alloc) else {
@@ -131,7 +131,7 @@ pub extern "C" fn camlheap_resume(
     ensures no_bed { domain.old.full ≡ false → (bed.old.full ≡ false) ↔ (result ≡ 27) }
     ensures empty { domain.old.full ≡ false → bed.old.full ≡ true → (bed.old.value.rests ≡ None) ↔ (result ≡ 30) }
     ensures resumes { result ≡ 0 → Resumes domain.new bed.old bed.new }
-    ensures same { result ≢ 0 → (domain.new.full ≡ domain.old.full) × (domain.old.full ≡ true → domain.new.value ≡ domain.old.value) }
+    ensures same { result ≢ 0 → HoldsSame domain.old domain.new }
     ensures same_bed { result ≢ 0 → bed.old.full ≡ true → bed.new.value ≡ bed.old.value }
     ensures told { result ≢ 0 → result < 27 → result ≡ 1 }
 {

@@ -1,7 +1,6 @@
 //! The start and the end of a heap, as C calls them.
-ghost use Rattle.std.specs.Prelude.{◌≡◌, ◌≢◌, ◌↔◌, ◌+◌, ◌<◌, ◌≤◌, ℕ, IfOk, Some, false, true, length, map};
-ghost use Rattle.heap_rule.specs.Limits.{first_outside};
-ghost use Rattle.camlheap_c.specs.Exported.{Fills, Starts, config_of};
+ghost use Rattle.std.specs.Prelude.{◌≡◌, ◌≢◌, ◌↔◌, ◌<◌, ◌≤◌, IfOk, false, length, map};
+ghost use Rattle.camlheap_c.specs.Exported.{Fills, Starts, TellsOutside};
 
 use crate::codes::{DONE, MEMORY, TOO_FEW_HANDLES, outside_code};
 use crate::crossing::CamlheapConfig;
@@ -51,7 +50,7 @@ pub extern "C" fn camlheap_start(
     handles: &mut [CamlheapDomain],
 ) -> u32
     ensures few { (result ≡ 25) ↔ (length handles.old < config.now.domains) }
-    ensures outside { (k : ℕ) → config.now.domains ≤ length handles.old → (result ≡ 32 + k) ↔ (first_outside (config_of config.now) ≡ Some k) }
+    ensures outside { config.now.domains ≤ length handles.old → TellsOutside config.now result }
     ensures started { result ≡ 0 → Starts config.now handles.old handles.new }
     ensures same { result ≢ 0 → handles.new ≡ handles.old }
     ensures told { (result ≢ 0) → (result ≢ 24) → (result ≢ 25) → 32 < result }

@@ -1,14 +1,9 @@
 //! What a domain tells, as C asks it.
-ghost use Rattle.std.specs.Prelude.{◌≡◌, ◌≢◌, ◌↔◌, ◌<◌, ◌≤◌, true, false};
-ghost use Rattle.heap_model.specs.Commands.{shown};
-ghost use Rattle.heap_model.specs.Domains.{register as register_value};
-ghost use Rattle.heap_rule.specs.Rule.{state_of};
-ghost use Rattle.domain_turns.specs.Runs.{HasLooked};
-ghost use Rattle.domain_turns.specs.declared.supply.Supply.TheVariants.{Closed};
-ghost use Rattle.shared_runs.specs.Sharing.{MayClose};
+ghost use Rattle.std.specs.Prelude.{◌≡◌, ◌≢◌, ◌↔◌, true, false};
+ghost use Rattle.shared_runs.specs.Sharing.{MayClose, closed_of};
 ghost use Rattle.open_runs.specs.Counting.{stats_of};
-ghost use Rattle.camlheap_c.specs.Exported.{RefusesClose, Tells, TellsRan};
-ghost use Rattle.camlheap_c.specs.Forms.{reply_form, stats_form};
+ghost use Rattle.camlheap_c.specs.Exported.{RefusesClose, ShowsRegister, Tells, TellsRan};
+ghost use Rattle.camlheap_c.specs.Forms.{stats_form};
 
 use crate::codes::{AGAIN, DONE, NO_DOMAIN, NO_MORE, NO_REGISTER, refusal_code};
 use crate::crossing::{CamlheapReply, CamlheapStats, reply_of, stats_as_c};
@@ -50,15 +45,7 @@ pub extern "C" fn camlheap_show(
     register: u8,
     reply: &mut CamlheapReply,
 ) -> u32
-    ensures kept { handle.new.full ≡ handle.old.full }
-    ensures none { (handle.old.full ≡ false) ↔ (result ≡ 16) }
-    ensures shown { handle.old.full ≡ true → result ≡ 0 → reply.new ≡ reply_form (shown (register_value (state_of handle.old.value.heap.config handle.old.value.run.token.view.seen.front) handle.old.value.run.token.view.own.number register)) }
-    ensures missing { handle.old.full ≡ true → (result ≡ 23) ↔ (16 ≤ register) }
-    ensures told { handle.old.full ≡ true → (result ≡ 0) ↔ (register < 16) }
-    ensures heap { handle.old.full ≡ true → handle.new.value.heap ≡ handle.old.value.heap }
-    ensures looked { handle.old.full ≡ true → result ≡ 0 → HasLooked handle.old.value.run handle.new.value.run }
-    ensures same { handle.old.full ≡ true → result ≢ 0 → (handle.new.value ≡ handle.old.value) × (reply.new ≡ reply.old) }
-    ensures unread { handle.old.full ≡ false → reply.new ≡ reply.old }
+    ensures { ShowsRegister handle.old handle.new register reply.old reply.new result }
 {
     let Some(mut run) = handle.take(alloc) else {
         return NO_DOMAIN;
@@ -80,7 +67,7 @@ pub extern "C" fn camlheap_show(
 pub extern "C" fn camlheap_close(alloc: Global, handle: &mut CamlheapDomain) -> u32
     ensures kept { handle.new.full ≡ handle.old.full }
     ensures none { (handle.old.full ≡ false) ↔ (result ≡ 16) }
-    ensures closed { handle.old.full ≡ true → result ≡ 0 → handle.new.value ≡ record handle.old.value { run = record handle.old.value.run { supply = Closed } } }
+    ensures closed { handle.old.full ≡ true → result ≡ 0 → handle.new.value ≡ closed_of handle.old.value }
     ensures may { handle.old.full ≡ true → result ≡ 0 → MayClose handle.old.value }
     ensures why { handle.old.full ≡ true → result ≢ 0 → RefusesClose handle.old.value result }
     ensures refused { handle.old.full ≡ true → result ≢ 0 → handle.new.value ≡ handle.old.value }

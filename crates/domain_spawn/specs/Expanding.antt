@@ -6,9 +6,11 @@ use Rattle.heap_model.specs.declared.reply.Reply.{Reply}
 use Rattle.heap_model.specs.declared.graph.Value.{Value}
 use Rattle.heap_model.specs.declared.graph.Value.TheVariants.{Nothing}
 use Rattle.heap_model.specs.Commands.{is_full_value}
-use Rattle.heap_model.specs.Domains.{domain_at, opening}
+use Rattle.heap_model.specs.Domains.{domain_at, opening, register}
 use Rattle.heap_model.specs.History.{IsPrefix, Legal}
+use Rattle.heap_rule.specs.Changes.{value_at}
 use Rattle.heap_rule.specs.Limits.{sizes_in}
+use Rattle.heap_rule.specs.Places.{Shows}
 use Rattle.heap_rule.specs.Rule.{state_of}
 use Rattle.heap_rule.specs.Running.{Runs, Stays}
 use Rattle.heap_rule.specs.Token.{Token, SharedHeap}
@@ -31,6 +33,10 @@ pub record MakesSteps (h : SharedHeap) (old new : Token) (xs : List Step) : Type
 -- what the domain owns is as before, but for its registers and the fields that it remembers
 pub record ChangesWords (old new : Token) : Type 0 where
   pub own : new.view.own ≡ record old.view.own { registers = new.view.own.registers; remembered = new.view.own.remembered }
+
+-- a register of the domain shows what its trace gave it
+abbrev pub ShowsAt : SharedHeap → Token → ℕ → Type 0
+ShowsAt h t r = Shows (value_at t.view.own.registers r) (register (state_of h.config t.view.seen.front) t.view.own.number r)
 
 -- what a domain's registers hold at its part of the history
 abbrev pub held_at : Token → List Value

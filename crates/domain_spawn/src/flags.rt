@@ -1,14 +1,10 @@
 //! The flags of sections: 0 before a section's spawn, 1 from then on, 2 from its end on.
 ghost use Rattle.std.specs.Prelude.{◌≡◌, ◌<◌, ◌≤◌, cond, pos};
 ghost use Rattle.heap_model.specs.declared.command.Command.TheVariants.{Spawn};
-ghost use Rattle.heap_model.specs.Domains.{register as register_value};
-ghost use Rattle.heap_rule.specs.Changes.{value_at};
-ghost use Rattle.heap_rule.specs.Places.{Shows};
-ghost use Rattle.heap_rule.specs.Rule.{state_of};
 ghost use Rattle.heap_rule.specs.Running.{Runs, ChangesRegisters};
 ghost use Rattle.heap_rule.specs.Token.{Holds};
 ghost use Rattle.spawn_laws.specs.Expansion.{finish_commands, is_int};
-ghost use Rattle.domain_spawn.specs.Expanding.{ChangesWords, LooksAt, Expands, MakesAll, PassesArgument};
+ghost use Rattle.domain_spawn.specs.Expanding.{ChangesWords, LooksAt, Expands, MakesAll, PassesArgument, ShowsAt};
 
 use field_access::{load, put_int, store};
 use heap_model::reply::Reply;
@@ -82,7 +78,7 @@ fn pass_argument(heap: &Heap, dom: &mut Domain, section: u16, item: u8)
     requires section { section < 8 }
     requires item { item < 14 }
     requires room { 2 ≤ dom.old.view.own.remembered.room }
-    requires shows { Shows (value_at dom.old.view.own.registers item) (register_value (state_of heap.now.config dom.old.view.seen.front) dom.old.view.own.number item) }
+    requires shows { ShowsAt heap.now dom.old item }
     ensures makes { PassesArgument heap.now dom.old dom.new section item }
     ensures rest { ChangesWords dom.old dom.new }
     ensures room { 1 ≤ dom.new.view.own.remembered.room }
@@ -103,7 +99,7 @@ pub fn begin(heap: &Heap, dom: &mut Domain, section: u32, item: u8) -> Reply
     requires section { section < 8 }
     requires item { item < 14 }
     requires room { 2 ≤ dom.old.view.own.remembered.room }
-    requires shows { Shows (value_at dom.old.view.own.registers item) (register_value (state_of heap.now.config dom.old.view.seen.front) dom.old.view.own.number item) }
+    requires shows { ShowsAt heap.now dom.old item }
     ensures makes { Expands heap.now dom.old dom.new (Spawn section item) result }
     ensures rest { ChangesWords dom.old dom.new }
 {

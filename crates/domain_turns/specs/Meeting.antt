@@ -38,6 +38,14 @@ pub record AllButOne (h : SharedHeap) (runs : List (Option RunView)) : Type 0 wh
 abbrev pub ArrivedLeast : RunView → List (Option RunView) → Type 0
 ArrivedLeast r runs = (d : ℕ) (q : RunView) → HasRun runs d q → r.token.view.own.arrivals ≤ q.token.view.own.arrivals
 
+-- a run whose domain has arrived may pass among these: with it all domains of the heap are there, and none has arrived less often
+pub record MayPassAmong (h : SharedHeap) (one : RunView) (others : List (Option RunView)) : Type 0 where
+  pub arrived : one.left ≢ None
+  pub few : one.token.view.own.arrivals < 2 ^ 60
+  pub here : AreHere h others
+  pub all : AllButOne h others
+  pub least : ArrivedLeast one others
+
 -- the run at a place whose domain has seen this history, if one is there
 abbrev pub slot_seeing : List Entry → Option RunView → Option RunView
 slot_seeing history None = None

@@ -11,7 +11,8 @@ use Rattle.heap_model.specs.declared.state.Sizes.{Sizes}
 use Rattle.heap_model.specs.Entries.{reply as reply_to}
 use Rattle.heap_model.specs.History.{IsPrefix, Legal, commands, replies, state_after}
 use Rattle.heap_model.specs.Fronts.{Answers, IsFrontOf, NoneOf}
-use Rattle.heap_model.specs.Domains.{class_count, domain_at, opening, reserve}
+use Rattle.heap_model.specs.Commands.{shown}
+use Rattle.heap_model.specs.Domains.{class_count, domain_at, opening, register, reserve}
 use Rattle.heap_model.specs.declared.command.Command.TheVariants.{Minor, Major, FullMajor, Poll, Load, Join}
 use Rattle.heap_rule.specs.declared.config.Config.{Config}
 use Rattle.heap_rule.specs.declared.view.DomainView.{DomainView}
@@ -43,6 +44,7 @@ use Rattle.safepoint.specs.Looks.{PassedBarrier, bit_of}
 use Rattle.safepoint.specs.declared.answer.Want as wish
 use Rattle.safepoint.specs.declared.answer.Want.TheVariants.{Finish, Full}
 use Rattle.safepoint.specs.declared.answer.Want.TheVariants.{Minor as Young}
+use Rattle.spawn_laws.specs.Printed.{printed_replies}
 use Rattle.spawn_laws.specs.Hidden.{hidden, prelude, result_of}
 use Rattle.spawn_laws.specs.Expansion.{AreFitting, Step, finish_commands, steps_from}
 use Rattle.domain_spawn.specs.Expanding.{ChangesWords, Expands, LooksAt, MakesAll, MakesOne}
@@ -752,3 +754,44 @@ pub record GoesOn (old new : RunView) : Type 0 where
   pub number : new.token.view.own.number ≡ old.token.view.own.number
   pub front : IsPrefix old.token.view.seen.front new.token.view.seen.front
   pub over : old.ended ≡ true → StaysOver old new
+
+-- a run with this command to make, which forgets what the one before left
+abbrev pub submitted : RunView → model.Command → RunView
+submitted r c = record r { commands = c ∷ []; next = 0; replies = []; ran = []; asked = None; collected = false }
+
+-- a run whose domain has arrived, wanted or not
+abbrev pub halted : RunView → RunView
+halted r = record r { token = record r.token { view = arrived_view r.token.view }; left = Some Run; collected = false }
+
+-- the finalisers of these replies were registered with those that are
+abbrev pub FinalisersFit : RunView → List Reply → Type 0
+FinalisersFit r ran = length ran + count_of r.token.view.own.finalisers ≤ r.token.config.finals
+
+-- the domain's commands in its part of the history are those before the next one, each once and in order
+abbrev pub HasMade : RunView → Type 0
+HasMade r = commands r.token.view.seen.front r.token.view.own.number ≡ take r.next r.commands
+
+-- its section has come as far as its place says
+abbrev pub IsAlong : RunView → Type 0
+IsAlong r = IsInSection r.token.config r.token.view.own.number r.token.view.seen.front r.place r.commands r.next r.replies
+
+-- the replies are those of the domain's entries in its part of the history
+abbrev pub HasReplies : RunView → Type 0
+HasReplies r = r.replies ≡ replies (sizes_in r.token.config) r.token.view.seen.front r.token.view.own.number
+
+-- or those that it prints of its section
+abbrev pub HasPrinted : RunView → Type 0
+HasPrinted r = r.replies ≡ printed_replies (sizes_in r.token.config) r.token.view.seen.front r.token.view.own.number
+
+-- the reply that shows what a register of a domain holds, by the history as the domain sees it
+abbrev pub shown_in : Config → Token → ℕ → Reply
+shown_in k t r = shown (register (state_of k t.view.seen.front) t.view.own.number r)
+
+-- as many finalisers wait in the domain's queue as in the state after its part of the history
+abbrev pub KnowsQueue : Config → Token → Type 0
+KnowsQueue k t = length (domain_at (state_of k t.view.seen.front) t.view.own.number).queue ≡ length t.view.own.finalisers.queue.items
+
+-- an answer that says so comes once the trace has ended
+pub record EndsWith (told : Turned) (r : RunView) : Type 0 where
+  pub ended : told ≡ Over → r.ended ≡ true
+  pub idle : (n : ℕ) → told ≡ Idle n → r.ended ≡ true

@@ -2,7 +2,7 @@
 ghost use Rattle.std.specs.Prelude.{◌≡◌, ◌≢◌, ◌+◌, ◌-◌, ◌<◌, ◌≤◌, ◌^◌, [], true, false, length, slice_get, slice_set, vec_capacity, None, Some};
 ghost use Rattle.heap_rule.specs.Ending.{AllIn};
 ghost use Rattle.heap_rule.specs.Token.{IsIn};
-ghost use Rattle.domain_turns.specs.Meeting.{AllButOne, AllRunsMet, AreHere, ArrivedLeast, Brought, MayLook, PassesAmong};
+ghost use Rattle.domain_turns.specs.Meeting.{AllRunsMet, AreHere, Brought, MayLook, MayPassAmong, PassesAmong};
 ghost use Rattle.domain_turns.specs.Runs.{GoesOn};
 
 use crate::passing::{left_after, pass};
@@ -118,11 +118,7 @@ impl DomainRun {
         decider: Decider,
     ) -> DomainRun
         requires here { IsIn self.token heap.now }
-        requires arrived { self.left ≢ None }
-        requires few { self.token.view.own.arrivals < 2 ^ 60 }
-        requires others { AreHere heap.now others.old }
-        requires all { AllButOne heap.now others.old }
-        requires least { ArrivedLeast self others.old }
+        requires may { MayPassAmong heap.now self others.old }
         requires empty { room.old.items ≡ [] }
         requires fits { length others.old < vec_capacity room.old }
         ensures here { IsIn result.token heap.now }

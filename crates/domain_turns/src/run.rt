@@ -1,15 +1,11 @@
 //! One domain's trace, and how far it has come.
-ghost use Rattle.std.specs.Prelude.{◌≡◌, ◌≢◌, ◌↔◌, ◌+◌, ◌<◌, ◌≤◌, ◌∷◌, true, false, [], drop, length, slice_get, take, vec_capacity, IfOk, IfSome, None, Some};
+ghost use Rattle.std.specs.Prelude.{◌≡◌, ◌≢◌, ◌↔◌, ◌+◌, ◌<◌, ◌≤◌, true, false, [], drop, length, slice_get, vec_capacity, IfOk, IfSome, None, Some};
 ghost use Rattle.heap_model.specs.declared.command.Command.TheVariants.{FullMajor};
-ghost use Rattle.heap_model.specs.History.{commands as commands_of, replies as replies_of};
-ghost use Rattle.heap_rule.specs.Limits.{sizes_in};
 ghost use Rattle.heap_rule.specs.declared.phase.Kind.TheVariants.{Run};
 ghost use Rattle.heap_rule.specs.declared.phase.Stage.TheVariants.{In};
 ghost use Rattle.mark_slices.specs.Slices.{IsDeckOf};
-ghost use Rattle.domain_turns.specs.Runs.{AreLastRan, CanBegin, CanBeginSection, IsHandedIn, IsLastReply, IsRun, IsUnanswered, MaySubmit, answer_of, first_place, is_asked, served_since, standing, unturned};
+ghost use Rattle.domain_turns.specs.Runs.{AreLastRan, CanBegin, CanBeginSection, FinalisersFit, HasMade, HasPrinted, HasReplies, IsAlong, IsHandedIn, IsLastReply, IsRun, IsUnanswered, MaySubmit, answer_of, first_place, is_asked, served_since, standing, submitted, unturned};
 ghost use Rattle.steps_finalisers.specs.Registering.{count_of};
-ghost use Rattle.domain_turns.specs.Sections.{IsInSection};
-ghost use Rattle.spawn_laws.specs.Printed.{printed_replies};
 
 use crate::place::Place;
 use crate::supply::Supply;
@@ -206,7 +202,7 @@ impl DomainRun {
     /// and so are those of the finalisers that have run since that one was handed in.
     pub fn submit(&mut self, command: Command)
         requires may { MaySubmit self.old command }
-        ensures { self.new ≡ record self.old { commands = command ∷ []; next = 0; replies = []; ran = []; asked = None; collected = false } }
+        ensures { self.new ≡ submitted self.old command }
     {
         self.commands.clear();
         self.commands.push_reserved(command);
@@ -239,7 +235,7 @@ impl DomainRun {
         ensures ran { result.now ≡ self.now.ran }
         ensures of_history { IsHandedIn self.now.supply → AreLastRan self.now result.now }
         ensures none { (IsHandedIn self.now.supply → ⊥) → result.now ≡ [] }
-        ensures few { IsHandedIn self.now.supply → length result.now + count_of self.now.token.view.own.finalisers ≤ self.now.token.config.finals }
+        ensures few { IsHandedIn self.now.supply → FinalisersFit self.now result.now }
     {
         &self.ran
     }
@@ -275,8 +271,8 @@ impl DomainRun {
     /// in last is done, and then 1.
     pub fn next(&self) -> usize
         ensures next { result ≡ self.now.next }
-        ensures made { self.now.supply ≡ Supply.Listed → commands_of self.now.token.view.seen.front self.now.token.view.own.number ≡ take self.now.next self.now.commands }
-        ensures section { self.now.supply ≡ Supply.Section → IsInSection self.now.token.config self.now.token.view.own.number self.now.token.view.seen.front self.now.place self.now.commands self.now.next self.now.replies }
+        ensures made { self.now.supply ≡ Supply.Listed → HasMade self.now }
+        ensures section { self.now.supply ≡ Supply.Section → IsAlong self.now }
     {
         self.next
     }
@@ -286,8 +282,8 @@ impl DomainRun {
     /// handed in last, once it is done.
     pub fn replies(&self) -> &[Reply]
         ensures replies { result.now ≡ self.now.replies }
-        ensures of_history { self.now.supply ≡ Supply.Listed → self.now.replies ≡ replies_of (sizes_in self.now.token.config) self.now.token.view.seen.front self.now.token.view.own.number }
-        ensures printed { self.now.supply ≡ Supply.Section → self.now.replies ≡ printed_replies (sizes_in self.now.token.config) self.now.token.view.seen.front self.now.token.view.own.number }
+        ensures of_history { self.now.supply ≡ Supply.Listed → HasReplies self.now }
+        ensures printed { self.now.supply ≡ Supply.Section → HasPrinted self.now }
     {
         &self.replies
     }

@@ -1,11 +1,7 @@
 //! What a register of a run holds.
 ghost use Rattle.std.specs.Prelude.{◌≡◌, ◌<◌};
-ghost use Rattle.heap_model.specs.Commands.{shown};
-ghost use Rattle.heap_model.specs.Domains.{register as register_value};
-ghost use Rattle.heap_rule.specs.Rule.{state_of};
 ghost use Rattle.heap_rule.specs.Token.{IsIn};
-ghost use Rattle.heap_rule.specs.declared.phase.Note.TheVariants as note;
-ghost use Rattle.domain_turns.specs.Runs.{HasLooked};
+ghost use Rattle.domain_turns.specs.Runs.{HasLooked, shown_in};
 
 use crate::run::DomainRun;
 use field_access::shown_register;
@@ -21,7 +17,7 @@ pub fn show(heap: &Heap, run: &mut DomainRun, r: u8) -> Reply
     requires few { r < 16 }
     ensures here { IsIn run.new.token heap.now }
     ensures looked { HasLooked run.old run.new }
-    ensures reply { result ≡ shown (register_value (state_of heap.now.config run.old.token.view.seen.front) run.old.token.view.own.number r) }
+    ensures reply { result ≡ shown_in heap.now.config run.old.token r }
 {
     wants(heap, &mut run.domain);
     shown_register(heap, &mut run.domain, r)

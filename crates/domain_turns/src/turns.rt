@@ -10,9 +10,7 @@ ghost use Rattle.heap_rule.specs.Standing.{noted, with_front, ShowsRegisters};
 ghost use Rattle.heap_rule.specs.Token.{IsIn};
 ghost use Rattle.safepoint.specs.Looks.{bit_of};
 ghost use Rattle.heap_rule.specs.Limits.{sizes_in};
-ghost use Rattle.heap_model.specs.Domains.{domain_at};
-ghost use Rattle.heap_rule.specs.Rule.{state_of};
-ghost use Rattle.domain_turns.specs.Runs.{StaysOver, Stretches, HasEnded, EndsTrace, RunAnswers, TurnAnswers, RestAnswers, CalmAnswers, GoesOn, CalmDid, IsHandedIn, IsUnqueued, PassesOn, Polls, RunsFinaliser, TrialAnswers, WaitsForAnswer, is_asked, may_use_up, served_since, noted_token, ran_with, said_with, WorksBeside};
+ghost use Rattle.domain_turns.specs.Runs.{EndsWith, KnowsQueue, StaysOver, Stretches, HasEnded, EndsTrace, RunAnswers, TurnAnswers, RestAnswers, CalmAnswers, GoesOn, CalmDid, IsHandedIn, IsUnqueued, PassesOn, Polls, RunsFinaliser, TrialAnswers, WaitsForAnswer, is_asked, may_use_up, served_since, halted, noted_token, ran_with, said_with, WorksBeside};
 ghost use Rattle.domain_turns.specs.Sections.{IsOrdinary, IsTold};
 ghost use Rattle.domain_turns.specs.LookOutcomes.{PastAnswers, asked_after, collected_after, due_after, next_after, replies_after};
 ghost use Rattle.heap_model.specs.declared.reply.Reply as says;
@@ -513,7 +511,7 @@ impl DomainRun {
         requires running { self.old.left ≡ None }
         requires few { self.old.token.view.own.arrivals < 2 ^ 60 }
         ensures here { IsIn self.new.token heap.now }
-        ensures run { self.new ≡ record self.old { token = record self.old.token { view = arrived_view self.old.token.view }; left = Some Run; collected = false } }
+        ensures run { self.new ≡ halted self.old }
     {
         stop(heap, self);
     }
@@ -524,7 +522,7 @@ impl DomainRun {
         requires here { IsIn self.old.token heap.now }
         requires running { self.old.left ≡ None }
         ensures same { self.new ≡ self.old }
-        ensures queue { length (domain_at (state_of heap.now.config self.old.token.view.seen.front) self.old.token.view.own.number).queue ≡ length self.old.token.view.own.finalisers.queue.items }
+        ensures queue { KnowsQueue heap.now.config self.old.token }
     {
         queue_load(heap, &mut self.domain);
     }
@@ -556,8 +554,7 @@ fn turn_on(heap: &Heap, run: &mut DomainRun) -> Turned
     ensures here { IsIn run.new.token heap.now }
     ensures answer { TurnAnswers heap.now run.old run.new result }
     ensures goes_on { GoesOn run.old run.new }
-    ensures ended { result ≡ Turned.Ended → run.new.ended ≡ true }
-    ensures idle { (n : ℕ) → result ≡ Turned.Idle n → run.new.ended ≡ true }
+    ensures ended { EndsWith result run.new }
 {
     run.is_faithful();
     let Some(last) = run.left else {
@@ -613,8 +610,7 @@ pub fn turn(heap: &Heap, run: &mut DomainRun) -> Turned
     ensures exact { (other : turned.Turned) → TurnAnswers heap.now run.old run.new other → other ≡ result }
     ensures goes_on { GoesOn run.old run.new }
     ensures stretch { Stretches (sizes_in heap.now.config) run.old run.new }
-    ensures ended { result ≡ Turned.Ended → run.new.ended ≡ true }
-    ensures idle { (n : ℕ) → result ≡ Turned.Idle n → run.new.ended ≡ true }
+    ensures ended { EndsWith result run.new }
 {
     turn_on(heap, run)
 }

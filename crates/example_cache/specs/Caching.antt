@@ -96,6 +96,10 @@ abbrev pub KeyAnswers : CacheView → CacheView → ℕ → Bool → Type 0
 KeyAnswers old new r true = (k : Label) × Performed (sizes_in old.heap.config) old.heap.front new.heap.front (Alloc r 0 1) (reply.Block k) × (holds new r ≡ Block k)
 KeyAnswers old new r false = ((old.heap.labels ≡ 4294967295) × (new.heap.front ≡ old.heap.front)) ⊎ Performed (sizes_in old.heap.config) old.heap.front new.heap.front (Alloc r 0 1) reply.Full
 
+-- a complete collection was made
+abbrev pub HasCollected : CacheView → CacheView → Type 0
+HasCollected old new = (r : Reply) × Performed (sizes_in old.heap.config) old.heap.front new.heap.front FullMajor r
+
 -- the heap has no room for an insertion exactly where no label is left, no ephemeron fits, or an allocation was refused
 abbrev pub RoomAnswers : CacheView → CacheView → Inserted → Type 0
 RoomAnswers old new NoRoom = (old.heap.labels ≡ 4294967295) ⊎ (old.heap.room ≡ 0) ⊎ (refusals_by 0 new.heap.front ≡ refusals_by 0 old.heap.front + 1)

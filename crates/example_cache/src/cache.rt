@@ -5,10 +5,8 @@ ghost use Rattle.heap_model.specs.Domains.{IsWithinLimits};
 ghost use Rattle.heap_rule.specs.Limits.{sizes_in};
 ghost use Rattle.table_laws.specs.Performing.{Performed};
 ghost use Rattle.heap_model.specs.declared.graph.Value.TheVariants as value;
-ghost use Rattle.heap_model.specs.declared.command.Command.TheVariants as command;
-ghost use Rattle.heap_model.specs.declared.reply.Reply.{Reply};
 ghost use Rattle.heap_model.specs.Graph.{label_of};
-ghost use Rattle.example_cache.specs.Caching.{GetAnswers, InsertAnswers, IsKept, KeepsAll, KeepsRegisters, KeyAnswers, NoCache, RoomAnswers, SparesCache, TakeAnswers, holds, places, entry_of as entry_shown, inserted_of as inserted_by};
+ghost use Rattle.example_cache.specs.Caching.{GetAnswers, HasCollected, InsertAnswers, IsKept, KeepsAll, KeepsRegisters, KeyAnswers, NoCache, RoomAnswers, SparesCache, TakeAnswers, holds, places, entry_of as entry_shown, inserted_of as inserted_by};
 
 use heap_model::command::Command;
 use heap_model::reply::Reply;
@@ -120,7 +118,7 @@ impl Cache {
 
     /// Has the heap collect all that can't be reached.
     pub fn collect<R: Wait>(&mut self, rt: &R)
-        ensures collected { (r : Reply) × Performed (sizes_in self.old.heap.config) self.old.heap.front self.new.heap.front command.FullMajor r }
+        ensures collected { HasCollected self.old self.new }
         ensures entries { KeepsAll self.old self.new }
         ensures registers { KeepsRegisters self.old self.new 7 }
     {

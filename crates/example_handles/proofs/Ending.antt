@@ -16,7 +16,7 @@ use Rattle.open_runs.proofs.Finalising.{finalised_on}
 use Rattle.heap_seats.specs.Seating.{AllSeatsOf, GoesAlong, IsSeatOf, SeatView, SeatsView, fresh_seats}
 use Rattle.heap_seats.specs.Stopping.{Stops, StopsEach}
 use Rattle.example_handles.specs.declared.resource.Resource.{Resource}
-use Rattle.example_handles.specs.Handling.{AllHandlesOf, Did, EachDid, HandlesView, IsHandles, IsLater, IsUnused, Makes, Parts, PartsEach, Settles, StopLeaves, StopLeavesEach, parted, ran_by}
+use Rattle.example_handles.specs.Handling.{AllHandlesOf, Did, EachDid, HandlesView, IsHandles, IsLater, IsUnused, Makes, Parts, PartsEach, Settles, StopLeaves, LeavesEach, parted, ran_by}
 use Rattle.example_handles.specs.Resources.{names}
 use Rattle.example_handles.proofs.Calls.{later_both, makes_both, open_held, performed_from, settles_both}
 use Rattle.example_handles.proofs.Histories.{prefix_on}
@@ -123,7 +123,7 @@ stop_one z history old first then s rs a b parts stops = record {
     both = later_both old.seat first.seat then.seat a.seat b.seat
 
 pub stop_each : (z : Sizes) (history : List Entry) (olds firsts thens : List HandlesView) (ss : List SeatView) (rss : List (List Resource))
-    → EachDid FullMajor olds firsts → EachDid Poll firsts thens → PartsEach thens ss rss → StopsEach z history ss → StopLeavesEach z history olds rss
+    → EachDid FullMajor olds firsts → EachDid Poll firsts thens → PartsEach thens ss rss → StopsEach z history ss → LeavesEach z history olds rss
 stop_each z history [] [] [] [] [] a b parts stops = tt
 stop_each z history (o ∷ os) (f ∷ fs) (t ∷ ts) (s ∷ ss) (rs ∷ rss) a b parts stops = (stop_one z history o f t s rs a.0 b.0 parts.0 stops.0, stop_each z history os fs ts ss rss a.1 b.1 parts.1 stops.1)
 stop_each z history [] (f ∷ fs) ts ss rss a b parts stops = absurd a

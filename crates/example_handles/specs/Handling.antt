@@ -1,5 +1,5 @@
 -- Handles as the threads that use them see them.
-use Rattle.std.specs.Prelude.{◌≡◌, ◌≢◌, ◌⊎◌, ◌&&◌, ℕ, zero, suc, ◌+◌, ◌<◌, ◌≤◌, Bool, true, false, List, [], ◌∷◌, ◌++◌, length, slice_get, Option, Some, None}
+use Rattle.std.specs.Prelude.{◌≡◌, ◌≢◌, ◌↔◌, ◌⊎◌, ◌&&◌, ℕ, zero, suc, ◌+◌, ◌<◌, ◌≤◌, Bool, true, false, List, [], ◌∷◌, ◌++◌, length, slice_get, Option, Some, None, Result, Err}
 use Rattle.std.specs.List.{AllByRecursion}
 use Rattle.heap_model.specs.declared.command.Command.{Command}
 use Rattle.heap_model.specs.declared.command.Command.TheVariants.{Alloc, FinaliseLast, FullMajor, Poll}
@@ -19,7 +19,9 @@ use Rattle.heap_model.specs.Entries.{is_gone, is_let_go}
 use Rattle.heap_model.specs.History.{IsPrefix, commands, state_after}
 use Rattle.heap_model.specs.Registrations.{all_registered}
 use Rattle.heap_rule.specs.declared.config.Config.{Config}
-use Rattle.heap_rule.specs.Limits.{sizes_in}
+use Rattle.heap_rule.specs.declared.config.StartFault.{StartFault}
+use Rattle.heap_rule.specs.declared.config.StartFault.TheVariants as fault
+use Rattle.heap_rule.specs.Limits.{first_outside, sizes_in}
 use Rattle.heap_rule.specs.Rule.{state_of}
 use Rattle.command_counts.specs.Counts.{ephemerons_of, labels_given, labels_of}
 use Rattle.domain_turns.specs.Handed.{PerformedOn}
@@ -34,6 +36,10 @@ use Rattle.example_handles.specs.Resources.{Closes, Settled, names}
 -- the numbers of a heap for handles: room for so many finalisers of each domain, and for no ephemeron
 abbrev pub config_for : ℕ → ℕ → ℕ → ℕ → Config
 config_for domains minor_words pools most = record { domains = domains; minor_words = minor_words; pools = pools; finals = most; ephes = 0 }
+
+-- by what a start answers: which is the first of a heap's numbers that is outside its limit, if any is
+abbrev pub TellsOutside : {T : Type 0} → Config → Result T StartFault → Type 0
+TellsOutside k result = (n : ℕ) → (result ≡ Err (fault.Config n)) ↔ (first_outside k ≡ Some n)
 
 -- handles of one seat: the seat, the resources by their numbers, and how many there may be
 pub record HandlesView : Type 0 where
@@ -94,6 +100,10 @@ pub record IsSpare (c : Command) : Type 0 where
   pub ephemerons : ephemerons_of c ≡ 0
   pub registrations : registrations_of c ≡ 0
 
+-- since then the history has grown by entries of others, by runs of the domain's finalisers with these replies, and by this command of the domain with its reply
+abbrev pub PerformedBy : HandlesView → HandlesView → Command → List Reply → Reply → Type 0
+PerformedBy old new c ran reply = PerformedOn (sizes_in old.seat.heap.config) old.seat.number old.seat.front new.seat.front c ran reply
+
 -- the history has grown, and each open resource whose finaliser has run by now is closed by it; the others are as they were
 pub record Settles (old new : HandlesView) : Type 0 where
   pub grows : IsPrefix old.seat.front new.seat.front
@@ -126,7 +136,7 @@ pub record Opens (made : List Command) (given : ℕ) (old new : HandlesView) (ds
 
 -- the heap had no room for a handle
 pub record NoRoom (old new : HandlesView) (dst : ℕ) : Type 0 where
-  pub full : PerformedOn (sizes_in old.seat.heap.config) old.seat.number old.seat.front new.seat.front (Alloc dst 0 1) new.seat.ran Full
+  pub full : PerformedBy old new (Alloc dst 0 1) new.seat.ran Full
   pub settles : Settles old new
 
 -- a handle was made
@@ -183,7 +193,7 @@ pub record Did (c : Command) (old new : HandlesView) : Type 0 where
   pub kept : IsHandles new
   pub ran : List Reply
   pub reply : Reply
-  pub performed : PerformedOn (sizes_in old.seat.heap.config) old.seat.number old.seat.front new.seat.front c ran reply
+  pub performed : PerformedBy old new c ran reply
 
 -- each has
 abbrev pub EachDid : Command → List HandlesView → List HandlesView → Type 0
@@ -201,10 +211,10 @@ pub record StopLeaves (z : Sizes) (history : List Entry) (old : HandlesView) (re
   pub stops : Stops z history new.seat
   pub resources_are : resources ≡ new.resources
 
-abbrev pub StopLeavesEach : Sizes → List Entry → List HandlesView → List (List Resource) → Type 0
-StopLeavesEach z history [] [] = Unit {0}
-StopLeavesEach z history (h ∷ hs) (rs ∷ rss) = StopLeaves z history h rs × StopLeavesEach z history hs rss
-StopLeavesEach z history _ _ = ⊥
+abbrev pub LeavesEach : Sizes → List Entry → List HandlesView → List (List Resource) → Type 0
+LeavesEach z history [] [] = Unit {0}
+LeavesEach z history (h ∷ hs) (rs ∷ rss) = StopLeaves z history h rs × LeavesEach z history hs rss
+LeavesEach z history _ _ = ⊥
 
 -- the handles of these seats and lists, where so many there may be
 abbrev pub parted : HandlesView → SeatView → List Resource → HandlesView

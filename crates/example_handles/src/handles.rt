@@ -1,8 +1,7 @@
 //! Handles, and their calls.
 ghost use Rattle.std.specs.Prelude.{◌≡◌, ◌<◌, ◌∷◌, [], length, slice_get};
-ghost use Rattle.domain_turns.specs.Handed.{PerformedOn};
 ghost use Rattle.domain_turns.specs.Tries.{registrations_of};
-ghost use Rattle.example_handles.specs.Handling.{CloseLeaves, Collects, HandleAnswers, HoldsLatest, IsHandles, IsLater, IsSpare, OpenAnswers, OpenWereHeld, Opens, Performs, Settles};
+ghost use Rattle.example_handles.specs.Handling.{CloseLeaves, Collects, HandleAnswers, HoldsLatest, IsHandles, IsLater, IsSpare, OpenAnswers, OpenWereHeld, Opens, PerformedBy, Performs, Settles};
 ghost use Rattle.example_handles.specs.Resources.{Settled, is_open};
 ghost use Rattle.heap_model.specs.declared.command.Command.TheVariants as command;
 ghost use Rattle.heap_model.specs.History.{Legal};
@@ -87,7 +86,7 @@ impl Handles {
         requires spare { IsSpare command }
         ensures seat { IsLater self.old.seat self.new.seat }
         ensures most { self.new.most ≡ self.old.most }
-        ensures performed { PerformedOn (sizes_in self.old.seat.heap.config) self.old.seat.number self.old.seat.front self.new.seat.front command self.new.seat.ran result }
+        ensures performed { PerformedBy self.old self.new command self.new.seat.ran result }
         ensures settles { Settles self.old self.new }
     {
         self.make_command(rt, seats, command)

@@ -1,8 +1,8 @@
 //! The start and the end of a heap whose seats have handles.
-ghost use Rattle.std.specs.Prelude.{◌≡◌, ◌↔◌, ◌<◌, ◌≤◌, ℕ, [], IfOk, Some, Err, length, map, vec_capacity};
-ghost use Rattle.example_handles.specs.Handling.{AllHandlesOf, EachDid, IsSpare, PartsEach, StopLeavesEach, config_for, no_handles};
+ghost use Rattle.std.specs.Prelude.{◌≡◌, ◌<◌, ◌≤◌, [], IfOk, length, map, vec_capacity};
+ghost use Rattle.example_handles.specs.Handling.{AllHandlesOf, EachDid, IsSpare, PartsEach, LeavesEach, TellsOutside, config_for, no_handles};
 ghost use Rattle.heap_model.specs.History.{Legal};
-ghost use Rattle.heap_rule.specs.Limits.{first_outside, sizes_in};
+ghost use Rattle.heap_rule.specs.Limits.{sizes_in};
 ghost use Rattle.heap_seats.specs.Seating.{fresh_seats};
 
 use crate::handles::Handles;
@@ -27,7 +27,7 @@ impl Handles {
         pools: u32,
         most: u32,
     ) -> Result<(Seats, Vec<RestingHandles>), StartFault>
-        ensures outside { (k : ℕ) → (result ≡ Err (StartFault.Config k)) ↔ (first_outside (config_for domains minor_words pools most) ≡ Some k) }
+        ensures outside { TellsOutside (config_for domains minor_words pools most) result }
         ensures config { IfOk result (λ r. r.0.heap.config ≡ config_for domains minor_words pools most) }
         ensures none { IfOk result (λ r. r.1.items ≡ map (no_handles most) (fresh_seats r.0 0 domains)) }
     {
@@ -57,7 +57,7 @@ impl Handles {
         requires some { 0 < length all.items }
         ensures sizes { IfOk result (λ r. r.0.sizes ≡ sizes_in seats.heap.config) }
         ensures legal { IfOk result (λ r. Legal r.0.sizes r.0.history) }
-        ensures leaves { IfOk result (λ r. StopLeavesEach r.0.sizes r.0.history all.items (map (λ v. v.items) r.1.items)) }
+        ensures leaves { IfOk result (λ r. LeavesEach r.0.sizes r.0.history all.items (map (λ v. v.items) r.1.items)) }
     {
         let collected = Vec::with_capacity(alloc, all.len())?;
         let polled = Vec::with_capacity(alloc, all.len())?;

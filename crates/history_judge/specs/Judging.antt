@@ -12,7 +12,7 @@ use Rattle.history_judge.specs.declared.judged.Judged.{Judged}
 use Rattle.history_judge.specs.declared.judged.Judged.TheVariants.{Legal, NoneFound, GaveUp, Script, NoSeparator, TooLong, Memory, ReadFault, WriteFault}
 use Rattle.history_judge.specs.Answer.{ExplainsScript}
 use Rattle.history_judge.specs.Input.{HasParts, HasNoParts}
-use Rattle.history_judge.specs.Reading.{ReadsAll}
+use Rattle.history_judge.specs.Reading.{IsReadInPart, ReadsAll}
 use Rattle.history_judge.specs.Show.{legal_text, none_text, gave_up_text}
 use Rattle.history_judge.specs.Writing.{AppendsFront}
 
@@ -72,6 +72,19 @@ Judges z judged left_before left_after before after = ReadsAll (λ bytes. Writes
 -- or a front part of it
 abbrev pub StopsWriting : Sizes → Option (List ℕ) → Option (List ℕ) → Option (List ℕ) → Option (List ℕ) → Type 0
 StopsWriting z left_before left_after before after = ReadsAll (λ bytes. WritesFront z bytes before after) left_before left_after
+
+-- what was written by the end, where a text is or a front part of one
+pub record Wrote (z : Sizes) (judged : Judged) (left_before left_after before after : Option (List ℕ)) : Type 0 where
+  pub legal : judged ≡ Legal → Judges z Legal left_before left_after before after
+  pub none_found : judged ≡ NoneFound → Judges z NoneFound left_before left_after before after
+  pub gave_up : judged ≡ GaveUp → Judges z GaveUp left_before left_after before after
+  pub cut : judged ≡ WriteFault → StopsWriting z left_before left_after before after
+
+-- when each answer comes that says what is wrong with the bytes that were read
+pub record FindsFault (domains : ℕ) (judged : Judged) (before after : Option (List ℕ)) : Type 0 where
+  pub script : (f : ScriptFault) → judged ≡ Script f → ReadsAll (λ bytes. IsWrong domains bytes f) before after
+  pub no_separator : judged ≡ NoSeparator → ReadsAll HasNoParts before after
+  pub too_long : judged ≡ TooLong → IsReadInPart before after
 
 -- an answer that isn't written
 abbrev pub IsSilent : Judged → Type 0

@@ -1,4 +1,5 @@
 pub mod Answer
+pub mod Faulting
 pub mod Input
 pub mod Judging
 pub mod Reading

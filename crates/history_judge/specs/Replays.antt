@@ -10,7 +10,7 @@ use Rattle.schedule_text.specs.Replays.{HasFault, Replayed, SpellsReplay}
 use Rattle.history_judge.specs.declared.replaying.JudgedReplay.{JudgedReplay}
 use Rattle.history_judge.specs.declared.replaying.JudgedReplay.TheVariants.{Legal, Differs, Replay, NoSeparator, TooLong, Memory, ReadFault, WriteFault}
 use Rattle.history_judge.specs.Input.{HasNoParts, HasParts}
-use Rattle.history_judge.specs.Reading.{ReadsAll}
+use Rattle.history_judge.specs.Reading.{IsReadInPart, ReadsAll}
 use Rattle.history_judge.specs.Writing.{AppendsFront}
 
 -- the bytes are a replay for a heap of these sizes, the line between, and an output
@@ -87,6 +87,18 @@ JudgesReplay z judged left_before left_after before after = ReadsAll (λ bytes. 
 -- or a front part of it
 abbrev pub StopsReplay : Sizes → Option (List ℕ) → Option (List ℕ) → Option (List ℕ) → Option (List ℕ) → Type 0
 StopsReplay z left_before left_after before after = ReadsAll (λ bytes. WritesReplayFront z bytes before after) left_before left_after
+
+-- what was written by the end, where a text is or a front part of one
+pub record Wrote (z : Sizes) (judged : JudgedReplay) (left_before left_after before after : Option (List ℕ)) : Type 0 where
+  pub legal : judged ≡ Legal → JudgesReplay z Legal left_before left_after before after
+  pub differs : (n : ℕ) → judged ≡ Differs n → JudgesReplay z (Differs n) left_before left_after before after
+  pub cut : judged ≡ WriteFault → StopsReplay z left_before left_after before after
+
+-- when each answer comes that says what is wrong with the bytes that were read
+pub record FindsFault (z : Sizes) (judged : JudgedReplay) (before after : Option (List ℕ)) : Type 0 where
+  pub replay : (f : ReplayFault) → judged ≡ Replay f → ReadsAll (λ bytes. WrongReplay z bytes f) before after
+  pub no_separator : judged ≡ NoSeparator → ReadsAll HasNoParts before after
+  pub too_long : judged ≡ TooLong → IsReadInPart before after
 
 -- an answer that is written
 abbrev pub IsReplayTold : JudgedReplay → Type 0

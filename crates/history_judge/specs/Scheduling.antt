@@ -8,17 +8,19 @@ use Rattle.heap_model.specs.declared.state.Sizes.{Sizes}
 use Rattle.heap_model.specs.Output.{output}
 use Rattle.heap_text.specs.Forms.{version_number}
 use Rattle.heap_text.specs.Script.{Scripted}
+use Rattle.heap_text.specs.declared.fault.ScriptFault.{ScriptFault}
 use Rattle.history_replay.specs.Explains.{Explains}
 use Rattle.interleavings.specs.Turns.{is_call, turns_of}
 use Rattle.schedule_laws.specs.declared.items.Item.{Item}
 use Rattle.schedule_laws.specs.Scheduled.{scheduled}
 use Rattle.schedule_text.specs.Spelling.{spelling}
-use Rattle.history_judge.specs.declared.judged.Judged.TheVariants.{Legal}
+use Rattle.history_judge.specs.declared.judged.Judged.TheVariants.{Legal, NoneFound, GaveUp, Script, NoSeparator, TooLong, WriteFault}
 use Rattle.history_judge.specs.declared.scheduling.TurnsJudged.{TurnsJudged}
 use Rattle.history_judge.specs.declared.scheduling.TurnsJudged.TheVariants.{Printed, NoSchedule, Other}
 use Rattle.history_judge.specs.Answer.{ExplainsScript}
-use Rattle.history_judge.specs.Judging.{IsInput, IsOfBytes, IsRefused, IsSilent, IsTold, Refuses, Tells}
-use Rattle.history_judge.specs.Reading.{ReadsAll}
+use Rattle.history_judge.specs.Input.{HasNoParts}
+use Rattle.history_judge.specs.Judging.{IsInput, IsOfBytes, IsRefused, IsSilent, IsTold, IsWrong, Refuses, Tells}
+use Rattle.history_judge.specs.Reading.{IsReadInPart, ReadsAll}
 use Rattle.history_judge.specs.Turns.{turns_in}
 use Rattle.history_judge.specs.Writing.{AppendsFront}
 
@@ -91,6 +93,20 @@ JudgesTurns z judged left_before left_after before after = ReadsAll (λ bytes. W
 -- or a front part of it
 abbrev pub StopsTurns : Sizes → Option (List ℕ) → Option (List ℕ) → Option (List ℕ) → Option (List ℕ) → Type 0
 StopsTurns z left_before left_after before after = ReadsAll (λ bytes. WritesTurnsFront z bytes before after) left_before left_after
+
+-- what was written by the end, where a text is or a front part of one
+pub record Wrote (z : Sizes) (judged : TurnsJudged) (left_before left_after before after : Option (List ℕ)) : Type 0 where
+  pub printed : judged ≡ Printed → JudgesTurns z Printed left_before left_after before after
+  pub no_schedule : judged ≡ NoSchedule → JudgesTurns z NoSchedule left_before left_after before after
+  pub none_found : judged ≡ Other NoneFound → JudgesTurns z (Other NoneFound) left_before left_after before after
+  pub gave_up : judged ≡ Other GaveUp → JudgesTurns z (Other GaveUp) left_before left_after before after
+  pub cut : judged ≡ Other WriteFault → StopsTurns z left_before left_after before after
+
+-- when each answer comes that says what is wrong with the bytes that were read
+pub record FindsFault (domains : ℕ) (judged : TurnsJudged) (before after : Option (List ℕ)) : Type 0 where
+  pub script : (f : ScriptFault) → judged ≡ Other (Script f) → ReadsAll (λ bytes. IsWrong domains bytes f) before after
+  pub no_separator : judged ≡ Other NoSeparator → ReadsAll HasNoParts before after
+  pub too_long : judged ≡ Other TooLong → IsReadInPart before after
 
 -- an answer that is written whole, with a schedule or without one
 abbrev pub IsTurnsTold : TurnsJudged → Type 0

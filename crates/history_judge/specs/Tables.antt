@@ -12,7 +12,7 @@ use Rattle.table_text.specs.declared.line.TableLine.{TableLine}
 use Rattle.history_judge.specs.declared.tables.JudgedTable.{JudgedTable}
 use Rattle.history_judge.specs.declared.tables.JudgedTable.TheVariants.{Legal, NoneFound, Text, NoSeparator, TooLong, Memory, ReadFault, WriteFault}
 use Rattle.history_judge.specs.Input.{HasNoParts, HasParts}
-use Rattle.history_judge.specs.Reading.{ReadsAll}
+use Rattle.history_judge.specs.Reading.{IsReadInPart, ReadsAll}
 use Rattle.history_judge.specs.Show.{line_feed}
 use Rattle.history_judge.specs.Writing.{AppendsFront}
 
@@ -82,6 +82,18 @@ JudgesTable z judged left_before left_after before after = ReadsAll (λ bytes. W
 -- or a front part of it
 abbrev pub StopsTable : Sizes → Option (List ℕ) → Option (List ℕ) → Option (List ℕ) → Option (List ℕ) → Type 0
 StopsTable z left_before left_after before after = ReadsAll (λ bytes. WritesTableFront z bytes before after) left_before left_after
+
+-- what was written by the end, where a text is or a front part of one
+pub record Wrote (z : Sizes) (judged : JudgedTable) (left_before left_after before after : Option (List ℕ)) : Type 0 where
+  pub legal : judged ≡ Legal → JudgesTable z Legal left_before left_after before after
+  pub none_found : (n : ℕ) → judged ≡ NoneFound n → JudgesTable z (NoneFound n) left_before left_after before after
+  pub cut : judged ≡ WriteFault → StopsTable z left_before left_after before after
+
+-- when each answer comes that says what is wrong with the bytes that were read
+pub record FindsFault (judged : JudgedTable) (before after : Option (List ℕ)) : Type 0 where
+  pub table : (f : ScriptFault) → judged ≡ Text f → ReadsAll (λ bytes. WrongTable bytes f) before after
+  pub no_separator : judged ≡ NoSeparator → ReadsAll HasNoParts before after
+  pub too_long : judged ≡ TooLong → IsReadInPart before after
 
 -- an answer that is written
 abbrev pub IsTableTold : JudgedTable → Type 0

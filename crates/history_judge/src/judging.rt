@@ -1,14 +1,11 @@
 //! The judge, from the bytes that are read to the bytes that are written.
-ghost use Rattle.std.specs.Prelude.{◌≡◌, ◌<◌, ◌≤◌, List, ℕ, IfOk, IfErr};
+ghost use Rattle.std.specs.Prelude.{◌≡◌, List, ℕ, IfOk, IfErr};
 ghost use Rattle.heap_model.specs.Domains.{IsWithinLimits};
 ghost use Rattle.heap_model.specs.declared.state.Sizes.{Sizes as declared_sizes};
 ghost use Rattle.heap_text.specs.Script.{Scripted};
-ghost use Rattle.heap_text.specs.declared.fault.ScriptFault.{ScriptFault as declared_fault};
-ghost use Rattle.outer_io.specs.Faults.{Rose};
 ghost use Rattle.history_judge.specs.Answer.{IsTrueAnswer};
-ghost use Rattle.history_judge.specs.Input.{HasNoParts, HasParts};
-ghost use Rattle.history_judge.specs.Judging.{IsInput, IsOfBytes, IsRefused, IsSilent, IsTold, IsWrong, Judges, Refuses, StopsWriting, Tells, WritesAnswer, WritesFront};
-ghost use Rattle.history_judge.specs.Reading.{IsReadInPart, ReadsAll};
+ghost use Rattle.history_judge.specs.Faulting.{FaultDecides};
+ghost use Rattle.history_judge.specs.Judging.{FindsFault, IsInput, IsOfBytes, IsRefused, IsSilent, IsTold, Wrote, Refuses, Tells, WritesAnswer, WritesFront};
 
 use crate::Judged;
 use crate::explain::{Explained, Seek, explain};
@@ -102,9 +99,7 @@ fn judge_bytes<K: Sink, F: Seek>(
     ensures cut { result ≡ Judged.WriteFault → WritesFront sizes.now bytes.now (K.written out.old) (K.written out.new) }
     ensures refused { IsRefused result → Refuses sizes.now.domains bytes.now result }
     ensures quiet { IsSilent result → out.new ≡ out.old }
-    ensures writes { K.faults out.old ≤ K.faults out.new }
-    ensures write_fault { result ≡ Judged.WriteFault → Rose (K.faults out.old) (K.faults out.new) }
-    ensures write_failed { K.faults out.old < K.faults out.new → result ≡ Judged.WriteFault }
+    ensures writes { FaultDecides result Judged.WriteFault (K.faults out.old) (K.faults out.new) }
     ensures reads { IsOfBytes result }
 {
     match answer_to(alloc, sizes, bytes, search) {
@@ -134,24 +129,13 @@ pub fn judge<S: Source, K: Sink, F: Seek>(
 ) -> Judged
     requires { IsWithinLimits sizes.now }
     // What was written: `legal` only where a legal history of the script makes the output, and then that history.
-    ensures legal { result ≡ Judged.Legal → Judges sizes.now Judged.Legal (S.left src.old) (S.left src.new) (K.written out.old) (K.written out.new) }
-    ensures none_found { result ≡ Judged.NoneFound → Judges sizes.now Judged.NoneFound (S.left src.old) (S.left src.new) (K.written out.old) (K.written out.new) }
-    ensures gave_up { result ≡ Judged.GaveUp → Judges sizes.now Judged.GaveUp (S.left src.old) (S.left src.new) (K.written out.old) (K.written out.new) }
-    ensures cut { result ≡ Judged.WriteFault → StopsWriting sizes.now (S.left src.old) (S.left src.new) (K.written out.old) (K.written out.new) }
+    ensures wrote { Wrote sizes.now result (S.left src.old) (S.left src.new) (K.written out.old) (K.written out.new) }
     ensures quiet { IsSilent result → out.new ≡ out.old }
 
-    // When each other answer comes.
-    ensures script { (f : declared_fault) → result ≡ Judged.Script f → ReadsAll (λ bytes. IsWrong sizes.now.domains bytes f) (S.left src.old) (S.left src.new) }
-    ensures no_separator { result ≡ Judged.NoSeparator → ReadsAll HasNoParts (S.left src.old) (S.left src.new) }
-    ensures too_long { result ≡ Judged.TooLong → IsReadInPart (S.left src.old) (S.left src.new) }
-    ensures reads { S.faults src.old ≤ S.faults src.new }
-    ensures writes { K.faults out.old ≤ K.faults out.new }
-    ensures read_fault { result ≡ Judged.ReadFault → Rose (S.faults src.old) (S.faults src.new) }
-    ensures write_fault { result ≡ Judged.WriteFault → Rose (K.faults out.old) (K.faults out.new) }
-
-    // A read or a write that failed decides the answer: none is tried again.
-    ensures read_failed { S.faults src.old < S.faults src.new → result ≡ Judged.ReadFault }
-    ensures write_failed { K.faults out.old < K.faults out.new → result ≡ Judged.WriteFault }
+    // When each other answer comes. A read or a write that failed decides the answer: none is tried again.
+    ensures finds { FindsFault sizes.now.domains result (S.left src.old) (S.left src.new) }
+    ensures reads { FaultDecides result Judged.ReadFault (S.faults src.old) (S.faults src.new) }
+    ensures writes { FaultDecides result Judged.WriteFault (K.faults out.old) (K.faults out.new) }
 {
     match read_bytes(alloc, src) {
         Ok(bytes) => judge_bytes(alloc, sizes, &bytes, out, search),

@@ -1,15 +1,12 @@
 //! The judge of replays, from the bytes that are read to the bytes that are written.
-ghost use Rattle.std.specs.Prelude.{◌≡◌, ◌<◌, ◌≤◌, ℕ, List, length, IfOk, IfErr};
+ghost use Rattle.std.specs.Prelude.{◌≡◌, ℕ, List, length, IfOk, IfErr};
 ghost use Rattle.heap_model.specs.Domains.{IsWithinLimits};
 ghost use Rattle.heap_model.specs.declared.state.Sizes.{Sizes as declared_sizes};
-ghost use Rattle.outer_io.specs.Faults.{Rose};
 ghost use Rattle.schedule_replay.specs.Lines.{differs_from};
-ghost use Rattle.schedule_text.specs.declared.replay.ReplayFault.{ReplayFault as declared_fault};
 ghost use Rattle.schedule_text.specs.Replays.{Replayed};
 ghost use Rattle.scheduled_runs.specs.Runs.{IsPlainScript};
-ghost use Rattle.history_judge.specs.Input.{HasNoParts};
-ghost use Rattle.history_judge.specs.Reading.{IsReadInPart, ReadsAll};
-ghost use Rattle.history_judge.specs.Replays.{IsOfReplay, IsReplayInput, IsReplayRefused, IsReplaySilent, IsReplayTold, JudgesReplay, RefusesReplay, StopsReplay, TellsReplay, WritesReplay, WritesReplayFront, WrongReplay, other_text, same_text, scheduled_output};
+ghost use Rattle.history_judge.specs.Faulting.{FaultDecides};
+ghost use Rattle.history_judge.specs.Replays.{FindsFault, IsOfReplay, IsReplayInput, IsReplayRefused, IsReplaySilent, IsReplayTold, Wrote, RefusesReplay, TellsReplay, WritesReplay, WritesReplayFront, other_text, same_text, scheduled_output};
 
 use crate::input::split_input;
 use crate::reading::{ReadStop, read_bytes};
@@ -152,9 +149,7 @@ fn judge_bytes<K: Sink>(alloc: Global, sizes: &Sizes, bytes: &[u8], out: &mut K)
     ensures cut { result ≡ JudgedReplay.WriteFault → WritesReplayFront sizes.now bytes.now (K.written out.old) (K.written out.new) }
     ensures refused { IsReplayRefused result → RefusesReplay sizes.now bytes.now result }
     ensures quiet { IsReplaySilent result → out.new ≡ out.old }
-    ensures writes { K.faults out.old ≤ K.faults out.new }
-    ensures write_fault { result ≡ JudgedReplay.WriteFault → Rose (K.faults out.old) (K.faults out.new) }
-    ensures write_failed { K.faults out.old < K.faults out.new → result ≡ JudgedReplay.WriteFault }
+    ensures writes { FaultDecides result JudgedReplay.WriteFault (K.faults out.old) (K.faults out.new) }
     ensures reads { IsOfReplay result }
 {
     match verdict_on(alloc, sizes, bytes) {
@@ -180,23 +175,13 @@ pub fn judge_replay<S: Source, K: Sink>(
 ) -> JudgedReplay
     requires { IsWithinLimits sizes.now }
     // What was written: `legal` where the scheduled history prints the output, and else the first line that differs.
-    ensures legal { result ≡ JudgedReplay.Legal → JudgesReplay sizes.now JudgedReplay.Legal (S.left src.old) (S.left src.new) (K.written out.old) (K.written out.new) }
-    ensures differs { (n : ℕ) → result ≡ JudgedReplay.Differs n → JudgesReplay sizes.now (JudgedReplay.Differs n) (S.left src.old) (S.left src.new) (K.written out.old) (K.written out.new) }
-    ensures cut { result ≡ JudgedReplay.WriteFault → StopsReplay sizes.now (S.left src.old) (S.left src.new) (K.written out.old) (K.written out.new) }
+    ensures wrote { Wrote sizes.now result (S.left src.old) (S.left src.new) (K.written out.old) (K.written out.new) }
     ensures quiet { IsReplaySilent result → out.new ≡ out.old }
 
-    // When each other answer comes.
-    ensures replay { (f : declared_fault) → result ≡ JudgedReplay.Replay f → ReadsAll (λ bytes. WrongReplay sizes.now bytes f) (S.left src.old) (S.left src.new) }
-    ensures no_separator { result ≡ JudgedReplay.NoSeparator → ReadsAll HasNoParts (S.left src.old) (S.left src.new) }
-    ensures too_long { result ≡ JudgedReplay.TooLong → IsReadInPart (S.left src.old) (S.left src.new) }
-    ensures reads { S.faults src.old ≤ S.faults src.new }
-    ensures writes { K.faults out.old ≤ K.faults out.new }
-    ensures read_fault { result ≡ JudgedReplay.ReadFault → Rose (S.faults src.old) (S.faults src.new) }
-    ensures write_fault { result ≡ JudgedReplay.WriteFault → Rose (K.faults out.old) (K.faults out.new) }
-
-    // A read or a write that failed decides the answer: none is tried again.
-    ensures read_failed { S.faults src.old < S.faults src.new → result ≡ JudgedReplay.ReadFault }
-    ensures write_failed { K.faults out.old < K.faults out.new → result ≡ JudgedReplay.WriteFault }
+    // When each other answer comes. A read or a write that failed decides the answer: none is tried again.
+    ensures finds { FindsFault sizes.now result (S.left src.old) (S.left src.new) }
+    ensures reads { FaultDecides result JudgedReplay.ReadFault (S.faults src.old) (S.faults src.new) }
+    ensures writes { FaultDecides result JudgedReplay.WriteFault (K.faults out.old) (K.faults out.new) }
 {
     match read_bytes(alloc, src) {
         Ok(bytes) => judge_bytes(alloc, sizes, &bytes, out),

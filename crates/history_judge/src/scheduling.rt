@@ -1,17 +1,14 @@
 //! The judge where a schedule is asked for.
-ghost use Rattle.std.specs.Prelude.{◌≡◌, ◌≢◌, ◌<◌, ◌≤◌, List, ℕ, length, false, IfOk, IfErr, IsTrue, option_map};
+ghost use Rattle.std.specs.Prelude.{◌≡◌, ◌≢◌, List, ℕ, length, false, IfOk, IfErr, IsTrue, option_map};
 ghost use Rattle.heap_model.specs.Domains.{IsWithinLimits};
 ghost use Rattle.heap_model.specs.declared.state.Sizes.{Sizes as declared_sizes};
-ghost use Rattle.heap_text.specs.declared.fault.ScriptFault.{ScriptFault as declared_fault};
 ghost use Rattle.heap_text.specs.Forms.{version_number};
-ghost use Rattle.outer_io.specs.Faults.{Rose};
 ghost use Rattle.scheduled_runs.specs.Runs.{IsPlainScript};
 ghost use Rattle.history_judge.specs.declared.judged.Judged.TheVariants as other;
 ghost use Rattle.history_judge.specs.Answer.{ExplainsScript, IsTrueAnswer};
-ghost use Rattle.history_judge.specs.Input.{HasNoParts};
-ghost use Rattle.history_judge.specs.Judging.{IsInput, IsWrong, Refuses};
-ghost use Rattle.history_judge.specs.Reading.{IsReadInPart, ReadsAll};
-ghost use Rattle.history_judge.specs.Scheduling.{FoundTurns, PrintedTurns, turns_output, IsTurnsOfBytes, IsTurnsRefused, IsTurnsSilent, IsTurnsTold, JudgesTurns, RefusesTurns, StopsTurns, TellsTurns, WritesTurns, WritesTurnsFront};
+ghost use Rattle.history_judge.specs.Faulting.{FaultDecides};
+ghost use Rattle.history_judge.specs.Judging.{IsInput, Refuses};
+ghost use Rattle.history_judge.specs.Scheduling.{FindsFault, FoundTurns, IsTurnsOfBytes, IsTurnsRefused, IsTurnsSilent, IsTurnsTold, Wrote, PrintedTurns, RefusesTurns, TellsTurns, WritesTurns, WritesTurnsFront, turns_output};
 
 use crate::Judged;
 use crate::explain::{Explained, Seek, explain};
@@ -190,9 +187,7 @@ fn judge_bytes<K: Sink, F: Seek>(
     ensures cut { result ≡ TurnsJudged.Other other.WriteFault → WritesTurnsFront sizes.now bytes.now (K.written out.old) (K.written out.new) }
     ensures refused { IsTurnsRefused result → RefusesTurns sizes.now.domains bytes.now result }
     ensures quiet { IsTurnsSilent result → out.new ≡ out.old }
-    ensures writes { K.faults out.old ≤ K.faults out.new }
-    ensures write_fault { result ≡ TurnsJudged.Other other.WriteFault → Rose (K.faults out.old) (K.faults out.new) }
-    ensures write_failed { K.faults out.old < K.faults out.new → result ≡ TurnsJudged.Other other.WriteFault }
+    ensures writes { FaultDecides result (TurnsJudged.Other other.WriteFault) (K.faults out.old) (K.faults out.new) }
     ensures reads { IsTurnsOfBytes result }
 {
     match answer_to(alloc, sizes, bytes, search) {
@@ -219,26 +214,14 @@ pub fn judge_turns<S: Source, K: Sink, F: Seek>(
     search: &mut F,
 ) -> TurnsJudged
     requires { IsWithinLimits sizes.now }
-    // What was written: a schedule only where a legal history makes the output, and then that of its turns, which prints it again.
-    ensures printed { result ≡ TurnsJudged.Printed → JudgesTurns sizes.now TurnsJudged.Printed (S.left src.old) (S.left src.new) (K.written out.old) (K.written out.new) }
-    ensures no_schedule { result ≡ TurnsJudged.NoSchedule → JudgesTurns sizes.now TurnsJudged.NoSchedule (S.left src.old) (S.left src.new) (K.written out.old) (K.written out.new) }
-    ensures none_found { result ≡ TurnsJudged.Other other.NoneFound → JudgesTurns sizes.now (TurnsJudged.Other other.NoneFound) (S.left src.old) (S.left src.new) (K.written out.old) (K.written out.new) }
-    ensures gave_up { result ≡ TurnsJudged.Other other.GaveUp → JudgesTurns sizes.now (TurnsJudged.Other other.GaveUp) (S.left src.old) (S.left src.new) (K.written out.old) (K.written out.new) }
-    ensures cut { result ≡ TurnsJudged.Other other.WriteFault → StopsTurns sizes.now (S.left src.old) (S.left src.new) (K.written out.old) (K.written out.new) }
+    // What was written: a schedule only where a legal history makes the output, of its turns, which print it again.
+    ensures wrote { Wrote sizes.now result (S.left src.old) (S.left src.new) (K.written out.old) (K.written out.new) }
     ensures quiet { IsTurnsSilent result → out.new ≡ out.old }
 
-    // When each other answer comes.
-    ensures script { (f : declared_fault) → result ≡ TurnsJudged.Other (other.Script f) → ReadsAll (λ bytes. IsWrong sizes.now.domains bytes f) (S.left src.old) (S.left src.new) }
-    ensures no_separator { result ≡ TurnsJudged.Other other.NoSeparator → ReadsAll HasNoParts (S.left src.old) (S.left src.new) }
-    ensures too_long { result ≡ TurnsJudged.Other other.TooLong → IsReadInPart (S.left src.old) (S.left src.new) }
-    ensures reads { S.faults src.old ≤ S.faults src.new }
-    ensures writes { K.faults out.old ≤ K.faults out.new }
-    ensures read_fault { result ≡ TurnsJudged.Other other.ReadFault → Rose (S.faults src.old) (S.faults src.new) }
-    ensures write_fault { result ≡ TurnsJudged.Other other.WriteFault → Rose (K.faults out.old) (K.faults out.new) }
-
-    // A read or a write that failed decides the answer: none is tried again.
-    ensures read_failed { S.faults src.old < S.faults src.new → result ≡ TurnsJudged.Other other.ReadFault }
-    ensures write_failed { K.faults out.old < K.faults out.new → result ≡ TurnsJudged.Other other.WriteFault }
+    // When each other answer comes. A read or a write that failed decides the answer: none is tried again.
+    ensures finds { FindsFault sizes.now.domains result (S.left src.old) (S.left src.new) }
+    ensures reads { FaultDecides result (TurnsJudged.Other other.ReadFault) (S.faults src.old) (S.faults src.new) }
+    ensures writes { FaultDecides result (TurnsJudged.Other other.WriteFault) (K.faults out.old) (K.faults out.new) }
 {
     match read_bytes(alloc, src) {
         Ok(bytes) => judge_bytes(alloc, sizes, &bytes, out, search),

@@ -1,14 +1,11 @@
 //! The judge of tables, from the bytes that are read to the bytes that are written.
-ghost use Rattle.std.specs.Prelude.{◌≡◌, ◌<◌, ◌≤◌, ◌++◌, ℕ, List, IfOk, IfErr, OnOk};
+ghost use Rattle.std.specs.Prelude.{◌≡◌, ◌++◌, ℕ, List, IfOk, IfErr, OnOk};
 ghost use Rattle.heap_model.specs.Domains.{IsWithinLimits};
 ghost use Rattle.heap_model.specs.declared.state.Sizes.{Sizes as declared_sizes};
-ghost use Rattle.heap_text.specs.declared.fault.ScriptFault.{ScriptFault as declared_fault};
-ghost use Rattle.outer_io.specs.Faults.{Rose};
 ghost use Rattle.table_judge.specs.Answer.{IsTrueAnswer};
 ghost use Rattle.table_text.specs.declared.line.TableLine.{TableLine as declared_line};
-ghost use Rattle.history_judge.specs.Input.{HasNoParts};
-ghost use Rattle.history_judge.specs.Reading.{IsReadInPart, ReadsAll};
-ghost use Rattle.history_judge.specs.Tables.{IsOfTable, IsTableInput, IsTableRefused, IsTableSilent, IsTableTold, JudgesTable, RefusesTable, StopsTable, TellsTable, WritesTable, WritesTableFront, WrongTable, gone_text, no_run_text, run_text};
+ghost use Rattle.history_judge.specs.Faulting.{FaultDecides};
+ghost use Rattle.history_judge.specs.Tables.{FindsFault, IsOfTable, IsTableInput, IsTableRefused, IsTableSilent, IsTableTold, Wrote, RefusesTable, TellsTable, WritesTable, WritesTableFront, gone_text, no_run_text, run_text};
 
 use crate::input::split_input;
 use crate::reading::{ReadStop, read_bytes};
@@ -140,9 +137,7 @@ fn judge_bytes<K: Sink>(alloc: Global, sizes: &Sizes, bytes: &[u8], out: &mut K)
     ensures cut { result ≡ JudgedTable.WriteFault → WritesTableFront sizes.now bytes.now (K.written out.old) (K.written out.new) }
     ensures refused { IsTableRefused result → RefusesTable bytes.now result }
     ensures quiet { IsTableSilent result → out.new ≡ out.old }
-    ensures writes { K.faults out.old ≤ K.faults out.new }
-    ensures write_fault { result ≡ JudgedTable.WriteFault → Rose (K.faults out.old) (K.faults out.new) }
-    ensures write_failed { K.faults out.old < K.faults out.new → result ≡ JudgedTable.WriteFault }
+    ensures writes { FaultDecides result JudgedTable.WriteFault (K.faults out.old) (K.faults out.new) }
     ensures reads { IsOfTable result }
 {
     match find(alloc, sizes, bytes) {
@@ -171,23 +166,13 @@ pub fn judge_table<S: Source, K: Sink>(
 ) -> JudgedTable
     requires { IsWithinLimits sizes.now }
     // What was written: `legal` only where the machine of the text may answer so, and then which keys go.
-    ensures legal { result ≡ JudgedTable.Legal → JudgesTable sizes.now JudgedTable.Legal (S.left src.old) (S.left src.new) (K.written out.old) (K.written out.new) }
-    ensures none_found { (n : ℕ) → result ≡ JudgedTable.NoneFound n → JudgesTable sizes.now (JudgedTable.NoneFound n) (S.left src.old) (S.left src.new) (K.written out.old) (K.written out.new) }
-    ensures cut { result ≡ JudgedTable.WriteFault → StopsTable sizes.now (S.left src.old) (S.left src.new) (K.written out.old) (K.written out.new) }
+    ensures wrote { Wrote sizes.now result (S.left src.old) (S.left src.new) (K.written out.old) (K.written out.new) }
     ensures quiet { IsTableSilent result → out.new ≡ out.old }
 
-    // When each other answer comes.
-    ensures table { (f : declared_fault) → result ≡ JudgedTable.Text f → ReadsAll (λ bytes. WrongTable bytes f) (S.left src.old) (S.left src.new) }
-    ensures no_separator { result ≡ JudgedTable.NoSeparator → ReadsAll HasNoParts (S.left src.old) (S.left src.new) }
-    ensures too_long { result ≡ JudgedTable.TooLong → IsReadInPart (S.left src.old) (S.left src.new) }
-    ensures reads { S.faults src.old ≤ S.faults src.new }
-    ensures writes { K.faults out.old ≤ K.faults out.new }
-    ensures read_fault { result ≡ JudgedTable.ReadFault → Rose (S.faults src.old) (S.faults src.new) }
-    ensures write_fault { result ≡ JudgedTable.WriteFault → Rose (K.faults out.old) (K.faults out.new) }
-
-    // A read or a write that failed decides the answer: none is tried again.
-    ensures read_failed { S.faults src.old < S.faults src.new → result ≡ JudgedTable.ReadFault }
-    ensures write_failed { K.faults out.old < K.faults out.new → result ≡ JudgedTable.WriteFault }
+    // When each other answer comes. A read or a write that failed decides the answer: none is tried again.
+    ensures finds { FindsFault result (S.left src.old) (S.left src.new) }
+    ensures reads { FaultDecides result JudgedTable.ReadFault (S.faults src.old) (S.faults src.new) }
+    ensures writes { FaultDecides result JudgedTable.WriteFault (K.faults out.old) (K.faults out.new) }
 {
     match read_bytes(alloc, src) {
         Ok(bytes) => judge_bytes(alloc, sizes, &bytes, out),

@@ -1,11 +1,13 @@
 -- What it is that a history explains an output.
-use Rattle.std.specs.Prelude.{◌≡◌, ℕ, ◌<◌, List, [], ◌++◌, flat_map, slice_index_or, IsTrue}
+use Rattle.std.specs.Prelude.{◌≡◌, ℕ, ◌<◌, Bool, List, [], ◌++◌, flat_map, slice_index_or, IsTrue}
 use Rattle.std.specs.List.{list_any, range_with_len}
 use Rattle.heap_model.specs.declared.command.Command.{Command}
 use Rattle.heap_model.specs.declared.entry.Entry.{Entry}
+use Rattle.heap_model.specs.declared.reply.Reply.{Reply}
 use Rattle.heap_model.specs.declared.state.Sizes.{Sizes}
 use Rattle.heap_model.specs.History.{Legal, commands}
-use Rattle.heap_model.specs.Output.{output, section_text}
+use Rattle.heap_model.specs.Output.{line, output, printed, section_text}
+use Rattle.heap_text.specs.Spelling.{heading_text}
 use Rattle.history_replay.specs.Steps.{is_end_of}
 
 -- a legal history in which each domain's commands are those of its section, each once and in order, and each domain ends
@@ -18,6 +20,14 @@ pub record IsRunOf (z : Sizes) (sections : List (List Command)) (history : List 
 pub record Explains (z : Sizes) (sections : List (List Command)) (bytes : List ℕ) (history : List Entry) : Type 0 where
   pub run : IsRunOf z sections history
   pub prints : output z history ≡ bytes
+
+-- an answer is yes where a history explains an output
+abbrev pub IsYesTo : Sizes → List (List Command) → List ℕ → List Entry → Bool → Type 0
+IsYesTo z sections bytes history says = Explains z sections bytes history → IsTrue says
+
+-- the lines of a domain's section, behind its heading
+abbrev pub section_lines : ℕ → List Reply → List ℕ
+section_lines d rs = line (heading_text d) ++ printed rs
 
 -- the same of the first n domains, whose sections of lines stand before the rest of the bytes
 pub record ExplainsFront (z : Sizes) (sections : List (List Command)) (bytes : List ℕ) (history : List Entry) (n : ℕ) (rest : List ℕ) : Type 0 where

@@ -2,6 +2,7 @@
 ghost use Rattle.std.specs.Prelude.{◌≡◌, ◌≢◌, ◌++◌, List, ℕ, IfSome, IfNone};
 ghost use Rattle.heap_model.specs.Output.{line, printed, reply_text};
 ghost use Rattle.heap_text.specs.Spelling.{heading_text};
+ghost use Rattle.history_replay.specs.Explains.{section_lines};
 
 use heap_model::reply::Reply;
 use heap_text::{Line, print_heading, print_reply};
@@ -48,8 +49,8 @@ fn behind_replies<'a>(bytes: &'a [u8], replies: &[Reply]) -> Option<&'a [u8]>
 
 /// What stands behind the section of a domain.
 pub fn behind_section<'a>(bytes: &'a [u8], domain: u32, replies: &[Reply]) -> Option<&'a [u8]>
-    ensures some { IfSome result (λ rest. bytes.now ≡ (line (heading_text domain) ++ printed replies.now) ++ rest.now) }
-    ensures none { IfNone result ((more : List ℕ) → bytes.now ≢ (line (heading_text domain) ++ printed replies.now) ++ more) }
+    ensures some { IfSome result (λ rest. bytes.now ≡ section_lines domain replies.now ++ rest.now) }
+    ensures none { IfNone result ((more : List ℕ) → bytes.now ≢ section_lines domain replies.now ++ more) }
 {
     let rest = behind_heading(bytes, domain)?;
     behind_replies(rest, replies)

@@ -1,7 +1,7 @@
 //! All domains of a history, and all lines of an output.
 ghost use Rattle.std.specs.Prelude.{◌≡◌, ◌<◌, ◌^◌, IfOk, IsTrue, length};
 ghost use Rattle.heap_model.specs.Domains.{IsWithinLimits};
-ghost use Rattle.history_replay.specs.Explains.{Explains};
+ghost use Rattle.history_replay.specs.Explains.{Explains, IsYesTo};
 
 use crate::domain::read_domain;
 use crate::lines::behind_section;
@@ -25,7 +25,7 @@ pub fn gives(
     // What it says yes to is so.
     ensures sound { IfOk result (λ yes. IsTrue yes → Explains sizes.now script.now.sections bytes.now history.now) }
     // It says yes to what is so, of a history with fewer than 2^32 entries.
-    ensures exact { length history.now < 2 ^ 32 → IfOk result (λ yes. Explains sizes.now script.now.sections bytes.now history.now → IsTrue yes) }
+    ensures exact { length history.now < 2 ^ 32 → IfOk result (IsYesTo sizes.now script.now.sections bytes.now history.now) }
 {
     let Some(told) = play(alloc, sizes, history)? else {
         return Ok(false);

@@ -42,3 +42,7 @@ pub record Answered (h : SharedHeap) (start : DomainView) (c : model.Command) (r
 abbrev pub AwaitAnswers : SharedHeap → DomainView → model.Command → RunView → Option Reply → Type 0
 AwaitAnswers h start c r None = Awaits h start c r
 AwaitAnswers h start c r (Some reply) = Answered h start c reply r
+
+-- whichever command the run had to make, it has made it, with this reply, or has it to make still where there is none
+abbrev pub AnswersAwaited : SharedHeap → RunView → RunView → Option Reply → Type 0
+AnswersAwaited h old new reply = (start : DomainView) (c : model.Command) → Awaits h start c old → AwaitAnswers h start c new reply

@@ -1,8 +1,6 @@
 //! The turn of a run that has a command to make.
-ghost use Rattle.heap_model.specs.declared.command.Command as model;
-ghost use Rattle.heap_rule.specs.declared.view.DomainView.{DomainView};
 ghost use Rattle.heap_rule.specs.Token.{IsIn};
-ghost use Rattle.open_runs.specs.Driving.{AwaitAnswers, Awaits};
+ghost use Rattle.open_runs.specs.Driving.{AnswersAwaited};
 
 use crate::turning::{Came, turn_below};
 use domain_turns::DomainRun;
@@ -14,7 +12,7 @@ use heap_rule::Heap;
 pub fn await_turn(heap: &Heap, run: &mut DomainRun) -> (Came, Option<Reply>)
     requires here { IsIn run.old.token heap.now }
     ensures here { IsIn run.new.token heap.now }
-    ensures answers { (start : DomainView) (c : model.Command) → Awaits heap.now start c run.old → AwaitAnswers heap.now start c run.new result.1 }
+    ensures answers { AnswersAwaited heap.now run.old run.new result.1 }
 {
     let came = turn_below(heap, run);
     (came, run.answer())

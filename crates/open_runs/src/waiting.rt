@@ -1,9 +1,7 @@
 //! The loop by which a command is made that isn't made at once.
 ghost use Rattle.std.specs.Prelude.{◌≡◌};
-ghost use Rattle.heap_model.specs.declared.command.Command as model;
-ghost use Rattle.heap_rule.specs.declared.view.DomainView.{DomainView};
 ghost use Rattle.heap_rule.specs.Token.{IsIn};
-ghost use Rattle.open_runs.specs.Driving.{Answered, Awaits};
+ghost use Rattle.open_runs.specs.Driving.{AnswersAwaited};
 
 use crate::awaiting::await_turn;
 use crate::meanwhile::Meanwhile;
@@ -26,7 +24,7 @@ pub fn await_reply<R: Wait, K, M: Meanwhile<K>>(
     requires fits { M.fits heap.now meanwhile.old kept.old }
     ensures here { IsIn run.new.token heap.now }
     ensures same { kept.new ≡ kept.old }
-    ensures answered { (start : DomainView) (c : model.Command) → Awaits heap.now start c run.old → Answered heap.now start c result run.new }
+    ensures answered { AnswersAwaited heap.now run.old run.new (Some result) }
 {
     'turns: for _ in rt.forever() {
         meanwhile.before_turn();

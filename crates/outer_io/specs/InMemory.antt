@@ -1,5 +1,5 @@
 -- What contracts see of the sources and sinks in memory.
-use Rattle.std.specs.Prelude.{ℕ, ◌<◌, ◌≤◌, List, length}
+use Rattle.std.specs.Prelude.{ℕ, ◌<◌, ◌≤◌, List, [], length}
 
 -- the bytes left, the most that a read gives, the numbers of the reads that fail, the reads so far and the faults
 pub record SourceState : Type 0 where
@@ -22,6 +22,10 @@ pub record SinkState : Type 0 where
   pub fails : List ℕ
   pub calls : ℕ
   pub faults : ℕ
+
+-- a sink to which nothing was written
+abbrev pub empty_sink : ℕ → ℕ → List ℕ → SinkState
+empty_sink room piece fails = record { written = []; room = room; piece = piece; fails = fails; calls = 0; faults = 0 }
 
 -- a piece of that length isn't empty, and no room is left
 abbrev pub IsFull : SinkState → ℕ → Type 0

@@ -1,10 +1,10 @@
 //! A sink in memory that fails at numbered writes, and where its room ends.
-ghost use Rattle.std.specs.Prelude.{◌≡◌, ◌<◌, ◌≤◌, ◌-◌, ◌↔◌, ◌⊎◌, [], length, min, Some, IfOk, Contains};
+ghost use Rattle.std.specs.Prelude.{◌≡◌, ◌<◌, ◌≤◌, ◌-◌, ◌↔◌, ◌⊎◌, length, min, Some, IfOk, Contains};
 ghost use Rattle.std.specs.Result.{IsErr};
 ghost use Rattle.std.specs.Io.{WritesAtMost};
 ghost use Rattle.std.specs.Io.KnownBytes.{WriteAppends};
 ghost use Rattle.outer_io.specs.Faults.{HasCause, next_number, RisesAtErr};
-ghost use Rattle.outer_io.specs.InMemory.{IsFull};
+ghost use Rattle.outer_io.specs.InMemory.{IsFull, empty_sink};
 
 use crate::pieces::{append, is_among};
 use crate::{Failed, Sink};
@@ -43,7 +43,7 @@ impl MemSink {
         fails: Vec<u32>,
     ) -> Result<Self, AllocError>
         requires { 1 ≤ piece }
-        ensures { IfOk result (λ s. s ≡ record { written = []; room = room; piece = piece; fails = fails.items; calls = 0; faults = 0 }) }
+        ensures { IfOk result (λ s. s ≡ empty_sink room piece fails.items) }
     {
         Ok(MemSink {
             bytes: Vec::with_capacity(alloc, room)?,

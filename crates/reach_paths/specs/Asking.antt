@@ -1,9 +1,13 @@
 -- What leads to a block.
-use Rattle.std.specs.Prelude.{◌≡◌, ℕ, ◌<◌, Option, Some}
+use Rattle.std.specs.Prelude.{◌≡◌, ℕ, ◌<◌, List, Option, Some}
+use Rattle.heap_model.specs.declared.entry.Entry.{Entry}
 use Rattle.heap_model.specs.declared.label.Label.{Label}
+use Rattle.heap_model.specs.declared.state.Sizes.{Sizes}
 use Rattle.heap_model.specs.Graph.{Graph}
 use Rattle.reach_paths.specs.declared.asking.Reason as answer
 use Rattle.reach_paths.specs.declared.asking.Reason.TheVariants.{Way, Nothing, NoField}
+use Rattle.reach_paths.specs.Exploring.{graph_of, roots_of}
+use Rattle.reach_paths.specs.Walks.{Walked}
 use Rattle.reach_paths.specs.Ways.{IsLedTo, IsNoEphemeron, leads, refers}
 
 -- no way leads to the block
@@ -15,3 +19,7 @@ abbrev pub IsWhy : Graph → (ℕ → Option Label) → Label → answer.Reason 
 IsWhy g roots l (Way way) = (way.register < 14) × (leads (refers g) roots way ≡ Some l)
 IsWhy g roots l Nothing = IsUnled g roots l × ((m : Label) → IsLedTo (refers g) roots m → IsNoEphemeron g m)
 IsWhy g roots l NoField = IsUnled g roots l
+
+-- the answer is so of what a history left, where nobody else has made an entry since then
+abbrev pub IsWhyAlone : Sizes → ℕ → List Entry → List Entry → Label → answer.Reason → Type 0
+IsWhyAlone z d old new l reason = Walked d old new → IsWhy (graph_of z old) (roots_of z d old) l reason

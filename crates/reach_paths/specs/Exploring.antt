@@ -1,5 +1,5 @@
 -- How far a search has come.
-use Rattle.std.specs.Prelude.{◌≡◌, ◌≢◌, ℕ, ◌+◌, ◌<◌, ◌⊎◌, ◌||◌, Bool, false, IsTrue, List, [], ◌∷◌, ◌++◌, slice_get, Option, Some}
+use Rattle.std.specs.Prelude.{◌≡◌, ◌≢◌, ℕ, ◌+◌, ◌<◌, ◌⊎◌, ◌||◌, Bool, false, IsTrue, List, [], ◌∷◌, ◌++◌, length, slice_get, Option, Some}
 use Rattle.std.specs.List.{list_any}
 use Rattle.heap_model.specs.declared.label.Label.{Label}
 use Rattle.heap_model.specs.declared.entry.Entry.{Entry}
@@ -9,12 +9,13 @@ use Rattle.heap_model.specs.declared.reply.Reply.TheVariants.{Block as BlockRepl
 use Rattle.heap_model.specs.declared.state.Sizes.{Sizes}
 use Rattle.heap_model.specs.Domains.{label_in, register}
 use Rattle.heap_model.specs.Graph.{Graph, same_label}
+use Rattle.reach_paths.specs.declared.exploring.Blocks.{Blocks}
 use Rattle.reach_paths.specs.declared.seen.Seen.{Seen}
 use Rattle.reach_paths.specs.declared.seen.Way.{Way}
 use Rattle.reach_paths.specs.declared.seen.Origin.{Origin}
 use Rattle.reach_paths.specs.declared.seen.Origin.TheVariants.{Register, Field}
 use Rattle.reach_paths.specs.Ways.{Edges, IsNoEphemeron, leads, refers, refers_but}
-use Rattle.reach_paths.specs.Walks.{Still, state_of}
+use Rattle.reach_paths.specs.Walks.{Still, Walked, state_of}
 
 -- whether a search has come to a block
 abbrev pub has_seen : List Seen → Label → Bool
@@ -82,6 +83,10 @@ pub record Explored (g : Graph) (roots : ℕ → Option Label) (stop : Option La
   pub rooted : (r : ℕ) (m : Label) → r < 14 → roots r ≡ Some m → Has seen m
   pub closed : (j : ℕ) (b : Seen) → j < at → slice_get seen j ≡ Some b → (i : ℕ) (m : Label) → refers_but g stop b.label i ≡ Some m → Has seen m
   pub plain : weak ≡ false → (j : ℕ) (b : Seen) → j < at → slice_get seen j ≡ Some b → stop ≢ Some b.label → IsNoEphemeron g b.label
+
+-- where nobody else has made an entry the search has changed nothing but its two registers, and has been at each block that it found
+abbrev pub FindsAlone : Sizes → ℕ → List Entry → List Entry → Option Label → Blocks → Type 0
+FindsAlone z d old new stop x = Walked d old new → Still z d old new × Explored (graph_of z old) (roots_of z d old) stop x.seen.items (length x.seen.items) x.weak
 
 -- the search has been at the block at a place
 pub record Looked (z : Sizes) (d : ℕ) (old new : List Entry) (stop : Option Label) (at : ℕ) (seen more : List Seen) (weak : Bool) : Type 0 where

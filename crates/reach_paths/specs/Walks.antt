@@ -57,6 +57,10 @@ pub record Still (z : Sizes) (d : ℕ) (old new : List Entry) : Type 0 where
   pub graph : (state_of z new).graph ≡ (state_of z old).graph
   pub registers : (r : ℕ) → r < 14 → register (state_of z new) d r ≡ register (state_of z old) d r
 
+-- both are, where nobody else has made an entry
+abbrev pub StaysAlone : Sizes → ℕ → List Entry → List Entry → Type 0
+StaysAlone z d old new = Walked d old new → Still z d old new
+
 -- what the reply to a load of a field of a block says of the graph
 pub record Says (g : Graph) (l : Label) (i : ℕ) (r : Reply) : Type 0 where
   pub block : (m : Label) → r ≡ Block m → refers g l i ≡ Some m

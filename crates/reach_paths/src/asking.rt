@@ -2,9 +2,8 @@
 ghost use Rattle.std.specs.Prelude.{◌≡◌, IfOk, position};
 ghost use Rattle.heap_model.specs.Graph.{same_label};
 ghost use Rattle.reach_paths.specs.declared.seen.Seen as blocks;
-ghost use Rattle.reach_paths.specs.Asking.{IsWhy};
-ghost use Rattle.reach_paths.specs.Exploring.{graph_of, roots_of};
-ghost use Rattle.reach_paths.specs.Walks.{Still, Walked, Walks};
+ghost use Rattle.reach_paths.specs.Asking.{IsWhyAlone};
+ghost use Rattle.reach_paths.specs.Walks.{StaysAlone, Walks};
 
 use crate::exploring::{Stop, explore};
 use crate::seen::{Seen, Way, way_to};
@@ -37,8 +36,8 @@ pub fn why<M: Walker>(alloc: Global, m: &mut M, target: Label, most: u32) -> Res
     ensures sizes { M.sizes m.new ≡ M.sizes m.old }
     ensures number { M.number m.new ≡ M.number m.old }
     ensures walks { Walks (M.number m.old) (M.front m.old) (M.front m.new) }
-    ensures still { IfOk result (λ _. Walked (M.number m.old) (M.front m.old) (M.front m.new) → Still (M.sizes m.old) (M.number m.old) (M.front m.old) (M.front m.new)) }
-    ensures why { IfOk result (λ w. Walked (M.number m.old) (M.front m.old) (M.front m.new) → IsWhy (graph_of (M.sizes m.old) (M.front m.old)) (roots_of (M.sizes m.old) (M.number m.old) (M.front m.old)) target w) }
+    ensures still { IfOk result (λ _. StaysAlone (M.sizes m.old) (M.number m.old) (M.front m.old) (M.front m.new)) }
+    ensures why { IfOk result (IsWhyAlone (M.sizes m.old) (M.number m.old) (M.front m.old) (M.front m.new) target) }
 {
     let found = explore(alloc, m, None, most)?;
     match place_of(&found.seen, target) {

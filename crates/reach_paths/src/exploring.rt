@@ -3,7 +3,7 @@ ghost use Rattle.std.specs.Prelude.{◌≡◌, ◌≢◌, ◌<◌, ◌≤◌, �
 ghost use Rattle.heap_model.specs.declared.graph.Value.TheVariants.{Block as BlockValue};
 ghost use Rattle.heap_model.specs.Domains.{register as held};
 ghost use Rattle.heap_model.specs.declared.label.Label as labels;
-ghost use Rattle.reach_paths.specs.Exploring.{Explored, Extends, IsOnce, IsOrdered, Looked, Notes, Visited, Went, graph_of, roots_of};
+ghost use Rattle.reach_paths.specs.Exploring.{Explored, FindsAlone, Extends, IsOnce, IsOrdered, Looked, Notes, Visited, Went, graph_of, roots_of};
 ghost use Rattle.reach_paths.specs.Walks.{Copied, Loaded, Still, Walked, Walks, is_hand, state_of};
 
 use crate::seen::{Origin, Seen, Way, add, way_to};
@@ -195,8 +195,7 @@ pub fn explore<M: Walker>(
     ensures walks { Walks (M.number m.old) (M.front m.old) (M.front m.new) }
     ensures ordered { IfOk result (λ x. IsOrdered x.seen.items) }
     ensures once { IfOk result (λ x. IsOnce x.seen.items) }
-    ensures explored { IfOk result (λ x. Walked (M.number m.old) (M.front m.old) (M.front m.new) → Still (M.sizes m.old) (M.number m.old) (M.front m.old) (M.front m.new)
-        × Explored (graph_of (M.sizes m.old) (M.front m.old)) (roots_of (M.sizes m.old) (M.number m.old) (M.front m.old)) stop x.seen.items (length x.seen.items) x.weak) }
+    ensures explored { IfOk result (FindsAlone (M.sizes m.old) (M.number m.old) (M.front m.old) (M.front m.new) stop) }
 {
     let mut seen = Vec::new(alloc);
     let mut weak = false;

@@ -1,5 +1,5 @@
 -- What a clause says of a keeper.
-use Rattle.std.specs.Prelude.{◌≡◌, ℕ, Bool, true, Option, Some, List}
+use Rattle.std.specs.Prelude.{◌≡◌, ℕ, Bool, true, false, Option, Some, List}
 use Rattle.atomic_table.specs.Seated.{TableId}
 use Rattle.rest_pool.specs.declared.rule.Knows.{Knows}
 use Rattle.rest_pool.specs.declared.rule.Rested.{Rested}
@@ -11,6 +11,14 @@ pub record KeeperView (T : Type 0) : Type 0 where
   pub makes : Bool
   pub next : ℕ
   pub rests : Option T
+
+-- the first keeper of a pool, whose thing rests in it
+abbrev pub first_keeper : {T : Type 0} → TableId → T → KeeperView T
+first_keeper pool item = record { pool = pool; number = 0; makes = true; next = 1; rests = Some item }
+
+-- one of those that it makes, which knows of the first one's thing
+abbrev pub next_keeper : {T : Type 0} → TableId → ℕ → Option T → KeeperView T
+next_keeper pool number rests = record { pool = pool; number = number; makes = false; next = 0; rests = rests }
 
 -- its thing shares this
 abbrev pub KeepsOf : {S T : Type 0} → (S → T → Type 0) → S → Option T → Type 0

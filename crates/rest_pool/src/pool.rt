@@ -1,6 +1,6 @@
 //! The pool, and what a keeper does with it.
-ghost use Rattle.std.specs.Prelude.{◌≡◌, ◌<◌, ◌+◌, true, false, IfOk, Some};
-ghost use Rattle.rest_pool.specs.Keeping.{KeepsOf, KeeperView};
+ghost use Rattle.std.specs.Prelude.{◌≡◌, ◌<◌, ◌+◌, true, IfOk, Some};
+ghost use Rattle.rest_pool.specs.Keeping.{KeepsOf, first_keeper, next_keeper};
 
 use crate::restful::Restful;
 use crate::rule::{Knows, Rested};
@@ -53,7 +53,7 @@ impl<S, T: Restful<S> + Drop> Pool<S, T> {
         item: T,
     ) -> Result<(Pool<S, T>, Keeper<T>), AllocError>
         requires { 0 < count }
-        ensures { IfOk result (λ r. r.1 ≡ record { pool = r.0; number = 0; makes = true; next = 1; rests = Some item }) }
+        ensures { IfOk result (λ r. r.1 ≡ first_keeper r.0 item) }
     {
         let (queue, mut pass) = Queue::<S, T>::ruled(alloc, count)?;
         let first = Rested {
@@ -77,7 +77,7 @@ impl<S, T: Restful<S> + Drop> Pool<S, T> {
         requires next { keeper.old.next ≡ number }
         requires keeps { (y : _) × (keeper.old.rests ≡ Some y) }
         ensures made { keeper.new ≡ record keeper.old { next = number + 1 } }
-        ensures new { result ≡ record { pool = self.now; number = number; makes = false; next = 0; rests = keeper.old.rests } }
+        ensures new { result ≡ next_keeper self.now number keeper.old.rests }
     {
         let pass = another(&self.queue, &mut keeper.pass);
         Keeper {

@@ -11,7 +11,7 @@ use Rattle.heap_model.specs.History.{Legal, replies, state_after}
 use Rattle.schedule_laws.specs.declared.items.Item.{Item}
 use Rattle.schedule_laws.specs.declared.items.Item.TheVariants.{Collect, Turn}
 use Rattle.schedule_laws.specs.Sameness.{IsSameBut}
-use Rattle.schedule_laws.specs.Scheduled.{Played, take_turn, with_entries, with_next}
+use Rattle.schedule_laws.specs.Scheduled.{Played, scheduled, take_turn, with_entries, with_next}
 use Rattle.schedule_drive.specs.Together.{AllHave, AllRuns, Has, Unqueued}
 use Rattle.schedule_drive.specs.Ending.{rank_at, turns_at}
 use Rattle.schedule_drive.specs.Pausing.{AsksAlone, all_commands, askeds, lefts}
@@ -86,3 +86,14 @@ pub record Advances (shares_old shares_new : List Entry → Type 0) (old new : A
   pub others : (e : ℕ) → e ≢ d → turns_at new e ≡ turns_at old e
   pub stays : (p : Played) → AllMidst old shares_old p d → made ≡ false → AllMidst new shares_new p d
   pub turns : (p : Played) → AllMidst old shares_old p d → made ≡ true → AllFollow new shares_new (take_turn p d)
+
+-- all traces have ended, of a heap of the same numbers, with the same commands: each domain runs, and none waits for an answer
+pub record AreOver (old new : AllRuns) : Type 0 where
+  pub sizes : new.sizes ≡ old.sizes
+  pub commands : all_commands new ≡ all_commands old
+  pub calm : IsCalm new
+  pub ended : AllHave (λ x. x.ended) true new
+
+-- in each history that the runs may share now each domain has the replies that it has in the scheduled one
+abbrev pub HaveScheduledReplies : AllRuns → (List Entry → Type 0) → List Item → Type 0
+HaveScheduledReplies old shares items = (h : List Entry) → shares h → (d : ℕ) → replies old.sizes h d ≡ replies old.sizes (scheduled old.sizes (lefts old) items) d

@@ -2,11 +2,10 @@
 ghost use Rattle.std.specs.Prelude.{◌<◌, ◌≡◌, ◌≤◌, ◌+◌, ◌*◌, ℕ, List, [], false, fold, length, max, true};
 ghost use Rattle.std.specs.List.{list_all, range_with_len};
 ghost use Rattle.heap_model.specs.declared.entry.Entry.{Entry};
-ghost use Rattle.heap_model.specs.History.{replies};
-ghost use Rattle.schedule_laws.specs.Scheduled.{Played, rounds_of, scheduled, take_item, take_round, take_rounds};
+ghost use Rattle.schedule_laws.specs.Scheduled.{Played, rounds_of, take_item, take_round, take_rounds};
 ghost use Rattle.schedule_laws.specs.declared.items.Item.TheVariants.{Collect as CollectItem};
 ghost use Rattle.schedule_drive.specs.Ending.{AllWithin, NoneMore};
-ghost use Rattle.schedule_drive.specs.Following.{AllFollow, IsCalm, IsPlayed, is_for};
+ghost use Rattle.schedule_drive.specs.Following.{AllFollow, AreOver, HaveScheduledReplies, IsCalm, IsPlayed, is_for};
 ghost use Rattle.schedule_drive.specs.Pausing.{all_commands, lefts};
 ghost use Rattle.schedule_drive.specs.Spending.{most_in_pause, most_in_replay, most_in_round, most_in_turn};
 ghost use Rattle.schedule_drive.specs.Together.{AllHave, Has};
@@ -151,11 +150,8 @@ pub fn replay<T: TogetherRuns>(runs: &mut T, items: &[Item])
     requires fresh { (h : List Entry) → T.shares runs.old h → h ≡ [] }
     requires inside { list_all (is_for (length (T.seen runs.old).runs)) items.now ≡ true }
     requires room { most_in_replay (T.seen runs.old) items.now < T.spare runs.old }
-    ensures sizes { (T.seen runs.new).sizes ≡ (T.seen runs.old).sizes }
-    ensures commands { all_commands (T.seen runs.new) ≡ all_commands (T.seen runs.old) }
-    ensures calm { IsCalm (T.seen runs.new) }
-    ensures ended { AllHave (λ x. x.ended) true (T.seen runs.new) }
-    ensures replies { (h : List Entry) → T.shares runs.new h → (d : ℕ) → replies (T.seen runs.old).sizes h d ≡ replies (T.seen runs.old).sizes (scheduled (T.seen runs.old).sizes (lefts (T.seen runs.old)) items.now) d }
+    ensures over { AreOver (T.seen runs.old) (T.seen runs.new) }
+    ensures replies { HaveScheduledReplies (T.seen runs.old) (T.shares runs.new) items.now }
 {
     let rounds = rounds_of(runs);
     take_items(runs, items);

@@ -1,5 +1,5 @@
 -- The grammar of schedules, by what a schedule prints as. It has one spelling, and other bytes may stand behind it.
-use Rattle.std.specs.Prelude.{◌≡◌, ℕ, ◌≤◌, true, List, ◌∷◌, ◌++◌, map, length, flat_map, codes, decimal, Result, Err}
+use Rattle.std.specs.Prelude.{◌≡◌, ℕ, ◌≤◌, true, List, ◌∷◌, ◌++◌, map, length, flat_map, codes, decimal, Result, Ok, Err}
 use Rattle.std.specs.List.{list_all}
 use Rattle.heap_model.specs.Output.{line}
 use Rattle.schedule_laws.specs.declared.items.Item.{Item}
@@ -37,3 +37,7 @@ pub record Spells (domains : ℕ) (items : List Item) (place : ℕ) (bytes : Lis
 abbrev pub IsUnlessMemory : {A : Type 0} → Result A ScheduleFault → Result A ScheduleFault → Type 0
 IsUnlessMemory (Err Memory) answer = Unit {0}
 IsUnlessMemory given answer = given ≡ answer
+
+-- what is spelled so is read, unless memory runs out
+abbrev pub ReadsSpelled : ℕ → List ℕ → Result (List Item × ℕ) ScheduleFault → Type 0
+ReadsSpelled domains bytes result = (items : List Item) (place : ℕ) → Spells domains items place bytes → IsUnlessMemory result (Ok (items, place))

@@ -1,9 +1,8 @@
 //! Reading a schedule.
-ghost use Rattle.std.specs.Prelude.{◌≡◌, ◌≤◌, ◌<◌, ◌++◌, ◌==◌, ℕ, List, nat_lt, is_some, codes, bytes_eq, length, Some, None, Ok, Err, IfOk, IfErr, if◌then◌else◌};
+ghost use Rattle.std.specs.Prelude.{◌≡◌, ◌≤◌, ◌<◌, ◌++◌, ◌==◌, ℕ, nat_lt, is_some, codes, bytes_eq, length, Some, None, Err, IfOk, IfErr, if◌then◌else◌};
 ghost use Rattle.std.specs.List.{slice_split};
 ghost use Rattle.heap_model.specs.Output.{line};
-ghost use Rattle.schedule_laws.specs.declared.items.Item as declared_item;
-ghost use Rattle.schedule_text.specs.Spelling.{Spells, IsUnlessMemory};
+ghost use Rattle.schedule_text.specs.Spelling.{ReadsSpelled, Spells, IsUnlessMemory};
 ghost use Rattle.schedule_text.specs.Faults.{item_of as item_said, wrong_from, first_wrong, IsFaultUnlessMemory};
 
 use crate::fault::ScheduleFault;
@@ -124,7 +123,7 @@ pub fn read_schedule(
     // What is read is spelled so, up to the place.
     ensures found { IfOk result (λ r. Spells domains r.0 r.1 bytes.now) }
     // What is spelled so is read, unless memory runs out.
-    ensures only { (items : List declared_item.Item) (place : ℕ) → Spells domains items place bytes.now → IsUnlessMemory result (Ok (items, place)) }
+    ensures only { ReadsSpelled domains bytes.now result }
     // A fault is the first line that is wrong, unless memory ran out.
     ensures fault { IfErr result (λ e. IsFaultUnlessMemory e (first_wrong domains bytes.now)) }
     // The first line that is wrong is answered, unless memory runs out.

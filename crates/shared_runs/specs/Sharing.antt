@@ -1,10 +1,14 @@
 -- Domains with a share of their heap, as their owners see them.
 use Rattle.std.specs.Prelude.{◌≡◌, ◌≢◌, ℕ, ◌-◌, ◌<◌, List, length, map, Some}
 use Rattle.heap_model.specs.declared.command.Command.{Command}
+use Rattle.heap_model.specs.declared.reply.Reply.{Reply}
+use Rattle.heap_rule.specs.declared.config.Config.{Config}
 use Rattle.heap_rule.specs.Token.{SharedHeap}
+use Rattle.domain_turns.specs.declared.supply.Supply.TheVariants as supply
 use Rattle.domain_turns.specs.declared.supply.Supply.TheVariants.{Open}
-use Rattle.domain_turns.specs.Runs.{RunView}
+use Rattle.domain_turns.specs.Runs.{RunView, shown_in, submitted}
 use Rattle.open_runs.specs.Driving.{registered}
+use Rattle.open_runs.specs.Opening.{opened_runs}
 use Rattle.open_runs.specs.Refusing.{IsRefused}
 use Rattle.shared_runs.specs.declared.shared.Refused.{Refused}
 use Rattle.shared_runs.specs.declared.shared.Refused.TheVariants.{Closed, Busy, Unfit}
@@ -17,6 +21,24 @@ pub record SharedView : Type 0 where
 -- those of a heap, with these runs
 abbrev pub shared_by : SharedHeap → List RunView → List SharedView
 shared_by h rs = map (λ (r : RunView). record { heap = h; run = r }) rs
+
+-- they share one heap of this size, each before its first command
+pub record ShareOne (k : Config) (views : List SharedView) : Type 0 where
+  pub heap : SharedHeap
+  pub size : heap.config ≡ k
+  pub runs : views ≡ shared_by heap (opened_runs heap)
+
+-- it has this command to make, and forgets what the one before left
+abbrev pub with_command : SharedView → Command → SharedView
+with_command s c = record s { run = submitted s.run c }
+
+-- it gets no more
+abbrev pub closed_of : SharedView → SharedView
+closed_of s = record s { run = record s.run { supply = supply.Closed } }
+
+-- the reply that shows what a register holds, by the history as its domain sees it
+abbrev pub shown_by : SharedView → ℕ → Reply
+shown_by s r = shown_in s.heap.config s.run.token r
 
 -- how many finalisers more fit
 abbrev pub finals_left : SharedView → ℕ

@@ -2,10 +2,9 @@
 ghost use Rattle.std.specs.Prelude.{◌≡◌, ◌↔◌, ℕ, Some, Err, IfOk};
 ghost use Rattle.std.specs.List.{AllByRecursion};
 ghost use Rattle.heap_rule.specs.Limits.{first_outside};
-ghost use Rattle.heap_rule.specs.Token.{IsIn, SharedHeap};
+ghost use Rattle.heap_rule.specs.Token.{IsIn};
 ghost use Rattle.domain_turns.specs.Runs.{RunView};
-ghost use Rattle.open_runs.specs.Opening.{opened_runs};
-ghost use Rattle.shared_runs.specs.Sharing.{shared_by};
+ghost use Rattle.shared_runs.specs.Sharing.{ShareOne, shared_by};
 
 use crate::shared::SharedRun;
 use domain_turns::DomainRun;
@@ -37,7 +36,7 @@ fn share_all(
 /// `Config(k)` names the first of the heap's numbers outside its limit.
 pub fn make_all(alloc: Global, config: Config) -> Result<Vec<SharedRun>, StartFault>
     ensures outside { (k : ℕ) → (result ≡ Err (StartFault.Config k)) ↔ (first_outside config ≡ Some k) }
-    ensures shared { IfOk result (λ v. (h : SharedHeap) × ((h.config ≡ config) × (v.items ≡ shared_by h (opened_runs h)))) }
+    ensures shared { IfOk result (λ v. ShareOne config v.items) }
 {
     let (heap, runs) = start(alloc, config)?;
     let heap = Arc::new(alloc, heap)?;

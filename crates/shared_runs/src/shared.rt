@@ -1,17 +1,12 @@
 //! A domain with a share of its heap.
-ghost use Rattle.std.specs.Prelude.{◌≡◌, ◌↔◌, ◌≤◌, ◌∷◌, true, false, [], None, Some, IfOk, IfErr, IfSome};
-ghost use Rattle.heap_model.specs.Commands.{shown};
-ghost use Rattle.heap_model.specs.Domains.{register as register_value};
+ghost use Rattle.std.specs.Prelude.{◌≡◌, ◌↔◌, ◌≤◌, true, None, IfOk, IfErr, IfSome};
 ghost use Rattle.heap_rule.specs.Limits.{sizes_in};
-ghost use Rattle.heap_rule.specs.Rule.{state_of};
 ghost use Rattle.heap_rule.specs.Token.{IsIn};
-ghost use Rattle.domain_turns.specs.Runs.{AreLastRan, GoesOn, HasLooked, IsLastReply, IsUnanswered, MaySubmit, Stretches, answer_of};
-ghost use Rattle.heap_model.specs.declared.command.Command as model;
-ghost use Rattle.heap_rule.specs.declared.view.DomainView.{DomainView};
+ghost use Rattle.domain_turns.specs.Runs.{GoesOn, HasLooked, IsLastReply, IsUnanswered, MaySubmit, Stretches, answer_of};
 ghost use Rattle.open_runs.specs.Counting.{stats_of};
-ghost use Rattle.open_runs.specs.Driving.{AwaitAnswers, Awaits};
+ghost use Rattle.open_runs.specs.Driving.{AnswersAwaited, AwaitAnswers};
 ghost use Rattle.shared_runs.specs.Idling.{StaysAlong};
-ghost use Rattle.shared_runs.specs.Sharing.{IsRefusedBy, IsUnclosedBy, MayClose};
+ghost use Rattle.shared_runs.specs.Sharing.{IsRefusedBy, IsUnclosedBy, MayClose, closed_of, shown_by, with_command};
 
 use crate::idle::attend;
 use domain_turns::{DomainRun, Supply, show};
@@ -86,7 +81,7 @@ impl SharedRun {
     /// block. Else nothing changes.
     pub fn submit(&mut self, command: Command) -> Result<(), Refused>
         ensures may { IfOk result (λ _. MaySubmit self.old.run command) }
-        ensures taken { IfOk result (λ _. self.new ≡ record self.old { run = record self.old.run { commands = command ∷ []; next = 0; replies = []; ran = []; asked = None; collected = false } }) }
+        ensures taken { IfOk result (λ _. self.new ≡ with_command self.old command) }
         ensures why { IfErr result (IsRefusedBy self.old command) }
         ensures same { IfErr result (λ _. self.new ≡ self.old) }
     {
@@ -127,7 +122,7 @@ impl SharedRun {
     /// One turn of a domain that has a command to make. Answers how far it came, and the reply, once the command is made.
     pub fn await_turn(&mut self) -> (Came, Option<Reply>)
         ensures heap { self.new.heap ≡ self.old.heap }
-        ensures answers { (start : DomainView) (c : model.Command) → Awaits self.old.heap start c self.old.run → AwaitAnswers self.old.heap start c self.new.run result.1 }
+        ensures answers { AnswersAwaited self.old.heap self.old.run self.new.run result.1 }
     {
         await_turn(&self.heap, &mut self.run)
     }
@@ -153,7 +148,7 @@ impl SharedRun {
         ensures none { (result ≡ None) ↔ (16 ≤ r) }
         ensures heap { self.new.heap ≡ self.old.heap }
         ensures looked { IfSome result (λ _. HasLooked self.old.run self.new.run) }
-        ensures reply { IfSome result (λ a. a ≡ shown (register_value (state_of self.old.heap.config self.old.run.token.view.seen.front) self.old.run.token.view.own.number r)) }
+        ensures reply { IfSome result (λ a. a ≡ shown_by self.old r) }
         ensures same { result ≡ None → self.new ≡ self.old }
     {
         if r >= 16 {
@@ -166,7 +161,7 @@ impl SharedRun {
     /// command that was handed in isn't done, or where the trace was closed before.
     pub fn close(&mut self) -> Result<(), Refused>
         ensures may { IfOk result (λ _. MayClose self.old) }
-        ensures closed { IfOk result (λ _. self.new ≡ record self.old { run = record self.old.run { supply = Supply.Closed } }) }
+        ensures closed { IfOk result (λ _. self.new ≡ closed_of self.old) }
         ensures why { IfErr result (IsUnclosedBy self.old) }
         ensures same { IfErr result (λ _. self.new ≡ self.old) }
     {

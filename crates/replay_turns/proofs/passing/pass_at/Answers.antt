@@ -14,22 +14,16 @@ take_run-run-requires c = record { there = c.requires.here.filled c.args.at c.re
 pub pass_among-run-requires-clause-here : goal.pass_among-run-requires-clause-here
 pass_among-run-requires-clause-here c = c.requires.here.here c.args.at c.take_run-run.result c.take_run-run.ensures.taken
 
-pub pass_among-run-requires-clause-arrived : goal.pass_among-run-requires-clause-arrived
-pass_among-run-requires-clause-arrived c = c.requires.gone c.take_run-run.result c.take_run-run.ensures.taken
-
-pub pass_among-run-requires-clause-few : goal.pass_among-run-requires-clause-few
-pass_among-run-requires-clause-few c = c.requires.few c.take_run-run.result c.take_run-run.ensures.taken
-
-pub pass_among-run-requires-clause-others : goal.pass_among-run-requires-clause-others
-pass_among-run-requires-clause-others c = subst (AreHere c.args.heap.now) (sym c.take_run-run.ensures.rest) (others_here c.args.heap.now c.args.runs.now c.args.at c.requires.here)
-
-pub pass_among-run-requires-clause-all : goal.pass_among-run-requires-clause-all
-pass_among-run-requires-clause-all c = subst (AllButOne c.args.heap.now) (sym c.take_run-run.ensures.rest) (all_but_one c.args.heap.now c.args.runs.now c.args.at c.requires.inside c.requires.count c.requires.here)
-
-pub pass_among-run-requires-clause-least : goal.pass_among-run-requires-clause-least
-pass_among-run-requires-clause-least c = λ d q there.
-    let was = others_later c.args.runs.now c.args.at d q (subst (λ rs. HasRun rs d q) c.take_run-run.ensures.rest there) in
-    c.requires.least d c.take_run-run.result q c.take_run-run.ensures.taken was
+pub pass_among-run-requires-clause-may : goal.pass_among-run-requires-clause-may
+pass_among-run-requires-clause-may c = record {
+  arrived = c.requires.gone c.take_run-run.result c.take_run-run.ensures.taken;
+  few = c.requires.few c.take_run-run.result c.take_run-run.ensures.taken;
+  here = subst (AreHere c.args.heap.now) (sym c.take_run-run.ensures.rest) (others_here c.args.heap.now c.args.runs.now c.args.at c.requires.here);
+  all = subst (AllButOne c.args.heap.now) (sym c.take_run-run.ensures.rest) (all_but_one c.args.heap.now c.args.runs.now c.args.at c.requires.inside c.requires.count c.requires.here);
+  least = λ d q there.
+      let was = others_later c.args.runs.now c.args.at d q (subst (λ rs. HasRun rs d q) c.take_run-run.ensures.rest there) in
+      c.requires.least d c.take_run-run.result q c.take_run-run.ensures.taken was;
+}
 
 pub pass_among-run-requires-clause-fits : goal.pass_among-run-requires-clause-fits
 pass_among-run-requires-clause-fits c = subst (λ n. n < vec_capacity c.args.room.now) (sym (ap length c.take_run-run.ensures.rest ∙ length-set c.args.runs.now c.args.at None)) c.requires.fits

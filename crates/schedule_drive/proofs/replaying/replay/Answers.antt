@@ -21,10 +21,14 @@ returns-clause-replies g c h here d =
     ap (λ (y : Sizes). replies y h d) (sym sizes) ∙ sym (follow.agrees.replies d) ∙ ap (λ (y : Sizes). replies y all.history d) sizes
     ∙ ap (λ n. replies z (take_rounds n through).history d) c.rounds_of-rounds.ensures
 
-pub returns-clause-ended : goal.returns-clause-ended
-returns-clause-ended g c =
-    c.take_rounds.ensures.ended (λ d.
-    let few = within_rounds (g.T.TogetherRuns.seen c.args.runs.now) d in
-    let none = c.take_items.ensures.none d in
-    let rounds = c.rounds_of-rounds.ensures in
-    omega (arith, few, none, rounds))
+pub returns-clause-over : goal.returns-clause-over
+returns-clause-over g c = record {
+  sizes = c.take_rounds.ensures.sizes ∙ c.take_items.ensures.sizes;
+  commands = c.take_rounds.ensures.commands ∙ c.take_items.ensures.commands;
+  calm = c.take_rounds.ensures.calm;
+  ended = c.take_rounds.ensures.ended (λ d.
+      let few = within_rounds (g.T.TogetherRuns.seen c.args.runs.now) d in
+      let none = c.take_items.ensures.none d in
+      let rounds = c.rounds_of-rounds.ensures in
+      omega (arith, few, none, rounds));
+}
