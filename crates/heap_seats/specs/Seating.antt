@@ -5,12 +5,15 @@ use Rattle.atomic_table.specs.Seated.{TableId}
 use Rattle.heap_model.specs.declared.command.Command as model
 use Rattle.heap_model.specs.declared.entry.Entry.{Entry}
 use Rattle.heap_model.specs.declared.reply.Reply.{Reply}
+use Rattle.heap_model.specs.Commands.{shown}
+use Rattle.heap_model.specs.Domains.{register}
 use Rattle.heap_model.specs.History.{commands, replies}
 use Rattle.heap_rule.specs.Limits.{sizes_in}
+use Rattle.heap_rule.specs.Rule.{state_of}
 use Rattle.heap_rule.specs.Token.{SharedHeap}
 use Rattle.domain_turns.specs.declared.supply.Supply.TheVariants.{Open}
 use Rattle.domain_turns.specs.Runs.{RunView}
-use Rattle.domain_turns.specs.Handed.{Finalised}
+use Rattle.domain_turns.specs.Handed.{Finalised, PerformedOn}
 use Rattle.open_runs.specs.Counting.{no_stats, stats_of}
 use Rattle.open_runs.specs.Refusing.{Takes}
 use Rattle.open_runs.specs.declared.counting.Stats.{Stats}
@@ -75,6 +78,27 @@ AllSeatsOf s xs = AllByRecursion (IsSeatOf s) xs
 -- a seat may make this command: it fits the shared heap, and there are room for the ephemeron that it makes and the finaliser that it registers, and a label for a block
 abbrev pub MayPerform : SeatView → model.Command → Type 0
 MayPerform s c = Takes s.room s.finals (4294967295 - s.labels) c
+
+-- it is the same seat: what it has seen, its labels, its room, its counts and the replies of its finalisers may be others
+abbrev pub IsSameSeat : SeatView → SeatView → Type 0
+IsSameSeat old new = new ≡ record old { front = new.front; labels = new.labels; room = new.room; finals = new.finals; stats = new.stats; ran = new.ran }
+
+-- the same, and no label was given out
+abbrev pub IsSameUnlabelled : SeatView → SeatView → Type 0
+IsSameUnlabelled old new = new ≡ record old { front = new.front; room = new.room; finals = new.finals; stats = new.stats; ran = new.ran }
+
+-- a command was made on a seat, once, behind the finalisers that the seat tells, and this is its reply
+abbrev pub PerformsOn : SeatView → SeatView → model.Command → Reply → Type 0
+PerformsOn old new c r = PerformedOn (sizes_in old.heap.config) old.number old.front new.front c new.ran r
+
+-- the domain's commands have grown by this one, and its replies by those of the finalisers and then by this one
+pub record Records (old new : SeatView) (c : model.Command) (r : Reply) : Type 0 where
+  pub commands_are : commands new.front old.number ≡ commands old.front old.number ++ c ∷ []
+  pub replies_are : replies (sizes_in old.heap.config) new.front old.number ≡ replies (sizes_in old.heap.config) old.front old.number ++ (new.ran ++ r ∷ [])
+
+-- the reply that shows what a register of a seat's domain holds
+abbrev pub shown_in : SeatView → ℕ → Reply
+shown_in s r = shown (register (state_of s.heap.config s.front) s.number r)
 
 -- a seat has made no command since: what the domain has seen has grown by entries of others and by runs of its finalisers. The seat tells their replies behind those that it had, and has room for so many finalisers more
 pub record GoesAlong (old new : SeatView) : Type 0 where

@@ -1,15 +1,9 @@
 //! A seat, and a seat that rests.
-ghost use Rattle.std.specs.Prelude.{◌≡◌, ◌↔◌, ◌+◌, ◌-◌, ◌<◌, ◌≤◌, ◌++◌, ◌∷◌, [], length, None};
+ghost use Rattle.std.specs.Prelude.{◌≡◌, ◌↔◌, ◌+◌, ◌-◌, ◌<◌, ◌≤◌, length, None};
 ghost use Rattle.command_counts.specs.Counts.{ephemerons_given, labels_given};
-ghost use Rattle.heap_model.specs.Commands.{shown};
-ghost use Rattle.heap_model.specs.Domains.{register as register_value};
-ghost use Rattle.domain_turns.specs.Handed.{PerformedOn};
 ghost use Rattle.domain_turns.specs.Tries.{registrations_of};
-ghost use Rattle.heap_model.specs.History.{commands as commands_of, replies as replies_of};
-ghost use Rattle.heap_rule.specs.Limits.{sizes_in};
-ghost use Rattle.heap_rule.specs.Rule.{state_of};
 ghost use Rattle.open_runs.specs.Refusing.{IsRefused};
-ghost use Rattle.heap_seats.specs.Seating.{GoesAlong, IsSeatOf, MayPerform};
+ghost use Rattle.heap_seats.specs.Seating.{GoesAlong, IsSameSeat, IsSameUnlabelled, IsSeatOf, MayPerform, PerformsOn, Records, shown_in};
 
 use crate::idle::Idle;
 use crate::performing::{attend_calls, perform_on};
@@ -134,10 +128,9 @@ impl Seat {
     pub fn perform<R: Wait>(&mut self, rt: &R, seats: &Seats, command: Command) -> Reply
         requires here { IsSeatOf seats.now self.old }
         requires may { MayPerform self.old command }
-        ensures same { self.new ≡ record self.old { front = self.new.front; labels = self.new.labels; room = self.new.room; finals = self.new.finals; stats = self.new.stats; ran = self.new.ran } }
-        ensures performed { PerformedOn (sizes_in self.old.heap.config) self.old.number self.old.front self.new.front command self.new.ran result }
-        ensures commands { commands_of self.new.front self.old.number ≡ commands_of self.old.front self.old.number ++ command ∷ [] }
-        ensures replies { replies_of (sizes_in self.old.heap.config) self.new.front self.old.number ≡ replies_of (sizes_in self.old.heap.config) self.old.front self.old.number ++ (self.new.ran ++ result ∷ []) }
+        ensures same { IsSameSeat self.old self.new }
+        ensures performed { PerformsOn self.old self.new command result }
+        ensures records { Records self.old self.new command result }
         ensures labels { self.new.labels ≡ self.old.labels + labels_given command result }
         ensures room { self.old.room ≤ self.new.room + ephemerons_given command result }
         ensures finals { self.old.finals + length self.new.ran ≤ self.new.finals + registrations_of command }
@@ -160,7 +153,7 @@ impl Seat {
         requires here { IsSeatOf seats.now self.old }
         requires few { r < 16 }
         ensures same { self.new ≡ self.old }
-        ensures reply { result ≡ shown (register_value (state_of self.old.heap.config self.old.front) self.old.number r) }
+        ensures reply { result ≡ shown_in self.old r }
     {
         show(&seats.heap, &mut self.run, r)
     }
@@ -169,7 +162,7 @@ impl Seat {
     /// command. A thread that works long without one calls it now and then.
     pub fn attend<R: Wait>(&mut self, rt: &R, seats: &Seats)
         requires here { IsSeatOf seats.now self.old }
-        ensures same { self.new ≡ record self.old { front = self.new.front; room = self.new.room; finals = self.new.finals; stats = self.new.stats; ran = self.new.ran } }
+        ensures same { IsSameUnlabelled self.old self.new }
         ensures along { GoesAlong self.old self.new }
         ensures room { self.old.room ≤ self.new.room }
     {
@@ -199,7 +192,7 @@ impl Resting {
     /// The seat, which has made no command meanwhile. Finalisers of its domain may have run.
     pub fn resume<R: Wait>(self, rt: &R, seats: &Seats) -> Seat
         requires here { IsSeatOf seats.now self }
-        ensures same { result ≡ record self { front = result.front; room = result.room; finals = result.finals; stats = result.stats; ran = result.ran } }
+        ensures same { IsSameUnlabelled self result }
         ensures along { GoesAlong self result }
         ensures room { self.room ≤ result.room }
     {

@@ -1,9 +1,12 @@
 -- A session as its callers see it.
-use Rattle.std.specs.Prelude.{ℕ, ◌-◌, List, []}
+use Rattle.std.specs.Prelude.{◌≡◌, ℕ, ◌-◌, List, [], Some}
 use Rattle.heap_model.specs.declared.command.Command.{Command}
 use Rattle.heap_model.specs.declared.entry.Entry.{Entry}
 use Rattle.heap_model.specs.declared.reply.Reply.{Reply}
+use Rattle.heap_model.specs.History.{replies}
 use Rattle.heap_rule.specs.declared.config.Config.{Config}
+use Rattle.heap_rule.specs.Limits.{first_outside, sizes_in}
+use Rattle.domain_turns.specs.Handed.{PerformedOn}
 use Rattle.open_runs.specs.Counting.{no_stats}
 use Rattle.open_runs.specs.Refusing.{Takes}
 use Rattle.open_runs.specs.declared.counting.Stats.{Stats}
@@ -25,6 +28,18 @@ alone minor_words pools finals ephes = record { domains = 1; minor_words = minor
 -- a session before its first command
 abbrev pub fresh : Config → SessionView
 fresh c = record { config = c; front = []; labels = 0; room = c.ephes; finals = c.finals; stats = no_stats; ran = [] }
+
+-- the k-th of these numbers of a heap of one domain is the first that is outside its limit
+abbrev pub IsFirstOutside : ℕ → ℕ → ℕ → ℕ → ℕ → Type 0
+IsFirstOutside minor_words pools finals ephes k = first_outside (alone minor_words pools finals ephes) ≡ Some k
+
+-- a command was made in a session, once, behind the finalisers that the session tells, and this is its reply
+abbrev pub PerformsIn : SessionView → SessionView → Command → Reply → Type 0
+PerformsIn old new c r = PerformedOn (sizes_in old.config) 0 old.front new.front c new.ran r
+
+-- the replies of the domain after a history of the session's heap
+abbrev pub replies_of : SessionView → List Entry → List Reply
+replies_of s h = replies (sizes_in s.config) h 0
 
 -- a session may make this command: it fits the shared heap, and there are room for the ephemeron that it makes and the finaliser that it registers, and a label for a block
 abbrev pub MayPerform : SessionView → Command → Type 0

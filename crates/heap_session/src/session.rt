@@ -1,14 +1,13 @@
 //! A heap of one domain, and the commands that are handed in to it.
-ghost use Rattle.std.specs.Prelude.{◌≡◌, ◌↔◌, ◌+◌, ◌-◌, ◌++◌, ◌∷◌, ◌<◌, ◌≤◌, ℕ, [], length, IfOk, None, Some, Err};
+ghost use Rattle.std.specs.Prelude.{◌≡◌, ◌↔◌, ◌+◌, ◌-◌, ◌++◌, ◌∷◌, ◌<◌, ◌≤◌, ℕ, [], length, IfOk, None, Err};
 ghost use Rattle.command_counts.specs.Counts.{ephemerons_given, labels_given};
-ghost use Rattle.domain_turns.specs.Handed.{PerformedOn};
 ghost use Rattle.domain_turns.specs.Tries.{registrations_of};
 ghost use Rattle.heap_model.specs.Commands.{shown};
 ghost use Rattle.heap_model.specs.Domains.{IsWithinLimits, domain_at, register as register_value};
-ghost use Rattle.heap_model.specs.History.{Legal, commands, replies};
-ghost use Rattle.heap_rule.specs.Limits.{first_outside, sizes_in};
+ghost use Rattle.heap_model.specs.History.{Legal, commands};
+ghost use Rattle.heap_rule.specs.Limits.{sizes_in};
 ghost use Rattle.heap_rule.specs.Rule.{state_of};
-ghost use Rattle.heap_session.specs.Sessions.{MayPerform, alone, fresh};
+ghost use Rattle.heap_session.specs.Sessions.{IsFirstOutside, MayPerform, PerformsIn, alone, fresh, replies_of};
 ghost use Rattle.open_runs.specs.Refusing.{IsRefused};
 ghost use Rattle.heap_session.specs.Stopping.{EndsAfter, StopsAfter};
 
@@ -62,7 +61,7 @@ impl Session {
         finals: u32,
         ephes: u32,
     ) -> Result<Session, StartFault>
-        ensures outside { (k : ℕ) → (result ≡ Err (StartFault.Config k)) ↔ (first_outside (alone minor_words pools finals ephes) ≡ Some k) }
+        ensures outside { (k : ℕ) → (result ≡ Err (StartFault.Config k)) ↔ IsFirstOutside minor_words pools finals ephes k }
         ensures session { IfOk result (λ s. s ≡ fresh (alone minor_words pools finals ephes)) }
     {
         let config = Config {
@@ -165,9 +164,9 @@ impl Session {
         ensures labels { self.new.labels ≡ self.old.labels + labels_given command result }
         ensures room { self.old.room ≤ self.new.room + ephemerons_given command result }
         ensures finals { self.old.finals + length self.new.ran ≤ self.new.finals + registrations_of command }
-        ensures performed { PerformedOn (sizes_in self.old.config) 0 self.old.front self.new.front command self.new.ran result }
+        ensures performed { PerformsIn self.old self.new command result }
         ensures commands { commands self.new.front 0 ≡ commands self.old.front 0 ++ command ∷ [] }
-        ensures replies { replies (sizes_in self.old.config) self.new.front 0 ≡ replies (sizes_in self.old.config) self.old.front 0 ++ (self.new.ran ++ result ∷ []) }
+        ensures replies { replies_of self.old self.new.front ≡ replies_of self.old self.old.front ++ (self.new.ran ++ result ∷ []) }
     {
         let _limits = self.heap.config();
         let _left = self.labels_left();

@@ -1,13 +1,13 @@
 //! A session without finalisers, which is the machine of the calls on tables.
-ghost use Rattle.std.specs.Prelude.{◌≡◌, ◌↔◌, ◌+◌, ◌-◌, ◌<◌, ◌≤◌, ℕ, [], IfOk, Some, Err};
+ghost use Rattle.std.specs.Prelude.{◌≡◌, ◌↔◌, ◌+◌, ◌-◌, ◌<◌, ◌≤◌, ℕ, [], IfOk, Err};
 ghost use Rattle.command_counts.specs.Counts.{ephemerons_given, labels_given};
 ghost use Rattle.heap_model.specs.Commands.{shown};
 ghost use Rattle.heap_model.specs.Domains.{IsWithinLimits, domain_at, opening, register as register_value};
 ghost use Rattle.heap_model.specs.Registrations.{all_registered};
 ghost use Rattle.heap_model.specs.History.{Legal};
-ghost use Rattle.heap_rule.specs.Limits.{first_outside, sizes_in};
+ghost use Rattle.heap_rule.specs.Limits.{sizes_in};
 ghost use Rattle.heap_rule.specs.Rule.{state_of};
-ghost use Rattle.heap_session.specs.Sessions.{MayPerform, alone, fresh};
+ghost use Rattle.heap_session.specs.Sessions.{IsFirstOutside, MayPerform, alone, fresh};
 ghost use Rattle.heap_session.specs.Stopping.{StopsAfter};
 ghost use Rattle.table_laws.specs.Performing.{Performed};
 
@@ -49,7 +49,7 @@ impl TableSession {
         pools: u32,
         ephes: u32,
     ) -> Result<TableSession, StartFault>
-        ensures outside { (k : ℕ) → (result ≡ Err (StartFault.Config k)) ↔ (first_outside (alone minor_words pools 0 ephes) ≡ Some k) }
+        ensures outside { (k : ℕ) → (result ≡ Err (StartFault.Config k)) ↔ IsFirstOutside minor_words pools 0 ephes k }
         ensures session { IfOk result (λ s. s ≡ fresh (alone minor_words pools 0 ephes)) }
     {
         let session = Session::make(alloc, minor_words, pools, 0, ephes)?;

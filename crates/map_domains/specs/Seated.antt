@@ -1,11 +1,14 @@
 -- A seat whose domain a map is used on.
 use Rattle.std.specs.Prelude.{◌≡◌, ◌<◌, []}
+use Rattle.heap_model.specs.declared.command.Command.TheVariants as command
+use Rattle.heap_model.specs.declared.reply.Reply.TheVariants as reply
 use Rattle.heap_model.specs.Domains.{IsWithinLimits, domain_at, opening}
 use Rattle.heap_model.specs.History.{Legal}
 use Rattle.heap_model.specs.Registrations.{all_registered}
 use Rattle.heap_rule.specs.Limits.{sizes_in}
 use Rattle.heap_rule.specs.Rule.{state_of}
 use Rattle.heap_seats.specs.Seating.{IsSeatOf, SeatView, SeatsView}
+use Rattle.map_laws.specs.Calls.{PerformedBy}
 
 -- its domain is one of its heap's, whose numbers are within their limits, what the domain has seen is legal and registers no finaliser of it, and so many labels were given out as it says
 pub record Stands (s : SeatView) : Type 0 where
@@ -14,6 +17,10 @@ pub record Stands (s : SeatView) : Type 0 where
   pub legal : Legal (sizes_in s.heap.config) s.front
   pub unregistered : all_registered s.number (opening (sizes_in s.heap.config)) s.front ≡ []
   pub labels : (domain_at (state_of s.heap.config s.front) s.number).serial ≡ s.labels
+
+-- a seat has made a `poll`, which was answered that it is done
+abbrev pub Polls : SeatView → SeatView → Type 0
+Polls old new = PerformedBy (sizes_in old.heap.config) old.number old.front new.front command.Poll reply.Done
 
 -- a seat on which no command was made, of a heap within its limits
 pub record IsUnused (s : SeatView) : Type 0 where

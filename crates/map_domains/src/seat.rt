@@ -1,11 +1,8 @@
 //! A seat of a heap that threads share.
 ghost use Rattle.std.specs.Prelude.{◌≡◌, ◌-◌, ◌≤◌};
-ghost use Rattle.heap_model.specs.declared.command.Command.TheVariants as command;
-ghost use Rattle.heap_model.specs.declared.reply.Reply.TheVariants as reply;
 ghost use Rattle.heap_rule.specs.Limits.{sizes_in};
-ghost use Rattle.heap_seats.specs.Seating.{IsSeatOf};
-ghost use Rattle.map_domains.specs.Seated.{IsUnused, Stands};
-ghost use Rattle.map_laws.specs.Calls.{PerformedBy};
+ghost use Rattle.heap_seats.specs.Seating.{IsSameUnlabelled, IsSeatOf};
+ghost use Rattle.map_domains.specs.Seated.{IsUnused, Polls, Stands};
 
 use heap_model::command::Command;
 use heap_model::reply::Reply;
@@ -62,9 +59,9 @@ impl<'a> SeatDomain<'a> {
         requires config { config ≡ seats.now.heap.config }
         requires stands { Stands resting }
         ensures seats { result.seats ≡ seats.now }
-        ensures same { result.seat ≡ record resting { front = result.seat.front; room = result.seat.room; finals = result.seat.finals; stats = result.seat.stats; ran = result.seat.ran } }
+        ensures same { IsSameUnlabelled resting result.seat }
         ensures room { resting.room ≤ result.seat.room }
-        ensures polled { PerformedBy (sizes_in resting.heap.config) resting.number resting.front result.seat.front command.Poll reply.Done }
+        ensures polled { Polls resting result.seat }
     {
         let mut seat = resting.resume(rt, seats);
         let _reply = seat.perform(rt, seats, Command::Poll);

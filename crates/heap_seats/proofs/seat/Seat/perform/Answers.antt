@@ -60,23 +60,17 @@ returns-clause-performed g c =
     let a = c.perform_on.ensures.answered in
     subst (λ (v : SeatView). PerformedOn (sizes_in v.heap.config) v.number v.front n.token.view.seen.front c.args.command n.ran c.perform_on.result) c.self.view_is (performs heap r n c.args.command c.perform_on.result s.here a)
 
-pub returns-clause-commands : goal.returns-clause-commands
-returns-clause-commands g c =
+pub returns-clause-records : goal.returns-clause-records
+returns-clause-records g c =
     let heap = c.seats.inside.heap in
     let r = c.self.inside.run in
     let n = c.perform_on.new.run in
     let s = sits heap c.seats.inside.pool r c.self.inside.keeper _ _ c.self.invariant c.self.view_is c.seats.view_is c.requires.here in
     let a = c.perform_on.ensures.answered in
-    subst (λ (v : SeatView). commands n.token.view.seen.front v.number ≡ commands v.front v.number ++ c.args.command ∷ []) c.self.view_is (made heap r n c.args.command c.perform_on.result s.here a)
-
-pub returns-clause-replies : goal.returns-clause-replies
-returns-clause-replies g c =
-    let heap = c.seats.inside.heap in
-    let r = c.self.inside.run in
-    let n = c.perform_on.new.run in
-    let s = sits heap c.seats.inside.pool r c.self.inside.keeper _ _ c.self.invariant c.self.view_is c.seats.view_is c.requires.here in
-    let a = c.perform_on.ensures.answered in
-    subst (λ (v : SeatView). replies (sizes_in v.heap.config) n.token.view.seen.front v.number ≡ replies (sizes_in v.heap.config) v.front v.number ++ (n.ran ++ c.perform_on.result ∷ [])) c.self.view_is (given heap r n c.args.command c.perform_on.result s.here a)
+    record {
+      commands_are = subst (λ (v : SeatView). commands n.token.view.seen.front v.number ≡ commands v.front v.number ++ c.args.command ∷ []) c.self.view_is (made heap r n c.args.command c.perform_on.result s.here a);
+      replies_are = subst (λ (v : SeatView). replies (sizes_in v.heap.config) n.token.view.seen.front v.number ≡ replies (sizes_in v.heap.config) v.front v.number ++ (n.ran ++ c.perform_on.result ∷ [])) c.self.view_is (given heap r n c.args.command c.perform_on.result s.here a);
+    }
 
 pub returns-clause-finals : goal.returns-clause-finals
 returns-clause-finals g c =
