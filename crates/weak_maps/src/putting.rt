@@ -1,20 +1,16 @@
 //! Bindings that are put.
-ghost use Rattle.std.specs.Prelude.{◌≡◌, ◌≢◌, ◌+◌, ◌<◌, ◌≤◌, cond};
+ghost use Rattle.std.specs.Prelude.{◌≡◌, ◌+◌, ◌<◌, ◌≤◌, cond};
 ghost use Rattle.heap_model.specs.declared.graph.Value.TheVariants.{Block};
-ghost use Rattle.heap_model.specs.declared.label.Label as labels;
 ghost use Rattle.heap_model.specs.declared.command.Command.TheVariants as command;
 ghost use Rattle.heap_model.specs.declared.reply.Reply as replies;
-ghost use Rattle.heap_model.specs.declared.reply.Reply.TheVariants as variant;
 ghost use Rattle.heap_model.specs.History.{IsPrefix};
-ghost use Rattle.table_laws.specs.Stages.{graph_of};
-ghost use Rattle.map_laws.specs.Steps.{OthersLeave, OthersRespect};
 ghost use Rattle.map_laws.specs.Calls.{PerformedBy};
-ghost use Rattle.map_laws.specs.Tries.{node_width, IsMap, IsInPlace};
-ghost use Rattle.weak_maps.specs.Beside.{held_by, refusals_by, writings_by};
+ghost use Rattle.map_laws.specs.Tries.{node_width};
+ghost use Rattle.weak_maps.specs.Beside.{refusals_by, writings_by};
 ghost use Rattle.weak_maps.specs.Puts.{MakesLeaf, MakesRoom, Publishes};
-ghost use Rattle.weak_maps.specs.Crowds.{IsCrowded, PutCounts};
+ghost use Rattle.weak_maps.specs.Crowds.{CrowdedAt, PutSpends, RefusedAlone};
 ghost use Rattle.weak_maps.specs.Guards.{LeafGuards, PutGuards, RoomGuards, SettleGuards};
-ghost use Rattle.weak_maps.specs.Returns.{PutReturns};
+ghost use Rattle.weak_maps.specs.Returns.{FollowsAt, PutsAt};
 ghost use Rattle.weak_maps.specs.Settles.{rooms_after, Settles, SettlesAlone, TryRefuses};
 
 use crate::digits::{node_index, number_of, rest_below, serial_of};
@@ -212,22 +208,15 @@ pub fn map_put<M: Machine, R: Wait>(m: &mut M, rt: &R, map: u8, key: u8, item: u
     ensures domain { M.domain m.new ≡ M.domain m.old }
     ensures heap { M.heap m.new ≡ M.heap m.old }
     ensures grows { IsPrefix (M.front m.old) (M.front m.new) }
-    ensures counts { PutCounts (M.labels_left m.old) (M.labels_left m.new) (refusals_by (M.domain m.old) (M.front m.old)) (refusals_by (M.domain m.old) (M.front m.new)) result }
+    ensures counts { PutSpends (M.domain m.old) (M.labels_left m.old) (M.labels_left m.new)
+        (M.front m.old) (M.front m.new) result }
     ensures room { M.ephes_room m.old ≤ M.ephes_room m.new + 1 }
     ensures written { writings_by (M.domain m.old) (M.front m.new) ≡ writings_by (M.domain m.old) (M.front m.old) }
     ensures guards { PutGuards (M.sizes m.old) (M.domain m.old) (M.front m.old) (M.front m.new) map }
-    ensures answer { (root : labels.Label) → held_by (M.sizes m.old) (M.domain m.old) (M.front m.old) map ≡ Block root → IsMap (graph_of (M.sizes m.old) (M.front m.old)) root
-        → IsInPlace (M.sizes m.old).domains (graph_of (M.sizes m.old) (M.front m.old)) root → OthersRespect (M.sizes m.old) root (M.domain m.old) (M.front m.old) (M.front m.new)
-        → PutReturns (M.sizes m.old) (M.domain m.old) (M.front m.old) (M.front m.new) root (held_by (M.sizes m.old) (M.domain m.old) (M.front m.old) key) (held_by (M.sizes m.old) (M.domain m.old) (M.front m.old) item) result }
-    ensures crowded { (root k : labels.Label) → held_by (M.sizes m.old) (M.domain m.old) (M.front m.old) map ≡ Block root → held_by (M.sizes m.old) (M.domain m.old) (M.front m.old) key ≡ Block k → IsMap (graph_of (M.sizes m.old) (M.front m.old)) root
-        → IsInPlace (M.sizes m.old).domains (graph_of (M.sizes m.old) (M.front m.old)) root → OthersRespect (M.sizes m.old) root (M.domain m.old) (M.front m.old) (M.front m.new)
-        → result ≡ variant.Full → refusals_by (M.domain m.old) (M.front m.new) ≡ refusals_by (M.domain m.old) (M.front m.old) → IsCrowded (M.sizes m.old) (M.domain m.old) (M.front m.old) (M.front m.new) root k }
-    ensures alone { (root k : labels.Label) → held_by (M.sizes m.old) (M.domain m.old) (M.front m.old) map ≡ Block root → held_by (M.sizes m.old) (M.domain m.old) (M.front m.old) key ≡ Block k → IsMap (graph_of (M.sizes m.old) (M.front m.old)) root
-        → IsInPlace (M.sizes m.old).domains (graph_of (M.sizes m.old) (M.front m.old)) root → OthersRespect (M.sizes m.old) root (M.domain m.old) (M.front m.old) (M.front m.new) → OthersLeave (M.sizes m.old) root (M.domain m.old) (M.front m.old) (M.front m.new)
-        → result ≡ variant.Full → refusals_by (M.domain m.old) (M.front m.new) ≡ refusals_by (M.domain m.old) (M.front m.old) + 1 }
-    ensures follows { (root : labels.Label) → held_by (M.sizes m.old) (M.domain m.old) (M.front m.old) map ≡ Block root → IsMap (graph_of (M.sizes m.old) (M.front m.old)) root
-        → IsInPlace (M.sizes m.old).domains (graph_of (M.sizes m.old) (M.front m.old)) root → OthersRespect (M.sizes m.old) root (M.domain m.old) (M.front m.old) (M.front m.new)
-        → IsMap (graph_of (M.sizes m.old) (M.front m.new)) root × IsInPlace (M.sizes m.old).domains (graph_of (M.sizes m.old) (M.front m.new)) root }
+    ensures answer { PutsAt (M.sizes m.old) (M.domain m.old) (M.front m.old) (M.front m.new) map key item result }
+    ensures crowded { CrowdedAt (M.sizes m.old) (M.domain m.old) (M.front m.old) (M.front m.new) map key result }
+    ensures alone { RefusedAlone (M.sizes m.old) (M.domain m.old) (M.front m.old) (M.front m.new) map key result }
+    ensures follows { FollowsAt (M.sizes m.old) (M.domain m.old) (M.front m.old) (M.front m.new) map }
 {
     m.stands();
     let Reply::Block(label) = m.show(key) else {

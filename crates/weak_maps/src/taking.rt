@@ -2,17 +2,14 @@
 ghost use Rattle.std.specs.Prelude.{◌≡◌, ◌<◌, ◌≤◌, ◌/◌, ◌%◌};
 ghost use Rattle.heap_model.specs.declared.command.Command.TheVariants as command;
 ghost use Rattle.heap_model.specs.declared.graph.Value.TheVariants.{Block};
-ghost use Rattle.heap_model.specs.declared.label.Label as labels;
 ghost use Rattle.heap_model.specs.History.{IsPrefix};
-ghost use Rattle.table_laws.specs.Stages.{graph_of};
 ghost use Rattle.map_laws.specs.Calls.{PerformedBy};
-ghost use Rattle.map_laws.specs.Tries.{IsMap, root_width, IsInPlace};
-ghost use Rattle.map_laws.specs.Steps.{OthersRespect};
-ghost use Rattle.weak_maps.specs.Beside.{held_by, refusals_by, writings_by};
+ghost use Rattle.map_laws.specs.Tries.{root_width};
+ghost use Rattle.weak_maps.specs.Beside.{refusals_by, writings_by};
 ghost use Rattle.weak_maps.specs.Fields.{Cleared, Finds};
 ghost use Rattle.weak_maps.specs.Guards.{TakeGuards};
 ghost use Rattle.weak_maps.specs.Puts.{FindsField, KeepsLeaf};
-ghost use Rattle.weak_maps.specs.Returns.{TakeReturns};
+ghost use Rattle.weak_maps.specs.Returns.{FollowsAt, TakesAt};
 ghost use Rattle.weak_maps.specs.Walks.{OwnQuiet};
 
 use crate::digits::{node_index, number_of, root_index};
@@ -200,12 +197,8 @@ pub fn map_take<M: Machine, R: Wait>(m: &mut M, rt: &R, map: u8, key: u8) -> Rep
     ensures given { refusals_by (M.domain m.old) (M.front m.new) ≡ refusals_by (M.domain m.old) (M.front m.old) }
     ensures written { writings_by (M.domain m.old) (M.front m.new) ≡ writings_by (M.domain m.old) (M.front m.old) }
     ensures guards { TakeGuards (M.sizes m.old) (M.domain m.old) (M.front m.old) (M.front m.new) map }
-    ensures answer { (root : labels.Label) → held_by (M.sizes m.old) (M.domain m.old) (M.front m.old) map ≡ Block root → IsMap (graph_of (M.sizes m.old) (M.front m.old)) root
-        → OthersRespect (M.sizes m.old) root (M.domain m.old) (M.front m.old) (M.front m.new)
-        → TakeReturns (M.sizes m.old) (M.domain m.old) (M.front m.old) (M.front m.new) root (held_by (M.sizes m.old) (M.domain m.old) (M.front m.old) key) result }
-    ensures follows { (root : labels.Label) → held_by (M.sizes m.old) (M.domain m.old) (M.front m.old) map ≡ Block root → IsMap (graph_of (M.sizes m.old) (M.front m.old)) root
-        → IsInPlace (M.sizes m.old).domains (graph_of (M.sizes m.old) (M.front m.old)) root → OthersRespect (M.sizes m.old) root (M.domain m.old) (M.front m.old) (M.front m.new)
-        → IsMap (graph_of (M.sizes m.old) (M.front m.new)) root × IsInPlace (M.sizes m.old).domains (graph_of (M.sizes m.old) (M.front m.new)) root }
+    ensures answer { TakesAt (M.sizes m.old) (M.domain m.old) (M.front m.old) (M.front m.new) map key result }
+    ensures follows { FollowsAt (M.sizes m.old) (M.domain m.old) (M.front m.old) (M.front m.new) map }
 {
     m.stands();
     let Reply::Block(label) = m.show(key) else {
