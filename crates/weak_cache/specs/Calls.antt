@@ -16,7 +16,7 @@ use Rattle.map_laws.specs.Calls.{value_of}
 use Rattle.weak_maps.specs.Beside.{held_by}
 use Rattle.weak_maps.specs.Returns.{MakesNone}
 use Rattle.weak_cache.specs.Uses.{SlotsLeft, cached_in, put_first, taken, touched}
-use Rattle.weak_cache.specs.Caches.{Gone, IsBeside, IsCache, OwnSpare, slots_after}
+use Rattle.weak_cache.specs.Caches.{Gone, IsBeside, IsCache, OthersSpare, OwnSpare, slots_after}
 
 -- a cache is one still, and has these slots, but for keys that were outside reach. No other block was written that was there
 pub record LeavesCache (z : Sizes) (d : ℕ) (k : Label) (old new : List Entry) (c : Label) (size : ℕ) (slots : List (Option Binding)) : Type 0 where
@@ -67,3 +67,14 @@ pub record MakesCache (z : Sizes) (d : ℕ) (old new : List Entry) (dst size : �
 -- or the allocation was refused: the domain changed nothing
 abbrev pub MakeReturns : Sizes → ℕ → List Entry → List Entry → ℕ → ℕ → Reply → Type 0
 MakeReturns z d old new dst size r = ((c : Label) × (r ≡ reply.Block c) × MakesCache z d old new dst size c) ⊎ ((r ≡ reply.Full) × MakesNone z d old new)
+
+-- what a call answers and leaves of whatever cache of so many slots stands in a register when it begins, if others spare it until the call ends
+abbrev pub GetsAt : Sizes → ℕ → List Entry → List Entry → ℕ → ℕ → ℕ → ℕ → Reply → Type 0
+GetsAt z d old new dst cache size key r = (c : Label) → held_by z d old cache ≡ Block c → IsCache (graph_of z old) c size → OthersSpare z c d old new → GetReturns z d old new c size dst (held_by z d old key) r
+
+abbrev pub TakesAt : Sizes → ℕ → List Entry → List Entry → ℕ → ℕ → ℕ → ℕ → Reply → Type 0
+TakesAt z d old new dst cache size key r = (c : Label) → held_by z d old cache ≡ Block c → IsCache (graph_of z old) c size → OthersSpare z c d old new → TakeReturns z d old new c size dst (held_by z d old key) r
+
+abbrev pub PutsAt : Sizes → ℕ → List Entry → List Entry → ℕ → ℕ → ℕ → ℕ → Reply → Type 0
+PutsAt z d old new cache size key item r = (c : Label) → held_by z d old cache ≡ Block c → IsCache (graph_of z old) c size → OthersSpare z c d old new
+    → PutReturns z d old new c size (held_by z d old key) (held_by z d old item) r

@@ -2,15 +2,12 @@
 ghost use Rattle.std.specs.Prelude.{◌≡◌, ◌+◌, ◌<◌, ◌≤◌, ℕ, Some, cond};
 ghost use Rattle.heap_model.specs.declared.command.Command.TheVariants as command;
 ghost use Rattle.heap_model.specs.declared.graph.Value.TheVariants.{Block};
-ghost use Rattle.heap_model.specs.declared.label.Label as labels;
 ghost use Rattle.heap_model.specs.History.{IsPrefix};
 ghost use Rattle.table_laws.specs.Performing.{full_of, is_spared};
-ghost use Rattle.table_laws.specs.Stages.{graph_of};
 ghost use Rattle.map_laws.specs.Calls.{PerformedBy};
-ghost use Rattle.weak_maps.specs.Beside.{held_by, refusals_by, writings_by};
-ghost use Rattle.weak_cache.specs.Caches.{IsCache, OthersSpare};
-ghost use Rattle.weak_cache.specs.Calls.{GetReturns, MakeReturns, PutReturns, TakeReturns};
-ghost use Rattle.weak_cache.specs.Counts.{PutCounts};
+ghost use Rattle.weak_maps.specs.Beside.{Refuses, Writes, WritesAtMost, refusals_by, writings_by};
+ghost use Rattle.weak_cache.specs.Calls.{GetsAt, MakeReturns, PutsAt, TakesAt};
+ghost use Rattle.weak_cache.specs.Counts.{PutSpends};
 ghost use Rattle.weak_cache.specs.Passes.{Begun, Cleared, CutsOut, Draws, DrawsBehind, FindsLeaf, MakesLeaf, MovesFirst, Passes, Tells};
 
 use heap_model::command::Command;
@@ -31,8 +28,8 @@ pub fn cache_make<M: Machine, R: Wait>(m: &mut M, rt: &R, dst: u8, size: u16) ->
     ensures grows { IsPrefix (M.front m.old) (M.front m.new) }
     ensures labels { M.labels_left m.old + full_of result ≡ M.labels_left m.new + 1 }
     ensures room { M.ephes_room m.old ≤ M.ephes_room m.new }
-    ensures refused { refusals_by (M.domain m.old) (M.front m.new) ≡ refusals_by (M.domain m.old) (M.front m.old) + full_of result }
-    ensures written { writings_by (M.domain m.old) (M.front m.new) ≡ writings_by (M.domain m.old) (M.front m.old) + is_spared dst }
+    ensures refused { Refuses (M.domain m.old) (M.front m.old) (M.front m.new) (full_of result) }
+    ensures written { Writes (M.domain m.old) (M.front m.old) (M.front m.new) (is_spared dst) }
     ensures made { MakeReturns (M.sizes m.old) (M.domain m.old) (M.front m.old) (M.front m.new) dst size result }
 {
     m.stands();
@@ -351,10 +348,8 @@ pub fn cache_get<M: Machine, R: Wait>(
     ensures labels { M.labels_left m.new ≡ M.labels_left m.old }
     ensures room { M.ephes_room m.old ≤ M.ephes_room m.new }
     ensures given { refusals_by (M.domain m.old) (M.front m.new) ≡ refusals_by (M.domain m.old) (M.front m.old) }
-    ensures written { writings_by (M.domain m.old) (M.front m.new) ≤ writings_by (M.domain m.old) (M.front m.old) + is_spared dst }
-    ensures answer { (c : labels.Label) → held_by (M.sizes m.old) (M.domain m.old) (M.front m.old) cache ≡ Block c → IsCache (graph_of (M.sizes m.old) (M.front m.old)) c size
-        → OthersSpare (M.sizes m.old) c (M.domain m.old) (M.front m.old) (M.front m.new)
-        → GetReturns (M.sizes m.old) (M.domain m.old) (M.front m.old) (M.front m.new) c size dst (held_by (M.sizes m.old) (M.domain m.old) (M.front m.old) key) result }
+    ensures written { WritesAtMost (M.domain m.old) (M.front m.old) (M.front m.new) (is_spared dst) }
+    ensures answer { GetsAt (M.sizes m.old) (M.domain m.old) (M.front m.old) (M.front m.new) dst cache size key result }
 {
     m.stands();
     let Reply::Block(label) = m.show(key) else {
@@ -393,10 +388,8 @@ pub fn cache_take<M: Machine, R: Wait>(
     ensures labels { M.labels_left m.new ≡ M.labels_left m.old }
     ensures room { M.ephes_room m.old ≤ M.ephes_room m.new }
     ensures given { refusals_by (M.domain m.old) (M.front m.new) ≡ refusals_by (M.domain m.old) (M.front m.old) }
-    ensures written { writings_by (M.domain m.old) (M.front m.new) ≤ writings_by (M.domain m.old) (M.front m.old) + is_spared dst }
-    ensures answer { (c : labels.Label) → held_by (M.sizes m.old) (M.domain m.old) (M.front m.old) cache ≡ Block c → IsCache (graph_of (M.sizes m.old) (M.front m.old)) c size
-        → OthersSpare (M.sizes m.old) c (M.domain m.old) (M.front m.old) (M.front m.new)
-        → TakeReturns (M.sizes m.old) (M.domain m.old) (M.front m.old) (M.front m.new) c size dst (held_by (M.sizes m.old) (M.domain m.old) (M.front m.old) key) result }
+    ensures written { WritesAtMost (M.domain m.old) (M.front m.old) (M.front m.new) (is_spared dst) }
+    ensures answer { TakesAt (M.sizes m.old) (M.domain m.old) (M.front m.old) (M.front m.new) dst cache size key result }
 {
     m.stands();
     let Reply::Block(label) = m.show(key) else {
@@ -435,12 +428,11 @@ pub fn cache_put<M: Machine, R: Wait>(
     ensures domain { M.domain m.new ≡ M.domain m.old }
     ensures heap { M.heap m.new ≡ M.heap m.old }
     ensures grows { IsPrefix (M.front m.old) (M.front m.new) }
-    ensures counts { PutCounts (M.labels_left m.old) (M.labels_left m.new) (refusals_by (M.domain m.old) (M.front m.old)) (refusals_by (M.domain m.old) (M.front m.new)) result }
+    ensures counts { PutSpends (M.domain m.old) (M.labels_left m.old) (M.labels_left m.new)
+        (M.front m.old) (M.front m.new) result }
     ensures room { M.ephes_room m.old ≤ M.ephes_room m.new + 1 }
     ensures written { writings_by (M.domain m.old) (M.front m.new) ≡ writings_by (M.domain m.old) (M.front m.old) }
-    ensures answer { (c : labels.Label) → held_by (M.sizes m.old) (M.domain m.old) (M.front m.old) cache ≡ Block c → IsCache (graph_of (M.sizes m.old) (M.front m.old)) c size
-        → OthersSpare (M.sizes m.old) c (M.domain m.old) (M.front m.old) (M.front m.new)
-        → PutReturns (M.sizes m.old) (M.domain m.old) (M.front m.old) (M.front m.new) c size (held_by (M.sizes m.old) (M.domain m.old) (M.front m.old) key) (held_by (M.sizes m.old) (M.domain m.old) (M.front m.old) item) result }
+    ensures answer { PutsAt (M.sizes m.old) (M.domain m.old) (M.front m.old) (M.front m.new) cache size key item result }
 {
     m.stands();
     let Reply::Block(label) = m.show(key) else {

@@ -5,6 +5,7 @@ pub mod EntryLemmas
 pub mod StayLemmas
 pub mod DescendLemmas
 pub mod GetLemmas
+pub mod GuardLemmas
 pub mod MakeLemmas
 pub mod FieldLemmas
 pub mod TakeLemmas

@@ -24,10 +24,12 @@ use Rattle.map_laws.proofs.FrontLemmas.{prefix_same, prefix_trans}
 use Rattle.map_laws.proofs.OwnLemmas.{looks_none, looks_twice}
 use Rattle.map_laws.proofs.WithinLemmas.{within_earlier, within_none, within_twice}
 use Rattle.weak_maps.specs.Beside.{held_by}
+use Rattle.weak_maps.specs.Guards.{Guards}
 use Rattle.weak_maps.specs.Puts.{GoesOn, LeafMade, LeafRefused, OwnBlock}
 use Rattle.weak_maps.proofs.BesideLemmas.{sixteen, set_here, set_other, same_held}
 use Rattle.weak_maps.proofs.FreshLemmas.{made_behind, makes_on, map_mid, not_held_before, own_born, own_middle, own_on, reads_on, thin_empty, writes_on}
 use Rattle.weak_maps.proofs.GetLemmas.{grows_by}
+use Rattle.weak_maps.proofs.GuardLemmas.{guards_since, guards_twice}
 use Rattle.weak_maps.proofs.StayLemmas.{respects_within}
 
 pub goes_none : (z : Sizes) (root : Label) (d : ℕ) (old : List Entry) → IsMap (graph_of z old) root → GoesOn z root d old old
@@ -55,38 +57,18 @@ module _ (z : Sizes) (limits : IsWithinLimits z) (root : Label) (d : ℕ) where
       (λ granted. let clash : reply.Block (made z d old new (NewEphe 10 1) r p) ≡ reply.Full = sym granted.2.2 ∙ full in cc)
       (ephe_step z d old new r 10 p)
 
-  module _ (old n0 n1 n2 : List Entry) (r0 r1 r2 : Reply) (key item : ℕ) (few_key : key < 8) (few_item : item < 8) (k : Label) (holds_key : held_by z d old key ≡ Block k) (some : held_by z d old item ≢ Nothing)
-      (map : IsMap (graph_of z old) root) (p0 : PerformedBy z d old n0 (NewEphe 10 1) r0) (p1 : PerformedBy z d n0 n1 (SetData 10 item) r1) (p2 : PerformedBy z d n1 n2 (SetKey 10 0 key) r2)
-      (other : r0 ≡ reply.Full → ⊥) (respects : OthersRespect z root d old n2) where
+  module _ (old n0 : List Entry) (r0 : Reply) (map : IsMap (graph_of z old) root) (p0 : PerformedBy z d old n0 (NewEphe 10 1) r0) (other : r0 ≡ reply.Full → ⊥) (e0 : OthersRespect z root d old n0) where
     abbrev l : Label
     l = made z d old n0 (NewEphe 10 1) r0 p0
-
-    abbrev v : Value
-    v = held_by z d old item
-
-    g2 : IsPrefix n1 n2
-    g2 = grows_by z d n1 n2 (SetKey 10 0 key) r2 p2
-
-    g1 : IsPrefix n0 n1
-    g1 = grows_by z d n0 n1 (SetData 10 item) r1 p1
 
     g0 : IsPrefix old n0
     g0 = grows_by z d old n0 (NewEphe 10 1) r0 p0
 
-    e0 : OthersRespect z root d old n0
-    e0 = respects_within z root d old n2 old n0 (prefix_same old) (prefix_trans n0 n1 n2 g1 g2) respects
-
-    e1 : OthersRespect z root d n0 n1
-    e1 = respects_within z root d old n2 n0 n1 g0 g2 respects
-
-    e2 : OthersRespect z root d n1 n2
-    e2 = respects_within z root d old n2 n1 n2 (prefix_trans old n0 n1 g0 g1) (prefix_same n2) respects
-
     abbrev First : Type 0
     First = GoesOn z root d old n0 × ((i : ℕ) → i ≢ 10 → held_by z d n0 i ≡ held_by z d old i) × OwnBlock z d n0 root 10 l (Ephe (None ∷ []) Nothing) × IsMadeBehind z d old l
 
-    first : First
-    first = ⊎_elim
+    pub leaf_begun : First
+    leaf_begun = ⊎_elim
         (λ refused. absurd (other refused.1.2))
         (λ granted.
         let mine = made_behind z d root old n0 (NewEphe 10 1) r0 p0 old (prefix_same old) granted.1 in
@@ -100,34 +82,66 @@ module _ (z : Sizes) (limits : IsWithinLimits z) (root : Label) (d : ℕ) where
         (ephe_step z d old n0 r0 10 p0)
 
     -- the datum
-    abbrev Second : Type 0
-    Second = GoesOn z root d old n1 × ((i : ℕ) → held_by z d n1 i ≡ held_by z d n0 i) × OwnBlock z d n1 root 10 l (Ephe (None ∷ []) v)
+    module _ (n1 : List Entry) (r1 : Reply) (item : ℕ) (few_item : item < 8) (some : held_by z d old item ≢ Nothing) (p1 : PerformedBy z d n0 n1 (SetData 10 item) r1) (e1 : OthersRespect z root d n0 n1) where
+      abbrev v : Value
+      v = held_by z d old item
 
-    second : Second
-    second =
-        let x = own_middle z d root n0 n1 (SetData 10 item) r1 p1 10 l (Ephe (None ∷ []) Nothing) (thin_empty (WasUnreached z n0 (n0 ++ p1.between)) Nothing) first.2 in
-        let is : held_by z d n0 item ≡ v = first.1 item (λ e. absurd (omega (arith, few_item, e))) in
-        let all = set_data_step z d n0 n1 r1 10 item p1 l v None Nothing first.2.held is some x.node in
-        let on = writes_on z d root n0 n1 (SetData 10 item) r1 p1 e1 first.0.map 10 l (Ephe (None ∷ []) Nothing) (Ephe (None ∷ []) v) x all.0 in (
-          goes_by z root d old n0 n1 (SetData 10 item) r1 p1 first.0 on.0 on.1 (on.2 old first.3),
-          same_held z d n0 n1 all.1,
-          own_on z d root n0 n1 (SetData 10 item) r1 p1 10 l (Ephe (None ∷ []) Nothing) (Ephe (None ∷ []) v) item x (λ j e. sym (eqb-true item j e))
-              (λ e. not_held_before z d root old n0 (NewEphe 10 1) r0 p0 item (sym is ∙ e)) (same_held z d n0 n1 all.1 10)
-              (ap (λ (g : Graph). node_at g l) all.0 ∙ node_at-with_node_same (graph_of z (n0 ++ p1.between)) l (Ephe (None ∷ []) v) (Ephe (None ∷ []) Nothing) x.node),
-        )
+      abbrev Second : Type 0
+      Second = GoesOn z root d old n1 × ((i : ℕ) → held_by z d n1 i ≡ held_by z d n0 i) × OwnBlock z d n1 root 10 l (Ephe (None ∷ []) v)
 
-    -- the key
-    pub leaf_made : LeafMade z d old n2 root k v
-    leaf_made =
-        let x = own_middle z d root n1 n2 (SetKey 10 0 key) r2 p2 10 l (Ephe (None ∷ []) v) (thin_empty (WasUnreached z n1 (n1 ++ p2.between)) v) second.2 in
-        let is : held_by z d n1 key ≡ held_by z d old key = second.1 key ∙ first.1 key (λ e. absurd (omega (arith, few_key, e))) in
-        let all = set_key_step z d n1 n2 r2 10 key p2 l k None v second.2.held (is ∙ holds_key) x.node in
-        let on = writes_on z d root n1 n2 (SetKey 10 0 key) r2 p2 e2 second.0.map 10 l (Ephe (None ∷ []) v) (Ephe (Some k ∷ []) v) x all.0 in record {
-          on = goes_by z root d old n1 n2 (SetKey 10 0 key) r2 p2 second.0 on.0 on.1 (on.2 old first.3);
-          keeps = λ i apart. same_held z d n1 n2 all.1 i ∙ (second.1 i ∙ first.1 i apart);
-          l = l;
-          made = first.3;
-          leaf = own_on z d root n1 n2 (SetKey 10 0 key) r2 p2 10 l (Ephe (None ∷ []) v) (Ephe (Some k ∷ []) v) key x (λ j e. sym (eqb-true key j e))
-              (λ e. not_held_before z d root old n0 (NewEphe 10 1) r0 p0 key (sym is ∙ e)) (same_held z d n1 n2 all.1 10)
-              (ap (λ (g : Graph). node_at g l) all.0 ∙ node_at-with_node_same (graph_of z (n1 ++ p2.between)) l (Ephe (Some k ∷ []) v) (Ephe (None ∷ []) v) x.node);
-        }
+      pub leaf_filled : Second
+      leaf_filled =
+          let x = own_middle z d root n0 n1 (SetData 10 item) r1 p1 10 l (Ephe (None ∷ []) Nothing) (thin_empty (WasUnreached z n0 (n0 ++ p1.between)) Nothing) leaf_begun.2 in
+          let is : held_by z d n0 item ≡ v = leaf_begun.1 item (λ e. absurd (omega (arith, few_item, e))) in
+          let all = set_data_step z d n0 n1 r1 10 item p1 l v None Nothing leaf_begun.2.held is some x.node in
+          let on = writes_on z d root n0 n1 (SetData 10 item) r1 p1 e1 leaf_begun.0.map 10 l (Ephe (None ∷ []) Nothing) (Ephe (None ∷ []) v) x all.0 in (
+            goes_by z root d old n0 n1 (SetData 10 item) r1 p1 leaf_begun.0 on.0 on.1 (on.2 old leaf_begun.3),
+            same_held z d n0 n1 all.1,
+            own_on z d root n0 n1 (SetData 10 item) r1 p1 10 l (Ephe (None ∷ []) Nothing) (Ephe (None ∷ []) v) item x (λ j e. sym (eqb-true item j e))
+                (λ e. not_held_before z d root old n0 (NewEphe 10 1) r0 p0 item (sym is ∙ e)) (same_held z d n0 n1 all.1 10)
+                (ap (λ (g : Graph). node_at g l) all.0 ∙ node_at-with_node_same (graph_of z (n0 ++ p1.between)) l (Ephe (None ∷ []) v) (Ephe (None ∷ []) Nothing) x.node),
+          )
+
+      -- the key
+      pub leaf_made : (n2 : List Entry) (r2 : Reply) (key : ℕ) → key < 8 → (k : Label) → held_by z d old key ≡ Block k → (p2 : PerformedBy z d n1 n2 (SetKey 10 0 key) r2) → OthersRespect z root d n1 n2 → LeafMade z d old n2 root k v
+      leaf_made n2 r2 key few_key k holds_key p2 e2 =
+          let x = own_middle z d root n1 n2 (SetKey 10 0 key) r2 p2 10 l (Ephe (None ∷ []) v) (thin_empty (WasUnreached z n1 (n1 ++ p2.between)) v) leaf_filled.2 in
+          let is : held_by z d n1 key ≡ held_by z d old key = leaf_filled.1 key ∙ leaf_begun.1 key (λ e. absurd (omega (arith, few_key, e))) in
+          let all = set_key_step z d n1 n2 r2 10 key p2 l k None v leaf_filled.2.held (is ∙ holds_key) x.node in
+          let on = writes_on z d root n1 n2 (SetKey 10 0 key) r2 p2 e2 leaf_filled.0.map 10 l (Ephe (None ∷ []) v) (Ephe (Some k ∷ []) v) x all.0 in record {
+            on = goes_by z root d old n1 n2 (SetKey 10 0 key) r2 p2 leaf_filled.0 on.0 on.1 (on.2 old leaf_begun.3);
+            keeps = λ i apart. same_held z d n1 n2 all.1 i ∙ (leaf_filled.1 i ∙ leaf_begun.1 i apart);
+            l = l;
+            made = leaf_begun.3;
+            leaf = own_on z d root n1 n2 (SetKey 10 0 key) r2 p2 10 l (Ephe (None ∷ []) v) (Ephe (Some k ∷ []) v) key x (λ j e. sym (eqb-true key j e))
+                (λ e. not_held_before z d root old n0 (NewEphe 10 1) r0 p0 key (sym is ∙ e)) (same_held z d n1 n2 all.1 10)
+                (ap (λ (g : Graph). node_at g l) all.0 ∙ node_at-with_node_same (graph_of z (n1 ++ p2.between)) l (Ephe (Some k ∷ []) v) (Ephe (None ∷ []) v) x.node);
+          }
+
+  -- the three commands one after the other
+  module _ (old n0 n1 n2 : List Entry) (r0 r1 r2 : Reply) (key item : ℕ) (few_key : key < 8) (few_item : item < 8) (k : Label) (holds_key : held_by z d old key ≡ Block k) (some : held_by z d old item ≢ Nothing)
+      (map : IsMap (graph_of z old) root) (p0 : PerformedBy z d old n0 (NewEphe 10 1) r0) (p1 : PerformedBy z d n0 n1 (SetData 10 item) r1) (p2 : PerformedBy z d n1 n2 (SetKey 10 0 key) r2)
+      (other : r0 ≡ reply.Full → ⊥) where
+    g2 : IsPrefix n1 n2
+    g2 = grows_by z d n1 n2 (SetKey 10 0 key) r2 p2
+
+    g1 : IsPrefix n0 n1
+    g1 = grows_by z d n0 n1 (SetData 10 item) r1 p1
+
+    g_first : IsPrefix old n0
+    g_first = grows_by z d old n0 (NewEphe 10 1) r0 p0
+
+    filled : OthersRespect z root d old n1 → GoesOn z root d old n1
+    filled e = (leaf_filled old n0 r0 map p0 other (respects_within z root d old n1 old n0 (prefix_same old) g1 e) n1 r1 item few_item some p1 (respects_within z root d old n1 n0 n1 g_first (prefix_same n1) e)).0
+
+    pub leaf_whole : OthersRespect z root d old n2 → LeafMade z d old n2 root k (held_by z d old item)
+    leaf_whole e =
+        leaf_made old n0 r0 map p0 other (respects_within z root d old n2 old n0 (prefix_same old) (prefix_trans n0 n1 n2 g1 g2) e) n1 r1 item few_item some p1 (respects_within z root d old n2 n0 n1 g_first g2 e) n2 r2 key few_key k holds_key p2
+        (respects_within z root d old n2 n1 n2 (prefix_trans old n0 n1 g_first g1) (prefix_same n2) e)
+
+    -- each of them respects the map, if others did up to it
+    pub leaf_guards : Guards z root d old old n2
+    leaf_guards =
+        guards_twice z root d old old n0 n2 (prefix_trans n0 n1 n2 g1 g2) (guards_since z root d old old n0 (NewEphe 10 1) r0 p0 (prefix_same old) (λ e. (leaf_begun old n0 r0 map p0 other e).0.looks.respects))
+        (guards_twice z root d old n0 n1 n2 g2 (guards_since z root d old n0 n1 (SetData 10 item) r1 p1 g_first (λ e. (filled e).looks.respects))
+        (guards_since z root d old n1 n2 (SetKey 10 0 key) r2 p2 (prefix_trans old n0 n1 g_first g1) (λ e. (leaf_whole e).on.looks.respects)))

@@ -1,7 +1,7 @@
 -- One try of a put.
 use Rattle.std.proofs.Common.{◌≡◌, ◌≢◌, inl, inr, ℕ, ◌+◌, ◌<◌, ◌^◌, ◌%◌, Bool, true, false, cond, List, [], ◌∷◌, Option, Some, None, refl, ap, ◌∙◌, subst, arith, min}
 use Rattle.heap_model.specs.declared.label.Label.{Label}
-use Rattle.heap_model.specs.declared.command.Command.TheVariants.{Load}
+use Rattle.heap_model.specs.declared.command.Command.TheVariants.{Cas, Load}
 use Rattle.heap_model.specs.declared.entry.Entry.{Entry}
 use Rattle.heap_model.specs.declared.reply.Reply.{Reply}
 use Rattle.heap_model.specs.declared.reply.Reply.TheVariants as reply
@@ -17,19 +17,21 @@ use Rattle.heap_model.proofs.Graphs.GraphLemmas.{same_label-true}
 use Rattle.table_laws.specs.Stages.{graph_of}
 use Rattle.table_laws.proofs.StepLemmas.{legal_parts}
 use Rattle.map_laws.specs.Tries.{bound_by, bound_in, node_width, number_of, IsLabelOf, IsMap, IsInPlace}
-use Rattle.map_laws.specs.Steps.{OthersRespect}
+use Rattle.map_laws.specs.Steps.{OthersRespect, OwnRespect}
 use Rattle.map_laws.specs.Calls.{PerformedBy, PutsOrFull}
 use Rattle.map_laws.proofs.FrontLemmas.{prefix_same}
 use Rattle.map_laws.proofs.RespectLemmas.{respect_both}
 use Rattle.map_laws.proofs.LabelLemmas.{held_below, key_below}
 use Rattle.weak_maps.specs.Beside.{held_by}
-use Rattle.weak_maps.specs.Fields.{Cleared}
-use Rattle.weak_maps.specs.Puts.{Arrived, FindsField, KeepsLeaf, MakesRoom, Publishes, Putting, rest_of}
+use Rattle.weak_maps.specs.Fields.{AtField, Cleared}
+use Rattle.weak_maps.specs.Guards.{Guards, RoomGuards, SettleGuards}
+use Rattle.weak_maps.specs.Puts.{Arrived, FindsField, KeepsLeaf, MakesRoom, Publishes, PublishesBy, Putting, rest_of}
 use Rattle.weak_maps.specs.declared.putting.Try.{Try}
 use Rattle.weak_maps.specs.Settles.{SettledBy, Settles}
 use Rattle.weak_maps.specs.Returns.{TakeLeaves}
 use Rattle.weak_maps.proofs.BesideLemmas.{low_beside}
 use Rattle.weak_maps.proofs.GetLemmas.{grows_by}
+use Rattle.weak_maps.proofs.GuardLemmas.{guards_by, guards_later, guards_then}
 use Rattle.weak_maps.proofs.PlaceLemmas.{place_after}
 use Rattle.weak_maps.proofs.PutLemmas.{goes_twice}
 use Rattle.weak_maps.proofs.RoomLemmas.{goes_all, stays_all}
@@ -82,6 +84,26 @@ module _ (z : Sizes) (limits : IsWithinLimits z) (root : Label) (d : ℕ) (old n
       put_read z limits root d old k v kr few key t.found.front now n1 new t.first r i rest t.found.shows level t.found.field t.found.deep (goes_twice z root d old now n1 t.on x.on)
       (stays_twice z root t.found.front now n1 t.found.field.stays (stays_all z root now n1 grows (goes_all z root d now n1 others x.on) t.on.map)) (x.keeps 8) (λ j small. x.keeps j ∙ t.keeps j small) t.l t.made x.leaf p respects
 
+  -- what an exchange does to the map
+  published_respects : (n1 : List Entry) (front first : List Entry) (rest : ℕ) (s : Reply) (field : AtField z d first front now root k i rest s) (l : Label) (won : Bool) → PublishesBy z d first front now n1 root k i rest s field l v won → OwnRespect z root d now n1
+  published_respects n1 front first rest s field l true x = x.changes.respects
+  published_respects n1 front first rest s field l false x = x.on.looks.respects
+
+  -- it respects the map, if others did up to it
+  pub settle_publishes : (n1 : List Entry) (r : Reply) (won : Bool) → Arrived z d old now root k v i rest level None → Publishes z d now n1 i won → PerformedBy z d now n1 (Cas 8 i 9 10) r → Guards z root d old now n1
+  settle_publishes n1 r won t publishes p =
+      guards_by z root d old now n1 (Cas 8 i 9 10) r p
+      (λ respects. published_respects n1 t.found.front t.first rest t.found.shows t.found.field t.l won
+      (publishes t.first t.found.front root k t.l v rest kr t.found.shows (t.keeps kr (low_beside kr few) ∙ key) t.found.field t.found.binds t.leaf t.on.map (respects_within z root d old n1 now n1 t.on.grows (prefix_same n1) respects)))
+
+  -- and so does the making of room
+  pub settle_rooms : (n1 : List Entry) (j : Label) → Arrived z d old now root k v i rest level (Some j) → k.serial < 2 ^ 32 → j.serial < 2 ^ 32 → IsMap (graph_of z old) root → IsInPlace z.domains (graph_of z old) root → RoomGuards z d now n1 i (rest_of (number_of z.domains j) level % node_width) → Guards z root d old now n1
+  settle_rooms n1 j t serial_k serial_j map placed rooms =
+      guards_then z root d old now n1
+      (λ before.
+      let way = put_digit z limits root d old k v kr few key now i rest level (Some j) t map placed before j refl (key_label (Some j) t serial_k) (other_label j t serial_j) in
+      guards_later z root d old now now n1 t.on.grows (rooms t.first t.found.front root k j t.l v rest kr t.found.shows few (t.keeps kr (low_beside kr few) ∙ key) t.found.field t.found.binds way t.leaf t.on.map))
+
   -- no room is made
   pub settle_full : (n1 new : List Entry) (j : Label) → Arrived z d old now root k v i rest level (Some j) → k.serial < 2 ^ 32 → j.serial < 2 ^ 32 → IsMap (graph_of z old) root → IsInPlace z.domains (graph_of z old) root → MakesRoom z d now n1 i (rest_of (number_of z.domains j) level % node_width) false
       → IsPrefix now n1 → Cleared z d n1 new → OthersRespect z root d old new → PutsOrFull z root d old new k v reply.Full × TakeLeaves z d old new root
@@ -128,6 +150,13 @@ pub put_settles : (z : Sizes) (limits : IsWithinLimits z) (root : Label) (d : �
 put_settles z limits root d old k v kr few key now n0 new i rest i2 rest2 level steps sum s other try is putting finds own grows settles later map placed respects =
     settles old root v kr few key map placed
     (put_searched z limits root d old k v kr few key now n0 i rest i2 rest2 level steps sum s other is putting finds own grows (respects_within z root d old new old n0 (prefix_same old) later respects)) respects
+
+-- which respects the map, if others did up to each of its entries
+pub put_guards : (z : Sizes) (limits : IsWithinLimits z) (root : Label) (d : ℕ) (old : List Entry) (k : Label) (v : Value) (kr : ℕ) → kr < 8 → held_by z d old kr ≡ Block k → (now n0 new : List Entry) (i rest i2 rest2 level steps sum : ℕ) (s : Reply) (other : Option Label) → sum ≡ min (level + steps) 255
+    → (OthersRespect z root d old now → Putting z d old now root k v i rest s level) → FindsField z d now n0 kr k i rest s i2 rest2 steps other → KeepsLeaf z d now n0 kr k i rest s → IsPrefix now n0 → SettleGuards z d n0 new k i2 rest2 sum other
+    → IsMap (graph_of z old) root → IsInPlace z.domains (graph_of z old) root → Guards z root d old n0 new
+put_guards z limits root d old k v kr few key now n0 new i rest i2 rest2 level steps sum s other is putting finds own grows guards map placed =
+    guards_then z root d old n0 new (λ before. guards old root v kr few key map placed (put_searched z limits root d old k v kr few key now n0 i rest i2 rest2 level steps sum s other is putting finds own grows before))
 
 -- whatever is answered, each leaf stands on its key's way still
 pub put_placed : (z : Sizes) (root : Label) (d : ℕ) (old new : List Entry) (k : Label) (v : Value) (r : Reply) → IsPrefix old new → IsMap (graph_of z old) root → IsInPlace z.domains (graph_of z old) root → OthersRespect z root d old new → PutsOrFull z root d old new k v r

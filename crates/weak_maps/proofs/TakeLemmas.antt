@@ -28,7 +28,7 @@ use Rattle.table_laws.specs.Stages.{graph_of}
 use Rattle.table_laws.proofs.ChangeLemmas.{thin_is}
 use Rattle.table_laws.proofs.StageLemmas.{prefix_trans}
 use Rattle.map_laws.specs.Tries.{at, inside, fields_of, found, bound_by, bound_in, is_leaf, low_digits, number_of, root_width, way_to, IsMap}
-use Rattle.map_laws.specs.Steps.{Sets, SetsKey, OthersRespect, RespectsMap, SparesLeaves}
+use Rattle.map_laws.specs.Steps.{Sets, SetsKey, OthersRespect, OwnRespect, RespectsMap, SparesLeaves}
 use Rattle.map_laws.specs.Calls.{ChangesOne, OwnKeep, PerformedBy, bound_after, registers_after}
 use Rattle.map_laws.proofs.CallLemmas.{cas_step, forget_step, put_step}
 use Rattle.map_laws.proofs.WalkLemmas.{same_number}
@@ -224,6 +224,10 @@ module _ (z : Sizes) (limits : IsWithinLimits z) (root : Label) (d : ℕ) (first
             (before_or_behind new last front2 e after.grows until);
       }
 
+    -- either way it respects the map
+    pub cas_respects : OwnRespect z root d first new
+    cas_respects = ⊎_elim (λ won. (changes won.0 won.1.0 new (looking_from z root d new (map_new won.0 won.1.0))).respects) (λ lost. (quiet_looks z root d first new (looking_on z root d first now new c r p lost.1.0 respects looking).quiet).respects) took
+
     pub cas_won : r ≡ reply.Yes → IsMap (graph_of z new) root × ((last : List Entry) → Looking z root d new last → ChangesOne z root d first last k (Some datum) None) × ((j : ℕ) → held_by z d new j ≡ held_by z d now j)
         × ((base : List Entry) → OwnWithin z root d base now new)
     cas_won is = ⊎_elim (λ won. (map_new won.0 won.1.0, changes won.0 won.1.0, (λ j. same_held z d now new won.1.1 j), within won.0 won.1.0))
@@ -319,6 +323,13 @@ module _ (z : Sizes) (limits : IsWithinLimits z) (root : Label) (d : ℕ) (old :
           f.1 10 (λ e. absurd (omega (arith, e))) (λ e. absurd (omega (arith, e))) (λ e. absurd (omega (arith, e))) ∙ t.ten,
           f.2,
         )
+
+    -- the exchange respects the map, if others did up to it
+    pub take_guards : (now n0 n1 : List Entry) (i rest i2 rest2 : ℕ) (s r : Reply) → Finds z d now n0 kr k i rest s i2 rest2 true → (OthersRespect z root d old now → Taking z d old now root k i rest s) → IsPrefix now n0 → PerformedBy z d n0 n1 (Cas 8 i2 9 10) r → OthersRespect z root d old n1 → OwnRespect z root d old n1
+    take_guards now n0 n1 i rest i2 rest2 s r finds taking grows p respects =
+        let f = found_from now n0 i rest i2 rest2 s true finds taking grows (respects_within z root d old n1 old n0 (prefix_same old) (grows_by z d n0 n1 (Cas 8 i2 9 10) r p) respects) in
+        let m = f.3 in
+        cas_respects z limits root d old k m.front n0 n1 r i2 rest2 m.shows m.datum kr p respects f.0 m.field m.leaf (f.1 kr (low_beside kr few) ∙ key) f.2
 
     pub take_missed : (now n0 new : List Entry) (i rest i2 rest2 : ℕ) (s : Reply) → Finds z d now n0 kr k i rest s i2 rest2 false → (OthersRespect z root d old now → Taking z d old now root k i rest s) → IsPrefix now n0 → Cleared z d n0 new → IsPrefix n0 new → OthersRespect z root d old new
         → TakeReturns z d old new root (Block k) reply.Empty

@@ -1,5 +1,5 @@
 -- What a register of a domain holds, and what the domain's entries do besides.
-use Rattle.std.specs.Prelude.{ℕ, ◌+◌, cond, List, [], ◌∷◌}
+use Rattle.std.specs.Prelude.{◌≡◌, ◌≤◌, ℕ, ◌+◌, cond, List, [], ◌∷◌}
 use Rattle.heap_model.specs.declared.entry.Entry.{Entry}
 use Rattle.heap_model.specs.declared.graph.Value.{Value}
 use Rattle.heap_model.specs.declared.state.Sizes.{Sizes}
@@ -21,3 +21,13 @@ refusals_by d (e ∷ h) = cond (is_entry_of d e) (refused e) 0 + refusals_by d h
 abbrev pub writings_by : ℕ → List Entry → ℕ
 writings_by d [] = 0
 writings_by d (e ∷ h) = cond (is_entry_of d e) (written e) 0 + writings_by d h
+
+-- so many commands more of a domain were answered `full`, so many entries more of it write one of those registers, and at most so many
+abbrev pub Refuses : ℕ → List Entry → List Entry → ℕ → Type 0
+Refuses d old new n = refusals_by d new ≡ refusals_by d old + n
+
+abbrev pub Writes : ℕ → List Entry → List Entry → ℕ → Type 0
+Writes d old new n = writings_by d new ≡ writings_by d old + n
+
+abbrev pub WritesAtMost : ℕ → List Entry → List Entry → ℕ → Type 0
+WritesAtMost d old new n = writings_by d new ≤ writings_by d old + n

@@ -13,7 +13,7 @@ use Rattle.heap_model.specs.History.{IsPrefix}
 use Rattle.table_laws.specs.Stages.{graph_of}
 use Rattle.map_laws.specs.Tries.{at, inside, is_leaf, node_width, root_width, width_at, IsMap, IsInPlace}
 use Rattle.map_laws.specs.Steps.{OthersLeave}
-use Rattle.map_laws.specs.Calls.{AreZero, HasKey, OwnKeep, PerformedBy}
+use Rattle.map_laws.specs.Calls.{AreZero, CleanAnswers, HasKey, OwnKeep, PerformedBy}
 use Rattle.map_laws.specs.Within.{OwnWithin}
 use Rattle.weak_maps.specs.Beside.{held_by}
 
@@ -124,3 +124,8 @@ pub record CleanLeaves (z : Sizes) (d : ℕ) (old new : List Entry) (root : Labe
   pub within : OwnWithin z root d old old new
   pub clean : (i : ℕ) → 8 ≤ i → i < 16 → held_by z d new i ≡ Nothing
   pub registers : (i : ℕ) → i < 8 → held_by z d new i ≡ held_by z d old i
+
+-- what `map_clean` answers and leaves of whatever map stands in a register when it begins, each leaf on its key's way, if others leave the map as it is until it ends
+abbrev pub CleansAt : Sizes → ℕ → List Entry → List Entry → ℕ → Bool → Type 0
+CleansAt z d old new map empty = (root : Label) → held_by z d old map ≡ Block root → IsMap (graph_of z old) root → IsInPlace z.domains (graph_of z old) root → OthersLeave z root d old new
+    → CleanAnswers z root d old new empty × CleanLeaves z d old new root

@@ -11,7 +11,9 @@ use Rattle.heap_model.specs.Domains.{domain_at}
 use Rattle.heap_model.specs.History.{IsPrefix}
 use Rattle.table_laws.specs.Thinning.{state_of}
 use Rattle.table_laws.specs.Stages.{graph_of}
-use Rattle.map_laws.specs.Tries.{bound_by, ends, inside, way_to}
+use Rattle.map_laws.specs.Tries.{IsInPlace, IsMap, bound_by, ends, inside, way_to}
+use Rattle.map_laws.specs.Steps.{OthersLeave, OthersRespect}
+use Rattle.weak_maps.specs.Beside.{held_by, refusals_by}
 
 -- what a put counts: labels that were left and are left, and commands of the domain that were refused and are.
 -- Done: none was refused, and a leaf and at most six blocks were made. `full`: one was refused, or none was, and a leaf and six blocks were made. `type`: nothing was made. There is no other answer
@@ -20,6 +22,10 @@ PutCounts labels left refused now reply.Done = (now ≡ refused) × (left + 1 �
 PutCounts labels left refused now reply.Full = ((now ≡ refused + 1) × (left ≤ labels) × (labels ≤ left + 6)) ⊎ ((now ≡ refused) × (labels ≡ left + 7))
 PutCounts labels left refused now reply.BadType = (now ≡ refused) × (labels ≡ left)
 PutCounts labels left refused now r = ⊥
+
+-- the same by what a domain has seen
+abbrev pub PutSpends : ℕ → ℕ → ℕ → List Entry → List Entry → Reply → Type 0
+PutSpends d labels left old new r = PutCounts labels left (refusals_by d old) (refusals_by d new) r
 
 -- the way to a key ends at a leaf of another
 abbrev pub IsInTheWay : ℕ → Graph → Label → Label → Label → Type 0
@@ -39,3 +45,13 @@ pub record IsCrowded (z : Sizes) (d : ℕ) (old new : List Entry) (root k : Labe
   pub until : IsPrefix front new
   pub other : Label
   pub way : IsInTheWay z.domains (graph_of z front) root k other
+
+-- a put of a key into whatever map stands in a register, with each leaf on its key's way, that is answered `full` though no allocation was refused: others have crowded the key's way, if they respect the map
+abbrev pub CrowdedAt : Sizes → ℕ → List Entry → List Entry → ℕ → ℕ → Reply → Type 0
+CrowdedAt z d old new map key r = (root k : Label) → held_by z d old map ≡ Block root → held_by z d old key ≡ Block k → IsMap (graph_of z old) root → IsInPlace z.domains (graph_of z old) root → OthersRespect z root d old new
+    → r ≡ reply.Full → refusals_by d new ≡ refusals_by d old → IsCrowded z d old new root k
+
+-- and where others leave the map as it is, one was refused
+abbrev pub RefusedAlone : Sizes → ℕ → List Entry → List Entry → ℕ → ℕ → Reply → Type 0
+RefusedAlone z d old new map key r = (root k : Label) → held_by z d old map ≡ Block root → held_by z d old key ≡ Block k → IsMap (graph_of z old) root → IsInPlace z.domains (graph_of z old) root → OthersRespect z root d old new → OthersLeave z root d old new
+    → r ≡ reply.Full → refusals_by d new ≡ refusals_by d old + 1

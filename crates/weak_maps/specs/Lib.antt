@@ -7,3 +7,4 @@ pub mod Puts
 pub mod Settles
 pub mod Crowds
 pub mod Cleans
+pub mod Guards

@@ -13,6 +13,7 @@ use Rattle.heap_model.specs.History.{IsPrefix}
 use Rattle.table_laws.specs.Stages.{graph_of}
 use Rattle.map_laws.specs.Tries.{IsMap, root_width, IsInPlace}
 use Rattle.map_laws.specs.Calls.{GetAnswers, PutAnswers, TakeAnswers, bound_after}
+use Rattle.map_laws.specs.Steps.{OthersRespect}
 use Rattle.map_laws.specs.Within.{OwnWithin}
 use Rattle.weak_maps.specs.Beside.{held_by}
 use Rattle.weak_maps.specs.Fields.{IsBeside}
@@ -69,3 +70,19 @@ abbrev pub PutReturns : Sizes → ℕ → List Entry → List Entry → Label �
 PutReturns z d old new root (Block k) (Int i) r = PutAnswers z root d old new (Block k) (Int i) r × TakeLeaves z d old new root × IsInPlace z.domains (graph_of z new) root
 PutReturns z d old new root (Block k) (Block l) r = PutAnswers z root d old new (Block k) (Block l) r × TakeLeaves z d old new root × IsInPlace z.domains (graph_of z new) root
 PutReturns z d old new root key v r = PutAnswers z root d old new key v r
+
+-- what a call answers and leaves of whatever map stands in a register when it begins, if others respect the map until it ends
+abbrev pub GetsAt : Sizes → ℕ → List Entry → List Entry → ℕ → ℕ → ℕ → Reply → Type 0
+GetsAt z d old new dst map key r = (root : Label) → held_by z d old map ≡ Block root → IsMap (graph_of z old) root → OthersRespect z root d old new → GetReturns z d old new root dst (held_by z d old key) r
+
+abbrev pub TakesAt : Sizes → ℕ → List Entry → List Entry → ℕ → ℕ → Reply → Type 0
+TakesAt z d old new map key r = (root : Label) → held_by z d old map ≡ Block root → IsMap (graph_of z old) root → OthersRespect z root d old new → TakeReturns z d old new root (held_by z d old key) r
+
+abbrev pub PutsAt : Sizes → ℕ → List Entry → List Entry → ℕ → ℕ → ℕ → Reply → Type 0
+PutsAt z d old new map key item r = (root : Label) → held_by z d old map ≡ Block root → IsMap (graph_of z old) root → IsInPlace z.domains (graph_of z old) root → OthersRespect z root d old new
+    → PutReturns z d old new root (held_by z d old key) (held_by z d old item) r
+
+-- a map with each leaf on its key's way is one still
+abbrev pub FollowsAt : Sizes → ℕ → List Entry → List Entry → ℕ → Type 0
+FollowsAt z d old new map = (root : Label) → held_by z d old map ≡ Block root → IsMap (graph_of z old) root → IsInPlace z.domains (graph_of z old) root → OthersRespect z root d old new
+    → IsMap (graph_of z new) root × IsInPlace z.domains (graph_of z new) root

@@ -1,15 +1,10 @@
 //! Maps that are cleaned.
-ghost use Rattle.std.specs.Prelude.{◌≡◌, ◌+◌, ◌-◌, ◌<◌, ◌≤◌, cond};
+ghost use Rattle.std.specs.Prelude.{◌≡◌, ◌-◌, ◌<◌, ◌≤◌};
 ghost use Rattle.heap_model.specs.declared.command.Command.TheVariants as command;
-ghost use Rattle.heap_model.specs.declared.graph.Value.TheVariants.{Block};
-ghost use Rattle.heap_model.specs.declared.label.Label as labels;
 ghost use Rattle.heap_model.specs.History.{IsPrefix};
-ghost use Rattle.table_laws.specs.Stages.{graph_of};
-ghost use Rattle.map_laws.specs.Tries.{IsMap, IsInPlace};
-ghost use Rattle.map_laws.specs.Steps.{OthersLeave};
-ghost use Rattle.map_laws.specs.Calls.{CleanAnswers, PerformedBy};
-ghost use Rattle.weak_maps.specs.Beside.{held_by, refusals_by, writings_by};
-ghost use Rattle.weak_maps.specs.Cleans.{CleanLeaves, CleansBlock, CleansField, EmptiesField, ForgetsHigh, width_of};
+ghost use Rattle.map_laws.specs.Calls.{PerformedBy};
+ghost use Rattle.weak_maps.specs.Beside.{refusals_by, writings_by};
+ghost use Rattle.weak_maps.specs.Cleans.{CleansAt, CleansBlock, CleansField, EmptiesField, ForgetsHigh, width_of};
 
 use crate::machine::{Machine, perform};
 use crate::replies::{is_block, is_empty, is_other_kind};
@@ -191,9 +186,7 @@ pub fn map_clean<M: Machine, R: Wait>(m: &mut M, rt: &R, map: u8) -> bool
     ensures room { M.ephes_room m.old ≤ M.ephes_room m.new }
     ensures given { refusals_by (M.domain m.old) (M.front m.new) ≡ refusals_by (M.domain m.old) (M.front m.old) }
     ensures written { writings_by (M.domain m.old) (M.front m.new) ≡ writings_by (M.domain m.old) (M.front m.old) }
-    ensures answer { (root : labels.Label) → held_by (M.sizes m.old) (M.domain m.old) (M.front m.old) map ≡ Block root → IsMap (graph_of (M.sizes m.old) (M.front m.old)) root
-        → IsInPlace (M.sizes m.old).domains (graph_of (M.sizes m.old) (M.front m.old)) root → OthersLeave (M.sizes m.old) root (M.domain m.old) (M.front m.old) (M.front m.new)
-        → CleanAnswers (M.sizes m.old) root (M.domain m.old) (M.front m.old) (M.front m.new) result × CleanLeaves (M.sizes m.old) (M.domain m.old) (M.front m.old) (M.front m.new) root }
+    ensures answer { CleansAt (M.sizes m.old) (M.domain m.old) (M.front m.old) (M.front m.new) map result }
 {
     m.stands();
     let _zero = perform(m, rt, Command::PutInt { dst: 15, value: 0 });

@@ -1,16 +1,12 @@
 //! What a key is bound to.
 ghost use Rattle.std.specs.Prelude.{◌≡◌, ◌+◌, ◌<◌, ◌≤◌};
 ghost use Rattle.heap_model.specs.declared.graph.Value.TheVariants.{Block};
-ghost use Rattle.heap_model.specs.declared.label.Label as labels;
 ghost use Rattle.heap_model.specs.declared.reply.Reply.TheVariants as variant;
 ghost use Rattle.heap_model.specs.History.{IsPrefix};
 ghost use Rattle.table_laws.specs.Performing.{is_spared};
-ghost use Rattle.table_laws.specs.Stages.{graph_of};
-ghost use Rattle.map_laws.specs.Tries.{IsMap, IsInPlace};
-ghost use Rattle.map_laws.specs.Steps.{OthersRespect};
-ghost use Rattle.weak_maps.specs.Beside.{held_by, refusals_by, writings_by};
-ghost use Rattle.weak_maps.specs.Walks.{Descended, Emptied};
-ghost use Rattle.weak_maps.specs.Returns.{GetReturns};
+ghost use Rattle.weak_maps.specs.Beside.{WritesAtMost, refusals_by, writings_by};
+ghost use Rattle.weak_maps.specs.Walks.{Descended, Emptied, OwnQuiet};
+ghost use Rattle.weak_maps.specs.Returns.{FollowsAt, GetsAt};
 
 use crate::digits::{node_index, number_of, root_index};
 use crate::machine::{Machine, perform};
@@ -37,6 +33,7 @@ pub(crate) fn descend<M: Machine, R: Wait>(
     ensures room { M.ephes_room m.old ≤ M.ephes_room m.new }
     ensures given { refusals_by (M.domain m.old) (M.front m.new) ≡ refusals_by (M.domain m.old) (M.front m.old) }
     ensures written { writings_by (M.domain m.old) (M.front m.new) ≡ writings_by (M.domain m.old) (M.front m.old) }
+    ensures quiet { OwnQuiet (M.sizes m.old) (M.domain m.old) (M.front m.old) (M.front m.new) }
     ensures met { Descended (M.sizes m.old) (M.domain m.old) (M.front m.old) (M.front m.new) map key label.now result }
 {
     m.stands();
@@ -94,7 +91,8 @@ fn unbound<M: Machine, R: Wait>(m: &mut M, rt: &R, dst: u8) -> Reply
 /// Reads what the map in a register binds the key in another to, into a third. Answers `type` exactly where the second holds
 /// no label, and then changes nothing. Else it answers what the map bound the key to at some moment of the call, which the
 /// third register holds afterwards: a datum, or `none` and nothing. Registers are below 8. Register 8 holds nothing
-/// afterwards. Other domains may use the map meanwhile, by its calls.
+/// afterwards. Other domains may use the map meanwhile, by its calls. Whatever these do, the call changes no block and makes
+/// none.
 pub fn map_get<M: Machine, R: Wait>(m: &mut M, rt: &R, dst: u8, map: u8, key: u8) -> Reply
     requires few { (dst < 8) × (map < 8) × (key < 8) }
     ensures sizes { M.sizes m.new ≡ M.sizes m.old }
@@ -104,13 +102,10 @@ pub fn map_get<M: Machine, R: Wait>(m: &mut M, rt: &R, dst: u8, map: u8, key: u8
     ensures labels { M.labels_left m.new ≡ M.labels_left m.old }
     ensures room { M.ephes_room m.old ≤ M.ephes_room m.new }
     ensures given { refusals_by (M.domain m.old) (M.front m.new) ≡ refusals_by (M.domain m.old) (M.front m.old) }
-    ensures written { writings_by (M.domain m.old) (M.front m.new) ≤ writings_by (M.domain m.old) (M.front m.old) + (is_spared dst + is_spared dst) }
-    ensures answer { (root : labels.Label) → held_by (M.sizes m.old) (M.domain m.old) (M.front m.old) map ≡ Block root → IsMap (graph_of (M.sizes m.old) (M.front m.old)) root
-        → OthersRespect (M.sizes m.old) root (M.domain m.old) (M.front m.old) (M.front m.new)
-        → GetReturns (M.sizes m.old) (M.domain m.old) (M.front m.old) (M.front m.new) root dst (held_by (M.sizes m.old) (M.domain m.old) (M.front m.old) key) result }
-    ensures follows { (root : labels.Label) → held_by (M.sizes m.old) (M.domain m.old) (M.front m.old) map ≡ Block root → IsMap (graph_of (M.sizes m.old) (M.front m.old)) root
-        → IsInPlace (M.sizes m.old).domains (graph_of (M.sizes m.old) (M.front m.old)) root → OthersRespect (M.sizes m.old) root (M.domain m.old) (M.front m.old) (M.front m.new)
-        → IsMap (graph_of (M.sizes m.old) (M.front m.new)) root × IsInPlace (M.sizes m.old).domains (graph_of (M.sizes m.old) (M.front m.new)) root }
+    ensures written { WritesAtMost (M.domain m.old) (M.front m.old) (M.front m.new) (is_spared dst + is_spared dst) }
+    ensures quiet { OwnQuiet (M.sizes m.old) (M.domain m.old) (M.front m.old) (M.front m.new) }
+    ensures answer { GetsAt (M.sizes m.old) (M.domain m.old) (M.front m.old) (M.front m.new) dst map key result }
+    ensures follows { FollowsAt (M.sizes m.old) (M.domain m.old) (M.front m.old) (M.front m.new) map }
 {
     m.stands();
     let Reply::Block(label) = m.show(key) else {

@@ -11,7 +11,7 @@ ghost use Rattle.table_laws.specs.Performing.{full_of, writes};
 ghost use Rattle.command_counts.specs.Counts.{labels_of, labels_given, ephemerons_of, ephemerons_given};
 ghost use Rattle.weak_maps.specs.Commands.{IsMapCommand};
 ghost use Rattle.map_laws.specs.Calls.{PerformedBy};
-ghost use Rattle.weak_maps.specs.Beside.{held_by, refusals_by, writings_by};
+ghost use Rattle.weak_maps.specs.Beside.{Refuses, Writes, held_by};
 
 use heap_model::command::Command;
 use heap_model::reply::Reply;
@@ -91,9 +91,9 @@ pub fn perform<M: Machine, R: Wait>(m: &mut M, rt: &R, c: Command) -> Reply
     ensures grows { IsPrefix (M.front m.old) (M.front m.new) }
     ensures labels { M.labels_left m.old ≡ M.labels_left m.new + labels_given c result }
     ensures room { M.ephes_room m.old ≤ M.ephes_room m.new + ephemerons_of c }
-    ensures refused { refusals_by (M.domain m.old) (M.front m.new) ≡ refusals_by (M.domain m.old) (M.front m.old) + full_of result }
+    ensures refused { Refuses (M.domain m.old) (M.front m.old) (M.front m.new) (full_of result) }
     ensures given { labels_given c result + full_of result ≡ labels_of c }
-    ensures written { writings_by (M.domain m.old) (M.front m.new) ≡ writings_by (M.domain m.old) (M.front m.old) + writes c }
+    ensures written { Writes (M.domain m.old) (M.front m.old) (M.front m.new) (writes c) }
     ensures performed { PerformedBy (M.sizes m.old) (M.domain m.old) (M.front m.old) (M.front m.new) c result }
 {
     m.stands();

@@ -2,7 +2,7 @@
 ghost use Rattle.std.specs.Prelude.{◌≡◌, ◌+◌, ◌<◌, ◌≤◌};
 ghost use Rattle.heap_model.specs.History.{IsPrefix};
 ghost use Rattle.table_laws.specs.Performing.{full_of, is_spared};
-ghost use Rattle.weak_maps.specs.Beside.{refusals_by, writings_by};
+ghost use Rattle.weak_maps.specs.Beside.{Refuses, Writes};
 ghost use Rattle.weak_maps.specs.Returns.{MakeReturns};
 
 use crate::machine::{Machine, perform};
@@ -21,8 +21,8 @@ pub fn map_make<M: Machine, R: Wait>(m: &mut M, rt: &R, dst: u8) -> Reply
     ensures grows { IsPrefix (M.front m.old) (M.front m.new) }
     ensures labels { M.labels_left m.old + full_of result ≡ M.labels_left m.new + 1 }
     ensures room { M.ephes_room m.old ≤ M.ephes_room m.new }
-    ensures refused { refusals_by (M.domain m.old) (M.front m.new) ≡ refusals_by (M.domain m.old) (M.front m.old) + full_of result }
-    ensures written { writings_by (M.domain m.old) (M.front m.new) ≡ writings_by (M.domain m.old) (M.front m.old) + is_spared dst }
+    ensures refused { Refuses (M.domain m.old) (M.front m.old) (M.front m.new) (full_of result) }
+    ensures written { Writes (M.domain m.old) (M.front m.old) (M.front m.new) (is_spared dst) }
     ensures made { MakeReturns (M.sizes m.old) (M.domain m.old) (M.front m.old) (M.front m.new) dst result }
 {
     m.stands();

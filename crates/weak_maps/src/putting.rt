@@ -1,16 +1,16 @@
 //! Bindings that are put.
-ghost use Rattle.std.specs.Prelude.{◌≡◌, ◌≢◌, ◌+◌, ◌<◌, ◌≤◌, cond};
+ghost use Rattle.std.specs.Prelude.{◌≡◌, ◌+◌, ◌<◌, ◌≤◌, cond};
 ghost use Rattle.heap_model.specs.declared.graph.Value.TheVariants.{Block};
-ghost use Rattle.heap_model.specs.declared.label.Label as labels;
-ghost use Rattle.heap_model.specs.declared.reply.Reply.TheVariants as variant;
+ghost use Rattle.heap_model.specs.declared.command.Command.TheVariants as command;
+ghost use Rattle.heap_model.specs.declared.reply.Reply as replies;
 ghost use Rattle.heap_model.specs.History.{IsPrefix};
-ghost use Rattle.table_laws.specs.Stages.{graph_of};
-ghost use Rattle.map_laws.specs.Steps.{OthersLeave, OthersRespect};
-ghost use Rattle.map_laws.specs.Tries.{node_width, IsMap, IsInPlace};
-ghost use Rattle.weak_maps.specs.Beside.{held_by, refusals_by, writings_by};
+ghost use Rattle.map_laws.specs.Calls.{PerformedBy};
+ghost use Rattle.map_laws.specs.Tries.{node_width};
+ghost use Rattle.weak_maps.specs.Beside.{refusals_by, writings_by};
 ghost use Rattle.weak_maps.specs.Puts.{MakesLeaf, MakesRoom, Publishes};
-ghost use Rattle.weak_maps.specs.Crowds.{IsCrowded, PutCounts};
-ghost use Rattle.weak_maps.specs.Returns.{PutReturns};
+ghost use Rattle.weak_maps.specs.Crowds.{CrowdedAt, PutSpends, RefusedAlone};
+ghost use Rattle.weak_maps.specs.Guards.{LeafGuards, PutGuards, RoomGuards, SettleGuards};
+ghost use Rattle.weak_maps.specs.Returns.{FollowsAt, PutsAt};
 ghost use Rattle.weak_maps.specs.Settles.{rooms_after, Settles, SettlesAlone, TryRefuses};
 
 use crate::digits::{node_index, number_of, rest_below, serial_of};
@@ -50,6 +50,7 @@ fn make_leaf<M: Machine, R: Wait>(m: &mut M, rt: &R, key: u8, item: u8) -> bool
     ensures room { M.ephes_room m.old ≤ M.ephes_room m.new + 1 }
     ensures refused { refusals_by (M.domain m.old) (M.front m.new) ≡ refusals_by (M.domain m.old) (M.front m.old) + cond result 0 1 }
     ensures written { writings_by (M.domain m.old) (M.front m.new) ≡ writings_by (M.domain m.old) (M.front m.old) }
+    ensures guards { LeafGuards (M.sizes m.old) (M.domain m.old) (M.front m.old) (M.front m.new) key item }
     ensures made { MakesLeaf (M.sizes m.old) (M.domain m.old) (M.front m.old) (M.front m.new) key item result }
 {
     m.stands();
@@ -81,6 +82,7 @@ fn publish<M: Machine, R: Wait>(m: &mut M, rt: &R, index: u16) -> bool
     ensures given { refusals_by (M.domain m.old) (M.front m.new) ≡ refusals_by (M.domain m.old) (M.front m.old) }
     ensures written { writings_by (M.domain m.old) (M.front m.new) ≡ writings_by (M.domain m.old) (M.front m.old) }
     ensures grows { IsPrefix (M.front m.old) (M.front m.new) }
+    ensures once { (r : replies.Reply) × PerformedBy (M.sizes m.old) (M.domain m.old) (M.front m.old) (M.front m.new) (command.Cas 8 index 9 10) r }
     ensures published { Publishes (M.sizes m.old) (M.domain m.old) (M.front m.old) (M.front m.new) index result }
 {
     m.stands();
@@ -101,6 +103,7 @@ fn make_room<M: Machine, R: Wait>(m: &mut M, rt: &R, index: u16, digit: u16) -> 
     ensures refused { refusals_by (M.domain m.old) (M.front m.new) ≡ refusals_by (M.domain m.old) (M.front m.old) + cond result 0 1 }
     ensures written { writings_by (M.domain m.old) (M.front m.new) ≡ writings_by (M.domain m.old) (M.front m.old) }
     ensures grows { IsPrefix (M.front m.old) (M.front m.new) }
+    ensures guards { RoomGuards (M.sizes m.old) (M.domain m.old) (M.front m.old) (M.front m.new) index digit }
     ensures made { MakesRoom (M.sizes m.old) (M.domain m.old) (M.front m.old) (M.front m.new) index digit result }
 {
     m.stands();
@@ -158,6 +161,7 @@ fn settle<M: Machine, R: Wait>(
     ensures refused { TryRefuses rooms from.other (refusals_by (M.domain m.old) (M.front m.old)) (refusals_by (M.domain m.old) (M.front m.new)) result }
     ensures written { writings_by (M.domain m.old) (M.front m.new) ≡ writings_by (M.domain m.old) (M.front m.old) }
     ensures grows { IsPrefix (M.front m.old) (M.front m.new) }
+    ensures guards { SettleGuards (M.sizes m.old) (M.domain m.old) (M.front m.old) (M.front m.new) label.now from.index from.rest level from.other }
     ensures settled { Settles (M.sizes m.old) (M.domain m.old) (M.front m.old) (M.front m.new) label.now from.index from.rest level from.other result }
     ensures alone { SettlesAlone (M.sizes m.old) (M.domain m.old) (M.front m.old) (M.front m.new) label.now from.index from.rest level from.other rooms result }
 {
@@ -194,7 +198,8 @@ fn settle<M: Machine, R: Wait>(
 /// way still, as it may be only where other domains use the map meanwhile: then no binding was changed; and else that it is
 /// done: an entry of the call bound the key, and changed no other key, and no allocation was refused. Registers are below 8.
 /// Registers 8 to 11 hold nothing afterwards, but for `type`. Other domains may use the map meanwhile, by its calls. Where one
-/// of them wins a field, the call tries again.
+/// of them wins a field, the call tries again. Each entry of the call respects the map, as long as the others' entries before it
+/// did.
 pub fn map_put<M: Machine, R: Wait>(m: &mut M, rt: &R, map: u8, key: u8, item: u8) -> Reply
     requires few { (map < 8) × (key < 8) × (item < 8) }
     requires labels { 7 ≤ M.labels_left m.old }
@@ -203,21 +208,15 @@ pub fn map_put<M: Machine, R: Wait>(m: &mut M, rt: &R, map: u8, key: u8, item: u
     ensures domain { M.domain m.new ≡ M.domain m.old }
     ensures heap { M.heap m.new ≡ M.heap m.old }
     ensures grows { IsPrefix (M.front m.old) (M.front m.new) }
-    ensures counts { PutCounts (M.labels_left m.old) (M.labels_left m.new) (refusals_by (M.domain m.old) (M.front m.old)) (refusals_by (M.domain m.old) (M.front m.new)) result }
+    ensures counts { PutSpends (M.domain m.old) (M.labels_left m.old) (M.labels_left m.new)
+        (M.front m.old) (M.front m.new) result }
     ensures room { M.ephes_room m.old ≤ M.ephes_room m.new + 1 }
     ensures written { writings_by (M.domain m.old) (M.front m.new) ≡ writings_by (M.domain m.old) (M.front m.old) }
-    ensures answer { (root : labels.Label) → held_by (M.sizes m.old) (M.domain m.old) (M.front m.old) map ≡ Block root → IsMap (graph_of (M.sizes m.old) (M.front m.old)) root
-        → IsInPlace (M.sizes m.old).domains (graph_of (M.sizes m.old) (M.front m.old)) root → OthersRespect (M.sizes m.old) root (M.domain m.old) (M.front m.old) (M.front m.new)
-        → PutReturns (M.sizes m.old) (M.domain m.old) (M.front m.old) (M.front m.new) root (held_by (M.sizes m.old) (M.domain m.old) (M.front m.old) key) (held_by (M.sizes m.old) (M.domain m.old) (M.front m.old) item) result }
-    ensures crowded { (root k : labels.Label) → held_by (M.sizes m.old) (M.domain m.old) (M.front m.old) map ≡ Block root → held_by (M.sizes m.old) (M.domain m.old) (M.front m.old) key ≡ Block k → IsMap (graph_of (M.sizes m.old) (M.front m.old)) root
-        → IsInPlace (M.sizes m.old).domains (graph_of (M.sizes m.old) (M.front m.old)) root → OthersRespect (M.sizes m.old) root (M.domain m.old) (M.front m.old) (M.front m.new)
-        → result ≡ variant.Full → refusals_by (M.domain m.old) (M.front m.new) ≡ refusals_by (M.domain m.old) (M.front m.old) → IsCrowded (M.sizes m.old) (M.domain m.old) (M.front m.old) (M.front m.new) root k }
-    ensures alone { (root k : labels.Label) → held_by (M.sizes m.old) (M.domain m.old) (M.front m.old) map ≡ Block root → held_by (M.sizes m.old) (M.domain m.old) (M.front m.old) key ≡ Block k → IsMap (graph_of (M.sizes m.old) (M.front m.old)) root
-        → IsInPlace (M.sizes m.old).domains (graph_of (M.sizes m.old) (M.front m.old)) root → OthersRespect (M.sizes m.old) root (M.domain m.old) (M.front m.old) (M.front m.new) → OthersLeave (M.sizes m.old) root (M.domain m.old) (M.front m.old) (M.front m.new)
-        → result ≡ variant.Full → refusals_by (M.domain m.old) (M.front m.new) ≡ refusals_by (M.domain m.old) (M.front m.old) + 1 }
-    ensures follows { (root : labels.Label) → held_by (M.sizes m.old) (M.domain m.old) (M.front m.old) map ≡ Block root → IsMap (graph_of (M.sizes m.old) (M.front m.old)) root
-        → IsInPlace (M.sizes m.old).domains (graph_of (M.sizes m.old) (M.front m.old)) root → OthersRespect (M.sizes m.old) root (M.domain m.old) (M.front m.old) (M.front m.new)
-        → IsMap (graph_of (M.sizes m.old) (M.front m.new)) root × IsInPlace (M.sizes m.old).domains (graph_of (M.sizes m.old) (M.front m.new)) root }
+    ensures guards { PutGuards (M.sizes m.old) (M.domain m.old) (M.front m.old) (M.front m.new) map }
+    ensures answer { PutsAt (M.sizes m.old) (M.domain m.old) (M.front m.old) (M.front m.new) map key item result }
+    ensures crowded { CrowdedAt (M.sizes m.old) (M.domain m.old) (M.front m.old) (M.front m.new) map key result }
+    ensures alone { RefusedAlone (M.sizes m.old) (M.domain m.old) (M.front m.old) (M.front m.new) map key result }
+    ensures follows { FollowsAt (M.sizes m.old) (M.domain m.old) (M.front m.old) (M.front m.new) map }
 {
     m.stands();
     let Reply::Block(label) = m.show(key) else {

@@ -2,16 +2,15 @@
 ghost use Rattle.std.specs.Prelude.{◌≡◌, ◌<◌, ◌≤◌, ◌/◌, ◌%◌};
 ghost use Rattle.heap_model.specs.declared.command.Command.TheVariants as command;
 ghost use Rattle.heap_model.specs.declared.graph.Value.TheVariants.{Block};
-ghost use Rattle.heap_model.specs.declared.label.Label as labels;
 ghost use Rattle.heap_model.specs.History.{IsPrefix};
-ghost use Rattle.table_laws.specs.Stages.{graph_of};
 ghost use Rattle.map_laws.specs.Calls.{PerformedBy};
-ghost use Rattle.map_laws.specs.Tries.{IsMap, root_width, IsInPlace};
-ghost use Rattle.map_laws.specs.Steps.{OthersRespect};
-ghost use Rattle.weak_maps.specs.Beside.{held_by, refusals_by, writings_by};
+ghost use Rattle.map_laws.specs.Tries.{root_width};
+ghost use Rattle.weak_maps.specs.Beside.{refusals_by, writings_by};
 ghost use Rattle.weak_maps.specs.Fields.{Cleared, Finds};
+ghost use Rattle.weak_maps.specs.Guards.{TakeGuards};
 ghost use Rattle.weak_maps.specs.Puts.{FindsField, KeepsLeaf};
-ghost use Rattle.weak_maps.specs.Returns.{TakeReturns};
+ghost use Rattle.weak_maps.specs.Returns.{FollowsAt, TakesAt};
+ghost use Rattle.weak_maps.specs.Walks.{OwnQuiet};
 
 use crate::digits::{node_index, number_of, root_index};
 use crate::machine::{Machine, perform};
@@ -69,6 +68,7 @@ pub(crate) fn find<M: Machine, R: Wait>(
     ensures given { refusals_by (M.domain m.old) (M.front m.new) ≡ refusals_by (M.domain m.old) (M.front m.old) }
     ensures written { writings_by (M.domain m.old) (M.front m.new) ≡ writings_by (M.domain m.old) (M.front m.old) }
     ensures grows { IsPrefix (M.front m.old) (M.front m.new) }
+    ensures quiet { OwnQuiet (M.sizes m.old) (M.domain m.old) (M.front m.old) (M.front m.new) }
     ensures leaf { KeepsLeaf (M.sizes m.old) (M.domain m.old) (M.front m.old) (M.front m.new) key label.now from.index from.rest field }
     ensures field { FindsField (M.sizes m.old) (M.domain m.old) (M.front m.old) (M.front m.new) key label.now from.index from.rest field result.index result.rest result.steps result.other }
     ensures found { Finds (M.sizes m.old) (M.domain m.old) (M.front m.old) (M.front m.new) key label.now from.index from.rest field result.index result.rest result.mine }
@@ -185,7 +185,7 @@ pub(crate) fn clear<M: Machine, R: Wait>(m: &mut M, rt: &R)
 /// label, and then changes nothing; `none` where the key wasn't bound at some moment of the call; and else that it is done:
 /// the key was bound, and an entry of the call unbound it and no other key. Registers are below 8. Registers 8 to 11 hold
 /// nothing afterwards, but for `type`. Other domains may use the map meanwhile, by its calls. Where one of them wins a field,
-/// the call tries again.
+/// the call tries again. Each entry of the call respects the map, as long as the others' entries before it did.
 pub fn map_take<M: Machine, R: Wait>(m: &mut M, rt: &R, map: u8, key: u8) -> Reply
     requires few { (map < 8) × (key < 8) }
     ensures sizes { M.sizes m.new ≡ M.sizes m.old }
@@ -196,12 +196,9 @@ pub fn map_take<M: Machine, R: Wait>(m: &mut M, rt: &R, map: u8, key: u8) -> Rep
     ensures room { M.ephes_room m.old ≤ M.ephes_room m.new }
     ensures given { refusals_by (M.domain m.old) (M.front m.new) ≡ refusals_by (M.domain m.old) (M.front m.old) }
     ensures written { writings_by (M.domain m.old) (M.front m.new) ≡ writings_by (M.domain m.old) (M.front m.old) }
-    ensures answer { (root : labels.Label) → held_by (M.sizes m.old) (M.domain m.old) (M.front m.old) map ≡ Block root → IsMap (graph_of (M.sizes m.old) (M.front m.old)) root
-        → OthersRespect (M.sizes m.old) root (M.domain m.old) (M.front m.old) (M.front m.new)
-        → TakeReturns (M.sizes m.old) (M.domain m.old) (M.front m.old) (M.front m.new) root (held_by (M.sizes m.old) (M.domain m.old) (M.front m.old) key) result }
-    ensures follows { (root : labels.Label) → held_by (M.sizes m.old) (M.domain m.old) (M.front m.old) map ≡ Block root → IsMap (graph_of (M.sizes m.old) (M.front m.old)) root
-        → IsInPlace (M.sizes m.old).domains (graph_of (M.sizes m.old) (M.front m.old)) root → OthersRespect (M.sizes m.old) root (M.domain m.old) (M.front m.old) (M.front m.new)
-        → IsMap (graph_of (M.sizes m.old) (M.front m.new)) root × IsInPlace (M.sizes m.old).domains (graph_of (M.sizes m.old) (M.front m.new)) root }
+    ensures guards { TakeGuards (M.sizes m.old) (M.domain m.old) (M.front m.old) (M.front m.new) map }
+    ensures answer { TakesAt (M.sizes m.old) (M.domain m.old) (M.front m.old) (M.front m.new) map key result }
+    ensures follows { FollowsAt (M.sizes m.old) (M.domain m.old) (M.front m.old) (M.front m.new) map }
 {
     m.stands();
     let Reply::Block(label) = m.show(key) else {

@@ -5,7 +5,7 @@ use Rattle.heap_model.specs.declared.entry.Entry.{Entry}
 use Rattle.heap_model.specs.declared.graph.Value.TheVariants.{Block}
 use Rattle.heap_model.specs.declared.reply.Reply.{Reply}
 use Rattle.heap_model.specs.declared.state.Sizes.{Sizes}
-use Rattle.heap_model.specs.Graph.{has_label, node_at}
+use Rattle.heap_model.specs.Graph.{has_label, label_of, node_at}
 use Rattle.heap_model.specs.Commands.{shown, key_value}
 use Rattle.heap_model.specs.History.{IsPrefix}
 use Rattle.table_laws.specs.Structures.{IsWeakArray, slot_keys}
@@ -71,3 +71,10 @@ pub record MakesNoArray (z : Sizes) (old new : List Entry) : Type 0 where
 
 abbrev pub ArrayAnswers : Sizes → List Entry → List Entry → ℕ → ℕ → Reply → Type 0
 ArrayAnswers z old new dst count r = ((root : Label) × (r ≡ reply.Block root) × MakesArray z old new dst count root) ⊎ ((r ≡ reply.Full) × MakesNoArray z old new)
+
+-- what a call answers and leaves of whatever weak array stands in a register when it begins
+abbrev pub SlotReadAt : Sizes → List Entry → List Entry → ℕ → ℕ → ℕ → Reply → Type 0
+SlotReadAt z old new dst array index r = (root : Label) (slots : List Label) → held_in z old array ≡ Block root → IsWeakArray (graph_of z old) root slots → SlotAnswers z old new root slots dst index (slice_get slots index) r
+
+abbrev pub SlotSetAt : Sizes → List Entry → List Entry → ℕ → ℕ → ℕ → Reply → Type 0
+SlotSetAt z old new array index item r = (root : Label) (slots : List Label) → held_in z old array ≡ Block root → IsWeakArray (graph_of z old) root slots → SetAnswers z old new root slots index (slice_get slots index) (label_of (held_in z old item)) r

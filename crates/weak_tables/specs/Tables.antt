@@ -6,7 +6,7 @@ use Rattle.heap_model.specs.declared.graph.Value.{Value}
 use Rattle.heap_model.specs.declared.graph.Value.TheVariants.{Block, Nothing}
 use Rattle.heap_model.specs.declared.reply.Reply.{Reply}
 use Rattle.heap_model.specs.declared.state.Sizes.{Sizes}
-use Rattle.heap_model.specs.Graph.{has_label, node_at}
+use Rattle.heap_model.specs.Graph.{has_label, label_of, node_at}
 use Rattle.heap_model.specs.Commands.{shown}
 use Rattle.heap_model.specs.History.{IsPrefix}
 use Rattle.table_laws.specs.Structures.{Cell, bucket_count, bindings, datum_at, without, table_labels, empty_chains, is_bucket_full, IsTable}
@@ -105,3 +105,16 @@ pub record Counts (z : Sizes) (old new : List Entry) (root : Label) (chains : Li
   pub number : length (bindings (graph_of z front) chains) ≡ count
   pub many : count ≤ length (bindings (graph_of z old) chains)
   pub few : length (bindings (graph_of z new) chains) ≤ count
+
+-- what a call answers and leaves of whatever table stands in a register when it begins
+abbrev pub PutsAt : Sizes → List Entry → List Entry → ℕ → ℕ → ℕ → Reply → Type 0
+PutsAt z old new table key item r = (root : Label) (chains : List (List Cell)) → held_in z old table ≡ Block root → IsTable (graph_of z old) root chains → PutAnswers z old new root chains (label_of (held_in z old key)) (held_in z old item) r
+
+abbrev pub GetsAt : Sizes → List Entry → List Entry → ℕ → ℕ → ℕ → Reply → Type 0
+GetsAt z old new dst table key r = (root : Label) (chains : List (List Cell)) → held_in z old table ≡ Block root → IsTable (graph_of z old) root chains → GetAnswers z old new root chains dst (label_of (held_in z old key)) r
+
+abbrev pub TakesAt : Sizes → List Entry → List Entry → ℕ → ℕ → Reply → Type 0
+TakesAt z old new table key r = (root : Label) (chains : List (List Cell)) → held_in z old table ≡ Block root → IsTable (graph_of z old) root chains → TakeAnswers z old new root chains (label_of (held_in z old key)) r
+
+abbrev pub CountsAt : Sizes → List Entry → List Entry → ℕ → ℕ → Type 0
+CountsAt z old new table count = (root : Label) (chains : List (List Cell)) → held_in z old table ≡ Block root → IsTable (graph_of z old) root chains → Counts z old new root chains count

@@ -1,13 +1,8 @@
 //! Weak arrays.
-ghost use Rattle.std.specs.Prelude.{◌≡◌, ◌+◌, ◌<◌, ◌≤◌, List, slice_get};
-ghost use Rattle.heap_model.specs.declared.graph.Value.TheVariants.{Block};
-ghost use Rattle.heap_model.specs.declared.label.Label as labels;
-ghost use Rattle.heap_model.specs.Graph.{label_of};
-ghost use Rattle.table_laws.specs.Structures.{IsWeakArray};
+ghost use Rattle.std.specs.Prelude.{◌≡◌, ◌+◌, ◌<◌, ◌≤◌};
 ghost use Rattle.table_laws.specs.Performing.{refusals, full_of, writings, is_spared};
-ghost use Rattle.table_laws.specs.Stages.{graph_of, held_in};
 ghost use Rattle.weak_tables.specs.Held.{HoldsArray};
-ghost use Rattle.weak_tables.specs.Arrays.{SetAnswers, SlotAnswers};
+ghost use Rattle.weak_tables.specs.Arrays.{SlotReadAt, SlotSetAt};
 
 use crate::machine::{Machine, perform};
 use crate::replies::is_past;
@@ -27,8 +22,7 @@ pub fn weak_get<M: Machine, R: Wait>(m: &mut M, rt: &R, dst: u8, array: u8, inde
     ensures room { M.ephes_room m.old ≤ M.ephes_room m.new }
     ensures refused { refusals (M.front m.new) ≡ refusals (M.front m.old) + full_of result }
     ensures written { writings (M.front m.new) ≤ writings (M.front m.old) + is_spared dst }
-    ensures answer { (root : labels.Label) (slots : List labels.Label) → held_in (M.sizes m.old) (M.front m.old) array ≡ Block root → IsWeakArray (graph_of (M.sizes m.old) (M.front m.old)) root slots
-        → SlotAnswers (M.sizes m.old) (M.front m.old) (M.front m.new) root slots dst index (slice_get slots index) result }
+    ensures answer { SlotReadAt (M.sizes m.old) (M.front m.old) (M.front m.new) dst array index result }
 {
     m.stands();
     let slot = perform(
@@ -67,8 +61,7 @@ pub fn weak_set<M: Machine, R: Wait>(m: &mut M, rt: &R, array: u8, index: u16, i
     ensures room { M.ephes_room m.old ≤ M.ephes_room m.new }
     ensures refused { refusals (M.front m.new) ≡ refusals (M.front m.old) + full_of result }
     ensures written { writings (M.front m.new) ≡ writings (M.front m.old) }
-    ensures answer { (root : labels.Label) (slots : List labels.Label) → held_in (M.sizes m.old) (M.front m.old) array ≡ Block root → IsWeakArray (graph_of (M.sizes m.old) (M.front m.old)) root slots
-        → SetAnswers (M.sizes m.old) (M.front m.old) (M.front m.new) root slots index (slice_get slots index) (label_of (held_in (M.sizes m.old) (M.front m.old) item)) result }
+    ensures answer { SlotSetAt (M.sizes m.old) (M.front m.old) (M.front m.new) array index item result }
 {
     m.stands();
     let slot = perform(

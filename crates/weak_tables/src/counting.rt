@@ -7,7 +7,7 @@ ghost use Rattle.table_laws.specs.Performing.{refusals, writings};
 ghost use Rattle.table_laws.specs.Stages.{graph_of, held_in};
 ghost use Rattle.weak_tables.specs.Held.{HoldsTable};
 ghost use Rattle.weak_tables.specs.Walks.{Counted};
-ghost use Rattle.weak_tables.specs.Tables.{Counts};
+ghost use Rattle.weak_tables.specs.Tables.{CountsAt};
 
 use crate::machine::{Machine, perform};
 use crate::replies::{is_block, one};
@@ -77,8 +77,7 @@ pub fn table_count<M: Machine, R: Wait>(m: &mut M, rt: &R, table: u8) -> u32
     ensures room { M.ephes_room m.old ≤ M.ephes_room m.new }
     ensures given { refusals (M.front m.new) ≡ refusals (M.front m.old) }
     ensures written { writings (M.front m.new) ≡ writings (M.front m.old) }
-    ensures counts { (root : labels.Label) (chains : List (List Cell)) → held_in (M.sizes m.old) (M.front m.old) table ≡ Block root → IsTable (graph_of (M.sizes m.old) (M.front m.old)) root chains
-        → Counts (M.sizes m.old) (M.front m.old) (M.front m.new) root chains result }
+    ensures counts { CountsAt (M.sizes m.old) (M.front m.old) (M.front m.new) table result }
 {
     m.stands();
     let mut count: u32 = 0;

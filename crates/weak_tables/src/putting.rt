@@ -2,13 +2,12 @@
 ghost use Rattle.std.specs.Prelude.{◌≡◌, ◌+◌, ◌<◌, ◌≤◌, Bool, cond, IsTrue, List, None};
 ghost use Rattle.heap_model.specs.declared.graph.Value.TheVariants.{Block};
 ghost use Rattle.heap_model.specs.declared.label.Label as labels;
-ghost use Rattle.heap_model.specs.Graph.{label_of};
 ghost use Rattle.table_laws.specs.Structures.{Cell, IsTable, bindings, datum_at, is_bucket_full};
 ghost use Rattle.table_laws.specs.Performing.{refusals, full_of, writings, is_spared};
 ghost use Rattle.table_laws.specs.Stages.{graph_of, held_in};
 ghost use Rattle.weak_tables.specs.Held.{HoldsTable};
 ghost use Rattle.weak_tables.specs.Walks.{CellAnswers, LinksCell, Placed};
-ghost use Rattle.weak_tables.specs.Tables.{GetAnswers, PutAnswers};
+ghost use Rattle.weak_tables.specs.Tables.{GetsAt, PutsAt};
 
 use crate::find::Find;
 use crate::machine::{Machine, perform};
@@ -158,8 +157,7 @@ pub fn table_put<M: Machine, R: Wait>(m: &mut M, rt: &R, table: u8, key: u8, ite
     ensures room { M.ephes_room m.old ≤ M.ephes_room m.new + 1 }
     ensures refused { refusals (M.front m.new) ≡ refusals (M.front m.old) + full_of result }
     ensures written { writings (M.front m.new) ≡ writings (M.front m.old) }
-    ensures answer { (root : labels.Label) (chains : List (List Cell)) → held_in (M.sizes m.old) (M.front m.old) table ≡ Block root → IsTable (graph_of (M.sizes m.old) (M.front m.old)) root chains
-        → PutAnswers (M.sizes m.old) (M.front m.old) (M.front m.new) root chains (label_of (held_in (M.sizes m.old) (M.front m.old) key)) (held_in (M.sizes m.old) (M.front m.old) item) result }
+    ensures answer { PutsAt (M.sizes m.old) (M.front m.old) (M.front m.new) table key item result }
 {
     m.stands();
     let Reply::Block(label) = m.show(key) else {
@@ -198,8 +196,7 @@ pub fn table_get<M: Machine, R: Wait>(m: &mut M, rt: &R, dst: u8, table: u8, key
     ensures room { M.ephes_room m.old ≤ M.ephes_room m.new }
     ensures refused { refusals (M.front m.new) ≡ refusals (M.front m.old) + full_of result }
     ensures written { writings (M.front m.new) ≤ writings (M.front m.old) + is_spared dst }
-    ensures answer { (root : labels.Label) (chains : List (List Cell)) → held_in (M.sizes m.old) (M.front m.old) table ≡ Block root → IsTable (graph_of (M.sizes m.old) (M.front m.old)) root chains
-        → GetAnswers (M.sizes m.old) (M.front m.old) (M.front m.new) root chains dst (label_of (held_in (M.sizes m.old) (M.front m.old) key)) result }
+    ensures answer { GetsAt (M.sizes m.old) (M.front m.old) (M.front m.new) dst table key result }
 {
     m.stands();
     let Reply::Block(label) = m.show(key) else {

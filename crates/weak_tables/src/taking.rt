@@ -1,13 +1,9 @@
 //! Bindings that are taken out.
-ghost use Rattle.std.specs.Prelude.{◌≡◌, ◌+◌, ◌<◌, ◌≤◌, List};
+ghost use Rattle.std.specs.Prelude.{◌≡◌, ◌+◌, ◌<◌, ◌≤◌};
 ghost use Rattle.heap_model.specs.declared.graph.Value.TheVariants.{Block};
-ghost use Rattle.heap_model.specs.declared.label.Label as labels;
-ghost use Rattle.heap_model.specs.Graph.{label_of};
-ghost use Rattle.table_laws.specs.Structures.{Cell, IsTable};
 ghost use Rattle.table_laws.specs.Performing.{refusals, full_of, writings};
-ghost use Rattle.table_laws.specs.Stages.{graph_of, held_in};
 ghost use Rattle.weak_tables.specs.Held.{Cleared, HoldsTable};
-ghost use Rattle.weak_tables.specs.Tables.{TakeAnswers};
+ghost use Rattle.weak_tables.specs.Tables.{TakesAt};
 
 use crate::machine::{Machine, perform};
 use crate::searching::look_up;
@@ -42,8 +38,7 @@ pub fn table_take<M: Machine, R: Wait>(m: &mut M, rt: &R, table: u8, key: u8) ->
     ensures room { M.ephes_room m.old ≤ M.ephes_room m.new }
     ensures refused { refusals (M.front m.new) ≡ refusals (M.front m.old) + full_of result }
     ensures written { writings (M.front m.new) ≡ writings (M.front m.old) }
-    ensures answer { (root : labels.Label) (chains : List (List Cell)) → held_in (M.sizes m.old) (M.front m.old) table ≡ Block root → IsTable (graph_of (M.sizes m.old) (M.front m.old)) root chains
-        → TakeAnswers (M.sizes m.old) (M.front m.old) (M.front m.new) root chains (label_of (held_in (M.sizes m.old) (M.front m.old) key)) result }
+    ensures answer { TakesAt (M.sizes m.old) (M.front m.old) (M.front m.new) table key result }
 {
     m.stands();
     let Reply::Block(label) = m.show(key) else {

@@ -1,4 +1,4 @@
-use Rattle.std.proofs.Common.{◌≡◌, ◌∙◌, ℕ, ◌+◌, ◌/◌, ◌%◌, suc, List, true, false, sym, ap, subst, arith, rules}
+use Rattle.std.proofs.Common.{◌≡◌, ◌∙◌, ℕ, ◌+◌, ◌/◌, ◌%◌, suc, List, true, false, refl, sym, ap, subst, arith, rules}
 use Rattle.heap_model.specs.declared.command.Command.TheVariants.{Load}
 use Rattle.heap_model.specs.declared.entry.Entry.{Entry}
 use Rattle.heap_model.specs.declared.state.Sizes.{Sizes}
@@ -11,6 +11,7 @@ use Rattle.weak_maps.proofs.BesideLemmas.{since_old, until_new}
 use Rattle.weak_maps.proofs.StayLemmas.{prefix_same, respects_within}
 use Rattle.weak_maps.proofs.MachineLemmas.{at_machine, counted_by}
 use Rattle.weak_maps.proofs.DescendLemmas.{descend_begins, descend_ends, descend_met, descend_next, descend_none}
+use Rattle.weak_maps.proofs.GuardLemmas.{quiet_by, quiet_twice}
 use Rattle.weak_maps.proofs.getting.descend.Goals as goal
 
 pub levels-init : goal.levels-init
@@ -34,6 +35,7 @@ levels-init g c =
       room = omega (arith, room);
       given = omega (arith, refused, given);
       written = omega (arith, w);
+      quiet = quiet_by z d old new _ _ c.perform-at.ensures.performed (λ s. refl) refl;
       walk = λ root held key map respects.
           subst (λ (n : ℕ). Descends z d old new root c.args.label.now c.perform-at.result 1 (n / root_width)) (sym same)
           (descend_begins z c.stands.ensures.limits root d old c.args.label.now new c.perform-at.result c.args.map map held p respects);
@@ -90,6 +92,7 @@ levels-preserved g c =
       room = omega (arith, r0, r1);
       given = omega (arith, f0, f1, g1);
       written = omega (arith, w0, w1);
+      quiet = quiet_twice z d old now new grows c.levels.invariant.quiet (quiet_by z d now new _ _ q (λ s. refl) refl);
       walk = λ root held key map respects.
           subst (λ (n : ℕ). Descends z d old new root c.args.label.now c.perform-at-in-levels.result n (c.levels.rest / node_width)) one_more
           (descend_next z c.stands.ensures.limits root d old c.args.label.now c.args.key c.requires.few.1 key now new c.levels.at c.perform-at-in-levels.result _ c.levels.rest p respects
@@ -108,3 +111,13 @@ returns-clause-met g c =
 
 pub returns-then-is_other_kind-clause-grows : goal.returns-then-is_other_kind-clause-grows
 returns-then-is_other_kind-clause-grows g c = prefix_trans _ _ _ c.levels.invariant.grows c.perform-at-in-levels.ensures.grows
+
+pub returns-then-is_other_kind-clause-quiet : goal.returns-then-is_other_kind-clause-quiet
+returns-then-is_other_kind-clause-quiet g c =
+    let z : Sizes = g.M.Machine.sizes c.args.m.now in
+    let d : ℕ = g.M.Machine.domain c.args.m.now in
+    let old : List Entry = g.M.Machine.front c.args.m.now in
+    let now : List Entry = g.M.Machine.front c.levels.m in
+    let new : List Entry = g.M.Machine.front c.perform-at-in-levels.new.m in
+    let q = at_machine z _ d _ now new _ _ c.levels.invariant.same c.levels.invariant.own c.perform-at-in-levels.ensures.performed in
+    quiet_twice z d old now new c.perform-at-in-levels.ensures.grows c.levels.invariant.quiet (quiet_by z d now new _ _ q (λ s. refl) refl)

@@ -6,7 +6,7 @@ use Rattle.table_laws.specs.Stages.{graph_of}
 use Rattle.map_laws.specs.Tries.{IsMap}
 use Rattle.map_laws.specs.Steps.{OthersRespect}
 use Rattle.weak_maps.specs.Beside.{held_by, refusals_by, writings_by}
-use Rattle.weak_maps.specs.Walks.{Descends}
+use Rattle.weak_maps.specs.Walks.{Descends, OwnQuiet}
 use Rattle.weak_maps.proofs.getting.descend.Given as goal
 
 abbrev pub invariant-levels : goal.invariant-levels
@@ -19,6 +19,7 @@ invariant-levels g l = record {
   room : g.M.Machine.ephes_room l.fn.m ≤ g.M.Machine.ephes_room l.m;
   given : refusals_by (g.M.Machine.domain l.fn.m) (g.M.Machine.front l.m) ≡ refusals_by (g.M.Machine.domain l.fn.m) (g.M.Machine.front l.fn.m);
   written : writings_by (g.M.Machine.domain l.fn.m) (g.M.Machine.front l.m) ≡ writings_by (g.M.Machine.domain l.fn.m) (g.M.Machine.front l.fn.m);
+  quiet : OwnQuiet (g.M.Machine.sizes l.fn.m) (g.M.Machine.domain l.fn.m) (g.M.Machine.front l.fn.m) (g.M.Machine.front l.m);
   walk : (root : Label) → held_by (g.M.Machine.sizes l.fn.m) (g.M.Machine.domain l.fn.m) (g.M.Machine.front l.fn.m) l.map ≡ Block root → held_by (g.M.Machine.sizes l.fn.m) (g.M.Machine.domain l.fn.m) (g.M.Machine.front l.fn.m) l.key ≡ Block l.label
       → IsMap (graph_of (g.M.Machine.sizes l.fn.m) (g.M.Machine.front l.fn.m)) root → OthersRespect (g.M.Machine.sizes l.fn.m) root (g.M.Machine.domain l.fn.m) (g.M.Machine.front l.fn.m) (g.M.Machine.front l.m)
       → Descends (g.M.Machine.sizes l.fn.m) (g.M.Machine.domain l.fn.m) (g.M.Machine.front l.fn.m) (g.M.Machine.front l.m) root l.label l.at (suc l.counter) l.rest;

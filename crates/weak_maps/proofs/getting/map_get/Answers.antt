@@ -9,6 +9,7 @@ use Rattle.weak_maps.specs.Walks.{Descended}
 use Rattle.weak_maps.proofs.MachineLemmas.{at_machine, descended_at, emptied_at, returned_at}
 use Rattle.weak_maps.proofs.FollowLemmas.{get_follows, grown_from, none_follows, none_grows}
 use Rattle.weak_maps.proofs.GetLemmas.{got_datum, got_missed, got_other, shown_label}
+use Rattle.weak_maps.proofs.GuardLemmas.{quiet_by, quiet_emptied, quiet_forget, quiet_from, quiet_same, quiet_twice}
 use Rattle.weak_maps.proofs.getting.map_get.Goals as goal
 
 pub returns-then-not-descend-clause-answer : goal.returns-then-not-descend-clause-answer
@@ -89,3 +90,52 @@ returns-in_default-clause-grows g c = none_grows _ _ c.show.ensures.front
 
 pub returns-in_default-clause-follows : goal.returns-in_default-clause-follows
 returns-in_default-clause-follows g c = λ root held map placed respects. none_follows (g.M.Machine.sizes c.args.m.now) _ _ root c.show.ensures.front map placed
+
+pub returns-then-not-descend-clause-quiet : goal.returns-then-not-descend-clause-quiet
+returns-then-not-descend-clause-quiet g c =
+    let z : Sizes = g.M.Machine.sizes c.args.m.now in
+    let d : ℕ = g.M.Machine.domain c.args.m.now in
+    let old : List Entry = g.M.Machine.front c.args.m.now in
+    let now : List Entry = g.M.Machine.front c.descend.new.m in
+    let emptied = emptied_at z _ d _ now _ c.args.dst (c.descend.ensures.sizes ∙ c.show.ensures.sizes) (c.descend.ensures.domain ∙ c.show.ensures.domain) c.unbound.ensures.emptied in
+    quiet_twice z d old now _ c.unbound.ensures.grows (quiet_from z _ d _ old _ now c.show.ensures.sizes c.show.ensures.domain c.show.ensures.front c.descend.ensures.quiet) (quiet_emptied z d now _ c.args.dst emptied)
+
+pub returns-then-not-is_this-clause-quiet : goal.returns-then-not-is_this-clause-quiet
+returns-then-not-is_this-clause-quiet g c =
+    let z : Sizes = g.M.Machine.sizes c.args.m.now in
+    let d : ℕ = g.M.Machine.domain c.args.m.now in
+    let old : List Entry = g.M.Machine.front c.args.m.now in
+    let now : List Entry = g.M.Machine.front c.descend.new.m in
+    let n1 : List Entry = g.M.Machine.front c.perform-found.new.m in
+    let s1 : g.M.Machine.sizes c.descend.new.m ≡ z = c.descend.ensures.sizes ∙ c.show.ensures.sizes in
+    let d1 : g.M.Machine.domain c.descend.new.m ≡ d = c.descend.ensures.domain ∙ c.show.ensures.domain in
+    let p = at_machine z _ d _ now n1 _ _ s1 d1 c.perform-found.ensures.performed in
+    let emptied = emptied_at z _ d _ n1 _ c.args.dst (c.perform-found.ensures.sizes ∙ s1) (c.perform-found.ensures.domain ∙ d1) c.unbound-then-not-is_this.ensures.emptied in
+    quiet_twice z d old now _ (prefix_trans _ _ _ c.perform-found.ensures.grows c.unbound-then-not-is_this.ensures.grows) (quiet_from z _ d _ old _ now c.show.ensures.sizes c.show.ensures.domain c.show.ensures.front c.descend.ensures.quiet)
+    (quiet_twice z d now n1 _ c.unbound-then-not-is_this.ensures.grows (quiet_by z d now n1 _ _ p (λ s. refl) refl) (quiet_emptied z d n1 _ c.args.dst emptied))
+
+pub returns-clause-quiet : goal.returns-clause-quiet
+returns-clause-quiet g c =
+    let z : Sizes = g.M.Machine.sizes c.args.m.now in
+    let d : ℕ = g.M.Machine.domain c.args.m.now in
+    let old : List Entry = g.M.Machine.front c.args.m.now in
+    let now : List Entry = g.M.Machine.front c.descend.new.m in
+    let n1 : List Entry = g.M.Machine.front c.perform-found.new.m in
+    let n2 : List Entry = g.M.Machine.front c.perform-datum.new.m in
+    let s1 : g.M.Machine.sizes c.descend.new.m ≡ z = c.descend.ensures.sizes ∙ c.show.ensures.sizes in
+    let d1 : g.M.Machine.domain c.descend.new.m ≡ d = c.descend.ensures.domain ∙ c.show.ensures.domain in
+    let s2 : g.M.Machine.sizes c.perform-found.new.m ≡ z = c.perform-found.ensures.sizes ∙ s1 in
+    let d2 : g.M.Machine.domain c.perform-found.new.m ≡ d = c.perform-found.ensures.domain ∙ d1 in
+    let s3 : g.M.Machine.sizes c.perform-datum.new.m ≡ z = c.perform-datum.ensures.sizes ∙ s2 in
+    let d3 : g.M.Machine.domain c.perform-datum.new.m ≡ d = c.perform-datum.ensures.domain ∙ d2 in
+    let p1 = at_machine z _ d _ now n1 _ _ s1 d1 c.perform-found.ensures.performed in
+    let p2 = at_machine z _ d _ n1 n2 _ _ s2 d2 c.perform-datum.ensures.performed in
+    let p3 = at_machine z _ d _ n2 _ _ _ s3 d3 c.perform-leaf.ensures.performed in
+    let g3 = c.perform-leaf.ensures.grows in
+    let g2 = prefix_trans _ _ _ c.perform-datum.ensures.grows g3 in
+    let g1 = prefix_trans _ _ _ c.perform-found.ensures.grows g2 in
+    quiet_twice z d old now _ g1 (quiet_from z _ d _ old _ now c.show.ensures.sizes c.show.ensures.domain c.show.ensures.front c.descend.ensures.quiet)
+    (quiet_twice z d now n1 _ g2 (quiet_by z d now n1 _ _ p1 (λ s. refl) refl) (quiet_twice z d n1 n2 _ g3 (quiet_by z d n1 n2 _ _ p2 (λ s. refl) refl) (quiet_forget z d n2 _ 8 _ p3)))
+
+pub returns-in_default-clause-quiet : goal.returns-in_default-clause-quiet
+returns-in_default-clause-quiet g c = quiet_same (g.M.Machine.sizes c.args.m.now) (g.M.Machine.domain c.args.m.now) _ _ c.show.ensures.front

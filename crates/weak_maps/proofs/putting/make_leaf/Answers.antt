@@ -1,10 +1,11 @@
 use Rattle.std.proofs.Common.{◌≡◌, ◌∙◌, ℕ, cond, List, true, false, sym, ap, arith}
 use Rattle.heap_model.specs.declared.entry.Entry.{Entry}
 use Rattle.heap_model.specs.declared.state.Sizes.{Sizes}
-use Rattle.map_laws.proofs.FrontLemmas.{prefix_trans}
+use Rattle.map_laws.proofs.FrontLemmas.{prefix_same, prefix_trans}
 use Rattle.weak_maps.specs.Beside.{refusals_by, writings_by}
 use Rattle.weak_maps.proofs.MachineLemmas.{at_machine, counted_by}
-use Rattle.weak_maps.proofs.PutLemmas.{leaf_made, leaf_refused}
+use Rattle.weak_maps.proofs.GuardLemmas.{guards_since}
+use Rattle.weak_maps.proofs.PutLemmas.{leaf_guards, leaf_refused, leaf_whole}
 use Rattle.weak_maps.proofs.putting.make_leaf.Goals as goal
 
 pub returns-then-is_full-clause-labels : goal.returns-then-is_full-clause-labels
@@ -73,9 +74,35 @@ returns-clause-made g c =
     let s2 : g.M.Machine.sizes c.perform-datum.new.m ≡ z = c.perform-datum.ensures.sizes ∙ s1 in
     let o2 : g.M.Machine.domain c.perform-datum.new.m ≡ d = c.perform-datum.ensures.domain ∙ o1 in
     λ root k held some map respects.
-    leaf_made z c.stands.ensures.limits root d old n0 n1 new c.perform-made.result c.perform-datum.result c.perform-key.result c.args.key c.args.item c.requires.few.0 c.requires.few.1 k held some map
+    leaf_whole z c.stands.ensures.limits root d old n0 n1 new c.perform-made.result c.perform-datum.result c.perform-key.result c.args.key c.args.item c.requires.few.0 c.requires.few.1 k held some map
     c.perform-made.ensures.performed (at_machine z _ d _ n0 n1 _ _ s1 o1 c.perform-datum.ensures.performed) (at_machine z _ d _ n1 new _ _ s2 o2 c.perform-key.ensures.performed)
     (λ e. let clash : true ≡ false = sym (c.is_full.ensures.full.1 e) ∙ c.if-is_full.false in cc) respects
 
 pub returns-clause-grows : goal.returns-clause-grows
 returns-clause-grows g c = prefix_trans _ _ _ c.perform-made.ensures.grows (prefix_trans _ _ _ c.perform-datum.ensures.grows c.perform-key.ensures.grows)
+
+pub returns-then-is_full-clause-guards : goal.returns-then-is_full-clause-guards
+returns-then-is_full-clause-guards g c =
+    let z : Sizes = g.M.Machine.sizes c.args.m.now in
+    let d : ℕ = g.M.Machine.domain c.args.m.now in
+    let old : List Entry = g.M.Machine.front c.args.m.now in
+    let p = c.perform-made.ensures.performed in
+    λ root k held some map.
+    guards_since z root d old old _ _ _ p (prefix_same old) (λ others. (leaf_refused z c.stands.ensures.limits root d old _ c.perform-made.result p (c.is_full.ensures.full.0 c.if-is_full.true) map others).on.looks.respects)
+
+pub returns-clause-guards : goal.returns-clause-guards
+returns-clause-guards g c =
+    let z : Sizes = g.M.Machine.sizes c.args.m.now in
+    let d : ℕ = g.M.Machine.domain c.args.m.now in
+    let old : List Entry = g.M.Machine.front c.args.m.now in
+    let n0 : List Entry = g.M.Machine.front c.perform-made.new.m in
+    let n1 : List Entry = g.M.Machine.front c.perform-datum.new.m in
+    let new : List Entry = g.M.Machine.front c.perform-key.new.m in
+    let s1 : g.M.Machine.sizes c.perform-made.new.m ≡ z = c.perform-made.ensures.sizes in
+    let o1 : g.M.Machine.domain c.perform-made.new.m ≡ d = c.perform-made.ensures.domain in
+    let s2 : g.M.Machine.sizes c.perform-datum.new.m ≡ z = c.perform-datum.ensures.sizes ∙ s1 in
+    let o2 : g.M.Machine.domain c.perform-datum.new.m ≡ d = c.perform-datum.ensures.domain ∙ o1 in
+    λ root k held some map.
+    leaf_guards z c.stands.ensures.limits root d old n0 n1 new c.perform-made.result c.perform-datum.result c.perform-key.result c.args.key c.args.item c.requires.few.0 c.requires.few.1 k held some map
+    c.perform-made.ensures.performed (at_machine z _ d _ n0 n1 _ _ s1 o1 c.perform-datum.ensures.performed) (at_machine z _ d _ n1 new _ _ s2 o2 c.perform-key.ensures.performed)
+    (λ e. let clash : true ≡ false = sym (c.is_full.ensures.full.1 e) ∙ c.if-is_full.false in cc)

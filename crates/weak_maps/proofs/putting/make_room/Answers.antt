@@ -3,8 +3,9 @@ use Rattle.heap_model.specs.declared.entry.Entry.{Entry}
 use Rattle.heap_model.specs.declared.state.Sizes.{Sizes}
 use Rattle.weak_maps.specs.Beside.{refusals_by, writings_by}
 use Rattle.weak_maps.proofs.MachineLemmas.{at_machine, counted_by}
-use Rattle.weak_maps.proofs.RoomLemmas.{room_made, room_refused}
-use Rattle.map_laws.proofs.FrontLemmas.{prefix_trans}
+use Rattle.weak_maps.proofs.GuardLemmas.{guards_since}
+use Rattle.weak_maps.proofs.RoomLemmas.{room_guards, room_refused, room_whole}
+use Rattle.map_laws.proofs.FrontLemmas.{prefix_same, prefix_trans}
 use Rattle.weak_maps.proofs.GetLemmas.{grows_by}
 use Rattle.weak_maps.proofs.putting.make_room.Goals as goal
 
@@ -74,9 +75,9 @@ returns-clause-made g c =
     let s2 : g.M.Machine.sizes c.perform-leaf.new.m ≡ z = c.perform-leaf.ensures.sizes ∙ s1 in
     let o2 : g.M.Machine.domain c.perform-leaf.new.m ≡ d = c.perform-leaf.ensures.domain ∙ o1 in
     λ first front root k j l v rest register shows few key field binds way leaf map respects.
-    room_made z c.stands.ensures.limits root d first front k j l v old n0 n1 new c.perform-made.result c.perform-leaf.result c.perform-deeper.result c.args.index rest c.args.digit shows register few c.requires.small
+    room_whole z c.stands.ensures.limits root d first front k j l v old n0 n1 new c.perform-made.result c.perform-leaf.result c.perform-deeper.result c.args.index rest c.args.digit shows register few c.requires.small
     c.perform-made.ensures.performed (at_machine z _ d _ n0 n1 _ _ s1 o1 c.perform-leaf.ensures.performed) (at_machine z _ d _ n1 new _ _ s2 o2 c.perform-deeper.ensures.performed)
-    (λ e. let clash : true ≡ false = sym (c.is_full.ensures.full.1 e) ∙ c.if-is_full.false in cc) respects map field binds leaf key way
+    (λ e. let clash : true ≡ false = sym (c.is_full.ensures.full.1 e) ∙ c.if-is_full.false in cc) map field binds leaf key way respects
 
 pub returns-then-is_full-clause-grows : goal.returns-then-is_full-clause-grows
 returns-then-is_full-clause-grows g c = grows_by (g.M.Machine.sizes c.args.m.now) (g.M.Machine.domain c.args.m.now) (g.M.Machine.front c.args.m.now) (g.M.Machine.front c.perform-made.new.m) _ _ c.perform-made.ensures.performed
@@ -90,3 +91,29 @@ returns-clause-grows g c =
     prefix_trans old n0 new (grows_by (g.M.Machine.sizes c.args.m.now) (g.M.Machine.domain c.args.m.now) old n0 _ _ c.perform-made.ensures.performed)
     (prefix_trans n0 n1 new (grows_by (g.M.Machine.sizes c.perform-made.new.m) (g.M.Machine.domain c.perform-made.new.m) n0 n1 _ _ c.perform-leaf.ensures.performed)
     (grows_by (g.M.Machine.sizes c.perform-leaf.new.m) (g.M.Machine.domain c.perform-leaf.new.m) n1 new _ _ c.perform-deeper.ensures.performed))
+
+pub returns-then-is_full-clause-guards : goal.returns-then-is_full-clause-guards
+returns-then-is_full-clause-guards g c =
+    let z : Sizes = g.M.Machine.sizes c.args.m.now in
+    let d : ℕ = g.M.Machine.domain c.args.m.now in
+    let old : List Entry = g.M.Machine.front c.args.m.now in
+    let p = c.perform-made.ensures.performed in
+    λ first front root k j l v rest register shows few key field binds way leaf map.
+    guards_since z root d old old _ _ _ p (prefix_same old) (λ others. (room_refused z root d old _ c.perform-made.result p (c.is_full.ensures.full.0 c.if-is_full.true) map others).on.looks.respects)
+
+pub returns-clause-guards : goal.returns-clause-guards
+returns-clause-guards g c =
+    let z : Sizes = g.M.Machine.sizes c.args.m.now in
+    let d : ℕ = g.M.Machine.domain c.args.m.now in
+    let old : List Entry = g.M.Machine.front c.args.m.now in
+    let n0 : List Entry = g.M.Machine.front c.perform-made.new.m in
+    let n1 : List Entry = g.M.Machine.front c.perform-leaf.new.m in
+    let new : List Entry = g.M.Machine.front c.perform-deeper.new.m in
+    let s1 : g.M.Machine.sizes c.perform-made.new.m ≡ z = c.perform-made.ensures.sizes in
+    let o1 : g.M.Machine.domain c.perform-made.new.m ≡ d = c.perform-made.ensures.domain in
+    let s2 : g.M.Machine.sizes c.perform-leaf.new.m ≡ z = c.perform-leaf.ensures.sizes ∙ s1 in
+    let o2 : g.M.Machine.domain c.perform-leaf.new.m ≡ d = c.perform-leaf.ensures.domain ∙ o1 in
+    λ first front root k j l v rest register shows few key field binds way leaf map.
+    room_guards z c.stands.ensures.limits root d first front k j l v old n0 n1 new c.perform-made.result c.perform-leaf.result c.perform-deeper.result c.args.index rest c.args.digit shows register few c.requires.small
+    c.perform-made.ensures.performed (at_machine z _ d _ n0 n1 _ _ s1 o1 c.perform-leaf.ensures.performed) (at_machine z _ d _ n1 new _ _ s2 o2 c.perform-deeper.ensures.performed)
+    (λ e. let clash : true ≡ false = sym (c.is_full.ensures.full.1 e) ∙ c.if-is_full.false in cc) map field binds leaf key way

@@ -20,7 +20,8 @@ use Rattle.weak_maps.proofs.CrowdLemmas.{full_crowded, put_counts, put_crowded}
 use Rattle.weak_maps.proofs.MachineLemmas.{alone_at, at_machine, cleared_at, counted_by, field_at, keeps_at, leaf_at, put_at, settles_at, shows_some}
 use Rattle.weak_maps.proofs.FollowLemmas.{grown_from, none_follows, none_grows, put_follows}
 use Rattle.weak_maps.proofs.GetLemmas.{grows_by, shown_label}
-use Rattle.weak_maps.proofs.SettleLemmas.{put_placed, put_settles}
+use Rattle.weak_maps.proofs.GuardLemmas.{guards_quiet, guards_same, guards_twice, leaf_guards_at, quiet_at, quiet_by, quiet_cleared, quiet_twice, settle_guards_at}
+use Rattle.weak_maps.proofs.SettleLemmas.{put_guards, put_placed, put_settles}
 use Rattle.weak_maps.proofs.StayLemmas.{respects_within}
 use Rattle.weak_maps.proofs.TakeLemmas.{cleared_grows}
 use Rattle.weak_maps.proofs.TryLemmas.{put_begins, put_ended}
@@ -130,6 +131,9 @@ tries-init g c =
       room = omega (arith, r0, r1, r2, r3, r4);
       refused = omega (arith, h0, h1, h2, h3, k2);
       written = omega (arith, w0, w1, w2, w3);
+      guards = λ root held map placed.
+          guards_twice z root d old old n0 new later (leaf_guards_at z _ d _ old _ n0 c.args.key c.args.item s0 o0 f0 c.make_leaf.ensures.guards root k key some map)
+          (guards_quiet z root d old n0 new (quiet_twice z d n0 n1 new c.read_again-at.ensures.grows (quiet_by z d n0 n1 _ _ p1 (λ s. refl) refl) (quiet_by z d n1 new _ _ q2 (λ s. refl) refl)));
       walk = λ root held map placed respects.
           subst (λ (w : ℕ × ℕ). Putting z d old new root k v w.0 w.1 c.read_again-at.result 0) (λ i. (sym first i, sym left i))
           (put_begins z c.stands.ensures.limits root d old k v c.args.key c.requires.few.1 key n0 n1 new c.perform-root.result c.read_again-at.result c.args.map c.requires.few.0 held (makes root k key some map (respects_within z root d old new old n0 (prefix_same old) later respects)) p1 p2 respects);
@@ -286,6 +290,11 @@ tries-preserved g c =
       room = omega (arith, r0, r1, r2);
       refused = omega (arith, f0, f1, f2);
       written = omega (arith, w0, w1, w2);
+      guards = λ root held map placed.
+          guards_twice z root d old old now new (prefix_trans now n0 new c.find-from.ensures.grows c.settle.ensures.grows) (c.tries.invariant.guards root held map placed)
+          (guards_twice z root d old now n0 new c.settle.ensures.grows (guards_quiet z root d old now n0 (quiet_at z _ d _ now n0 s0 o0 c.find-from.ensures.quiet))
+          (put_guards z c.stands.ensures.limits root d old k v c.args.key c.requires.few.1 key now n0 new _ _ _ _ c.tries.level c.find-from.result.steps c.saturating_add-level.result c.tries.at _ c.saturating_add-level.ensures (c.tries.invariant.walk root held map placed) finds own c.find-from.ensures.grows
+          (settle_guards_at z _ d _ n0 new k _ _ _ _ s1 o1 c.settle.ensures.guards) map placed));
       walk = λ root held map placed respects.
           put_settles z c.stands.ensures.limits root d old k v c.args.key c.requires.few.1 key now n0 new _ _ _ _ c.tries.level c.find-from.result.steps c.saturating_add-level.result c.tries.at _ (Again c.in-Again.shows c.in-Again.left) c.saturating_add-level.ensures (c.tries.invariant.walk root held map placed) finds own c.find-from.ensures.grows settles c.settle.ensures.grows map placed respects;
       deep = λ root held map placed respects leaves.
@@ -317,3 +326,49 @@ returns-then-is_empty-clause-grows g c = none_grows _ _ (c.show-datum.ensures.fr
 
 pub returns-then-is_empty-clause-follows : goal.returns-then-is_empty-clause-follows
 returns-then-is_empty-clause-follows g c = λ root held map placed respects. none_follows (g.M.Machine.sizes c.args.m.now) _ _ root (c.show-datum.ensures.front ∙ c.show.ensures.front) map placed
+
+pub returns-then-not-make_leaf-clause-guards : goal.returns-then-not-make_leaf-clause-guards
+returns-then-not-make_leaf-clause-guards g c =
+    let z : Sizes = g.M.Machine.sizes c.args.m.now in
+    let d : ℕ = g.M.Machine.domain c.args.m.now in
+    let old : List Entry = g.M.Machine.front c.args.m.now in
+    let k = c.in-Block.label in
+    let n0 : List Entry = g.M.Machine.front c.make_leaf.new.m in
+    let new : List Entry = g.M.Machine.front c.clear.new.m in
+    let s0 : g.M.Machine.sizes c.show-datum.new.self ≡ z = c.show-datum.ensures.sizes ∙ c.show.ensures.sizes in
+    let o0 : g.M.Machine.domain c.show-datum.new.self ≡ d = c.show-datum.ensures.domain ∙ c.show.ensures.domain in
+    let f0 : g.M.Machine.front c.show-datum.new.self ≡ old = c.show-datum.ensures.front ∙ c.show.ensures.front in
+    let key : held_by z d old c.args.key ≡ Block k = shown_label _ _ (sym c.show.ensures.reply ∙ c.in-Block.is) in
+    let some : held_by z d old c.args.item ≢ Nothing = shows_some z _ d _ old _ c.args.item c.show-datum.result c.show.ensures.sizes c.show.ensures.domain c.show.ensures.front c.show-datum.ensures.reply (λ e. let clash : true ≡ false = sym (c.is_empty.ensures.1 e) ∙ c.if-is_empty.false in cc) in
+    let x = cleared_at z _ d _ n0 new (c.make_leaf.ensures.sizes ∙ s0) (c.make_leaf.ensures.domain ∙ o0) c.clear.ensures.cleared in
+    λ root held map placed.
+    guards_twice z root d old old n0 new c.clear.ensures.grows (leaf_guards_at z _ d _ old _ n0 c.args.key c.args.item s0 o0 f0 c.make_leaf.ensures.guards root k key some map) (guards_quiet z root d old n0 new (quiet_cleared z d n0 new x))
+
+pub returns-in-Over-clause-guards : goal.returns-in-Over-clause-guards
+returns-in-Over-clause-guards g c =
+    let z : Sizes = g.M.Machine.sizes c.args.m.now in
+    let d : ℕ = g.M.Machine.domain c.args.m.now in
+    let old : List Entry = g.M.Machine.front c.args.m.now in
+    let k = c.in-Block.label in
+    let v : Value = held_by z d old c.args.item in
+    let now : List Entry = g.M.Machine.front c.tries.m in
+    let n0 : List Entry = g.M.Machine.front c.find-from.new.m in
+    let new : List Entry = g.M.Machine.front c.settle.new.m in
+    let s0 : g.M.Machine.sizes c.tries.m ≡ z = c.tries.invariant.same in
+    let o0 : g.M.Machine.domain c.tries.m ≡ d = c.tries.invariant.own in
+    let s1 : g.M.Machine.sizes c.find-from.new.m ≡ z = c.find-from.ensures.sizes ∙ s0 in
+    let o1 : g.M.Machine.domain c.find-from.new.m ≡ d = c.find-from.ensures.domain ∙ o0 in
+    let key : held_by z d old c.args.key ≡ Block k = shown_label _ _ (sym c.show.ensures.reply ∙ c.in-Block.is) in
+    let finds = field_at z _ d _ now n0 c.args.key k _ _ _ _ _ _ _ s0 o0 c.find-from.ensures.field in
+    let own = keeps_at z _ d _ now n0 c.args.key k _ _ _ s0 o0 c.find-from.ensures.leaf in
+    λ root held map placed.
+    guards_twice z root d old old now new (prefix_trans now n0 new c.find-from.ensures.grows c.settle.ensures.grows) (c.tries.invariant.guards root held map placed)
+    (guards_twice z root d old now n0 new c.settle.ensures.grows (guards_quiet z root d old now n0 (quiet_at z _ d _ now n0 s0 o0 c.find-from.ensures.quiet))
+    (put_guards z c.stands.ensures.limits root d old k v c.args.key c.requires.few.1 key now n0 new _ _ _ _ c.tries.level c.find-from.result.steps c.saturating_add-level.result c.tries.at _ c.saturating_add-level.ensures (c.tries.invariant.walk root held map placed) finds own c.find-from.ensures.grows
+    (settle_guards_at z _ d _ n0 new k _ _ _ _ s1 o1 c.settle.ensures.guards) map placed))
+
+pub returns-in_default-clause-guards : goal.returns-in_default-clause-guards
+returns-in_default-clause-guards g c = λ root held map placed. guards_same (g.M.Machine.sizes c.args.m.now) root (g.M.Machine.domain c.args.m.now) _ _ _ c.show.ensures.front
+
+pub returns-then-is_empty-clause-guards : goal.returns-then-is_empty-clause-guards
+returns-then-is_empty-clause-guards g c = λ root held map placed. guards_same (g.M.Machine.sizes c.args.m.now) root (g.M.Machine.domain c.args.m.now) _ _ _ (c.show-datum.ensures.front ∙ c.show.ensures.front)

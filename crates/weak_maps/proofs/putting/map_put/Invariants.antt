@@ -6,6 +6,7 @@ use Rattle.table_laws.specs.Stages.{graph_of}
 use Rattle.map_laws.specs.Tries.{IsMap, IsInPlace}
 use Rattle.map_laws.specs.Steps.{OthersLeave, OthersRespect}
 use Rattle.weak_maps.specs.Beside.{held_by, refusals_by, writings_by}
+use Rattle.weak_maps.specs.Guards.{PutGuards}
 use Rattle.weak_maps.specs.Puts.{Putting}
 use Rattle.weak_maps.specs.Settles.{IsDeep}
 use Rattle.weak_maps.proofs.putting.map_put.Given as goal
@@ -21,6 +22,7 @@ invariant-tries g l = record {
   room : g.M.Machine.ephes_room l.fn.m ≤ g.M.Machine.ephes_room l.m + 1;
   refused : refusals_by (g.M.Machine.domain l.fn.m) (g.M.Machine.front l.m) ≡ refusals_by (g.M.Machine.domain l.fn.m) (g.M.Machine.front l.fn.m);
   written : writings_by (g.M.Machine.domain l.fn.m) (g.M.Machine.front l.m) ≡ writings_by (g.M.Machine.domain l.fn.m) (g.M.Machine.front l.fn.m);
+  guards : PutGuards (g.M.Machine.sizes l.fn.m) (g.M.Machine.domain l.fn.m) (g.M.Machine.front l.fn.m) (g.M.Machine.front l.m) l.map;
   walk : (root : Label) → held_by (g.M.Machine.sizes l.fn.m) (g.M.Machine.domain l.fn.m) (g.M.Machine.front l.fn.m) l.map ≡ Block root → IsMap (graph_of (g.M.Machine.sizes l.fn.m) (g.M.Machine.front l.fn.m)) root
       → IsInPlace (g.M.Machine.sizes l.fn.m).domains (graph_of (g.M.Machine.sizes l.fn.m) (g.M.Machine.front l.fn.m)) root → OthersRespect (g.M.Machine.sizes l.fn.m) root (g.M.Machine.domain l.fn.m) (g.M.Machine.front l.fn.m) (g.M.Machine.front l.m)
       → Putting (g.M.Machine.sizes l.fn.m) (g.M.Machine.domain l.fn.m) (g.M.Machine.front l.fn.m) (g.M.Machine.front l.m) root l.label (held_by (g.M.Machine.sizes l.fn.m) (g.M.Machine.domain l.fn.m) (g.M.Machine.front l.fn.m) l.item) l.from.index l.from.rest l.at l.level;

@@ -6,6 +6,9 @@ use Rattle.weak_maps.specs.Puts.{PublishesBy}
 use Rattle.weak_maps.proofs.PublishLemmas.{publish_lost, publish_won}
 use Rattle.weak_maps.proofs.putting.publish.Goals as goal
 
+pub returns-clause-once : goal.returns-clause-once
+returns-clause-once g c = (c.exchange-won.result, c.exchange-won.ensures.exchanged)
+
 pub returns-clause-published : goal.returns-clause-published
 returns-clause-published g c =
     let z : Sizes = g.M.Machine.sizes c.args.m.now in

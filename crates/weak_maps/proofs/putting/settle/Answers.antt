@@ -1,14 +1,16 @@
-use Rattle.std.proofs.Common.{◌≡◌, ◌∙◌, ℕ, ◌-◌, ◌%◌, Bool, List, Option, None, true, false, ap, subst, arith}
+use Rattle.std.proofs.Common.{◌≡◌, ◌∙◌, ℕ, ◌-◌, ◌%◌, Bool, List, Option, None, true, false, refl, ap, subst, arith}
 use Rattle.heap_model.specs.declared.entry.Entry.{Entry}
 use Rattle.heap_model.specs.declared.label.Label.{Label}
 use Rattle.heap_model.specs.declared.state.Sizes.{Sizes}
 use Rattle.map_laws.specs.Tries.{node_width, number_of}
+use Rattle.weak_maps.specs.Guards.{RoomGuards}
 use Rattle.weak_maps.specs.Puts.{Arrived, MakesRoom, Publishes, rest_of}
 use Rattle.map_laws.proofs.FrontLemmas.{prefix_same, prefix_trans}
 use Rattle.weak_maps.proofs.AloneLemmas.{lost_deep, never_spent, room_deeper}
 use Rattle.weak_maps.proofs.CleanLemmas.{leaves_within}
+use Rattle.weak_maps.proofs.GuardLemmas.{guards_quiet, guards_twice, quiet_by, quiet_cleared}
 use Rattle.weak_maps.proofs.MachineLemmas.{at_machine, cleared_at}
-use Rattle.weak_maps.proofs.SettleLemmas.{settle_again, settle_done, settle_full, settle_lost, settle_spent}
+use Rattle.weak_maps.proofs.SettleLemmas.{settle_again, settle_done, settle_full, settle_lost, settle_publishes, settle_rooms, settle_spent}
 use Rattle.weak_maps.proofs.StayLemmas.{respects_within}
 use Rattle.weak_maps.proofs.putting.settle.Goals as goal
 
@@ -127,3 +129,74 @@ returns-clause-alone g c =
     room_deeper z c.stands.ensures.limits root d old now k v key few held c.stands.ensures.legal c.args.from.index c.args.from.rest c.args.level j
     (subst (λ (o : Option Label). Arrived z d old now root k v c.args.from.index c.args.from.rest c.args.level o) c.in-Some.is t) (leaves_within z root d old _ old now (prefix_same old) later leaves) c.args.rooms deep
     c.serial_of-serial.ensures.range c.serial_of-other_serial.ensures.range map placed n1 _ _ (c.args.rooms - 1) (omega (arith, some)) makes c.make_room.ensures.grows p respects leaves
+
+pub returns-then-publish-clause-guards : goal.returns-then-publish-clause-guards
+returns-then-publish-clause-guards g c =
+    let z : Sizes = g.M.Machine.sizes c.args.m.now in
+    let d : ℕ = g.M.Machine.domain c.args.m.now in
+    let now : List Entry = g.M.Machine.front c.args.m.now in
+    let k : Label = c.args.label.now in
+    let n1 : List Entry = g.M.Machine.front c.publish.new.m in
+    let new : List Entry = g.M.Machine.front c.clear.new.m in
+    let other : c.args.from.other ≡ None = c.in_default.is in
+    λ old root v key few held map placed t.
+    guards_twice z root d old now n1 new c.clear.ensures.grows
+    (settle_publishes z c.stands.ensures.limits root d old now k v key few held c.stands.ensures.legal c.args.from.index c.args.from.rest c.args.level n1 c.publish.ensures.once.0 c.publish.result
+    (subst (λ (o : Option Label). Arrived z d old now root k v c.args.from.index c.args.from.rest c.args.level o) other t) c.publish.ensures.published c.publish.ensures.once.1)
+    (guards_quiet z root d old n1 new (quiet_cleared z d n1 new (cleared_at z _ d _ n1 new c.publish.ensures.sizes c.publish.ensures.domain c.clear.ensures.cleared)))
+
+pub returns-in_default-clause-guards : goal.returns-in_default-clause-guards
+returns-in_default-clause-guards g c =
+    let z : Sizes = g.M.Machine.sizes c.args.m.now in
+    let d : ℕ = g.M.Machine.domain c.args.m.now in
+    let now : List Entry = g.M.Machine.front c.args.m.now in
+    let k : Label = c.args.label.now in
+    let n1 : List Entry = g.M.Machine.front c.publish.new.m in
+    let new : List Entry = g.M.Machine.front c.read_again-shows.new.m in
+    let other : c.args.from.other ≡ None = c.in_default.is in
+    λ old root v key few held map placed t.
+    guards_twice z root d old now n1 new c.read_again-shows.ensures.grows
+    (settle_publishes z c.stands.ensures.limits root d old now k v key few held c.stands.ensures.legal c.args.from.index c.args.from.rest c.args.level n1 c.publish.ensures.once.0 c.publish.result
+    (subst (λ (o : Option Label). Arrived z d old now root k v c.args.from.index c.args.from.rest c.args.level o) other t) c.publish.ensures.published c.publish.ensures.once.1)
+    (guards_quiet z root d old n1 new (quiet_by z d n1 new _ _ (at_machine z _ d _ n1 new _ _ c.publish.ensures.sizes c.publish.ensures.domain c.read_again-shows.ensures.read) (λ s. refl) refl))
+
+pub returns-then-rooms-eq0-clause-guards : goal.returns-then-rooms-eq0-clause-guards
+returns-then-rooms-eq0-clause-guards g c =
+    λ old root v key few held map placed t.
+    guards_quiet (g.M.Machine.sizes c.args.m.now) root (g.M.Machine.domain c.args.m.now) old (g.M.Machine.front c.args.m.now) _ (quiet_cleared (g.M.Machine.sizes c.args.m.now) (g.M.Machine.domain c.args.m.now) _ _ c.clear-then-rooms-eq0.ensures.cleared)
+
+pub returns-then-not-make_room-clause-guards : goal.returns-then-not-make_room-clause-guards
+returns-then-not-make_room-clause-guards g c =
+    let z : Sizes = g.M.Machine.sizes c.args.m.now in
+    let d : ℕ = g.M.Machine.domain c.args.m.now in
+    let now : List Entry = g.M.Machine.front c.args.m.now in
+    let k : Label = c.args.label.now in
+    let n1 : List Entry = g.M.Machine.front c.make_room.new.m in
+    let new : List Entry = g.M.Machine.front c.clear-then-not-make_room.new.m in
+    let j : Label = c.in-Some.other in
+    let number : c.number_of.result ≡ number_of z.domains j = c.number_of.ensures.number ∙ ap (λ (n : ℕ). number_of n j) c.domains.ensures in
+    let digit : c.node_index.result ≡ rest_of (number_of z.domains j) c.args.level % node_width = c.node_index.ensures ∙ ap (λ (n : ℕ). n % node_width) (c.rest_below-rest.ensures ∙ ap (λ (n : ℕ). rest_of n c.args.level) number) in
+    let rooms = subst (λ (n : ℕ). RoomGuards z d now n1 c.args.from.index n) digit c.make_room.ensures.guards in
+    λ old root v key few held map placed t.
+    guards_twice z root d old now n1 new c.clear-then-not-make_room.ensures.grows
+    (settle_rooms z c.stands.ensures.limits root d old now k v key few held c.stands.ensures.legal c.args.from.index c.args.from.rest c.args.level n1 j
+    (subst (λ (o : Option Label). Arrived z d old now root k v c.args.from.index c.args.from.rest c.args.level o) c.in-Some.is t) c.serial_of-serial.ensures.range c.serial_of-other_serial.ensures.range map placed rooms)
+    (guards_quiet z root d old n1 new (quiet_cleared z d n1 new (cleared_at z _ d _ n1 new c.make_room.ensures.sizes c.make_room.ensures.domain c.clear-then-not-make_room.ensures.cleared)))
+
+pub returns-clause-guards : goal.returns-clause-guards
+returns-clause-guards g c =
+    let z : Sizes = g.M.Machine.sizes c.args.m.now in
+    let d : ℕ = g.M.Machine.domain c.args.m.now in
+    let now : List Entry = g.M.Machine.front c.args.m.now in
+    let k : Label = c.args.label.now in
+    let n1 : List Entry = g.M.Machine.front c.make_room.new.m in
+    let new : List Entry = g.M.Machine.front c.read_again-shows-2.new.m in
+    let j : Label = c.in-Some.other in
+    let number : c.number_of.result ≡ number_of z.domains j = c.number_of.ensures.number ∙ ap (λ (n : ℕ). number_of n j) c.domains.ensures in
+    let digit : c.node_index.result ≡ rest_of (number_of z.domains j) c.args.level % node_width = c.node_index.ensures ∙ ap (λ (n : ℕ). n % node_width) (c.rest_below-rest.ensures ∙ ap (λ (n : ℕ). rest_of n c.args.level) number) in
+    let rooms = subst (λ (n : ℕ). RoomGuards z d now n1 c.args.from.index n) digit c.make_room.ensures.guards in
+    λ old root v key few held map placed t.
+    guards_twice z root d old now n1 new c.read_again-shows-2.ensures.grows
+    (settle_rooms z c.stands.ensures.limits root d old now k v key few held c.stands.ensures.legal c.args.from.index c.args.from.rest c.args.level n1 j
+    (subst (λ (o : Option Label). Arrived z d old now root k v c.args.from.index c.args.from.rest c.args.level o) c.in-Some.is t) c.serial_of-serial.ensures.range c.serial_of-other_serial.ensures.range map placed rooms)
+    (guards_quiet z root d old n1 new (quiet_by z d n1 new _ _ (at_machine z _ d _ n1 new _ _ c.make_room.ensures.sizes c.make_room.ensures.domain c.read_again-shows-2.ensures.read) (λ s. refl) refl))

@@ -15,6 +15,7 @@ use Rattle.weak_maps.proofs.GetLemmas.{grows_by}
 use Rattle.weak_maps.proofs.FieldLemmas.{field_none, still_key, walk_down, walk_ends, walk_key}
 use Rattle.weak_maps.proofs.LeafLemmas.{leaf_down, leaf_read}
 use Rattle.weak_maps.proofs.FoundLemmas.{found_free, found_leaf}
+use Rattle.weak_maps.proofs.GuardLemmas.{quiet_by, quiet_none, quiet_twice}
 use Rattle.weak_maps.proofs.taking.find.Goals as goal
 
 pub levels-init : goal.levels-init
@@ -28,6 +29,7 @@ levels-init g c = record {
   written = refl;
   steps = refl;
   grows = prefix_same _;
+  quiet = quiet_none (g.M.Machine.sizes c.args.m.now) (g.M.Machine.domain c.args.m.now) _;
   leaf = λ first root l v key looking x respects leaf. leaf;
   walk = λ first root key looking x respects. (looking, (λ j e8 e9 e11. refl), (x, omega arith));
 }
@@ -102,6 +104,8 @@ levels-preserved g c =
       written = omega (arith, w0, w1, w2, w3);
       steps = ap (λ (n : ℕ). n + 1) c.levels.invariant.steps;
       grows = prefix_trans old now new c.levels.invariant.grows g2;
+      quiet = quiet_twice z d old now new g2 c.levels.invariant.quiet
+          (quiet_twice z d now n0 new g0 (quiet_by z d now n0 _ _ p0 (λ s. refl) refl) (quiet_twice z d n0 n1 new g1 (quiet_by z d n0 n1 _ _ p1 (λ s. refl) refl) (quiet_by z d n1 new _ _ q2 (λ s. refl) refl)));
       leaf = λ first root l v key looking x respects leaf.
           let early = respects_within z root d first new first now (prefix_same first) g2 respects in
           let w = c.levels.invariant.walk first root key looking x early in
@@ -189,3 +193,12 @@ pub returns-then-not-is_other_kind-clause-grows : goal.returns-then-not-is_other
 returns-then-not-is_other_kind-clause-grows g c =
     prefix_trans (g.M.Machine.front c.args.m.now) (g.M.Machine.front c.levels.m) (g.M.Machine.front c.perform-found.new.m) c.levels.invariant.grows
     (grows_by (g.M.Machine.sizes c.levels.m) (g.M.Machine.domain c.levels.m) (g.M.Machine.front c.levels.m) (g.M.Machine.front c.perform-found.new.m) _ _ c.perform-found.ensures.performed)
+
+pub returns-then-not-is_other_kind-clause-quiet : goal.returns-then-not-is_other_kind-clause-quiet
+returns-then-not-is_other_kind-clause-quiet g c =
+    let z : Sizes = g.M.Machine.sizes c.args.m.now in
+    let d : ℕ = g.M.Machine.domain c.args.m.now in
+    let now : List Entry = g.M.Machine.front c.levels.m in
+    let n0 : List Entry = g.M.Machine.front c.perform-found.new.m in
+    let p = at_machine z _ d _ now n0 _ _ c.levels.invariant.same c.levels.invariant.own c.perform-found.ensures.performed in
+    quiet_twice z d _ now n0 c.perform-found.ensures.grows c.levels.invariant.quiet (quiet_by z d now n0 _ _ p (λ s. refl) refl)

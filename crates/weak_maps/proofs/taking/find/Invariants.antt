@@ -5,7 +5,7 @@ use Rattle.heap_model.specs.declared.graph.Value.TheVariants.{Block}
 use Rattle.heap_model.specs.History.{IsPrefix}
 use Rattle.map_laws.specs.Steps.{OthersRespect}
 use Rattle.weak_maps.specs.Beside.{held_by, refusals_by, writings_by}
-use Rattle.weak_maps.specs.Walks.{Looking}
+use Rattle.weak_maps.specs.Walks.{Looking, OwnQuiet}
 use Rattle.weak_maps.specs.Fields.{AtField, Walked}
 use Rattle.weak_maps.specs.Puts.{KeepsLeaf}
 use Rattle.weak_maps.proofs.taking.find.Given as goal
@@ -21,6 +21,7 @@ invariant-levels g l = record {
   written : writings_by (g.M.Machine.domain l.fn.m) (g.M.Machine.front l.m) ≡ writings_by (g.M.Machine.domain l.fn.m) (g.M.Machine.front l.fn.m);
   steps : l.steps ≡ l.counter;
   grows : IsPrefix (g.M.Machine.front l.fn.m) (g.M.Machine.front l.m);
+  quiet : OwnQuiet (g.M.Machine.sizes l.fn.m) (g.M.Machine.domain l.fn.m) (g.M.Machine.front l.fn.m) (g.M.Machine.front l.m);
   leaf : KeepsLeaf (g.M.Machine.sizes l.fn.m) (g.M.Machine.domain l.fn.m) (g.M.Machine.front l.fn.m) (g.M.Machine.front l.m) l.key l.label l.fn.from.index l.fn.from.rest l.fn.field;
   walk : (first : List Entry) (root : Label) → held_by (g.M.Machine.sizes l.fn.m) (g.M.Machine.domain l.fn.m) (g.M.Machine.front l.fn.m) l.key ≡ Block l.label → Looking (g.M.Machine.sizes l.fn.m) root (g.M.Machine.domain l.fn.m) first (g.M.Machine.front l.fn.m)
       → (x : AtField (g.M.Machine.sizes l.fn.m) (g.M.Machine.domain l.fn.m) first (g.M.Machine.front l.fn.m) (g.M.Machine.front l.fn.m) root l.label l.fn.from.index l.fn.from.rest l.fn.field)

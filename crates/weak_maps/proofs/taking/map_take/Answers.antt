@@ -1,4 +1,4 @@
-use Rattle.std.proofs.Common.{◌≡◌, ◌∙◌, ℕ, ◌/◌, ◌%◌, List, true, false, sym, ap, subst, arith}
+use Rattle.std.proofs.Common.{◌≡◌, ◌∙◌, ℕ, ◌/◌, ◌%◌, List, true, false, refl, sym, ap, subst, arith}
 use Rattle.heap_model.specs.declared.command.Command.TheVariants.{Load}
 use Rattle.heap_model.specs.declared.entry.Entry.{Entry}
 use Rattle.heap_model.specs.declared.graph.Value.TheVariants.{Block}
@@ -12,7 +12,8 @@ use Rattle.weak_maps.specs.Fields.{Finds, Taking}
 use Rattle.weak_maps.proofs.MachineLemmas.{at_machine, cleared_at, counted_by, finds_at, not_so, performed_from, so_then, taken_at}
 use Rattle.weak_maps.proofs.FollowLemmas.{grown_from, none_follows, none_grows, take_follows}
 use Rattle.weak_maps.proofs.GetLemmas.{shown_label}
-use Rattle.weak_maps.proofs.TakeLemmas.{cleared_grows, take_again, take_begins, take_done, take_missed}
+use Rattle.weak_maps.proofs.GuardLemmas.{guards_quiet, guards_same, guards_since, guards_twice, quiet_at, quiet_by, quiet_cleared, quiet_twice}
+use Rattle.weak_maps.proofs.TakeLemmas.{cleared_grows, take_again, take_begins, take_done, take_guards, take_missed}
 use Rattle.weak_maps.proofs.taking.map_take.Goals as goal
 
 pub tries-init : goal.tries-init
@@ -63,6 +64,9 @@ tries-init g c =
       room = omega (arith, r0, r1, r2, r3);
       given = omega (arith, f0, f1, f2, f3, k1, k2);
       written = omega (arith, w0, w1, w2, w3);
+      guards = λ root held map. guards_quiet z root d old old new
+          (quiet_twice z d old n0 new (prefix_trans n0 n1 new c.perform-root.ensures.grows c.read_again-at.ensures.grows) (quiet_by z d old n0 _ _ p0 (λ s. refl) refl)
+          (quiet_twice z d n0 n1 new c.read_again-at.ensures.grows (quiet_by z d n0 n1 _ _ p1 (λ s. refl) refl) (quiet_by z d n1 new _ _ q2 (λ s. refl) refl)));
       walk = λ root held map respects.
           subst (λ (w : ℕ × ℕ). Taking z d old new root k w.0 w.1 c.read_again-at.result) (λ i. (sym first i, sym left i))
           (take_begins z c.stands.ensures.limits root d old k n0 n1 new c.perform-zero.result c.perform-root.result c.read_again-at.result c.args.map c.requires.few.0 map held p0 p1 p2 respects);
@@ -154,6 +158,14 @@ tries-preserved g c =
       room = omega (arith, r0, r1, r2, r3);
       given = omega (arith, f0, f1, f2, f3);
       written = omega (arith, w0, w1, w2, w3);
+      guards = λ root held map.
+          let after = prefix_trans n0 n1 new c.exchange-won.ensures.grows c.read_again-at-in-tries.ensures.grows in
+          guards_twice z root d old old now new (prefix_trans now n0 new c.find-from.ensures.grows after) (c.tries.invariant.guards root held map)
+          (guards_twice z root d old now n0 new after (guards_quiet z root d old now n0 (quiet_at z _ d _ now n0 s0 o0 c.find-from.ensures.quiet))
+          (guards_twice z root d old n0 n1 new c.read_again-at-in-tries.ensures.grows
+          (guards_since z root d old n0 n1 _ _ p (prefix_trans old now n0 c.tries.invariant.grows c.find-from.ensures.grows)
+          (take_guards z c.stands.ensures.limits root d old k c.args.key c.requires.few.1 key now n0 n1 _ _ _ _ _ c.exchange-won.result finds (c.tries.invariant.walk root held map) c.find-from.ensures.grows p))
+          (guards_quiet z root d old n1 new (quiet_by z d n1 new _ _ p2 (λ s. refl) refl))));
       walk = λ root held map respects.
           take_again z c.stands.ensures.limits root d old k c.args.key c.requires.few.1 key now n0 n1 new _ _ _ _ _ c.exchange-won.result c.read_again-at-in-tries.result finds (c.tries.invariant.walk root held map) c.find-from.ensures.grows p
           (λ e. let clash : true ≡ false = sym (c.is_yes.ensures.1 e) ∙ c.if-is_yes.false in cc) p2 respects;
@@ -178,3 +190,50 @@ returns-in_default-clause-grows g c = none_grows _ _ c.show.ensures.front
 
 pub returns-in_default-clause-follows : goal.returns-in_default-clause-follows
 returns-in_default-clause-follows g c = λ root held map placed respects. none_follows (g.M.Machine.sizes c.args.m.now) _ _ root c.show.ensures.front map placed
+
+pub returns-then-not-from-clause-guards : goal.returns-then-not-from-clause-guards
+returns-then-not-from-clause-guards g c =
+    let z : Sizes = g.M.Machine.sizes c.args.m.now in
+    let d : ℕ = g.M.Machine.domain c.args.m.now in
+    let old : List Entry = g.M.Machine.front c.args.m.now in
+    let now : List Entry = g.M.Machine.front c.tries.m in
+    let n0 : List Entry = g.M.Machine.front c.find-from.new.m in
+    let new : List Entry = g.M.Machine.front c.clear.new.m in
+    let s1 : g.M.Machine.sizes c.find-from.new.m ≡ z = c.find-from.ensures.sizes ∙ c.tries.invariant.same in
+    let o1 : g.M.Machine.domain c.find-from.new.m ≡ d = c.find-from.ensures.domain ∙ c.tries.invariant.own in
+    λ root held map.
+    guards_twice z root d old old now new (prefix_trans now n0 new c.find-from.ensures.grows c.clear.ensures.grows) (c.tries.invariant.guards root held map)
+    (guards_quiet z root d old now new
+    (quiet_twice z d now n0 new c.clear.ensures.grows (quiet_at z _ d _ now n0 c.tries.invariant.same c.tries.invariant.own c.find-from.ensures.quiet) (quiet_cleared z d n0 new (cleared_at z _ d _ n0 new s1 o1 c.clear.ensures.cleared))))
+
+pub returns-then-is_yes-clause-guards : goal.returns-then-is_yes-clause-guards
+returns-then-is_yes-clause-guards g c =
+    let z : Sizes = g.M.Machine.sizes c.args.m.now in
+    let d : ℕ = g.M.Machine.domain c.args.m.now in
+    let old : List Entry = g.M.Machine.front c.args.m.now in
+    let k = c.in-Block.label in
+    let now : List Entry = g.M.Machine.front c.tries.m in
+    let n0 : List Entry = g.M.Machine.front c.find-from.new.m in
+    let n1 : List Entry = g.M.Machine.front c.exchange-won.new.m in
+    let new : List Entry = g.M.Machine.front c.clear-then-is_yes.new.m in
+    let s0 : g.M.Machine.sizes c.tries.m ≡ z = c.tries.invariant.same in
+    let o0 : g.M.Machine.domain c.tries.m ≡ d = c.tries.invariant.own in
+    let s1 : g.M.Machine.sizes c.find-from.new.m ≡ z = c.find-from.ensures.sizes ∙ s0 in
+    let o1 : g.M.Machine.domain c.find-from.new.m ≡ d = c.find-from.ensures.domain ∙ o0 in
+    let s2 : g.M.Machine.sizes c.exchange-won.new.m ≡ z = c.exchange-won.ensures.sizes ∙ s1 in
+    let o2 : g.M.Machine.domain c.exchange-won.new.m ≡ d = c.exchange-won.ensures.domain ∙ o1 in
+    let key : held_by z d old c.args.key ≡ Block k = shown_label _ _ (sym c.show.ensures.reply ∙ c.in-Block.is) in
+    let x = cleared_at z _ d _ n1 new s2 o2 c.clear-then-is_yes.ensures.cleared in
+    let p = at_machine z _ d _ n0 n1 _ _ s1 o1 c.exchange-won.ensures.exchanged in
+    let finds : Finds z d now n0 c.args.key k c.tries.from.index c.tries.from.rest c.tries.at c.find-from.result.index c.find-from.result.rest true = finds_at z _ d _ now n0 c.args.key k _ _ _ _ _ true _ s0 o0 (so_then c.find-from.result.mine c.if-not-from.false) c.find-from.ensures.found in
+    let after = prefix_trans n0 n1 new c.exchange-won.ensures.grows c.clear-then-is_yes.ensures.grows in
+    λ root held map.
+    guards_twice z root d old old now new (prefix_trans now n0 new c.find-from.ensures.grows after) (c.tries.invariant.guards root held map)
+    (guards_twice z root d old now n0 new after (guards_quiet z root d old now n0 (quiet_at z _ d _ now n0 s0 o0 c.find-from.ensures.quiet))
+    (guards_twice z root d old n0 n1 new c.clear-then-is_yes.ensures.grows
+    (guards_since z root d old n0 n1 _ _ p (prefix_trans old now n0 c.tries.invariant.grows c.find-from.ensures.grows)
+    (take_guards z c.stands.ensures.limits root d old k c.args.key c.requires.few.1 key now n0 n1 _ _ _ _ _ c.exchange-won.result finds (c.tries.invariant.walk root held map) c.find-from.ensures.grows p))
+    (guards_quiet z root d old n1 new (quiet_cleared z d n1 new x))))
+
+pub returns-in_default-clause-guards : goal.returns-in_default-clause-guards
+returns-in_default-clause-guards g c = λ root held map. guards_same (g.M.Machine.sizes c.args.m.now) root (g.M.Machine.domain c.args.m.now) _ _ _ c.show.ensures.front

@@ -1,0 +1,3 @@
+pub mod SharingLemmas
+pub mod CommandLemmas
+pub mod OrderLemmas
