@@ -5,7 +5,7 @@ ghost use Rattle.heap_model.specs.declared.state.Sizes.{Sizes as declared_sizes}
 ghost use Rattle.heap_text.specs.declared.fault.ScriptFault.{ScriptFault as declared_fault};
 ghost use Rattle.outer_io.specs.Faults.{Rose};
 ghost use Rattle.table_judge.specs.Answer.{IsTrueAnswer};
-ghost use Rattle.table_text.specs.declared.line.TableLine.{TableLine as declared_line};
+ghost use Rattle.table_text.specs.Texts as texts;
 ghost use Rattle.history_judge.specs.Input.{HasNoParts};
 ghost use Rattle.history_judge.specs.Reading.{IsReadInPart, ReadsAll};
 ghost use Rattle.history_judge.specs.Tables.{IsOfTable, IsTableInput, IsTableRefused, IsTableSilent, IsTableTold, JudgesTable, RefusesTable, StopsTable, TellsTable, WritesTable, WritesTableFront, WrongTable, gone_text, no_run_text, run_text};
@@ -102,7 +102,7 @@ fn no_run(alloc: Global, line: u64) -> Result<Vec<u8>, AllocError>
 
 // What is written of what was found.
 fn tell(alloc: Global, explained: &Explained) -> Result<Finding, AllocError>
-    ensures { (z : declared_sizes) (bytes output : List ℕ) (lines : List declared_line) → IsTableInput bytes lines output → IsTrueAnswer z lines output explained.now
+    ensures { (z : declared_sizes) (bytes output : List ℕ) (table : texts.Text) → IsTableInput bytes table output → IsTrueAnswer z table output explained.now
         → IfOk result (λ f. TellsTable z bytes f.judged f.text.items) }
 {
     match explained {
