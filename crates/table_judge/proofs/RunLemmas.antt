@@ -39,7 +39,7 @@ at_most (y ∷ xs) zero x at = refl
 at_most (y ∷ xs) (suc i) x at = ap suc (at_most xs i x at)
 
 made_next : (version : Version) (lines : List TableLine) (i made more : ℕ) (l : TableLine) → slice_get lines i ≡ Some l → made ≡ all_made version (take i lines) → more ≡ made_by version l → made + more ≡ all_made version (take (suc i) lines)
-made_next version lines i made more l line is by = ap₂ (λ (m n : ℕ). m + n) is by ∙ sym (made_more version (take i lines) l) ∙ ap (all_made version) version (sym (split_at lines i l line).1)
+made_next version lines i made more l line is by = ap₂ (λ (m n : ℕ). m + n) is by ∙ sym (made_more version (take i lines) l) ∙ ap (all_made version) (sym (split_at lines i l line).1)
 
 pub made_after : (version : Version) (lines : List TableLine) (i j made more : ℕ) (l : TableLine) → j ≡ i + 1 → slice_get lines i ≡ Some l → made ≡ all_made version (take i lines) → more ≡ made_by version l → made + more ≡ all_made version (take j lines)
 made_after version lines i j made more l next line is by =
@@ -52,7 +52,7 @@ more version z gone lines replies i made s t l a line reply is step before state
     let here = split_at lines i l line in
     let there = split_at replies i a reply in
     let later : RunsBy version z gone (take i lines ++ l ∷ []) t (drop (suc i) lines) (drop (suc i) replies) states = subst (λ ls. RunsBy version z gone ls t (drop (suc i) lines) (drop (suc i) replies) states) here.1 runs in
-    let now : StepBy version z gone (take i lines ++ l ∷ []) (length (take i lines)) l s a t = subst (λ n. StepBy version z gone (take i lines ++ l ∷ []) n l s a t) (sym (at_most lines i l line)) (step (take i lines ++ l ∷ []) (is ∙ ap (all_made version) version here.1)) in
+    let now : StepBy version z gone (take i lines ++ l ∷ []) (length (take i lines)) l s a t = subst (λ n. StepBy version z gone (take i lines ++ l ∷ []) n l s a t) (sym (at_most lines i l line)) (step (take i lines ++ l ∷ []) (is ∙ ap (all_made version) here.1)) in
     before (t ∷ states)
     (subst (λ ls. RunsBy version z gone (take i lines) s ls (drop i replies) (t ∷ states)) (sym here.0)
     (subst (λ rs. RunsBy version z gone (take i lines) s (l ∷ drop (suc i) lines) rs (t ∷ states)) (sym there.0) (now, later)))
