@@ -39,6 +39,7 @@ use Rattle.weak_tables.proofs.SearchLemmas.{bucket_below, midst_begins, midst_fo
 use Rattle.weak_tables.proofs.TakeLemmas.{all_cleared, took}
 use Rattle.weak_tables.proofs.PutLemmas.{cell_linked, got_found, put_done, ready_grown}
 use Rattle.weak_tables.proofs.FoundLemmas.{bindings_law, lookups_law, puts_law, takes_law}
+use Rattle.table_text.specs.declared.version.Version.{Version}
 use Rattle.table_text.specs.declared.line.TableLine.TheVariants.{Get as LookUp}
 use Rattle.table_machine.specs.declared.reply.LineReply.{LineReply}
 use Rattle.table_machine.specs.declared.reply.LineReply.TheVariants as machine
