@@ -16,7 +16,7 @@ use Rattle.camlheap_run.specs.Outcome.{WritesRun, WritesRunBy}
 use Rattle.camlheap_run.specs.Run.{IsSpawningRunOf, is_run_of, output_of}
 use Rattle.spawn_laws.specs.Printed.{spawning_output}
 use Rattle.spawned_replay.specs.Explains.{ExplainsSpawning}
-use Rattle.table_text.specs.declared.version.Version.{Version}
+use Rattle.table_text.specs.declared.version.Version as tables
 use Rattle.table_text.specs.declared.line.TableLine.{TableLine}
 use Rattle.table_machine.specs.declared.reply.LineReply.{LineReply}
 use Rattle.table_machine.specs.Machine.{MachineAnswers, MachineRuns, TableState, opened}
@@ -86,7 +86,7 @@ pub explained_replays : ReplaysAreExplained
 explained_replays z ended left_before left_after before bytes x = explained z x.replay.script.sections ended before bytes x.writes.writes
 
 -- the lines of a text that was run are steps of its machine
-machine_runs : (version : Version) (z : Sizes) (p : Places) (before : List TableLine) (s : TableState) (old : List Entry) (lines : List TableLine) (replies : List LineReply) (t : TableState) (new : List Entry)
+machine_runs : (version : tables.Version) (z : Sizes) (p : Places) (before : List TableLine) (s : TableState) (old : List Entry) (lines : List TableLine) (replies : List LineReply) (t : TableState) (new : List Entry)
     → LinesRun version z p before s old lines replies t new → (states : List TableState) × MachineRuns version z before s lines replies states
 machine_runs version z p before s old [] [] t new runs = ([], tt)
 machine_runs version z p before s old (l ∷ lines) (a ∷ replies) t new (u, h, here, later) =
@@ -94,7 +94,7 @@ machine_runs version z p before s old (l ∷ lines) (a ∷ replies) t new (u, h,
 machine_runs version z p before s old [] (a ∷ replies) t new runs = absurd runs
 machine_runs version z p before s old (l ∷ lines) [] t new runs = absurd runs
 
-answered : (version : Version) (z : Sizes) (lines : List TableLine) (replies : List LineReply) (h : List Entry) → TextRuns version z lines replies h → MachineAnswers version z lines replies
+answered : (version : tables.Version) (z : Sizes) (lines : List TableLine) (replies : List LineReply) (h : List Entry) → TextRuns version z lines replies h → MachineAnswers version z lines replies
 answered version z lines replies h x = let runs = machine_runs version z x.places [] opened x.first lines replies x.state x.last x.lines_run in record { states = runs.0; runs = runs.1 }
 
 pub explained_tables : TablesAreExplained
