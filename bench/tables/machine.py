@@ -22,7 +22,8 @@ class Wrong(Exception):
 
 
 class Machine:
-    def __init__(self, minor, pools):
+    def __init__(self, version, minor, pools):
+        self.labels = {"table 1": 2, "table 2": 7}[version]  # how many a put may make
         self.registers = {r: None for r in REGISTERS}
         self.slots = {}  # slot -> the key that it had last
         self.values = {}  # key -> what it is bound to, if it is left
@@ -65,7 +66,7 @@ class Machine:
 
     def is_full(self, reply):
         """Whether an allocation was refused, which is only where it may be."""
-        if reply == "full" and 19 + 2 * self.puts + self.keys < self.spare:
+        if reply == "full" and 19 + self.labels * self.puts + self.keys < self.spare:
             raise Wrong("full while there is room")
         return reply == "full"
 
@@ -143,10 +144,11 @@ setattr(Machine, "del", Machine.delete)
 
 def judge(text, output, minor, pools):
     """What is wrong with an output, or None."""
-    lines, replies = text.splitlines()[1:], output.splitlines()
+    version, *lines = text.splitlines()
+    replies = output.splitlines()
     if len(lines) != len(replies):
         return f"{len(replies)} replies to {len(lines)} lines"
-    machine = Machine(minor, pools)
+    machine = Machine(version, minor, pools)
     for number, (line, reply) in enumerate(zip(lines, replies), 2):
         try:
             machine.line(line, reply)
@@ -172,7 +174,7 @@ def random_line(chance):
 
 
 def random_text(chance):
-    return "".join(line + "\n" for line in ["table 1"] + [random_line(chance) for _ in range(chance.randrange(301))])
+    return "".join(line + "\n" for line in [chance.choice(["table 1", "table 2"])] + [random_line(chance) for _ in range(chance.randrange(301))])
 
 
 def run_random(program, count, seed):

@@ -18,7 +18,7 @@ use Rattle.heap_model.specs.declared.state.Sizes.{Sizes}
 use Rattle.schedule_text.specs.declared.replay.ReplayFault.{ReplayFault}
 use Rattle.schedule_text.specs.declared.replay.ReplayFault.TheVariants.{Memory as ReplayMemory, NotReplayable as NotReplayableOf, Schedule as ScheduleOf, Script as ScriptOf}
 use Rattle.schedule_text.specs.Replays.{IsUnlessNoMemory, Replayed, SpellsReplay}
-use Rattle.table_text.specs.declared.line.TableLine.{TableLine}
+use Rattle.table_text.specs.Texts.{Text}
 use Rattle.table_text.specs.Spelling.{Spells as SpellsTable}
 use Rattle.camlheap_run.specs.Reading.{AreRead, IsNoReplay, IsNoScript, most_read, Tells, TellsFirst, TellsReplay, TellsScript, TellsTable}
 
@@ -49,8 +49,8 @@ told Spelled few (Some all) (Some rest) bytes read tells = subst Spelled (all_is
 pub told_script : (domains : ℕ) (before after : Option (List ℕ)) (bytes : List ℕ) (s : Scripted) → AreRead before after bytes → TellsScript domains before s → Spells Three domains s bytes
 told_script domains before after bytes s read tells = told (Spells Three domains s) (λ all spells. spells.few_bytes) before after bytes read tells
 
-pub told_table : (before after : Option (List ℕ)) (bytes : List ℕ) (lines : List TableLine) → AreRead before after bytes → TellsTable before lines → SpellsTable lines bytes
-told_table before after bytes lines read tells = told (SpellsTable lines) (λ all spells. spells.few_bytes) before after bytes read tells
+pub told_table : (before after : Option (List ℕ)) (bytes : List ℕ) (text : Text) → AreRead before after bytes → TellsTable before text → SpellsTable text bytes
+told_table before after bytes text read tells = told (SpellsTable text) (λ all spells. spells.few_bytes) before after bytes read tells
 
 pub told_replay : (z : Sizes) (before after : Option (List ℕ)) (bytes : List ℕ) (r : Replayed) → AreRead before after bytes → TellsReplay z before r → SpellsReplay z.domains z.pools r bytes
 told_replay z before after bytes r read tells = told (SpellsReplay z.domains z.pools r) (λ all spells. spells.few) before after bytes read tells

@@ -11,6 +11,9 @@ use Rattle.heap_rule.specs.Ending.{EndedHeap}
 use Rattle.heap_rule.specs.Limits.{first_outside, sizes_in}
 use Rattle.heap_session.specs.Sessions.{SessionView, alone}
 use Rattle.heap_session.specs.Stopping.{StopsAfter}
+use Rattle.table_text.specs.Texts.{Text, most_lines}
+use Rattle.table_text.specs.declared.version.Version.{Version}
+use Rattle.table_text.specs.declared.version.Version.TheVariants.{One, Two}
 use Rattle.table_text.specs.declared.line.TableLine.{TableLine}
 use Rattle.table_text.specs.declared.line.TableLine.TheVariants.{Key, Forget, Put, Get, Del, SetWeak, GetWeak, Count, FullMajor}
 use Rattle.table_machine.specs.declared.reply.LineReply.{LineReply}
@@ -28,14 +31,14 @@ table_sizes_are z n may =
     let same : sizes_of z.domains z.pools z.minor_words z.classes ≡ z = refl in
     ap (λ (d : ℕ). sizes_of d z.pools z.minor_words class_count) (sym may.0.one) ∙ (ap (λ (c : ℕ). sizes_of z.domains z.pools z.minor_words c) (sym may.1) ∙ same)
 
-pub opened_sizes : (z : Sizes) (ls : List TableLine) (o : Opened) → MayHoldTable z → IsOpened z ls o → sizes_in o.session.config ≡ z
+pub opened_sizes : (z : Sizes) (ls : Text) (o : Opened) → MayHoldTable z → IsOpened z ls o → sizes_in o.session.config ≡ z
 opened_sizes z ls o may opened = ap (λ (s : SessionView). sizes_in s.config) opened.session ∙ table_sizes_are z (ephemerons_for ls) may
 
 -- no label was given out
-pub opened_labels : (z : Sizes) (ls : List TableLine) (o : Opened) → IsOpened z ls o → o.session.labels ≡ 0
+pub opened_labels : (z : Sizes) (ls : Text) (o : Opened) → IsOpened z ls o → o.session.labels ≡ 0
 opened_labels z ls o opened = ap (λ (s : SessionView). s.labels) opened.session
 
-pub opened_room : (z : Sizes) (ls : List TableLine) (o : Opened) → IsOpened z ls o → o.session.room ≡ ephemerons_for ls
+pub opened_room : (z : Sizes) (ls : Text) (o : Opened) → IsOpened z ls o → o.session.room ≡ ephemerons_for ls
 opened_room z ls o opened = ap (λ (s : SessionView). s.room) opened.session
 
 -- and within the limits
@@ -43,6 +46,14 @@ pub table_fits : (z : Sizes) (n : ℕ) → MayHoldTable z → n ≤ 200000 → f
 table_fits z n may few =
     let none : 0 ≤ 200000 = omega arith in
     rooms_fit (alone z.minor_words z.pools 0 n) (ap outside_sizes (table_sizes_are z n may) ∙ may.0.limits) none few
+
+-- there are few lines
+pub few_lines : (version : Version) → most_lines version ≤ 199984
+few_lines One = omega arith
+few_lines Two = omega arith
+
+pub few_ephemerons : (text : Text) → length text.lines ≤ most_lines text.version → ephemerons_for text ≤ 200000
+few_ephemerons text few = let most = few_lines text.version in omega (arith, few, most)
 
 line_rooms : (l : TableLine) → rooms_of l ≤ 1
 line_rooms (Key r) = omega arith
@@ -60,24 +71,25 @@ pub few_rooms : (ls : List TableLine) → all_rooms ls ≤ length ls
 few_rooms [] = omega arith
 few_rooms (l ∷ ls) = let one = line_rooms l in let rest = few_rooms ls in omega (arith, one, rest)
 
-line_makes : (l : TableLine) → made_by l ≤ 2
-line_makes (Key r) = omega arith
-line_makes (Forget r) = omega arith
-line_makes (Put r v) = omega arith
-line_makes (Get r) = omega arith
-line_makes (Del r) = omega arith
-line_makes (SetWeak i r) = omega arith
-line_makes (GetWeak d i) = omega arith
-line_makes Count = omega arith
-line_makes FullMajor = omega arith
+line_makes : (version : Version) (l : TableLine) → made_by version l ≤ 7
+line_makes version (Key r) = omega arith
+line_makes version (Forget r) = omega arith
+line_makes One (Put r v) = omega arith
+line_makes Two (Put r v) = omega arith
+line_makes version (Get r) = omega arith
+line_makes version (Del r) = omega arith
+line_makes version (SetWeak i r) = omega arith
+line_makes version (GetWeak d i) = omega arith
+line_makes version Count = omega arith
+line_makes version FullMajor = omega arith
 
--- or makes more than two labels
-pub few_labels : (ls : List TableLine) → all_made ls ≤ 2 * length ls
-few_labels [] = omega arith
-few_labels (l ∷ ls) = let two = line_makes l in let rest = few_labels ls in omega (arith, two, rest)
+-- or makes more than seven labels
+pub few_labels : (version : Version) (ls : List TableLine) → all_made version ls ≤ 7 * length ls
+few_labels version [] = omega arith
+few_labels version (l ∷ ls) = let seven = line_makes version l in let rest = few_labels version ls in omega (arith, seven, rest)
 
 -- what was run in a history was run in each that goes on from it
-runs_further : (z : Sizes) (ls : List TableLine) (rs : List LineReply) (old more : List Entry) → TextRuns z ls rs old → TextRuns z ls rs (old ++ more)
+runs_further : (z : Sizes) (ls : Text) (rs : List LineReply) (old more : List Entry) → TextRuns ls.version z ls.lines rs old → TextRuns ls.version z ls.lines rs (old ++ more)
 runs_further z ls rs old more runs = record {
   places = runs.places;
   first = runs.first;
@@ -89,20 +101,20 @@ runs_further z ls rs old more runs = record {
   within = record { rest = runs.within.rest ++ more; appends = ap (λ (h : List Entry). h ++ more) runs.within.appends ∙ append_assoc runs.last runs.within.rest more };
 }
 
-stopped_runs : (z : Sizes) (ls : List TableLine) (rs : List LineReply) (front history : List Entry) → StopsAfter z front history → TextRuns z ls rs front → TextRuns z ls rs history
+stopped_runs : (z : Sizes) (ls : Text) (rs : List LineReply) (front history : List Entry) → StopsAfter z front history → TextRuns ls.version z ls.lines rs front → TextRuns ls.version z ls.lines rs history
 stopped_runs z ls rs front history stops runs =
     let on = append_assoc (front ++ stops.before) (End 0 ∷ []) stops.after ∙ append_assoc front stops.before (End 0 ∷ stops.after) in
-    subst (λ (h : List Entry). TextRuns z ls rs h) (sym (stops.appends ∙ on)) (runs_further z ls rs front (stops.before ++ End 0 ∷ stops.after) runs)
+    subst (λ (h : List Entry). TextRuns ls.version z ls.lines rs h) (sym (stops.appends ∙ on)) (runs_further z ls rs front (stops.before ++ End 0 ∷ stops.after) runs)
 
 -- a session was stopped after it had run the text: the sizes asked for, those with which it began, and those as it ended
-pub record RanTable (z began ends : Sizes) (ls : List TableLine) (rs : List LineReply) (front : List Entry) (past : EndedHeap) : Type 0 where
+pub record RanTable (z began ends : Sizes) (ls : Text) (rs : List LineReply) (front : List Entry) (past : EndedHeap) : Type 0 where
   pub heap : began ≡ z
   pub same : ends ≡ began
-  pub runs : TextRuns began ls rs front
+  pub runs : TextRuns ls.version began ls.lines rs front
   pub sizes : past.sizes ≡ ends
   pub stops : StopsAfter ends front past.history
 
-has_run_table : (z began ends : Sizes) (ls : List TableLine) (rs : List LineReply) (front : List Entry) (past : EndedHeap) (ended : Option EndedHeap) → RanTable z began ends ls rs front past → Some past ≡ ended → HasRunTable z ls rs ended
+has_run_table : (z began ends : Sizes) (ls : Text) (rs : List LineReply) (front : List Entry) (past : EndedHeap) (ended : Option EndedHeap) → RanTable z began ends ls rs front past → Some past ≡ ended → HasRunTable z ls rs ended
 has_run_table z began ends ls rs front past ended ran is =
     let stops : StopsAfter began front past.history = subst (λ (y : Sizes). StopsAfter y front past.history) ran.same ran.stops in
     record {
@@ -110,10 +122,10 @@ has_run_table z began ends ls rs front past ended ran is =
       is_past = sym is;
       sizes = ran.sizes ∙ (ran.same ∙ ran.heap);
       legal = subst (λ (y : Sizes). Legal y past.history) ran.heap stops.legal;
-      runs = subst (λ (y : Sizes). TextRuns y ls rs past.history) ran.heap (stopped_runs began ls rs front past.history stops ran.runs);
+      runs = subst (λ (y : Sizes). TextRuns ls.version y ls.lines rs past.history) ran.heap (stopped_runs began ls rs front past.history stops ran.runs);
     }
 
-pub writes_table : (z began ends : Sizes) (ls : List TableLine) (rs shown : List LineReply) (front : List Entry) (past : EndedHeap) (ended : Option EndedHeap) (before after : Option (List ℕ))
+pub writes_table : (z began ends : Sizes) (ls : Text) (rs shown : List LineReply) (front : List Entry) (past : EndedHeap) (ended : Option EndedHeap) (before after : Option (List ℕ))
     → RanTable z began ends ls rs front past → shown ≡ rs → Some past ≡ ended → Appends before after (replies_text shown) → WritesTable z ls ended before after
 writes_table z began ends ls rs shown front past ended before after ran is last bytes = record {
   replies = rs;
@@ -121,7 +133,7 @@ writes_table z began ends ls rs shown front past ended before after ran is last 
   written = subst (λ (xs : List LineReply). Appends before after (replies_text xs)) is bytes;
 }
 
-pub writes_table_front : (z began ends : Sizes) (ls : List TableLine) (rs shown : List LineReply) (front : List Entry) (past : EndedHeap) (ended : Option EndedHeap) (before after : Option (List ℕ))
+pub writes_table_front : (z began ends : Sizes) (ls : Text) (rs shown : List LineReply) (front : List Entry) (past : EndedHeap) (ended : Option EndedHeap) (before after : Option (List ℕ))
     → RanTable z began ends ls rs front past → shown ≡ rs → Some past ≡ ended → AppendsFront before after (replies_text shown) → WritesFrontOfTable z ls ended before after
 writes_table_front z began ends ls rs shown front past ended before after ran is last bytes = record {
   replies = rs;

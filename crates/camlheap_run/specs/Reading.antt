@@ -15,7 +15,7 @@ use Rattle.heap_model.specs.declared.state.Sizes.{Sizes}
 use Rattle.schedule_text.specs.declared.replay.ReplayFault.{ReplayFault}
 use Rattle.schedule_text.specs.declared.replay.ReplayFault.TheVariants.{Memory as ReplayMemory}
 use Rattle.schedule_text.specs.Replays.{HasFault, Replayed, SpellsReplay}
-use Rattle.table_text.specs.declared.line.TableLine.{TableLine}
+use Rattle.table_text.specs.Texts.{Text}
 use Rattle.table_text.specs.Spelling.{Spells as SpellsTable}
 
 -- the most bytes that are read: one more than a script may have
@@ -40,8 +40,8 @@ abbrev pub ReadsScript : ℕ → Option (List ℕ) → Option (List ℕ) → Scr
 ReadsScript domains before after script = ReadsAll (Spells Three domains script) before after
 
 -- they spell this text of a table
-abbrev pub ReadsTable : Option (List ℕ) → Option (List ℕ) → List TableLine → Type 0
-ReadsTable before after lines = ReadsAll (SpellsTable lines) before after
+abbrev pub ReadsTable : Option (List ℕ) → Option (List ℕ) → Text → Type 0
+ReadsTable before after text = ReadsAll (SpellsTable text) before after
 
 -- they spell this replay
 abbrev pub ReadsReplay : Sizes → Option (List ℕ) → Option (List ℕ) → Replayed → Type 0
@@ -82,8 +82,8 @@ abbrev pub TellsScript : ℕ → Option (List ℕ) → Scripted → Type 0
 TellsScript domains told script = Tells (Spells Three domains script) told
 
 -- they spell this text of a table
-abbrev pub TellsTable : Option (List ℕ) → List TableLine → Type 0
-TellsTable told lines = Tells (SpellsTable lines) told
+abbrev pub TellsTable : Option (List ℕ) → Text → Type 0
+TellsTable told text = Tells (SpellsTable text) told
 
 -- the source tells its bytes, and those that are read have this fault
 abbrev pub TellsFirst : {F : Type 0} → (List ℕ → F → Type 0) → Option (List ℕ) → F → Type 0

@@ -8,7 +8,7 @@ ghost use Rattle.heap_text.specs.declared.version.Version.TheVariants.{Three};
 ghost use Rattle.heap_text.specs.declared.fault.ScriptFault.{ScriptFault};
 ghost use Rattle.schedule_text.specs.declared.replay.ReplayFault.{ReplayFault as declared_fault};
 ghost use Rattle.schedule_text.specs.Replays.{Replayed};
-ghost use Rattle.table_text.specs.declared.line.TableLine.{TableLine};
+ghost use Rattle.table_text.specs.Texts.{Text};
 ghost use Rattle.table_text.specs.Faults.{first_fault as table_fault};
 ghost use Rattle.camlheap_run.specs.Reading.{AreRead, IsFirst, IsNoReplay, IsNoScript, ReadsFault, ReadsFirstFault, ReadsReplay, ReadsReplayFault, ReadsScript, ReadsTable, TellsFault, TellsFirst, TellsReplay, TellsReplayFault, TellsScript, TellsTable};
 
@@ -182,7 +182,7 @@ pub(crate) fn table_of<S: Source>(alloc: Global, src: &mut S) -> Result<TableTex
     ensures refused { (f : ScriptFault) → result ≡ Err (NoScript.Refused f) → ReadsFirstFault (IsFirst table_fault) (S.left src.old) (S.left src.new) f }
 
     // What spells a text isn't refused, and what has a fault isn't read.
-    ensures only_faults { (lines : List TableLine) (f : ScriptFault) → TellsTable (S.left src.old) lines → result ≡ Err (NoScript.Refused f) → ⊥ }
+    ensures only_faults { (text : Text) (f : ScriptFault) → TellsTable (S.left src.old) text → result ≡ Err (NoScript.Refused f) → ⊥ }
     ensures only_texts { (f : ScriptFault) → TellsFirst (IsFirst table_fault) (S.left src.old) f → IsErr result }
 {
     let bytes = match read_bytes(alloc, src) {

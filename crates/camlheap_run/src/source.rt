@@ -6,7 +6,7 @@ ghost use Rattle.heap_text.specs.declared.fault.ScriptFault.{ScriptFault};
 ghost use Rattle.schedule_text.specs.declared.replay.ReplayFault as replay_fault;
 ghost use Rattle.schedule_text.specs.declared.replay.ReplayFault.TheVariants.{NotReplayable as NotReplayableOf, Schedule as ScheduleOf, Script as ScriptOf};
 ghost use Rattle.schedule_text.specs.Replays.{HasFault, Replayed};
-ghost use Rattle.table_text.specs.declared.line.TableLine.{TableLine};
+ghost use Rattle.table_text.specs.Texts.{Text};
 ghost use Rattle.table_text.specs.Faults.{first_fault as table_fault};
 ghost use Rattle.outer_io.specs.Faults.{Rose};
 ghost use Rattle.camlheap_run.specs.Reading.{IsFirst, ReadsFault, ReadsFirstFault, ReadsReplayFault, TellsFault, TellsFirst, TellsReplay, TellsReplayFault, TellsScript, TellsTable};
@@ -131,7 +131,7 @@ pub(crate) fn run_table_source<R: Wait, S: Source, K: Sink>(
     ensures write_fault { (ended : Option EndedHeap) → result ≡ Status.WriteFault ended → Rose (K.faults out.old) (K.faults out.new) }
     ensures read_failed { S.faults src.old < S.faults src.new → result ≡ Status.ReadFault }
     ensures write_failed { K.faults out.old < K.faults out.new → IsWriteFault result }
-    ensures complete { (lines : List TableLine) → TellsTable (S.left src.old) lines
+    ensures complete { (text : Text) → TellsTable (S.left src.old) text
         → ¬ (Rose (S.faults src.old) (S.faults src.new)) → ¬ (Rose (K.faults out.old) (K.faults out.new))
         → IsDoneOrMemory result }
     ensures refused { (f : ScriptFault) → TellsFirst (IsFirst table_fault) (S.left src.old) f

@@ -2,6 +2,7 @@
 ghost use Rattle.std.specs.Prelude.{◌≡◌, ◌<◌, ◌≤◌, length, IfOk, Option};
 ghost use Rattle.heap_rule.specs.Ending.{EndedHeap};
 ghost use Rattle.outer_io.specs.Faults.{Rose};
+ghost use Rattle.table_text.specs.Texts.{most_lines};
 ghost use Rattle.camlheap_run.specs.Outcome.{IsRunAnswer, IsWriteFault};
 ghost use Rattle.camlheap_run.specs.Tables.{IsOpened, MayHoldTable, WritesFrontOfTable, WritesTable};
 
@@ -13,6 +14,7 @@ use heap_session::TableSession;
 use outer_io::{Failed, Sink};
 use std::alloc::{AllocError, Global};
 use std::sync::Wait;
+use table_keepers::OneDomain;
 use table_machine::LineReply;
 use table_run::run_text;
 use table_text::TableText;
@@ -30,7 +32,7 @@ pub(crate) struct Opened {
 // Starts the heap. There is room for an ephemeron of each slot, and for one of each line.
 fn open(alloc: Global, sizes: &Sizes, text: &TableText) -> Result<Opened, AllocError>
     requires sizes { MayHoldTable sizes.now }
-    requires few { length text.now ≤ 10000 }
+    requires few { length text.now.lines ≤ most_lines text.now.version }
     ensures { IfOk result (IsOpened sizes.now text.now) }
 {
     let room = Vec::with_capacity(alloc, text.len())?;
@@ -52,7 +54,7 @@ pub(crate) fn run_table<R: Wait, K: Sink>(
     out: &mut K,
 ) -> Status
     requires sizes { MayHoldTable sizes.now }
-    requires few { length text.now ≤ 10000 }
+    requires few { length text.now.lines ≤ most_lines text.now.version }
     ensures later { K.faults out.old ≤ K.faults out.new }
     ensures done { (ended : Option EndedHeap) → result ≡ Status.Done ended → WritesTable sizes.now text.now ended (K.written out.old) (K.written out.new) }
     ensures cut { (ended : Option EndedHeap) → result ≡ Status.WriteFault ended → WritesFrontOfTable sizes.now text.now ended (K.written out.old) (K.written out.new) }
@@ -65,9 +67,10 @@ pub(crate) fn run_table<R: Wait, K: Sink>(
         Ok(opened) => opened,
         Err(AllocError) => return Status::Memory,
     };
-    let mut session = session;
-    let replies = run_text(&mut session, rt, text, room);
-    let ended = Some(session.stop(rt));
+    let mut domain = OneDomain { machine: session };
+    let replies = run_text(&mut domain, rt, text, room);
+    let OneDomain { machine } = domain;
+    let ended = Some(machine.stop(rt));
     match write_answers(out, &replies) {
         Ok(()) => Status::Done { ended },
         Err(Failed) => Status::WriteFault { ended },

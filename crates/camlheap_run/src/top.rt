@@ -9,7 +9,7 @@ ghost use Rattle.heap_text.specs.declared.fault.ScriptFault.{ScriptFault};
 ghost use Rattle.schedule_text.specs.declared.replay.ReplayFault as replay_fault;
 ghost use Rattle.schedule_text.specs.declared.replay.ReplayFault.TheVariants.{NotReplayable as NotReplayableOf, Schedule as ScheduleOf};
 ghost use Rattle.schedule_text.specs.Replays.{Replayed};
-ghost use Rattle.table_text.specs.declared.line.TableLine.{TableLine};
+ghost use Rattle.table_text.specs.Texts.{Text};
 ghost use Rattle.table_text.specs.Faults.{first_fault as table_fault};
 ghost use Rattle.outer_io.specs.Faults.{Rose};
 ghost use Rattle.camlheap_run.specs.Generating.{WritesScript, WritesFrontOfScript};
@@ -132,8 +132,8 @@ pub fn camlheap<R: Threads + Wait + Sync, S: Source, K: Sink, G: Gate + Sync>(
         → ¬ (Rose (S.faults src.old) (S.faults src.new))
         → IsEither result (fault_status f) Status.Memory }
 
-    ensures table_complete { (z : Sizes) (lines : List TableLine) → asked_job (map string_bytes words.now) ≡ Some (Job.Table z)
-        → TellsTable (S.left src.old) lines
+    ensures table_complete { (z : Sizes) (text : Text) → asked_job (map string_bytes words.now) ≡ Some (Job.Table z)
+        → TellsTable (S.left src.old) text
         → ¬ (Rose (S.faults src.old) (S.faults src.new)) → ¬ (Rose (K.faults out.old) (K.faults out.new))
         → IsDoneOrMemory result }
     ensures table_refused { (z : Sizes) (f : ScriptFault) → asked_job (map string_bytes words.now) ≡ Some (Job.Table z)

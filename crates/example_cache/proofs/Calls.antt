@@ -19,7 +19,7 @@ use Rattle.heap_session.specs.Sessions.{MayPerform, SessionView}
 use Rattle.table_laws.specs.Structures.{Binding}
 use Rattle.table_laws.specs.Stages.{held_in}
 use Rattle.table_laws.specs.Performing.{Performed, full_of}
-use Rattle.map_domains.proofs.Performs.{performs}
+use Rattle.map_lists.proofs.PerformLemmas.{performs}
 use Rattle.map_laws.proofs.CallLemmas.{alloc_step, forget_step, made as new_label}
 use Rattle.weak_maps.proofs.BesideLemmas.{set_here, sixteen}
 use Rattle.map_laws.specs.Calls.{value_of}

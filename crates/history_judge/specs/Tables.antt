@@ -8,7 +8,7 @@ use Rattle.table_judge.specs.Answer.{Explains}
 use Rattle.table_judge.specs.declared.machine.Gone.{Gone}
 use Rattle.table_text.specs.Faults.{first_fault}
 use Rattle.table_text.specs.Spelling.{Spells}
-use Rattle.table_text.specs.declared.line.TableLine.{TableLine}
+use Rattle.table_text.specs.Texts as texts
 use Rattle.history_judge.specs.declared.tables.JudgedTable.{JudgedTable}
 use Rattle.history_judge.specs.declared.tables.JudgedTable.TheVariants.{Legal, NoneFound, Text, NoSeparator, TooLong, Memory, ReadFault, WriteFault}
 use Rattle.history_judge.specs.Input.{HasNoParts, HasParts}
@@ -17,10 +17,10 @@ use Rattle.history_judge.specs.Show.{line_feed}
 use Rattle.history_judge.specs.Writing.{AppendsFront}
 
 -- the bytes are a table's text, the line between, and an output
-pub record IsTableInput (bytes : List ℕ) (lines : List TableLine) (output : List ℕ) : Type 0 where
+pub record IsTableInput (bytes : List ℕ) (table : texts.Text) (output : List ℕ) : Type 0 where
   pub text : List ℕ
   pub parts : HasParts bytes text output
-  pub spelled : Spells lines text
+  pub spelled : Spells table text
 
 -- which key goes before which line: lines of the text are told by their places in it, and its first has none of the table
 abbrev pub gone_text : Gone → List ℕ
@@ -35,11 +35,11 @@ no_run_text n = codes "no run found: line " ++ decimal n ++ line (codes " of the
 
 -- the output is that of a run of the text, and this tells which keys go in it
 pub record TellsRun (z : Sizes) (bytes text : List ℕ) : Type 0 where
-  pub lines : List TableLine
+  pub table : texts.Text
   pub output : List ℕ
-  pub input : IsTableInput bytes lines output
+  pub input : IsTableInput bytes table output
   pub gone : List Gone
-  pub explains : Explains z lines output gone
+  pub explains : Explains z table output gone
   pub text_is : text ≡ run_text gone
 
 -- the text of an answer

@@ -3,7 +3,7 @@ ghost use Rattle.std.specs.Prelude.{◌≡◌, ◌++◌, ℕ, List, IfOk, IfErr,
 ghost use Rattle.heap_model.specs.Domains.{IsWithinLimits};
 ghost use Rattle.heap_model.specs.declared.state.Sizes.{Sizes as declared_sizes};
 ghost use Rattle.table_judge.specs.Answer.{IsTrueAnswer};
-ghost use Rattle.table_text.specs.declared.line.TableLine.{TableLine as declared_line};
+ghost use Rattle.table_text.specs.Texts as texts;
 ghost use Rattle.history_judge.specs.Faulting.{FaultDecides};
 ghost use Rattle.history_judge.specs.Tables.{FindsFault, IsOfTable, IsTableInput, IsTableRefused, IsTableSilent, IsTableTold, Wrote, RefusesTable, TellsTable, WritesTable, WritesTableFront, gone_text, no_run_text, run_text};
 
@@ -99,7 +99,7 @@ fn no_run(alloc: Global, line: u64) -> Result<Vec<u8>, AllocError>
 
 // What is written of what was found.
 fn tell(alloc: Global, explained: &Explained) -> Result<Finding, AllocError>
-    ensures { (z : declared_sizes) (bytes output : List ℕ) (lines : List declared_line) → IsTableInput bytes lines output → IsTrueAnswer z lines output explained.now
+    ensures { (z : declared_sizes) (bytes output : List ℕ) (table : texts.Text) → IsTableInput bytes table output → IsTrueAnswer z table output explained.now
         → IfOk result (λ f. TellsTable z bytes f.judged f.text.items) }
 {
     match explained {

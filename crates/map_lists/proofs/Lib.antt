@@ -1,4 +1,5 @@
 pub mod AloneLemmas
+pub mod PerformLemmas
 pub mod StretchLemmas
 pub mod CallLemmas
 pub mod MachineLemmas

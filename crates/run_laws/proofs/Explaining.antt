@@ -16,6 +16,7 @@ use Rattle.camlheap_run.specs.Outcome.{WritesRun, WritesRunBy}
 use Rattle.camlheap_run.specs.Run.{IsSpawningRunOf, is_run_of, output_of}
 use Rattle.spawn_laws.specs.Printed.{spawning_output}
 use Rattle.spawned_replay.specs.Explains.{ExplainsSpawning}
+use Rattle.table_text.specs.declared.version.Version as tables
 use Rattle.table_text.specs.declared.line.TableLine.{TableLine}
 use Rattle.table_machine.specs.declared.reply.LineReply.{LineReply}
 use Rattle.table_machine.specs.Machine.{MachineAnswers, MachineRuns, TableState, opened}
@@ -85,18 +86,18 @@ pub explained_replays : ReplaysAreExplained
 explained_replays z ended left_before left_after before bytes x = explained z x.replay.script.sections ended before bytes x.writes.writes
 
 -- the lines of a text that was run are steps of its machine
-machine_runs : (z : Sizes) (p : Places) (before : List TableLine) (s : TableState) (old : List Entry) (lines : List TableLine) (replies : List LineReply) (t : TableState) (new : List Entry)
-    → LinesRun z p before s old lines replies t new → (states : List TableState) × MachineRuns z before s lines replies states
-machine_runs z p before s old [] [] t new runs = ([], tt)
-machine_runs z p before s old (l ∷ lines) (a ∷ replies) t new (u, h, here, later) =
-    let rest = machine_runs z p (before ++ l ∷ []) u h lines replies t new later in (u ∷ rest.0, (here.step, rest.1))
-machine_runs z p before s old [] (a ∷ replies) t new runs = absurd runs
-machine_runs z p before s old (l ∷ lines) [] t new runs = absurd runs
+machine_runs : (version : tables.Version) (z : Sizes) (p : Places) (before : List TableLine) (s : TableState) (old : List Entry) (lines : List TableLine) (replies : List LineReply) (t : TableState) (new : List Entry)
+    → LinesRun version z p before s old lines replies t new → (states : List TableState) × MachineRuns version z before s lines replies states
+machine_runs version z p before s old [] [] t new runs = ([], tt)
+machine_runs version z p before s old (l ∷ lines) (a ∷ replies) t new (u, h, here, later) =
+    let rest = machine_runs version z p (before ++ l ∷ []) u h lines replies t new later in (u ∷ rest.0, (here.step, rest.1))
+machine_runs version z p before s old [] (a ∷ replies) t new runs = absurd runs
+machine_runs version z p before s old (l ∷ lines) [] t new runs = absurd runs
 
-answered : (z : Sizes) (lines : List TableLine) (replies : List LineReply) (h : List Entry) → TextRuns z lines replies h → MachineAnswers z lines replies
-answered z lines replies h x = let runs = machine_runs z x.places [] opened x.first lines replies x.state x.last x.lines_run in record { states = runs.0; runs = runs.1 }
+answered : (version : tables.Version) (z : Sizes) (lines : List TableLine) (replies : List LineReply) (h : List Entry) → TextRuns version z lines replies h → MachineAnswers version z lines replies
+answered version z lines replies h x = let runs = machine_runs version z x.places [] opened x.first lines replies x.state x.last x.lines_run in record { states = runs.0; runs = runs.1 }
 
 pub explained_tables : TablesAreExplained
 explained_tables z ended left_before left_after before bytes x =
     let replies = x.writes.replies in
-    (replies, sym (same_rest before bytes (replies_text replies) x.writes.written), answered z x.lines replies x.writes.ran.past.history x.writes.ran.runs)
+    (replies, sym (same_rest before bytes (replies_text replies) x.writes.written), answered x.text.version z x.text.lines replies x.writes.ran.past.history x.writes.ran.runs)

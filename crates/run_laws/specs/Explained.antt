@@ -37,4 +37,4 @@ ReplaysAreExplained = (z : Sizes) (ended : Option EndedHeap) (left_before left_a
 -- and of a text of a table the machine may give the replies that were written
 abbrev pub TablesAreExplained : Type 0
 TablesAreExplained = (z : Sizes) (ended : Option EndedHeap) (left_before left_after : Option (List ℕ)) (before bytes : List ℕ)
-    → (x : TableRunsToEnd z ended left_before left_after (Some before) (Some (before ++ bytes))) → (replies : List LineReply) × (replies_text replies ≡ bytes) × MachineAnswers z x.lines replies
+    → (x : TableRunsToEnd z ended left_before left_after (Some before) (Some (before ++ bytes))) → (replies : List LineReply) × (replies_text replies ≡ bytes) × MachineAnswers x.text.version z x.text.lines replies

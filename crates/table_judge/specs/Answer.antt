@@ -1,7 +1,7 @@
 -- What the judge of a table's text comes to.
 use Rattle.std.specs.Prelude.{◌≡◌, ℕ, List}
 use Rattle.heap_model.specs.declared.state.Sizes.{Sizes}
-use Rattle.table_text.specs.declared.line.TableLine.{TableLine}
+use Rattle.table_text.specs.Texts.{Text}
 use Rattle.table_machine.specs.declared.reply.LineReply.{LineReply}
 use Rattle.table_machine.specs.Machine.{MachineAnswers}
 use Rattle.table_machine.specs.Texts.{replies_text}
@@ -10,14 +10,14 @@ use Rattle.table_judge.specs.declared.explain.Explained.TheVariants.{Run, NoneFo
 use Rattle.table_judge.specs.declared.machine.Gone.{Gone}
 use Rattle.table_judge.specs.Playing.{AnswersBy}
 
--- the bytes are replies that the machine may give to these lines, where just those keys go
-pub record Explains (z : Sizes) (lines : List TableLine) (bytes : List ℕ) (gone : List Gone) : Type 0 where
+-- the bytes are replies that the machine may give to the lines of this text, where just those keys go
+pub record Explains (z : Sizes) (text : Text) (bytes : List ℕ) (gone : List Gone) : Type 0 where
   pub replies : List LineReply
   pub prints : replies_text replies ≡ bytes
-  pub answers : MachineAnswers z lines replies
-  pub goes : AnswersBy z gone lines replies
+  pub answers : MachineAnswers text.version z text.lines replies
+  pub goes : AnswersBy text.version z gone text.lines replies
 
 -- only a run claims something: that it explains the output
-abbrev pub IsTrueAnswer : Sizes → List TableLine → List ℕ → Explained → Type 0
-IsTrueAnswer z lines bytes (Run gone) = Explains z lines bytes gone.items
-IsTrueAnswer z lines bytes (NoneFound line) = Unit {0}
+abbrev pub IsTrueAnswer : Sizes → Text → List ℕ → Explained → Type 0
+IsTrueAnswer z text bytes (Run gone) = Explains z text bytes gone.items
+IsTrueAnswer z text bytes (NoneFound line) = Unit {0}

@@ -2,6 +2,7 @@
 use Rattle.std.specs.Prelude.{◌≡◌, ℕ, ◌==◌, cond, List, [], ◌∷◌, ◌++◌, length, Some}
 use Rattle.heap_model.specs.declared.label.Label.{Label}
 use Rattle.heap_model.specs.declared.state.Sizes.{Sizes}
+use Rattle.table_text.specs.declared.version.Version.{Version}
 use Rattle.table_text.specs.declared.line.TableLine.{TableLine}
 use Rattle.table_text.specs.declared.line.TableLine.TheVariants.{Key}
 use Rattle.table_machine.specs.declared.reply.LineReply.{LineReply}
@@ -25,18 +26,18 @@ NamesKey k (Key r) Done left t = t ≡ with_key left r (Some k)
 NamesKey k _ _ left t = Unit {0}
 
 -- a line of this number, the last of these, is answered and leaves this state, and just those keys go before it
-pub record StepBy (z : Sizes) (gone : List Gone) (lines : List TableLine) (n : ℕ) (l : TableLine) (s : TableState) (a : LineReply) (t : TableState) : Type 0 where
-  pub step : LineStep z lines l s a t
+pub record StepBy (version : Version) (z : Sizes) (gone : List Gone) (lines : List TableLine) (n : ℕ) (l : TableLine) (s : TableState) (a : LineReply) (t : TableState) : Type 0 where
+  pub step : LineStep version z lines l s a t
   pub left : step.left ≡ once_gone gone n s
   pub named : NamesKey (label_of n) l a step.left t
 
 -- so all lines behind those before, from a state on
-abbrev pub RunsBy : Sizes → List Gone → List TableLine → TableState → List TableLine → List LineReply → List TableState → Type 0
-RunsBy z gone before s [] [] [] = Unit {0}
-RunsBy z gone before s (l ∷ lines) (a ∷ replies) (t ∷ states) = StepBy z gone (before ++ l ∷ []) (length before) l s a t × RunsBy z gone (before ++ l ∷ []) t lines replies states
-RunsBy z gone before s _ _ _ = ⊥
+abbrev pub RunsBy : Version → Sizes → List Gone → List TableLine → TableState → List TableLine → List LineReply → List TableState → Type 0
+RunsBy version z gone before s [] [] [] = Unit {0}
+RunsBy version z gone before s (l ∷ lines) (a ∷ replies) (t ∷ states) = StepBy version z gone (before ++ l ∷ []) (length before) l s a t × RunsBy version z gone (before ++ l ∷ []) t lines replies states
+RunsBy version z gone before s _ _ _ = ⊥
 
 -- the machine may give these replies to these lines, and then just those keys go
-pub record AnswersBy (z : Sizes) (gone : List Gone) (lines : List TableLine) (replies : List LineReply) : Type 0 where
+pub record AnswersBy (version : Version) (z : Sizes) (gone : List Gone) (lines : List TableLine) (replies : List LineReply) : Type 0 where
   pub states : List TableState
-  pub runs : RunsBy z gone [] opened lines replies states
+  pub runs : RunsBy version z gone [] opened lines replies states

@@ -10,7 +10,7 @@ use crate::steps::{labels_made, make_line, may_be_refused};
 use heap_model::state::Sizes;
 use std::alloc::{AllocError, Global};
 use table_machine::LineReply;
-use table_text::{TableLine, TableText};
+use table_text::{TableLine, TableText, Version};
 
 // Makes the line of this number, the last of those that make so many labels, once what goes before it has gone, and answers
 // whether it may be answered so.
@@ -20,6 +20,7 @@ fn step(
     alloc: Global,
     sizes: &Sizes,
     gone: &[Gone],
+    version: Version,
     number: u32,
     line: TableLine,
     made: u64,
@@ -27,14 +28,14 @@ fn step(
 ) -> Result<bool, AllocError>
     requires limits { IsWithinLimits sizes.now }
     requires few { made ≤ 2 ^ 40 }
-    ensures { (lines : List declared_line) → made ≡ all_made lines
-        → IfOk result (λ yes. IsTrue yes → StepBy sizes.now gone.now lines number line machine.old reply machine.new) }
+    ensures { (lines : List declared_line) → made ≡ all_made version lines
+        → IfOk result (λ yes. IsTrue yes → StepBy version sizes.now gone.now lines number line machine.old reply machine.new) }
 {
     if !machine.let_go(alloc, number, gone)? {
         return Ok(false);
     }
     match reply {
-        LineReply::Full => Ok(may_be_refused(machine, sizes, line, made)),
+        LineReply::Full => Ok(may_be_refused(machine, sizes, version, line, made)),
         _ => make_line(machine, alloc, line, label_of(number), reply),
     }
 }
@@ -57,17 +58,28 @@ pub fn refused_line(
     gone: &[Gone],
 ) -> Result<Option<usize>, AllocError>
     requires { IsWithinLimits sizes.now }
-    ensures none { IfOk result (λ o. IfNone o (AnswersBy sizes.now gone.now text.now replies.now)) }
+    ensures none { IfOk result (λ o. IfNone o (AnswersBy text.now.version sizes.now gone.now text.now.lines replies.now)) }
 {
     let mut machine = Machine::new(alloc)?;
+    let version = text.version();
     let mut made: u64 = 0;
     for i in 0..text.len() {
         let (Some(reply), Ok(number)) = (reply_at(replies, i), u32::try_from(i)) else {
             return Ok(Some(i));
         };
         let line = text.line(i);
-        made += labels_made(line);
-        if !step(&mut machine, alloc, sizes, gone, number, line, made, reply)? {
+        made += labels_made(version, line);
+        if !step(
+            &mut machine,
+            alloc,
+            sizes,
+            gone,
+            version,
+            number,
+            line,
+            made,
+            reply,
+        )? {
             return Ok(Some(i));
         }
     }

@@ -15,7 +15,7 @@ use heap_model::label::Label;
 use heap_model::state::Sizes;
 use std::alloc::{AllocError, Global};
 use table_machine::LineReply;
-use table_text::TableLine;
+use table_text::{TableLine, Version};
 
 // Whether the label is nowhere in the machine.
 fn is_new(machine: &Machine, label: Label) -> bool
@@ -167,13 +167,16 @@ fn full_major(machine: &Machine, reply: LineReply) -> bool
 }
 
 /// How many labels a line may make.
-pub(crate) fn labels_made(line: TableLine) -> u64
-    ensures made { result ≡ made_by line }
-    ensures few { result ≤ 2 }
+pub(crate) fn labels_made(version: Version, line: TableLine) -> u64
+    ensures made { result ≡ made_by version line }
+    ensures few { result ≤ 7 }
 {
     match line {
         TableLine::Key { .. } => 1,
-        TableLine::Put { .. } => 2,
+        TableLine::Put { .. } => match version {
+            Version::One => 2,
+            Version::Two => 7,
+        },
         _ => 0,
     }
 }
@@ -199,12 +202,18 @@ fn may_be_full(sizes: &Sizes, made: u64) -> bool
 }
 
 /// Whether a line, the last of those that make so many labels, may be answered `full`.
-pub(crate) fn may_be_refused(machine: &Machine, sizes: &Sizes, line: TableLine, made: u64) -> bool
+pub(crate) fn may_be_refused(
+    machine: &Machine,
+    sizes: &Sizes,
+    version: Version,
+    line: TableLine,
+    made: u64,
+) -> bool
     requires limits { IsWithinLimits sizes.now }
     requires few { made ≤ 2 ^ 40 }
-    ensures { (lines : List declared_line) → IsTrue result → made ≡ all_made lines → MayBeRefused sizes.now lines line machine.now }
+    ensures { (lines : List declared_line) → IsTrue result → made ≡ all_made version lines → MayBeRefused version sizes.now lines line machine.now }
 {
-    if labels_made(line) == 0 || !has_its_key(machine, line) {
+    if labels_made(version, line) == 0 || !has_its_key(machine, line) {
         return false;
     }
     may_be_full(sizes, made)

@@ -2,6 +2,7 @@
 use Rattle.std.proofs.Common.{◌≡◌, ⊎_elim, ℕ, ℤ, List, Option, Some, None, ap, sym, ◌∙◌, subst}
 use Rattle.heap_model.specs.declared.label.Label.{Label}
 use Rattle.heap_model.specs.declared.state.Sizes.{Sizes}
+use Rattle.table_text.specs.declared.version.Version.{Version}
 use Rattle.table_text.specs.declared.line.TableLine.{TableLine}
 use Rattle.table_text.specs.declared.line.TableLine.TheVariants.{Put}
 use Rattle.table_machine.specs.declared.reply.LineReply.{LineReply}
@@ -10,8 +11,8 @@ use Rattle.table_machine.specs.Machine.{TableState, Binds, WithKey, LineStep, ke
 use Rattle.heap_model.specs.declared.graph.Value.TheVariants.{Int}
 
 -- `put` of a register that holds nothing is answered `type`, however few blocks are free
-pub no_full_without_a_key : (z : Sizes) (lines : List TableLine) (r : ℕ) (v : ℤ) (s : TableState) (a : LineReply) (t : TableState) → LineStep z lines (Put r v) s a t → key_in s r ≡ None → a ≡ reply.BadType
-no_full_without_a_key z lines r v s a t x none = ⊎_elim
+pub no_full_without_a_key : (version : Version) (z : Sizes) (lines : List TableLine) (r : ℕ) (v : ℤ) (s : TableState) (a : LineReply) (t : TableState) → LineStep version z lines (Put r v) s a t → key_in s r ≡ None → a ≡ reply.BadType
+no_full_without_a_key version z lines r v s a t x none = ⊎_elim
     (λ done. (subst (λ (o : Option Label). WithKey o x.left a t (λ k. (a ≡ reply.Done) × (t.registers ≡ x.left.registers) × (t.slots ≡ x.left.slots) × Binds k (Int v) x.left.bindings t.bindings)) here done).0)
     (λ full. absurd (let clash : Some full.2.key.0 ≡ None = sym full.2.key.1 ∙ here in cc)) x.does
   where

@@ -8,6 +8,7 @@ use Rattle.heap_model.proofs.Graphs.GraphLemmas.{same_label-true, same_label_ref
 use Rattle.heap_model.proofs.Reach.ReachLemmas.{or_cases, or_left, or_right}
 use Rattle.table_laws.specs.Structures.{Binding, datum_at}
 use Rattle.table_laws.specs.Thinning.{ThinnedBy, EmptiedBy}
+use Rattle.table_text.specs.declared.version.Version.{Version}
 use Rattle.table_text.specs.declared.line.TableLine.{TableLine}
 use Rattle.table_machine.specs.declared.reply.LineReply.{LineReply}
 use Rattle.table_machine.specs.declared.reply.LineReply.TheVariants as reply
@@ -37,8 +38,8 @@ counts : (s : TableState) → Tallies s (reply.Counted (length s.bindings)) s
 counts s = record { goes = stays s; number = length s.bindings; answers = refl; most = omega arith; least = omega arith }
 
 -- a line before which nothing goes
-plain : (z : Sizes) (lines : List TableLine) (l : TableLine) (s : TableState) (a : LineReply) (t : TableState) → Effect s l a t → LineStep z lines l s a t
-plain z lines l s a t e = record { left = s; goes = stays s; does = inl e }
+plain : (v : Version) (z : Sizes) (lines : List TableLine) (l : TableLine) (s : TableState) (a : LineReply) (t : TableState) → Effect s l a t → LineStep v z lines l s a t
+plain v z lines l s a t e = record { left = s; goes = stays s; does = inl e }
 
 abbrev registers : (a b c d e : Option Label) → List (Option Label)
 registers a b c d e = a ∷ b ∷ c ∷ d ∷ e ∷ []
@@ -85,27 +86,27 @@ first_left : (k : Label) → IsThere (state one (bound_first (pos 11)) empty) k 
 first_left k (inl h) = record { datum = ap (λ (l : Label). datum_at (bound_first (pos 11)) l) (is_first k h) ∙ sym (ap (λ (l : Label). datum_at (bound_both (pos 11)) l) (is_first k h)); slots = λ i at. at }
 first_left k (inr h) = absurd (unheld empty k refl h)
 
-pub binding_row : (z : Sizes) → MachineAnswers z binding_lines binding_replies
-binding_row z = record {
+pub binding_row : (v : Version) (z : Sizes) → MachineAnswers v z binding_lines binding_replies
+binding_row v z = record {
   states = state one [] empty ∷ state two [] empty ∷ state two (bound_first (pos 10)) empty ∷ state two (bound_both (pos 10)) empty ∷ state two (bound_both (pos 11)) empty ∷ state two (bound_both (pos 11)) empty
       ∷ state two (bound_both (pos 11)) empty ∷ state one (bound_both (pos 11)) empty ∷ state one (bound_first (pos 11)) empty ∷ state one (bound_first (pos 11)) empty ∷ state one (bound_first (pos 11)) empty
       ∷ state one [] empty ∷ state one [] empty ∷ state one [] empty ∷ [];
   runs = (
-    plain z _ _ _ _ _ (refl, (first, record { lost = unheld (replicate 5 None) first refl; unbound = refl; unset = unheld empty first refl }, refl)),
+    plain v z _ _ _ _ _ (refl, (first, record { lost = unheld (replicate 5 None) first refl; unbound = refl; unset = unheld empty first refl }, refl)),
     (
-      plain z _ _ _ _ _ (refl, (second, record { lost = unheld one second refl; unbound = refl; unset = unheld empty second refl }, refl)),
+      plain v z _ _ _ _ _ (refl, (second, record { lost = unheld one second refl; unbound = refl; unset = unheld empty second refl }, refl)),
       (
-        plain z _ _ _ _ _ (refl, refl, refl, record { rest = refl; bound = refl }),
+        plain v z _ _ _ _ _ (refl, refl, refl, record { rest = refl; bound = refl }),
         (
-          plain z _ _ _ _ _ (refl, refl, refl, record { rest = refl; bound = refl }),
+          plain v z _ _ _ _ _ (refl, refl, refl, record { rest = refl; bound = refl }),
           (
-            plain z _ _ _ _ _ (refl, refl, refl, record { rest = refl; bound = refl }),
+            plain v z _ _ _ _ _ (refl, refl, refl, record { rest = refl; bound = refl }),
             (
-              plain z _ _ _ _ _ (refl, refl),
+              plain v z _ _ _ _ _ (refl, refl),
               (
-                plain z _ _ _ _ _ (counts _),
+                plain v z _ _ _ _ _ (counts _),
                 (
-                  plain z _ _ _ _ _ (refl, refl),
+                  plain v z _ _ _ _ _ (refl, refl),
                   (
                     record {
                       left = state one (bound_first (pos 11)) empty;
@@ -113,15 +114,15 @@ binding_row z = record {
                       does = inl (refl, refl, record { bindings = λ k h. (0, ap (λ (l : Label). Some (Some l)) (sym (is_first k h))); slots = λ k h. absurd (unheld empty k refl h) });
                     },
                     (
-                      plain z _ _ _ _ _ (counts _),
+                      plain v z _ _ _ _ _ (counts _),
                       (
-                        plain z _ _ _ _ _ (refl, refl),
+                        plain v z _ _ _ _ _ (refl, refl),
                         (
-                          plain z _ _ _ _ _ (refl, refl),
+                          plain v z _ _ _ _ _ (refl, refl),
                           (
-                            plain z _ _ _ _ _ (refl, refl),
+                            plain v z _ _ _ _ _ (refl, refl),
                             (
-                              plain z _ _ _ _ _ (refl, refl),
+                              plain v z _ _ _ _ _ (refl, refl),
                               (tt),
                             ),
                           ),
@@ -158,26 +159,26 @@ twice = registers None (Some first) None (Some first) None
 abbrev again : List (Option Label)
 again = registers None None None (Some first) None
 
-pub slot_row : (z : Sizes) → MachineAnswers z slot_lines slot_replies
-slot_row z = record {
+pub slot_row : (v : Version) (z : Sizes) → MachineAnswers v z slot_lines slot_replies
+slot_row v z = record {
   states = state one [] empty ∷ state one [] kept ∷ state copied [] kept ∷ state moved [] kept ∷ state moved [] kept ∷ state twice [] kept ∷ state again [] kept ∷ state (replicate 5 None) [] kept ∷ state (replicate 5 None) [] empty
       ∷ state (replicate 5 None) [] empty ∷ [];
   runs = (
-    plain z _ _ _ _ _ (refl, (first, record { lost = unheld (replicate 5 None) first refl; unbound = refl; unset = unheld empty first refl }, refl)),
+    plain v z _ _ _ _ _ (refl, (first, record { lost = unheld (replicate 5 None) first refl; unbound = refl; unset = unheld empty first refl }, refl)),
     (
-      plain z _ _ _ _ _ (refl, refl),
+      plain v z _ _ _ _ _ (refl, refl),
       (
-        plain z _ _ _ _ _ (refl, refl),
+        plain v z _ _ _ _ _ (refl, refl),
         (
-          plain z _ _ _ _ _ (refl, refl),
+          plain v z _ _ _ _ _ (refl, refl),
           (
-            plain z _ _ _ _ _ (refl, refl, record { bindings = λ k h. absurd (let clash : false ≡ true = h in cc); slots = λ k h. (1, ap (λ (l : Label). Some (Some l)) (sym (in_slot k h))) }),
+            plain v z _ _ _ _ _ (refl, refl, record { bindings = λ k h. absurd (let clash : false ≡ true = h in cc); slots = λ k h. (1, ap (λ (l : Label). Some (Some l)) (sym (in_slot k h))) }),
             (
-              plain z _ _ _ _ _ (refl, refl),
+              plain v z _ _ _ _ _ (refl, refl),
               (
-                plain z _ _ _ _ _ (refl, refl),
+                plain v z _ _ _ _ _ (refl, refl),
                 (
-                  plain z _ _ _ _ _ (refl, refl),
+                  plain v z _ _ _ _ _ (refl, refl),
                   (
                     record {
                       left = state (replicate 5 None) [] empty;
@@ -185,7 +186,7 @@ slot_row z = record {
                       does = inl (refl, refl, record { bindings = λ k h. absurd (let clash : false ≡ true = h in cc); slots = λ k h. absurd (unheld empty k refl h) });
                     },
                     (
-                      plain z _ _ _ _ _ (refl, refl),
+                      plain v z _ _ _ _ _ (refl, refl),
                       (tt),
                     ),
                   ),

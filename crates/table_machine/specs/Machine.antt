@@ -8,6 +8,8 @@ use Rattle.heap_model.specs.Graph.{has_label}
 use Rattle.heap_model.specs.Domains.{reserve}
 use Rattle.table_laws.specs.Structures.{Binding, keys_of, without, datum_at}
 use Rattle.table_laws.specs.Thinning.{ThinnedBy, EmptiedBy}
+use Rattle.table_text.specs.declared.version.Version.{Version}
+use Rattle.table_text.specs.declared.version.Version.TheVariants.{One, Two}
 use Rattle.table_text.specs.declared.line.TableLine.{TableLine}
 use Rattle.table_text.specs.declared.line.TableLine.TheVariants.{Key, Forget, Put, Get, Del, SetWeak, GetWeak, Count, FullMajor}
 use Rattle.table_machine.specs.declared.reply.LineReply.{LineReply}
@@ -110,15 +112,20 @@ Effect s (GetWeak d i) a t = ReadsSlot s a t d (slice_get s.slots i)
 Effect s Count a t = Tallies s a t
 Effect s FullMajor a t = (a ≡ reply.Done) × (t ≡ s) × AllGone s
 
--- how many labels a line may make
-abbrev pub made_by : TableLine → ℕ
-made_by (Key r) = 1
-made_by (Put r v) = 2
-made_by _ = 0
+-- how many labels a binding may make: an ephemeron's and a node's, or a leaf's and those of the blocks on its way
+abbrev pub made_by_put : Version → ℕ
+made_by_put One = 2
+made_by_put Two = 7
 
-abbrev pub all_made : List TableLine → ℕ
-all_made [] = 0
-all_made (l ∷ ls) = made_by l + all_made ls
+-- how many labels a line may make
+abbrev pub made_by : Version → TableLine → ℕ
+made_by v (Key r) = 1
+made_by v (Put r x) = made_by_put v
+made_by v _ = 0
+
+abbrev pub all_made : Version → List TableLine → ℕ
+all_made v [] = 0
+all_made v (l ∷ ls) = made_by v l + all_made v ls
 
 -- a line that binds the key in a register finds one there
 abbrev pub HasItsKey : TableState → TableLine → Type 0
@@ -126,24 +133,24 @@ HasItsKey s (Put r v) = (k : Label) × (key_in s r ≡ Some k)
 HasItsKey s _ = Unit {0}
 
 -- when the last of these lines may be answered `full` in a state: it makes a block, it has the key that it binds, and with the 19 labels that were made before the first line, the shared block's among them, so many may be kept that the pools are used up
-pub record MayBeRefused (z : Sizes) (lines : List TableLine) (l : TableLine) (s : TableState) : Type 0 where
-  pub allocates : made_by l ≡ 0 → ⊥
+pub record MayBeRefused (v : Version) (z : Sizes) (lines : List TableLine) (l : TableLine) (s : TableState) : Type 0 where
+  pub allocates : made_by v l ≡ 0 → ⊥
   pub key : HasItsKey s l
-  pub kept : z.pools ≤ 19 + all_made lines + reserve z + z.classes
+  pub kept : z.pools ≤ 19 + all_made v lines + reserve z + z.classes
 
 -- a line, the last of these, is answered and leaves this state. `full` changes nothing
-pub record LineStep (z : Sizes) (lines : List TableLine) (l : TableLine) (s : TableState) (a : LineReply) (t : TableState) : Type 0 where
+pub record LineStep (v : Version) (z : Sizes) (lines : List TableLine) (l : TableLine) (s : TableState) (a : LineReply) (t : TableState) : Type 0 where
   pub left : TableState
   pub goes : MayGo s left
-  pub does : Effect left l a t ⊎ ((a ≡ reply.Full) × (t ≡ left) × MayBeRefused z lines l left)
+  pub does : Effect left l a t ⊎ ((a ≡ reply.Full) × (t ≡ left) × MayBeRefused v z lines l left)
 
 -- the machine from a state on, over all lines behind those before: each line's reply, and the state after it
-abbrev pub MachineRuns : Sizes → List TableLine → TableState → List TableLine → List LineReply → List TableState → Type 0
-MachineRuns z before s [] [] [] = Unit {0}
-MachineRuns z before s (l ∷ lines) (a ∷ replies) (t ∷ states) = LineStep z (before ++ l ∷ []) l s a t × MachineRuns z (before ++ l ∷ []) t lines replies states
-MachineRuns z before s _ _ _ = ⊥
+abbrev pub MachineRuns : Version → Sizes → List TableLine → TableState → List TableLine → List LineReply → List TableState → Type 0
+MachineRuns v z before s [] [] [] = Unit {0}
+MachineRuns v z before s (l ∷ lines) (a ∷ replies) (t ∷ states) = LineStep v z (before ++ l ∷ []) l s a t × MachineRuns v z (before ++ l ∷ []) t lines replies states
+MachineRuns v z before s _ _ _ = ⊥
 
--- the replies are those that the machine may give to these lines
-pub record MachineAnswers (z : Sizes) (lines : List TableLine) (replies : List LineReply) : Type 0 where
+-- the replies are those that the machine may give to the lines of a text of this version
+pub record MachineAnswers (v : Version) (z : Sizes) (lines : List TableLine) (replies : List LineReply) : Type 0 where
   pub states : List TableState
-  pub runs : MachineRuns z [] opened lines replies states
+  pub runs : MachineRuns v z [] opened lines replies states

@@ -1,11 +1,12 @@
 //! The machine on two small texts. It does nothing when it runs.
 ghost use Rattle.heap_model.specs.declared.state.Sizes.{Sizes};
+ghost use Rattle.table_text.specs.declared.version.Version.{Version};
 ghost use Rattle.table_machine.specs.Machine.{MachineAnswers};
 ghost use Rattle.table_machine.specs.Rows.{binding_lines, binding_replies, slot_lines, slot_replies};
 
-/// The machine may answer two texts so, whatever the sizes of the heap: bindings are put, counted and taken, and one goes
-/// with its key; and a slot keeps no key.
+/// The machine may answer two texts so, whatever their version and the sizes of the heap: bindings are put, counted and taken,
+/// and one goes with its key; and a slot keeps no key.
 pub fn rows()
-    ensures bindings { (z : Sizes) → MachineAnswers z binding_lines binding_replies }
-    ensures slots { (z : Sizes) → MachineAnswers z slot_lines slot_replies }
+    ensures bindings { (v : Version) (z : Sizes) → MachineAnswers v z binding_lines binding_replies }
+    ensures slots { (v : Version) (z : Sizes) → MachineAnswers v z slot_lines slot_replies }
 {}

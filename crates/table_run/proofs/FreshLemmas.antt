@@ -15,6 +15,7 @@ use Rattle.heap_model.proofs.Histories.NumberLemmas.{node_at-no_label}
 use Rattle.table_laws.specs.Thinning.{state_of}
 use Rattle.table_laws.specs.Stages.{graph_of}
 use Rattle.table_laws.proofs.StageLemmas.{prefix_trans}
+use Rattle.table_text.specs.declared.version.Version.{Version}
 use Rattle.table_text.specs.declared.line.TableLine.{TableLine}
 use Rattle.table_text.specs.declared.line.TableLine.TheVariants.{Key, Forget, Put, Get, Del, SetWeak, GetWeak, Count, FullMajor}
 use Rattle.table_machine.specs.declared.reply.LineReply.{LineReply}
@@ -61,16 +62,16 @@ makes_before z old new Count a t grows made = tt
 makes_before z old new FullMajor a t grows made = tt
 
 -- a count on the way from one front is one on the way from an earlier front
-pub counted_before : (z : Sizes) (p : Places) (old mid : List Entry) (l : TableLine) (a : LineReply) (new : List Entry) → IsPrefix old mid → WasCounted z p mid l a new → WasCounted z p old l a new
-counted_before z p old mid Count a new grows c = record { chains = c.chains; front = c.front; since = prefix_trans old mid c.front grows c.since; until = c.until; table = c.table; answers = c.answers }
-counted_before z p old mid (Key r) a new grows c = tt
-counted_before z p old mid (Forget r) a new grows c = tt
-counted_before z p old mid (Put r v) a new grows c = tt
-counted_before z p old mid (Get r) a new grows c = tt
-counted_before z p old mid (Del r) a new grows c = tt
-counted_before z p old mid (SetWeak i r) a new grows c = tt
-counted_before z p old mid (GetWeak d i) a new grows c = tt
-counted_before z p old mid FullMajor a new grows c = tt
+pub counted_before : (version : Version) (z : Sizes) (p : Places) (old mid : List Entry) (l : TableLine) (a : LineReply) (new : List Entry) → IsPrefix old mid → WasCounted version z p mid l a new → WasCounted version z p old l a new
+counted_before version z p old mid Count a new grows c = record { shape = c.shape; front = c.front; since = prefix_trans old mid c.front grows c.since; until = c.until; keeper = c.keeper; answers = c.answers }
+counted_before version z p old mid (Key r) a new grows c = tt
+counted_before version z p old mid (Forget r) a new grows c = tt
+counted_before version z p old mid (Put r v) a new grows c = tt
+counted_before version z p old mid (Get r) a new grows c = tt
+counted_before version z p old mid (Del r) a new grows c = tt
+counted_before version z p old mid (SetWeak i r) a new grows c = tt
+counted_before version z p old mid (GetWeak d i) a new grows c = tt
+counted_before version z p old mid FullMajor a new grows c = tt
 
 -- a line that is answered `full` makes none
 pub full_makes_none : (z : Sizes) (old : List Entry) (l : TableLine) (t : TableState) → MakesNew z old l reply.Full t
@@ -85,9 +86,9 @@ full_makes_none z old Count t = tt
 full_makes_none z old FullMajor t = tt
 
 -- a key that was lost doesn't come again: no block that was there at the line's old front, or before, is the key that it makes
-pub no_lost_key_comes_again : (z : Sizes) (p : Places) (lines : List TableLine) (r : ℕ) (s : TableState) (old : List Entry) (t : TableState) (new : List Entry) (h : List Entry) (k : Label) (n : Node) → LineRuns z p lines (Key r) s old reply.Done t new
+pub no_lost_key_comes_again : (version : Version) (z : Sizes) (p : Places) (lines : List TableLine) (r : ℕ) (s : TableState) (old : List Entry) (t : TableState) (new : List Entry) (h : List Entry) (k : Label) (n : Node) → LineRuns version z p lines (Key r) s old reply.Done t new
     → IsPrefix h old → node_at (graph_of z h) k ≡ Some n → key_in t r ≡ Some k → ⊥
-no_lost_key_comes_again z p lines r s old t new h k n x grows there is =
+no_lost_key_comes_again version z p lines r s old t new h k n x grows there is =
     let m = x.fresh refl in
     let same : m.0 ≡ k = (let both : Some m.0 ≡ Some k = sym m.1 ∙ is in cc) in
     let none : node_at (graph_of z h) k ≡ None = subst (λ (l : Label). node_at (graph_of z h) l ≡ None) same (unmade_before z h old m.0 grows m.2) in

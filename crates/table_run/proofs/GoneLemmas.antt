@@ -30,20 +30,22 @@ use Rattle.heap_model.proofs.Histories.ShapeAfterLemmas.{shaped-history}
 use Rattle.heap_model.proofs.Histories.WellFormedLemmas.{reach_after}
 use Rattle.heap_model.proofs.Graphs.GraphLemmas.{same_label_refl}
 use Rattle.heap_model.proofs.Reach.ReachLemmas.{and_left, and_right, has-append_cases, has-append_left, has-append_right, or_left, reachable_least}
-use Rattle.table_laws.specs.Structures.{Binding, Cell, bindings, keys_of, slot_keys, table_labels, IsTable, IsWeakArray}
+use Rattle.table_laws.specs.Structures.{Binding, keys_of, slot_keys, IsWeakArray}
 use Rattle.table_laws.specs.Thinning.{AllCollector, is_collector, state_of}
 use Rattle.table_laws.specs.Performing.{Performed}
 use Rattle.table_laws.specs.Stages.{graph_of, held_in}
 use Rattle.table_laws.proofs.CollectorLemmas.{held_reached}
-use Rattle.table_laws.proofs.LawLemmas.{table_keys_held}
 use Rattle.table_laws.proofs.OnceLemmas.{not_both}
 use Rattle.table_laws.proofs.StepLemmas.{kept, legal_parts}
-use Rattle.weak_tables.specs.Held.{AllHave, IsBare, IsTidy}
+use Rattle.weak_tables.specs.Held.{AllHave, IsBare}
 use Rattle.weak_tables.proofs.RegisteredLemmas.{none_between}
+use Rattle.table_text.specs.declared.version.Version.{Version}
 use Rattle.table_machine.specs.Machine.{AllGone, Holds, TableState, key_in}
+use Rattle.table_keepers.specs.Keepers.{Shape, IsKeeper, kept_bindings, kept_labels}
 use Rattle.table_run.specs.Standing.{AreInts, IsKnown, Places, Stands, key_node}
+use Rattle.table_run.proofs.KeyLemmas.{array_without, keeper_without}
+use Rattle.table_run.proofs.KeeperLemmas.{IsSwept, keeper_closed, keeper_keys_held, keeper_root}
 use Rattle.table_run.proofs.MachineLemmas.{place_holds}
-use Rattle.table_run.proofs.OwnLemmas.{array_without, table_without}
 use Rattle.table_run.proofs.RefusalLemmas.{grown_after}
 use Rattle.table_run.proofs.SettledLemmas.{all_held, held_keys, array_keys_held, from_places, held_closed, in_places, named_field, nothing_there}
 
@@ -119,7 +121,7 @@ which (suc (suc (suc (suc (suc (suc zero)))))) = inr (inr (inl refl))
 which (suc (suc (suc (suc (suc (suc (suc zero))))))) = inr (inr (inr (inl refl)))
 which (suc (suc (suc (suc (suc (suc (suc (suc r)))))))) = inr (inr (inr (inr (omega arith))))
 
-module _ (z : Sizes) (limits : IsWithinLimits z) (mid new : List Entry) (b : Reply) (one : z.domains ≡ 1) (quiet : all_registered 0 (opening z) mid ≡ []) (w : Performed z mid new FullMajor b) (open_mid : (state_of z mid).mode ≡ Open) where
+module _ (version : Version) (z : Sizes) (limits : IsWithinLimits z) (mid new : List Entry) (b : Reply) (one : z.domains ≡ 1) (quiet : all_registered 0 (opening z) mid ≡ []) (w : Performed z mid new FullMajor b) (open_mid : (state_of z mid).mode ≡ Open) where
   abbrev front : List Entry
   front = mid ++ w.between
 
@@ -149,18 +151,18 @@ module _ (z : Sizes) (limits : IsWithinLimits z) (mid new : List Entry) (b : Rep
   held : (r : ℕ) → register s 0 r ≡ held_in z mid r
   held r = ap (λ (rs : List Value). get_or rs r Nothing) (kept z limits mid new FullMajor b w).registers
 
-  module _ (p : Places) (t u : TableState) (y : Stands z p t mid) (emptied : held_in z mid 0 ≡ Nothing) (x : Stands z p u new) (same : u.registers ≡ t.registers) (graph : graph_of z new ≡ s.graph) where
-    abbrev chains : List (List Cell)
-    chains = x.shown.chains
+  module _ (p : Places) (t u : TableState) (y : Stands version z p t mid) (emptied : held_in z mid 0 ≡ Nothing) (x : Stands version z p u new) (swept : IsSwept version x.shown.shape (graph_of z new) p.keeper) (same : u.registers ≡ t.registers) (graph : graph_of z new ≡ s.graph) where
+    abbrev shape : Shape version
+    shape = x.shown.shape
 
     abbrev g : Graph
     g = s.graph
 
     abbrev all : List Label
-    all = all_held u.registers p.table chains p.array p.slots
+    all = all_held u.registers (kept_labels version shape g p.keeper) p.array p.slots
 
-    table_g : IsTable g p.table chains
-    table_g = subst (λ (h : Graph). IsTable h p.table chains) graph x.shown.table
+    keeper_g : IsKeeper version shape z.domains g p.keeper
+    keeper_g = subst (λ (h : Graph). IsKeeper version shape z.domains h p.keeper) graph x.shown.keeper
 
     array_g : IsWeakArray g p.array p.slots
     array_g = subst (λ (h : Graph). IsWeakArray h p.array p.slots) graph x.shown.array
@@ -169,9 +171,10 @@ module _ (z : Sizes) (limits : IsWithinLimits z) (mid new : List Entry) (b : Rep
     key_g k known = sym (ap (λ (h : Graph). node_at h k) graph) ∙ x.keys k known
 
     closed : IsClosedUnder g (has_label all)
-    closed = held_closed g p.table chains p.array p.slots u.registers table_g array_g
-        (subst (λ (h : Graph). AreInts (bindings h chains)) graph (subst AreInts (sym x.shown.bindings_are) x.ints))
-        (subst (λ (h : Graph). AllHave IsTidy h (table_labels p.table chains)) graph x.tidy)
+    closed = held_closed g (kept_labels version shape g p.keeper) p.array p.slots u.registers
+        (keeper_closed g (has_label all) version shape z.domains p.keeper keeper_g (subst (λ (h : Graph). AreInts (kept_bindings version shape h p.keeper)) graph (subst AreInts (sym x.shown.bindings_are) x.ints))
+        (subst (λ (h : Graph). IsSwept version shape h p.keeper) graph swept))
+        array_g
         (subst (λ (h : Graph). AllHave IsBare h p.slots) graph x.bare)
         (λ k mine. key_g k (inl mine))
 
@@ -182,11 +185,11 @@ module _ (z : Sizes) (limits : IsWithinLimits z) (mid new : List Entry) (b : Rep
         let key : key_in t r ≡ Some l = key_is (key_in t r) l (sym (y.shown.registers r low high) ∙ at) in
         has-append_left (held_keys u.registers) _ l (in_places u.registers l (subst (λ (rs : List (Option Label)). Holds rs l) (sym same) (r - 1, place_holds t.registers (r - 1) l key)))
     by_register l r (inr (inr (inl is))) at =
-        let here : p.table ≡ l = (let both : Block p.table ≡ Block l = sym y.table_held ∙ (ap (held_in z mid) (sym is) ∙ at) in cc) in
-        has-append_right (held_keys u.registers) _ l (has-append_left (table_labels p.table chains) (p.array ∷ p.slots) l (or_left (same_label p.table l) _ (subst (λ (k : Label). IsTrue (same_label p.table k)) here (same_label_refl p.table))))
+        let here : p.keeper ≡ l = (let both : Block p.keeper ≡ Block l = sym y.keeper_held ∙ (ap (held_in z mid) (sym is) ∙ at) in cc) in
+        has-append_right (held_keys u.registers) _ l (has-append_left (kept_labels version shape g p.keeper) (p.array ∷ p.slots) l (subst (λ (k : Label). IsTrue (has_label (kept_labels version shape g p.keeper) k)) here (keeper_root version shape z.domains g p.keeper keeper_g)))
     by_register l r (inr (inr (inr (inl is)))) at =
         let here : p.array ≡ l = (let both : Block p.array ≡ Block l = sym y.array_held ∙ (ap (held_in z mid) (sym is) ∙ at) in cc) in
-        has-append_right (held_keys u.registers) _ l (has-append_right (table_labels p.table chains) (p.array ∷ p.slots) l (or_left (same_label p.array l) _ (subst (λ (k : Label). IsTrue (same_label p.array k)) here (same_label_refl p.array))))
+        has-append_right (held_keys u.registers) _ l (has-append_right (kept_labels version shape g p.keeper) (p.array ∷ p.slots) l (or_left (same_label p.array l) _ (subst (λ (k : Label). IsTrue (same_label p.array k)) here (same_label_refl p.array))))
     by_register l r (inr (inr (inr (inr high)))) at = absurd (let clash : Nothing ≡ Block l = sym (y.others r high) ∙ at in cc)
 
     at_register : (l : Label) (d r : ℕ) → get_or (get_or s.domains d no_domain).registers r Nothing ≡ Block l → IsTrue (has_label all l)
@@ -204,9 +207,9 @@ module _ (z : Sizes) (limits : IsWithinLimits z) (mid new : List Entry) (b : Rep
     key_left k known lives = ⊎_elim
         (λ mine. from_places u.registers k mine)
         (λ others. ⊎_elim
-        (λ there. absurd (not_both (table_labels p.table chains) k there (table_without g k (key_g k known) p.table chains table_g)))
+        (λ there. absurd (not_both (kept_labels version shape g p.keeper) k there (keeper_without g k (key_g k known) version shape z.domains p.keeper keeper_g)))
         (λ there. absurd (not_both (p.array ∷ p.slots) k there (array_without g k (key_g k known) p.array p.slots array_g)))
-        (has-append_cases (table_labels p.table chains) (p.array ∷ p.slots) k others))
+        (has-append_cases (kept_labels version shape g p.keeper) (p.array ∷ p.slots) k others))
         (has-append_cases (held_keys u.registers) _ k (reachable_least g (has_label all) closed (roots s (queues s)) holds k lives))
 
     live_at : (l : Label) → IsTrue (has_label (reach s) l) → IsTrue (keys_are_live (has_label (reach s)) (node_at g l))
@@ -215,8 +218,8 @@ module _ (z : Sizes) (limits : IsWithinLimits z) (mid new : List Entry) (b : Rep
     -- all that is left is held
     pub left_held : AllGone u
     left_held = record {
-      bindings = λ k bound. key_left k (inr (inl bound)) (table_keys_held g (has_label (reach s)) (reach_after z front).closed live_at p.table chains k table_g (held_reached s 0 6 p.table (held 6 ∙ y.table_held))
-          (subst (λ (h : Graph). IsTrue (has_label (keys_of (bindings h chains)) k)) graph (subst (λ (bs : List Binding). IsTrue (has_label (keys_of bs) k)) (sym x.shown.bindings_are) bound)));
+      bindings = λ k bound. key_left k (inr (inl bound)) (keeper_keys_held g (has_label (reach s)) (reach_after z front).closed live_at version shape z.domains p.keeper k keeper_g (held_reached s 0 6 p.keeper (held 6 ∙ y.keeper_held))
+          (subst (λ (h : Graph). IsTrue (has_label (keys_of (kept_bindings version shape h p.keeper)) k)) graph (subst (λ (bs : List Binding). IsTrue (has_label (keys_of bs) k)) (sym x.shown.bindings_are) bound)));
       slots = λ k at. key_left k (inr (inr at)) (array_keys_held g (has_label (reach s)) (reach_after z front).closed live_at p.array p.slots k array_g (held_reached s 0 7 p.array (held 7 ∙ y.array_held))
           (subst (λ (h : Graph). Holds (slot_keys h p.slots) k) graph (subst (λ (ks : List (Option Label)). Holds ks k) (sym x.shown.slots_are) at)));
     }

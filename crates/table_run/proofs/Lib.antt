@@ -3,6 +3,8 @@ pub mod MachineLemmas
 pub mod RefusalLemmas
 pub mod FreshLemmas
 pub mod SettledLemmas
+pub mod KeyLemmas
+pub mod KeeperLemmas
 pub mod TakenLemmas
 pub mod StandLemmas
 pub mod LineLemmas

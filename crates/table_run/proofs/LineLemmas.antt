@@ -16,6 +16,7 @@ use Rattle.table_laws.specs.Performing.{After, refusals, registers_of}
 use Rattle.table_laws.specs.Stages.{graph_of, held_in}
 use Rattle.table_laws.proofs.OnceLemmas.{lacks}
 use Rattle.weak_tables.proofs.SearchLemmas.{set_here, set_other}
+use Rattle.table_text.specs.declared.version.Version.{Version}
 use Rattle.table_text.specs.declared.line.TableLine.{TableLine}
 use Rattle.table_text.specs.declared.line.TableLine.TheVariants as line
 use Rattle.table_machine.specs.declared.reply.LineReply.TheVariants as reply
@@ -39,32 +40,32 @@ holds_set (p ∷ ps) zero key k (suc i, at) = inr (suc i, at)
 holds_set (p ∷ ps) (suc j) key k (zero, at) = inr (0, at)
 holds_set (p ∷ ps) (suc j) key k (suc i, at) = ⊎_elim (λ same. inl same) (λ held. inr (suc held.0, held.1)) (holds_set ps j key k (i, at))
 
-module _ (z : Sizes) (limits : IsWithinLimits z) (p : Places) (s : TableState) (old new : List Entry) (x : Stands z p s old) where
+module _ (version : Version) (z : Sizes) (limits : IsWithinLimits z) (p : Places) (s : TableState) (old new : List Entry) (x : Stands version z p s old) where
   -- after a command that changes no block
   module _ (rs : List Value) (after : After z old new [] rs) where
     abbrev pub after_with : List (Option Label) → TableState
-    after_with keys = left_with z p s old new x (Went z old new) after.changes (went_lost z p s old new x) keys
+    after_with keys = left_with version z p s old new x (Went z old new) after.changes (went_lost version z p s old new x) keys
 
-    pub after_goes : (keys : List (Option Label)) → Stands z p (after_with keys) new → (state_of z new).mode ≡ Open → MayGo s (after_with s.registers)
-    after_goes keys y calm = frame_goes z p s old new x (Went z old new) after.changes (went_lost z p s old new x) keys y after.legal calm (λ k w. w.was)
+    pub after_goes : (keys : List (Option Label)) → Stands version z p (after_with keys) new → (state_of z new).mode ≡ Open → MayGo s (after_with s.registers)
+    after_goes keys y calm = frame_goes version z p s old new x (Went z old new) after.changes (went_lost version z p s old new x) keys y after.legal calm (λ k w. w.was)
 
     pub after_goes_by : ((k : Label) → IsThere (after_with s.registers) k → Holds s.registers k) → MayGo s (after_with s.registers)
-    after_goes_by held = frame_goes_by z p s old new x (Went z old new) after.changes (went_lost z p s old new x) (λ k w there. went_lost z p s old new x k w (held k there))
+    after_goes_by held = frame_goes_by version z p s old new x (Went z old new) after.changes (went_lost version z p s old new x) (λ k w there. went_lost version z p s old new x k w (held k there))
 
     pub after_key : (k : Label) → IsKnown s k → node_at (graph_of z new) k ≡ Some key_node
-    after_key = frame_key z p s old new x (Went z old new) after.changes (went_lost z p s old new x)
+    after_key = frame_key version z p s old new x (Went z old new) after.changes (went_lost version z p s old new x)
 
-    pub after_same : ((r : ℕ) → 1 ≤ r → r ≤ 7 → held_in z new r ≡ held_in z old r) → ((r : ℕ) → 8 ≤ r → held_in z new r ≡ Nothing) → Stands z p (after_with s.registers) new
-    after_same = frame_same z p s old new x (Went z old new) after.changes (went_lost z p s old new x)
+    pub after_same : ((r : ℕ) → 1 ≤ r → r ≤ 7 → held_in z new r ≡ held_in z old r) → ((r : ℕ) → 8 ≤ r → held_in z new r ≡ Nothing) → Stands version z p (after_with s.registers) new
+    after_same = frame_same version z p s old new x (Went z old new) after.changes (went_lost version z p s old new x)
 
   -- no register was written
-  pub stands_reading : (after : After z old new [] (registers_of z old)) → Stands z p (after_with (registers_of z old) after s.registers) new
+  pub stands_reading : (after : After z old new [] (registers_of z old)) → Stands version z p (after_with (registers_of z old) after s.registers) new
   stands_reading after =
       let same : (r : ℕ) → held_in z new r ≡ held_in z old r = λ r. ap (λ (rs : List Value). get_or rs r Nothing) after.registers_are in
       after_same (registers_of z old) after (λ r low high. same r) (λ r high. same r ∙ x.others r high)
 
   -- register 0 was
-  pub stands_zero : (v : Value) (after : After z old new [] (set (registers_of z old) 0 v)) → Stands z p (after_with (set (registers_of z old) 0 v) after s.registers) new
+  pub stands_zero : (v : Value) (after : After z old new [] (set (registers_of z old) 0 v)) → Stands version z p (after_with (set (registers_of z old) 0 v) after s.registers) new
   stands_zero v after =
       after_same (set (registers_of z old) 0 v) after
       (λ r low high. set_other z limits old old new 0 v after.registers_are r (λ e. absurd (omega arith)))
@@ -88,29 +89,29 @@ module _ (z : Sizes) (limits : IsWithinLimits z) (p : Places) (s : TableState) (
         (λ differs. other q differs ∙ x.shown.registers q some few ∙ ap key_value (sym (get_or-set_other s.registers (r - 1) (q - 1) key None (λ e. differs (omega arith)))))
         (same_or_other q r)
 
-    pub stands_set : ((k : Label) → key ≡ Some k → node_at (graph_of z new) k ≡ Some key_node) → Stands z p (after_with (set (registers_of z old) r v) after (set s.registers (r - 1) key)) new
+    pub stands_set : ((k : Label) → key ≡ Some k → node_at (graph_of z new) k ≡ Some key_node) → Stands version z p (after_with (set (registers_of z old) r v) after (set s.registers (r - 1) key)) new
     stands_set node =
-        frame_stands z p s old new x (Went z old new) after.changes (went_lost z p s old new x) (set s.registers (r - 1) key) (length-set s.registers (r - 1) key ∙ x.five) registers
-        (other 6 (λ e. absurd (omega arith)) ∙ x.table_held) (other 7 (λ e. absurd (omega arith)) ∙ x.array_held) (λ q many. other q (λ e. absurd (omega arith)) ∙ x.others q many)
+        frame_stands version z p s old new x (Went z old new) after.changes (went_lost version z p s old new x) (set s.registers (r - 1) key) (length-set s.registers (r - 1) key ∙ x.five) registers
+        (other 6 (λ e. absurd (omega arith)) ∙ x.keeper_held) (other 7 (λ e. absurd (omega arith)) ∙ x.array_held) (λ q many. other q (λ e. absurd (omega arith)) ∙ x.others q many)
         (λ k held. ⊎_elim (λ same. node k same) (λ before. after_key (set (registers_of z old) r v) after k (inl before)) (holds_set s.registers (r - 1) key k held))
 
   -- `forget R`
-  pub forget_line : (lines : List TableLine) (r : ℕ) → 1 ≤ r → r ≤ 5 → After z old new [] (set (registers_of z old) r Nothing) → (state_of z new).mode ≡ Open → refusals new ≡ refusals old → LineDone z p lines (line.Forget r) s old reply.Done new
+  pub forget_line : (lines : List TableLine) (r : ℕ) → 1 ≤ r → r ≤ 5 → After z old new [] (set (registers_of z old) r Nothing) → (state_of z new).mode ≡ Open → refusals new ≡ refusals old → LineDone version z p lines (line.Forget r) s old reply.Done new
   forget_line lines r low high after calm none =
       let y = stands_set r low high None after (λ k is. cc) in
-      line_ends z p lines (line.Forget r) s old reply.Done (with_key (after_with _ after s.registers) r None) new
+      line_ends version z p lines (line.Forget r) s old reply.Done (with_key (after_with _ after s.registers) r None) new
       (record { left = after_with _ after s.registers; goes = after_goes _ after _ y calm; does = inl (refl, refl) }) tt tt after.grows (omega arith) y
 
   -- `key R`
   pub key_line : (lines : List TableLine) (r : ℕ) (l : Label) → 1 ≤ r → r ≤ 5 → After z old new [] (set (registers_of z old) r (Block l)) → (state_of z new).mode ≡ Open → node_at (graph_of z old) l ≡ None → node_at (graph_of z new) l ≡ Some key_node → refusals new ≡ refusals old
-      → LineDone z p lines (line.Key r) s old reply.Done new
+      → LineDone version z p lines (line.Key r) s old reply.Done new
   key_line lines r l low high after calm fresh made none =
       let left = after_with _ after s.registers in
       let unknown : IsKnown s l → ⊥ = λ known. (let clash : ◌≡◌ {A = Option Node} None (Some key_node) = sym fresh ∙ x.keys l known in cc) in
       let y = stands_set r low high (Some l) after (λ k is. let same : l ≡ k = cc in subst (λ (m : Label). node_at (graph_of z new) m ≡ Some key_node) same made) in
       let goes : MayGo s left = after_goes _ after _ y calm in
       let before : IsKnown left l → IsKnown s l = λ known. known_before s left l goes known in
-      line_ends z p lines (line.Key r) s old reply.Done (with_key left r (Some l)) new
+      line_ends version z p lines (line.Key r) s old reply.Done (with_key left r (Some l)) new
       (record {
         left = left;
         goes = goes;
@@ -119,8 +120,8 @@ module _ (z : Sizes) (limits : IsWithinLimits z) (p : Places) (s : TableState) (
       (λ done. (l, get_or-set_same s.registers (r - 1) (Some l) None (let five = x.five in omega arith), fresh)) tt after.grows (omega arith) y
 
   -- a line whose one command is answered `full`
-  pub full_line : (lines : List TableLine) (l : TableLine) → WasCounted z p old l reply.Full new → (after : After z old new [] (registers_of z old)) → (state_of z new).mode ≡ Open → MayBeRefused z lines l (after_with (registers_of z old) after s.registers) → refusals new ≡ refusals old + 1 → LineDone z p lines l s old reply.Full new
+  pub full_line : (lines : List TableLine) (l : TableLine) → WasCounted version z p old l reply.Full new → (after : After z old new [] (registers_of z old)) → (state_of z new).mode ≡ Open → MayBeRefused version z lines l (after_with (registers_of z old) after s.registers) → refusals new ≡ refusals old + 1 → LineDone version z p lines l s old reply.Full new
   full_line lines l counted after calm may one =
       let left = after_with (registers_of z old) after s.registers in
       let y = stands_reading after in
-      line_ends z p lines l s old reply.Full left new (record { left = left; goes = after_goes _ after _ y calm; does = inr (refl, refl, may) }) (full_makes_none z old l left) counted after.grows one y
+      line_ends version z p lines l s old reply.Full left new (record { left = left; goes = after_goes _ after _ y calm; does = inr (refl, refl, may) }) (full_makes_none z old l left) counted after.grows one y

@@ -132,7 +132,7 @@ module _ (g : Graph) (alive : Label → Bool) where
       only (suc i) below is = absurd (omega arith)
 
   -- nor do a table's
-  table_closed : (root : Label) (chains : List (List Cell)) → IsTable g root chains → AreInts (bindings g chains) → AllHave IsTidy g (table_labels root chains) → (l m : Label) → IsTrue (has_label (table_labels root chains) l) → IsTrue (has_label (edges_at g alive l) m)
+  pub table_closed : (root : Label) (chains : List (List Cell)) → IsTable g root chains → AreInts (bindings g chains) → AllHave IsTidy g (table_labels root chains) → (l m : Label) → IsTrue (has_label (table_labels root chains) l) → IsTrue (has_label (edges_at g alive l) m)
       → IsTrue (has_label (table_labels root chains) m)
   table_closed root chains table ints tidy l m there h = ⊎_elim
       (λ same.
@@ -164,22 +164,22 @@ module _ (g : Graph) (alive : Label → Bool) where
   key_closed : (k m : Label) → node_at g k ≡ Some key_node → IsTrue (has_label (edges_at g alive k) m) → ⊥
   key_closed k m at h = nothing_there m (edges_named k m key_node at h)
 
--- all that the machine's registers lead to: its keys, and the blocks of the table and the weak array
-abbrev pub all_held : List (Option Label) → Label → List (List Cell) → Label → List Label → List Label
-all_held rs root chains array slots = held_keys rs ++ (table_labels root chains ++ (array ∷ slots))
+-- all that the machine's registers lead to: its keys, and the blocks of what keeps the bindings and of the weak array
+abbrev pub all_held : List (Option Label) → List Label → Label → List Label → List Label
+all_held rs labels array slots = held_keys rs ++ (labels ++ (array ∷ slots))
 
-module _ (g : Graph) (root : Label) (chains : List (List Cell)) (array : Label) (slots : List Label) (rs : List (Option Label)) (table : IsTable g root chains) (weak : IsWeakArray g array slots) (ints : AreInts (bindings g chains)) (tidy : AllHave IsTidy g (table_labels root chains))
-    (bare : AllHave IsBare g slots) (keys : (k : Label) → Holds rs k → node_at g k ≡ Some key_node) where
+module _ (g : Graph) (labels : List Label) (array : Label) (slots : List Label) (rs : List (Option Label)) (keeper : (l m : Label) → IsTrue (has_label labels l) → IsTrue (has_label (edges_at g (has_label (all_held rs labels array slots)) l) m) → IsTrue (has_label labels m))
+    (weak : IsWeakArray g array slots) (bare : AllHave IsBare g slots) (keys : (k : Label) → Holds rs k → node_at g k ≡ Some key_node) where
   abbrev all : List Label
-  all = all_held rs root chains array slots
+  all = all_held rs labels array slots
 
   pub held_closed : IsClosedUnder g (has_label all)
   held_closed l m lives h = ⊎_elim
       (λ key. absurd (key_closed g (has_label all) l m (keys l (from_places rs l key)) h))
       (λ others. has-append_right (held_keys rs) _ m (⊎_elim
-      (λ mine. has-append_left (table_labels root chains) (array ∷ slots) m (table_closed g (has_label all) root chains table ints tidy l m mine h))
-      (λ mine. has-append_right (table_labels root chains) (array ∷ slots) m (array_closed g (has_label all) array slots weak bare l m mine h))
-      (has-append_cases (table_labels root chains) (array ∷ slots) l others)))
+      (λ mine. has-append_left labels (array ∷ slots) m (keeper l m mine h))
+      (λ mine. has-append_right labels (array ∷ slots) m (array_closed g (has_label all) array slots weak bare l m mine h))
+      (has-append_cases labels (array ∷ slots) l others)))
       (has-append_cases (held_keys rs) _ l lives)
 
 -- a key in a slot of a weak array that is alive, where the keys of what is alive are

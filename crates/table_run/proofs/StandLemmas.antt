@@ -1,5 +1,5 @@
 -- What stays of the two structures where no block of theirs is written, and what may have gone.
-use Rattle.std.proofs.Common.{◌≡◌, inl, inr, ℕ, zero, suc, ◌+◌, ◌-◌, ◌<◌, ◌≤◌, List, [], length, get_or, Option, Some, None, refl, ap, sym, ◌∙◌, subst, arith, append-nil}
+use Rattle.std.proofs.Common.{◌≡◌, inl, inr, ℕ, zero, suc, ◌+◌, ◌-◌, ◌<◌, ◌≤◌, List, [], ◌∷◌, length, get_or, Option, Some, None, refl, ap, sym, ◌∙◌, subst, arith, append-nil}
 use Rattle.heap_model.specs.declared.label.Label.{Label}
 use Rattle.heap_model.specs.declared.entry.Entry.{Entry}
 use Rattle.heap_model.specs.declared.graph.Value.TheVariants.{Block, Nothing}
@@ -9,43 +9,46 @@ use Rattle.heap_model.specs.Graph.{node_at}
 use Rattle.heap_model.specs.Commands.{key_value}
 use Rattle.heap_model.specs.History.{IsPrefix, Legal}
 use Rattle.history_laws.proofs.ApartLemmas.{IsKnownOut}
-use Rattle.table_laws.specs.Structures.{Binding, Cell, bindings, table_labels, IsTable, IsWeakArray, slot_keys}
+use Rattle.table_laws.specs.Structures.{Apart, Binding, IsWeakArray, slot_keys}
 use Rattle.table_laws.specs.Thinning.{ThinnedBy, EmptiedBy, WasOutside, Went, Changes, state_of}
 use Rattle.table_laws.specs.Performing.{refusals, writings}
 use Rattle.table_laws.specs.Stages.{graph_of, held_in}
 use Rattle.table_laws.proofs.BindingLemmas.{thinned_keys}
-use Rattle.table_laws.proofs.ChangeLemmas.{table_kept, bindings_thinned, array_kept}
+use Rattle.table_laws.proofs.ChangeLemmas.{array_kept}
 use Rattle.table_laws.proofs.CollectorLemmas.{outside_unheld}
 use Rattle.table_laws.proofs.LawLemmas.{keys_emptied}
 use Rattle.table_laws.proofs.StageLemmas.{prefix_trans}
-use Rattle.weak_tables.specs.Held.{IsBare, IsTidy, KeepsOthers, IsClean}
-use Rattle.weak_tables.proofs.TidyLemmas.{all_kept, bare_lasts, tidy_lasts}
+use Rattle.weak_tables.specs.Held.{IsBare, KeepsOthers, IsClean}
+use Rattle.weak_tables.proofs.TidyLemmas.{all_kept, bare_lasts}
+use Rattle.table_text.specs.declared.version.Version.{Version}
 use Rattle.table_text.specs.declared.line.TableLine.{TableLine}
 use Rattle.table_machine.specs.declared.reply.LineReply.{LineReply}
 use Rattle.table_machine.specs.Machine.{LineStep, TableState, MayGo, IsLost, IsThere, Holds}
+use Rattle.table_keepers.specs.Keepers.{Shape, kept_bindings}
 use Rattle.table_run.specs.Standing.{Places, Stands, IsKnown, key_node, AreInts}
 use Rattle.table_run.specs.Running.{LineDone, MakesNew, WasCounted, full_in}
 use Rattle.table_run.proofs.FreshLemmas.{counted_before, makes_before}
+use Rattle.table_run.proofs.KeeperLemmas.{Kept, keeper_kept}
 use Rattle.table_run.proofs.MachineLemmas.{emptied_holds, goes_of, may_same, may_twice, thinned_ints, holds_place}
 use Rattle.table_run.proofs.RegisterLemmas.{register_at}
 use Rattle.table_run.proofs.TakenLemmas.{labelled, out_unbound, out_unset, taken_out}
 
 -- a register that holds a key of the machine
-pub register_of : (z : Sizes) (p : Places) (s : TableState) (h : List Entry) (i : ℕ) (k : Label) → Stands z p s h → get_or s.registers i None ≡ Some k → i < 5 → held_in z h (i + 1) ≡ Block k
-register_of z p s h i k x is below =
+pub register_of : (version : Version) (z : Sizes) (p : Places) (s : TableState) (h : List Entry) (i : ℕ) (k : Label) → Stands version z p s h → get_or s.registers i None ≡ Some k → i < 5 → held_in z h (i + 1) ≡ Block k
+register_of version z p s h i k x is below =
     let same : i + 1 - 1 ≡ i = omega arith in
     x.shown.registers (i + 1) (omega arith) (omega arith) ∙ ap key_value (ap (λ (n : ℕ). get_or s.registers n None) same ∙ is)
 
 -- what may go at one command is held by none
-pub went_lost : (z : Sizes) (p : Places) (s : TableState) (old new : List Entry) → Stands z p s old → (k : Label) → Went z old new k → IsLost s k
-went_lost z p s old new x k w (i, at) = let t = holds_place s.registers i k at in w.unheld 0 (i + 1) (register_of z p s old i k x t.0 (let five = x.five in let below = t.1 in omega arith))
+pub went_lost : (version : Version) (z : Sizes) (p : Places) (s : TableState) (old new : List Entry) → Stands version z p s old → (k : Label) → Went z old new k → IsLost s k
+went_lost version z p s old new x k w (i, at) = let t = holds_place s.registers i k at in w.unheld 0 (i + 1) (register_of version z p s old i k x t.0 (let five = x.five in let below = t.1 in omega arith))
 
 -- and so is what may go in a call that writes none of the registers
-pub outside_lost : (z : Sizes) (p : Places) (s : TableState) (old new : List Entry) → Stands z p s old → writings new ≤ writings old → (k : Label) → WasOutside z old new k → IsLost s k
-outside_lost z p s old new x quiet k w (i, at) =
+pub outside_lost : (version : Version) (z : Sizes) (p : Places) (s : TableState) (old new : List Entry) → Stands version z p s old → writings new ≤ writings old → (k : Label) → WasOutside z old new k → IsLost s k
+outside_lost version z p s old new x quiet k w (i, at) =
     let t = holds_place s.registers i k at in
     let below : i < 5 = (let five = x.five in let few = t.1 in omega arith) in
-    let there : held_in z w.front (i + 1) ≡ Block k = register_at z old w.front new (i + 1) (omega arith) (omega arith) w.since w.until quiet ∙ register_of z p s old i k x t.0 below in
+    let there : held_in z w.front (i + 1) ≡ Block k = register_at z old w.front new (i + 1) (omega arith) (omega arith) w.since w.until quiet ∙ register_of version z p s old i k x t.0 below in
     outside_unheld (state_of z w.front) k w.outside 0 (i + 1) there
 
 -- a register from 8 on holds nothing after a call
@@ -62,15 +65,12 @@ pub keeps_high : (z : Sizes) (old new : List Entry) → KeepsOthers z old new �
 keeps_high z old new keeps r high = keeps r (λ e. absurd (omega arith)) (λ e. absurd (omega arith)) (λ e. absurd (omega arith))
 
 -- no block of the two structures was written: they are what they were, and what went was lost
-module _ (z : Sizes) (p : Places) (s : TableState) (old new : List Entry) (x : Stands z p s old) (P : Label → Type 0) (changes : Changes P [] (graph_of z old) (graph_of z new)) (lost : (k : Label) → P k → IsLost s k) where
-  abbrev chains : List (List Cell)
-  chains = x.shown.chains
+module _ (version : Version) (z : Sizes) (p : Places) (s : TableState) (old new : List Entry) (x : Stands version z p s old) (P : Label → Type 0) (changes : Changes P [] (graph_of z old) (graph_of z new)) (lost : (k : Label) → P k → IsLost s k) where
+  abbrev shape : Shape version
+  shape = x.shown.shape
 
-  table_new : IsTable (graph_of z new) p.table chains
-  table_new = table_kept P [] (graph_of z old) (graph_of z new) changes p.table chains (λ l h. refl) x.shown.table
-
-  thin : ThinnedBy P (bindings (graph_of z old) chains) (bindings (graph_of z new) chains)
-  thin = bindings_thinned P [] (graph_of z old) (graph_of z new) changes p.table chains (λ l h. refl) x.shown.table
+  kept : Kept P version shape z.domains (graph_of z old) (graph_of z new) p.keeper
+  kept = keeper_kept P [] (graph_of z old) (graph_of z new) changes version shape z.domains p.keeper (λ l h. refl) x.shown.keeper
 
   array_new : IsWeakArray (graph_of z new) p.array p.slots
   array_new = array_kept P [] (graph_of z old) (graph_of z new) changes p.array p.slots (λ l h. refl) x.shown.array
@@ -80,10 +80,10 @@ module _ (z : Sizes) (p : Places) (s : TableState) (old new : List Entry) (x : S
 
   -- the machine with what is left, and these keys in its registers
   abbrev pub left_with : List (Option Label) → TableState
-  left_with rs = record { registers = rs; bindings = bindings (graph_of z new) chains; slots = slot_keys (graph_of z new) p.slots }
+  left_with rs = record { registers = rs; bindings = kept_bindings version shape (graph_of z new) p.keeper; slots = slot_keys (graph_of z new) p.slots }
 
-  thin_s : ThinnedBy P s.bindings (bindings (graph_of z new) chains)
-  thin_s = subst (λ (bs : List Binding). ThinnedBy P bs (bindings (graph_of z new) chains)) x.shown.bindings_are thin
+  thin_s : ThinnedBy P s.bindings (kept_bindings version shape (graph_of z new) p.keeper)
+  thin_s = subst (λ (bs : List Binding). ThinnedBy P bs (kept_bindings version shape (graph_of z new) p.keeper)) x.shown.bindings_are kept.thinned
 
   emptied_s : EmptiedBy P s.slots (slot_keys (graph_of z new) p.slots)
   emptied_s = subst (λ (ks : List (Option Label)). EmptiedBy P ks (slot_keys (graph_of z new) p.slots)) x.shown.slots_are emptied
@@ -95,34 +95,33 @@ module _ (z : Sizes) (p : Places) (s : TableState) (old new : List Entry) (x : S
 
   -- where what went is nowhere afterwards it went from everywhere at once
   pub frame_goes_by : ((k : Label) → P k → IsThere (left_with s.registers) k → ⊥) → MayGo s (left_with s.registers)
-  frame_goes_by nowhere = goes_of P s (bindings (graph_of z new) chains) (slot_keys (graph_of z new) p.slots) lost thin_s emptied_s nowhere
+  frame_goes_by nowhere = goes_of P s (kept_bindings version shape (graph_of z new) p.keeper) (slot_keys (graph_of z new) p.slots) lost thin_s emptied_s nowhere
 
   -- and so it is where no collection is under way
-  pub frame_goes : (rs : List (Option Label)) → Stands z p (left_with rs) new → Legal z new → (state_of z new).mode ≡ Open → ((k : Label) → P k → WasOutside z old new k) → MayGo s (left_with s.registers)
+  pub frame_goes : (rs : List (Option Label)) → Stands version z p (left_with rs) new → Legal z new → (state_of z new).mode ≡ Open → ((k : Label) → P k → WasOutside z old new k) → MayGo s (left_with s.registers)
   frame_goes rs y legal calm was = frame_goes_by nowhere
     where
       known : (k : Label) → P k → IsThere (left_with s.registers) k → IsKnownOut k (state_of z new)
       known k gone there = taken_out z old new k legal calm (labelled (graph_of z old) k key_node (x.keys k (known_left s.registers k there))) (was k gone)
 
       nowhere : (k : Label) → P k → IsThere (left_with s.registers) k → ⊥
-      nowhere k gone (inl bound) = out_unbound z new k (known k gone (inl bound)) 6 p.table chains y.table_held table_new bound
+      nowhere k gone (inl bound) = out_unbound z new k (known k gone (inl bound)) 6 version shape z.domains p.keeper y.keeper_held kept.keeper bound
       nowhere k gone (inr slot) = out_unset z new k (known k gone (inr slot)) 7 p.array p.slots y.array_held array_new slot
 
   pub frame_key : (k : Label) → IsKnown s k → node_at (graph_of z new) k ≡ Some key_node
   frame_key k known = changes k key_node (x.keys k known) refl
 
-  pub frame_stands : (rs : List (Option Label)) → length rs ≡ 5 → ((r : ℕ) → 1 ≤ r → r ≤ 5 → held_in z new r ≡ key_value (get_or rs (r - 1) None)) → held_in z new 6 ≡ Block p.table → held_in z new 7 ≡ Block p.array
-      → ((r : ℕ) → 8 ≤ r → held_in z new r ≡ Nothing) → ((k : Label) → Holds rs k → node_at (graph_of z new) k ≡ Some key_node) → Stands z p (left_with rs) new
-  frame_stands rs five registers table_held array_held others keys = record {
-    shown = record { chains = chains; table = table_new; array = array_new; registers = registers; bindings_are = refl; slots_are = refl };
+  pub frame_stands : (rs : List (Option Label)) → length rs ≡ 5 → ((r : ℕ) → 1 ≤ r → r ≤ 5 → held_in z new r ≡ key_value (get_or rs (r - 1) None)) → held_in z new 6 ≡ Block p.keeper → held_in z new 7 ≡ Block p.array
+      → ((r : ℕ) → 8 ≤ r → held_in z new r ≡ Nothing) → ((k : Label) → Holds rs k → node_at (graph_of z new) k ≡ Some key_node) → Stands version z p (left_with rs) new
+  frame_stands rs five registers keeper_held array_held others keys = record {
+    shown = record { shape = shape; keeper = kept.keeper; array = array_new; registers = registers; bindings_are = refl; slots_are = refl };
     five = five;
     sixteen = x.sixteen;
-    table_held = table_held;
+    keeper_held = keeper_held;
     array_held = array_held;
-    apart = x.apart;
+    apart = subst (Apart (p.array ∷ p.slots)) (sym kept.labels) x.apart;
     keys = λ k known. known_key k known;
-    ints = thinned_ints P _ _ thin (subst AreInts (sym x.shown.bindings_are) x.ints);
-    tidy = all_kept IsTidy tidy_lasts P (graph_of z old) (graph_of z new) changes (table_labels p.table chains) x.tidy;
+    ints = thinned_ints P _ _ kept.thinned (subst AreInts (sym x.shown.bindings_are) x.ints);
     bare = all_kept IsBare bare_lasts P (graph_of z old) (graph_of z new) changes p.slots x.bare;
     others = others;
   } where
@@ -131,17 +130,17 @@ module _ (z : Sizes) (p : Places) (s : TableState) (old new : List Entry) (x : S
     known_key k (inr there) = frame_key k (known_left rs k there)
 
   -- with the same keys in the registers
-  pub frame_same : ((r : ℕ) → 1 ≤ r → r ≤ 7 → held_in z new r ≡ held_in z old r) → ((r : ℕ) → 8 ≤ r → held_in z new r ≡ Nothing) → Stands z p (left_with s.registers) new
-  frame_same same others = frame_stands s.registers x.five (λ r low high. same r low (omega arith) ∙ x.shown.registers r low high) (same 6 (omega arith) (omega arith) ∙ x.table_held) (same 7 (omega arith) (omega arith) ∙ x.array_held) others
+  pub frame_same : ((r : ℕ) → 1 ≤ r → r ≤ 7 → held_in z new r ≡ held_in z old r) → ((r : ℕ) → 8 ≤ r → held_in z new r ≡ Nothing) → Stands version z p (left_with s.registers) new
+  frame_same same others = frame_stands s.registers x.five (λ r low high. same r low (omega arith) ∙ x.shown.registers r low high) (same 6 (omega arith) (omega arith) ∙ x.keeper_held) (same 7 (omega arith) (omega arith) ∙ x.array_held) others
       (λ k held. frame_key k (inl held))
 
-prefix_self : (h : List Entry) → IsPrefix h h
+pub prefix_self : (h : List Entry) → IsPrefix h h
 prefix_self h = record { rest = []; appends = sym (append-nil h) }
 
 -- a line that is over with the last front of its call
-pub line_ends : (z : Sizes) (p : Places) (lines : List TableLine) (l : TableLine) (s : TableState) (old : List Entry) (a : LineReply) (t : TableState) (new : List Entry) → LineStep z lines l s a t → MakesNew z old l a t → WasCounted z p old l a new → IsPrefix old new → refusals new ≡ refusals old + full_in a
-    → Stands z p t new → LineDone z p lines l s old a new
-line_ends z p lines l s old a t new step fresh counted grows refused x = record {
+pub line_ends : (version : Version) (z : Sizes) (p : Places) (lines : List TableLine) (l : TableLine) (s : TableState) (old : List Entry) (a : LineReply) (t : TableState) (new : List Entry) → LineStep version z lines l s a t → MakesNew z old l a t → WasCounted version z p old l a new → IsPrefix old new → refusals new ≡ refusals old + full_in a
+    → Stands version z p t new → LineDone version z p lines l s old a new
+line_ends version z p lines l s old a t new step fresh counted grows refused x = record {
   after = t;
   front = new;
   runs = record { step = step; fresh = fresh; counted = counted; grows = grows; shown = x.shown; refused = refused };
@@ -153,15 +152,15 @@ line_ends z p lines l s old a t new step fresh counted grows refused x = record 
 }
 
 -- something was done before a line
-pub line_later : (z : Sizes) (p : Places) (lines : List TableLine) (l : TableLine) (s t : TableState) (old mid : List Entry) (a : LineReply) (new : List Entry) → MayGo s t → IsPrefix old mid → refusals mid ≡ refusals old → LineDone z p lines l t mid a new
-    → LineDone z p lines l s old a new
-line_later z p lines l s t old mid a new goes grows none x = record {
+pub line_later : (version : Version) (z : Sizes) (p : Places) (lines : List TableLine) (l : TableLine) (s t : TableState) (old mid : List Entry) (a : LineReply) (new : List Entry) → MayGo s t → IsPrefix old mid → refusals mid ≡ refusals old → LineDone version z p lines l t mid a new
+    → LineDone version z p lines l s old a new
+line_later version z p lines l s t old mid a new goes grows none x = record {
   after = x.after;
   front = x.front;
   runs = record {
     step = record { left = x.runs.step.left; goes = may_twice s t x.runs.step.left goes x.runs.step.goes; does = x.runs.step.does };
     fresh = makes_before z old mid l a x.after grows x.runs.fresh;
-    counted = counted_before z p old mid l a x.front grows x.runs.counted;
+    counted = counted_before version z p old mid l a x.front grows x.runs.counted;
     grows = prefix_trans old mid x.front grows x.runs.grows;
     shown = x.runs.shown;
     refused = x.runs.refused ∙ ap (λ (n : ℕ). n + full_in a) none;

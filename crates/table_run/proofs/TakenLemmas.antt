@@ -34,13 +34,15 @@ use Rattle.history_laws.specs.Cells.{Cell, Field, Key, Datum, content}
 use Rattle.history_laws.proofs.CellLemmas.{content_is}
 use Rattle.history_laws.proofs.ApartLemmas.{IsKnownOut, out_after}
 use Rattle.history_laws.proofs.LostLemmas.{known_lost}
-use Rattle.table_laws.specs.Structures.{IsTable, IsWeakArray, bindings, keys_of, slot_keys}
+use Rattle.table_laws.specs.Structures.{IsWeakArray, keys_of, slot_keys}
 use Rattle.table_laws.specs.Thinning.{WasOutside, state_of, taken_by}
 use Rattle.table_laws.specs.Stages.{graph_of, held_in}
-use Rattle.table_laws.proofs.LawLemmas.{table_keys_held}
 use Rattle.table_laws.proofs.StepLemmas.{legal_parts}
+use Rattle.table_text.specs.declared.version.Version.{Version}
 use Rattle.table_machine.specs.Machine.{Holds}
+use Rattle.table_keepers.specs.Keepers.{Shape, IsKeeper, kept_bindings}
 use Rattle.table_run.proofs.FreshLemmas.{labels_go_on}
+use Rattle.table_run.proofs.KeeperLemmas.{keeper_keys_held}
 use Rattle.table_run.proofs.SettledLemmas.{array_keys_held, named_field, nothing_there}
 
 wiped_same : (s : State) (l : Label) (o : Option Node) → ((with_wiped s l o).mode ≡ s.mode) × ((with_wiped s l o).taken ≡ s.taken)
@@ -186,7 +188,7 @@ module _ (g : Graph) (alive : Label → Bool) (cells : (x : Label) (cell : Cell)
       go (Some (Ephe keys datum)) at = keys_alive l keys (λ i k here. cells l (Key i) k lives
           (content_is g l (Ephe keys datum) (Key i) at ∙ ap (λ (o : Option (Option Label)). unwrap_or (option_map key_value o) Nothing) here))
 
--- so what is out is no key of a table that a register holds, and in no slot of such a weak array
+-- so what is out is no key that is bound in what a register holds, and in no slot of such a weak array
 module _ (z : Sizes) (h : List Entry) (l : Label) (known : IsKnownOut l (state_of z h)) where
   abbrev safe : Graph
   safe = known.out.safe
@@ -198,8 +200,8 @@ module _ (z : Sizes) (h : List Entry) (l : Label) (known : IsKnownOut l (state_o
   never : IsTrue (has_label (labels safe) l) → ⊥
   never there = let clash : true ≡ false = sym there ∙ known.out.lost in cc
 
-  pub out_unbound : (r : ℕ) (root : Label) (chains : _) → held_in z h r ≡ Block root → IsTable (graph_of z h) root chains → IsTrue (has_label (keys_of (bindings (graph_of z h) chains)) l) → ⊥
-  out_unbound r root chains held table there = never (table_keys_held (graph_of z h) (has_label (labels safe)) (cells_closed (graph_of z h) (has_label (labels safe)) known.out.apart.cells) (live_cells (graph_of z h) (has_label (labels safe)) known.out.apart.cells) root chains l table (held_safe r root held) there)
+  pub out_unbound : (r : ℕ) (v : Version) (shape : Shape v) (n : ℕ) (root : Label) → held_in z h r ≡ Block root → IsKeeper v shape n (graph_of z h) root → IsTrue (has_label (keys_of (kept_bindings v shape (graph_of z h) root)) l) → ⊥
+  out_unbound r v shape n root held keeper there = never (keeper_keys_held (graph_of z h) (has_label (labels safe)) (cells_closed (graph_of z h) (has_label (labels safe)) known.out.apart.cells) (live_cells (graph_of z h) (has_label (labels safe)) known.out.apart.cells) v shape n root l keeper (held_safe r root held) there)
 
   pub out_unset : (r : ℕ) (root : Label) (slots : List Label) → held_in z h r ≡ Block root → IsWeakArray (graph_of z h) root slots → Holds (slot_keys (graph_of z h) slots) l → ⊥
   out_unset r root slots held array there = never (array_keys_held (graph_of z h) (has_label (labels safe)) (cells_closed (graph_of z h) (has_label (labels safe)) known.out.apart.cells) (live_cells (graph_of z h) (has_label (labels safe)) known.out.apart.cells) root slots l array (held_safe r root held) there)

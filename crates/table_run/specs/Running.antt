@@ -8,13 +8,14 @@ use Rattle.heap_model.specs.declared.state.Sizes.{Sizes}
 use Rattle.heap_model.specs.Graph.{node_at}
 use Rattle.heap_model.specs.History.{IsPrefix}
 use Rattle.table_laws.specs.Performing.{refusals}
-use Rattle.table_laws.specs.Structures.{Cell, bindings, IsTable}
 use Rattle.table_laws.specs.Stages.{graph_of}
+use Rattle.table_text.specs.declared.version.Version.{Version}
 use Rattle.table_text.specs.declared.line.TableLine.{TableLine}
 use Rattle.table_text.specs.declared.line.TableLine.TheVariants.{Count, Key, Put}
 use Rattle.table_machine.specs.declared.reply.LineReply.{LineReply}
 use Rattle.table_machine.specs.declared.reply.LineReply.TheVariants as reply
 use Rattle.table_machine.specs.Machine.{LineStep, TableState, MayGo, key_in, all_made, opened}
+use Rattle.table_keepers.specs.Keepers.{Shape, IsKeeper, kept_bindings}
 use Rattle.table_run.specs.Standing.{Places, Shown, Stands}
 
 -- 1 for the reply `full`
@@ -36,65 +37,65 @@ abbrev pub MakesNew : Sizes → List Entry → TableLine → LineReply → Table
 MakesNew z old (Key r) a t = a ≡ reply.Done → (k : Label) × (key_in t r ≡ Some k) × (node_at (graph_of z old) k ≡ None)
 MakesNew z old _ a t = Unit {0}
 
--- a count is the number of the table's bindings at some prefix of the history on the way
-pub record CountedBetween (z : Sizes) (p : Places) (old : List Entry) (a : LineReply) (new : List Entry) : Type 0 where
-  pub chains : List (List Cell)
+-- a count is the number of bindings at some prefix of the history on the way
+pub record CountedBetween (version : Version) (z : Sizes) (p : Places) (old : List Entry) (a : LineReply) (new : List Entry) : Type 0 where
+  pub shape : Shape version
   pub front : List Entry
   pub since : IsPrefix old front
   pub until : IsPrefix front new
-  pub table : IsTable (graph_of z front) p.table chains
-  pub answers : a ≡ reply.Counted (length (bindings (graph_of z front) chains))
+  pub keeper : IsKeeper version shape z.domains (graph_of z front) p.keeper
+  pub answers : a ≡ reply.Counted (length (kept_bindings version shape (graph_of z front) p.keeper))
 
-abbrev pub WasCounted : Sizes → Places → List Entry → TableLine → LineReply → List Entry → Type 0
-WasCounted z p old Count a new = CountedBetween z p old a new
-WasCounted z p old _ a new = Unit {0}
+abbrev pub WasCounted : Version → Sizes → Places → List Entry → TableLine → LineReply → List Entry → Type 0
+WasCounted version z p old Count a new = CountedBetween version z p old a new
+WasCounted version z p old _ a new = Unit {0}
 
 -- a line, the last of these, from a state at one prefix of the history to a state at the next: a step of the machine, whose new key is new to the heap, and one command of the line was answered `full` exactly where the reply is
-pub record LineRuns (z : Sizes) (p : Places) (lines : List TableLine) (l : TableLine) (s : TableState) (old : List Entry) (a : LineReply) (t : TableState) (new : List Entry) : Type 0 where
-  pub step : LineStep z lines l s a t
+pub record LineRuns (version : Version) (z : Sizes) (p : Places) (lines : List TableLine) (l : TableLine) (s : TableState) (old : List Entry) (a : LineReply) (t : TableState) (new : List Entry) : Type 0 where
+  pub step : LineStep version z lines l s a t
   pub fresh : MakesNew z old l a t
-  pub counted : WasCounted z p old l a new
+  pub counted : WasCounted version z p old l a new
   pub grows : IsPrefix old new
-  pub shown : Shown z p t new
+  pub shown : Shown version z p t new
   pub refused : refusals new ≡ refusals old + full_in a
 
 -- all lines behind those before, from one state and prefix to another
-abbrev pub LinesRun : Sizes → Places → List TableLine → TableState → List Entry → List TableLine → List LineReply → TableState → List Entry → Type 0
-LinesRun z p before s old [] [] t new = (t ≡ s) × (new ≡ old)
-LinesRun z p before s old (l ∷ lines) (a ∷ replies) t new =
-    (u : TableState) × (h : List Entry) × LineRuns z p (before ++ l ∷ []) l s old a u h × LinesRun z p (before ++ l ∷ []) u h lines replies t new
-LinesRun z p before s old _ _ t new = ⊥
+abbrev pub LinesRun : Version → Sizes → Places → List TableLine → TableState → List Entry → List TableLine → List LineReply → TableState → List Entry → Type 0
+LinesRun version z p before s old [] [] t new = (t ≡ s) × (new ≡ old)
+LinesRun version z p before s old (l ∷ lines) (a ∷ replies) t new =
+    (u : TableState) × (h : List Entry) × LineRuns version z p (before ++ l ∷ []) l s old a u h × LinesRun version z p (before ++ l ∷ []) u h lines replies t new
+LinesRun version z p before s old _ _ t new = ⊥
 
--- a text was run from its first line to its last, in this history: the table and the array were made before, without a command that was answered `full`, and both are empty then
-pub record TextRuns (z : Sizes) (lines : List TableLine) (replies : List LineReply) (history : List Entry) : Type 0 where
+-- a text was run from its first line to its last, in this history: the table or the map and the array were made before, without a command that was answered `full`, and both are empty then
+pub record TextRuns (version : Version) (z : Sizes) (lines : List TableLine) (replies : List LineReply) (history : List Entry) : Type 0 where
   pub places : Places
   pub first : List Entry
-  pub begins : Shown z places opened first
+  pub begins : Shown version z places opened first
   pub none : refusals first ≡ 0
   pub state : TableState
   pub last : List Entry
-  pub lines_run : LinesRun z places [] opened first lines replies state last
+  pub lines_run : LinesRun version z places [] opened first lines replies state last
   pub within : IsPrefix last history
 
 -- what a line leaves for the next one: a state of the machine at a prefix of the history, of which some bindings and slots may have gone since
-pub record LineDone (z : Sizes) (p : Places) (lines : List TableLine) (l : TableLine) (s : TableState) (old : List Entry) (a : LineReply) (new : List Entry) : Type 0 where
+pub record LineDone (version : Version) (z : Sizes) (p : Places) (lines : List TableLine) (l : TableLine) (s : TableState) (old : List Entry) (a : LineReply) (new : List Entry) : Type 0 where
   pub after : TableState
   pub front : List Entry
-  pub runs : LineRuns z p lines l s old a after front
+  pub runs : LineRuns version z p lines l s old a after front
   pub until : IsPrefix front new
   pub given : refusals new ≡ refusals front
   pub left : TableState
   pub goes : MayGo after left
-  pub stands : Stands z p left new
+  pub stands : Stands version z p left new
 
 -- at most so many labels were given out: 18 before the first line, and those of the lines so far
-abbrev pub HasGiven : ℕ → List TableLine → Type 0
-HasGiven left before = 4294967295 ≤ left + 18 + all_made before
+abbrev pub HasGiven : Version → ℕ → List TableLine → Type 0
+HasGiven version left before = 4294967295 ≤ left + 18 + all_made version before
 
 -- what a line is answered and leaves, in whatever state of the machine it finds the heap
-abbrev pub LineAnswers : Sizes → ℕ → TableLine → List Entry → LineReply → List Entry → Type 0
-LineAnswers z labels l old a new =
-    (p : Places) (s : TableState) (before : List TableLine) → Stands z p s old → HasGiven labels before → LineDone z p (before ++ l ∷ []) l s old a new
+abbrev pub LineAnswers : Version → Sizes → ℕ → TableLine → List Entry → LineReply → List Entry → Type 0
+LineAnswers version z labels l old a new =
+    (p : Places) (s : TableState) (before : List TableLine) → Stands version z p s old → HasGiven version labels before → LineDone version z p (before ++ l ∷ []) l s old a new
 
 -- for how many ephemerons a line needs room
 abbrev pub rooms_of : TableLine → ℕ
@@ -105,23 +106,23 @@ abbrev pub all_rooms : List TableLine → ℕ
 all_rooms [] = 0
 all_rooms (l ∷ ls) = rooms_of l + all_rooms ls
 
--- the table and the weak array were made, and nothing was refused
-pub record Begins (z : Sizes) (h : List Entry) : Type 0 where
+-- the table or the map and the weak array were made, and nothing was refused
+pub record Begins (version : Version) (z : Sizes) (h : List Entry) : Type 0 where
   pub places : Places
-  pub stands : Stands z places opened h
+  pub stands : Stands version z places opened h
   pub none : refusals h ≡ 0
 
 -- so many lines of a text were run, and the heap stands for what is left of the machine since
-pub record RanTo (z : Sizes) (lines : List TableLine) (replies : List LineReply) (now : List Entry) : Type 0 where
+pub record RanTo (version : Version) (z : Sizes) (lines : List TableLine) (replies : List LineReply) (now : List Entry) : Type 0 where
   pub places : Places
   pub first : List Entry
-  pub begins : Shown z places opened first
+  pub begins : Shown version z places opened first
   pub none : refusals first ≡ 0
   pub state : TableState
   pub last : List Entry
-  pub lines_run : LinesRun z places [] opened first lines replies state last
+  pub lines_run : LinesRun version z places [] opened first lines replies state last
   pub until : IsPrefix last now
   pub given : refusals now ≡ refusals last
   pub left : TableState
   pub goes : MayGo state left
-  pub stands : Stands z places left now
+  pub stands : Stands version z places left now

@@ -1,27 +1,30 @@
-// The table and the weak array, before the first line.
+// What keeps the bindings and the weak array, before the first line.
 ghost use Rattle.std.specs.Prelude.{◌≡◌, ◌+◌, ◌≤◌, []};
 ghost use Rattle.heap_model.specs.Domains.{reserve};
 ghost use Rattle.table_run.specs.Running.{Begins};
 
 use std::sync::Wait;
+use table_keepers::OneDomain;
+use table_keepers::calls::keeper_make;
+use table_text::Version;
 use weak_tables::machine::Machine;
-use weak_tables::making::{table_make, weak_make};
+use weak_tables::making::weak_make;
 
-// Makes an empty table, into register 6, and a weak array of sixteen empty slots, into register 7. So few labels are
+// Makes an empty table or map, into register 6, and a weak array of sixteen empty slots, into register 7. So few labels are
 // given out that no allocation can be refused.
-pub(crate) fn prepare<M: Machine, R: Wait>(m: &mut M, rt: &R)
-    requires empty { M.front m.old ≡ [] }
-    requires pools { reserve (M.sizes m.old) + (M.sizes m.old).classes + 32 ≤ (M.sizes m.old).pools }
-    requires labels { 18 ≤ M.labels_left m.old }
-    requires room { 16 ≤ M.ephes_room m.old }
-    ensures sizes { M.sizes m.new ≡ M.sizes m.old }
-    ensures labels { M.labels_left m.old ≤ M.labels_left m.new + 18 }
-    ensures room { M.ephes_room m.old ≤ M.ephes_room m.new + 16 }
-    ensures begins { Begins (M.sizes m.old) (M.front m.new) }
+pub(crate) fn prepare<M: Machine, R: Wait>(version: Version, m: &mut OneDomain<M>, rt: &R)
+    requires empty { M.front m.old.machine ≡ [] }
+    requires pools { reserve (M.sizes m.old.machine) + (M.sizes m.old.machine).classes + 32 ≤ (M.sizes m.old.machine).pools }
+    requires labels { 18 ≤ M.labels_left m.old.machine }
+    requires room { 16 ≤ M.ephes_room m.old.machine }
+    ensures sizes { M.sizes m.new.machine ≡ M.sizes m.old.machine }
+    ensures labels { M.labels_left m.old.machine ≤ M.labels_left m.new.machine + 18 }
+    ensures room { M.ephes_room m.old.machine ≤ M.ephes_room m.new.machine + 16 }
+    ensures begins { Begins version (M.sizes m.old.machine) (M.front m.new.machine) }
 {
-    m.stands();
-    let _table = table_make(m, rt, 6);
-    m.stands();
-    let _array = weak_make(m, rt, 7, 16);
-    m.stands();
+    m.machine.stands();
+    let _keeper = keeper_make(version, m, rt, 6);
+    m.machine.stands();
+    let _array = weak_make(&mut m.machine, rt, 7, 16);
+    m.machine.stands();
 }

@@ -7,6 +7,7 @@ ghost use Rattle.table_run.specs.Running.{TextRuns, all_rooms};
 use crate::line::run_line;
 use crate::prepare::prepare;
 use std::sync::Wait;
+use table_keepers::OneDomain;
 use table_machine::LineReply;
 use table_text::TableText;
 use weak_tables::machine::Machine;
@@ -15,27 +16,28 @@ use weak_tables::machine::Machine;
 /// empty and has room for them: no memory is taken.
 ///
 /// The replies are those of the machine of the text ([`table_machine`]), and the history has a prefix for each line, after
-/// which registers 1 to 5, the bindings of one table and the slots of one weak array are the machine's.
+/// which registers 1 to 5, the bindings of one table or map and the slots of one weak array are the machine's.
 pub fn run_text<M: Machine, R: Wait>(
-    m: &mut M,
+    m: &mut OneDomain<M>,
     rt: &R,
     text: &TableText,
     room: Vec<LineReply>,
 ) -> Vec<LineReply>
-    requires empty { M.front m.old ≡ [] }
-    requires pools { reserve (M.sizes m.old) + (M.sizes m.old).classes + 32 ≤ (M.sizes m.old).pools }
-    requires labels { 18 + all_made text.now ≤ M.labels_left m.old }
-    requires ephemerons { 16 + all_rooms text.now ≤ M.ephes_room m.old }
+    requires empty { M.front m.old.machine ≡ [] }
+    requires pools { reserve (M.sizes m.old.machine) + (M.sizes m.old.machine).classes + 32 ≤ (M.sizes m.old.machine).pools }
+    requires labels { 18 + all_made text.now.version text.now.lines ≤ M.labels_left m.old.machine }
+    requires ephemerons { 16 + all_rooms text.now.lines ≤ M.ephes_room m.old.machine }
     requires none { room.items ≡ [] }
-    requires capacity { length text.now ≤ vec_capacity room }
-    ensures sizes { M.sizes m.new ≡ M.sizes m.old }
-    ensures runs { TextRuns (M.sizes m.old) text.now result.items (M.front m.new) }
+    requires capacity { length text.now.lines ≤ vec_capacity room }
+    ensures sizes { M.sizes m.new.machine ≡ M.sizes m.old.machine }
+    ensures runs { TextRuns text.now.version (M.sizes m.old.machine) text.now.lines result.items (M.front m.new.machine) }
 {
+    let version = text.version();
     let mut replies = room;
-    m.stands();
-    prepare(m, rt);
+    m.machine.stands();
+    prepare(version, m, rt);
     'lines: for i in 0..text.len() {
-        replies.push_reserved(run_line(m, rt, text.line(i)));
+        replies.push_reserved(run_line(version, m, rt, text.line(i)));
     }
     replies
 }

@@ -16,8 +16,8 @@ use Rattle.table_text.proofs.RowLemmas.{out_of_range-clipped, clipped_kept}
 use Rattle.table_text.proofs.ShapeLemmas.{SaysLine, line_said, shape_line, inside}
 
 -- a line whose first text is no word
-pub no_word : (before : ℕ) (text t : List ℕ) (ts : List (List ℕ)) → texts text ≡ t ∷ ts → None ≡ word_of t → fault_of_shape before (line_shape text) ≡ Some (Syntax (before + 2))
-no_word before text t ts e none = ap (λ ps. fault_of_shape before (shape_of_texts ps)) e ∙ ap (λ (o : Option Word). fault_of_shape before (row_shape o ts)) (sym none)
+pub no_word : (most before : ℕ) (text t : List ℕ) (ts : List (List ℕ)) → texts text ≡ t ∷ ts → None ≡ word_of t → fault_of_shape most before (line_shape text) ≡ Some (Syntax (before + 2))
+no_word most before text t ts e none = ap (λ ps. fault_of_shape most before (shape_of_texts ps)) e ∙ ap (λ (o : Option Word). fault_of_shape most before (row_shape o ts)) (sym none)
 
 -- what a line says by its texts
 shape_found : (text t : List ℕ) (ts : List (List ℕ)) (w : Word) (kinds : List Operand) (o : Option (List ℤ)) → texts text ≡ t ∷ ts → Some w ≡ word_of t → kinds ≡ (form w).operands → counted_numbers (length kinds) ts ≡ o
@@ -34,11 +34,11 @@ was_counted None ns e = cc
 was_counted (Some zs) ns e = (zs, refl, cc)
 
 -- a word without its count of numbers
-pub no_numbers : (before : ℕ) (text t : List ℕ) (ts : List (List ℕ)) (w : Word) (kinds : List Operand) → texts text ≡ t ∷ ts → Some w ≡ word_of t → kinds ≡ (form w).operands → None ≡ option_map (map clipped) (counted_numbers (length kinds) ts)
-    → fault_of_shape before (line_shape text) ≡ Some (Syntax (before + 2))
-no_numbers before text t ts w kinds e found k none = ap (fault_of_shape before) (shape_found text t ts w kinds None e found k (not_counted _ none))
+pub no_numbers : (most before : ℕ) (text t : List ℕ) (ts : List (List ℕ)) (w : Word) (kinds : List Operand) → texts text ≡ t ∷ ts → Some w ≡ word_of t → kinds ≡ (form w).operands → None ≡ option_map (map clipped) (counted_numbers (length kinds) ts)
+    → fault_of_shape most before (line_shape text) ≡ Some (Syntax (before + 2))
+no_numbers most before text t ts w kinds e found k none = ap (fault_of_shape most before) (shape_found text t ts w kinds None e found k (not_counted _ none))
 
-module _ (before : ℕ) (text t : List ℕ) (ts : List (List ℕ)) (w : Word) (kinds : List Operand) (ns : List ℤ) (e : texts text ≡ t ∷ ts) (found : Some w ≡ word_of t) (k : kinds ≡ (form w).operands)
+module _ (most before : ℕ) (text t : List ℕ) (ts : List (List ℕ)) (w : Word) (kinds : List Operand) (ns : List ℤ) (e : texts text ≡ t ∷ ts) (found : Some w ≡ word_of t) (k : kinds ≡ (form w).operands)
     (read : Some ns ≡ option_map (map clipped) (counted_numbers (length kinds) ts)) where
   abbrev zs : List ℤ
   zs = (was_counted (counted_numbers (length kinds) ts) ns read).0
@@ -50,19 +50,19 @@ module _ (before : ℕ) (text t : List ℕ) (ts : List (List ℕ)) (w : Word) (k
   shape = shape_found text t ts w kinds (Some zs) e found k (was_counted (counted_numbers (length kinds) ts) ns read).1
 
   -- a line behind as many as there may be
-  pub too_many : 10000 ≤ before → fault_of_shape before (line_shape text) ≡ Some (TooMany (before + 2))
+  pub too_many : most ≤ before → fault_of_shape most before (line_shape text) ≡ Some (TooMany (before + 2))
   too_many many =
-      let test : nat_le 10000 before ≡ true = grind (arith, nat_tests) in
-      ap (fault_of_shape before) shape ∙ ap (λ b. cond b (Some (TooMany (before + 2))) (option_map (Range (before + 2)) (first_out_of_range 1 (form w).operands zs))) test
+      let test : nat_le most before ≡ true = grind (arith, nat_tests) in
+      ap (fault_of_shape most before) shape ∙ ap (λ b. cond b (Some (TooMany (before + 2))) (option_map (Range (before + 2)) (first_out_of_range 1 (form w).operands zs))) test
 
   place : first_out_of_range 1 kinds ns ≡ first_out_of_range 1 (form w).operands zs
   place = ap (first_out_of_range 1 kinds) same ∙ out_of_range-clipped 1 kinds zs ∙ ap (λ x. first_out_of_range 1 x zs) k
 
   -- a number that is out of range
-  pub out_of_range : (which : ℕ) → before < 10000 → Some which ≡ first_out_of_range 1 kinds ns → fault_of_shape before (line_shape text) ≡ Some (Range (before + 2) which)
+  pub out_of_range : (which : ℕ) → before < most → Some which ≡ first_out_of_range 1 kinds ns → fault_of_shape most before (line_shape text) ≡ Some (Range (before + 2) which)
   out_of_range which few outside =
-      let test : nat_le 10000 before ≡ false = grind (arith, nat_tests) in
-      ap (fault_of_shape before) shape ∙ ap (λ b. cond b (Some (TooMany (before + 2))) (option_map (Range (before + 2)) (first_out_of_range 1 (form w).operands zs))) test
+      let test : nat_le most before ≡ false = grind (arith, nat_tests) in
+      ap (fault_of_shape most before) shape ∙ ap (λ b. cond b (Some (TooMany (before + 2))) (option_map (Range (before + 2)) (first_out_of_range 1 (form w).operands zs))) test
       ∙ ap (option_map (Range (before + 2))) (sym (outside ∙ place))
 
   -- a line of the grammar
@@ -73,9 +73,9 @@ module _ (before : ℕ) (text t : List ℕ) (ts : List (List ℕ)) (w : Word) (k
       subst (λ (x : List ℤ). SaysLine text (made w x)) (sym kept) (line_said text w zs shape none)
 
 -- a line of the grammar in its place has no fault
-pub line_fine : (before : ℕ) (l : TableLine) → is_writable l ≡ true → before < 10000 → fault_of_shape before (line_shape (line_text l)) ≡ None
-line_fine before l fit few =
-    let test : nat_le 10000 before ≡ false = grind (arith, nat_tests) in
-    ap (fault_of_shape before) (shape_line l fit)
+pub line_fine : (most before : ℕ) (l : TableLine) → is_writable l ≡ true → before < most → fault_of_shape most before (line_shape (line_text l)) ≡ None
+line_fine most before l fit few =
+    let test : nat_le most before ≡ false = grind (arith, nat_tests) in
+    ap (fault_of_shape most before) (shape_line l fit)
     ∙ ap (λ b. cond b (Some (TooMany (before + 2))) (option_map (Range (before + 2)) (first_out_of_range 1 (form (parts l).word).operands (parts l).numbers))) test
     ∙ ap (option_map (Range (before + 2))) (inside l fit)

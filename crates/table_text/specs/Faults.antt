@@ -7,6 +7,9 @@ use Rattle.heap_text.specs.Number.{counted_numbers}
 use Rattle.heap_text.specs.Faults.{texts, or_else}
 use Rattle.table_text.specs.declared.word.Operand.{Operand}
 use Rattle.table_text.specs.declared.word.Word.{Word}
+use Rattle.table_text.specs.declared.version.Version.{Version}
+use Rattle.table_text.specs.declared.version.Version.TheVariants.{One, Two}
+use Rattle.table_text.specs.Texts.{most_lines}
 use Rattle.table_text.specs.Forms.{form, fits, word_of}
 use Rattle.table_text.specs.Spelling.{first_line}
 
@@ -43,25 +46,34 @@ abbrev pub first_out_of_range : ℕ → List Operand → List ℤ → Option ℕ
 first_out_of_range which (kind ∷ kinds) (z ∷ zs) = if fits kind z then first_out_of_range (which + 1) kinds zs else Some which
 first_out_of_range which _ _ = None
 
--- what is wrong with a line, by how many lines stand between the first and it, and what it says
-abbrev pub fault_of_shape : ℕ → LineShape → Option ScriptFault
-fault_of_shape before neither = Some (Syntax (before + 2))
-fault_of_shape before (says w zs) = if nat_le 10000 before then Some (TooMany (before + 2)) else option_map (Range (before + 2)) (first_out_of_range 1 (form w).operands zs)
+-- what is wrong with a line, by how many lines there may be, how many stand between the first and it, and what it says
+abbrev pub fault_of_shape : ℕ → ℕ → LineShape → Option ScriptFault
+fault_of_shape most before neither = Some (Syntax (before + 2))
+fault_of_shape most before (says w zs) = if nat_le most before then Some (TooMany (before + 2)) else option_map (Range (before + 2)) (first_out_of_range 1 (form w).operands zs)
 
 -- what stands behind the last line feed is to be empty
 abbrev pub end_fault : ℕ → List ℕ → Option ScriptFault
 end_fault before [] = None
 end_fault before (b ∷ bs) = Some (Syntax (before + 2))
 
--- the first fault of the lines behind the first and so many more
-abbrev pub fault_from : ℕ → List (List ℕ) → Option ScriptFault
-fault_from before [] = None
-fault_from before (rest ∷ []) = end_fault before rest
-fault_from before (line ∷ next ∷ more) = or_else (fault_of_shape before (line_shape line)) (fault_from (before + 1) (next ∷ more))
+-- the first fault of the lines behind the first and so many more, where there may be so many
+abbrev pub fault_from : ℕ → ℕ → List (List ℕ) → Option ScriptFault
+fault_from most before [] = None
+fault_from most before (rest ∷ []) = end_fault before rest
+fault_from most before (line ∷ next ∷ more) = or_else (fault_of_shape most before (line_shape line)) (fault_from most (before + 1) (next ∷ more))
+
+-- the version that a first line names
+abbrev pub version_of : List ℕ → Option Version
+version_of first = if bytes_eq first (first_line One) then Some One else if bytes_eq first (first_line Two) then Some Two else None
+
+-- the first fault of the lines behind it
+abbrev pub fault_behind : Option Version → List (List ℕ) → Option ScriptFault
+fault_behind None lines = Some (Syntax 1)
+fault_behind (Some version) lines = fault_from (most_lines version) 0 lines
 
 -- the first fault of all lines
 abbrev pub text_fault : List (List ℕ) → Option ScriptFault
-text_fault (first ∷ next ∷ more) = if bytes_eq first first_line then fault_from 0 (next ∷ more) else Some (Syntax 1)
+text_fault (first ∷ next ∷ more) = fault_behind (version_of first) (next ∷ more)
 text_fault _ = Some (Syntax 1)
 
 -- the first fault of a text

@@ -1,3 +1,4 @@
 pub mod Forms
+pub mod Texts
 pub mod Faults
 pub mod Spelling

@@ -5,11 +5,15 @@ use Rattle.std.specs.Fmt.{signed_decimal}
 use Rattle.heap_model.specs.Output.{line}
 use Rattle.table_text.specs.declared.line.TableLine.{TableLine}
 use Rattle.table_text.specs.declared.word.Word.{Word}
+use Rattle.table_text.specs.declared.version.Version.{Version}
+use Rattle.table_text.specs.declared.version.Version.TheVariants.{One, Two}
+use Rattle.table_text.specs.Texts.{Text, most_lines}
 use Rattle.table_text.specs.Forms.{form, parts, is_writable}
 
 -- the first line
-abbrev pub first_line : List ℕ
-first_line = codes "table 1"
+abbrev pub first_line : Version → List ℕ
+first_line One = codes "table 1"
+first_line Two = codes "table 2"
 
 -- a row with its numbers, as text: one space before each number
 abbrev pub row_text : Word → List ℤ → List ℕ
@@ -20,12 +24,15 @@ abbrev pub line_text : TableLine → List ℕ
 line_text l = row_text (parts l).word (parts l).numbers
 
 -- what these lines print as, with the first line before them
-abbrev pub spelling : List TableLine → List ℕ
-spelling lines = flat_map line (first_line ∷ map line_text lines)
+abbrev pub spelled : Version → List TableLine → List ℕ
+spelled version lines = flat_map line (first_line version ∷ map line_text lines)
 
--- the bytes spell these lines: each is one of the grammar, and neither they nor the bytes are too many
-pub record Spells (lines : List TableLine) (bytes : List ℕ) : Type 0 where
-  pub bytes_are : bytes ≡ spelling lines
-  pub writable : list_all is_writable lines ≡ true
-  pub few_lines : length lines ≤ 10000
+abbrev pub spelling : Text → List ℕ
+spelling text = spelled text.version text.lines
+
+-- the bytes spell this text: each line is one of the grammar, and neither they nor the bytes are too many
+pub record Spells (text : Text) (bytes : List ℕ) : Type 0 where
+  pub bytes_are : bytes ≡ spelling text
+  pub writable : list_all is_writable text.lines ≡ true
+  pub few_lines : length text.lines ≤ most_lines text.version
   pub few_bytes : length bytes ≤ 16777216

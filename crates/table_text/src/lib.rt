@@ -8,8 +8,10 @@ mod number;
 pub mod read;
 mod split;
 pub mod text;
+pub mod version;
 mod word;
 
 pub use line::TableLine;
 pub use read::read_table;
 pub use text::TableText;
+pub use version::Version;

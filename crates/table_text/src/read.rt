@@ -5,8 +5,8 @@ ghost use Rattle.heap_model.specs.Output.{line as line_of};
 ghost use Rattle.heap_text.specs.declared.fault.ScriptFault as declared_fault;
 ghost use Rattle.heap_text.specs.Spelling.{IsUnlessMemory};
 ghost use Rattle.heap_text.specs.Faults.{IsFaultUnlessMemory};
-ghost use Rattle.table_text.specs.declared.line.TableLine.{TableLine as declared_line};
 ghost use Rattle.table_text.specs.Forms.{is_writable};
+ghost use Rattle.table_text.specs.Texts.{Text, most_lines as most_lines_of};
 ghost use Rattle.table_text.specs.Spelling.{first_line, line_text, spelling, Spells};
 ghost use Rattle.table_text.specs.Faults.{line_shape, fault_of_shape, fault_from, first_fault};
 
@@ -15,23 +15,22 @@ use crate::line::TableLine;
 use crate::number::numbers_of;
 use crate::split::{first_text, split_once};
 use crate::text::TableText;
+use crate::version::{Version, most_lines, version_of};
 use heap_text::ScriptFault;
 use std::alloc::Global;
 
 /// The greatest count of bytes of a text.
 const MAX_BYTES: usize = 16_777_216;
 
-/// The greatest count of lines behind the first.
-const MAX_LINES: u32 = 10_000;
-
 // Reads a line behind the first, and so many more.
-fn read_line(before: u32, text: &[u8]) -> Result<TableLine, ScriptFault>
-    requires { before ≤ 10000 }
+fn read_line(version: Version, before: u32, text: &[u8]) -> Result<TableLine, ScriptFault>
+    requires { before ≤ most_lines_of version }
     ensures text { IfOk result (λ l. text.now ≡ line_text l) }
     ensures fits { IfOk result (λ l. is_writable l ≡ true) }
-    ensures few { IfOk result (λ _. before < 10000) }
-    ensures fault { IfErr result (λ e. fault_of_shape before (line_shape text.now) ≡ Some e) }
+    ensures few { IfOk result (λ _. before < most_lines_of version) }
+    ensures fault { IfErr result (λ e. fault_of_shape (most_lines_of version) before (line_shape text.now) ≡ Some e) }
 {
+    let most = most_lines(version);
     let line = before + 2;
     let (word, rest) = first_text(text);
     let Some(word) = find_word(word) else {
@@ -41,7 +40,7 @@ fn read_line(before: u32, text: &[u8]) -> Result<TableLine, ScriptFault>
     let Some(numbers) = numbers_of(rest, operands.len()) else {
         return Err(ScriptFault::Syntax { line });
     };
-    if MAX_LINES <= before {
+    if most <= before {
         return Err(ScriptFault::TooMany { line });
     }
     match first_out_of_range(operands, numbers.as_slice()) {
@@ -51,18 +50,18 @@ fn read_line(before: u32, text: &[u8]) -> Result<TableLine, ScriptFault>
 }
 
 // The lines that stand behind the first one.
-fn read_lines(alloc: Global, behind: &[u8]) -> Result<TableText, ScriptFault>
+fn read_lines(alloc: Global, version: Version, behind: &[u8]) -> Result<TableText, ScriptFault>
     requires { length behind.now ≤ 16777216 }
-    ensures found { IfOk result (λ t. line_of first_line ++ behind.now ≡ spelling t) }
-    ensures writable { IfOk result (λ t. list_all is_writable t ≡ true) }
-    ensures few { IfOk result (λ t. length t ≤ 10000) }
-    ensures fault { IfErr result (λ e. IsFaultUnlessMemory e (fault_from 0 (slice_split (λ b. b == 10) behind.now))) }
+    ensures found { IfOk result (λ t. line_of (first_line version) ++ behind.now ≡ spelling t) }
+    ensures writable { IfOk result (λ t. list_all is_writable t.lines ≡ true) }
+    ensures few { IfOk result (λ t. length t.lines ≤ most_lines_of t.version) }
+    ensures fault { IfErr result (λ e. IsFaultUnlessMemory e (fault_from (most_lines_of version) 0 (slice_split (λ b. b == 10) behind.now))) }
 {
-    let mut lines = TableText::new(alloc);
+    let mut lines = TableText::new(alloc, version);
     let mut before: u32 = 0;
     let mut rest = behind;
     'lines: while let Some((text, tail)) = split_once(rest, b'\n') {
-        match read_line(before, text) {
+        match read_line(version, before, text) {
             Ok(line) => {
                 if lines.push(line).is_err() {
                     return Err(ScriptFault::Memory);
@@ -93,13 +92,14 @@ fn text_or_fault(alloc: Global, bytes: &[u8]) -> Result<TableText, ScriptFault>
     let Some((first, behind)) = split_once(bytes, b'\n') else {
         return Err(ScriptFault::Syntax { line: 1 });
     };
-    if first != b"table 1".as_slice() {
+    let Some(version) = version_of(first) else {
         return Err(ScriptFault::Syntax { line: 1 });
-    }
-    read_lines(alloc, behind)
+    };
+    read_lines(alloc, version, behind)
 }
 
-/// Reads the text of a table: the line `table 1`, and at most 10,000 lines behind it. Every line ends with a line feed.
+/// Reads the text of a table: the line `table 1` and at most 10,000 lines behind it, or `table 2` and at most 199,984. Every
+/// line ends with a line feed.
 ///
 /// A text that is refused is told by its first fault. Only want of memory comes without a cause in the bytes. No fault is
 /// `Order`.
@@ -107,7 +107,7 @@ pub fn read_table(alloc: Global, bytes: &[u8]) -> Result<TableText, ScriptFault>
     // What is read is spelled so.
     ensures found { IfOk result (λ t. Spells t bytes.now) }
     // What is spelled so is read, unless memory runs out.
-    ensures only { (t : List declared_line) → Spells t bytes.now → IsUnlessMemory result (Ok t) }
+    ensures only { (t : Text) → Spells t bytes.now → IsUnlessMemory result (Ok t) }
     // A fault is the first one of the bytes, unless memory ran out.
     ensures fault { IfErr result (λ e. IsFaultUnlessMemory e (first_fault bytes.now)) }
     // The first fault of the bytes is answered, unless memory runs out.

@@ -11,6 +11,7 @@ use Rattle.heap_model.proofs.Graphs.GraphLemmas.{same_label-true, same_label_ref
 use Rattle.table_laws.proofs.ChangeLemmas.{not_first}
 use Rattle.table_laws.proofs.WalkLemmas.{thinned_length}
 use Rattle.table_laws.specs.Structures.{Binding, datum_at, keys_of, without}
+use Rattle.table_text.specs.declared.version.Version.{Version}
 use Rattle.table_text.specs.declared.line.TableLine.{TableLine}
 use Rattle.table_text.specs.declared.line.TableLine.TheVariants.{Key, Forget, Put, Get, Del, SetWeak, GetWeak, Count, FullMajor}
 use Rattle.table_machine.specs.declared.reply.LineReply.{LineReply}
@@ -407,28 +408,28 @@ module _ (s t p q u v : TableState) (a b : LineReply) (before : Alike s t) (goes
   effects FullMajor (ra, ua, _) (rb, vb, _) = same_done s t FullMajor a b u v (λ e. e) (ra ∙ sym rb, alike_is p q u v ua vb x)
 
 -- A line that isn't refused, from two states that look alike.
-line_too : (y z : Sizes) (before behind : List TableLine) (l : TableLine) (s t : TableState) (a b : LineReply) (u v : TableState) → Alike s t → (a ≡ reply.Full → ⊥) → (b ≡ reply.Full → ⊥)
-    → LineStep y before l s a u → LineStep z behind l t b v → Done s t l a b u v
-line_too y z before behind l s t a b u v x none neither step other = done step.does other.does
+line_too : (first second : Version) (y z : Sizes) (before behind : List TableLine) (l : TableLine) (s t : TableState) (a b : LineReply) (u v : TableState) → Alike s t → (a ≡ reply.Full → ⊥) → (b ≡ reply.Full → ⊥)
+    → LineStep first y before l s a u → LineStep second z behind l t b v → Done s t l a b u v
+line_too first second y z before behind l s t a b u v x none neither step other = done step.does other.does
   where
     after : Alike step.left other.left
     after = (leans_on s t step.left other.left step.goes other.goes x.0, leans_on t s other.left step.left other.goes step.goes x.1)
 
-    done : Effect step.left l a u ⊎ ((a ≡ reply.Full) × (u ≡ step.left) × MayBeRefused y before l step.left) → Effect other.left l b v ⊎ ((b ≡ reply.Full) × (v ≡ other.left) × MayBeRefused z behind l other.left) → Done s t l a b u v
+    done : Effect step.left l a u ⊎ ((a ≡ reply.Full) × (u ≡ step.left) × MayBeRefused first y before l step.left) → Effect other.left l b v ⊎ ((b ≡ reply.Full) × (v ≡ other.left) × MayBeRefused second z behind l other.left) → Done s t l a b u v
     done (inl e) (inl f) = effects s t step.left other.left u v a b x step.goes other.goes after l e f
     done (inr e) _ = absurd (none e.0)
     done (inl e) (inr f) = absurd (neither f.0)
 
-lines_too : (y z : Sizes) (before behind : List TableLine) (s t : TableState) (lines : List TableLine) (answers others : List LineReply) (us vs : List TableState) → Alike s t
-    → MachineRuns y before s lines answers us → MachineRuns z behind t lines others vs → NoneRefused answers → NoneRefused others → Parallel s t lines answers others us vs
-lines_too y z before behind s t [] answers others us vs x runs again none neither = tt
-lines_too y z before behind s t (l ∷ lines) (a ∷ answers) (b ∷ others) (u ∷ us) (v ∷ vs) x (step, runs) (other, again) none neither =
-    let first = line_too y z (before ++ l ∷ []) (behind ++ l ∷ []) l s t a b u v x (λ e. none 0 (ap Some e)) (λ e. neither 0 (ap Some e)) step other in
-    (first.agree, λ goes. lines_too y z (before ++ l ∷ []) (behind ++ l ∷ []) u v lines answers others us vs (first.alike goes) runs again (λ i e. none (suc i) e) (λ i e. neither (suc i) e))
-lines_too y z before behind s t (l ∷ lines) [] others us vs x runs again none neither = absurd runs
-lines_too y z before behind s t (l ∷ lines) (a ∷ answers) [] us vs x runs again none neither = absurd again
-lines_too y z before behind s t (l ∷ lines) (a ∷ answers) (b ∷ others) [] vs x runs again none neither = absurd runs
-lines_too y z before behind s t (l ∷ lines) (a ∷ answers) (b ∷ others) (u ∷ us) [] x runs again none neither = absurd again
+lines_too : (first second : Version) (y z : Sizes) (before behind : List TableLine) (s t : TableState) (lines : List TableLine) (answers others : List LineReply) (us vs : List TableState) → Alike s t
+    → MachineRuns first y before s lines answers us → MachineRuns second z behind t lines others vs → NoneRefused answers → NoneRefused others → Parallel s t lines answers others us vs
+lines_too first second y z before behind s t [] answers others us vs x runs again none neither = tt
+lines_too first second y z before behind s t (l ∷ lines) (a ∷ answers) (b ∷ others) (u ∷ us) (v ∷ vs) x (step, runs) (other, again) none neither =
+    let here = line_too first second y z (before ++ l ∷ []) (behind ++ l ∷ []) l s t a b u v x (λ e. none 0 (ap Some e)) (λ e. neither 0 (ap Some e)) step other in
+    (here.agree, λ goes. lines_too first second y z (before ++ l ∷ []) (behind ++ l ∷ []) u v lines answers others us vs (here.alike goes) runs again (λ i e. none (suc i) e) (λ i e. neither (suc i) e))
+lines_too first second y z before behind s t (l ∷ lines) [] others us vs x runs again none neither = absurd runs
+lines_too first second y z before behind s t (l ∷ lines) (a ∷ answers) [] us vs x runs again none neither = absurd again
+lines_too first second y z before behind s t (l ∷ lines) (a ∷ answers) (b ∷ others) [] vs x runs again none neither = absurd runs
+lines_too first second y z before behind s t (l ∷ lines) (a ∷ answers) (b ∷ others) (u ∷ us) [] x runs again none neither = absurd again
 
 -- before the first line nothing holds a key
 none_there : (n i : ℕ) (k : Label) → in_place (replicate n None) i ≡ Some k → ⊥
@@ -445,4 +446,4 @@ opened_leans = record { registers = refl; places = refl; hold = λ i k at. absur
     pairs k m (inr (i, a, b)) = absurd (none_there 16 i k a)
 
 pub texts_law : TextsAgree
-texts_law y z lines answers others us vs runs again none neither = lines_too y z [] [] opened opened lines answers others us vs (opened_leans, opened_leans) runs again none neither
+texts_law first second y z lines answers others us vs runs again none neither = lines_too first second y z [] [] opened opened lines answers others us vs (opened_leans, opened_leans) runs again none neither

@@ -5,6 +5,7 @@ use Rattle.heap_model.specs.declared.graph.Value.TheVariants.{Int}
 use Rattle.heap_model.specs.declared.state.Sizes.{Sizes}
 use Rattle.table_laws.specs.Thinning.{EmptiedBy}
 use Rattle.table_laws.proofs.ChangeLemmas.{emptied_same}
+use Rattle.table_text.specs.declared.version.Version.{Version}
 use Rattle.table_text.specs.declared.line.TableLine.{TableLine}
 use Rattle.table_machine.specs.declared.reply.LineReply.{LineReply}
 use Rattle.table_machine.specs.declared.reply.LineReply.TheVariants as reply
@@ -24,8 +25,8 @@ lone_held (suc n) k zero e = cc
 lone_held (suc n) k (suc i) e = lone_held n k i e
 
 -- a line before which nothing goes
-pub stays : (z : Sizes) (lines : List TableLine) (l : TableLine) (s : TableState) (a : LineReply) (t : TableState) → Effect s l a t → LineStep z lines l s a t
-stays z lines l s a t e = record { left = s; goes = may_same s; does = inl e }
+pub stays : (version : Version) (z : Sizes) (lines : List TableLine) (l : TableLine) (s : TableState) (a : LineReply) (t : TableState) → Effect s l a t → LineStep version z lines l s a t
+stays version z lines l s a t e = record { left = s; goes = may_same s; does = inl e }
 
 abbrev made : TableState
 made = with_key opened 1 (Some key)
@@ -39,12 +40,12 @@ let_go = with_key set 1 None
 is_lost : IsLost let_go key
 is_lost (i, at) = lone_held 5 key i at
 
-pub found : (z : Sizes) → MachineAnswers z parting_lines found_replies
-found z = record {
+pub found : (version : Version) (z : Sizes) → MachineAnswers version z parting_lines found_replies
+found version z = record {
   states = made ∷ set ∷ let_go ∷ with_key let_go 2 (Some key) ∷ [];
   runs = (
-    stays z _ _ _ _ _ (refl, (key, record { lost = λ h. lone_held 5 key h.0 h.1; unbound = refl; unset = λ h. lone_held 16 key h.0 h.1 }, refl)),
-    (stays z _ _ _ _ _ (refl, refl), (stays z _ _ _ _ _ (refl, refl), (stays z _ _ _ _ _ (refl, refl), tt))),
+    stays version z _ _ _ _ _ (refl, (key, record { lost = λ h. lone_held 5 key h.0 h.1; unbound = refl; unset = λ h. lone_held 16 key h.0 h.1 }, refl)),
+    (stays version z _ _ _ _ _ (refl, refl), (stays version z _ _ _ _ _ (refl, refl), (stays version z _ _ _ _ _ (refl, refl), tt))),
   );
 }
 
@@ -58,12 +59,12 @@ one_emptied = (None, replicate 12 None, refl, inr (refl, (key, refl, is_lost)), 
 goes : MayGo let_go emptied
 goes = record { registers = refl; bindings = refl; slots = (None, replicate 15 None, refl, inl refl, (None, replicate 14 None, refl, inl refl, (None, replicate 13 None, refl, inl refl, one_emptied))); together = λ k there. absurd (⊎_elim (λ h. let clash : false ≡ true = h in cc) (λ h. lone_held 16 k h.0 h.1) there) }
 
-pub gone : (z : Sizes) → MachineAnswers z parting_lines gone_replies
-gone z = record {
+pub gone : (version : Version) (z : Sizes) → MachineAnswers version z parting_lines gone_replies
+gone version z = record {
   states = made ∷ set ∷ let_go ∷ emptied ∷ [];
   runs = (
-    stays z _ _ _ _ _ (refl, (key, record { lost = λ h. lone_held 5 key h.0 h.1; unbound = refl; unset = λ h. lone_held 16 key h.0 h.1 }, refl)),
-    (stays z _ _ _ _ _ (refl, refl), (stays z _ _ _ _ _ (refl, refl), (record { left = emptied; goes = goes; does = inl (refl, refl) }, tt))),
+    stays version z _ _ _ _ _ (refl, (key, record { lost = λ h. lone_held 5 key h.0 h.1; unbound = refl; unset = λ h. lone_held 16 key h.0 h.1 }, refl)),
+    (stays version z _ _ _ _ _ (refl, refl), (stays version z _ _ _ _ _ (refl, refl), (record { left = emptied; goes = goes; does = inl (refl, refl) }, tt))),
   );
 }
 
@@ -83,14 +84,14 @@ given_back = with_key bound_let_go 2 (Some key)
 abbrev kept_states : List TableState
 kept_states = made ∷ bound ∷ bound_set ∷ bound_let_go ∷ given_back ∷ given_back ∷ []
 
-kept_runs : (z : Sizes) → MachineRuns z [] opened back_lines kept_replies kept_states
-kept_runs z = (
-  stays z _ _ _ _ _ (refl, (key, record { lost = λ h. lone_held 5 key h.0 h.1; unbound = refl; unset = λ h. lone_held 16 key h.0 h.1 }, refl)),
-  (stays z _ _ _ _ _ (refl, refl, refl, record { rest = refl; bound = refl }), (stays z _ _ _ _ _ (refl, refl), (stays z _ _ _ _ _ (refl, refl), (stays z _ _ _ _ _ (refl, refl), (stays z _ _ _ _ _ (refl, refl), tt))))),
+kept_runs : (version : Version) (z : Sizes) → MachineRuns version z [] opened back_lines kept_replies kept_states
+kept_runs version z = (
+  stays version z _ _ _ _ _ (refl, (key, record { lost = λ h. lone_held 5 key h.0 h.1; unbound = refl; unset = λ h. lone_held 16 key h.0 h.1 }, refl)),
+  (stays version z _ _ _ _ _ (refl, refl, refl, record { rest = refl; bound = refl }), (stays version z _ _ _ _ _ (refl, refl), (stays version z _ _ _ _ _ (refl, refl), (stays version z _ _ _ _ _ (refl, refl), (stays version z _ _ _ _ _ (refl, refl), tt))))),
 )
 
-pub kept : (z : Sizes) → MachineAnswers z back_lines kept_replies
-kept z = record { states = kept_states; runs = kept_runs z }
+pub kept : (version : Version) (z : Sizes) → MachineAnswers version z back_lines kept_replies
+kept version z = record { states = kept_states; runs = kept_runs version z }
 
 none_full : NoneRefused kept_replies
 none_full zero e = cc
@@ -113,17 +114,17 @@ none_refused (suc (suc (suc (suc (suc (suc zero)))))) e = cc
 none_refused (suc (suc (suc (suc (suc (suc (suc i))))))) e = cc
 
 -- and never without it, since the law holds of the two runs
-never_apart : (z : Sizes) (vs : List TableState) → MachineRuns z [] opened back_lines apart_replies vs → ⊥
-never_apart z [] runs = absurd runs
-never_apart z (a ∷ []) runs = absurd runs.1
-never_apart z (a ∷ b ∷ []) runs = absurd runs.1.1
-never_apart z (a ∷ b ∷ c ∷ []) runs = absurd runs.1.1.1
-never_apart z (a ∷ b ∷ c ∷ d ∷ []) runs = absurd runs.1.1.1.1
-never_apart z (a ∷ b ∷ c ∷ d ∷ e ∷ []) runs = absurd runs.1.1.1.1.1
-never_apart z (a ∷ b ∷ c ∷ d ∷ e ∷ f ∷ vs) runs =
-    let together = texts_law z z back_lines kept_replies apart_replies kept_states (a ∷ b ∷ c ∷ d ∷ e ∷ f ∷ vs) (kept_runs z) runs none_full none_refused in
+never_apart : (version : Version) (z : Sizes) (vs : List TableState) → MachineRuns version z [] opened back_lines apart_replies vs → ⊥
+never_apart version z [] runs = absurd runs
+never_apart version z (a ∷ []) runs = absurd runs.1
+never_apart version z (a ∷ b ∷ []) runs = absurd runs.1.1
+never_apart version z (a ∷ b ∷ c ∷ []) runs = absurd runs.1.1.1
+never_apart version z (a ∷ b ∷ c ∷ d ∷ []) runs = absurd runs.1.1.1.1
+never_apart version z (a ∷ b ∷ c ∷ d ∷ e ∷ []) runs = absurd runs.1.1.1.1.1
+never_apart version z (a ∷ b ∷ c ∷ d ∷ e ∷ f ∷ vs) runs =
+    let together = texts_law version version z z back_lines kept_replies apart_replies kept_states (a ∷ b ∷ c ∷ d ∷ e ∷ f ∷ vs) (kept_runs version z) runs none_full none_refused in
     let look = (((together.1 tt).1 tt).1 tt).1 tt in
     let clash : reply.Number (pos 7) ≡ reply.Empty = (look.1 refl).0 in cc
 
-pub apart : (z : Sizes) → MachineAnswers z back_lines apart_replies → ⊥
-apart z m = never_apart z m.states m.runs
+pub apart : (version : Version) (z : Sizes) → MachineAnswers version z back_lines apart_replies → ⊥
+apart version z m = never_apart version z m.states m.runs

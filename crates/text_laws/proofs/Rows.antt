@@ -39,6 +39,7 @@ use Rattle.weak_tables.proofs.SearchLemmas.{bucket_below, midst_begins, midst_fo
 use Rattle.weak_tables.proofs.TakeLemmas.{all_cleared, took}
 use Rattle.weak_tables.proofs.PutLemmas.{cell_linked, got_found, put_done, ready_grown}
 use Rattle.weak_tables.proofs.FoundLemmas.{bindings_law, lookups_law, puts_law, takes_law}
+use Rattle.table_text.specs.declared.version.Version.{Version}
 use Rattle.table_text.specs.declared.line.TableLine.TheVariants.{Get as LookUp}
 use Rattle.table_machine.specs.declared.reply.LineReply.{LineReply}
 use Rattle.table_machine.specs.declared.reply.LineReply.TheVariants as machine
@@ -328,21 +329,21 @@ other_there zero at = serials_differ 20 21 (omega arith) (let same : key ≡ los
 other_there (suc i) at = lone_held 1 lost i at
 
 -- the lines before the count, and the count and the look-up behind it
-counting_runs : (z : Sizes) (left : TableState) (n : ℕ) → MayGo (standing (Some key) None with_both) left → left.registers ≡ (Some key ∷ replicate 4 None) → datum_at left.bindings key ≡ Some (Int (pos 7)) → length left.bindings ≡ n
-    → MachineRuns z [] opened counting_lines (counting_replies n) (before_count ++ left ∷ left ∷ [])
-counting_runs z left n goes held bound many = (
-  stays z _ _ _ _ _ (refl, (key, is_new None None [] key none_there refl, refl)),
+counting_runs : (version : Version) (z : Sizes) (left : TableState) (n : ℕ) → MayGo (standing (Some key) None with_both) left → left.registers ≡ (Some key ∷ replicate 4 None) → datum_at left.bindings key ≡ Some (Int (pos 7)) → length left.bindings ≡ n
+    → MachineRuns version z [] opened counting_lines (counting_replies n) (before_count ++ left ∷ left ∷ [])
+counting_runs version z left n goes held bound many = (
+  stays version z _ _ _ _ _ (refl, (key, is_new None None [] key none_there refl, refl)),
   (
-    stays z _ _ _ _ _ (refl, (lost, is_new (Some key) None [] lost other_there refl, refl)),
+    stays version z _ _ _ _ _ (refl, (lost, is_new (Some key) None [] lost other_there refl, refl)),
     (
-      stays z _ _ _ _ _ (refl, refl, refl, record { rest = refl; bound = refl }),
+      stays version z _ _ _ _ _ (refl, refl, refl, record { rest = refl; bound = refl }),
       (
-        stays z _ _ _ _ _ (refl, refl, refl, record { rest = refl; bound = refl }),
+        stays version z _ _ _ _ _ (refl, refl, refl, record { rest = refl; bound = refl }),
         (
-          stays z _ _ _ _ _ (refl, refl),
+          stays version z _ _ _ _ _ (refl, refl),
           (
             record { left = left; goes = goes; does = inl (record { goes = may_same left; number = n; answers = refl; most = omega (arith, many); least = omega (arith, many) }) },
-            (stays z _ _ _ _ _ (shows_seven left held bound), tt),
+            (stays version z _ _ _ _ _ (shows_seven left held bound), tt),
           ),
         ),
       ),
@@ -366,12 +367,12 @@ one_left = record { registers = refl; bindings = inl ([], refl, inr (is_lost, re
         record { datum = subst (λ (l : Label). datum_at with_one l ≡ datum_at with_both l) same refl; slots = λ i at. at }
 
 -- the one run counts two bindings
-counts_two : (z : Sizes) → MachineRuns z [] opened counting_lines (counting_replies 2) (before_count ++ standing (Some key) None with_both ∷ standing (Some key) None with_both ∷ [])
-counts_two z = counting_runs z (standing (Some key) None with_both) 2 (may_same _) refl refl refl
+counts_two : (version : Version) (z : Sizes) → MachineRuns version z [] opened counting_lines (counting_replies 2) (before_count ++ standing (Some key) None with_both ∷ standing (Some key) None with_both ∷ [])
+counts_two version z = counting_runs version z (standing (Some key) None with_both) 2 (may_same _) refl refl refl
 
 -- and the other counts one, since the binding of the forgotten key went
-counts_one : (z : Sizes) → MachineRuns z [] opened counting_lines (counting_replies 1) (before_count ++ standing (Some key) None with_one ∷ standing (Some key) None with_one ∷ [])
-counts_one z = counting_runs z (standing (Some key) None with_one) 1 one_left refl refl refl
+counts_one : (version : Version) (z : Sizes) → MachineRuns version z [] opened counting_lines (counting_replies 1) (before_count ++ standing (Some key) None with_one ∷ standing (Some key) None with_one ∷ [])
+counts_one version z = counting_runs version z (standing (Some key) None with_one) 1 one_left refl refl refl
 
 none_full : (n : ℕ) → NoneRefused (counting_replies n)
 none_full n zero e = cc
@@ -389,15 +390,15 @@ number_in (machine.Counted n) = n
 number_in _ = 0
 
 -- none counts fewer, since but one key is in no register: so says the law of the two runs
-counts_no_fewer : (z : Sizes) (n : ℕ) (vs : List TableState) → MachineRuns z [] opened counting_lines (counting_replies n) vs → 1 ≤ n
-counts_no_fewer z n [] runs = absurd runs
-counts_no_fewer z n (a ∷ []) runs = absurd runs.1
-counts_no_fewer z n (a ∷ b ∷ []) runs = absurd runs.1.1
-counts_no_fewer z n (a ∷ b ∷ c ∷ []) runs = absurd runs.1.1.1
-counts_no_fewer z n (a ∷ b ∷ c ∷ d ∷ []) runs = absurd runs.1.1.1.1
-counts_no_fewer z n (a ∷ b ∷ c ∷ d ∷ e ∷ []) runs = absurd runs.1.1.1.1.1
-counts_no_fewer z n (a ∷ b ∷ c ∷ d ∷ e ∷ vs) runs =
-    let together = texts_law z z counting_lines (counting_replies 2) (counting_replies n) (before_count ++ standing (Some key) None with_both ∷ standing (Some key) None with_both ∷ []) (a ∷ b ∷ c ∷ d ∷ e ∷ vs) (counts_two z) runs (none_full 2) (none_full n) in
+counts_no_fewer : (version : Version) (z : Sizes) (n : ℕ) (vs : List TableState) → MachineRuns version z [] opened counting_lines (counting_replies n) vs → 1 ≤ n
+counts_no_fewer version z n [] runs = absurd runs
+counts_no_fewer version z n (a ∷ []) runs = absurd runs.1
+counts_no_fewer version z n (a ∷ b ∷ []) runs = absurd runs.1.1
+counts_no_fewer version z n (a ∷ b ∷ c ∷ []) runs = absurd runs.1.1.1
+counts_no_fewer version z n (a ∷ b ∷ c ∷ d ∷ []) runs = absurd runs.1.1.1.1
+counts_no_fewer version z n (a ∷ b ∷ c ∷ d ∷ e ∷ []) runs = absurd runs.1.1.1.1.1
+counts_no_fewer version z n (a ∷ b ∷ c ∷ d ∷ e ∷ vs) runs =
+    let together = texts_law version version z z counting_lines (counting_replies 2) (counting_replies n) (before_count ++ standing (Some key) None with_both ∷ standing (Some key) None with_both ∷ []) (a ∷ b ∷ c ∷ d ∷ e ∷ vs) (counts_two version z) runs (none_full 2) (none_full n) in
     let count = ((((together.1 tt).1 tt).1 tt).1 tt).1 tt in
     let two : 2 ≡ count.0.first = ap number_in count.0.first_is in
     let many : n ≡ count.0.second = ap number_in count.0.second_is in

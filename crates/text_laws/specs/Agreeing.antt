@@ -6,6 +6,7 @@ use Rattle.heap_model.specs.declared.state.Sizes.{Sizes}
 use Rattle.heap_model.specs.Entries.{is_label}
 use Rattle.heap_model.specs.Graph.{has_no_repeats}
 use Rattle.table_laws.specs.Structures.{Binding, keys_of}
+use Rattle.table_text.specs.declared.version.Version.{Version}
 use Rattle.table_text.specs.declared.line.TableLine.{TableLine}
 use Rattle.table_text.specs.declared.line.TableLine.TheVariants.{Count, Forget, Get, GetWeak, Key, Put, SetWeak}
 use Rattle.table_machine.specs.declared.reply.LineReply.{LineReply}
@@ -56,10 +57,10 @@ abbrev pub Parallel : TableState → TableState → List TableLine → List Line
 Parallel s t (l ∷ lines) (a ∷ answers) (b ∷ others) (u ∷ us) (v ∷ vs) = Agree s t l a b u v × (GoesOn l a b → Parallel u v lines answers others us vs)
 Parallel s t _ _ _ _ _ = Unit {0}
 
--- two runs of one text, whatever the sizes of the heap of each
+-- two runs of the same lines, whatever the version and the sizes of the heap of each
 abbrev pub TextsAgree : Type 0
-TextsAgree = (y z : Sizes) (lines : List TableLine) (answers others : List LineReply) (us vs : List TableState)
-    → MachineRuns y [] opened lines answers us → MachineRuns z [] opened lines others vs → NoneRefused answers → NoneRefused others
+TextsAgree = (v w : Version) (y z : Sizes) (lines : List TableLine) (answers others : List LineReply) (us vs : List TableState)
+    → MachineRuns v y [] opened lines answers us → MachineRuns w z [] opened lines others vs → NoneRefused answers → NoneRefused others
     → Parallel opened opened lines answers others us vs
 
 -- Where it ends: a slot has a key that no register holds, and in one run the collector has emptied it.

@@ -1,6 +1,7 @@
 //! Laws of texts of tables. Each function's contract is one law, and it does nothing else.
 ghost use Rattle.text_laws.specs.Agreeing.{TextsAgree, apart_replies, back_lines, found_replies, gone_replies, kept_replies, parting_lines};
 ghost use Rattle.heap_model.specs.declared.state.Sizes.{Sizes};
+ghost use Rattle.table_text.specs.declared.version.Version.{Version};
 ghost use Rattle.table_machine.specs.Machine.{MachineAnswers};
 
 /// Two runs of one text of a table, in none of which an allocation was refused, are answered the same, whatever the
@@ -12,12 +13,12 @@ pub fn texts_agree()
 
 /// Where that ends: a look at a slot whose key no register holds may be answered in two ways.
 pub fn texts_part()
-    ensures found { (z : Sizes) → MachineAnswers z parting_lines found_replies }
-    ensures gone { (z : Sizes) → MachineAnswers z parting_lines gone_replies }
+    ensures found { (version : Version) (z : Sizes) → MachineAnswers version z parting_lines found_replies }
+    ensures gone { (version : Version) (z : Sizes) → MachineAnswers version z parting_lines gone_replies }
 {}
 
 /// Where it goes on: a key that a slot gives back has its binding, and never comes without it.
 pub fn keys_come_whole()
-    ensures kept { (z : Sizes) → MachineAnswers z back_lines kept_replies }
-    ensures never { (z : Sizes) → MachineAnswers z back_lines apart_replies → ⊥ }
+    ensures kept { (version : Version) (z : Sizes) → MachineAnswers version z back_lines kept_replies }
+    ensures never { (version : Version) (z : Sizes) → MachineAnswers version z back_lines apart_replies → ⊥ }
 {}

@@ -3,6 +3,7 @@ use Rattle.std.proofs.Common.{◌≡◌, ℕ, List, Option, Some, None, sym, sub
 use Rattle.heap_model.specs.declared.entry.Entry.{Entry}
 use Rattle.heap_model.specs.declared.state.Sizes.{Sizes}
 use Rattle.heap_rule.specs.Ending.{EndedHeap}
+use Rattle.table_text.specs.declared.version.Version.{Version}
 use Rattle.table_text.specs.declared.line.TableLine.{TableLine}
 use Rattle.table_text.specs.declared.line.TableLine.TheVariants.{FullMajor}
 use Rattle.table_machine.specs.declared.reply.LineReply.{LineReply}
@@ -13,8 +14,8 @@ use Rattle.table_run.proofs.TextLemmas.{text_answered}
 use Rattle.camlheap_run.specs.Tables.{TableRunsToEnd, TableStopsWriting}
 
 -- no replies are written but those that the machine may give
-pub no_reply_of_no_machine : (z : Sizes) (ended : Option EndedHeap) (left_before left_after before after : Option (List ℕ)) → (x : TableRunsToEnd z ended left_before left_after before after) → MachineAnswers z x.lines x.writes.replies
-no_reply_of_no_machine z ended left_before left_after before after x = text_answered z x.lines x.writes.replies x.writes.ran.past.history x.writes.ran.runs
+pub no_reply_of_no_machine : (z : Sizes) (ended : Option EndedHeap) (left_before left_after before after : Option (List ℕ)) → (x : TableRunsToEnd z ended left_before left_after before after) → MachineAnswers x.text.version z x.text.lines x.writes.replies
+no_reply_of_no_machine z ended left_before left_after before after x = text_answered x.text.version z x.text.lines x.writes.replies x.writes.ran.past.history x.writes.ran.runs
 
 -- no text is run without a heap
 pub no_table_without_a_heap : (z : Sizes) (ended : Option EndedHeap) (left_before left_after before after : Option (List ℕ)) → TableRunsToEnd z ended left_before left_after before after → ended ≡ None → ⊥
@@ -24,5 +25,5 @@ pub no_cut_table_without_a_heap : (z : Sizes) (ended : Option EndedHeap) (left_b
 no_cut_table_without_a_heap z ended left_before left_after before after x none = let clash : Some x.writes.ran.past ≡ None = sym x.writes.ran.is_past ∙ none in cc
 
 -- a `full_major` line leaves no key that no register holds
-pub no_lost_key_is_left : (z : Sizes) (p : Places) (lines : List TableLine) (s : TableState) (old : List Entry) (a : LineReply) (t : TableState) (new : List Entry) → LineRuns z p lines FullMajor s old a t new → AllGone t
-no_lost_key_is_left z p lines s old a t new x = ⊎_elim (λ done. subst AllGone (sym done.1) done.2) (λ full. absurd (full.2.allocates refl)) x.step.does
+pub no_lost_key_is_left : (version : Version) (z : Sizes) (p : Places) (lines : List TableLine) (s : TableState) (old : List Entry) (a : LineReply) (t : TableState) (new : List Entry) → LineRuns version z p lines FullMajor s old a t new → AllGone t
+no_lost_key_is_left version z p lines s old a t new x = ⊎_elim (λ done. subst AllGone (sym done.1) done.2) (λ full. absurd (full.2.allocates refl)) x.step.does

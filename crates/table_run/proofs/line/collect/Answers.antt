@@ -1,18 +1,30 @@
-use Rattle.std.proofs.Common.{◌≡◌, List, [], ◌∷◌, ◌++◌, subst}
+use Rattle.std.proofs.Common.{◌≡◌, ◌∙◌, sym, List, [], ◌∷◌, ◌++◌, subst}
 use Rattle.heap_model.specs.declared.entry.Entry.{Entry}
 use Rattle.heap_model.specs.declared.state.Sizes.{Sizes}
 use Rattle.heap_model.specs.Domains.{opening}
 use Rattle.heap_model.specs.Registrations.{all_registered}
 use Rattle.table_text.specs.declared.line.TableLine.TheVariants as line_of
 use Rattle.weak_tables.proofs.TakeLemmas.{at_sizes}
-use Rattle.table_run.proofs.LinesLemmas.{gone}
+use Rattle.table_keepers.specs.Keepers.{HoldsKeeper}
+use Rattle.table_keepers.specs.Answers.{SweepAnswers}
+use Rattle.table_run.proofs.LinesLemmas.{gone, standing_forgot}
 use Rattle.table_run.proofs.line.collect.Goals as goal
+
+pub keeper_sweep-requires-clause-keeper : goal.keeper_sweep-requires-clause-keeper
+keeper_sweep-requires-clause-keeper g c =
+    let z : Sizes = g.M.Machine.sizes c.args.m.now.machine in
+    let mid : List Entry = g.M.Machine.front c.perform-nothing.new.self in
+    subst (λ (y : Sizes). HoldsKeeper c.args.version y mid 6) (sym c.perform-nothing.ensures.sizes)
+    (standing_forgot c.args.version z c.stands.ensures.limits (g.M.Machine.front c.args.m.now.machine) mid c.perform-nothing.result c.perform-nothing.ensures.performed c.requires.stands)
 
 pub returns-clause-runs : goal.returns-clause-runs
 returns-clause-runs g c =
-    let z : Sizes = g.M.Machine.sizes c.args.m.now in
-    let old : List Entry = g.M.Machine.front c.args.m.now in
+    let z : Sizes = g.M.Machine.sizes c.args.m.now.machine in
+    let old : List Entry = g.M.Machine.front c.args.m.now.machine in
     let mid : List Entry = g.M.Machine.front c.perform-nothing.new.self in
-    let quiet : all_registered 0 (opening z) mid ≡ [] = subst (λ (y : Sizes). all_registered 0 (opening y) mid ≡ []) c.perform-nothing.ensures.sizes c.stands-2.ensures.unregistered in
-    λ p s before x few. gone z c.stands.ensures.limits old mid (g.M.Machine.front c.perform-live.new.self) c.perform-nothing.result c.perform-live.result c.stands.ensures.alone quiet c.perform-nothing.ensures.performed
-    (at_sizes z _ _ _ _ _ c.perform-nothing.ensures.sizes c.perform-live.ensures.performed) p s (before ++ line_of.FullMajor ∷ []) x
+    let swept : List Entry = g.M.Machine.front c.keeper_sweep.new.m.machine in
+    let same : g.M.Machine.sizes c.keeper_sweep.new.m.machine ≡ z = c.keeper_sweep.ensures.sizes ∙ c.perform-nothing.ensures.sizes in
+    let quiet : all_registered 0 (opening z) swept ≡ [] = subst (λ (y : Sizes). all_registered 0 (opening y) swept ≡ []) same c.stands-3.ensures.unregistered in
+    let sweeps : SweepAnswers c.args.version z mid swept 6 = subst (λ (y : Sizes). SweepAnswers c.args.version y mid swept 6) c.perform-nothing.ensures.sizes c.keeper_sweep.ensures.sweeps in
+    λ p s before x few. gone c.args.version z c.stands.ensures.limits old mid swept (g.M.Machine.front c.perform-live.new.self) c.perform-nothing.result c.perform-live.result c.stands.ensures.alone quiet c.perform-nothing.ensures.performed
+    sweeps c.keeper_sweep.ensures.written c.keeper_sweep.ensures.given (at_sizes z _ _ _ _ _ same c.perform-live.ensures.performed) p s (before ++ line_of.FullMajor ∷ []) x

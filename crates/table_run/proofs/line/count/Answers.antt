@@ -7,6 +7,6 @@ use Rattle.table_run.proofs.line.count.Goals as goal
 
 pub returns-clause-runs : goal.returns-clause-runs
 returns-clause-runs g c =
-    let z : Sizes = g.M.Machine.sizes c.args.m.now in
-    let old : List Entry = g.M.Machine.front c.args.m.now in
-    λ p s before x few. counted z c.stands.ensures.limits old (g.M.Machine.front c.table_count.new.m) c.table_count.result c.table_count.ensures.written c.table_count.ensures.given c.table_count.ensures.counts p s (before ++ line_of.Count ∷ []) x
+    let z : Sizes = g.M.Machine.sizes c.args.m.now.machine in
+    let old : List Entry = g.M.Machine.front c.args.m.now.machine in
+    λ p s before x few. counted c.args.version z c.stands.ensures.limits old (g.M.Machine.front c.keeper_count.new.m.machine) c.keeper_count.result c.keeper_count.ensures.written c.keeper_count.ensures.given c.keeper_count.ensures.counts p s (before ++ line_of.Count ∷ []) x

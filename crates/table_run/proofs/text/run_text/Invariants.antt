@@ -5,11 +5,11 @@ use Rattle.table_run.proofs.text.run_text.Given as goal
 
 abbrev pub invariant-lines : goal.invariant-lines
 invariant-lines g l = record {
-  same : g.M.Machine.sizes l.m ≡ g.M.Machine.sizes l.fn.m;
+  same : g.M.Machine.sizes l.m.machine ≡ g.M.Machine.sizes l.fn.m.machine;
   answered : length l.replies.items ≡ l.i;
   capacity : vec_capacity l.replies ≡ vec_capacity l.fn.room;
-  ran : RanTo (g.M.Machine.sizes l.fn.m) (take l.i l.text) l.replies.items (g.M.Machine.front l.m);
-  given : HasGiven (g.M.Machine.labels_left l.m) (take l.i l.text);
-  labels : all_made l.text ≤ g.M.Machine.labels_left l.m + all_made (take l.i l.text);
-  room : all_rooms l.text ≤ g.M.Machine.ephes_room l.m + all_rooms (take l.i l.text);
+  ran : RanTo l.fn.text.version (g.M.Machine.sizes l.fn.m.machine) (take l.i l.text.lines) l.replies.items (g.M.Machine.front l.m.machine);
+  given : HasGiven l.fn.text.version (g.M.Machine.labels_left l.m.machine) (take l.i l.text.lines);
+  labels : all_made l.fn.text.version l.text.lines ≤ g.M.Machine.labels_left l.m.machine + all_made l.fn.text.version (take l.i l.text.lines);
+  room : all_rooms l.text.lines ≤ g.M.Machine.ephes_room l.m.machine + all_rooms (take l.i l.text.lines);
 }

@@ -2,7 +2,7 @@ use Rattle.std.proofs.Common.{subst}
 use Rattle.heap_rule.specs.Limits.{sizes_in}
 use Rattle.heap_session.specs.Sessions.{SessionView}
 use Rattle.map_laws.specs.Calls.{PerformedBy}
-use Rattle.map_domains.proofs.Performs.{performs}
+use Rattle.map_lists.proofs.PerformLemmas.{performs}
 use Rattle.map_domains.proofs.session.SessionDomainMachine.perform.Goals as goal
 
 pub returns-clause-performed : goal.returns-clause-performed

@@ -1,0 +1,3 @@
+pub mod DomainLemmas
+pub mod TableLemmas
+pub mod MapLemmas
