@@ -176,7 +176,8 @@ fn asked(words: &[String]) -> Option<Job>
 /// also those that ask for help, or that hold the word `--`. Takes no memory.
 pub fn words_fit(words: &[String]) -> bool
     ensures taken { IsTrue result ↔ IsSome (asked_job (map string_bytes words.now)) }
-    ensures spelled { (j : Job) → (asked_job (map string_bytes words.now) ≡ Some j) ↔ AsksFor (map string_bytes words.now) j }
+    ensures spelled { (j : Job) → (asked_job (map string_bytes words.now) ≡ Some j)
+        ↔ AsksFor (map string_bytes words.now) j }
 {
     asked(words).is_some()
 }

@@ -61,7 +61,8 @@ impl Session {
         finals: u32,
         ephes: u32,
     ) -> Result<Session, StartFault>
-        ensures outside { (k : ℕ) → (result ≡ Err (StartFault.Config k)) ↔ IsFirstOutside minor_words pools finals ephes k }
+        ensures outside { (k : ℕ) → (result ≡ Err (StartFault.Config k))
+            ↔ IsFirstOutside minor_words pools finals ephes k }
         ensures session { IfOk result (λ s. s ≡ fresh (alone minor_words pools finals ephes)) }
     {
         let config = Config {
@@ -166,7 +167,8 @@ impl Session {
         ensures finals { self.old.finals + length self.new.ran ≤ self.new.finals + registrations_of command }
         ensures performed { PerformsIn self.old self.new command result }
         ensures commands { commands self.new.front 0 ≡ commands self.old.front 0 ++ command ∷ [] }
-        ensures replies { replies_of self.old self.new.front ≡ replies_of self.old self.old.front ++ (self.new.ran ++ result ∷ []) }
+        ensures replies { replies_of self.old self.new.front ≡ replies_of self.old self.old.front ++
+            (self.new.ran ++ result ∷ []) }
     {
         let _limits = self.heap.config();
         let _left = self.labels_left();

@@ -143,7 +143,8 @@ pub fn generate(alloc: Global, base: u32, domains: u32, commands: u32) -> Result
     // It is within the limits of the format.
     ensures written { IfOk result (λ s. IsWritten One domains s.sections) }
     // What it prints as is read as the same script.
-    ensures spelled { (newest : declared_version) → IfOk result (λ s. Spells newest domains s (spelling One s.sections)) }
+    ensures spelled { (newest : declared_version) → IfOk result
+        (λ s. Spells newest domains s (spelling One s.sections)) }
 {
     let mut script = Script::new(alloc, Version::One);
     for domain in 0..domains {

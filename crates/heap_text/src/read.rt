@@ -177,7 +177,8 @@ pub fn read_script(
     // A fault is the first one of the bytes, unless memory ran out.
     ensures fault { IfErr result (λ e. IsFaultUnlessMemory e (first_fault newest domains bytes.now)) }
     // The first fault of the bytes is answered, unless memory runs out.
-    ensures refused { (e : declared_fault.ScriptFault) → first_fault newest domains bytes.now ≡ Some e → IsUnlessMemory result (Err e) }
+    ensures refused { (e : declared_fault.ScriptFault) → first_fault newest domains bytes.now ≡ Some e
+        → IsUnlessMemory result (Err e) }
 {
     script_or_fault(alloc, newest, domains, bytes)
 }

@@ -60,7 +60,8 @@ pub fn read_section(
     // What is read has these lines.
     ensures found { IfOk result (λ v. IsSectionText version domains lines.now v.items) }
     // The lines of a section are read, unless memory runs out.
-    ensures only { (commands : List declared_command) → result ≡ Err NoSection.Refused → IsSectionText version domains lines.now commands → ⊥ }
+    ensures only { (commands : List declared_command) → result ≡ Err NoSection.Refused
+        → IsSectionText version domains lines.now commands → ⊥ }
 {
     let grammar = Grammar::new(version, domains);
     let script = open_first(alloc, version)?;

@@ -184,7 +184,8 @@ fn judge_bytes<K: Sink, F: Seek>(
 ) -> TurnsJudged
     requires { IsWithinLimits sizes.now }
     ensures told { IsTurnsTold result → WritesTurns sizes.now bytes.now result (K.written out.old) (K.written out.new) }
-    ensures cut { result ≡ TurnsJudged.Other other.WriteFault → WritesTurnsFront sizes.now bytes.now (K.written out.old) (K.written out.new) }
+    ensures cut { result ≡ TurnsJudged.Other other.WriteFault
+        → WritesTurnsFront sizes.now bytes.now (K.written out.old) (K.written out.new) }
     ensures refused { IsTurnsRefused result → RefusesTurns sizes.now.domains bytes.now result }
     ensures quiet { IsTurnsSilent result → out.new ≡ out.old }
     ensures writes { FaultDecides result (TurnsJudged.Other other.WriteFault) (K.faults out.old) (K.faults out.new) }

@@ -32,7 +32,8 @@ pub fn keeper_make<M: Machine, R: Wait>(
     ensures labels { M.labels_left m.old.machine + full_of result ≡ M.labels_left m.new.machine + 1 }
     ensures room { M.ephes_room m.old.machine ≤ M.ephes_room m.new.machine }
     ensures refused { refusals (M.front m.new.machine) ≡ refusals (M.front m.old.machine) + full_of result }
-    ensures made { MakeAnswers version (M.sizes m.old.machine) (M.front m.old.machine) (M.front m.new.machine) dst result }
+    ensures made { MakeAnswers version (M.sizes m.old.machine) (M.front m.old.machine) (M.front m.new.machine)
+        dst result }
 {
     m.machine.stands();
     match version {
@@ -61,7 +62,8 @@ pub fn keeper_put<M: Machine, R: Wait>(
     ensures room { M.ephes_room m.old.machine ≤ M.ephes_room m.new.machine + 1 }
     ensures refused { refusals (M.front m.new.machine) ≡ refusals (M.front m.old.machine) + full_of result }
     ensures written { writings (M.front m.new.machine) ≡ writings (M.front m.old.machine) }
-    ensures answer { PutsAt version (M.sizes m.old.machine) (M.front m.old.machine) (M.front m.new.machine) keeper key item result }
+    ensures answer { PutsAt version (M.sizes m.old.machine) (M.front m.old.machine) (M.front m.new.machine)
+        keeper key item result }
 {
     m.machine.stands();
     match version {
@@ -86,8 +88,10 @@ pub fn keeper_get<M: Machine, R: Wait>(
     ensures labels { M.labels_left m.new.machine ≡ M.labels_left m.old.machine }
     ensures room { M.ephes_room m.old.machine ≤ M.ephes_room m.new.machine }
     ensures refused { refusals (M.front m.new.machine) ≡ refusals (M.front m.old.machine) + full_of result }
-    ensures written { writings (M.front m.new.machine) ≤ writings (M.front m.old.machine) + (is_spared dst + is_spared dst) }
-    ensures answer { GetsAt version (M.sizes m.old.machine) (M.front m.old.machine) (M.front m.new.machine) dst keeper key result }
+    ensures written { writings (M.front m.new.machine) ≤ writings (M.front m.old.machine) +
+        (is_spared dst + is_spared dst) }
+    ensures answer { GetsAt version (M.sizes m.old.machine) (M.front m.old.machine) (M.front m.new.machine)
+        dst keeper key result }
 {
     m.machine.stands();
     match version {
@@ -112,7 +116,8 @@ pub fn keeper_take<M: Machine, R: Wait>(
     ensures room { M.ephes_room m.old.machine ≤ M.ephes_room m.new.machine }
     ensures refused { refusals (M.front m.new.machine) ≡ refusals (M.front m.old.machine) + full_of result }
     ensures written { writings (M.front m.new.machine) ≡ writings (M.front m.old.machine) }
-    ensures answer { TakesAt version (M.sizes m.old.machine) (M.front m.old.machine) (M.front m.new.machine) keeper key result }
+    ensures answer { TakesAt version (M.sizes m.old.machine) (M.front m.old.machine) (M.front m.new.machine)
+        keeper key result }
 {
     m.machine.stands();
     match version {
@@ -136,7 +141,8 @@ pub fn keeper_count<M: Machine, R: Wait>(
     ensures room { M.ephes_room m.old.machine ≤ M.ephes_room m.new.machine }
     ensures given { refusals (M.front m.new.machine) ≡ refusals (M.front m.old.machine) }
     ensures written { writings (M.front m.new.machine) ≡ writings (M.front m.old.machine) }
-    ensures counts { CountsAt version (M.sizes m.old.machine) (M.front m.old.machine) (M.front m.new.machine) keeper result }
+    ensures counts { CountsAt version (M.sizes m.old.machine) (M.front m.old.machine) (M.front m.new.machine)
+        keeper result }
 {
     m.machine.stands();
     match version {
@@ -155,7 +161,8 @@ pub fn keeper_sweep<M: Machine, R: Wait>(version: Version, m: &mut OneDomain<M>,
     ensures room { M.ephes_room m.old.machine ≤ M.ephes_room m.new.machine }
     ensures given { refusals (M.front m.new.machine) ≡ refusals (M.front m.old.machine) }
     ensures written { writings (M.front m.new.machine) ≡ writings (M.front m.old.machine) }
-    ensures sweeps { SweepAnswers version (M.sizes m.old.machine) (M.front m.old.machine) (M.front m.new.machine) keeper }
+    ensures sweeps { SweepAnswers version (M.sizes m.old.machine) (M.front m.old.machine) (M.front m.new.machine)
+        keeper }
 {
     m.machine.stands();
     match version {

@@ -24,13 +24,15 @@ pub fn run_text<M: Machine, R: Wait>(
     room: Vec<LineReply>,
 ) -> Vec<LineReply>
     requires empty { M.front m.old.machine ≡ [] }
-    requires pools { reserve (M.sizes m.old.machine) + (M.sizes m.old.machine).classes + 32 ≤ (M.sizes m.old.machine).pools }
+    requires pools { reserve (M.sizes m.old.machine) + (M.sizes m.old.machine).classes + 32
+        ≤ (M.sizes m.old.machine).pools }
     requires labels { 18 + all_made text.now.version text.now.lines ≤ M.labels_left m.old.machine }
     requires ephemerons { 16 + all_rooms text.now.lines ≤ M.ephes_room m.old.machine }
     requires none { room.items ≡ [] }
     requires capacity { length text.now.lines ≤ vec_capacity room }
     ensures sizes { M.sizes m.new.machine ≡ M.sizes m.old.machine }
-    ensures runs { TextRuns text.now.version (M.sizes m.old.machine) text.now.lines result.items (M.front m.new.machine) }
+    ensures runs { TextRuns text.now.version (M.sizes m.old.machine) text.now.lines result.items
+        (M.front m.new.machine) }
 {
     let version = text.version();
     let mut replies = room;

@@ -111,7 +111,8 @@ pub fn read_table(alloc: Global, bytes: &[u8]) -> Result<TableText, ScriptFault>
     // A fault is the first one of the bytes, unless memory ran out.
     ensures fault { IfErr result (λ e. IsFaultUnlessMemory e (first_fault bytes.now)) }
     // The first fault of the bytes is answered, unless memory runs out.
-    ensures refused { (e : declared_fault.ScriptFault) → first_fault bytes.now ≡ Some e → IsUnlessMemory result (Err e) }
+    ensures refused { (e : declared_fault.ScriptFault) → first_fault bytes.now ≡ Some e
+        → IsUnlessMemory result (Err e) }
 {
     text_or_fault(alloc, bytes)
 }

@@ -389,7 +389,8 @@ pub fn cache_take<M: Machine, R: Wait>(
     ensures room { M.ephes_room m.old ≤ M.ephes_room m.new }
     ensures given { refusals_by (M.domain m.old) (M.front m.new) ≡ refusals_by (M.domain m.old) (M.front m.old) }
     ensures written { WritesAtMost (M.domain m.old) (M.front m.old) (M.front m.new) (is_spared dst) }
-    ensures answer { TakesAt (M.sizes m.old) (M.domain m.old) (M.front m.old) (M.front m.new) dst cache size key result }
+    ensures answer { TakesAt (M.sizes m.old) (M.domain m.old) (M.front m.old) (M.front m.new)
+        dst cache size key result }
 {
     m.stands();
     let Reply::Block(label) = m.show(key) else {
@@ -432,7 +433,8 @@ pub fn cache_put<M: Machine, R: Wait>(
         (M.front m.old) (M.front m.new) result }
     ensures room { M.ephes_room m.old ≤ M.ephes_room m.new + 1 }
     ensures written { writings_by (M.domain m.old) (M.front m.new) ≡ writings_by (M.domain m.old) (M.front m.old) }
-    ensures answer { PutsAt (M.sizes m.old) (M.domain m.old) (M.front m.old) (M.front m.new) cache size key item result }
+    ensures answer { PutsAt (M.sizes m.old) (M.domain m.old) (M.front m.old) (M.front m.new)
+        cache size key item result }
 {
     m.stands();
     let Reply::Block(label) = m.show(key) else {
