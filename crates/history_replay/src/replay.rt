@@ -25,7 +25,8 @@ pub fn gives(
     // What it says yes to is so.
     ensures sound { IfOk result (λ yes. IsTrue yes → Explains sizes.now script.now.sections bytes.now history.now) }
     // It says yes to what is so, of a history with fewer than 2^32 entries.
-    ensures exact { length history.now < 2 ^ 32 → IfOk result (IsYesTo sizes.now script.now.sections bytes.now history.now) }
+    ensures exact { length history.now < 2 ^ 32 → IfOk result
+        (IsYesTo sizes.now script.now.sections bytes.now history.now) }
 {
     let Some(told) = play(alloc, sizes, history)? else {
         return Ok(false);

@@ -164,7 +164,8 @@ pub fn run_section<M: Machine, R: Wait>(
     ensures labels { M.labels_left m.old ≤ M.labels_left m.new + 7 * length lines.items }
     ensures room { M.ephes_room m.old ≤ M.ephes_room m.new + length lines.items }
     ensures guards { SectionGuards (M.sizes m.old) (M.domain m.old) (M.front m.old) (M.front m.new) }
-    ensures runs { SectionRuns (M.sizes m.old) (M.domain m.old) (M.front m.old) lines.items result.items (M.front m.new) }
+    ensures runs { SectionRuns (M.sizes m.old) (M.domain m.old) (M.front m.old) lines.items result.items
+        (M.front m.new) }
 {
     let mut replies = room;
     'lines: for line in lines {

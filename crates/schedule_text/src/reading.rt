@@ -127,7 +127,8 @@ pub fn read_schedule(
     // A fault is the first line that is wrong, unless memory ran out.
     ensures fault { IfErr result (λ e. IsFaultUnlessMemory e (first_wrong domains bytes.now)) }
     // The first line that is wrong is answered, unless memory runs out.
-    ensures refused { (k : ℕ) → first_wrong domains bytes.now ≡ Some k → IsUnlessMemory result (Err (ScheduleFault.Line k)) }
+    ensures refused { (k : ℕ) → first_wrong domains bytes.now ≡ Some k
+        → IsUnlessMemory result (Err (ScheduleFault.Line k)) }
 {
     schedule_or_fault(alloc, domains, bytes)
 }

@@ -28,7 +28,8 @@ pub fn stop_sharing<R: Wait>(
     ensures sizes { IfOk result (λ e. e.sizes ≡ sizes_in seats.heap.config) }
     ensures legal { IfOk result (λ e. Legal e.sizes e.history) }
     ensures stops { IfOk result (λ e. StopsEach e.sizes e.history all.items) }
-    ensures shared { IfOk result (λ e. (root : labels.Label) (base : List Entry) → SeatsShare e.sizes root base all.items → IsShared e.sizes root base e.history) }
+    ensures shared { IfOk result (λ e. (root : labels.Label) (base : List Entry)
+        → SeatsShare e.sizes root base all.items → IsShared e.sizes root base e.history) }
 {
     seats.stop(rt, alloc, all)
 }

@@ -58,7 +58,8 @@ pub fn refused_line(
     gone: &[Gone],
 ) -> Result<Option<usize>, AllocError>
     requires { IsWithinLimits sizes.now }
-    ensures none { IfOk result (λ o. IfNone o (AnswersBy text.now.version sizes.now gone.now text.now.lines replies.now)) }
+    ensures none { IfOk result
+        (λ o. IfNone o (AnswersBy text.now.version sizes.now gone.now text.now.lines replies.now)) }
 {
     let mut machine = Machine::new(alloc)?;
     let version = text.version();
