@@ -97,10 +97,10 @@ fn judge_asked<S: Source, K: Sink>(
     }
 }
 
-// The first line of a replay, and that of a table's text.
+// The first line of a replay, and how that of a table's text begins.
 const REPLAY: &[u8] = b"schedule 1\n";
 
-const TABLE: &[u8] = b"table 1\n";
+const TABLE: &[u8] = b"table ";
 
 // The first bytes, as many as the first line of a replay has, or all where there are fewer.
 fn front_of<R: Read>(alloc: Global, input: &mut R) -> io::Result<Vec<u8>> {

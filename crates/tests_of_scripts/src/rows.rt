@@ -38,7 +38,7 @@ const REPLIES: [(&str, &str, &str); 33] = [
     ),
     (
         "table --minor=4096 --pools 51",
-        "table 1\nkey 1\nwset 3 1\nwget 2 3\nforget 1\nfull_major\nwget 4 3\nforget 2\nforget 4\nfull_major\nwget 5 3\n",
+        "table 2\nkey 1\nwset 3 1\nwget 2 3\nforget 1\nfull_major\nwget 4 3\nforget 2\nforget 4\nfull_major\nwget 5 3\n",
         "ok\nok\nyes\nok\nok\nyes\nok\nok\nok\nnone\n",
     ),
     ("run --domains 1", PLAIN, PLAIN_PRINTS),
