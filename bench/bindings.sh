@@ -8,7 +8,7 @@
 . "$top/bench/room.sh"
 
 if [ -z "${SESSION:-}" ]; then
-    room session_bindings "$top/bench/bindings" example_cache heap_session weak_tables table_laws heap_rule heap_model
+    room session_bindings "$top/bench/bindings" example_cache run_session weak_tables weak_laws heap_rule model_core
     SESSION=$work/session_bindings
 fi
 

@@ -13,7 +13,7 @@ trap 'leave; rm -rf "$work"' EXIT
 . "$top/bench/room.sh"
 
 if [ -z "${PROGRAM:-}" ]; then
-    room map_threads "$top/bench/map_threads" map_domains weak_maps heap_seats domain_turns command_counts heap_rule heap_model
+    room map_threads "$top/bench/map_threads" run_session weak_maps run_seats run_turns model_core heap_rule
     PROGRAM=$work/map_threads
 fi
 rustc -O --edition 2024 -o "$work/map_orders" "$top/bench/map_orders/main.rs"

@@ -9,7 +9,7 @@
 . "$top/bench/room.sh"
 
 if [ -z "${SESSION:-}" ]; then
-    room session_maps "$top/bench/maps" map_domains heap_session weak_maps heap_model
+    room session_maps "$top/bench/maps" run_session weak_maps model_core
     SESSION=$work/session_maps
 fi
 

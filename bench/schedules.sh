@@ -12,7 +12,7 @@ program_here program
 . "$top/bench/room.sh"
 
 if [ -z "${SLOW:-}" ]; then
-    room slow_schedules "$top/bench/schedules/slow_schedules" slow_heap schedule_text schedule_laws heap_text heap_model
+    room slow_schedules "$top/bench/schedules/slow_schedules" judge_plain text_schedule model_traces text_script model_core
     SLOW=$work/slow_schedules
 fi
 rustc -O --edition 2024 -o "$work/schedules" "$top/bench/schedules/main.rs"

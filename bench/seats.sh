@@ -1,5 +1,5 @@
 #!/usr/bin/env bash
-# Runs the tests of `tests_of_seats` RUNS times each (200 without it) on one and on two processors, beside a busy process for each of
+# Runs the tests of `test_heap::seats` RUNS times each (200 without it) on one and on two processors, beside a busy process for each of
 # these, and counts the runs that hang, which are those that don't end within a minute, and those that fail. In one of the tests eight
 # threads with a seat each rest, wait for one another outside of the heap, and end at different times; each run compares what they were
 # told with what the slow heap prints. It ends with 1 where a run hangs or fails. PROGRAM names another build of the tests.
@@ -7,8 +7,8 @@
 . "$top/bench/busy.sh"
 trap 'leave; rm -rf "$work"' EXIT
 if [ -z "${PROGRAM:-}" ]; then
-    (cd "$top/crates/tests_of_seats" && rt test >"$work/built")
-    PROGRAM=$top/crates/tests_of_seats/out/tests_of_seats_tests
+    (cd "$top/crates/test_heap" && rt test >"$work/built")
+    PROGRAM=$top/crates/test_heap/out/tests_of_seats_tests
 fi
 cp "$PROGRAM" "$work/tests"
 

@@ -3,16 +3,16 @@
 
 ghost use Rattle.std.specs.Prelude.{◌≡◌, ◌<◌, Option};
 ghost use Rattle.heap_rule.specs.Ending.{EndedHeap};
-ghost use Rattle.outer_io.specs.Adapters.{write_faults};
-ghost use Rattle.outer_io.specs.Faults.{Rose};
+ghost use Rattle.text_ends.specs.Adapters.{write_faults};
+ghost use Rattle.text_ends.specs.Faults.{Rose};
 
 use camlheap_run::{Status, camlheap, fault_line, status_number};
-use outer_io::{NoGate, StdSink, StdSource};
 use std::alloc::Global;
 use std::env::Env;
 use std::io::{BufReader, BufWriter, ErrorKind, Read, Write};
 use std::process::ExitCode;
 use std::{env, io};
+use text_ends::{NoGate, StdSink, StdSource};
 
 // How many bytes are read ahead, and how many are gathered before they are written.
 const GATHERED: usize = 65_536;

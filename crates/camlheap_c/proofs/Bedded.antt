@@ -20,7 +20,7 @@ use Rattle.std_alloc.specs.Box.Ownership.{box_owns}
 use Rattle.std.specs.Prelude.{cond}
 use Rattle.std.specs.contracts.alloc.Global as heap
 use Rattle.std.specs.contracts.impls.GlobalAllocator.TheImpl.{ghosts}
-use Rattle.shared_runs.specs.contracts.bed.RunBed.{the_row as bed_row}
+use Rattle.run_seats.specs.contracts.shared.bed.RunBed.{the_row as bed_row}
 use Rattle.camlheap_c.specs.contracts.bed.CamlheapBed as handle
 use Rattle.camlheap_c.proofs.Values.{Heap, al_heap, three_tt, word}
 

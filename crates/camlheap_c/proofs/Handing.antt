@@ -1,13 +1,13 @@
 -- Domains that are put into handles, one after the other.
 use Rattle.std.proofs.Common.{◌≡◌, ℕ, zero, suc, ◌+◌, ◌<◌, ◌≤◌, Bool, true, false, not, nat_le, List, [], ◌∷◌, ◌++◌, length, map, slice_set, Some, None, refl, sym, ap, subst, arith}
 use Rattle.std.specs.Prelude.{if◌then◌else◌}
-use Rattle.heap_model.specs.Domains.{fits_domains, fits_minor_words, fits_pools}
+use Rattle.model_core.specs.Domains.{fits_domains, fits_minor_words, fits_pools}
 use Rattle.heap_rule.specs.declared.config.Config.{Config}
 use Rattle.heap_rule.specs.Limits.{first_of, first_outside, most_room, sizes_in}
 use Rattle.heap_rule.specs.Opening.{opening_tokens}
 use Rattle.heap_rule.specs.Token.{SharedHeap}
-use Rattle.open_runs.specs.Opening.{opened}
-use Rattle.shared_runs.specs.Sharing.{SharedView, shared_by}
+use Rattle.run_open.specs.Opening.{opened}
+use Rattle.run_seats.specs.Shared.Sharing.{SharedView, shared_by}
 use Rattle.camlheap_c.specs.declared.handle.CamlheapDomain.{CamlheapDomain}
 use Rattle.camlheap_c.specs.Exported.{Fills, IsHandleOf}
 

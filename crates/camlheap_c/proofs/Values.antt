@@ -29,7 +29,7 @@ use Rattle.std.specs.Prelude.{cond}
 use Rattle.std.specs.contracts.alloc.Global as heap
 use Rattle.std.proofs.alloc.Global.TheLaws as heap_laws
 use Rattle.std.specs.contracts.impls.GlobalAllocator.TheImpl.{ghosts}
-use Rattle.shared_runs.specs.contracts.shared.SharedRun.{the_row as run_row}
+use Rattle.run_seats.specs.contracts.shared.shared.SharedRun.{the_row as run_row}
 use Rattle.camlheap_c.specs.contracts.handle.CamlheapDomain as handle
 use Rattle.camlheap_c.specs.contracts.loose.Loose as loose
 

@@ -1,14 +1,14 @@
 -- Why a block is still there, as C is told.
 use Rattle.std.specs.Prelude.{◌≡◌, ◌↔◌, ℕ, ◌<◌, ◌⊎◌, true, false, List, length, slice_get, Option, Some}
-use Rattle.heap_model.specs.declared.label.Label.{Label}
+use Rattle.model_core.specs.declared.label.Label.{Label}
 use Rattle.heap_rule.specs.Limits.{sizes_in}
-use Rattle.reach_paths.specs.declared.asking.Reason.{Reason}
-use Rattle.reach_paths.specs.declared.asking.Reason.TheVariants.{Way, Nothing, NoField}
-use Rattle.reach_paths.specs.declared.exploring.Stop.{Stop}
-use Rattle.reach_paths.specs.declared.exploring.Stop.TheVariants.{PutOff, Many, Memory}
-use Rattle.reach_paths.specs.Asking.{IsWhyAlone}
-use Rattle.reach_paths.specs.Walks.{StaysAlone, Walks}
-use Rattle.shared_runs.specs.Sharing.{SharedView}
+use Rattle.model_laws.specs.declared.reach.asking.Reason.{Reason}
+use Rattle.model_laws.specs.declared.reach.asking.Reason.TheVariants.{Way, Nothing, NoField}
+use Rattle.model_laws.specs.declared.reach.exploring.Stop.{Stop}
+use Rattle.model_laws.specs.declared.reach.exploring.Stop.TheVariants.{PutOff, Many, Memory}
+use Rattle.model_laws.specs.Reach.Asking.{IsWhyAlone}
+use Rattle.model_laws.specs.Reach.Walks.{StaysAlone, Walks}
+use Rattle.run_seats.specs.Shared.Sharing.{SharedView}
 use Rattle.camlheap_c.specs.declared.asking.CamlheapWay.{CamlheapWay}
 use Rattle.camlheap_c.specs.declared.handle.CamlheapDomain.{CamlheapDomain}
 use Rattle.camlheap_c.specs.Exported.{RefusesClose}

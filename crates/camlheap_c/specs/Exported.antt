@@ -1,16 +1,16 @@
 -- What the exports leave in a handle that holds a domain.
 use Rattle.std.specs.Prelude.{slice_get, ◌≡◌, ◌≢◌, ◌↔◌, ℕ, ◌+◌, ◌<◌, ◌≤◌, List, true, false, Option, Some, None, [], ◌∷◌}
-use Rattle.heap_model.specs.declared.command.Command as model
-use Rattle.heap_model.specs.declared.reply.Reply.{Reply}
+use Rattle.model_core.specs.declared.command.Command as model
+use Rattle.model_core.specs.declared.reply.Reply.{Reply}
 use Rattle.heap_rule.specs.declared.config.Config.{Config}
 use Rattle.heap_rule.specs.declared.view.DomainView.{DomainView}
 use Rattle.heap_rule.specs.Limits.{first_outside, sizes_in}
 use Rattle.heap_rule.specs.Token.{SharedHeap}
-use Rattle.domain_turns.specs.Runs.{HasLooked, IsUnanswered, MaySubmit, Stretches, answer_of}
-use Rattle.open_runs.specs.Driving.{Answered, Awaits}
-use Rattle.open_runs.specs.Opening.{opened_runs}
-use Rattle.shared_runs.specs.declared.shared.Refused.{Refused}
-use Rattle.shared_runs.specs.Sharing.{SharedView, IsRefusedBy, IsUnclosedBy, shared_by, shown_by, with_command}
+use Rattle.run_turns.specs.Runs.{HasLooked, IsUnanswered, MaySubmit, Stretches, answer_of}
+use Rattle.run_open.specs.Driving.{Answered, Awaits}
+use Rattle.run_open.specs.Opening.{opened_runs}
+use Rattle.run_seats.specs.declared.shared.shared.Refused.{Refused}
+use Rattle.run_seats.specs.Shared.Sharing.{SharedView, IsRefusedBy, IsUnclosedBy, shared_by, shown_by, with_command}
 use Rattle.camlheap_c.specs.declared.crossing.CamlheapCommand.{CamlheapCommand}
 use Rattle.camlheap_c.specs.declared.crossing.CamlheapConfig.{CamlheapConfig}
 use Rattle.camlheap_c.specs.declared.crossing.CamlheapReply.{CamlheapReply}

@@ -1,15 +1,15 @@
 -- Commands, replies and answers as C has them.
 use Rattle.std.specs.Prelude.{ℕ, pos, ◌==◌, Option, Some, None, if◌then◌else◌}
-use Rattle.heap_model.specs.declared.command.Command.{Command}
-use Rattle.heap_model.specs.declared.command.Command.TheVariants as op
-use Rattle.heap_model.specs.declared.reply.Reply.{Reply}
-use Rattle.heap_model.specs.declared.reply.Reply.TheVariants.{Done, Int, Block, BadType, BadIndex, Empty, Yes, No, Full, Live, Fin, Last}
-use Rattle.open_runs.specs.declared.counting.Stats.{Stats}
-use Rattle.open_runs.specs.declared.turning.Came.{Came}
-use Rattle.open_runs.specs.declared.turning.Came.TheVariants as came
-use Rattle.open_runs.specs.declared.refusing.Refusal.TheVariants as lacks
-use Rattle.shared_runs.specs.declared.shared.Refused.{Refused}
-use Rattle.shared_runs.specs.declared.shared.Refused.TheVariants.{Closed, Busy, Unfit}
+use Rattle.model_core.specs.declared.command.Command.{Command}
+use Rattle.model_core.specs.declared.command.Command.TheVariants as op
+use Rattle.model_core.specs.declared.reply.Reply.{Reply}
+use Rattle.model_core.specs.declared.reply.Reply.TheVariants.{Done, Int, Block, BadType, BadIndex, Empty, Yes, No, Full, Live, Fin, Last}
+use Rattle.run_open.specs.declared.counting.Stats.{Stats}
+use Rattle.run_open.specs.declared.turning.Came.{Came}
+use Rattle.run_open.specs.declared.turning.Came.TheVariants as came
+use Rattle.run_open.specs.declared.refusing.Refusal.TheVariants as lacks
+use Rattle.run_seats.specs.declared.shared.shared.Refused.{Refused}
+use Rattle.run_seats.specs.declared.shared.shared.Refused.TheVariants.{Closed, Busy, Unfit}
 use Rattle.camlheap_c.specs.declared.crossing.CamlheapCommand.{CamlheapCommand}
 use Rattle.camlheap_c.specs.declared.crossing.CamlheapReply.{CamlheapReply}
 use Rattle.camlheap_c.specs.declared.crossing.CamlheapStats.{CamlheapStats}

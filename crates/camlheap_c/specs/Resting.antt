@@ -1,12 +1,12 @@
 -- What the exports on beds leave.
 use Rattle.std.specs.Prelude.{◌≡◌, ◌≢◌, ℕ, ◌+◌, ◌<◌, true, false, Some, None}
-use Rattle.rest_beds.specs.Bedding.{BedView, MakesNone, plain_bed}
-use Rattle.rest_beds.specs.declared.bed.NoBed.{NoBed}
-use Rattle.rest_beds.specs.declared.bed.NoBed.TheVariants.{NotFirst, Full, Memory}
-use Rattle.shared_runs.specs.declared.bed.NotRested.{NotRested}
-use Rattle.shared_runs.specs.declared.bed.NotRested.TheVariants.{Refused, Taken, Blocked}
-use Rattle.shared_runs.specs.Idling.{IsKeptOut, StaysAlong}
-use Rattle.shared_runs.specs.Sharing.{MayClose, SharedView}
+use Rattle.run_seats.specs.Beds.Bedding.{BedView, MakesNone, plain_bed}
+use Rattle.run_seats.specs.declared.beds.bed.NoBed.{NoBed}
+use Rattle.run_seats.specs.declared.beds.bed.NoBed.TheVariants.{NotFirst, Full, Memory}
+use Rattle.run_seats.specs.declared.shared.bed.NotRested.{NotRested}
+use Rattle.run_seats.specs.declared.shared.bed.NotRested.TheVariants.{Refused, Taken, Blocked}
+use Rattle.run_seats.specs.Shared.Idling.{IsKeptOut, StaysAlong}
+use Rattle.run_seats.specs.Shared.Sharing.{MayClose, SharedView}
 use Rattle.camlheap_c.specs.declared.bed.CamlheapBed.{CamlheapBed}
 use Rattle.camlheap_c.specs.declared.handle.CamlheapDomain.{CamlheapDomain}
 use Rattle.camlheap_c.specs.Forms.{refused_form}

@@ -5,10 +5,10 @@ ghost use Rattle.camlheap_c.specs.Exported.{RefusesClose};
 
 use crate::codes::{AGAIN, DONE, MEMORY, NO_DOMAIN, NO_MORE, refusal_code};
 use crate::handle::CamlheapDomain;
-use heap_model::label::Label;
-use reach_paths::asking::{Reason, why};
-use reach_paths::exploring::Stop;
-use shared_runs::SharedRun;
+use model_core::label::Label;
+use model_laws::reach::asking::{Reason, why};
+use model_laws::reach::exploring::Stop;
+use run_seats::shared::SharedRun;
 use std::alloc::Global;
 
 /// What leads to a block: a way, nothing, or no field; and the way's register, and how many fields it has.

@@ -1,12 +1,12 @@
 //! A bed as its pointer, or none.
 ghost use Rattle.std.specs.Prelude.{◌≡◌, IfSome, None, true, false};
 ghost use Rattle.std.specs.Option.{MatchOption};
-ghost use Rattle.rest_beds.specs.Bedding.{BedView};
-ghost use Rattle.shared_runs.specs.Sharing.{SharedView};
-ghost use Rattle.shared_runs.specs.contracts.bed.RunBed.{the_row as bed_row};
+ghost use Rattle.run_seats.specs.Beds.Bedding.{BedView};
+ghost use Rattle.run_seats.specs.Shared.Sharing.{SharedView};
+ghost use Rattle.run_seats.specs.contracts.shared.bed.RunBed.{the_row as bed_row};
 
 use crate::loose::Loose;
-use shared_runs::RunBed;
+use run_seats::shared::RunBed;
 use std::alloc::Global;
 use std::marker::Model;
 
@@ -26,7 +26,7 @@ impl Model for CamlheapBed {
     ghost use base.Fml.{ftrue};
     ghost use Rattle.std_alloc.specs.Box.Ownership.{box_owns};
     ghost use Rattle.std.specs.contracts.impls.GlobalAllocator.TheImpl.{ghosts};
-    ghost use Rattle.shared_runs.specs.contracts.bed.RunBed.{the_row as bed_row};
+    ghost use Rattle.run_seats.specs.contracts.shared.bed.RunBed.{the_row as bed_row};
 
     ghost also_owns = { λ h. cond h.full (box_owns (ghosts.dealloc_token h.alloc) bed_row h.at h.value) ftrue };
 }

@@ -2,8 +2,8 @@
 ghost use Rattle.std.specs.Prelude.{◌≡◌, ◌+◌, ◌<◌};
 ghost use Rattle.camlheap_c.specs.Forms.{came_form, refused_form};
 
-use open_runs::{Came, Refusal};
-use shared_runs::Refused;
+use run_open::{Came, Refusal};
+use run_seats::shared::Refused;
 
 pub(crate) const DONE: u32 = 0;
 

@@ -2,10 +2,10 @@
 ghost use Rattle.std.specs.Prelude.{◌≡◌, pos};
 ghost use Rattle.camlheap_c.specs.Forms.{command_as, plain as plain_form, reply_form, stats_form};
 
-use heap_model::command::Command;
-use heap_model::label::Label;
-use heap_model::reply::Reply;
-use open_runs::Stats;
+use model_core::command::Command;
+use model_core::label::Label;
+use model_core::reply::Reply;
+use run_open::Stats;
 
 /// How large a heap is.
 #[repr(C)]

@@ -4,14 +4,14 @@
 //!
 //! [`camlheap_run`]: crate::driving::camlheap_run
 ghost use Rattle.std.specs.Prelude.{◌≡◌, ◌≢◌, ◌<◌, ◌≤◌, Some};
-ghost use Rattle.heap_model.specs.declared.command.Command.TheVariants as model;
+ghost use Rattle.model_core.specs.declared.command.Command.TheVariants as model;
 ghost use Rattle.camlheap_c.specs.Exported.{Begins, CallsDirectly, RefusesAs};
 
 use crate::codes::{AGAIN, DONE, NO_DOMAIN, refusal_code};
 use crate::crossing::{CamlheapReply, reply_of};
 use crate::handle::CamlheapDomain;
-use heap_model::command::Command;
-use shared_runs::SharedRun;
+use model_core::command::Command;
+use run_seats::shared::SharedRun;
 use std::alloc::Global;
 
 // Makes a command at once, where that can be, and else hands it in.

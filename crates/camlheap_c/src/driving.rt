@@ -6,7 +6,7 @@ ghost use Rattle.camlheap_c.specs.Forms.{command_as};
 use crate::codes::{AGAIN, DONE, NO_DOMAIN, UNFIT, refusal_code, turn_code};
 use crate::crossing::{CamlheapCommand, CamlheapReply, command_of, reply_of};
 use crate::handle::CamlheapDomain;
-use shared_runs::SharedRun;
+use run_seats::shared::SharedRun;
 use std::alloc::Global;
 
 // Hands in a command.

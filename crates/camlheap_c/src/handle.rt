@@ -1,11 +1,11 @@
 //! A domain as its pointer, or none.
 ghost use Rattle.std.specs.Prelude.{◌≡◌, IfSome, None, true, false};
 ghost use Rattle.std.specs.Option.{MatchOption};
-ghost use Rattle.shared_runs.specs.Sharing.{SharedView};
-ghost use Rattle.shared_runs.specs.contracts.shared.SharedRun.{the_row as run_row};
+ghost use Rattle.run_seats.specs.Shared.Sharing.{SharedView};
+ghost use Rattle.run_seats.specs.contracts.shared.shared.SharedRun.{the_row as run_row};
 
 use crate::loose::Loose;
-use shared_runs::SharedRun;
+use run_seats::shared::SharedRun;
 use std::alloc::Global;
 use std::marker::Model;
 
@@ -25,7 +25,7 @@ impl Model for CamlheapDomain {
     ghost use base.Fml.{ftrue};
     ghost use Rattle.std_alloc.specs.Box.Ownership.{box_owns};
     ghost use Rattle.std.specs.contracts.impls.GlobalAllocator.TheImpl.{ghosts};
-    ghost use Rattle.shared_runs.specs.contracts.shared.SharedRun.{the_row as run_row};
+    ghost use Rattle.run_seats.specs.contracts.shared.shared.SharedRun.{the_row as run_row};
 
     ghost also_owns = { λ h. cond h.full (box_owns (ghosts.dealloc_token h.alloc) run_row h.at h.value) ftrue };
 }

@@ -9,7 +9,7 @@ use crate::codes::{
     WAITING, refusal_code,
 };
 use crate::handle::CamlheapDomain;
-use shared_runs::{NoBed, NotRested, RunBed};
+use run_seats::shared::{NoBed, NotRested, RunBed};
 use std::alloc::Global;
 
 // Why a domain isn't put to rest, as a number.

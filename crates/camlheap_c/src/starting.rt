@@ -6,7 +6,7 @@ use crate::codes::{DONE, MEMORY, TOO_FEW_HANDLES, outside_code};
 use crate::crossing::CamlheapConfig;
 use crate::handle::CamlheapDomain;
 use heap_rule::{Config, StartFault};
-use shared_runs::{SharedRun, make_all};
+use run_seats::shared::{SharedRun, make_all};
 use std::alloc::{AllocError, Global};
 
 /// The number of this library's interface.

@@ -3,16 +3,16 @@ use Rattle.std.proofs.Math.Nat.{le-max_left, le-max_right}
 use Rattle.std.proofs.Common.{◌≡◌, ℕ, zero, suc, ◌+◌, ◌<◌, ◌≤◌, Bool, true, false, List, [], ◌∷◌, length, map, refl, ap, ◌∙◌, arith, Some, None}
 use Rattle.std.specs.Prelude.{Option, cond, not, ◌&&◌, nat_le, slice_get, slice_index_or}
 use Rattle.std.proofs.lemmas.Bool.Decides.{nat_tests}
-use Rattle.heap_model.specs.declared.command.Command.{Command}
-use Rattle.heap_model.specs.Domains.{fits_domains}
+use Rattle.model_core.specs.declared.command.Command.{Command}
+use Rattle.model_core.specs.Domains.{fits_domains}
 use Rattle.heap_rule.specs.declared.config.Config.{Config}
 use Rattle.heap_rule.specs.Limits.{sizes_in, first_outside, first_of}
 use Rattle.heap_rule.specs.Opening.{opening_token, opening_tokens}
 use Rattle.heap_rule.specs.Token.{SharedHeap}
-use Rattle.mark_slices.specs.Decks.{DeckCounts, uncounted}
+use Rattle.gc_mark.specs.Decks.{DeckCounts, uncounted}
 use Rattle.camlheap_run.specs.Running.{MayBegin, deck_of, most_of, opened, opened_with, opened_each}
-use Rattle.domain_turns.specs.Runs.{ephemerons_in, registrations_in}
-use Rattle.domain_turns.proofs.Beginning.{opening_begins}
+use Rattle.run_turns.specs.Runs.{ephemerons_in, registrations_in}
+use Rattle.run_turns.proofs.Beginning.{opening_begins}
 use Rattle.camlheap_run.proofs.SectionLemmas.{IsFine}
 
 -- each of these domains may begin its section

@@ -3,10 +3,10 @@ use Rattle.std.proofs.Common.{◌≡◌, ◌∙◌, ℕ, zero, suc, ◌+◌, ◌
 use Rattle.std.specs.Prelude.{flat_map, slice_index_or}
 use Rattle.std.specs.List.{range_with_len}
 use Rattle.std.proofs.lemmas.List.Concat.{flat_map-append}
-use Rattle.heap_model.specs.declared.command.Command.{Command}
-use Rattle.heap_model.specs.Output.{line}
-use Rattle.heap_text.specs.declared.version.Version.TheVariants.{One}
-use Rattle.heap_text.specs.Spelling.{command_text, heading_text, lines_from, section_lines, spelling}
+use Rattle.model_core.specs.declared.command.Command.{Command}
+use Rattle.model_core.specs.Output.{line}
+use Rattle.text_script.specs.declared.version.Version.TheVariants.{One}
+use Rattle.text_script.specs.Spelling.{command_text, heading_text, lines_from, section_lines, spelling}
 use Rattle.camlheap_run.specs.Generating.{commands_text, section_text, sections_text}
 
 commands_lines : (cs : List Command) → flat_map line (map command_text cs) ≡ commands_text cs

@@ -4,16 +4,16 @@ use Rattle.std.specs.Prelude.{slice_get}
 use Rattle.std.specs.List.{AllByRecursion}
 use Rattle.std.proofs.lemmas.List.{take-append-drop, append-nil}
 use Rattle.std.proofs.lemmas.Option.{slice_get-get_or, slice_get_within}
-use Rattle.heap_model.specs.declared.command.Command.{Command}
-use Rattle.heap_model.specs.Output.{line}
-use Rattle.heap_text.specs.declared.version.Version.{Version}
-use Rattle.heap_text.specs.declared.version.Version.TheVariants.{One, Two, Three}
-use Rattle.heap_text.specs.Forms.{version_number}
-use Rattle.heap_text.specs.Script.{Scripted}
-use Rattle.heap_text.specs.Sections.{AreSectionTexts, IsSectionText, headed, text_with}
-use Rattle.heap_text.specs.Spelling.{Spells, heading_text, with_empty}
-use Rattle.heap_text.proofs.SoleLemmas.{sections_join}
-use Rattle.heap_text.proofs.FrontLemmas.{drop_on}
+use Rattle.model_core.specs.declared.command.Command.{Command}
+use Rattle.model_core.specs.Output.{line}
+use Rattle.text_script.specs.declared.version.Version.{Version}
+use Rattle.text_script.specs.declared.version.Version.TheVariants.{One, Two, Three}
+use Rattle.text_script.specs.Forms.{version_number}
+use Rattle.text_script.specs.Script.{Scripted}
+use Rattle.text_script.specs.Sections.{AreSectionTexts, IsSectionText, headed, text_with}
+use Rattle.text_script.specs.Spelling.{Spells, heading_text, with_empty}
+use Rattle.text_script.proofs.SoleLemmas.{sections_join}
+use Rattle.text_script.proofs.FrontLemmas.{drop_on}
 use Rattle.camlheap_run.specs.declared.cutting.Cut.{Cut}
 use Rattle.camlheap_run.specs.declared.reader.Reader.{Reader}
 use Rattle.camlheap_run.specs.Readers.{AreReadersDriven, IsCut, IsReaderOf, SameSection, SaysLines, lines_of, read_of, whole}

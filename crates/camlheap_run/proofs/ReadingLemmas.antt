@@ -5,19 +5,19 @@ use Rattle.std.specs.declared.option.Option.{Option}
 use Rattle.std.proofs.Math.Seq.{take-append_seam}
 use Rattle.std.proofs.lemmas.List.{take_all}
 use Rattle.std.specs.Io.KnownBytes.{IsAtEnd}
-use Rattle.heap_text.specs.declared.version.Version.TheVariants.{Three}
-use Rattle.heap_text.specs.declared.fault.ScriptFault.{ScriptFault}
-use Rattle.heap_text.specs.declared.fault.ScriptFault.TheVariants.{Syntax, Order, Range, TooLong, TooMany, Spawn, Memory}
-use Rattle.heap_text.specs.Script.{Scripted}
-use Rattle.heap_text.specs.Spelling.{IsUnlessMemory, Spells}
+use Rattle.text_script.specs.declared.version.Version.TheVariants.{Three}
+use Rattle.text_script.specs.declared.fault.ScriptFault.{ScriptFault}
+use Rattle.text_script.specs.declared.fault.ScriptFault.TheVariants.{Syntax, Order, Range, TooLong, TooMany, Spawn, Memory}
+use Rattle.text_script.specs.Script.{Scripted}
+use Rattle.text_script.specs.Spelling.{IsUnlessMemory, Spells}
 use Rattle.camlheap_run.specs.declared.reading.NoScript.{NoScript}
 use Rattle.camlheap_run.specs.declared.reading.NoReplay.{NoReplay}
 use Rattle.camlheap_run.specs.declared.reading.NoReplay.TheVariants.{Refused as ReplayRefused}
 use Rattle.camlheap_run.specs.declared.reading.NoScript.TheVariants.{Refused}
-use Rattle.heap_model.specs.declared.state.Sizes.{Sizes}
-use Rattle.schedule_text.specs.declared.replay.ReplayFault.{ReplayFault}
-use Rattle.schedule_text.specs.declared.replay.ReplayFault.TheVariants.{Memory as ReplayMemory, NotReplayable as NotReplayableOf, Schedule as ScheduleOf, Script as ScriptOf}
-use Rattle.schedule_text.specs.Replays.{IsUnlessNoMemory, Replayed, SpellsReplay}
+use Rattle.model_core.specs.declared.state.Sizes.{Sizes}
+use Rattle.text_schedule.specs.declared.text.replay.ReplayFault.{ReplayFault}
+use Rattle.text_schedule.specs.declared.text.replay.ReplayFault.TheVariants.{Memory as ReplayMemory, NotReplayable as NotReplayableOf, Schedule as ScheduleOf, Script as ScriptOf}
+use Rattle.text_schedule.specs.Text.Replays.{IsUnlessNoMemory, Replayed, SpellsReplay}
 use Rattle.table_text.specs.Texts.{Text}
 use Rattle.table_text.specs.Spelling.{Spells as SpellsTable}
 use Rattle.camlheap_run.specs.Reading.{AreRead, IsNoReplay, IsNoScript, most_read, Tells, TellsFirst, TellsReplay, TellsScript, TellsTable}

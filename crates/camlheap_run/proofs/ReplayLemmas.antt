@@ -3,47 +3,47 @@ use Rattle.std.proofs.Common.{◌≡◌, ◌≢◌, ℕ, zero, suc, ◌+◌, ◌
 use Rattle.std.specs.Prelude.{Option, flat_map, if◌then◌else◌, nat_le, not, slice_get, slice_index_or}
 use Rattle.std.proofs.lemmas.Bool.{and_parts}
 use Rattle.std.proofs.lemmas.Bool.Decides.{nat_tests}
-use Rattle.heap_model.specs.Domains.{fits_domains, reserve}
+use Rattle.model_core.specs.Domains.{fits_domains, reserve}
 use Rattle.std.specs.List.{AllByRecursion, list_all, range_with_len}
 use Rattle.std.specs.Io.KnownBytes.{Appends}
 use Rattle.std.proofs.lemmas.Option.{slice_get-get_or, slice_get_within}
-use Rattle.heap_model.specs.declared.command.Command.{Command}
-use Rattle.heap_model.specs.declared.reply.Reply.{Reply}
-use Rattle.heap_model.specs.declared.state.Sizes.{Sizes}
-use Rattle.heap_model.specs.History.{Legal, replies}
-use Rattle.heap_model.specs.Output.{line, output, printed, section_text}
-use Rattle.heap_text.specs.declared.version.Version.TheVariants.{Three}
-use Rattle.heap_text.specs.declared.fault.ScriptFault.{ScriptFault}
-use Rattle.heap_text.specs.declared.fault.ScriptFault.TheVariants.{Memory, TooLong}
-use Rattle.heap_text.specs.declared.version.Version.{Version}
-use Rattle.heap_text.specs.Faults.{first_fault}
-use Rattle.heap_text.specs.Spelling.{heading_text}
-use Rattle.heap_text.proofs.AnswerLemmas.{answered}
-use Rattle.heap_text.proofs.OnlyLemmas.{no_fault}
-use Rattle.heap_text.proofs.SpellsLemmas.{length-script}
+use Rattle.model_core.specs.declared.command.Command.{Command}
+use Rattle.model_core.specs.declared.reply.Reply.{Reply}
+use Rattle.model_core.specs.declared.state.Sizes.{Sizes}
+use Rattle.model_core.specs.History.{Legal, replies}
+use Rattle.model_core.specs.Output.{line, output, printed, section_text}
+use Rattle.text_script.specs.declared.version.Version.TheVariants.{Three}
+use Rattle.text_script.specs.declared.fault.ScriptFault.{ScriptFault}
+use Rattle.text_script.specs.declared.fault.ScriptFault.TheVariants.{Memory, TooLong}
+use Rattle.text_script.specs.declared.version.Version.{Version}
+use Rattle.text_script.specs.Faults.{first_fault}
+use Rattle.text_script.specs.Spelling.{heading_text}
+use Rattle.text_script.proofs.AnswerLemmas.{answered}
+use Rattle.text_script.proofs.OnlyLemmas.{no_fault}
+use Rattle.text_script.proofs.SpellsLemmas.{length-script}
 use Rattle.heap_rule.specs.declared.config.Config.{Config}
 use Rattle.heap_rule.specs.Limits.{sizes_in}
 use Rattle.heap_rule.specs.Opening.{opening_token}
 use Rattle.heap_rule.specs.Token.{SharedHeap}
 use Rattle.heap_rule.specs.Ending.{EndedHeap}
-use Rattle.domain_turns.specs.Runs.{RunView, IsRun}
-use Rattle.schedule_drive.specs.Following.{is_for}
-use Rattle.schedule_laws.specs.declared.items.Item.{Item}
-use Rattle.schedule_laws.specs.Pools.{pools_of}
-use Rattle.schedule_laws.specs.Scheduled.{scheduled}
-use Rattle.schedule_text.specs.declared.replay.ReplayFault.{ReplayFault}
-use Rattle.schedule_text.specs.declared.replay.ReplayFault.TheVariants.{Memory as ReplayMemory, NotReplayable as NotReplayableOf, Schedule as ScheduleOf, Script as ScriptOf}
-use Rattle.schedule_text.specs.Replays.{HasFault, IsTooLong, Replayed as ReplayedText, WrongScript}
-use Rattle.replay_turns.specs.Asking.{HasAmple}
-use Rattle.replay_turns.specs.Ends.{MayBeHeld}
-use Rattle.replay_turns.specs.Replayed.{IsUntouched, MayReplay, Replayed, commands_of}
+use Rattle.run_turns.specs.Runs.{RunView, IsRun}
+use Rattle.text_schedule.specs.Drive.Following.{is_for}
+use Rattle.model_traces.specs.declared.schedules.items.Item.{Item}
+use Rattle.model_traces.specs.Schedules.Pools.{pools_of}
+use Rattle.model_traces.specs.Schedules.Scheduled.{scheduled}
+use Rattle.text_schedule.specs.declared.text.replay.ReplayFault.{ReplayFault}
+use Rattle.text_schedule.specs.declared.text.replay.ReplayFault.TheVariants.{Memory as ReplayMemory, NotReplayable as NotReplayableOf, Schedule as ScheduleOf, Script as ScriptOf}
+use Rattle.text_schedule.specs.Text.Replays.{HasFault, IsTooLong, Replayed as ReplayedText, WrongScript}
+use Rattle.run_replay.specs.Asking.{HasAmple}
+use Rattle.run_replay.specs.Ends.{MayBeHeld}
+use Rattle.run_replay.specs.Replayed.{IsUntouched, MayReplay, Replayed, commands_of}
 use Rattle.camlheap_run.specs.declared.begin.Begun.{Begun}
 use Rattle.camlheap_run.specs.declared.report.Report.TheVariants.{Replies}
 use Rattle.camlheap_run.specs.Running.{IsBegun, IsHere, IsOver, IsPastOf, opened}
 use Rattle.camlheap_run.specs.declared.status.Status.TheVariants.{Script}
 use Rattle.camlheap_run.specs.Reading.{IsSpelled, IsSpelledReplay}
 use Rattle.camlheap_run.proofs.SectionLemmas.{older_script}
-use Rattle.heap_text.specs.Forms.{version_number}
+use Rattle.text_script.specs.Forms.{version_number}
 use Rattle.camlheap_run.specs.Replaying.{MayReplay as MayReplayOn, WritesFrontOfReplay, WritesReplay, fault_status}
 use Rattle.camlheap_run.specs.Writing.{AppendsFront, run_text}
 use Rattle.camlheap_run.proofs.BeginLemmas.{opened_at}

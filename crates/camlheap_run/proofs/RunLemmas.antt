@@ -5,23 +5,23 @@ use Rattle.std.specs.List.{AllByRecursion, list_any, range_with_len}
 use Rattle.std.specs.Io.KnownBytes.{Appends}
 use Rattle.std.proofs.lemmas.List.{take_all}
 use Rattle.std.proofs.lemmas.Option.{slice_get-get_or, slice_get_within}
-use Rattle.heap_model.specs.declared.command.Command.{Command}
-use Rattle.heap_model.specs.declared.entry.Entry.{Entry}
-use Rattle.heap_model.specs.declared.reply.Reply.{Reply}
-use Rattle.heap_model.specs.declared.state.Sizes.{Sizes}
-use Rattle.heap_model.specs.Domains.{opening}
-use Rattle.heap_model.specs.History.{Legal, commands, replies, replies_from, state_after}
-use Rattle.heap_model.specs.Output.{line, printed, ints_of, int_sum, section_text, summary_text}
-use Rattle.heap_model.proofs.Histories.HistoryLemmas.{commands-append, commands-others, replies_from-append, replies_from-others}
-use Rattle.heap_text.specs.Spelling.{heading_text}
+use Rattle.model_core.specs.declared.command.Command.{Command}
+use Rattle.model_core.specs.declared.entry.Entry.{Entry}
+use Rattle.model_core.specs.declared.reply.Reply.{Reply}
+use Rattle.model_core.specs.declared.state.Sizes.{Sizes}
+use Rattle.model_core.specs.Domains.{opening}
+use Rattle.model_core.specs.History.{Legal, commands, replies, replies_from, state_after}
+use Rattle.model_core.specs.Output.{line, printed, ints_of, int_sum, section_text, summary_text}
+use Rattle.model_core.proofs.Histories.HistoryLemmas.{commands-append, commands-others, replies_from-append, replies_from-others}
+use Rattle.text_script.specs.Spelling.{heading_text}
 use Rattle.heap_rule.specs.declared.config.Config.{Config}
 use Rattle.heap_rule.specs.Limits.{sizes_in}
 use Rattle.heap_rule.specs.Opening.{opening_token, opening_tokens}
 use Rattle.heap_rule.specs.Token.{Token, SharedHeap, IsIn}
 use Rattle.heap_rule.specs.Ending.{EndedHeap, AllIn, AllBegin, Begins}
-use Rattle.domain_turns.specs.declared.supply.Supply.{Supply}
-use Rattle.domain_turns.specs.declared.supply.Supply.TheVariants.{Listed}
-use Rattle.domain_turns.specs.Runs.{AreKept, RunView, EndsIn, GoesOn, IsRun, is_end_of}
+use Rattle.run_turns.specs.declared.supply.Supply.{Supply}
+use Rattle.run_turns.specs.declared.supply.Supply.TheVariants.{Listed}
+use Rattle.run_turns.specs.Runs.{AreKept, RunView, EndsIn, GoesOn, IsRun, is_end_of}
 use Rattle.camlheap_run.specs.declared.begin.Begun.{Begun}
 use Rattle.camlheap_run.specs.declared.report.Report.{Report}
 use Rattle.camlheap_run.specs.declared.report.Report.TheVariants.{Replies, Summary}

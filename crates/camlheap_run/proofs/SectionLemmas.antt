@@ -7,28 +7,28 @@ use Rattle.std.proofs.Math.Nat.{max-le}
 use Rattle.std.specs.Prelude.{Bool, false, not, nat_le, Option, Some, None, if◌then◌else◌}
 use Rattle.heap_rule.specs.declared.config.Config.{Config}
 use Rattle.heap_rule.specs.Limits.{first_of, first_outside, outside_rooms, sizes_in}
-use Rattle.heap_model.specs.Domains.{first_outside as outside_sizes}
+use Rattle.model_core.specs.Domains.{first_outside as outside_sizes}
 use Rattle.std.proofs.lemmas.Bool.Decides.{nat_tests}
 use Rattle.std.proofs.lemmas.Int.{ints}
 use Rattle.std.proofs.lemmas.Bool.{and_parts as both}
-use Rattle.heap_model.specs.declared.command.Command.{Command}
-use Rattle.heap_model.specs.declared.command.Command.TheVariants.{PutInt, Copy, Forget, Alloc, AllocMaj, Load, Store, Raw, Cas, Ephe, SetKey, UnsetKey, GetKey, CheckKey, SetData, UnsetData, GetData, CheckData, Finalise, FinaliseLast, Poll, Minor, Major, FullMajor, Spawn, Argument, PutResult, Join}
-use Rattle.heap_text.specs.declared.form.Operand.TheVariants.{Register, Tag, RawTag, FieldCount, KeyCount, Index, FinaliserNumber, Integer, Section}
-use Rattle.domain_turns.specs.Tries.{FitsHeap, ephemerons_of}
-use Rattle.domain_turns.specs.Runs.{AllFit, ephemerons_in, registrations_in}
-use Rattle.domain_turns.proofs.Owing.{registrations_few}
+use Rattle.model_core.specs.declared.command.Command.{Command}
+use Rattle.model_core.specs.declared.command.Command.TheVariants.{PutInt, Copy, Forget, Alloc, AllocMaj, Load, Store, Raw, Cas, Ephe, SetKey, UnsetKey, GetKey, CheckKey, SetData, UnsetData, GetData, CheckData, Finalise, FinaliseLast, Poll, Minor, Major, FullMajor, Spawn, Argument, PutResult, Join}
+use Rattle.text_script.specs.declared.form.Operand.TheVariants.{Register, Tag, RawTag, FieldCount, KeyCount, Index, FinaliserNumber, Integer, Section}
+use Rattle.run_turns.specs.Tries.{FitsHeap, ephemerons_of}
+use Rattle.run_turns.specs.Runs.{AllFit, ephemerons_in, registrations_in}
+use Rattle.run_turns.proofs.Owing.{registrations_few}
 use Rattle.camlheap_run.specs.Reading.{IsSpelled, IsSpelledScript}
 use Rattle.camlheap_run.specs.Running.{AreShort, most_of}
-use Rattle.domain_turns.specs.declared.supply.Supply.TheVariants.{Section as SectionSupply}
-use Rattle.domain_turns.specs.Sections.{AllFitIn, FitsSection}
-use Rattle.heap_text.specs.Spelling.{IsWritten, Spells}
-use Rattle.heap_text.proofs.SpellsLemmas.{length-script}
-use Rattle.spawned_scripts.specs.Reads.{IsRead}
-use Rattle.heap_text.specs.declared.version.Version.{Version}
-use Rattle.heap_text.specs.declared.version.Version.TheVariants.{One, Two, Three}
-use Rattle.heap_text.specs.Script.{Scripted}
-use Rattle.heap_text.specs.Forms.{form, parts, is_built, all_fit, is_writable, fits, version_number, last_register, most_fields}
-use Rattle.heap_text.proofs.ScriptLemmas.{total-cons}
+use Rattle.run_turns.specs.declared.supply.Supply.TheVariants.{Section as SectionSupply}
+use Rattle.run_turns.specs.Sections.{AllFitIn, FitsSection}
+use Rattle.text_script.specs.Spelling.{IsWritten, Spells}
+use Rattle.text_script.proofs.SpellsLemmas.{length-script}
+use Rattle.text_script.specs.Spawned.Reads.{IsRead}
+use Rattle.text_script.specs.declared.version.Version.{Version}
+use Rattle.text_script.specs.declared.version.Version.TheVariants.{One, Two, Three}
+use Rattle.text_script.specs.Script.{Scripted}
+use Rattle.text_script.specs.Forms.{form, parts, is_built, all_fit, is_writable, fits, version_number, last_register, most_fields}
+use Rattle.text_script.proofs.ScriptLemmas.{total-cons}
 
 -- a number in a range that begins at 0 or later
 in_range : (low high n : ℕ) → (int_le (pos low) (pos n) && int_le (pos n) (pos high)) ≡ true → (low ≤ n) × (n ≤ high)

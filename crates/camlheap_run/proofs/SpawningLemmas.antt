@@ -6,41 +6,41 @@ use Rattle.std.specs.List.{list_any}
 use Rattle.std.specs.Io.KnownBytes.{Appends}
 use Rattle.std.proofs.lemmas.List.{take_all}
 use Rattle.std.proofs.lemmas.Option.{none-some, same_Some, slice_get-get_or, slice_get_within}
-use Rattle.heap_model.specs.declared.command.Command.{Command}
-use Rattle.heap_model.specs.declared.entry.Entry.{Entry}
-use Rattle.heap_model.specs.declared.reply.Reply.{Reply}
-use Rattle.heap_model.specs.declared.state.Sizes.{Sizes}
-use Rattle.heap_model.specs.Domains.{IsWithinLimits, opening}
-use Rattle.heap_model.specs.Fronts.{IsFrontOf}
-use Rattle.heap_model.specs.History.{Legal, state_after}
-use Rattle.heap_model.specs.Output.{line, output, printed}
-use Rattle.heap_text.specs.declared.version.Version.{Version}
-use Rattle.heap_text.specs.declared.version.Version.TheVariants.{One, Two, Three}
-use Rattle.heap_text.specs.Forms.{version_number}
-use Rattle.heap_text.specs.Script.{Scripted}
-use Rattle.heap_text.specs.Spawning.{is_spawned}
-use Rattle.heap_text.specs.Spelling.{heading_text}
+use Rattle.model_core.specs.declared.command.Command.{Command}
+use Rattle.model_core.specs.declared.entry.Entry.{Entry}
+use Rattle.model_core.specs.declared.reply.Reply.{Reply}
+use Rattle.model_core.specs.declared.state.Sizes.{Sizes}
+use Rattle.model_core.specs.Domains.{IsWithinLimits, opening}
+use Rattle.model_core.specs.Fronts.{IsFrontOf}
+use Rattle.model_core.specs.History.{Legal, state_after}
+use Rattle.model_core.specs.Output.{line, output, printed}
+use Rattle.text_script.specs.declared.version.Version.{Version}
+use Rattle.text_script.specs.declared.version.Version.TheVariants.{One, Two, Three}
+use Rattle.text_script.specs.Forms.{version_number}
+use Rattle.text_script.specs.Script.{Scripted}
+use Rattle.text_script.specs.Spawning.{is_spawned}
+use Rattle.text_script.specs.Spelling.{heading_text}
 use Rattle.heap_rule.specs.declared.config.Config.{Config}
 use Rattle.heap_rule.specs.Limits.{first_outside, sizes_in}
 use Rattle.heap_rule.specs.Token.{Token, SharedHeap, IsIn}
 use Rattle.heap_rule.proofs.Sizes.{within as within_limits}
 use Rattle.heap_rule.specs.Ending.{EndedHeap, Begins}
-use Rattle.mark_slices.specs.Decks.{DeckCounts, uncounted}
-use Rattle.spawn_laws.specs.Expansion.{IsScriptRun, IsSection, steps_from, AreFitting}
-use Rattle.spawn_laws.specs.Hidden.{prelude}
-use Rattle.spawn_laws.specs.Printed.{printed_replies, spawning_output, spawning_section_text}
-use Rattle.spawn_laws.specs.Joined.{IsJoined}
-use Rattle.spawn_laws.specs.Progress.{IsSoFar}
-use Rattle.spawn_laws.proofs.Progressing.{whole_spawned, whole_first}
-use Rattle.domain_spawn.specs.Opening.{IsOpened}
-use Rattle.domain_turns.specs.declared.place.Place.{Place}
-use Rattle.domain_turns.specs.declared.place.Place.TheVariants.{AsEver, Before, Within, Behind}
-use Rattle.domain_turns.specs.declared.supply.Supply.TheVariants.{Section}
-use Rattle.domain_turns.specs.Runs.{RunView, IsRun, ephemerons_in, first_place, is_end_of, registrations_in}
-use Rattle.domain_turns.specs.Sections.{AllFitIn, IsInSection, IsTold, is_spawned_at, place_in}
-use Rattle.domain_turns.proofs.Opened.{opened_begins}
-use Rattle.spawned_scripts.specs.Reads.{IsRead, HasMadeSection, AreTold as FrontsAreTold}
-use Rattle.spawned_scripts.proofs.Reading.{join, fronts}
+use Rattle.gc_mark.specs.Decks.{DeckCounts, uncounted}
+use Rattle.model_traces.specs.Spawns.Expansion.{IsScriptRun, IsSection, steps_from, AreFitting}
+use Rattle.model_traces.specs.Spawns.Hidden.{prelude}
+use Rattle.model_traces.specs.Spawns.Printed.{printed_replies, spawning_output, spawning_section_text}
+use Rattle.model_traces.specs.Spawns.Joined.{IsJoined}
+use Rattle.model_traces.specs.Spawns.Progress.{IsSoFar}
+use Rattle.model_traces.proofs.OfSpawns.Progressing.{whole_spawned, whole_first}
+use Rattle.do_spawn.specs.Opening.{IsOpened}
+use Rattle.run_turns.specs.declared.place.Place.{Place}
+use Rattle.run_turns.specs.declared.place.Place.TheVariants.{AsEver, Before, Within, Behind}
+use Rattle.run_turns.specs.declared.supply.Supply.TheVariants.{Section}
+use Rattle.run_turns.specs.Runs.{RunView, IsRun, ephemerons_in, first_place, is_end_of, registrations_in}
+use Rattle.run_turns.specs.Sections.{AllFitIn, IsInSection, IsTold, is_spawned_at, place_in}
+use Rattle.run_turns.proofs.Opened.{opened_begins}
+use Rattle.text_script.specs.Spawned.Reads.{IsRead, HasMadeSection, AreTold as FrontsAreTold}
+use Rattle.text_script.proofs.OfSpawned.Reading.{join, fronts}
 use Rattle.camlheap_run.specs.declared.begin.Begun.{Begun}
 use Rattle.camlheap_run.specs.declared.report.Report.TheVariants.{Replies}
 use Rattle.camlheap_run.specs.Run.{IsRunOf, IsSpawningRunOf, is_run_of, output_of}

@@ -5,7 +5,7 @@ use Rattle.std.specs.Int.{int_rem_euclid}
 use Rattle.std.proofs.lemmas.Int.{ints, int_rem_euclid_is}
 use Rattle.std.proofs.lemmas.List.Sums.{fold-append}
 use Rattle.std.proofs.Math.Nat.{mod-add-mod, add-mod-mod, mod-lt}
-use Rattle.heap_model.specs.Output.{int_sum}
+use Rattle.model_core.specs.Output.{int_sum}
 use Rattle.camlheap_run.specs.Writing.{sum_with}
 
 abbrev remainder : ℤ → ℕ

@@ -2,23 +2,23 @@
 use Rattle.std.proofs.Common.{◌≡◌, ◌∙◌, ℕ, ◌*◌, ◌≤◌, List, [], ◌∷◌, ◌++◌, length, append_assoc, refl, sym, ap, subst, arith, Some, None}
 use Rattle.std.specs.Prelude.{Option}
 use Rattle.std.specs.Io.KnownBytes.{Appends}
-use Rattle.heap_model.specs.declared.entry.Entry.{Entry}
-use Rattle.heap_model.specs.declared.entry.Entry.TheVariants.{End}
-use Rattle.heap_model.specs.declared.state.Sizes.{Sizes}
-use Rattle.heap_model.specs.Domains.{class_count, sizes_of, first_outside as outside_sizes}
-use Rattle.heap_model.specs.History.{Legal}
+use Rattle.model_core.specs.declared.entry.Entry.{Entry}
+use Rattle.model_core.specs.declared.entry.Entry.TheVariants.{End}
+use Rattle.model_core.specs.declared.state.Sizes.{Sizes}
+use Rattle.model_core.specs.Domains.{class_count, sizes_of, first_outside as outside_sizes}
+use Rattle.model_core.specs.History.{Legal}
 use Rattle.heap_rule.specs.Ending.{EndedHeap}
 use Rattle.heap_rule.specs.Limits.{first_outside, sizes_in}
-use Rattle.heap_session.specs.Sessions.{SessionView, alone}
-use Rattle.heap_session.specs.Stopping.{StopsAfter}
+use Rattle.run_session.specs.Sessions.{SessionView, alone}
+use Rattle.run_session.specs.Stopping.{StopsAfter}
 use Rattle.table_text.specs.Texts.{Text, most_lines}
 use Rattle.table_text.specs.declared.version.Version.{Version}
 use Rattle.table_text.specs.declared.version.Version.TheVariants.{One, Two}
 use Rattle.table_text.specs.declared.line.TableLine.{TableLine}
 use Rattle.table_text.specs.declared.line.TableLine.TheVariants.{Key, Forget, Put, Get, Del, SetWeak, GetWeak, Count, FullMajor}
-use Rattle.table_machine.specs.declared.reply.LineReply.{LineReply}
-use Rattle.table_machine.specs.Machine.{all_made, made_by}
-use Rattle.table_machine.specs.Texts.{replies_text}
+use Rattle.table_text.specs.declared.machine.reply.LineReply.{LineReply}
+use Rattle.table_text.specs.Machine.Machine.{all_made, made_by}
+use Rattle.table_text.specs.Machine.Texts.{replies_text}
 use Rattle.table_run.specs.Running.{TextRuns, all_rooms, rooms_of}
 use Rattle.camlheap_run.specs.declared.table.Opened.{Opened}
 use Rattle.camlheap_run.specs.Tables.{HasRunTable, IsOpened, MayHoldTable, ephemerons_for, WritesFrontOfTable, WritesTable}

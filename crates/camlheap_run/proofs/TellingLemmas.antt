@@ -3,10 +3,10 @@ use Rattle.std.proofs.Common.{◌≡◌, ℕ, zero, suc, List, [], ◌∷◌, �
 use Rattle.std.proofs.lemmas.Option.{slice_get-get_or, slice_get_within}
 use Rattle.std.specs.Prelude.{flat_map, slice_get, codes, decimal}
 use Rattle.std.specs.List.{AllByRecursion}
-use Rattle.heap_model.specs.declared.reply.Reply.{Reply}
-use Rattle.heap_model.specs.Output.{line, printed, ints_of, int_sum}
-use Rattle.heap_text.specs.Spelling.{heading_text}
-use Rattle.domain_turns.specs.Runs.{RunView, GoesOn}
+use Rattle.model_core.specs.declared.reply.Reply.{Reply}
+use Rattle.model_core.specs.Output.{line, printed, ints_of, int_sum}
+use Rattle.text_script.specs.Spelling.{heading_text}
+use Rattle.run_turns.specs.Runs.{RunView, GoesOn}
 use Rattle.heap_rule.specs.Token.{SharedHeap, IsIn}
 use Rattle.camlheap_run.specs.declared.report.Report.{Report}
 use Rattle.camlheap_run.specs.declared.report.Report.TheVariants.{Replies, Summary}

@@ -1,8 +1,8 @@
 -- The sizes of a heap that words ask for are within the limits.
 use Rattle.std.proofs.Common.{◌≡◌, ℕ, zero, suc, ◌≤◌, refl, arith, None}
-use Rattle.heap_model.specs.Domains.{class_count, first_outside, sizes_of}
-use Rattle.command_line.specs.declared.job.Generated.{Generated}
-use Rattle.command_line.specs.Jobs.{IsGenerable, load_sizes}
+use Rattle.model_core.specs.Domains.{class_count, first_outside, sizes_of}
+use Rattle.text_script.specs.declared.words.job.Generated.{Generated}
+use Rattle.text_script.specs.Words.Jobs.{IsGenerable, load_sizes}
 use Rattle.camlheap_run.specs.Running.{AreRunSizes}
 
 -- the usual sizes fit each number of domains

@@ -2,13 +2,13 @@
 use Rattle.std.specs.Prelude.{◌≡◌, ℕ, List, [], ◌++◌, flat_map, slice_index_or, Option, None}
 use Rattle.std.specs.List.{range_with_len}
 use Rattle.std.specs.Io.KnownBytes.{Appends}
-use Rattle.heap_model.specs.declared.command.Command.{Command}
-use Rattle.heap_model.specs.Output.{line}
+use Rattle.model_core.specs.declared.command.Command.{Command}
+use Rattle.model_core.specs.Output.{line}
 use Rattle.heap_rule.specs.Ending.{EndedHeap}
-use Rattle.heap_text.specs.declared.version.Version.TheVariants.{One}
-use Rattle.heap_text.specs.Generated.{generated}
-use Rattle.heap_text.specs.Spelling.{command_text, heading_text, spelling}
-use Rattle.command_line.specs.declared.job.Generated.{Generated}
+use Rattle.text_script.specs.declared.version.Version.TheVariants.{One}
+use Rattle.text_script.specs.Generated.{generated}
+use Rattle.text_script.specs.Spelling.{command_text, heading_text, spelling}
+use Rattle.text_script.specs.declared.words.job.Generated.{Generated}
 use Rattle.camlheap_run.specs.Writing.{AppendsFront}
 
 -- the lines of commands

@@ -1,17 +1,17 @@
 -- What the top call has done by the end. Where the source tells its bytes they are those that were read, and where the sink tells its own they have grown by those that were written.
 use Rattle.std.specs.Prelude.{◌≡◌, ℕ, ◌⊎◌, List, Option, Some}
 use Rattle.std.specs.Io.KnownBytes.{Appends}
-use Rattle.heap_model.specs.declared.command.Command.{Command}
-use Rattle.heap_model.specs.declared.entry.Entry.{Entry}
-use Rattle.heap_model.specs.declared.state.Sizes.{Sizes}
-use Rattle.heap_model.specs.Output.{summary}
+use Rattle.model_core.specs.declared.command.Command.{Command}
+use Rattle.model_core.specs.declared.entry.Entry.{Entry}
+use Rattle.model_core.specs.declared.state.Sizes.{Sizes}
+use Rattle.model_core.specs.Output.{summary}
 use Rattle.heap_rule.specs.Ending.{EndedHeap}
 use Rattle.camlheap_run.specs.declared.status.Status.{Status}
 use Rattle.camlheap_run.specs.declared.status.Status.TheVariants.{Done, Usage, Schedule, NotReplayable, WriteFault, Memory}
-use Rattle.command_line.specs.declared.job.Generated.{Generated}
-use Rattle.command_line.specs.Jobs.{load_sizes}
+use Rattle.text_script.specs.declared.words.job.Generated.{Generated}
+use Rattle.text_script.specs.Words.Jobs.{load_sizes}
 use Rattle.camlheap_run.specs.Generating.{script_of}
-use Rattle.heap_text.specs.Script.{Scripted}
+use Rattle.text_script.specs.Script.{Scripted}
 use Rattle.camlheap_run.specs.Reading.{ReadsScript}
 use Rattle.camlheap_run.specs.Writing.{AppendsFront}
 use Rattle.camlheap_run.specs.Run.{IsRunOf, is_run_of, output_of}

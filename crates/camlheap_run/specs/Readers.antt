@@ -3,12 +3,12 @@ use Rattle.std.specs.Prelude.{◌≡◌, ◌≢◌, ℕ, ◌-◌, ◌<◌, ◌�
 use Rattle.std.specs.Global.{Global}
 use Rattle.std.proofs.Common.{◌∙◌}
 use Rattle.std.specs.List.{AllByRecursion}
-use Rattle.heap_text.specs.declared.section.NoSection.{NoSection}
-use Rattle.heap_text.specs.declared.version.Version.{Version}
-use Rattle.heap_text.specs.declared.version.Version.TheVariants.{Three}
-use Rattle.heap_text.specs.Sections.{IsSectionText, text_with}
-use Rattle.heap_model.specs.declared.command.Command.{Command}
-use Rattle.thread_drive.specs.Driven.{Driven}
+use Rattle.text_script.specs.declared.section.NoSection.{NoSection}
+use Rattle.text_script.specs.declared.version.Version.{Version}
+use Rattle.text_script.specs.declared.version.Version.TheVariants.{Three}
+use Rattle.text_script.specs.Sections.{IsSectionText, text_with}
+use Rattle.model_core.specs.declared.command.Command.{Command}
+use Rattle.run_threads.specs.Driven.{Driven}
 use Rattle.camlheap_run.specs.declared.reader.Reader.{Reader}
 use Rattle.camlheap_run.specs.declared.cutting.Cut.{Cut}
 

@@ -1,20 +1,20 @@
 -- What is read of a source. Where the source tells its bytes, these are the bytes that it had left.
 use Rattle.std.specs.Prelude.{◌≡◌, ◌≢◌, ℕ, ◌≤◌, ◌⊎◌, List, length, take, Option, None, Some}
 use Rattle.std.specs.Io.KnownBytes.{Consumes, IsAtEnd}
-use Rattle.heap_text.specs.declared.version.Version.TheVariants.{Two, Three}
-use Rattle.heap_text.specs.Script.{Scripted}
-use Rattle.heap_text.specs.declared.fault.ScriptFault.{ScriptFault}
-use Rattle.heap_text.specs.declared.fault.ScriptFault.TheVariants.{Memory}
+use Rattle.text_script.specs.declared.version.Version.TheVariants.{Two, Three}
+use Rattle.text_script.specs.Script.{Scripted}
+use Rattle.text_script.specs.declared.fault.ScriptFault.{ScriptFault}
+use Rattle.text_script.specs.declared.fault.ScriptFault.TheVariants.{Memory}
 use Rattle.camlheap_run.specs.declared.reading.NoScript.{NoScript}
 use Rattle.camlheap_run.specs.declared.reading.NoScript.TheVariants.{ReadFault, Refused, Memory as NoMemory}
 use Rattle.camlheap_run.specs.declared.reading.NoReplay.{NoReplay}
 use Rattle.camlheap_run.specs.declared.reading.NoReplay.TheVariants.{ReadFault as NoReplayRead, Refused as ReplayRefused, Memory as NoReplayMemory}
-use Rattle.heap_text.specs.Spelling.{Spells}
-use Rattle.heap_text.specs.Faults.{first_fault}
-use Rattle.heap_model.specs.declared.state.Sizes.{Sizes}
-use Rattle.schedule_text.specs.declared.replay.ReplayFault.{ReplayFault}
-use Rattle.schedule_text.specs.declared.replay.ReplayFault.TheVariants.{Memory as ReplayMemory}
-use Rattle.schedule_text.specs.Replays.{HasFault, Replayed, SpellsReplay}
+use Rattle.text_script.specs.Spelling.{Spells}
+use Rattle.text_script.specs.Faults.{first_fault}
+use Rattle.model_core.specs.declared.state.Sizes.{Sizes}
+use Rattle.text_schedule.specs.declared.text.replay.ReplayFault.{ReplayFault}
+use Rattle.text_schedule.specs.declared.text.replay.ReplayFault.TheVariants.{Memory as ReplayMemory}
+use Rattle.text_schedule.specs.Text.Replays.{HasFault, Replayed, SpellsReplay}
 use Rattle.table_text.specs.Texts.{Text}
 use Rattle.table_text.specs.Spelling.{Spells as SpellsTable}
 

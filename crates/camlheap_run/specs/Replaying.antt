@@ -1,15 +1,15 @@
 -- A script that the program runs under a schedule.
 use Rattle.std.specs.Prelude.{◌≡◌, ℕ, List, Option}
 use Rattle.std.specs.Io.KnownBytes.{Appends}
-use Rattle.heap_model.specs.declared.state.Sizes.{Sizes}
-use Rattle.heap_model.specs.Domains.{class_count}
-use Rattle.heap_model.specs.Output.{output}
+use Rattle.model_core.specs.declared.state.Sizes.{Sizes}
+use Rattle.model_core.specs.Domains.{class_count}
+use Rattle.model_core.specs.Output.{output}
 use Rattle.heap_rule.specs.Ending.{EndedHeap}
-use Rattle.schedule_laws.specs.Scheduled.{scheduled}
-use Rattle.schedule_text.specs.declared.replay.ReplayFault as replay_fault
-use Rattle.schedule_text.specs.declared.replay.ReplayFault.TheVariants.{Schedule as ScheduleOf, Script as ScriptOf, NotReplayable as NotReplayableOf, Memory as ReplayMemory}
-use Rattle.schedule_text.specs.Replays.{Replayed}
-use Rattle.command_line.specs.Jobs.{AreReplaySizes}
+use Rattle.model_traces.specs.Schedules.Scheduled.{scheduled}
+use Rattle.text_schedule.specs.declared.text.replay.ReplayFault as replay_fault
+use Rattle.text_schedule.specs.declared.text.replay.ReplayFault.TheVariants.{Schedule as ScheduleOf, Script as ScriptOf, NotReplayable as NotReplayableOf, Memory as ReplayMemory}
+use Rattle.text_schedule.specs.Text.Replays.{Replayed}
+use Rattle.text_script.specs.Words.Jobs.{AreReplaySizes}
 use Rattle.camlheap_run.specs.declared.status.Status.{Status}
 use Rattle.camlheap_run.specs.declared.status.Status.TheVariants.{Schedule, Script, NotReplayable, Memory}
 use Rattle.camlheap_run.specs.Outcome.{WritesFrontOfRun, WritesRun}

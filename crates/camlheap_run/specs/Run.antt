@@ -1,18 +1,18 @@
 -- A run of a script: one history in which each domain makes its section and ends.
 use Rattle.std.specs.Prelude.{◌≡◌, ℕ, ◌<◌, List, [], slice_index_or, IsTrue}
 use Rattle.std.specs.List.{list_any}
-use Rattle.heap_model.specs.declared.command.Command.{Command}
-use Rattle.heap_model.specs.declared.entry.Entry.{Entry}
-use Rattle.heap_model.specs.declared.state.Sizes.{Sizes}
-use Rattle.heap_model.specs.History.{Legal, commands}
-use Rattle.domain_turns.specs.Runs.{is_end_of}
-use Rattle.heap_text.specs.declared.version.Version.{Version}
-use Rattle.heap_text.specs.declared.version.Version.TheVariants.{Three}
-use Rattle.heap_text.specs.Spawning.{is_spawned}
-use Rattle.heap_model.specs.Output.{output}
-use Rattle.spawn_laws.specs.Expansion.{IsScriptRun}
-use Rattle.spawn_laws.specs.Joined.{IsJoined}
-use Rattle.spawn_laws.specs.Printed.{spawning_output}
+use Rattle.model_core.specs.declared.command.Command.{Command}
+use Rattle.model_core.specs.declared.entry.Entry.{Entry}
+use Rattle.model_core.specs.declared.state.Sizes.{Sizes}
+use Rattle.model_core.specs.History.{Legal, commands}
+use Rattle.run_turns.specs.Runs.{is_end_of}
+use Rattle.text_script.specs.declared.version.Version.{Version}
+use Rattle.text_script.specs.declared.version.Version.TheVariants.{Three}
+use Rattle.text_script.specs.Spawning.{is_spawned}
+use Rattle.model_core.specs.Output.{output}
+use Rattle.model_traces.specs.Spawns.Expansion.{IsScriptRun}
+use Rattle.model_traces.specs.Spawns.Joined.{IsJoined}
+use Rattle.model_traces.specs.Spawns.Printed.{spawning_output}
 
 -- a legal history in which each domain's commands are those of its section, each once and in order, and each domain ends
 pub record IsRunOf (z : Sizes) (script : List (List Command)) (history : List Entry) : Type 0 where

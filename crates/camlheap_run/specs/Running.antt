@@ -1,23 +1,23 @@
 -- The runs of a script's sections on one heap, from its start to its end.
 use Rattle.std.specs.Prelude.{◌≡◌, ℕ, ◌<◌, ◌≤◌, max, Bool, true, false, List, [], ◌∷◌, length, flat_map, map, slice_get, slice_index_or, vec_capacity, Option, None, Some}
 use Rattle.std.specs.List.{AllByRecursion}
-use Rattle.heap_model.specs.declared.command.Command.{Command}
-use Rattle.heap_model.specs.declared.state.Sizes.{Sizes}
-use Rattle.heap_model.specs.Domains.{class_count, first_outside}
-use Rattle.heap_model.specs.History.{Legal}
+use Rattle.model_core.specs.declared.command.Command.{Command}
+use Rattle.model_core.specs.declared.state.Sizes.{Sizes}
+use Rattle.model_core.specs.Domains.{class_count, first_outside}
+use Rattle.model_core.specs.History.{Legal}
 use Rattle.heap_rule.specs.declared.config.Config.{Config}
 use Rattle.heap_rule.specs.Limits.{sizes_in}
 use Rattle.heap_rule.specs.Opening.{opening_tokens}
 use Rattle.heap_rule.specs.Token.{Token, SharedHeap, IsIn}
 use Rattle.heap_rule.specs.Ending.{EndedHeap, AllBegin}
-use Rattle.domain_turns.specs.declared.supply.Supply.TheVariants.{Listed, Section}
-use Rattle.domain_turns.specs.Runs.{RunView, GoesOn, IsRun, CanBegin, CanBeginSection, first_place, standing, unturned}
-use Rattle.thread_drive.specs.Driven.{Driven}
-use Rattle.heap_text.specs.Spawning.{is_spawned}
-use Rattle.domain_spawn.specs.Opening.{IsOpened}
+use Rattle.run_turns.specs.declared.supply.Supply.TheVariants.{Listed, Section}
+use Rattle.run_turns.specs.Runs.{RunView, GoesOn, IsRun, CanBegin, CanBeginSection, first_place, standing, unturned}
+use Rattle.run_threads.specs.Driven.{Driven}
+use Rattle.text_script.specs.Spawning.{is_spawned}
+use Rattle.do_spawn.specs.Opening.{IsOpened}
 use Rattle.camlheap_run.specs.declared.report.Report.{Report}
 use Rattle.camlheap_run.specs.Writing.{run_text}
-use Rattle.mark_slices.specs.Decks.{DeckCounts, uncounted}
+use Rattle.gc_mark.specs.Decks.{DeckCounts, uncounted}
 use Rattle.camlheap_run.specs.declared.begin.Begun.{Begun}
 
 -- sizes that the words of a run may ask for

@@ -1,16 +1,16 @@
 -- A run of a text of a table by the program.
 use Rattle.std.specs.Prelude.{◌≡◌, ℕ, ◌+◌, ◌≤◌, List, [], length, vec_capacity, Option, Some}
 use Rattle.std.specs.Io.KnownBytes.{Appends}
-use Rattle.heap_model.specs.declared.state.Sizes.{Sizes}
-use Rattle.heap_model.specs.Domains.{class_count}
-use Rattle.heap_model.specs.History.{Legal}
+use Rattle.model_core.specs.declared.state.Sizes.{Sizes}
+use Rattle.model_core.specs.Domains.{class_count}
+use Rattle.model_core.specs.History.{Legal}
 use Rattle.heap_rule.specs.Ending.{EndedHeap}
-use Rattle.heap_session.specs.Sessions.{alone, fresh}
+use Rattle.run_session.specs.Sessions.{alone, fresh}
 use Rattle.table_text.specs.Texts.{Text}
-use Rattle.table_machine.specs.declared.reply.LineReply.{LineReply}
-use Rattle.table_machine.specs.Texts.{replies_text}
+use Rattle.table_text.specs.declared.machine.reply.LineReply.{LineReply}
+use Rattle.table_text.specs.Machine.Texts.{replies_text}
 use Rattle.table_run.specs.Running.{TextRuns}
-use Rattle.command_line.specs.Jobs.{AreTableSizes}
+use Rattle.text_script.specs.Words.Jobs.{AreTableSizes}
 use Rattle.camlheap_run.specs.declared.table.Opened.{Opened}
 use Rattle.camlheap_run.specs.Reading.{ReadsTable}
 use Rattle.camlheap_run.specs.Writing.{AppendsFront}

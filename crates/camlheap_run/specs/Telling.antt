@@ -1,10 +1,10 @@
 -- A run whose thread prints what a report has of it.
 use Rattle.std.specs.Prelude.{◌≡◌, ℕ, List, [], true, refl}
 use Rattle.std.proofs.Common.{◌∙◌}
-use Rattle.domain_turns.specs.Driving.{goes_nowhere, goes_further}
-use Rattle.domain_turns.specs.Runs.{GoesOn, RunView}
+use Rattle.run_turns.specs.Driving.{goes_nowhere, goes_further}
+use Rattle.run_turns.specs.Runs.{GoesOn, RunView}
 use Rattle.heap_rule.specs.Token.{SharedHeap, IsIn}
-use Rattle.thread_drive.specs.Driven.{Driven}
+use Rattle.run_threads.specs.Driven.{Driven}
 use Rattle.camlheap_run.specs.declared.report.Report.{Report}
 use Rattle.camlheap_run.specs.declared.telling.Teller.{Teller}
 use Rattle.camlheap_run.specs.declared.telling.Telling.{Telling}

@@ -1,14 +1,14 @@
 -- What the words of the command line ask for.
 use Rattle.std.specs.Prelude.{ℕ, List, Option, Some}
-use Rattle.heap_text.specs.declared.version.Version.TheVariants.{Three}
-use Rattle.heap_text.specs.declared.fault.ScriptFault.{ScriptFault}
-use Rattle.heap_text.specs.Faults.{first_fault as script_fault}
+use Rattle.text_script.specs.declared.version.Version.TheVariants.{Three}
+use Rattle.text_script.specs.declared.fault.ScriptFault.{ScriptFault}
+use Rattle.text_script.specs.Faults.{first_fault as script_fault}
 use Rattle.table_text.specs.Faults.{first_fault as table_fault}
-use Rattle.heap_model.specs.declared.state.Sizes.{Sizes}
-use Rattle.schedule_text.specs.declared.replay.ReplayFault.TheVariants.{Script}
-use Rattle.schedule_text.specs.Replays.{HasFault}
-use Rattle.command_line.specs.declared.job.Job.{Job}
-use Rattle.command_line.specs.declared.job.Job.TheVariants.{Run, Replay, Table}
+use Rattle.model_core.specs.declared.state.Sizes.{Sizes}
+use Rattle.text_schedule.specs.declared.text.replay.ReplayFault.TheVariants.{Script}
+use Rattle.text_schedule.specs.Text.Replays.{HasFault}
+use Rattle.text_script.specs.declared.words.job.Job.{Job}
+use Rattle.text_script.specs.declared.words.job.Job.TheVariants.{Run, Replay, Table}
 use Rattle.camlheap_run.specs.Reading.{IsFirst}
 
 -- the words ask that a text is read, and this holds of which fault its grammar says is the first of bytes

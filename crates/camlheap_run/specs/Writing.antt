@@ -2,11 +2,11 @@
 use Rattle.std.specs.Prelude.{◌≡◌, ℕ, ◌+◌, ◌%◌, ℤ, pos, unsigned_abs, List, ◌++◌, length, flat_map, codes, decimal, Option, Result, MatchResult}
 use Rattle.std.specs.Int.{int_rem_euclid}
 use Rattle.std.specs.Io.KnownBytes.{Appends}
-use Rattle.heap_model.specs.declared.entry.Entry.{Entry}
-use Rattle.heap_model.specs.declared.state.Sizes.{Sizes}
-use Rattle.heap_model.specs.Output.{line, printed, ints_of, int_sum, output, summary}
-use Rattle.heap_text.specs.Spelling.{heading_text}
-use Rattle.domain_turns.specs.Runs.{RunView}
+use Rattle.model_core.specs.declared.entry.Entry.{Entry}
+use Rattle.model_core.specs.declared.state.Sizes.{Sizes}
+use Rattle.model_core.specs.Output.{line, printed, ints_of, int_sum, output, summary}
+use Rattle.text_script.specs.Spelling.{heading_text}
+use Rattle.run_turns.specs.Runs.{RunView}
 use Rattle.camlheap_run.specs.declared.report.Report.{Report}
 use Rattle.camlheap_run.specs.declared.report.Report.TheVariants.{Replies, Summary}
 

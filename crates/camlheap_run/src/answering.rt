@@ -1,14 +1,14 @@
 //! Writes the replies of a text of a table, line by line.
 ghost use Rattle.std.specs.Prelude.{◌≡◌, ◌≤◌, take};
-ghost use Rattle.heap_model.specs.Output.{line};
-ghost use Rattle.outer_io.specs.Faults.{HasCause};
-ghost use Rattle.table_machine.specs.Texts.{line_reply_text, replies_text};
+ghost use Rattle.model_core.specs.Output.{line};
+ghost use Rattle.text_ends.specs.Faults.{HasCause};
+ghost use Rattle.table_text.specs.Machine.Texts.{line_reply_text, replies_text};
 ghost use Rattle.camlheap_run.specs.Writing.{Writes};
 
 use crate::putting::{put, put_integer, put_number};
 use crate::writing::write_all;
-use outer_io::{Failed, Sink};
-use table_machine::LineReply;
+use table_text::machine::LineReply;
+use text_ends::{Failed, Sink};
 
 // Puts what is written for a line, without its line feed, at the front of the buffer, and answers where it ends.
 fn put_answer(out: &mut [u8; 128], reply: LineReply) -> usize

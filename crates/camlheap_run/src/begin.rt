@@ -3,15 +3,15 @@ ghost use Rattle.std.specs.Prelude.{◌≡◌, ◌≤◌, None, map, IfOk};
 ghost use Rattle.heap_rule.specs.Limits.{first_outside, sizes_in};
 ghost use Rattle.camlheap_run.specs.Reading.{IsSpelled};
 ghost use Rattle.camlheap_run.specs.Running.{AreRunSizes, AreShort, IsBegun, MayBegin, deck_of, most_of, opened_each};
-ghost use Rattle.domain_turns.specs.Runs.{ephemerons_in, registrations_in};
+ghost use Rattle.run_turns.specs.Runs.{ephemerons_in, registrations_in};
 
-use domain_turns::DomainRun;
-use heap_model::command::Command;
-use heap_model::state::Sizes;
+use gc_mark::Hints;
 use heap_rule::{Config, Domain, Heap, StartFault};
-use heap_text::Script;
-use mark_slices::Hints;
+use model_core::command::Command;
+use model_core::state::Sizes;
+use run_turns::DomainRun;
 use std::alloc::{AllocError, Global};
+use text_script::Script;
 
 /// A heap with a run for each domain, none of which has made a command yet.
 #[derive(Drop)]

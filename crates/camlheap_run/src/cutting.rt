@@ -1,17 +1,17 @@
 //! A text is cut at its headings.
 ghost use Rattle.std.specs.Prelude.{◌≡◌, ◌≢◌, ◌≤◌, ◌<◌, ◌++◌, ℕ, length, map, drop, IfSome, IfOk};
-ghost use Rattle.heap_model.specs.Output.{line};
-ghost use Rattle.heap_text.specs.Forms.{first_line};
-ghost use Rattle.heap_text.specs.Spelling.{heading_text};
+ghost use Rattle.model_core.specs.Output.{line};
+ghost use Rattle.text_script.specs.Forms.{first_line};
+ghost use Rattle.text_script.specs.Spelling.{heading_text};
 ghost use Rattle.std.specs.List.{AllByRecursion};
-ghost use Rattle.heap_text.specs.Sections.{headed};
+ghost use Rattle.text_script.specs.Sections.{headed};
 ghost use Rattle.camlheap_run.specs.Readers.{IsCut, IsReaderOf, lines_of};
 
 use crate::reader::Reader;
 use crate::reading::MOST_READ;
-use heap_text::{Line, Version, print_heading};
 use memchr::memmem;
 use std::alloc::{AllocError, Global};
+use text_script::{Line, Version, print_heading};
 
 /// A text's version, and a reader of each of its sections.
 #[derive(Drop)]

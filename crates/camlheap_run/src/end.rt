@@ -1,11 +1,11 @@
 //! Ends a heap whose runs are over.
 ghost use Rattle.std.specs.Prelude.{◌≡◌, ◌<◌, ◌≤◌, [], map, length, vec_capacity};
 ghost use Rattle.std.specs.List.{AllByRecursion};
-ghost use Rattle.domain_turns.specs.Runs.{IsRun};
+ghost use Rattle.run_turns.specs.Runs.{IsRun};
 ghost use Rattle.camlheap_run.specs.Running.{IsHere, IsOver, IsPastOf, token_of};
 
-use domain_turns::DomainRun;
 use heap_rule::{Domain, Ended, Heap};
+use run_turns::DomainRun;
 
 // The domains of runs that are over, in order, in room that was taken before.
 fn domains_of(runs: Vec<DomainRun>, room: Vec<Domain>) -> Vec<Domain>
@@ -17,7 +17,7 @@ fn domains_of(runs: Vec<DomainRun>, room: Vec<Domain>) -> Vec<Domain>
 {
     let mut domains = room;
     'runs: for run in runs {
-        run.is_faithful();
+        run.shows_faithful();
         domains.push_reserved(run.into_domain());
     }
     domains

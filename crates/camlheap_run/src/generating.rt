@@ -1,22 +1,22 @@
 //! Writes a generated script.
 ghost use Rattle.std.specs.Prelude.{◌≡◌, ◌<◌, ◌≤◌, length, Option};
-ghost use Rattle.heap_model.specs.Output.{line};
+ghost use Rattle.model_core.specs.Output.{line};
 ghost use Rattle.heap_rule.specs.Ending.{EndedHeap};
-ghost use Rattle.heap_text.specs.Spelling.{command_text, spelling};
-ghost use Rattle.heap_text.specs.declared.version.Version.TheVariants.{One};
-ghost use Rattle.outer_io.specs.Faults.{HasCause, Rose};
-ghost use Rattle.command_line.specs.Jobs.{IsGenerable};
+ghost use Rattle.text_script.specs.Spelling.{command_text, spelling};
+ghost use Rattle.text_script.specs.declared.version.Version.TheVariants.{One};
+ghost use Rattle.text_ends.specs.Faults.{HasCause, Rose};
+ghost use Rattle.text_script.specs.Words.Jobs.{IsGenerable};
 ghost use Rattle.camlheap_run.specs.Generating.{section_text, sections_text, commands_text, WritesScript, WritesFrontOfScript};
 ghost use Rattle.camlheap_run.specs.Outcome.{IsRunAnswer, IsWriteFault};
 ghost use Rattle.camlheap_run.specs.Writing.{Writes};
 
 use crate::Status;
 use crate::writing::{write_all, write_heading};
-use command_line::Generated;
-use heap_model::command::Command;
-use heap_text::{Line, Script, generate, print_command};
-use outer_io::{Failed, Sink};
+use model_core::command::Command;
 use std::alloc::{AllocError, Global};
+use text_ends::{Failed, Sink};
+use text_script::words::Generated;
+use text_script::{Line, Script, generate, print_command};
 
 // Writes the line of a command.
 fn write_command<K: Sink>(out: &mut K, command: &Command) -> Result<(), Failed>

@@ -25,6 +25,6 @@ mod together;
 mod top;
 mod writing;
 
-pub use command_line::words_fit;
 pub use status::{Status, fault_line, status_number};
+pub use text_script::words::words_fit;
 pub use top::camlheap;

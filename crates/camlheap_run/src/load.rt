@@ -1,19 +1,19 @@
 //! Runs a generated script.
 ghost use Rattle.std.specs.Prelude.{◌≡◌, ◌<◌, ◌≤◌, Option};
 ghost use Rattle.heap_rule.specs.Ending.{EndedHeap};
-ghost use Rattle.outer_io.specs.Faults.{Rose};
-ghost use Rattle.command_line.specs.Jobs.{IsGenerable};
+ghost use Rattle.text_ends.specs.Faults.{Rose};
+ghost use Rattle.text_script.specs.Words.Jobs.{IsGenerable};
 ghost use Rattle.camlheap_run.specs.Outcome.{LoadsToEnd, StopsLoading, IsWriteFault, IsRunAnswer};
 
 use crate::Status;
 use crate::report::Report;
 use crate::run::run;
-use command_line::Generated;
-use heap_text::generate;
-use outer_io::{Gate, Sink};
 use std::alloc::{AllocError, Global};
 use std::sync::Wait;
 use std::thread::Threads;
+use text_ends::{Gate, Sink};
+use text_script::generate;
+use text_script::words::Generated;
 
 // Generates a script, runs it, and writes the summary. Nothing is read.
 pub(crate) fn load<R: Threads + Wait + Sync, K: Sink, G: Gate + Sync>(

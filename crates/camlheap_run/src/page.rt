@@ -1,9 +1,9 @@
 //! A page on which the lines of replies are gathered before a sink gets them.
 ghost use Rattle.std.specs.Prelude.{◌≡◌, ◌+◌, ◌≤◌, ◌++◌, length, take};
-ghost use Rattle.heap_model.specs.Output.{line, printed, reply_text};
+ghost use Rattle.model_core.specs.Output.{line, printed, reply_text};
 
-use heap_model::reply::Reply;
-use heap_text::print_reply;
+use model_core::reply::Reply;
+use text_script::print_reply;
 
 // How many lines a page has room for.
 pub(crate) const LINES: usize = 64;

@@ -2,10 +2,10 @@
 ghost use Rattle.std.specs.Prelude.{◌≡◌, ◌≤◌, ◌<◌, ℕ, None, IfOk};
 ghost use Rattle.camlheap_run.specs.Readers.{HasRead, IsReader, SameSection, same_further, same_section};
 
-use heap_model::command::Command;
-use heap_text::{NoSection, Version, read_section};
+use model_core::command::Command;
+use run_threads::{Trace, Went};
 use std::alloc::Global;
-use thread_drive::{Trace, Went};
+use text_script::{NoSection, Version, read_section};
 
 /// Where the lines of a section stand in a text, and what they were read as.
 #[derive(Drop)]

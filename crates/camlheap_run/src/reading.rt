@@ -1,26 +1,26 @@
 //! Reads the script, the text of a replay, or the text of a table that a source gives.
 ghost use Rattle.std.specs.Prelude.{◌≡◌, ◌<◌, ◌≤◌, List, IfOk, IfErr, IsErr, Some, Ok, Err};
-ghost use Rattle.outer_io.specs.Faults.{Rose};
-ghost use Rattle.heap_text.specs.Script.{Scripted};
-ghost use Rattle.heap_text.specs.Spelling.{IsUnlessMemory, Spells};
-ghost use Rattle.heap_text.specs.Faults.{first_fault, IsFaultUnlessMemory};
-ghost use Rattle.heap_text.specs.declared.version.Version.TheVariants.{Three};
-ghost use Rattle.heap_text.specs.declared.fault.ScriptFault.{ScriptFault};
-ghost use Rattle.schedule_text.specs.declared.replay.ReplayFault.{ReplayFault as declared_fault};
-ghost use Rattle.schedule_text.specs.Replays.{Replayed};
+ghost use Rattle.text_ends.specs.Faults.{Rose};
+ghost use Rattle.text_script.specs.Script.{Scripted};
+ghost use Rattle.text_script.specs.Spelling.{IsUnlessMemory, Spells};
+ghost use Rattle.text_script.specs.Faults.{first_fault, IsFaultUnlessMemory};
+ghost use Rattle.text_script.specs.declared.version.Version.TheVariants.{Three};
+ghost use Rattle.text_script.specs.declared.fault.ScriptFault.{ScriptFault};
+ghost use Rattle.text_schedule.specs.declared.text.replay.ReplayFault.{ReplayFault as declared_fault};
+ghost use Rattle.text_schedule.specs.Text.Replays.{Replayed};
 ghost use Rattle.table_text.specs.Texts.{Text};
 ghost use Rattle.table_text.specs.Faults.{first_fault as table_fault};
 ghost use Rattle.camlheap_run.specs.Reading.{AreRead, IsFirst, IsNoReplay, IsNoScript, ReadsFault, ReadsFirstFault, ReadsReplay, ReadsReplayFault, ReadsScript, ReadsTable, TellsFault, TellsFirst, TellsReplay, TellsReplayFault, TellsScript, TellsTable};
 
 use crate::together::read_together;
-use heap_model::state::Sizes;
-use heap_text::{Script, ScriptFault, Version, read_script};
-use outer_io::Source;
-use schedule_text::{Replay, ReplayFault, read_replay};
+use model_core::state::Sizes;
 use std::alloc::{AllocError, Global};
 use std::sync::Wait;
 use std::thread::Threads;
 use table_text::{TableText, read_table};
+use text_ends::Source;
+use text_schedule::text::{Replay, ReplayFault, read_replay};
+use text_script::{Script, ScriptFault, Version, read_script};
 
 /// Why not all bytes of a source were read.
 #[derive(Clone, Copy, Debug, PartialEq, Eq)]

@@ -1,7 +1,7 @@
 //! Runs a script under a schedule, and writes its replies.
 ghost use Rattle.std.specs.Prelude.{◌≡◌, ◌<◌, ◌≤◌, Option};
 ghost use Rattle.heap_rule.specs.Ending.{EndedHeap};
-ghost use Rattle.outer_io.specs.Faults.{Rose};
+ghost use Rattle.text_ends.specs.Faults.{Rose};
 ghost use Rattle.camlheap_run.specs.Outcome.{IsRunAnswer, IsWriteFault};
 ghost use Rattle.camlheap_run.specs.Reading.{IsSpelledReplay};
 ghost use Rattle.camlheap_run.specs.Replaying.{MayReplay, WritesFrontOfReplay, WritesReplay};
@@ -10,11 +10,11 @@ use crate::Status;
 use crate::begin::{Begun, begin, config_of};
 use crate::end::end;
 use crate::report::{Report, write_report};
-use heap_model::state::Sizes;
-use outer_io::{Failed, Sink};
-use replay_turns::replay_runs;
-use schedule_text::Replay;
+use model_core::state::Sizes;
+use run_replay::replay_runs;
 use std::alloc::{AllocError, Global};
+use text_ends::{Failed, Sink};
+use text_schedule::text::Replay;
 
 // Runs the sections of a script on one heap by a schedule, on this thread, and then writes the replies. All memory is
 // taken before the first command.

@@ -1,12 +1,12 @@
 //! What is written of a run.
 ghost use Rattle.std.specs.Prelude.{flat_map};
-ghost use Rattle.outer_io.specs.Faults.{HasCause};
+ghost use Rattle.text_ends.specs.Faults.{HasCause};
 ghost use Rattle.camlheap_run.specs.Writing.{Writes, run_text};
 
 use crate::summary::write_summary;
 use crate::writing::write_section;
-use domain_turns::DomainRun;
-use outer_io::{Failed, Sink};
+use run_turns::DomainRun;
+use text_ends::{Failed, Sink};
 
 /// What is written of a run.
 #[derive(Clone, Copy, Debug, PartialEq, Eq)]

@@ -3,10 +3,10 @@ ghost use Rattle.std.specs.Prelude.{◌≡◌, ◌<◌, ◌≤◌, ℕ, [], leng
 ghost use Rattle.std.specs.Io.KnownBytes.{Appends};
 ghost use Rattle.heap_rule.specs.Ending.{EndedHeap};
 ghost use Rattle.heap_rule.specs.Token.{IsIn};
-ghost use Rattle.domain_turns.specs.Runs.{RunView};
-ghost use Rattle.outer_io.specs.Faults.{Rose};
-ghost use Rattle.spawn_laws.specs.Printed.{spawning_output};
-ghost use Rattle.spawned_scripts.specs.Reads.{IsRead};
+ghost use Rattle.run_turns.specs.Runs.{RunView};
+ghost use Rattle.text_ends.specs.Faults.{Rose};
+ghost use Rattle.model_traces.specs.Spawns.Printed.{spawning_output};
+ghost use Rattle.text_script.specs.Spawned.Reads.{IsRead};
 ghost use Rattle.camlheap_run.specs.Reading.{IsSpelled, IsSpelledScript};
 ghost use Rattle.camlheap_run.specs.Run.{IsSpawningRunOf};
 ghost use Rattle.camlheap_run.specs.Running.{AreRunSizes, DrivesToEnd};
@@ -19,13 +19,13 @@ use crate::end::end;
 use crate::report::{Report, write_report};
 use crate::sectioning::begin_sections;
 use crate::telling::{Tellers, runs_of, tellers_of, write_tellers};
-use heap_model::state::Sizes;
-use heap_text::Script;
-use outer_io::{Failed, Gate, Sink};
+use model_core::state::Sizes;
+use run_threads::drive;
 use std::alloc::{AllocError, Global};
 use std::sync::Wait;
 use std::thread::Threads;
-use thread_drive::drive;
+use text_ends::{Failed, Gate, Sink};
+use text_script::Script;
 
 // Drives the runs of a heap to their ends, writes the report line by line, and ends the heap. No memory is taken.
 fn run_alone<R: Threads + Wait + Sync, K: Sink, G: Gate + Sync>(

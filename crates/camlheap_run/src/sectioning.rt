@@ -2,19 +2,19 @@
 //! a run is taken here.
 ghost use Rattle.std.specs.Prelude.{◌≡◌, ◌≤◌, ◌∷◌, [], None, map, IfOk};
 ghost use Rattle.heap_rule.specs.Limits.{first_outside};
-ghost use Rattle.heap_text.specs.Spawning.{is_spawned};
+ghost use Rattle.text_script.specs.Spawning.{is_spawned};
 ghost use Rattle.camlheap_run.specs.Running.{IsSectioned, MayBeginSections, deck_of, most_of, sectioned_each};
-ghost use Rattle.domain_turns.specs.Runs.{ephemerons_in, registrations_in};
-ghost use Rattle.spawned_scripts.specs.Reads.{IsRead};
+ghost use Rattle.run_turns.specs.Runs.{ephemerons_in, registrations_in};
+ghost use Rattle.text_script.specs.Spawned.Reads.{IsRead};
 
 use crate::begin::Begun;
-use domain_spawn::open_hidden;
-use domain_turns::DomainRun;
-use heap_model::command::Command;
+use do_spawn::open_hidden;
+use gc_mark::Hints;
 use heap_rule::{Config, Domain, Heap, StartFault};
-use heap_text::Script;
-use mark_slices::Hints;
+use model_core::command::Command;
+use run_turns::DomainRun;
 use std::alloc::{AllocError, Global};
+use text_script::Script;
 
 // Which sections spawns begin.
 fn spawned_in(script: &Script) -> [bool; 8]

@@ -1,14 +1,14 @@
 //! Runs the script, replays the script of a schedule, or runs the text of a table that a source gives.
 ghost use Rattle.std.specs.Prelude.{◌≡◌, ◌<◌, ◌≤◌, ℕ, List, Option};
-ghost use Rattle.heap_text.specs.Script.{Scripted};
+ghost use Rattle.text_script.specs.Script.{Scripted};
 ghost use Rattle.heap_rule.specs.Ending.{EndedHeap};
-ghost use Rattle.heap_text.specs.declared.fault.ScriptFault.{ScriptFault};
-ghost use Rattle.schedule_text.specs.declared.replay.ReplayFault as replay_fault;
-ghost use Rattle.schedule_text.specs.declared.replay.ReplayFault.TheVariants.{NotReplayable as NotReplayableOf, Schedule as ScheduleOf, Script as ScriptOf};
-ghost use Rattle.schedule_text.specs.Replays.{HasFault, Replayed};
+ghost use Rattle.text_script.specs.declared.fault.ScriptFault.{ScriptFault};
+ghost use Rattle.text_schedule.specs.declared.text.replay.ReplayFault as replay_fault;
+ghost use Rattle.text_schedule.specs.declared.text.replay.ReplayFault.TheVariants.{NotReplayable as NotReplayableOf, Schedule as ScheduleOf, Script as ScriptOf};
+ghost use Rattle.text_schedule.specs.Text.Replays.{HasFault, Replayed};
 ghost use Rattle.table_text.specs.Texts.{Text};
 ghost use Rattle.table_text.specs.Faults.{first_fault as table_fault};
-ghost use Rattle.outer_io.specs.Faults.{Rose};
+ghost use Rattle.text_ends.specs.Faults.{Rose};
 ghost use Rattle.camlheap_run.specs.Reading.{IsFirst, ReadsFault, ReadsFirstFault, ReadsReplayFault, TellsFault, TellsFirst, TellsReplay, TellsReplayFault, TellsScript, TellsTable};
 ghost use Rattle.camlheap_run.specs.Running.{AreRunSizes};
 ghost use Rattle.camlheap_run.specs.Replaying.{MayReplay, ReplaysToEnd, StopsReplaying, fault_status};
@@ -20,12 +20,12 @@ use crate::reading::{NoReplay, NoScript, replay_of, script_of, table_of};
 use crate::replaying::run_replay;
 use crate::run::run_script;
 use crate::table::run_table;
-use heap_model::state::Sizes;
-use outer_io::{Gate, Sink, Source};
-use schedule_text::ReplayFault;
+use model_core::state::Sizes;
 use std::alloc::Global;
 use std::sync::Wait;
 use std::thread::Threads;
+use text_ends::{Gate, Sink, Source};
+use text_schedule::text::ReplayFault;
 
 // Reads a script, runs it, and writes its replies.
 pub(crate) fn run_source<R: Threads + Wait + Sync, S: Source, K: Sink, G: Gate + Sync>(

@@ -1,11 +1,11 @@
 //! How a run of the program ended, as a number and as a line.
 ghost use Rattle.std.specs.Prelude.{◌≡◌, ◌≤◌, ◌++◌, take, drop, length, decimal, codes};
 ghost use Rattle.camlheap_run.specs.Status.{exit_number, line_of, fault_text};
-ghost use Rattle.heap_model.specs.Output.{line};
+ghost use Rattle.model_core.specs.Output.{line};
 
 use crate::putting::{put, put_number};
 use heap_rule::Ended;
-use heap_text::ScriptFault;
+use text_script::ScriptFault;
 
 /// How a run of the program ended.
 #[derive(Drop)]

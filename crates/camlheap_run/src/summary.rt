@@ -1,14 +1,14 @@
 //! The summary of a run: a line of figures for each domain.
 ghost use Rattle.std.specs.Prelude.{◌≡◌, ◌≤◌, ◌+◌, ◌++◌, take, length, decimal, flat_map};
-ghost use Rattle.heap_model.specs.Output.{ints_of, int_sum};
-ghost use Rattle.outer_io.specs.Faults.{HasCause};
+ghost use Rattle.model_core.specs.Output.{ints_of, int_sum};
+ghost use Rattle.text_ends.specs.Faults.{HasCause};
 ghost use Rattle.camlheap_run.specs.Writing.{Writes, run_summary, sum_with};
 
 use crate::putting::{put, put_number};
 use crate::writing::write_all;
-use domain_turns::DomainRun;
-use heap_model::reply::Reply;
-use outer_io::{Failed, Sink};
+use model_core::reply::Reply;
+use run_turns::DomainRun;
+use text_ends::{Failed, Sink};
 
 // The number by which sums are reduced.
 const MODULUS: i64 = 1_000_003;

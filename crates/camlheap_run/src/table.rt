@@ -1,23 +1,23 @@
 //! Runs a text of a table, and writes its replies.
 ghost use Rattle.std.specs.Prelude.{◌≡◌, ◌<◌, ◌≤◌, length, IfOk, Option};
 ghost use Rattle.heap_rule.specs.Ending.{EndedHeap};
-ghost use Rattle.outer_io.specs.Faults.{Rose};
+ghost use Rattle.text_ends.specs.Faults.{Rose};
 ghost use Rattle.table_text.specs.Texts.{most_lines};
 ghost use Rattle.camlheap_run.specs.Outcome.{IsRunAnswer, IsWriteFault};
 ghost use Rattle.camlheap_run.specs.Tables.{IsOpened, MayHoldTable, WritesFrontOfTable, WritesTable};
 
 use crate::Status;
 use crate::answering::write_answers;
-use heap_model::state::Sizes;
 use heap_rule::StartFault;
-use heap_session::TableSession;
-use outer_io::{Failed, Sink};
+use model_core::state::Sizes;
+use run_session::TableSession;
 use std::alloc::{AllocError, Global};
 use std::sync::Wait;
-use table_keepers::OneDomain;
-use table_machine::LineReply;
+use table_run::keepers::OneDomain;
 use table_run::run_text;
 use table_text::TableText;
+use table_text::machine::LineReply;
+use text_ends::{Failed, Sink};
 
 // How many slots the weak array has, each of them an ephemeron.
 const SLOTS: u32 = 16;

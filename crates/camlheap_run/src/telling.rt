@@ -2,19 +2,19 @@
 ghost use Rattle.std.specs.Prelude.{◌≡◌, ◌≢◌, ◌<◌, ◌≤◌, [], map, length, flat_map, vec_capacity, true, IfOk};
 ghost use Rattle.std.specs.List.{AllByRecursion};
 ghost use Rattle.heap_rule.specs.Token.{IsIn};
-ghost use Rattle.domain_turns.specs.Runs.{GoesOn};
-ghost use Rattle.outer_io.specs.Faults.{HasCause};
+ghost use Rattle.run_turns.specs.Runs.{GoesOn};
+ghost use Rattle.text_ends.specs.Faults.{HasCause};
 ghost use Rattle.camlheap_run.specs.Writing.{Writes};
 ghost use Rattle.camlheap_run.specs.Telling.{GoesOnTelling, IsBlank, IsTeller, Tells, run_of, teller_text, tells_further, tells_nowhere};
 
 use crate::report::{Report, write_run};
 use crate::text::Text;
 use crate::writing::write_all;
-use domain_turns::DomainRun;
 use heap_rule::Heap;
-use outer_io::{Failed, Sink};
+use run_threads::{Trace, Went};
+use run_turns::DomainRun;
 use std::alloc::{AllocError, Global};
-use thread_drive::{Trace, Went};
+use text_ends::{Failed, Sink};
 
 // The longest line of a reply that a heap gives: `int -` and 19 digits.
 const LONGEST_LINE: usize = 25;

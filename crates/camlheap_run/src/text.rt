@@ -2,10 +2,10 @@
 ghost use Rattle.std.specs.Prelude.{◌≡◌, ◌<◌, ◌≤◌, [], length, Some, vec_capacity, IfOk};
 ghost use Rattle.std.specs.Io.{WritesAtMost};
 ghost use Rattle.std.specs.Io.KnownBytes.{WriteAppends};
-ghost use Rattle.outer_io.specs.Faults.{HasCause};
+ghost use Rattle.text_ends.specs.Faults.{HasCause};
 
-use outer_io::{Failed, Sink};
 use std::alloc::{AllocError, Global};
+use text_ends::{Failed, Sink};
 
 /// A text whose room was reserved, as a sink. A piece for which no room is left fails.
 #[derive(Drop)]

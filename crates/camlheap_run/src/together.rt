@@ -1,18 +1,18 @@
 //! A script whose sections are read in threads.
 ghost use Rattle.std.specs.Prelude.{◌≡◌, ◌≤◌, map, IfSome, IfOk};
-ghost use Rattle.heap_text.specs.Spelling.{Spells};
-ghost use Rattle.heap_text.specs.declared.version.Version.TheVariants.{Three};
+ghost use Rattle.text_script.specs.Spelling.{Spells};
+ghost use Rattle.text_script.specs.declared.version.Version.TheVariants.{Three};
 ghost use Rattle.camlheap_run.specs.Readers.{read_of, whole};
 
 use crate::cutting::{Cut, cut_of};
 use crate::reader::Reader;
-use heap_model::command::Command;
-use heap_text::{NoSection, Script, join_sections};
-use outer_io::NoGate;
+use model_core::command::Command;
+use run_threads::drive;
 use std::alloc::{AllocError, Global};
 use std::sync::Wait;
 use std::thread::Threads;
-use thread_drive::drive;
+use text_ends::NoGate;
+use text_script::{NoSection, Script, join_sections};
 
 // The sections that readers have read, in order, if each has read its own.
 fn sections_of(alloc: Global, readers: Vec<Reader>) -> Result<Option<Vec<Vec<Command>>>, AllocError>

@@ -1,17 +1,17 @@
 //! The top call, by what the words ask for.
 ghost use Rattle.std.specs.Prelude.{◌≡◌, ◌≢◌, ◌<◌, ◌≤◌, ℕ, List, Option, None, Some, IsSome, map, string_bytes};
-ghost use Rattle.command_line.specs.Jobs.{asked_job};
-ghost use Rattle.command_line.specs.declared.job.Generated.{Generated};
-ghost use Rattle.heap_text.specs.Script.{Scripted};
-ghost use Rattle.heap_model.specs.declared.state.Sizes.{Sizes};
+ghost use Rattle.text_script.specs.Words.Jobs.{asked_job};
+ghost use Rattle.text_script.specs.declared.words.job.Generated.{Generated};
+ghost use Rattle.text_script.specs.Script.{Scripted};
+ghost use Rattle.model_core.specs.declared.state.Sizes.{Sizes};
 ghost use Rattle.heap_rule.specs.Ending.{EndedHeap};
-ghost use Rattle.heap_text.specs.declared.fault.ScriptFault.{ScriptFault};
-ghost use Rattle.schedule_text.specs.declared.replay.ReplayFault as replay_fault;
-ghost use Rattle.schedule_text.specs.declared.replay.ReplayFault.TheVariants.{NotReplayable as NotReplayableOf, Schedule as ScheduleOf};
-ghost use Rattle.schedule_text.specs.Replays.{Replayed};
+ghost use Rattle.text_script.specs.declared.fault.ScriptFault.{ScriptFault};
+ghost use Rattle.text_schedule.specs.declared.text.replay.ReplayFault as replay_fault;
+ghost use Rattle.text_schedule.specs.declared.text.replay.ReplayFault.TheVariants.{NotReplayable as NotReplayableOf, Schedule as ScheduleOf};
+ghost use Rattle.text_schedule.specs.Text.Replays.{Replayed};
 ghost use Rattle.table_text.specs.Texts.{Text};
 ghost use Rattle.table_text.specs.Faults.{first_fault as table_fault};
-ghost use Rattle.outer_io.specs.Faults.{Rose};
+ghost use Rattle.text_ends.specs.Faults.{Rose};
 ghost use Rattle.camlheap_run.specs.Generating.{WritesScript, WritesFrontOfScript};
 ghost use Rattle.camlheap_run.specs.Words.{AsksToRead, AsksToReplay, ReadsSource};
 ghost use Rattle.camlheap_run.specs.Reading.{IsFirst, ReadsFirstFault, ReadsReplayFault, TellsFault, TellsFirst, TellsReplay, TellsReplayFault, TellsScript, TellsTable};
@@ -23,11 +23,11 @@ use crate::Status;
 use crate::generating::generate_script;
 use crate::load::load;
 use crate::source::{run_replay_source, run_source, run_table_source};
-use command_line::{Job, read_words};
-use outer_io::{Gate, Sink, Source};
 use std::alloc::{AllocError, Global};
 use std::sync::Wait;
 use std::thread::Threads;
+use text_ends::{Gate, Sink, Source};
+use text_script::words::{Job, read_words};
 
 /// Does what the words ask for. `words` are the words of the command line behind the program's name, as
 /// [`words_fit`](crate::words_fit) has them:

@@ -1,14 +1,14 @@
 //! Hands text to a sink.
 ghost use Rattle.std.specs.Prelude.{◌++◌, length};
-ghost use Rattle.heap_model.specs.Output.{line, printed};
-ghost use Rattle.heap_text.specs.Spelling.{heading_text};
-ghost use Rattle.outer_io.specs.Faults.{HasCause};
+ghost use Rattle.model_core.specs.Output.{line, printed};
+ghost use Rattle.text_script.specs.Spelling.{heading_text};
+ghost use Rattle.text_ends.specs.Faults.{HasCause};
 ghost use Rattle.camlheap_run.specs.Writing.{Writes};
 
 use crate::page::{LINES, Page, put_lines};
-use heap_model::reply::Reply;
-use heap_text::{Line, print_heading};
-use outer_io::{Failed, Sink};
+use model_core::reply::Reply;
+use text_ends::{Failed, Sink};
+use text_script::{Line, print_heading};
 
 // Hands a text to the sink, and again what a write leaves of it.
 #[inline(always)]

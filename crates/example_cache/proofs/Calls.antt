@@ -1,28 +1,28 @@
 -- What each call of a cache answers and leaves.
 use Rattle.std.proofs.Common.{◌≡◌, ◌≢◌, ◌∙◌, ◌⊎◌, ◌-◌, ◌≤◌, inl, inr, ⊎_elim, ℕ, ◌+◌, ◌<◌, true, false, List, replicate, Option, Some, None, refl, ap, sym, subst, arith}
-use Rattle.heap_model.specs.declared.label.Label.{Label}
-use Rattle.command_counts.specs.Counts.{labels_of}
-use Rattle.heap_model.specs.declared.command.Command.{Command}
-use Rattle.heap_model.specs.declared.command.Command.TheVariants.{Alloc, Forget, FullMajor}
-use Rattle.heap_model.specs.declared.entry.Entry.{Entry}
-use Rattle.heap_model.specs.declared.graph.Value.{Value}
-use Rattle.heap_model.specs.declared.graph.Value.TheVariants.{Int, Block, Nothing}
-use Rattle.heap_model.specs.declared.reply.Reply.{Reply}
-use Rattle.heap_model.specs.declared.reply.Reply.TheVariants as reply
-use Rattle.heap_model.specs.declared.state.Sizes.{Sizes}
-use Rattle.heap_model.specs.Commands.{shown}
-use Rattle.heap_model.specs.Domains.{IsWithinLimits}
-use Rattle.heap_model.specs.Graph.{label_of}
-use Rattle.heap_model.specs.History.{IsPrefix, Legal}
+use Rattle.model_core.specs.declared.label.Label.{Label}
+use Rattle.model_core.specs.Counts.Counts.{labels_of}
+use Rattle.model_core.specs.declared.command.Command.{Command}
+use Rattle.model_core.specs.declared.command.Command.TheVariants.{Alloc, Forget, FullMajor}
+use Rattle.model_core.specs.declared.entry.Entry.{Entry}
+use Rattle.model_core.specs.declared.graph.Value.{Value}
+use Rattle.model_core.specs.declared.graph.Value.TheVariants.{Int, Block, Nothing}
+use Rattle.model_core.specs.declared.reply.Reply.{Reply}
+use Rattle.model_core.specs.declared.reply.Reply.TheVariants as reply
+use Rattle.model_core.specs.declared.state.Sizes.{Sizes}
+use Rattle.model_core.specs.Commands.{shown}
+use Rattle.model_core.specs.Domains.{IsWithinLimits}
+use Rattle.model_core.specs.Graph.{label_of}
+use Rattle.model_core.specs.History.{IsPrefix, Legal}
 use Rattle.heap_rule.specs.Limits.{sizes_in}
-use Rattle.heap_session.specs.Sessions.{MayPerform, SessionView}
-use Rattle.table_laws.specs.Structures.{Binding}
-use Rattle.table_laws.specs.Stages.{held_in}
-use Rattle.table_laws.specs.Performing.{Performed, full_of}
-use Rattle.map_lists.proofs.PerformLemmas.{performs}
-use Rattle.map_laws.proofs.CallLemmas.{alloc_step, forget_step, made as new_label}
+use Rattle.run_session.specs.Sessions.{MayPerform, SessionView}
+use Rattle.weak_laws.specs.Tables.Structures.{Binding}
+use Rattle.weak_laws.specs.Tables.Stages.{held_in}
+use Rattle.weak_laws.specs.Tables.Performing.{Performed, full_of}
+use Rattle.weak_maps.proofs.OfLists.PerformLemmas.{performs}
+use Rattle.weak_laws.proofs.OfMaps.CallLemmas.{alloc_step, forget_step, made as new_label}
 use Rattle.weak_maps.proofs.BesideLemmas.{set_here, sixteen}
-use Rattle.map_laws.specs.Calls.{value_of}
+use Rattle.weak_laws.specs.Maps.Calls.{value_of}
 use Rattle.weak_cache.specs.Uses.{cached_in, put_first, taken, touched}
 use Rattle.weak_cache.specs.Caches.{Gone, OthersSpare, slots_after}
 use Rattle.weak_maps.specs.Beside.{refusals_by}

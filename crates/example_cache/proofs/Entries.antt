@@ -1,21 +1,21 @@
 -- What a call leaves of the places of a cache.
 use Rattle.std.proofs.Common.{◌≡◌, ◌∙◌, inl, inr, ⊎_elim, ℕ, List, [], ◌∷◌, get_or, set, get_or-set_other, append-nil, Option, None, refl, ap, sym, subst, arith}
-use Rattle.heap_model.specs.declared.label.Label.{Label}
-use Rattle.heap_model.specs.declared.command.Command.{Command}
-use Rattle.heap_model.specs.declared.command.Command.TheVariants.{Alloc, Forget, FullMajor}
-use Rattle.heap_model.specs.declared.entry.Entry.{Entry}
-use Rattle.heap_model.specs.declared.graph.Value.{Value}
-use Rattle.heap_model.specs.declared.graph.Value.TheVariants.{Block, Nothing}
-use Rattle.heap_model.specs.declared.reply.Reply.{Reply}
-use Rattle.heap_model.specs.declared.state.Sizes.{Sizes}
-use Rattle.heap_model.specs.Domains.{IsWithinLimits}
-use Rattle.heap_model.specs.History.{IsPrefix}
+use Rattle.model_core.specs.declared.label.Label.{Label}
+use Rattle.model_core.specs.declared.command.Command.{Command}
+use Rattle.model_core.specs.declared.command.Command.TheVariants.{Alloc, Forget, FullMajor}
+use Rattle.model_core.specs.declared.entry.Entry.{Entry}
+use Rattle.model_core.specs.declared.graph.Value.{Value}
+use Rattle.model_core.specs.declared.graph.Value.TheVariants.{Block, Nothing}
+use Rattle.model_core.specs.declared.reply.Reply.{Reply}
+use Rattle.model_core.specs.declared.state.Sizes.{Sizes}
+use Rattle.model_core.specs.Domains.{IsWithinLimits}
+use Rattle.model_core.specs.History.{IsPrefix}
 use Rattle.heap_rule.specs.Limits.{sizes_in}
-use Rattle.table_laws.specs.Structures.{Binding}
-use Rattle.table_laws.specs.Stages.{graph_of, held_in}
-use Rattle.table_laws.specs.Performing.{After, Performed, registers_of}
-use Rattle.table_laws.proofs.StepLemmas.{alloc_step, forget_step, full_major_step}
-use Rattle.table_laws.proofs.StageLemmas.{register_is}
+use Rattle.weak_laws.specs.Tables.Structures.{Binding}
+use Rattle.weak_laws.specs.Tables.Stages.{graph_of, held_in}
+use Rattle.weak_laws.specs.Tables.Performing.{After, Performed, registers_of}
+use Rattle.weak_laws.proofs.OfTables.StepLemmas.{alloc_step, forget_step, full_major_step}
+use Rattle.weak_laws.proofs.OfTables.StageLemmas.{register_is}
 use Rattle.weak_cache.specs.Uses.{SlotLeft, SlotsLeft}
 use Rattle.weak_cache.specs.Caches.{slots_after}
 use Rattle.weak_cache.specs.Caches as weak

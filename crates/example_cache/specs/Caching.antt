@@ -1,23 +1,23 @@
 -- A cache as the program that uses it sees it.
 use Rattle.std.specs.Prelude.{◌≡◌, ◌≢◌, ◌⊎◌, ℕ, ◌+◌, ◌<◌, ◌≤◌, Bool, true, false, List, [], Option, Some, None}
-use Rattle.heap_model.specs.declared.command.Command.{Command}
-use Rattle.heap_model.specs.declared.command.Command.TheVariants.{Alloc, Forget, FullMajor}
-use Rattle.heap_model.specs.declared.label.Label.{Label}
-use Rattle.heap_model.specs.declared.entry.Entry.{Entry}
-use Rattle.heap_model.specs.declared.graph.Value.{Value}
-use Rattle.heap_model.specs.declared.graph.Value.TheVariants.{Block, Nothing}
-use Rattle.heap_model.specs.declared.reply.Reply.{Reply}
-use Rattle.heap_model.specs.declared.reply.Reply.TheVariants as reply
-use Rattle.heap_model.specs.declared.state.Sizes.{Sizes}
-use Rattle.heap_model.specs.Commands.{shown}
-use Rattle.heap_model.specs.History.{IsPrefix}
+use Rattle.model_core.specs.declared.command.Command.{Command}
+use Rattle.model_core.specs.declared.command.Command.TheVariants.{Alloc, Forget, FullMajor}
+use Rattle.model_core.specs.declared.label.Label.{Label}
+use Rattle.model_core.specs.declared.entry.Entry.{Entry}
+use Rattle.model_core.specs.declared.graph.Value.{Value}
+use Rattle.model_core.specs.declared.graph.Value.TheVariants.{Block, Nothing}
+use Rattle.model_core.specs.declared.reply.Reply.{Reply}
+use Rattle.model_core.specs.declared.reply.Reply.TheVariants as reply
+use Rattle.model_core.specs.declared.state.Sizes.{Sizes}
+use Rattle.model_core.specs.Commands.{shown}
+use Rattle.model_core.specs.History.{IsPrefix}
 use Rattle.heap_rule.specs.Limits.{sizes_in}
-use Rattle.heap_session.specs.Sessions.{SessionView}
-use Rattle.table_laws.specs.Structures.{Binding}
-use Rattle.table_laws.specs.Stages.{graph_of, held_in}
-use Rattle.table_laws.specs.Performing.{Performed}
-use Rattle.map_laws.specs.Steps.{WasUnreached}
-use Rattle.map_laws.specs.Calls.{value_of}
+use Rattle.run_session.specs.Sessions.{SessionView}
+use Rattle.weak_laws.specs.Tables.Structures.{Binding}
+use Rattle.weak_laws.specs.Tables.Stages.{graph_of, held_in}
+use Rattle.weak_laws.specs.Tables.Performing.{Performed}
+use Rattle.weak_laws.specs.Maps.Steps.{WasUnreached}
+use Rattle.weak_laws.specs.Maps.Calls.{value_of}
 use Rattle.weak_maps.specs.Beside.{refusals_by}
 use Rattle.weak_cache.specs.Uses.{SlotsLeft, cached_in, put_first, taken, touched}
 use Rattle.weak_cache.specs.Caches.{slots_after}

@@ -1,17 +1,17 @@
 //! A cache, and its calls.
 ghost use Rattle.std.specs.Prelude.{◌≡◌, ◌<◌, ◌≤◌, ◌-◌, ℕ, IfErr, IfOk, None, replicate};
-ghost use Rattle.command_counts.specs.Counts.{labels_of};
-ghost use Rattle.heap_model.specs.Domains.{IsWithinLimits};
+ghost use Rattle.model_core.specs.Counts.Counts.{labels_of};
+ghost use Rattle.model_core.specs.Domains.{IsWithinLimits};
 ghost use Rattle.heap_rule.specs.Limits.{sizes_in};
-ghost use Rattle.table_laws.specs.Performing.{Performed};
-ghost use Rattle.heap_model.specs.declared.graph.Value.TheVariants as value;
-ghost use Rattle.heap_model.specs.Graph.{label_of};
+ghost use Rattle.weak_laws.specs.Tables.Performing.{Performed};
+ghost use Rattle.model_core.specs.declared.graph.Value.TheVariants as value;
+ghost use Rattle.model_core.specs.Graph.{label_of};
 ghost use Rattle.example_cache.specs.Caching.{GetAnswers, HasCollected, InsertAnswers, IsKept, KeepsAll, KeepsRegisters, KeyAnswers, NoCache, RoomAnswers, SparesCache, TakeAnswers, holds, places, entry_of as entry_shown, inserted_of as inserted_by};
 
-use heap_model::command::Command;
-use heap_model::reply::Reply;
-use heap_session::TableSession;
-use map_domains::SessionDomain;
+use model_core::command::Command;
+use model_core::reply::Reply;
+use run_session::TableSession;
+use run_session::domains::SessionDomain;
 use std::marker::Model;
 use std::sync::Wait;
 use weak_cache::cache::{cache_get, cache_make, cache_put, cache_take};
@@ -136,9 +136,9 @@ impl Cache {
         if self.heap.session().labels_left() < 1 || self.heap.session().ephes_room() < 1 {
             return Inserted::NoRoom;
         }
-        self.heap.session().is_legal();
+        self.heap.session().shows_legal();
         let reply = cache_put(&mut self.heap, rt, HOME, self.most, key, item);
-        self.heap.session().is_legal();
+        self.heap.session().shows_legal();
         inserted_of(&reply)
     }
 
@@ -148,9 +148,9 @@ impl Cache {
         ensures answers { GetAnswers self.old self.new dst (label_of (holds self.old key)) result }
         ensures registers { KeepsRegisters self.old self.new dst }
     {
-        self.heap.session().is_legal();
+        self.heap.session().shows_legal();
         let reply = cache_get(&mut self.heap, rt, dst, HOME, self.most, key);
-        self.heap.session().is_legal();
+        self.heap.session().shows_legal();
         entry_of(reply)
     }
 
@@ -160,9 +160,9 @@ impl Cache {
         ensures answers { TakeAnswers self.old self.new dst (label_of (holds self.old key)) result }
         ensures registers { KeepsRegisters self.old self.new dst }
     {
-        self.heap.session().is_legal();
+        self.heap.session().shows_legal();
         let reply = cache_take(&mut self.heap, rt, dst, HOME, self.most, key);
-        self.heap.session().is_legal();
+        self.heap.session().shows_legal();
         entry_of(reply)
     }
 
@@ -176,7 +176,7 @@ impl Cache {
         ensures entries { KeepsAll self.old self.new }
         ensures registers { (r : ℕ) → IsKept command r → holds self.new r ≡ holds self.old r }
     {
-        self.heap.session().is_legal();
+        self.heap.session().shows_legal();
         self.heap.command(rt, command)
     }
 }

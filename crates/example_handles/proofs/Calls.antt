@@ -4,38 +4,38 @@ use Rattle.std.specs.Prelude.{◌||◌, Option, Some, None, cond, get_or, option
 use Rattle.std.proofs.lemmas.List.{take-append-le, take_all}
 use Rattle.std.proofs.lemmas.Option.{slice_get_within}
 use Rattle.std.proofs.lemmas.List.Folds.{list_any-append}
-use Rattle.heap_model.specs.declared.command.Command as model
-use Rattle.heap_model.specs.declared.command.Command.TheVariants.{Alloc, FinaliseLast, FullMajor, Poll}
-use Rattle.heap_model.specs.declared.entry.Entry.{Entry}
-use Rattle.heap_model.specs.declared.entry.Entry.TheVariants.{Command}
-use Rattle.heap_model.specs.declared.graph.Value.{Value}
-use Rattle.heap_model.specs.declared.graph.Value.TheVariants.{Block, Nothing}
-use Rattle.heap_model.specs.declared.label.Label.{Label}
-use Rattle.heap_model.specs.declared.reply.Applied.TheVariants.{Replied}
-use Rattle.heap_model.specs.declared.reply.Reply.{Reply}
-use Rattle.heap_model.specs.declared.reply.Reply.TheVariants.{Block as BlockReply, Full}
-use Rattle.heap_model.specs.declared.state.Pending.{Pending}
-use Rattle.heap_model.specs.declared.state.Pending.TheVariants.{Last}
-use Rattle.heap_model.specs.declared.state.Sizes.{Sizes}
-use Rattle.heap_model.specs.declared.state.State.{State}
-use Rattle.heap_model.specs.Commands.{CommandAllowed, after_command, finalised_last}
-use Rattle.heap_model.specs.Domains.{IsWithinLimits, domain_at, label_in, opening}
-use Rattle.heap_model.specs.Entries.{next, reply}
-use Rattle.heap_model.specs.Graph.{label_of}
-use Rattle.heap_model.specs.History.{IsPrefix, Legal, LegalFrom, commands, state_after}
-use Rattle.heap_model.specs.Registrations.{all_registered, registered}
-use Rattle.heap_model.proofs.Commands.FrameLemmas.{inside_running}
-use Rattle.heap_model.proofs.Commands.LeavesLemmas.{leaves_alloc, new_label}
-use Rattle.heap_model.proofs.Histories.HistoryLemmas.{state_after-push}
-use Rattle.heap_model.proofs.Histories.ShapeAfterLemmas.{shaped-history}
+use Rattle.model_core.specs.declared.command.Command as model
+use Rattle.model_core.specs.declared.command.Command.TheVariants.{Alloc, FinaliseLast, FullMajor, Poll}
+use Rattle.model_core.specs.declared.entry.Entry.{Entry}
+use Rattle.model_core.specs.declared.entry.Entry.TheVariants.{Command}
+use Rattle.model_core.specs.declared.graph.Value.{Value}
+use Rattle.model_core.specs.declared.graph.Value.TheVariants.{Block, Nothing}
+use Rattle.model_core.specs.declared.label.Label.{Label}
+use Rattle.model_core.specs.declared.reply.Applied.TheVariants.{Replied}
+use Rattle.model_core.specs.declared.reply.Reply.{Reply}
+use Rattle.model_core.specs.declared.reply.Reply.TheVariants.{Block as BlockReply, Full}
+use Rattle.model_core.specs.declared.state.Pending.{Pending}
+use Rattle.model_core.specs.declared.state.Pending.TheVariants.{Last}
+use Rattle.model_core.specs.declared.state.Sizes.{Sizes}
+use Rattle.model_core.specs.declared.state.State.{State}
+use Rattle.model_core.specs.Commands.{CommandAllowed, after_command, finalised_last}
+use Rattle.model_core.specs.Domains.{IsWithinLimits, domain_at, label_in, opening}
+use Rattle.model_core.specs.Entries.{next, reply}
+use Rattle.model_core.specs.Graph.{label_of}
+use Rattle.model_core.specs.History.{IsPrefix, Legal, LegalFrom, commands, state_after}
+use Rattle.model_core.specs.Registrations.{all_registered, registered}
+use Rattle.model_core.proofs.Commands.FrameLemmas.{inside_running}
+use Rattle.model_core.proofs.Commands.LeavesLemmas.{leaves_alloc, new_label}
+use Rattle.model_core.proofs.Histories.HistoryLemmas.{state_after-push}
+use Rattle.model_core.proofs.Histories.ShapeAfterLemmas.{shaped-history}
 use Rattle.heap_rule.specs.Limits.{sizes_in}
 use Rattle.heap_rule.specs.Rule.{state_of}
-use Rattle.command_counts.specs.Counts.{blocks_of}
-use Rattle.domain_turns.specs.Handed.{PerformedOn}
-use Rattle.domain_turns.specs.Kept.{finalised}
-use Rattle.domain_turns.specs.Tries.{registrations_of}
-use Rattle.domain_turns.proofs.Handed.{performed_commands}
-use Rattle.heap_seats.specs.Seating.{GoesAlong, SeatView}
+use Rattle.model_core.specs.Counts.Counts.{blocks_of}
+use Rattle.run_turns.specs.Handed.{PerformedOn}
+use Rattle.run_turns.specs.Kept.{finalised}
+use Rattle.run_turns.specs.Tries.{registrations_of}
+use Rattle.run_turns.proofs.Handed.{performed_commands}
+use Rattle.run_seats.specs.Seating.{GoesAlong, SeatView}
 use Rattle.example_handles.specs.declared.resource.Resource.{Resource}
 use Rattle.example_handles.specs.declared.resource.Resource.TheVariants.{Open, ClosedByFinaliser}
 use Rattle.example_handles.specs.Handling.{HandleMade, HandlesView, HoldsLatest, IsHandles, IsLater, IsUnused, Makes, OpenWereHeld, Opens, Performs, Settles, latest, no_handles, numbered, parted, ran_by, registered_by, state_at}

@@ -1,20 +1,20 @@
 -- The start and the end of a heap, seat by seat.
 use Rattle.std.proofs.Common.{◌≡◌, ◌∙◌, ℕ, zero, suc, ◌+◌, List, [], ◌∷◌, ◌++◌, append-nil, length, slice_get, refl, sym, ap, subst, arith, Option, Some, None}
 use Rattle.std.specs.List.{AllByRecursion}
-use Rattle.heap_model.specs.declared.command.Command as model
-use Rattle.heap_model.specs.declared.command.Command.TheVariants.{FullMajor, Poll}
-use Rattle.heap_model.specs.declared.entry.Entry.{Entry}
-use Rattle.heap_model.specs.declared.entry.Entry.TheVariants.{Command}
-use Rattle.heap_model.specs.declared.reply.Reply.{Reply}
-use Rattle.heap_model.specs.declared.state.Sizes.{Sizes}
-use Rattle.heap_model.specs.History.{commands}
+use Rattle.model_core.specs.declared.command.Command as model
+use Rattle.model_core.specs.declared.command.Command.TheVariants.{FullMajor, Poll}
+use Rattle.model_core.specs.declared.entry.Entry.{Entry}
+use Rattle.model_core.specs.declared.entry.Entry.TheVariants.{Command}
+use Rattle.model_core.specs.declared.reply.Reply.{Reply}
+use Rattle.model_core.specs.declared.state.Sizes.{Sizes}
+use Rattle.model_core.specs.History.{commands}
 use Rattle.heap_rule.specs.Limits.{first_outside, sizes_in}
 use Rattle.heap_rule.proofs.Sizes.{within}
-use Rattle.domain_turns.specs.Handed.{PerformedOn}
-use Rattle.domain_turns.proofs.Handed.{performed_commands}
-use Rattle.open_runs.proofs.Finalising.{finalised_on}
-use Rattle.heap_seats.specs.Seating.{AllSeatsOf, GoesAlong, IsSeatOf, SeatView, SeatsView, fresh_seats}
-use Rattle.heap_seats.specs.Stopping.{Stops, StopsEach}
+use Rattle.run_turns.specs.Handed.{PerformedOn}
+use Rattle.run_turns.proofs.Handed.{performed_commands}
+use Rattle.run_open.proofs.Finalising.{finalised_on}
+use Rattle.run_seats.specs.Seating.{AllSeatsOf, GoesAlong, IsSeatOf, SeatView, SeatsView, fresh_seats}
+use Rattle.run_seats.specs.Stopping.{Stops, StopsEach}
 use Rattle.example_handles.specs.declared.resource.Resource.{Resource}
 use Rattle.example_handles.specs.Handling.{AllHandlesOf, Did, EachDid, HandlesView, IsHandles, IsLater, IsUnused, Makes, Parts, PartsEach, Settles, StopLeaves, LeavesEach, parted, ran_by}
 use Rattle.example_handles.specs.Resources.{names}

@@ -3,34 +3,34 @@ use Rattle.std.proofs.Common.{◌≡◌, ◌≢◌, ◌∙◌, ℕ, zero, suc, �
 use Rattle.std.specs.Prelude.{cond, ◌==◌, ◌||◌, ◌&&◌, count_by, get_or, map, remove, set, slice_get}
 use Rattle.std.specs.List.{list_any}
 use Rattle.std.proofs.lemmas.List.Sums.{sum_by-append, sum_by-cons}
-use Rattle.heap_model.specs.declared.command.Command.TheVariants.{FullMajor, Poll}
-use Rattle.heap_model.specs.declared.entry.Entry.{Entry}
-use Rattle.heap_model.specs.declared.entry.Entry.TheVariants.{Command, End, Cut, Queue, Seal, Wipe, Last as LastOf, Collected, Done, Ran}
-use Rattle.heap_model.specs.declared.graph.Node.{Node}
-use Rattle.heap_model.specs.declared.graph.Node.TheVariants.{Plain, Raw, Ephe}
-use Rattle.heap_model.specs.declared.label.Label.{Label}
-use Rattle.heap_model.specs.declared.reply.Reply.{Reply}
-use Rattle.heap_model.specs.declared.state.DomainState.{DomainState}
-use Rattle.heap_model.specs.declared.state.Finaliser.{Finaliser}
-use Rattle.heap_model.specs.declared.state.LastFinaliser.{LastFinaliser}
-use Rattle.heap_model.specs.declared.state.Pending.{Pending}
-use Rattle.heap_model.specs.declared.state.Pending.TheVariants.{Fin, Last}
-use Rattle.heap_model.specs.declared.state.Sizes.{Sizes}
-use Rattle.heap_model.specs.declared.state.State.{State}
-use Rattle.heap_model.specs.Commands.{CommandAllowed}
-use Rattle.heap_model.specs.Domains.{domain_at, no_domain, opening, queues, with_domain}
-use Rattle.heap_model.specs.Entries.{after_run, is_gone, is_let_go, is_some_and, next, queued_final, queued_last, wiped, with_wiped, without_first}
-use Rattle.heap_model.specs.Graph.{node_at}
-use Rattle.heap_model.specs.History.{Legal, LegalFrom, is_entry_of, state_after}
-use Rattle.heap_model.specs.Laws.{NothingPermitted}
-use Rattle.heap_model.specs.Registrations.{all_ran, all_registered}
-use Rattle.heap_model.proofs.Commands.FrameLemmas.{frame_command, not_same, part_map}
-use Rattle.heap_model.proofs.Graphs.GraphLemmas.{and_parts}
-use Rattle.heap_model.proofs.Histories.HistoryLemmas.{state_after-append, state_after-push}
-use Rattle.history_laws.proofs.HeldLemmas.{spent_law}
-use Rattle.history_laws.proofs.RegistrationLemmas.{not_lost_law}
-use Rattle.domain_turns.specs.Handed.{OnlyRuns, PerformedOn}
-use Rattle.domain_turns.specs.Kept.{finalised, is_run_of}
+use Rattle.model_core.specs.declared.command.Command.TheVariants.{FullMajor, Poll}
+use Rattle.model_core.specs.declared.entry.Entry.{Entry}
+use Rattle.model_core.specs.declared.entry.Entry.TheVariants.{Command, End, Cut, Queue, Seal, Wipe, Last as LastOf, Collected, Done, Ran}
+use Rattle.model_core.specs.declared.graph.Node.{Node}
+use Rattle.model_core.specs.declared.graph.Node.TheVariants.{Plain, Raw, Ephe}
+use Rattle.model_core.specs.declared.label.Label.{Label}
+use Rattle.model_core.specs.declared.reply.Reply.{Reply}
+use Rattle.model_core.specs.declared.state.DomainState.{DomainState}
+use Rattle.model_core.specs.declared.state.Finaliser.{Finaliser}
+use Rattle.model_core.specs.declared.state.LastFinaliser.{LastFinaliser}
+use Rattle.model_core.specs.declared.state.Pending.{Pending}
+use Rattle.model_core.specs.declared.state.Pending.TheVariants.{Fin, Last}
+use Rattle.model_core.specs.declared.state.Sizes.{Sizes}
+use Rattle.model_core.specs.declared.state.State.{State}
+use Rattle.model_core.specs.Commands.{CommandAllowed}
+use Rattle.model_core.specs.Domains.{domain_at, no_domain, opening, queues, with_domain}
+use Rattle.model_core.specs.Entries.{after_run, is_gone, is_let_go, is_some_and, next, queued_final, queued_last, wiped, with_wiped, without_first}
+use Rattle.model_core.specs.Graph.{node_at}
+use Rattle.model_core.specs.History.{Legal, LegalFrom, is_entry_of, state_after}
+use Rattle.model_core.specs.Laws.{NothingPermitted}
+use Rattle.model_core.specs.Registrations.{all_ran, all_registered}
+use Rattle.model_core.proofs.Commands.FrameLemmas.{frame_command, not_same, part_map}
+use Rattle.model_core.proofs.Graphs.GraphLemmas.{and_parts}
+use Rattle.model_core.proofs.Histories.HistoryLemmas.{state_after-append, state_after-push}
+use Rattle.model_laws.proofs.OfHistories.HeldLemmas.{spent_law}
+use Rattle.model_laws.proofs.OfHistories.RegistrationLemmas.{not_lost_law}
+use Rattle.run_turns.specs.Handed.{OnlyRuns, PerformedOn}
+use Rattle.run_turns.specs.Kept.{finalised, is_run_of}
 use Rattle.example_handles.specs.Handling.{WasHeld, numbered}
 use Rattle.example_handles.specs.Resources.{names}
 use Rattle.example_handles.proofs.Histories.{answer_of, is_of, legal_parts, ran_answers, ran_by_then, registered_on, registered_performed, registers_none}

@@ -4,30 +4,30 @@ use Rattle.std.specs.Prelude.{cond, ◌==◌, ◌||◌, count_by, map, take}
 use Rattle.std.proofs.lemmas.List.{map-append}
 use Rattle.std.proofs.lemmas.List.Folds.{list_any-append}
 use Rattle.std.proofs.lemmas.List.Sums.{sum_by-append, sum_by-cons}
-use Rattle.heap_model.specs.declared.command.Command as model
-use Rattle.heap_model.specs.declared.command.Command.TheVariants.{Finalise, FinaliseLast}
-use Rattle.heap_model.specs.declared.entry.Entry.{Entry}
-use Rattle.heap_model.specs.declared.entry.Entry.TheVariants.{Command, End, Cut, Queue, Seal, Wipe, Last as LastOf, Collected, Done, Ran}
-use Rattle.heap_model.specs.declared.reply.Reply.{Reply}
-use Rattle.heap_model.specs.declared.reply.Reply.TheVariants.{Fin as FinReply, Last as LastReply}
-use Rattle.heap_model.specs.declared.state.DomainState.{DomainState}
-use Rattle.heap_model.specs.declared.state.Pending.{Pending}
-use Rattle.heap_model.specs.declared.state.Pending.TheVariants.{Fin, Last}
-use Rattle.heap_model.specs.declared.state.Sizes.{Sizes}
-use Rattle.heap_model.specs.declared.state.State.{State}
-use Rattle.heap_model.specs.Domains.{domain_at, opening, with_domain}
-use Rattle.heap_model.specs.Entries.{after_run, next, queued_final, queued_last, reply, run_reply}
-use Rattle.heap_model.specs.History.{IsPrefix, Legal, LegalFrom, is_entry_of, replies_from, reply_list, state_after}
-use Rattle.heap_model.specs.Registrations.{all_ran, all_registered, ran as run_by, registered, registered_by}
-use Rattle.heap_model.proofs.Collections.RegistrationLemmas.{registrations_law}
-use Rattle.heap_model.specs.Fronts.{KeepsDomain}
-use Rattle.heap_model.proofs.Commands.FrameLemmas.{keeps_next, part_set}
-use Rattle.heap_model.proofs.Graphs.GraphLemmas.{and_parts}
-use Rattle.heap_model.proofs.Histories.HistoryLemmas.{state_after-push}
-use Rattle.domain_turns.specs.Handed.{Finalised, OnlyRuns, PerformedOn}
-use Rattle.domain_turns.specs.Kept.{finalised, is_run_of, replies_to}
-use Rattle.domain_turns.specs.Tries.{registrations_of}
-use Rattle.domain_turns.proofs.Kept.{replies_to-append}
+use Rattle.model_core.specs.declared.command.Command as model
+use Rattle.model_core.specs.declared.command.Command.TheVariants.{Finalise, FinaliseLast}
+use Rattle.model_core.specs.declared.entry.Entry.{Entry}
+use Rattle.model_core.specs.declared.entry.Entry.TheVariants.{Command, End, Cut, Queue, Seal, Wipe, Last as LastOf, Collected, Done, Ran}
+use Rattle.model_core.specs.declared.reply.Reply.{Reply}
+use Rattle.model_core.specs.declared.reply.Reply.TheVariants.{Fin as FinReply, Last as LastReply}
+use Rattle.model_core.specs.declared.state.DomainState.{DomainState}
+use Rattle.model_core.specs.declared.state.Pending.{Pending}
+use Rattle.model_core.specs.declared.state.Pending.TheVariants.{Fin, Last}
+use Rattle.model_core.specs.declared.state.Sizes.{Sizes}
+use Rattle.model_core.specs.declared.state.State.{State}
+use Rattle.model_core.specs.Domains.{domain_at, opening, with_domain}
+use Rattle.model_core.specs.Entries.{after_run, next, queued_final, queued_last, reply, run_reply}
+use Rattle.model_core.specs.History.{IsPrefix, Legal, LegalFrom, is_entry_of, replies_from, reply_list, state_after}
+use Rattle.model_core.specs.Registrations.{all_ran, all_registered, ran as run_by, registered, registered_by}
+use Rattle.model_core.proofs.Collections.RegistrationLemmas.{registrations_law}
+use Rattle.model_core.specs.Fronts.{KeepsDomain}
+use Rattle.model_core.proofs.Commands.FrameLemmas.{keeps_next, part_set}
+use Rattle.model_core.proofs.Graphs.GraphLemmas.{and_parts}
+use Rattle.model_core.proofs.Histories.HistoryLemmas.{state_after-push}
+use Rattle.run_turns.specs.Handed.{Finalised, OnlyRuns, PerformedOn}
+use Rattle.run_turns.specs.Kept.{finalised, is_run_of, replies_to}
+use Rattle.run_turns.specs.Tries.{registrations_of}
+use Rattle.run_turns.proofs.Kept.{replies_to-append}
 use Rattle.example_handles.specs.Handling.{numbered}
 use Rattle.example_handles.specs.Resources.{is_last, names}
 

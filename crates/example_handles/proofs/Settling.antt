@@ -1,7 +1,7 @@
 -- How resources are closed, one after the other.
 use Rattle.std.proofs.Common.{◌≡◌, ◌≢◌, ◌∙◌, ℕ, zero, suc, Bool, true, false, List, [], ◌∷◌, ◌++◌, length, refl, sym, ap, true≢false, inl, inr, ⊎_elim}
 use Rattle.std.specs.Prelude.{◌⊎◌, ◌||◌, Option, Some, None, option_map, slice_get}
-use Rattle.heap_model.specs.declared.reply.Reply.{Reply}
+use Rattle.model_core.specs.declared.reply.Reply.{Reply}
 use Rattle.example_handles.specs.declared.resource.Resource.{Resource}
 use Rattle.example_handles.specs.declared.resource.Resource.TheVariants.{Open, ClosedByOwner, ClosedByFinaliser}
 use Rattle.example_handles.specs.Resources.{Settled, closed_if, is_open, names}

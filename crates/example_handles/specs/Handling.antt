@@ -1,34 +1,34 @@
 -- Handles as the threads that use them see them.
 use Rattle.std.specs.Prelude.{◌≡◌, ◌≢◌, ◌↔◌, ◌⊎◌, ◌&&◌, ℕ, zero, suc, ◌+◌, ◌<◌, ◌≤◌, Bool, true, false, List, [], ◌∷◌, ◌++◌, length, slice_get, Option, Some, None, Result, Err}
 use Rattle.std.specs.List.{AllByRecursion}
-use Rattle.heap_model.specs.declared.command.Command.{Command}
-use Rattle.heap_model.specs.declared.command.Command.TheVariants.{Alloc, FinaliseLast, FullMajor, Poll}
-use Rattle.heap_model.specs.declared.entry.Entry.{Entry}
-use Rattle.heap_model.specs.declared.entry.Entry.TheVariants.{Command as CommandOf}
-use Rattle.heap_model.specs.declared.label.Label.{Label}
-use Rattle.heap_model.specs.declared.reply.Reply.{Reply}
-use Rattle.heap_model.specs.declared.reply.Reply.TheVariants.{Full}
-use Rattle.heap_model.specs.declared.state.LastFinaliser.{LastFinaliser}
-use Rattle.heap_model.specs.declared.state.Pending.{Pending}
-use Rattle.heap_model.specs.declared.state.Pending.TheVariants.{Last as LastPending}
-use Rattle.heap_model.specs.declared.state.Sizes.{Sizes}
-use Rattle.heap_model.specs.declared.state.State.{State}
-use Rattle.heap_model.specs.declared.graph.Value.TheVariants.{Block}
-use Rattle.heap_model.specs.Domains.{IsWithinLimits, domain_at, opening, queues, register}
-use Rattle.heap_model.specs.Entries.{is_gone, is_let_go}
-use Rattle.heap_model.specs.History.{IsPrefix, commands, state_after}
-use Rattle.heap_model.specs.Registrations.{all_registered}
+use Rattle.model_core.specs.declared.command.Command.{Command}
+use Rattle.model_core.specs.declared.command.Command.TheVariants.{Alloc, FinaliseLast, FullMajor, Poll}
+use Rattle.model_core.specs.declared.entry.Entry.{Entry}
+use Rattle.model_core.specs.declared.entry.Entry.TheVariants.{Command as CommandOf}
+use Rattle.model_core.specs.declared.label.Label.{Label}
+use Rattle.model_core.specs.declared.reply.Reply.{Reply}
+use Rattle.model_core.specs.declared.reply.Reply.TheVariants.{Full}
+use Rattle.model_core.specs.declared.state.LastFinaliser.{LastFinaliser}
+use Rattle.model_core.specs.declared.state.Pending.{Pending}
+use Rattle.model_core.specs.declared.state.Pending.TheVariants.{Last as LastPending}
+use Rattle.model_core.specs.declared.state.Sizes.{Sizes}
+use Rattle.model_core.specs.declared.state.State.{State}
+use Rattle.model_core.specs.declared.graph.Value.TheVariants.{Block}
+use Rattle.model_core.specs.Domains.{IsWithinLimits, domain_at, opening, queues, register}
+use Rattle.model_core.specs.Entries.{is_gone, is_let_go}
+use Rattle.model_core.specs.History.{IsPrefix, commands, state_after}
+use Rattle.model_core.specs.Registrations.{all_registered}
 use Rattle.heap_rule.specs.declared.config.Config.{Config}
 use Rattle.heap_rule.specs.declared.config.StartFault.{StartFault}
 use Rattle.heap_rule.specs.declared.config.StartFault.TheVariants as fault
 use Rattle.heap_rule.specs.Limits.{first_outside, sizes_in}
 use Rattle.heap_rule.specs.Rule.{state_of}
-use Rattle.command_counts.specs.Counts.{ephemerons_of, labels_given, labels_of}
-use Rattle.domain_turns.specs.Handed.{PerformedOn}
-use Rattle.domain_turns.specs.Kept.{finalised}
-use Rattle.domain_turns.specs.Tries.{FitsHeap, registrations_of}
-use Rattle.heap_seats.specs.Seating.{IsSeatOf, SeatView, SeatsView}
-use Rattle.heap_seats.specs.Stopping.{Stops}
+use Rattle.model_core.specs.Counts.Counts.{ephemerons_of, labels_given, labels_of}
+use Rattle.run_turns.specs.Handed.{PerformedOn}
+use Rattle.run_turns.specs.Kept.{finalised}
+use Rattle.run_turns.specs.Tries.{FitsHeap, registrations_of}
+use Rattle.run_seats.specs.Seating.{IsSeatOf, SeatView, SeatsView}
+use Rattle.run_seats.specs.Stopping.{Stops}
 use Rattle.example_handles.specs.declared.resource.Resource.{Resource}
 use Rattle.example_handles.specs.declared.resource.Resource.TheVariants.{Open, ClosedByOwner, ClosedByFinaliser}
 use Rattle.example_handles.specs.Resources.{Closes, Settled, names}

@@ -1,18 +1,18 @@
 //! Handles, and their calls.
 ghost use Rattle.std.specs.Prelude.{◌≡◌, ◌<◌, ◌∷◌, [], length, slice_get};
-ghost use Rattle.domain_turns.specs.Tries.{registrations_of};
+ghost use Rattle.run_turns.specs.Tries.{registrations_of};
 ghost use Rattle.example_handles.specs.Handling.{CloseLeaves, Collects, HandleAnswers, HoldsLatest, IsHandles, IsLater, IsSpare, OpenAnswers, OpenWereHeld, Opens, PerformedBy, Performs, Settles};
 ghost use Rattle.example_handles.specs.Resources.{Settled, is_open};
-ghost use Rattle.heap_model.specs.declared.command.Command.TheVariants as command;
-ghost use Rattle.heap_model.specs.History.{Legal};
+ghost use Rattle.model_core.specs.declared.command.Command.TheVariants as command;
+ghost use Rattle.model_core.specs.History.{Legal};
 ghost use Rattle.heap_rule.specs.Limits.{sizes_in};
-ghost use Rattle.heap_seats.specs.Seating.{GoesAlong, IsSeatOf, MayPerform};
+ghost use Rattle.run_seats.specs.Seating.{GoesAlong, IsSeatOf, MayPerform};
 
 use crate::resource::{Resource, close, close_named};
 use crate::resting::RestingHandles;
-use heap_model::command::Command;
-use heap_model::reply::Reply;
-use heap_seats::{Seat, Seats};
+use model_core::command::Command;
+use model_core::reply::Reply;
+use run_seats::{Seat, Seats};
 use std::marker::Model;
 use std::sync::Wait;
 

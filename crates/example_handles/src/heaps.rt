@@ -1,16 +1,16 @@
 //! The start and the end of a heap whose seats have handles.
 ghost use Rattle.std.specs.Prelude.{◌≡◌, ◌<◌, ◌≤◌, [], IfOk, length, map, vec_capacity};
 ghost use Rattle.example_handles.specs.Handling.{AllHandlesOf, EachDid, IsSpare, PartsEach, LeavesEach, TellsOutside, config_for, no_handles};
-ghost use Rattle.heap_model.specs.History.{Legal};
+ghost use Rattle.model_core.specs.History.{Legal};
 ghost use Rattle.heap_rule.specs.Limits.{sizes_in};
-ghost use Rattle.heap_seats.specs.Seating.{fresh_seats};
+ghost use Rattle.run_seats.specs.Seating.{fresh_seats};
 
 use crate::handles::Handles;
 use crate::resource::Resource;
 use crate::resting::{RestingHandles, with_none};
-use heap_model::command::Command;
 use heap_rule::{Config, Ended, StartFault};
-use heap_seats::{Seat, Seats};
+use model_core::command::Command;
+use run_seats::{Seat, Seats};
 use std::alloc::{AllocError, Global};
 use std::sync::Wait;
 

@@ -2,7 +2,7 @@
 ghost use Rattle.std.specs.Prelude.{◌≡◌, slice_get};
 ghost use Rattle.example_handles.specs.Resources.{Closes, Settled, is_open};
 
-use heap_model::reply::Reply;
+use model_core::reply::Reply;
 
 /// What a resource is. It stands for a file descriptor or the like.
 #[derive(Clone, Copy, Debug, PartialEq, Eq)]

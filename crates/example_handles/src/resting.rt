@@ -2,11 +2,11 @@
 ghost use Rattle.std.specs.Prelude.{◌≡◌, IfOk, map};
 ghost use Rattle.std.specs.List.{AllByRecursion};
 ghost use Rattle.example_handles.specs.Handling.{IsLater, IsUnused, Settles, no_handles};
-ghost use Rattle.heap_seats.specs.Seating.{GoesAlong, IsSeatOf};
+ghost use Rattle.run_seats.specs.Seating.{GoesAlong, IsSeatOf};
 
 use crate::handles::Handles;
 use crate::resource::{Resource, close_named};
-use heap_seats::{Resting, Seats};
+use run_seats::{Resting, Seats};
 use std::alloc::{AllocError, Global};
 use std::marker::Model;
 use std::sync::Wait;

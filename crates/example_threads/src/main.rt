@@ -2,11 +2,11 @@
 //! for a complete collection, while the second makes blocks of its own. The program prints how many finalisers ran.
 #![tactic(auto)]
 
-ghost use Rattle.heap_seats.specs.Seating.{IsSeatOf};
+ghost use Rattle.run_seats.specs.Seating.{IsSeatOf};
 
-use heap_model::command::Command;
 use heap_rule::{Config, StartFault};
-use heap_seats::{Resting, Seats};
+use model_core::command::Command;
+use run_seats::{Resting, Seats};
 use std::alloc::Global;
 use std::process::ExitCode;
 use std::sync::Wait;

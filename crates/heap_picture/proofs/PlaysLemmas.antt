@@ -1,12 +1,12 @@
 -- Plays that follow each other.
 use Rattle.std.proofs.Common.{◌≡◌, ℕ, List, [], ◌∷◌, ◌++◌, refl, ap, subst, sym, ◌∙◌, append-nil, suc, ◌+◌, add-one, ◌<◌, length, take, drop, drop-cons, get_or, Result, Ok, Err, OnOk}
 use Rattle.std.proofs.lemmas.List.{take_more}
-use Rattle.heap_model.specs.declared.command.Command.{Command}
-use Rattle.heap_model.specs.declared.entry.Entry.{Entry}
-use Rattle.heap_model.specs.declared.state.State.{State}
-use Rattle.heap_model.specs.Entries.{Allowed, next}
-use Rattle.heap_model.specs.History.{command_of, commands, state_after, LegalFrom}
-use Rattle.heap_model.proofs.Histories.HistoryLemmas.{state_after-append, legal_append, commands-append}
+use Rattle.model_core.specs.declared.command.Command.{Command}
+use Rattle.model_core.specs.declared.entry.Entry.{Entry}
+use Rattle.model_core.specs.declared.state.State.{State}
+use Rattle.model_core.specs.Entries.{Allowed, next}
+use Rattle.model_core.specs.History.{command_of, commands, state_after, LegalFrom}
+use Rattle.model_core.proofs.Histories.HistoryLemmas.{state_after-append, legal_append, commands-append}
 use Rattle.heap_picture.specs.Fates.{Reached}
 use Rattle.heap_picture.specs.Steps.{last_queued_at, lasts_queued_from, played_one, played}
 use Rattle.heap_picture.specs.Plays.{Plays}

@@ -1,9 +1,9 @@
 -- What the next complete collection may do with a block.
 use Rattle.std.specs.Prelude.{Bool, true, false, cond, List, Option, Some, None}
-use Rattle.heap_model.specs.declared.label.Label.{Label}
-use Rattle.heap_model.specs.declared.state.State.{State}
-use Rattle.heap_model.specs.Graph.{has_label}
-use Rattle.heap_model.specs.Domains.{queues, reach, settled_reach}
+use Rattle.model_core.specs.declared.label.Label.{Label}
+use Rattle.model_core.specs.declared.state.State.{State}
+use Rattle.model_core.specs.Graph.{has_label}
+use Rattle.model_core.specs.Domains.{queues, reach, settled_reach}
 use Rattle.heap_picture.specs.declared.fates.Fate.{Fate}
 use Rattle.heap_picture.specs.declared.fates.Fate.TheVariants.{Kept, MayReturn, MayGo}
 

@@ -1,15 +1,15 @@
 -- How a script is played: some legal history has its commands.
 use Rattle.std.specs.Prelude.{◌≡◌, ℕ, List, [], slice_index_or, Option}
-use Rattle.heap_model.specs.declared.command.Command.{Command}
-use Rattle.heap_model.specs.declared.entry.Entry.{Entry}
-use Rattle.heap_model.specs.declared.state.State.{State}
-use Rattle.heap_model.specs.Domains.{opening, sizes_of}
-use Rattle.heap_model.specs.History.{commands, state_after, LegalFrom}
-use Rattle.heap_text.specs.declared.fault.ScriptFault.{ScriptFault}
-use Rattle.heap_text.specs.declared.version.Version.TheVariants.{Three}
-use Rattle.heap_text.specs.Faults.{IsFaultUnlessMemory}
-use Rattle.heap_text.specs.Script.{Scripted}
-use Rattle.heap_text.specs.Spelling.{Spells}
+use Rattle.model_core.specs.declared.command.Command.{Command}
+use Rattle.model_core.specs.declared.entry.Entry.{Entry}
+use Rattle.model_core.specs.declared.state.State.{State}
+use Rattle.model_core.specs.Domains.{opening, sizes_of}
+use Rattle.model_core.specs.History.{commands, state_after, LegalFrom}
+use Rattle.text_script.specs.declared.fault.ScriptFault.{ScriptFault}
+use Rattle.text_script.specs.declared.version.Version.TheVariants.{Three}
+use Rattle.text_script.specs.Faults.{IsFaultUnlessMemory}
+use Rattle.text_script.specs.Script.{Scripted}
+use Rattle.text_script.specs.Spelling.{Spells}
 use Rattle.heap_picture.specs.declared.fault.PictureFault.{PictureFault}
 use Rattle.heap_picture.specs.declared.fault.PictureFault.TheVariants.{Script, Play}
 use Rattle.heap_picture.specs.Sections.{made_of}

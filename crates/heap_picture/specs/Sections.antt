@@ -1,11 +1,11 @@
 -- The commands that a run of one domain makes of a script: in version 3 the hidden block is made first, and `argument` and `result` stand for a load and a store of it.
 use Rattle.std.specs.Prelude.{cond, ◌==◌, List, [], ◌++◌, map}
-use Rattle.heap_model.specs.declared.command.Command as declared_command
-use Rattle.heap_model.specs.declared.command.Command.TheVariants.{Load, Store, Argument, PutResult}
-use Rattle.heap_model.specs.History.{commands}
-use Rattle.heap_text.specs.declared.version.Version.{Version}
-use Rattle.heap_text.specs.Forms.{version_number}
-use Rattle.spawn_laws.specs.Hidden.{hidden, argument_of, result_of, prelude}
+use Rattle.model_core.specs.declared.command.Command as declared_command
+use Rattle.model_core.specs.declared.command.Command.TheVariants.{Load, Store, Argument, PutResult}
+use Rattle.model_core.specs.History.{commands}
+use Rattle.text_script.specs.declared.version.Version.{Version}
+use Rattle.text_script.specs.Forms.{version_number}
+use Rattle.model_traces.specs.Spawns.Hidden.{hidden, argument_of, result_of, prelude}
 
 -- the commands before the first section begins
 abbrev pub front : List declared_command.Command

@@ -1,12 +1,12 @@
 -- The states through which a script is played, one function for each step.
 use Rattle.std.specs.Prelude.{ℕ, zero, suc, cond, ◌==◌, false, List, length, min, slice_get, fold, Option, Some, None}
-use Rattle.heap_model.specs.declared.label.Label.{Label}
-use Rattle.heap_model.specs.declared.command.Command as declared_command
-use Rattle.heap_model.specs.declared.command.Command.TheVariants.{Major, FullMajor}
-use Rattle.heap_model.specs.declared.entry.Entry.TheVariants.{Command, Cut, Queue, Seal, Wipe, Last, Collected, Done, Ran}
-use Rattle.heap_model.specs.declared.state.State.{State}
-use Rattle.heap_model.specs.Domains.{domain_at}
-use Rattle.heap_model.specs.Entries.{next, is_some_and}
+use Rattle.model_core.specs.declared.label.Label.{Label}
+use Rattle.model_core.specs.declared.command.Command as declared_command
+use Rattle.model_core.specs.declared.command.Command.TheVariants.{Major, FullMajor}
+use Rattle.model_core.specs.declared.entry.Entry.TheVariants.{Command, Cut, Queue, Seal, Wipe, Last, Collected, Done, Ran}
+use Rattle.model_core.specs.declared.state.State.{State}
+use Rattle.model_core.specs.Domains.{domain_at}
+use Rattle.model_core.specs.Entries.{next, is_some_and}
 use Rattle.heap_picture.specs.Fates.{Reached, reached_in, fate_of, may_go}
 use Rattle.heap_picture.specs.Takes.{final_places, keys_of}
 

@@ -2,22 +2,22 @@
 use Rattle.std.specs.Prelude.{ℕ, ◌+◌, Bool, true, false, cond, ◌&&◌, ◌==◌, nat_lt, List, [], ◌∷◌, ◌++◌, length, flat_map, codes, decimal, pos, slice_get, Option, Some, None}
 use Rattle.std.specs.List.{list_any, list_all}
 use Rattle.std.specs.Fmt.{signed_decimal}
-use Rattle.heap_model.specs.declared.label.Label.{Label}
-use Rattle.heap_model.specs.declared.graph.Value.{Value}
-use Rattle.heap_model.specs.declared.graph.Value.TheVariants.{Int, Block, Nothing}
-use Rattle.heap_model.specs.declared.graph.Node.{Node}
-use Rattle.heap_model.specs.declared.graph.Node.TheVariants.{Plain, Raw, Ephe}
-use Rattle.heap_model.specs.declared.state.Pending.{Pending}
-use Rattle.heap_model.specs.declared.state.Pending.TheVariants.{Fin, Last}
-use Rattle.heap_model.specs.declared.state.Finaliser.{Finaliser}
-use Rattle.heap_model.specs.declared.state.LastFinaliser.{LastFinaliser}
-use Rattle.heap_model.specs.declared.state.DomainState.{DomainState}
-use Rattle.heap_model.specs.declared.state.State.{State}
-use Rattle.heap_model.specs.Commands.{same_value}
-use Rattle.heap_model.specs.Domains.{shared_label}
-use Rattle.heap_model.specs.Entries.{is_some_and}
-use Rattle.heap_model.specs.Graph.{same_label}
-use Rattle.heap_model.specs.Output.{label_text}
+use Rattle.model_core.specs.declared.label.Label.{Label}
+use Rattle.model_core.specs.declared.graph.Value.{Value}
+use Rattle.model_core.specs.declared.graph.Value.TheVariants.{Int, Block, Nothing}
+use Rattle.model_core.specs.declared.graph.Node.{Node}
+use Rattle.model_core.specs.declared.graph.Node.TheVariants.{Plain, Raw, Ephe}
+use Rattle.model_core.specs.declared.state.Pending.{Pending}
+use Rattle.model_core.specs.declared.state.Pending.TheVariants.{Fin, Last}
+use Rattle.model_core.specs.declared.state.Finaliser.{Finaliser}
+use Rattle.model_core.specs.declared.state.LastFinaliser.{LastFinaliser}
+use Rattle.model_core.specs.declared.state.DomainState.{DomainState}
+use Rattle.model_core.specs.declared.state.State.{State}
+use Rattle.model_core.specs.Commands.{same_value}
+use Rattle.model_core.specs.Domains.{shared_label}
+use Rattle.model_core.specs.Entries.{is_some_and}
+use Rattle.model_core.specs.Graph.{same_label}
+use Rattle.model_core.specs.Output.{label_text}
 use Rattle.heap_picture.specs.declared.fates.Fate.{Fate}
 use Rattle.heap_picture.specs.declared.fates.Fate.TheVariants.{Kept, MayReturn, MayGo}
 use Rattle.heap_picture.specs.Fates.{fate_of, reached_in, may_go, may_run, may_empty}

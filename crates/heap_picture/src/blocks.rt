@@ -1,15 +1,15 @@
 //! The blocks of the graph.
 ghost use Rattle.std.specs.Prelude.{◌≡◌, ◌++◌, OnOk, flat_map, pos, string_bytes};
-ghost use Rattle.heap_model.specs.Commands.{same_value};
+ghost use Rattle.model_core.specs.Commands.{same_value};
 ghost use Rattle.heap_picture.specs.Fates.{fate_of};
 ghost use Rattle.heap_picture.specs.Text.{placed, fill, field_cell, field_arrow, are_zeros as has_zeros, is_blank as has_blanks, cells_where, fields_head, fields_text, is_bare as is_bare_block, hides_shared as hides_shared_in, node_text, block_text};
 
 use crate::ephemerons::push_ephemeron;
 use crate::fates::{Fate, Fates};
 use crate::text::push_text;
-use heap_model::graph::{Node, Value};
-use heap_model::label::Label;
-use heap_model::sequence::Sequence;
+use model_core::graph::{Node, Value};
+use model_core::label::Label;
+use model_core::sequence::Sequence;
 use std::alloc::AllocError;
 use std::fmt::Write;
 

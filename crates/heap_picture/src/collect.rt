@@ -1,21 +1,21 @@
 //! The steps of a complete collection, which takes all that it may.
 ghost use Rattle.std.specs.Prelude.{◌≡◌, ◌++◌, ◌∷◌, [], cond, length, min, slice_get, OnOk, IfOk, Some};
-ghost use Rattle.heap_model.specs.History.{command_of};
+ghost use Rattle.model_core.specs.History.{command_of};
 ghost use Rattle.heap_picture.specs.Fates.{fate_of, may_go as goes, reached_in};
 ghost use Rattle.heap_picture.specs.Takes.{final_places as places_of_finals, key_places as places_of_keys, keys_of};
 ghost use Rattle.heap_picture.specs.Steps.{queued_at, with_finals_queued, wiped_where, wiped_at, wiped_upto, last_queued_at, with_lasts_queued, collected};
-ghost use Rattle.heap_model.specs.Domains.{domain_at};
-ghost use Rattle.heap_model.specs.Entries.{is_some_and, next};
+ghost use Rattle.model_core.specs.Domains.{domain_at};
+ghost use Rattle.model_core.specs.Entries.{is_some_and, next};
 ghost use Rattle.heap_picture.specs.Plays.{Plays};
 
 use crate::fates::{Fate, Fates, may_go, may_run};
-use heap_model::entry::{Entry, Places};
-use heap_model::graph::Node;
-use heap_model::label::Label;
-use heap_model::reply::ApplyFault;
-use heap_model::sequence::Sequence;
-use heap_model::state::{Finaliser, State};
-use slow_heap::SlowHeap;
+use judge_plain::SlowHeap;
+use model_core::entry::{Entry, Places};
+use model_core::graph::Node;
+use model_core::label::Label;
+use model_core::reply::ApplyFault;
+use model_core::sequence::Sequence;
+use model_core::state::{Finaliser, State};
 use std::alloc::{AllocError, Global};
 
 // Follows an entry, where it is legal.

@@ -1,7 +1,7 @@
 //! From the bytes of a script to the text of its picture.
 ghost use Rattle.std.specs.Prelude.{◌≡◌, ◌<◌, [], length, slice_index_or, IfOk, IfErr, string_bytes};
-ghost use Rattle.heap_text.specs.declared.version.Version.TheVariants.{Three};
-ghost use Rattle.heap_text.specs.Faults.{first_fault};
+ghost use Rattle.text_script.specs.declared.version.Version.TheVariants.{Three};
+ghost use Rattle.text_script.specs.Faults.{first_fault};
 ghost use Rattle.heap_picture.specs.Plays.{IsPictureOf, IsDrawn, IsFaultOf};
 ghost use Rattle.heap_picture.specs.Sections.{made_of};
 
@@ -9,11 +9,11 @@ use crate::fault::PictureFault;
 use crate::picture::picture;
 use crate::play::play;
 use crate::sections::commands_of;
-use heap_model::command::Command;
-use heap_model::reply::ApplyFault;
-use heap_text::{Script, Version, read_script};
-use slow_heap::SlowHeap;
+use judge_plain::SlowHeap;
+use model_core::command::Command;
+use model_core::reply::ApplyFault;
 use std::alloc::Global;
+use text_script::{Script, Version, read_script};
 
 // The picture of what a script leaves.
 fn draw_script(alloc: Global, script: &Script) -> Result<String, ApplyFault>

@@ -7,9 +7,9 @@ ghost use Rattle.heap_picture.specs.Text.{placed, key_cell, key_arrow, datum_int
 use crate::blocks::push_fill;
 use crate::fates::{Fates, may_go};
 use crate::text::{push_red, push_text};
-use heap_model::graph::Value;
-use heap_model::label::Label;
-use heap_model::sequence::Sequence;
+use model_core::graph::Value;
+use model_core::label::Label;
+use model_core::sequence::Sequence;
 use std::alloc::AllocError;
 use std::fmt::Write;
 

@@ -1,10 +1,10 @@
 //! What the next complete collection may do with each block.
 ghost use Rattle.std.specs.Prelude.{◌≡◌, IfOk};
-ghost use Rattle.heap_model.specs.Graph.{has_label};
+ghost use Rattle.model_core.specs.Graph.{has_label};
 ghost use Rattle.heap_picture.specs.Fates.{fate_of, reached_in, may_go as goes, may_run as runs, may_empty as empties};
 
-use heap_model::label::Label;
-use slow_heap::SlowHeap;
+use judge_plain::SlowHeap;
+use model_core::label::Label;
 use std::alloc::AllocError;
 use std::marker::Model;
 

@@ -1,6 +1,6 @@
 //! Why no picture is drawn.
-use heap_model::reply::ApplyFault;
-use heap_text::ScriptFault;
+use model_core::reply::ApplyFault;
+use text_script::ScriptFault;
 
 /// Why no picture is drawn.
 #[derive(Clone, Copy, Debug, PartialEq, Eq)]

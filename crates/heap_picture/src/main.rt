@@ -26,10 +26,10 @@ mod sections;
 mod text;
 
 use fault::PictureFault;
-use heap_text::ScriptFault;
 use std::io;
 use std::io::{Read, Write};
 use std::process::ExitCode;
+use text_script::ScriptFault;
 
 // Says why a script is refused, as `camlheap` does.
 fn tell(rt: &HostRuntime, fault: ScriptFault) {

@@ -7,9 +7,9 @@ use crate::blocks::{hides_shared, push_blocks};
 use crate::fates::Fates;
 use crate::registers::{push_finals, push_lasts, push_queue, push_registers};
 use crate::text::push_text;
-use heap_model::sequence::Sequence;
-use heap_model::state::{DomainState, State};
-use slow_heap::SlowHeap;
+use judge_plain::SlowHeap;
+use model_core::sequence::Sequence;
+use model_core::state::{DomainState, State};
 use std::alloc::{AllocError, Global};
 
 const HEAD: &str =

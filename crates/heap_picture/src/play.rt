@@ -1,15 +1,15 @@
 //! Plays the commands of a script, with collections and finalisers in between.
 ghost use Rattle.std.specs.Prelude.{◌≡◌, ◌∷◌, [], false, length, OnOk};
-ghost use Rattle.heap_model.specs.Domains.{domain_at};
-ghost use Rattle.heap_model.specs.Entries.{next};
+ghost use Rattle.model_core.specs.Domains.{domain_at};
+ghost use Rattle.model_core.specs.Entries.{next};
 ghost use Rattle.heap_picture.specs.Steps.{collected, with_queue_run, asked, played_one, played};
 ghost use Rattle.heap_picture.specs.Plays.{Plays};
 
 use crate::collect::{collect, follow};
-use heap_model::command::Command;
-use heap_model::entry::Entry;
-use heap_model::reply::ApplyFault;
-use slow_heap::SlowHeap;
+use judge_plain::SlowHeap;
+use model_core::command::Command;
+use model_core::entry::Entry;
+use model_core::reply::ApplyFault;
 use std::alloc::Global;
 
 // How many finalisers wait in the queue of domain 0.

@@ -5,10 +5,10 @@ ghost use Rattle.heap_picture.specs.Fates.{fate_of};
 
 use crate::fates::{Fates, may_go, may_run};
 use crate::text::{push_red, push_text};
-use heap_model::graph::Value;
-use heap_model::label::Label;
-use heap_model::sequence::Sequence;
-use heap_model::state::{Finaliser, LastFinaliser, Pending};
+use model_core::graph::Value;
+use model_core::label::Label;
+use model_core::sequence::Sequence;
+use model_core::state::{Finaliser, LastFinaliser, Pending};
 use std::alloc::AllocError;
 use std::fmt::Write;
 

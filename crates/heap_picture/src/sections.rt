@@ -2,9 +2,9 @@
 ghost use Rattle.std.specs.Prelude.{◌≡◌, ◌<◌, ◌++◌, [], length, map, slice_index_or, IfOk, OnOk};
 ghost use Rattle.heap_picture.specs.Sections.{front, stands_for, made_of};
 
-use heap_model::command::Command;
-use heap_text::Script;
+use model_core::command::Command;
 use std::alloc::{AllocError, Global};
+use text_script::Script;
 
 // The register that holds the block through which sections pass values, and the one that is used besides.
 const HIDDEN: u8 = 15;

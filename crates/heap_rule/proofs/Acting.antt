@@ -1,7 +1,7 @@
 -- A domain that acts goes on acting: for the layers above, which make several steps in one call.
 use Rattle.std.proofs.Common.{ℕ, ap, ◌∙◌}
-use Rattle.heap_model.specs.Domains.{domain_at, opening}
-use Rattle.heap_model.proofs.Histories.FrontLemmas.{keeps_front}
+use Rattle.model_core.specs.Domains.{domain_at, opening}
+use Rattle.model_core.proofs.Histories.FrontLemmas.{keeps_front}
 use Rattle.heap_rule.specs.declared.config.Config.{Config}
 use Rattle.heap_rule.specs.declared.view.DomainView.{DomainView}
 use Rattle.heap_rule.specs.Limits.{sizes_in}

@@ -4,19 +4,19 @@ use mathlib.Core.Logic.{dite}
 use native.Mathlib.Decide.{ℕ_discrete}
 use mathlib.Core.Option.{some}
 use lib.ListN.{get_elem?}
-use Rattle.heap_model.specs.declared.command.Command.{Command}
-use Rattle.heap_model.specs.declared.entry.Entry.{Entry}
-use Rattle.heap_model.specs.declared.entry.Entry.TheVariants.{Command as CommandOf}
-use Rattle.heap_model.specs.declared.label.Label.{Label}
-use Rattle.heap_model.specs.declared.state.State as model
-use Rattle.heap_model.specs.Domains.{domain_at, opening}
-use Rattle.heap_model.specs.Entries.{next}
-use Rattle.heap_model.specs.History.{is_entry_of}
-use Rattle.heap_model.specs.WellFormed.{IsNumbered}
-use Rattle.heap_model.proofs.Commands.FrameLemmas.{keeps_next}
-use Rattle.heap_model.proofs.Histories.NumberLemmas.{numbered_after, numbered_opening}
-use Rattle.cycle_laws.specs.Beside.{Snapshot, Later, WriteBarrier, owed_after}
-use Rattle.cycle_laws.proofs.Beside.{beside_law}
+use Rattle.model_core.specs.declared.command.Command.{Command}
+use Rattle.model_core.specs.declared.entry.Entry.{Entry}
+use Rattle.model_core.specs.declared.entry.Entry.TheVariants.{Command as CommandOf}
+use Rattle.model_core.specs.declared.label.Label.{Label}
+use Rattle.model_core.specs.declared.state.State as model
+use Rattle.model_core.specs.Domains.{domain_at, opening}
+use Rattle.model_core.specs.Entries.{next}
+use Rattle.model_core.specs.History.{is_entry_of}
+use Rattle.model_core.specs.WellFormed.{IsNumbered}
+use Rattle.model_core.proofs.Commands.FrameLemmas.{keeps_next}
+use Rattle.model_core.proofs.Histories.NumberLemmas.{numbered_after, numbered_opening}
+use Rattle.model_cycle.specs.Beside.{Snapshot, Later, WriteBarrier, owed_after}
+use Rattle.model_cycle.proofs.Beside.{beside_law}
 use Rattle.heap_rule.specs.declared.config.Config.{Config}
 use Rattle.heap_rule.specs.declared.view.DomainView.{DomainView}
 use Rattle.heap_rule.specs.declared.phase.Kind.TheVariants.{Run, Reset}

@@ -1,7 +1,7 @@
 -- Places that have changed in other things than label and shape.
 use Rattle.std.proofs.Common.{◌≡◌, ℕ, ◌+◌, ◌*◌, ◌≤◌, ◌⊎◌, List, Option, Some, None, sym, ◌∙◌, subst, inl, inr, ⊎_elim, arith}
-use Rattle.heap_model.specs.declared.label.Label.{Label}
-use Rattle.heap_model.specs.Fronts.{Shape}
+use Rattle.model_core.specs.declared.label.Label.{Label}
+use Rattle.model_core.specs.Fronts.{Shape}
 use Rattle.heap_words.specs.Labels.{IsPackableLabel}
 use Rattle.heap_rule.specs.declared.config.Config.{Config}
 use Rattle.heap_rule.specs.declared.view.DomainView.{DomainView}

@@ -1,10 +1,10 @@
 -- What steps keep of what a domain knows as it runs beside a cycle.
 use Rattle.std.proofs.Common.{◌≡◌, ◌≢◌, ℕ, ◌⊎◌, Bool, false, IsTrue, List, [], ◌∷◌, Option, Some, None, sym, refl, ap, ◌∙◌, subst, inl, inr, ⊎_elim}
-use Rattle.heap_model.specs.declared.label.Label.{Label}
-use Rattle.heap_model.specs.declared.graph.Value.TheVariants.{Block}
-use Rattle.heap_model.specs.Graph.{Graph}
-use Rattle.cycle_laws.specs.Beside.{Snapshot}
-use Rattle.cycle_laws.specs.Cover.{field_at}
+use Rattle.model_core.specs.declared.label.Label.{Label}
+use Rattle.model_core.specs.declared.graph.Value.TheVariants.{Block}
+use Rattle.model_core.specs.Graph.{Graph}
+use Rattle.model_cycle.specs.Beside.{Snapshot}
+use Rattle.model_cycle.specs.Cover.{field_at}
 use Rattle.heap_rule.specs.declared.config.Config.{Config}
 use Rattle.heap_rule.specs.declared.phase.Kind.TheVariants.{Run}
 use Rattle.heap_rule.specs.declared.phase.Stage.{Stage}

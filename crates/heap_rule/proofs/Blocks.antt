@@ -3,16 +3,16 @@ use Rattle.heap_rule.proofs.EphemeronLemmas.{found_value}
 use Rattle.std.proofs.Common.{Option, ◌≡◌, ◌⊎◌, inl, inr, ⊎_elim, ℕ, ◌+◌, ◌<◌, ◌≤◌, List, length, slice_get, Some, sym, refl, ap, ◌∙◌, subst, arith, []}
 use mathlib.Core.Option.{some}
 use lib.ListN.{get_elem?}
-use Rattle.heap_model.specs.declared.label.Label.{Label}
-use Rattle.heap_model.specs.declared.entry.Entry.{Entry}
-use Rattle.heap_model.specs.declared.graph.Value as graph_value
-use Rattle.heap_model.specs.declared.graph.Value.TheVariants.{Block}
-use Rattle.heap_model.specs.declared.graph.Node.TheVariants.{Plain, Raw}
-use Rattle.heap_model.specs.declared.state.State as model
-use Rattle.heap_model.specs.Graph.{node_at}
-use Rattle.heap_model.specs.Domains.{register, opening}
-use Rattle.heap_model.specs.Fronts.{PlainShape, RawShape, HoldsFields, Shape, HoldsShape}
-use Rattle.heap_model.proofs.Histories.FrontLemmas.{plain_of, raw_of, holds_later}
+use Rattle.model_core.specs.declared.label.Label.{Label}
+use Rattle.model_core.specs.declared.entry.Entry.{Entry}
+use Rattle.model_core.specs.declared.graph.Value as graph_value
+use Rattle.model_core.specs.declared.graph.Value.TheVariants.{Block}
+use Rattle.model_core.specs.declared.graph.Node.TheVariants.{Plain, Raw}
+use Rattle.model_core.specs.declared.state.State as model
+use Rattle.model_core.specs.Graph.{node_at}
+use Rattle.model_core.specs.Domains.{register, opening}
+use Rattle.model_core.specs.Fronts.{PlainShape, RawShape, HoldsFields, Shape, HoldsShape}
+use Rattle.model_core.proofs.Histories.FrontLemmas.{plain_of, raw_of, holds_later}
 use Rattle.heap_words.specs.declared.value.Value.{Value}
 use Rattle.heap_rule.specs.declared.config.Config.{Config}
 use Rattle.heap_rule.specs.declared.view.DomainView.{DomainView}

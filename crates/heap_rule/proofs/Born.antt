@@ -3,11 +3,11 @@ use Rattle.heap_rule.specs.Copies.{Recalls}
 use Rattle.std.proofs.Common.{◌*◌, ◌≡◌, ◌≢◌, ℕ, zero, suc, ◌+◌, ◌<◌, ◌≤◌, ◌⊎◌, List, get_or, replicate, slice_get, pos, Option, Some, None, unwrap_or, refl, sym, ap, ◌∙◌, subst, inl, inr, ⊎_elim, arith}
 use mathlib.Core.Logic.{dite}
 use native.Mathlib.Decide.{ℕ_discrete}
-use Rattle.heap_model.specs.declared.graph.Value as graph_value
-use Rattle.heap_model.specs.declared.graph.Value.TheVariants.{Int, Nothing}
+use Rattle.model_core.specs.declared.graph.Value as graph_value
+use Rattle.model_core.specs.declared.graph.Value.TheVariants.{Int, Nothing}
 use Rattle.heap_words.specs.declared.value.Value.{Value}
 use Rattle.heap_rule.specs.declared.config.Config.{Config}
-use Rattle.heap_model.specs.Domains.{reserve}
+use Rattle.model_core.specs.Domains.{reserve}
 use Rattle.heap_rule.specs.declared.view.DomainView.{DomainView}
 use Rattle.heap_rule.specs.Limits.{sizes_in}
 use Rattle.heap_rule.specs.Layout.{heap_words, base_of, listed}

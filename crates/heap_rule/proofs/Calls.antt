@@ -1,19 +1,19 @@
 -- A call of a running domain whose front ends with the entry of its command.
 use Rattle.std.proofs.Common.{◌≡◌, ◌∙◌, ℕ, Bool, List, [], false, sym, ap, subst}
-use Rattle.heap_model.specs.declared.entry.Entry.{Entry}
+use Rattle.model_core.specs.declared.entry.Entry.{Entry}
 use Rattle.heap_words.specs.declared.value.Value.{Value}
 use Rattle.heap_rule.specs.declared.view.DomainView.{DomainView}
 use Rattle.heap_rule.specs.Standing.{with_front, with_registers}
-use Rattle.heap_model.specs.declared.command.Command.{Command}
-use Rattle.heap_model.specs.declared.entry.Entry.TheVariants.{Command as CommandOf}
-use Rattle.heap_model.specs.declared.reply.Reply.{Reply}
-use Rattle.heap_model.specs.declared.reply.Applied.{Applied}
-use Rattle.heap_model.specs.declared.reply.Applied.TheVariants.{Replied}
-use Rattle.heap_model.specs.Domains.{domain_at}
-use Rattle.heap_model.specs.Fronts.{Answers}
-use Rattle.heap_model.proofs.Histories.AnswerLemmas.{acts_after}
+use Rattle.model_core.specs.declared.command.Command.{Command}
+use Rattle.model_core.specs.declared.entry.Entry.TheVariants.{Command as CommandOf}
+use Rattle.model_core.specs.declared.reply.Reply.{Reply}
+use Rattle.model_core.specs.declared.reply.Applied.{Applied}
+use Rattle.model_core.specs.declared.reply.Applied.TheVariants.{Replied}
+use Rattle.model_core.specs.Domains.{domain_at}
+use Rattle.model_core.specs.Fronts.{Answers}
+use Rattle.model_core.proofs.Histories.AnswerLemmas.{acts_after}
 use Rattle.heap_rule.specs.declared.config.Config.{Config}
-use Rattle.remembered_set.specs.Bounded.{Bounded}
+use Rattle.heap_words.specs.Remembered.Bounded.{Bounded}
 use Rattle.heap_rule.specs.declared.view.Waiting.{Waiting}
 use Rattle.heap_rule.specs.declared.view.Hunt.TheVariants.{Rests}
 use Rattle.heap_rule.specs.Limits.{sizes_in}

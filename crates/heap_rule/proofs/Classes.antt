@@ -1,8 +1,8 @@
 -- The size classes of pools, and where their places lie. Nothing here names a size: the table is checked as a whole.
 use Rattle.std.proofs.Common.{◌≡◌, ℕ, zero, suc, ◌+◌, ◌*◌, ◌/◌, ◌<◌, ◌≤◌, Bool, true, false, cond, leb, leb-true, eqb, eqb-true, List, [], ◌∷◌, length, suc-mul, mul-le-mul_right, get_or, refl, ap, subst, arith}
 use Rattle.std.proofs.Math.Nat.{mul-le-mul_left, zero-mul}
-use Rattle.size_classes.specs.declared.TheConstants.{SIZES}
-use Rattle.heap_model.specs.Domains.{class_count}
+use Rattle.heap_words.specs.declared.classes.TheConstants.{SIZES}
+use Rattle.model_core.specs.Domains.{class_count}
 use Rattle.heap_rule.specs.Pools.{size_of, blocks_of}
 
 -- blocks of a class have at least four words, a multiple of four, and fill a pool

@@ -1,9 +1,9 @@
 -- The token after a step: its plain data is again that of its seat's view.
 use Rattle.std.proofs.Common.{◌≡◌, ℕ, List, [], ◌∷◌, sym, ap, ◌∙◌, subst, inl}
 use Rattle.atomic_table.specs.Table.{Me, Allows}
-use Rattle.heap_model.specs.declared.entry.Entry.{Entry}
-use Rattle.heap_model.specs.Fronts.{IsFrontOf}
-use Rattle.heap_model.proofs.Histories.FrontLemmas.{front_whole}
+use Rattle.model_core.specs.declared.entry.Entry.{Entry}
+use Rattle.model_core.specs.Fronts.{IsFrontOf}
+use Rattle.model_core.proofs.Histories.FrontLemmas.{front_whole}
 use Rattle.heap_rule.specs.declared.config.Config.{Config}
 use Rattle.heap_rule.specs.declared.view.Own.{Own}
 use Rattle.heap_rule.specs.declared.view.DomainView.{DomainView}

@@ -7,11 +7,11 @@ use mathlib.Core.Logic.{dite}
 use native.Mathlib.Decide.{dec_le}
 use mathlib.Core.Option.{some}
 use lib.ListN.{get_elem?}
-use Rattle.heap_model.specs.declared.entry.Entry.{Entry}
-use Rattle.heap_model.specs.declared.graph.Value.{Value}
-use Rattle.heap_model.specs.declared.graph.Value.TheVariants.{Int, Block, Nothing}
-use Rattle.heap_model.specs.Graph.{Graph}
-use Rattle.heap_model.specs.Domains.{register}
+use Rattle.model_core.specs.declared.entry.Entry.{Entry}
+use Rattle.model_core.specs.declared.graph.Value.{Value}
+use Rattle.model_core.specs.declared.graph.Value.TheVariants.{Int, Block, Nothing}
+use Rattle.model_core.specs.Graph.{Graph}
+use Rattle.model_core.specs.Domains.{register}
 use Rattle.heap_words.specs.declared.value.Value as words
 use Rattle.heap_words.specs.declared.value.Value.TheVariants.{Int as IntWord, Ref, Nothing as NothingWord}
 use Rattle.heap_words.specs.Values.{value_word}
@@ -31,7 +31,7 @@ use Rattle.heap_rule.specs.Pools.{no_stock, drawn, Stock, Covered, Hunts, KeepsR
 use Rattle.heap_rule.specs.declared.view.Finalisers.{Finalisers}
 use Rattle.heap_rule.specs.Finalisers.{RefersOld, Enrolled}
 use Rattle.heap_rule.proofs.FinaliserLemmas.{enrolled_at}
-use Rattle.heap_model.specs.declared.state.State as model
+use Rattle.model_core.specs.declared.state.State as model
 use Rattle.heap_rule.specs.Sweeping.{SweepsIn}
 use Rattle.heap_rule.specs.Rule.{state_of, AllFound, Stood, Rule, Account, Sharing, Good}
 use Rattle.heap_rule.specs.Views.{one}

@@ -1,7 +1,7 @@
 -- The seats are joined, and the last one sees the whole history.
 use Rattle.std.proofs.Common.{◌≡◌, ℕ, List, [], ◌∷◌, ◌++◌, length, set, sym, refl, ap, ◌∙◌, subst, arith, append_assoc, append-nil}
 use Rattle.atomic_table.specs.Table.{Me, keeps, Allows, Joins}
-use Rattle.heap_model.specs.declared.entry.Entry.{Entry}
+use Rattle.model_core.specs.declared.entry.Entry.{Entry}
 use Rattle.heap_rule.specs.declared.config.Config.{Config}
 use Rattle.heap_rule.specs.declared.view.DomainView.{DomainView}
 use Rattle.heap_rule.specs.declared.view.View.{View}

@@ -2,23 +2,23 @@
 use Rattle.std.proofs.Common.{◌≡◌, ◌≢◌, ℕ, ◌<◌, Bool, false, List, [], ◌∷◌, ◌++◌, length, get_or, set, sym, refl, ap, ◌∙◌, subst, ne_eqb, Option, None}
 use mathlib.Core.Option.{some}
 use lib.ListN.{get_elem?}
-use Rattle.heap_model.specs.declared.command.Command.{Command}
-use Rattle.heap_model.specs.declared.entry.Entry.{Entry}
-use Rattle.heap_model.specs.declared.entry.Entry.TheVariants.{Command as CommandOf}
-use Rattle.heap_model.specs.declared.reply.Applied.{Applied}
-use Rattle.heap_model.specs.declared.graph.Value as model_value
-use Rattle.heap_model.specs.declared.graph.Value.TheVariants.{Nothing}
-use Rattle.heap_model.specs.declared.state.State as model
-use Rattle.heap_model.specs.Graph.{Graph}
-use Rattle.heap_model.specs.declared.state.Mode.TheVariants.{Open}
-use Rattle.heap_model.specs.Commands.{FitsMode}
-use Rattle.heap_model.specs.Domains.{domain_at, IsShaped}
-use Rattle.heap_model.specs.Entries.{Allowed, next}
-use Rattle.heap_model.specs.History.{is_entry_of}
-use Rattle.heap_model.proofs.Histories.ShapeAfterLemmas.{shaped-history}
-use Rattle.heap_model.proofs.Commands.FrameLemmas.{inside_running, frame_command}
-use Rattle.heap_model.proofs.Histories.FrontLemmas.{answers_push}
-use Rattle.heap_model.proofs.Commands.LeavesLemmas.{Leaves}
+use Rattle.model_core.specs.declared.command.Command.{Command}
+use Rattle.model_core.specs.declared.entry.Entry.{Entry}
+use Rattle.model_core.specs.declared.entry.Entry.TheVariants.{Command as CommandOf}
+use Rattle.model_core.specs.declared.reply.Applied.{Applied}
+use Rattle.model_core.specs.declared.graph.Value as model_value
+use Rattle.model_core.specs.declared.graph.Value.TheVariants.{Nothing}
+use Rattle.model_core.specs.declared.state.State as model
+use Rattle.model_core.specs.Graph.{Graph}
+use Rattle.model_core.specs.declared.state.Mode.TheVariants.{Open}
+use Rattle.model_core.specs.Commands.{FitsMode}
+use Rattle.model_core.specs.Domains.{domain_at, IsShaped}
+use Rattle.model_core.specs.Entries.{Allowed, next}
+use Rattle.model_core.specs.History.{is_entry_of}
+use Rattle.model_core.proofs.Histories.ShapeAfterLemmas.{shaped-history}
+use Rattle.model_core.proofs.Commands.FrameLemmas.{inside_running, frame_command}
+use Rattle.model_core.proofs.Histories.FrontLemmas.{answers_push}
+use Rattle.model_core.proofs.Commands.LeavesLemmas.{Leaves}
 use Rattle.heap_words.specs.declared.value.Value.{Value}
 use Rattle.heap_rule.specs.declared.change.Change.{Change}
 use Rattle.heap_rule.specs.declared.config.Config.{Config}
@@ -37,7 +37,7 @@ use Rattle.heap_rule.proofs.Sharings.{with_weak}
 use Rattle.heap_rule.proofs.Advancing.{Advance}
 use Rattle.heap_rule.proofs.Garbage.{garbage_same}
 use Rattle.heap_rule.proofs.Keeps.{Words, IsOfTrace, mine, my_good, own, control_same, controls_kept, appends, legal_entry, hunter_as, more_same, owes_as, recalls_same, run_settled, run_open}
-use Rattle.heap_model.proofs.Commands.MoveLemmas.{registers_one}
+use Rattle.model_core.proofs.Commands.MoveLemmas.{registers_one}
 use Rattle.heap_rule.specs.declared.view.Finalisers.{Finalisers}
 use Rattle.heap_rule.specs.Finalisers.{Enrolled, StandsWaiting}
 use Rattle.heap_rule.proofs.FinaliserLemmas.{KeepsWork, enrolled_as, paired_none, work_command}

@@ -1,14 +1,14 @@
 -- What steps keep of the ephemerons of a domain.
 use Rattle.std.proofs.Common.{◌≡◌, ℕ, ◌⊎◌, IsTrue, List, [], length, Option, Some, None, sym, refl, ap, ◌∙◌, subst, inr, ⊎_elim, ◌∷◌, ◌+◌, map, slice_get, length-set, Bool, suc}
 use Rattle.std.proofs.lemmas.List.{length-map}
-use Rattle.heap_model.specs.declared.label.Label.{Label}
-use Rattle.heap_model.specs.declared.graph.Node.{Node}
-use Rattle.heap_model.specs.declared.graph.Node.TheVariants.{Plain, Raw, Ephe}
-use Rattle.heap_model.specs.declared.graph.Value.{Value}
-use Rattle.heap_model.specs.Graph.{Graph}
-use Rattle.heap_model.specs.Commands.{key_value}
-use Rattle.heap_model.specs.Entries.{wiped_keys}
-use Rattle.cycle_laws.specs.Marks.{Marks}
+use Rattle.model_core.specs.declared.label.Label.{Label}
+use Rattle.model_core.specs.declared.graph.Node.{Node}
+use Rattle.model_core.specs.declared.graph.Node.TheVariants.{Plain, Raw, Ephe}
+use Rattle.model_core.specs.declared.graph.Value.{Value}
+use Rattle.model_core.specs.Graph.{Graph}
+use Rattle.model_core.specs.Commands.{key_value}
+use Rattle.model_core.specs.Entries.{wiped_keys}
+use Rattle.model_cycle.specs.Marks.{Marks}
 use Rattle.heap_rule.specs.declared.config.Config.{Config}
 use Rattle.heap_rule.specs.declared.phase.Stage.{Stage}
 use Rattle.heap_rule.specs.declared.view.Cleaning.{Cleaning}

@@ -1,24 +1,24 @@
 -- Registrations and queues through steps: what stands for them stands for them still.
 use Rattle.std.proofs.Common.{◌≡◌, ◌≢◌, ℕ, zero, suc, ◌+◌, Bool, true, false, IsTrue, List, [], ◌∷◌, ◌++◌, length, map, take, drop, get_or, set, slice_get, option_map, option_and_then, Option, Some, None, sym, refl, ap, ◌∙◌, subst, get_or-set_other}
 use Rattle.std.specs.Prelude.{remove}
-use Rattle.heap_model.specs.declared.label.Label.{Label}
-use Rattle.heap_model.specs.declared.command.Command.{Command}
-use Rattle.heap_model.specs.declared.entry.Entry.{Entry}
-use Rattle.heap_model.specs.declared.entry.Entry.TheVariants.{Command as CommandOf, End, Cut, Queue as QueueOf, Seal, Wipe, Last as LastOf, Collected, Done, Ran}
-use Rattle.heap_model.specs.declared.graph.Node.{Node}
-use Rattle.heap_model.specs.declared.state.DomainState.{DomainState}
-use Rattle.heap_model.specs.declared.state.Finaliser.{Finaliser}
-use Rattle.heap_model.specs.declared.state.LastFinaliser.{LastFinaliser}
-use Rattle.heap_model.specs.declared.state.Pending.{Pending}
-use Rattle.heap_model.specs.declared.state.Pending.TheVariants.{Fin as FinPending, Last as LastPending}
-use Rattle.heap_model.specs.declared.state.State as model
-use Rattle.heap_model.specs.Commands.{outcome, allocated}
-use Rattle.heap_model.specs.Domains.{domain_at, no_domain, pending_label, with_domain}
-use Rattle.heap_model.specs.Entries.{next, wiped, with_wiped, without_first, after_run}
-use Rattle.heap_model.specs.Graph.{node_at}
-use Rattle.heap_model.specs.History.{is_entry_of}
-use Rattle.heap_model.proofs.Commands.FrameLemmas.{part_set, part_map, frame_command, not_same}
-use Rattle.heap_model.proofs.Commands.MoveLemmas.{moved, registers_one}
+use Rattle.model_core.specs.declared.label.Label.{Label}
+use Rattle.model_core.specs.declared.command.Command.{Command}
+use Rattle.model_core.specs.declared.entry.Entry.{Entry}
+use Rattle.model_core.specs.declared.entry.Entry.TheVariants.{Command as CommandOf, End, Cut, Queue as QueueOf, Seal, Wipe, Last as LastOf, Collected, Done, Ran}
+use Rattle.model_core.specs.declared.graph.Node.{Node}
+use Rattle.model_core.specs.declared.state.DomainState.{DomainState}
+use Rattle.model_core.specs.declared.state.Finaliser.{Finaliser}
+use Rattle.model_core.specs.declared.state.LastFinaliser.{LastFinaliser}
+use Rattle.model_core.specs.declared.state.Pending.{Pending}
+use Rattle.model_core.specs.declared.state.Pending.TheVariants.{Fin as FinPending, Last as LastPending}
+use Rattle.model_core.specs.declared.state.State as model
+use Rattle.model_core.specs.Commands.{outcome, allocated}
+use Rattle.model_core.specs.Domains.{domain_at, no_domain, pending_label, with_domain}
+use Rattle.model_core.specs.Entries.{next, wiped, with_wiped, without_first, after_run}
+use Rattle.model_core.specs.Graph.{node_at}
+use Rattle.model_core.specs.History.{is_entry_of}
+use Rattle.model_core.proofs.Commands.FrameLemmas.{part_set, part_map, frame_command, not_same}
+use Rattle.model_core.proofs.Commands.MoveLemmas.{moved, registers_one}
 use Rattle.heap_rule.specs.declared.phase.Kind.{Kind}
 use Rattle.heap_rule.specs.declared.phase.Kind.TheVariants.{Roots, Queued}
 use Rattle.heap_rule.specs.declared.view.Finalisers.{Finalisers}

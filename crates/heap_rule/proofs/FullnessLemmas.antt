@@ -1,17 +1,17 @@
 -- Fullness through the steps: as entries come, as blocks cease to live, and from phase to phase.
 use Rattle.std.proofs.Common.{◌≡◌, ℕ, false, IsTrue, List, [], ◌∷◌, ◌++◌, Option, Some, sym, ap, ◌∙◌, subst, inl, inr, ⊎_elim, refl, ◌≢◌, ◌≤◌, ◌||◌, cond, arith, ◌⊎◌, true, None, ◌*◌, ◌+◌, ◌<◌, Bool}
-use Rattle.heap_model.specs.declared.entry.Entry.{Entry}
-use Rattle.heap_model.specs.declared.entry.Entry.TheVariants.{Command as CommandOf, Ran}
-use Rattle.heap_model.specs.declared.graph.Node.{Node}
-use Rattle.heap_model.specs.declared.label.Label.{Label}
-use Rattle.heap_model.specs.declared.state.State as model
-use Rattle.heap_model.specs.Graph.{has_label, node_at, same_label}
-use Rattle.heap_model.specs.Domains.{opening}
-use Rattle.heap_model.specs.History.{state_after}
-use Rattle.heap_model.proofs.Commands.FrameLemmas.{grew_next}
-use Rattle.heap_model.proofs.Histories.HistoryLemmas.{state_after-push}
-use Rattle.cycle_laws.specs.Fullness.{kept_labels, is_collected, HoldsKept, new_label}
-use Rattle.cycle_laws.proofs.Keeping.{all_kept_stays, kept_push, makes_label}
+use Rattle.model_core.specs.declared.entry.Entry.{Entry}
+use Rattle.model_core.specs.declared.entry.Entry.TheVariants.{Command as CommandOf, Ran}
+use Rattle.model_core.specs.declared.graph.Node.{Node}
+use Rattle.model_core.specs.declared.label.Label.{Label}
+use Rattle.model_core.specs.declared.state.State as model
+use Rattle.model_core.specs.Graph.{has_label, node_at, same_label}
+use Rattle.model_core.specs.Domains.{opening}
+use Rattle.model_core.specs.History.{state_after}
+use Rattle.model_core.proofs.Commands.FrameLemmas.{grew_next}
+use Rattle.model_core.proofs.Histories.HistoryLemmas.{state_after-push}
+use Rattle.model_cycle.specs.Fullness.{kept_labels, is_collected, HoldsKept, new_label}
+use Rattle.model_cycle.proofs.Keeping.{all_kept_stays, kept_push, makes_label}
 use Rattle.heap_rule.specs.declared.config.Config.{Config}
 use Rattle.heap_rule.specs.declared.phase.Kind.{Kind}
 use Rattle.heap_rule.specs.declared.phase.Kind.TheVariants.{Answer}
@@ -23,11 +23,11 @@ use Rattle.heap_rule.proofs.Keeps.{IsOfTrace}
 use Rattle.heap_rule.proofs.Again.{Back}
 use mathlib.Core.Logic.{dite}
 use native.Mathlib.Decide.{ℕ_discrete}
-use Rattle.heap_model.specs.declared.command.Command.{Command}
-use Rattle.heap_model.specs.Commands.{is_allocation}
-use Rattle.cycle_laws.specs.Pools.{with_pool}
-use Rattle.heap_model.proofs.Reach.ReachLemmas.{has-append_right}
-use Rattle.heap_model.proofs.Graphs.GraphLemmas.{same_label_refl, same_label-true, same_label-false}
+use Rattle.model_core.specs.declared.command.Command.{Command}
+use Rattle.model_core.specs.Commands.{is_allocation}
+use Rattle.model_cycle.specs.Pools.{with_pool}
+use Rattle.model_core.proofs.Reach.ReachLemmas.{has-append_right}
+use Rattle.model_core.proofs.Graphs.GraphLemmas.{same_label_refl, same_label-true, same_label-false}
 use Rattle.heap_rule.proofs.Lots.{number_cases, place_low}
 use Rattle.heap_rule.proofs.Classes.{slot_inside, size_least}
 

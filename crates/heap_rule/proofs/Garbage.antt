@@ -1,7 +1,7 @@
 -- Garbage stays where a step neither frees it nor makes any, and so does what a domain knows of it.
 use Rattle.std.proofs.Common.{◌≡◌, ℕ, ◌+◌, ◌*◌, ◌<◌, ◌≤◌, ◌⊎◌, Bool, false, IsTrue, List, None, sym, refl, ap, ◌∙◌, subst, arith, ⊎_elim}
 use Rattle.std.proofs.lemmas.Bool.{cases_Bool}
-use Rattle.heap_model.specs.Domains.{class_count}
+use Rattle.model_core.specs.Domains.{class_count}
 use Rattle.heap_rule.specs.declared.config.Config.{Config}
 use Rattle.heap_rule.specs.declared.phase.Kind.{Kind}
 use Rattle.heap_rule.specs.declared.view.Reaping.{Reaping}

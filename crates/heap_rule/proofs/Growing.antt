@@ -4,12 +4,12 @@ use native.Mathlib.Decide.{ℕ_discrete}
 use Rattle.std.proofs.Math.Nat.{mul_assoc}
 use Rattle.std.proofs.Common.{◌≡◌, ℕ, suc, zero, ◌+◌, ◌*◌, ◌/◌, ◌<◌, ◌≤◌, Bool, IsTrue, List, length, Option, Some, None, sym, ap, ◌∙◌, subst, arith}
 use Rattle.std.specs.List.{cons_option}
-use Rattle.heap_model.specs.declared.label.Label.{Label}
-use Rattle.heap_model.specs.Graph.{has_label, same_label}
-use Rattle.heap_model.proofs.Graphs.GraphLemmas.{same_label_refl}
-use Rattle.heap_model.proofs.Reach.ReachLemmas.{or_left, or_right}
-use Rattle.cycle_laws.specs.Ending.{unmarked_of}
-use Rattle.cycle_laws.proofs.Ending.{unmarked_few}
+use Rattle.model_core.specs.declared.label.Label.{Label}
+use Rattle.model_core.specs.Graph.{has_label, same_label}
+use Rattle.model_core.proofs.Graphs.GraphLemmas.{same_label_refl}
+use Rattle.model_core.proofs.Reach.ReachLemmas.{or_left, or_right}
+use Rattle.model_cycle.specs.Ending.{unmarked_of}
+use Rattle.model_cycle.proofs.Ending.{unmarked_few}
 use Rattle.heap_rule.specs.declared.config.Config.{Config}
 use Rattle.heap_rule.specs.declared.phase.Kind.{Kind}
 use Rattle.heap_rule.specs.declared.phase.Kind.TheVariants.{Run, Promote, Reset, Roots, Mark, Rounds, Decide, Queued, Clean, Lasts, Sweep, Answer}

@@ -5,10 +5,10 @@ use Rattle.std.proofs.lemmas.Bool.{le-leb, lt-leb}
 use mathlib.Core.Logic.{dite}
 use native.Mathlib.Decide.{dec_le}
 use Rattle.heap_words.specs.declared.head.Head.TheVariants.{Plain as PlainHead}
-use Rattle.heap_model.specs.Fronts.{Shape, PlainShape, RawShape, EpheShape}
+use Rattle.model_core.specs.Fronts.{Shape, PlainShape, RawShape, EpheShape}
 use Rattle.heap_words.specs.Heads.{IsPackableHead}
 use Rattle.heap_rule.specs.Places.{Place, Paint, IsHead, IsPackableShape, needs_no_scan, tagged, head_of, colour_in, IsNewHead, HeadIs, new_colour}
-use Rattle.heap_model.specs.declared.label.Label.{Label}
+use Rattle.model_core.specs.declared.label.Label.{Label}
 use Rattle.heap_words.specs.ColourWords.{IsPermutation}
 use Rattle.heap_words.specs.declared.colours.Colours.{Colours}
 

@@ -1,17 +1,17 @@
 -- No entry changes the numbers of a heap.
 use Rattle.std.proofs.Common.{◌≡◌, ℕ, true, false, List, [], ◌∷◌, Option, Some, None, refl, ◌∙◌}
-use Rattle.heap_model.specs.declared.label.Label.{Label}
-use Rattle.heap_model.specs.declared.entry.Entry.{Entry}
-use Rattle.heap_model.specs.declared.entry.Entry.TheVariants.{Command, End, Cut, Queue, Seal, Wipe, Last, Collected, Done, Ran}
-use Rattle.heap_model.specs.declared.graph.Node.{Node}
-use Rattle.heap_model.specs.declared.state.Pending.{Pending}
-use Rattle.heap_model.specs.declared.state.Pending.TheVariants.{Fin as FinPending, Last as LastPending}
-use Rattle.heap_model.specs.declared.state.State.{State}
-use Rattle.heap_model.specs.Domains.{domain_at}
-use Rattle.heap_model.specs.Entries.{next, wiped, with_wiped, after_run}
-use Rattle.heap_model.specs.Graph.{node_at}
-use Rattle.heap_model.specs.History.{state_after}
-use Rattle.heap_model.proofs.Commands.MoveLemmas.{outcome-sizes}
+use Rattle.model_core.specs.declared.label.Label.{Label}
+use Rattle.model_core.specs.declared.entry.Entry.{Entry}
+use Rattle.model_core.specs.declared.entry.Entry.TheVariants.{Command, End, Cut, Queue, Seal, Wipe, Last, Collected, Done, Ran}
+use Rattle.model_core.specs.declared.graph.Node.{Node}
+use Rattle.model_core.specs.declared.state.Pending.{Pending}
+use Rattle.model_core.specs.declared.state.Pending.TheVariants.{Fin as FinPending, Last as LastPending}
+use Rattle.model_core.specs.declared.state.State.{State}
+use Rattle.model_core.specs.Domains.{domain_at}
+use Rattle.model_core.specs.Entries.{next, wiped, with_wiped, after_run}
+use Rattle.model_core.specs.Graph.{node_at}
+use Rattle.model_core.specs.History.{state_after}
+use Rattle.model_core.proofs.Commands.MoveLemmas.{outcome-sizes}
 
 wiped_sizes : (s : State) (l : Label) (o : Option Node) → (with_wiped s l o).sizes ≡ s.sizes
 wiped_sizes s l None = refl

@@ -1,6 +1,6 @@
 -- What all kinds of step share: what a domain knows at its seat, and that the rule holds again where the whole, the own domain and each other one meet it.
-use Rattle.remembered_set.specs.Bounded.{Bounded}
-use Rattle.heap_model.specs.declared.label.Label.{Label}
+use Rattle.heap_words.specs.Remembered.Bounded.{Bounded}
+use Rattle.model_core.specs.declared.label.Label.{Label}
 use Rattle.std.proofs.lemmas.Option.{slice_get_within}
 use Rattle.heap_rule.specs.declared.phase.Kind.{Kind}
 use Rattle.std.proofs.Common.{zero-le, not, slice_get, inl, inr, ⊎_elim, None, ◌≡◌, ◌≢◌, ℕ, zero, suc, ◌+◌, ◌*◌, ◌<◌, ◌≤◌, false, List, [], ◌∷◌, ◌++◌, length, get_or, set, Some, sym, refl, ap, ◌∙◌, subst, arith, length-set, get_or-set_other, append_assoc, ◌⊎◌, Option, true, IsTrue}
@@ -10,21 +10,21 @@ use mathlib.Core.Option.{some}
 use lib.ListN.{get_elem?}
 use lib.Seq.{set-get_or}
 use Rattle.atomic_table.specs.Table.{State}
-use Rattle.heap_model.specs.declared.graph.Value.{Value}
-use Rattle.heap_model.specs.declared.graph.Value.TheVariants.{Int, Block, Nothing}
+use Rattle.model_core.specs.declared.graph.Value.{Value}
+use Rattle.model_core.specs.declared.graph.Value.TheVariants.{Int, Block, Nothing}
 use Rattle.heap_words.specs.declared.value.Value as words
 use Rattle.heap_words.specs.declared.value.Value.TheVariants.{Int as IntWord, Ref, Nothing as NothingWord}
-use Rattle.heap_model.specs.declared.entry.Entry.{Entry}
-use Rattle.heap_model.specs.declared.entry.Entry.TheVariants.{Command as CommandOf, Ran}
-use Rattle.heap_model.specs.declared.state.DomainState.{DomainState}
-use Rattle.heap_model.specs.declared.state.State as model
-use Rattle.heap_model.specs.Domains.{domain_at, register, opening}
-use Rattle.heap_model.specs.Entries.{Allowed, next}
-use Rattle.heap_model.specs.History.{IsPrefix, Legal, is_entry_of}
-use Rattle.heap_model.specs.Fronts.{AreCalls, AreNotControls, IsFrontOf, KeepsDomain, Shape, is_call, is_control, unseen}
-use Rattle.heap_model.proofs.Histories.HistoryLemmas.{legal_push, state_after-push}
-use Rattle.heap_model.proofs.Commands.FrameLemmas.{keeps_next, frame_command}
-use Rattle.heap_model.proofs.Histories.FrontLemmas.{front_whole, front_push, keeps_front, unseen_push, unseen_whole}
+use Rattle.model_core.specs.declared.entry.Entry.{Entry}
+use Rattle.model_core.specs.declared.entry.Entry.TheVariants.{Command as CommandOf, Ran}
+use Rattle.model_core.specs.declared.state.DomainState.{DomainState}
+use Rattle.model_core.specs.declared.state.State as model
+use Rattle.model_core.specs.Domains.{domain_at, register, opening}
+use Rattle.model_core.specs.Entries.{Allowed, next}
+use Rattle.model_core.specs.History.{IsPrefix, Legal, is_entry_of}
+use Rattle.model_core.specs.Fronts.{AreCalls, AreNotControls, IsFrontOf, KeepsDomain, Shape, is_call, is_control, unseen}
+use Rattle.model_core.proofs.Histories.HistoryLemmas.{legal_push, state_after-push}
+use Rattle.model_core.proofs.Commands.FrameLemmas.{keeps_next, frame_command}
+use Rattle.model_core.proofs.Histories.FrontLemmas.{front_whole, front_push, keeps_front, unseen_push, unseen_whole}
 use Rattle.heap_rule.specs.declared.config.Config.{Config}
 use Rattle.heap_rule.specs.declared.view.DomainView.{DomainView}
 use Rattle.heap_rule.specs.declared.view.Hunt.{Hunt}
@@ -51,17 +51,17 @@ use Rattle.heap_rule.proofs.Garbage.{KeepsGarbage, sweeps_on}
 use Rattle.heap_rule.proofs.Sharings.{SameCycle, KeepsUnderway, with_past, with_weak, leading_past, telling_weak, leading_weak, kind_now, cycle_between, facts_between, leading_words, leading_as, telling_as, idle_in, idle_beside, takes_kind, adds_nothing}
 use Rattle.heap_rule.proofs.BesideLemmas.{Endures, all_known_on, runs_on, runs_as, knows_weak}
 use Rattle.heap_rule.specs.declared.view.Share.{Share}
-use Rattle.heap_model.specs.Graph.{Graph}
+use Rattle.model_core.specs.Graph.{Graph}
 use Rattle.heap_rule.specs.Beside.{AllKnown, IsUnaware, RunsBeside, is_weak}
-use Rattle.cycle_laws.specs.Beside.{Snapshot}
+use Rattle.model_cycle.specs.Beside.{Snapshot}
 use Rattle.heap_rule.specs.Room.{spent_stock, count, drawn_in_all, copied_words, Room, IsUnused, Opened, Drawable}
-use Rattle.heap_model.specs.Domains.{class_count, reserve}
+use Rattle.model_core.specs.Domains.{class_count, reserve}
 use Rattle.heap_rule.specs.Layout.{heap_words, at_address}
 use Rattle.heap_rule.specs.Pools.{Holder, Stock, Reserved, IsListWhole, IsReturning, KnowsList, Covered, Takes, IsCopying, Latest, DrawsFor, prepared_at, size_of, Tenancy, drawn, owned, Pools, Grid, Drawers, IsLeading, Lists, Resting, Hunts, Hunter, drawn_in, hunting_below, spot_at, IsBefore, IsFree, limit_of}
 use Rattle.heap_rule.specs.Standing.{with_front}
 use Rattle.heap_rule.specs.Ephemerons.{IsEpheAt, Listed}
 use Rattle.heap_rule.specs.Finalisers.{RefersOld}
-use Rattle.heap_model.specs.declared.state.Mode.TheVariants.{Open}
+use Rattle.model_core.specs.declared.state.Mode.TheVariants.{Open}
 use Rattle.heap_rule.proofs.FinaliserLemmas.{KeepsWork, QueuesNothing, enrolled_as, enrolled_more, work_next, deciding_none, run_ended}
 use Rattle.heap_rule.proofs.EphemeronLemmas.{looks_idle, none_misses, listed_on, listed_as, ephe_more}
 use Rattle.heap_rule.proofs.Lists.{views_set, domains_map, domains_with, no_item}

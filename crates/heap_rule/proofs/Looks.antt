@@ -1,7 +1,7 @@
 -- A domain at the start has looked at no place of the pools.
 use Rattle.std.proofs.Common.{◌≡◌, ◌∙◌, ℕ, zero, suc, ◌+◌, ◌<◌, ◌≤◌, lit<, List, [], ◌∷◌, get_or, replicate, Some, zero-le, sym, refl, subst, arith}
 use Rattle.atomic_table.specs.Table.{Me}
-use Rattle.heap_model.specs.Domains.{class_count, IsWithinLimits}
+use Rattle.model_core.specs.Domains.{class_count, IsWithinLimits}
 use Rattle.heap_words.specs.declared.value.Value.{Value}
 use Rattle.heap_words.specs.declared.value.Value.TheVariants.{Ref, Nothing}
 use Rattle.heap_words.specs.Values.{IsPackable}
@@ -12,7 +12,7 @@ use Rattle.heap_rule.specs.Changes.{value_at}
 use Rattle.heap_rule.specs.Layout.{heap_words}
 use Rattle.heap_rule.specs.Limits.{sizes_in}
 use Rattle.heap_rule.specs.Token.{IsAddress, LooksWithin, IsSeatOf}
-use Rattle.remembered_set.specs.Bounded.{Bounded}
+use Rattle.heap_words.specs.Remembered.Bounded.{Bounded}
 use Rattle.heap_rule.specs.declared.view.Own.{Own}
 use Rattle.heap_rule.specs.Finalisers.{FinalisersFit, held_at}
 use Rattle.heap_rule.specs.declared.view.Held.{Held}

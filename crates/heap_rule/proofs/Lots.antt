@@ -1,5 +1,5 @@
 -- What a written word leaves of the pools.
-use Rattle.heap_model.specs.Domains.{class_count}
+use Rattle.model_core.specs.Domains.{class_count}
 use Rattle.std.proofs.Common.{Bool, true, false, refl, ◌^◌, Option, None, ◌≡◌, ◌≢◌, ℕ, ◌+◌, ◌*◌, ◌<◌, ◌≤◌, ◌⊎◌, List, length, get_or, set, Some, sym, ap, ◌∙◌, subst, inl, inr, ⊎_elim, arith, get_or-set_other, lt_of_not-le, false, IsTrue}
 use mathlib.Core.Logic.{dite}
 use native.Mathlib.Decide.{ℕ_discrete, dec_le}
@@ -10,8 +10,8 @@ use Rattle.heap_rule.specs.declared.view.DomainView.{DomainView}
 use Rattle.heap_rule.specs.Cycles.{Cycling, Leaves}
 use Rattle.heap_rule.specs.Layout.{before_heap, at_address}
 use Rattle.heap_rule.specs.Places.{Place, Live, Paint, colour_in, extent, head_of, Found, HeadIs, More}
-use Rattle.heap_model.specs.Graph.{Graph}
-use Rattle.heap_model.specs.Fronts.{Shape, PlainShape, RawShape, EpheShape}
+use Rattle.model_core.specs.Graph.{Graph}
+use Rattle.model_core.specs.Fronts.{Shape, PlainShape, RawShape, EpheShape}
 use Rattle.heap_words.specs.Heads.{head_word}
 use Rattle.heap_rule.specs.Pools.{DrawsFor, Grid, Holder, Hunter, Hunts, IsBefore, IsSpare, Latest, OwnPlace, Pools, Tenancy, blocks_of, drawn, limit_of, owned, place_in, size_of}
 use Rattle.heap_rule.proofs.Lists.{got_below}

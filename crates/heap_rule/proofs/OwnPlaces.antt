@@ -3,7 +3,7 @@ use Rattle.std.proofs.Common.{◌≡◌, ℕ, zero, suc, ◌+◌, ◌-◌, ◌*�
 use Rattle.std.proofs.Math.Nat.{mod-eq-sub-div-mul, div-mul-le_self, lt_of_mul-lt-mul_right}
 use mathlib.Core.Logic.{dite}
 use native.Mathlib.Decide.{ℕ_discrete}
-use Rattle.heap_model.specs.Domains.{class_count}
+use Rattle.model_core.specs.Domains.{class_count}
 use Rattle.heap_rule.specs.Pools.{Holder, nobody, drawn, owned, size_of, blocks_of, OwnPlace}
 use Rattle.heap_rule.specs.Cycles.{starts_in, owner_at}
 use Rattle.heap_rule.proofs.Classes.{fill}

@@ -1,8 +1,8 @@
 -- Where domains stand in the phases, and what follows of how they stand beside each other.
 use Rattle.std.proofs.Common.{◌≡◌, ◌≢◌, ℕ, true, List, [], ◌∷◌, ◌++◌, ◌+◌, ◌*◌, sym, ap, ◌∙◌, subst, arith, ⊎_elim}
-use Rattle.heap_model.specs.declared.entry.Entry.{Entry}
-use Rattle.heap_model.specs.Fronts.{is_call}
-use Rattle.heap_model.proofs.Histories.FrontLemmas.{unseen_push}
+use Rattle.model_core.specs.declared.entry.Entry.{Entry}
+use Rattle.model_core.specs.Fronts.{is_call}
+use Rattle.model_core.proofs.Histories.FrontLemmas.{unseen_push}
 use Rattle.heap_rule.specs.declared.view.DomainView.{DomainView}
 use Rattle.heap_rule.specs.declared.phase.Kind.{Kind}
 use Rattle.heap_rule.specs.declared.phase.Kind.TheVariants.{Run, Promote}

@@ -1,10 +1,10 @@
 -- What steps outside a collection of the major heap, and steps that leave its words, keep of it.
 use Rattle.std.proofs.Common.{◌≡◌, ℕ, IsTrue, List, sym, refl, ◌∙◌, subst, inl, inr, ⊎_elim, ap, Option}
-use Rattle.heap_model.specs.declared.state.State as model
-use Rattle.heap_model.specs.Graph.{Graph}
-use Rattle.cycle_laws.specs.Beside.{Snapshot}
-use Rattle.cycle_laws.specs.Marks.{Marks}
-use Rattle.cycle_laws.specs.Shares.{Shares}
+use Rattle.model_core.specs.declared.state.State as model
+use Rattle.model_core.specs.Graph.{Graph}
+use Rattle.model_cycle.specs.Beside.{Snapshot}
+use Rattle.model_cycle.specs.Marks.{Marks}
+use Rattle.model_cycle.specs.Shares.{Shares}
 use Rattle.heap_words.specs.declared.colours.Colours.{Colours}
 use Rattle.heap_words.specs.declared.value.Value.{Value}
 use Rattle.heap_rule.specs.declared.config.Config.{Config}

@@ -1,7 +1,7 @@
 -- Bounds on the numbers of a heap within its limits.
 use Rattle.std.proofs.Common.{◌≡◌, ℕ, suc, ◌+◌, ◌*◌, ◌^◌, ◌<◌, ◌≤◌, suc-mul, mul-le-mul_right, subst, arith, rules, Option, Some, None, ◌⊎◌, inr, refl}
-use Rattle.heap_model.specs.Domains.{IsWithinLimits, first_outside as outside_sizes}
-use Rattle.heap_model.specs.declared.state.Sizes.{Sizes}
+use Rattle.model_core.specs.Domains.{IsWithinLimits, first_outside as outside_sizes}
+use Rattle.model_core.specs.declared.state.Sizes.{Sizes}
 use Rattle.heap_rule.specs.declared.config.Config.{Config}
 use Rattle.heap_rule.specs.Limits.{sizes_in, first_of, outside_rooms, first_outside}
 use Rattle.heap_rule.specs.Layout.{heap_words, base_of}

@@ -6,13 +6,13 @@ use mathlib.Core.Logic.{dite}
 use native.Mathlib.Decide.{ℕ_discrete}
 use mathlib.Core.Option.{some-injective, some-ne-none}
 use Rattle.atomic_table.specs.Table.{opening}
-use Rattle.heap_model.specs.declared.graph.Value.{Value}
-use Rattle.heap_model.specs.declared.graph.Value.TheVariants.{Int, Block, Nothing}
-use Rattle.heap_model.specs.declared.state.DomainState.{DomainState}
-use Rattle.heap_model.specs.declared.state.State as model
-use Rattle.heap_model.specs.Domains.{class_count, IsWithinLimits, domain_at, register, no_domain, opening_domain, shared_label, shared_node}
-use Rattle.heap_model.specs.Domains as states
-use Rattle.heap_model.specs.Fronts.{PlainShape, EpheShape}
+use Rattle.model_core.specs.declared.graph.Value.{Value}
+use Rattle.model_core.specs.declared.graph.Value.TheVariants.{Int, Block, Nothing}
+use Rattle.model_core.specs.declared.state.DomainState.{DomainState}
+use Rattle.model_core.specs.declared.state.State as model
+use Rattle.model_core.specs.Domains.{class_count, IsWithinLimits, domain_at, register, no_domain, opening_domain, shared_label, shared_node}
+use Rattle.model_core.specs.Domains as states
+use Rattle.model_core.specs.Fronts.{PlainShape, EpheShape}
 use Rattle.heap_words.specs.declared.value.Value.TheVariants.{Int as IntWord, Ref, Nothing as NothingWord}
 use Rattle.heap_rule.specs.declared.config.Config.{Config}
 use Rattle.heap_rule.specs.declared.view.DomainView.{DomainView}
@@ -36,12 +36,12 @@ use Rattle.heap_rule.specs.Opening.{IsOpening, first_colours}
 use Rattle.heap_rule.proofs.Update.{over, over_here, over_else}
 use Rattle.heap_rule.proofs.Sizes.{heap_large}
 use Rattle.heap_rule.specs.Cycles.{Cycling}
-use Rattle.cycle_laws.specs.Cycle.{First}
-use Rattle.cycle_laws.specs.Shares.{no_shares}
-use Rattle.heap_model.specs.Graph.{has_label, same_label, node_at}
-use Rattle.heap_model.proofs.Graphs.GraphLemmas.{same_label-true}
+use Rattle.model_cycle.specs.Cycle.{First}
+use Rattle.model_cycle.specs.Shares.{no_shares}
+use Rattle.model_core.specs.Graph.{has_label, same_label, node_at}
+use Rattle.model_core.proofs.Graphs.GraphLemmas.{same_label-true}
 use Rattle.heap_rule.specs.Fullness.{Homes}
-use Rattle.heap_model.specs.declared.label.Label.{Label}
+use Rattle.model_core.specs.declared.label.Label.{Label}
 use Rattle.heap_rule.proofs.Holders.{drawn_owned, nobody_drawn, nobody_owned}
 use Rattle.std.proofs.lemmas.Option.{none-some, same_Some}
 

@@ -1,14 +1,14 @@
 -- A cycle that goes on beside running domains, in the rule: what its marks cover, and what a domain that runs knows of blocks of the pools.
 use Rattle.std.specs.Prelude.{◌≡◌, ℕ, ◌*◌, ◌<◌, ◌⊎◌, ◌==◌, Bool, false, IsTrue, List, [], ◌∷◌, filter_map, Option, Some, None}
-use Rattle.heap_model.specs.declared.label.Label.{Label}
-use Rattle.heap_model.specs.declared.graph.Value.TheVariants.{Block}
-use Rattle.heap_model.specs.declared.state.State as model
-use Rattle.heap_model.specs.Domains.{domain_at, pending_label, register}
-use Rattle.heap_model.specs.Graph.{Graph, has_label}
-use Rattle.cycle_laws.specs.Beside.{Snapshot, IsBeside}
-use Rattle.cycle_laws.specs.Cover.{field_at, is_new}
-use Rattle.cycle_laws.specs.Marks.{Marks}
-use Rattle.cycle_laws.specs.Shares.{Shares}
+use Rattle.model_core.specs.declared.label.Label.{Label}
+use Rattle.model_core.specs.declared.graph.Value.TheVariants.{Block}
+use Rattle.model_core.specs.declared.state.State as model
+use Rattle.model_core.specs.Domains.{domain_at, pending_label, register}
+use Rattle.model_core.specs.Graph.{Graph, has_label}
+use Rattle.model_cycle.specs.Beside.{Snapshot, IsBeside}
+use Rattle.model_cycle.specs.Cover.{field_at, is_new}
+use Rattle.model_cycle.specs.Marks.{Marks}
+use Rattle.model_cycle.specs.Shares.{Shares}
 use Rattle.heap_rule.specs.declared.config.Config.{Config}
 use Rattle.heap_rule.specs.declared.phase.Kind.{Kind}
 use Rattle.heap_rule.specs.declared.phase.Kind.TheVariants.{Run, Reset}

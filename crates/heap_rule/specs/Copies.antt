@@ -1,6 +1,6 @@
 -- What a domain knows and owes in a collection of young blocks.
 use Rattle.std.specs.Prelude.{◌≡◌, ◌≢◌, ℕ, ◌+◌, ◌*◌, ◌<◌, ◌⊎◌, cond, eqb, List, [], ◌∷◌, slice_get, Some, None}
-use Rattle.heap_model.specs.Fronts.{Shape, PlainShape, RawShape, EpheShape}
+use Rattle.model_core.specs.Fronts.{Shape, PlainShape, RawShape, EpheShape}
 use Rattle.heap_rule.specs.declared.view.Form.{Form}
 use Rattle.heap_rule.specs.declared.view.Form.TheVariants.{Plain, Raw, Ephe}
 use Rattle.heap_rule.specs.declared.view.Met.{Met}

@@ -1,21 +1,21 @@
 -- A collection of the major heap in the rule: what is marked, how far the domains are, and what each of them knows in a phase of it.
 use Rattle.std.specs.Prelude.{◌≡◌, ◌≢◌, ℕ, zero, suc, ◌+◌, ◌*◌, ◌/◌, ◌%◌, ◌<◌, ◌≤◌, ◌⊎◌, ◌==◌, ◌||◌, nat_le, filter_map, Bool, true, false, cond, IsTrue, List, [], ◌∷◌, length, slice_get, sum_by, Option, Some, None, ◌^◌}
 use Rattle.std.specs.List.{list_any}
-use Rattle.heap_model.specs.declared.label.Label.{Label}
-use Rattle.heap_model.specs.declared.graph.Value.{Value}
-use Rattle.heap_model.specs.declared.graph.Value.TheVariants.{Block}
-use Rattle.heap_model.specs.declared.graph.Node.TheVariants.{Plain, Ephe}
-use Rattle.heap_model.specs.declared.state.State as model
-use Rattle.heap_model.specs.declared.state.Mode.TheVariants.{Open, Sealed, Answer as Answered}
-use Rattle.heap_model.specs.Graph.{Graph, node_at, has_label, has_no_repeats, words_at}
-use Rattle.heap_model.specs.Fronts.{Shape}
-use Rattle.cycle_laws.specs.Beside.{Snapshot}
-use Rattle.cycle_laws.specs.Counting.{added_up}
-use Rattle.cycle_laws.specs.Cycle as laws
-use Rattle.cycle_laws.specs.Ending.{IsGrowing, unmarked_of}
-use Rattle.cycle_laws.specs.Marks.{Marks, fields_of}
-use Rattle.cycle_laws.specs.Progress.{FieldsDone, KeysDone}
-use Rattle.cycle_laws.specs.Shares.{Layout, Shares, AllArrived}
+use Rattle.model_core.specs.declared.label.Label.{Label}
+use Rattle.model_core.specs.declared.graph.Value.{Value}
+use Rattle.model_core.specs.declared.graph.Value.TheVariants.{Block}
+use Rattle.model_core.specs.declared.graph.Node.TheVariants.{Plain, Ephe}
+use Rattle.model_core.specs.declared.state.State as model
+use Rattle.model_core.specs.declared.state.Mode.TheVariants.{Open, Sealed, Answer as Answered}
+use Rattle.model_core.specs.Graph.{Graph, node_at, has_label, has_no_repeats, words_at}
+use Rattle.model_core.specs.Fronts.{Shape}
+use Rattle.model_cycle.specs.Beside.{Snapshot}
+use Rattle.model_cycle.specs.Counting.{added_up}
+use Rattle.model_cycle.specs.Cycle as laws
+use Rattle.model_cycle.specs.Ending.{IsGrowing, unmarked_of}
+use Rattle.model_cycle.specs.Marks.{Marks, fields_of}
+use Rattle.model_cycle.specs.Progress.{FieldsDone, KeysDone}
+use Rattle.model_cycle.specs.Shares.{Layout, Shares, AllArrived}
 use Rattle.heap_words.specs.declared.colours.Colours.{Colours}
 use Rattle.heap_words.specs.ColourWords.{IsPermutation, colours_word}
 use Rattle.heap_words.specs.declared.value.Value as held

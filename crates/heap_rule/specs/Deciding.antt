@@ -1,6 +1,6 @@
 -- How far a domain is with its finalisers in a collection.
 use Rattle.std.specs.Prelude.{◌≡◌, ℕ, ◌+◌, Bool, false, IsTrue, List, length, Some}
-use Rattle.heap_model.specs.declared.label.Label.{Label}
+use Rattle.model_core.specs.declared.label.Label.{Label}
 use Rattle.heap_rule.specs.declared.phase.Kind.{Kind}
 use Rattle.heap_rule.specs.declared.phase.Kind.TheVariants.{Roots, Queued, Decide, Lasts}
 use Rattle.heap_rule.specs.declared.view.Finalisers.{Finalisers}

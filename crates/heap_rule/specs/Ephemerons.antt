@@ -1,12 +1,12 @@
 -- The ephemerons of a domain in the rule: which are listed, and how far the domain is in one of them.
 use Rattle.std.specs.Prelude.{◌≡◌, ℕ, ◌<◌, ◌⊎◌, ◌==◌, cond, not, Bool, IsTrue, List, [], length, slice_get, Option, Some, None}
-use Rattle.heap_model.specs.declared.label.Label.{Label}
-use Rattle.heap_model.specs.declared.graph.Value.{Value}
-use Rattle.heap_model.specs.declared.graph.Node.TheVariants.{Ephe}
-use Rattle.heap_model.specs.Fronts.{EpheShape}
-use Rattle.heap_model.specs.Graph.{Graph, node_at}
-use Rattle.cycle_laws.specs.Marks.{Marks}
-use Rattle.cycle_laws.specs.Progress.{KeysFound}
+use Rattle.model_core.specs.declared.label.Label.{Label}
+use Rattle.model_core.specs.declared.graph.Value.{Value}
+use Rattle.model_core.specs.declared.graph.Node.TheVariants.{Ephe}
+use Rattle.model_core.specs.Fronts.{EpheShape}
+use Rattle.model_core.specs.Graph.{Graph, node_at}
+use Rattle.model_cycle.specs.Marks.{Marks}
+use Rattle.model_cycle.specs.Progress.{KeysFound}
 use Rattle.heap_rule.specs.declared.phase.Kind.TheVariants.{Clean}
 use Rattle.heap_rule.specs.declared.phase.Stage.{Stage}
 use Rattle.heap_rule.specs.declared.phase.Stage.TheVariants.{In}

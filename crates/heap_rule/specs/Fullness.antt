@@ -1,12 +1,12 @@
 -- Why pools are used up only where much is kept: each owned pool holds a block that the last complete collection left or that was made since, or has held one.
 use Rattle.std.specs.Prelude.{◌≡◌, Bool, ℕ, ◌*◌, ◌<◌, ◌⊎◌, IsTrue, List, Option, Some, None}
-use Rattle.heap_model.specs.declared.entry.Entry.{Entry}
-use Rattle.heap_model.specs.declared.label.Label.{Label}
-use Rattle.heap_model.specs.declared.graph.Node.{Node}
-use Rattle.heap_model.specs.Domains.{class_count, opening}
-use Rattle.heap_model.specs.Graph.{has_label, node_at}
-use Rattle.heap_model.specs.History.{state_after}
-use Rattle.cycle_laws.specs.Fullness.{kept_labels, HoldsKept}
+use Rattle.model_core.specs.declared.entry.Entry.{Entry}
+use Rattle.model_core.specs.declared.label.Label.{Label}
+use Rattle.model_core.specs.declared.graph.Node.{Node}
+use Rattle.model_core.specs.Domains.{class_count, opening}
+use Rattle.model_core.specs.Graph.{has_label, node_at}
+use Rattle.model_core.specs.History.{state_after}
+use Rattle.model_cycle.specs.Fullness.{kept_labels, HoldsKept}
 use Rattle.heap_rule.specs.declared.config.Config.{Config}
 use Rattle.heap_rule.specs.declared.phase.Kind.{Kind}
 use Rattle.heap_rule.specs.declared.phase.Kind.TheVariants.{Answer}

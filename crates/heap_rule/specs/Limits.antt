@@ -1,7 +1,7 @@
 -- The limits of a heap's numbers.
 use Rattle.std.specs.Prelude.{ℕ, not, nat_le, Option, Some, None, if◌then◌else◌}
-use Rattle.heap_model.specs.declared.state.Sizes.{Sizes}
-use Rattle.heap_model.specs.Domains.{sizes_of, class_count, first_outside as outside_sizes}
+use Rattle.model_core.specs.declared.state.Sizes.{Sizes}
+use Rattle.model_core.specs.Domains.{sizes_of, class_count, first_outside as outside_sizes}
 use Rattle.heap_rule.specs.declared.config.Config.{Config}
 
 -- the sizes that the definition of a legal history takes

@@ -1,7 +1,7 @@
 -- A heap at its start: the words of its table, and the tokens of its domains.
 use Rattle.std.specs.Prelude.{◌≡◌, ℕ, zero, suc, ◌+◌, ◌-◌, ◌<◌, ◌≤◌, false, List, [], ◌∷◌, length, slice_index, None}
 use Rattle.atomic_table.specs.Seated.{TableId}
-use Rattle.heap_model.specs.Fronts.{PlainShape}
+use Rattle.model_core.specs.Fronts.{PlainShape}
 use Rattle.heap_words.specs.declared.colours.Colours.{Colours}
 use Rattle.heap_words.specs.ColourWords.{colours_word}
 use Rattle.heap_rule.specs.declared.config.Config.{Config}

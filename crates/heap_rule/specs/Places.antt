@@ -1,16 +1,16 @@
 -- What lives at the addresses, and when words stand for it.
 use Rattle.std.specs.Prelude.{[], nat_le, if◌then◌else◌, ◌≡◌, ◌≢◌, ℕ, ◌+◌, ◌*◌, ◌%◌, ◌<◌, ◌≤◌, ◌⊎◌, Bool, true, false, cond, ◌&&◌, IsTrue, List, ◌∷◌, length, map, slice_get, slice_index, Option, Some, None}
-use Rattle.size_classes.specs.declared.TheConstants.{SIZES}
-use Rattle.heap_model.specs.declared.label.Label.{Label}
-use Rattle.heap_model.specs.declared.graph.Value.{Value}
-use Rattle.heap_model.specs.declared.graph.Value.TheVariants.{Int, Block, Nothing}
-use Rattle.heap_model.specs.declared.graph.Node.{Node}
-use Rattle.heap_model.specs.declared.graph.Node.TheVariants.{Plain, Raw, Ephe}
-use Rattle.heap_model.specs.Graph.{Graph, node_at}
-use Rattle.cycle_laws.specs.Marks.{Marks}
-use Rattle.heap_model.specs.Commands.{key_value}
-use Rattle.heap_model.specs.Entries.{wiped_keys}
-use Rattle.heap_model.specs.Fronts.{Shape, PlainShape, RawShape, EpheShape, shape_of}
+use Rattle.heap_words.specs.declared.classes.TheConstants.{SIZES}
+use Rattle.model_core.specs.declared.label.Label.{Label}
+use Rattle.model_core.specs.declared.graph.Value.{Value}
+use Rattle.model_core.specs.declared.graph.Value.TheVariants.{Int, Block, Nothing}
+use Rattle.model_core.specs.declared.graph.Node.{Node}
+use Rattle.model_core.specs.declared.graph.Node.TheVariants.{Plain, Raw, Ephe}
+use Rattle.model_core.specs.Graph.{Graph, node_at}
+use Rattle.model_cycle.specs.Marks.{Marks}
+use Rattle.model_core.specs.Commands.{key_value}
+use Rattle.model_core.specs.Entries.{wiped_keys}
+use Rattle.model_core.specs.Fronts.{Shape, PlainShape, RawShape, EpheShape, shape_of}
 use Rattle.heap_words.specs.declared.value.Value as words
 use Rattle.heap_words.specs.declared.value.Value.TheVariants.{Int as IntWord, Ref, Nothing as NothingWord}
 use Rattle.heap_words.specs.declared.colours.Colours.{Colours}

@@ -1,7 +1,7 @@
 -- The pools: who has each, where their blocks lie, and what a domain that takes one of their blocks knows.
 use Rattle.std.specs.Prelude.{Bool, false, IsTrue, ◌≡◌, ◌≢◌, ℕ, ◌+◌, ◌*◌, ◌-◌, ◌/◌, ◌<◌, ◌≤◌, ◌⊎◌, List, [], length, slice_index, slice_index_or, slice_get, Option, Some, None, true}
-use Rattle.size_classes.specs.declared.TheConstants.{SIZES}
-use Rattle.heap_model.specs.Domains.{class_count, reserve}
+use Rattle.heap_words.specs.declared.classes.TheConstants.{SIZES}
+use Rattle.model_core.specs.Domains.{class_count, reserve}
 use Rattle.heap_rule.specs.declared.config.Config.{Config}
 use Rattle.heap_rule.specs.declared.view.Hunt.{Hunt}
 use Rattle.heap_rule.specs.declared.view.Listing.{Listing}

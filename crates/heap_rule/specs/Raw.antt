@@ -1,9 +1,9 @@
 -- What a step call asks of the calls that it stands on: that the rule allows its step, and that what the step tells of the token's plain data is what its changes make of it.
 use Rattle.std.specs.Prelude.{◌≡◌, ℕ, List, [], ◌∷◌, ◌⊎◌}
 use Rattle.atomic_table.specs.Table.{Allows}
-use Rattle.heap_model.specs.declared.entry.Entry.{Entry}
-use Rattle.heap_model.specs.declared.reply.Applied.{Applied}
-use Rattle.heap_model.specs.Fronts.{IsFrontOf, Answers}
+use Rattle.model_core.specs.declared.entry.Entry.{Entry}
+use Rattle.model_core.specs.declared.reply.Applied.{Applied}
+use Rattle.model_core.specs.Fronts.{IsFrontOf, Answers}
 use Rattle.heap_words.specs.declared.value.Value.{Value}
 use Rattle.heap_rule.specs.declared.change.Change.{Change}
 use Rattle.heap_rule.specs.declared.change.Reading.{Reading}

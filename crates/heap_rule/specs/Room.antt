@@ -1,6 +1,6 @@
 -- Room for copies: while blocks live in minor areas, so many pools are kept free that all of these blocks find a place in pools.
 use Rattle.std.specs.Prelude.{◌≡◌, ℕ, zero, suc, ◌+◌, ◌*◌, ◌<◌, ◌≤◌, Bool, true, if◌then◌else◌, List, Some}
-use Rattle.heap_model.specs.Domains.{class_count, reserve}
+use Rattle.model_core.specs.Domains.{class_count, reserve}
 use Rattle.heap_rule.specs.declared.config.Config.{Config}
 use Rattle.heap_rule.specs.declared.phase.Kind.TheVariants.{Run, Promote}
 use Rattle.heap_rule.specs.Limits.{sizes_in}

@@ -1,11 +1,11 @@
 -- The rule of the table: what holds between any two steps. Each part speaks only of what it names. docs/RULE.md explains it.
 use Rattle.std.specs.Prelude.{◌≡◌, ℕ, ◌+◌, ◌*◌, ◌<◌, ◌≤◌, ◌⊎◌, List, length, slice_get, Some}
 use Rattle.atomic_table.specs.Table.{State}
-use Rattle.heap_model.specs.declared.entry.Entry.{Entry}
-use Rattle.heap_model.specs.declared.state.State as model
-use Rattle.heap_model.specs.Graph.{Graph}
-use Rattle.heap_model.specs.Domains.{domain_at, register, opening, IsWithinLimits}
-use Rattle.heap_model.specs.History.{state_after, Legal}
+use Rattle.model_core.specs.declared.entry.Entry.{Entry}
+use Rattle.model_core.specs.declared.state.State as model
+use Rattle.model_core.specs.Graph.{Graph}
+use Rattle.model_core.specs.Domains.{domain_at, register, opening, IsWithinLimits}
+use Rattle.model_core.specs.History.{state_after, Legal}
 use Rattle.heap_words.specs.declared.value.Value.{Value}
 use Rattle.heap_rule.specs.declared.config.Config.{Config}
 use Rattle.heap_rule.specs.declared.view.DomainView.{DomainView}

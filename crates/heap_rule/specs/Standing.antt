@@ -1,10 +1,10 @@
 -- What the contracts of step calls have in common.
 use Rattle.std.specs.Prelude.{◌≡◌, ℕ, ◌+◌, ◌<◌, ◌≤◌, false, List, [], ◌∷◌, ◌++◌, None}
-use Rattle.heap_model.specs.declared.entry.Entry.{Entry}
-use Rattle.heap_model.specs.declared.reply.Applied.{Applied}
-use Rattle.heap_model.specs.Domains.{domain_at, register}
-use Rattle.heap_model.specs.History.{Legal}
-use Rattle.heap_model.specs.Fronts.{AreCalls, IsFrontOf, Answers, HoldsFields, unseen}
+use Rattle.model_core.specs.declared.entry.Entry.{Entry}
+use Rattle.model_core.specs.declared.reply.Applied.{Applied}
+use Rattle.model_core.specs.Domains.{domain_at, register}
+use Rattle.model_core.specs.History.{Legal}
+use Rattle.model_core.specs.Fronts.{AreCalls, IsFrontOf, Answers, HoldsFields, unseen}
 use Rattle.heap_words.specs.declared.value.Value.{Value}
 use Rattle.heap_words.specs.declared.value.Value.TheVariants.{Ref, Nothing}
 use Rattle.heap_rule.specs.declared.change.Change.{Change}

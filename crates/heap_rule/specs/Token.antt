@@ -2,7 +2,7 @@
 use Rattle.std.specs.Prelude.{◌≡◌, ℕ, ◌+◌, ◌<◌, ◌≤◌, List, [], ◌∷◌, length, slice_get, Some}
 use Rattle.atomic_table.specs.Table.{Me}
 use Rattle.atomic_table.specs.Seated.{TableId}
-use Rattle.heap_model.specs.declared.label.Label.{Label}
+use Rattle.model_core.specs.declared.label.Label.{Label}
 use Rattle.heap_words.specs.declared.value.Value.{Value}
 use Rattle.heap_words.specs.declared.value.Value.TheVariants.{Ref}
 use Rattle.heap_words.specs.Values.{IsPackable}
@@ -14,7 +14,7 @@ use Rattle.heap_rule.specs.declared.view.Swept.{Swept}
 use Rattle.heap_rule.specs.declared.view.View.{View}
 use Rattle.heap_rule.specs.declared.view.TheConstants.{REMEMBERED_ROOM}
 use Rattle.heap_rule.specs.Pools.{blocks_of, spot_at}
-use Rattle.heap_model.specs.Domains.{class_count, IsWithinLimits}
+use Rattle.model_core.specs.Domains.{class_count, IsWithinLimits}
 use Rattle.heap_rule.specs.Limits.{sizes_in}
 use Rattle.heap_rule.specs.Layout.{heap_words, base_of}
 use Rattle.heap_rule.specs.Changes.{value_at}

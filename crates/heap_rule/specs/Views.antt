@@ -1,12 +1,12 @@
 -- The views of seats: what each knows of the history and of the domains that it stands for.
-use Rattle.heap_model.specs.Domains.{class_count}
+use Rattle.model_core.specs.Domains.{class_count}
 use Rattle.std.specs.Prelude.{◌≡◌, ◌≢◌, ℕ, zero, suc, ◌+◌, ◌*◌, ◌/◌, ◌<◌, ◌⊎◌, List, [], ◌∷◌, ◌++◌, replicate, true, false, Option, Some, None}
 use mathlib.Core.Option.{some}
 use lib.ListN.{get_elem?}
 use Rattle.atomic_table.specs.Table.{Me, Step}
-use Rattle.heap_model.specs.declared.entry.Entry.{Entry}
-use Rattle.heap_model.specs.History.{IsPrefix}
-use Rattle.heap_model.specs.Fronts.{AreNotControls, IsFrontOf, unseen}
+use Rattle.model_core.specs.declared.entry.Entry.{Entry}
+use Rattle.model_core.specs.History.{IsPrefix}
+use Rattle.model_core.specs.Fronts.{AreNotControls, IsFrontOf, unseen}
 use Rattle.heap_words.specs.declared.value.Value.TheVariants.{Ref, Nothing}
 use Rattle.heap_rule.specs.declared.view.TheConstants.{REMEMBERED_ROOM}
 use Rattle.heap_rule.specs.declared.config.Config.{Config}

@@ -3,8 +3,8 @@ ghost use Rattle.std.specs.Prelude.{◌≡◌};
 ghost use Rattle.heap_rule.specs.Limits.{sizes_in, first_outside};
 ghost use Rattle.heap_rule.specs.declared.config.StartFault.TheVariants.{Memory};
 
-use heap_model::state::Sizes;
-use size_classes::CLASS_COUNT;
+use heap_words::classes::CLASS_COUNT;
+use model_core::state::Sizes;
 use std::alloc::{AllocError, AllocFailed};
 use thiserror::Error;
 

@@ -1,6 +1,6 @@
 //! The token of a domain.
 ghost use Rattle.std.specs.Prelude.{◌≡◌, ◌≢◌, ◌+◌, ◌<◌, ◌≤◌, ℕ, [], IfOk, length, slice_get, Some};
-ghost use Rattle.heap_model.specs.Domains.{class_count, IsWithinLimits};
+ghost use Rattle.model_core.specs.Domains.{class_count, IsWithinLimits};
 ghost use Rattle.heap_words.specs.declared.value.Value.TheVariants.{Ref};
 ghost use Rattle.heap_words.specs.Values.{IsPackable};
 ghost use Rattle.heap_rule.specs.Changes.{value_at};
@@ -21,8 +21,8 @@ use crate::view::{
 };
 use atomic_table::Seat;
 use heap_words::Value;
-use remembered_set::{BoundedList, BoundedQueue, Remembered};
-use size_classes::{CLASS_COUNT, POOL_WORDS};
+use heap_words::classes::{CLASS_COUNT, POOL_WORDS};
+use heap_words::remembered::{BoundedList, BoundedQueue, Remembered};
 use std::alloc::{AllocError, Global};
 use std::marker::Model;
 

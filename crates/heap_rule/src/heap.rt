@@ -1,7 +1,7 @@
 //! The heap, from its start to its end.
 ghost use Rattle.std.specs.Prelude.{◌≡◌, ◌↔◌, ◌+◌, ◌<◌, ◌≤◌, ℕ, [], length, vec_capacity, IfOk, Some, Err};
-ghost use Rattle.heap_model.specs.Domains.{IsWithinLimits};
-ghost use Rattle.heap_model.specs.History.{Legal};
+ghost use Rattle.model_core.specs.Domains.{IsWithinLimits};
+ghost use Rattle.model_core.specs.History.{Legal};
 ghost use Rattle.heap_rule.specs.Layout.{before_heap};
 ghost use Rattle.heap_rule.specs.Limits.{sizes_in, first_outside};
 ghost use Rattle.heap_rule.specs.Opening.{opening_token, opening_tokens};
@@ -32,7 +32,7 @@ pub struct Heap {
 
 impl Model for Heap {
     ghost use Rattle.std.specs.Prelude.{◌≡◌, ◌≤◌};
-    ghost use Rattle.heap_model.specs.Domains.{IsWithinLimits};
+    ghost use Rattle.model_core.specs.Domains.{IsWithinLimits};
     ghost use Rattle.heap_rule.specs.Limits.{sizes_in};
     ghost use Rattle.heap_rule.specs.Layout.{before_heap, table_words};
     ghost use Rattle.heap_rule.specs.Token.{SharedHeap};
@@ -115,7 +115,7 @@ pub struct Ended {
 }
 
 impl Model for Ended {
-    ghost use Rattle.heap_model.specs.History.{Legal};
+    ghost use Rattle.model_core.specs.History.{Legal};
     ghost use Rattle.heap_rule.specs.Ending.{EndedHeap};
     ghost use Rattle.heap_rule.specs.Limits.{sizes_in};
 
@@ -128,7 +128,7 @@ impl Model for Ended {
 
 impl Ended {
     /// The history is legal for the heap's numbers of domains, minor words and pools.
-    pub fn is_legal(&self)
+    pub fn shows_legal(&self)
         ensures { Legal self.now.sizes self.now.history }
     {
         let _seat = &self.seat;

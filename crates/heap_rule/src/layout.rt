@@ -1,15 +1,15 @@
 //! The words of the table at the start. docs/HEAP.md draws where they lie.
 ghost use Rattle.std.specs.Prelude.{◌≡◌, ◌≢◌, ℕ, ◌+◌, ◌*◌, ◌-◌, ◌<◌, ◌≤◌, length, replicate, slice_index, false, None, IfOk};
-ghost use Rattle.heap_model.specs.Domains.{IsWithinLimits};
-ghost use Rattle.heap_model.specs.Fronts.{PlainShape};
+ghost use Rattle.model_core.specs.Domains.{IsWithinLimits};
+ghost use Rattle.model_core.specs.Fronts.{PlainShape};
 ghost use Rattle.heap_rule.specs.Limits.{sizes_in};
 ghost use Rattle.heap_rule.specs.Places.{HeadIs};
 ghost use Rattle.heap_rule.specs.Layout.{heap_words, before_heap, table_words};
 ghost use Rattle.heap_rule.specs.Opening.{IsOpening, Fills};
 
 use crate::config::Config;
+use heap_words::classes::POOL_WORDS;
 use heap_words::{Colours, Head, Value, pack_colours, pack_head, pack_label, pack_value};
-use size_classes::POOL_WORDS;
 use std::alloc::{AllocError, Global};
 
 /// The index of the want word: which collections the domains ask for.

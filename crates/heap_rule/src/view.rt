@@ -3,11 +3,11 @@ ghost use Rattle.std.specs.Prelude.{◌≡◌};
 
 use crate::config::Config;
 use crate::phase::{Note, Progress, Stage};
-use heap_model::entry::Entry;
-use heap_model::label::Label;
+use heap_words::classes::CLASS_COUNT;
+use heap_words::remembered::{BoundedList, BoundedQueue, Remembered};
 use heap_words::{Colours, Value};
-use remembered_set::{BoundedList, BoundedQueue, Remembered};
-use size_classes::CLASS_COUNT;
+use model_core::entry::Entry;
+use model_core::label::Label;
 use std::collections::LinkedList;
 
 /// How far a domain is in taking a free block of the pools.

@@ -4,3 +4,5 @@ pub mod Labels
 pub mod Marks
 pub mod Unpacked
 pub mod Values
+pub mod Classes
+pub mod Remembered

@@ -4,9 +4,11 @@
 //! matching `read` call, which tests nothing, where it is known that something packs to it.
 #![tactic(auto)]
 
+pub mod classes;
 mod colours;
 mod head;
 mod label;
+pub mod remembered;
 mod value;
 
 pub use colours::{Colours, pack_colours, read_colours, rotate, unpack_colours};

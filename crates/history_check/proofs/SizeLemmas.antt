@@ -1,7 +1,7 @@
 -- A heap of one domain has room where one of several with the same other sizes has.
 use Rattle.std.proofs.Common.{ℕ, zero, suc, ◌+◌, ◌*◌, ◌≤◌, ◌/◌, arith}
-use Rattle.heap_model.specs.declared.state.Sizes.{Sizes}
-use Rattle.heap_model.specs.Domains.{IsWithinLimits, least_pools}
+use Rattle.model_core.specs.declared.state.Sizes.{Sizes}
+use Rattle.model_core.specs.Domains.{IsWithinLimits, least_pools}
 
 once : (d x : ℕ) → 1 ≤ d → 1 * x ≤ d * x
 once zero x some = absurd (omega (arith, some))

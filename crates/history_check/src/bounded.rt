@@ -1,10 +1,10 @@
 //! The search, up to a number of states.
-use heap_model::state::Sizes;
-use heap_text::Script;
-use history_judge::{Seek, Sought};
-use history_search::{Found, Search};
+use judge_outputs::search::{Found, Search};
+use judge_outputs::{Seek, Sought};
+use model_core::state::Sizes;
 use std::alloc::{AllocError, Global};
 use std::time::{Duration, Instant};
+use text_script::Script;
 
 // So many states are looked at before it is told how far the search has come.
 const ROUND: u64 = 1_000;

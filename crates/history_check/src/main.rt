@@ -5,29 +5,29 @@
 //! what the scheduled history prints, and else the first line that differs. Or the text of a table: then it writes `legal` and the
 //! keys that go in a run of its machine, or that none was found.
 //!
-//! The judge of `history_judge` does the work over the two streams. It says what is proved: `legal` is written only where a legal
+//! The judge of `judge_outputs` does the work over the two streams. It says what is proved: `legal` is written only where a legal
 //! history makes the output, and then that history is. That there is none where none was found is shown by tests alone. Of a
 //! replay both answers are proved, and of a table `legal`.
 #![tactic(auto)]
 
 ghost use Rattle.std.specs.Prelude.{◌≡◌, IfOk};
-ghost use Rattle.heap_model.specs.Domains.{IsWithinLimits};
+ghost use Rattle.model_core.specs.Domains.{IsWithinLimits};
 
 mod bounded;
 mod words;
 
 use bounded::Bounded;
-use heap_model::state::Sizes;
-use heap_text::ScriptFault;
-use history_judge::{
+use judge_outputs::{
     Judged, JudgedReplay, JudgedTable, TurnsJudged, judge, judge_replay, judge_table, judge_turns,
 };
-use outer_io::{Sink, Source, StdSink, StdSource};
-use schedule_text::ReplayFault;
+use model_core::state::Sizes;
 use std::alloc::Global;
 use std::io::{BufReader, BufWriter, ErrorKind, Read, Write};
 use std::process::ExitCode;
 use std::{env, io};
+use text_ends::{Sink, Source, StdSink, StdSource};
+use text_schedule::text::ReplayFault;
+use text_script::ScriptFault;
 use words::{Asked, read_asked};
 
 // How many bytes are read ahead, and how many are gathered before they are written.

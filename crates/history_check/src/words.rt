@@ -1,10 +1,10 @@
 //! The words behind the program's name.
 ghost use Rattle.std.specs.Prelude.{IfOk, IfSome};
-ghost use Rattle.heap_model.specs.Domains.{IsWithinLimits};
+ghost use Rattle.model_core.specs.Domains.{IsWithinLimits};
 
-use command_line::{Job, read_words};
-use heap_model::state::Sizes;
+use model_core::state::Sizes;
 use std::alloc::{AllocError, Global};
+use text_script::words::{Job, read_words};
 
 /// How many states are looked at where no word says so.
 const STATES: u64 = 200_000;

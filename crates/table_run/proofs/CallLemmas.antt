@@ -1,31 +1,31 @@
 -- The lines of one call that writes no block: a look-up, a key that isn't bound, a slot that is read, and a count.
 use Rattle.std.proofs.Common.{◌≡◌, inl, ℕ, ◌+◌, ◌-◌, ◌≤◌, ℤ, List, [], ◌∷◌, ◌++◌, length, Option, Some, None, refl, ap, sym, ◌∙◌, subst, arith}
-use Rattle.heap_model.specs.declared.label.Label.{Label}
-use Rattle.heap_model.specs.declared.entry.Entry.{Entry}
-use Rattle.heap_model.specs.declared.reply.Reply.{Reply}
-use Rattle.heap_model.specs.declared.reply.Reply.TheVariants as given
-use Rattle.heap_model.specs.declared.graph.Value.{Value}
-use Rattle.heap_model.specs.declared.graph.Value.TheVariants.{Int, Block, Nothing}
-use Rattle.heap_model.specs.declared.state.Mode.TheVariants.{Open}
-use Rattle.heap_model.specs.declared.state.Sizes.{Sizes}
-use Rattle.heap_model.specs.Graph.{label_of}
-use Rattle.heap_model.specs.Domains.{IsWithinLimits}
-use Rattle.heap_model.specs.Commands.{key_value, shown}
-use Rattle.heap_model.specs.History.{IsPrefix}
-use Rattle.table_laws.specs.Structures.{Binding, datum_at}
-use Rattle.table_laws.specs.Thinning.{WasOutside, state_of}
-use Rattle.table_laws.specs.Performing.{refusals, writings, full_of}
-use Rattle.table_laws.specs.Stages.{Goes, graph_of, held_in}
-use Rattle.table_laws.proofs.BindingLemmas.{thinned_datum}
-use Rattle.table_laws.proofs.StageLemmas.{since_outside}
-use Rattle.map_laws.specs.Calls.{value_of}
+use Rattle.model_core.specs.declared.label.Label.{Label}
+use Rattle.model_core.specs.declared.entry.Entry.{Entry}
+use Rattle.model_core.specs.declared.reply.Reply.{Reply}
+use Rattle.model_core.specs.declared.reply.Reply.TheVariants as given
+use Rattle.model_core.specs.declared.graph.Value.{Value}
+use Rattle.model_core.specs.declared.graph.Value.TheVariants.{Int, Block, Nothing}
+use Rattle.model_core.specs.declared.state.Mode.TheVariants.{Open}
+use Rattle.model_core.specs.declared.state.Sizes.{Sizes}
+use Rattle.model_core.specs.Graph.{label_of}
+use Rattle.model_core.specs.Domains.{IsWithinLimits}
+use Rattle.model_core.specs.Commands.{key_value, shown}
+use Rattle.model_core.specs.History.{IsPrefix}
+use Rattle.weak_laws.specs.Tables.Structures.{Binding, datum_at}
+use Rattle.weak_laws.specs.Tables.Thinning.{WasOutside, state_of}
+use Rattle.weak_laws.specs.Tables.Performing.{refusals, writings, full_of}
+use Rattle.weak_laws.specs.Tables.Stages.{Goes, graph_of, held_in}
+use Rattle.weak_laws.proofs.OfTables.BindingLemmas.{thinned_datum}
+use Rattle.weak_laws.proofs.OfTables.StageLemmas.{since_outside}
+use Rattle.weak_laws.specs.Maps.Calls.{value_of}
 use Rattle.table_text.specs.declared.version.Version.{Version}
 use Rattle.table_text.specs.declared.line.TableLine.{TableLine}
 use Rattle.table_text.specs.declared.line.TableLine.TheVariants as line
-use Rattle.table_machine.specs.declared.reply.LineReply.{LineReply}
-use Rattle.table_machine.specs.declared.reply.LineReply.TheVariants as reply
-use Rattle.table_machine.specs.Machine.{Effect, TableState, Tallies, MayGo, key_in, WithKey, Shows}
-use Rattle.table_keepers.specs.Answers.{Gets, GetAnswers, Counts, bound_in}
+use Rattle.table_text.specs.declared.machine.reply.LineReply.{LineReply}
+use Rattle.table_text.specs.declared.machine.reply.LineReply.TheVariants as reply
+use Rattle.table_text.specs.Machine.Machine.{Effect, TableState, Tallies, MayGo, key_in, WithKey, Shows}
+use Rattle.table_run.specs.Keepers.Answers.{Gets, GetAnswers, Counts, bound_in}
 use Rattle.table_run.specs.Standing.{Places, Stands}
 use Rattle.table_run.specs.Running.{LineDone, MakesNew, WasCounted, full_in, said}
 use Rattle.table_run.proofs.KeeperLemmas.{keeper_kept}

@@ -1,26 +1,26 @@
 -- A label that no block has was the label of none before: the key that a line makes is none of an earlier state's.
 use Rattle.std.proofs.Common.{◌≡◌, ℕ, Bool, true, false, cond, ◌||◌, IsTrue, List, [], ◌∷◌, Option, Some, None, refl, ap, sym, ◌∙◌, subst}
-use Rattle.heap_model.specs.declared.label.Label.{Label}
-use Rattle.heap_model.specs.declared.entry.Entry.{Entry}
-use Rattle.heap_model.specs.declared.graph.Node.{Node}
-use Rattle.heap_model.specs.declared.state.Sizes.{Sizes}
-use Rattle.heap_model.specs.declared.state.State.{State}
-use Rattle.heap_model.specs.Graph.{Graph, same_label, has_label, labels, node_at}
-use Rattle.heap_model.specs.Domains.{opening}
-use Rattle.heap_model.specs.Entries.{next}
-use Rattle.heap_model.specs.History.{IsPrefix, state_after}
-use Rattle.heap_model.proofs.Graphs.GraphStepLemmas.{labels_stay_law}
-use Rattle.heap_model.proofs.Histories.HistoryLemmas.{state_after-append}
-use Rattle.heap_model.proofs.Histories.NumberLemmas.{node_at-no_label}
-use Rattle.table_laws.specs.Thinning.{state_of}
-use Rattle.table_laws.specs.Stages.{graph_of}
-use Rattle.table_laws.proofs.StageLemmas.{prefix_trans}
+use Rattle.model_core.specs.declared.label.Label.{Label}
+use Rattle.model_core.specs.declared.entry.Entry.{Entry}
+use Rattle.model_core.specs.declared.graph.Node.{Node}
+use Rattle.model_core.specs.declared.state.Sizes.{Sizes}
+use Rattle.model_core.specs.declared.state.State.{State}
+use Rattle.model_core.specs.Graph.{Graph, same_label, has_label, labels, node_at}
+use Rattle.model_core.specs.Domains.{opening}
+use Rattle.model_core.specs.Entries.{next}
+use Rattle.model_core.specs.History.{IsPrefix, state_after}
+use Rattle.model_core.proofs.Graphs.GraphStepLemmas.{labels_stay_law}
+use Rattle.model_core.proofs.Histories.HistoryLemmas.{state_after-append}
+use Rattle.model_core.proofs.Histories.NumberLemmas.{node_at-no_label}
+use Rattle.weak_laws.specs.Tables.Thinning.{state_of}
+use Rattle.weak_laws.specs.Tables.Stages.{graph_of}
+use Rattle.weak_laws.proofs.OfTables.StageLemmas.{prefix_trans}
 use Rattle.table_text.specs.declared.version.Version.{Version}
 use Rattle.table_text.specs.declared.line.TableLine.{TableLine}
 use Rattle.table_text.specs.declared.line.TableLine.TheVariants.{Key, Forget, Put, Get, Del, SetWeak, GetWeak, Count, FullMajor}
-use Rattle.table_machine.specs.declared.reply.LineReply.{LineReply}
-use Rattle.table_machine.specs.declared.reply.LineReply.TheVariants as reply
-use Rattle.table_machine.specs.Machine.{TableState, key_in}
+use Rattle.table_text.specs.declared.machine.reply.LineReply.{LineReply}
+use Rattle.table_text.specs.declared.machine.reply.LineReply.TheVariants as reply
+use Rattle.table_text.specs.Machine.Machine.{TableState, key_in}
 use Rattle.table_run.specs.Standing.{Places}
 use Rattle.table_run.specs.Running.{LineRuns, MakesNew, WasCounted}
 

@@ -1,47 +1,47 @@
 -- What a `full_major` line leaves: the keys that a register holds.
 use Rattle.std.proofs.Common.{◌≡◌, ◌⊎◌, inl, inr, ⊎_elim, ℕ, zero, suc, ◌-◌, ◌≤◌, true, IsTrue, List, [], ◌∷◌, ◌++◌, map, length, count_by, flat_map, filter_map, get_or, Option, Some, None, refl, ap, sym, ◌∙◌, subst, arith}
 use Rattle.std.specs.List.{list_all}
-use Rattle.heap_model.specs.declared.label.Label.{Label}
-use Rattle.heap_model.specs.declared.command.Command.TheVariants.{FullMajor}
-use Rattle.heap_model.specs.declared.entry.Entry.{Entry}
-use Rattle.heap_model.specs.declared.entry.Entry.TheVariants.{Command as CommandOf, End, Cut, Queue, Seal, Wipe, Last as LastOf, Collected, Done as DoneOf, Ran}
-use Rattle.heap_model.specs.declared.reply.Reply.{Reply}
-use Rattle.heap_model.specs.declared.graph.Value.{Value}
-use Rattle.heap_model.specs.declared.graph.Value.TheVariants.{Block, Nothing}
-use Rattle.heap_model.specs.declared.graph.Node.{Node}
-use Rattle.heap_model.specs.declared.state.DomainState.{DomainState}
-use Rattle.heap_model.specs.declared.state.Mode.TheVariants.{Open, Cut as CutMode, Sealed, Answer}
-use Rattle.heap_model.specs.declared.state.Pending.{Pending}
-use Rattle.heap_model.specs.declared.state.Sizes.{Sizes}
-use Rattle.heap_model.specs.declared.state.State.{State}
-use Rattle.heap_model.specs.Graph.{Graph, same_label, has_label, label_of, node_at}
-use Rattle.heap_model.specs.Domains.{IsWithinLimits, no_domain, domain_at, opening, pending_label, queues, reach, register, roots}
-use Rattle.heap_model.specs.Commands.{key_value}
-use Rattle.heap_model.specs.Entries.{Allowed, has_live_keys, keys_are_live, next, with_wiped, wiped, queued_final, queued_last}
-use Rattle.heap_model.specs.History.{LegalFrom, Legal, state_after}
-use Rattle.heap_model.specs.Registrations.{all_registered, left_over}
-use Rattle.heap_model.specs.Reach.{HoldsRoots, IsClosedUnder}
-use Rattle.heap_model.proofs.Collections.CollectedLemmas.{reach_fresh}
-use Rattle.heap_model.proofs.Collections.CollectionLemmas.{all_has}
-use Rattle.heap_model.proofs.Collections.RegistrationLemmas.{registrations_law}
-use Rattle.heap_model.proofs.Histories.HistoryLemmas.{state_after-append}
-use Rattle.heap_model.proofs.Histories.TallyLemmas.{tally_count}
-use Rattle.heap_model.proofs.Histories.ShapeAfterLemmas.{shaped-history}
-use Rattle.heap_model.proofs.Histories.WellFormedLemmas.{reach_after}
-use Rattle.heap_model.proofs.Graphs.GraphLemmas.{same_label_refl}
-use Rattle.heap_model.proofs.Reach.ReachLemmas.{and_left, and_right, has-append_cases, has-append_left, has-append_right, or_left, reachable_least}
-use Rattle.table_laws.specs.Structures.{Binding, keys_of, slot_keys, IsWeakArray}
-use Rattle.table_laws.specs.Thinning.{AllCollector, is_collector, state_of}
-use Rattle.table_laws.specs.Performing.{Performed}
-use Rattle.table_laws.specs.Stages.{graph_of, held_in}
-use Rattle.table_laws.proofs.CollectorLemmas.{held_reached}
-use Rattle.table_laws.proofs.OnceLemmas.{not_both}
-use Rattle.table_laws.proofs.StepLemmas.{kept, legal_parts}
+use Rattle.model_core.specs.declared.label.Label.{Label}
+use Rattle.model_core.specs.declared.command.Command.TheVariants.{FullMajor}
+use Rattle.model_core.specs.declared.entry.Entry.{Entry}
+use Rattle.model_core.specs.declared.entry.Entry.TheVariants.{Command as CommandOf, End, Cut, Queue, Seal, Wipe, Last as LastOf, Collected, Done as DoneOf, Ran}
+use Rattle.model_core.specs.declared.reply.Reply.{Reply}
+use Rattle.model_core.specs.declared.graph.Value.{Value}
+use Rattle.model_core.specs.declared.graph.Value.TheVariants.{Block, Nothing}
+use Rattle.model_core.specs.declared.graph.Node.{Node}
+use Rattle.model_core.specs.declared.state.DomainState.{DomainState}
+use Rattle.model_core.specs.declared.state.Mode.TheVariants.{Open, Cut as CutMode, Sealed, Answer}
+use Rattle.model_core.specs.declared.state.Pending.{Pending}
+use Rattle.model_core.specs.declared.state.Sizes.{Sizes}
+use Rattle.model_core.specs.declared.state.State.{State}
+use Rattle.model_core.specs.Graph.{Graph, same_label, has_label, label_of, node_at}
+use Rattle.model_core.specs.Domains.{IsWithinLimits, no_domain, domain_at, opening, pending_label, queues, reach, register, roots}
+use Rattle.model_core.specs.Commands.{key_value}
+use Rattle.model_core.specs.Entries.{Allowed, has_live_keys, keys_are_live, next, with_wiped, wiped, queued_final, queued_last}
+use Rattle.model_core.specs.History.{LegalFrom, Legal, state_after}
+use Rattle.model_core.specs.Registrations.{all_registered, left_over}
+use Rattle.model_core.specs.Reach.{HoldsRoots, IsClosedUnder}
+use Rattle.model_core.proofs.Collections.CollectedLemmas.{reach_fresh}
+use Rattle.model_core.proofs.Collections.CollectionLemmas.{all_has}
+use Rattle.model_core.proofs.Collections.RegistrationLemmas.{registrations_law}
+use Rattle.model_core.proofs.Histories.HistoryLemmas.{state_after-append}
+use Rattle.model_core.proofs.Histories.TallyLemmas.{tally_count}
+use Rattle.model_core.proofs.Histories.ShapeAfterLemmas.{shaped-history}
+use Rattle.model_core.proofs.Histories.WellFormedLemmas.{reach_after}
+use Rattle.model_core.proofs.Graphs.GraphLemmas.{same_label_refl}
+use Rattle.model_core.proofs.Reach.ReachLemmas.{and_left, and_right, has-append_cases, has-append_left, has-append_right, or_left, reachable_least}
+use Rattle.weak_laws.specs.Tables.Structures.{Binding, keys_of, slot_keys, IsWeakArray}
+use Rattle.weak_laws.specs.Tables.Thinning.{AllCollector, is_collector, state_of}
+use Rattle.weak_laws.specs.Tables.Performing.{Performed}
+use Rattle.weak_laws.specs.Tables.Stages.{graph_of, held_in}
+use Rattle.weak_laws.proofs.OfTables.CollectorLemmas.{held_reached}
+use Rattle.weak_laws.proofs.OfTables.OnceLemmas.{not_both}
+use Rattle.weak_laws.proofs.OfTables.StepLemmas.{kept, legal_parts}
 use Rattle.weak_tables.specs.Held.{AllHave, IsBare}
 use Rattle.weak_tables.proofs.RegisteredLemmas.{none_between}
 use Rattle.table_text.specs.declared.version.Version.{Version}
-use Rattle.table_machine.specs.Machine.{AllGone, Holds, TableState, key_in}
-use Rattle.table_keepers.specs.Keepers.{Shape, IsKeeper, kept_bindings, kept_labels}
+use Rattle.table_text.specs.Machine.Machine.{AllGone, Holds, TableState, key_in}
+use Rattle.table_run.specs.Keepers.Keepers.{Shape, IsKeeper, kept_bindings, kept_labels}
 use Rattle.table_run.specs.Standing.{AreInts, IsKnown, Places, Stands, key_node}
 use Rattle.table_run.proofs.KeyLemmas.{array_without, keeper_without}
 use Rattle.table_run.proofs.KeeperLemmas.{IsSwept, keeper_closed, keeper_keys_held, keeper_root}

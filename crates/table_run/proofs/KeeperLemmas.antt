@@ -1,37 +1,37 @@
 -- What keeps the bindings: what is left of it where no block of its own is written, and what it holds.
 use Rattle.std.proofs.Common.{◌≡◌, ⊎_elim, ℕ, ℤ, Bool, false, true, IsTrue, List, [], ◌∷◌, Option, Some, None, refl, ap, sym, ◌∙◌, subst}
-use Rattle.heap_model.specs.declared.label.Label.{Label}
-use Rattle.heap_model.specs.declared.entry.Entry.{Entry}
-use Rattle.heap_model.specs.declared.graph.Value.{Value}
-use Rattle.heap_model.specs.declared.graph.Value.TheVariants.{Int, Block, Nothing}
-use Rattle.heap_model.specs.declared.graph.Node.{Node}
-use Rattle.heap_model.specs.declared.graph.Node.TheVariants.{Plain, Raw, Ephe}
-use Rattle.heap_model.specs.Graph.{Graph, has_label, has_no_repeats, node_at, same_label}
-use Rattle.heap_model.proofs.Graphs.GraphLemmas.{same_label_refl}
-use Rattle.heap_model.proofs.Reach.ReachLemmas.{or_left}
-use Rattle.heap_model.specs.Entries.{keys_are_live}
-use Rattle.heap_model.specs.Reach.{IsClosedUnder, edges_at}
-use Rattle.table_laws.specs.Structures.{Apart, Binding, Cell, datum_at, keys_of, table_labels}
-use Rattle.table_laws.specs.Thinning.{Changes, Thin, ThinnedBy}
-use Rattle.table_laws.proofs.ChangeLemmas.{table_kept, bindings_thinned}
-use Rattle.table_laws.proofs.GrowLemmas.{new_to_table}
-use Rattle.table_laws.proofs.LawLemmas.{differ_law, table_keys_held}
-use Rattle.table_laws.proofs.OnceLemmas.{lacks}
+use Rattle.model_core.specs.declared.label.Label.{Label}
+use Rattle.model_core.specs.declared.entry.Entry.{Entry}
+use Rattle.model_core.specs.declared.graph.Value.{Value}
+use Rattle.model_core.specs.declared.graph.Value.TheVariants.{Int, Block, Nothing}
+use Rattle.model_core.specs.declared.graph.Node.{Node}
+use Rattle.model_core.specs.declared.graph.Node.TheVariants.{Plain, Raw, Ephe}
+use Rattle.model_core.specs.Graph.{Graph, has_label, has_no_repeats, node_at, same_label}
+use Rattle.model_core.proofs.Graphs.GraphLemmas.{same_label_refl}
+use Rattle.model_core.proofs.Reach.ReachLemmas.{or_left}
+use Rattle.model_core.specs.Entries.{keys_are_live}
+use Rattle.model_core.specs.Reach.{IsClosedUnder, edges_at}
+use Rattle.weak_laws.specs.Tables.Structures.{Apart, Binding, Cell, datum_at, keys_of, table_labels}
+use Rattle.weak_laws.specs.Tables.Thinning.{Changes, Thin, ThinnedBy}
+use Rattle.weak_laws.proofs.OfTables.ChangeLemmas.{table_kept, bindings_thinned}
+use Rattle.weak_laws.proofs.OfTables.GrowLemmas.{new_to_table}
+use Rattle.weak_laws.proofs.OfTables.LawLemmas.{differ_law, table_keys_held}
+use Rattle.weak_laws.proofs.OfTables.OnceLemmas.{lacks}
 use Rattle.weak_tables.specs.Held.{IsTidy}
 use Rattle.weak_tables.proofs.TidyLemmas.{has_kept, tidy_lasts}
-use Rattle.map_laws.specs.Steps.{IsThinned}
-use Rattle.map_laws.proofs.MapLemmas.{thinned_map}
+use Rattle.weak_laws.specs.Maps.Steps.{IsThinned}
+use Rattle.weak_laws.proofs.OfMaps.MapLemmas.{thinned_map}
 use Rattle.weak_maps.proofs.PlaceLemmas.{thin_place}
-use Rattle.list_laws.specs.Lists.{bindings_of, map_labels, map_leaves}
-use Rattle.list_laws.specs.ListLaws.{NoDatumIsBlock, NoDatumLeft}
-use Rattle.list_laws.proofs.FoundLemmas.{listed_once}
-use Rattle.list_laws.proofs.HeldLemmas.{held_keys_live, map_holds_itself}
-use Rattle.list_laws.proofs.LabelLemmas.{apart_thins, label_node, root_label}
-use Rattle.list_laws.proofs.StepLemmas.{labels_kept, leaves_kept, leaves_thinned}
-use Rattle.map_lists.specs.Answers.{IsTidyLeaf}
+use Rattle.weak_laws.specs.Lists.Lists.{bindings_of, map_labels, map_leaves}
+use Rattle.weak_laws.specs.Lists.ListLaws.{NoDatumIsBlock, NoDatumLeft}
+use Rattle.weak_laws.proofs.OfLists.FoundLemmas.{listed_once}
+use Rattle.weak_laws.proofs.OfLists.HeldLemmas.{held_keys_live, map_holds_itself}
+use Rattle.weak_laws.proofs.OfLists.LabelLemmas.{apart_thins, label_node, root_label}
+use Rattle.weak_laws.proofs.OfLists.StepLemmas.{labels_kept, leaves_kept, leaves_thinned}
+use Rattle.weak_maps.specs.Lists.Answers.{IsTidyLeaf}
 use Rattle.table_text.specs.declared.version.Version.{Version}
 use Rattle.table_text.specs.declared.version.Version.TheVariants.{One, Two}
-use Rattle.table_keepers.specs.Keepers.{Shape, IsKeeper, kept_bindings, kept_labels}
+use Rattle.table_run.specs.Keepers.Keepers.{Shape, IsKeeper, kept_bindings, kept_labels}
 use Rattle.table_run.specs.Standing.{AreInts}
 use Rattle.table_run.proofs.MachineLemmas.{datum_int}
 use Rattle.table_run.proofs.SettledLemmas.{table_closed}

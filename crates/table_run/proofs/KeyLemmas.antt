@@ -1,20 +1,20 @@
 -- The block of a key is none of a table's, of a weak array's or of a map's.
 use Rattle.std.proofs.Common.{◌≡◌, ⊎_elim, ℕ, zero, suc, ◌<◌, pos, false, true, IsTrue, List, [], ◌∷◌, ◌++◌, map, length, flat_map, get_or, Option, Some, refl, ap, sym, ◌∙◌, subst, arith}
 use Rattle.std.specs.List.{list_all}
-use Rattle.heap_model.specs.declared.label.Label.{Label}
-use Rattle.heap_model.specs.declared.graph.Value.{Value}
-use Rattle.heap_model.specs.declared.graph.Value.TheVariants.{Int, Block}
-use Rattle.heap_model.specs.declared.graph.Node.{Node}
-use Rattle.heap_model.specs.declared.graph.Node.TheVariants.{Plain}
-use Rattle.heap_model.specs.Graph.{Graph, same_label, has_label, node_at}
-use Rattle.heap_model.proofs.Graphs.GraphLemmas.{same_label-true}
-use Rattle.heap_model.proofs.Reach.ReachLemmas.{or_cases, and_left, and_right, has-append_cases}
-use Rattle.table_laws.specs.Structures.{Cell, is_weak, Links, cell_labels, table_labels, IsTable, IsWeakArray}
-use Rattle.table_laws.proofs.OnceLemmas.{lacks, not_both}
-use Rattle.list_laws.proofs.LabelLemmas.{narrow_label}
+use Rattle.model_core.specs.declared.label.Label.{Label}
+use Rattle.model_core.specs.declared.graph.Value.{Value}
+use Rattle.model_core.specs.declared.graph.Value.TheVariants.{Int, Block}
+use Rattle.model_core.specs.declared.graph.Node.{Node}
+use Rattle.model_core.specs.declared.graph.Node.TheVariants.{Plain}
+use Rattle.model_core.specs.Graph.{Graph, same_label, has_label, node_at}
+use Rattle.model_core.proofs.Graphs.GraphLemmas.{same_label-true}
+use Rattle.model_core.proofs.Reach.ReachLemmas.{or_cases, and_left, and_right, has-append_cases}
+use Rattle.weak_laws.specs.Tables.Structures.{Cell, is_weak, Links, cell_labels, table_labels, IsTable, IsWeakArray}
+use Rattle.weak_laws.proofs.OfTables.OnceLemmas.{lacks, not_both}
+use Rattle.weak_laws.proofs.OfLists.LabelLemmas.{narrow_label}
 use Rattle.table_text.specs.declared.version.Version.{Version}
 use Rattle.table_text.specs.declared.version.Version.TheVariants.{One, Two}
-use Rattle.table_keepers.specs.Keepers.{Shape, IsKeeper, kept_labels}
+use Rattle.table_run.specs.Keepers.Keepers.{Shape, IsKeeper, kept_labels}
 use Rattle.table_run.specs.Standing.{key_node}
 
 module _ (g : Graph) (k : Label) (at : node_at g k ≡ Some key_node) where

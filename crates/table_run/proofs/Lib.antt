@@ -14,3 +14,4 @@ pub mod GoneLemmas
 pub mod ValueLemmas
 pub mod LinesLemmas
 pub mod TextLemmas
+pub mod OfKeepers

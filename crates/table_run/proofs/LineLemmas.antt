@@ -1,26 +1,26 @@
 -- The lines of one command: a key is made, forgotten or copied, and a register that isn't the machine's is written.
 use Rattle.std.proofs.Common.{◌≡◌, ◌≢◌, ◌⊎◌, inl, inr, ⊎_elim, ℕ, zero, suc, ◌+◌, ◌-◌, ◌≤◌, List, [], ◌∷◌, get_or, set, Option, Some, None, refl, ap, sym, ◌∙◌, subst, arith, length-set, get_or-set_same, get_or-set_other}
-use Rattle.heap_model.specs.declared.label.Label.{Label}
-use Rattle.heap_model.specs.declared.entry.Entry.{Entry}
-use Rattle.heap_model.specs.declared.graph.Value.{Value}
-use Rattle.heap_model.specs.declared.graph.Value.TheVariants.{Block, Nothing}
-use Rattle.heap_model.specs.declared.graph.Node.{Node}
-use Rattle.heap_model.specs.declared.state.Mode.TheVariants.{Open}
-use Rattle.heap_model.specs.declared.state.Sizes.{Sizes}
-use Rattle.heap_model.specs.Graph.{node_at}
-use Rattle.heap_model.specs.Domains.{IsWithinLimits}
-use Rattle.heap_model.specs.Commands.{key_value}
-use Rattle.table_laws.specs.Structures.{keys_of}
-use Rattle.table_laws.specs.Thinning.{Went, state_of}
-use Rattle.table_laws.specs.Performing.{After, refusals, registers_of}
-use Rattle.table_laws.specs.Stages.{graph_of, held_in}
-use Rattle.table_laws.proofs.OnceLemmas.{lacks}
+use Rattle.model_core.specs.declared.label.Label.{Label}
+use Rattle.model_core.specs.declared.entry.Entry.{Entry}
+use Rattle.model_core.specs.declared.graph.Value.{Value}
+use Rattle.model_core.specs.declared.graph.Value.TheVariants.{Block, Nothing}
+use Rattle.model_core.specs.declared.graph.Node.{Node}
+use Rattle.model_core.specs.declared.state.Mode.TheVariants.{Open}
+use Rattle.model_core.specs.declared.state.Sizes.{Sizes}
+use Rattle.model_core.specs.Graph.{node_at}
+use Rattle.model_core.specs.Domains.{IsWithinLimits}
+use Rattle.model_core.specs.Commands.{key_value}
+use Rattle.weak_laws.specs.Tables.Structures.{keys_of}
+use Rattle.weak_laws.specs.Tables.Thinning.{Went, state_of}
+use Rattle.weak_laws.specs.Tables.Performing.{After, refusals, registers_of}
+use Rattle.weak_laws.specs.Tables.Stages.{graph_of, held_in}
+use Rattle.weak_laws.proofs.OfTables.OnceLemmas.{lacks}
 use Rattle.weak_tables.proofs.SearchLemmas.{set_here, set_other}
 use Rattle.table_text.specs.declared.version.Version.{Version}
 use Rattle.table_text.specs.declared.line.TableLine.{TableLine}
 use Rattle.table_text.specs.declared.line.TableLine.TheVariants as line
-use Rattle.table_machine.specs.declared.reply.LineReply.TheVariants as reply
-use Rattle.table_machine.specs.Machine.{TableState, MayGo, IsThere, Holds, with_key, MayBeRefused}
+use Rattle.table_text.specs.declared.machine.reply.LineReply.TheVariants as reply
+use Rattle.table_text.specs.Machine.Machine.{TableState, MayGo, IsThere, Holds, with_key, MayBeRefused}
 use Rattle.table_run.specs.Standing.{Places, Stands, IsKnown, key_node}
 use Rattle.table_run.specs.Running.{LineDone, WasCounted}
 use Rattle.table_run.proofs.FreshLemmas.{full_makes_none}

@@ -1,27 +1,27 @@
 -- What each function of a line answers, from the clauses of the calls in it.
 use Rattle.std.proofs.Common.{◌≡◌, inl, inr, ⊎_elim, ℕ, ◌+◌, ◌<◌, ◌≤◌, ℤ, List, [], ◌∷◌, ◌++◌, set, slice_get, Option, Some, None, refl, ap, sym, ◌∙◌, subst, arith}
-use Rattle.heap_model.specs.declared.label.Label.{Label}
-use Rattle.heap_model.specs.declared.command.Command.TheVariants.{PutInt, Copy, Forget, Alloc, FullMajor}
-use Rattle.heap_model.specs.declared.entry.Entry.{Entry}
-use Rattle.heap_model.specs.declared.reply.Reply.{Reply}
-use Rattle.heap_model.specs.declared.reply.Reply.TheVariants as given
-use Rattle.heap_model.specs.declared.graph.Value.{Value}
-use Rattle.heap_model.specs.declared.graph.Value.TheVariants.{Int, Block, Nothing}
-use Rattle.heap_model.specs.declared.state.Mode.TheVariants.{Open}
-use Rattle.heap_model.specs.declared.state.Sizes.{Sizes}
-use Rattle.heap_model.specs.Graph.{label_of}
-use Rattle.heap_model.specs.Domains.{IsWithinLimits, domain_at, opening}
-use Rattle.heap_model.specs.Registrations.{all_registered}
-use Rattle.heap_model.specs.Commands.{key_value, shown}
-use Rattle.heap_model.specs.History.{IsPrefix, Legal}
-use Rattle.table_laws.specs.Structures.{IsWeakArray, datum_at, slot_keys}
-use Rattle.table_laws.specs.Thinning.{Went, state_of}
-use Rattle.table_laws.proofs.LawLemmas.{keys_emptied}
+use Rattle.model_core.specs.declared.label.Label.{Label}
+use Rattle.model_core.specs.declared.command.Command.TheVariants.{PutInt, Copy, Forget, Alloc, FullMajor}
+use Rattle.model_core.specs.declared.entry.Entry.{Entry}
+use Rattle.model_core.specs.declared.reply.Reply.{Reply}
+use Rattle.model_core.specs.declared.reply.Reply.TheVariants as given
+use Rattle.model_core.specs.declared.graph.Value.{Value}
+use Rattle.model_core.specs.declared.graph.Value.TheVariants.{Int, Block, Nothing}
+use Rattle.model_core.specs.declared.state.Mode.TheVariants.{Open}
+use Rattle.model_core.specs.declared.state.Sizes.{Sizes}
+use Rattle.model_core.specs.Graph.{label_of}
+use Rattle.model_core.specs.Domains.{IsWithinLimits, domain_at, opening}
+use Rattle.model_core.specs.Registrations.{all_registered}
+use Rattle.model_core.specs.Commands.{key_value, shown}
+use Rattle.model_core.specs.History.{IsPrefix, Legal}
+use Rattle.weak_laws.specs.Tables.Structures.{IsWeakArray, datum_at, slot_keys}
+use Rattle.weak_laws.specs.Tables.Thinning.{Went, state_of}
+use Rattle.weak_laws.proofs.OfTables.LawLemmas.{keys_emptied}
 use Rattle.weak_tables.proofs.SearchLemmas.{set_here}
-use Rattle.table_laws.specs.Performing.{Performed, After, refusals, full_of, writings, registers_of}
-use Rattle.table_laws.specs.Stages.{graph_of, held_in}
-use Rattle.table_laws.proofs.RefusalLemmas.{performed_refusals, performed_given}
-use Rattle.table_laws.proofs.StepLemmas.{step_open, put_step, forget_step, alloc_step, copy_step, full_major_step}
+use Rattle.weak_laws.specs.Tables.Performing.{Performed, After, refusals, full_of, writings, registers_of}
+use Rattle.weak_laws.specs.Tables.Stages.{graph_of, held_in}
+use Rattle.weak_laws.proofs.OfTables.RefusalLemmas.{performed_refusals, performed_given}
+use Rattle.weak_laws.proofs.OfTables.StepLemmas.{step_open, put_step, forget_step, alloc_step, copy_step, full_major_step}
 use Rattle.weak_tables.specs.Held.{HoldsArray}
 use Rattle.weak_tables.specs.Arrays.{SetAnswers, SlotAnswers}
 use Rattle.weak_tables.proofs.SlotLemmas.{past_end, emptied_stays}
@@ -29,11 +29,11 @@ use Rattle.table_text.specs.declared.version.Version.{Version}
 use Rattle.table_text.specs.declared.version.Version.TheVariants.{One, Two}
 use Rattle.table_text.specs.declared.line.TableLine.{TableLine}
 use Rattle.table_text.specs.declared.line.TableLine.TheVariants as line
-use Rattle.table_machine.specs.declared.reply.LineReply.TheVariants as reply
-use Rattle.table_machine.specs.Machine.{AllGone, TableState, HasItsKey, MayGo, MayBeRefused, WithKey, Deletes, Binds, ReadsSlot, key_in, with_key, made_by, made_by_put, all_made}
-use Rattle.table_keepers.specs.Keepers.{HoldsKeeper}
-use Rattle.table_keepers.specs.Answers.{CountsAt, GetAnswers, GetsAt, PutAnswers, PutsAt, SweepAnswers, TakeAnswers, TakesAt}
-use Rattle.table_keepers.proofs.MapLemmas.{listed, map_stays}
+use Rattle.table_text.specs.declared.machine.reply.LineReply.TheVariants as reply
+use Rattle.table_text.specs.Machine.Machine.{AllGone, TableState, HasItsKey, MayGo, MayBeRefused, WithKey, Deletes, Binds, ReadsSlot, key_in, with_key, made_by, made_by_put, all_made}
+use Rattle.table_run.specs.Keepers.Keepers.{HoldsKeeper}
+use Rattle.table_run.specs.Keepers.Answers.{CountsAt, GetAnswers, GetsAt, PutAnswers, PutsAt, SweepAnswers, TakeAnswers, TakesAt}
+use Rattle.table_run.proofs.OfKeepers.MapLemmas.{listed, map_stays}
 use Rattle.table_run.specs.Standing.{Places, Stands, IsStanding}
 use Rattle.table_run.specs.Running.{LineDone, HasGiven, full_in, said}
 use Rattle.table_run.proofs.LineLemmas.{after_with, after_goes, after_goes_by, after_key, stands_zero, stands_reading, stands_set, forget_line, key_line, full_line}

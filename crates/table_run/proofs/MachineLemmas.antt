@@ -1,18 +1,18 @@
 -- Lists of bindings and of places: what may go, and a key that stays.
 use Rattle.std.proofs.Common.{◌≡◌, ◌⊎◌, inl, inr, ⊎_elim, ℕ, zero, suc, ◌<◌, ℤ, Bool, true, false, cond, not, IsTrue, List, [], ◌∷◌, length, get_or, set, slice_get, Option, Some, None, refl, ap, sym, ◌∙◌, subst, arith}
-use Rattle.heap_model.specs.declared.label.Label.{Label}
-use Rattle.heap_model.specs.declared.graph.Value.{Value}
-use Rattle.heap_model.specs.declared.graph.Value.TheVariants.{Int, Block, Nothing}
-use Rattle.heap_model.specs.Graph.{same_label, has_label, has_no_repeats}
-use Rattle.heap_model.proofs.Reach.ReachLemmas.{and_left, and_right, is_false}
-use Rattle.heap_model.proofs.Graphs.GraphLemmas.{same_label-true}
-use Rattle.table_laws.specs.Structures.{Binding, keys_of, without, datum_at}
-use Rattle.table_laws.specs.Thinning.{ThinnedBy, EmptiedBy}
-use Rattle.table_laws.proofs.BindingLemmas.{thinned_datum, thinned_same, thinned_more, thinned_twice, thinned_keys}
-use Rattle.table_laws.proofs.LookupLemmas.{key_unbound, without_unbound}
-use Rattle.table_laws.proofs.ArrayLemmas.{emptied_more, emptied_twice}
+use Rattle.model_core.specs.declared.label.Label.{Label}
+use Rattle.model_core.specs.declared.graph.Value.{Value}
+use Rattle.model_core.specs.declared.graph.Value.TheVariants.{Int, Block, Nothing}
+use Rattle.model_core.specs.Graph.{same_label, has_label, has_no_repeats}
+use Rattle.model_core.proofs.Reach.ReachLemmas.{and_left, and_right, is_false}
+use Rattle.model_core.proofs.Graphs.GraphLemmas.{same_label-true}
+use Rattle.weak_laws.specs.Tables.Structures.{Binding, keys_of, without, datum_at}
+use Rattle.weak_laws.specs.Tables.Thinning.{ThinnedBy, EmptiedBy}
+use Rattle.weak_laws.proofs.OfTables.BindingLemmas.{thinned_datum, thinned_same, thinned_more, thinned_twice, thinned_keys}
+use Rattle.weak_laws.proofs.OfTables.LookupLemmas.{key_unbound, without_unbound}
+use Rattle.weak_laws.proofs.OfTables.ArrayLemmas.{emptied_more, emptied_twice}
 use Rattle.weak_tables.proofs.SlotLemmas.{emptied_stays}
-use Rattle.table_machine.specs.Machine.{TableState, MayGo, IsLost, IsThere, Holds}
+use Rattle.table_text.specs.Machine.Machine.{TableState, MayGo, IsLost, IsThere, Holds}
 use Rattle.table_run.specs.Standing.{IsKnown, AreInts}
 
 emptied_same : (P : Label → Type 0) (ks : List (Option Label)) → EmptiedBy P ks ks

@@ -1,39 +1,39 @@
 -- The lines whose call writes what keeps the bindings, or the weak array: a key is bound, its binding is taken, a slot is set.
 use Rattle.std.proofs.Common.{◌≡◌, ◌⊎◌, inl, inr, ⊎_elim, ℕ, zero, suc, ◌-◌, ◌<◌, ◌≤◌, ℤ, pos, Bool, false, true, cond, IsTrue, List, [], ◌∷◌, ◌++◌, map, length, flat_map, get_or, set, Option, Some, None, refl, ap, sym, ◌∙◌, subst, arith, append-nil}
 use Rattle.std.specs.List.{list_all}
-use Rattle.heap_model.specs.declared.label.Label.{Label}
-use Rattle.heap_model.specs.declared.entry.Entry.{Entry}
-use Rattle.heap_model.specs.declared.graph.Value.{Value}
-use Rattle.heap_model.specs.declared.graph.Value.TheVariants.{Int, Block, Nothing}
-use Rattle.heap_model.specs.declared.graph.Node.{Node}
-use Rattle.heap_model.specs.declared.graph.Node.TheVariants.{Plain}
-use Rattle.heap_model.specs.declared.state.Mode.TheVariants.{Open}
-use Rattle.heap_model.specs.declared.state.Sizes.{Sizes}
-use Rattle.heap_model.specs.Graph.{Graph, same_label, has_label, node_at}
-use Rattle.heap_model.specs.Domains.{IsWithinLimits}
-use Rattle.heap_model.specs.History.{IsPrefix, Legal}
-use Rattle.history_laws.proofs.ApartLemmas.{IsKnownOut}
-use Rattle.heap_model.proofs.Graphs.GraphLemmas.{same_label-true}
-use Rattle.heap_model.proofs.Reach.ReachLemmas.{or_cases, or_left, or_right, and_left, and_right, has-append_cases}
-use Rattle.table_laws.specs.Structures.{Binding, is_weak, keys_of, without, datum_at, IsWeakArray, slot_keys, Apart}
-use Rattle.table_laws.specs.Thinning.{ThinnedBy, EmptiedBy, WasOutside, state_of}
-use Rattle.table_laws.specs.Performing.{refusals, writings}
-use Rattle.table_laws.specs.Stages.{Goes, graph_of, held_in}
-use Rattle.table_laws.proofs.BindingLemmas.{thinned_more, thinned_keys}
-use Rattle.table_laws.proofs.ArrayLemmas.{emptied_more}
-use Rattle.table_laws.proofs.ChangeLemmas.{array_kept}
-use Rattle.table_laws.proofs.LawLemmas.{keys_emptied}
-use Rattle.table_laws.proofs.OnceLemmas.{lacks, not_both}
+use Rattle.model_core.specs.declared.label.Label.{Label}
+use Rattle.model_core.specs.declared.entry.Entry.{Entry}
+use Rattle.model_core.specs.declared.graph.Value.{Value}
+use Rattle.model_core.specs.declared.graph.Value.TheVariants.{Int, Block, Nothing}
+use Rattle.model_core.specs.declared.graph.Node.{Node}
+use Rattle.model_core.specs.declared.graph.Node.TheVariants.{Plain}
+use Rattle.model_core.specs.declared.state.Mode.TheVariants.{Open}
+use Rattle.model_core.specs.declared.state.Sizes.{Sizes}
+use Rattle.model_core.specs.Graph.{Graph, same_label, has_label, node_at}
+use Rattle.model_core.specs.Domains.{IsWithinLimits}
+use Rattle.model_core.specs.History.{IsPrefix, Legal}
+use Rattle.model_laws.proofs.OfHistories.ApartLemmas.{IsKnownOut}
+use Rattle.model_core.proofs.Graphs.GraphLemmas.{same_label-true}
+use Rattle.model_core.proofs.Reach.ReachLemmas.{or_cases, or_left, or_right, and_left, and_right, has-append_cases}
+use Rattle.weak_laws.specs.Tables.Structures.{Binding, is_weak, keys_of, without, datum_at, IsWeakArray, slot_keys, Apart}
+use Rattle.weak_laws.specs.Tables.Thinning.{ThinnedBy, EmptiedBy, WasOutside, state_of}
+use Rattle.weak_laws.specs.Tables.Performing.{refusals, writings}
+use Rattle.weak_laws.specs.Tables.Stages.{Goes, graph_of, held_in}
+use Rattle.weak_laws.proofs.OfTables.BindingLemmas.{thinned_more, thinned_keys}
+use Rattle.weak_laws.proofs.OfTables.ArrayLemmas.{emptied_more}
+use Rattle.weak_laws.proofs.OfTables.ChangeLemmas.{array_kept}
+use Rattle.weak_laws.proofs.OfTables.LawLemmas.{keys_emptied}
+use Rattle.weak_laws.proofs.OfTables.OnceLemmas.{lacks, not_both}
 use Rattle.weak_tables.specs.Held.{AllHave, IsBare}
 use Rattle.weak_tables.proofs.TidyLemmas.{bare_lasts, has_kept}
 use Rattle.weak_tables.specs.Arrays.{SetsSlot}
 use Rattle.table_text.specs.declared.version.Version.{Version}
 use Rattle.table_text.specs.declared.line.TableLine.{TableLine}
 use Rattle.table_text.specs.declared.line.TableLine.TheVariants as line
-use Rattle.table_machine.specs.declared.reply.LineReply.TheVariants as reply
-use Rattle.table_machine.specs.Machine.{Effect, TableState, MayGo, IsLost, IsThere, Holds, key_in, WithKey, Deletes, Binds}
-use Rattle.table_keepers.specs.Keepers.{Shape, IsKeeper, kept_bindings, kept_labels}
-use Rattle.table_keepers.specs.Answers.{Puts, Stays, Takes, Writes, bound_in}
+use Rattle.table_text.specs.declared.machine.reply.LineReply.TheVariants as reply
+use Rattle.table_text.specs.Machine.Machine.{Effect, TableState, MayGo, IsLost, IsThere, Holds, key_in, WithKey, Deletes, Binds}
+use Rattle.table_run.specs.Keepers.Keepers.{Shape, IsKeeper, kept_bindings, kept_labels}
+use Rattle.table_run.specs.Keepers.Answers.{Puts, Stays, Takes, Writes, bound_in}
 use Rattle.table_run.specs.Standing.{Places, Stands, IsKnown, key_node, AreInts}
 use Rattle.table_run.specs.Running.{LineDone}
 use Rattle.table_run.proofs.KeyLemmas.{array_without, keeper_without}

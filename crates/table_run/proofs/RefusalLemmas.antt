@@ -1,29 +1,29 @@
 -- A command is answered `full` only where so many blocks were made that the pools may be used up.
 use Rattle.std.proofs.Common.{◌≡◌, ◌≢◌, ℕ, zero, suc, ◌+◌, ◌*◌, ◌<◌, ◌≤◌, true, false, List, [], ◌∷◌, ◌++◌, length, Option, Some, None, refl, ap, sym, ◌∙◌, subst, arith, length-append, append_assoc}
-use Rattle.heap_model.specs.declared.label.Label.{Label}
-use Rattle.heap_model.specs.declared.command.Command.{Command}
-use Rattle.heap_model.specs.declared.entry.Entry.{Entry}
-use Rattle.heap_model.specs.declared.entry.Entry.TheVariants.{Command as CommandOf, End, Cut, Queue, Seal, Wipe, Last as LastOf, Collected, Done, Ran}
-use Rattle.heap_model.specs.declared.graph.Node.{Node}
-use Rattle.heap_model.specs.declared.graph.Node.TheVariants.{Plain, Raw, Ephe}
-use Rattle.heap_model.specs.declared.state.Pending.{Pending}
-use Rattle.heap_model.specs.declared.state.Pending.TheVariants.{Fin, Last}
-use Rattle.heap_model.specs.declared.state.Sizes.{Sizes}
-use Rattle.heap_model.specs.declared.state.State.{State}
-use Rattle.heap_model.specs.Graph.{node_at}
-use Rattle.heap_model.specs.Domains.{IsWithinLimits, domain_at, with_block, opening, reserve}
-use Rattle.heap_model.specs.Commands.{MayBeFull, outcome}
-use Rattle.heap_model.specs.Entries.{Allowed, wiped, with_wiped, after_run, next}
-use Rattle.heap_model.specs.History.{IsPrefix, state_after, LegalFrom, Legal}
-use Rattle.heap_model.proofs.Commands.MoveLemmas.{moved}
-use Rattle.heap_model.proofs.Commands.ShapeLemmas.{length-with_node}
-use Rattle.heap_model.proofs.Histories.HistoryLemmas.{state_after-append}
-use Rattle.heap_model.proofs.Histories.ShapeAfterLemmas.{shaped-history}
-use Rattle.table_laws.specs.Thinning.{state_of}
-use Rattle.table_laws.specs.Performing.{refused, refusals}
-use Rattle.table_laws.proofs.RefusalLemmas.{refusals-append}
-use Rattle.table_laws.proofs.SizeLemmas.{blocks_counted}
-use Rattle.table_laws.proofs.StepLemmas.{legal_parts}
+use Rattle.model_core.specs.declared.label.Label.{Label}
+use Rattle.model_core.specs.declared.command.Command.{Command}
+use Rattle.model_core.specs.declared.entry.Entry.{Entry}
+use Rattle.model_core.specs.declared.entry.Entry.TheVariants.{Command as CommandOf, End, Cut, Queue, Seal, Wipe, Last as LastOf, Collected, Done, Ran}
+use Rattle.model_core.specs.declared.graph.Node.{Node}
+use Rattle.model_core.specs.declared.graph.Node.TheVariants.{Plain, Raw, Ephe}
+use Rattle.model_core.specs.declared.state.Pending.{Pending}
+use Rattle.model_core.specs.declared.state.Pending.TheVariants.{Fin, Last}
+use Rattle.model_core.specs.declared.state.Sizes.{Sizes}
+use Rattle.model_core.specs.declared.state.State.{State}
+use Rattle.model_core.specs.Graph.{node_at}
+use Rattle.model_core.specs.Domains.{IsWithinLimits, domain_at, with_block, opening, reserve}
+use Rattle.model_core.specs.Commands.{MayBeFull, outcome}
+use Rattle.model_core.specs.Entries.{Allowed, wiped, with_wiped, after_run, next}
+use Rattle.model_core.specs.History.{IsPrefix, state_after, LegalFrom, Legal}
+use Rattle.model_core.proofs.Commands.MoveLemmas.{moved}
+use Rattle.model_core.proofs.Commands.ShapeLemmas.{length-with_node}
+use Rattle.model_core.proofs.Histories.HistoryLemmas.{state_after-append}
+use Rattle.model_core.proofs.Histories.ShapeAfterLemmas.{shaped-history}
+use Rattle.weak_laws.specs.Tables.Thinning.{state_of}
+use Rattle.weak_laws.specs.Tables.Performing.{refused, refusals}
+use Rattle.weak_laws.proofs.OfTables.RefusalLemmas.{refusals-append}
+use Rattle.weak_laws.proofs.OfTables.SizeLemmas.{blocks_counted}
+use Rattle.weak_laws.proofs.OfTables.StepLemmas.{legal_parts}
 
 -- the sizes stay, and no block is taken from the graph
 pub record Grown (s t : State) : Type 0 where

@@ -1,28 +1,28 @@
 -- A stretch of a history in which no register from 1 to 7 is written leaves them at each of its fronts.
 use Rattle.std.proofs.Common.{◌≡◌, ◌≢◌, ℕ, zero, suc, ◌+◌, ◌≤◌, Bool, true, false, List, [], ◌∷◌, get_or, slice_get, replicate, is_some, Option, Some, None, refl, ap, ◌∙◌, arith, get_or-set_other}
 use Rattle.std.proofs.lemmas.Bool.Decides.{nat_tests}
-use Rattle.heap_model.specs.declared.label.Label.{Label}
-use Rattle.heap_model.specs.declared.command.Command as declared_command
-use Rattle.heap_model.specs.declared.command.Command.TheVariants.{PutInt, Copy, Forget, Alloc, AllocMaj, Load, Store, Raw as NewRaw, Cas, Ephe as NewEphe, SetKey, UnsetKey, GetKey, CheckKey, SetData, UnsetData, GetData, CheckData, Finalise, FinaliseLast, Poll, Minor, Major, FullMajor, Spawn, Argument, PutResult, Join}
-use Rattle.heap_model.specs.declared.entry.Entry.{Entry}
-use Rattle.heap_model.specs.declared.entry.Entry.TheVariants.{Command, End, Cut, Queue, Seal, Wipe, Last as LastOf, Collected, Done as DoneOf, Ran}
-use Rattle.heap_model.specs.declared.graph.Value.{Value}
-use Rattle.heap_model.specs.declared.graph.Value.TheVariants.{Int, Block, Nothing}
-use Rattle.heap_model.specs.declared.graph.Node.{Node}
-use Rattle.heap_model.specs.declared.graph.Node.TheVariants.{Plain, Raw, Ephe}
-use Rattle.heap_model.specs.declared.state.Sizes.{Sizes}
-use Rattle.heap_model.specs.declared.state.State.{State}
-use Rattle.heap_model.specs.declared.state.DomainState.{DomainState}
-use Rattle.heap_model.specs.Domains.{domain_at, with_domain, with_register, register, label_in, opening}
-use Rattle.heap_model.specs.Commands.{Outcome, in_bounds, read_into, tells, loaded, at_field, written_where, same_value, exchanged, at_ephe, key_set, key_stored, key_value, datum_stored, is_full_value, finalised, finalised_last, block_in, allocated, new_plain, new_raw, outcome}
-use Rattle.heap_model.specs.Entries.{next}
-use Rattle.heap_model.specs.History.{IsPrefix, is_entry_of, state_after}
-use Rattle.heap_model.proofs.Commands.FrameLemmas.{part_set, keeps_next}
-use Rattle.heap_model.proofs.Histories.HistoryLemmas.{state_after-append}
-use Rattle.table_laws.specs.Thinning.{state_of}
-use Rattle.table_laws.specs.Performing.{is_spared, writes, written, writings}
-use Rattle.table_laws.specs.Stages.{held_in}
-use Rattle.table_laws.proofs.WritingLemmas.{writings-append}
+use Rattle.model_core.specs.declared.label.Label.{Label}
+use Rattle.model_core.specs.declared.command.Command as declared_command
+use Rattle.model_core.specs.declared.command.Command.TheVariants.{PutInt, Copy, Forget, Alloc, AllocMaj, Load, Store, Raw as NewRaw, Cas, Ephe as NewEphe, SetKey, UnsetKey, GetKey, CheckKey, SetData, UnsetData, GetData, CheckData, Finalise, FinaliseLast, Poll, Minor, Major, FullMajor, Spawn, Argument, PutResult, Join}
+use Rattle.model_core.specs.declared.entry.Entry.{Entry}
+use Rattle.model_core.specs.declared.entry.Entry.TheVariants.{Command, End, Cut, Queue, Seal, Wipe, Last as LastOf, Collected, Done as DoneOf, Ran}
+use Rattle.model_core.specs.declared.graph.Value.{Value}
+use Rattle.model_core.specs.declared.graph.Value.TheVariants.{Int, Block, Nothing}
+use Rattle.model_core.specs.declared.graph.Node.{Node}
+use Rattle.model_core.specs.declared.graph.Node.TheVariants.{Plain, Raw, Ephe}
+use Rattle.model_core.specs.declared.state.Sizes.{Sizes}
+use Rattle.model_core.specs.declared.state.State.{State}
+use Rattle.model_core.specs.declared.state.DomainState.{DomainState}
+use Rattle.model_core.specs.Domains.{domain_at, with_domain, with_register, register, label_in, opening}
+use Rattle.model_core.specs.Commands.{Outcome, in_bounds, read_into, tells, loaded, at_field, written_where, same_value, exchanged, at_ephe, key_set, key_stored, key_value, datum_stored, is_full_value, finalised, finalised_last, block_in, allocated, new_plain, new_raw, outcome}
+use Rattle.model_core.specs.Entries.{next}
+use Rattle.model_core.specs.History.{IsPrefix, is_entry_of, state_after}
+use Rattle.model_core.proofs.Commands.FrameLemmas.{part_set, keeps_next}
+use Rattle.model_core.proofs.Histories.HistoryLemmas.{state_after-append}
+use Rattle.weak_laws.specs.Tables.Thinning.{state_of}
+use Rattle.weak_laws.specs.Tables.Performing.{is_spared, writes, written, writings}
+use Rattle.weak_laws.specs.Tables.Stages.{held_in}
+use Rattle.weak_laws.proofs.OfTables.WritingLemmas.{writings-append}
 
 -- a register that isn't spared isn't this one
 other_register : (dst r : ℕ) → 1 ≤ r → r ≤ 7 → is_spared dst ≡ 0 → dst ≢ r

@@ -2,20 +2,20 @@
 use Rattle.std.proofs.Common.{◌≡◌, ⊎_elim, ℕ, zero, suc, ◌<◌, Bool, true, false, cond, IsTrue, List, [], ◌∷◌, ◌++◌, map, length, flat_map, filter_map, get_or, Option, Some, None, pos, refl, ap, sym, ◌∙◌, subst, arith}
 use Rattle.std.specs.List.{list_all}
 use Rattle.std.specs.Option.{option_map_or}
-use Rattle.heap_model.specs.declared.label.Label.{Label}
-use Rattle.heap_model.specs.declared.graph.Value.{Value}
-use Rattle.heap_model.specs.declared.graph.Value.TheVariants.{Int, Block, Nothing}
-use Rattle.heap_model.specs.declared.graph.Node.{Node}
-use Rattle.heap_model.specs.declared.graph.Node.TheVariants.{Plain, Raw, Ephe}
-use Rattle.heap_model.specs.Graph.{Graph, same_label, has_label, label_of, node_at}
-use Rattle.heap_model.specs.Entries.{keys_are_live}
-use Rattle.heap_model.specs.Reach.{IsClosedUnder, edges_at, edges_of, key_holds}
-use Rattle.heap_model.proofs.Graphs.GraphLemmas.{same_label-true, same_label_refl}
-use Rattle.heap_model.proofs.Reach.ReachLemmas.{and_left, and_right, has-append_cases, has-append_left, has-append_right, or_cases, or_left, or_right}
-use Rattle.table_laws.specs.Structures.{Binding, Cell, binding_of, bindings, cell_labels, chain_bindings, is_weak, key_of, slot_keys, table_labels, IsTable, IsWeakArray, Links}
+use Rattle.model_core.specs.declared.label.Label.{Label}
+use Rattle.model_core.specs.declared.graph.Value.{Value}
+use Rattle.model_core.specs.declared.graph.Value.TheVariants.{Int, Block, Nothing}
+use Rattle.model_core.specs.declared.graph.Node.{Node}
+use Rattle.model_core.specs.declared.graph.Node.TheVariants.{Plain, Raw, Ephe}
+use Rattle.model_core.specs.Graph.{Graph, same_label, has_label, label_of, node_at}
+use Rattle.model_core.specs.Entries.{keys_are_live}
+use Rattle.model_core.specs.Reach.{IsClosedUnder, edges_at, edges_of, key_holds}
+use Rattle.model_core.proofs.Graphs.GraphLemmas.{same_label-true, same_label_refl}
+use Rattle.model_core.proofs.Reach.ReachLemmas.{and_left, and_right, has-append_cases, has-append_left, has-append_right, or_cases, or_left, or_right}
+use Rattle.weak_laws.specs.Tables.Structures.{Binding, Cell, binding_of, bindings, cell_labels, chain_bindings, is_weak, key_of, slot_keys, table_labels, IsTable, IsWeakArray, Links}
 use Rattle.weak_tables.specs.Held.{AllHave, Has, IsBare, IsOwned, IsTidy}
 use Rattle.weak_tables.proofs.SlotLemmas.{weak_parts}
-use Rattle.table_machine.specs.Machine.{Holds}
+use Rattle.table_text.specs.Machine.Machine.{Holds}
 use Rattle.table_run.specs.Standing.{AreInts, key_node}
 
 -- the labels in places

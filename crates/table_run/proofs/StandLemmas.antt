@@ -1,30 +1,30 @@
 -- What stays of the two structures where no block of theirs is written, and what may have gone.
 use Rattle.std.proofs.Common.{◌≡◌, inl, inr, ℕ, zero, suc, ◌+◌, ◌-◌, ◌<◌, ◌≤◌, List, [], ◌∷◌, length, get_or, Option, Some, None, refl, ap, sym, ◌∙◌, subst, arith, append-nil}
-use Rattle.heap_model.specs.declared.label.Label.{Label}
-use Rattle.heap_model.specs.declared.entry.Entry.{Entry}
-use Rattle.heap_model.specs.declared.graph.Value.TheVariants.{Block, Nothing}
-use Rattle.heap_model.specs.declared.state.Mode.TheVariants.{Open}
-use Rattle.heap_model.specs.declared.state.Sizes.{Sizes}
-use Rattle.heap_model.specs.Graph.{node_at}
-use Rattle.heap_model.specs.Commands.{key_value}
-use Rattle.heap_model.specs.History.{IsPrefix, Legal}
-use Rattle.history_laws.proofs.ApartLemmas.{IsKnownOut}
-use Rattle.table_laws.specs.Structures.{Apart, Binding, IsWeakArray, slot_keys}
-use Rattle.table_laws.specs.Thinning.{ThinnedBy, EmptiedBy, WasOutside, Went, Changes, state_of}
-use Rattle.table_laws.specs.Performing.{refusals, writings}
-use Rattle.table_laws.specs.Stages.{graph_of, held_in}
-use Rattle.table_laws.proofs.BindingLemmas.{thinned_keys}
-use Rattle.table_laws.proofs.ChangeLemmas.{array_kept}
-use Rattle.table_laws.proofs.CollectorLemmas.{outside_unheld}
-use Rattle.table_laws.proofs.LawLemmas.{keys_emptied}
-use Rattle.table_laws.proofs.StageLemmas.{prefix_trans}
+use Rattle.model_core.specs.declared.label.Label.{Label}
+use Rattle.model_core.specs.declared.entry.Entry.{Entry}
+use Rattle.model_core.specs.declared.graph.Value.TheVariants.{Block, Nothing}
+use Rattle.model_core.specs.declared.state.Mode.TheVariants.{Open}
+use Rattle.model_core.specs.declared.state.Sizes.{Sizes}
+use Rattle.model_core.specs.Graph.{node_at}
+use Rattle.model_core.specs.Commands.{key_value}
+use Rattle.model_core.specs.History.{IsPrefix, Legal}
+use Rattle.model_laws.proofs.OfHistories.ApartLemmas.{IsKnownOut}
+use Rattle.weak_laws.specs.Tables.Structures.{Apart, Binding, IsWeakArray, slot_keys}
+use Rattle.weak_laws.specs.Tables.Thinning.{ThinnedBy, EmptiedBy, WasOutside, Went, Changes, state_of}
+use Rattle.weak_laws.specs.Tables.Performing.{refusals, writings}
+use Rattle.weak_laws.specs.Tables.Stages.{graph_of, held_in}
+use Rattle.weak_laws.proofs.OfTables.BindingLemmas.{thinned_keys}
+use Rattle.weak_laws.proofs.OfTables.ChangeLemmas.{array_kept}
+use Rattle.weak_laws.proofs.OfTables.CollectorLemmas.{outside_unheld}
+use Rattle.weak_laws.proofs.OfTables.LawLemmas.{keys_emptied}
+use Rattle.weak_laws.proofs.OfTables.StageLemmas.{prefix_trans}
 use Rattle.weak_tables.specs.Held.{IsBare, KeepsOthers, IsClean}
 use Rattle.weak_tables.proofs.TidyLemmas.{all_kept, bare_lasts}
 use Rattle.table_text.specs.declared.version.Version.{Version}
 use Rattle.table_text.specs.declared.line.TableLine.{TableLine}
-use Rattle.table_machine.specs.declared.reply.LineReply.{LineReply}
-use Rattle.table_machine.specs.Machine.{LineStep, TableState, MayGo, IsLost, IsThere, Holds}
-use Rattle.table_keepers.specs.Keepers.{Shape, kept_bindings}
+use Rattle.table_text.specs.declared.machine.reply.LineReply.{LineReply}
+use Rattle.table_text.specs.Machine.Machine.{LineStep, TableState, MayGo, IsLost, IsThere, Holds}
+use Rattle.table_run.specs.Keepers.Keepers.{Shape, kept_bindings}
 use Rattle.table_run.specs.Standing.{Places, Stands, IsKnown, key_node, AreInts}
 use Rattle.table_run.specs.Running.{LineDone, MakesNew, WasCounted, full_in}
 use Rattle.table_run.proofs.FreshLemmas.{counted_before, makes_before}

@@ -3,44 +3,44 @@ use Rattle.std.proofs.Common.{◌≡◌, ◌⊎◌, inl, inr, ⊎_elim, ℕ, suc
 use Rattle.std.specs.List.{list_all}
 use Rattle.std.specs.Option.{option_map_or}
 use Rattle.std.proofs.lemmas.Option.{slice_get-get_or}
-use Rattle.heap_model.specs.declared.label.Label.{Label}
-use Rattle.heap_model.specs.declared.command.Command.{Command}
-use Rattle.heap_model.specs.declared.command.Command.TheVariants.{FullMajor, Spawn, Argument, PutResult, Join}
-use Rattle.heap_model.specs.declared.entry.Entry.{Entry}
-use Rattle.heap_model.specs.declared.entry.Entry.TheVariants.{Command as CommandOf, End, Cut, Queue, Seal, Wipe, Last as LastOf, Collected, Done as DoneOf, Ran}
-use Rattle.heap_model.specs.declared.graph.Value.{Value}
-use Rattle.heap_model.specs.declared.graph.Value.TheVariants.{Int, Block, Nothing}
-use Rattle.heap_model.specs.declared.graph.Node.{Node}
-use Rattle.heap_model.specs.declared.graph.Node.TheVariants.{Plain, Raw, Ephe}
-use Rattle.heap_model.specs.declared.state.Mode.{Mode}
-use Rattle.heap_model.specs.declared.state.Mode.TheVariants.{Open, Cut as CutMode}
-use Rattle.heap_model.specs.declared.state.Sizes.{Sizes}
-use Rattle.heap_model.specs.declared.state.State.{State}
-use Rattle.heap_model.specs.Graph.{Graph, same_label, labels, has_label, label_of, node_at}
-use Rattle.heap_model.specs.Domains.{domain_at, opening}
-use Rattle.heap_model.specs.Commands.{FitsMode, key_value}
-use Rattle.heap_model.specs.Entries.{Allowed, is_sealed, keys_are_live, left_reach, next, with_wiped, wiped}
-use Rattle.heap_model.specs.History.{LegalFrom, Legal}
-use Rattle.heap_model.specs.Reach.{IsClosedUnder, edges_of, key_holds}
-use Rattle.heap_model.proofs.Collections.CollectionLemmas.{all_has}
-use Rattle.heap_model.proofs.Graphs.GraphStepLemmas.{labels_stay_law}
-use Rattle.heap_model.proofs.Histories.NumberLemmas.{node_at-no_label}
-use Rattle.heap_model.proofs.Histories.HistoryLemmas.{state_after-push, state_after-append}
-use Rattle.heap_model.proofs.Graphs.GraphLemmas.{same_label-true}
-use Rattle.heap_model.proofs.Graphs.NamedLemmas.{have_at, have_head, have_none}
-use Rattle.heap_model.specs.WellFormed.{HaveNodes}
-use Rattle.heap_model.proofs.Reach.ReachLemmas.{and_both, is_false, or_cases, has-append_left, has-append_right}
-use Rattle.history_laws.specs.Cells.{Cell, Field, Key, Datum, content}
-use Rattle.history_laws.proofs.CellLemmas.{content_is}
-use Rattle.history_laws.proofs.ApartLemmas.{IsKnownOut, out_after}
-use Rattle.history_laws.proofs.LostLemmas.{known_lost}
-use Rattle.table_laws.specs.Structures.{IsWeakArray, keys_of, slot_keys}
-use Rattle.table_laws.specs.Thinning.{WasOutside, state_of, taken_by}
-use Rattle.table_laws.specs.Stages.{graph_of, held_in}
-use Rattle.table_laws.proofs.StepLemmas.{legal_parts}
+use Rattle.model_core.specs.declared.label.Label.{Label}
+use Rattle.model_core.specs.declared.command.Command.{Command}
+use Rattle.model_core.specs.declared.command.Command.TheVariants.{FullMajor, Spawn, Argument, PutResult, Join}
+use Rattle.model_core.specs.declared.entry.Entry.{Entry}
+use Rattle.model_core.specs.declared.entry.Entry.TheVariants.{Command as CommandOf, End, Cut, Queue, Seal, Wipe, Last as LastOf, Collected, Done as DoneOf, Ran}
+use Rattle.model_core.specs.declared.graph.Value.{Value}
+use Rattle.model_core.specs.declared.graph.Value.TheVariants.{Int, Block, Nothing}
+use Rattle.model_core.specs.declared.graph.Node.{Node}
+use Rattle.model_core.specs.declared.graph.Node.TheVariants.{Plain, Raw, Ephe}
+use Rattle.model_core.specs.declared.state.Mode.{Mode}
+use Rattle.model_core.specs.declared.state.Mode.TheVariants.{Open, Cut as CutMode}
+use Rattle.model_core.specs.declared.state.Sizes.{Sizes}
+use Rattle.model_core.specs.declared.state.State.{State}
+use Rattle.model_core.specs.Graph.{Graph, same_label, labels, has_label, label_of, node_at}
+use Rattle.model_core.specs.Domains.{domain_at, opening}
+use Rattle.model_core.specs.Commands.{FitsMode, key_value}
+use Rattle.model_core.specs.Entries.{Allowed, is_sealed, keys_are_live, left_reach, next, with_wiped, wiped}
+use Rattle.model_core.specs.History.{LegalFrom, Legal}
+use Rattle.model_core.specs.Reach.{IsClosedUnder, edges_of, key_holds}
+use Rattle.model_core.proofs.Collections.CollectionLemmas.{all_has}
+use Rattle.model_core.proofs.Graphs.GraphStepLemmas.{labels_stay_law}
+use Rattle.model_core.proofs.Histories.NumberLemmas.{node_at-no_label}
+use Rattle.model_core.proofs.Histories.HistoryLemmas.{state_after-push, state_after-append}
+use Rattle.model_core.proofs.Graphs.GraphLemmas.{same_label-true}
+use Rattle.model_core.proofs.Graphs.NamedLemmas.{have_at, have_head, have_none}
+use Rattle.model_core.specs.WellFormed.{HaveNodes}
+use Rattle.model_core.proofs.Reach.ReachLemmas.{and_both, is_false, or_cases, has-append_left, has-append_right}
+use Rattle.model_laws.specs.Histories.Cells.{Cell, Field, Key, Datum, content}
+use Rattle.model_laws.proofs.OfHistories.CellLemmas.{content_is}
+use Rattle.model_laws.proofs.OfHistories.ApartLemmas.{IsKnownOut, out_after}
+use Rattle.model_laws.proofs.OfHistories.LostLemmas.{known_lost}
+use Rattle.weak_laws.specs.Tables.Structures.{IsWeakArray, keys_of, slot_keys}
+use Rattle.weak_laws.specs.Tables.Thinning.{WasOutside, state_of, taken_by}
+use Rattle.weak_laws.specs.Tables.Stages.{graph_of, held_in}
+use Rattle.weak_laws.proofs.OfTables.StepLemmas.{legal_parts}
 use Rattle.table_text.specs.declared.version.Version.{Version}
-use Rattle.table_machine.specs.Machine.{Holds}
-use Rattle.table_keepers.specs.Keepers.{Shape, IsKeeper, kept_bindings}
+use Rattle.table_text.specs.Machine.Machine.{Holds}
+use Rattle.table_run.specs.Keepers.Keepers.{Shape, IsKeeper, kept_bindings}
 use Rattle.table_run.proofs.FreshLemmas.{labels_go_on}
 use Rattle.table_run.proofs.KeeperLemmas.{keeper_keys_held}
 use Rattle.table_run.proofs.SettledLemmas.{array_keys_held, named_field, nothing_there}

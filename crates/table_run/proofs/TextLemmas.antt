@@ -1,27 +1,27 @@
 -- A text, from the two structures that are made to its last line.
 use Rattle.std.proofs.Common.{◌≡◌, ◌≢◌, inl, inr, ⊎_elim, ℕ, zero, suc, ◌+◌, ◌-◌, ◌≤◌, false, true, List, [], ◌∷◌, ◌++◌, length, flat_map, take, get_or, replicate, slice_get, Some, None, refl, ap, sym, ◌∙◌, subst, arith, append_assoc, append-nil}
 use Rattle.std.proofs.lemmas.List.{length-map}
-use Rattle.heap_model.specs.declared.label.Label.{Label}
-use Rattle.heap_model.specs.declared.entry.Entry.{Entry}
-use Rattle.heap_model.specs.declared.reply.Reply.{Reply}
-use Rattle.heap_model.specs.declared.reply.Reply.TheVariants as given
-use Rattle.heap_model.specs.declared.graph.Value.TheVariants.{Block, Nothing}
-use Rattle.heap_model.specs.declared.state.Sizes.{Sizes}
-use Rattle.heap_model.specs.Domains.{IsWithinLimits, domain_at, opening, register, reserve}
-use Rattle.heap_model.specs.Commands.{key_value}
-use Rattle.heap_model.specs.History.{IsPrefix, Legal}
-use Rattle.table_laws.specs.Structures.{Apart, Binding}
-use Rattle.table_laws.specs.Thinning.{ThinnedBy, WasOutside, state_of}
-use Rattle.table_laws.specs.Performing.{refusals, full_of}
-use Rattle.table_laws.specs.Stages.{graph_of, held_in}
-use Rattle.table_laws.proofs.StageLemmas.{prefix_trans}
+use Rattle.model_core.specs.declared.label.Label.{Label}
+use Rattle.model_core.specs.declared.entry.Entry.{Entry}
+use Rattle.model_core.specs.declared.reply.Reply.{Reply}
+use Rattle.model_core.specs.declared.reply.Reply.TheVariants as given
+use Rattle.model_core.specs.declared.graph.Value.TheVariants.{Block, Nothing}
+use Rattle.model_core.specs.declared.state.Sizes.{Sizes}
+use Rattle.model_core.specs.Domains.{IsWithinLimits, domain_at, opening, register, reserve}
+use Rattle.model_core.specs.Commands.{key_value}
+use Rattle.model_core.specs.History.{IsPrefix, Legal}
+use Rattle.weak_laws.specs.Tables.Structures.{Apart, Binding}
+use Rattle.weak_laws.specs.Tables.Thinning.{ThinnedBy, WasOutside, state_of}
+use Rattle.weak_laws.specs.Tables.Performing.{refusals, full_of}
+use Rattle.weak_laws.specs.Tables.Stages.{graph_of, held_in}
+use Rattle.weak_laws.proofs.OfTables.StageLemmas.{prefix_trans}
 use Rattle.weak_tables.specs.Arrays.{ArrayAnswers}
 use Rattle.table_text.specs.declared.version.Version.{Version}
 use Rattle.table_text.specs.declared.line.TableLine.{TableLine}
-use Rattle.table_machine.specs.declared.reply.LineReply.{LineReply}
-use Rattle.table_machine.specs.Machine.{MachineAnswers, MachineRuns, TableState, Holds, made_by, all_made, opened}
-use Rattle.table_keepers.specs.Keepers.{kept_labels}
-use Rattle.table_keepers.specs.Answers.{MakeAnswers}
+use Rattle.table_text.specs.declared.machine.reply.LineReply.{LineReply}
+use Rattle.table_text.specs.Machine.Machine.{MachineAnswers, MachineRuns, TableState, Holds, made_by, all_made, opened}
+use Rattle.table_run.specs.Keepers.Keepers.{kept_labels}
+use Rattle.table_run.specs.Keepers.Answers.{MakeAnswers}
 use Rattle.table_run.specs.Standing.{Places, Shown, IsKnown}
 use Rattle.table_run.specs.Running.{LineRuns, LinesRun, LineDone, LineAnswers, HasGiven, TextRuns, RanTo, Begins, full_in, rooms_of, all_rooms}
 use Rattle.table_run.proofs.FreshLemmas.{counted_before, makes_before}

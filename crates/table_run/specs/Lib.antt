@@ -1,2 +1,3 @@
 pub mod Standing
 pub mod Running
+pub mod Keepers

@@ -1,21 +1,21 @@
 -- A text of a table, run line by line: each line is a step of the machine, and the history has a prefix for it.
 use Rattle.std.specs.Prelude.{◌≡◌, ℕ, ◌+◌, ◌≤◌, List, [], ◌∷◌, ◌++◌, length, Some, None}
-use Rattle.heap_model.specs.declared.label.Label.{Label}
-use Rattle.heap_model.specs.declared.entry.Entry.{Entry}
-use Rattle.heap_model.specs.declared.reply.Reply.{Reply}
-use Rattle.heap_model.specs.declared.reply.Reply.TheVariants as given
-use Rattle.heap_model.specs.declared.state.Sizes.{Sizes}
-use Rattle.heap_model.specs.Graph.{node_at}
-use Rattle.heap_model.specs.History.{IsPrefix}
-use Rattle.table_laws.specs.Performing.{refusals}
-use Rattle.table_laws.specs.Stages.{graph_of}
+use Rattle.model_core.specs.declared.label.Label.{Label}
+use Rattle.model_core.specs.declared.entry.Entry.{Entry}
+use Rattle.model_core.specs.declared.reply.Reply.{Reply}
+use Rattle.model_core.specs.declared.reply.Reply.TheVariants as given
+use Rattle.model_core.specs.declared.state.Sizes.{Sizes}
+use Rattle.model_core.specs.Graph.{node_at}
+use Rattle.model_core.specs.History.{IsPrefix}
+use Rattle.weak_laws.specs.Tables.Performing.{refusals}
+use Rattle.weak_laws.specs.Tables.Stages.{graph_of}
 use Rattle.table_text.specs.declared.version.Version.{Version}
 use Rattle.table_text.specs.declared.line.TableLine.{TableLine}
 use Rattle.table_text.specs.declared.line.TableLine.TheVariants.{Count, Key, Put}
-use Rattle.table_machine.specs.declared.reply.LineReply.{LineReply}
-use Rattle.table_machine.specs.declared.reply.LineReply.TheVariants as reply
-use Rattle.table_machine.specs.Machine.{LineStep, TableState, MayGo, key_in, all_made, opened}
-use Rattle.table_keepers.specs.Keepers.{Shape, IsKeeper, kept_bindings}
+use Rattle.table_text.specs.declared.machine.reply.LineReply.{LineReply}
+use Rattle.table_text.specs.declared.machine.reply.LineReply.TheVariants as reply
+use Rattle.table_text.specs.Machine.Machine.{LineStep, TableState, MayGo, key_in, all_made, opened}
+use Rattle.table_run.specs.Keepers.Keepers.{Shape, IsKeeper, kept_bindings}
 use Rattle.table_run.specs.Standing.{Places, Shown, Stands}
 
 -- 1 for the reply `full`

@@ -1,19 +1,19 @@
 -- How the heap stands for a state of the machine: registers 1 to 5 hold its keys, register 6 the table or the map and register 7 the weak array.
 use Rattle.std.specs.Prelude.{◌≡◌, ◌⊎◌, ℕ, ◌≤◌, IsTrue, List, [], ◌∷◌, length, pos, Some}
-use Rattle.heap_model.specs.declared.label.Label.{Label}
-use Rattle.heap_model.specs.declared.entry.Entry.{Entry}
-use Rattle.heap_model.specs.declared.graph.Value.TheVariants.{Int, Block, Nothing}
-use Rattle.heap_model.specs.declared.graph.Node.{Node}
-use Rattle.heap_model.specs.declared.graph.Node.TheVariants.{Plain}
-use Rattle.heap_model.specs.declared.state.Sizes.{Sizes}
-use Rattle.heap_model.specs.Graph.{has_label, node_at}
-use Rattle.heap_model.specs.Commands.{key_value}
-use Rattle.table_laws.specs.Structures.{Binding, keys_of, IsWeakArray, slot_keys, Apart}
-use Rattle.table_laws.specs.Stages.{graph_of, held_in}
+use Rattle.model_core.specs.declared.label.Label.{Label}
+use Rattle.model_core.specs.declared.entry.Entry.{Entry}
+use Rattle.model_core.specs.declared.graph.Value.TheVariants.{Int, Block, Nothing}
+use Rattle.model_core.specs.declared.graph.Node.{Node}
+use Rattle.model_core.specs.declared.graph.Node.TheVariants.{Plain}
+use Rattle.model_core.specs.declared.state.Sizes.{Sizes}
+use Rattle.model_core.specs.Graph.{has_label, node_at}
+use Rattle.model_core.specs.Commands.{key_value}
+use Rattle.weak_laws.specs.Tables.Structures.{Binding, keys_of, IsWeakArray, slot_keys, Apart}
+use Rattle.weak_laws.specs.Tables.Stages.{graph_of, held_in}
 use Rattle.weak_tables.specs.Held.{AllHave, IsBare}
 use Rattle.table_text.specs.declared.version.Version.{Version}
-use Rattle.table_keepers.specs.Keepers.{Shape, IsKeeper, kept_bindings, kept_labels}
-use Rattle.table_machine.specs.Machine.{TableState, key_in, Holds}
+use Rattle.table_run.specs.Keepers.Keepers.{Shape, IsKeeper, kept_bindings, kept_labels}
+use Rattle.table_text.specs.Machine.Machine.{TableState, key_in, Holds}
 
 -- where the table or the map and the weak array are: the same for all lines of a text
 pub record Places : Type 0 where

@@ -1,6 +1,7 @@
 //! A text of a table, run line by line over a session.
 #![tactic(auto)]
 
+pub mod keepers;
 mod line;
 mod prepare;
 mod said;

@@ -1,18 +1,18 @@
 // What each line does. Register 6 holds the table or the map and register 7 the weak array; register 0 is used between.
 ghost use Rattle.std.specs.Prelude.{◌≡◌, ◌+◌, ◌<◌, ◌≤◌, true};
-ghost use Rattle.heap_model.specs.declared.reply.Reply.TheVariants as variant;
+ghost use Rattle.model_core.specs.declared.reply.Reply.TheVariants as variant;
 ghost use Rattle.table_text.specs.declared.line.TableLine.TheVariants as line_of;
 ghost use Rattle.table_text.specs.Forms.{is_writable};
-ghost use Rattle.table_machine.specs.Machine.{made_by, made_by_put};
+ghost use Rattle.table_text.specs.Machine.Machine.{made_by, made_by_put};
 ghost use Rattle.table_run.specs.Standing.{IsStanding};
 ghost use Rattle.table_run.specs.Running.{LineAnswers, rooms_of};
 
+use crate::keepers::OneDomain;
+use crate::keepers::calls::{keeper_count, keeper_get, keeper_put, keeper_sweep, keeper_take};
 use crate::said::{is_full, said};
-use heap_model::command::Command;
+use model_core::command::Command;
 use std::sync::Wait;
-use table_keepers::OneDomain;
-use table_keepers::calls::{keeper_count, keeper_get, keeper_put, keeper_sweep, keeper_take};
-use table_machine::LineReply;
+use table_text::machine::LineReply;
 use table_text::{TableLine, Version};
 use weak_tables::arrays::{weak_get, weak_set};
 use weak_tables::machine::Machine;

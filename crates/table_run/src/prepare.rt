@@ -1,11 +1,11 @@
 // What keeps the bindings and the weak array, before the first line.
 ghost use Rattle.std.specs.Prelude.{◌≡◌, ◌+◌, ◌≤◌, []};
-ghost use Rattle.heap_model.specs.Domains.{reserve};
+ghost use Rattle.model_core.specs.Domains.{reserve};
 ghost use Rattle.table_run.specs.Running.{Begins};
 
+use crate::keepers::OneDomain;
+use crate::keepers::calls::keeper_make;
 use std::sync::Wait;
-use table_keepers::OneDomain;
-use table_keepers::calls::keeper_make;
 use table_text::Version;
 use weak_tables::machine::Machine;
 use weak_tables::making::weak_make;

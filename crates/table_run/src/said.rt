@@ -1,10 +1,10 @@
 // What a call's reply is as a line's.
 ghost use Rattle.std.specs.Prelude.{◌≡◌, ◌↔◌, true};
-ghost use Rattle.heap_model.specs.declared.reply.Reply.TheVariants as variant;
+ghost use Rattle.model_core.specs.declared.reply.Reply.TheVariants as variant;
 ghost use Rattle.table_run.specs.Running.{said as said_as};
 
-use heap_model::reply::Reply;
-use table_machine::LineReply;
+use model_core::reply::Reply;
+use table_text::machine::LineReply;
 
 // The reply of a line whose call was answered so.
 pub(crate) fn said(reply: &Reply) -> LineReply

@@ -1,21 +1,21 @@
 //! A text, line by line.
 ghost use Rattle.std.specs.Prelude.{◌≡◌, ◌+◌, ◌≤◌, [], length, vec_capacity};
-ghost use Rattle.heap_model.specs.Domains.{reserve};
-ghost use Rattle.table_machine.specs.Machine.{all_made};
+ghost use Rattle.model_core.specs.Domains.{reserve};
+ghost use Rattle.table_text.specs.Machine.Machine.{all_made};
 ghost use Rattle.table_run.specs.Running.{TextRuns, all_rooms};
 
+use crate::keepers::OneDomain;
 use crate::line::run_line;
 use crate::prepare::prepare;
 use std::sync::Wait;
-use table_keepers::OneDomain;
-use table_machine::LineReply;
 use table_text::TableText;
+use table_text::machine::LineReply;
 use weak_tables::machine::Machine;
 
 /// Runs a text of a table over a session that has made no command, and answers what is written for its lines. `room` is
 /// empty and has room for them: no memory is taken.
 ///
-/// The replies are those of the machine of the text ([`table_machine`]), and the history has a prefix for each line, after
+/// The replies are those of the machine of the text ([`table_text::machine`]), and the history has a prefix for each line, after
 /// which registers 1 to 5, the bindings of one table or map and the slots of one weak array are the machine's.
 pub fn run_text<M: Machine, R: Wait>(
     m: &mut OneDomain<M>,

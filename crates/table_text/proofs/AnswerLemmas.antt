@@ -3,11 +3,11 @@ use Rattle.std.proofs.Common.{◌≡◌, ◌≢◌, ◌⊎◌, ℕ, zero, suc, �
 use Rattle.std.specs.Prelude.{Option, nat_le, nat_lt, option_map, ◌==◌}
 use Rattle.std.specs.List.{list_all, slice_split}
 use Rattle.std.proofs.lemmas.Bool.Decides.{nat_tests}
-use Rattle.heap_model.specs.Output.{line}
-use Rattle.heap_text.specs.declared.fault.ScriptFault.{ScriptFault}
-use Rattle.heap_text.specs.declared.fault.ScriptFault.TheVariants.{Memory, Range, Syntax, TooLong, TooMany}
-use Rattle.heap_text.specs.Split.{split_at_mark}
-use Rattle.heap_text.proofs.ReadLemmas.{split_joined}
+use Rattle.model_core.specs.Output.{line}
+use Rattle.text_script.specs.declared.fault.ScriptFault.{ScriptFault}
+use Rattle.text_script.specs.declared.fault.ScriptFault.TheVariants.{Memory, Range, Syntax, TooLong, TooMany}
+use Rattle.text_script.specs.Split.{split_at_mark}
+use Rattle.text_script.proofs.ReadLemmas.{split_joined}
 use Rattle.table_text.specs.declared.line.TableLine.{TableLine}
 use Rattle.table_text.specs.declared.version.Version.{Version}
 use Rattle.table_text.specs.declared.word.Word.{Word}

@@ -5,3 +5,4 @@ pub mod LineLemmas
 pub mod ReadLemmas
 pub mod WritableLemmas
 mod AnswerLemmas
+pub mod OfMachine

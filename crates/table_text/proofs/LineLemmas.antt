@@ -3,9 +3,9 @@ use Rattle.std.proofs.Common.{◌≡◌, ℕ, ◌+◌, ◌<◌, ◌≤◌, ℤ, 
 use Rattle.std.specs.Prelude.{Option, option_map, nat_le}
 use Rattle.std.proofs.lemmas.Bool.Decides.{nat_tests}
 use Rattle.std.proofs.lemmas.List.{length-map}
-use Rattle.heap_text.specs.declared.fault.ScriptFault.TheVariants.{Syntax, Range, TooMany}
-use Rattle.heap_text.specs.Number.{clipped, counted_numbers}
-use Rattle.heap_text.specs.Faults.{texts}
+use Rattle.text_script.specs.declared.fault.ScriptFault.TheVariants.{Syntax, Range, TooMany}
+use Rattle.text_script.specs.Number.{clipped, counted_numbers}
+use Rattle.text_script.specs.Faults.{texts}
 use Rattle.table_text.specs.declared.line.TableLine.{TableLine}
 use Rattle.table_text.specs.declared.word.Operand.{Operand}
 use Rattle.table_text.specs.declared.word.Word.{Word}

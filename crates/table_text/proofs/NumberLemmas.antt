@@ -3,7 +3,7 @@ use Rattle.std.proofs.Common.{◌≡◌, ◌≢◌, ℕ, ◌<◌, ℤ, List, [],
 use Rattle.std.specs.Prelude.{Option, is_some, option_map, option_and_then, ◌==◌}
 use Rattle.std.proofs.lemmas.Bool.Decides.{nat_tests}
 use Rattle.std.proofs.lemmas.List.Splits.{length-slice_split}
-use Rattle.heap_text.specs.Number.{number, numbers, counted_numbers, clipped}
+use Rattle.text_script.specs.Number.{number, numbers, counted_numbers, clipped}
 use Rattle.table_text.specs.Faults.{texts_behind}
 
 -- what the numbers so far make of those to come

@@ -8,16 +8,16 @@ use Rattle.std.proofs.lemmas.List.{append-nil}
 use Rattle.std.proofs.lemmas.List.Concat.{flat_map-append}
 use Rattle.std.proofs.lemmas.List.Splits.{length-slice_split}
 use Rattle.std.proofs.lemmas.Slice.Eq.{bytes_eq-Decides}
-use Rattle.heap_model.specs.Output.{line}
-use Rattle.heap_text.specs.declared.fault.ScriptFault.{ScriptFault}
-use Rattle.heap_text.specs.declared.fault.ScriptFault.TheVariants.{Syntax, Order, Range, TooLong, TooMany, Spawn, Memory}
-use Rattle.heap_text.specs.Split.{split_at_mark}
-use Rattle.heap_text.specs.Spelling.{IsUnlessMemory}
-use Rattle.heap_text.specs.Faults.{or_else, IsFaultUnlessMemory}
-use Rattle.heap_text.proofs.SplitLemmas.{split_found, split_whole}
-use Rattle.heap_text.proofs.ReadLemmas.{split_joined}
-use Rattle.heap_text.proofs.DecimalLemmas.{is_free}
-use Rattle.heap_text.proofs.TextLemmas.{split-free}
+use Rattle.model_core.specs.Output.{line}
+use Rattle.text_script.specs.declared.fault.ScriptFault.{ScriptFault}
+use Rattle.text_script.specs.declared.fault.ScriptFault.TheVariants.{Syntax, Order, Range, TooLong, TooMany, Spawn, Memory}
+use Rattle.text_script.specs.Split.{split_at_mark}
+use Rattle.text_script.specs.Spelling.{IsUnlessMemory}
+use Rattle.text_script.specs.Faults.{or_else, IsFaultUnlessMemory}
+use Rattle.text_script.proofs.SplitLemmas.{split_found, split_whole}
+use Rattle.text_script.proofs.ReadLemmas.{split_joined}
+use Rattle.text_script.proofs.DecimalLemmas.{is_free}
+use Rattle.text_script.proofs.TextLemmas.{split-free}
 use Rattle.table_text.specs.declared.line.TableLine.{TableLine}
 use Rattle.table_text.specs.declared.version.Version.{Version}
 use Rattle.table_text.specs.declared.version.Version.TheVariants.{One, Two}

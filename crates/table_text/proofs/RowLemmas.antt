@@ -5,9 +5,9 @@ use Rattle.std.proofs.lemmas.Bool.Decides.{nat_tests}
 use Rattle.std.proofs.lemmas.Int.{ints}
 use Rattle.std.proofs.lemmas.Slice.Eq.{bytes_eq-Decides}
 use Rattle.std.proofs.lemmas.Bool.{and_parts}
-use Rattle.heap_text.specs.Number.{clipped}
-use Rattle.heap_text.proofs.DecimalLemmas.{is_free}
-use Rattle.heap_text.proofs.TextLemmas.{are_small}
+use Rattle.text_script.specs.Number.{clipped}
+use Rattle.text_script.proofs.DecimalLemmas.{is_free}
+use Rattle.text_script.proofs.TextLemmas.{are_small}
 use Rattle.table_text.specs.declared.line.TableLine.{TableLine}
 use Rattle.table_text.specs.declared.line.TableLine.TheVariants.{Key, Forget, Put, Get, Del, SetWeak, GetWeak, Count, FullMajor}
 use Rattle.table_text.specs.declared.word.Operand.{Operand}

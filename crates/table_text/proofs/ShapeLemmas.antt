@@ -2,10 +2,10 @@
 use Rattle.std.proofs.Common.{◌≡◌, ℕ, ℤ, List, [], ◌∷◌, map, length, true, refl, ap, sym, ◌∙◌, Some, None}
 use Rattle.std.specs.Prelude.{Option}
 use Rattle.std.specs.Fmt.{signed_decimal}
-use Rattle.heap_text.specs.Number.{counted_numbers}
-use Rattle.heap_text.specs.Faults.{texts}
-use Rattle.heap_text.proofs.DecimalLemmas.{is_free}
-use Rattle.heap_text.proofs.TextLemmas.{are_small, spaced, texts-row, spaced_free, is_free-append, row_read, counted-map, counted_read, counted_length}
+use Rattle.text_script.specs.Number.{counted_numbers}
+use Rattle.text_script.specs.Faults.{texts}
+use Rattle.text_script.proofs.DecimalLemmas.{is_free}
+use Rattle.text_script.proofs.TextLemmas.{are_small, spaced, texts-row, spaced_free, is_free-append, row_read, counted-map, counted_read, counted_length}
 use Rattle.table_text.specs.declared.line.TableLine.{TableLine}
 use Rattle.table_text.specs.declared.word.Word.{Word}
 use Rattle.table_text.specs.Forms.{form, word_of, made, parts, all_fit, is_writable}

@@ -1,10 +1,10 @@
 -- The faults of a table's text: what is wrong with a line, and the first fault of all.
 use Rattle.std.specs.Prelude.{ℕ, ◌+◌, ◌==◌, ℤ, List, [], ◌∷◌, length, bytes_eq, Option, None, Some, option_map, nat_lt, nat_le, if◌then◌else◌}
 use Rattle.std.specs.List.{slice_split}
-use Rattle.heap_text.specs.declared.fault.ScriptFault.{ScriptFault}
-use Rattle.heap_text.specs.declared.fault.ScriptFault.TheVariants.{Syntax, Range, TooLong, TooMany}
-use Rattle.heap_text.specs.Number.{counted_numbers}
-use Rattle.heap_text.specs.Faults.{texts, or_else}
+use Rattle.text_script.specs.declared.fault.ScriptFault.{ScriptFault}
+use Rattle.text_script.specs.declared.fault.ScriptFault.TheVariants.{Syntax, Range, TooLong, TooMany}
+use Rattle.text_script.specs.Number.{counted_numbers}
+use Rattle.text_script.specs.Faults.{texts, or_else}
 use Rattle.table_text.specs.declared.word.Operand.{Operand}
 use Rattle.table_text.specs.declared.word.Word.{Word}
 use Rattle.table_text.specs.declared.version.Version.{Version}

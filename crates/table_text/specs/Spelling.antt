@@ -2,7 +2,7 @@
 use Rattle.std.specs.Prelude.{◌≡◌, ℕ, ◌≤◌, ℤ, true, List, ◌∷◌, ◌++◌, map, length, flat_map, codes}
 use Rattle.std.specs.List.{list_all}
 use Rattle.std.specs.Fmt.{signed_decimal}
-use Rattle.heap_model.specs.Output.{line}
+use Rattle.model_core.specs.Output.{line}
 use Rattle.table_text.specs.declared.line.TableLine.{TableLine}
 use Rattle.table_text.specs.declared.word.Word.{Word}
 use Rattle.table_text.specs.declared.version.Version.{Version}

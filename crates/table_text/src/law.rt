@@ -1,7 +1,7 @@
 //! The laws of the texts of tables.
 ghost use Rattle.std.specs.Prelude.{◌≡◌, ◌≢◌, ◌⊎◌, ℕ, List, None, Some};
-ghost use Rattle.heap_text.specs.declared.fault.ScriptFault as declared_fault;
-ghost use Rattle.heap_text.specs.declared.fault.ScriptFault.TheVariants.{Memory};
+ghost use Rattle.text_script.specs.declared.fault.ScriptFault as declared_fault;
+ghost use Rattle.text_script.specs.declared.fault.ScriptFault.TheVariants.{Memory};
 ghost use Rattle.table_text.specs.Texts.{Text};
 ghost use Rattle.table_text.specs.Spelling.{Spells};
 ghost use Rattle.table_text.specs.Faults.{first_fault};

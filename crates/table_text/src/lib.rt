@@ -4,6 +4,7 @@
 mod form;
 pub mod law;
 pub mod line;
+pub mod machine;
 mod number;
 pub mod read;
 mod split;

@@ -1,11 +1,11 @@
 // Numbers of a line.
 ghost use Rattle.std.specs.Prelude.{◌≡◌, ◌≤◌, ◌^◌, ◌-◌, pos, min, length, map, option_map, IfSome};
 ghost use Rattle.table_text.specs.Faults.{texts_behind};
-ghost use Rattle.heap_text.specs.Number.{number, counted_numbers, clipped};
+ghost use Rattle.text_script.specs.Number.{number, counted_numbers, clipped};
 
 use crate::split::first_text;
 use arrayvec::ArrayVec;
-use decimals::natural_of;
+use text_script::decimals::natural_of;
 
 fn clip(n: u64) -> i64
     ensures { result ≡ pos (min n (2 ^ 63 - 1)) }

@@ -1,10 +1,10 @@
 //! Reads the text of a table.
 ghost use Rattle.std.specs.Prelude.{◌≡◌, ◌==◌, ◌≤◌, ◌<◌, ◌+◌, ◌++◌, List, length, Some, None, Ok, Err, IfOk, IfErr, true};
 ghost use Rattle.std.specs.List.{slice_split, list_all};
-ghost use Rattle.heap_model.specs.Output.{line as line_of};
-ghost use Rattle.heap_text.specs.declared.fault.ScriptFault as declared_fault;
-ghost use Rattle.heap_text.specs.Spelling.{IsUnlessMemory};
-ghost use Rattle.heap_text.specs.Faults.{IsFaultUnlessMemory};
+ghost use Rattle.model_core.specs.Output.{line as line_of};
+ghost use Rattle.text_script.specs.declared.fault.ScriptFault as declared_fault;
+ghost use Rattle.text_script.specs.Spelling.{IsUnlessMemory};
+ghost use Rattle.text_script.specs.Faults.{IsFaultUnlessMemory};
 ghost use Rattle.table_text.specs.Forms.{is_writable};
 ghost use Rattle.table_text.specs.Texts.{Text, most_lines as most_lines_of};
 ghost use Rattle.table_text.specs.Spelling.{first_line, line_text, spelling, Spells};
@@ -16,8 +16,8 @@ use crate::number::numbers_of;
 use crate::split::{first_text, split_once};
 use crate::text::TableText;
 use crate::version::{Version, most_lines, version_of};
-use heap_text::ScriptFault;
 use std::alloc::Global;
+use text_script::ScriptFault;
 
 /// The greatest count of bytes of a text.
 const MAX_BYTES: usize = 16_777_216;

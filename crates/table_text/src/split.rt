@@ -1,8 +1,8 @@
 // A text split at the first of a mark.
 ghost use Rattle.std.specs.Prelude.{◌≡◌, ◌<◌, ◌∷◌, length, IfSome, option_map};
-ghost use Rattle.heap_text.specs.Split.{split_at_mark};
+ghost use Rattle.text_script.specs.Split.{split_at_mark};
 ghost use Rattle.table_text.specs.Faults.{texts_behind};
-ghost use Rattle.heap_text.specs.Faults.{texts};
+ghost use Rattle.text_script.specs.Faults.{texts};
 
 // What stands before the first mark, and what stands after it.
 pub(crate) fn split_once(bytes: &[u8], mark: u8) -> Option<(&[u8], &[u8])>

@@ -1,21 +1,21 @@
 -- What other commands of a heap of one domain leave of a cache.
 use Rattle.std.proofs.Common.{◌≡◌, ◌≢◌, inl, ℕ, ◌<◌, true, false, IsTrue, List, [], ◌∷◌, length, map, get_or, Option, Some, refl, ap, sym, ◌∙◌, subst, arith}
-use Rattle.heap_model.specs.declared.label.Label.{Label}
-use Rattle.heap_model.specs.declared.entry.Entry.{Entry}
-use Rattle.heap_model.specs.declared.graph.Value.{Value}
-use Rattle.heap_model.specs.declared.graph.Value.TheVariants.{Int, Block, Nothing}
-use Rattle.heap_model.specs.declared.graph.Node.{Node}
-use Rattle.heap_model.specs.declared.graph.Node.TheVariants.{Plain, Ephe}
-use Rattle.heap_model.specs.declared.state.Sizes.{Sizes}
-use Rattle.heap_model.specs.Graph.{Graph, has_label, node_at}
-use Rattle.heap_model.proofs.Reach.ReachLemmas.{is_false}
-use Rattle.table_laws.specs.Structures.{Binding}
-use Rattle.table_laws.specs.Stages.{graph_of}
-use Rattle.table_laws.specs.Performing.{After}
-use Rattle.table_laws.specs.Thinning.{Thin, Went}
-use Rattle.table_laws.proofs.ChangeLemmas.{thin_more}
-use Rattle.map_laws.specs.Tries.{fields_of, inside}
-use Rattle.map_laws.specs.Steps.{WasUnreached}
+use Rattle.model_core.specs.declared.label.Label.{Label}
+use Rattle.model_core.specs.declared.entry.Entry.{Entry}
+use Rattle.model_core.specs.declared.graph.Value.{Value}
+use Rattle.model_core.specs.declared.graph.Value.TheVariants.{Int, Block, Nothing}
+use Rattle.model_core.specs.declared.graph.Node.{Node}
+use Rattle.model_core.specs.declared.graph.Node.TheVariants.{Plain, Ephe}
+use Rattle.model_core.specs.declared.state.Sizes.{Sizes}
+use Rattle.model_core.specs.Graph.{Graph, has_label, node_at}
+use Rattle.model_core.proofs.Reach.ReachLemmas.{is_false}
+use Rattle.weak_laws.specs.Tables.Structures.{Binding}
+use Rattle.weak_laws.specs.Tables.Stages.{graph_of}
+use Rattle.weak_laws.specs.Tables.Performing.{After}
+use Rattle.weak_laws.specs.Tables.Thinning.{Thin, Went}
+use Rattle.weak_laws.proofs.OfTables.ChangeLemmas.{thin_more}
+use Rattle.weak_laws.specs.Maps.Tries.{fields_of, inside}
+use Rattle.weak_laws.specs.Maps.Steps.{WasUnreached}
 use Rattle.weak_maps.proofs.DescendLemmas.{leaf_node}
 use Rattle.weak_cache.specs.Uses.{SlotLeft, SlotsLeft}
 use Rattle.weak_cache.specs.Caches.{IsCache, IsUse, fields_or_none, slot_in, slot_of, slots_after}

@@ -1,28 +1,28 @@
 -- What a call on a cache finds again behind a command: the block, and what the leaves had.
 use Rattle.std.proofs.Common.{◌≡◌, ◌≢◌, inl, inr, ⊎_elim, ℕ, ◌<◌, List, [], ◌∷◌, ◌++◌, length, get_or, Option, Some, None, refl, ap, sym, ◌∙◌, subst}
-use Rattle.heap_model.specs.declared.label.Label.{Label}
-use Rattle.heap_model.specs.declared.command.Command.{Command}
-use Rattle.heap_model.specs.declared.entry.Entry.{Entry}
-use Rattle.heap_model.specs.declared.entry.Entry.TheVariants.{Command as CommandOf}
-use Rattle.heap_model.specs.declared.reply.Reply.{Reply}
-use Rattle.heap_model.specs.declared.graph.Value.{Value}
-use Rattle.heap_model.specs.declared.graph.Value.TheVariants.{Int, Block, Nothing}
-use Rattle.heap_model.specs.declared.graph.Node.{Node}
-use Rattle.heap_model.specs.declared.graph.Node.TheVariants.{Plain, Ephe}
-use Rattle.heap_model.specs.declared.state.Sizes.{Sizes}
-use Rattle.heap_model.specs.Graph.{Graph, node_at}
-use Rattle.heap_model.specs.Fronts.{NoneOf}
-use Rattle.heap_model.specs.History.{IsPrefix}
-use Rattle.table_laws.specs.Structures.{Binding}
-use Rattle.table_laws.specs.Thinning.{IsOutside, Thin, state_of}
-use Rattle.table_laws.specs.Stages.{graph_of}
-use Rattle.table_laws.proofs.ChangeLemmas.{thin_is, thin_more, thin_twice}
-use Rattle.map_laws.specs.Tries.{fields_of, is_leaf}
-use Rattle.map_laws.specs.Steps.{WasUnreached}
-use Rattle.map_laws.specs.Calls.{PerformedBy}
-use Rattle.map_laws.proofs.FieldLemmas.{at_field}
-use Rattle.map_laws.proofs.FrontLemmas.{other_between, prefix_more, prefix_same, prefix_trans, walk_along}
-use Rattle.map_laws.proofs.RespectLemmas.{graph_push, outside_wider}
+use Rattle.model_core.specs.declared.label.Label.{Label}
+use Rattle.model_core.specs.declared.command.Command.{Command}
+use Rattle.model_core.specs.declared.entry.Entry.{Entry}
+use Rattle.model_core.specs.declared.entry.Entry.TheVariants.{Command as CommandOf}
+use Rattle.model_core.specs.declared.reply.Reply.{Reply}
+use Rattle.model_core.specs.declared.graph.Value.{Value}
+use Rattle.model_core.specs.declared.graph.Value.TheVariants.{Int, Block, Nothing}
+use Rattle.model_core.specs.declared.graph.Node.{Node}
+use Rattle.model_core.specs.declared.graph.Node.TheVariants.{Plain, Ephe}
+use Rattle.model_core.specs.declared.state.Sizes.{Sizes}
+use Rattle.model_core.specs.Graph.{Graph, node_at}
+use Rattle.model_core.specs.Fronts.{NoneOf}
+use Rattle.model_core.specs.History.{IsPrefix}
+use Rattle.weak_laws.specs.Tables.Structures.{Binding}
+use Rattle.weak_laws.specs.Tables.Thinning.{IsOutside, Thin, state_of}
+use Rattle.weak_laws.specs.Tables.Stages.{graph_of}
+use Rattle.weak_laws.proofs.OfTables.ChangeLemmas.{thin_is, thin_more, thin_twice}
+use Rattle.weak_laws.specs.Maps.Tries.{fields_of, is_leaf}
+use Rattle.weak_laws.specs.Maps.Steps.{WasUnreached}
+use Rattle.weak_laws.specs.Maps.Calls.{PerformedBy}
+use Rattle.weak_laws.proofs.OfMaps.FieldLemmas.{at_field}
+use Rattle.weak_laws.proofs.OfMaps.FrontLemmas.{other_between, prefix_more, prefix_same, prefix_trans, walk_along}
+use Rattle.weak_laws.proofs.OfMaps.RespectLemmas.{graph_push, outside_wider}
 use Rattle.weak_maps.specs.Beside.{held_by}
 use Rattle.weak_maps.proofs.BesideLemmas.{since_old, until_new}
 use Rattle.weak_maps.proofs.DescendLemmas.{leaf_node}

@@ -1,19 +1,19 @@
 -- How many keys of some stand behind a key, or nowhere, and what a use does to that.
 use Rattle.std.proofs.Common.{◌≡◌, ◌≢◌, ◌⊎◌, inl, inr, ⊎_elim, ℕ, suc, ◌+◌, ◌<◌, ◌≤◌, Bool, true, false, cond, IsTrue, ◌||◌, List, [], ◌∷◌, length, Option, Some, None, refl, ap, sym, ◌∙◌, subst, arith}
-use Rattle.heap_model.specs.declared.label.Label.{Label}
-use Rattle.heap_model.specs.declared.entry.Entry.{Entry}
-use Rattle.heap_model.specs.declared.graph.Value.{Value}
-use Rattle.heap_model.specs.declared.graph.Value.TheVariants.{Block}
-use Rattle.heap_model.specs.declared.reply.Reply.{Reply}
-use Rattle.heap_model.specs.declared.state.Sizes.{Sizes}
-use Rattle.heap_model.specs.History.{IsPrefix}
-use Rattle.heap_model.specs.Graph.{has_label, same_label}
-use Rattle.heap_model.proofs.Commands.FrameLemmas.{label_cases}
-use Rattle.heap_model.proofs.Graphs.GraphLemmas.{same_label-true, same_label_refl}
-use Rattle.heap_model.proofs.Reach.ReachLemmas.{or_left, or_right}
-use Rattle.table_laws.specs.Structures.{Binding}
-use Rattle.map_laws.specs.Steps.{WasUnreached}
-use Rattle.map_laws.proofs.FrontLemmas.{prefix_same, prefix_trans}
+use Rattle.model_core.specs.declared.label.Label.{Label}
+use Rattle.model_core.specs.declared.entry.Entry.{Entry}
+use Rattle.model_core.specs.declared.graph.Value.{Value}
+use Rattle.model_core.specs.declared.graph.Value.TheVariants.{Block}
+use Rattle.model_core.specs.declared.reply.Reply.{Reply}
+use Rattle.model_core.specs.declared.state.Sizes.{Sizes}
+use Rattle.model_core.specs.History.{IsPrefix}
+use Rattle.model_core.specs.Graph.{has_label, same_label}
+use Rattle.model_core.proofs.Commands.FrameLemmas.{label_cases}
+use Rattle.model_core.proofs.Graphs.GraphLemmas.{same_label-true, same_label_refl}
+use Rattle.model_core.proofs.Reach.ReachLemmas.{or_left, or_right}
+use Rattle.weak_laws.specs.Tables.Structures.{Binding}
+use Rattle.weak_laws.specs.Maps.Steps.{WasUnreached}
+use Rattle.weak_laws.proofs.OfMaps.FrontLemmas.{prefix_same, prefix_trans}
 use Rattle.weak_maps.proofs.CleanedLemmas.{less_or}
 use Rattle.weak_cache.specs.Uses.{AreOnce, SlotsLeft, age, cached_in, is_of, pushed, put_first, taken, touched}
 use Rattle.weak_cache.specs.Laws.{AreOf, Call, CallsOn, Deed, DoesCall, Found, Idle, IsAmong, IsNoPutOf, IsThere, IsUseOf, NonePuts, NoneUses, Put, Taken, TakenInCallsIsNotFound, Use, Used, UsedInCallsIsFound, UsedLastIsFound, UsesOf, done_by}

@@ -1,21 +1,21 @@
 -- A slot is taken out, command by command.
 use Rattle.std.proofs.Common.{◌≡◌, ◌≢◌, ℕ, suc, ◌+◌, ◌<◌, List, [], ◌∷◌, ◌++◌, length, get_or, set, pos, Option, Some, ap, sym, ◌∙◌, subst, arith, add-one}
 use Rattle.std.proofs.lemmas.Option.{slice_get-get_or}
-use Rattle.heap_model.specs.declared.label.Label.{Label}
-use Rattle.heap_model.specs.declared.command.Command.TheVariants.{Load, PutInt, Store}
-use Rattle.heap_model.specs.declared.entry.Entry.{Entry}
-use Rattle.heap_model.specs.declared.reply.Reply.{Reply}
-use Rattle.heap_model.specs.declared.graph.Value.{Value}
-use Rattle.heap_model.specs.declared.graph.Value.TheVariants.{Int, Nothing}
-use Rattle.heap_model.specs.declared.graph.Node.TheVariants.{Plain, Ephe}
-use Rattle.heap_model.specs.declared.state.Sizes.{Sizes}
-use Rattle.heap_model.specs.Graph.{Graph, node_at, with_node}
-use Rattle.heap_model.specs.Domains.{IsWithinLimits}
-use Rattle.heap_model.proofs.Graphs.GraphLemmas.{node_at-with_node_other, node_at-with_node_same}
-use Rattle.table_laws.specs.Stages.{graph_of}
-use Rattle.map_laws.specs.Calls.{PerformedBy, registers_after}
-use Rattle.map_laws.proofs.CallLemmas.{put_step, store_step}
-use Rattle.map_laws.proofs.FrontLemmas.{prefix_same}
+use Rattle.model_core.specs.declared.label.Label.{Label}
+use Rattle.model_core.specs.declared.command.Command.TheVariants.{Load, PutInt, Store}
+use Rattle.model_core.specs.declared.entry.Entry.{Entry}
+use Rattle.model_core.specs.declared.reply.Reply.{Reply}
+use Rattle.model_core.specs.declared.graph.Value.{Value}
+use Rattle.model_core.specs.declared.graph.Value.TheVariants.{Int, Nothing}
+use Rattle.model_core.specs.declared.graph.Node.TheVariants.{Plain, Ephe}
+use Rattle.model_core.specs.declared.state.Sizes.{Sizes}
+use Rattle.model_core.specs.Graph.{Graph, node_at, with_node}
+use Rattle.model_core.specs.Domains.{IsWithinLimits}
+use Rattle.model_core.proofs.Graphs.GraphLemmas.{node_at-with_node_other, node_at-with_node_same}
+use Rattle.weak_laws.specs.Tables.Stages.{graph_of}
+use Rattle.weak_laws.specs.Maps.Calls.{PerformedBy, registers_after}
+use Rattle.weak_laws.proofs.OfMaps.CallLemmas.{put_step, store_step}
+use Rattle.weak_laws.proofs.OfMaps.FrontLemmas.{prefix_same}
 use Rattle.weak_maps.specs.Beside.{held_by}
 use Rattle.weak_maps.proofs.BesideLemmas.{same_held, set_here, set_other, sixteen}
 use Rattle.weak_maps.proofs.GetLemmas.{grows_by}

@@ -1,22 +1,22 @@
 -- How the calls on a cache begin and end.
 use Rattle.std.proofs.Common.{◌≡◌, ◌≢◌, inl, ⊎_elim, true, ℕ, ◌<◌, ◌≤◌, List, [], ◌∷◌, ◌++◌, length, map, get_or, set, Option, Some, refl, ap, sym, ◌∙◌, subst, arith}
-use Rattle.heap_model.specs.declared.label.Label.{Label}
-use Rattle.heap_model.specs.declared.command.Command.TheVariants.{Copy, Forget}
-use Rattle.heap_model.specs.declared.entry.Entry.{Entry}
-use Rattle.heap_model.specs.declared.reply.Reply.{Reply}
-use Rattle.heap_model.specs.declared.graph.Value.{Value}
-use Rattle.heap_model.specs.declared.graph.Value.TheVariants.{Int, Block, Nothing}
-use Rattle.heap_model.specs.declared.graph.Node.TheVariants.{Plain, Ephe}
-use Rattle.heap_model.specs.declared.state.Sizes.{Sizes}
-use Rattle.heap_model.specs.Graph.{node_at}
-use Rattle.heap_model.specs.Domains.{IsWithinLimits}
-use Rattle.heap_model.specs.History.{IsPrefix}
-use Rattle.table_laws.specs.Structures.{Binding}
-use Rattle.table_laws.specs.Stages.{graph_of}
-use Rattle.map_laws.specs.Tries.{fields_of, is_leaf}
-use Rattle.map_laws.specs.Calls.{PerformedBy, registers_after}
-use Rattle.map_laws.proofs.CallLemmas.{copy_step, forget_step}
-use Rattle.map_laws.proofs.FrontLemmas.{prefix_same, prefix_trans}
+use Rattle.model_core.specs.declared.label.Label.{Label}
+use Rattle.model_core.specs.declared.command.Command.TheVariants.{Copy, Forget}
+use Rattle.model_core.specs.declared.entry.Entry.{Entry}
+use Rattle.model_core.specs.declared.reply.Reply.{Reply}
+use Rattle.model_core.specs.declared.graph.Value.{Value}
+use Rattle.model_core.specs.declared.graph.Value.TheVariants.{Int, Block, Nothing}
+use Rattle.model_core.specs.declared.graph.Node.TheVariants.{Plain, Ephe}
+use Rattle.model_core.specs.declared.state.Sizes.{Sizes}
+use Rattle.model_core.specs.Graph.{node_at}
+use Rattle.model_core.specs.Domains.{IsWithinLimits}
+use Rattle.model_core.specs.History.{IsPrefix}
+use Rattle.weak_laws.specs.Tables.Structures.{Binding}
+use Rattle.weak_laws.specs.Tables.Stages.{graph_of}
+use Rattle.weak_laws.specs.Maps.Tries.{fields_of, is_leaf}
+use Rattle.weak_laws.specs.Maps.Calls.{PerformedBy, registers_after}
+use Rattle.weak_laws.proofs.OfMaps.CallLemmas.{copy_step, forget_step}
+use Rattle.weak_laws.proofs.OfMaps.FrontLemmas.{prefix_same, prefix_trans}
 use Rattle.weak_maps.specs.Beside.{held_by}
 use Rattle.weak_maps.proofs.BesideLemmas.{set_here, set_other, sixteen}
 use Rattle.weak_maps.proofs.CleanedLemmas.{less_or}

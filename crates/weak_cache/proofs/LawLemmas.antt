@@ -1,13 +1,13 @@
 -- What a use does to the slots of a cache.
 use Rattle.std.proofs.Common.{◌≡◌, ◌≢◌, inl, inr, ℕ, zero, suc, ◌+◌, ◌<◌, ◌≤◌, Bool, true, false, cond, [], ◌∷◌, length, get_or, Option, Some, None, refl, ap, sym, ◌∙◌, subst, arith}
 use Rattle.std.proofs.lemmas.List.{length-map}
-use Rattle.heap_model.specs.declared.label.Label.{Label}
-use Rattle.heap_model.specs.declared.graph.Value.{Value}
-use Rattle.heap_model.proofs.Commands.FrameLemmas.{label_cases}
-use Rattle.heap_model.proofs.Graphs.GraphLemmas.{same_label-false, same_label_refl}
-use Rattle.table_laws.specs.Structures.{Binding}
-use Rattle.table_laws.specs.Stages.{graph_of}
-use Rattle.map_laws.proofs.RespectLemmas.{alone_leaves, alone_respects}
+use Rattle.model_core.specs.declared.label.Label.{Label}
+use Rattle.model_core.specs.declared.graph.Value.{Value}
+use Rattle.model_core.proofs.Commands.FrameLemmas.{label_cases}
+use Rattle.model_core.proofs.Graphs.GraphLemmas.{same_label-false, same_label_refl}
+use Rattle.weak_laws.specs.Tables.Structures.{Binding}
+use Rattle.weak_laws.specs.Tables.Stages.{graph_of}
+use Rattle.weak_laws.proofs.OfMaps.RespectLemmas.{alone_leaves, alone_respects}
 use Rattle.weak_cache.specs.Uses.{SlotLeft, SlotsLeft, age, cached_in, datum_of, is_of, pushed, put_first}
 use Rattle.weak_cache.specs.Caches.{Gone, slot_of}
 use Rattle.weak_cache.specs.Laws.{AloneSpares, CacheIsBounded, GetKeeps, LossKeepsOthers, NoOtherIsFound, OthersGoBack, OthersStay, PutIsFound}

@@ -1,11 +1,11 @@
 -- What stands in a cache's fields while a leaf comes into them, and what the slots are then.
 use Rattle.std.proofs.Common.{◌≡◌, ◌≢◌, inl, inr, ℕ, zero, suc, ◌+◌, ◌<◌, Bool, true, false, cond, List, [], ◌∷◌, ◌++◌, length, map, get_or, set, pos, Option, Some, None, refl, ap, sym, ◌∙◌, subst, arith}
-use Rattle.heap_model.specs.declared.label.Label.{Label}
-use Rattle.heap_model.specs.declared.graph.Value.{Value}
-use Rattle.heap_model.specs.declared.graph.Value.TheVariants.{Int, Nothing}
-use Rattle.heap_model.specs.Graph.{Graph}
-use Rattle.heap_model.proofs.Graphs.GraphLemmas.{same_label-true, same_label-false}
-use Rattle.table_laws.specs.Structures.{Binding}
+use Rattle.model_core.specs.declared.label.Label.{Label}
+use Rattle.model_core.specs.declared.graph.Value.{Value}
+use Rattle.model_core.specs.declared.graph.Value.TheVariants.{Int, Nothing}
+use Rattle.model_core.specs.Graph.{Graph}
+use Rattle.model_core.proofs.Graphs.GraphLemmas.{same_label-true, same_label-false}
+use Rattle.weak_laws.specs.Tables.Structures.{Binding}
 use Rattle.weak_cache.specs.Uses.{SlotLeft, SlotsLeft, cached_in, datum_of, is_of, pushed, taken}
 use Rattle.weak_cache.specs.Caches.{slot_of}
 use Rattle.weak_cache.specs.Passes.{carried, cut_out, drawn, moved, moved_by}

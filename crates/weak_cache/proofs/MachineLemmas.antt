@@ -1,9 +1,9 @@
 -- What was promised of a machine before its numbers were seen to be the same.
 use Rattle.std.proofs.Common.{◌≡◌, ℕ, Bool, List, Option, subst}
-use Rattle.heap_model.specs.declared.label.Label.{Label}
-use Rattle.heap_model.specs.declared.entry.Entry.{Entry}
-use Rattle.heap_model.specs.declared.reply.Reply.{Reply}
-use Rattle.heap_model.specs.declared.state.Sizes.{Sizes}
+use Rattle.model_core.specs.declared.label.Label.{Label}
+use Rattle.model_core.specs.declared.entry.Entry.{Entry}
+use Rattle.model_core.specs.declared.reply.Reply.{Reply}
+use Rattle.model_core.specs.declared.state.Sizes.{Sizes}
 use Rattle.weak_cache.specs.Passes.{Begun, Cleared, CutsOut, Draws, DrawsBehind, FindsLeaf, MakesLeaf, MovesFirst, Passes, Tells}
 
 pub tells_at : (z now : Sizes) (d e : ℕ) (old new : List Entry) (slot : ℕ) (shows : Reply) (k : Label) (mine : Bool) → now ≡ z → e ≡ d → Tells now e old new slot shows k mine → Tells z d old new slot shows k mine

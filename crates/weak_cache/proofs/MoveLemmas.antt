@@ -2,29 +2,29 @@
 use Rattle.std.proofs.Common.{◌≡◌, ◌≢◌, ◌↔◌, inl, inr, ⊎_elim, ℕ, suc, ◌+◌, ◌<◌, ◌≤◌, Bool, true, false, List, [], ◌∷◌, ◌++◌, length, get_or, set, Option, Some, None, refl, ap, sym, ◌∙◌, subst, arith, add-one}
 use Rattle.std.proofs.lemmas.List.{get_or_past}
 use Rattle.std.proofs.lemmas.Option.{slice_get-get_or}
-use Rattle.heap_model.specs.declared.label.Label.{Label}
-use Rattle.heap_model.specs.declared.command.Command.TheVariants.{Copy, GetKey, Load, Store}
-use Rattle.heap_model.specs.declared.entry.Entry.{Entry}
-use Rattle.heap_model.specs.declared.reply.Reply.{Reply}
-use Rattle.heap_model.specs.declared.reply.Reply.TheVariants as reply
-use Rattle.heap_model.specs.declared.graph.Value.{Value}
-use Rattle.heap_model.specs.declared.graph.Value.TheVariants.{Int, Block, Nothing}
-use Rattle.heap_model.specs.declared.graph.Node.{Node}
-use Rattle.heap_model.specs.declared.graph.Node.TheVariants.{Plain, Raw, Ephe}
-use Rattle.heap_model.specs.declared.state.Sizes.{Sizes}
-use Rattle.heap_model.specs.Graph.{Graph, node_at, same_label, with_node}
-use Rattle.heap_model.specs.Commands.{shown, key_value}
-use Rattle.heap_model.specs.Domains.{IsWithinLimits}
-use Rattle.heap_model.specs.History.{IsPrefix}
-use Rattle.heap_model.proofs.Graphs.GraphLemmas.{node_at-with_node_other, node_at-with_node_same, same_label-true, same_label_refl}
-use Rattle.table_laws.specs.Structures.{Binding}
-use Rattle.table_laws.specs.Stages.{graph_of}
-use Rattle.map_laws.specs.Tries.{fields_of, is_leaf}
-use Rattle.map_laws.specs.Steps.{WasUnreached}
-use Rattle.map_laws.specs.Calls.{PerformedBy, registers_after}
-use Rattle.map_laws.proofs.CallLemmas.{copy_step, get_key_step, load_step, store_step}
-use Rattle.map_laws.proofs.FieldLemmas.{at_field}
-use Rattle.map_laws.proofs.FrontLemmas.{prefix_same, prefix_trans}
+use Rattle.model_core.specs.declared.label.Label.{Label}
+use Rattle.model_core.specs.declared.command.Command.TheVariants.{Copy, GetKey, Load, Store}
+use Rattle.model_core.specs.declared.entry.Entry.{Entry}
+use Rattle.model_core.specs.declared.reply.Reply.{Reply}
+use Rattle.model_core.specs.declared.reply.Reply.TheVariants as reply
+use Rattle.model_core.specs.declared.graph.Value.{Value}
+use Rattle.model_core.specs.declared.graph.Value.TheVariants.{Int, Block, Nothing}
+use Rattle.model_core.specs.declared.graph.Node.{Node}
+use Rattle.model_core.specs.declared.graph.Node.TheVariants.{Plain, Raw, Ephe}
+use Rattle.model_core.specs.declared.state.Sizes.{Sizes}
+use Rattle.model_core.specs.Graph.{Graph, node_at, same_label, with_node}
+use Rattle.model_core.specs.Commands.{shown, key_value}
+use Rattle.model_core.specs.Domains.{IsWithinLimits}
+use Rattle.model_core.specs.History.{IsPrefix}
+use Rattle.model_core.proofs.Graphs.GraphLemmas.{node_at-with_node_other, node_at-with_node_same, same_label-true, same_label_refl}
+use Rattle.weak_laws.specs.Tables.Structures.{Binding}
+use Rattle.weak_laws.specs.Tables.Stages.{graph_of}
+use Rattle.weak_laws.specs.Maps.Tries.{fields_of, is_leaf}
+use Rattle.weak_laws.specs.Maps.Steps.{WasUnreached}
+use Rattle.weak_laws.specs.Maps.Calls.{PerformedBy, registers_after}
+use Rattle.weak_laws.proofs.OfMaps.CallLemmas.{copy_step, get_key_step, load_step, store_step}
+use Rattle.weak_laws.proofs.OfMaps.FieldLemmas.{at_field}
+use Rattle.weak_laws.proofs.OfMaps.FrontLemmas.{prefix_same, prefix_trans}
 use Rattle.weak_maps.specs.Beside.{held_by}
 use Rattle.weak_maps.specs.Commands.{IsBlock}
 use Rattle.weak_maps.proofs.BesideLemmas.{same_held, set_here, set_other, sixteen}

@@ -1,10 +1,10 @@
 -- Each key has one slot at most, and what leaves it so.
 use Rattle.std.proofs.Common.{◌≡◌, ◌≢◌, inl, inr, ℕ, zero, suc, Bool, true, false, cond, List, [], ◌∷◌, ◌++◌, replicate, Option, Some, None, refl, ap, sym, ◌∙◌, subst}
-use Rattle.heap_model.specs.declared.label.Label.{Label}
-use Rattle.heap_model.specs.declared.graph.Value.{Value}
-use Rattle.heap_model.proofs.Commands.FrameLemmas.{label_cases}
-use Rattle.heap_model.proofs.Graphs.GraphLemmas.{same_label-true}
-use Rattle.table_laws.specs.Structures.{Binding}
+use Rattle.model_core.specs.declared.label.Label.{Label}
+use Rattle.model_core.specs.declared.graph.Value.{Value}
+use Rattle.model_core.proofs.Commands.FrameLemmas.{label_cases}
+use Rattle.model_core.proofs.Graphs.GraphLemmas.{same_label-true}
+use Rattle.weak_laws.specs.Tables.Structures.{Binding}
 use Rattle.weak_cache.specs.Uses.{AreOnce, SlotLeft, SlotsLeft, cached_in, datum_of, is_of, pushed, put_first, taken}
 use Rattle.weak_cache.proofs.ListLemmas.{is_of_some}
 

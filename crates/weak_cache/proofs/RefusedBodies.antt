@@ -1,19 +1,19 @@
 -- What the clauses of the calls on a cache refuse: where a clause holds a wrong outcome doesn't, whatever body met it.
 use Rattle.std.proofs.Common.{◌≡◌, ◌≢◌, ◌<◌, inl, inr, true, [], ◌∷◌, ◌++◌, ℕ, ◌+◌, List, length, Option, Some, None, refl, ap, sym, ◌∙◌, subst}
-use Rattle.heap_model.specs.declared.label.Label.{Label}
-use Rattle.heap_model.specs.declared.entry.Entry.{Entry}
-use Rattle.heap_model.specs.declared.graph.Value.{Value}
-use Rattle.heap_model.specs.declared.graph.Value.TheVariants.{Block}
-use Rattle.heap_model.specs.declared.reply.Reply.{Reply}
-use Rattle.heap_model.specs.declared.reply.Reply.TheVariants as reply
-use Rattle.heap_model.specs.declared.state.Sizes.{Sizes}
-use Rattle.heap_model.specs.declared.graph.Node.{Node}
-use Rattle.heap_model.specs.Graph.{node_at}
-use Rattle.heap_model.specs.Commands.{shown}
-use Rattle.heap_model.specs.History.{IsPrefix, is_entry_of}
-use Rattle.table_laws.specs.Structures.{Binding}
-use Rattle.table_laws.specs.Stages.{graph_of}
-use Rattle.map_laws.specs.Calls.{value_of}
+use Rattle.model_core.specs.declared.label.Label.{Label}
+use Rattle.model_core.specs.declared.entry.Entry.{Entry}
+use Rattle.model_core.specs.declared.graph.Value.{Value}
+use Rattle.model_core.specs.declared.graph.Value.TheVariants.{Block}
+use Rattle.model_core.specs.declared.reply.Reply.{Reply}
+use Rattle.model_core.specs.declared.reply.Reply.TheVariants as reply
+use Rattle.model_core.specs.declared.state.Sizes.{Sizes}
+use Rattle.model_core.specs.declared.graph.Node.{Node}
+use Rattle.model_core.specs.Graph.{node_at}
+use Rattle.model_core.specs.Commands.{shown}
+use Rattle.model_core.specs.History.{IsPrefix, is_entry_of}
+use Rattle.weak_laws.specs.Tables.Structures.{Binding}
+use Rattle.weak_laws.specs.Tables.Stages.{graph_of}
+use Rattle.weak_laws.specs.Maps.Calls.{value_of}
 use Rattle.weak_cache.specs.Uses.{AreOnce, age, cached_in, put_first, taken}
 use Rattle.weak_cache.specs.Caches.{Gone, IsCache, slots_after}
 use Rattle.weak_cache.specs.Calls.{GetReturns, LeavesCache, PutsOrFull, TakeReturns}

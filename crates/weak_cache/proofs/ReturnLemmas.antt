@@ -1,29 +1,29 @@
 -- What the calls on a cache answer.
 use Rattle.std.proofs.Common.{◌≡◌, ◌≢◌, inl, inr, ⊎_elim, ℕ, zero, suc, ◌<◌, ◌≤◌, true, false, eqb-true, List, [], ◌∷◌, ◌++◌, length, map, get_or, set, replicate, pos, Option, Some, None, refl, ap, sym, ◌∙◌, subst, arith}
 use Rattle.std.proofs.lemmas.List.{length-replicate}
-use Rattle.heap_model.specs.declared.label.Label.{Label}
-use Rattle.heap_model.specs.declared.command.Command.TheVariants.{Alloc, Ephe as NewEphe, Forget, GetData, SetData, SetKey}
-use Rattle.heap_model.specs.declared.entry.Entry.{Entry}
-use Rattle.heap_model.specs.declared.reply.Reply.{Reply}
-use Rattle.heap_model.specs.declared.reply.Reply.TheVariants as reply
-use Rattle.heap_model.specs.declared.graph.Value.{Value}
-use Rattle.heap_model.specs.declared.graph.Value.TheVariants.{Int, Block, Nothing}
-use Rattle.heap_model.specs.declared.graph.Node.{Node}
-use Rattle.heap_model.specs.declared.graph.Node.TheVariants.{Plain, Ephe}
-use Rattle.heap_model.specs.declared.state.Sizes.{Sizes}
-use Rattle.heap_model.specs.Graph.{Graph, node_at}
-use Rattle.heap_model.specs.Commands.{new_plain, shown}
-use Rattle.heap_model.specs.Domains.{IsWithinLimits}
-use Rattle.heap_model.specs.History.{IsPrefix}
-use Rattle.heap_model.proofs.Graphs.GraphLemmas.{node_at-append_new, node_at-append_old, node_at-with_node_other, node_at-with_node_same, same_label_refl}
-use Rattle.table_laws.specs.Structures.{Binding}
-use Rattle.table_laws.specs.Stages.{graph_of}
-use Rattle.map_laws.specs.Tries.{fields_of, is_leaf}
-use Rattle.map_laws.specs.Steps.{WasUnreached}
-use Rattle.map_laws.specs.Calls.{PerformedBy, registers_after, value_of}
-use Rattle.map_laws.proofs.CallLemmas.{alloc_step, ephe_step, get_data_step, made, set_data_step, set_key_step}
-use Rattle.map_laws.proofs.FrontLemmas.{prefix_same, prefix_trans}
-use Rattle.map_laws.proofs.OwnLemmas.{grew_along}
+use Rattle.model_core.specs.declared.label.Label.{Label}
+use Rattle.model_core.specs.declared.command.Command.TheVariants.{Alloc, Ephe as NewEphe, Forget, GetData, SetData, SetKey}
+use Rattle.model_core.specs.declared.entry.Entry.{Entry}
+use Rattle.model_core.specs.declared.reply.Reply.{Reply}
+use Rattle.model_core.specs.declared.reply.Reply.TheVariants as reply
+use Rattle.model_core.specs.declared.graph.Value.{Value}
+use Rattle.model_core.specs.declared.graph.Value.TheVariants.{Int, Block, Nothing}
+use Rattle.model_core.specs.declared.graph.Node.{Node}
+use Rattle.model_core.specs.declared.graph.Node.TheVariants.{Plain, Ephe}
+use Rattle.model_core.specs.declared.state.Sizes.{Sizes}
+use Rattle.model_core.specs.Graph.{Graph, node_at}
+use Rattle.model_core.specs.Commands.{new_plain, shown}
+use Rattle.model_core.specs.Domains.{IsWithinLimits}
+use Rattle.model_core.specs.History.{IsPrefix}
+use Rattle.model_core.proofs.Graphs.GraphLemmas.{node_at-append_new, node_at-append_old, node_at-with_node_other, node_at-with_node_same, same_label_refl}
+use Rattle.weak_laws.specs.Tables.Structures.{Binding}
+use Rattle.weak_laws.specs.Tables.Stages.{graph_of}
+use Rattle.weak_laws.specs.Maps.Tries.{fields_of, is_leaf}
+use Rattle.weak_laws.specs.Maps.Steps.{WasUnreached}
+use Rattle.weak_laws.specs.Maps.Calls.{PerformedBy, registers_after, value_of}
+use Rattle.weak_laws.proofs.OfMaps.CallLemmas.{alloc_step, ephe_step, get_data_step, made, set_data_step, set_key_step}
+use Rattle.weak_laws.proofs.OfMaps.FrontLemmas.{prefix_same, prefix_trans}
+use Rattle.weak_laws.proofs.OfMaps.OwnLemmas.{grew_along}
 use Rattle.weak_maps.specs.Beside.{held_by}
 use Rattle.weak_maps.specs.Puts.{OwnBlock}
 use Rattle.weak_maps.proofs.BesideLemmas.{same_held, set_here, set_other, since_old, sixteen, until_new}

@@ -1,7 +1,7 @@
 -- What taking a key out does to the slots of the others.
 use Rattle.std.proofs.Common.{◌≡◌, ◌≢◌, suc, ◌+◌, ◌<◌, ◌≤◌, Bool, true, false, cond, [], ◌∷◌, ◌++◌, length, Option, None, refl, ap, sym, ◌∙◌, arith}
-use Rattle.heap_model.specs.declared.label.Label.{Label}
-use Rattle.table_laws.specs.Structures.{Binding}
+use Rattle.model_core.specs.declared.label.Label.{Label}
+use Rattle.weak_laws.specs.Tables.Structures.{Binding}
 use Rattle.weak_cache.specs.Uses.{age, cached_in, is_of, taken}
 use Rattle.weak_cache.specs.Laws.{TakenIsNotFound, TakingKeepsOthers}
 use Rattle.weak_cache.proofs.LawLemmas.{age_hit, age_skip, of_one}

@@ -1,18 +1,18 @@
 -- What the calls on a cache answer and leave.
 use Rattle.std.specs.Prelude.{◌≡◌, ◌≢◌, ◌⊎◌, ◌≤◌, ℕ, List, [], ◌∷◌, ◌++◌, replicate, Option, None}
-use Rattle.heap_model.specs.declared.label.Label.{Label}
-use Rattle.heap_model.specs.declared.entry.Entry.{Entry}
-use Rattle.heap_model.specs.declared.graph.Value.{Value}
-use Rattle.heap_model.specs.declared.graph.Value.TheVariants.{Int, Block, Nothing}
-use Rattle.heap_model.specs.declared.reply.Reply.{Reply}
-use Rattle.heap_model.specs.declared.reply.Reply.TheVariants as reply
-use Rattle.heap_model.specs.declared.state.Sizes.{Sizes}
-use Rattle.heap_model.specs.Graph.{node_at}
-use Rattle.heap_model.specs.Commands.{new_plain, shown}
-use Rattle.heap_model.specs.History.{IsPrefix}
-use Rattle.table_laws.specs.Structures.{Binding}
-use Rattle.table_laws.specs.Stages.{graph_of}
-use Rattle.map_laws.specs.Calls.{value_of}
+use Rattle.model_core.specs.declared.label.Label.{Label}
+use Rattle.model_core.specs.declared.entry.Entry.{Entry}
+use Rattle.model_core.specs.declared.graph.Value.{Value}
+use Rattle.model_core.specs.declared.graph.Value.TheVariants.{Int, Block, Nothing}
+use Rattle.model_core.specs.declared.reply.Reply.{Reply}
+use Rattle.model_core.specs.declared.reply.Reply.TheVariants as reply
+use Rattle.model_core.specs.declared.state.Sizes.{Sizes}
+use Rattle.model_core.specs.Graph.{node_at}
+use Rattle.model_core.specs.Commands.{new_plain, shown}
+use Rattle.model_core.specs.History.{IsPrefix}
+use Rattle.weak_laws.specs.Tables.Structures.{Binding}
+use Rattle.weak_laws.specs.Tables.Stages.{graph_of}
+use Rattle.weak_laws.specs.Maps.Calls.{value_of}
 use Rattle.weak_maps.specs.Beside.{held_by}
 use Rattle.weak_maps.specs.Returns.{MakesNone}
 use Rattle.weak_cache.specs.Uses.{SlotsLeft, cached_in, put_first, taken, touched}

@@ -1,8 +1,8 @@
 -- What a put counts.
 use Rattle.std.specs.Prelude.{◌≡◌, ℕ, ◌+◌, List}
-use Rattle.heap_model.specs.declared.entry.Entry.{Entry}
-use Rattle.heap_model.specs.declared.reply.Reply.{Reply}
-use Rattle.heap_model.specs.declared.reply.Reply.TheVariants as reply
+use Rattle.model_core.specs.declared.entry.Entry.{Entry}
+use Rattle.model_core.specs.declared.reply.Reply.{Reply}
+use Rattle.model_core.specs.declared.reply.Reply.TheVariants as reply
 use Rattle.weak_maps.specs.Beside.{refusals_by}
 
 -- labels that were left and are left, and commands of the domain that were refused and are. Done: a leaf was made. `full`: its allocation was refused. `type`: nothing was made. There is no other answer

@@ -1,17 +1,17 @@
 -- Laws of caches, in the words in which a reader would ask for them.
 use Rattle.std.specs.Prelude.{◌≡◌, ◌≢◌, ◌⊎◌, ℕ, ◌+◌, ◌<◌, ◌≤◌, IsTrue, List, [], ◌∷◌, length, slice_index_or, Option, Some, None}
-use Rattle.heap_model.specs.declared.label.Label.{Label}
-use Rattle.heap_model.specs.declared.entry.Entry.{Entry}
-use Rattle.heap_model.specs.declared.graph.Value.{Value}
-use Rattle.heap_model.specs.declared.state.Sizes.{Sizes}
-use Rattle.heap_model.specs.declared.graph.Value.TheVariants.{Block, Nothing}
-use Rattle.heap_model.specs.Graph.{Graph, has_label}
-use Rattle.heap_model.specs.History.{IsPrefix, Legal}
-use Rattle.table_laws.specs.Structures.{Binding}
-use Rattle.table_laws.specs.Stages.{graph_of}
-use Rattle.table_laws.specs.Performing.{After}
-use Rattle.map_laws.specs.Tries.{inside}
-use Rattle.map_laws.specs.Steps.{WasUnreached}
+use Rattle.model_core.specs.declared.label.Label.{Label}
+use Rattle.model_core.specs.declared.entry.Entry.{Entry}
+use Rattle.model_core.specs.declared.graph.Value.{Value}
+use Rattle.model_core.specs.declared.state.Sizes.{Sizes}
+use Rattle.model_core.specs.declared.graph.Value.TheVariants.{Block, Nothing}
+use Rattle.model_core.specs.Graph.{Graph, has_label}
+use Rattle.model_core.specs.History.{IsPrefix, Legal}
+use Rattle.weak_laws.specs.Tables.Structures.{Binding}
+use Rattle.weak_laws.specs.Tables.Stages.{graph_of}
+use Rattle.weak_laws.specs.Tables.Performing.{After}
+use Rattle.weak_laws.specs.Maps.Tries.{inside}
+use Rattle.weak_laws.specs.Maps.Steps.{WasUnreached}
 use Rattle.weak_cache.specs.Uses.{AreOnce, SlotsLeft, age, cached_in, put_first, taken}
 use Rattle.weak_cache.specs.Caches.{Gone, IsCache, OthersSpare, fields_or_none, slots_after}
 use Rattle.weak_cache.specs.Calls.{LeavesCache}

@@ -1,9 +1,9 @@
 -- What a cache has, as plain data: slots in the order of use, the last used first. A slot has a key and its value, or nothing.
 use Rattle.std.specs.Prelude.{◌≡◌, ◌⊎◌, ℕ, suc, Bool, true, false, cond, List, [], ◌∷◌, ◌++◌, Option, Some, None}
-use Rattle.heap_model.specs.declared.label.Label.{Label}
-use Rattle.heap_model.specs.declared.graph.Value.{Value}
-use Rattle.heap_model.specs.Graph.{same_label}
-use Rattle.table_laws.specs.Structures.{Binding}
+use Rattle.model_core.specs.declared.label.Label.{Label}
+use Rattle.model_core.specs.declared.graph.Value.{Value}
+use Rattle.model_core.specs.Graph.{same_label}
+use Rattle.weak_laws.specs.Tables.Structures.{Binding}
 
 -- whether a slot is of a key
 abbrev pub is_of : Label → Option Binding → Bool

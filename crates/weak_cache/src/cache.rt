@@ -1,18 +1,18 @@
 //! The calls on a cache.
 ghost use Rattle.std.specs.Prelude.{◌≡◌, ◌+◌, ◌<◌, ◌≤◌, ℕ, Some, cond};
-ghost use Rattle.heap_model.specs.declared.command.Command.TheVariants as command;
-ghost use Rattle.heap_model.specs.declared.graph.Value.TheVariants.{Block};
-ghost use Rattle.heap_model.specs.History.{IsPrefix};
-ghost use Rattle.table_laws.specs.Performing.{full_of, is_spared};
-ghost use Rattle.map_laws.specs.Calls.{PerformedBy};
+ghost use Rattle.model_core.specs.declared.command.Command.TheVariants as command;
+ghost use Rattle.model_core.specs.declared.graph.Value.TheVariants.{Block};
+ghost use Rattle.model_core.specs.History.{IsPrefix};
+ghost use Rattle.weak_laws.specs.Tables.Performing.{full_of, is_spared};
+ghost use Rattle.weak_laws.specs.Maps.Calls.{PerformedBy};
 ghost use Rattle.weak_maps.specs.Beside.{Refuses, Writes, WritesAtMost, refusals_by, writings_by};
 ghost use Rattle.weak_cache.specs.Calls.{GetsAt, MakeReturns, PutsAt, TakesAt};
 ghost use Rattle.weak_cache.specs.Counts.{PutSpends};
 ghost use Rattle.weak_cache.specs.Passes.{Begun, Cleared, CutsOut, Draws, DrawsBehind, FindsLeaf, MakesLeaf, MovesFirst, Passes, Tells};
 
-use heap_model::command::Command;
-use heap_model::label::Label;
-use heap_model::reply::Reply;
+use model_core::command::Command;
+use model_core::label::Label;
+use model_core::reply::Reply;
 use std::sync::Wait;
 use weak_maps::machine::{Machine, perform};
 use weak_maps::replies::{is_block, is_empty, is_full, is_this};

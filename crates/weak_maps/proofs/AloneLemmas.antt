@@ -1,20 +1,20 @@
 -- Where no other domain uses the map, a put comes one block deeper with each room that it makes.
 use Rattle.std.proofs.Common.{◌≡◌, ⊎_elim, ℕ, ◌+◌, ◌<◌, ◌≤◌, ◌^◌, ◌%◌, true, false, List, [], ◌∷◌, ◌++◌, length, Option, Some, None, refl, ap, sym, ◌∙◌, min, arith, append_assoc, length-append}
-use Rattle.heap_model.specs.declared.label.Label.{Label}
-use Rattle.heap_model.specs.declared.command.Command.TheVariants.{Load}
-use Rattle.heap_model.specs.declared.entry.Entry.{Entry}
-use Rattle.heap_model.specs.declared.reply.Reply.{Reply}
-use Rattle.heap_model.specs.declared.graph.Value.{Value}
-use Rattle.heap_model.specs.declared.graph.Value.TheVariants.{Block}
-use Rattle.heap_model.specs.declared.state.Sizes.{Sizes}
-use Rattle.heap_model.specs.Domains.{IsWithinLimits}
-use Rattle.heap_model.specs.History.{IsPrefix, Legal}
-use Rattle.table_laws.specs.Stages.{graph_of}
-use Rattle.map_laws.specs.Tries.{at, inside, low_digits, node_width, number_of, way_to, IsMap, IsInPlace}
-use Rattle.map_laws.specs.Steps.{OthersLeave, OthersRespect}
-use Rattle.map_laws.specs.Calls.{PerformedBy}
-use Rattle.map_laws.proofs.FrontLemmas.{prefix_same, prefix_trans}
-use Rattle.map_laws.proofs.RespectLemmas.{respect_within}
+use Rattle.model_core.specs.declared.label.Label.{Label}
+use Rattle.model_core.specs.declared.command.Command.TheVariants.{Load}
+use Rattle.model_core.specs.declared.entry.Entry.{Entry}
+use Rattle.model_core.specs.declared.reply.Reply.{Reply}
+use Rattle.model_core.specs.declared.graph.Value.{Value}
+use Rattle.model_core.specs.declared.graph.Value.TheVariants.{Block}
+use Rattle.model_core.specs.declared.state.Sizes.{Sizes}
+use Rattle.model_core.specs.Domains.{IsWithinLimits}
+use Rattle.model_core.specs.History.{IsPrefix, Legal}
+use Rattle.weak_laws.specs.Tables.Stages.{graph_of}
+use Rattle.weak_laws.specs.Maps.Tries.{at, inside, low_digits, node_width, number_of, way_to, IsMap, IsInPlace}
+use Rattle.weak_laws.specs.Maps.Steps.{OthersLeave, OthersRespect}
+use Rattle.weak_laws.specs.Maps.Calls.{PerformedBy}
+use Rattle.weak_laws.proofs.OfMaps.FrontLemmas.{prefix_same, prefix_trans}
+use Rattle.weak_laws.proofs.OfMaps.RespectLemmas.{respect_within}
 use Rattle.weak_maps.specs.Beside.{held_by}
 use Rattle.weak_maps.specs.Fields.{Stays}
 use Rattle.weak_maps.specs.Puts.{Arrived, FindsField, GoesOn, KeepsLeaf, MakesRoom, Publishes, Putting, rest_of}

@@ -1,23 +1,23 @@
 -- What the registers of a domain hold after one of its commands.
 use Rattle.std.proofs.Common.{◌≡◌, ◌≢◌, ℕ, ◌<◌, List, ◌∷◌, [], ◌++◌, length, get_or, set, refl, ap, sym, ◌∙◌, arith, get_or-set_same, get_or-set_other}
-use Rattle.heap_model.specs.declared.command.Command.{Command}
-use Rattle.heap_model.specs.declared.entry.Entry.{Entry}
-use Rattle.heap_model.specs.declared.entry.Entry.TheVariants.{Command as CommandOf}
-use Rattle.heap_model.specs.declared.reply.Reply.{Reply}
-use Rattle.heap_model.specs.declared.graph.Value.{Value}
-use Rattle.heap_model.specs.declared.graph.Value.TheVariants.{Nothing}
-use Rattle.heap_model.specs.declared.state.Sizes.{Sizes}
-use Rattle.heap_model.specs.declared.state.State.{State}
-use Rattle.heap_model.specs.Domains.{IsWithinLimits, opening}
-use Rattle.heap_model.specs.Entries.{next}
-use Rattle.heap_model.specs.Fronts.{KeepsDomain}
-use Rattle.heap_model.specs.History.{IsPrefix}
-use Rattle.heap_model.proofs.Commands.FrameLemmas.{inside_running}
-use Rattle.heap_model.proofs.Histories.FrontLemmas.{keeps_front}
-use Rattle.heap_model.proofs.Histories.HistoryLemmas.{state_after-push}
-use Rattle.heap_model.proofs.Histories.ShapeAfterLemmas.{shaped-history}
-use Rattle.table_laws.specs.Thinning.{state_of}
-use Rattle.map_laws.specs.Calls.{PerformedBy, registers_after}
+use Rattle.model_core.specs.declared.command.Command.{Command}
+use Rattle.model_core.specs.declared.entry.Entry.{Entry}
+use Rattle.model_core.specs.declared.entry.Entry.TheVariants.{Command as CommandOf}
+use Rattle.model_core.specs.declared.reply.Reply.{Reply}
+use Rattle.model_core.specs.declared.graph.Value.{Value}
+use Rattle.model_core.specs.declared.graph.Value.TheVariants.{Nothing}
+use Rattle.model_core.specs.declared.state.Sizes.{Sizes}
+use Rattle.model_core.specs.declared.state.State.{State}
+use Rattle.model_core.specs.Domains.{IsWithinLimits, opening}
+use Rattle.model_core.specs.Entries.{next}
+use Rattle.model_core.specs.Fronts.{KeepsDomain}
+use Rattle.model_core.specs.History.{IsPrefix}
+use Rattle.model_core.proofs.Commands.FrameLemmas.{inside_running}
+use Rattle.model_core.proofs.Histories.FrontLemmas.{keeps_front}
+use Rattle.model_core.proofs.Histories.HistoryLemmas.{state_after-push}
+use Rattle.model_core.proofs.Histories.ShapeAfterLemmas.{shaped-history}
+use Rattle.weak_laws.specs.Tables.Thinning.{state_of}
+use Rattle.weak_laws.specs.Maps.Calls.{PerformedBy, registers_after}
 use Rattle.weak_maps.specs.Beside.{held_by}
 use Rattle.weak_maps.specs.Fields.{IsBeside}
 use Rattle.weak_maps.proofs.CountLemmas.{legal_both}

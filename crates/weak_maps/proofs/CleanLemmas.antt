@@ -1,33 +1,33 @@
 -- A field of a map is cleaned, command by command, beside a collector.
 use Rattle.std.proofs.Common.{◌≡◌, ◌⊎◌, inl, inr, ℕ, ◌≤◌, Bool, true, false, not, ◌&&◌, cond, nat_le, List, [], ◌∷◌, ◌++◌, Option, Some, None, refl, ap, sym, ◌∙◌, subst, arith, append_assoc, append-nil}
 use Rattle.std.proofs.lemmas.Bool.Decides.{nat_tests}
-use Rattle.heap_model.specs.declared.label.Label.{Label}
-use Rattle.heap_model.specs.declared.command.Command.{Command}
-use Rattle.heap_model.specs.declared.entry.Entry.{Entry}
-use Rattle.heap_model.specs.declared.reply.Reply.{Reply}
-use Rattle.heap_model.specs.declared.graph.Value.{Value}
-use Rattle.heap_model.specs.declared.graph.Value.TheVariants.{Block, Nothing}
-use Rattle.heap_model.specs.declared.graph.Node.{Node}
-use Rattle.heap_model.specs.declared.graph.Node.TheVariants.{Ephe, Plain}
-use Rattle.heap_model.specs.declared.state.Sizes.{Sizes}
-use Rattle.heap_model.specs.Graph.{Graph, node_at}
-use Rattle.heap_model.specs.Entries.{next}
-use Rattle.heap_model.specs.Fronts.{NoneOf}
-use Rattle.heap_model.specs.History.{IsPrefix, is_entry_of}
-use Rattle.heap_model.proofs.Histories.FrontLemmas.{none_cons}
-use Rattle.table_laws.specs.Thinning.{IsOutside, Thin, state_of}
-use Rattle.table_laws.specs.Performing.{is_spared}
-use Rattle.table_laws.specs.Stages.{graph_of}
-use Rattle.map_laws.specs.Tries.{at, fields_of, found, inside, is_leaf, IsMap, IsInPlace}
-use Rattle.map_laws.specs.Steps.{IsThinned, OthersLeave}
-use Rattle.map_laws.specs.Calls.{HasKey, OwnKeep, PerformedBy, bound_after}
-use Rattle.map_laws.proofs.FrontLemmas.{other_between, prefix_same, prefix_trans}
-use Rattle.map_laws.proofs.MapLemmas.{at_same, inside_same, thinned_map}
-use Rattle.map_laws.proofs.OwnLemmas.{keeps_none, keeps_once, keeps_twice}
-use Rattle.map_laws.proofs.RespectLemmas.{graph_push}
-use Rattle.map_laws.proofs.SetLemmas.{no_longer}
-use Rattle.map_laws.specs.Within.{IsMadeBehind, OwnWithin, StepsWithin}
-use Rattle.map_laws.proofs.WithinLemmas.{within_earlier, within_none, within_once, within_same, within_twice}
+use Rattle.model_core.specs.declared.label.Label.{Label}
+use Rattle.model_core.specs.declared.command.Command.{Command}
+use Rattle.model_core.specs.declared.entry.Entry.{Entry}
+use Rattle.model_core.specs.declared.reply.Reply.{Reply}
+use Rattle.model_core.specs.declared.graph.Value.{Value}
+use Rattle.model_core.specs.declared.graph.Value.TheVariants.{Block, Nothing}
+use Rattle.model_core.specs.declared.graph.Node.{Node}
+use Rattle.model_core.specs.declared.graph.Node.TheVariants.{Ephe, Plain}
+use Rattle.model_core.specs.declared.state.Sizes.{Sizes}
+use Rattle.model_core.specs.Graph.{Graph, node_at}
+use Rattle.model_core.specs.Entries.{next}
+use Rattle.model_core.specs.Fronts.{NoneOf}
+use Rattle.model_core.specs.History.{IsPrefix, is_entry_of}
+use Rattle.model_core.proofs.Histories.FrontLemmas.{none_cons}
+use Rattle.weak_laws.specs.Tables.Thinning.{IsOutside, Thin, state_of}
+use Rattle.weak_laws.specs.Tables.Performing.{is_spared}
+use Rattle.weak_laws.specs.Tables.Stages.{graph_of}
+use Rattle.weak_laws.specs.Maps.Tries.{at, fields_of, found, inside, is_leaf, IsMap, IsInPlace}
+use Rattle.weak_laws.specs.Maps.Steps.{IsThinned, OthersLeave}
+use Rattle.weak_laws.specs.Maps.Calls.{HasKey, OwnKeep, PerformedBy, bound_after}
+use Rattle.weak_laws.proofs.OfMaps.FrontLemmas.{other_between, prefix_same, prefix_trans}
+use Rattle.weak_laws.proofs.OfMaps.MapLemmas.{at_same, inside_same, thinned_map}
+use Rattle.weak_laws.proofs.OfMaps.OwnLemmas.{keeps_none, keeps_once, keeps_twice}
+use Rattle.weak_laws.proofs.OfMaps.RespectLemmas.{graph_push}
+use Rattle.weak_laws.proofs.OfMaps.SetLemmas.{no_longer}
+use Rattle.weak_laws.specs.Maps.Within.{IsMadeBehind, OwnWithin, StepsWithin}
+use Rattle.weak_laws.proofs.OfMaps.WithinLemmas.{within_earlier, within_none, within_once, within_same, within_twice}
 use Rattle.weak_maps.specs.Cleans.{Below, Cleans, LeftAlone}
 use Rattle.weak_maps.proofs.BesideLemmas.{until_new}
 use Rattle.weak_maps.proofs.DescendLemmas.{leaf_node, plain_node}

@@ -1,34 +1,34 @@
 -- A field of a map is cleaned, command by command.
 use Rattle.std.proofs.Common.{◌≡◌, ◌≢◌, ◌⊎◌, inl, inr, ⊎_elim, ℕ, zero, suc, ◌+◌, ◌-◌, ◌<◌, ◌≤◌, ◌==◌, eqb-true, Bool, true, false, cond, List, [], ◌∷◌, ◌++◌, length, get_or, set, pos, Option, Some, None, refl, ap, sym, ◌∙◌, subst, arith, append_assoc, append-nil}
-use Rattle.heap_model.specs.declared.label.Label.{Label}
-use Rattle.heap_model.specs.declared.command.Command.TheVariants.{Load, GetKey, Store}
-use Rattle.heap_model.specs.declared.entry.Entry.{Entry}
-use Rattle.heap_model.specs.declared.reply.Reply.{Reply}
-use Rattle.heap_model.specs.declared.reply.Reply.TheVariants as reply
-use Rattle.heap_model.specs.declared.graph.Value.{Value}
-use Rattle.heap_model.specs.declared.graph.Value.TheVariants.{Int, Block, Nothing}
-use Rattle.heap_model.specs.declared.graph.Node.TheVariants.{Plain, Ephe}
-use Rattle.heap_model.specs.declared.state.Sizes.{Sizes}
-use Rattle.heap_model.specs.Graph.{Graph, node_at, with_node}
-use Rattle.heap_model.specs.Commands.{shown, key_value}
-use Rattle.heap_model.specs.Domains.{IsWithinLimits}
-use Rattle.heap_model.proofs.Commands.FrameLemmas.{label_cases}
-use Rattle.heap_model.proofs.Graphs.GraphLemmas.{node_at-with_node_other}
-use Rattle.table_laws.specs.Stages.{graph_of}
-use Rattle.map_laws.specs.Tries.{at, bound_by, bound_in, fields_of, inside, is_leaf, node_width, root_width, width_at, IsSlot, IsInPlace}
-use Rattle.map_laws.specs.Steps.{Empties, HoldsNothing, OthersLeave}
-use Rattle.map_laws.specs.Calls.{AreZero, HasKey, PerformedBy}
-use Rattle.map_laws.proofs.CallLemmas.{get_key_plain_step, get_key_step, load_step, store_step}
-use Rattle.map_laws.proofs.EmptyLemmas.{emptied_any, emptied_binds, emptied_blocks, emptied_places, empty_keeps, leaf_nothing, now_in, spent_nothing}
-use Rattle.map_laws.proofs.FieldLemmas.{at_field, field_holds}
-use Rattle.map_laws.proofs.SetLemmas.{no_longer}
-use Rattle.map_laws.proofs.WalkLemmas.{at_stop, same_number, set_else, set_same}
+use Rattle.model_core.specs.declared.label.Label.{Label}
+use Rattle.model_core.specs.declared.command.Command.TheVariants.{Load, GetKey, Store}
+use Rattle.model_core.specs.declared.entry.Entry.{Entry}
+use Rattle.model_core.specs.declared.reply.Reply.{Reply}
+use Rattle.model_core.specs.declared.reply.Reply.TheVariants as reply
+use Rattle.model_core.specs.declared.graph.Value.{Value}
+use Rattle.model_core.specs.declared.graph.Value.TheVariants.{Int, Block, Nothing}
+use Rattle.model_core.specs.declared.graph.Node.TheVariants.{Plain, Ephe}
+use Rattle.model_core.specs.declared.state.Sizes.{Sizes}
+use Rattle.model_core.specs.Graph.{Graph, node_at, with_node}
+use Rattle.model_core.specs.Commands.{shown, key_value}
+use Rattle.model_core.specs.Domains.{IsWithinLimits}
+use Rattle.model_core.proofs.Commands.FrameLemmas.{label_cases}
+use Rattle.model_core.proofs.Graphs.GraphLemmas.{node_at-with_node_other}
+use Rattle.weak_laws.specs.Tables.Stages.{graph_of}
+use Rattle.weak_laws.specs.Maps.Tries.{at, bound_by, bound_in, fields_of, inside, is_leaf, node_width, root_width, width_at, IsSlot, IsInPlace}
+use Rattle.weak_laws.specs.Maps.Steps.{Empties, HoldsNothing, OthersLeave}
+use Rattle.weak_laws.specs.Maps.Calls.{AreZero, HasKey, PerformedBy}
+use Rattle.weak_laws.proofs.OfMaps.CallLemmas.{get_key_plain_step, get_key_step, load_step, store_step}
+use Rattle.weak_laws.proofs.OfMaps.EmptyLemmas.{emptied_any, emptied_binds, emptied_blocks, emptied_places, empty_keeps, leaf_nothing, now_in, spent_nothing}
+use Rattle.weak_laws.proofs.OfMaps.FieldLemmas.{at_field, field_holds}
+use Rattle.weak_laws.proofs.OfMaps.SetLemmas.{no_longer}
+use Rattle.weak_laws.proofs.OfMaps.WalkLemmas.{at_stop, same_number, set_else, set_same}
 use Rattle.weak_maps.specs.Beside.{held_by}
 use Rattle.weak_maps.specs.Cleans.{AtBlock, Below, BlockCleaned, Cleans, Elsewhere, FieldCleaned, HadKeysAt, IsTidyAt, IsZero, KeepsLow, LeftAlone, width_of}
 use Rattle.weak_maps.specs.Commands.{IsBlock}
 use Rattle.weak_maps.proofs.BesideLemmas.{same_held, set_here, set_other, sixteen}
-use Rattle.map_laws.specs.Within.{IsMadeBehind}
-use Rattle.map_laws.proofs.WithinLemmas.{within_emptied}
+use Rattle.weak_laws.specs.Maps.Within.{IsMadeBehind}
+use Rattle.weak_laws.proofs.OfMaps.WithinLemmas.{within_emptied}
 use Rattle.weak_maps.proofs.CleanLemmas.{behind_command, below_more, below_same, cleans_none, cleans_twice, left_command, left_twice, not_below, other_below, to_command}
 use Rattle.weak_maps.proofs.DescendLemmas.{at_append, leaf_node, leaf_none, plain_node, still_leaf}
 use Rattle.weak_maps.proofs.PlaceLemmas.{only_there, plain_unbound}

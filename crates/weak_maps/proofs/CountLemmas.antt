@@ -1,25 +1,25 @@
 -- How many entries of a domain are refused, and how many write, once one command more is made.
 use Rattle.std.proofs.Common.{◌≡◌, ℕ, ◌+◌, Bool, true, false, cond, ◌==◌, eq-eqb, List, [], ◌∷◌, ◌++◌, refl, ap, sym, subst, ◌∙◌, arith}
-use Rattle.heap_model.specs.declared.command.Command as declared_command
-use Rattle.heap_model.specs.declared.entry.Entry.{Entry}
-use Rattle.heap_model.specs.declared.entry.Entry.TheVariants.{Command}
-use Rattle.heap_model.specs.declared.reply.Reply.{Reply}
-use Rattle.heap_model.specs.declared.reply.Reply.TheVariants as reply
-use Rattle.heap_model.specs.declared.reply.Applied.TheVariants.{Replied}
-use Rattle.heap_model.specs.declared.state.Sizes.{Sizes}
-use Rattle.heap_model.specs.declared.state.State.{State}
-use Rattle.heap_model.specs.Commands.{is_allocation, outcome, FullOnlyWhereAllowed, MayBeFull}
-use Rattle.heap_model.specs.Domains.{opening}
-use Rattle.heap_model.specs.Entries.{reply as reply_of}
-use Rattle.heap_model.specs.Fronts.{NoneOf}
-use Rattle.heap_model.specs.History.{Legal, LegalFrom, is_entry_of}
-use Rattle.heap_model.proofs.Histories.FrontLemmas.{none_cons}
-use Rattle.command_counts.specs.Counts.{blocks_of, labels_given, labels_of}
-use Rattle.table_laws.specs.Thinning.{state_of}
-use Rattle.table_laws.specs.Performing.{refused, written, writes, full_of}
-use Rattle.table_laws.proofs.StepLemmas.{legal_parts}
-use Rattle.table_laws.proofs.RefusalLemmas.{outcome_given, full_none, block_reply}
-use Rattle.map_laws.specs.Calls.{PerformedBy}
+use Rattle.model_core.specs.declared.command.Command as declared_command
+use Rattle.model_core.specs.declared.entry.Entry.{Entry}
+use Rattle.model_core.specs.declared.entry.Entry.TheVariants.{Command}
+use Rattle.model_core.specs.declared.reply.Reply.{Reply}
+use Rattle.model_core.specs.declared.reply.Reply.TheVariants as reply
+use Rattle.model_core.specs.declared.reply.Applied.TheVariants.{Replied}
+use Rattle.model_core.specs.declared.state.Sizes.{Sizes}
+use Rattle.model_core.specs.declared.state.State.{State}
+use Rattle.model_core.specs.Commands.{is_allocation, outcome, FullOnlyWhereAllowed, MayBeFull}
+use Rattle.model_core.specs.Domains.{opening}
+use Rattle.model_core.specs.Entries.{reply as reply_of}
+use Rattle.model_core.specs.Fronts.{NoneOf}
+use Rattle.model_core.specs.History.{Legal, LegalFrom, is_entry_of}
+use Rattle.model_core.proofs.Histories.FrontLemmas.{none_cons}
+use Rattle.model_core.specs.Counts.Counts.{blocks_of, labels_given, labels_of}
+use Rattle.weak_laws.specs.Tables.Thinning.{state_of}
+use Rattle.weak_laws.specs.Tables.Performing.{refused, written, writes, full_of}
+use Rattle.weak_laws.proofs.OfTables.StepLemmas.{legal_parts}
+use Rattle.weak_laws.proofs.OfTables.RefusalLemmas.{outcome_given, full_none, block_reply}
+use Rattle.weak_laws.specs.Maps.Calls.{PerformedBy}
 use Rattle.weak_maps.specs.Beside.{refusals_by, writings_by}
 
 mine : (d : ℕ) → (d == d) ≡ true

@@ -1,8 +1,8 @@
 -- The digit by which the way to another key goes on, where a leaf of it stands on the way to a key.
 use Rattle.std.proofs.Common.{◌≡◌, ◌≢◌, ℕ, zero, suc, ◌+◌, ◌/◌, ◌%◌, ◌≤◌, List, [], ◌∷◌, ◌++◌, length, refl, ap, sym, ◌∙◌, arith, append_assoc, length-append}
-use Rattle.heap_model.specs.declared.label.Label.{Label}
-use Rattle.map_laws.specs.Tries.{low_digits, number_of, root_width, node_width, way_length, way_to, IsLabelOf}
-use Rattle.map_laws.proofs.WayLemmas.{ways_part}
+use Rattle.model_core.specs.declared.label.Label.{Label}
+use Rattle.weak_laws.specs.Maps.Tries.{low_digits, number_of, root_width, node_width, way_length, way_to, IsLabelOf}
+use Rattle.weak_laws.proofs.OfMaps.WayLemmas.{ways_part}
 use Rattle.weak_maps.specs.Puts.{rest_of}
 
 -- the digits of a way behind so many

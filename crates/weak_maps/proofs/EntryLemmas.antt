@@ -1,9 +1,9 @@
 -- Where an entry of a history stands: in its first part, or behind it.
 use Rattle.std.proofs.Common.{◌≡◌, ◌⊎◌, inl, inr, ℕ, true, false, List, [], ◌∷◌, ◌++◌, refl, ap, sym, ◌∙◌, subst, append_assoc, append-nil}
-use Rattle.heap_model.specs.declared.entry.Entry.{Entry}
-use Rattle.heap_model.specs.Fronts.{NoneOf}
-use Rattle.heap_model.specs.History.{IsPrefix, is_entry_of}
-use Rattle.heap_model.proofs.Histories.FrontLemmas.{none_cons}
+use Rattle.model_core.specs.declared.entry.Entry.{Entry}
+use Rattle.model_core.specs.Fronts.{NoneOf}
+use Rattle.model_core.specs.History.{IsPrefix, is_entry_of}
+use Rattle.model_core.proofs.Histories.FrontLemmas.{none_cons}
 
 abbrev Stands : List Entry → List Entry → List Entry → Entry → List Entry → Type 0
 Stands x y a e b = ((rest : List Entry) × (x ≡ a ++ e ∷ rest)) ⊎ ((more : List Entry) × (a ≡ x ++ more) × (more ++ e ∷ b ≡ y))

@@ -1,24 +1,24 @@
 -- The walk of a call to the field at which a key's way ends, command by command.
 use Rattle.std.proofs.Common.{◌≡◌, ◌≢◌, ◌⊎◌, inl, inr, ⊎_elim, ℕ, zero, suc, ◌+◌, ◌<◌, ◌/◌, ◌%◌, Bool, true, false, List, [], ◌∷◌, ◌++◌, length, Option, Some, None, refl, ap, sym, ◌∙◌, subst, arith, append_assoc, length-append}
-use Rattle.heap_model.specs.declared.label.Label.{Label}
-use Rattle.heap_model.specs.declared.command.Command.{Command}
-use Rattle.heap_model.specs.declared.command.Command.TheVariants.{Copy, Load, GetKey}
-use Rattle.heap_model.specs.declared.entry.Entry.{Entry}
-use Rattle.heap_model.specs.declared.reply.Reply.{Reply}
-use Rattle.heap_model.specs.declared.reply.Reply.TheVariants as reply
-use Rattle.heap_model.specs.declared.graph.Value.{Value}
-use Rattle.heap_model.specs.declared.graph.Value.TheVariants.{Block}
-use Rattle.heap_model.specs.declared.graph.Node.TheVariants.{Ephe}
-use Rattle.heap_model.specs.declared.state.Sizes.{Sizes}
-use Rattle.heap_model.specs.Graph.{Graph, node_at}
-use Rattle.heap_model.specs.Domains.{IsWithinLimits}
-use Rattle.heap_model.specs.Commands.{shown, key_value}
-use Rattle.table_laws.specs.Stages.{graph_of}
-use Rattle.table_laws.proofs.StageLemmas.{prefix_trans}
-use Rattle.map_laws.specs.Tries.{at, inside, fields_of, bound_by, is_leaf, IsSlot, low_digits, number_of, way_to, way_length, width_at, root_width, node_width, IsMap}
-use Rattle.map_laws.specs.Steps.{OthersRespect}
-use Rattle.map_laws.specs.Calls.{PerformedBy, bound_after}
-use Rattle.map_laws.proofs.CallLemmas.{copy_step, get_key_step, get_key_plain_step}
+use Rattle.model_core.specs.declared.label.Label.{Label}
+use Rattle.model_core.specs.declared.command.Command.{Command}
+use Rattle.model_core.specs.declared.command.Command.TheVariants.{Copy, Load, GetKey}
+use Rattle.model_core.specs.declared.entry.Entry.{Entry}
+use Rattle.model_core.specs.declared.reply.Reply.{Reply}
+use Rattle.model_core.specs.declared.reply.Reply.TheVariants as reply
+use Rattle.model_core.specs.declared.graph.Value.{Value}
+use Rattle.model_core.specs.declared.graph.Value.TheVariants.{Block}
+use Rattle.model_core.specs.declared.graph.Node.TheVariants.{Ephe}
+use Rattle.model_core.specs.declared.state.Sizes.{Sizes}
+use Rattle.model_core.specs.Graph.{Graph, node_at}
+use Rattle.model_core.specs.Domains.{IsWithinLimits}
+use Rattle.model_core.specs.Commands.{shown, key_value}
+use Rattle.weak_laws.specs.Tables.Stages.{graph_of}
+use Rattle.weak_laws.proofs.OfTables.StageLemmas.{prefix_trans}
+use Rattle.weak_laws.specs.Maps.Tries.{at, inside, fields_of, bound_by, is_leaf, IsSlot, low_digits, number_of, way_to, way_length, width_at, root_width, node_width, IsMap}
+use Rattle.weak_laws.specs.Maps.Steps.{OthersRespect}
+use Rattle.weak_laws.specs.Maps.Calls.{PerformedBy, bound_after}
+use Rattle.weak_laws.proofs.OfMaps.CallLemmas.{copy_step, get_key_step, get_key_plain_step}
 use Rattle.weak_maps.specs.Commands.{IsBlock}
 use Rattle.weak_maps.specs.Beside.{held_by}
 use Rattle.weak_maps.specs.Walks.{LeafTells, Looking}

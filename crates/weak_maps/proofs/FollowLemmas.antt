@@ -1,17 +1,17 @@
 -- Calls may follow one another: a map is one still, and its leaves stand on their keys' ways.
 use Rattle.std.proofs.Common.{◌≡◌, inl, inr, ℕ, List, subst, sym}
-use Rattle.heap_model.specs.declared.label.Label.{Label}
-use Rattle.heap_model.specs.declared.entry.Entry.{Entry}
-use Rattle.heap_model.specs.declared.graph.Value.{Value}
-use Rattle.heap_model.specs.declared.graph.Value.TheVariants.{Int, Block, Nothing}
-use Rattle.heap_model.specs.declared.reply.Reply.{Reply}
-use Rattle.heap_model.specs.declared.state.Sizes.{Sizes}
-use Rattle.heap_model.specs.History.{IsPrefix}
-use Rattle.table_laws.specs.Stages.{graph_of}
-use Rattle.map_laws.specs.Tries.{IsMap, IsInPlace}
-use Rattle.map_laws.specs.Steps.{OthersRespect, OwnRespect}
-use Rattle.map_laws.proofs.FrontLemmas.{prefix_same}
-use Rattle.map_laws.proofs.RespectLemmas.{respect_both}
+use Rattle.model_core.specs.declared.label.Label.{Label}
+use Rattle.model_core.specs.declared.entry.Entry.{Entry}
+use Rattle.model_core.specs.declared.graph.Value.{Value}
+use Rattle.model_core.specs.declared.graph.Value.TheVariants.{Int, Block, Nothing}
+use Rattle.model_core.specs.declared.reply.Reply.{Reply}
+use Rattle.model_core.specs.declared.state.Sizes.{Sizes}
+use Rattle.model_core.specs.History.{IsPrefix}
+use Rattle.weak_laws.specs.Tables.Stages.{graph_of}
+use Rattle.weak_laws.specs.Maps.Tries.{IsMap, IsInPlace}
+use Rattle.weak_laws.specs.Maps.Steps.{OthersRespect, OwnRespect}
+use Rattle.weak_laws.proofs.OfMaps.FrontLemmas.{prefix_same}
+use Rattle.weak_laws.proofs.OfMaps.RespectLemmas.{respect_both}
 use Rattle.weak_maps.specs.Returns.{GetReturns, PutReturns, TakeReturns}
 use Rattle.weak_maps.proofs.PlaceLemmas.{place_after}
 

@@ -1,43 +1,43 @@
 -- A block in the making is its maker's, command by command.
 use Rattle.std.proofs.Common.{◌≡◌, ◌≢◌, ◌⊎◌, inl, inr, ⊎_elim, ℕ, ◌+◌, true, false, IsTrue, List, [], ◌∷◌, ◌++◌, get_or, option_to_list, Option, Some, None, refl, ap, sym, ◌∙◌, subst}
-use Rattle.heap_model.specs.declared.label.Label.{Label}
-use Rattle.heap_model.specs.declared.command.Command.{Command}
-use Rattle.heap_model.specs.declared.entry.Entry.{Entry}
-use Rattle.heap_model.specs.declared.entry.Entry.TheVariants.{Command as CommandOf}
-use Rattle.heap_model.specs.declared.reply.Reply.{Reply}
-use Rattle.heap_model.specs.declared.graph.Value.{Value}
-use Rattle.heap_model.specs.declared.graph.Value.TheVariants.{Block, Nothing}
-use Rattle.heap_model.specs.declared.graph.Node.{Node}
-use Rattle.heap_model.specs.declared.graph.Node.TheVariants.{Plain, Ephe}
-use Rattle.heap_model.specs.declared.state.Sizes.{Sizes}
-use Rattle.heap_model.specs.declared.state.State.{State}
-use Rattle.heap_model.specs.Graph.{Graph, same_label, labels, has_label, label_of, node_at, with_node}
-use Rattle.heap_model.specs.Domains.{domain_at, register, opening}
-use Rattle.heap_model.specs.Entries.{next}
-use Rattle.heap_model.specs.Fronts.{NoneOf}
-use Rattle.heap_model.specs.History.{IsPrefix, Legal, is_entry_of}
-use Rattle.heap_model.proofs.Commands.FrameLemmas.{keeps_next}
-use Rattle.heap_model.proofs.Graphs.GraphLemmas.{same_label_refl, node_at-append_new}
-use Rattle.heap_model.proofs.Graphs.NamedLemmas.{have_at, have_none}
-use Rattle.heap_model.proofs.Histories.FrontLemmas.{keeps_front}
-use Rattle.heap_model.proofs.Histories.NumberLemmas.{next_label-new, numbered_after, numbered_opening}
-use Rattle.heap_model.proofs.Histories.WellFormedLemmas.{wf_after, wf_opening}
-use Rattle.heap_model.proofs.Reach.ReachLemmas.{or_left}
-use Rattle.table_laws.specs.Thinning.{Thin, state_of}
-use Rattle.table_laws.specs.Stages.{graph_of}
-use Rattle.table_laws.proofs.CollectorLemmas.{outside_unheld}
-use Rattle.map_laws.specs.Tries.{at, inside, fields_of, is_leaf, IsMap}
-use Rattle.map_laws.specs.Private.{IsPrivate}
-use Rattle.map_laws.specs.Steps.{OthersRespect, RespectsMap, WasUnreached}
-use Rattle.map_laws.specs.Calls.{Looks, PerformedBy}
-use Rattle.map_laws.specs.Within.{IsMadeBehind, OwnWithin, StepsWithin}
-use Rattle.map_laws.proofs.CallLemmas.{legal_middle, made, registers_kept}
-use Rattle.map_laws.proofs.FrontLemmas.{other_between, prefix_more, prefix_same, prefix_trans, walk_along}
-use Rattle.map_laws.proofs.MapLemmas.{map_stays}
-use Rattle.map_laws.proofs.OwnLemmas.{apart_respects, apart_untouched, fresh_respects, fresh_untouched, leaf_stays, looks_once, reading_respects, reading_untouched, untouched_keeps}
-use Rattle.map_laws.proofs.PrivateLemmas.{born, is_item, private_between, private_born, private_left, private_outside, private_own}
-use Rattle.map_laws.proofs.RespectLemmas.{state_push}
-use Rattle.map_laws.proofs.WithinLemmas.{none_before, within_apart, within_fresh, within_once, within_same}
+use Rattle.model_core.specs.declared.label.Label.{Label}
+use Rattle.model_core.specs.declared.command.Command.{Command}
+use Rattle.model_core.specs.declared.entry.Entry.{Entry}
+use Rattle.model_core.specs.declared.entry.Entry.TheVariants.{Command as CommandOf}
+use Rattle.model_core.specs.declared.reply.Reply.{Reply}
+use Rattle.model_core.specs.declared.graph.Value.{Value}
+use Rattle.model_core.specs.declared.graph.Value.TheVariants.{Block, Nothing}
+use Rattle.model_core.specs.declared.graph.Node.{Node}
+use Rattle.model_core.specs.declared.graph.Node.TheVariants.{Plain, Ephe}
+use Rattle.model_core.specs.declared.state.Sizes.{Sizes}
+use Rattle.model_core.specs.declared.state.State.{State}
+use Rattle.model_core.specs.Graph.{Graph, same_label, labels, has_label, label_of, node_at, with_node}
+use Rattle.model_core.specs.Domains.{domain_at, register, opening}
+use Rattle.model_core.specs.Entries.{next}
+use Rattle.model_core.specs.Fronts.{NoneOf}
+use Rattle.model_core.specs.History.{IsPrefix, Legal, is_entry_of}
+use Rattle.model_core.proofs.Commands.FrameLemmas.{keeps_next}
+use Rattle.model_core.proofs.Graphs.GraphLemmas.{same_label_refl, node_at-append_new}
+use Rattle.model_core.proofs.Graphs.NamedLemmas.{have_at, have_none}
+use Rattle.model_core.proofs.Histories.FrontLemmas.{keeps_front}
+use Rattle.model_core.proofs.Histories.NumberLemmas.{next_label-new, numbered_after, numbered_opening}
+use Rattle.model_core.proofs.Histories.WellFormedLemmas.{wf_after, wf_opening}
+use Rattle.model_core.proofs.Reach.ReachLemmas.{or_left}
+use Rattle.weak_laws.specs.Tables.Thinning.{Thin, state_of}
+use Rattle.weak_laws.specs.Tables.Stages.{graph_of}
+use Rattle.weak_laws.proofs.OfTables.CollectorLemmas.{outside_unheld}
+use Rattle.weak_laws.specs.Maps.Tries.{at, inside, fields_of, is_leaf, IsMap}
+use Rattle.weak_laws.specs.Maps.Private.{IsPrivate}
+use Rattle.weak_laws.specs.Maps.Steps.{OthersRespect, RespectsMap, WasUnreached}
+use Rattle.weak_laws.specs.Maps.Calls.{Looks, PerformedBy}
+use Rattle.weak_laws.specs.Maps.Within.{IsMadeBehind, OwnWithin, StepsWithin}
+use Rattle.weak_laws.proofs.OfMaps.CallLemmas.{legal_middle, made, registers_kept}
+use Rattle.weak_laws.proofs.OfMaps.FrontLemmas.{other_between, prefix_more, prefix_same, prefix_trans, walk_along}
+use Rattle.weak_laws.proofs.OfMaps.MapLemmas.{map_stays}
+use Rattle.weak_laws.proofs.OfMaps.OwnLemmas.{apart_respects, apart_untouched, fresh_respects, fresh_untouched, leaf_stays, looks_once, reading_respects, reading_untouched, untouched_keeps}
+use Rattle.weak_laws.proofs.OfMaps.PrivateLemmas.{born, is_item, private_between, private_born, private_left, private_outside, private_own}
+use Rattle.weak_laws.proofs.OfMaps.RespectLemmas.{state_push}
+use Rattle.weak_laws.proofs.OfMaps.WithinLemmas.{none_before, within_apart, within_fresh, within_once, within_same}
 use Rattle.weak_maps.specs.Beside.{held_by}
 use Rattle.weak_maps.specs.Puts.{OwnBlock}
 use Rattle.weak_maps.proofs.BesideLemmas.{left_is}

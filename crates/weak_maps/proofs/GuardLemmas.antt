@@ -1,24 +1,24 @@
 -- Entries that respect a map as long as the others' do, and commands that change no block.
 use Rattle.std.proofs.Common.{◌≡◌, ⊎_elim, ℕ, true, false, List, [], ◌∷◌, ◌++◌, Option, Some, None, refl, ap, sym, ◌∙◌, subst, eq-eqb}
-use Rattle.heap_model.specs.declared.label.Label.{Label}
-use Rattle.heap_model.specs.declared.command.Command.{Command}
-use Rattle.heap_model.specs.declared.command.Command.TheVariants.{Forget}
-use Rattle.heap_model.specs.declared.entry.Entry.{Entry}
-use Rattle.heap_model.specs.declared.entry.Entry.TheVariants.{Command as CommandOf}
-use Rattle.heap_model.specs.declared.reply.Reply.{Reply}
-use Rattle.heap_model.specs.declared.state.Sizes.{Sizes}
-use Rattle.heap_model.specs.declared.state.State.{State}
-use Rattle.heap_model.specs.Commands.{is_allocation, outcome}
-use Rattle.heap_model.specs.Entries.{next}
-use Rattle.heap_model.specs.History.{IsPrefix, is_entry_of}
-use Rattle.heap_model.specs.Laws.{written_by}
-use Rattle.heap_model.proofs.Commands.MoveLemmas.{moved}
-use Rattle.table_laws.specs.Thinning.{state_of}
-use Rattle.table_laws.specs.Stages.{graph_of}
-use Rattle.map_laws.specs.Steps.{OthersRespect, OwnRespect}
-use Rattle.map_laws.specs.Calls.{PerformedBy}
-use Rattle.map_laws.proofs.FrontLemmas.{before_or_behind, last_or_before, prefix_trans}
-use Rattle.map_laws.proofs.OwnLemmas.{at_the_end}
+use Rattle.model_core.specs.declared.label.Label.{Label}
+use Rattle.model_core.specs.declared.command.Command.{Command}
+use Rattle.model_core.specs.declared.command.Command.TheVariants.{Forget}
+use Rattle.model_core.specs.declared.entry.Entry.{Entry}
+use Rattle.model_core.specs.declared.entry.Entry.TheVariants.{Command as CommandOf}
+use Rattle.model_core.specs.declared.reply.Reply.{Reply}
+use Rattle.model_core.specs.declared.state.Sizes.{Sizes}
+use Rattle.model_core.specs.declared.state.State.{State}
+use Rattle.model_core.specs.Commands.{is_allocation, outcome}
+use Rattle.model_core.specs.Entries.{next}
+use Rattle.model_core.specs.History.{IsPrefix, is_entry_of}
+use Rattle.model_core.specs.Laws.{written_by}
+use Rattle.model_core.proofs.Commands.MoveLemmas.{moved}
+use Rattle.weak_laws.specs.Tables.Thinning.{state_of}
+use Rattle.weak_laws.specs.Tables.Stages.{graph_of}
+use Rattle.weak_laws.specs.Maps.Steps.{OthersRespect, OwnRespect}
+use Rattle.weak_laws.specs.Maps.Calls.{PerformedBy}
+use Rattle.weak_laws.proofs.OfMaps.FrontLemmas.{before_or_behind, last_or_before, prefix_trans}
+use Rattle.weak_laws.proofs.OfMaps.OwnLemmas.{at_the_end}
 use Rattle.weak_maps.specs.Fields.{Cleared}
 use Rattle.weak_maps.specs.Guards.{Guards, LeafGuards, SettleGuards}
 use Rattle.weak_maps.specs.Walks.{Emptied, OwnQuiet}

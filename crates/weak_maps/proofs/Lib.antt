@@ -28,3 +28,7 @@ pub mod CleanLemmas
 pub mod CleanedLemmas
 pub mod MapCleanLemmas
 pub mod FieldCleanLemmas
+pub mod OfLists
+pub mod OfSweeps
+pub mod OfShared
+pub mod OfSections

@@ -1,18 +1,18 @@
 -- What a machine promised before one of its numbers was seen to be the same.
 use Rattle.std.proofs.Common.{◌≡◌, ℕ, ◌+◌, List, ap, subst}
 use Rattle.std.proofs.Common.{Bool, true, false, not, refl, sym, ◌∙◌, ◌≢◌, Option}
-use Rattle.heap_model.specs.declared.label.Label.{Label}
-use Rattle.heap_model.specs.declared.graph.Value.{Value}
-use Rattle.heap_model.specs.declared.graph.Value.TheVariants.{Block, Int, Nothing}
-use Rattle.heap_model.specs.declared.command.Command.{Command}
-use Rattle.heap_model.specs.declared.entry.Entry.{Entry}
-use Rattle.heap_model.specs.declared.reply.Reply.{Reply}
-use Rattle.heap_model.specs.declared.reply.Reply.TheVariants as reply
-use Rattle.heap_model.specs.Commands.{shown}
-use Rattle.heap_model.specs.declared.state.Sizes.{Sizes}
-use Rattle.table_laws.specs.Stages.{graph_of}
-use Rattle.map_laws.specs.Tries.{IsInPlace}
-use Rattle.map_laws.specs.Calls.{PerformedBy, PutsOrFull}
+use Rattle.model_core.specs.declared.label.Label.{Label}
+use Rattle.model_core.specs.declared.graph.Value.{Value}
+use Rattle.model_core.specs.declared.graph.Value.TheVariants.{Block, Int, Nothing}
+use Rattle.model_core.specs.declared.command.Command.{Command}
+use Rattle.model_core.specs.declared.entry.Entry.{Entry}
+use Rattle.model_core.specs.declared.reply.Reply.{Reply}
+use Rattle.model_core.specs.declared.reply.Reply.TheVariants as reply
+use Rattle.model_core.specs.Commands.{shown}
+use Rattle.model_core.specs.declared.state.Sizes.{Sizes}
+use Rattle.weak_laws.specs.Tables.Stages.{graph_of}
+use Rattle.weak_laws.specs.Maps.Tries.{IsInPlace}
+use Rattle.weak_laws.specs.Maps.Calls.{PerformedBy, PutsOrFull}
 use Rattle.weak_maps.specs.Walks.{Descended, Emptied}
 use Rattle.weak_maps.specs.Fields.{Cleared, Finds}
 use Rattle.weak_maps.specs.Beside.{held_by}

@@ -1,23 +1,23 @@
 -- A map that is made.
 use Rattle.std.proofs.Common.{◌≡◌, ◌⊎◌, inl, inr, ⊎_elim, ℕ, zero, suc, ◌<◌, List, [], ◌∷◌, ◌++◌, length, get_or, replicate, pos, Some, None, refl, ap, sym, ◌∙◌, subst, arith}
 use Rattle.std.proofs.lemmas.List.{length-replicate}
-use Rattle.heap_model.specs.declared.label.Label.{Label}
-use Rattle.heap_model.specs.declared.command.Command.TheVariants.{Alloc}
-use Rattle.heap_model.specs.declared.entry.Entry.{Entry}
-use Rattle.heap_model.specs.declared.reply.Reply.{Reply}
-use Rattle.heap_model.specs.declared.graph.Value.{Value}
-use Rattle.heap_model.specs.declared.graph.Value.TheVariants.{Int, Block, Nothing}
-use Rattle.heap_model.specs.declared.state.Sizes.{Sizes}
-use Rattle.heap_model.specs.Graph.{Graph, node_at}
-use Rattle.heap_model.specs.Domains.{IsWithinLimits}
-use Rattle.heap_model.specs.Commands.{new_plain}
-use Rattle.heap_model.proofs.Graphs.GraphLemmas.{node_at-append_new}
-use Rattle.table_laws.specs.Stages.{graph_of}
-use Rattle.map_laws.specs.Tries.{at, ends, inside, fields_of, found, bound_by, bound_in, IsSlot, way_to, root_width, width_at, way_length, IsMap, IsInPlace}
-use Rattle.map_laws.specs.Calls.{PerformedBy}
-use Rattle.map_laws.proofs.WalkLemmas.{at_step, at_stop, ends_step}
-use Rattle.map_laws.proofs.SetLemmas.{stays}
-use Rattle.map_laws.proofs.CallLemmas.{made, alloc_step}
+use Rattle.model_core.specs.declared.label.Label.{Label}
+use Rattle.model_core.specs.declared.command.Command.TheVariants.{Alloc}
+use Rattle.model_core.specs.declared.entry.Entry.{Entry}
+use Rattle.model_core.specs.declared.reply.Reply.{Reply}
+use Rattle.model_core.specs.declared.graph.Value.{Value}
+use Rattle.model_core.specs.declared.graph.Value.TheVariants.{Int, Block, Nothing}
+use Rattle.model_core.specs.declared.state.Sizes.{Sizes}
+use Rattle.model_core.specs.Graph.{Graph, node_at}
+use Rattle.model_core.specs.Domains.{IsWithinLimits}
+use Rattle.model_core.specs.Commands.{new_plain}
+use Rattle.model_core.proofs.Graphs.GraphLemmas.{node_at-append_new}
+use Rattle.weak_laws.specs.Tables.Stages.{graph_of}
+use Rattle.weak_laws.specs.Maps.Tries.{at, ends, inside, fields_of, found, bound_by, bound_in, IsSlot, way_to, root_width, width_at, way_length, IsMap, IsInPlace}
+use Rattle.weak_laws.specs.Maps.Calls.{PerformedBy}
+use Rattle.weak_laws.proofs.OfMaps.WalkLemmas.{at_step, at_stop, ends_step}
+use Rattle.weak_laws.proofs.OfMaps.SetLemmas.{stays}
+use Rattle.weak_laws.proofs.OfMaps.CallLemmas.{made, alloc_step}
 use Rattle.weak_maps.specs.Returns.{MakeReturns}
 use Rattle.weak_maps.proofs.BesideLemmas.{sixteen, set_here, set_other, same_held, since_old, until_new}
 use Rattle.weak_maps.proofs.StayLemmas.{no_entry, quiet_on}

@@ -1,27 +1,27 @@
 -- A whole map is cleaned, and the registers between are emptied.
 use Rattle.std.proofs.Common.{◌≡◌, ◌≢◌, ⊎_elim, ℕ, ◌+◌, ◌<◌, ◌≤◌, Bool, List, [], ◌∷◌, length, get_or, set, pos, Some, None, refl, ap, sym, ◌∙◌, subst, arith}
-use Rattle.heap_model.specs.declared.label.Label.{Label}
-use Rattle.heap_model.specs.declared.command.Command.TheVariants.{Forget, PutInt}
-use Rattle.heap_model.specs.declared.entry.Entry.{Entry}
-use Rattle.heap_model.specs.declared.reply.Reply.{Reply}
-use Rattle.heap_model.specs.declared.graph.Value.TheVariants.{Int, Block, Nothing}
-use Rattle.heap_model.specs.declared.state.Sizes.{Sizes}
-use Rattle.heap_model.specs.Graph.{Graph, node_at}
-use Rattle.heap_model.specs.Domains.{IsWithinLimits}
-use Rattle.heap_model.specs.History.{IsPrefix}
-use Rattle.table_laws.specs.Stages.{graph_of}
-use Rattle.map_laws.specs.Tries.{at, inside, root_width, IsMap, IsInPlace}
-use Rattle.map_laws.specs.Steps.{OthersLeave}
-use Rattle.map_laws.specs.Calls.{CleanAnswers, HadKeys, IsTidy, PerformedBy, registers_after}
-use Rattle.map_laws.proofs.CallLemmas.{forget_step, put_step}
-use Rattle.map_laws.proofs.FieldLemmas.{at_field}
-use Rattle.map_laws.proofs.FrontLemmas.{prefix_same, prefix_trans}
-use Rattle.map_laws.proofs.OwnLemmas.{keeps_twice}
-use Rattle.map_laws.proofs.WalkLemmas.{at_step, same_number}
+use Rattle.model_core.specs.declared.label.Label.{Label}
+use Rattle.model_core.specs.declared.command.Command.TheVariants.{Forget, PutInt}
+use Rattle.model_core.specs.declared.entry.Entry.{Entry}
+use Rattle.model_core.specs.declared.reply.Reply.{Reply}
+use Rattle.model_core.specs.declared.graph.Value.TheVariants.{Int, Block, Nothing}
+use Rattle.model_core.specs.declared.state.Sizes.{Sizes}
+use Rattle.model_core.specs.Graph.{Graph, node_at}
+use Rattle.model_core.specs.Domains.{IsWithinLimits}
+use Rattle.model_core.specs.History.{IsPrefix}
+use Rattle.weak_laws.specs.Tables.Stages.{graph_of}
+use Rattle.weak_laws.specs.Maps.Tries.{at, inside, root_width, IsMap, IsInPlace}
+use Rattle.weak_laws.specs.Maps.Steps.{OthersLeave}
+use Rattle.weak_laws.specs.Maps.Calls.{CleanAnswers, HadKeys, IsTidy, PerformedBy, registers_after}
+use Rattle.weak_laws.proofs.OfMaps.CallLemmas.{forget_step, put_step}
+use Rattle.weak_laws.proofs.OfMaps.FieldLemmas.{at_field}
+use Rattle.weak_laws.proofs.OfMaps.FrontLemmas.{prefix_same, prefix_trans}
+use Rattle.weak_laws.proofs.OfMaps.OwnLemmas.{keeps_twice}
+use Rattle.weak_laws.proofs.OfMaps.WalkLemmas.{at_step, same_number}
 use Rattle.weak_maps.specs.Beside.{held_by}
 use Rattle.weak_maps.specs.Cleans.{AtBlock, BlockCleaned, CleanLeaves, CleansBlock, ForgetsHigh, LeftAlone}
 use Rattle.weak_maps.proofs.BesideLemmas.{set_here, set_other, sixteen}
-use Rattle.map_laws.proofs.WithinLemmas.{within_earlier, within_twice}
+use Rattle.weak_laws.proofs.OfMaps.WithinLemmas.{within_earlier, within_twice}
 use Rattle.weak_maps.proofs.CleanLemmas.{leaves_within, left_command, left_none, left_twice}
 use Rattle.weak_maps.proofs.CleanedLemmas.{beyond, less_or, nothing_there}
 use Rattle.weak_maps.proofs.DescendLemmas.{leaf_none, still_leaf}

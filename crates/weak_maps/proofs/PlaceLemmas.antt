@@ -1,25 +1,25 @@
 -- Each leaf of a map that binds a key stands on the key's way, whatever steps are made.
 use Rattle.std.proofs.Common.{◌≡◌, ◌≢◌, ◌⊎◌, inl, inr, ⊎_elim, ℕ, zero, suc, ◌<◌, List, [], ◌∷◌, ◌++◌, length, get_or, set, replicate, pos, Option, Some, None, refl, ap, sym, ◌∙◌, subst, append_assoc}
-use Rattle.heap_model.specs.declared.label.Label.{Label}
-use Rattle.heap_model.specs.declared.entry.Entry.{Entry}
-use Rattle.heap_model.specs.declared.graph.Value.{Value}
-use Rattle.heap_model.specs.declared.graph.Value.TheVariants.{Int, Block, Nothing}
-use Rattle.heap_model.specs.declared.graph.Node.TheVariants.{Plain, Ephe}
-use Rattle.heap_model.specs.declared.state.Sizes.{Sizes}
-use Rattle.heap_model.specs.declared.state.State.{State}
-use Rattle.heap_model.specs.Graph.{Graph, node_at}
-use Rattle.heap_model.specs.Entries.{next}
-use Rattle.heap_model.specs.History.{IsPrefix}
-use Rattle.table_laws.specs.Thinning.{IsOutside, state_of}
-use Rattle.table_laws.specs.Stages.{graph_of}
-use Rattle.map_laws.specs.Tries.{at, inside, fields_of, bound_by, bound_in, is_leaf, node_width, way_to, IsMap, IsInPlace}
-use Rattle.map_laws.specs.Steps.{WritesField, Sets, Deepens, Clears, MapStep, Untouched, SetsKey, GoesDeeper, ClearsField, TakesKeys, IsThinned, AllRespect}
-use Rattle.map_laws.proofs.WalkLemmas.{Walk, set_same, set_else, same_number, at_step, at_stop}
-use Rattle.map_laws.proofs.SetLemmas.{block_is, binds_same, now_inside, others_inside, still_end, was_inside}
-use Rattle.map_laws.proofs.MapLemmas.{NoLabel, at_same, untouched_thinned}
-use Rattle.map_laws.proofs.RespectLemmas.{graph_push, map_between}
-use Rattle.map_laws.proofs.FrontLemmas.{prefix_before, walk_along}
-use Rattle.map_laws.proofs.TreeLemmas.{leads_nowhere}
+use Rattle.model_core.specs.declared.label.Label.{Label}
+use Rattle.model_core.specs.declared.entry.Entry.{Entry}
+use Rattle.model_core.specs.declared.graph.Value.{Value}
+use Rattle.model_core.specs.declared.graph.Value.TheVariants.{Int, Block, Nothing}
+use Rattle.model_core.specs.declared.graph.Node.TheVariants.{Plain, Ephe}
+use Rattle.model_core.specs.declared.state.Sizes.{Sizes}
+use Rattle.model_core.specs.declared.state.State.{State}
+use Rattle.model_core.specs.Graph.{Graph, node_at}
+use Rattle.model_core.specs.Entries.{next}
+use Rattle.model_core.specs.History.{IsPrefix}
+use Rattle.weak_laws.specs.Tables.Thinning.{IsOutside, state_of}
+use Rattle.weak_laws.specs.Tables.Stages.{graph_of}
+use Rattle.weak_laws.specs.Maps.Tries.{at, inside, fields_of, bound_by, bound_in, is_leaf, node_width, way_to, IsMap, IsInPlace}
+use Rattle.weak_laws.specs.Maps.Steps.{WritesField, Sets, Deepens, Clears, MapStep, Untouched, SetsKey, GoesDeeper, ClearsField, TakesKeys, IsThinned, AllRespect}
+use Rattle.weak_laws.proofs.OfMaps.WalkLemmas.{Walk, set_same, set_else, same_number, at_step, at_stop}
+use Rattle.weak_laws.proofs.OfMaps.SetLemmas.{block_is, binds_same, now_inside, others_inside, still_end, was_inside}
+use Rattle.weak_laws.proofs.OfMaps.MapLemmas.{NoLabel, at_same, untouched_thinned}
+use Rattle.weak_laws.proofs.OfMaps.RespectLemmas.{graph_push, map_between}
+use Rattle.weak_laws.proofs.OfMaps.FrontLemmas.{prefix_before, walk_along}
+use Rattle.weak_laws.proofs.OfMaps.TreeLemmas.{leads_nowhere}
 use Rattle.weak_maps.proofs.DescendLemmas.{leaf_node, plain_node}
 
 -- field i of the block n is written and holds w: each way leads to what it led to, or through the field

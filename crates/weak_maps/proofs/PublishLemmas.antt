@@ -2,43 +2,43 @@
 use Rattle.std.proofs.Common.{◌≡◌, ◌≢◌, ◌⊎◌, inl, inr, ⊎_elim, ℕ, ◌<◌, Bool, true, false, cond, List, [], ◌∷◌, ◌++◌, length, get_or, set, slice_get, Option, Some, None, refl, ap, sym, ◌∙◌, subst, eq-eqb}
 use Rattle.std.proofs.lemmas.Option.{slice_get-get_or}
 use Rattle.std.proofs.lemmas.Bool.Decides.{Decides-int_eq}
-use Rattle.heap_model.specs.declared.label.Label.{Label}
-use Rattle.heap_model.specs.declared.command.Command.{Command}
-use Rattle.heap_model.specs.declared.command.Command.TheVariants.{Cas, Poll}
-use Rattle.heap_model.specs.declared.entry.Entry.{Entry}
-use Rattle.heap_model.specs.declared.entry.Entry.TheVariants.{Command as CommandOf}
-use Rattle.heap_model.specs.declared.reply.Reply.{Reply}
-use Rattle.heap_model.specs.declared.reply.Reply.TheVariants as reply
-use Rattle.heap_model.specs.declared.graph.Value.{Value}
-use Rattle.heap_model.specs.declared.graph.Value.TheVariants.{Int, Block, Nothing}
-use Rattle.heap_model.specs.declared.graph.Node.{Node}
-use Rattle.heap_model.specs.declared.graph.Node.TheVariants.{Plain, Ephe}
-use Rattle.heap_model.specs.declared.state.Sizes.{Sizes}
-use Rattle.heap_model.specs.declared.state.State.{State}
-use Rattle.heap_model.specs.Graph.{Graph, block_at, label_of, same_label, node_at, with_node}
+use Rattle.model_core.specs.declared.label.Label.{Label}
+use Rattle.model_core.specs.declared.command.Command.{Command}
+use Rattle.model_core.specs.declared.command.Command.TheVariants.{Cas, Poll}
+use Rattle.model_core.specs.declared.entry.Entry.{Entry}
+use Rattle.model_core.specs.declared.entry.Entry.TheVariants.{Command as CommandOf}
+use Rattle.model_core.specs.declared.reply.Reply.{Reply}
+use Rattle.model_core.specs.declared.reply.Reply.TheVariants as reply
+use Rattle.model_core.specs.declared.graph.Value.{Value}
+use Rattle.model_core.specs.declared.graph.Value.TheVariants.{Int, Block, Nothing}
+use Rattle.model_core.specs.declared.graph.Node.{Node}
+use Rattle.model_core.specs.declared.graph.Node.TheVariants.{Plain, Ephe}
+use Rattle.model_core.specs.declared.state.Sizes.{Sizes}
+use Rattle.model_core.specs.declared.state.State.{State}
+use Rattle.model_core.specs.Graph.{Graph, block_at, label_of, same_label, node_at, with_node}
 use Rattle.std.specs.Prelude.{option_and_then, option_map}
-use Rattle.heap_model.specs.Domains.{IsWithinLimits, register}
-use Rattle.heap_model.specs.Commands.{Outcome, at_field, block_in, exchanged, outcome, same_value, written_where, after_command}
-use Rattle.heap_model.specs.Entries.{next}
-use Rattle.heap_model.specs.Fronts.{NoneOf}
-use Rattle.heap_model.specs.History.{IsPrefix}
-use Rattle.heap_model.proofs.Commands.LeavesLemmas.{takes_plain}
-use Rattle.heap_model.proofs.Graphs.GraphLemmas.{same_label-true, same_label-false, same_label_refl}
-use Rattle.table_laws.specs.Thinning.{IsOutside, Thin, state_of}
-use Rattle.table_laws.specs.Stages.{graph_of}
-use Rattle.map_laws.specs.Tries.{at, inside, fields_of, bound_by, bound_in, found, is_leaf, low_digits, IsMap}
-use Rattle.map_laws.specs.Private.{IsPrivate}
-use Rattle.map_laws.specs.Steps.{AllRespect, Sets, SetsKey, OthersRespect, RespectsMap, WasUnreached}
-use Rattle.map_laws.specs.Calls.{PerformedBy, bound_after, registers_after}
-use Rattle.map_laws.specs.Within.{IsMadeBehind}
-use Rattle.map_laws.proofs.CallLemmas.{cas_step, registers_kept}
-use Rattle.map_laws.proofs.FrontLemmas.{other_between, prefix_more, prefix_same, prefix_trans, walk_along}
-use Rattle.map_laws.proofs.MapLemmas.{map_stays}
-use Rattle.map_laws.proofs.OwnLemmas.{changes_once, plain_spares}
-use Rattle.map_laws.proofs.PrivateLemmas.{private_own}
-use Rattle.map_laws.proofs.RespectLemmas.{graph_push}
-use Rattle.map_laws.proofs.SetLemmas.{set_binds}
-use Rattle.map_laws.proofs.WithinLemmas.{within_written}
+use Rattle.model_core.specs.Domains.{IsWithinLimits, register}
+use Rattle.model_core.specs.Commands.{Outcome, at_field, block_in, exchanged, outcome, same_value, written_where, after_command}
+use Rattle.model_core.specs.Entries.{next}
+use Rattle.model_core.specs.Fronts.{NoneOf}
+use Rattle.model_core.specs.History.{IsPrefix}
+use Rattle.model_core.proofs.Commands.LeavesLemmas.{takes_plain}
+use Rattle.model_core.proofs.Graphs.GraphLemmas.{same_label-true, same_label-false, same_label_refl}
+use Rattle.weak_laws.specs.Tables.Thinning.{IsOutside, Thin, state_of}
+use Rattle.weak_laws.specs.Tables.Stages.{graph_of}
+use Rattle.weak_laws.specs.Maps.Tries.{at, inside, fields_of, bound_by, bound_in, found, is_leaf, low_digits, IsMap}
+use Rattle.weak_laws.specs.Maps.Private.{IsPrivate}
+use Rattle.weak_laws.specs.Maps.Steps.{AllRespect, Sets, SetsKey, OthersRespect, RespectsMap, WasUnreached}
+use Rattle.weak_laws.specs.Maps.Calls.{PerformedBy, bound_after, registers_after}
+use Rattle.weak_laws.specs.Maps.Within.{IsMadeBehind}
+use Rattle.weak_laws.proofs.OfMaps.CallLemmas.{cas_step, registers_kept}
+use Rattle.weak_laws.proofs.OfMaps.FrontLemmas.{other_between, prefix_more, prefix_same, prefix_trans, walk_along}
+use Rattle.weak_laws.proofs.OfMaps.MapLemmas.{map_stays}
+use Rattle.weak_laws.proofs.OfMaps.OwnLemmas.{changes_once, plain_spares}
+use Rattle.weak_laws.proofs.OfMaps.PrivateLemmas.{private_own}
+use Rattle.weak_laws.proofs.OfMaps.RespectLemmas.{graph_push}
+use Rattle.weak_laws.proofs.OfMaps.SetLemmas.{set_binds}
+use Rattle.weak_laws.proofs.OfMaps.WithinLemmas.{within_written}
 use Rattle.weak_maps.specs.Beside.{held_by}
 use Rattle.weak_maps.specs.Fields.{AtField, Stays}
 use Rattle.weak_maps.specs.Puts.{BindsOnly, FieldBinds, IsLeafOf, OwnBlock, Published, PublishLost}

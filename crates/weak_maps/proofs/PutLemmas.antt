@@ -1,28 +1,28 @@
 -- What a put makes before it is published: the leaf.
 use Rattle.std.proofs.Common.{◌≡◌, ◌≢◌, ⊎_elim, ℕ, ◌<◌, true, false, eqb-true, List, [], ◌∷◌, ◌++◌, Some, None, ap, sym, ◌∙◌, arith}
-use Rattle.heap_model.specs.declared.label.Label.{Label}
-use Rattle.heap_model.specs.declared.command.Command.{Command}
-use Rattle.heap_model.specs.declared.command.Command.TheVariants.{Ephe as NewEphe, SetKey, SetData}
-use Rattle.heap_model.specs.declared.entry.Entry.{Entry}
-use Rattle.heap_model.specs.declared.reply.Reply.{Reply}
-use Rattle.heap_model.specs.declared.reply.Reply.TheVariants as reply
-use Rattle.heap_model.specs.declared.graph.Value.{Value}
-use Rattle.heap_model.specs.declared.graph.Value.TheVariants.{Block, Nothing}
-use Rattle.heap_model.specs.declared.graph.Node.TheVariants.{Ephe}
-use Rattle.heap_model.specs.declared.state.Sizes.{Sizes}
-use Rattle.heap_model.specs.Graph.{Graph, node_at}
-use Rattle.heap_model.specs.Domains.{IsWithinLimits}
-use Rattle.heap_model.specs.History.{IsPrefix}
-use Rattle.heap_model.proofs.Graphs.GraphLemmas.{node_at-with_node_same}
-use Rattle.table_laws.specs.Stages.{graph_of}
-use Rattle.map_laws.specs.Tries.{IsMap}
-use Rattle.map_laws.specs.Steps.{OthersRespect, WasUnreached}
-use Rattle.map_laws.specs.Calls.{Looks, PerformedBy}
-use Rattle.map_laws.specs.Within.{IsMadeBehind, OwnWithin}
-use Rattle.map_laws.proofs.CallLemmas.{ephe_step, made, set_data_step, set_key_step}
-use Rattle.map_laws.proofs.FrontLemmas.{prefix_same, prefix_trans}
-use Rattle.map_laws.proofs.OwnLemmas.{looks_none, looks_twice}
-use Rattle.map_laws.proofs.WithinLemmas.{within_earlier, within_none, within_twice}
+use Rattle.model_core.specs.declared.label.Label.{Label}
+use Rattle.model_core.specs.declared.command.Command.{Command}
+use Rattle.model_core.specs.declared.command.Command.TheVariants.{Ephe as NewEphe, SetKey, SetData}
+use Rattle.model_core.specs.declared.entry.Entry.{Entry}
+use Rattle.model_core.specs.declared.reply.Reply.{Reply}
+use Rattle.model_core.specs.declared.reply.Reply.TheVariants as reply
+use Rattle.model_core.specs.declared.graph.Value.{Value}
+use Rattle.model_core.specs.declared.graph.Value.TheVariants.{Block, Nothing}
+use Rattle.model_core.specs.declared.graph.Node.TheVariants.{Ephe}
+use Rattle.model_core.specs.declared.state.Sizes.{Sizes}
+use Rattle.model_core.specs.Graph.{Graph, node_at}
+use Rattle.model_core.specs.Domains.{IsWithinLimits}
+use Rattle.model_core.specs.History.{IsPrefix}
+use Rattle.model_core.proofs.Graphs.GraphLemmas.{node_at-with_node_same}
+use Rattle.weak_laws.specs.Tables.Stages.{graph_of}
+use Rattle.weak_laws.specs.Maps.Tries.{IsMap}
+use Rattle.weak_laws.specs.Maps.Steps.{OthersRespect, WasUnreached}
+use Rattle.weak_laws.specs.Maps.Calls.{Looks, PerformedBy}
+use Rattle.weak_laws.specs.Maps.Within.{IsMadeBehind, OwnWithin}
+use Rattle.weak_laws.proofs.OfMaps.CallLemmas.{ephe_step, made, set_data_step, set_key_step}
+use Rattle.weak_laws.proofs.OfMaps.FrontLemmas.{prefix_same, prefix_trans}
+use Rattle.weak_laws.proofs.OfMaps.OwnLemmas.{looks_none, looks_twice}
+use Rattle.weak_laws.proofs.OfMaps.WithinLemmas.{within_earlier, within_none, within_twice}
 use Rattle.weak_maps.specs.Beside.{held_by}
 use Rattle.weak_maps.specs.Guards.{Guards}
 use Rattle.weak_maps.specs.Puts.{GoesOn, LeafMade, LeafRefused, OwnBlock}

@@ -1,6 +1,6 @@
 -- What the clauses of a put refuse: where a clause holds a wrong outcome doesn't, whatever body met it.
 use Rattle.std.proofs.Common.{◌<◌, ⊎_elim, ℕ, ◌+◌, ◌≤◌, arith}
-use Rattle.heap_model.specs.declared.reply.Reply.TheVariants as reply
+use Rattle.model_core.specs.declared.reply.Reply.TheVariants as reply
 use Rattle.weak_maps.specs.Crowds.{PutCounts}
 
 -- a put doesn't answer `full` at once, or after it has lost a field: either an allocation was refused, or a leaf and six blocks were made

@@ -2,39 +2,39 @@
 use Rattle.std.proofs.Common.{◌≡◌, ◌≢◌, ◌⊎◌, ⊎_elim, ℕ, ◌+◌, ◌<◌, true, false, eqb-true, List, [], ◌∷◌, ◌++◌, length, get_or, set, replicate, pos, Some, ap, sym, ◌∙◌, subst, arith, length-append}
 use Rattle.std.proofs.lemmas.Option.{slice_get-get_or}
 use Rattle.std.proofs.lemmas.List.{length-replicate}
-use Rattle.heap_model.specs.declared.label.Label.{Label}
-use Rattle.heap_model.specs.declared.command.Command.TheVariants.{Alloc, Cas, Store}
-use Rattle.heap_model.specs.declared.entry.Entry.{Entry}
-use Rattle.heap_model.specs.declared.entry.Entry.TheVariants.{Command as CommandOf}
-use Rattle.heap_model.specs.declared.reply.Reply.{Reply}
-use Rattle.heap_model.specs.declared.reply.Reply.TheVariants as reply
-use Rattle.heap_model.specs.declared.graph.Value.{Value}
-use Rattle.heap_model.specs.declared.graph.Value.TheVariants.{Int, Block, Nothing}
-use Rattle.heap_model.specs.declared.graph.Node.{Node}
-use Rattle.heap_model.specs.declared.graph.Node.TheVariants.{Plain, Ephe}
-use Rattle.heap_model.specs.declared.state.Sizes.{Sizes}
-use Rattle.heap_model.specs.Graph.{Graph, node_at, with_node}
-use Rattle.heap_model.specs.Domains.{IsWithinLimits}
-use Rattle.heap_model.specs.Commands.{same_value}
-use Rattle.heap_model.specs.Entries.{next}
-use Rattle.heap_model.specs.History.{IsPrefix}
-use Rattle.heap_model.proofs.Commands.FrameLemmas.{label_cases}
-use Rattle.heap_model.proofs.Graphs.GraphLemmas.{node_at-append_old, node_at-with_node_other, node_at-with_node_same}
-use Rattle.table_laws.specs.Thinning.{state_of}
-use Rattle.table_laws.specs.Stages.{graph_of}
-use Rattle.map_laws.specs.Tries.{at, inside, fields_of, found, node_width, way_length, way_to, IsMap}
-use Rattle.map_laws.specs.Steps.{AllRespect, Deepens, GoesDeeper, OthersLeave, OthersRespect, RespectsMap, WasUnreached}
-use Rattle.map_laws.specs.Calls.{PerformedBy, Looks, registers_after}
-use Rattle.map_laws.proofs.CallLemmas.{alloc_step, cas_step, made, store_step}
-use Rattle.map_laws.proofs.DeepenLemmas.{deepen_keeps}
-use Rattle.map_laws.proofs.FieldLemmas.{at_field}
-use Rattle.map_laws.proofs.FrontLemmas.{prefix_same, prefix_trans}
-use Rattle.map_laws.proofs.OwnLemmas.{apart_untouched, fresh_untouched, looks_once, plain_spares}
-use Rattle.map_laws.proofs.PrivateLemmas.{private_outside}
-use Rattle.map_laws.proofs.RespectLemmas.{graph_push, map_after, place_after, respect_both}
-use Rattle.map_laws.proofs.WalkLemmas.{set_same}
-use Rattle.map_laws.specs.Within.{IsMadeBehind, OwnWithin}
-use Rattle.map_laws.proofs.WithinLemmas.{within_deeper}
+use Rattle.model_core.specs.declared.label.Label.{Label}
+use Rattle.model_core.specs.declared.command.Command.TheVariants.{Alloc, Cas, Store}
+use Rattle.model_core.specs.declared.entry.Entry.{Entry}
+use Rattle.model_core.specs.declared.entry.Entry.TheVariants.{Command as CommandOf}
+use Rattle.model_core.specs.declared.reply.Reply.{Reply}
+use Rattle.model_core.specs.declared.reply.Reply.TheVariants as reply
+use Rattle.model_core.specs.declared.graph.Value.{Value}
+use Rattle.model_core.specs.declared.graph.Value.TheVariants.{Int, Block, Nothing}
+use Rattle.model_core.specs.declared.graph.Node.{Node}
+use Rattle.model_core.specs.declared.graph.Node.TheVariants.{Plain, Ephe}
+use Rattle.model_core.specs.declared.state.Sizes.{Sizes}
+use Rattle.model_core.specs.Graph.{Graph, node_at, with_node}
+use Rattle.model_core.specs.Domains.{IsWithinLimits}
+use Rattle.model_core.specs.Commands.{same_value}
+use Rattle.model_core.specs.Entries.{next}
+use Rattle.model_core.specs.History.{IsPrefix}
+use Rattle.model_core.proofs.Commands.FrameLemmas.{label_cases}
+use Rattle.model_core.proofs.Graphs.GraphLemmas.{node_at-append_old, node_at-with_node_other, node_at-with_node_same}
+use Rattle.weak_laws.specs.Tables.Thinning.{state_of}
+use Rattle.weak_laws.specs.Tables.Stages.{graph_of}
+use Rattle.weak_laws.specs.Maps.Tries.{at, inside, fields_of, found, node_width, way_length, way_to, IsMap}
+use Rattle.weak_laws.specs.Maps.Steps.{AllRespect, Deepens, GoesDeeper, OthersLeave, OthersRespect, RespectsMap, WasUnreached}
+use Rattle.weak_laws.specs.Maps.Calls.{PerformedBy, Looks, registers_after}
+use Rattle.weak_laws.proofs.OfMaps.CallLemmas.{alloc_step, cas_step, made, store_step}
+use Rattle.weak_laws.proofs.OfMaps.DeepenLemmas.{deepen_keeps}
+use Rattle.weak_laws.proofs.OfMaps.FieldLemmas.{at_field}
+use Rattle.weak_laws.proofs.OfMaps.FrontLemmas.{prefix_same, prefix_trans}
+use Rattle.weak_laws.proofs.OfMaps.OwnLemmas.{apart_untouched, fresh_untouched, looks_once, plain_spares}
+use Rattle.weak_laws.proofs.OfMaps.PrivateLemmas.{private_outside}
+use Rattle.weak_laws.proofs.OfMaps.RespectLemmas.{graph_push, map_after, place_after, respect_both}
+use Rattle.weak_laws.proofs.OfMaps.WalkLemmas.{set_same}
+use Rattle.weak_laws.specs.Maps.Within.{IsMadeBehind, OwnWithin}
+use Rattle.weak_laws.proofs.OfMaps.WithinLemmas.{within_deeper}
 use Rattle.weak_maps.specs.Beside.{held_by}
 use Rattle.weak_maps.specs.Fields.{AtField, Stays}
 use Rattle.weak_maps.specs.Guards.{Guards}

@@ -1,27 +1,27 @@
 -- One try of a put.
 use Rattle.std.proofs.Common.{◌≡◌, ◌≢◌, inl, inr, ℕ, ◌+◌, ◌<◌, ◌^◌, ◌%◌, Bool, true, false, cond, List, [], ◌∷◌, Option, Some, None, refl, ap, ◌∙◌, subst, arith, min}
-use Rattle.heap_model.specs.declared.label.Label.{Label}
-use Rattle.heap_model.specs.declared.command.Command.TheVariants.{Cas, Load}
-use Rattle.heap_model.specs.declared.entry.Entry.{Entry}
-use Rattle.heap_model.specs.declared.reply.Reply.{Reply}
-use Rattle.heap_model.specs.declared.reply.Reply.TheVariants as reply
-use Rattle.heap_model.specs.declared.graph.Value.{Value}
-use Rattle.heap_model.specs.declared.graph.Value.TheVariants.{Int, Block, Nothing}
-use Rattle.heap_model.specs.declared.graph.Node.{Node}
-use Rattle.heap_model.specs.declared.graph.Node.TheVariants.{Plain, Raw, Ephe}
-use Rattle.heap_model.specs.declared.state.Sizes.{Sizes}
-use Rattle.heap_model.specs.Graph.{same_label, node_at}
-use Rattle.heap_model.specs.Domains.{IsWithinLimits, opening}
-use Rattle.heap_model.specs.History.{IsPrefix, Legal}
-use Rattle.heap_model.proofs.Graphs.GraphLemmas.{same_label-true}
-use Rattle.table_laws.specs.Stages.{graph_of}
-use Rattle.table_laws.proofs.StepLemmas.{legal_parts}
-use Rattle.map_laws.specs.Tries.{bound_by, bound_in, node_width, number_of, IsLabelOf, IsMap, IsInPlace}
-use Rattle.map_laws.specs.Steps.{OthersRespect, OwnRespect}
-use Rattle.map_laws.specs.Calls.{PerformedBy, PutsOrFull}
-use Rattle.map_laws.proofs.FrontLemmas.{prefix_same}
-use Rattle.map_laws.proofs.RespectLemmas.{respect_both}
-use Rattle.map_laws.proofs.LabelLemmas.{held_below, key_below}
+use Rattle.model_core.specs.declared.label.Label.{Label}
+use Rattle.model_core.specs.declared.command.Command.TheVariants.{Cas, Load}
+use Rattle.model_core.specs.declared.entry.Entry.{Entry}
+use Rattle.model_core.specs.declared.reply.Reply.{Reply}
+use Rattle.model_core.specs.declared.reply.Reply.TheVariants as reply
+use Rattle.model_core.specs.declared.graph.Value.{Value}
+use Rattle.model_core.specs.declared.graph.Value.TheVariants.{Int, Block, Nothing}
+use Rattle.model_core.specs.declared.graph.Node.{Node}
+use Rattle.model_core.specs.declared.graph.Node.TheVariants.{Plain, Raw, Ephe}
+use Rattle.model_core.specs.declared.state.Sizes.{Sizes}
+use Rattle.model_core.specs.Graph.{same_label, node_at}
+use Rattle.model_core.specs.Domains.{IsWithinLimits, opening}
+use Rattle.model_core.specs.History.{IsPrefix, Legal}
+use Rattle.model_core.proofs.Graphs.GraphLemmas.{same_label-true}
+use Rattle.weak_laws.specs.Tables.Stages.{graph_of}
+use Rattle.weak_laws.proofs.OfTables.StepLemmas.{legal_parts}
+use Rattle.weak_laws.specs.Maps.Tries.{bound_by, bound_in, node_width, number_of, IsLabelOf, IsMap, IsInPlace}
+use Rattle.weak_laws.specs.Maps.Steps.{OthersRespect, OwnRespect}
+use Rattle.weak_laws.specs.Maps.Calls.{PerformedBy, PutsOrFull}
+use Rattle.weak_laws.proofs.OfMaps.FrontLemmas.{prefix_same}
+use Rattle.weak_laws.proofs.OfMaps.RespectLemmas.{respect_both}
+use Rattle.weak_laws.proofs.OfMaps.LabelLemmas.{held_below, key_below}
 use Rattle.weak_maps.specs.Beside.{held_by}
 use Rattle.weak_maps.specs.Fields.{AtField, Cleared}
 use Rattle.weak_maps.specs.Guards.{Guards, RoomGuards, SettleGuards}

@@ -1,35 +1,35 @@
 -- While others respect a map it is a map still, its blocks stand where they stood, and a leaf that was met tells of a key what it told.
 use Rattle.std.proofs.Common.{◌≡◌, inl, inr, ⊎_elim, ℕ, List, [], ◌∷◌, ◌++◌, length, get_or, Option, Some, None, refl, ap, sym, ◌∙◌, subst, append_assoc, append-nil, length-append, arith}
-use Rattle.heap_model.specs.declared.label.Label.{Label}
-use Rattle.heap_model.specs.declared.command.Command.{Command}
-use Rattle.heap_model.specs.declared.entry.Entry.{Entry}
-use Rattle.heap_model.specs.declared.entry.Entry.TheVariants.{Command as CommandOf}
-use Rattle.heap_model.specs.declared.reply.Reply.{Reply}
-use Rattle.heap_model.specs.declared.graph.Value.{Value}
-use Rattle.heap_model.specs.declared.graph.Value.TheVariants.{Block, Nothing}
-use Rattle.heap_model.specs.declared.graph.Node.{Node}
-use Rattle.heap_model.specs.declared.graph.Node.TheVariants.{Ephe}
-use Rattle.heap_model.specs.declared.state.Sizes.{Sizes}
-use Rattle.heap_model.specs.declared.state.State.{State}
-use Rattle.heap_model.specs.Graph.{Graph, node_at}
-use Rattle.heap_model.specs.Domains.{register, opening}
-use Rattle.heap_model.specs.Entries.{next}
-use Rattle.heap_model.specs.Fronts.{NoneOf}
-use Rattle.heap_model.specs.History.{IsPrefix}
-use Rattle.heap_model.proofs.Commands.FrameLemmas.{keeps_next}
-use Rattle.heap_model.proofs.Histories.FrontLemmas.{none_cons}
-use Rattle.heap_model.proofs.Histories.HistoryLemmas.{state_after-push}
-use Rattle.table_laws.specs.Thinning.{IsOutside, Thin, state_of}
-use Rattle.table_laws.specs.Stages.{graph_of}
-use Rattle.table_laws.proofs.ChangeLemmas.{thin_is}
-use Rattle.table_laws.proofs.CollectorLemmas.{outside_unheld}
-use Rattle.table_laws.proofs.StageLemmas.{prefix_trans}
-use Rattle.map_laws.specs.Tries.{at, inside, found, is_leaf, IsMap}
-use Rattle.map_laws.specs.Steps.{MapStep, Untouched, OthersRespect, RespectsMap, SparesLeaves}
-use Rattle.map_laws.specs.Calls.{Looks, PerformedBy}
-use Rattle.map_laws.specs.Within.{IsMadeBehind, OwnWithin}
-use Rattle.map_laws.proofs.MapLemmas.{map_stays, places_stay, plain_stays}
-use Rattle.map_laws.proofs.WithinLemmas.{within_same}
+use Rattle.model_core.specs.declared.label.Label.{Label}
+use Rattle.model_core.specs.declared.command.Command.{Command}
+use Rattle.model_core.specs.declared.entry.Entry.{Entry}
+use Rattle.model_core.specs.declared.entry.Entry.TheVariants.{Command as CommandOf}
+use Rattle.model_core.specs.declared.reply.Reply.{Reply}
+use Rattle.model_core.specs.declared.graph.Value.{Value}
+use Rattle.model_core.specs.declared.graph.Value.TheVariants.{Block, Nothing}
+use Rattle.model_core.specs.declared.graph.Node.{Node}
+use Rattle.model_core.specs.declared.graph.Node.TheVariants.{Ephe}
+use Rattle.model_core.specs.declared.state.Sizes.{Sizes}
+use Rattle.model_core.specs.declared.state.State.{State}
+use Rattle.model_core.specs.Graph.{Graph, node_at}
+use Rattle.model_core.specs.Domains.{register, opening}
+use Rattle.model_core.specs.Entries.{next}
+use Rattle.model_core.specs.Fronts.{NoneOf}
+use Rattle.model_core.specs.History.{IsPrefix}
+use Rattle.model_core.proofs.Commands.FrameLemmas.{keeps_next}
+use Rattle.model_core.proofs.Histories.FrontLemmas.{none_cons}
+use Rattle.model_core.proofs.Histories.HistoryLemmas.{state_after-push}
+use Rattle.weak_laws.specs.Tables.Thinning.{IsOutside, Thin, state_of}
+use Rattle.weak_laws.specs.Tables.Stages.{graph_of}
+use Rattle.weak_laws.proofs.OfTables.ChangeLemmas.{thin_is}
+use Rattle.weak_laws.proofs.OfTables.CollectorLemmas.{outside_unheld}
+use Rattle.weak_laws.proofs.OfTables.StageLemmas.{prefix_trans}
+use Rattle.weak_laws.specs.Maps.Tries.{at, inside, found, is_leaf, IsMap}
+use Rattle.weak_laws.specs.Maps.Steps.{MapStep, Untouched, OthersRespect, RespectsMap, SparesLeaves}
+use Rattle.weak_laws.specs.Maps.Calls.{Looks, PerformedBy}
+use Rattle.weak_laws.specs.Maps.Within.{IsMadeBehind, OwnWithin}
+use Rattle.weak_laws.proofs.OfMaps.MapLemmas.{map_stays, places_stay, plain_stays}
+use Rattle.weak_laws.proofs.OfMaps.WithinLemmas.{within_same}
 use Rattle.weak_maps.specs.Beside.{held_by}
 use Rattle.weak_maps.specs.Fields.{Stays}
 use Rattle.weak_maps.specs.Walks.{LeafTells, Looking, OwnQuiet}

@@ -1,20 +1,20 @@
 -- Where no other domain uses a map, and this one writes none of its blocks, what stands in it stays where it stands.
 use Rattle.std.proofs.Common.{◌≡◌, ℕ, Bool, true, false, List, [], ◌∷◌, ◌++◌, refl, ap, sym, ◌∙◌, subst}
-use Rattle.heap_model.specs.declared.label.Label.{Label}
-use Rattle.heap_model.specs.declared.entry.Entry.{Entry}
-use Rattle.heap_model.specs.declared.graph.Value.TheVariants.{Block}
-use Rattle.heap_model.specs.declared.state.Sizes.{Sizes}
-use Rattle.heap_model.specs.Graph.{Graph}
-use Rattle.heap_model.specs.Entries.{next}
-use Rattle.heap_model.specs.Fronts.{NoneOf}
-use Rattle.heap_model.specs.History.{IsPrefix, is_entry_of}
-use Rattle.table_laws.specs.Thinning.{IsOutside, state_of}
-use Rattle.table_laws.specs.Stages.{graph_of}
-use Rattle.map_laws.specs.Tries.{at, inside, IsMap}
-use Rattle.map_laws.specs.Steps.{IsThinned, IsUntouched, OthersLeave}
-use Rattle.map_laws.proofs.FrontLemmas.{other_between, prefix_more, walk_along}
-use Rattle.map_laws.proofs.MapLemmas.{NoLabel, at_same, thinned_map, untouched_thinned}
-use Rattle.map_laws.proofs.RespectLemmas.{graph_push}
+use Rattle.model_core.specs.declared.label.Label.{Label}
+use Rattle.model_core.specs.declared.entry.Entry.{Entry}
+use Rattle.model_core.specs.declared.graph.Value.TheVariants.{Block}
+use Rattle.model_core.specs.declared.state.Sizes.{Sizes}
+use Rattle.model_core.specs.Graph.{Graph}
+use Rattle.model_core.specs.Entries.{next}
+use Rattle.model_core.specs.Fronts.{NoneOf}
+use Rattle.model_core.specs.History.{IsPrefix, is_entry_of}
+use Rattle.weak_laws.specs.Tables.Thinning.{IsOutside, state_of}
+use Rattle.weak_laws.specs.Tables.Stages.{graph_of}
+use Rattle.weak_laws.specs.Maps.Tries.{at, inside, IsMap}
+use Rattle.weak_laws.specs.Maps.Steps.{IsThinned, IsUntouched, OthersLeave}
+use Rattle.weak_laws.proofs.OfMaps.FrontLemmas.{other_between, prefix_more, walk_along}
+use Rattle.weak_laws.proofs.OfMaps.MapLemmas.{NoLabel, at_same, thinned_map, untouched_thinned}
+use Rattle.weak_laws.proofs.OfMaps.RespectLemmas.{graph_push}
 use Rattle.weak_maps.specs.Walks.{OwnQuiet}
 
 abbrev Still : Sizes → Label → List Entry → List Entry → Type 0

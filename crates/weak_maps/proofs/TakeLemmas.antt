@@ -1,42 +1,42 @@
 -- What `map_take` answers and leaves: the compare-and-set by which a binding goes.
 use Rattle.std.proofs.Common.{◌≡◌, ◌≢◌, ◌⊎◌, inl, inr, ⊎_elim, ℕ, ◌+◌, ◌/◌, ◌%◌, ◌<◌, ◌≤◌, Bool, true, false, cond, List, [], ◌∷◌, ◌++◌, length, get_or, set, pos, Option, Some, None, refl, ap, sym, ◌∙◌, subst, arith, append_assoc, eq-eqb}
 use Rattle.std.proofs.lemmas.Option.{slice_get-get_or}
-use Rattle.heap_model.specs.declared.label.Label.{Label}
-use Rattle.heap_model.specs.declared.command.Command.{Command}
-use Rattle.heap_model.specs.declared.command.Command.TheVariants.{PutInt, Copy, Forget, Load, Cas}
-use Rattle.heap_model.specs.declared.entry.Entry.{Entry}
-use Rattle.heap_model.specs.declared.entry.Entry.TheVariants.{Command as CommandOf}
-use Rattle.heap_model.specs.declared.reply.Reply.{Reply}
-use Rattle.heap_model.specs.declared.reply.Reply.TheVariants as reply
-use Rattle.heap_model.specs.declared.graph.Value.{Value}
-use Rattle.heap_model.specs.declared.graph.Value.TheVariants.{Int, Block, Nothing}
-use Rattle.heap_model.specs.declared.graph.Node.{Node}
-use Rattle.heap_model.specs.declared.graph.Node.TheVariants.{Plain, Raw, Ephe}
-use Rattle.heap_model.specs.declared.state.Sizes.{Sizes}
-use Rattle.heap_model.specs.declared.state.State.{State}
-use Rattle.heap_model.specs.Graph.{Graph, same_label, node_at, with_node}
-use Rattle.heap_model.specs.Domains.{IsWithinLimits, opening}
-use Rattle.heap_model.specs.Commands.{same_value}
-use Rattle.heap_model.specs.Entries.{next}
-use Rattle.heap_model.specs.Fronts.{Grew, shape_of, EpheShape, PlainShape}
-use Rattle.heap_model.specs.History.{IsPrefix, state_after}
-use Rattle.heap_model.proofs.Commands.FrameLemmas.{grew_after, grew_next, grew_same, label_cases}
-use Rattle.heap_model.proofs.Graphs.GraphLemmas.{same_label-true, same_label-false, same_label_refl, node_at-with_node_other}
-use Rattle.heap_model.proofs.Histories.HistoryLemmas.{state_after-push}
-use Rattle.table_laws.specs.Thinning.{IsOutside, Thin, state_of}
-use Rattle.table_laws.specs.Stages.{graph_of}
-use Rattle.table_laws.proofs.ChangeLemmas.{thin_is}
-use Rattle.table_laws.proofs.StageLemmas.{prefix_trans}
-use Rattle.map_laws.specs.Tries.{at, inside, fields_of, found, bound_by, bound_in, is_leaf, low_digits, number_of, root_width, way_to, IsMap}
-use Rattle.map_laws.specs.Steps.{Sets, SetsKey, OthersRespect, OwnRespect, RespectsMap, SparesLeaves}
-use Rattle.map_laws.specs.Calls.{ChangesOne, OwnKeep, PerformedBy, bound_after, registers_after}
-use Rattle.map_laws.proofs.CallLemmas.{cas_step, forget_step, put_step}
-use Rattle.map_laws.proofs.WalkLemmas.{same_number}
-use Rattle.map_laws.proofs.FrontLemmas.{before_or_behind}
-use Rattle.map_laws.proofs.MapLemmas.{map_stays}
-use Rattle.map_laws.proofs.SetLemmas.{set_binds}
-use Rattle.map_laws.specs.Within.{IsMadeBehind, OwnWithin}
-use Rattle.map_laws.proofs.WithinLemmas.{within_twice, within_written}
+use Rattle.model_core.specs.declared.label.Label.{Label}
+use Rattle.model_core.specs.declared.command.Command.{Command}
+use Rattle.model_core.specs.declared.command.Command.TheVariants.{PutInt, Copy, Forget, Load, Cas}
+use Rattle.model_core.specs.declared.entry.Entry.{Entry}
+use Rattle.model_core.specs.declared.entry.Entry.TheVariants.{Command as CommandOf}
+use Rattle.model_core.specs.declared.reply.Reply.{Reply}
+use Rattle.model_core.specs.declared.reply.Reply.TheVariants as reply
+use Rattle.model_core.specs.declared.graph.Value.{Value}
+use Rattle.model_core.specs.declared.graph.Value.TheVariants.{Int, Block, Nothing}
+use Rattle.model_core.specs.declared.graph.Node.{Node}
+use Rattle.model_core.specs.declared.graph.Node.TheVariants.{Plain, Raw, Ephe}
+use Rattle.model_core.specs.declared.state.Sizes.{Sizes}
+use Rattle.model_core.specs.declared.state.State.{State}
+use Rattle.model_core.specs.Graph.{Graph, same_label, node_at, with_node}
+use Rattle.model_core.specs.Domains.{IsWithinLimits, opening}
+use Rattle.model_core.specs.Commands.{same_value}
+use Rattle.model_core.specs.Entries.{next}
+use Rattle.model_core.specs.Fronts.{Grew, shape_of, EpheShape, PlainShape}
+use Rattle.model_core.specs.History.{IsPrefix, state_after}
+use Rattle.model_core.proofs.Commands.FrameLemmas.{grew_after, grew_next, grew_same, label_cases}
+use Rattle.model_core.proofs.Graphs.GraphLemmas.{same_label-true, same_label-false, same_label_refl, node_at-with_node_other}
+use Rattle.model_core.proofs.Histories.HistoryLemmas.{state_after-push}
+use Rattle.weak_laws.specs.Tables.Thinning.{IsOutside, Thin, state_of}
+use Rattle.weak_laws.specs.Tables.Stages.{graph_of}
+use Rattle.weak_laws.proofs.OfTables.ChangeLemmas.{thin_is}
+use Rattle.weak_laws.proofs.OfTables.StageLemmas.{prefix_trans}
+use Rattle.weak_laws.specs.Maps.Tries.{at, inside, fields_of, found, bound_by, bound_in, is_leaf, low_digits, number_of, root_width, way_to, IsMap}
+use Rattle.weak_laws.specs.Maps.Steps.{Sets, SetsKey, OthersRespect, OwnRespect, RespectsMap, SparesLeaves}
+use Rattle.weak_laws.specs.Maps.Calls.{ChangesOne, OwnKeep, PerformedBy, bound_after, registers_after}
+use Rattle.weak_laws.proofs.OfMaps.CallLemmas.{cas_step, forget_step, put_step}
+use Rattle.weak_laws.proofs.OfMaps.WalkLemmas.{same_number}
+use Rattle.weak_laws.proofs.OfMaps.FrontLemmas.{before_or_behind}
+use Rattle.weak_laws.proofs.OfMaps.MapLemmas.{map_stays}
+use Rattle.weak_laws.proofs.OfMaps.SetLemmas.{set_binds}
+use Rattle.weak_laws.specs.Maps.Within.{IsMadeBehind, OwnWithin}
+use Rattle.weak_laws.proofs.OfMaps.WithinLemmas.{within_twice, within_written}
 use Rattle.weak_maps.specs.Beside.{held_by}
 use Rattle.weak_maps.specs.Walks.{HoldsLeaf, Looking, OwnQuiet}
 use Rattle.weak_maps.specs.Fields.{AtField, Cleared, Finds, FoundBy, IsBeside, Stays, Taking}

@@ -1,12 +1,12 @@
 -- What a register of a domain holds, and what the domain's entries do besides.
 use Rattle.std.specs.Prelude.{◌≡◌, ◌≤◌, ℕ, ◌+◌, cond, List, [], ◌∷◌}
-use Rattle.heap_model.specs.declared.entry.Entry.{Entry}
-use Rattle.heap_model.specs.declared.graph.Value.{Value}
-use Rattle.heap_model.specs.declared.state.Sizes.{Sizes}
-use Rattle.heap_model.specs.Domains.{register}
-use Rattle.heap_model.specs.History.{is_entry_of}
-use Rattle.table_laws.specs.Thinning.{state_of}
-use Rattle.table_laws.specs.Performing.{refused, written}
+use Rattle.model_core.specs.declared.entry.Entry.{Entry}
+use Rattle.model_core.specs.declared.graph.Value.{Value}
+use Rattle.model_core.specs.declared.state.Sizes.{Sizes}
+use Rattle.model_core.specs.Domains.{register}
+use Rattle.model_core.specs.History.{is_entry_of}
+use Rattle.weak_laws.specs.Tables.Thinning.{state_of}
+use Rattle.weak_laws.specs.Tables.Performing.{refused, written}
 
 -- what a register of domain d holds after a history
 abbrev pub held_by : Sizes → ℕ → List Entry → ℕ → Value

@@ -1,20 +1,20 @@
 -- What a clean leaves: of the whole map, of a block of it, and of one field.
 use Rattle.std.specs.Prelude.{◌≡◌, ◌≢◌, ◌<◌, ◌≤◌, ℕ, ◌+◌, ◌-◌, ◌==◌, Bool, true, false, cond, List, [], ◌∷◌, ◌++◌, length, slice_index_or, pos, Some, None}
-use Rattle.heap_model.specs.declared.label.Label.{Label}
-use Rattle.heap_model.specs.declared.entry.Entry.{Entry}
-use Rattle.heap_model.specs.declared.graph.Value.{Value}
-use Rattle.heap_model.specs.declared.graph.Value.TheVariants.{Block, Int, Nothing}
-use Rattle.heap_model.specs.declared.graph.Node.TheVariants.{Ephe}
-use Rattle.heap_model.specs.declared.command.Command.TheVariants.{Store}
-use Rattle.heap_model.specs.declared.reply.Reply.{Reply}
-use Rattle.heap_model.specs.declared.state.Sizes.{Sizes}
-use Rattle.heap_model.specs.Graph.{Graph, node_at}
-use Rattle.heap_model.specs.History.{IsPrefix}
-use Rattle.table_laws.specs.Stages.{graph_of}
-use Rattle.map_laws.specs.Tries.{at, inside, is_leaf, node_width, root_width, width_at, IsMap, IsInPlace}
-use Rattle.map_laws.specs.Steps.{OthersLeave}
-use Rattle.map_laws.specs.Calls.{AreZero, CleanAnswers, HasKey, OwnKeep, PerformedBy}
-use Rattle.map_laws.specs.Within.{OwnWithin}
+use Rattle.model_core.specs.declared.label.Label.{Label}
+use Rattle.model_core.specs.declared.entry.Entry.{Entry}
+use Rattle.model_core.specs.declared.graph.Value.{Value}
+use Rattle.model_core.specs.declared.graph.Value.TheVariants.{Block, Int, Nothing}
+use Rattle.model_core.specs.declared.graph.Node.TheVariants.{Ephe}
+use Rattle.model_core.specs.declared.command.Command.TheVariants.{Store}
+use Rattle.model_core.specs.declared.reply.Reply.{Reply}
+use Rattle.model_core.specs.declared.state.Sizes.{Sizes}
+use Rattle.model_core.specs.Graph.{Graph, node_at}
+use Rattle.model_core.specs.History.{IsPrefix}
+use Rattle.weak_laws.specs.Tables.Stages.{graph_of}
+use Rattle.weak_laws.specs.Maps.Tries.{at, inside, is_leaf, node_width, root_width, width_at, IsMap, IsInPlace}
+use Rattle.weak_laws.specs.Maps.Steps.{OthersLeave}
+use Rattle.weak_laws.specs.Maps.Calls.{AreZero, CleanAnswers, HasKey, OwnKeep, PerformedBy}
+use Rattle.weak_laws.specs.Maps.Within.{OwnWithin}
 use Rattle.weak_maps.specs.Beside.{held_by}
 
 -- how many fields a block has below which there may be so many in a row

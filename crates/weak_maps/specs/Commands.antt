@@ -1,9 +1,9 @@
 -- The commands of which the calls are made.
 use Rattle.std.specs.Prelude.{◌<◌, ◌≤◌, pos, neg_ℤ, ◌≤ℤ◌}
-use Rattle.heap_model.specs.declared.command.Command.{Command}
-use Rattle.heap_model.specs.declared.command.Command.TheVariants.{PutInt, Copy, Forget, Alloc, Load, Store, Cas, Ephe, SetKey, GetKey, SetData, GetData}
-use Rattle.heap_model.specs.declared.reply.Reply.{Reply}
-use Rattle.heap_model.specs.declared.reply.Reply.TheVariants as reply
+use Rattle.model_core.specs.declared.command.Command.{Command}
+use Rattle.model_core.specs.declared.command.Command.TheVariants.{PutInt, Copy, Forget, Alloc, Load, Store, Cas, Ephe, SetKey, GetKey, SetData, GetData}
+use Rattle.model_core.specs.declared.reply.Reply.{Reply}
+use Rattle.model_core.specs.declared.reply.Reply.TheVariants as reply
 
 -- the commands of which the calls are made, with their numbers in their ranges
 abbrev pub IsMapCommand : Command → Type 0

@@ -1,18 +1,18 @@
 -- When a put answers `full`.
 use Rattle.std.specs.Prelude.{◌≡◌, ◌≢◌, ◌⊎◌, ◌≤◌, ℕ, ◌+◌, List, None}
-use Rattle.heap_model.specs.declared.label.Label.{Label}
-use Rattle.heap_model.specs.declared.entry.Entry.{Entry}
-use Rattle.heap_model.specs.declared.graph.Value.TheVariants.{Block}
-use Rattle.heap_model.specs.declared.reply.Reply.{Reply}
-use Rattle.heap_model.specs.declared.reply.Reply.TheVariants as reply
-use Rattle.heap_model.specs.declared.state.Sizes.{Sizes}
-use Rattle.heap_model.specs.Graph.{Graph}
-use Rattle.heap_model.specs.Domains.{domain_at}
-use Rattle.heap_model.specs.History.{IsPrefix}
-use Rattle.table_laws.specs.Thinning.{state_of}
-use Rattle.table_laws.specs.Stages.{graph_of}
-use Rattle.map_laws.specs.Tries.{IsInPlace, IsMap, bound_by, ends, inside, way_to}
-use Rattle.map_laws.specs.Steps.{OthersLeave, OthersRespect}
+use Rattle.model_core.specs.declared.label.Label.{Label}
+use Rattle.model_core.specs.declared.entry.Entry.{Entry}
+use Rattle.model_core.specs.declared.graph.Value.TheVariants.{Block}
+use Rattle.model_core.specs.declared.reply.Reply.{Reply}
+use Rattle.model_core.specs.declared.reply.Reply.TheVariants as reply
+use Rattle.model_core.specs.declared.state.Sizes.{Sizes}
+use Rattle.model_core.specs.Graph.{Graph}
+use Rattle.model_core.specs.Domains.{domain_at}
+use Rattle.model_core.specs.History.{IsPrefix}
+use Rattle.weak_laws.specs.Tables.Thinning.{state_of}
+use Rattle.weak_laws.specs.Tables.Stages.{graph_of}
+use Rattle.weak_laws.specs.Maps.Tries.{IsInPlace, IsMap, bound_by, ends, inside, way_to}
+use Rattle.weak_laws.specs.Maps.Steps.{OthersLeave, OthersRespect}
 use Rattle.weak_maps.specs.Beside.{held_by, refusals_by}
 
 -- what a put counts: labels that were left and are left, and commands of the domain that were refused and are.

@@ -8,3 +8,7 @@ pub mod Settles
 pub mod Crowds
 pub mod Cleans
 pub mod Guards
+pub mod Lists
+pub mod Sweeps
+pub mod Shared
+pub mod Sections

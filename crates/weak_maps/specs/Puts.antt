@@ -1,23 +1,23 @@
 -- What a put needs and makes: where leaves stand, what a field binds at most, and a leaf in the making.
 use Rattle.std.specs.Prelude.{◌≡◌, ◌≢◌, ◌⊎◌, ◌<◌, ℕ, zero, suc, ◌+◌, ◌/◌, Bool, true, false, cond, List, [], ◌∷◌, ◌++◌, length, Option, Some, None, pos}
-use Rattle.heap_model.specs.declared.label.Label.{Label}
-use Rattle.heap_model.specs.declared.entry.Entry.{Entry}
-use Rattle.heap_model.specs.declared.graph.Value.{Value}
-use Rattle.heap_model.specs.declared.graph.Value.TheVariants.{Int, Block, Nothing}
-use Rattle.heap_model.specs.declared.graph.Node.{Node}
-use Rattle.heap_model.specs.declared.graph.Node.TheVariants.{Ephe}
-use Rattle.heap_model.specs.declared.reply.Reply.{Reply}
-use Rattle.heap_model.specs.declared.reply.Reply.TheVariants as reply
-use Rattle.heap_model.specs.declared.state.Sizes.{Sizes}
-use Rattle.heap_model.specs.Graph.{Graph, node_at, same_label}
-use Rattle.heap_model.specs.History.{IsPrefix}
-use Rattle.table_laws.specs.Thinning.{state_of}
-use Rattle.table_laws.specs.Stages.{graph_of}
-use Rattle.map_laws.specs.Tries.{at, inside, bound_by, is_leaf, node_width, root_width, way_to, IsMap}
-use Rattle.map_laws.specs.Steps.{OthersLeave, OthersRespect}
-use Rattle.map_laws.specs.Calls.{ChangesOne, Looks}
-use Rattle.map_laws.specs.Private.{IsPrivate}
-use Rattle.map_laws.specs.Within.{IsMadeBehind, OwnWithin}
+use Rattle.model_core.specs.declared.label.Label.{Label}
+use Rattle.model_core.specs.declared.entry.Entry.{Entry}
+use Rattle.model_core.specs.declared.graph.Value.{Value}
+use Rattle.model_core.specs.declared.graph.Value.TheVariants.{Int, Block, Nothing}
+use Rattle.model_core.specs.declared.graph.Node.{Node}
+use Rattle.model_core.specs.declared.graph.Node.TheVariants.{Ephe}
+use Rattle.model_core.specs.declared.reply.Reply.{Reply}
+use Rattle.model_core.specs.declared.reply.Reply.TheVariants as reply
+use Rattle.model_core.specs.declared.state.Sizes.{Sizes}
+use Rattle.model_core.specs.Graph.{Graph, node_at, same_label}
+use Rattle.model_core.specs.History.{IsPrefix}
+use Rattle.weak_laws.specs.Tables.Thinning.{state_of}
+use Rattle.weak_laws.specs.Tables.Stages.{graph_of}
+use Rattle.weak_laws.specs.Maps.Tries.{at, inside, bound_by, is_leaf, node_width, root_width, way_to, IsMap}
+use Rattle.weak_laws.specs.Maps.Steps.{OthersLeave, OthersRespect}
+use Rattle.weak_laws.specs.Maps.Calls.{ChangesOne, Looks}
+use Rattle.weak_laws.specs.Maps.Private.{IsPrivate}
+use Rattle.weak_laws.specs.Maps.Within.{IsMadeBehind, OwnWithin}
 use Rattle.weak_maps.specs.Beside.{held_by}
 use Rattle.weak_maps.specs.Walks.{Looking}
 use Rattle.weak_maps.specs.Fields.{AtField, IsBeside, KeepsWalked, Stays}

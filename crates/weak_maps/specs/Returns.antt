@@ -1,20 +1,20 @@
 -- What the calls answer and leave.
 use Rattle.std.specs.Prelude.{◌≡◌, ◌≢◌, ◌⊎◌, ◌≤◌, ℕ, List, [], ◌∷◌, ◌++◌, None}
-use Rattle.heap_model.specs.declared.label.Label.{Label}
-use Rattle.heap_model.specs.declared.entry.Entry.{Entry}
-use Rattle.heap_model.specs.declared.graph.Value.{Value}
-use Rattle.heap_model.specs.declared.graph.Value.TheVariants.{Block, Int, Nothing}
-use Rattle.heap_model.specs.declared.reply.Reply.{Reply}
-use Rattle.heap_model.specs.declared.reply.Reply.TheVariants as reply
-use Rattle.heap_model.specs.declared.state.Sizes.{Sizes}
-use Rattle.heap_model.specs.Graph.{node_at}
-use Rattle.heap_model.specs.Commands.{new_plain, shown}
-use Rattle.heap_model.specs.History.{IsPrefix}
-use Rattle.table_laws.specs.Stages.{graph_of}
-use Rattle.map_laws.specs.Tries.{IsMap, root_width, IsInPlace}
-use Rattle.map_laws.specs.Calls.{GetAnswers, PutAnswers, TakeAnswers, bound_after}
-use Rattle.map_laws.specs.Steps.{OthersRespect}
-use Rattle.map_laws.specs.Within.{OwnWithin}
+use Rattle.model_core.specs.declared.label.Label.{Label}
+use Rattle.model_core.specs.declared.entry.Entry.{Entry}
+use Rattle.model_core.specs.declared.graph.Value.{Value}
+use Rattle.model_core.specs.declared.graph.Value.TheVariants.{Block, Int, Nothing}
+use Rattle.model_core.specs.declared.reply.Reply.{Reply}
+use Rattle.model_core.specs.declared.reply.Reply.TheVariants as reply
+use Rattle.model_core.specs.declared.state.Sizes.{Sizes}
+use Rattle.model_core.specs.Graph.{node_at}
+use Rattle.model_core.specs.Commands.{new_plain, shown}
+use Rattle.model_core.specs.History.{IsPrefix}
+use Rattle.weak_laws.specs.Tables.Stages.{graph_of}
+use Rattle.weak_laws.specs.Maps.Tries.{IsMap, root_width, IsInPlace}
+use Rattle.weak_laws.specs.Maps.Calls.{GetAnswers, PutAnswers, TakeAnswers, bound_after}
+use Rattle.weak_laws.specs.Maps.Steps.{OthersRespect}
+use Rattle.weak_laws.specs.Maps.Within.{OwnWithin}
 use Rattle.weak_maps.specs.Beside.{held_by}
 use Rattle.weak_maps.specs.Fields.{IsBeside}
 use Rattle.weak_maps.specs.Walks.{OwnQuiet}

@@ -1,15 +1,15 @@
 -- What one try of a put leads to.
 use Rattle.std.specs.Prelude.{◌≡◌, ◌<◌, ◌⊎◌, ℕ, ◌+◌, ◌≤◌, List, ◌++◌, length, Option, Some}
-use Rattle.heap_model.specs.declared.label.Label.{Label}
-use Rattle.heap_model.specs.declared.entry.Entry.{Entry}
-use Rattle.heap_model.specs.declared.graph.Value.{Value}
-use Rattle.heap_model.specs.declared.graph.Value.TheVariants.{Block}
-use Rattle.heap_model.specs.declared.reply.Reply.TheVariants as reply
-use Rattle.heap_model.specs.declared.state.Sizes.{Sizes}
-use Rattle.table_laws.specs.Stages.{graph_of}
-use Rattle.map_laws.specs.Tries.{way_to, IsMap, IsInPlace}
-use Rattle.map_laws.specs.Steps.{OthersLeave, OthersRespect}
-use Rattle.map_laws.specs.Calls.{PutsOrFull}
+use Rattle.model_core.specs.declared.label.Label.{Label}
+use Rattle.model_core.specs.declared.entry.Entry.{Entry}
+use Rattle.model_core.specs.declared.graph.Value.{Value}
+use Rattle.model_core.specs.declared.graph.Value.TheVariants.{Block}
+use Rattle.model_core.specs.declared.reply.Reply.TheVariants as reply
+use Rattle.model_core.specs.declared.state.Sizes.{Sizes}
+use Rattle.weak_laws.specs.Tables.Stages.{graph_of}
+use Rattle.weak_laws.specs.Maps.Tries.{way_to, IsMap, IsInPlace}
+use Rattle.weak_laws.specs.Maps.Steps.{OthersLeave, OthersRespect}
+use Rattle.weak_laws.specs.Maps.Calls.{PutsOrFull}
 use Rattle.weak_maps.specs.declared.putting.Try.{Try}
 use Rattle.weak_maps.specs.declared.putting.Try.TheVariants.{Over, Again}
 use Rattle.weak_maps.specs.Beside.{held_by, refusals_by}

@@ -1,15 +1,15 @@
 //! Maps that are cleaned.
 ghost use Rattle.std.specs.Prelude.{◌≡◌, ◌-◌, ◌<◌, ◌≤◌};
-ghost use Rattle.heap_model.specs.declared.command.Command.TheVariants as command;
-ghost use Rattle.heap_model.specs.History.{IsPrefix};
-ghost use Rattle.map_laws.specs.Calls.{PerformedBy};
+ghost use Rattle.model_core.specs.declared.command.Command.TheVariants as command;
+ghost use Rattle.model_core.specs.History.{IsPrefix};
+ghost use Rattle.weak_laws.specs.Maps.Calls.{PerformedBy};
 ghost use Rattle.weak_maps.specs.Beside.{refusals_by, writings_by};
 ghost use Rattle.weak_maps.specs.Cleans.{CleansAt, CleansBlock, CleansField, EmptiesField, ForgetsHigh, width_of};
 
 use crate::machine::{Machine, perform};
 use crate::replies::{is_block, is_empty, is_other_kind};
-use heap_model::command::Command;
-use heap_model::reply::Reply;
+use model_core::command::Command;
+use model_core::reply::Reply;
 use std::sync::Wait;
 
 // How many fields a block has below which there may be so many blocks in a row.

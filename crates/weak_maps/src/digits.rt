@@ -1,9 +1,9 @@
 //! The way to a key: the digits of its number.
 ghost use Rattle.std.specs.Prelude.{◌≡◌, ◌≤◌, ◌<◌, ◌%◌, ◌^◌};
 ghost use Rattle.weak_maps.specs.Puts.{rest_of};
-ghost use Rattle.map_laws.specs.Tries.{node_width, number_of as number_in, root_width};
+ghost use Rattle.weak_laws.specs.Maps.Tries.{node_width, number_of as number_in, root_width};
 
-use heap_model::label::Label;
+use model_core::label::Label;
 
 // The number of a label in a heap of so many domains.
 pub(crate) fn number_of(domains: u32, key: &Label) -> u64

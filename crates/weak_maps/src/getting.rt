@@ -1,9 +1,9 @@
 //! What a key is bound to.
 ghost use Rattle.std.specs.Prelude.{◌≡◌, ◌+◌, ◌<◌, ◌≤◌};
-ghost use Rattle.heap_model.specs.declared.graph.Value.TheVariants.{Block};
-ghost use Rattle.heap_model.specs.declared.reply.Reply.TheVariants as variant;
-ghost use Rattle.heap_model.specs.History.{IsPrefix};
-ghost use Rattle.table_laws.specs.Performing.{is_spared};
+ghost use Rattle.model_core.specs.declared.graph.Value.TheVariants.{Block};
+ghost use Rattle.model_core.specs.declared.reply.Reply.TheVariants as variant;
+ghost use Rattle.model_core.specs.History.{IsPrefix};
+ghost use Rattle.weak_laws.specs.Tables.Performing.{is_spared};
 ghost use Rattle.weak_maps.specs.Beside.{WritesAtMost, refusals_by, writings_by};
 ghost use Rattle.weak_maps.specs.Walks.{Descended, Emptied, OwnQuiet};
 ghost use Rattle.weak_maps.specs.Returns.{FollowsAt, GetsAt};
@@ -11,9 +11,9 @@ ghost use Rattle.weak_maps.specs.Returns.{FollowsAt, GetsAt};
 use crate::digits::{node_index, number_of, root_index};
 use crate::machine::{Machine, perform};
 use crate::replies::{is_block, is_other_kind, is_this};
-use heap_model::command::Command;
-use heap_model::label::Label;
-use heap_model::reply::Reply;
+use model_core::command::Command;
+use model_core::label::Label;
+use model_core::reply::Reply;
 use std::sync::Wait;
 
 // Follows the way to a key, which a register holds, to its end. Tells whether a leaf was met there: register 8 holds it.

@@ -4,8 +4,12 @@
 pub mod cleaning;
 mod digits;
 pub mod getting;
+pub mod lists;
 pub mod machine;
 pub mod making;
 pub mod putting;
 pub mod replies;
+pub mod sections;
+pub mod shared;
+pub mod sweeps;
 pub mod taking;

@@ -1,20 +1,20 @@
 //! What the calls need of a domain.
 ghost use Rattle.std.specs.Prelude.{◌≡◌, ◌+◌, ◌<◌, ◌≤◌, ℕ, List, []};
-ghost use Rattle.heap_model.specs.declared.entry.Entry.{Entry};
-ghost use Rattle.heap_model.specs.declared.state.Sizes.{Sizes};
-ghost use Rattle.heap_model.specs.Domains.{IsWithinLimits, domain_at, opening};
-ghost use Rattle.heap_model.specs.History.{IsPrefix, Legal};
-ghost use Rattle.heap_model.specs.Commands.{shown};
-ghost use Rattle.heap_model.specs.Registrations.{all_registered};
-ghost use Rattle.table_laws.specs.Thinning.{state_of};
-ghost use Rattle.table_laws.specs.Performing.{full_of, writes};
-ghost use Rattle.command_counts.specs.Counts.{labels_of, labels_given, ephemerons_of, ephemerons_given};
+ghost use Rattle.model_core.specs.declared.entry.Entry.{Entry};
+ghost use Rattle.model_core.specs.declared.state.Sizes.{Sizes};
+ghost use Rattle.model_core.specs.Domains.{IsWithinLimits, domain_at, opening};
+ghost use Rattle.model_core.specs.History.{IsPrefix, Legal};
+ghost use Rattle.model_core.specs.Commands.{shown};
+ghost use Rattle.model_core.specs.Registrations.{all_registered};
+ghost use Rattle.weak_laws.specs.Tables.Thinning.{state_of};
+ghost use Rattle.weak_laws.specs.Tables.Performing.{full_of, writes};
+ghost use Rattle.model_core.specs.Counts.Counts.{labels_of, labels_given, ephemerons_of, ephemerons_given};
 ghost use Rattle.weak_maps.specs.Commands.{IsMapCommand};
-ghost use Rattle.map_laws.specs.Calls.{PerformedBy};
+ghost use Rattle.weak_laws.specs.Maps.Calls.{PerformedBy};
 ghost use Rattle.weak_maps.specs.Beside.{Refuses, Writes, held_by};
 
-use heap_model::command::Command;
-use heap_model::reply::Reply;
+use model_core::command::Command;
+use model_core::reply::Reply;
 use std::sync::Wait;
 
 /// A domain of a heap, whose commands are handed in one by one. Between two of them there may be commands of other domains.

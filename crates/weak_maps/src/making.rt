@@ -1,13 +1,13 @@
 //! Maps that are made.
 ghost use Rattle.std.specs.Prelude.{◌≡◌, ◌+◌, ◌<◌, ◌≤◌};
-ghost use Rattle.heap_model.specs.History.{IsPrefix};
-ghost use Rattle.table_laws.specs.Performing.{full_of, is_spared};
+ghost use Rattle.model_core.specs.History.{IsPrefix};
+ghost use Rattle.weak_laws.specs.Tables.Performing.{full_of, is_spared};
 ghost use Rattle.weak_maps.specs.Beside.{Refuses, Writes};
 ghost use Rattle.weak_maps.specs.Returns.{MakeReturns};
 
 use crate::machine::{Machine, perform};
-use heap_model::command::Command;
-use heap_model::reply::Reply;
+use model_core::command::Command;
+use model_core::reply::Reply;
 use std::sync::Wait;
 
 /// Makes a map, into a register below 8. It binds nothing. Answers its block, or `full` where the allocation was refused:

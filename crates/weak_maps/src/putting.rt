@@ -1,11 +1,11 @@
 //! Bindings that are put.
 ghost use Rattle.std.specs.Prelude.{◌≡◌, ◌+◌, ◌<◌, ◌≤◌, cond};
-ghost use Rattle.heap_model.specs.declared.graph.Value.TheVariants.{Block};
-ghost use Rattle.heap_model.specs.declared.command.Command.TheVariants as command;
-ghost use Rattle.heap_model.specs.declared.reply.Reply as replies;
-ghost use Rattle.heap_model.specs.History.{IsPrefix};
-ghost use Rattle.map_laws.specs.Calls.{PerformedBy};
-ghost use Rattle.map_laws.specs.Tries.{node_width};
+ghost use Rattle.model_core.specs.declared.graph.Value.TheVariants.{Block};
+ghost use Rattle.model_core.specs.declared.command.Command.TheVariants as command;
+ghost use Rattle.model_core.specs.declared.reply.Reply as replies;
+ghost use Rattle.model_core.specs.History.{IsPrefix};
+ghost use Rattle.weak_laws.specs.Maps.Calls.{PerformedBy};
+ghost use Rattle.weak_laws.specs.Maps.Tries.{node_width};
 ghost use Rattle.weak_maps.specs.Beside.{refusals_by, writings_by};
 ghost use Rattle.weak_maps.specs.Puts.{MakesLeaf, MakesRoom, Publishes};
 ghost use Rattle.weak_maps.specs.Crowds.{CrowdedAt, PutSpends, RefusedAlone};
@@ -17,9 +17,9 @@ use crate::digits::{node_index, number_of, rest_below, serial_of};
 use crate::machine::{Machine, perform};
 use crate::replies::{is_empty, is_full, is_yes};
 use crate::taking::{Search, clear, exchange, find, from_root, read_again};
-use heap_model::command::Command;
-use heap_model::label::Label;
-use heap_model::reply::Reply;
+use model_core::command::Command;
+use model_core::label::Label;
+use model_core::reply::Reply;
 use std::sync::Wait;
 
 /// What a try of a put led to.

@@ -1,10 +1,10 @@
 //! Bindings that are taken out.
 ghost use Rattle.std.specs.Prelude.{◌≡◌, ◌<◌, ◌≤◌, ◌/◌, ◌%◌};
-ghost use Rattle.heap_model.specs.declared.command.Command.TheVariants as command;
-ghost use Rattle.heap_model.specs.declared.graph.Value.TheVariants.{Block};
-ghost use Rattle.heap_model.specs.History.{IsPrefix};
-ghost use Rattle.map_laws.specs.Calls.{PerformedBy};
-ghost use Rattle.map_laws.specs.Tries.{root_width};
+ghost use Rattle.model_core.specs.declared.command.Command.TheVariants as command;
+ghost use Rattle.model_core.specs.declared.graph.Value.TheVariants.{Block};
+ghost use Rattle.model_core.specs.History.{IsPrefix};
+ghost use Rattle.weak_laws.specs.Maps.Calls.{PerformedBy};
+ghost use Rattle.weak_laws.specs.Maps.Tries.{root_width};
 ghost use Rattle.weak_maps.specs.Beside.{refusals_by, writings_by};
 ghost use Rattle.weak_maps.specs.Fields.{Cleared, Finds};
 ghost use Rattle.weak_maps.specs.Guards.{TakeGuards};
@@ -15,9 +15,9 @@ ghost use Rattle.weak_maps.specs.Walks.{OwnQuiet};
 use crate::digits::{node_index, number_of, root_index};
 use crate::machine::{Machine, perform};
 use crate::replies::{is_block, is_other_kind, is_this, is_yes, other_than};
-use heap_model::command::Command;
-use heap_model::label::Label;
-use heap_model::reply::Reply;
+use model_core::command::Command;
+use model_core::label::Label;
+use model_core::reply::Reply;
 use std::sync::Wait;
 
 /// Where a search of a key's field has come to.

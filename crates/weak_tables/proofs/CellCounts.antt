@@ -1,19 +1,19 @@
 -- A bucket has fewer cells than labels were given out: each cell has two blocks.
 use Rattle.std.proofs.Common.{◌≡◌, ℕ, zero, suc, ◌+◌, ◌≤◌, Bool, false, cond, IsTrue, Some, subst, ⊎_elim, List, [], ◌∷◌, ◌++◌, length, get_or, flat_map, ap, ◌∙◌, arith, length-append}
 use Rattle.std.proofs.lemmas.List.{length-map}
-use Rattle.heap_model.specs.declared.label.Label.{Label}
-use Rattle.heap_model.specs.declared.entry.Entry.{Entry}
-use Rattle.heap_model.specs.declared.state.Sizes.{Sizes}
-use Rattle.heap_model.specs.Domains.{domain_at}
-use Rattle.heap_model.specs.declared.graph.Node.{Node}
-use Rattle.heap_model.specs.Graph.{Graph, has_label, labels, node_at, same_label}
-use Rattle.heap_model.specs.History.{Legal}
-use Rattle.heap_model.proofs.Reach.LabelListLemmas.{length_within}
-use Rattle.heap_model.proofs.Reach.ReachLemmas.{or_left, or_right, true_or_false}
-use Rattle.table_laws.specs.Structures.{Cell, IsTable, cell_labels, table_labels}
-use Rattle.table_laws.specs.Thinning.{state_of}
-use Rattle.table_laws.proofs.GrowLemmas.{table_there}
-use Rattle.table_laws.proofs.SizeLemmas.{blocks_counted}
+use Rattle.model_core.specs.declared.label.Label.{Label}
+use Rattle.model_core.specs.declared.entry.Entry.{Entry}
+use Rattle.model_core.specs.declared.state.Sizes.{Sizes}
+use Rattle.model_core.specs.Domains.{domain_at}
+use Rattle.model_core.specs.declared.graph.Node.{Node}
+use Rattle.model_core.specs.Graph.{Graph, has_label, labels, node_at, same_label}
+use Rattle.model_core.specs.History.{Legal}
+use Rattle.model_core.proofs.Reach.LabelListLemmas.{length_within}
+use Rattle.model_core.proofs.Reach.ReachLemmas.{or_left, or_right, true_or_false}
+use Rattle.weak_laws.specs.Tables.Structures.{Cell, IsTable, cell_labels, table_labels}
+use Rattle.weak_laws.specs.Tables.Thinning.{state_of}
+use Rattle.weak_laws.proofs.OfTables.GrowLemmas.{table_there}
+use Rattle.weak_laws.proofs.OfTables.SizeLemmas.{blocks_counted}
 
 label_there : (g : Graph) (l : Label) (n : Node) → node_at g l ≡ Some n → IsTrue (has_label (labels g) l)
 label_there [] l n at = cc

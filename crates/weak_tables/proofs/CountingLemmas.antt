@@ -1,28 +1,28 @@
 -- What `table_count` leaves, command by command.
 use Rattle.std.proofs.Common.{◌≡◌, ℕ, zero, suc, ◌+◌, ◌<◌, ◌≤◌, true, false, IsTrue, List, [], ◌∷◌, ◌++◌, length, get_or, set, take, Option, Some, None, refl, ap, sym, ◌∙◌, subst, arith, append-nil, append_assoc, length-append, get_or-set_same, get_or-set_other}
 use Rattle.std.proofs.lemmas.Grind.{flat_map-append}
-use Rattle.heap_model.specs.declared.label.Label.{Label}
-use Rattle.heap_model.specs.declared.command.Command.TheVariants.{Load, CheckKey}
-use Rattle.heap_model.specs.declared.entry.Entry.{Entry}
-use Rattle.heap_model.specs.declared.reply.Reply.{Reply}
-use Rattle.heap_model.specs.declared.reply.Reply.TheVariants as reply
-use Rattle.heap_model.specs.declared.graph.Value.{Value}
-use Rattle.heap_model.specs.declared.graph.Value.TheVariants.{Block, Nothing}
-use Rattle.heap_model.specs.declared.graph.Node.TheVariants.{Ephe}
-use Rattle.heap_model.specs.declared.state.Sizes.{Sizes}
-use Rattle.heap_model.specs.Graph.{Graph, node_at}
-use Rattle.heap_model.specs.Domains.{IsWithinLimits}
-use Rattle.heap_model.specs.History.{Legal}
-use Rattle.table_laws.specs.Structures.{Binding, Cell, bucket_count, is_weak, bound, binding_of, chain_bindings, bindings, head_of, IsCell, Links, IsTable}
-use Rattle.table_laws.specs.Thinning.{ThinnedBy, WasOutside, Went}
-use Rattle.table_laws.specs.Performing.{Performed, After, registers_of}
-use Rattle.table_laws.specs.Stages.{Goes, Walking, Declines, graph_of, held_in}
-use Rattle.table_laws.proofs.ChangeLemmas.{weak_kept, chain_thinned}
-use Rattle.table_laws.proofs.CellLemmas.{links_behind}
-use Rattle.table_laws.proofs.CountLemmas.{declines_both, declines_equal}
-use Rattle.table_laws.proofs.OutcomeLemmas.{full_reply}
-use Rattle.table_laws.proofs.StageLemmas.{goes_from, goes_reading, search_begins}
-use Rattle.table_laws.proofs.WalkLemmas.{thinned_length, reading_declines, walk_kept, walk_ephe, walk_next, walk_check, walk_passes}
+use Rattle.model_core.specs.declared.label.Label.{Label}
+use Rattle.model_core.specs.declared.command.Command.TheVariants.{Load, CheckKey}
+use Rattle.model_core.specs.declared.entry.Entry.{Entry}
+use Rattle.model_core.specs.declared.reply.Reply.{Reply}
+use Rattle.model_core.specs.declared.reply.Reply.TheVariants as reply
+use Rattle.model_core.specs.declared.graph.Value.{Value}
+use Rattle.model_core.specs.declared.graph.Value.TheVariants.{Block, Nothing}
+use Rattle.model_core.specs.declared.graph.Node.TheVariants.{Ephe}
+use Rattle.model_core.specs.declared.state.Sizes.{Sizes}
+use Rattle.model_core.specs.Graph.{Graph, node_at}
+use Rattle.model_core.specs.Domains.{IsWithinLimits}
+use Rattle.model_core.specs.History.{Legal}
+use Rattle.weak_laws.specs.Tables.Structures.{Binding, Cell, bucket_count, is_weak, bound, binding_of, chain_bindings, bindings, head_of, IsCell, Links, IsTable}
+use Rattle.weak_laws.specs.Tables.Thinning.{ThinnedBy, WasOutside, Went}
+use Rattle.weak_laws.specs.Tables.Performing.{Performed, After, registers_of}
+use Rattle.weak_laws.specs.Tables.Stages.{Goes, Walking, Declines, graph_of, held_in}
+use Rattle.weak_laws.proofs.OfTables.ChangeLemmas.{weak_kept, chain_thinned}
+use Rattle.weak_laws.proofs.OfTables.CellLemmas.{links_behind}
+use Rattle.weak_laws.proofs.OfTables.CountLemmas.{declines_both, declines_equal}
+use Rattle.weak_laws.proofs.OfTables.OutcomeLemmas.{full_reply}
+use Rattle.weak_laws.proofs.OfTables.StageLemmas.{goes_from, goes_reading, search_begins}
+use Rattle.weak_laws.proofs.OfTables.WalkLemmas.{thinned_length, reading_declines, walk_kept, walk_ephe, walk_next, walk_check, walk_passes}
 use Rattle.weak_tables.specs.Commands.{IsBlock, one_of}
 use Rattle.weak_tables.specs.Held.{KeepsOthers, HoldsTable, Reads, Cleared}
 use Rattle.weak_tables.specs.Walks.{Counting, Counted, CountedTo}

@@ -1,21 +1,21 @@
 -- What calls do to a table, one after another: a binding stays while none of them puts or takes its key, and is found.
 use Rattle.std.proofs.Common.{◌≡◌, ◌≢◌, ◌⊎◌, inl, inr, List, [], ◌∷◌, Option, Some, None, refl, ap, sym, ◌∙◌, subst, append-nil}
-use Rattle.heap_model.specs.declared.label.Label.{Label}
-use Rattle.heap_model.specs.declared.entry.Entry.{Entry}
-use Rattle.heap_model.specs.declared.graph.Value.{Value}
-use Rattle.heap_model.specs.declared.graph.Value.TheVariants.{Int, Block, Nothing}
-use Rattle.heap_model.specs.declared.reply.Reply.{Reply}
-use Rattle.heap_model.specs.declared.reply.Reply.TheVariants as reply
-use Rattle.heap_model.specs.declared.state.Sizes.{Sizes}
-use Rattle.heap_model.specs.Commands.{shown}
-use Rattle.heap_model.specs.History.{IsPrefix}
-use Rattle.table_laws.specs.Structures.{Cell, bindings, datum_at, table_labels, IsTable, Apart}
-use Rattle.table_laws.specs.Thinning.{WasOutside}
-use Rattle.table_laws.specs.Stages.{Goes, graph_of}
-use Rattle.table_laws.proofs.BindingLemmas.{thinned_datum}
-use Rattle.table_laws.proofs.ChangeLemmas.{table_kept, bindings_thinned}
-use Rattle.table_laws.proofs.StageLemmas.{prefix_trans, later_outside, since_outside}
-use Rattle.table_laws.proofs.UniqueLemmas.{layout_law}
+use Rattle.model_core.specs.declared.label.Label.{Label}
+use Rattle.model_core.specs.declared.entry.Entry.{Entry}
+use Rattle.model_core.specs.declared.graph.Value.{Value}
+use Rattle.model_core.specs.declared.graph.Value.TheVariants.{Int, Block, Nothing}
+use Rattle.model_core.specs.declared.reply.Reply.{Reply}
+use Rattle.model_core.specs.declared.reply.Reply.TheVariants as reply
+use Rattle.model_core.specs.declared.state.Sizes.{Sizes}
+use Rattle.model_core.specs.Commands.{shown}
+use Rattle.model_core.specs.History.{IsPrefix}
+use Rattle.weak_laws.specs.Tables.Structures.{Cell, bindings, datum_at, table_labels, IsTable, Apart}
+use Rattle.weak_laws.specs.Tables.Thinning.{WasOutside}
+use Rattle.weak_laws.specs.Tables.Stages.{Goes, graph_of}
+use Rattle.weak_laws.proofs.OfTables.BindingLemmas.{thinned_datum}
+use Rattle.weak_laws.proofs.OfTables.ChangeLemmas.{table_kept, bindings_thinned}
+use Rattle.weak_laws.proofs.OfTables.StageLemmas.{prefix_trans, later_outside, since_outside}
+use Rattle.weak_laws.proofs.OfTables.UniqueLemmas.{layout_law}
 use Rattle.weak_tables.proofs.RefusedBodies.{other_stays, no_neighbour_is_unlinked}
 use Rattle.weak_tables.specs.Commands.{value_of}
 use Rattle.weak_tables.specs.Held.{IsClean}

@@ -1,27 +1,27 @@
 -- What `table_make` and `weak_make` leave.
 use Rattle.std.proofs.Common.{◌≡◌, ◌⊎◌, inl, inr, ⊎_elim, ℕ, suc, ◌+◌, ◌<◌, true, false, IsTrue, List, [], ◌∷◌, ◌++◌, get_or, set, replicate, Option, Some, None, refl, ap, sym, ◌∙◌, subst, arith, length-append}
-use Rattle.heap_model.specs.declared.label.Label.{Label}
-use Rattle.heap_model.specs.declared.command.Command.TheVariants.{Alloc, Copy, Store, Ephe}
-use Rattle.heap_model.specs.declared.entry.Entry.{Entry}
-use Rattle.heap_model.specs.declared.reply.Reply.{Reply}
-use Rattle.heap_model.specs.declared.graph.Value.{Value}
-use Rattle.heap_model.specs.declared.graph.Value.TheVariants.{Block, Nothing}
-use Rattle.heap_model.specs.declared.graph.Node.{Node}
-use Rattle.heap_model.specs.declared.graph.Node.TheVariants.{Ephe as EpheNode}
-use Rattle.heap_model.specs.declared.state.Sizes.{Sizes}
-use Rattle.heap_model.specs.Domains.{IsWithinLimits}
-use Rattle.heap_model.specs.History.{Legal}
-use Rattle.heap_model.specs.declared.reply.Reply.TheVariants as reply
-use Rattle.heap_model.specs.Graph.{same_label, has_label, node_at}
-use Rattle.heap_model.proofs.Graphs.GraphLemmas.{same_label-true}
-use Rattle.heap_model.proofs.Reach.ReachLemmas.{or_cases, or_left}
-use Rattle.table_laws.specs.Performing.{Performed, After, registers_of}
-use Rattle.table_laws.specs.Stages.{Goes, Filling, graph_of}
-use Rattle.table_laws.proofs.OnceLemmas.{lacks}
-use Rattle.table_laws.proofs.ArrayMakeLemmas.{filling_begun, filling_kept, filling_stored, filling_ended}
-use Rattle.table_laws.proofs.MakeLemmas.{table_empty}
-use Rattle.table_laws.proofs.StepLemmas.{alloc_step, copy_step, ephe_step}
-use Rattle.table_laws.proofs.StageLemmas.{goes_from, goes_on, goes_reading}
+use Rattle.model_core.specs.declared.label.Label.{Label}
+use Rattle.model_core.specs.declared.command.Command.TheVariants.{Alloc, Copy, Store, Ephe}
+use Rattle.model_core.specs.declared.entry.Entry.{Entry}
+use Rattle.model_core.specs.declared.reply.Reply.{Reply}
+use Rattle.model_core.specs.declared.graph.Value.{Value}
+use Rattle.model_core.specs.declared.graph.Value.TheVariants.{Block, Nothing}
+use Rattle.model_core.specs.declared.graph.Node.{Node}
+use Rattle.model_core.specs.declared.graph.Node.TheVariants.{Ephe as EpheNode}
+use Rattle.model_core.specs.declared.state.Sizes.{Sizes}
+use Rattle.model_core.specs.Domains.{IsWithinLimits}
+use Rattle.model_core.specs.History.{Legal}
+use Rattle.model_core.specs.declared.reply.Reply.TheVariants as reply
+use Rattle.model_core.specs.Graph.{same_label, has_label, node_at}
+use Rattle.model_core.proofs.Graphs.GraphLemmas.{same_label-true}
+use Rattle.model_core.proofs.Reach.ReachLemmas.{or_cases, or_left}
+use Rattle.weak_laws.specs.Tables.Performing.{Performed, After, registers_of}
+use Rattle.weak_laws.specs.Tables.Stages.{Goes, Filling, graph_of}
+use Rattle.weak_laws.proofs.OfTables.OnceLemmas.{lacks}
+use Rattle.weak_laws.proofs.OfTables.ArrayMakeLemmas.{filling_begun, filling_kept, filling_stored, filling_ended}
+use Rattle.weak_laws.proofs.OfTables.MakeLemmas.{table_empty}
+use Rattle.weak_laws.proofs.OfTables.StepLemmas.{alloc_step, copy_step, ephe_step}
+use Rattle.weak_laws.proofs.OfTables.StageLemmas.{goes_from, goes_on, goes_reading}
 use Rattle.weak_tables.specs.Tables.{MakeAnswers}
 use Rattle.weak_tables.specs.Held.{KeepsOthers, Cleared}
 use Rattle.weak_tables.specs.Walks.{Filled}

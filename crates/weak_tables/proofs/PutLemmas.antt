@@ -1,40 +1,40 @@
 -- What `table_put` and `table_get` leave.
 use Rattle.std.specs.Prelude.{not, ◌↔◌}
 use Rattle.std.proofs.Common.{◌≡◌, ◌≢◌, ◌⊎◌, inl, inr, ⊎_elim, ℕ, ◌+◌, ◌<◌, ◌%◌, Bool, true, false, IsTrue, List, [], ◌∷◌, ◌++◌, length, get_or, set, flat_map, Option, Some, None, refl, ap, sym, ◌∙◌, subst, arith, pos, append_assoc, get_or-set_same}
-use Rattle.heap_model.specs.declared.label.Label.{Label}
-use Rattle.heap_model.specs.declared.command.Command.TheVariants.{Forget, Alloc, Load, Store, Ephe as NewEphe, SetKey, SetData, GetData}
-use Rattle.heap_model.specs.declared.entry.Entry.{Entry}
-use Rattle.heap_model.specs.declared.reply.Reply.{Reply}
-use Rattle.heap_model.specs.declared.reply.Reply.TheVariants as reply
-use Rattle.heap_model.specs.declared.graph.Value.{Value}
-use Rattle.heap_model.specs.declared.graph.Value.TheVariants.{Int, Block, Nothing}
-use Rattle.heap_model.specs.declared.graph.Node.{Node}
-use Rattle.heap_model.specs.declared.graph.Node.TheVariants.{Plain, Ephe}
-use Rattle.heap_model.specs.declared.state.State.{State}
-use Rattle.heap_model.specs.declared.state.Sizes.{Sizes}
-use Rattle.heap_model.specs.Graph.{Graph, same_label, has_label, label_of, node_at}
-use Rattle.heap_model.specs.Domains.{IsWithinLimits, opening}
-use Rattle.heap_model.specs.Entries.{next}
-use Rattle.heap_model.proofs.Commands.FrameLemmas.{grew_next}
-use Rattle.heap_model.proofs.Histories.HistoryLemmas.{state_after-append}
-use Rattle.heap_model.specs.Commands.{shown, is_full_value}
-use Rattle.heap_model.specs.History.{IsPrefix, Legal, state_after}
-use Rattle.heap_model.proofs.Graphs.GraphLemmas.{same_label-true, same_label_refl}
-use Rattle.heap_model.proofs.Reach.ReachLemmas.{never_true, or_cases, or_left, or_right, true_or_false}
-use Rattle.table_laws.specs.Structures.{Binding, Cell, bucket_count, binding_of, chain_bindings, bindings, datum_at, without, head_of, is_bucket_full, cell_labels, table_labels, is_bucket, IsTable}
-use Rattle.table_laws.specs.Thinning.{ThinnedBy, WasOutside, Went}
-use Rattle.table_laws.specs.Performing.{Performed, After, registers_of}
-use Rattle.table_laws.specs.Stages.{Goes, Holding, Linking, graph_of, held_in}
-use Rattle.table_laws.proofs.BindingLemmas.{thinned_more, thinned_twice, thinned_without}
-use Rattle.table_laws.proofs.LookupLemmas.{datum_of_bucket}
-use Rattle.table_laws.proofs.OnceLemmas.{chain_label, more_labels}
-use Rattle.table_laws.proofs.ChangeLemmas.{not_first, changes_on, changes_more}
-use Rattle.table_laws.proofs.CellLemmas.{in_chain}
-use Rattle.table_laws.proofs.LinkLemmas.{empty_stays}
-use Rattle.table_laws.proofs.StepLemmas.{forget_step, get_data_step}
-use Rattle.table_laws.proofs.StageLemmas.{goes_from, goes_on, goes_reading, thinned_on}
-use Rattle.table_laws.proofs.FillLemmas.{whole, fill_data, fill_key, holding_datum}
-use Rattle.table_laws.proofs.GrowLemmas.{grow_ephe, grow_node, link_ephe, link_head, link_next, link_cell}
+use Rattle.model_core.specs.declared.label.Label.{Label}
+use Rattle.model_core.specs.declared.command.Command.TheVariants.{Forget, Alloc, Load, Store, Ephe as NewEphe, SetKey, SetData, GetData}
+use Rattle.model_core.specs.declared.entry.Entry.{Entry}
+use Rattle.model_core.specs.declared.reply.Reply.{Reply}
+use Rattle.model_core.specs.declared.reply.Reply.TheVariants as reply
+use Rattle.model_core.specs.declared.graph.Value.{Value}
+use Rattle.model_core.specs.declared.graph.Value.TheVariants.{Int, Block, Nothing}
+use Rattle.model_core.specs.declared.graph.Node.{Node}
+use Rattle.model_core.specs.declared.graph.Node.TheVariants.{Plain, Ephe}
+use Rattle.model_core.specs.declared.state.State.{State}
+use Rattle.model_core.specs.declared.state.Sizes.{Sizes}
+use Rattle.model_core.specs.Graph.{Graph, same_label, has_label, label_of, node_at}
+use Rattle.model_core.specs.Domains.{IsWithinLimits, opening}
+use Rattle.model_core.specs.Entries.{next}
+use Rattle.model_core.proofs.Commands.FrameLemmas.{grew_next}
+use Rattle.model_core.proofs.Histories.HistoryLemmas.{state_after-append}
+use Rattle.model_core.specs.Commands.{shown, is_full_value}
+use Rattle.model_core.specs.History.{IsPrefix, Legal, state_after}
+use Rattle.model_core.proofs.Graphs.GraphLemmas.{same_label-true, same_label_refl}
+use Rattle.model_core.proofs.Reach.ReachLemmas.{never_true, or_cases, or_left, or_right, true_or_false}
+use Rattle.weak_laws.specs.Tables.Structures.{Binding, Cell, bucket_count, binding_of, chain_bindings, bindings, datum_at, without, head_of, is_bucket_full, cell_labels, table_labels, is_bucket, IsTable}
+use Rattle.weak_laws.specs.Tables.Thinning.{ThinnedBy, WasOutside, Went}
+use Rattle.weak_laws.specs.Tables.Performing.{Performed, After, registers_of}
+use Rattle.weak_laws.specs.Tables.Stages.{Goes, Holding, Linking, graph_of, held_in}
+use Rattle.weak_laws.proofs.OfTables.BindingLemmas.{thinned_more, thinned_twice, thinned_without}
+use Rattle.weak_laws.proofs.OfTables.LookupLemmas.{datum_of_bucket}
+use Rattle.weak_laws.proofs.OfTables.OnceLemmas.{chain_label, more_labels}
+use Rattle.weak_laws.proofs.OfTables.ChangeLemmas.{not_first, changes_on, changes_more}
+use Rattle.weak_laws.proofs.OfTables.CellLemmas.{in_chain}
+use Rattle.weak_laws.proofs.OfTables.LinkLemmas.{empty_stays}
+use Rattle.weak_laws.proofs.OfTables.StepLemmas.{forget_step, get_data_step}
+use Rattle.weak_laws.proofs.OfTables.StageLemmas.{goes_from, goes_on, goes_reading, thinned_on}
+use Rattle.weak_laws.proofs.OfTables.FillLemmas.{whole, fill_data, fill_key, holding_datum}
+use Rattle.weak_laws.proofs.OfTables.GrowLemmas.{grow_ephe, grow_node, link_ephe, link_head, link_next, link_cell}
 use Rattle.weak_tables.specs.Held.{AllHave, Has, IsTidy, KeepsOthers, IsClean, HoldsTable, Reads, Cleared}
 use Rattle.weak_tables.specs.Walks.{CellAnswers, LinksCell, Found, Missed, Ready, Refused, Placed, LooksUp}
 use Rattle.weak_tables.specs.Tables.{Puts, PutAnswers, Gets, GetAnswers}

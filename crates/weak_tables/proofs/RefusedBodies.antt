@@ -1,29 +1,29 @@
 -- What the clauses of the calls refuse: where a clause holds a wrong outcome doesn't, whatever body met it.
 use Rattle.std.proofs.Common.{◌≡◌, ◌≢◌, ⊎_elim, inl, inr, ℕ, zero, suc, slice_get, subst, Bool, true, false, cond, IsTrue, List, [], ◌∷◌, ◌++◌, length, Option, Some, None, refl, ap, sym, ◌∙◌, append-nil}
-use Rattle.heap_model.specs.declared.label.Label.{Label}
-use Rattle.heap_model.specs.declared.command.Command.{Command}
-use Rattle.heap_model.specs.declared.entry.Entry.{Entry}
-use Rattle.heap_model.specs.declared.entry.Entry.TheVariants.{Command as CommandOf}
-use Rattle.heap_model.specs.declared.graph.Value.{Value}
-use Rattle.heap_model.specs.declared.graph.Value.TheVariants.{Nothing}
-use Rattle.heap_model.specs.declared.graph.Node.{Node}
-use Rattle.heap_model.specs.declared.graph.Node.TheVariants.{Ephe}
-use Rattle.heap_model.specs.declared.reply.Reply.{Reply}
-use Rattle.heap_model.specs.declared.state.Sizes.{Sizes}
-use Rattle.heap_model.specs.Graph.{has_label, node_at, same_label, has_no_repeats}
-use Rattle.heap_model.specs.Commands.{shown}
-use Rattle.heap_model.specs.History.{IsPrefix, commands}
-use Rattle.heap_model.proofs.Graphs.GraphLemmas.{same_label-true, same_label-false}
-use Rattle.heap_model.proofs.Histories.HistoryLemmas.{commands-append, commands-push, commands-others}
-use Rattle.table_laws.specs.Structures.{Binding, Cell, bindings, datum_at, without, keys_of, is_bucket_full, IsTable}
-use Rattle.table_laws.specs.Thinning.{EmptiedBy, Thin, WasOutside}
-use Rattle.table_laws.specs.Performing.{Performed}
-use Rattle.table_laws.specs.Stages.{Goes, graph_of}
-use Rattle.table_laws.proofs.ChangeLemmas.{emptied_same, loses_emptied}
-use Rattle.table_laws.proofs.BindingLemmas.{thinned_datum}
-use Rattle.table_laws.proofs.LawLemmas.{differ_law}
-use Rattle.table_laws.proofs.StepLemmas.{collector_none}
-use Rattle.table_laws.proofs.UniqueLemmas.{layout_law}
+use Rattle.model_core.specs.declared.label.Label.{Label}
+use Rattle.model_core.specs.declared.command.Command.{Command}
+use Rattle.model_core.specs.declared.entry.Entry.{Entry}
+use Rattle.model_core.specs.declared.entry.Entry.TheVariants.{Command as CommandOf}
+use Rattle.model_core.specs.declared.graph.Value.{Value}
+use Rattle.model_core.specs.declared.graph.Value.TheVariants.{Nothing}
+use Rattle.model_core.specs.declared.graph.Node.{Node}
+use Rattle.model_core.specs.declared.graph.Node.TheVariants.{Ephe}
+use Rattle.model_core.specs.declared.reply.Reply.{Reply}
+use Rattle.model_core.specs.declared.state.Sizes.{Sizes}
+use Rattle.model_core.specs.Graph.{has_label, node_at, same_label, has_no_repeats}
+use Rattle.model_core.specs.Commands.{shown}
+use Rattle.model_core.specs.History.{IsPrefix, commands}
+use Rattle.model_core.proofs.Graphs.GraphLemmas.{same_label-true, same_label-false}
+use Rattle.model_core.proofs.Histories.HistoryLemmas.{commands-append, commands-push, commands-others}
+use Rattle.weak_laws.specs.Tables.Structures.{Binding, Cell, bindings, datum_at, without, keys_of, is_bucket_full, IsTable}
+use Rattle.weak_laws.specs.Tables.Thinning.{EmptiedBy, Thin, WasOutside}
+use Rattle.weak_laws.specs.Tables.Performing.{Performed}
+use Rattle.weak_laws.specs.Tables.Stages.{Goes, graph_of}
+use Rattle.weak_laws.proofs.OfTables.ChangeLemmas.{emptied_same, loses_emptied}
+use Rattle.weak_laws.proofs.OfTables.BindingLemmas.{thinned_datum}
+use Rattle.weak_laws.proofs.OfTables.LawLemmas.{differ_law}
+use Rattle.weak_laws.proofs.OfTables.StepLemmas.{collector_none}
+use Rattle.weak_laws.proofs.OfTables.UniqueLemmas.{layout_law}
 use Rattle.weak_tables.specs.Walks.{Refused}
 use Rattle.weak_tables.specs.Tables.{Counts, Gets, Puts, Takes}
 use Rattle.weak_tables.specs.Commands.{value_of}

@@ -1,19 +1,19 @@
 -- A history that registers no finaliser, and goes on by a command that doesn't.
 use Rattle.std.proofs.Common.{◌≡◌, ◌∙◌, Bool, true, false, IsTrue, List, [], ◌∷◌, ◌++◌, refl, ap, sym, append_assoc}
-use Rattle.heap_model.specs.declared.command.Command as declared_command
-use Rattle.heap_model.specs.declared.entry.Entry.{Entry}
-use Rattle.heap_model.specs.declared.entry.Entry.TheVariants.{Command, End, Cut, Queue, Seal, Wipe, Last as LastOf, Collected, Done as DoneOf, Ran}
-use Rattle.heap_model.specs.declared.reply.Reply.{Reply}
-use Rattle.heap_model.specs.declared.state.Pending.{Pending}
-use Rattle.heap_model.specs.declared.state.Sizes.{Sizes}
-use Rattle.heap_model.specs.declared.state.State.{State}
-use Rattle.heap_model.specs.Domains.{opening}
-use Rattle.heap_model.specs.Entries.{next}
-use Rattle.heap_model.specs.History.{state_after}
-use Rattle.heap_model.specs.Registrations.{all_registered, registered, registered_by}
-use Rattle.heap_model.proofs.Reach.ReachLemmas.{and_left, and_right}
-use Rattle.table_laws.specs.Thinning.{AllCollector, is_collector}
-use Rattle.table_laws.specs.Performing.{Performed}
+use Rattle.model_core.specs.declared.command.Command as declared_command
+use Rattle.model_core.specs.declared.entry.Entry.{Entry}
+use Rattle.model_core.specs.declared.entry.Entry.TheVariants.{Command, End, Cut, Queue, Seal, Wipe, Last as LastOf, Collected, Done as DoneOf, Ran}
+use Rattle.model_core.specs.declared.reply.Reply.{Reply}
+use Rattle.model_core.specs.declared.state.Pending.{Pending}
+use Rattle.model_core.specs.declared.state.Sizes.{Sizes}
+use Rattle.model_core.specs.declared.state.State.{State}
+use Rattle.model_core.specs.Domains.{opening}
+use Rattle.model_core.specs.Entries.{next}
+use Rattle.model_core.specs.History.{state_after}
+use Rattle.model_core.specs.Registrations.{all_registered, registered, registered_by}
+use Rattle.model_core.proofs.Reach.ReachLemmas.{and_left, and_right}
+use Rattle.weak_laws.specs.Tables.Thinning.{AllCollector, is_collector}
+use Rattle.weak_laws.specs.Tables.Performing.{Performed}
 
 registered-append : (s : State) (h k : List Entry) → all_registered 0 s (h ++ k) ≡ all_registered 0 s h ++ all_registered 0 (state_after s h) k
 registered-append s [] k = refl

@@ -2,34 +2,34 @@
 use Rattle.std.proofs.Common.{◌≡◌, ◌≢◌, ◌⊎◌, inl, inr, ℕ, ◌<◌, ◌%◌, Bool, true, false, IsTrue, is_some, List, [], ◌∷◌, ◌++◌, length, get_or, set, Option, Some, None, refl, ap, sym, ◌∙◌, subst, arith, append-nil, append_assoc, length-append, ◌+◌, get_or-set_same, get_or-set_other}
 use Rattle.std.specs.List.{list_all}
 use Rattle.std.proofs.lemmas.Grind.{flat_map-append}
-use Rattle.heap_model.specs.declared.label.Label.{Label}
-use Rattle.heap_model.specs.declared.command.Command.TheVariants.{Load, GetKey}
-use Rattle.heap_model.specs.declared.entry.Entry.{Entry}
-use Rattle.heap_model.specs.declared.reply.Reply.{Reply}
-use Rattle.heap_model.specs.declared.reply.Reply.TheVariants as reply
-use Rattle.heap_model.specs.declared.graph.Value.{Value}
-use Rattle.heap_model.specs.declared.graph.Value.TheVariants.{Block, Nothing}
-use Rattle.heap_model.specs.declared.graph.Node.{Node}
-use Rattle.heap_model.specs.declared.graph.Node.TheVariants.{Plain, Raw, Ephe}
-use Rattle.heap_model.specs.declared.state.Sizes.{Sizes}
-use Rattle.heap_model.specs.Graph.{node_at}
-use Rattle.heap_model.specs.Domains.{IsWithinLimits}
-use Rattle.heap_model.specs.Commands.{shown, key_value}
-use Rattle.heap_model.specs.History.{Legal}
-use Rattle.heap_model.proofs.Graphs.GraphLemmas.{same_label-false}
-use Rattle.heap_model.proofs.Histories.ShapeAfterLemmas.{shaped-history}
-use Rattle.table_laws.specs.Structures.{Binding, Cell, bucket_count, is_weak, key_of, bound, binding_of, chain_bindings, datum_at, head_of, has_key, IsCell, Links, IsTable}
-use Rattle.table_laws.specs.Thinning.{Thin, WasOutside, Went}
-use Rattle.table_laws.specs.Performing.{Performed, After, registers_of}
-use Rattle.table_laws.specs.Stages.{Searching, graph_of, held_in}
-use Rattle.heap_model.proofs.Reach.ReachLemmas.{and_left, and_right, and_both}
-use Rattle.table_laws.proofs.BindingLemmas.{thinned_same}
-use Rattle.table_laws.proofs.CellLemmas.{links_behind}
-use Rattle.table_laws.proofs.LinkLemmas.{empty_stays}
-use Rattle.table_laws.proofs.LookupLemmas.{datum_parts}
-use Rattle.table_laws.proofs.StepLemmas.{get_key_step}
-use Rattle.table_laws.proofs.StageLemmas.{goes_from, goes_reading, thinned_on, table_reading, bindings_reading, held_stays, search_begins, search_begun, search_kept, cell_here, search_ephe, search_next, search_passes, search_ended}
-use Rattle.table_laws.proofs.FillLemmas.{found_holding, holding_datum}
+use Rattle.model_core.specs.declared.label.Label.{Label}
+use Rattle.model_core.specs.declared.command.Command.TheVariants.{Load, GetKey}
+use Rattle.model_core.specs.declared.entry.Entry.{Entry}
+use Rattle.model_core.specs.declared.reply.Reply.{Reply}
+use Rattle.model_core.specs.declared.reply.Reply.TheVariants as reply
+use Rattle.model_core.specs.declared.graph.Value.{Value}
+use Rattle.model_core.specs.declared.graph.Value.TheVariants.{Block, Nothing}
+use Rattle.model_core.specs.declared.graph.Node.{Node}
+use Rattle.model_core.specs.declared.graph.Node.TheVariants.{Plain, Raw, Ephe}
+use Rattle.model_core.specs.declared.state.Sizes.{Sizes}
+use Rattle.model_core.specs.Graph.{node_at}
+use Rattle.model_core.specs.Domains.{IsWithinLimits}
+use Rattle.model_core.specs.Commands.{shown, key_value}
+use Rattle.model_core.specs.History.{Legal}
+use Rattle.model_core.proofs.Graphs.GraphLemmas.{same_label-false}
+use Rattle.model_core.proofs.Histories.ShapeAfterLemmas.{shaped-history}
+use Rattle.weak_laws.specs.Tables.Structures.{Binding, Cell, bucket_count, is_weak, key_of, bound, binding_of, chain_bindings, datum_at, head_of, has_key, IsCell, Links, IsTable}
+use Rattle.weak_laws.specs.Tables.Thinning.{Thin, WasOutside, Went}
+use Rattle.weak_laws.specs.Tables.Performing.{Performed, After, registers_of}
+use Rattle.weak_laws.specs.Tables.Stages.{Searching, graph_of, held_in}
+use Rattle.model_core.proofs.Reach.ReachLemmas.{and_left, and_right, and_both}
+use Rattle.weak_laws.proofs.OfTables.BindingLemmas.{thinned_same}
+use Rattle.weak_laws.proofs.OfTables.CellLemmas.{links_behind}
+use Rattle.weak_laws.proofs.OfTables.LinkLemmas.{empty_stays}
+use Rattle.weak_laws.proofs.OfTables.LookupLemmas.{datum_parts}
+use Rattle.weak_laws.proofs.OfTables.StepLemmas.{get_key_step}
+use Rattle.weak_laws.proofs.OfTables.StageLemmas.{goes_from, goes_reading, thinned_on, table_reading, bindings_reading, held_stays, search_begins, search_begun, search_kept, cell_here, search_ephe, search_next, search_passes, search_ended}
+use Rattle.weak_laws.proofs.OfTables.FillLemmas.{found_holding, holding_datum}
 use Rattle.weak_tables.specs.declared.find.Find.{Find}
 use Rattle.weak_tables.specs.declared.find.Find.TheVariants.{Key, Spare, Nowhere}
 use Rattle.weak_tables.specs.Commands.{IsBlock}

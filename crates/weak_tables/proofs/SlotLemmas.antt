@@ -1,30 +1,30 @@
 -- What `weak_get` and `weak_set` leave.
 use Rattle.std.proofs.Common.{◌≡◌, ◌⊎◌, inl, inr, ⊎_elim, ℕ, zero, suc, ◌<◌, ◌≤◌, true, false, not, IsTrue, List, [], ◌∷◌, map, length, set, slice_get, Option, Some, None, refl, ap, sym, ◌∙◌, subst, arith}
-use Rattle.heap_model.specs.declared.label.Label.{Label}
-use Rattle.heap_model.specs.declared.command.Command.TheVariants.{Load, SetKey, GetKey}
-use Rattle.heap_model.specs.declared.entry.Entry.{Entry}
-use Rattle.heap_model.specs.declared.reply.Reply.{Reply}
-use Rattle.heap_model.specs.declared.reply.Reply.TheVariants as reply
-use Rattle.heap_model.specs.declared.graph.Value.{Value}
-use Rattle.heap_model.specs.Commands.{key_value}
-use Rattle.heap_model.specs.declared.graph.Value.TheVariants.{Int, Block, Nothing}
-use Rattle.heap_model.specs.declared.graph.Node.{Node}
-use Rattle.heap_model.specs.declared.graph.Node.TheVariants.{Plain, Raw, Ephe}
-use Rattle.heap_model.specs.declared.state.Sizes.{Sizes}
-use Rattle.heap_model.specs.Graph.{Graph, same_label, has_label, label_of, node_at}
-use Rattle.heap_model.specs.Domains.{IsWithinLimits}
-use Rattle.heap_model.specs.History.{IsPrefix, Legal}
-use Rattle.heap_model.proofs.Graphs.GraphLemmas.{same_label-true}
-use Rattle.heap_model.proofs.Reach.ReachLemmas.{or_cases, or_right, and_right}
-use Rattle.table_laws.specs.Structures.{is_weak, key_of, IsWeakArray, slot_keys}
-use Rattle.table_laws.specs.Thinning.{EmptiedBy, Thin, WasOutside, Went}
-use Rattle.table_laws.specs.Performing.{Performed, After, registers_of}
-use Rattle.table_laws.specs.Stages.{Goes, graph_of, held_in}
-use Rattle.table_laws.proofs.ChangeLemmas.{array_kept}
-use Rattle.table_laws.proofs.LawLemmas.{keys_emptied}
-use Rattle.table_laws.proofs.ArrayLemmas.{slot_field, slot_weak, slot_there, slots_fields, array_changed, keys_changed, emptied_more, emptied_set, emptied_twice}
-use Rattle.table_laws.proofs.StepLemmas.{load_step, load_past_step, get_key_step, set_key_step, set_key_type_step}
-use Rattle.table_laws.proofs.StageLemmas.{goes_from, goes_on, goes_reading}
+use Rattle.model_core.specs.declared.label.Label.{Label}
+use Rattle.model_core.specs.declared.command.Command.TheVariants.{Load, SetKey, GetKey}
+use Rattle.model_core.specs.declared.entry.Entry.{Entry}
+use Rattle.model_core.specs.declared.reply.Reply.{Reply}
+use Rattle.model_core.specs.declared.reply.Reply.TheVariants as reply
+use Rattle.model_core.specs.declared.graph.Value.{Value}
+use Rattle.model_core.specs.Commands.{key_value}
+use Rattle.model_core.specs.declared.graph.Value.TheVariants.{Int, Block, Nothing}
+use Rattle.model_core.specs.declared.graph.Node.{Node}
+use Rattle.model_core.specs.declared.graph.Node.TheVariants.{Plain, Raw, Ephe}
+use Rattle.model_core.specs.declared.state.Sizes.{Sizes}
+use Rattle.model_core.specs.Graph.{Graph, same_label, has_label, label_of, node_at}
+use Rattle.model_core.specs.Domains.{IsWithinLimits}
+use Rattle.model_core.specs.History.{IsPrefix, Legal}
+use Rattle.model_core.proofs.Graphs.GraphLemmas.{same_label-true}
+use Rattle.model_core.proofs.Reach.ReachLemmas.{or_cases, or_right, and_right}
+use Rattle.weak_laws.specs.Tables.Structures.{is_weak, key_of, IsWeakArray, slot_keys}
+use Rattle.weak_laws.specs.Tables.Thinning.{EmptiedBy, Thin, WasOutside, Went}
+use Rattle.weak_laws.specs.Tables.Performing.{Performed, After, registers_of}
+use Rattle.weak_laws.specs.Tables.Stages.{Goes, graph_of, held_in}
+use Rattle.weak_laws.proofs.OfTables.ChangeLemmas.{array_kept}
+use Rattle.weak_laws.proofs.OfTables.LawLemmas.{keys_emptied}
+use Rattle.weak_laws.proofs.OfTables.ArrayLemmas.{slot_field, slot_weak, slot_there, slots_fields, array_changed, keys_changed, emptied_more, emptied_set, emptied_twice}
+use Rattle.weak_laws.proofs.OfTables.StepLemmas.{load_step, load_past_step, get_key_step, set_key_step, set_key_type_step}
+use Rattle.weak_laws.proofs.OfTables.StageLemmas.{goes_from, goes_on, goes_reading}
 use Rattle.weak_tables.specs.Held.{Has, IsBare, KeepsOthers, IsClean, ReadsArray, Cleared}
 use Rattle.weak_tables.specs.Arrays.{Spares, GetsSlot, SetsSlot, SlotAnswers, SetAnswers}
 use Rattle.weak_tables.proofs.SearchLemmas.{set_here, set_other, keeps_set, below_eight, keeps_all}

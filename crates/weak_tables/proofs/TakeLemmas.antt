@@ -1,32 +1,32 @@
 -- What `table_take` leaves.
 use Rattle.std.proofs.Common.{◌≡◌, inl, inr, ⊎_elim, ℕ, ◌<◌, ◌%◌, Bool, true, false, cond, ◌||◌, IsTrue, List, [], ◌∷◌, get_or, Option, Some, None, refl, ap, sym, ◌∙◌, subst, arith}
-use Rattle.heap_model.specs.declared.label.Label.{Label}
-use Rattle.heap_model.specs.declared.command.Command.TheVariants.{Forget, UnsetKey, UnsetData}
-use Rattle.heap_model.specs.declared.entry.Entry.{Entry}
-use Rattle.heap_model.specs.declared.reply.Reply.{Reply}
-use Rattle.heap_model.specs.declared.reply.Reply.TheVariants as reply
-use Rattle.heap_model.specs.declared.graph.Value.{Value}
-use Rattle.heap_model.specs.declared.graph.Value.TheVariants.{Int, Block, Nothing}
-use Rattle.heap_model.specs.declared.graph.Node.TheVariants.{Ephe}
-use Rattle.heap_model.specs.declared.state.Sizes.{Sizes}
-use Rattle.heap_model.specs.Graph.{same_label, has_label, label_of}
-use Rattle.heap_model.specs.Commands.{shown}
-use Rattle.heap_model.specs.declared.command.Command.{Command}
-use Rattle.heap_model.specs.Domains.{IsWithinLimits}
-use Rattle.heap_model.proofs.Graphs.GraphLemmas.{same_label-true, same_label_refl}
-use Rattle.heap_model.proofs.Reach.ReachLemmas.{or_cases, or_right}
-use Rattle.table_laws.specs.Structures.{Binding, Cell, bucket_count, bindings, datum_at, without, keys_of, table_labels, IsTable}
-use Rattle.table_laws.specs.Thinning.{ThinnedBy, WasOutside, Went}
-use Rattle.table_laws.specs.Performing.{Performed, After, registers_of}
-use Rattle.table_laws.specs.Stages.{Goes, Holding, graph_of, held_in}
-use Rattle.table_laws.proofs.BindingLemmas.{thinned_keys, thinned_datum, thinned_without}
-use Rattle.table_laws.proofs.LookupLemmas.{unbound_key, key_unbound, without_unbound}
-use Rattle.table_laws.proofs.OnceLemmas.{lacks, not_both, chain_label}
-use Rattle.table_laws.proofs.ChangeLemmas.{changes_more}
-use Rattle.table_laws.proofs.CellLemmas.{in_chain}
-use Rattle.table_laws.proofs.StepLemmas.{step_open, forget_step}
-use Rattle.table_laws.proofs.StageLemmas.{held_stays, goes_on, goes_reading, thinned_on, table_reading, bindings_reading}
-use Rattle.table_laws.proofs.FillLemmas.{take_key, take_data, holding_datum}
+use Rattle.model_core.specs.declared.label.Label.{Label}
+use Rattle.model_core.specs.declared.command.Command.TheVariants.{Forget, UnsetKey, UnsetData}
+use Rattle.model_core.specs.declared.entry.Entry.{Entry}
+use Rattle.model_core.specs.declared.reply.Reply.{Reply}
+use Rattle.model_core.specs.declared.reply.Reply.TheVariants as reply
+use Rattle.model_core.specs.declared.graph.Value.{Value}
+use Rattle.model_core.specs.declared.graph.Value.TheVariants.{Int, Block, Nothing}
+use Rattle.model_core.specs.declared.graph.Node.TheVariants.{Ephe}
+use Rattle.model_core.specs.declared.state.Sizes.{Sizes}
+use Rattle.model_core.specs.Graph.{same_label, has_label, label_of}
+use Rattle.model_core.specs.Commands.{shown}
+use Rattle.model_core.specs.declared.command.Command.{Command}
+use Rattle.model_core.specs.Domains.{IsWithinLimits}
+use Rattle.model_core.proofs.Graphs.GraphLemmas.{same_label-true, same_label_refl}
+use Rattle.model_core.proofs.Reach.ReachLemmas.{or_cases, or_right}
+use Rattle.weak_laws.specs.Tables.Structures.{Binding, Cell, bucket_count, bindings, datum_at, without, keys_of, table_labels, IsTable}
+use Rattle.weak_laws.specs.Tables.Thinning.{ThinnedBy, WasOutside, Went}
+use Rattle.weak_laws.specs.Tables.Performing.{Performed, After, registers_of}
+use Rattle.weak_laws.specs.Tables.Stages.{Goes, Holding, graph_of, held_in}
+use Rattle.weak_laws.proofs.OfTables.BindingLemmas.{thinned_keys, thinned_datum, thinned_without}
+use Rattle.weak_laws.proofs.OfTables.LookupLemmas.{unbound_key, key_unbound, without_unbound}
+use Rattle.weak_laws.proofs.OfTables.OnceLemmas.{lacks, not_both, chain_label}
+use Rattle.weak_laws.proofs.OfTables.ChangeLemmas.{changes_more}
+use Rattle.weak_laws.proofs.OfTables.CellLemmas.{in_chain}
+use Rattle.weak_laws.proofs.OfTables.StepLemmas.{step_open, forget_step}
+use Rattle.weak_laws.proofs.OfTables.StageLemmas.{held_stays, goes_on, goes_reading, thinned_on, table_reading, bindings_reading}
+use Rattle.weak_laws.proofs.OfTables.FillLemmas.{take_key, take_data, holding_datum}
 use Rattle.weak_tables.specs.Held.{IsTidy, KeepsOthers, IsClean, Reads, Cleared}
 use Rattle.weak_tables.specs.Walks.{KeepsSpare, Found, Missed, LooksUp}
 use Rattle.weak_tables.specs.Tables.{Takes, Leaves, TakeAnswers}

@@ -1,16 +1,16 @@
 -- Blocks that have no datum too much, after commands and after the collector's entries.
 use Rattle.std.proofs.Common.{◌≡◌, ⊎_elim, false, List, [], ◌∷◌, Option, Some, None, refl, subst}
-use Rattle.heap_model.specs.declared.label.Label.{Label}
-use Rattle.heap_model.specs.declared.entry.Entry.{Entry}
-use Rattle.heap_model.specs.declared.graph.Value.TheVariants.{Nothing}
-use Rattle.heap_model.specs.declared.graph.Node.{Node}
-use Rattle.heap_model.specs.declared.graph.Node.TheVariants.{Plain, Raw, Ephe}
-use Rattle.heap_model.specs.declared.state.Sizes.{Sizes}
-use Rattle.heap_model.specs.Graph.{Graph, same_label, has_label, node_at}
-use Rattle.heap_model.proofs.Graphs.GraphLemmas.{same_label-true}
-use Rattle.heap_model.proofs.Reach.ReachLemmas.{true_or_false}
-use Rattle.table_laws.specs.Thinning.{Thin, Went, Changes}
-use Rattle.table_laws.specs.Stages.{graph_of}
+use Rattle.model_core.specs.declared.label.Label.{Label}
+use Rattle.model_core.specs.declared.entry.Entry.{Entry}
+use Rattle.model_core.specs.declared.graph.Value.TheVariants.{Nothing}
+use Rattle.model_core.specs.declared.graph.Node.{Node}
+use Rattle.model_core.specs.declared.graph.Node.TheVariants.{Plain, Raw, Ephe}
+use Rattle.model_core.specs.declared.state.Sizes.{Sizes}
+use Rattle.model_core.specs.Graph.{Graph, same_label, has_label, node_at}
+use Rattle.model_core.proofs.Graphs.GraphLemmas.{same_label-true}
+use Rattle.model_core.proofs.Reach.ReachLemmas.{true_or_false}
+use Rattle.weak_laws.specs.Tables.Thinning.{Thin, Went, Changes}
+use Rattle.weak_laws.specs.Tables.Stages.{graph_of}
 use Rattle.weak_tables.specs.Held.{AllHave, Cleared, Has, IsBare, IsTidy}
 
 -- what a block is that the collector leaves as it was, or empties

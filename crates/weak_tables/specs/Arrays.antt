@@ -1,17 +1,17 @@
 -- What the calls on weak arrays answer and leave.
 use Rattle.std.specs.Prelude.{◌≡◌, ◌≢◌, ◌⊎◌, ℕ, IsTrue, List, [], ◌∷◌, replicate, slice_get, slice_set, Option, Some, None}
-use Rattle.heap_model.specs.declared.label.Label.{Label}
-use Rattle.heap_model.specs.declared.entry.Entry.{Entry}
-use Rattle.heap_model.specs.declared.graph.Value.TheVariants.{Block}
-use Rattle.heap_model.specs.declared.reply.Reply.{Reply}
-use Rattle.heap_model.specs.declared.state.Sizes.{Sizes}
-use Rattle.heap_model.specs.Graph.{has_label, label_of, node_at}
-use Rattle.heap_model.specs.Commands.{shown, key_value}
-use Rattle.heap_model.specs.History.{IsPrefix}
-use Rattle.table_laws.specs.Structures.{IsWeakArray, slot_keys}
-use Rattle.table_laws.specs.Thinning.{EmptiedBy, WasOutside}
-use Rattle.table_laws.specs.Stages.{Goes, graph_of, held_in}
-use Rattle.heap_model.specs.declared.reply.Reply.TheVariants as reply
+use Rattle.model_core.specs.declared.label.Label.{Label}
+use Rattle.model_core.specs.declared.entry.Entry.{Entry}
+use Rattle.model_core.specs.declared.graph.Value.TheVariants.{Block}
+use Rattle.model_core.specs.declared.reply.Reply.{Reply}
+use Rattle.model_core.specs.declared.state.Sizes.{Sizes}
+use Rattle.model_core.specs.Graph.{has_label, label_of, node_at}
+use Rattle.model_core.specs.Commands.{shown, key_value}
+use Rattle.model_core.specs.History.{IsPrefix}
+use Rattle.weak_laws.specs.Tables.Structures.{IsWeakArray, slot_keys}
+use Rattle.weak_laws.specs.Tables.Thinning.{EmptiedBy, WasOutside}
+use Rattle.weak_laws.specs.Tables.Stages.{Goes, graph_of, held_in}
+use Rattle.model_core.specs.declared.reply.Reply.TheVariants as reply
 use Rattle.weak_tables.specs.Held.{AllHave, IsBare, KeepsOthers, IsClean, ReadsArray}
 
 -- nothing was read or written: there is no such slot, or no label to set

@@ -1,13 +1,13 @@
 -- Calls on one table, one after another, with what other commands do between.
 use Rattle.std.specs.Prelude.{◌≡◌, ℕ, List, [], ◌∷◌, Option, Some}
-use Rattle.heap_model.specs.declared.label.Label.{Label}
-use Rattle.heap_model.specs.declared.entry.Entry.{Entry}
-use Rattle.heap_model.specs.declared.graph.Value.{Value}
-use Rattle.heap_model.specs.declared.reply.Reply.{Reply}
-use Rattle.heap_model.specs.declared.reply.Reply.TheVariants as reply
-use Rattle.heap_model.specs.declared.state.Sizes.{Sizes}
-use Rattle.table_laws.specs.Structures.{Cell, table_labels, IsTable, Apart}
-use Rattle.table_laws.specs.Stages.{Goes, graph_of}
+use Rattle.model_core.specs.declared.label.Label.{Label}
+use Rattle.model_core.specs.declared.entry.Entry.{Entry}
+use Rattle.model_core.specs.declared.graph.Value.{Value}
+use Rattle.model_core.specs.declared.reply.Reply.{Reply}
+use Rattle.model_core.specs.declared.reply.Reply.TheVariants as reply
+use Rattle.model_core.specs.declared.state.Sizes.{Sizes}
+use Rattle.weak_laws.specs.Tables.Structures.{Cell, table_labels, IsTable, Apart}
+use Rattle.weak_laws.specs.Tables.Stages.{Goes, graph_of}
 use Rattle.weak_tables.specs.Tables.{PutAnswers, GetAnswers, TakeAnswers, Counts}
 
 -- a call with the key in the register that it names, if that holds one, and its reply; or other commands, that may change these blocks

@@ -1,18 +1,18 @@
 -- What a call leaves in registers, and the table or weak array that it was called on.
 use Rattle.std.specs.Prelude.{◌≡◌, ◌≢◌, ℕ, IsTrue, List, [], ◌∷◌, slice_set, Option, Some, None}
-use Rattle.heap_model.specs.declared.label.Label.{Label}
-use Rattle.heap_model.specs.declared.entry.Entry.{Entry}
-use Rattle.heap_model.specs.declared.graph.Value.{Value}
-use Rattle.heap_model.specs.declared.graph.Value.TheVariants.{Block, Nothing}
-use Rattle.heap_model.specs.declared.graph.Node.{Node}
-use Rattle.heap_model.specs.declared.graph.Node.TheVariants.{Plain, Raw, Ephe}
-use Rattle.heap_model.specs.declared.state.Mode.TheVariants.{Open}
-use Rattle.heap_model.specs.declared.state.Sizes.{Sizes}
-use Rattle.heap_model.specs.Graph.{Graph, has_label, node_at}
-use Rattle.table_laws.specs.Structures.{Cell, bindings, IsTable, IsWeakArray, slot_keys}
-use Rattle.table_laws.specs.Thinning.{ThinnedBy, EmptiedBy, WasOutside, state_of}
-use Rattle.table_laws.specs.Performing.{After, registers_of}
-use Rattle.table_laws.specs.Stages.{Goes, graph_of, held_in}
+use Rattle.model_core.specs.declared.label.Label.{Label}
+use Rattle.model_core.specs.declared.entry.Entry.{Entry}
+use Rattle.model_core.specs.declared.graph.Value.{Value}
+use Rattle.model_core.specs.declared.graph.Value.TheVariants.{Block, Nothing}
+use Rattle.model_core.specs.declared.graph.Node.{Node}
+use Rattle.model_core.specs.declared.graph.Node.TheVariants.{Plain, Raw, Ephe}
+use Rattle.model_core.specs.declared.state.Mode.TheVariants.{Open}
+use Rattle.model_core.specs.declared.state.Sizes.{Sizes}
+use Rattle.model_core.specs.Graph.{Graph, has_label, node_at}
+use Rattle.weak_laws.specs.Tables.Structures.{Cell, bindings, IsTable, IsWeakArray, slot_keys}
+use Rattle.weak_laws.specs.Tables.Thinning.{ThinnedBy, EmptiedBy, WasOutside, state_of}
+use Rattle.weak_laws.specs.Tables.Performing.{After, registers_of}
+use Rattle.weak_laws.specs.Tables.Stages.{Goes, graph_of, held_in}
 
 -- the registers that the calls use between are 8, 9 and 10. All others are as they were
 abbrev pub KeepsOthers : Sizes → List Entry → List Entry → Type 0

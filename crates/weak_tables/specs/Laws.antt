@@ -1,16 +1,16 @@
 -- Laws of the calls on a table, in the words in which a user would ask for them.
 use Rattle.std.specs.Prelude.{◌≡◌, ◌≢◌, ℕ, ◌+◌, ◌≤◌, List, [], length, slice_index_or, Some}
-use Rattle.heap_model.specs.declared.label.Label.{Label}
-use Rattle.heap_model.specs.declared.entry.Entry.{Entry}
-use Rattle.heap_model.specs.declared.graph.Value.{Value}
-use Rattle.heap_model.specs.declared.reply.Reply.{Reply}
-use Rattle.heap_model.specs.declared.state.Sizes.{Sizes}
-use Rattle.heap_model.specs.Graph.{Graph}
-use Rattle.heap_model.specs.Commands.{shown}
-use Rattle.heap_model.specs.History.{IsPrefix}
-use Rattle.table_laws.specs.Structures.{Cell, bindings, chain_bindings, datum_at, IsTable}
-use Rattle.table_laws.specs.Thinning.{WasOutside}
-use Rattle.table_laws.specs.Stages.{graph_of}
+use Rattle.model_core.specs.declared.label.Label.{Label}
+use Rattle.model_core.specs.declared.entry.Entry.{Entry}
+use Rattle.model_core.specs.declared.graph.Value.{Value}
+use Rattle.model_core.specs.declared.reply.Reply.{Reply}
+use Rattle.model_core.specs.declared.state.Sizes.{Sizes}
+use Rattle.model_core.specs.Graph.{Graph}
+use Rattle.model_core.specs.Commands.{shown}
+use Rattle.model_core.specs.History.{IsPrefix}
+use Rattle.weak_laws.specs.Tables.Structures.{Cell, bindings, chain_bindings, datum_at, IsTable}
+use Rattle.weak_laws.specs.Tables.Thinning.{WasOutside}
+use Rattle.weak_laws.specs.Tables.Stages.{graph_of}
 use Rattle.weak_tables.specs.Tables.{Puts, Gets, Takes}
 use Rattle.weak_tables.specs.Calls.{TableCall, CallsRun, AllSpare}
 

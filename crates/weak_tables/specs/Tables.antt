@@ -1,18 +1,18 @@
 -- What the calls on tables answer and leave.
 use Rattle.std.specs.Prelude.{◌≡◌, ◌≢◌, ◌≤◌, ◌⊎◌, ℕ, IsTrue, List, [], length, Option, Some, None}
-use Rattle.heap_model.specs.declared.label.Label.{Label}
-use Rattle.heap_model.specs.declared.entry.Entry.{Entry}
-use Rattle.heap_model.specs.declared.graph.Value.{Value}
-use Rattle.heap_model.specs.declared.graph.Value.TheVariants.{Block, Nothing}
-use Rattle.heap_model.specs.declared.reply.Reply.{Reply}
-use Rattle.heap_model.specs.declared.state.Sizes.{Sizes}
-use Rattle.heap_model.specs.Graph.{has_label, label_of, node_at}
-use Rattle.heap_model.specs.Commands.{shown}
-use Rattle.heap_model.specs.History.{IsPrefix}
-use Rattle.table_laws.specs.Structures.{Cell, bucket_count, bindings, datum_at, without, table_labels, empty_chains, is_bucket_full, IsTable}
-use Rattle.table_laws.specs.Thinning.{ThinnedBy, WasOutside}
-use Rattle.table_laws.specs.Stages.{Goes, graph_of, held_in}
-use Rattle.heap_model.specs.declared.reply.Reply.TheVariants as reply
+use Rattle.model_core.specs.declared.label.Label.{Label}
+use Rattle.model_core.specs.declared.entry.Entry.{Entry}
+use Rattle.model_core.specs.declared.graph.Value.{Value}
+use Rattle.model_core.specs.declared.graph.Value.TheVariants.{Block, Nothing}
+use Rattle.model_core.specs.declared.reply.Reply.{Reply}
+use Rattle.model_core.specs.declared.state.Sizes.{Sizes}
+use Rattle.model_core.specs.Graph.{has_label, label_of, node_at}
+use Rattle.model_core.specs.Commands.{shown}
+use Rattle.model_core.specs.History.{IsPrefix}
+use Rattle.weak_laws.specs.Tables.Structures.{Cell, bucket_count, bindings, datum_at, without, table_labels, empty_chains, is_bucket_full, IsTable}
+use Rattle.weak_laws.specs.Tables.Thinning.{ThinnedBy, WasOutside}
+use Rattle.weak_laws.specs.Tables.Stages.{Goes, graph_of, held_in}
+use Rattle.model_core.specs.declared.reply.Reply.TheVariants as reply
 use Rattle.weak_tables.specs.Commands.{value_of}
 use Rattle.weak_tables.specs.Held.{AllHave, IsTidy, KeepsOthers, IsClean, Reads}
 use Rattle.weak_tables.specs.Walks.{Grows, Refused}

@@ -1,23 +1,23 @@
 -- Where the walk of a call stands, and what it leaves.
 use Rattle.std.specs.Prelude.{◌≡◌, ◌≢◌, ◌⊎◌, ℕ, ◌%◌, ◌≤◌, take, Bool, true, false, IsTrue, List, [], ◌∷◌, ◌++◌, length, slice_index_or, Option, Some, None}
 use Rattle.std.specs.List.{list_all}
-use Rattle.heap_model.specs.declared.label.Label.{Label}
-use Rattle.heap_model.specs.declared.command.Command.TheVariants.{Alloc, Load, Store, Ephe as NewEphe}
-use Rattle.heap_model.specs.declared.entry.Entry.{Entry}
-use Rattle.heap_model.specs.declared.graph.Value.{Value}
-use Rattle.heap_model.specs.declared.graph.Value.TheVariants.{Block}
-use Rattle.heap_model.specs.declared.graph.Node.TheVariants.{Ephe}
-use Rattle.heap_model.specs.declared.reply.Reply.{Reply}
-use Rattle.heap_model.specs.declared.state.Sizes.{Sizes}
-use Rattle.heap_model.specs.Graph.{Graph, has_label, node_at}
-use Rattle.heap_model.specs.Commands.{shown}
-use Rattle.table_laws.specs.Structures.{Cell, bucket_count, chain_bindings, bindings, datum_at, without, head_of, table_labels, has_key, is_bucket_full, HasOneMore, IsTable}
-use Rattle.table_laws.specs.Thinning.{ThinnedBy, WasOutside}
-use Rattle.table_laws.specs.Performing.{Performed}
-use Rattle.table_laws.specs.Stages.{Goes, Searching, Walking, Holding, Declines, Filling, graph_of, held_in}
+use Rattle.model_core.specs.declared.label.Label.{Label}
+use Rattle.model_core.specs.declared.command.Command.TheVariants.{Alloc, Load, Store, Ephe as NewEphe}
+use Rattle.model_core.specs.declared.entry.Entry.{Entry}
+use Rattle.model_core.specs.declared.graph.Value.{Value}
+use Rattle.model_core.specs.declared.graph.Value.TheVariants.{Block}
+use Rattle.model_core.specs.declared.graph.Node.TheVariants.{Ephe}
+use Rattle.model_core.specs.declared.reply.Reply.{Reply}
+use Rattle.model_core.specs.declared.state.Sizes.{Sizes}
+use Rattle.model_core.specs.Graph.{Graph, has_label, node_at}
+use Rattle.model_core.specs.Commands.{shown}
+use Rattle.weak_laws.specs.Tables.Structures.{Cell, bucket_count, chain_bindings, bindings, datum_at, without, head_of, table_labels, has_key, is_bucket_full, HasOneMore, IsTable}
+use Rattle.weak_laws.specs.Tables.Thinning.{ThinnedBy, WasOutside}
+use Rattle.weak_laws.specs.Tables.Performing.{Performed}
+use Rattle.weak_laws.specs.Tables.Stages.{Goes, Searching, Walking, Holding, Declines, Filling, graph_of, held_in}
 use Rattle.weak_tables.specs.declared.find.Find.{Find}
 use Rattle.weak_tables.specs.declared.find.Find.TheVariants.{Key, Spare, Nowhere}
-use Rattle.heap_model.specs.declared.reply.Reply.TheVariants as reply
+use Rattle.model_core.specs.declared.reply.Reply.TheVariants as reply
 use Rattle.weak_tables.specs.Held.{AllHave, IsTidy, KeepsOthers, Reads}
 
 -- register 8 holds the ephemeron of one of these cells, and it has no key

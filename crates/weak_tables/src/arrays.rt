@@ -1,14 +1,14 @@
 //! Weak arrays.
 ghost use Rattle.std.specs.Prelude.{◌≡◌, ◌+◌, ◌<◌, ◌≤◌};
-ghost use Rattle.table_laws.specs.Performing.{refusals, full_of, writings, is_spared};
+ghost use Rattle.weak_laws.specs.Tables.Performing.{refusals, full_of, writings, is_spared};
 ghost use Rattle.weak_tables.specs.Held.{HoldsArray};
 ghost use Rattle.weak_tables.specs.Arrays.{SlotReadAt, SlotSetAt};
 
 use crate::machine::{Machine, perform};
 use crate::replies::is_past;
 use crate::taking::clear;
-use heap_model::command::Command;
-use heap_model::reply::Reply;
+use model_core::command::Command;
+use model_core::reply::Reply;
 use std::sync::Wait;
 
 /// Reads a slot of the weak array in a register into another. Answers `bounds` exactly where there is no such slot, `none`

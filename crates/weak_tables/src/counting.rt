@@ -1,10 +1,10 @@
 //! How many bindings a table has.
 ghost use Rattle.std.specs.Prelude.{◌≡◌, ◌<◌, ◌≤◌, List};
-ghost use Rattle.heap_model.specs.declared.graph.Value.TheVariants.{Block};
-ghost use Rattle.heap_model.specs.declared.label.Label as labels;
-ghost use Rattle.table_laws.specs.Structures.{Cell, IsTable};
-ghost use Rattle.table_laws.specs.Performing.{refusals, writings};
-ghost use Rattle.table_laws.specs.Stages.{graph_of, held_in};
+ghost use Rattle.model_core.specs.declared.graph.Value.TheVariants.{Block};
+ghost use Rattle.model_core.specs.declared.label.Label as labels;
+ghost use Rattle.weak_laws.specs.Tables.Structures.{Cell, IsTable};
+ghost use Rattle.weak_laws.specs.Tables.Performing.{refusals, writings};
+ghost use Rattle.weak_laws.specs.Tables.Stages.{graph_of, held_in};
 ghost use Rattle.weak_tables.specs.Held.{HoldsTable};
 ghost use Rattle.weak_tables.specs.Walks.{Counted};
 ghost use Rattle.weak_tables.specs.Tables.{CountsAt};
@@ -12,8 +12,8 @@ ghost use Rattle.weak_tables.specs.Tables.{CountsAt};
 use crate::machine::{Machine, perform};
 use crate::replies::{is_block, one};
 use crate::taking::clear;
-use heap_model::command::Command;
-use heap_model::reply::Reply;
+use model_core::command::Command;
+use model_core::reply::Reply;
 use std::sync::Wait;
 
 // Counts the full keys in a bucket, each as it is looked at. It has fewer cells than labels were given out.

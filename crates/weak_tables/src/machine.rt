@@ -1,19 +1,19 @@
 //! What the calls need of a session.
 ghost use Rattle.std.specs.Prelude.{◌≡◌, ◌+◌, ◌<◌, ◌≤◌, ℕ, List, []};
-ghost use Rattle.heap_model.specs.declared.entry.Entry.{Entry};
-ghost use Rattle.heap_model.specs.declared.state.Sizes.{Sizes};
-ghost use Rattle.heap_model.specs.Domains.{IsWithinLimits, domain_at, opening};
-ghost use Rattle.heap_model.specs.History.{Legal};
-ghost use Rattle.heap_model.specs.Commands.{shown};
-ghost use Rattle.heap_model.specs.Registrations.{all_registered};
-ghost use Rattle.table_laws.specs.Thinning.{state_of};
-ghost use Rattle.table_laws.specs.Performing.{Performed, refusals, full_of, writes, writings};
-ghost use Rattle.table_laws.specs.Stages.{held_in};
-ghost use Rattle.command_counts.specs.Counts.{labels_of, labels_given, ephemerons_of, ephemerons_given};
+ghost use Rattle.model_core.specs.declared.entry.Entry.{Entry};
+ghost use Rattle.model_core.specs.declared.state.Sizes.{Sizes};
+ghost use Rattle.model_core.specs.Domains.{IsWithinLimits, domain_at, opening};
+ghost use Rattle.model_core.specs.History.{Legal};
+ghost use Rattle.model_core.specs.Commands.{shown};
+ghost use Rattle.model_core.specs.Registrations.{all_registered};
+ghost use Rattle.weak_laws.specs.Tables.Thinning.{state_of};
+ghost use Rattle.weak_laws.specs.Tables.Performing.{Performed, refusals, full_of, writes, writings};
+ghost use Rattle.weak_laws.specs.Tables.Stages.{held_in};
+ghost use Rattle.model_core.specs.Counts.Counts.{labels_of, labels_given, ephemerons_of, ephemerons_given};
 ghost use Rattle.weak_tables.specs.Commands.{IsCallCommand};
 
-use heap_model::command::Command;
-use heap_model::reply::Reply;
+use model_core::command::Command;
+use model_core::reply::Reply;
 use std::sync::Wait;
 
 /// The one domain of a heap, whose commands are handed in one by one.

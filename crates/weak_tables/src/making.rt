@@ -1,8 +1,8 @@
 //! Tables and weak arrays that are made.
 ghost use Rattle.std.specs.Prelude.{◌≡◌, ◌+◌, ◌<◌, ◌≤◌, List, cond};
-ghost use Rattle.heap_model.specs.declared.entry.Entry.{Entry};
-ghost use Rattle.heap_model.specs.declared.label.Label as labels;
-ghost use Rattle.table_laws.specs.Performing.{refusals, full_of};
+ghost use Rattle.model_core.specs.declared.entry.Entry.{Entry};
+ghost use Rattle.model_core.specs.declared.label.Label as labels;
+ghost use Rattle.weak_laws.specs.Tables.Performing.{refusals, full_of};
 ghost use Rattle.weak_tables.specs.Walks.{Filled, Fills};
 ghost use Rattle.weak_tables.specs.Tables.{MakeAnswers};
 ghost use Rattle.weak_tables.specs.Arrays.{ArrayAnswers};
@@ -10,8 +10,8 @@ ghost use Rattle.weak_tables.specs.Arrays.{ArrayAnswers};
 use crate::machine::{Machine, perform};
 use crate::replies::is_full;
 use crate::taking::clear;
-use heap_model::command::Command;
-use heap_model::reply::Reply;
+use model_core::command::Command;
+use model_core::reply::Reply;
 use std::sync::Wait;
 
 /// Makes a table, into a register below 8. It binds nothing. Answers its block, or `full` where the allocation was refused:

@@ -1,10 +1,10 @@
 //! Bindings that are put and read.
 ghost use Rattle.std.specs.Prelude.{◌≡◌, ◌+◌, ◌<◌, ◌≤◌, Bool, cond, IsTrue, List, None};
-ghost use Rattle.heap_model.specs.declared.graph.Value.TheVariants.{Block};
-ghost use Rattle.heap_model.specs.declared.label.Label as labels;
-ghost use Rattle.table_laws.specs.Structures.{Cell, IsTable, bindings, datum_at, is_bucket_full};
-ghost use Rattle.table_laws.specs.Performing.{refusals, full_of, writings, is_spared};
-ghost use Rattle.table_laws.specs.Stages.{graph_of, held_in};
+ghost use Rattle.model_core.specs.declared.graph.Value.TheVariants.{Block};
+ghost use Rattle.model_core.specs.declared.label.Label as labels;
+ghost use Rattle.weak_laws.specs.Tables.Structures.{Cell, IsTable, bindings, datum_at, is_bucket_full};
+ghost use Rattle.weak_laws.specs.Tables.Performing.{refusals, full_of, writings, is_spared};
+ghost use Rattle.weak_laws.specs.Tables.Stages.{graph_of, held_in};
 ghost use Rattle.weak_tables.specs.Held.{HoldsTable};
 ghost use Rattle.weak_tables.specs.Walks.{CellAnswers, LinksCell, Placed};
 ghost use Rattle.weak_tables.specs.Tables.{GetsAt, PutsAt};
@@ -14,9 +14,9 @@ use crate::machine::{Machine, perform};
 use crate::replies::{is_empty, is_full};
 use crate::searching::{bucket_of, look_up, search};
 use crate::taking::clear;
-use heap_model::command::Command;
-use heap_model::label::Label;
-use heap_model::reply::Reply;
+use model_core::command::Command;
+use model_core::label::Label;
+use model_core::reply::Reply;
 use std::sync::Wait;
 
 // Makes a cell without a key: its ephemeron in register 8 and its node in register 9. Tells whether neither was refused.

@@ -1,11 +1,11 @@
 //! What a reply shows.
 ghost use Rattle.std.specs.Prelude.{◌≡◌, ◌↔◌, cond, true};
-ghost use Rattle.heap_model.specs.declared.reply.Reply.TheVariants as variant;
-ghost use Rattle.table_laws.specs.Performing.{full_of};
+ghost use Rattle.model_core.specs.declared.reply.Reply.TheVariants as variant;
+ghost use Rattle.weak_laws.specs.Tables.Performing.{full_of};
 ghost use Rattle.weak_tables.specs.Commands.{IsBlock, one_of};
 
-use heap_model::label::Label;
-use heap_model::reply::Reply;
+use model_core::label::Label;
+use model_core::reply::Reply;
 
 // Whether a reply shows a block.
 pub(crate) fn is_block(reply: &Reply) -> bool

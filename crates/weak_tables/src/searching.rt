@@ -1,18 +1,18 @@
 //! The search of a key in its bucket.
 ghost use Rattle.std.specs.Prelude.{◌≡◌, ◌<◌, ◌≤◌, ◌%◌};
-ghost use Rattle.heap_model.specs.declared.graph.Value.TheVariants.{Block};
-ghost use Rattle.table_laws.specs.Structures.{bucket_count};
-ghost use Rattle.table_laws.specs.Performing.{refusals, writings};
-ghost use Rattle.table_laws.specs.Stages.{held_in};
+ghost use Rattle.model_core.specs.declared.graph.Value.TheVariants.{Block};
+ghost use Rattle.weak_laws.specs.Tables.Structures.{bucket_count};
+ghost use Rattle.weak_laws.specs.Tables.Performing.{refusals, writings};
+ghost use Rattle.weak_laws.specs.Tables.Stages.{held_in};
 ghost use Rattle.weak_tables.specs.Held.{HoldsTable};
 ghost use Rattle.weak_tables.specs.Walks.{KeepsSpare, LooksUp, Searched, passed_all};
 
 use crate::find::Find;
 use crate::machine::{Machine, perform};
 use crate::replies::{is_block, is_empty, is_this};
-use heap_model::command::Command;
-use heap_model::label::Label;
-use heap_model::reply::Reply;
+use model_core::command::Command;
+use model_core::label::Label;
+use model_core::reply::Reply;
 use std::sync::Wait;
 
 // The bucket of a key.

@@ -1,14 +1,14 @@
 //! Bindings that are taken out.
 ghost use Rattle.std.specs.Prelude.{◌≡◌, ◌+◌, ◌<◌, ◌≤◌};
-ghost use Rattle.heap_model.specs.declared.graph.Value.TheVariants.{Block};
-ghost use Rattle.table_laws.specs.Performing.{refusals, full_of, writings};
+ghost use Rattle.model_core.specs.declared.graph.Value.TheVariants.{Block};
+ghost use Rattle.weak_laws.specs.Tables.Performing.{refusals, full_of, writings};
 ghost use Rattle.weak_tables.specs.Held.{Cleared, HoldsTable};
 ghost use Rattle.weak_tables.specs.Tables.{TakesAt};
 
 use crate::machine::{Machine, perform};
 use crate::searching::look_up;
-use heap_model::command::Command;
-use heap_model::reply::Reply;
+use model_core::command::Command;
+use model_core::reply::Reply;
 use std::sync::Wait;
 
 // Empties the registers that the calls use between.

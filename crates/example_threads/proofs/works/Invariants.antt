@@ -1,4 +1,4 @@
-use Rattle.heap_seats.specs.Seating.{IsSeatOf}
+use Rattle.run_seats.specs.Seating.{IsSeatOf}
 use Rattle.example_threads.proofs.works.Given as goal
 
 abbrev pub invariant-commands : goal.invariant-commands

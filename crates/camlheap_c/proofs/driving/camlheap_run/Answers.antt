@@ -1,6 +1,6 @@
 use Rattle.std.proofs.Common.{◌≡◌, ◌∙◌, sym, subst}
-use Rattle.open_runs.specs.Driving.{Awaits}
-use Rattle.shared_runs.specs.Sharing.{SharedView}
+use Rattle.run_open.specs.Driving.{Awaits}
+use Rattle.run_seats.specs.Shared.Sharing.{SharedView}
 use Rattle.camlheap_c.specs.Exported.{GoesOn}
 use Rattle.camlheap_c.proofs.driving.camlheap_run.Goals as goal
 

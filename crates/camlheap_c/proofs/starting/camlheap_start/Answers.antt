@@ -1,6 +1,6 @@
 use Rattle.std.proofs.Common.{◌≡◌, ℕ, ◌+◌, ◌<◌, ◌≤◌, ◌∙◌, List, length, Err, Some, sym, ap, subst, arith}
 use Rattle.std.proofs.lemmas.List.{length-map}
-use Rattle.shared_runs.specs.Sharing.{SharedView}
+use Rattle.run_seats.specs.Shared.Sharing.{SharedView}
 use Rattle.camlheap_c.specs.Exported.{config_of}
 use Rattle.camlheap_c.proofs.Handing.{outside_few, shared_count}
 use Rattle.camlheap_c.proofs.starting.camlheap_start.Goals as goal

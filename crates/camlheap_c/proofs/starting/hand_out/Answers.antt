@@ -1,7 +1,7 @@
 use Rattle.std.proofs.Common.{◌≡◌, ℕ, ◌<◌, ◌∙◌, List, [], ◌∷◌, ◌++◌, append-nil, append_assoc, length, length-append, map, slice_set, sym, ap, subst, arith}
 use Rattle.std.proofs.lemmas.List.{length-map}
 use Rattle.std.specs.Vec.Iter.{into_iter_items}
-use Rattle.shared_runs.specs.Sharing.{SharedView}
+use Rattle.run_seats.specs.Shared.Sharing.{SharedView}
 use Rattle.camlheap_c.specs.Exported.{Fills}
 use Rattle.camlheap_c.proofs.Handing.{fills_more, none_left}
 use Rattle.camlheap_c.proofs.starting.hand_out.Goals as goal

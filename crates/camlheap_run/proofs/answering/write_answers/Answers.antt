@@ -1,7 +1,7 @@
 use Rattle.std.proofs.Common.{arith}
-use Rattle.heap_model.specs.Output.{line}
-use Rattle.table_machine.specs.declared.reply.LineReply.TheVariants.{Done}
-use Rattle.table_machine.specs.Texts.{line_reply_text}
+use Rattle.model_core.specs.Output.{line}
+use Rattle.table_text.specs.declared.machine.reply.LineReply.TheVariants.{Done}
+use Rattle.table_text.specs.Machine.Texts.{line_reply_text}
 use Rattle.camlheap_run.proofs.WritingLemmas.{front_is_written, front_of_second, text_at}
 use Rattle.camlheap_run.proofs.answering.write_answers.Goals as goal
 

@@ -1,6 +1,6 @@
 use Rattle.std.proofs.Common.{◌≡◌, take}
 use Rattle.std.specs.Io.KnownBytes.{Appends}
-use Rattle.table_machine.specs.Texts.{replies_text}
+use Rattle.table_text.specs.Machine.Texts.{replies_text}
 use Rattle.camlheap_run.proofs.answering.write_answers.Given as goal
 
 abbrev pub invariant-replies : goal.invariant-replies

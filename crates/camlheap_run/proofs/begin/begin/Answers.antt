@@ -1,8 +1,8 @@
 use Rattle.std.proofs.Common.{◌≡◌, ℕ, ◌+◌, List, [], length, sym, ap, ◌∙◌, subst, arith, Err, map}
 use Rattle.std.specs.Prelude.{slice_index_or}
-use Rattle.heap_model.specs.declared.command.Command.{Command}
+use Rattle.model_core.specs.declared.command.Command.{Command}
 use Rattle.heap_rule.specs.Token.{Token}
-use Rattle.mark_slices.specs.Decks.{uncounted}
+use Rattle.gc_mark.specs.Decks.{uncounted}
 use Rattle.camlheap_run.specs.Running.{MayBegin, deck_of, opened_each}
 use Rattle.camlheap_run.proofs.SectionLemmas.{spelled_fine, spelled_length}
 use Rattle.camlheap_run.proofs.BeginLemmas.{decks_are, may_begin, opened_are, length-opening_tokens, some_domain}

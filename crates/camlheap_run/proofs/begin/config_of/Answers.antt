@@ -1,7 +1,7 @@
 use Rattle.std.proofs.Common.{◌≡◌, refl, ℕ, ◌≤◌, sym, ap, ◌∙◌, arith}
-use Rattle.heap_model.specs.Domains.{sizes_of, first_outside as outside_sizes}
+use Rattle.model_core.specs.Domains.{sizes_of, first_outside as outside_sizes}
 use Rattle.heap_rule.specs.declared.config.Config.{Config}
-use Rattle.domain_turns.specs.Runs.{ephemerons_in, registrations_in}
+use Rattle.run_turns.specs.Runs.{ephemerons_in, registrations_in}
 use Rattle.camlheap_run.specs.Running.{most_of}
 use Rattle.camlheap_run.proofs.SectionLemmas.{few_ephemerons, few_registrations, rooms_fit}
 use Rattle.camlheap_run.proofs.begin.config_of.Goals as goal

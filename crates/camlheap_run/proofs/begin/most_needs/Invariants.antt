@@ -1,6 +1,6 @@
 use Rattle.std.proofs.Common.{◌≡◌}
 use Rattle.std.specs.Prelude.{drop, max}
-use Rattle.domain_turns.specs.Runs.{ephemerons_in, registrations_in}
+use Rattle.run_turns.specs.Runs.{ephemerons_in, registrations_in}
 use Rattle.camlheap_run.specs.Running.{most_of}
 use Rattle.camlheap_run.proofs.begin.most_needs.Given as goal
 

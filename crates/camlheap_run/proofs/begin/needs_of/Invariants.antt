@@ -1,6 +1,6 @@
 use Rattle.std.proofs.Common.{◌≡◌, ◌≤◌, ◌+◌}
 use Rattle.std.specs.Prelude.{drop}
-use Rattle.domain_turns.specs.Runs.{ephemerons_in, registrations_in}
+use Rattle.run_turns.specs.Runs.{ephemerons_in, registrations_in}
 use Rattle.camlheap_run.proofs.begin.needs_of.Given as goal
 
 abbrev pub invariant-commands : goal.invariant-commands

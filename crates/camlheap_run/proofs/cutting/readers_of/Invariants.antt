@@ -1,6 +1,6 @@
 use Rattle.std.proofs.Common.{◌≡◌, ◌≤◌, ◌++◌, length, map, drop}
 use Rattle.std.specs.List.{AllByRecursion}
-use Rattle.heap_text.specs.Sections.{headed}
+use Rattle.text_script.specs.Sections.{headed}
 use Rattle.camlheap_run.specs.Readers.{IsReaderOf, lines_of}
 use Rattle.camlheap_run.proofs.cutting.readers_of.Given as goal
 

@@ -2,7 +2,7 @@ use Rattle.std.proofs.Common.{◌≡◌, ◌≤◌, ◌+◌, ◌++◌, length, m
 use Rattle.std.specs.Prelude.{vec_capacity}
 use Rattle.std.specs.List.{AllByRecursion}
 use Rattle.std.specs.Vec.Iter.{into_iter_items, into_iter_len}
-use Rattle.domain_turns.specs.Runs.{IsRun}
+use Rattle.run_turns.specs.Runs.{IsRun}
 use Rattle.camlheap_run.specs.Running.{IsOver, token_of}
 use Rattle.camlheap_run.proofs.end.domains_of.Given as goal
 

@@ -1,6 +1,6 @@
 use Rattle.std.proofs.Common.{arith}
-use Rattle.heap_model.specs.Output.{line}
-use Rattle.heap_text.specs.Spelling.{command_text}
+use Rattle.model_core.specs.Output.{line}
+use Rattle.text_script.specs.Spelling.{command_text}
 use Rattle.camlheap_run.proofs.WritingLemmas.{front_is_written, front_of_second, text_at}
 use Rattle.camlheap_run.proofs.generating.write_commands.Goals as goal
 

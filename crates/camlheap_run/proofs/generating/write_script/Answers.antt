@@ -1,5 +1,5 @@
 use Rattle.std.proofs.Common.{sym, codes, length}
-use Rattle.heap_model.specs.Output.{line}
+use Rattle.model_core.specs.Output.{line}
 use Rattle.camlheap_run.specs.Generating.{sections_text}
 use Rattle.camlheap_run.proofs.GeneratingLemmas.{spelling_is}
 use Rattle.camlheap_run.proofs.WritingLemmas.{front_as, front_is_written, front_of_first, written_as, writes_both}

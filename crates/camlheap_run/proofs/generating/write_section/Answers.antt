@@ -1,7 +1,7 @@
 use Rattle.std.proofs.Common.{ap, List, ◌++◌}
-use Rattle.heap_model.specs.declared.command.Command.{Command}
-use Rattle.heap_model.specs.Output.{line}
-use Rattle.heap_text.specs.Spelling.{heading_text}
+use Rattle.model_core.specs.declared.command.Command.{Command}
+use Rattle.model_core.specs.Output.{line}
+use Rattle.text_script.specs.Spelling.{heading_text}
 use Rattle.camlheap_run.specs.Generating.{commands_text}
 use Rattle.camlheap_run.proofs.WritingLemmas.{front_is_written, front_of_first, written_as, writes_both}
 use Rattle.camlheap_run.proofs.generating.write_section.Goals as goal

@@ -1,7 +1,7 @@
 use Rattle.std.proofs.Common.{ℕ, sym, ap, subst}
-use Rattle.heap_model.specs.declared.state.Sizes.{Sizes}
-use Rattle.heap_text.specs.declared.version.Version.TheVariants.{One, Two}
-use Rattle.heap_text.specs.Spelling.{Spells, spelling}
+use Rattle.model_core.specs.declared.state.Sizes.{Sizes}
+use Rattle.text_script.specs.declared.version.Version.TheVariants.{One, Two}
+use Rattle.text_script.specs.Spelling.{Spells, spelling}
 use Rattle.camlheap_run.proofs.load.load.Goals as goal
 
 pub run-requires-clause-script : goal.run-requires-clause-script

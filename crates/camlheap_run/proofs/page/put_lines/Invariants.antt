@@ -1,5 +1,5 @@
 use Rattle.std.proofs.Common.{◌≡◌, ◌*◌, ◌≤◌, take}
-use Rattle.heap_model.specs.Output.{printed}
+use Rattle.model_core.specs.Output.{printed}
 use Rattle.camlheap_run.proofs.page.put_lines.Given as goal
 
 abbrev pub invariant-replies : goal.invariant-replies

@@ -1,6 +1,6 @@
 use Rattle.std.proofs.Common.{Ok, arith}
-use Rattle.heap_text.specs.declared.version.Version.TheVariants.{Three}
-use Rattle.heap_text.proofs.OnlyLemmas.{only_read, refused_by}
+use Rattle.text_script.specs.declared.version.Version.TheVariants.{Three}
+use Rattle.text_script.proofs.OnlyLemmas.{only_read, refused_by}
 use Rattle.camlheap_run.proofs.reading.read_text.Goals as goal
 
 pub returns-in-Ok-Some-clause-only : goal.returns-in-Ok-Some-clause-only

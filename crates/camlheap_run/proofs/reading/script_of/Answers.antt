@@ -1,5 +1,5 @@
-use Rattle.heap_text.specs.declared.version.Version.TheVariants.{Three}
-use Rattle.heap_text.specs.Faults.{first_fault}
+use Rattle.text_script.specs.declared.version.Version.TheVariants.{Three}
+use Rattle.text_script.specs.Faults.{first_fault}
 use Rattle.camlheap_run.specs.Reading.{IsFirst}
 use Rattle.camlheap_run.proofs.ReadingLemmas.{not_refused, told_fault, told_script}
 use Rattle.camlheap_run.proofs.reading.script_of.Goals as goal

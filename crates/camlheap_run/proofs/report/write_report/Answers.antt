@@ -1,5 +1,5 @@
 use Rattle.std.proofs.Common.{subst, arith}
-use Rattle.domain_turns.specs.Runs.{RunView}
+use Rattle.run_turns.specs.Runs.{RunView}
 use Rattle.camlheap_run.specs.Writing.{AppendsFront, run_text}
 use Rattle.camlheap_run.proofs.WritingLemmas.{front_is_written, front_of_second, text_at}
 use Rattle.camlheap_run.proofs.report.write_report.Goals as goal

@@ -1,5 +1,5 @@
 use Rattle.std.proofs.Common.{arith}
-use Rattle.heap_text.specs.declared.version.Version.TheVariants.{Two}
+use Rattle.text_script.specs.declared.version.Version.TheVariants.{Two}
 use Rattle.camlheap_run.proofs.RunLemmas.{begun_here, length-begun, drives_run, drives_front}
 use Rattle.camlheap_run.proofs.SectionLemmas.{spelled_short}
 use Rattle.camlheap_run.proofs.run.run.Goals as goal

@@ -2,7 +2,7 @@ use Rattle.std.proofs.Common.{◌≡◌, Some, subst, sym, List, ℕ, map}
 use Rattle.std.specs.Prelude.{Option}
 use Rattle.std.specs.List.{AllByRecursion}
 use Rattle.std.specs.Io.KnownBytes.{Appends}
-use Rattle.domain_turns.specs.Runs.{RunView}
+use Rattle.run_turns.specs.Runs.{RunView}
 use Rattle.heap_rule.specs.Ending.{EndedHeap}
 use Rattle.camlheap_run.specs.declared.telling.Teller.{Teller}
 use Rattle.camlheap_run.specs.Running.{IsHere, IsOver, IsPastOf}

@@ -1,13 +1,13 @@
 use Rattle.std.proofs.Common.{◌≡◌, ℕ, ◌+◌, ◌<◌, ◌≤◌, List, [], length, sym, ap, ◌∙◌, subst, arith, Err}
 use Rattle.std.specs.Prelude.{slice_get, slice_index_or}
-use Rattle.heap_model.specs.declared.command.Command.{Command}
+use Rattle.model_core.specs.declared.command.Command.{Command}
 use Rattle.heap_rule.specs.declared.config.Config.{Config}
 use Rattle.heap_rule.proofs.Sizes.{within}
-use Rattle.mark_slices.specs.Decks.{uncounted}
-use Rattle.spawn_laws.specs.Expansion.{AreFitting}
-use Rattle.domain_spawn.specs.Opening.{IsOpened}
-use Rattle.domain_turns.specs.Runs.{RunView, ephemerons_in, registrations_in}
-use Rattle.spawned_scripts.proofs.Fitting.{spelled_fits}
+use Rattle.gc_mark.specs.Decks.{uncounted}
+use Rattle.model_traces.specs.Spawns.Expansion.{AreFitting}
+use Rattle.do_spawn.specs.Opening.{IsOpened}
+use Rattle.run_turns.specs.Runs.{RunView, ephemerons_in, registrations_in}
+use Rattle.text_script.proofs.OfSpawned.Fitting.{spelled_fits}
 use Rattle.camlheap_run.specs.Running.{MayBeginSections, most_of, sectioned_each}
 use Rattle.camlheap_run.proofs.BeginLemmas.{some_domain}
 use Rattle.camlheap_run.proofs.SectionLemmas.{script_length, spelled_sections, spelled_short}

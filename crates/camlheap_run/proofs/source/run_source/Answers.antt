@@ -1,7 +1,7 @@
 use Rattle.std.proofs.Common.{◌≡◌, sym, ap, inl, subst, ◌∙◌}
 use Rattle.camlheap_run.specs.declared.status.Status.TheVariants.{Script}
-use Rattle.heap_text.specs.declared.version.Version.TheVariants.{Three}
-use Rattle.heap_text.specs.Faults.{first_fault}
+use Rattle.text_script.specs.declared.version.Version.TheVariants.{Three}
+use Rattle.text_script.specs.Faults.{first_fault}
 use Rattle.camlheap_run.specs.Reading.{IsFirst, ReadsFirstFault}
 use Rattle.camlheap_run.proofs.ReadingLemmas.{told_fault}
 use Rattle.camlheap_run.proofs.source.run_source.Goals as goal

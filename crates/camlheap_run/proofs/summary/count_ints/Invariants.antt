@@ -1,6 +1,6 @@
 use Rattle.std.proofs.Common.{◌≡◌, ◌≤◌, length, take}
 use Rattle.std.specs.Prelude.{flat_map}
-use Rattle.heap_model.specs.Output.{ints_of, int_sum}
+use Rattle.model_core.specs.Output.{ints_of, int_sum}
 use Rattle.camlheap_run.proofs.summary.count_ints.Given as goal
 
 abbrev pub invariant-replies : goal.invariant-replies

@@ -1,9 +1,9 @@
 use Rattle.std.proofs.Common.{◌≡◌, map, subst, sym, Some}
 use Rattle.std.specs.Prelude.{string_bytes}
-use Rattle.heap_model.specs.declared.state.Sizes.{Sizes}
-use Rattle.command_line.specs.declared.job.Generated.{Generated}
-use Rattle.command_line.specs.declared.job.Job.TheVariants.{Replay}
-use Rattle.command_line.specs.Jobs.{asked_job}
+use Rattle.model_core.specs.declared.state.Sizes.{Sizes}
+use Rattle.text_script.specs.declared.words.job.Generated.{Generated}
+use Rattle.text_script.specs.declared.words.job.Job.TheVariants.{Replay}
+use Rattle.text_script.specs.Words.Jobs.{asked_job}
 use Rattle.camlheap_run.specs.Outcome.{IsSourceAnswer, LoadsToEnd, StopsLoading}
 use Rattle.camlheap_run.specs.Reading.{ReadsFirstFault, TellsReplay, TellsScript}
 use Rattle.camlheap_run.specs.Words.{AsksToRead}

@@ -1,7 +1,7 @@
 use Rattle.std.proofs.Common.{◌≡◌, ◌++◌, ℕ, List}
 use Rattle.std.specs.Io.KnownBytes.{Appends}
 use Rattle.std.specs.Slice.Iter.{chunks_rest, chunks_size}
-use Rattle.heap_model.specs.Output.{printed}
+use Rattle.model_core.specs.Output.{printed}
 use Rattle.camlheap_run.proofs.writing.write_replies.Given as goal
 
 abbrev pub invariant-pages : goal.invariant-pages

@@ -1,7 +1,7 @@
 use Rattle.std.proofs.Common.{◌≡◌, ◌∙◌, List, [], ◌∷◌, ◌++◌, append-nil, append_assoc, length, length-append, map, sym, ap, subst, arith}
 use Rattle.std.proofs.lemmas.List.{map-append}
 use Rattle.std.specs.Vec.Iter.{into_iter_items}
-use Rattle.heap_seats.specs.Seating.{SeatView}
+use Rattle.run_seats.specs.Seating.{SeatView}
 use Rattle.example_handles.specs.declared.resource.Resource.{Resource}
 use Rattle.example_handles.specs.Handling.{AllHandlesOf, HandlesView, Parts, PartsEach}
 use Rattle.example_handles.proofs.Ending.{none_left, parts_one}

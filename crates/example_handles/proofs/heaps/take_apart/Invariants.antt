@@ -1,7 +1,7 @@
 use Rattle.std.proofs.Common.{◌≡◌, ◌≤◌, ◌+◌, ◌++◌, List, length, map}
 use Rattle.std.specs.Prelude.{vec_capacity}
 use Rattle.std.specs.Vec.Iter.{into_iter_items, into_iter_len}
-use Rattle.heap_seats.specs.Seating.{SeatView}
+use Rattle.run_seats.specs.Seating.{SeatView}
 use Rattle.example_handles.specs.declared.resource.Resource.{Resource}
 use Rattle.example_handles.specs.Handling.{AllHandlesOf, PartsEach}
 use Rattle.example_handles.proofs.heaps.take_apart.Given as goal

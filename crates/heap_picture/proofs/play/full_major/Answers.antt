@@ -1,5 +1,5 @@
 use Rattle.std.proofs.Common.{[], ◌∷◌}
-use Rattle.heap_model.specs.declared.command.Command.TheVariants.{FullMajor}
+use Rattle.model_core.specs.declared.command.Command.TheVariants.{FullMajor}
 use Rattle.heap_picture.proofs.PlaysLemmas.{plays_both, plays_then}
 use Rattle.heap_picture.proofs.play.full_major.Goals as goal
 

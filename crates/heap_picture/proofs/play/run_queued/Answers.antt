@@ -1,6 +1,6 @@
 use Rattle.std.proofs.Common.{[], ap, ◌∙◌, add-one}
-use Rattle.heap_model.specs.declared.entry.Entry.TheVariants.{Ran}
-use Rattle.heap_model.specs.Entries.{next}
+use Rattle.model_core.specs.declared.entry.Entry.TheVariants.{Ran}
+use Rattle.model_core.specs.Entries.{next}
 use Rattle.heap_picture.proofs.PlaysLemmas.{plays_both}
 use Rattle.heap_picture.proofs.play.run_queued.Goals as goal
 

@@ -1,12 +1,12 @@
 use Rattle.std.proofs.Common.{◌≡◌, ◌∙◌, sym, List, [], ◌∷◌, ◌++◌, subst}
-use Rattle.heap_model.specs.declared.entry.Entry.{Entry}
-use Rattle.heap_model.specs.declared.state.Sizes.{Sizes}
-use Rattle.heap_model.specs.Domains.{opening}
-use Rattle.heap_model.specs.Registrations.{all_registered}
+use Rattle.model_core.specs.declared.entry.Entry.{Entry}
+use Rattle.model_core.specs.declared.state.Sizes.{Sizes}
+use Rattle.model_core.specs.Domains.{opening}
+use Rattle.model_core.specs.Registrations.{all_registered}
 use Rattle.table_text.specs.declared.line.TableLine.TheVariants as line_of
 use Rattle.weak_tables.proofs.TakeLemmas.{at_sizes}
-use Rattle.table_keepers.specs.Keepers.{HoldsKeeper}
-use Rattle.table_keepers.specs.Answers.{SweepAnswers}
+use Rattle.table_run.specs.Keepers.Keepers.{HoldsKeeper}
+use Rattle.table_run.specs.Keepers.Answers.{SweepAnswers}
 use Rattle.table_run.proofs.LinesLemmas.{gone, standing_forgot}
 use Rattle.table_run.proofs.line.collect.Goals as goal
 

@@ -1,8 +1,8 @@
 use Rattle.std.proofs.Common.{List, [], ◌∷◌, ◌++◌, sym, subst}
-use Rattle.heap_model.specs.declared.entry.Entry.{Entry}
-use Rattle.heap_model.specs.declared.state.Sizes.{Sizes}
+use Rattle.model_core.specs.declared.entry.Entry.{Entry}
+use Rattle.model_core.specs.declared.state.Sizes.{Sizes}
 use Rattle.table_text.specs.declared.line.TableLine.TheVariants as line_of
-use Rattle.table_machine.specs.declared.reply.LineReply.{LineReply}
+use Rattle.table_text.specs.declared.machine.reply.LineReply.{LineReply}
 use Rattle.table_run.specs.Running.{LineDone}
 use Rattle.table_run.proofs.LinesLemmas.{deleted}
 use Rattle.table_run.proofs.line.delete.Goals as goal

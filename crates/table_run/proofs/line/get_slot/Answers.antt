@@ -1,12 +1,12 @@
 use Rattle.std.proofs.Common.{◌≡◌, ℕ, List, [], ◌∷◌, ◌++◌, slice_get, sym, subst}
-use Rattle.heap_model.specs.declared.entry.Entry.{Entry}
-use Rattle.heap_model.specs.declared.state.Sizes.{Sizes}
+use Rattle.model_core.specs.declared.entry.Entry.{Entry}
+use Rattle.model_core.specs.declared.state.Sizes.{Sizes}
 use Rattle.table_text.specs.declared.line.TableLine.TheVariants as line_of
-use Rattle.heap_model.specs.declared.label.Label.{Label}
-use Rattle.heap_model.specs.declared.graph.Value.TheVariants.{Block}
-use Rattle.table_laws.specs.Structures.{IsWeakArray}
-use Rattle.table_laws.specs.Stages.{graph_of, held_in}
-use Rattle.table_machine.specs.declared.reply.LineReply.{LineReply}
+use Rattle.model_core.specs.declared.label.Label.{Label}
+use Rattle.model_core.specs.declared.graph.Value.TheVariants.{Block}
+use Rattle.weak_laws.specs.Tables.Structures.{IsWeakArray}
+use Rattle.weak_laws.specs.Tables.Stages.{graph_of, held_in}
+use Rattle.table_text.specs.declared.machine.reply.LineReply.{LineReply}
 use Rattle.table_run.specs.Running.{LineDone}
 use Rattle.weak_tables.specs.Arrays.{SlotAnswers}
 use Rattle.weak_tables.proofs.TakeLemmas.{at_sizes}

@@ -1,12 +1,12 @@
 use Rattle.std.proofs.Common.{◌≡◌, ◌∙◌, ◌+◌, ◌≤◌, ℕ, List, true, false, sym, subst, arith, [], ◌∷◌, ◌++◌}
-use Rattle.heap_model.specs.declared.entry.Entry.{Entry}
-use Rattle.heap_model.specs.declared.state.Sizes.{Sizes}
+use Rattle.model_core.specs.declared.entry.Entry.{Entry}
+use Rattle.model_core.specs.declared.state.Sizes.{Sizes}
 use Rattle.table_text.specs.declared.line.TableLine.TheVariants as line_of
-use Rattle.heap_model.specs.declared.command.Command.TheVariants.{Alloc}
-use Rattle.heap_model.specs.Domains.{domain_at}
-use Rattle.table_laws.specs.Thinning.{state_of}
-use Rattle.command_counts.specs.Counts.{labels_given}
-use Rattle.command_counts.proofs.Few.{labels_few}
+use Rattle.model_core.specs.declared.command.Command.TheVariants.{Alloc}
+use Rattle.model_core.specs.Domains.{domain_at}
+use Rattle.weak_laws.specs.Tables.Thinning.{state_of}
+use Rattle.model_core.specs.Counts.Counts.{labels_given}
+use Rattle.model_core.proofs.OfCounts.Few.{labels_few}
 use Rattle.table_run.proofs.LinesLemmas.{key_made, key_refused}
 use Rattle.table_run.proofs.line.make_key.Goals as goal
 

@@ -1,15 +1,15 @@
 use Rattle.std.proofs.Common.{ℤ, ◌≡◌, ◌∙◌, ◌+◌, ℕ, List, [], ◌∷◌, ◌++◌, sym, subst, arith}
-use Rattle.heap_model.specs.declared.entry.Entry.{Entry}
-use Rattle.heap_model.specs.declared.state.Sizes.{Sizes}
+use Rattle.model_core.specs.declared.entry.Entry.{Entry}
+use Rattle.model_core.specs.declared.state.Sizes.{Sizes}
 use Rattle.table_text.specs.declared.line.TableLine.TheVariants as line_of
-use Rattle.heap_model.specs.Domains.{domain_at}
-use Rattle.table_laws.specs.Thinning.{state_of}
-use Rattle.table_machine.specs.declared.reply.LineReply.{LineReply}
+use Rattle.model_core.specs.Domains.{domain_at}
+use Rattle.weak_laws.specs.Tables.Thinning.{state_of}
+use Rattle.table_text.specs.declared.machine.reply.LineReply.{LineReply}
 use Rattle.table_run.specs.Running.{LineDone}
-use Rattle.heap_model.specs.declared.command.Command.TheVariants.{PutInt}
-use Rattle.table_laws.specs.Performing.{Performed}
-use Rattle.table_keepers.specs.Keepers.{HoldsKeeper}
-use Rattle.table_keepers.specs.Answers.{PutsAt}
+use Rattle.model_core.specs.declared.command.Command.TheVariants.{PutInt}
+use Rattle.weak_laws.specs.Tables.Performing.{Performed}
+use Rattle.table_run.specs.Keepers.Keepers.{HoldsKeeper}
+use Rattle.table_run.specs.Keepers.Answers.{PutsAt}
 use Rattle.table_run.proofs.ValueLemmas.{value_held}
 use Rattle.table_run.proofs.LinesLemmas.{standing_put, put_made}
 use Rattle.table_run.proofs.line.put.Goals as goal

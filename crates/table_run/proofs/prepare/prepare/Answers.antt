@@ -1,10 +1,10 @@
 use Rattle.std.proofs.Common.{◌≡◌, ◌∙◌, ◌+◌, ℕ, List, [], subst, arith}
-use Rattle.heap_model.specs.declared.entry.Entry.{Entry}
-use Rattle.heap_model.specs.declared.state.Sizes.{Sizes}
-use Rattle.heap_model.specs.Domains.{domain_at}
-use Rattle.table_laws.specs.Thinning.{state_of}
-use Rattle.table_laws.specs.Performing.{refusals, full_of}
-use Rattle.table_keepers.specs.Answers.{MakeAnswers}
+use Rattle.model_core.specs.declared.entry.Entry.{Entry}
+use Rattle.model_core.specs.declared.state.Sizes.{Sizes}
+use Rattle.model_core.specs.Domains.{domain_at}
+use Rattle.weak_laws.specs.Tables.Thinning.{state_of}
+use Rattle.weak_laws.specs.Tables.Performing.{refusals, full_of}
+use Rattle.table_run.specs.Keepers.Answers.{MakeAnswers}
 use Rattle.weak_tables.specs.Arrays.{ArrayAnswers}
 use Rattle.table_run.proofs.TextLemmas.{opening_serial, prepared}
 use Rattle.table_run.proofs.prepare.prepare.Goals as goal

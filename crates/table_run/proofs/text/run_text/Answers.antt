@@ -1,12 +1,12 @@
 use Rattle.std.proofs.Common.{◌≡◌, ◌∙◌, ◌+◌, ◌≤◌, ℕ, List, [], ◌∷◌, ◌++◌, length, take, sym, subst, ap, arith, rules, length-append}
-use Rattle.heap_model.specs.declared.entry.Entry.{Entry}
-use Rattle.heap_model.specs.declared.state.Sizes.{Sizes}
-use Rattle.heap_model.specs.Domains.{domain_at}
-use Rattle.table_laws.specs.Thinning.{state_of}
+use Rattle.model_core.specs.declared.entry.Entry.{Entry}
+use Rattle.model_core.specs.declared.state.Sizes.{Sizes}
+use Rattle.model_core.specs.Domains.{domain_at}
+use Rattle.weak_laws.specs.Tables.Thinning.{state_of}
 use Rattle.table_text.specs.declared.version.Version.{Version}
 use Rattle.table_text.specs.declared.line.TableLine.{TableLine}
-use Rattle.table_machine.specs.declared.reply.LineReply.{LineReply}
-use Rattle.table_machine.specs.Machine.{all_made, made_by}
+use Rattle.table_text.specs.declared.machine.reply.LineReply.{LineReply}
+use Rattle.table_text.specs.Machine.Machine.{all_made, made_by}
 use Rattle.table_run.specs.Standing.{IsStanding}
 use Rattle.table_run.specs.Running.{Begins, LineAnswers, HasGiven, RanTo, all_rooms}
 use Rattle.table_run.proofs.TextLemmas.{opening_serial, ran_none, ran_line, ran_all, take_none, take_all, made_before, rooms_before, made_more, rooms_more}

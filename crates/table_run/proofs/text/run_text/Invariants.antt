@@ -1,5 +1,5 @@
 use Rattle.std.proofs.Common.{◌≡◌, ◌+◌, ◌≤◌, length, take, vec_capacity}
-use Rattle.table_machine.specs.Machine.{all_made}
+use Rattle.table_text.specs.Machine.Machine.{all_made}
 use Rattle.table_run.specs.Running.{RanTo, HasGiven, all_rooms}
 use Rattle.table_run.proofs.text.run_text.Given as goal
 

@@ -1,6 +1,6 @@
 use Rattle.std.proofs.Common.{◌≡◌, ◌+◌, length, map}
 use Rattle.std.specs.Prelude.{option_map}
-use Rattle.heap_text.specs.Number.{numbers, clipped}
+use Rattle.text_script.specs.Number.{numbers, clipped}
 use Rattle.table_text.specs.Faults.{texts_behind}
 use Rattle.table_text.proofs.NumberLemmas.{behind}
 use Rattle.table_text.proofs.number.numbers_of.Given as goal

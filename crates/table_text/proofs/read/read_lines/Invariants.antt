@@ -1,7 +1,7 @@
 use Rattle.std.proofs.Common.{◌≡◌, ◌≤◌, ◌++◌, length, true}
 use Rattle.std.specs.Prelude.{◌==◌}
 use Rattle.std.specs.List.{slice_split, list_all}
-use Rattle.heap_model.specs.Output.{line}
+use Rattle.model_core.specs.Output.{line}
 use Rattle.table_text.specs.Forms.{is_writable}
 use Rattle.table_text.specs.Texts.{most_lines}
 use Rattle.table_text.specs.Spelling.{first_line, spelled}

@@ -1,7 +1,7 @@
 use Rattle.std.proofs.Common.{◌≡◌, sym, ◌∙◌, arith, subst, IfErr, Some, None}
 use Rattle.std.specs.Prelude.{Option}
-use Rattle.heap_text.specs.declared.fault.ScriptFault.{ScriptFault}
-use Rattle.heap_text.specs.Faults.{IsFaultUnlessMemory}
+use Rattle.text_script.specs.declared.fault.ScriptFault.{ScriptFault}
+use Rattle.text_script.specs.Faults.{IsFaultUnlessMemory}
 use Rattle.table_text.specs.Faults.{version_of}
 use Rattle.table_text.proofs.ReadLemmas.{no_line, wrong_first_line, first_read, all_read}
 use Rattle.table_text.proofs.read.text_or_fault.Goals as goal

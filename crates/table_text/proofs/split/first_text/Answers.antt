@@ -1,4 +1,4 @@
-use Rattle.heap_text.proofs.SplitLemmas.{split_found, split_whole}
+use Rattle.text_script.proofs.SplitLemmas.{split_found, split_whole}
 use Rattle.table_text.proofs.split.first_text.Goals as goal
 
 pub returns-in-Some : goal.returns-in-Some

@@ -1,6 +1,6 @@
 use Rattle.std.proofs.Common.{◌≡◌, take, drop, ◌++◌}
 use Rattle.std.specs.Prelude.{option_map}
-use Rattle.heap_text.specs.Split.{split_at_mark}
+use Rattle.text_script.specs.Split.{split_at_mark}
 use Rattle.table_text.proofs.split.split_once.Given as goal
 
 -- nothing before the place is the mark

@@ -1,5 +1,5 @@
 use Rattle.std.proofs.Common.{ℕ}
-use Rattle.heap_model.specs.declared.state.Sizes.{Sizes}
+use Rattle.model_core.specs.declared.state.Sizes.{Sizes}
 use Rattle.weak_maps.proofs.MachineLemmas.{at_machine}
 use Rattle.weak_cache.proofs.DrawLemmas.{drew}
 use Rattle.weak_cache.proofs.cache.draw.Goals as goal

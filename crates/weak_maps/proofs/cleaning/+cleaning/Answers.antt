@@ -1,7 +1,7 @@
 use Rattle.std.proofs.Common.{◌≡◌, ◌∙◌, inl, inr, ◌+◌, ◌-◌, cond, ℕ, Bool, true, false, List, refl, sym, subst, arith}
-use Rattle.heap_model.specs.declared.entry.Entry.{Entry}
-use Rattle.heap_model.specs.declared.state.Sizes.{Sizes}
-use Rattle.map_laws.proofs.FrontLemmas.{prefix_same, prefix_trans}
+use Rattle.model_core.specs.declared.entry.Entry.{Entry}
+use Rattle.model_core.specs.declared.state.Sizes.{Sizes}
+use Rattle.weak_laws.proofs.OfMaps.FrontLemmas.{prefix_same, prefix_trans}
 use Rattle.weak_maps.specs.Beside.{refusals_by, writings_by}
 use Rattle.weak_maps.specs.Cleans.{CleansBlock, CleansField, width_of}
 use Rattle.weak_maps.proofs.FieldCleanLemmas.{block_more, block_none, cleans_field_at, cleans_block_at, empties_at, field_dead, field_free, field_kept, field_live, field_low, field_spent, joined}

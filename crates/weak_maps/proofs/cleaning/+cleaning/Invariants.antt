@@ -1,5 +1,5 @@
 use Rattle.std.proofs.Common.{◌≡◌, ◌+◌, ◌*◌, ◌≤◌}
-use Rattle.heap_model.specs.History.{IsPrefix}
+use Rattle.model_core.specs.History.{IsPrefix}
 use Rattle.weak_maps.specs.Beside.{refusals_by, writings_by}
 use Rattle.weak_maps.specs.Cleans.{CleansBlock}
 use Rattle.weak_maps.proofs.cleaning.+cleaning.Given as goal

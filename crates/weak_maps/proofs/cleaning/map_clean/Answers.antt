@@ -1,6 +1,6 @@
 use Rattle.std.proofs.Common.{◌∙◌, ℕ, refl}
-use Rattle.heap_model.specs.declared.state.Sizes.{Sizes}
-use Rattle.map_laws.proofs.FrontLemmas.{prefix_trans}
+use Rattle.model_core.specs.declared.state.Sizes.{Sizes}
+use Rattle.weak_laws.proofs.OfMaps.FrontLemmas.{prefix_trans}
 use Rattle.weak_maps.proofs.FieldCleanLemmas.{cleans_block_at}
 use Rattle.weak_maps.proofs.MapCleanLemmas.{forgets_at, map_cleaned}
 use Rattle.weak_maps.proofs.cleaning.map_clean.Goals as goal

@@ -1,5 +1,5 @@
 use Rattle.std.proofs.Common.{◌≡◌, ◌∙◌, ℕ, suc, ◌+◌, ◌/◌, refl, ap, arith}
-use Rattle.map_laws.specs.Tries.{node_width}
+use Rattle.weak_laws.specs.Maps.Tries.{node_width}
 use Rattle.weak_maps.specs.Puts.{rest_of}
 use Rattle.weak_maps.proofs.digits.rest_below.Goals as goal
 

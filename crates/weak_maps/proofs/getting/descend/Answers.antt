@@ -1,10 +1,10 @@
 use Rattle.std.proofs.Common.{◌≡◌, ◌∙◌, ℕ, ◌+◌, ◌/◌, ◌%◌, suc, List, true, false, refl, sym, ap, subst, arith, rules}
-use Rattle.heap_model.specs.declared.command.Command.TheVariants.{Load}
-use Rattle.heap_model.specs.declared.entry.Entry.{Entry}
-use Rattle.heap_model.specs.declared.state.Sizes.{Sizes}
-use Rattle.map_laws.specs.Tries.{node_width, number_of, root_width}
-use Rattle.map_laws.specs.Calls.{PerformedBy}
-use Rattle.table_laws.proofs.StageLemmas.{prefix_trans}
+use Rattle.model_core.specs.declared.command.Command.TheVariants.{Load}
+use Rattle.model_core.specs.declared.entry.Entry.{Entry}
+use Rattle.model_core.specs.declared.state.Sizes.{Sizes}
+use Rattle.weak_laws.specs.Maps.Tries.{node_width, number_of, root_width}
+use Rattle.weak_laws.specs.Maps.Calls.{PerformedBy}
+use Rattle.weak_laws.proofs.OfTables.StageLemmas.{prefix_trans}
 use Rattle.weak_maps.specs.Beside.{refusals_by, writings_by}
 use Rattle.weak_maps.specs.Walks.{Descends}
 use Rattle.weak_maps.proofs.BesideLemmas.{since_old, until_new}

@@ -1,5 +1,5 @@
 use Rattle.std.proofs.Common.{arith}
-use Rattle.command_counts.proofs.Few.{ephemerons_few}
+use Rattle.model_core.proofs.OfCounts.Few.{ephemerons_few}
 use Rattle.weak_maps.proofs.CountLemmas.{gives_one, refuses_one, writes_one}
 use Rattle.weak_maps.proofs.GetLemmas.{grows_by}
 use Rattle.weak_maps.proofs.machine.perform.Goals as goal

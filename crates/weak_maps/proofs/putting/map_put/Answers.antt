@@ -1,14 +1,14 @@
 use Rattle.std.proofs.Common.{◌≡◌, ◌≢◌, inl, inr, ◌∙◌, ℕ, ◌+◌, ◌/◌, ◌%◌, ◌≤◌, Bool, cond, List, true, false, refl, sym, ap, subst, arith}
-use Rattle.heap_model.specs.declared.command.Command.TheVariants.{Load}
-use Rattle.heap_model.specs.declared.entry.Entry.{Entry}
-use Rattle.heap_model.specs.declared.graph.Value.{Value}
-use Rattle.heap_model.specs.declared.graph.Value.TheVariants.{Block, Nothing}
-use Rattle.heap_model.specs.declared.reply.Reply.{Reply}
-use Rattle.heap_model.specs.declared.reply.Reply.TheVariants as reply
-use Rattle.heap_model.specs.declared.state.Sizes.{Sizes}
-use Rattle.map_laws.specs.Calls.{PerformedBy, PutsOrFull}
-use Rattle.map_laws.specs.Tries.{number_of, root_width}
-use Rattle.map_laws.proofs.FrontLemmas.{prefix_same, prefix_trans}
+use Rattle.model_core.specs.declared.command.Command.TheVariants.{Load}
+use Rattle.model_core.specs.declared.entry.Entry.{Entry}
+use Rattle.model_core.specs.declared.graph.Value.{Value}
+use Rattle.model_core.specs.declared.graph.Value.TheVariants.{Block, Nothing}
+use Rattle.model_core.specs.declared.reply.Reply.{Reply}
+use Rattle.model_core.specs.declared.reply.Reply.TheVariants as reply
+use Rattle.model_core.specs.declared.state.Sizes.{Sizes}
+use Rattle.weak_laws.specs.Maps.Calls.{PerformedBy, PutsOrFull}
+use Rattle.weak_laws.specs.Maps.Tries.{number_of, root_width}
+use Rattle.weak_laws.proofs.OfMaps.FrontLemmas.{prefix_same, prefix_trans}
 use Rattle.weak_maps.specs.declared.putting.Try.{Try}
 use Rattle.weak_maps.specs.declared.putting.Try.TheVariants.{Over, Again}
 use Rattle.weak_maps.specs.Beside.{held_by, refusals_by, writings_by}

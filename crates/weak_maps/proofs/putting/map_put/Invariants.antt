@@ -1,10 +1,10 @@
 use Rattle.std.proofs.Common.{◌≡◌, ◌≤◌, ◌+◌}
-use Rattle.heap_model.specs.declared.label.Label.{Label}
-use Rattle.heap_model.specs.declared.graph.Value.TheVariants.{Block}
-use Rattle.heap_model.specs.History.{IsPrefix}
-use Rattle.table_laws.specs.Stages.{graph_of}
-use Rattle.map_laws.specs.Tries.{IsMap, IsInPlace}
-use Rattle.map_laws.specs.Steps.{OthersLeave, OthersRespect}
+use Rattle.model_core.specs.declared.label.Label.{Label}
+use Rattle.model_core.specs.declared.graph.Value.TheVariants.{Block}
+use Rattle.model_core.specs.History.{IsPrefix}
+use Rattle.weak_laws.specs.Tables.Stages.{graph_of}
+use Rattle.weak_laws.specs.Maps.Tries.{IsMap, IsInPlace}
+use Rattle.weak_laws.specs.Maps.Steps.{OthersLeave, OthersRespect}
 use Rattle.weak_maps.specs.Beside.{held_by, refusals_by, writings_by}
 use Rattle.weak_maps.specs.Guards.{PutGuards}
 use Rattle.weak_maps.specs.Puts.{Putting}

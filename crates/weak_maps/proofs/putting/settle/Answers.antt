@@ -1,11 +1,11 @@
 use Rattle.std.proofs.Common.{◌≡◌, ◌∙◌, ℕ, ◌-◌, ◌%◌, Bool, List, Option, None, true, false, refl, ap, subst, arith}
-use Rattle.heap_model.specs.declared.entry.Entry.{Entry}
-use Rattle.heap_model.specs.declared.label.Label.{Label}
-use Rattle.heap_model.specs.declared.state.Sizes.{Sizes}
-use Rattle.map_laws.specs.Tries.{node_width, number_of}
+use Rattle.model_core.specs.declared.entry.Entry.{Entry}
+use Rattle.model_core.specs.declared.label.Label.{Label}
+use Rattle.model_core.specs.declared.state.Sizes.{Sizes}
+use Rattle.weak_laws.specs.Maps.Tries.{node_width, number_of}
 use Rattle.weak_maps.specs.Guards.{RoomGuards}
 use Rattle.weak_maps.specs.Puts.{Arrived, MakesRoom, Publishes, rest_of}
-use Rattle.map_laws.proofs.FrontLemmas.{prefix_same, prefix_trans}
+use Rattle.weak_laws.proofs.OfMaps.FrontLemmas.{prefix_same, prefix_trans}
 use Rattle.weak_maps.proofs.AloneLemmas.{lost_deep, never_spent, room_deeper}
 use Rattle.weak_maps.proofs.CleanLemmas.{leaves_within}
 use Rattle.weak_maps.proofs.GuardLemmas.{guards_quiet, guards_twice, quiet_by, quiet_cleared}

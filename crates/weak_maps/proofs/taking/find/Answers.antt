@@ -1,12 +1,12 @@
 use Rattle.std.proofs.Common.{◌≡◌, ◌∙◌, ℕ, ◌+◌, ◌/◌, List, length, Option, None, true, false, refl, sym, ap, subst, arith, rules}
-use Rattle.heap_model.specs.declared.command.Command.TheVariants.{Load}
-use Rattle.heap_model.specs.declared.entry.Entry.{Entry}
-use Rattle.heap_model.specs.declared.state.Sizes.{Sizes}
-use Rattle.map_laws.specs.Calls.{PerformedBy}
-use Rattle.map_laws.specs.Tries.{node_width}
-use Rattle.table_laws.proofs.StageLemmas.{prefix_trans}
+use Rattle.model_core.specs.declared.command.Command.TheVariants.{Load}
+use Rattle.model_core.specs.declared.entry.Entry.{Entry}
+use Rattle.model_core.specs.declared.state.Sizes.{Sizes}
+use Rattle.weak_laws.specs.Maps.Calls.{PerformedBy}
+use Rattle.weak_laws.specs.Maps.Tries.{node_width}
+use Rattle.weak_laws.proofs.OfTables.StageLemmas.{prefix_trans}
 use Rattle.weak_maps.specs.Beside.{held_by, refusals_by, writings_by}
-use Rattle.heap_model.specs.declared.label.Label.{Label}
+use Rattle.model_core.specs.declared.label.Label.{Label}
 use Rattle.weak_maps.specs.Fields.{KeepsWalked, Walked}
 use Rattle.weak_maps.specs.Puts.{FieldFound}
 use Rattle.weak_maps.proofs.StayLemmas.{prefix_same, respects_within}

@@ -1,12 +1,12 @@
 use Rattle.std.proofs.Common.{◌≡◌, ◌∙◌, ℕ, ◌/◌, ◌%◌, List, true, false, refl, sym, ap, subst, arith}
-use Rattle.heap_model.specs.declared.command.Command.TheVariants.{Load}
-use Rattle.heap_model.specs.declared.entry.Entry.{Entry}
-use Rattle.heap_model.specs.declared.graph.Value.TheVariants.{Block}
-use Rattle.heap_model.specs.declared.reply.Reply.TheVariants as reply
-use Rattle.heap_model.specs.declared.state.Sizes.{Sizes}
-use Rattle.map_laws.specs.Calls.{PerformedBy}
-use Rattle.map_laws.specs.Tries.{number_of, root_width}
-use Rattle.map_laws.proofs.FrontLemmas.{prefix_trans}
+use Rattle.model_core.specs.declared.command.Command.TheVariants.{Load}
+use Rattle.model_core.specs.declared.entry.Entry.{Entry}
+use Rattle.model_core.specs.declared.graph.Value.TheVariants.{Block}
+use Rattle.model_core.specs.declared.reply.Reply.TheVariants as reply
+use Rattle.model_core.specs.declared.state.Sizes.{Sizes}
+use Rattle.weak_laws.specs.Maps.Calls.{PerformedBy}
+use Rattle.weak_laws.specs.Maps.Tries.{number_of, root_width}
+use Rattle.weak_laws.proofs.OfMaps.FrontLemmas.{prefix_trans}
 use Rattle.weak_maps.specs.Beside.{held_by, refusals_by, writings_by}
 use Rattle.weak_maps.specs.Fields.{Finds, Taking}
 use Rattle.weak_maps.proofs.MachineLemmas.{at_machine, cleared_at, counted_by, finds_at, not_so, performed_from, so_then, taken_at}

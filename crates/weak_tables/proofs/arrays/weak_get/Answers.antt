@@ -1,5 +1,5 @@
 use Rattle.std.proofs.Common.{◌≡◌, ◌∙◌, sym, true, false}
-use Rattle.heap_model.specs.declared.state.Sizes.{Sizes}
+use Rattle.model_core.specs.declared.state.Sizes.{Sizes}
 use Rattle.weak_tables.proofs.TakeLemmas.{at_sizes, cleared_sizes}
 use Rattle.weak_tables.proofs.SlotLemmas.{get_past, get_read}
 use Rattle.weak_tables.proofs.arrays.weak_get.Goals as goal

@@ -1,11 +1,11 @@
 use Rattle.std.proofs.Common.{◌≡◌, ◌∙◌, ◌+◌, ◌≤◌, sym, subst, List, ℕ, true, false, arith, rules, length}
-use Rattle.heap_model.specs.declared.entry.Entry.{Entry}
-use Rattle.heap_model.specs.declared.state.Sizes.{Sizes}
-use Rattle.table_laws.specs.Structures.{bindings}
-use Rattle.table_laws.specs.Stages.{graph_of}
+use Rattle.model_core.specs.declared.entry.Entry.{Entry}
+use Rattle.model_core.specs.declared.state.Sizes.{Sizes}
+use Rattle.weak_laws.specs.Tables.Structures.{bindings}
+use Rattle.weak_laws.specs.Tables.Stages.{graph_of}
 use Rattle.weak_tables.specs.Commands.{one_of}
 use Rattle.weak_tables.specs.Walks.{Counting}
-use Rattle.table_laws.proofs.SizeLemmas.{bindings_counted}
+use Rattle.weak_laws.proofs.OfTables.SizeLemmas.{bindings_counted}
 use Rattle.weak_tables.proofs.CellCounts.{passed_few}
 use Rattle.weak_tables.proofs.TakeLemmas.{at_sizes}
 use Rattle.weak_tables.proofs.CountingLemmas.{counting_begins, counting_ends, counting_fits, counting_round}

@@ -1,16 +1,16 @@
 use Rattle.std.proofs.Common.{◌≡◌, ◌∙◌, ◌+◌, ◌<◌, ◌≤◌, sym, subst, List, ℕ, arith, length, add-one, rules}
-use Rattle.heap_model.specs.declared.label.Label.{Label}
-use Rattle.heap_model.specs.declared.entry.Entry.{Entry}
-use Rattle.heap_model.specs.declared.graph.Value.TheVariants.{Block}
-use Rattle.heap_model.specs.declared.state.Sizes.{Sizes}
-use Rattle.table_laws.specs.Structures.{Cell, IsTable, bindings}
-use Rattle.table_laws.specs.Stages.{graph_of, held_in}
+use Rattle.model_core.specs.declared.label.Label.{Label}
+use Rattle.model_core.specs.declared.entry.Entry.{Entry}
+use Rattle.model_core.specs.declared.graph.Value.TheVariants.{Block}
+use Rattle.model_core.specs.declared.state.Sizes.{Sizes}
+use Rattle.weak_laws.specs.Tables.Structures.{Cell, IsTable, bindings}
+use Rattle.weak_laws.specs.Tables.Stages.{graph_of, held_in}
 use Rattle.weak_tables.specs.Held.{HoldsTable}
 use Rattle.weak_tables.specs.Walks.{Counted, CountedTo}
 use Rattle.weak_tables.proofs.SearchLemmas.{below_eight}
 use Rattle.weak_tables.proofs.TakeLemmas.{cleared_sizes}
 use Rattle.weak_tables.proofs.CountingLemmas.{counted_none, counted_next, counted_fits, counted_all, counted_holds}
-use Rattle.table_laws.proofs.SizeLemmas.{bindings_counted}
+use Rattle.weak_laws.proofs.OfTables.SizeLemmas.{bindings_counted}
 use Rattle.weak_tables.proofs.counting.table_count.Goals as goal
 
 pub buckets-init : goal.buckets-init

@@ -1,9 +1,9 @@
 use Rattle.std.proofs.Common.{◌≡◌, ◌≤◌, List}
-use Rattle.heap_model.specs.declared.label.Label.{Label}
-use Rattle.heap_model.specs.declared.graph.Value.TheVariants.{Block}
-use Rattle.table_laws.specs.Structures.{Cell, IsTable}
-use Rattle.table_laws.specs.Performing.{refusals, writings}
-use Rattle.table_laws.specs.Stages.{graph_of, held_in}
+use Rattle.model_core.specs.declared.label.Label.{Label}
+use Rattle.model_core.specs.declared.graph.Value.TheVariants.{Block}
+use Rattle.weak_laws.specs.Tables.Structures.{Cell, IsTable}
+use Rattle.weak_laws.specs.Tables.Performing.{refusals, writings}
+use Rattle.weak_laws.specs.Tables.Stages.{graph_of, held_in}
 use Rattle.weak_tables.specs.Walks.{CountedTo}
 use Rattle.weak_tables.proofs.counting.table_count.Given as goal
 

@@ -1,7 +1,7 @@
 use Rattle.std.proofs.Common.{arith}
-use Rattle.command_counts.proofs.Few.{ephemerons_few}
-use Rattle.table_laws.proofs.RefusalLemmas.{performed_refusals, performed_gives}
-use Rattle.table_laws.proofs.WritingLemmas.{performed_writings}
+use Rattle.model_core.proofs.OfCounts.Few.{ephemerons_few}
+use Rattle.weak_laws.proofs.OfTables.RefusalLemmas.{performed_refusals, performed_gives}
+use Rattle.weak_laws.proofs.OfTables.WritingLemmas.{performed_writings}
 use Rattle.weak_tables.proofs.machine.perform.Goals as goal
 
 pub returns-clause-room : goal.returns-clause-room

@@ -1,6 +1,6 @@
 use Rattle.std.proofs.Common.{◌≡◌, ◌∙◌, ◌+◌, ◌-◌, ◌<◌, suc, sym, subst, ℕ, true, false, refl, ap, cond, arith}
-use Rattle.table_laws.specs.Performing.{full_of}
-use Rattle.heap_model.specs.declared.state.Sizes.{Sizes}
+use Rattle.weak_laws.specs.Tables.Performing.{full_of}
+use Rattle.model_core.specs.declared.state.Sizes.{Sizes}
 use Rattle.weak_tables.specs.Walks.{Filled}
 use Rattle.weak_tables.proofs.TakeLemmas.{at_sizes}
 use Rattle.weak_tables.proofs.MakingLemmas.{filled_refused, filled_next}

@@ -1,7 +1,7 @@
 use Rattle.std.proofs.Common.{◌≡◌, ◌≤◌, ◌+◌, ◌-◌, List}
-use Rattle.heap_model.specs.declared.label.Label.{Label}
-use Rattle.heap_model.specs.declared.entry.Entry.{Entry}
-use Rattle.table_laws.specs.Performing.{refusals}
+use Rattle.model_core.specs.declared.label.Label.{Label}
+use Rattle.model_core.specs.declared.entry.Entry.{Entry}
+use Rattle.weak_laws.specs.Tables.Performing.{refusals}
 use Rattle.weak_tables.specs.Walks.{Filled}
 use Rattle.weak_tables.proofs.making.fill.Given as goal
 

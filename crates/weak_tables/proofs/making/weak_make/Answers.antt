@@ -1,7 +1,7 @@
 use Rattle.std.proofs.Common.{◌≡◌, ◌∙◌, sym, subst, List, Bool, true, false, inl, inr, refl}
-use Rattle.heap_model.specs.declared.label.Label.{Label}
-use Rattle.heap_model.specs.declared.entry.Entry.{Entry}
-use Rattle.heap_model.specs.declared.state.Sizes.{Sizes}
+use Rattle.model_core.specs.declared.label.Label.{Label}
+use Rattle.model_core.specs.declared.entry.Entry.{Entry}
+use Rattle.model_core.specs.declared.state.Sizes.{Sizes}
 use Rattle.weak_tables.specs.Walks.{Filled, Fills}
 use Rattle.weak_tables.proofs.TakeLemmas.{at_sizes, cleared_sizes}
 use Rattle.weak_tables.proofs.MakingLemmas.{array_begun, array_made, array_refused, no_array}

@@ -1,5 +1,5 @@
 use Rattle.std.proofs.Common.{ℕ, Bool, subst}
-use Rattle.heap_model.specs.declared.state.Sizes.{Sizes}
+use Rattle.model_core.specs.declared.state.Sizes.{Sizes}
 use Rattle.weak_tables.specs.Walks.{CellAnswers, LinksCell}
 use Rattle.weak_tables.proofs.SearchLemmas.{bucket_below}
 use Rattle.weak_tables.proofs.PutLemmas.{cell_linked, cell_refused}

@@ -1,8 +1,8 @@
 use Rattle.std.proofs.Common.{◌≡◌, ◌≢◌, true, false, inl, sym, subst, ◌∙◌}
-use Rattle.heap_model.specs.declared.command.Command.TheVariants.{Ephe}
-use Rattle.heap_model.specs.declared.reply.Reply.{Reply}
-use Rattle.heap_model.specs.declared.reply.Reply.TheVariants.{Full}
-use Rattle.table_laws.specs.Performing.{Performed}
+use Rattle.model_core.specs.declared.command.Command.TheVariants.{Ephe}
+use Rattle.model_core.specs.declared.reply.Reply.{Reply}
+use Rattle.model_core.specs.declared.reply.Reply.TheVariants.{Full}
+use Rattle.weak_laws.specs.Tables.Performing.{Performed}
 use Rattle.weak_tables.proofs.TakeLemmas.{at_sizes}
 use Rattle.weak_tables.proofs.PutLemmas.{cell_answers}
 use Rattle.weak_tables.proofs.putting.make_cell.Goals as goal

@@ -1,10 +1,10 @@
 use Rattle.std.proofs.Common.{◌≡◌, ◌≢◌, ◌∙◌, sym, List, true, false}
-use Rattle.heap_model.specs.declared.entry.Entry.{Entry}
-use Rattle.heap_model.specs.declared.graph.Value.TheVariants.{Block, Nothing}
-use Rattle.heap_model.specs.declared.state.Sizes.{Sizes}
-use Rattle.heap_model.specs.Commands.{shown}
-use Rattle.table_laws.specs.Structures.{is_bucket_full}
-use Rattle.table_laws.specs.Stages.{graph_of, held_in}
+use Rattle.model_core.specs.declared.entry.Entry.{Entry}
+use Rattle.model_core.specs.declared.graph.Value.TheVariants.{Block, Nothing}
+use Rattle.model_core.specs.declared.state.Sizes.{Sizes}
+use Rattle.model_core.specs.Commands.{shown}
+use Rattle.weak_laws.specs.Tables.Structures.{is_bucket_full}
+use Rattle.weak_laws.specs.Tables.Stages.{graph_of, held_in}
 use Rattle.weak_tables.specs.Walks.{Placed}
 use Rattle.weak_tables.proofs.TakeLemmas.{at_sizes, cleared_sizes, shown_label}
 use Rattle.weak_tables.proofs.PutLemmas.{placed_from, put_made, put_refused, shown_some}

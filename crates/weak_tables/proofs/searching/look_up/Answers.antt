@@ -1,5 +1,5 @@
 use Rattle.std.proofs.Common.{◌≡◌, ◌∙◌, sym}
-use Rattle.heap_model.specs.declared.state.Sizes.{Sizes}
+use Rattle.model_core.specs.declared.state.Sizes.{Sizes}
 use Rattle.weak_tables.specs.declared.find.Find.TheVariants.{Key, Spare, Nowhere}
 use Rattle.weak_tables.proofs.SearchLemmas.{met_key}
 use Rattle.weak_tables.proofs.searching.look_up.Goals as goal

@@ -1,8 +1,8 @@
 use Rattle.std.proofs.Common.{◌≡◌, ◌∙◌, sym, subst, List, ℕ, true, false, arith, rules}
-use Rattle.heap_model.specs.declared.command.Command.TheVariants.{Load}
-use Rattle.heap_model.specs.declared.entry.Entry.{Entry}
-use Rattle.heap_model.specs.declared.state.Sizes.{Sizes}
-use Rattle.table_laws.specs.Performing.{Performed}
+use Rattle.model_core.specs.declared.command.Command.TheVariants.{Load}
+use Rattle.model_core.specs.declared.entry.Entry.{Entry}
+use Rattle.model_core.specs.declared.state.Sizes.{Sizes}
+use Rattle.weak_laws.specs.Tables.Performing.{Performed}
 use Rattle.weak_tables.specs.declared.find.Find.{Find}
 use Rattle.weak_tables.specs.Walks.{Searched}
 use Rattle.weak_tables.proofs.SearchLemmas.{bucket_below, midst_begins, midst_found, midst_next, midst_passed}

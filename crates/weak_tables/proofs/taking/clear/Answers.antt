@@ -1,5 +1,5 @@
 use Rattle.std.proofs.Common.{◌∙◌}
-use Rattle.heap_model.specs.declared.state.Sizes.{Sizes}
+use Rattle.model_core.specs.declared.state.Sizes.{Sizes}
 use Rattle.weak_tables.proofs.TakeLemmas.{all_cleared, at_sizes}
 use Rattle.weak_tables.proofs.taking.clear.Goals as goal
 

@@ -1,8 +1,8 @@
 use Rattle.std.proofs.Common.{◌≡◌, ◌∙◌, sym, subst, List, true, false}
-use Rattle.heap_model.specs.declared.entry.Entry.{Entry}
-use Rattle.heap_model.specs.declared.graph.Value.TheVariants.{Block}
-use Rattle.heap_model.specs.declared.state.Sizes.{Sizes}
-use Rattle.table_laws.specs.Stages.{held_in}
+use Rattle.model_core.specs.declared.entry.Entry.{Entry}
+use Rattle.model_core.specs.declared.graph.Value.TheVariants.{Block}
+use Rattle.model_core.specs.declared.state.Sizes.{Sizes}
+use Rattle.weak_laws.specs.Tables.Stages.{held_in}
 use Rattle.weak_tables.specs.Walks.{LooksUp}
 use Rattle.weak_tables.proofs.TakeLemmas.{at_sizes, cleared_sizes, looks_from, shown_label, took, took_none}
 use Rattle.weak_tables.proofs.taking.table_take.Goals as goal

@@ -9,8 +9,8 @@ use denote.Param.Send.{IsSend, AllSend, owning_send, struct_send, sendable}
 use Rattle.std.proofs.Crossing as heap
 use Rattle.std_alloc.proofs.SendSync.{quiet, lies}
 use Rattle.std_heap.proofs.Global.TheSendSync as global
-use Rattle.shared_runs.specs.contracts.bed.RunBed.{the_row as bed_row}
-use Rattle.shared_runs.proofs.bed.RunBed.TheSendSync.{the_send as run_send}
+use Rattle.run_seats.specs.contracts.shared.bed.RunBed.{the_row as bed_row}
+use Rattle.run_seats.proofs.shared.bed.RunBed.TheSendSync.{the_send as run_send}
 use Rattle.camlheap_c.proofs.Values.{Heap}
 use Rattle.camlheap_c.proofs.Bedded.{held}
 use Rattle.camlheap_c.specs.contracts.bed.CamlheapBed.{the_row, the_type}

@@ -19,8 +19,8 @@ use denote.Triple.Walked.{Stays, stay_dropped, walk_of, Goes-dropped}
 use Rattle.core.proofs.alloc.Calls.{handle_tells}
 use Rattle.std.specs.contracts.alloc.Global as heap
 use Rattle.std.proofs.raw_atomic.Walks.{proved_at, leaves}
-use Rattle.rest_beds.specs.Bedding.{plain_bed}
-use Rattle.shared_runs.specs.contracts.bed.RunBed.{the_row as bed_row}
+use Rattle.run_seats.specs.Beds.Bedding.{plain_bed}
+use Rattle.run_seats.specs.contracts.shared.bed.RunBed.{the_row as bed_row}
 use Rattle.camlheap_c.proofs.Values.{al_heap, word}
 use Rattle.camlheap_c.proofs.Bedded.{word_good, handle_in}
 use Rattle.camlheap_c.specs.contracts.bed.CamlheapBed.none.{ended, clauses}

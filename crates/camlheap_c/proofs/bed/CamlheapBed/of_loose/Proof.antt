@@ -20,7 +20,7 @@ use Rattle.std.specs.contracts.alloc.Global as heap
 use Rattle.std.proofs.alloc.Global.TheLaws as heap_laws
 use Rattle.std.specs.contracts.impls.GlobalAllocator.TheImpl.{ghosts}
 use Rattle.std.proofs.raw_atomic.Walks.{proved_at, leaves}
-use Rattle.shared_runs.specs.contracts.bed.RunBed.{the_row as bed_row}
+use Rattle.run_seats.specs.contracts.shared.bed.RunBed.{the_row as bed_row}
 use Rattle.camlheap_c.proofs.Values.{both, Loose, loose_good, loose_out, word}
 use Rattle.camlheap_c.proofs.Bedded.{word_good, handle_in}
 use Rattle.camlheap_c.specs.contracts.bed.CamlheapBed.of_loose.{ended, clauses}

@@ -22,11 +22,11 @@ use Rattle.std.proofs.raw_atomic.Walks.{proved_at, leaves}
 use Rattle.atomic_table.specs.Seated.{TableId}
 use Rattle.heap_rule.specs.declared.config.Config.{Config}
 use Rattle.heap_rule.specs.Opening.{opening_token}
-use Rattle.mark_slices.specs.Decks.{uncounted}
-use Rattle.domain_turns.specs.declared.supply.Supply.TheVariants.{Open}
-use Rattle.domain_turns.specs.Runs.{unturned}
-use Rattle.shared_runs.specs.Sharing.{SharedView}
-use Rattle.shared_runs.specs.contracts.shared.SharedRun.{the_row as run_row}
+use Rattle.gc_mark.specs.Decks.{uncounted}
+use Rattle.run_turns.specs.declared.supply.Supply.TheVariants.{Open}
+use Rattle.run_turns.specs.Runs.{unturned}
+use Rattle.run_seats.specs.Shared.Sharing.{SharedView}
+use Rattle.run_seats.specs.contracts.shared.shared.SharedRun.{the_row as run_row}
 use Rattle.camlheap_c.proofs.Values.{al_heap, word, word_good, handle_in}
 use Rattle.camlheap_c.specs.contracts.handle.CamlheapDomain.none.{ended, clauses}
 use Rattle.camlheap_c.specs.contracts.handle.CamlheapDomain.none.Key.{name as #self}

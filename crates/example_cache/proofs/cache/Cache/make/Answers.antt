@@ -1,6 +1,6 @@
 use Rattle.std.proofs.Common.{◌∙◌, inl, ap, subst, sym, arith}
 use Rattle.heap_rule.specs.Limits.{sizes_in}
-use Rattle.heap_session.specs.Sessions.{SessionView}
+use Rattle.run_session.specs.Sessions.{SessionView}
 use Rattle.example_cache.specs.Caching.{NoCache}
 use Rattle.example_cache.proofs.Calls.{made, none_made}
 use Rattle.example_cache.proofs.cache.Cache.make.Goals as goal

@@ -1,5 +1,5 @@
 use Rattle.std.proofs.Common.{◌∙◌, inl, None, refl, ap, subst, arith}
-use Rattle.heap_session.specs.Sessions.{SessionView}
+use Rattle.run_session.specs.Sessions.{SessionView}
 use Rattle.example_cache.specs.Caching.{CacheView, IsCache}
 use Rattle.example_cache.proofs.Entries.{keeps_same}
 use Rattle.example_cache.proofs.Calls.{key_made, key_refused}

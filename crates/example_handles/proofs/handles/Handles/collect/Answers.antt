@@ -1,9 +1,9 @@
 use Rattle.std.proofs.Common.{[], ◌∷◌, subst, sym}
-use Rattle.heap_model.specs.declared.command.Command.TheVariants.{FullMajor, Poll}
-use Rattle.heap_model.specs.History.{Legal}
+use Rattle.model_core.specs.declared.command.Command.TheVariants.{FullMajor, Poll}
+use Rattle.model_core.specs.History.{Legal}
 use Rattle.heap_rule.specs.Limits.{sizes_in}
-use Rattle.heap_seats.specs.Seating.{SeatView}
-use Rattle.domain_turns.proofs.Handed.{performed_commands}
+use Rattle.run_seats.specs.Seating.{SeatView}
+use Rattle.run_turns.proofs.Handed.{performed_commands}
 use Rattle.example_handles.specs.Handling.{HandlesView, Makes}
 use Rattle.example_handles.proofs.Calls.{later_both, makes_both, open_held}
 use Rattle.example_handles.proofs.handles.Handles.collect.Goals as goal

@@ -1,5 +1,5 @@
 use Rattle.std.proofs.Common.{ap, arith, length}
-use Rattle.heap_model.specs.declared.command.Command.TheVariants.{FinaliseLast}
+use Rattle.model_core.specs.declared.command.Command.TheVariants.{FinaliseLast}
 use Rattle.example_handles.specs.Handling.{HandlesView}
 use Rattle.example_handles.proofs.Calls.{later_both, opens_both}
 use Rattle.example_handles.proofs.handles.Handles.open.Goals as goal

@@ -1,5 +1,5 @@
 use Rattle.std.proofs.Common.{◌≡◌, ◌∙◌, ◌<◌, ℕ, List, [], ◌∷◌, ◌++◌, ap, arith, drop, length, subst, sym}
-use Rattle.heap_model.specs.declared.command.Command.TheVariants.{FinaliseLast}
+use Rattle.model_core.specs.declared.command.Command.TheVariants.{FinaliseLast}
 use Rattle.example_handles.specs.declared.resource.Resource.{Resource}
 use Rattle.example_handles.specs.declared.resource.Resource.TheVariants.{Open}
 use Rattle.example_handles.specs.Handling.{HandlesView, HoldsLatest, IsHandles, Opens, Performs, parted}

@@ -1,5 +1,5 @@
 use Rattle.std.proofs.Common.{arith, map}
-use Rattle.heap_model.specs.declared.command.Command.TheVariants.{FullMajor, Poll}
+use Rattle.model_core.specs.declared.command.Command.TheVariants.{FullMajor, Poll}
 use Rattle.example_handles.proofs.Ending.{here_each, length_each, seats_here, seats_length, stop_each}
 use Rattle.example_handles.proofs.handles.Handles.stop.Goals as goal
 

@@ -1,5 +1,5 @@
 use Rattle.std.proofs.Common.{◌≡◌, ◌++◌, List, ap, arith, drop, length, subst, sym, take}
-use Rattle.heap_model.specs.declared.reply.Reply.{Reply}
+use Rattle.model_core.specs.declared.reply.Reply.{Reply}
 use Rattle.example_handles.specs.declared.resource.Resource.{Resource}
 use Rattle.example_handles.specs.Handling.{HandlesView, IsHandles, Settles, parted}
 use Rattle.example_handles.specs.Resources.{Settled}

@@ -1,6 +1,6 @@
 use Rattle.std.proofs.Common.{◌≡◌, ◌∙◌, [], arith, length, refl, sym, ap, subst, List, ℕ}
 use Rattle.atomic_table.specs.Table.{opening}
-use Rattle.heap_model.specs.Domains.{IsWithinLimits}
+use Rattle.model_core.specs.Domains.{IsWithinLimits}
 use Rattle.heap_rule.specs.declared.config.Config.{Config}
 use Rattle.heap_rule.specs.Layout.{before_heap, table_words}
 use Rattle.heap_rule.specs.Limits.{sizes_in}

@@ -1,0 +1,14 @@
+pub mod Turns
+pub mod Marking
+pub mod Finalisers
+pub mod Pools
+pub mod Pauses
+pub mod Commands
+pub mod Hints
+pub mod Claims
+pub mod Steps
+pub mod Phases
+pub mod Copies
+pub mod Rooms
+pub mod Waiting
+pub mod Meetings

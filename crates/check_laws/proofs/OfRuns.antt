@@ -1,0 +1,4 @@
+pub mod Explaining
+pub mod Keeping
+pub mod Rows
+pub mod Repeating

@@ -1,0 +1,4 @@
+pub mod Alike
+pub mod Lines
+pub mod Parting
+pub mod Rows

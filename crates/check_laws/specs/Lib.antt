@@ -1,0 +1,4 @@
+pub mod Runs
+pub mod Sections
+pub mod Sessions
+pub mod Texts

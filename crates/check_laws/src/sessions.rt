@@ -1,0 +1,2 @@
+//! What a whole session makes.
+pub mod laws;

@@ -1,5 +1,0 @@
-pub mod Alike
-pub mod Blindness
-pub mod Twins
-pub mod Idling
-mod Rows

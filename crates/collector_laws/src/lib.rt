@@ -1,4 +1,0 @@
-//! What of the collector a program sees.
-#![tactic(auto)]
-
-pub mod laws;

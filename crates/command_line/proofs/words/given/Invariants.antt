@@ -1,7 +1,0 @@
-use Rattle.std.proofs.Common.{◌≡◌, map, drop}
-use Rattle.std.specs.Prelude.{string_bytes}
-use Rattle.command_line.specs.Options.{given_by, nothing_read}
-use Rattle.command_line.proofs.words.given.Given as goal
-
-abbrev pub invariant-loop-word : goal.invariant-loop-word
-invariant-loop-word l = given_by l.read (map string_bytes (drop l.word-index l.words)) ≡ given_by nothing_read (map string_bytes l.fn.words)

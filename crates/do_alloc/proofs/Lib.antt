@@ -1,0 +1,2 @@
+pub mod OfYoung
+pub mod OfPools

@@ -1,0 +1,2 @@
+pub mod OfFields
+pub mod OfDarkening

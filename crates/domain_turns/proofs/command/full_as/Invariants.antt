@@ -1,4 +1,0 @@
-use Rattle.domain_turns.proofs.command.full_as.Given as goal
-
-abbrev pub ghost-tick : goal.ghost-tick
-ghost-tick g a = g.entry

@@ -1,5 +1,0 @@
-use Rattle.domain_turns.proofs.Beginning.{begins_listed}
-use Rattle.domain_turns.proofs.run.DomainRun.make.Goals as goal
-
-pub begin-requires-clause-run : goal.begin-requires-clause-run
-begin-requires-clause-run c = begins_listed c.args.dom c.args.commands.items c.args.hints c.requires.begins c.requires.deck

@@ -1,5 +1,0 @@
-use Rattle.ephemeron_rounds.proofs.Picks.{change_of}
-use Rattle.ephemeron_rounds.proofs.changing.unset_key.Given as goal
-
-abbrev pub ghost-put : goal.ghost-put
-ghost-put a = change_of a.ephe a.key a.item

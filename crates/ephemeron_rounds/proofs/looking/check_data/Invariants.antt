@@ -1,5 +1,0 @@
-use Rattle.ephemeron_rounds.proofs.Picks.{check_of}
-use Rattle.ephemeron_rounds.proofs.looking.check_data.Given as goal
-
-abbrev pub ghost-check : goal.ghost-check
-ghost-check a = check_of a.ephe a.key

@@ -1,4 +1,0 @@
-use Rattle.field_access.proofs.exchanging.darken_expected.Given as goal
-
-abbrev pub ghost-darken_now : goal.ghost-darken_now
-ghost-darken_now g a = g.reason

@@ -1,5 +1,0 @@
-use Rattle.heap_model.proofs.Histories.FieldLemmas.{load_answers_full}
-use Rattle.field_access.proofs.fields.load.Goals as goal
-
-pub returns-clause-full : goal.returns-clause-full
-returns-clause-full c = load_answers_full _ _ _ _ _ _ _ _ _ _ c.load_as.ensures.did.answers

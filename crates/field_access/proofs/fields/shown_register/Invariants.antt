@@ -1,4 +1,0 @@
-use Rattle.field_access.proofs.fields.shown_register.Given as goal
-
-abbrev pub ghost-label_load : goal.ghost-label_load
-ghost-label_load g a = g.register

@@ -1,6 +1,0 @@
-use Rattle.heap_model.specs.declared.command.Command.TheVariants.{Store}
-use Rattle.heap_rule.specs.Running.{own_entry}
-use Rattle.field_access.proofs.fields.store.Given as goal
-
-abbrev pub ghost-store_as : goal.ghost-store_as
-ghost-store_as a = own_entry a.dom.now (Store a.block a.index a.item)

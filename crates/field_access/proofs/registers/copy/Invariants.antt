@@ -1,6 +1,0 @@
-use Rattle.heap_model.specs.declared.command.Command.TheVariants.{Copy}
-use Rattle.heap_rule.specs.Running.{own_entry}
-use Rattle.field_access.proofs.registers.copy.Given as goal
-
-abbrev pub ghost-copy_as : goal.ghost-copy_as
-ghost-copy_as a = own_entry a.dom.now (Copy a.dst a.src)

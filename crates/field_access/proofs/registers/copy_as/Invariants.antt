@@ -1,4 +1,0 @@
-use Rattle.field_access.proofs.registers.copy_as.Given as goal
-
-abbrev pub ghost-tick : goal.ghost-tick
-ghost-tick g a = g.entry

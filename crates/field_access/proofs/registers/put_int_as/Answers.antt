@@ -1,7 +1,0 @@
-use Rattle.std.proofs.Common.{ap}
-use Rattle.steps_fields.specs.Ticks.{tick_answer}
-use Rattle.field_access.proofs.Doing.{entered_did}
-use Rattle.field_access.proofs.registers.put_int_as.Goals as goal
-
-pub returns-clause-did : goal.returns-clause-did
-returns-clause-did g c = entered_did _ _ _ _ g.entry _ _ _ _ c.requires.0 (ap tick_answer c.requires.0) c.requires.1.0 c.tick.ensures.here c.tick.ensures.entered

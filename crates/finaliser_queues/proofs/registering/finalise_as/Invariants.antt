@@ -1,4 +1,0 @@
-use Rattle.finaliser_queues.proofs.registering.finalise_as.Given as goal
-
-abbrev pub ghost-tick : goal.ghost-tick
-ghost-tick g a = g.entry

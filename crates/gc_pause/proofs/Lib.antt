@@ -1,0 +1,3 @@
+pub mod OfStops
+pub mod OfPhases
+pub mod OfLaws

@@ -1,6 +1,0 @@
-mod Growing
-mod Closed
-mod Stopped
-mod Opening
-mod Seated
-pub mod Refused

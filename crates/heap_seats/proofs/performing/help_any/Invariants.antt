@@ -1,5 +1,0 @@
-use Rattle.std.proofs.Common.{◌≡◌}
-use Rattle.heap_seats.proofs.performing.help_any.Given as goal
-
-abbrev pub invariant-resting : goal.invariant-resting
-invariant-resting g l = l.keeper ≡ l.initial.keeper

@@ -1,3 +1,0 @@
-pub mod Idling
-pub mod Seating
-pub mod Stopping

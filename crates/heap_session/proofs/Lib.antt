@@ -1,5 +1,0 @@
-pub mod Collectors
-pub mod Plain
-pub mod Labels
-pub mod Driven
-pub mod Refused

@@ -1,3 +1,0 @@
-pub mod Stopping
-pub mod Sessions
-pub mod Driving

@@ -1,5 +1,0 @@
-use Rattle.heap_text.proofs.AnswerLemmas.{answered}
-use Rattle.heap_text.proofs.law.spelled_or_faulty.Goals as goal
-
-pub returns : goal.returns
-returns c = answered

@@ -1,7 +1,0 @@
-use Rattle.std.proofs.Common.{◌≡◌, ◌+◌, drop}
-use Rattle.heap_text.specs.Faults.{first_out_of_range}
-use Rattle.heap_text.proofs.line.first_out_of_range.Given as goal
-
--- the numbers so far are in their ranges
-abbrev pub invariant-loop-at : goal.invariant-loop-at
-invariant-loop-at l = first_out_of_range l.grammar.version l.grammar.domains 1 l.kinds l.numbers ≡ first_out_of_range l.grammar.version l.grammar.domains (l.at + 1) (drop l.at l.kinds) (drop l.at l.numbers)

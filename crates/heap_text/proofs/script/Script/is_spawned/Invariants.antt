@@ -1,7 +1,0 @@
-use Rattle.std.proofs.Common.{◌≡◌, drop}
-use Rattle.heap_text.specs.Spawning.{is_spawned}
-use Rattle.heap_text.proofs.script.Script.is_spawned.Given as goal
-
--- no section before the place has such a spawn
-abbrev pub invariant-loop-at : goal.invariant-loop-at
-invariant-loop-at l = is_spawned l.self.sections l.d ≡ is_spawned (drop l.at l.self.sections) l.d

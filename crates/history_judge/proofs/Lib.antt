@@ -1,6 +1,0 @@
-mod InputLemmas
-mod TextLemmas
-mod TurnLemmas
-mod VersionLemmas
-mod WritingLemmas
-pub mod ReplayLemmas

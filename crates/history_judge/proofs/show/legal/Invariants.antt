@@ -1,8 +1,0 @@
-use Rattle.std.proofs.Common.{◌≡◌, ◌++◌, take, flat_map}
-use Rattle.std.specs.Prelude.{codes}
-use Rattle.heap_model.specs.Output.{line}
-use Rattle.history_judge.specs.Show.{entry_text}
-use Rattle.history_judge.proofs.show.legal.Given as goal
-
-abbrev pub invariant-loop-entry : goal.invariant-loop-entry
-invariant-loop-entry l = l.text.items ≡ line (codes "legal") ++ flat_map entry_text (take l.entry-index l.history)

@@ -1,8 +1,0 @@
-use Rattle.std.proofs.Common.{◌≡◌, ◌++◌, take, flat_map}
-use Rattle.std.specs.Prelude.{codes}
-use Rattle.heap_model.specs.Output.{line}
-use Rattle.history_judge.specs.Tables.{gone_text}
-use Rattle.history_judge.proofs.tables.run.Given as goal
-
-abbrev pub invariant-loop-one : goal.invariant-loop-one
-invariant-loop-one l = l.text.items ≡ line (codes "legal") ++ flat_map gone_text (take l.one-index l.gone)

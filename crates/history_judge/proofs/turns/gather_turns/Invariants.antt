@@ -1,6 +1,0 @@
-use Rattle.std.proofs.Common.{◌≡◌, drop}
-use Rattle.history_judge.specs.Turns.{turns_from, turns_in}
-use Rattle.history_judge.proofs.turns.gather_turns.Given as goal
-
-abbrev pub invariant-loop-entry : goal.invariant-loop-entry
-invariant-loop-entry l = turns_in l.history ≡ turns_from l.items.items l.phase (drop l.entry-index l.history)

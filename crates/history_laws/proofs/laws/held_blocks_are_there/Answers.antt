@@ -1,5 +1,0 @@
-use Rattle.history_laws.proofs.HeldLemmas.{held_law}
-use Rattle.history_laws.proofs.laws.held_blocks_are_there.Goals as goal
-
-pub returns : goal.returns
-returns c = held_law

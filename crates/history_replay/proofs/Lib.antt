@@ -1,5 +1,0 @@
-mod ExactLemmas
-mod PlayLemmas
-mod RangeLemmas
-mod RowLemmas
-mod TextLemmas

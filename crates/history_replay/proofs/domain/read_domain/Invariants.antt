@@ -1,6 +1,0 @@
-use Rattle.std.proofs.Common.{take}
-use Rattle.history_replay.specs.Steps.{HasDone}
-use Rattle.history_replay.proofs.domain.read_domain.Given as goal
-
-abbrev pub invariant-loop-i : goal.invariant-loop-i
-invariant-loop-i l = HasDone l._sizes l.d l.section (take l.i l.history) l.replies.items l.made l.ended

@@ -1,4 +1,0 @@
-pub mod Ending
-pub mod Scheduling
-pub mod Calling
-mod Rows

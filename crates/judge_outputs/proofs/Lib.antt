@@ -1,0 +1,7 @@
+mod InputLemmas
+mod TextLemmas
+mod TurnLemmas
+mod VersionLemmas
+mod WritingLemmas
+pub mod ReplayLemmas
+pub mod OfTexts

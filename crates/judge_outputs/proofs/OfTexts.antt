@@ -1,0 +1,3 @@
+pub mod GoneLemmas
+pub mod EffectLemmas
+pub mod RunLemmas

@@ -1,0 +1,12 @@
+use Rattle.std.proofs.Common.{◌∷◌}
+use Rattle.std.proofs.lemmas.Slice.Eq.{strip_prefix_is}
+use Rattle.std.proofs.lemmas.Bool.Decides.{Decides-eqb}
+use Rattle.judge_outputs.proofs.InputLemmas.{if_none, if_some}
+use Rattle.judge_outputs.specs.Input.{between}
+use Rattle.judge_outputs.proofs.input.behind_line.Goals as goal
+
+pub returns-clause-some : goal.returns-clause-some
+returns-clause-some c = if_some _ _ c.strip_prefix.result (strip_prefix_is Decides-eqb c.args.bytes.now (10 ∷ between) c.strip_prefix.result c.strip_prefix.ensures.cases)
+
+pub returns-clause-none : goal.returns-clause-none
+returns-clause-none c = if_none _ _ c.strip_prefix.result (strip_prefix_is Decides-eqb c.args.bytes.now (10 ∷ between) c.strip_prefix.result c.strip_prefix.ensures.cases)

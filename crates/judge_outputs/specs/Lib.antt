@@ -1,0 +1,13 @@
+pub mod Answer
+pub mod Faulting
+pub mod Input
+pub mod Judging
+pub mod Reading
+pub mod Replays
+pub mod Show
+pub mod Tables
+pub mod Turns
+pub mod Scheduling
+pub mod Writing
+pub mod Search
+pub mod Texts

@@ -1,0 +1,5 @@
+pub mod ExactLemmas
+pub mod PlayLemmas
+pub mod RangeLemmas
+pub mod RowLemmas
+pub mod TextLemmas

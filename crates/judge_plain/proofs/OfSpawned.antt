@@ -1,0 +1,5 @@
+pub mod MakeLemmas
+pub mod PreludeLemmas
+pub mod StepLemmas
+pub mod TellLemmas
+pub mod TextLemmas

@@ -1,8 +1,0 @@
-use Rattle.map_laws.proofs.WayLemmas.{ways_differ, ways_part}
-use Rattle.map_laws.proofs.laws.ways_differ.Goals as goal
-
-pub returns-clause-differ : goal.returns-clause-differ
-returns-clause-differ c = ways_differ
-
-pub returns-clause-part : goal.returns-clause-part
-returns-clause-part c = ways_part

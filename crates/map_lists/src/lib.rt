@@ -1,5 +1,0 @@
-//! Calls on a weak map of a heap of one domain, told of the list of its bindings, and a count of them.
-#![tactic(auto)]
-
-pub mod calls;
-pub mod counting;

@@ -1,9 +1,0 @@
-use Rattle.map_sweeps.proofs.LawLemmas.{respecting_brings}
-use Rattle.map_sweeps.proofs.SpanLemmas.{steps_bring}
-use Rattle.map_sweeps.proofs.laws.dead_leaves_stay_out.Goals as goal
-
-pub returns-clause-steps : goal.returns-clause-steps
-returns-clause-steps c = steps_bring
-
-pub returns-clause-respecting : goal.returns-clause-respecting
-returns-clause-respecting c = respecting_brings

@@ -1,5 +1,0 @@
-//! Dead leaves of a weak map are taken out while other domains use it.
-#![tactic(auto)]
-
-pub mod laws;
-pub mod sweeping;

@@ -1,4 +1,0 @@
-use Rattle.mark_slices.proofs.greys.scan_word.Given as goal
-
-abbrev pub ghost-darken_fields : goal.ghost-darken_fields
-ghost-darken_fields g a = g.head

@@ -1,8 +1,0 @@
-use Rattle.mark_slices.specs.Decks.{NotesOn, TakesOwn}
-use Rattle.mark_slices.proofs.hints.Hints.clear.Given as goal
-
-abbrev pub invariant-loop : goal.invariant-loop
-invariant-loop l = record {
-  notes : NotesOn l.fn.self l.self;
-  takes : TakesOwn l.fn.self l.self;
-}

@@ -1,4 +1,0 @@
-use Rattle.mark_slices.proofs.queue.mark_queued.Given as goal
-
-abbrev pub ghost-darken : goal.ghost-darken
-ghost-darken g a = g.reason

@@ -1,4 +1,0 @@
-use Rattle.mark_slices.proofs.scanning.scan_block.Given as goal
-
-abbrev pub ghost-scanned_store : goal.ghost-scanned_store
-ghost-scanned_store g a = g.site

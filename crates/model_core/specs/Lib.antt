@@ -1,0 +1,14 @@
+pub mod Graph
+pub mod Reach
+pub mod Domains
+pub mod Commands
+pub mod Entries
+pub mod History
+pub mod Output
+pub mod WellFormed
+pub mod Marked
+pub mod Fronts
+pub mod Laws
+pub mod Registrations
+pub mod Counts
+pub mod Controls

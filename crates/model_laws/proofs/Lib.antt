@@ -1,0 +1,4 @@
+pub mod OfHistories
+pub mod OfCollector
+pub mod OfReach
+pub mod OfWays

@@ -1,0 +1,5 @@
+pub mod Alike
+pub mod Blindness
+pub mod Twins
+pub mod Idling
+pub mod Rows

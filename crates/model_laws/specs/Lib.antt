@@ -1,0 +1,4 @@
+pub mod Histories
+pub mod Collector
+pub mod Reach
+pub mod Ways

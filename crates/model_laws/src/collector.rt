@@ -1,0 +1,2 @@
+//! What of the collector a program sees.
+pub mod laws;

@@ -1,0 +1,4 @@
+pub mod OfSchedules
+pub mod OfScheduled
+pub mod OfOrders
+pub mod OfSpawns

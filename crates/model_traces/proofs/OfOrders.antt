@@ -1,0 +1,4 @@
+pub mod Ending
+pub mod Scheduling
+pub mod Calling
+pub mod Rows

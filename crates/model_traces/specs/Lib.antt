@@ -1,0 +1,4 @@
+pub mod Schedules
+pub mod Scheduled
+pub mod Orders
+pub mod Spawns

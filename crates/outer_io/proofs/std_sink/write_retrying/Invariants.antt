@@ -1,7 +1,0 @@
-use Rattle.std.specs.Io.KnownBytes.{Keeps}
-use Rattle.outer_io.proofs.std_sink.write_retrying.Given as goal
-
-abbrev pub invariant-tries : goal.invariant-tries
-invariant-tries g l = record {
-  bytes : Keeps (g.W.Write.contents l.initial.writer) (g.W.Write.contents l.writer);
-}

@@ -1,8 +1,0 @@
-use Rattle.pause_phases.proofs.Opens.{mark_ends, mark_goes_on}
-use Rattle.pause_phases.proofs.opening.after_mark.Goals as goal
-
-pub returns-then-changed_load-eq0-clause-opens : goal.returns-then-changed_load-eq0-clause-opens
-returns-then-changed_load-eq0-clause-opens c who = mark_ends c.args.heap.now.config who c.args.dom.now.view c.changed_load.new.dom.view c.changed_load.result c.changed_load.ensures.told c.if-changed_load-eq0.true
-
-pub returns-else-changed_load-eq0-clause-opens : goal.returns-else-changed_load-eq0-clause-opens
-returns-else-changed_load-eq0-clause-opens c who = mark_goes_on c.args.heap.now.config who c.args.dom.now.view c.changed_load.new.dom.view c.changed_load.result c.changed_load.ensures.told c.if-changed_load-eq0.false

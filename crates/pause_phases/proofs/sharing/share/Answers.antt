@@ -1,5 +1,0 @@
-use Rattle.pause_phases.proofs.Works.{shares_in}
-use Rattle.pause_phases.proofs.sharing.share.Goals as goal
-
-pub returns-clause-shares : goal.returns-clause-shares
-returns-clause-shares c = shares_in c.args.heap.now.config c.args.kind c.args.dom.now.view c.work.new.dom.view c.arrive.new.dom.view c.work.ensures.works c.arrive.ensures.view

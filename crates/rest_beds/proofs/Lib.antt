@@ -1,3 +1,0 @@
-mod Places
-pub mod Moves
-pub mod Kept

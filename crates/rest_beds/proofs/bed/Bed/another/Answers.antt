@@ -1,6 +1,0 @@
-use Rattle.std.proofs.Common.{◌∙◌, ap}
-use Rattle.rest_beds.proofs.Kept.{bed_more}
-use Rattle.rest_beds.proofs.bed.Bed.another.Goals as goal
-
-pub invariant_of-self : goal.invariant_of-self
-invariant_of-self g c = ((c.another-pass.ensures.queue.0.0 ∙ ap (λ q. q.table.shared.table_id) c.deref.ensures, c.another-pass.ensures.queue.0.1), bed_more g.T.Restful.follows _ _ _ _ _ _ _ _ c.self.invariant.1 c.another-pass.ensures.made.0)

@@ -1,5 +1,0 @@
-use Rattle.rest_beds.proofs.Moves.{takes}
-use Rattle.rest_beds.proofs.steps.take.Goals as goal
-
-pub try_pop_as-requires-clause-rule : goal.try_pop_as-requires-clause-rule
-try_pop_as-requires-clause-rule g c = takes g.T.Restful.follows _ _

@@ -1,6 +1,0 @@
-use Rattle.std.proofs.Common.{◌≡◌}
-use Rattle.crossbeam_queue.specs.Passes.{view, IsPassOf}
-use Rattle.rest_pool.proofs.steps.put_first.Given as goal
-
-abbrev pub invariant-tries : goal.invariant-tries
-invariant-tries g l = IsPassOf l.queue l.pass × (view l.pass ≡ view l.fn.pass) × (l.resting ≡ l.fn.first)

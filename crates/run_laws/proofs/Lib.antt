@@ -1,4 +1,0 @@
-pub mod Explaining
-pub mod Keeping
-mod Rows
-mod Repeating

@@ -1,0 +1,68 @@
+//! A domain that has no command to make.
+ghost use Rattle.std.specs.Prelude.{◌≡◌};
+ghost use Rattle.heap_rule.specs.Token.{IsIn};
+ghost use Rattle.run_seats.specs.Shared.Idling.{IsIdleIn, StaysAlong, StaysIdle, still_along, stays_along};
+ghost use Rattle.run_seats.specs.Shared.Sharing.{MayClose};
+
+use crate::beds::Restful;
+use crate::shared::shared::SharedRun;
+use heap_rule::Heap;
+use run_open::{Came, turn_below};
+use run_turns::DomainRun;
+use std::marker::Model;
+
+/// One turn of a run that has no command to make. It takes part in the pauses of the others, and runs its finalisers.
+pub fn attend(heap: &Heap, run: &mut DomainRun) -> Came
+    requires here { IsIdleIn heap.now run.old }
+    ensures here { IsIdleIn heap.now run.new }
+    ensures stays { StaysIdle run.old run.new }
+{
+    run.shows_faithful();
+    turn_below(heap, run)
+}
+
+/// A domain that rests: its trace is open, and it has no command to make.
+#[derive(Drop)]
+pub struct Idle {
+    run: Box<SharedRun>,
+}
+
+impl Model for Idle {
+    ghost use Rattle.run_seats.specs.Shared.Sharing.{MayClose, SharedView};
+
+    ghost Value = { SharedView };
+
+    ghost view = { λ i. i.run.value };
+
+    ghost invariant = { λ i. MayClose i.run.value };
+}
+
+impl Idle {
+    // A domain that may rest.
+    pub(crate) fn of(run: Box<SharedRun>) -> Idle
+        requires may { MayClose run.value }
+        ensures { result ≡ run.value }
+    {
+        Idle { run }
+    }
+
+    // The domain.
+    pub(crate) fn into_run(self) -> Box<SharedRun>
+        ensures { result.value ≡ self }
+    {
+        let Idle { run } = self;
+        run
+    }
+}
+
+impl Restful for Idle {
+    ghost follows = { StaysAlong };
+
+    fn attend(&mut self) -> bool {
+        self.run.attend() == Came::On
+    }
+
+    ghost follows_itself = { still_along };
+
+    ghost follows_on = { stays_along };
+}

@@ -1,0 +1,7 @@
+pub mod Collectors
+pub mod Plain
+pub mod Labels
+pub mod Driven
+pub mod Refused
+pub mod OfDomains
+pub mod OfSharing

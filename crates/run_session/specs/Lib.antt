@@ -1,0 +1,5 @@
+pub mod Stopping
+pub mod Sessions
+pub mod Driving
+pub mod Domains
+pub mod Sharing

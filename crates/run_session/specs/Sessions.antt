@@ -1,0 +1,46 @@
+-- A session as its callers see it.
+use Rattle.std.specs.Prelude.{◌≡◌, ℕ, ◌-◌, List, [], Some}
+use Rattle.model_core.specs.declared.command.Command.{Command}
+use Rattle.model_core.specs.declared.entry.Entry.{Entry}
+use Rattle.model_core.specs.declared.reply.Reply.{Reply}
+use Rattle.model_core.specs.History.{replies}
+use Rattle.heap_rule.specs.declared.config.Config.{Config}
+use Rattle.heap_rule.specs.Limits.{first_outside, sizes_in}
+use Rattle.run_turns.specs.Handed.{PerformedOn}
+use Rattle.run_open.specs.Counting.{no_stats}
+use Rattle.run_open.specs.Refusing.{Takes}
+use Rattle.run_open.specs.declared.counting.Stats.{Stats}
+
+-- a session: the numbers of its heap, the history so far, how many labels were given out, how many more ephemerons and how many more finalisers fit, what the domain counts, and the replies of the finalisers that ran before its last command
+pub record SessionView : Type 0 where
+  pub config : Config
+  pub front : List Entry
+  pub labels : ℕ
+  pub room : ℕ
+  pub finals : ℕ
+  pub stats : Stats
+  pub ran : List Reply
+
+-- the numbers of a heap of one domain
+abbrev pub alone : ℕ → ℕ → ℕ → ℕ → Config
+alone minor_words pools finals ephes = record { domains = 1; minor_words = minor_words; pools = pools; finals = finals; ephes = ephes }
+
+-- a session before its first command
+abbrev pub fresh : Config → SessionView
+fresh c = record { config = c; front = []; labels = 0; room = c.ephes; finals = c.finals; stats = no_stats; ran = [] }
+
+-- the k-th of these numbers of a heap of one domain is the first that is outside its limit
+abbrev pub IsFirstOutside : ℕ → ℕ → ℕ → ℕ → ℕ → Type 0
+IsFirstOutside minor_words pools finals ephes k = first_outside (alone minor_words pools finals ephes) ≡ Some k
+
+-- a command was made in a session, once, behind the finalisers that the session tells, and this is its reply
+abbrev pub PerformsIn : SessionView → SessionView → Command → Reply → Type 0
+PerformsIn old new c r = PerformedOn (sizes_in old.config) 0 old.front new.front c new.ran r
+
+-- the replies of the domain after a history of the session's heap
+abbrev pub replies_of : SessionView → List Entry → List Reply
+replies_of s h = replies (sizes_in s.config) h 0
+
+-- a session may make this command: it fits the shared heap, and there are room for the ephemeron that it makes and the finaliser that it registers, and a label for a block
+abbrev pub MayPerform : SessionView → Command → Type 0
+MayPerform s c = Takes s.room s.finals (4294967295 - s.labels) c

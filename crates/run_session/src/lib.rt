@@ -1,0 +1,22 @@
+//! A heap of one domain that a program drives from its own thread: it hands in a command, gets the reply, and
+//! chooses the next one by it.
+//!
+//! ```text
+//! let mut session = Session::make(alloc, 4096, 64, 8, 16)?;
+//! session.perform(rt, Command::Alloc { dst: 1, tag: 0, fields: 2 });
+//! let live = session.perform(rt, Command::FullMajor);
+//! let ended = session.stop(rt);
+//! ```
+//!
+//! The calls of `weak_tables` on weak arrays and tables take a [`TableSession`], which registers no finaliser.
+#![tactic(auto)]
+
+mod closing;
+pub mod domains;
+mod performing;
+mod session;
+pub mod sharing;
+mod tables;
+
+pub use session::Session;
+pub use tables::TableSession;

@@ -1,0 +1,208 @@
+//! A heap of one domain, and the commands that are handed in to it.
+ghost use Rattle.std.specs.Prelude.{◌≡◌, ◌↔◌, ◌+◌, ◌-◌, ◌++◌, ◌∷◌, ◌<◌, ◌≤◌, ℕ, [], length, IfOk, None, Err};
+ghost use Rattle.model_core.specs.Counts.Counts.{ephemerons_given, labels_given};
+ghost use Rattle.run_turns.specs.Tries.{registrations_of};
+ghost use Rattle.model_core.specs.Commands.{shown};
+ghost use Rattle.model_core.specs.Domains.{IsWithinLimits, domain_at, register as register_value};
+ghost use Rattle.model_core.specs.History.{Legal, commands};
+ghost use Rattle.heap_rule.specs.Limits.{sizes_in};
+ghost use Rattle.heap_rule.specs.Rule.{state_of};
+ghost use Rattle.run_session.specs.Sessions.{IsFirstOutside, MayPerform, PerformsIn, alone, fresh, replies_of};
+ghost use Rattle.run_open.specs.Refusing.{IsRefused};
+ghost use Rattle.run_session.specs.Stopping.{EndsAfter, StopsAfter};
+
+use crate::closing::turn_to_end;
+use crate::performing::perform_on;
+use gc_mark::Hints;
+use heap_rule::{Config, Domain, Ended, Heap, StartFault};
+use model_core::command::Command;
+use model_core::reply::Reply;
+use run_open::{Refusal, Stats, counts, refuses};
+use run_turns::{DomainRun, show};
+use std::alloc::Global;
+use std::marker::Model;
+use std::sync::Wait;
+
+/// A heap of one domain whose commands are handed in one by one. All memory is taken when it is made. Contracts
+/// see its numbers, the history so far, how many labels were given out, how many more ephemerons and finalisers
+/// fit, what the domain counts, and the replies of the finalisers that ran before the last command.
+#[derive(Drop)]
+pub struct Session {
+    heap: Heap,
+    run: DomainRun,
+    // Room for the domain as the heap ends.
+    room: Vec<Domain>,
+}
+
+impl Model for Session {
+    ghost use Rattle.std.specs.Prelude.{◌≡◌, ◌≤◌, ◌-◌, [], vec_capacity};
+    ghost use Rattle.run_session.specs.Driving.{Rests};
+    ghost use Rattle.run_session.specs.Sessions.{SessionView};
+    ghost use Rattle.run_open.specs.Counting.{stats_of};
+    ghost use Rattle.step_finalisers.specs.Registering.{count_of};
+
+    ghost Value = { SessionView };
+
+    ghost view = { λ s. record { config = s.heap.config; front = s.run.token.view.seen.front; labels = s.run.token.view.own.serial; room = s.run.token.view.own.ephemerons.room; finals = s.heap.config.finals - count_of s.run.token.view.own.finalisers; stats = stats_of s.run.token.view.own; ran = s.run.ran } };
+
+    ghost invariant = { λ s. Rests s.heap s.run × (s.room.items ≡ []) × (1 ≤ vec_capacity s.room) };
+}
+
+impl Session {
+    /// A heap of one domain with so many words in its minor area (a multiple of 4096), so many pools, and
+    /// room for so many finalisers and for so many ephemerons that aren't garbage. Register 0 holds the shared
+    /// block and the others nothing.
+    ///
+    /// `Config(k)` names the first of the heap's numbers outside its limit, as in [`Config`].
+    pub fn make(
+        alloc: Global,
+        minor_words: u32,
+        pools: u32,
+        finals: u32,
+        ephes: u32,
+    ) -> Result<Session, StartFault>
+        ensures outside { (k : ℕ) → (result ≡ Err (StartFault.Config k))
+            ↔ IsFirstOutside minor_words pools finals ephes k }
+        ensures session { IfOk result (λ s. s ≡ fresh (alone minor_words pools finals ephes)) }
+    {
+        let config = Config {
+            domains: 1,
+            minor_words,
+            pools,
+            finals,
+            ephes,
+        };
+        let (heap, mut room) = Heap::start(alloc, config)?;
+        let mut decks = Hints::make(alloc, 1, ephes)?;
+        let domain = room.remove(0);
+        let run = DomainRun::make_open(alloc, domain, decks.remove(0))?;
+        Ok(Session { heap, run, room })
+    }
+
+    /// How many more ephemerons fit.
+    pub fn ephes_room(&self) -> usize
+        ensures { result ≡ self.now.room }
+    {
+        self.run.domain().ephes_room()
+    }
+
+    /// How many more finalisers can be registered. One that was registered takes room until it has run.
+    pub fn finals_room(&self) -> usize
+        ensures { result ≡ self.now.finals }
+    {
+        let _config = self.heap.config();
+        self.run.domain().finals_room()
+    }
+
+    /// How many labels are left for blocks: 4,294,967,295 less those that were given out.
+    pub fn labels_left(&self) -> u32
+        ensures { result + self.now.labels ≡ 4294967295 }
+    {
+        u32::MAX - self.run.domain().labels_made()
+    }
+
+    /// The replies of the finalisers that ran before the last command, since the one before that: `fin` and
+    /// `last` lines in the order in which they ran.
+    pub fn ran(&self) -> &[Reply]
+        ensures { result.now ≡ self.now.ran }
+    {
+        self.run.ran()
+    }
+
+    /// What the domain counts: labels, words of its minor area, remembered fields, ephemerons, finalisers and arrivals.
+    pub fn stats(&self) -> Stats
+        ensures stats { result ≡ self.now.stats }
+        ensures labels { result.labels ≡ self.now.labels }
+        ensures young { result.young_words ≤ self.now.config.minor_words }
+        ensures finals { result.finals + result.lasts + result.waiting + self.now.finals ≡ self.now.config.finals }
+    {
+        let _config = self.heap.config();
+        let _room = self.run.domain().finals_room();
+        counts(&self.run)
+    }
+
+    /// Why [`perform`](Session::perform) doesn't take a command: the first that is missing of what it asks. None exactly
+    /// where it takes it.
+    pub fn refuses(&self, command: &Command) -> Option<Refusal>
+        ensures none { (result ≡ None) ↔ MayPerform self.now command.now }
+        ensures why { IsRefused self.now.room self.now.finals (4294967295 - self.now.labels) command.now result }
+    {
+        refuses(
+            command,
+            self.ephes_room(),
+            self.finals_room(),
+            self.labels_left(),
+        )
+    }
+
+    /// There is one domain, the numbers are within their limits, the history so far is legal for them, so many labels
+    /// were given out as it says, and no more finalisers fit than the numbers say.
+    pub fn shows_legal(&self)
+        ensures alone { self.now.config.domains ≡ 1 }
+        ensures limits { IsWithinLimits (sizes_in self.now.config) }
+        ensures legal { Legal (sizes_in self.now.config) self.now.front }
+        ensures labels { self.now.labels ≡ (domain_at (state_of self.now.config self.now.front) 0).serial }
+        ensures finals { self.now.finals ≤ self.now.config.finals }
+    {
+        let _config = self.heap.config();
+    }
+
+    /// Makes a command, and answers its reply. The command fits the shared heap, its registers are below 16
+    /// and its numbers in their ranges, and there are room for an ephemeron that it makes and for a finaliser
+    /// that it registers, and a label for a block.
+    ///
+    /// The history grows by entries of the collector and by runs of the finalisers that waited, and then by this
+    /// command, and the reply is that of the state before it. [`ran`](Session::ran) has the replies of these
+    /// finalisers. A label is given out exactly where the command allocates and isn't answered `full`. Room
+    /// is taken for the ephemeron that it makes, and there is more only where ephemerons were swept. Room is
+    /// taken for the finaliser that it registers, and there is more for each that ran. A pause that the command
+    /// needs is gone through by this thread; one in which a `full_major` is answered ends with the next command.
+    /// A domain that has arrived 2^60 times isn't turned any more, and then this call doesn't return.
+    #[inline(always)]
+    pub fn perform<R: Wait>(&mut self, rt: &R, command: Command) -> Reply
+        requires may { MayPerform self.old command }
+        ensures config { self.new.config ≡ self.old.config }
+        ensures labels { self.new.labels ≡ self.old.labels + labels_given command result }
+        ensures room { self.old.room ≤ self.new.room + ephemerons_given command result }
+        ensures finals { self.old.finals + length self.new.ran ≤ self.new.finals + registrations_of command }
+        ensures performed { PerformsIn self.old self.new command result }
+        ensures commands { commands self.new.front 0 ≡ commands self.old.front 0 ++ command ∷ [] }
+        ensures replies { replies_of self.old self.new.front ≡ replies_of self.old self.old.front ++
+            (self.new.ran ++ result ∷ []) }
+    {
+        let _limits = self.heap.config();
+        let _left = self.labels_left();
+        self.run.shows_faithful();
+        perform_on(rt, &self.heap, &mut self.run, command)
+    }
+
+    /// The reply that shows what a register holds: `int` with an integer, `blk` with the label of a block, or
+    /// `none`. The register is below 16. No entry is made.
+    pub fn show(&mut self, r: u8) -> Reply
+        requires few { r < 16 }
+        ensures same { self.new ≡ self.old }
+        ensures reply { result ≡ shown (register_value (state_of self.old.config self.old.front) 0 r) }
+    {
+        show(&self.heap, &mut self.run, r)
+    }
+
+    /// Ends the domain's trace and the heap. The finalisers that wait run before that, and what else is registered
+    /// never runs. The history of the ended heap is the one so far, then entries of the collector and these runs,
+    /// the end of the trace, and maybe more of the collector's. Where there is no room for finalisers none runs.
+    /// As with [`perform`](Session::perform), a domain that has arrived 2^60 times isn't turned any more.
+    pub fn stop<R: Wait>(self, rt: &R) -> Ended
+        ensures sizes { result.sizes ≡ sizes_in self.config }
+        ensures ends { EndsAfter (sizes_in self.config) self.front result.history }
+        ensures stops { self.config.finals ≡ 0 → StopsAfter (sizes_in self.config) self.front result.history }
+    {
+        let Session { heap, run, room } = self;
+        let _limits = heap.config();
+        let mut run = run;
+        run.shows_faithful();
+        run.close();
+        let run = turn_to_end(rt, &heap, run);
+        let mut domains = room;
+        domains.push_reserved(run.into_domain());
+        heap.stop(domains)
+    }
+}

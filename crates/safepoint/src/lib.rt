@@ -1,8 +1,0 @@
-//! Safepoints: all domains stop together and go on together.
-#![tactic(auto)]
-
-mod answer;
-mod barrier;
-
-pub use answer::{Look, Want, Wants};
-pub use barrier::{arrive, ask, is_wanted, lead, look, look_all, wants};

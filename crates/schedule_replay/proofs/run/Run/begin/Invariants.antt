@@ -1,6 +1,0 @@
-use Rattle.std.proofs.Common.{◌≡◌, map, take}
-use Rattle.schedule_replay.proofs.run.Run.begin.Given as goal
-
--- the sections so far
-abbrev pub invariant-sections : goal.invariant-sections
-invariant-sections l = map (λ s. s.now) l.left.items ≡ take l.d l.script.sections

@@ -1,8 +1,0 @@
-pub mod Walking
-pub mod Counting
-pub mod Passing
-pub mod Ordering
-pub mod Printing
-pub mod Seeing
-pub mod Waiting
-mod Rows

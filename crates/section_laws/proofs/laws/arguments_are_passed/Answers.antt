@@ -1,8 +1,0 @@
-use Rattle.section_laws.proofs.Passing.{passed_arguments, zero_arguments}
-use Rattle.section_laws.proofs.laws.arguments_are_passed.Goals as goal
-
-pub returns-clause-passed : goal.returns-clause-passed
-returns-clause-passed c = passed_arguments
-
-pub returns-clause-zero : goal.returns-clause-zero
-returns-clause-zero c = zero_arguments

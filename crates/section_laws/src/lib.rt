@@ -1,5 +1,0 @@
-//! What sections that spawn and join one another rely on: what a spawn passes, what their commands print, what one sees of
-//! another's writes, and that they never all wait.
-#![tactic(auto)]
-
-pub mod laws;

@@ -1,4 +1,0 @@
-//! What a whole session makes.
-#![tactic(auto)]
-
-pub mod laws;

@@ -1,8 +1,0 @@
-use Rattle.shared_maps.proofs.CommandLemmas.{commands_beside_are_guarded, ends_are_guarded}
-use Rattle.shared_maps.proofs.laws.entries_beside_are_guarded.Goals as goal
-
-pub returns-clause-commands : goal.returns-clause-commands
-returns-clause-commands c = commands_beside_are_guarded
-
-pub returns-clause-ends : goal.returns-clause-ends
-returns-clause-ends c = ends_are_guarded

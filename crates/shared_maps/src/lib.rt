@@ -1,4 +1,0 @@
-//! Maps that several domains use at once: what each call may rely on of the others, and the one order of all calls.
-#![tactic(auto)]
-
-pub mod laws;

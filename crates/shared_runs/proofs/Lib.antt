@@ -1,3 +1,0 @@
-mod Opened
-pub mod Idling
-mod Taken

@@ -1,8 +1,0 @@
-use Rattle.shared_runs.proofs.Idling.{idle_turn}
-use Rattle.shared_runs.proofs.idle.attend.Goals as goal
-
-pub returns-clause-here : goal.returns-clause-here
-returns-clause-here c = (idle_turn c.args.heap.now c.args.run.now c.turn_below.new.run c.requires.here c.turn_below.ensures.here c.turn_below.ensures.goes_on c.is_faithful.ensures c.turn_below.ensures.stretch).0
-
-pub returns-clause-stays : goal.returns-clause-stays
-returns-clause-stays c = (idle_turn c.args.heap.now c.args.run.now c.turn_below.new.run c.requires.here c.turn_below.ensures.here c.turn_below.ensures.goes_on c.is_faithful.ensures c.turn_below.ensures.stretch).1

@@ -1,5 +1,0 @@
-pub mod CommandLemmas
-pub mod PlaceLemmas
-pub mod SoundLemmas
-pub mod ModeLemmas
-pub mod RoundLemmas

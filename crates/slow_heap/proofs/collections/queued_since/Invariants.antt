@@ -1,7 +1,0 @@
-use Rattle.std.proofs.Common.{◌≡◌, ◌++◌, map, drop}
-use Rattle.heap_model.specs.Entries.{queued_beyond}
-use Rattle.slow_heap.proofs.collections.queued_since.Given as goal
-
--- what is left to add
-abbrev pub invariant-loop-i : goal.invariant-loop-i
-invariant-loop-i l = l.labels.items ++ queued_beyond (map (λ x. x.queue) (drop l.i l.domains)) (drop l.i l.cut) ≡ queued_beyond (map (λ x. x.queue) l.domains) l.cut

@@ -1,7 +1,0 @@
-use Rattle.std.proofs.Common.{◌≡◌, drop}
-use Rattle.heap_model.specs.Entries.{is_rising}
-use Rattle.slow_heap.proofs.queueing.is_rising.Given as goal
-
--- the places so far rise
-abbrev pub invariant-loop-i : goal.invariant-loop-i
-invariant-loop-i l = is_rising (drop l.i l.places) ≡ is_rising l.places

@@ -1,6 +1,0 @@
-use Rattle.std.proofs.Common.{◌≡◌, ◌++◌, map, take}
-use Rattle.slow_heap.proofs.roots.add_lasts.Given as goal
-
--- the labels so far
-abbrev pub invariant-loop-f : goal.invariant-loop-f
-invariant-loop-f l = l.labels.items ≡ l.fn.labels.items ++ map (λ f. f.label) (take l.f-index l.domain.lasts)

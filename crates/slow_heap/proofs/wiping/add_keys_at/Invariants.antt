@@ -1,7 +1,0 @@
-use Rattle.std.proofs.Common.{◌≡◌, ◌++◌, filter_map, take}
-use Rattle.heap_model.specs.Entries.{at_places}
-use Rattle.slow_heap.proofs.wiping.add_keys_at.Given as goal
-
--- the labels so far
-abbrev pub invariant-loop-p : goal.invariant-loop-p
-invariant-loop-p l = l.labels.items ≡ l.fn.labels.items ++ filter_map (λ k. k) (at_places (take l.p-index l.places) l.keys)

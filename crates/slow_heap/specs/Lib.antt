@@ -1,3 +1,0 @@
-pub mod Follows
-pub mod Writes
-pub mod Modes

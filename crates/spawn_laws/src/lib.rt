@@ -1,4 +1,0 @@
-//! What sections that spawn and join one another do, over plain data: how their commands stand in a history, and that a join comes after the whole section that it names.
-#![tactic(auto)]
-
-pub mod laws;

@@ -1,5 +1,0 @@
-mod MakeLemmas
-mod PreludeLemmas
-mod StepLemmas
-mod TellLemmas
-mod TextLemmas

@@ -1,5 +1,0 @@
-use Rattle.spawned_replay.proofs.PreludeLemmas.{loads_more}
-use Rattle.spawned_replay.proofs.prelude.behind_loads.Goals as goal
-
-pub loop-d-preserved : goal.loop-d-preserved
-loop-d-preserved c = loads_more c.loop-d.d c.args.history.now c.loop-d.rest.now c.in_ok-rest.rest.now c.loop-d.auto.d c.loop-d.invariant c.in_ok-rest.ensures

@@ -1,4 +1,0 @@
-//! What the laws of spawns and joins say of each script of version 3 that is read.
-#![tactic(auto)]
-
-pub mod law;

@@ -1,0 +1,3 @@
+pub mod OfCommands
+pub mod OfLooks
+pub mod OfWipes

@@ -1,0 +1,2 @@
+pub mod OfMarking
+pub mod OfBeside

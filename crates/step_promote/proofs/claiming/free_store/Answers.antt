@@ -1,0 +1,8 @@
+use Rattle.step_promote.proofs.Freeing.{free_may, free_closes}
+use Rattle.step_promote.proofs.claiming.free_store.Goals as goal
+
+pub raw_store-requires-clause-may : goal.raw_store-requires-clause-may
+raw_store-requires-clause-may c = free_may c.args.heap.now.config c.args.dom.now.view c.index_of-index.result c.args.at c.args.pool c.args.class c.args.slot c.index_of-index.ensures c.requires.may
+
+pub raw_store-requires-clause-closes : goal.raw_store-requires-clause-closes
+raw_store-requires-clause-closes c = free_closes c.args.heap.now.config c.args.dom.now.view c.args.at c.args.pool c.args.class c.args.slot c.requires.pool c.requires.may

@@ -1,0 +1,4 @@
+pub mod OfFields
+pub mod OfExchange
+pub mod OfQueues
+pub mod OfYoung

@@ -1,0 +1,4 @@
+pub mod Fields
+pub mod Exchange
+pub mod Queues
+pub mod Young

@@ -1,0 +1,8 @@
+use Rattle.step_sweep.proofs.HoldSteps.{held_may, held_closes}
+use Rattle.step_sweep.proofs.holding.held_load.Goals as goal
+
+pub raw_load-requires-clause-may : goal.raw_load-requires-clause-may
+raw_load-requires-clause-may c = held_may c.args.heap.now.config c.args.dom.now.view c.index_of-index.result c.args.at c.args.pool c.args.class c.args.slot c.index_of-index.ensures c.requires.may
+
+pub raw_load-requires-clause-closes : goal.raw_load-requires-clause-closes
+raw_load-requires-clause-closes c = λ found. held_closes c.args.heap.now.config c.args.dom.now.view found c.args.pool c.args.slot

@@ -1,0 +1,5 @@
+use Rattle.step_sweep.specs.Turning.{WordsCleared}
+use Rattle.step_sweep.proofs.turning.words_clear.Given as goal
+
+abbrev pub ghosts-raw_store : goal.ghosts-raw_store
+ghosts-raw_store a = record { tells = WordsCleared }

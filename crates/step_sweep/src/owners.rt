@@ -1,0 +1,21 @@
+//! Who owns a pool.
+ghost use Rattle.std.specs.Prelude.{◌≢◌, ◌≡◌, ◌<◌, ℕ, MatchOption};
+ghost use Rattle.model_core.specs.Domains.{class_count};
+ghost use Rattle.heap_rule.specs.Pools.{owned, owner_word as word_of};
+
+use heap_words::classes::CLASS_COUNT;
+use step_pools::owner_word;
+
+/// The index of the owner word of the first pool, less the number of pools.
+pub const OWNERS: u32 = 11;
+
+/// The class of the domain's pool whose owner word this is. `None` exactly where the pool isn't its.
+pub fn own_class(word: u64, domain: u32) -> Option<u32>
+    ensures { MatchOption result ((class : ℕ) → class < class_count → word ≢ word_of (owned domain class)) (λ class. (class < class_count) × (word ≡ word_of (owned domain class))) }
+{
+    let first = owner_word(domain, 0);
+    if word < first || word - first >= CLASS_COUNT as u64 {
+        return None;
+    }
+    Some((word - first) as u32)
+}

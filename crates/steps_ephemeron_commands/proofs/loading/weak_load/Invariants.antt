@@ -1,5 +1,0 @@
-use Rattle.steps_ephemeron_commands.specs.Loads.{WeakRead}
-use Rattle.steps_ephemeron_commands.proofs.loading.weak_load.Given as goal
-
-abbrev pub ghosts-raw_load : goal.ghosts-raw_load
-ghosts-raw_load g a = record { tells = WeakRead a.heap.now.config g.entry a.changes.now }

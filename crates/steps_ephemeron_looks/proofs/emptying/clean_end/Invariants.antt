@@ -1,5 +1,0 @@
-use Rattle.steps_ephemeron_looks.specs.Emptying.{CleanEndTold}
-use Rattle.steps_ephemeron_looks.proofs.emptying.clean_end.Given as goal
-
-abbrev pub ghosts-raw_load : goal.ghosts-raw_load
-ghosts-raw_load a = record { tells = CleanEndTold }

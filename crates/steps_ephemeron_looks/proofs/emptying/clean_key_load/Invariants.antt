@@ -1,5 +1,0 @@
-use Rattle.steps_ephemeron_looks.specs.Emptying.{CleanKeyTold}
-use Rattle.steps_ephemeron_looks.proofs.emptying.clean_key_load.Given as goal
-
-abbrev pub ghosts-raw_load : goal.ghosts-raw_load
-ghosts-raw_load a = record { tells = CleanKeyTold a.heap.now.config }

@@ -1,9 +1,0 @@
-use Rattle.steps_ephemeron_looks.proofs.Plain.{clean_label_closes}
-use Rattle.steps_ephemeron_looks.proofs.CleanSteps.{clean_label_may}
-use Rattle.steps_ephemeron_looks.proofs.emptying.clean_label_load.Goals as goal
-
-pub raw_load-requires-clause-may : goal.raw_load-requires-clause-may
-raw_load-requires-clause-may c = clean_label_may c.args.heap.now.config c.args.dom.now.view c.index_of-label_index.result c.args.at c.index_of-label_index.ensures c.requires.may
-
-pub raw_load-requires-clause-closes : goal.raw_load-requires-clause-closes
-raw_load-requires-clause-closes c = λ found. clean_label_closes c.args.heap.now.config c.args.dom.now.view found

@@ -1,9 +1,0 @@
-use Rattle.steps_ephemeron_looks.proofs.Plain.{key_look_closes}
-use Rattle.steps_ephemeron_looks.proofs.RoundSteps.{key_look_may}
-use Rattle.steps_ephemeron_looks.proofs.rounding.key_look.Goals as goal
-
-pub raw_load-requires-clause-may : goal.raw_load-requires-clause-may
-raw_load-requires-clause-may c = key_look_may c.args.heap.now.config c.args.dom.now.view c.index_of-head_index.result c.args.at c.index_of-head_index.ensures c.requires.may
-
-pub raw_load-requires-clause-closes : goal.raw_load-requires-clause-closes
-raw_load-requires-clause-closes c = λ found. key_look_closes c.args.heap.now.config c.args.dom.now.view found

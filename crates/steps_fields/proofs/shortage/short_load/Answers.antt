@@ -1,9 +1,0 @@
-use Rattle.steps_fields.proofs.Plain.{short_closes}
-use Rattle.steps_fields.proofs.ShortSteps.{short_may}
-use Rattle.steps_fields.proofs.shortage.short_load.Goals as goal
-
-pub raw_load-requires-clause-may : goal.raw_load-requires-clause-may
-raw_load-requires-clause-may c = short_may c.args.heap.now.config c.args.at c.args.dom.now.view c.requires.may
-
-pub raw_load-requires-clause-closes : goal.raw_load-requires-clause-closes
-raw_load-requires-clause-closes c = short_closes c.args.heap.now.config c.args.dom.now.view c.args.changes.now c.requires.unchanged

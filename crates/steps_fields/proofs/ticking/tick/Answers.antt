@@ -1,9 +1,0 @@
-use Rattle.steps_fields.proofs.Plain.{tick_closes}
-use Rattle.steps_fields.proofs.TickSteps.{tick_may}
-use Rattle.steps_fields.proofs.ticking.tick.Goals as goal
-
-pub raw_load-requires-clause-may : goal.raw_load-requires-clause-may
-raw_load-requires-clause-may g c = tick_may c.args.heap.now.config c.args.at c.args.dom.now.view g.entry c.args.changes.now c.requires.1.1
-
-pub raw_load-requires-clause-closes : goal.raw_load-requires-clause-closes
-raw_load-requires-clause-closes g c = tick_closes c.args.heap.now.config c.args.dom.now.view g.entry c.args.changes.now c.requires.1.1.fits

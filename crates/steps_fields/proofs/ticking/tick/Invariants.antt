@@ -1,5 +1,0 @@
-use Rattle.steps_fields.specs.Ticks.{TickTold}
-use Rattle.steps_fields.proofs.ticking.tick.Given as goal
-
-abbrev pub ghosts-raw_load : goal.ghosts-raw_load
-ghosts-raw_load g a = record { tells = TickTold a.heap.now.config g.entry a.changes.now }

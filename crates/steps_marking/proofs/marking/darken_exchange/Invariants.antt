@@ -1,5 +1,0 @@
-use Rattle.steps_marking.specs.Marking.{DarkenTold}
-use Rattle.steps_marking.proofs.marking.darken_exchange.Given as goal
-
-abbrev pub ghosts-raw_exchange : goal.ghosts-raw_exchange
-ghosts-raw_exchange g a = record { tells = DarkenTold a.heap.now.config a.old a.writing.now.at g.reason }

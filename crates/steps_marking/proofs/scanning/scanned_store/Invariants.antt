@@ -1,5 +1,0 @@
-use Rattle.steps_marking.specs.Marking.{ScannedTold}
-use Rattle.steps_marking.proofs.scanning.scanned_store.Given as goal
-
-abbrev pub ghosts-raw_store : goal.ghosts-raw_store
-ghosts-raw_store g a = record { tells = ScannedTold a.writing.now.at g.site }

@@ -1,9 +1,0 @@
-use Rattle.steps_marking.proofs.Plain.{grey_closes}
-use Rattle.steps_marking.proofs.WalkSteps.{grey_may}
-use Rattle.steps_marking.proofs.walking.grey_load.Goals as goal
-
-pub raw_load-requires-clause-may : goal.raw_load-requires-clause-may
-raw_load-requires-clause-may c = grey_may c.args.heap.now.config c.args.dom.now.view c.index_of-index.result c.args.at c.index_of-index.ensures c.requires.may
-
-pub raw_load-requires-clause-closes : goal.raw_load-requires-clause-closes
-raw_load-requires-clause-closes c = λ found. grey_closes c.args.heap.now.config c.args.dom.now.view found c.args.at

@@ -1,5 +1,0 @@
-use Rattle.steps_marking_beside.specs.Marking.{DarkenTold}
-use Rattle.steps_marking_beside.proofs.marking.beside_darken.Given as goal
-
-abbrev pub ghosts-raw_exchange : goal.ghosts-raw_exchange
-ghosts-raw_exchange g a = record { tells = DarkenTold a.old a.writing.now.at g.reason }

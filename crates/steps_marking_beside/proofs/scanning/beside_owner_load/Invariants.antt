@@ -1,5 +1,0 @@
-use Rattle.steps_marking_beside.specs.Marking.{PoolTold}
-use Rattle.steps_marking_beside.proofs.scanning.beside_owner_load.Given as goal
-
-abbrev pub ghosts-raw_load : goal.ghosts-raw_load
-ghosts-raw_load a = record { tells = PoolTold a.writing.now.at a.writing.now.pool }

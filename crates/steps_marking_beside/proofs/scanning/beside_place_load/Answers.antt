@@ -1,9 +1,0 @@
-use Rattle.steps_marking_beside.proofs.Plain.{place_closes}
-use Rattle.steps_marking_beside.proofs.LookSteps.{place_may}
-use Rattle.steps_marking_beside.proofs.scanning.beside_place_load.Goals as goal
-
-pub raw_load-requires-clause-may : goal.raw_load-requires-clause-may
-raw_load-requires-clause-may c = place_may c.args.heap.now.config c.args.dom.now.view c.index_of-index.result c.args.at c.args.pool c.args.class c.args.slot c.index_of-index.ensures c.requires.may
-
-pub raw_load-requires-clause-closes : goal.raw_load-requires-clause-closes
-raw_load-requires-clause-closes c = λ found. place_closes c.args.heap.now.config c.args.dom.now.view found c.args.at

@@ -1,5 +1,0 @@
-use Rattle.steps_marking_beside.specs.Marking.{ReadTold}
-use Rattle.steps_marking_beside.proofs.scanning.beside_read.Given as goal
-
-abbrev pub ghosts-raw_load : goal.ghosts-raw_load
-ghosts-raw_load g a = record { tells = ReadTold a.heap.now.config a.writing.now.pool a.writing.now.class }

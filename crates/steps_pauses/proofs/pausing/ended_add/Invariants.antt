@@ -1,5 +1,0 @@
-use Rattle.steps_pauses.specs.Pauses.{EndTold}
-use Rattle.steps_pauses.proofs.pausing.ended_add.Given as goal
-
-abbrev pub ghosts-raw_add : goal.ghosts-raw_add
-ghosts-raw_add a = record { tells = EndTold a.heap.now.config }

@@ -1,5 +1,0 @@
-use Rattle.steps_pauses.specs.Pauses.{PlanTold}
-use Rattle.steps_pauses.proofs.pausing.plan_load.Given as goal
-
-abbrev pub ghosts-raw_load : goal.ghosts-raw_load
-ghosts-raw_load a = record { tells = PlanTold }

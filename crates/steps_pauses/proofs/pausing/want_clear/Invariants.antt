@@ -1,5 +1,0 @@
-use Rattle.steps_pauses.specs.Pauses.{ClearTold}
-use Rattle.steps_pauses.proofs.pausing.want_clear.Given as goal
-
-abbrev pub ghosts-raw_store : goal.ghosts-raw_store
-ghosts-raw_store a = record { tells = ClearTold }

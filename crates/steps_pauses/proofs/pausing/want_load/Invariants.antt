@@ -1,5 +1,0 @@
-use Rattle.steps_pauses.specs.Pauses.{WantTold}
-use Rattle.steps_pauses.proofs.pausing.want_load.Given as goal
-
-abbrev pub ghosts-raw_load : goal.ghosts-raw_load
-ghosts-raw_load a = record { tells = WantTold a.heap.now.config }

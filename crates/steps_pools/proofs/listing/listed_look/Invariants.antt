@@ -1,5 +1,0 @@
-use Rattle.steps_pools.specs.Listings.{CountedTold}
-use Rattle.steps_pools.proofs.listing.listed_look.Given as goal
-
-abbrev pub ghosts-raw_load : goal.ghosts-raw_load
-ghosts-raw_load a = record { tells = CountedTold a.heap.now.config }

@@ -1,9 +1,0 @@
-use Rattle.steps_pools.proofs.Plain.{ephe_closes}
-use Rattle.steps_pools.proofs.MajorSteps.{ephe_may, ephe_can}
-use Rattle.steps_pools.proofs.taking.ephe_store.Goals as goal
-
-pub raw_store-requires-clause-may : goal.raw_store-requires-clause-may
-raw_store-requires-clause-may g c = ephe_may c.args.heap.now.config c.index_of-index.result c.args.dom.now.view c.args.at c.args.new g.entry c.args.changes.now c.index_of-index.ensures c.requires.1.1
-
-pub raw_store-requires-clause-closes : goal.raw_store-requires-clause-closes
-raw_store-requires-clause-closes g c = ephe_closes c.args.heap.now.config c.args.dom.now.view c.args.at c.args.new g.entry c.args.changes.now c.requires.1.0 (ephe_can c.args.heap.now.config c.args.dom.now.view c.args.at c.args.new c.args.changes.now g.entry c.requires.1.1)

@@ -1,5 +1,0 @@
-use Rattle.steps_pools.specs.Takes.{ListTold}
-use Rattle.steps_pools.proofs.taking.list_load.Given as goal
-
-abbrev pub ghosts-raw_load : goal.ghosts-raw_load
-ghosts-raw_load a = record { tells = ListTold }

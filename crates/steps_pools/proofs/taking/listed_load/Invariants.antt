@@ -1,5 +1,0 @@
-use Rattle.steps_pools.specs.Takes.{ListedTold}
-use Rattle.steps_pools.proofs.taking.listed_load.Given as goal
-
-abbrev pub ghosts-raw_load : goal.ghosts-raw_load
-ghosts-raw_load a = record { tells = ListedTold a.heap.now.config }

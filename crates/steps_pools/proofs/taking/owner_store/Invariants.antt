@@ -1,5 +1,0 @@
-use Rattle.steps_pools.specs.Takes.{OwnedTold}
-use Rattle.steps_pools.proofs.taking.owner_store.Given as goal
-
-abbrev pub ghosts-raw_store : goal.ghosts-raw_store
-ghosts-raw_store a = record { tells = OwnedTold a.writing.now.pool a.writing.now.class }

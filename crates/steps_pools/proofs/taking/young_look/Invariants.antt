@@ -1,5 +1,0 @@
-use Rattle.steps_pools.specs.Takes.{YoungTold}
-use Rattle.steps_pools.proofs.taking.young_look.Given as goal
-
-abbrev pub ghosts-raw_load : goal.ghosts-raw_load
-ghosts-raw_load a = record { tells = YoungTold a.heap.now.config }

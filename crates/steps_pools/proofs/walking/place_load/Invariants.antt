@@ -1,5 +1,0 @@
-use Rattle.steps_pools.specs.Takes.{PlaceTold}
-use Rattle.steps_pools.proofs.walking.place_load.Given as goal
-
-abbrev pub ghosts-raw_load : goal.ghosts-raw_load
-ghosts-raw_load a = record { tells = PlaceTold a.writing.now.pool a.writing.now.class a.writing.now.slot }

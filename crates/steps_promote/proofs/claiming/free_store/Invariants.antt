@@ -1,5 +1,0 @@
-use Rattle.steps_promote.specs.Claims.{FreedTold}
-use Rattle.steps_promote.proofs.claiming.free_store.Given as goal
-
-abbrev pub ghosts-raw_store : goal.ghosts-raw_store
-ghosts-raw_store a = record { tells = FreedTold a.writing.now.pool a.writing.now.class a.writing.now.slot }

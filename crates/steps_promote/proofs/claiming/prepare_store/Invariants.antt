@@ -1,5 +1,0 @@
-use Rattle.steps_promote.specs.Claims.{PrepareTold}
-use Rattle.steps_promote.proofs.claiming.prepare_store.Given as goal
-
-abbrev pub ghosts-raw_store : goal.ghosts-raw_store
-ghosts-raw_store a = record { tells = PrepareTold a.writing.now.at a.writing.now.class }

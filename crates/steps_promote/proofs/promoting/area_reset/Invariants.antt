@@ -1,5 +1,0 @@
-use Rattle.steps_promote.specs.Promotion.{ResetTold}
-use Rattle.steps_promote.proofs.promoting.area_reset.Given as goal
-
-abbrev pub ghosts-raw_store : goal.ghosts-raw_store
-ghosts-raw_store a = record { tells = ResetTold a.heap.now.config }

@@ -1,5 +1,0 @@
-use Rattle.steps_promote.specs.Promotion.{FillTold}
-use Rattle.steps_promote.proofs.promoting.copy_store.Given as goal
-
-abbrev pub ghosts-raw_store : goal.ghosts-raw_store
-ghosts-raw_store a = record { tells = FillTold }

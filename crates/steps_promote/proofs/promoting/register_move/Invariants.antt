@@ -1,5 +1,0 @@
-use Rattle.steps_promote.specs.Promotion.{MoveTold}
-use Rattle.steps_promote.proofs.promoting.register_move.Given as goal
-
-abbrev pub ghosts-raw_load : goal.ghosts-raw_load
-ghosts-raw_load a = record { tells = MoveTold a.heap.now.config a.writing.now.register a.writing.now.copy }

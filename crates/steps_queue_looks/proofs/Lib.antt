@@ -1,2 +1,0 @@
-pub mod Queues
-mod LookSteps

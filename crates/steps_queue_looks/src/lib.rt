@@ -1,6 +1,0 @@
-//! The step by which a running domain compares its queue of finalisers with the history.
-#![tactic(auto)]
-
-mod looking;
-
-pub use looking::queue_load;

@@ -1,5 +1,0 @@
-use Rattle.steps_sweep.specs.Returning.{TopTold}
-use Rattle.steps_sweep.proofs.returning.top_load.Given as goal
-
-abbrev pub ghosts-raw_load : goal.ghosts-raw_load
-ghosts-raw_load a = record { tells = TopTold a.writing.now.pool }

@@ -1,5 +1,0 @@
-use Rattle.steps_sweep.specs.Turning.{WordsCleared}
-use Rattle.steps_sweep.proofs.turning.words_clear.Given as goal
-
-abbrev pub ghosts-raw_store : goal.ghosts-raw_store
-ghosts-raw_store a = record { tells = WordsCleared }

@@ -1,5 +1,0 @@
-use Rattle.steps_young.specs.Inits.{AllocTold}
-use Rattle.steps_young.proofs.making.head_store.Given as goal
-
-abbrev pub ghosts-raw_store : goal.ghosts-raw_store
-ghosts-raw_store g a = record { tells = λ x _ y. AllocTold a.heap.now.config g.entry a.changes.now x y }

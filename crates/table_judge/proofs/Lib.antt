@@ -1,3 +1,0 @@
-mod GoneLemmas
-mod EffectLemmas
-mod RunLemmas

@@ -1,6 +1,0 @@
-use Rattle.std.proofs.Common.{◌≡◌, drop}
-use Rattle.table_laws.specs.Structures.{datum_at}
-use Rattle.table_judge.proofs.bindings.datum_of.Given as goal
-
-abbrev pub invariant-loop-binding : goal.invariant-loop-binding
-invariant-loop-binding l = datum_at (drop l.binding-index l.bindings) l.fn.key ≡ datum_at l.bindings l.fn.key

@@ -1,6 +1,0 @@
-use Rattle.std.proofs.Common.{◌≡◌, ◌++◌, drop}
-use Rattle.table_laws.specs.Structures.{without}
-use Rattle.table_judge.proofs.bindings.push_without.Given as goal
-
-abbrev pub invariant-loop-binding : goal.invariant-loop-binding
-invariant-loop-binding l = l.kept.items ++ without l.fn.key (drop l.binding-index l.bindings) ≡ l.fn.kept.items ++ without l.fn.key l.bindings

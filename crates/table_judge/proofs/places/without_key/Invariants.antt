@@ -1,6 +1,0 @@
-use Rattle.std.proofs.Common.{◌≡◌, take, map}
-use Rattle.table_judge.specs.Keys.{left_at}
-use Rattle.table_judge.proofs.places.without_key.Given as goal
-
-abbrev pub invariant-loop-place : goal.invariant-loop-place
-invariant-loop-place l = l.left.items ≡ map (left_at l.fn.key) (take l.place-index l.places)

@@ -1,6 +1,0 @@
-use Rattle.std.proofs.Common.{◌≡◌, take}
-use Rattle.table_machine.specs.Texts.{replies_text}
-use Rattle.table_judge.proofs.replies.print_replies.Given as goal
-
-abbrev pub invariant-loop-reply : goal.invariant-loop-reply
-invariant-loop-reply l = l.text.items ≡ replies_text (take l.reply-index l.replies)

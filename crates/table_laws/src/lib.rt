@@ -1,4 +1,0 @@
-//! What tables and weak arrays of an object graph are, and what each entry does to one, over plain data.
-#![tactic(auto)]
-
-pub mod laws;

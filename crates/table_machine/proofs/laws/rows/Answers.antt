@@ -1,8 +1,0 @@
-use Rattle.table_machine.proofs.RowLemmas.{binding_row, slot_row}
-use Rattle.table_machine.proofs.laws.rows.Goals as goal
-
-pub returns-clause-bindings : goal.returns-clause-bindings
-returns-clause-bindings c = binding_row
-
-pub returns-clause-slots : goal.returns-clause-slots
-returns-clause-slots c = slot_row

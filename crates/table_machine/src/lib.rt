@@ -1,7 +1,0 @@
-//! What the lines of a text of a table do, as a machine over plain data, and what is written for each of them.
-#![tactic(auto)]
-
-pub mod laws;
-pub mod reply;
-
-pub use reply::LineReply;

@@ -1,0 +1,2 @@
+pub mod OfCalls
+pub mod OfSeats

@@ -1,0 +1,11 @@
+//! Tests of the heap: its calls, the model's worked rows, sessions and seats.
+#![tactic(auto)]
+
+#[cfg(test)]
+mod calls;
+#[cfg(test)]
+mod model;
+#[cfg(test)]
+mod seats;
+#[cfg(test)]
+mod sessions;

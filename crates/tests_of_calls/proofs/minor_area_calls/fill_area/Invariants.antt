@@ -1,5 +1,0 @@
-use Rattle.heap_rule.specs.Running.{Runs}
-use Rattle.tests_of_calls.proofs.minor_area_calls.fill_area.Given as goal
-
-abbrev pub invariant-loop-made : goal.invariant-loop-made
-invariant-loop-made l = Runs l.heap l.dom

@@ -1,5 +1,0 @@
-use Rattle.tests_of_calls.proofs.FreshDomains.{noted_runs}
-use Rattle.tests_of_calls.proofs.safepoint_calls.wanted.Goals as goal
-
-pub returns : goal.returns
-returns c = noted_runs c.args.heap.now c.args.dom.now c.wants.new.dom _ c.requires c.wants.ensures.here c.wants.ensures.view

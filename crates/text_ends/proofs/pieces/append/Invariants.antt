@@ -1,0 +1,5 @@
+use Rattle.std.proofs.Common.{◌≡◌, ◌++◌, take, vec_capacity}
+use Rattle.text_ends.proofs.pieces.append.Given as goal
+
+abbrev pub invariant-loop-byte : goal.invariant-loop-byte
+invariant-loop-byte l = (l.bytes.items ≡ l.initial.bytes.items ++ take l.byte-index l.piece) × (vec_capacity l.bytes ≡ vec_capacity l.initial.bytes)

@@ -1,4 +1,0 @@
-mod Alike
-mod Lines
-mod Parting
-mod Rows

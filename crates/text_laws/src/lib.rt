@@ -1,4 +1,0 @@
-//! What two runs of one text of a table have in common, and worked histories of calls on tables.
-#![tactic(auto)]
-
-pub mod laws;

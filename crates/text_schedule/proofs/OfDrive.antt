@@ -1,0 +1,9 @@
+pub mod Listing
+pub mod Walking
+pub mod Passing
+pub mod Agreeing
+pub mod Ending
+pub mod Turns
+pub mod Spending
+pub mod Rounds
+pub mod RefusedBodies

@@ -1,0 +1,13 @@
+pub mod Number
+pub mod Forms
+pub mod Script
+pub mod Spawning
+pub mod Spelling
+pub mod Generated
+pub mod Faults
+pub mod Split
+pub mod Steps
+pub mod Sections
+pub mod Spawned
+pub mod Decimals
+pub mod Words

@@ -1,0 +1,20 @@
+-- A script: its version, and its sections.
+use Rattle.std.specs.Prelude.{ℕ, List, [], ◌∷◌, ◌++◌}
+use Rattle.model_core.specs.declared.command.Command.{Command}
+use Rattle.text_script.specs.declared.version.Version.{Version}
+
+-- a script as contracts see it
+pub record Scripted : Type 0 where
+  pub version : Version
+  pub sections : List (List Command)
+
+-- a grammar as contracts see it: a version, and for how many domains a script is read
+pub record RunGrammar : Type 0 where
+  pub version : Version
+  pub domains : ℕ
+
+-- the sections with a command at the end of the last
+abbrev pub with_command : List (List Command) → Command → List (List Command)
+with_command [] c = []
+with_command (cs ∷ []) c = (cs ++ c ∷ []) ∷ []
+with_command (cs ∷ next ∷ sections) c = cs ∷ with_command (next ∷ sections) c

@@ -1,6 +1,0 @@
-use Rattle.thread_drive.specs.Driven.{AllAre}
-use Rattle.thread_drive.specs.Placing.{AllBegan, Stands}
-use Rattle.thread_drive.proofs.beside.turn_beside.Given as goal
-
-abbrev pub invariant-turns : goal.invariant-turns
-invariant-turns g l = AllAre (Stands g.T.Trace.shares g.T.Trace.is_over l.shared) l.places × AllBegan g.T.Trace.follows l.initial.places l.places

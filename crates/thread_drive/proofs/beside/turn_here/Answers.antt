@@ -1,5 +1,0 @@
-use Rattle.thread_drive.proofs.Placing.{began_on}
-use Rattle.thread_drive.proofs.beside.turn_here.Goals as goal
-
-pub returns-clause-began : goal.returns-clause-began
-returns-clause-began g c = began_on g.T.Trace.follows _ _ _ c.turn_those-busy.ensures.began c.turn_those-idle.ensures.began

@@ -1,5 +1,0 @@
-use Rattle.std.proofs.Common.{refl}
-use Rattle.thread_drive.proofs.rotation.rotate.Goals as goal
-
-pub turns-init : goal.turns-init
-turns-init g c = ((refl, λ k d few. g.met.T.Trace.follows_itself _), c.requires, refl)

@@ -1,4 +1,0 @@
-mod Answers
-mod Runs
-mod Tables
-mod Replays

@@ -1,0 +1,3 @@
+pub mod OfTables
+pub mod OfMaps
+pub mod OfLists

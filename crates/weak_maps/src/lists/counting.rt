@@ -1,0 +1,144 @@
+//! How many bindings a map has.
+ghost use Rattle.std.specs.Prelude.{◌≡◌, ◌-◌, ◌<◌, ◌≤◌};
+ghost use Rattle.model_core.specs.History.{IsPrefix};
+ghost use Rattle.weak_laws.specs.Tables.Performing.{refusals, writings};
+ghost use Rattle.weak_maps.specs.Beside.{refusals_by, writings_by};
+ghost use Rattle.weak_maps.specs.Cleans.{width_of};
+ghost use Rattle.weak_maps.specs.Lists.Stretches.{HoldsList};
+ghost use Rattle.weak_maps.specs.Lists.Counts.{CountsBlock, CountsField, ForgetsUsed};
+ghost use Rattle.weak_maps.specs.Lists.Answers.{ListCountsAt};
+
+use crate::lists::calls::{is_other_kind, settle};
+use crate::machine::{Machine, perform};
+use crate::replies::{is_block, is_empty};
+use model_core::command::Command;
+use std::sync::Wait;
+
+// How many fields a block has below which there may be so many blocks in a row.
+fn width_of(left: u8) -> u16
+    ensures { result ≡ width_of left }
+{
+    if left == 6 { 512 } else { 32 }
+}
+
+// Counts the keys of leaves from a field of the block in a register on, below which there may be so many blocks in a row.
+#[cycle(counting)]
+fn count_field<M: Machine, R: Wait>(m: &mut M, rt: &R, block: u8, left: u8, index: u16) -> u32
+    requires few { (left ≤ 6) × (block < 14 - left) }
+    requires alone { (M.sizes m.old).domains ≡ 1 }
+    ensures sizes { M.sizes m.new ≡ M.sizes m.old }
+    ensures domain { M.domain m.new ≡ M.domain m.old }
+    ensures heap { M.heap m.new ≡ M.heap m.old }
+    ensures grows { IsPrefix (M.front m.old) (M.front m.new) }
+    ensures labels { M.labels_left m.new ≡ M.labels_left m.old }
+    ensures room { M.ephes_room m.old ≤ M.ephes_room m.new }
+    ensures given { refusals_by (M.domain m.old) (M.front m.new) ≡ refusals_by (M.domain m.old) (M.front m.old) }
+    ensures written { writings_by (M.domain m.old) (M.front m.new) ≡ writings_by (M.domain m.old) (M.front m.old) }
+    ensures counted { CountsField (M.sizes m.old) (M.front m.old) (M.front m.new) block left index result }
+{
+    m.stands();
+    let value = 14 - left;
+    let at = perform(
+        m,
+        rt,
+        Command::Load {
+            dst: value,
+            src: block,
+            index,
+        },
+    );
+    if !is_block(&at) {
+        return 0;
+    }
+    let key = perform(
+        m,
+        rt,
+        Command::GetKey {
+            dst: value,
+            ephe: value,
+            index: 0,
+        },
+    );
+    if is_other_kind(&key) {
+        if left == 0 {
+            return 0;
+        }
+        let count = count_block(m, rt, value, left - 1);
+        m.stands();
+        return count;
+    }
+    if is_empty(&key) {
+        return 0;
+    }
+    1
+}
+
+// Counts the keys of leaves from the block in a register on, below which there may be so many blocks in a row.
+#[cycle(counting)]
+fn count_block<M: Machine, R: Wait>(m: &mut M, rt: &R, block: u8, left: u8) -> u32
+    requires few { (left ≤ 6) × (block < 14 - left) }
+    requires alone { (M.sizes m.old).domains ≡ 1 }
+    ensures sizes { M.sizes m.new ≡ M.sizes m.old }
+    ensures domain { M.domain m.new ≡ M.domain m.old }
+    ensures heap { M.heap m.new ≡ M.heap m.old }
+    ensures grows { IsPrefix (M.front m.old) (M.front m.new) }
+    ensures labels { M.labels_left m.new ≡ M.labels_left m.old }
+    ensures room { M.ephes_room m.old ≤ M.ephes_room m.new }
+    ensures given { refusals_by (M.domain m.old) (M.front m.new) ≡ refusals_by (M.domain m.old) (M.front m.old) }
+    ensures written { writings_by (M.domain m.old) (M.front m.new) ≡ writings_by (M.domain m.old) (M.front m.old) }
+    ensures counted { CountsBlock (M.sizes m.old) (M.front m.old) (M.front m.new) block left (width_of left) result }
+{
+    m.stands();
+    let mut count: u32 = 0;
+    'fields: for index in 0..width_of(left) {
+        let more = count_field(m, rt, block, left, index);
+        m.stands();
+        count = count.saturating_add(more);
+    }
+    count
+}
+
+// Empties registers 8 to 15.
+fn forget_used<M: Machine, R: Wait>(m: &mut M, rt: &R)
+    requires alone { (M.sizes m.old).domains ≡ 1 }
+    ensures sizes { M.sizes m.new ≡ M.sizes m.old }
+    ensures domain { M.domain m.new ≡ M.domain m.old }
+    ensures heap { M.heap m.new ≡ M.heap m.old }
+    ensures grows { IsPrefix (M.front m.old) (M.front m.new) }
+    ensures labels { M.labels_left m.new ≡ M.labels_left m.old }
+    ensures room { M.ephes_room m.old ≤ M.ephes_room m.new }
+    ensures given { refusals_by (M.domain m.old) (M.front m.new) ≡ refusals_by (M.domain m.old) (M.front m.old) }
+    ensures written { writings_by (M.domain m.old) (M.front m.new) ≡ writings_by (M.domain m.old) (M.front m.old) }
+    ensures forgot { ForgetsUsed (M.sizes m.old) (M.front m.old) (M.front m.new) 16 }
+{
+    m.stands();
+    'registers: for dst in 8..16u8 {
+        let _empty = perform(m, rt, Command::Forget { dst });
+    }
+}
+
+/// The number of bindings of the map in a register, at some front of the call: the collector may take bindings whose key isn't
+/// reached while it goes on. Nothing is written. The register is below 8. Registers below 8 hold what they held, and the others
+/// nothing.
+pub fn map_count<M: Machine, R: Wait>(m: &mut M, rt: &R, map: u8) -> u32
+    requires few { map < 8 }
+    requires alone { (M.sizes m.old).domains ≡ 1 }
+    requires list { HoldsList (M.sizes m.old) (M.front m.old) map }
+    ensures sizes { M.sizes m.new ≡ M.sizes m.old }
+    ensures domain { M.domain m.new ≡ M.domain m.old }
+    ensures heap { M.heap m.new ≡ M.heap m.old }
+    ensures labels { M.labels_left m.new ≡ M.labels_left m.old }
+    ensures room { M.ephes_room m.old ≤ M.ephes_room m.new }
+    ensures given { refusals (M.front m.new) ≡ refusals (M.front m.old) }
+    ensures written { writings (M.front m.new) ≡ writings (M.front m.old) }
+    ensures counts { ListCountsAt (M.sizes m.old) (M.front m.old) (M.front m.new) map result }
+{
+    m.stands();
+    let count = count_block(m, rt, map, 6);
+    m.stands();
+    forget_used(m, rt);
+    m.stands();
+    settle(m, rt);
+    m.stands();
+    count
+}

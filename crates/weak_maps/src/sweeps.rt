@@ -1,0 +1,3 @@
+//! Dead leaves of a weak map are taken out while other domains use it.
+pub mod laws;
+pub mod sweeping;
