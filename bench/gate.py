@@ -99,7 +99,7 @@ def alone(top, names):
     prover, total = prove.Prover(), 0
     crates = prove.repository(top, prover.kit)
     for name in names:
-        words = [*prover.words(crates[name], prove.JOBS), *(["--test"] if name.startswith("tests_of_") else [])]
+        words = [*prover.words(crates[name], prove.JOBS), *(["--test"] if name.startswith("test_") else [])]
         begun = time.time()
         said = subprocess.run([prover.rattle, "check", *words], cwd=crates[name].folder, stdout=subprocess.PIPE, stderr=subprocess.STDOUT, text=True)
         if said.returncode:
@@ -146,7 +146,7 @@ def main():
     print(*table(found, refused, begun), sep="\n")
     proofs = {}
     for it in found.values():
-        if it.what == COLUMNS[it.crate.startswith("tests_of_")]:
+        if it.what == COLUMNS[it.crate.startswith("test_")]:
             proofs[it.crate] = proofs.get(it.crate, 0) + it.seconds
     seconds, chain = longest_chain(prove.repository(top, prove.Prover().kit).values(), proofs)
     print(f"\nlongest chain, {seconds:.0f} CPU s: {' '.join(chain)}")

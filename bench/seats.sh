@@ -8,13 +8,13 @@
 trap 'leave; rm -rf "$work"' EXIT
 if [ -z "${PROGRAM:-}" ]; then
     (cd "$top/crates/test_heap" && rt test >"$work/built")
-    PROGRAM=$top/crates/test_heap/out/tests_of_seats_tests
+    PROGRAM=$top/crates/test_heap/out/test_heap_tests
 fi
 cp "$PROGRAM" "$work/tests"
 
 tests=(
-    eight::eight_threads_are_told_what_the_slow_heap_prints
-    threads::one_builds_while_another_dozes
+    seats::eight::eight_threads_are_told_what_the_slow_heap_prints
+    seats::threads::one_builds_while_another_dozes
 )
 
 # Runs the test $2 once on the processors $1, and prints how it went and, of one that ended well, the hundredths of a second.
