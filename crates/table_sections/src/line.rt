@@ -1,5 +1,5 @@
 // What each line does. Register 6 holds the map and registers 7, 12 and 13 the slots; registers 0 and 8 to 11 are used between.
-ghost use Rattle.std.specs.Prelude.{◌≡◌, ◌×◌, ◌<◌, ◌≤◌, true};
+ghost use Rattle.std.specs.Prelude.{◌≡◌, ◌<◌, ◌≤◌, true};
 ghost use Rattle.table_text.specs.declared.line.TableLine.TheVariants as line_of;
 ghost use Rattle.table_text.specs.Forms.{is_writable};
 ghost use Rattle.table_sections.specs.Lines.{HasRoomFor, IsKeyRegister, IsSharedLine, TakesAtMost};

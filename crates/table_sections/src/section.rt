@@ -1,5 +1,5 @@
 //! The lines of a section, made by the domain one after the other.
-ghost use Rattle.std.specs.Prelude.{◌≡◌, ◌×◌, ◌≤◌, [], length, vec_capacity};
+ghost use Rattle.std.specs.Prelude.{◌≡◌, ◌≤◌, [], length, vec_capacity};
 ghost use Rattle.std.specs.List.{AllByRecursion};
 ghost use Rattle.table_sections.specs.Lines.{HasRoomFor, IsSharedLine, TakesAtMost};
 ghost use Rattle.table_sections.specs.Sections.{SectionDone};

@@ -1,8 +1,8 @@
 -- Commands that do nothing to a map.
-use Rattle.std.proofs.Common.{◌≡◌, inl, inr, ⊎_elim, ℕ, Bool, true, false, cond, List, [], ◌∷◌, ◌++◌, length, Option, Some, None, ◌≤◌, refl, ap, sym, ◌∙◌, subst, arith, eq-eqb, length-append}
+use Rattle.std.proofs.Common.{◌≡◌, ◌⊎◌, inl, inr, ⊎_elim, ℕ, Bool, true, false, cond, List, [], ◌∷◌, ◌++◌, length, Option, Some, None, ◌≤◌, refl, ap, sym, ◌∙◌, subst, arith, eq-eqb, length-append}
 use Rattle.std.proofs.lemmas.List.{length-replicate}
 use Rattle.std.proofs.lemmas.Option.{slice_get_past}
-use Rattle.std.specs.Prelude.{option_and_then, option_map, slice_set}
+use Rattle.std.specs.Prelude.{option_and_then, option_map, slice_set, unwrap_or}
 use Rattle.model_core.specs.declared.label.Label.{Label}
 use Rattle.model_core.specs.declared.command.Command.{Command}
 use Rattle.model_core.specs.declared.command.Command.TheVariants.{SetKey}
@@ -100,7 +100,7 @@ later_key s index behind (Some k) (Some (x, Raw tag fields)) = inl refl
 later_key s index behind (Some k) (Some (x, Ephe [] datum)) = inl refl
 later_key s index behind (Some k) (Some (x, Ephe (key ∷ []) datum)) =
     inl (ap (λ (o : Option (Option Label)). (in_bounds s o (λ _. done_with (with_block s x (Ephe (slice_set (key ∷ []) index (Some k)) datum)))).state.graph) (slice_get_past (key ∷ []) index behind))
-later_key s index behind (Some k) (Some (x, Ephe (key ∷ other ∷ keys) datum)) = inr (λ l n is. let same : Ephe (key ∷ other ∷ keys) datum ≡ n = cc in subst IsBesideMaps same tt)
+later_key s index behind (Some k) (Some (x, Ephe (key ∷ other ∷ keys) datum)) = inr (λ l n is. subst IsBesideMaps (ap (λ (o : Option (Label × Node)). (unwrap_or o (x, Ephe (key ∷ other ∷ keys) datum)).1) is) tt)
 
 pub later_key_respects : (z : Sizes) (root : Label) (d : ℕ) (front : List Entry) (ephe index item : ℕ) → 1 ≤ index → IsMap (graph_of z front) root → (full : Bool) → RespectsMap z root front (CommandOf d (SetKey ephe index item) full)
 later_key_respects z root d front ephe index item behind map true = reading_respects z root front (CommandOf d (SetKey ephe index item) true) refl
