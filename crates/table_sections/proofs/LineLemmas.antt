@@ -53,7 +53,7 @@ line_done z d old new line a grows guards makes on_map other = record {
 pub not_six : (r : ℕ) → IsKeyRegister r → 6 ≢ r
 not_six r small is = let high = small.1 in absurd (omega (arith, high, is))
 
-pub not_between : 6 ≢ 0
+pub not_between : ◌≢◌ {A = ℕ} 6 0
 not_between is = absurd (omega (arith, is))
 
 -- an integer of a line is one that a word of 64 bits holds
@@ -63,3 +63,10 @@ small_value (negsuc n) e = record { sfits = (let small : n < 2 ^ 63 = grind (ari
 
 pub value_held : (r : ℕ) (v : ℤ) → is_writable (Put r v) ≡ true → to_z w64 (of_z w64 v) ≡ v
 value_held r v e = to_z-of_z (small_value v (and_parts _ _ (and_parts _ _ e).1).0)
+
+-- a put's register is one of a key
+register_of : (r : ℕ) → int_le (pos 1) (pos r) && int_le (pos r) (pos 5) ≡ true → IsKeyRegister r
+register_of r e = (grind (arith, ints, nat_tests), grind (arith, ints, nat_tests))
+
+pub key_of : (r : ℕ) (v : ℤ) → is_writable (Put r v) ≡ true → IsKeyRegister r
+key_of r v e = register_of r (and_parts _ _ e).0

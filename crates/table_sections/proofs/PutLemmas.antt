@@ -40,9 +40,9 @@ put_labels labels left refused now r x = absurd x
 
 -- so many labels are so many blocks
 pub put_counts : (labels left refused now made made_now : ℕ) (r : Reply) → made + labels ≡ 4294967295 → made_now + left ≡ 4294967295 → PutCounts labels left refused now r → PutCounts made_now made refused now r
-put_counts labels left refused now made made_now given.Done first last x = let low = x.1 in let high = x.2 in (x.0, (omega (arith, first, last, low), omega (arith, first, last, high)))
+put_counts labels left refused now made made_now given.Done first last x = let low = x.1 in let high = x.2 in (x.0, omega (arith, first, last, low), omega (arith, first, last, high))
 put_counts labels left refused now made made_now given.Full first last x =
-    ⊎_elim (λ y. let low = y.1 in let high = y.2 in inl (y.0, (omega (arith, first, last, low), omega (arith, first, last, high)))) (λ y. let all = y.1 in inr (y.0, omega (arith, first, last, all))) x
+    ⊎_elim (λ y. let low = y.1 in let high = y.2 in inl (y.0, omega (arith, first, last, low), omega (arith, first, last, high))) (λ y. let all = y.1 in inr (y.0, omega (arith, first, last, all))) x
 put_counts labels left refused now made made_now given.BadType first last x = let same = x.1 in (x.0, omega (arith, first, last, same))
 put_counts labels left refused now made made_now r first last x = absurd x
 

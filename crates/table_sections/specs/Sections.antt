@@ -118,13 +118,13 @@ pub record LineRuns (z : Sizes) (d : ℕ) (old : List Entry) (line : TableLine) 
 -- all lines, one after the other: each has its reply
 abbrev pub SectionRuns : Sizes → ℕ → List Entry → List TableLine → List LineReply → List Entry → Type 0
 SectionRuns z d old [] [] new = new ≡ old
-SectionRuns z d old (l ∷ ls) (a ∷ as) new = (mid : List Entry) × LineRuns z d old l a mid × SectionRuns z d mid ls as new
+SectionRuns z d old (l ∷ ls) (a ∷ rs) new = (mid : List Entry) × LineRuns z d old l a mid × SectionRuns z d mid ls rs new
 SectionRuns z d old _ _ new = ⊥
 
 -- and on a map
 abbrev pub SectionBeside : Sizes → Label → ℕ → List Entry → List TableLine → List LineReply → List Entry → Type 0
 SectionBeside z root d old [] [] new = new ≡ old
-SectionBeside z root d old (l ∷ ls) (a ∷ as) new = (mid : List Entry) × LineBeside z root d old l a mid × SectionBeside z root d mid ls as new
+SectionBeside z root d old (l ∷ ls) (a ∷ rs) new = (mid : List Entry) × LineBeside z root d old l a mid × SectionBeside z root d mid ls rs new
 SectionBeside z root d old _ _ new = ⊥
 
 -- a line, or all lines of a section, from one front to another: it guards the map, and each line has its reply

@@ -77,6 +77,7 @@ fn put<M: Machine, R: Wait>(m: &mut M, rt: &R, reg: u8, value: i64) -> LineReply
             value,
         },
     );
+    m.stands();
     let reply = map_put(m, rt, MAP, reg, BETWEEN);
     m.stands();
     said(&reply)
