@@ -3,7 +3,7 @@ use Rattle.model_core.specs.declared.command.Command.TheVariants.{GetKey}
 use Rattle.model_core.specs.declared.entry.Entry.{Entry}
 use Rattle.model_core.specs.declared.state.Sizes.{Sizes}
 use Rattle.weak_laws.specs.Maps.Calls.{PerformedBy}
-use Rattle.table_sections.specs.Lines.{slot_ephe, slot_key}
+use Rattle.table_sections.specs.Slots.{slot_ephe, slot_key}
 use Rattle.table_sections.proofs.CommandLemmas.{get_slot_done}
 use Rattle.table_sections.proofs.line.get_slot.Goals as goal
 
@@ -15,4 +15,4 @@ returns-clause-done g c =
     let new : List Entry = g.M.Machine.front c.perform-key.new.m in
     let s : ℕ = c.args.slot in
     let performed : PerformedBy z d old new (GetKey c.args.dst (slot_ephe s) (slot_key s)) c.perform-key.result = subst (λ (w : ℕ × ℕ). PerformedBy z d old new (GetKey c.args.dst w.0 w.1) c.perform-key.result) (λ i. (c.slot_ephe.ensures.is i, c.slot_key.ensures i)) c.perform-key.ensures.performed in
-    get_slot_done z d old new c.args.dst s c.perform-key.result c.requires.register performed c.said.result c.said.ensures
+    get_slot_done z c.stands.ensures.limits d old new c.args.dst s c.requires.slot c.perform-key.result c.requires.register performed c.said.result c.said.ensures
