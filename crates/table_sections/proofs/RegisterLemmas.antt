@@ -28,7 +28,7 @@ use Rattle.weak_maps.proofs.CountLemmas.{not_refused}
 
 -- a command that is no allocation leaves the graph and the registers of its outcome, and is answered so
 module _ (z : Sizes) (d : ℕ) (old new : List Entry) (c : Command) (r : Reply) (p : PerformedBy z d old new c r) (none : is_allocation c ≡ false) where
-  here : State
+  abbrev pub here : State
   here = state_of z (old ++ p.between)
 
   after : state_of z new ≡ next here (CommandOf d c false)

@@ -1,5 +1,5 @@
 -- The slots stay where they are, and a line sets one or reads one.
-use Rattle.std.proofs.Common.{◌≡◌, ◌≢◌, ⊎_elim, ℕ, suc, ◌+◌, ◌<◌, ◌≤◌, ◌/◌, ◌%◌, List, [], ◌∷◌, ◌++◌, length, get_or, set, slice_get, Option, Some, None, refl, ap, sym, ◌∙◌, subst, arith, get_or-set_same, length-set}
+use Rattle.std.proofs.Common.{◌≡◌, ◌≢◌, ⊎_elim, ℕ, zero, suc, ◌+◌, ◌<◌, ◌≤◌, ◌/◌, ◌%◌, List, [], ◌∷◌, ◌++◌, length, get_or, set, slice_get, Option, Some, None, refl, ap, sym, ◌∙◌, subst, arith, get_or-set_same, length-set}
 use Rattle.std.specs.Prelude.{option_and_then, option_map}
 use Rattle.std.proofs.lemmas.Option.{slice_get-get_or}
 use Rattle.model_core.specs.declared.label.Label.{Label}
@@ -69,9 +69,9 @@ slot_eight : (z : Sizes) (d : ℕ) (h : List Entry) (s : ℕ) → s < 16 → OnS
 slot_eight z d h s few x = by (s / 6) (omega (arith, few))
   where
     by : (q : ℕ) → q < 3 → HoldsEight z d h (get_or (7 ∷ 12 ∷ 13 ∷ []) q 0)
-    by 0 small = x.first
-    by 1 small = x.second
-    by 2 small = x.third
+    by zero small = x.first
+    by (suc zero) small = x.second
+    by (suc (suc zero)) small = x.third
     by (suc (suc (suc q))) small = absurd (omega (arith, small))
 
 -- what a register's block is at a front, and what its keys are then
@@ -83,7 +83,7 @@ key_below s = omega arith
 
 module _ (z : Sizes) (d : ℕ) (old new : List Entry) (s : ℕ) (few : s < 16) (slots : OnSlots z d old) where
   module _ (c : Command) (r : Reply) (p : PerformedBy z d old new c r) where
-    mid : List Entry
+    abbrev mid : List Entry
     mid = old ++ p.between
 
     there : HoldsEight z d mid (slot_ephe s)
@@ -120,13 +120,13 @@ module _ (z : Sizes) (d : ℕ) (old new : List Entry) (s : ℕ) (few : s < 16) (
 
   -- a slot that is set
   module _ (r : ℕ) (answer : Reply) (a : LineReply) (p : PerformedBy z d old new (SetKey (slot_ephe s) (slot_key s) r) answer) (is : a ≡ said answer) where
-    c : Command
+    abbrev c : Command
     c = SetKey (slot_ephe s) (slot_key s) r
 
-    front : List Entry
+    abbrev front : List Entry
     front = mid c answer p
 
-    here : State
+    abbrev here : State
     here = state_of z front
 
     item_is : (v : Value) → held_by z d old r ≡ v → label_in here d r ≡ label_of v
