@@ -1,5 +1,5 @@
 -- The lines of one call of the map.
-use Rattle.std.proofs.Common.{◌≡◌, ◌≢◌, ℕ, ◌+◌, ◌<◌, List, refl, ap, sym, ◌∙◌, subst, arith}
+use Rattle.std.proofs.Common.{◌≡◌, ◌≢◌, ℕ, ◌+◌, List, refl, ap, arith}
 use Rattle.model_core.specs.declared.label.Label.{Label}
 use Rattle.model_core.specs.declared.entry.Entry.{Entry}
 use Rattle.model_core.specs.declared.graph.Value.{Value}
@@ -8,8 +8,6 @@ use Rattle.model_core.specs.declared.reply.Reply.{Reply}
 use Rattle.model_core.specs.declared.state.Sizes.{Sizes}
 use Rattle.model_core.specs.History.{IsPrefix}
 use Rattle.table_text.specs.declared.line.TableLine.TheVariants as line_of
-use Rattle.table_text.specs.declared.machine.reply.LineReply.{LineReply}
-use Rattle.table_text.specs.declared.machine.reply.LineReply.TheVariants as reply
 use Rattle.table_text.specs.Machine.Said.{full_in, said}
 use Rattle.table_text.proofs.OfMachine.SaidLemmas.{said_full}
 use Rattle.weak_laws.specs.Tables.Performing.{full_of}

@@ -1,5 +1,5 @@
 -- The slots stay where they are, and a line sets one or reads one.
-use Rattle.std.proofs.Common.{◌≡◌, ◌≢◌, ⊎_elim, ℕ, zero, suc, ◌+◌, ◌<◌, ◌≤◌, ◌/◌, ◌%◌, List, [], ◌∷◌, ◌++◌, length, get_or, set, slice_get, Option, Some, None, refl, ap, sym, ◌∙◌, subst, arith, get_or-set_same, length-set}
+use Rattle.std.proofs.Common.{◌≡◌, ℕ, zero, suc, ◌<◌, ◌/◌, List, [], ◌∷◌, ◌++◌, length, get_or, set, slice_get, Option, Some, None, refl, ap, sym, ◌∙◌, arith, get_or-set_same, length-set}
 use Rattle.std.specs.Prelude.{option_and_then, option_map}
 use Rattle.std.proofs.lemmas.Option.{slice_get-get_or}
 use Rattle.model_core.specs.declared.label.Label.{Label}
@@ -15,10 +15,10 @@ use Rattle.model_core.specs.declared.reply.Reply.TheVariants as given
 use Rattle.model_core.specs.declared.state.DomainState.{DomainState}
 use Rattle.model_core.specs.declared.state.Sizes.{Sizes}
 use Rattle.model_core.specs.declared.state.State.{State}
-use Rattle.model_core.specs.Commands.{Outcome, at_ephe, block_in, done_with, in_bounds, key_set, key_stored, key_value, only_replies, outcome, read_into, shown}
+use Rattle.model_core.specs.Commands.{Outcome, at_ephe, block_in, done_with, in_bounds, key_stored, key_value, only_replies, outcome, read_into}
 use Rattle.model_core.specs.Domains.{IsWithinLimits, domain_at, label_in, no_domain, register, with_block}
 use Rattle.model_core.specs.Fronts.{EpheShape, shape_of}
-use Rattle.model_core.specs.Graph.{Graph, block_at, label_of, node_at, with_node}
+use Rattle.model_core.specs.Graph.{Graph, block_at, label_of, node_at}
 use Rattle.model_core.specs.History.{IsPrefix}
 use Rattle.model_core.proofs.Commands.FrameLemmas.{inside_running}
 use Rattle.model_core.proofs.Graphs.GraphLemmas.{node_at-with_node_same}
@@ -26,7 +26,7 @@ use Rattle.table_text.specs.declared.machine.reply.LineReply.{LineReply}
 use Rattle.table_text.specs.Machine.Said.{said}
 use Rattle.weak_laws.specs.Tables.Stages.{graph_of}
 use Rattle.weak_laws.specs.Tables.Thinning.{state_of}
-use Rattle.weak_laws.specs.Maps.Calls.{PerformedBy, registers_after}
+use Rattle.weak_laws.specs.Maps.Calls.{PerformedBy}
 use Rattle.weak_laws.proofs.OfMaps.CallLemmas.{from_middle, registers_kept, to_middle}
 use Rattle.weak_laws.proofs.OfMaps.FrontLemmas.{prefix_before}
 use Rattle.weak_laws.proofs.OfMaps.OwnLemmas.{grew_along}
@@ -36,7 +36,7 @@ use Rattle.weak_maps.proofs.BesideLemmas.{sixteen}
 use Rattle.weak_maps.proofs.CountLemmas.{legal_both}
 use Rattle.weak_maps.proofs.GuardLemmas.{quiet_none}
 use Rattle.weak_maps.proofs.StayLemmas.{quiet_on}
-use Rattle.table_sections.specs.Slots.{HoldsEight, OnSlots, SlotGets, SlotSets, keys_in, slot_after, slot_ephe, slot_key}
+use Rattle.table_sections.specs.Slots.{HoldsEight, OnSlots, SlotGets, SlotSets, keys_in, slot_ephe, slot_key}
 use Rattle.table_sections.proofs.RegisterLemmas.{answer_after, graph_after, register_after, register_before, set_key_keeps}
 
 -- an ephemeron keeps its count of keys
