@@ -1,6 +1,6 @@
 -- What the numbers that were read of a line say of it.
-use Rattle.std.proofs.Common.{◌≡◌, ℕ, ◌<◌, ◌≤◌, ℤ, List, ◌∷◌, map, length, Bool, true, false, cond, refl, ap, sym, ◌∙◌, arith, None, Some, subst}
-use Rattle.std.specs.Prelude.{Option, option_map, nat_le}
+use Rattle.std.proofs.Common.{◌≡◌, ℕ, ◌<◌, ◌≤◌, ℤ, List, ◌∷◌, map, length, Bool, true, false, cond, refl, ap, sym, ◌∙◌, arith, None, Some, Ok, Err, IfOk, subst}
+use Rattle.std.specs.Prelude.{Option, Result, option_map, nat_le}
 use Rattle.std.proofs.lemmas.Bool.Decides.{nat_tests}
 use Rattle.std.proofs.lemmas.List.{length-map}
 use Rattle.text_script.specs.declared.fault.ScriptFault.{ScriptFault}
@@ -12,13 +12,9 @@ use Rattle.table_text.specs.declared.word.Operand.{Operand}
 use Rattle.table_text.specs.declared.word.Word.{Word}
 use Rattle.table_text.specs.Forms.{form, word_of, made, parts, is_writable}
 use Rattle.table_text.specs.Spelling.{line_text}
-use Rattle.table_text.specs.Faults.{says, neither, says_if, SaysRow, row_shape, shape_of_texts, line_shape, first_out_of_range, fault_of_shape}
+use Rattle.table_text.specs.Faults.{says, says_if, SaysRow, row_shape, shape_of_texts, line_shape, first_out_of_range, fault_of_shape}
 use Rattle.table_text.proofs.RowLemmas.{out_of_range-clipped, clipped_kept}
 use Rattle.table_text.proofs.ShapeLemmas.{SaysLine, line_said, shape_line, inside}
-
--- a line whose first text is no word
-pub no_word : (text t : List ℕ) (ts : List (List ℕ)) → texts text ≡ t ∷ ts → None ≡ word_of t → line_shape text ≡ neither
-no_word text t ts e none = ap shape_of_texts e ∙ ap (λ (o : Option Word). row_shape o ts) (sym none)
 
 -- what a line says by its texts
 shape_found : (text t : List ℕ) (ts : List (List ℕ)) (w : Word) (kinds : List Operand) (o : Option (List ℤ)) → texts text ≡ t ∷ ts → Some w ≡ word_of t → kinds ≡ (form w).operands → counted_numbers (length kinds) ts ≡ o
@@ -26,18 +22,9 @@ shape_found : (text t : List ℕ) (ts : List (List ℕ)) (w : Word) (kinds : Lis
 shape_found text t ts w kinds o e found k counted =
     ap shape_of_texts e ∙ ap (λ (v : Option Word). row_shape v ts) (sym found) ∙ ap (λ x. says_if w (counted_numbers (length x) ts)) (sym k) ∙ ap (says_if w) counted
 
-not_counted : (o : Option (List ℤ)) → None ≡ option_map (map clipped) o → o ≡ None
-not_counted None e = refl
-not_counted (Some zs) e = cc
-
 was_counted : (o : Option (List ℤ)) (ns : List ℤ) → Some ns ≡ option_map (map clipped) o → (zs : List ℤ) × (o ≡ Some zs) × (ns ≡ map clipped zs)
 was_counted None ns e = cc
 was_counted (Some zs) ns e = (zs, refl, cc)
-
--- a word without its count of numbers
-pub no_numbers : (text t : List ℕ) (ts : List (List ℕ)) (w : Word) (kinds : List Operand) → texts text ≡ t ∷ ts → Some w ≡ word_of t → kinds ≡ (form w).operands → None ≡ option_map (map clipped) (counted_numbers (length kinds) ts)
-    → line_shape text ≡ neither
-no_numbers text t ts w kinds e found k none = shape_found text t ts w kinds None e found k (not_counted _ none)
 
 -- a word with its count of numbers
 pub row_read : (text t : List ℕ) (ts : List (List ℕ)) (w : Word) (kinds : List Operand) (ns : List ℤ) → texts text ≡ t ∷ ts → Some w ≡ word_of t → kinds ≡ (form w).operands
@@ -85,6 +72,11 @@ row_line text w ns most number before row counted fine =
       few = grind (arith, nat_tests, test.0);
       said = subst (λ (x : List ℤ). SaysLine text (made w x)) (sym kept) (line_said text w row.said row.shape none);
     }
+
+pub line_read : (result : Result TableLine ScriptFault) (text : List ℕ) (w : Word) (ns : List ℤ) (most number before : ℕ) → SaysRow text w ns → length ns ≡ length (form w).operands → IfOk result (λ l. l ≡ made w ns)
+    → IfOk result (λ _. fault_of_shape most number before (says w ns) ≡ None) → IfOk result (λ l. text ≡ line_text l)
+line_read (Ok l) text w ns most number before row counted is fine = (row_line text w ns most number before row counted fine).said.text ∙ ap line_text (sym is)
+line_read (Err f) text w ns most number before row counted is fine = tt
 
 -- a line of the grammar in its place has no fault
 pub line_fine : (most number before : ℕ) (l : TableLine) → is_writable l ≡ true → before < most → fault_of_shape most number before (line_shape (line_text l)) ≡ None

@@ -1,5 +1,5 @@
 -- Bytes spell a text of sections, or have a first fault.
-use Rattle.std.proofs.Common.{◌≡◌, ◌≢◌, ◌⊎◌, ℕ, zero, suc, ◌<◌, ◌≤◌, ◌^◌, List, [], ◌∷◌, ◌++◌, length, length-append, Bool, true, false, cond, None, Some, inl, inr, ⊎_elim, refl, sym, ap, ◌∙◌, arith}
+use Rattle.std.proofs.Common.{◌≡◌, ◌≢◌, ◌⊎◌, ℕ, zero, suc, ◌<◌, ◌≤◌, ◌^◌, List, [], ◌∷◌, length, length-append, Bool, true, false, cond, None, Some, inl, inr, ⊎_elim, refl, sym, ap, ◌∙◌, arith}
 use Rattle.std.specs.Prelude.{Option, bytes_eq, nat_lt, ◌==◌}
 use Rattle.std.specs.List.{slice_split}
 use Rattle.std.proofs.lemmas.Bool.Decides.{nat_tests}
@@ -13,7 +13,7 @@ use Rattle.table_text.specs.Sections.Spelling.{Sections, SpellsSections}
 use Rattle.table_text.specs.Sections.Faults.{Place, end_fault, fault_from, first_sections_fault, number_at, place_in, start}
 use Rattle.table_text.specs.Sections.Steps.{SpellsBehind}
 use Rattle.table_text.proofs.OfSections.LineLemmas.{line_goes}
-use Rattle.table_text.proofs.OfSections.ReadLemmas.{ReadTo, all_read, ended, ended_well, first_read, no_line, read_nothing, read_on, stopped, too_long, wrong_first_line}
+use Rattle.table_text.proofs.OfSections.ReadLemmas.{ReadTo, all_spelled, ended, ended_well, first_read, no_line, read_nothing, read_on, stopped, too_long, wrong_first_line}
 
 abbrev Goes : ℕ → List ℕ → Type 0
 Goes d all = ((sections : Sections) × SpellsBehind d sections all) ⊎ ((f : ScriptFault) × (f ≢ Memory) × (fault_from d start (slice_split (λ b. b == 10) all) ≡ Some f))
@@ -59,7 +59,7 @@ module _ (d : ℕ) (bytes : List ℕ) (small : d < 2 ^ 32) (few : length bytes �
   by_first true first tail cutting same =
       let begun = first_read d bytes first tail few cutting same in
       ⊎_elim
-      (λ said. inl (said.0, all_read d bytes tail said.0 few begun.0 said.1))
+      (λ said. inl (said.0, all_spelled d bytes tail said.0 few begun.0 said.1))
       (λ wrong. inr (wrong.0, wrong.1, begun.1 ∙ wrong.2))
       (goes_from d (suc (length tail)) tail [] tail small (omega arith) (read_nothing d tail))
 

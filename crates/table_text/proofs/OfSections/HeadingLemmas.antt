@@ -1,5 +1,5 @@
 -- Headings of sections.
-use Rattle.std.proofs.Common.{◌≡◌, ℕ, ◌<◌, ◌^◌, ◌++◌, ◌∷◌, [], ℤ, pos, negsuc, List, map, length, Bool, true, false, cond, refl, ap, sym, ◌∙◌, arith, Some, None}
+use Rattle.std.proofs.Common.{◌≡◌, ℕ, zero, suc, ◌-◌, ◌<◌, ◌^◌, min, neg_ℤ, subst, to_z, of_z, to_z-of_z, SFits, w64, ◌++◌, ◌∷◌, [], ℤ, pos, negsuc, List, map, length, Bool, true, false, cond, refl, ap, sym, ◌∙◌, arith, Some, None}
 use Rattle.std.specs.Prelude.{Option, option_map, bytes_eq, codes, slice_index_or}
 use Rattle.std.specs.Ordering.{int_eq}
 use Rattle.std.specs.Fmt.{signed_decimal}
@@ -49,7 +49,7 @@ pub no_number : (o : Option (List ℤ)) → None ≡ option_map (map clipped) o 
 no_number None e = refl
 no_number (Some zs) e = cc
 
-pub one_number : (o : Option (List ℤ)) (ns : List ℤ) → Some ns ≡ option_map (map clipped) o → length ns ≡ 1 → Some (slice_index_or ns 0 (pos 0)) ≡ option_map clipped (number_if (heading_shape o))
+one_number : (o : Option (List ℤ)) (ns : List ℤ) → Some ns ≡ option_map (map clipped) o → length ns ≡ 1 → Some (slice_index_or ns 0 (pos 0)) ≡ option_map clipped (number_if (heading_shape o))
 one_number None ns e n = cc
 one_number (Some []) ns e n =
     let same : ns ≡ [] = cc in
@@ -60,6 +60,29 @@ one_number (Some (z ∷ [])) ns e n =
 one_number (Some (z ∷ y ∷ zs)) ns e n =
     let same : ns ≡ clipped z ∷ clipped y ∷ map clipped zs = cc in
     absurd (omega (arith, n, ap length same))
+
+pub clipped_fits : (z : ℤ) → SFits w64 (clipped z)
+clipped_fits (pos n) = record { sfits = (let small : min n (2 ^ 63 - 1) < 2 ^ 63 = omega arith in small) }
+clipped_fits (negsuc n) = negative (min (suc n) (2 ^ 63 - 1)) (omega arith) (omega arith)
+  where
+    negative : (m : ℕ) → 0 < m → m < 2 ^ 63 → SFits w64 (neg_ℤ (pos m))
+    negative zero some few = absurd (omega arith)
+    negative (suc m) some few = record { sfits = (let small : m < 2 ^ 63 = omega arith in small) }
+
+first_fits : (o : Option (List ℤ)) (ns : List ℤ) → Some ns ≡ option_map (map clipped) o → length ns ≡ 1 → to_z w64 (of_z w64 (slice_index_or ns 0 (pos 0))) ≡ slice_index_or ns 0 (pos 0)
+first_fits None ns e n = cc
+first_fits (Some []) ns e n =
+    let same : ns ≡ [] = cc in
+    absurd (omega (arith, n, ap length same))
+first_fits (Some (z ∷ zs)) ns e n =
+    let same : ns ≡ clipped z ∷ map clipped zs = cc in
+    subst (λ (xs : List ℤ). to_z w64 (of_z w64 (slice_index_or xs 0 (pos 0))) ≡ slice_index_or xs 0 (pos 0)) (sym same) (to_z-of_z (clipped_fits z))
+
+-- the number that was read
+pub number_read : (o : Option (List ℤ)) (ns slice : List ℤ) (number : ℤ) → Some ns ≡ option_map (map clipped) o → length ns ≡ 1 → slice ≡ ns → number ≡ slice_index_or slice 0 (pos 0) → Some (to_z w64 (of_z w64 number)) ≡ option_map clipped (number_if (heading_shape o))
+number_read o ns slice number e n same is =
+    let first : number ≡ slice_index_or ns 0 (pos 0) = is ∙ ap (λ xs. slice_index_or xs 0 (pos 0)) same in
+    ap (λ (z : ℤ). Some (to_z w64 (of_z w64 z))) first ∙ ap Some (first_fits o ns e n) ∙ one_number o ns e n
 
 -- the heading of a section has its number
 pub heading_has : (n : ℕ) → n < 2 ^ 63 → heading_of (heading_text n) ≡ Some (pos n)

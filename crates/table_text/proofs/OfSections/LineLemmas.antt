@@ -1,6 +1,6 @@
 -- Lines of sections.
-use Rattle.std.proofs.Common.{◌≡◌, ◌≢◌, ◌⊎◌, inl, inr, ℕ, ◌<◌, ◌≤◌, ◌^◌, ◌++◌, ◌∷◌, [], ℤ, pos, List, length, Bool, true, false, cond, not, ◌&&◌, refl, ap, sym, ◌∙◌, arith, Some, None}
-use Rattle.std.specs.Prelude.{Option, option_map, nat_le, sum_by, ◌==◌}
+use Rattle.std.proofs.Common.{◌≡◌, ◌≢◌, ◌⊎◌, inl, inr, ℕ, ◌<◌, ◌^◌, ◌++◌, ◌∷◌, [], ℤ, List, length, Bool, true, false, cond, not, ◌&&◌, refl, ap, sym, ◌∙◌, arith, Some, None}
+use Rattle.std.specs.Prelude.{Option, nat_le, sum_by, ◌==◌}
 use Rattle.std.proofs.lemmas.Bool.{and_parts}
 use Rattle.std.proofs.lemmas.Bool.Decides.{nat_tests}
 use Rattle.text_script.specs.declared.fault.ScriptFault.{ScriptFault}
@@ -16,10 +16,10 @@ use Rattle.table_text.specs.Spelling.{line_text}
 use Rattle.table_text.specs.Faults.{LineShape, says, neither, line_shape, fault_of_shape, first_out_of_range, SaysRow}
 use Rattle.table_text.specs.Sections.Spelling.{Sections, is_count, may_stand}
 use Rattle.table_text.specs.Sections.Faults.{Place, heading_fault, heading_of, line_fault, fault_of_line, number_at, place_in, section_fault, shared_shape}
-use Rattle.table_text.specs.Sections.Steps.{AddsLine, OpensSection, TakesText}
+use Rattle.table_text.specs.Sections.Steps.{AddsLine, TakesText}
 use Rattle.table_text.proofs.RowLemmas.{word_made}
 use Rattle.table_text.proofs.ShapeLemmas.{SaysLine, line_said, shape_line, inside}
-use Rattle.table_text.proofs.LineLemmas.{in_room, too_many, row_fault, row_line}
+use Rattle.table_text.proofs.LineLemmas.{in_room, too_many, row_fault}
 use Rattle.table_text.proofs.OfSections.HeadingLemmas.{heading_fine, heading_has, heading_opens, line_heads_nothing, of_memory}
 
 abbrev order_if : Place → Word → List ℤ → Bool → Option ScriptFault

@@ -1,6 +1,6 @@
 -- What the lines that were read say of the whole text of sections.
-use Rattle.std.proofs.Common.{◌≡◌, ℕ, ◌+◌, ◌<◌, ◌≤◌, ◌^◌, ℤ, pos, List, [], ◌∷◌, ◌++◌, map, length, length-append, Bool, true, false, cond, refl, ap, sym, ◌∙◌, subst, arith, append_assoc, append-nil, None, Some, Ok, Err, IfOk, IfErr}
-use Rattle.std.specs.Prelude.{Option, Result, flat_map, bytes_eq, nat_lt, sum_by, ◌==◌}
+use Rattle.std.proofs.Common.{◌≡◌, ℕ, ◌+◌, ◌<◌, ◌≤◌, ◌^◌, ℤ, pos, List, [], ◌∷◌, ◌++◌, map, length, length-append, Bool, true, false, cond, refl, ap, sym, ◌∙◌, arith, append_assoc, append-nil, None, Some, Ok, Err, IfOk, IfErr}
+use Rattle.std.specs.Prelude.{Option, Result, bytes_eq, nat_lt, sum_by, ◌==◌}
 use Rattle.std.specs.List.{list_all, slice_split}
 use Rattle.std.proofs.lemmas.Bool.{and_parts}
 use Rattle.std.proofs.lemmas.Bool.Decides.{nat_tests}
@@ -142,8 +142,12 @@ first_read d bytes first tail few cutting same = (
   by_first_line d true bytes first tail few cutting same,
 )
 
-pub all_read : (d : ℕ) (bytes tail : List ℕ) (sections : Sections) → length bytes ≤ 16777216 → bytes ≡ line (first_line Two) ++ tail → SpellsBehind d sections tail → SpellsSections d sections bytes
-all_read d bytes tail sections few e s = record { bytes_are = e ∙ s.text_is; one_each = s.one_each; writable = s.writable; few_lines = s.few_lines; few_bytes = few }
+pub all_spelled : (d : ℕ) (bytes tail : List ℕ) (sections : Sections) → length bytes ≤ 16777216 → bytes ≡ line (first_line Two) ++ tail → SpellsBehind d sections tail → SpellsSections d sections bytes
+all_spelled d bytes tail sections few e s = record { bytes_are = e ∙ s.text_is; one_each = s.one_each; writable = s.writable; few_lines = s.few_lines; few_bytes = few }
+
+pub all_read : (d : ℕ) (bytes tail : List ℕ) (result : Result Sections ScriptFault) → length bytes ≤ 16777216 → bytes ≡ line (first_line Two) ++ tail → IfOk result (λ s. SpellsBehind d s tail) → IfOk result (λ s. SpellsSections d s bytes)
+all_read d bytes tail (Ok s) few e found = all_spelled d bytes tail s few e found
+all_read d bytes tail (Err f) few e found = tt
 
 -- lines of a section have no fault
 section_fine : (d h n : ℕ) (ls : List TableLine) (more : List (List ℕ)) → 0 < h → list_all may_stand ls ≡ true → n + length ls ≤ most_lines Two → 0 < length more

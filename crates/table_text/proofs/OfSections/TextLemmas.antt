@@ -1,9 +1,12 @@
 -- The lines of sections: how they grow, and how a text is split into them.
-use Rattle.std.proofs.Common.{◌≡◌, ℕ, ◌+◌, ◌<◌, ◌≤◌, ◌^◌, pos, List, [], ◌∷◌, ◌++◌, map, length, length-append, Bool, true, false, ◌&&◌, refl, ap, sym, ◌∙◌, arith, append_assoc, inl, inr, Some, None}
-use Rattle.std.specs.Prelude.{Option, flat_map, sum_by, ◌==◌}
+use Rattle.std.proofs.Common.{◌≡◌, ℕ, ◌+◌, ◌<◌, ◌≤◌, ◌^◌, ℤ, pos, to_z, of_z, to_z-of_z, w64, List, [], ◌∷◌, ◌++◌, map, length, length-append, true, ◌&&◌, refl, ap, sym, ◌∙◌, arith, append_assoc, subst, inl, inr, Some, None, Ok, Err, IfErr}
+use Rattle.std.specs.Prelude.{Option, Result, option_map, sum_by, ◌==◌, OnOk}
 use Rattle.std.specs.List.{list_all, slice_split}
 use Rattle.std.proofs.lemmas.List.{append-nil}
 use Rattle.std.proofs.lemmas.Bool.{and_parts}
+use Rattle.text_script.specs.declared.fault.ScriptFault.{ScriptFault}
+use Rattle.text_script.specs.Faults.{IsFaultUnlessMemory}
+use Rattle.text_script.specs.Number.{clipped}
 use Rattle.text_script.specs.Script.{with_last}
 use Rattle.text_script.specs.Spelling.{heading_text}
 use Rattle.text_script.proofs.DecimalLemmas.{is_free}
@@ -14,11 +17,12 @@ use Rattle.table_text.specs.declared.line.TableLine.{TableLine}
 use Rattle.table_text.specs.declared.version.Version.TheVariants.{Two}
 use Rattle.table_text.specs.Texts.{most_lines}
 use Rattle.table_text.specs.Spelling.{first_line, line_text}
+use Rattle.table_text.specs.Faults.{line_shape}
 use Rattle.table_text.specs.Sections.Spelling.{Sections, may_stand, lines_from, sections_lines, sections_spelling}
-use Rattle.table_text.specs.Sections.Faults.{Place, behind, heading_of, place_in}
+use Rattle.table_text.specs.Sections.Faults.{Place, behind, fault_of_line, heading_fault, heading_of, line_fault, place_in, section_fault, shared_shape}
 use Rattle.table_text.specs.Sections.Steps.{TakesText}
 use Rattle.table_text.proofs.ShapeLemmas.{line_without_line_feed}
-use Rattle.table_text.proofs.OfSections.HeadingLemmas.{heading_has, line_heads_nothing}
+use Rattle.table_text.proofs.OfSections.HeadingLemmas.{clipped_fits, heading_fault-clipped, heading_has, heading_opens, line_heads_nothing}
 use Rattle.table_text.proofs.OfSections.LineLemmas.{stands_writable}
 
 abbrev section_lines : ℕ → List TableLine → List (List ℕ)
@@ -129,3 +133,39 @@ lines_free n (ls ∷ sections) h e =
 pub split_sections : (d : ℕ) (sections : Sections) → d < 2 ^ 32 → length sections ≤ d → list_all (list_all may_stand) sections ≡ true → slice_split (λ b. b == 10) (sections_spelling sections) ≡ sections_lines sections ++ [] ∷ []
 split_sections d sections few all writable =
     ap (slice_split (λ b. b == 10)) (sym (append-nil (sections_spelling sections))) ∙ cut_lines (sections_lines sections) [] (lines_free 0 sections (omega (arith, few, all)) writable)
+
+-- what the reader of a heading answers
+heading_is : (o : Option ℤ) (number : ℤ) → Some number ≡ option_map clipped o → (z : ℤ) × (o ≡ Some z) × (to_z w64 (of_z w64 number) ≡ clipped z)
+heading_is None number e = cc
+heading_is (Some z) number e =
+    let same : number ≡ clipped z = cc in
+    (z, refl, ap (λ (y : ℤ). to_z w64 (of_z w64 y)) same ∙ to_z-of_z (clipped_fits z))
+
+nothing_is : (o : Option ℤ) → None ≡ option_map clipped o → o ≡ None
+nothing_is None e = refl
+nothing_is (Some z) e = cc
+
+pub heading_takes : {U : Type 0} (result : Result U ScriptFault) (d : ℕ) (old new : Sections) (text : List ℕ) (number : ℤ) → d < 2 ^ 32 → Some number ≡ option_map clipped (heading_of text)
+    → OnOk result (heading_fault d (place_in old) (to_z w64 (of_z w64 number)) ≡ None) → OnOk result (new ≡ old ++ [] ∷ []) → OnOk result (TakesText d old new text)
+heading_takes (Ok u) d old new text number few read fine opened =
+    let h = heading_is (heading_of text) number read in
+    inl (heading_opens d old new text h.0 few h.1 (sym (heading_fault-clipped d (place_in old) h.0 few) ∙ ap (heading_fault d (place_in old)) (sym h.2) ∙ fine) opened)
+heading_takes (Err f) d old new text number few read fine opened = tt
+
+module _ {U : Type 0} (result : Result U ScriptFault) (d : ℕ) (old : Sections) (text : List ℕ) where
+  pub heading_faults : (number : ℤ) → d < 2 ^ 32 → Some number ≡ option_map clipped (heading_of text) → IfErr result (λ e. IsFaultUnlessMemory e (heading_fault d (place_in old) (to_z w64 (of_z w64 number))))
+      → IfErr result (λ e. IsFaultUnlessMemory e (line_fault d (place_in old) text))
+  heading_faults number few read fault =
+      let h = heading_is (heading_of text) number read in
+      let same : heading_fault d (place_in old) (to_z w64 (of_z w64 number)) ≡ line_fault d (place_in old) text =
+      ap (heading_fault d (place_in old)) h.2 ∙ heading_fault-clipped d (place_in old) h.0 few ∙ sym (ap (λ o. fault_of_line d (place_in old) o (line_shape text)) h.1)
+      in
+      subst (λ (o : Option ScriptFault). IfErr result (λ e. IsFaultUnlessMemory e o)) same fault
+
+  pub line_faults : None ≡ option_map clipped (heading_of text) → IfErr result (λ e. IsFaultUnlessMemory e (section_fault (place_in old) (shared_shape (line_shape text))))
+      → IfErr result (λ e. IsFaultUnlessMemory e (line_fault d (place_in old) text))
+  line_faults read fault =
+      let same : section_fault (place_in old) (shared_shape (line_shape text)) ≡ line_fault d (place_in old) text =
+      sym (ap (λ o. fault_of_line d (place_in old) o (line_shape text)) (nothing_is (heading_of text) read))
+      in
+      subst (λ (o : Option ScriptFault). IfErr result (λ e. IsFaultUnlessMemory e o)) same fault

@@ -12,7 +12,6 @@ use crate::read::MAX_BYTES;
 use crate::sections::step::take_text;
 use crate::sections::text::SectionsText;
 use crate::split::split_once;
-use crate::version::{Version, version_of};
 use std::alloc::Global;
 use text_script::ScriptFault;
 
@@ -42,11 +41,15 @@ fn read_behind(alloc: Global, domains: u32, behind: &[u8]) -> Result<SectionsTex
     let mut sections = SectionsText::new(alloc);
     let mut rest = behind;
     'lines: while let Some((text, tail)) = split_once(rest, b'\n') {
-        take_text(alloc, domains, &mut sections, text)?;
+        if let Err(fault) = take_text(alloc, domains, &mut sections, text) {
+            return Err(fault);
+        }
         rest = tail;
     }
-    end_of(domains, &sections, rest)?;
-    Ok(sections)
+    match end_of(domains, &sections, rest) {
+        Ok(()) => Ok(sections),
+        Err(fault) => Err(fault),
+    }
 }
 
 // The sections of a text, or its first fault.
@@ -60,12 +63,13 @@ fn sections_or_fault(alloc: Global, domains: u32, bytes: &[u8]) -> Result<Sectio
             bytes: bytes.len() as u64,
         });
     }
-    match split_once(bytes, b'\n') {
-        Some((first, behind)) if version_of(first) == Some(Version::Two) => {
-            read_behind(alloc, domains, behind)
-        }
-        _ => Err(ScriptFault::Syntax { line: 1 }),
+    let Some((first, behind)) = split_once(bytes, b'\n') else {
+        return Err(ScriptFault::Syntax { line: 1 });
+    };
+    if first != b"table 2".as_slice() {
+        return Err(ScriptFault::Syntax { line: 1 });
     }
+    read_behind(alloc, domains, behind)
 }
 
 /// Reads the text of a table for so many domains: the line `table 2`, and for each domain in order the line `domain d`

@@ -87,7 +87,10 @@ fn take_line(sections: &mut SectionsText, text: &[u8]) -> Result<(), ScriptFault
         return Err(ScriptFault::Order { line });
     }
     let most = most_lines(Version::Two);
-    let added = line_of_row(word, numbers.as_slice(), most, line, sections.lines())?;
+    let added = match line_of_row(word, numbers.as_slice(), most, line, sections.lines()) {
+        Ok(added) => added,
+        Err(fault) => return Err(fault),
+    };
     match sections.push(added) {
         Ok(()) => Ok(()),
         Err(_) => Err(ScriptFault::Memory),
