@@ -3,7 +3,9 @@
 //! history was found, or that the search was given up. With `--schedule` it writes the schedule of the turns of that history in
 //! its place. In place of the script a replay may stand, a schedule and then the script: then it writes `legal` where the output is
 //! what the scheduled history prints, and else the first line that differs. Or the text of a table: then it writes `legal` and the
-//! keys that go in a run of its machine, or that none was found.
+//! keys that go in a run of its machine, or that none was found. With `--domains N`, N from 2 on, such a text has a section for each
+//! domain: then it writes `legal` and one order of all lines in which their machine answers so, or that none was found, or that the
+//! search was given up.
 //!
 //! The judge of `judge_outputs` does the work over the two streams. It says what is proved: `legal` is written only where a legal
 //! history makes the output, and then that history is. That there is none where none was found is shown by tests alone. Of a
@@ -18,7 +20,8 @@ mod words;
 
 use bounded::Bounded;
 use judge_outputs::{
-    Judged, JudgedReplay, JudgedTable, TurnsJudged, judge, judge_replay, judge_table, judge_turns,
+    Judged, JudgedReplay, JudgedTable, TurnsJudged, judge, judge_replay, judge_sections,
+    judge_table, judge_turns,
 };
 use model_core::state::Sizes;
 use std::alloc::Global;
@@ -122,6 +125,23 @@ fn alone(sizes: &Sizes) -> Sizes
     }
 }
 
+// Judges what a source has: the text of a table, for one domain or with sections.
+fn judge_text<S: Source, K: Sink>(
+    alloc: Global,
+    asked: &Asked,
+    src: &mut S,
+    out: &mut K,
+) -> Outcome
+    requires { IsWithinLimits asked.now.sizes }
+{
+    if asked.sections {
+        let domains = asked.sizes.domains;
+        Outcome::Judged(judge_sections(alloc, domains, asked.states, src, out))
+    } else {
+        Outcome::Table(judge_table(alloc, &alone(&asked.sizes), src, out))
+    }
+}
+
 // Judges what a source has, by its first bytes: a replay, the text of a table, or else a script.
 fn judge_by<S: Source, K: Sink>(
     rt: &HostRuntime,
@@ -135,7 +155,7 @@ fn judge_by<S: Source, K: Sink>(
     if front == REPLAY {
         Outcome::Replay(judge_replay(rt.alloc(), &asked.sizes, src, out))
     } else if front.starts_with(TABLE) {
-        Outcome::Table(judge_table(rt.alloc(), &alone(&asked.sizes), src, out))
+        judge_text(rt.alloc(), asked, src, out)
     } else {
         judge_asked(rt, asked, src, out)
     }

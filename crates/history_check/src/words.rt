@@ -18,6 +18,8 @@ pub(crate) struct Asked {
     pub states: u64,
     /// Whether the schedule of the history's turns is written in place of the history.
     pub schedule: bool,
+    /// Whether a table's text has a section for each domain: the words name their count, and there are several.
+    pub sections: bool,
 }
 
 // A number of at most nine digits.
@@ -27,6 +29,13 @@ fn number(text: &str) -> Option<u64> {
         return None;
     }
     text.parse::<u64>().ok()
+}
+
+// Whether some word is `--domains`, or has its number too.
+fn name_domains(words: &[String]) -> bool {
+    words.iter().any(|word| {
+        word.as_str() == "--domains" || word.as_str().starts_with("--domains=")
+    })
 }
 
 // What the words ask for but for `--states`, which are those of a run.
@@ -100,6 +109,7 @@ pub(crate) fn read_asked(alloc: Global, words: Vec<String>) -> Result<Option<Ask
             sizes,
             states: sorted.states.unwrap_or(STATES),
             schedule: sorted.schedule,
+            sections: 2 <= sizes.domains && name_domains(&sorted.run),
         })),
         None => Ok(None),
     }

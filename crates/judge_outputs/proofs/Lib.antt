@@ -4,4 +4,5 @@ mod TurnLemmas
 mod VersionLemmas
 mod WritingLemmas
 pub mod ReplayLemmas
+pub mod OfSections
 pub mod OfTexts

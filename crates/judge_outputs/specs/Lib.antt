@@ -2,8 +2,10 @@ pub mod Answer
 pub mod Faulting
 pub mod Input
 pub mod Judging
+pub mod Ordering
 pub mod Reading
 pub mod Replays
+pub mod Sections
 pub mod Show
 pub mod Tables
 pub mod Turns

@@ -4,10 +4,10 @@ mod bindings;
 pub mod explain;
 pub mod judge;
 pub mod machine;
-mod places;
-mod replies;
+pub(crate) mod places;
+pub(crate) mod replies;
 mod search;
-mod steps;
+pub(crate) mod steps;
 
 pub use explain::{Explained, explain_output};
 pub use judge::refused_line;

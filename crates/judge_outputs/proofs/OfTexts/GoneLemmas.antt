@@ -79,7 +79,7 @@ held (p ∷ ps) k h = ⊎_elim (λ at. (zero, ap Some (here p at))) (λ later. l
     here None at = absurd (let clash : false ≡ true = at in cc)
     here (Some l) at = ap Some (same_label-true l k at)
 
-held_test : (ps : List (Option Label)) (k : Label) → Holds ps k → IsTrue (is_held ps k)
+pub held_test : (ps : List (Option Label)) (k : Label) → Holds ps k → IsTrue (is_held ps k)
 held_test [] k (i, at) = absurd (let clash : None ≡ Some (Some k) = at in cc)
 held_test (None ∷ ps) k (zero, at) = absurd (let clash : Some None ≡ Some (Some k) = at in cc)
 held_test (Some l ∷ ps) k (zero, at) = let is : l ≡ k = cc in or_left (same_label l k) (is_held ps k) (subst (λ x. IsTrue (same_label l x)) is (same_label_refl l))
@@ -107,7 +107,7 @@ one_more s t k g none =
     keeps j (other, there) = let was = g.together j there in
         record { datum = datum_other k j other t.bindings ∙ was.datum; slots = λ i at. slot_after k j other t.slots i (was.slots i at) }
 
-none_emptied : (P : Label → Type 0) (ks : List (Option Label)) → EmptiedBy P ks ks
+pub none_emptied : (P : Label → Type 0) (ks : List (Option Label)) → EmptiedBy P ks ks
 none_emptied P [] = refl
 none_emptied P (k ∷ ks) = (k, ks, refl, inl refl, none_emptied P ks)
 

@@ -1,6 +1,7 @@
 //! The machine of a text as plain data.
 ghost use Rattle.std.specs.Prelude.{◌≡◌, ◌∷◌, IfOk, IsTrue, OnOk, Some, slice_get, slice_set};
 ghost use Rattle.model_core.specs.declared.graph.Value.TheVariants.{Int};
+ghost use Rattle.judge_outputs.specs.Sections.Machine.{opened_by};
 ghost use Rattle.judge_outputs.specs.Texts.Keys.{taken_out};
 ghost use Rattle.judge_outputs.specs.Texts.Playing.{label_of, once_gone};
 ghost use Rattle.weak_laws.specs.Tables.Structures.{without};
@@ -57,6 +58,28 @@ impl Machine {
             registers: vec![in alloc; None; 5]?,
             bindings: Vec::new(alloc),
             slots: vec![in alloc; None; 16]?,
+        })
+    }
+
+    /// The machine of so many domains before the first line.
+    pub(crate) fn of_domains(alloc: Global, domains: u8) -> Result<Machine, AllocError>
+        ensures { IfOk result (λ m. m ≡ opened_by domains) }
+    {
+        Ok(Machine {
+            registers: vec![in alloc; None; 5 * usize::from(domains)]?,
+            bindings: Vec::new(alloc),
+            slots: vec![in alloc; None; 16]?,
+        })
+    }
+
+    /// The same machine again.
+    pub(crate) fn copy(&self) -> Result<Machine, AllocError>
+        ensures { IfOk result (λ m. m ≡ self.now) }
+    {
+        Ok(Machine {
+            registers: self.registers.clone()?,
+            bindings: self.bindings.clone()?,
+            slots: self.slots.clone()?,
         })
     }
 
@@ -125,8 +148,8 @@ impl Machine {
         Ok(())
     }
 
-    // Takes a key out of the bindings and of all slots.
-    fn take_out(&mut self, alloc: Global, key: Label) -> Result<(), AllocError>
+    /// Takes a key out of the bindings and of all slots.
+    pub(crate) fn take_out(&mut self, alloc: Global, key: Label) -> Result<(), AllocError>
         ensures { OnOk result (self.new ≡ taken_out key self.old) }
     {
         self.unbind(alloc, key)?;

@@ -20,8 +20,8 @@ fn number_of(text: &[u8]) -> Option<i64> {
     }
 }
 
-// The reply that a line without its line feed tells, if it tells one.
-fn reply_of(text: &[u8]) -> Option<LineReply> {
+/// The reply that a line without its line feed tells, if it tells one.
+pub(crate) fn reply_of(text: &[u8]) -> Option<LineReply> {
     if let Some(number) = text.strip_prefix(b"int ") {
         return number_of(number).map(LineReply::Number);
     }
@@ -92,8 +92,8 @@ fn push_reply(text: &mut Vec<u8>, reply: LineReply) -> Result<(), AllocError>
     }
 }
 
-// Puts the line of a reply at the end.
-fn push_line(text: &mut Vec<u8>, reply: LineReply) -> Result<(), AllocError>
+/// Puts the line of a reply at the end.
+pub(crate) fn push_line(text: &mut Vec<u8>, reply: LineReply) -> Result<(), AllocError>
     ensures { OnOk result (text.new.items ≡ text.old.items ++ line (line_reply_text reply)) }
 {
     push_reply(text, reply)?;

@@ -181,8 +181,8 @@ pub(crate) fn labels_made(version: Version, line: TableLine) -> u64
     }
 }
 
-// Whether a line that binds the key in a register finds one there.
-fn has_its_key(machine: &Machine, line: TableLine) -> bool
+/// Whether a line that binds the key in a register finds one there.
+pub(crate) fn has_its_key(machine: &Machine, line: TableLine) -> bool
     ensures { IsTrue result → HasItsKey machine.now line }
 {
     match line {

@@ -1,0 +1,8 @@
+use Rattle.judge_outputs.proofs.OfTexts.GoneLemmas.{stays}
+use Rattle.judge_outputs.proofs.sections.goes.let_go.Goals as goal
+
+pub returns-in_default : goal.returns-in_default
+returns-in_default c = stays c.args.machine.now
+
+pub returns-in_default-2 : goal.returns-in_default-2
+returns-in_default-2 c = stays c.args.machine.now
