@@ -7,7 +7,7 @@ use Rattle.table_text.specs.Machine.Texts.{line_reply_text}
 use Rattle.table_text.specs.Sections.Faults.{first_sections_fault}
 use Rattle.table_text.specs.Sections.Spelling.{Sections, SpellsSections}
 use Rattle.judge_outputs.specs.declared.judged.Judged.{Judged}
-use Rattle.judge_outputs.specs.declared.judged.Judged.TheVariants.{Legal, NoneFound, GaveUp, Script, NoSeparator, TooLong, Memory, ReadFault, WriteFault}
+use Rattle.judge_outputs.specs.declared.judged.Judged.TheVariants.{Legal, NoneFound, GaveUp, Script, NoSeparator, TooLong, Memory, WriteFault}
 use Rattle.judge_outputs.specs.declared.sections.turn.Turn.{Turn}
 use Rattle.judge_outputs.specs.Input.{HasNoParts, HasParts}
 use Rattle.judge_outputs.specs.Reading.{IsReadInPart, ReadsAll}

@@ -1,4 +1,4 @@
-//! Tests of the heap: its calls, the model's worked rows, sessions and seats.
+//! Tests of the heap: its calls, the model's worked rows, sessions and seats, and of the judge of tables.
 #![tactic(auto)]
 
 #[cfg(test)]
@@ -9,3 +9,5 @@ mod model;
 mod seats;
 #[cfg(test)]
 mod sessions;
+#[cfg(test)]
+mod tables;

@@ -1,15 +1,14 @@
 -- The machine of two domains, turn by turn.
-use Rattle.std.proofs.Common.{◌≡◌, inl, inr, ⊎_elim, ℕ, pos, true, false, IsTrue, List, [], ◌∷◌, replicate, Option, Some, None, refl, ap, sym, ◌∙◌}
+use Rattle.std.proofs.Common.{◌≡◌, inl, inr, ⊎_elim, pos, true, false, IsTrue, List, [], ◌∷◌, replicate, Option, Some, None, refl, ap, sym}
 use Rattle.model_core.specs.declared.label.Label.{Label}
 use Rattle.model_core.specs.declared.graph.Value.TheVariants.{Int}
 use Rattle.model_core.specs.Graph.{has_label, same_label}
-use Rattle.model_core.proofs.Graphs.GraphLemmas.{same_label-true, same_label_refl}
+use Rattle.model_core.proofs.Graphs.GraphLemmas.{same_label-true}
 use Rattle.model_core.proofs.Reach.ReachLemmas.{or_cases}
 use Rattle.weak_laws.specs.Tables.Structures.{Binding}
 use Rattle.table_text.specs.declared.line.TableLine.{TableLine}
 use Rattle.table_text.specs.declared.machine.reply.LineReply.{LineReply}
 use Rattle.table_text.specs.Machine.Machine.{TableState, Holds, Effect}
-use Rattle.judge_outputs.specs.Texts.Keys.{is_held}
 use Rattle.judge_outputs.specs.Sections.Machine.{SharedStep}
 use Rattle.judge_outputs.specs.Sections.Rows.{shared_turns}
 use Rattle.judge_outputs.specs.Sections.Turns.{TurnsAnswered}

@@ -1,5 +1,5 @@
 -- Runs of several domains: one order of all their lines.
-use Rattle.std.specs.Prelude.{◌≡◌, ℕ, zero, suc, ◌==◌, ◌+◌, cond, List, [], ◌∷◌, ◌++◌}
+use Rattle.std.specs.Prelude.{ℕ, zero, suc, ◌==◌, ◌+◌, cond, List, [], ◌∷◌, ◌++◌}
 use Rattle.model_core.specs.Output.{line}
 use Rattle.text_script.specs.Spelling.{heading_text}
 use Rattle.table_text.specs.declared.line.TableLine.{TableLine}

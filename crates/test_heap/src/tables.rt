@@ -1,0 +1,3 @@
+//! Tests of the judges of texts of tables.
+#[cfg(test)]
+mod sections;
