@@ -160,8 +160,16 @@ module _ (z : Sizes) (d : ℕ) (old new : List Entry) (s : ℕ) (few : s < 16) (
           eight = omega (arith, long, eight);
         } in (
           is ∙ ap said (answer_after z d old new c answer p refl ∙ ap (λ (o : Outcome). o.reply) sets),
-          ap (λ (b : Option (Label × Node)). slice_get (keys_in b) (slot_key s)) (keys_at z d new (slot_ephe s) after)
-              ∙ (slice_get-get_or (set x.keys (slot_key s) (Some k)) (slot_key s) None (omega (arith, long, eight, low)) ∙ ap Some (get_or-set_same x.keys (slot_key s) (Some k) None (omega (arith, eight, low)))),
+          record {
+            front = front;
+            since = to_middle z d old new c answer p;
+            until = prefix_before front _ new (from_middle z d old new c answer p);
+            ephe = x;
+            sets = graph_after z d old new c answer p refl ∙ ap (λ (o : Outcome). o.state.graph) sets;
+            holds =
+                ap (λ (b : Option (Label × Node)). slice_get (keys_in b) (slot_key s)) (keys_at z d new (slot_ephe s) after)
+                ∙ (slice_get-get_or (set x.keys (slot_key s) (Some k)) (slot_key s) None (omega (arith, long, eight, low)) ∙ ap Some (get_or-set_same x.keys (slot_key s) (Some k) None (omega (arith, eight, low))));
+          },
         )
 
     pub slot_sets : (v : Value) → held_by z d old r ≡ v → SlotSets z d old new s v a

@@ -77,7 +77,7 @@ LineMakes z d old (GetWeak r s) a new = Answers z d old new (command.GetKey r (s
 LineMakes z d old Count a new = ⊥
 LineMakes z d old FullMajor a new = Collects z d old new a
 
--- why a put was answered `full` though no command of it was refused: others have crowded the key's way; and none did that leaves the map
+-- why a put was answered `full`: where no command of it was refused, others have crowded the key's way, and where others leave the map as it is, one was
 pub record PutRefused (z : Sizes) (root : Label) (d : ℕ) (old new : List Entry) (k : Label) : Type 0 where
   pub crowded : refusals_by d new ≡ refusals_by d old → IsCrowded z d old new root k
   pub alone : OthersLeave z root d old new → refusals_by d new ≡ refusals_by d old + 1
