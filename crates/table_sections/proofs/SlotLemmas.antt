@@ -45,17 +45,21 @@ same_shape (Plain tag fields) count is = cc
 same_shape (Raw tag fields) count is = cc
 same_shape (Ephe keys datum) count is = (keys, datum, refl, (let same : length keys ≡ count = cc in same))
 
-eight_stays : (z : Sizes) (d : ℕ) (old new : List Entry) (r : ℕ) → IsPrefix old new → held_by z d new r ≡ held_by z d old r → HoldsEight z d old r → HoldsEight z d new r
-eight_stays z d old new r grows same x =
-    let grew = grew_along z old new grows x.l (Ephe x.keys x.datum) x.node in
-    let is = same_shape grew.0 (length x.keys) grew.2 in record {
-      l = x.l;
-      held = same ∙ x.held;
+-- so a register that holds one later, of whatever domain, holds one of eight keys
+pub eight_later : (z : Sizes) (d : ℕ) (old new : List Entry) (r : ℕ) (l : Label) (keys : List (Option Label)) (datum : Value) → IsPrefix old new → node_at (graph_of z old) l ≡ Some (Ephe keys datum) → length keys ≡ 8 → held_by z d new r ≡ Block l → HoldsEight z d new r
+eight_later z d old new r l keys datum grows node eight held =
+    let grew = grew_along z old new grows l (Ephe keys datum) node in
+    let is = same_shape grew.0 (length keys) grew.2 in record {
+      l = l;
+      held = held;
       keys = is.0;
       datum = is.1;
       node = grew.1 ∙ ap Some is.2;
-      eight = is.3 ∙ x.eight;
+      eight = is.3 ∙ eight;
     }
+
+eight_stays : (z : Sizes) (d : ℕ) (old new : List Entry) (r : ℕ) → IsPrefix old new → held_by z d new r ≡ held_by z d old r → HoldsEight z d old r → HoldsEight z d new r
+eight_stays z d old new r grows same x = eight_later z d old new r x.l x.keys x.datum grows x.node x.eight (same ∙ x.held)
 
 pub slots_stay : (z : Sizes) (d : ℕ) (old new : List Entry) → IsPrefix old new → held_by z d new 7 ≡ held_by z d old 7 → held_by z d new 12 ≡ held_by z d old 12 → held_by z d new 13 ≡ held_by z d old 13 → OnSlots z d old → OnSlots z d new
 slots_stay z d old new grows seven twelve thirteen x = record {
@@ -160,8 +164,16 @@ module _ (z : Sizes) (d : ℕ) (old new : List Entry) (s : ℕ) (few : s < 16) (
           eight = omega (arith, long, eight);
         } in (
           is ∙ ap said (answer_after z d old new c answer p refl ∙ ap (λ (o : Outcome). o.reply) sets),
-          ap (λ (b : Option (Label × Node)). slice_get (keys_in b) (slot_key s)) (keys_at z d new (slot_ephe s) after)
-              ∙ (slice_get-get_or (set x.keys (slot_key s) (Some k)) (slot_key s) None (omega (arith, long, eight, low)) ∙ ap Some (get_or-set_same x.keys (slot_key s) (Some k) None (omega (arith, eight, low)))),
+          record {
+            front = front;
+            since = to_middle z d old new c answer p;
+            until = prefix_before front _ new (from_middle z d old new c answer p);
+            ephe = x;
+            sets = graph_after z d old new c answer p refl ∙ ap (λ (o : Outcome). o.state.graph) sets;
+            holds =
+                ap (λ (b : Option (Label × Node)). slice_get (keys_in b) (slot_key s)) (keys_at z d new (slot_ephe s) after)
+                ∙ (slice_get-get_or (set x.keys (slot_key s) (Some k)) (slot_key s) None (omega (arith, long, eight, low)) ∙ ap Some (get_or-set_same x.keys (slot_key s) (Some k) None (omega (arith, eight, low))));
+          },
         )
 
     pub slot_sets : (v : Value) → held_by z d old r ≡ v → SlotSets z d old new s v a
