@@ -7,7 +7,7 @@ use Rattle.table_text.specs.declared.machine.reply.LineReply.{LineReply}
 use Rattle.table_text.specs.declared.machine.reply.LineReply.TheVariants.{Full}
 use Rattle.table_text.specs.Machine.Machine.{TableState, MayGo, Effect, HasItsKey, made_by}
 
--- a line of a domain, as the machine has its registers
+-- a line of a domain, as the machine has its registers, which a text numbers 1 to 5
 abbrev pub placed : ℕ → TableLine → TableLine
 placed d (Key r) = Key (5 * d + r)
 placed d (Forget r) = Forget (5 * d + r)
