@@ -126,12 +126,7 @@ fn alone(sizes: &Sizes) -> Sizes
 }
 
 // Judges what a source has: the text of a table, for one domain or with sections.
-fn judge_text<S: Source, K: Sink>(
-    alloc: Global,
-    asked: &Asked,
-    src: &mut S,
-    out: &mut K,
-) -> Outcome
+fn judge_text<S: Source, K: Sink>(alloc: Global, asked: &Asked, src: &mut S, out: &mut K) -> Outcome
     requires { IsWithinLimits asked.now.sizes }
 {
     if asked.sections {

@@ -1,10 +1,11 @@
 //! Outputs of a table's text for two domains, judged.
 use judge_outputs::sections::{Explained, explain_sections};
 use std::alloc::{AllocError, Global};
-use table_text::{SectionsText, read_sections};
+use table_text::read_sections;
 
 // Domain 0 makes a key, binds it and sets a slot, and lets it go before it looks for it; domain 1 looks for it too.
-const TEXT: &[u8] = b"table 2\ndomain 0\nkey 1\nput 1 10\nwset 3 1\nforget 1\nfull_major\nwget 2 3\n\
+const TEXT: &[u8] =
+    b"table 2\ndomain 0\nkey 1\nput 1 10\nwset 3 1\nforget 1\nfull_major\nwget 2 3\n\
 domain 1\nwget 2 3\nget 2\nforget 2\n";
 
 // What came of a judgement.
