@@ -8,9 +8,9 @@ ghost use Rattle.camlheap_run.specs.Tables.{AreSpelled, MayHoldTable, WritesFron
 
 use crate::Status;
 use crate::answering::write_sections;
-use heap_rule::Config;
+use heap_rule::{Config, StartFault};
 use model_core::state::Sizes;
-use std::alloc::{AllocError, Global};
+use std::alloc::Global;
 use std::sync::Wait;
 use std::thread::Threads;
 use table_text::{SectionsText, TableLine};
@@ -72,7 +72,8 @@ pub(crate) fn run_together<R: Threads + Wait + Sync, K: Sink>(
     let config = config_of(sizes, &sections);
     let Together { replies, ended } = match run_sections(rt, alloc, config, sections) {
         Ok(together) => together,
-        Err(AllocError) => return Status::Memory,
+        Err(StartFault::Memory) => return Status::Memory,
+        Err(StartFault::Config(_)) => unreachable!(),
     };
     let ended = Some(ended);
     match write_sections(out, &replies) {
