@@ -1,10 +1,11 @@
 -- The sections of a table's text fit a heap, and what is written for them.
 use Rattle.std.proofs.Math.Nat.{le-max_left, le-max_right}
-use Rattle.std.proofs.Common.{◌≡◌, ℕ, zero, suc, ◌+◌, ◌<◌, ◌≤◌, List, [], ◌∷◌, ◌++◌, map, length, get_or, take, drop, true, refl, sym, ap, subst, ◌∙◌, arith, append_assoc, append-nil, sum_by, Some, None}
-use Rattle.std.specs.Prelude.{Option, not}
+use Rattle.std.proofs.Common.{◌≡◌, ◌≢◌, Bool, false, cond, ℕ, zero, suc, ◌+◌, ◌<◌, ◌≤◌, List, [], ◌∷◌, ◌++◌, map, length, get_or, take, drop, true, refl, sym, ap, subst, ◌∙◌, arith, append_assoc, append-nil, sum_by, Some, None}
+use Rattle.std.specs.Prelude.{Option, not, ◌==◌}
 use Rattle.std.specs.List.{AllByRecursion, list_all}
 use Rattle.std.specs.Io.KnownBytes.{Appends}
 use Rattle.std.proofs.lemmas.Bool.{and_parts}
+use Rattle.std.proofs.lemmas.Bool.Decides.{nat_tests}
 use Rattle.model_core.specs.declared.state.Sizes.{Sizes}
 use Rattle.model_core.specs.Domains.{class_count, sizes_of, first_outside as outside_sizes}
 use Rattle.heap_rule.specs.declared.config.Config.{Config}
@@ -19,6 +20,9 @@ use Rattle.table_text.specs.Sections.Spelling.{Sections, is_count, may_stand}
 use Rattle.table_sections.specs.Lines.{IsSharedLine}
 use Rattle.table_together.specs.Together.{SectionFits, SectionsFit, TogetherRuns}
 use Rattle.camlheap_run.specs.Tables.{AreSpelled, HasRunSections, MayHoldTable, WritesFrontOfSections, WritesSections, most_lines_of, section_text, sections_text}
+use Rattle.table_text.specs.Faults.{first_fault as table_fault}
+use Rattle.table_text.specs.Sections.Faults.{first_sections_fault}
+use Rattle.camlheap_run.specs.Reading.{OneOrMore, first_table_fault}
 use Rattle.camlheap_run.specs.Writing.{AppendsFront}
 use Rattle.camlheap_run.proofs.SectionLemmas.{rooms_fit}
 
@@ -116,3 +120,26 @@ writes_sections_front z sections replies shown past ended before after sizes run
   ran = has_run_sections z sections replies past ended sizes runs is;
   written = subst (λ (rs : List (List LineReply)). AppendsFront before after (sections_text 0 rs)) same bytes;
 }
+
+-- one domain, and several
+is_one : (n : ℕ) → n ≡ 1 → (n == 1) ≡ true
+is_one n e = grind (arith, nat_tests, e)
+
+is_more : (n : ℕ) → n ≢ 1 → (n == 1) ≡ false
+is_more n other = by (n == 1) refl
+  where
+    by : (b : Bool) → (n == 1) ≡ b → (n == 1) ≡ false
+    by true e = absurd (other (grind (arith, nat_tests, e)))
+    by false e = e
+
+pub one_of : (One More : Type 0) (n : ℕ) → n ≡ 1 → One → OneOrMore (n == 1) One More
+one_of One More n e x = subst (λ b. OneOrMore b One More) (sym (is_one n e)) x
+
+pub more_of : (One More : Type 0) (n : ℕ) → n ≢ 1 → More → OneOrMore (n == 1) One More
+more_of One More n other x = subst (λ b. OneOrMore b One More) (sym (is_more n other)) x
+
+pub fault_of_one : (n : ℕ) (bytes : List ℕ) → n ≡ 1 → first_table_fault n bytes ≡ table_fault bytes
+fault_of_one n bytes e = ap (λ b. cond b (table_fault bytes) (first_sections_fault n bytes)) (is_one n e)
+
+pub fault_of_more : (n : ℕ) (bytes : List ℕ) → n ≢ 1 → first_table_fault n bytes ≡ first_sections_fault n bytes
+fault_of_more n bytes other = ap (λ b. cond b (table_fault bytes) (first_sections_fault n bytes)) (is_more n other)
