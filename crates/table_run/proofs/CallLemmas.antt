@@ -27,7 +27,8 @@ use Rattle.table_text.specs.declared.machine.reply.LineReply.TheVariants as repl
 use Rattle.table_text.specs.Machine.Machine.{Effect, TableState, Tallies, MayGo, key_in, WithKey, Shows}
 use Rattle.table_run.specs.Keepers.Answers.{Gets, GetAnswers, Counts, bound_in}
 use Rattle.table_run.specs.Standing.{Places, Stands}
-use Rattle.table_run.specs.Running.{LineDone, MakesNew, WasCounted, full_in, said}
+use Rattle.table_text.specs.Machine.Said.{full_in, said}
+use Rattle.table_run.specs.Running.{LineDone, MakesNew, WasCounted}
 use Rattle.table_run.proofs.KeeperLemmas.{keeper_kept}
 use Rattle.table_run.proofs.MachineLemmas.{may_same, datum_int, place_holds}
 use Rattle.table_run.proofs.RegisterLemmas.{register_at}
@@ -99,21 +100,6 @@ pub get_line : (version : Version) (z : Sizes) (limits : IsWithinLimits z) (p : 
 get_line version z limits p s old new x lines r rep None key (bad, same) quiet refused =
     nothing_done version z p s old new x lines (line.Get r) (said rep) (subst (λ (o : Option Label). WithKey o s (said rep) s (λ j. Shows (datum_at s.bindings j) (said rep) × (s ≡ s))) (sym key) (ap said bad, refl)) tt tt refused same
 get_line version z limits p s old new x lines r rep (Some k) key g quiet refused = get_found version z limits p s old new x lines r k rep key g quiet refused
-
--- the reply of a call, and of a line
-pub said_full : (r : Reply) → full_in (said r) ≡ full_of r
-said_full given.Done = refl
-said_full (given.Int v) = refl
-said_full (given.Block l) = refl
-said_full given.BadType = refl
-said_full given.BadIndex = refl
-said_full given.Empty = refl
-said_full given.Yes = refl
-said_full given.No = refl
-said_full given.Full = refl
-said_full (given.Live blocks words) = refl
-said_full (given.Fin number label) = refl
-said_full (given.Last number) = refl
 
 -- `count`
 pub count_line : (version : Version) (z : Sizes) (limits : IsWithinLimits z) (p : Places) (s : TableState) (old new : List Entry) (x : Stands version z p s old) (lines : List TableLine) (n : ℕ) → Counts version z old new p.keeper x.shown.shape n → writings new ≡ writings old → refusals new ≡ refusals old

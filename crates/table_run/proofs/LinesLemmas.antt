@@ -35,13 +35,15 @@ use Rattle.table_run.specs.Keepers.Keepers.{HoldsKeeper}
 use Rattle.table_run.specs.Keepers.Answers.{CountsAt, GetAnswers, GetsAt, PutAnswers, PutsAt, SweepAnswers, TakeAnswers, TakesAt}
 use Rattle.table_run.proofs.OfKeepers.MapLemmas.{listed, map_stays}
 use Rattle.table_run.specs.Standing.{Places, Stands, IsStanding}
-use Rattle.table_run.specs.Running.{LineDone, HasGiven, full_in, said}
+use Rattle.table_text.specs.Machine.Said.{full_in, said}
+use Rattle.table_run.specs.Running.{LineDone, HasGiven}
 use Rattle.table_run.proofs.LineLemmas.{after_with, after_goes, after_goes_by, after_key, stands_zero, stands_reading, stands_set, forget_line, key_line, full_line}
 use Rattle.table_run.proofs.RefusalLemmas.{used_up}
 use Rattle.table_run.proofs.KeeperLemmas.{IsSwept, swept_as, swept_lasts}
 use Rattle.table_run.proofs.MachineLemmas.{may_same}
 use Rattle.table_run.proofs.OwnLemmas.{take_done, put_done, slot_done, stays_goes, stays_left, stays_stands}
-use Rattle.table_run.proofs.CallLemmas.{held_key, nothing_done, left, read_goes, read_stands, read_line, get_line, said_full, count_line}
+use Rattle.table_run.proofs.CallLemmas.{held_key, nothing_done, left, read_goes, read_stands, read_line, get_line, count_line}
+use Rattle.table_text.proofs.OfMachine.SaidLemmas.{said_full}
 use Rattle.table_run.proofs.GoneLemmas.{left_held}
 use Rattle.table_run.proofs.StandLemmas.{line_ends, line_later, others_clean, keeps_high, prefix_self}
 

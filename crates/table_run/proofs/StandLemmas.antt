@@ -26,7 +26,8 @@ use Rattle.table_text.specs.declared.machine.reply.LineReply.{LineReply}
 use Rattle.table_text.specs.Machine.Machine.{LineStep, TableState, MayGo, IsLost, IsThere, Holds}
 use Rattle.table_run.specs.Keepers.Keepers.{Shape, kept_bindings}
 use Rattle.table_run.specs.Standing.{Places, Stands, IsKnown, key_node, AreInts}
-use Rattle.table_run.specs.Running.{LineDone, MakesNew, WasCounted, full_in}
+use Rattle.table_text.specs.Machine.Said.{full_in}
+use Rattle.table_run.specs.Running.{LineDone, MakesNew, WasCounted}
 use Rattle.table_run.proofs.FreshLemmas.{counted_before, makes_before}
 use Rattle.table_run.proofs.KeeperLemmas.{Kept, keeper_kept}
 use Rattle.table_run.proofs.MachineLemmas.{emptied_holds, goes_of, may_same, may_twice, thinned_ints, holds_place}

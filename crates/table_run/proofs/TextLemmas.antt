@@ -23,7 +23,8 @@ use Rattle.table_text.specs.Machine.Machine.{MachineAnswers, MachineRuns, TableS
 use Rattle.table_run.specs.Keepers.Keepers.{kept_labels}
 use Rattle.table_run.specs.Keepers.Answers.{MakeAnswers}
 use Rattle.table_run.specs.Standing.{Places, Shown, IsKnown}
-use Rattle.table_run.specs.Running.{LineRuns, LinesRun, LineDone, LineAnswers, HasGiven, TextRuns, RanTo, Begins, full_in, rooms_of, all_rooms}
+use Rattle.table_run.specs.Running.{LineRuns, LinesRun, LineDone, LineAnswers, HasGiven, TextRuns, RanTo, Begins, rooms_of, all_rooms}
+use Rattle.table_text.specs.Machine.Said.{full_in}
 use Rattle.table_run.proofs.FreshLemmas.{counted_before, makes_before}
 use Rattle.table_run.proofs.KeeperLemmas.{keeper_kept, keeper_new}
 use Rattle.table_run.proofs.MachineLemmas.{may_same, may_twice}

@@ -2,8 +2,6 @@
 use Rattle.std.specs.Prelude.{◌≡◌, ℕ, ◌+◌, ◌≤◌, List, [], ◌∷◌, ◌++◌, length, Some, None}
 use Rattle.model_core.specs.declared.label.Label.{Label}
 use Rattle.model_core.specs.declared.entry.Entry.{Entry}
-use Rattle.model_core.specs.declared.reply.Reply.{Reply}
-use Rattle.model_core.specs.declared.reply.Reply.TheVariants as given
 use Rattle.model_core.specs.declared.state.Sizes.{Sizes}
 use Rattle.model_core.specs.Graph.{node_at}
 use Rattle.model_core.specs.History.{IsPrefix}
@@ -15,22 +13,9 @@ use Rattle.table_text.specs.declared.line.TableLine.TheVariants.{Count, Key, Put
 use Rattle.table_text.specs.declared.machine.reply.LineReply.{LineReply}
 use Rattle.table_text.specs.declared.machine.reply.LineReply.TheVariants as reply
 use Rattle.table_text.specs.Machine.Machine.{LineStep, TableState, MayGo, key_in, all_made, opened}
+use Rattle.table_text.specs.Machine.Said.{full_in}
 use Rattle.table_run.specs.Keepers.Keepers.{Shape, IsKeeper, kept_bindings}
 use Rattle.table_run.specs.Standing.{Places, Shown, Stands}
-
--- 1 for the reply `full`
-abbrev pub full_in : LineReply → ℕ
-full_in reply.Full = 1
-full_in _ = 0
-
--- what a call's reply is as a line's
-abbrev pub said : Reply → LineReply
-said (given.Int v) = reply.Number v
-said (given.Block l) = reply.Yes
-said given.BadType = reply.BadType
-said given.Empty = reply.Empty
-said given.Full = reply.Full
-said _ = reply.Done
 
 -- the key that a line has made was the label of no block at this front, nor before, since no block ever goes
 abbrev pub MakesNew : Sizes → List Entry → TableLine → LineReply → TableState → Type 0

@@ -4,7 +4,6 @@
 pub mod keepers;
 mod line;
 mod prepare;
-mod said;
 pub mod text;
 
 pub use text::run_text;

@@ -9,11 +9,11 @@ ghost use Rattle.table_run.specs.Running.{LineAnswers, rooms_of};
 
 use crate::keepers::OneDomain;
 use crate::keepers::calls::{keeper_count, keeper_get, keeper_put, keeper_sweep, keeper_take};
-use crate::said::{is_full, said};
 use model_core::command::Command;
 use std::sync::Wait;
-use table_text::machine::LineReply;
+use table_text::machine::{LineReply, said};
 use table_text::{TableLine, Version};
+use weak_maps::replies::is_full;
 use weak_tables::arrays::{weak_get, weak_set};
 use weak_tables::machine::Machine;
 

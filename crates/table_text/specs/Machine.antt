@@ -1,3 +1,4 @@
 pub mod Machine
+pub mod Said
 pub mod Texts
 pub mod Rows

@@ -2,4 +2,4 @@
 pub mod laws;
 pub mod reply;
 
-pub use reply::LineReply;
+pub use reply::{LineReply, said};

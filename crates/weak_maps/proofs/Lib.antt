@@ -31,4 +31,3 @@ pub mod FieldCleanLemmas
 pub mod OfLists
 pub mod OfSweeps
 pub mod OfShared
-pub mod OfSections

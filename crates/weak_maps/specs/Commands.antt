@@ -1,11 +1,11 @@
 -- The commands of which the calls are made.
 use Rattle.std.specs.Prelude.{◌<◌, ◌≤◌, pos, neg_ℤ, ◌≤ℤ◌}
 use Rattle.model_core.specs.declared.command.Command.{Command}
-use Rattle.model_core.specs.declared.command.Command.TheVariants.{PutInt, Copy, Forget, Alloc, Load, Store, Cas, Ephe, SetKey, GetKey, SetData, GetData}
+use Rattle.model_core.specs.declared.command.Command.TheVariants.{PutInt, Copy, Forget, Alloc, Load, Store, Cas, Ephe, SetKey, GetKey, SetData, GetData, FullMajor}
 use Rattle.model_core.specs.declared.reply.Reply.{Reply}
 use Rattle.model_core.specs.declared.reply.Reply.TheVariants as reply
 
--- the commands of which the calls are made, with their numbers in their ranges
+-- the commands of which the calls are made, and a complete collection, with their numbers in their ranges
 abbrev pub IsMapCommand : Command → Type 0
 IsMapCommand (PutInt dst value) = (dst < 16) × (neg_ℤ (pos 4611686018427387904) ≤ℤ value) × (value ≤ℤ pos 4611686018427387903)
 IsMapCommand (Copy dst src) = (dst < 16) × (src < 16)
@@ -19,6 +19,7 @@ IsMapCommand (SetKey ephe index item) = (ephe < 16) × (item < 16)
 IsMapCommand (GetKey dst ephe index) = (dst < 16) × (ephe < 16)
 IsMapCommand (SetData ephe item) = (ephe < 16) × (item < 16)
 IsMapCommand (GetData dst ephe) = (dst < 16) × (ephe < 16)
+IsMapCommand FullMajor = Unit {0}
 IsMapCommand _ = ⊥
 
 -- a reply that shows a block

@@ -11,4 +11,3 @@ pub mod Guards
 pub mod Lists
 pub mod Sweeps
 pub mod Shared
-pub mod Sections

@@ -3,7 +3,7 @@ ghost use Rattle.std.specs.Prelude.{◌≡◌, ◌+◌, ◌<◌, ◌≤◌};
 ghost use Rattle.model_core.specs.declared.graph.Value.TheVariants.{Block};
 ghost use Rattle.model_core.specs.declared.reply.Reply.TheVariants as variant;
 ghost use Rattle.model_core.specs.History.{IsPrefix};
-ghost use Rattle.weak_laws.specs.Tables.Performing.{is_spared};
+ghost use Rattle.weak_laws.specs.Tables.Performing.{full_of, is_spared};
 ghost use Rattle.weak_maps.specs.Beside.{WritesAtMost, refusals_by, writings_by};
 ghost use Rattle.weak_maps.specs.Walks.{Descended, Emptied, OwnQuiet};
 ghost use Rattle.weak_maps.specs.Returns.{FollowsAt, GetsAt};
@@ -102,6 +102,7 @@ pub fn map_get<M: Machine, R: Wait>(m: &mut M, rt: &R, dst: u8, map: u8, key: u8
     ensures labels { M.labels_left m.new ≡ M.labels_left m.old }
     ensures room { M.ephes_room m.old ≤ M.ephes_room m.new }
     ensures given { refusals_by (M.domain m.old) (M.front m.new) ≡ refusals_by (M.domain m.old) (M.front m.old) }
+    ensures granted { full_of result ≡ 0 }
     ensures written { WritesAtMost (M.domain m.old) (M.front m.old) (M.front m.new) (is_spared dst + is_spared dst) }
     ensures quiet { OwnQuiet (M.sizes m.old) (M.domain m.old) (M.front m.old) (M.front m.new) }
     ensures answer { GetsAt (M.sizes m.old) (M.domain m.old) (M.front m.old) (M.front m.new) dst map key result }

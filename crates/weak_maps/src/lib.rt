@@ -9,7 +9,6 @@ pub mod machine;
 pub mod making;
 pub mod putting;
 pub mod replies;
-pub mod sections;
 pub mod shared;
 pub mod sweeps;
 pub mod taking;

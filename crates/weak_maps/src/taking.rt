@@ -4,6 +4,7 @@ ghost use Rattle.model_core.specs.declared.command.Command.TheVariants as comman
 ghost use Rattle.model_core.specs.declared.graph.Value.TheVariants.{Block};
 ghost use Rattle.model_core.specs.History.{IsPrefix};
 ghost use Rattle.weak_laws.specs.Maps.Calls.{PerformedBy};
+ghost use Rattle.weak_laws.specs.Tables.Performing.{full_of};
 ghost use Rattle.weak_laws.specs.Maps.Tries.{root_width};
 ghost use Rattle.weak_maps.specs.Beside.{refusals_by, writings_by};
 ghost use Rattle.weak_maps.specs.Fields.{Cleared, Finds};
@@ -195,6 +196,7 @@ pub fn map_take<M: Machine, R: Wait>(m: &mut M, rt: &R, map: u8, key: u8) -> Rep
     ensures labels { M.labels_left m.new ≡ M.labels_left m.old }
     ensures room { M.ephes_room m.old ≤ M.ephes_room m.new }
     ensures given { refusals_by (M.domain m.old) (M.front m.new) ≡ refusals_by (M.domain m.old) (M.front m.old) }
+    ensures granted { full_of result ≡ 0 }
     ensures written { writings_by (M.domain m.old) (M.front m.new) ≡ writings_by (M.domain m.old) (M.front m.old) }
     ensures guards { TakeGuards (M.sizes m.old) (M.domain m.old) (M.front m.old) (M.front m.new) map }
     ensures answer { TakesAt (M.sizes m.old) (M.domain m.old) (M.front m.old) (M.front m.new) map key result }

@@ -1,7 +1,7 @@
 -- What a map's commands register.
 use Rattle.std.proofs.Common.{◌≡◌, refl}
 use Rattle.model_core.specs.declared.command.Command as model
-use Rattle.model_core.specs.declared.command.Command.TheVariants.{PutInt, Copy, Forget, Alloc, Load, Store, Cas, Ephe, SetKey, GetKey, SetData, GetData}
+use Rattle.model_core.specs.declared.command.Command.TheVariants.{PutInt, Copy, Forget, Alloc, Load, Store, Cas, Ephe, SetKey, GetKey, SetData, GetData, FullMajor}
 use Rattle.run_turns.specs.Tries.{registrations_of}
 use Rattle.weak_maps.specs.Commands.{IsMapCommand}
 
@@ -19,4 +19,5 @@ registers_none (SetKey ephe index item) is = refl
 registers_none (GetKey dst ephe index) is = refl
 registers_none (SetData ephe item) is = refl
 registers_none (GetData dst ephe) is = refl
+registers_none FullMajor is = refl
 registers_none _ is = absurd is

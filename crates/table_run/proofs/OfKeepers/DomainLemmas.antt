@@ -1,6 +1,6 @@
 -- A command of a map is one of a table's machine.
 use Rattle.model_core.specs.declared.command.Command.{Command}
-use Rattle.model_core.specs.declared.command.Command.TheVariants.{PutInt, Copy, Forget, Alloc, Load, Store, Cas, Ephe, SetKey, GetKey, SetData, GetData}
+use Rattle.model_core.specs.declared.command.Command.TheVariants.{PutInt, Copy, Forget, Alloc, Load, Store, Cas, Ephe, SetKey, GetKey, SetData, GetData, FullMajor}
 use Rattle.weak_tables.specs.Commands.{IsCallCommand}
 use Rattle.weak_maps.specs.Commands.{IsMapCommand}
 
@@ -17,4 +17,5 @@ call_command (SetKey ephe index item) is = is
 call_command (GetKey dst ephe index) is = is
 call_command (SetData ephe item) is = is
 call_command (GetData dst ephe) is = is
+call_command FullMajor is = is
 call_command _ is = absurd is

@@ -1,4 +1,8 @@
 //! What is written for a line.
+ghost use Rattle.std.specs.Prelude.{◌≡◌};
+ghost use Rattle.table_text.specs.Machine.Said.{said as said_as};
+
+use model_core::reply::Reply;
 
 /// What is written for a line of a text of a table.
 #[derive(Clone, Copy, Debug, PartialEq, Eq)]
@@ -17,4 +21,18 @@ pub enum LineReply {
     Number(i64),
     /// `count n`: how many bindings there are.
     Counted(u32),
+}
+
+/// The reply of a line whose call was answered so.
+pub fn said(reply: &Reply) -> LineReply
+    ensures { result ≡ said_as reply.now }
+{
+    match *reply {
+        Reply::Int(value) => LineReply::Number(value),
+        Reply::Block(_) => LineReply::Yes,
+        Reply::BadType => LineReply::BadType,
+        Reply::Empty => LineReply::Empty,
+        Reply::Full => LineReply::Full,
+        _ => LineReply::Done,
+    }
 }

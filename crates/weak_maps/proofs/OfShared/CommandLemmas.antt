@@ -1,21 +1,25 @@
 -- Commands that do nothing to a map.
-use Rattle.std.proofs.Common.{◌≡◌, inl, inr, ⊎_elim, ℕ, Bool, true, false, cond, List, [], ◌∷◌, ◌++◌, length, Option, Some, refl, ap, sym, ◌∙◌, subst, arith, eq-eqb, length-append}
+use Rattle.std.proofs.Common.{◌≡◌, ◌⊎◌, inl, inr, ⊎_elim, ℕ, Bool, true, false, cond, List, [], ◌∷◌, ◌++◌, length, Option, Some, None, ◌≤◌, refl, ap, sym, ◌∙◌, subst, arith, eq-eqb, length-append}
 use Rattle.std.proofs.lemmas.List.{length-replicate}
+use Rattle.std.proofs.lemmas.Option.{slice_get_past}
+use Rattle.std.specs.Prelude.{option_and_then, option_map, slice_set, unwrap_or}
 use Rattle.model_core.specs.declared.label.Label.{Label}
 use Rattle.model_core.specs.declared.command.Command.{Command}
+use Rattle.model_core.specs.declared.command.Command.TheVariants.{SetKey}
 use Rattle.model_core.specs.declared.entry.Entry.{Entry}
 use Rattle.model_core.specs.declared.entry.Entry.TheVariants.{Command as CommandOf, End, Cut, Queue, Seal, Wipe, Last as LastOf, Collected, Done, Ran}
 use Rattle.model_core.specs.declared.graph.Node.{Node}
 use Rattle.model_core.specs.declared.graph.Node.TheVariants.{Plain, Raw, Ephe}
 use Rattle.model_core.specs.declared.graph.Value.{Value}
 use Rattle.model_core.specs.declared.graph.Value.TheVariants.{Block}
+use Rattle.model_core.specs.declared.reply.Reply.{Reply}
 use Rattle.model_core.specs.declared.state.Pending.{Pending}
 use Rattle.model_core.specs.declared.state.Pending.TheVariants.{Fin, Last}
 use Rattle.model_core.specs.declared.state.Sizes.{Sizes}
 use Rattle.model_core.specs.declared.state.State.{State}
-use Rattle.model_core.specs.Graph.{Graph, node_at, with_node}
-use Rattle.model_core.specs.Domains.{domain_at, opening_domain}
-use Rattle.model_core.specs.Commands.{outcome}
+use Rattle.model_core.specs.Graph.{Graph, block_at, node_at, with_node}
+use Rattle.model_core.specs.Domains.{domain_at, label_in, opening_domain, with_block}
+use Rattle.model_core.specs.Commands.{block_in, done_with, in_bounds, key_stored, outcome}
 use Rattle.model_core.specs.Entries.{after_run, next}
 use Rattle.model_core.specs.History.{IsPrefix, commands}
 use Rattle.model_core.specs.Laws.{written_by}
@@ -25,13 +29,13 @@ use Rattle.model_core.proofs.Commands.MoveLemmas.{moved}
 use Rattle.weak_laws.specs.Tables.Thinning.{state_of}
 use Rattle.weak_laws.specs.Tables.Stages.{graph_of}
 use Rattle.weak_laws.specs.Maps.Tries.{fields_of, is_leaf, IsMap, IsSlot}
+use Rattle.weak_laws.specs.Maps.Calls.{PerformedBy}
 use Rattle.weak_laws.specs.Maps.Steps.{RespectsMap}
 use Rattle.weak_laws.proofs.OfMaps.FrontLemmas.{before_or_behind, last_or_before, prefix_same, walk_along}
 use Rattle.weak_laws.proofs.OfMaps.OwnLemmas.{apart_respects, at_the_end, fresh_respects, leaf_stays, nothing_between, reading_respects, IsApart}
 use Rattle.weak_laws.proofs.OfMaps.RespectLemmas.{allowed_at, count_next, graph_push, state_push}
-use Rattle.weak_maps.specs.Guards.{Guards}
 use Rattle.weak_maps.specs.Walks.{OwnQuiet}
-use Rattle.weak_maps.specs.Shared.Sharing.{AllGuarded, CommandsBesideAreGuarded, EndsAreGuarded, IsBesideMaps, IsGuarded, SeatsShareTheMap}
+use Rattle.weak_maps.specs.Shared.Sharing.{AllGuarded, CommandsBesideAreGuarded, EndsAreGuarded, IsBesideMaps, IsGuarded, LaterKeysAreGuarded, OwnGuarded, SeatsShareTheMap}
 use Rattle.weak_maps.proofs.OfShared.SharingLemmas.{quiet_entry_is_guarded}
 
 -- what a command does to the graph: nothing, it writes the block that it is said to write, or it makes one
@@ -77,35 +81,59 @@ apart z root front l n map there beside = record {
 }
 
 -- so an entry of such a command respects a map
-module _ (z : Sizes) (root : Label) (d : ℕ) (front : List Entry) (c : Command) (beside : (l : Label) (n : Node) → written_by (state_of z front) d c ≡ Some l → node_at (graph_of z front) l ≡ Some n → IsBesideMaps n) (map : IsMap (graph_of z front) root) where
-  beside_respects : (full : Bool) → RespectsMap z root front (CommandOf d c full)
-  beside_respects true = reading_respects z root front (CommandOf d c true) refl
-  beside_respects false = by (does (state_of z front) d c)
-    where
-      by : Does (state_of z front) d c (outcome (state_of z front) d c).state.graph → RespectsMap z root front (CommandOf d c false)
-      by (Reads same) = reading_respects z root front (CommandOf d c false) same
-      by (Writes l was now is at_l written) = apart_respects z root front (CommandOf d c false) l now (apart z root front l was map at_l (beside l was is at_l)) written
-      by (Makes x made) = fresh_respects z root front (CommandOf d c false) map x made
+beside_respects : (z : Sizes) (root : Label) (d : ℕ) (front : List Entry) (c : Command) → ((l : Label) (n : Node) → written_by (state_of z front) d c ≡ Some l → node_at (graph_of z front) l ≡ Some n → IsBesideMaps n) → IsMap (graph_of z front) root
+    → (full : Bool) → RespectsMap z root front (CommandOf d c full)
+beside_respects z root d front c beside map true = reading_respects z root front (CommandOf d c true) refl
+beside_respects z root d front c beside map false = by (does (state_of z front) d c)
+  where
+    by : Does (state_of z front) d c (outcome (state_of z front) d c).state.graph → RespectsMap z root front (CommandOf d c false)
+    by (Reads same) = reading_respects z root front (CommandOf d c false) same
+    by (Writes l was now is at_l written) = apart_respects z root front (CommandOf d c false) l now (apart z root front l was map at_l (beside l was is at_l)) written
+    by (Makes x made) = fresh_respects z root front (CommandOf d c false) map x made
 
-  -- and is guarded
-  pub entry_guards : (full : Bool) → Guards z root d front front (front ++ CommandOf d c full ∷ [])
-  entry_guards full f x since until own others =
-      ⊎_elim (λ early. absurd (nothing_between front f x since early)) (λ is. subst (λ (w : List Entry × Entry). RespectsMap z root w.0 w.1) (λ i. (sym is.0 i, sym is.1 i)) (beside_respects full)) (last_or_before front (CommandOf d c full) f x until)
+-- to set a key behind the first writes an ephemeron of more keys than one, or nothing
+later_key : (s : State) (index : ℕ) → 1 ≤ index → (item : Option Label) (block : Option (Label × Node)) → ((key_stored s index item block).state.graph ≡ s.graph) ⊎ ((l : Label) (n : Node) → block ≡ Some (l, n) → IsBesideMaps n)
+later_key s index behind None block = inl refl
+later_key s index behind (Some k) None = inl refl
+later_key s index behind (Some k) (Some (x, Plain tag fields)) = inl refl
+later_key s index behind (Some k) (Some (x, Raw tag fields)) = inl refl
+later_key s index behind (Some k) (Some (x, Ephe [] datum)) = inl refl
+later_key s index behind (Some k) (Some (x, Ephe (key ∷ []) datum)) =
+    inl (ap (λ (o : Option (Option Label)). (in_bounds s o (λ _. done_with (with_block s x (Ephe (slice_set (key ∷ []) index (Some k)) datum)))).state.graph) (slice_get_past (key ∷ []) index behind))
+later_key s index behind (Some k) (Some (x, Ephe (key ∷ other ∷ keys) datum)) = inr (λ l n is. subst IsBesideMaps (ap (λ (o : Option (Label × Node)). (unwrap_or o (x, Ephe (key ∷ other ∷ keys) datum)).1) is) tt)
 
-pub commands_beside_are_guarded : CommandsBesideAreGuarded
-commands_beside_are_guarded z root d base old new c r p beside front e here since until own =
+pub later_key_respects : (z : Sizes) (root : Label) (d : ℕ) (front : List Entry) (ephe index item : ℕ) → 1 ≤ index → IsMap (graph_of z front) root → (full : Bool) → RespectsMap z root front (CommandOf d (SetKey ephe index item) full)
+later_key_respects z root d front ephe index item behind map true = reading_respects z root front (CommandOf d (SetKey ephe index item) true) refl
+later_key_respects z root d front ephe index item behind map false =
+    let s : State = state_of z front in
+    ⊎_elim (λ same. reading_respects z root front (CommandOf d (SetKey ephe index item) false) same)
+    (λ beside. beside_respects z root d front (SetKey ephe index item) (λ l n is at_l. beside l n (ap (option_and_then (block_at s.graph)) is ∙ ap (option_map (λ m. (l, m))) at_l)) map false)
+    (later_key s index behind (label_in s d item) (block_in s d ephe))
+
+-- and is guarded, wherever the command's stretch began
+guarded_command : (z : Sizes) (root : Label) (d : ℕ) (base old new : List Entry) (c : Command) (r : Reply) (p : PerformedBy z d old new c r) → (IsMap (graph_of z (old ++ p.between)) root → (full : Bool) → RespectsMap z root (old ++ p.between) (CommandOf d c full))
+    → OwnGuarded z root base d old new
+guarded_command z root d base old new c r p respects front e here since until own =
     let end = at_the_end z root d old new c r p front e since until own in
     let mid : List Entry = old ++ p.between in
+    let entry : Entry = CommandOf d c p.full in
     subst (λ (w : List Entry × Entry). IsGuarded z root base w.0 w.1 d) (λ i. (sym end.0 i, sym end.1 i))
     (record {
       own = eq-eqb d d refl;
       first = mid;
-      last = mid ++ CommandOf d c p.full ∷ [];
+      last = mid ++ entry ∷ [];
       behind = subst (IsPrefix base) end.0 here;
       since = prefix_same mid;
-      until = prefix_same (mid ++ CommandOf d c p.full ∷ []);
-      guards = λ before map placed. entry_guards z root d mid c beside map p.full;
+      until = prefix_same (mid ++ entry ∷ []);
+      guards = λ before map placed f x a b mine others.
+          ⊎_elim (λ early. absurd (nothing_between mid f x a early)) (λ is. subst (λ (w : List Entry × Entry). RespectsMap z root w.0 w.1) (λ i. (sym is.0 i, sym is.1 i)) (respects map p.full)) (last_or_before mid entry f x b);
     })
+
+pub commands_beside_are_guarded : CommandsBesideAreGuarded
+commands_beside_are_guarded z root d base old new c r p beside = guarded_command z root d base old new c r p (beside_respects z root d (old ++ p.between) c beside)
+
+pub later_keys_are_guarded : LaterKeysAreGuarded
+later_keys_are_guarded z root d base old new ephe index item r behind p = guarded_command z root d base old new (SetKey ephe index item) r p (later_key_respects z root d (old ++ p.between) ephe index item behind)
 
 -- one entry that changes no block
 quiet_entry : (z : Sizes) (d : ℕ) (front : List Entry) (e : Entry) → (next (state_of z front) e).graph ≡ graph_of z front → OwnQuiet z d front (front ++ e ∷ [])

@@ -1,7 +1,8 @@
 -- A history in which several domains make calls on one map.
-use Rattle.std.specs.Prelude.{◌≡◌, ◌⊎◌, ℕ, ◌<◌, true, IsTrue, List, [], ◌∷◌, ◌++◌, Some}
+use Rattle.std.specs.Prelude.{◌≡◌, ◌⊎◌, ℕ, ◌<◌, ◌≤◌, true, IsTrue, List, [], ◌∷◌, ◌++◌, Some}
 use Rattle.model_core.specs.declared.label.Label.{Label}
 use Rattle.model_core.specs.declared.command.Command as command
+use Rattle.model_core.specs.declared.command.Command.TheVariants.{SetKey}
 use Rattle.model_core.specs.declared.entry.Entry.{Entry}
 use Rattle.model_core.specs.declared.entry.Entry.TheVariants.{End, Ran}
 use Rattle.model_core.specs.declared.graph.Node.{Node}
@@ -66,6 +67,10 @@ IsBesideMaps (Ephe keys datum) = Unit {0}
 abbrev pub CommandsBesideAreGuarded : Type 0
 CommandsBesideAreGuarded = (z : Sizes) (root : Label) (d : ℕ) (base old new : List Entry) (c : command.Command) (r : Reply) (p : PerformedBy z d old new c r)
     → ((l : Label) (n : Node) → written_by (state_of z (old ++ p.between)) d c ≡ Some l → node_at (graph_of z (old ++ p.between)) l ≡ Some n → IsBesideMaps n) → OwnGuarded z root base d old new
+
+-- and so is the setting of a key of an ephemeron but its first, whatever a register holds: a leaf of a map has no such key
+abbrev pub LaterKeysAreGuarded : Type 0
+LaterKeysAreGuarded = (z : Sizes) (root : Label) (d : ℕ) (base old new : List Entry) (ephe index item : ℕ) (r : Reply) → 1 ≤ index → PerformedBy z d old new (SetKey ephe index item) r → OwnGuarded z root base d old new
 
 -- the end of a domain, and the run of a finaliser
 abbrev pub EndsAreGuarded : Type 0

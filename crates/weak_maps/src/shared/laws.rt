@@ -1,6 +1,6 @@
 //! Laws of a map that several domains use at once by `map_put`, `map_get` and `map_take`. Each function's contract is one law or
 //! two, and it does nothing else.
-ghost use Rattle.weak_maps.specs.Shared.Sharing.{CallsAreGuarded, CommandsBesideAreGuarded, EndsAreGuarded, GuardedEntriesRespect, LookupsAreGuarded, OthersMayBeReliedOn, SeatsShareTheMap, StretchesAdd};
+ghost use Rattle.weak_maps.specs.Shared.Sharing.{CallsAreGuarded, CommandsBesideAreGuarded, EndsAreGuarded, GuardedEntriesRespect, LaterKeysAreGuarded, LookupsAreGuarded, OthersMayBeReliedOn, SeatsShareTheMap, StretchesAdd};
 ghost use Rattle.weak_maps.specs.Shared.Orders.{BindingsAreOfOneOrder, FoundWasPut, PutIsFoundByAll, TakesDiffer};
 
 /// Each entry of a put, of a take and of a lookup is guarded, wherever it stands in a history.
@@ -10,9 +10,11 @@ pub fn calls_are_guarded()
 {}
 
 /// So is each other command that writes no block, makes one, or writes one that can stand in no map, as an ephemeron of eight
-/// keys can't; and the end of a domain, and the run of a finaliser.
+/// keys can't; each that sets a key of an ephemeron but its first, whatever it is said to write; and the end of a domain, and
+/// the run of a finaliser.
 pub fn entries_beside_are_guarded()
     ensures commands { CommandsBesideAreGuarded }
+    ensures keys { LaterKeysAreGuarded }
     ensures ends { EndsAreGuarded }
 {}
 

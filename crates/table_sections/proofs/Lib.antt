@@ -1,0 +1,7 @@
+pub mod RegisterLemmas
+pub mod LineLemmas
+pub mod CommandLemmas
+pub mod CallLemmas
+pub mod PutLemmas
+pub mod SectionLemmas
+pub mod RefusedBodies

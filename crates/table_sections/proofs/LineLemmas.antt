@@ -1,0 +1,65 @@
+-- What a line is where it guards the map, and is answered on it.
+use Rattle.std.proofs.Common.{◌≡◌, ◌≢◌, ℕ, ◌<◌, ◌≤◌, ◌^◌, ◌&&◌, true, int_le, ℤ, pos, negsuc, neg_ℤ, List, ◌∙◌, arith, to_z, of_z, to_z-of_z, SFits, w64}
+use Rattle.std.proofs.lemmas.Bool.{and_parts}
+use Rattle.std.proofs.lemmas.Bool.Decides.{nat_tests}
+use Rattle.std.proofs.lemmas.Int.{ints}
+use Rattle.model_core.specs.declared.label.Label.{Label}
+use Rattle.model_core.specs.declared.entry.Entry.{Entry}
+use Rattle.model_core.specs.declared.state.Sizes.{Sizes}
+use Rattle.model_core.specs.History.{IsPrefix}
+use Rattle.table_text.specs.declared.line.TableLine.{TableLine}
+use Rattle.table_text.specs.declared.line.TableLine.TheVariants.{Put}
+use Rattle.table_text.specs.declared.machine.reply.LineReply.{LineReply}
+use Rattle.table_text.specs.Forms.{is_writable}
+use Rattle.weak_laws.specs.Maps.Steps.{AllRespect, OthersRespect}
+use Rattle.weak_laws.proofs.OfMaps.FrontLemmas.{prefix_before, prefix_same}
+use Rattle.weak_laws.proofs.OfMaps.RespectLemmas.{map_after, respect_both}
+use Rattle.weak_maps.specs.Beside.{held_by}
+use Rattle.weak_maps.specs.Guards.{Guards}
+use Rattle.weak_maps.proofs.BesideLemmas.{low_beside}
+use Rattle.weak_maps.proofs.PlaceLemmas.{place_after}
+use Rattle.weak_maps.proofs.StayLemmas.{respects_within}
+use Rattle.table_sections.specs.Lines.{IsKeyRegister, written_in}
+use Rattle.table_sections.specs.Sections.{KeepsBut, LineAnswers, LineDone, LineMakes, OnMap, SectionGuards}
+
+module _ (z : Sizes) (root : Label) (d : ℕ) (old new : List Entry) where
+  -- where a stretch guards the map, and others respect it, all do
+  pub guarded_all : Guards z root d old old new → OthersRespect z root d old new → AllRespect z root old new
+  guarded_all guards others = respect_both z root d old new others (λ f e a b own. guards f e a b own (respects_within z root d old new old f (prefix_same old) (prefix_before f e new b) others))
+
+  -- so the map is in its register still
+  pub on_after : IsPrefix old new → AllRespect z root old new → held_by z d new 6 ≡ held_by z d old 6 → OnMap z root d old → OnMap z root d new
+  on_after grows all same on = record { holds = same ∙ on.holds; map = map_after z root old new grows all on.map; placed = place_after z root old new grows all on.map on.placed }
+
+-- a line by what it does, and by what it answers and keeps on a map
+pub line_done : (z : Sizes) (d : ℕ) (old new : List Entry) (line : TableLine) (a : LineReply) → IsPrefix old new → SectionGuards z d old new → LineMakes z d old line a new
+    → ((root : Label) → OnMap z root d old → OthersRespect z root d old new → LineAnswers z root d old line a new × KeepsBut z d old new (written_in line)) → 6 ≢ written_in line → LineDone z d old line a new
+line_done z d old new line a grows guards makes on_map other = record {
+  guards = guards;
+  runs = record {
+    grows = grows;
+    makes = makes;
+    beside = λ root on others. let x = on_map root on others in record {
+      grows = grows;
+      makes = makes;
+      answers = x.0;
+      keeps = x.1;
+      after = on_after z root d old new grows (guarded_all z root d old new (guards root on) others) (x.1 6 (λ e. absurd (omega (arith, e))) (low_beside 6 (omega arith)) other) on;
+    };
+  };
+}
+
+-- register 6 is none of a key
+pub not_six : (r : ℕ) → IsKeyRegister r → 6 ≢ r
+not_six r small is = let high = small.1 in absurd (omega (arith, high, is))
+
+pub not_between : 6 ≢ 0
+not_between is = absurd (omega (arith, is))
+
+-- an integer of a line is one that a word of 64 bits holds
+small_value : (v : ℤ) → int_le (neg_ℤ (pos 4611686018427387904)) v && int_le v (pos 4611686018427387903) ≡ true → SFits w64 v
+small_value (pos n) e = record { sfits = (let small : n < 2 ^ 63 = grind (arith, ints, nat_tests) in small) }
+small_value (negsuc n) e = record { sfits = (let small : n < 2 ^ 63 = grind (arith, ints, nat_tests) in small) }
+
+pub value_held : (r : ℕ) (v : ℤ) → is_writable (Put r v) ≡ true → to_z w64 (of_z w64 v) ≡ v
+value_held r v e = to_z-of_z (small_value v (and_parts _ _ (and_parts _ _ e).1).0)

@@ -1,0 +1,46 @@
+-- The lines that a section may have, where its slots are, and what it takes.
+use Rattle.std.specs.Prelude.{◌≡◌, ℕ, ◌+◌, ◌*◌, ◌/◌, ◌%◌, ◌≤◌, true, [], ◌∷◌, slice_index_or}
+use Rattle.model_core.specs.declared.reply.Reply.{Reply}
+use Rattle.model_core.specs.declared.reply.Reply.TheVariants as given
+use Rattle.table_text.specs.declared.line.TableLine.{TableLine}
+use Rattle.table_text.specs.declared.line.TableLine.TheVariants.{Key, Forget, Put, Get, Del, SetWeak, GetWeak, Count, FullMajor}
+use Rattle.table_text.specs.declared.machine.reply.LineReply.{LineReply}
+use Rattle.table_text.specs.declared.machine.reply.LineReply.TheVariants as reply
+use Rattle.table_text.specs.Forms.{is_writable}
+
+-- the registers of keys
+abbrev pub IsKeyRegister : ℕ → Type 0
+IsKeyRegister r = (1 ≤ r) × (r ≤ 5)
+
+-- a line with its numbers in their ranges, but for the count: what all domains bind isn't counted beside them
+abbrev pub IsSharedLine : TableLine → Type 0
+IsSharedLine Count = ⊥
+IsSharedLine l = is_writable l ≡ true
+
+-- the slots are keys of three ephemerons, six of each; this register holds that of a slot
+abbrev pub slot_ephe : ℕ → ℕ
+slot_ephe s = slice_index_or (7 ∷ 12 ∷ 13 ∷ []) (s / 6) 0
+
+-- and this key of it is the slot: never the first, which stays empty
+abbrev pub slot_key : ℕ → ℕ
+slot_key s = s % 6 + 1
+
+-- the register into which a line writes; 0 is used between
+abbrev pub written_in : TableLine → ℕ
+written_in (Key r) = r
+written_in (Forget r) = r
+written_in (GetWeak r s) = r
+written_in _ = 0
+
+-- what is written where a block is made: it is there, or the command was refused
+abbrev pub made_said : Reply → LineReply
+made_said given.Full = reply.Full
+made_said _ = reply.Done
+
+-- so many labels and so much room for ephemerons are enough for so many lines: seven and one a line
+abbrev pub HasRoomFor : ℕ → ℕ → ℕ → Type 0
+HasRoomFor lines labels room = (7 * lines ≤ labels) × (lines ≤ room)
+
+-- so many lines took no more: this was left, and this is
+abbrev pub TakesAtMost : ℕ → ℕ → ℕ → ℕ → ℕ → Type 0
+TakesAtMost lines labels left room spare = (labels ≤ left + 7 * lines) × (room ≤ spare + lines)

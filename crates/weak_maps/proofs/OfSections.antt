@@ -1,2 +1,0 @@
-pub mod SectionLemmas
-pub mod SharedLemmas

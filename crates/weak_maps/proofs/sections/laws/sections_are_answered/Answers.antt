@@ -1,5 +1,0 @@
-use Rattle.weak_maps.proofs.OfSections.SharedLemmas.{sections_are_answered as law}
-use Rattle.weak_maps.proofs.sections.laws.sections_are_answered.Goals as goal
-
-pub returns : goal.returns
-returns c = law
