@@ -1,1 +1,1 @@
-mod Commands
+pub mod Laid

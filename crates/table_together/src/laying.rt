@@ -1,12 +1,14 @@
-//! What all domains share, where each finds it: three ephemerons, whose keys are the slots, and a map. Fields of the shared block hold
-//! the ephemerons, and the first of them has the map as its datum.
-ghost use Rattle.std.specs.Prelude.{◌≡◌, ◌<◌, ◌≤◌, ◌+◌, true, ForSome, Some};
+//! What all domains share, where each finds it: three ephemerons, of whose keys all but the first and the last are the slots, and a
+//! map. Fields of the shared block hold the ephemerons, and the map is the last key of the first.
+ghost use Rattle.std.specs.Prelude.{◌≡◌, ◌<◌, ◌≤◌, ◌+◌, true};
 ghost use Rattle.std.specs.List.{AllByRecursion};
+ghost use Rattle.std.specs.Option.{ForSome};
 ghost use Rattle.model_core.specs.declared.command.Command.TheVariants as command;
-ghost use Rattle.model_core.specs.declared.label.Label as labels;
-ghost use Rattle.model_core.specs.declared.reply.Reply.TheVariants as reply;
+ghost use Rattle.model_core.specs.declared.graph.Value.TheVariants as value;
+ghost use Rattle.model_core.specs.declared.reply.Reply.TheVariants as given;
 ghost use Rattle.weak_laws.specs.Maps.Calls.{PerformedBy};
-ghost use Rattle.table_together.specs.Places.{Finds, IsQuiet, LaysOut, MakesEach};
+ghost use Rattle.weak_maps.specs.Beside.{held_by};
+ghost use Rattle.table_together.specs.Places.{Finds, HoldsPlaces, IsQuiet, LaysOut, MakesEach};
 
 use model_core::command::Command;
 use model_core::label::Label;
@@ -28,6 +30,8 @@ const THIRD: u8 = 13;
 // How many keys each ephemeron has.
 const KEYS: u16 = 8;
 
+const LAST_KEY: u16 = 7;
+
 /// The three ephemerons, and the root of the map.
 #[derive(Clone, Copy, PartialEq, Eq)]
 pub(crate) struct Places {
@@ -39,7 +43,7 @@ pub(crate) struct Places {
 
 // The block of a reply that shows one.
 fn block_of(reply: Reply) -> Option<Label>
-    ensures { ForSome result (λ l. reply ≡ reply.Block l) }
+    ensures { ForSome result (λ l. reply ≡ given.Block l) }
 {
     match reply {
         Reply::Block(label) => Some(label),
@@ -58,7 +62,7 @@ fn make_slots<M: Machine, R: Wait>(m: &mut M, rt: &R, dst: u8) -> Option<Label>
     ensures labels { M.labels_left m.old ≤ M.labels_left m.new + 1 }
     ensures room { M.ephes_room m.old ≤ M.ephes_room m.new + 1 }
     ensures made { ForSome result (λ l. PerformedBy (M.sizes m.old) (M.domain m.old) (M.front m.old) (M.front m.new)
-        (command.Ephe dst 8) (reply.Block l)) }
+        (command.Ephe dst 8) (given.Block l)) }
 {
     block_of(perform(m, rt, Command::Ephe { dst, keys: KEYS }))
 }
@@ -72,7 +76,7 @@ fn make_map<M: Machine, R: Wait>(m: &mut M, rt: &R) -> Option<Label>
     ensures labels { M.labels_left m.old ≤ M.labels_left m.new + 1 }
     ensures room { M.ephes_room m.old ≤ M.ephes_room m.new }
     ensures made { ForSome result (λ l. PerformedBy (M.sizes m.old) (M.domain m.old) (M.front m.old) (M.front m.new)
-        (command.Alloc 6 0 512) (reply.Block l)) }
+        (command.Alloc 6 0 512) (given.Block l)) }
 {
     let command = Command::Alloc {
         dst: MAP,
@@ -98,7 +102,9 @@ fn make_each<M: Machine, R: Wait>(m: &mut M, rt: &R, commands: &[Command])
 }
 
 // Loads a field of the shared block.
-const fn load(dst: u8, index: u16) -> Command {
+const fn load(dst: u8, index: u16) -> Command
+    ensures command { result ≡ command.Load dst 0 index }
+{
     Command::Load {
         dst,
         src: SHARED,
@@ -107,12 +113,46 @@ const fn load(dst: u8, index: u16) -> Command {
 }
 
 // Stores what a register holds into a field of the shared block.
-const fn store(index: u16, item: u8) -> Command {
+const fn store(index: u16, item: u8) -> Command
+    ensures command { result ≡ command.Store 0 index item }
+{
     Command::Store {
         block: SHARED,
         index,
         item,
     }
+}
+
+// The block that a register holds.
+fn held<M: Machine>(m: &mut M, register: u8) -> Option<Label>
+    requires few { register < 16 }
+    ensures sizes { M.sizes m.new ≡ M.sizes m.old }
+    ensures domain { M.domain m.new ≡ M.domain m.old }
+    ensures heap { M.heap m.new ≡ M.heap m.old }
+    ensures front { M.front m.new ≡ M.front m.old }
+    ensures labels { M.labels_left m.new ≡ M.labels_left m.old }
+    ensures room { M.ephes_room m.new ≡ M.ephes_room m.old }
+    ensures holds { ForSome result (λ l. held_by (M.sizes m.old) (M.domain m.old) (M.front m.old) register ≡ value.Block l) }
+{
+    block_of(m.show(register))
+}
+
+// What the registers hold, if each holds a block.
+fn places_of<M: Machine>(m: &mut M) -> Option<Places>
+    ensures sizes { M.sizes m.new ≡ M.sizes m.old }
+    ensures domain { M.domain m.new ≡ M.domain m.old }
+    ensures heap { M.heap m.new ≡ M.heap m.old }
+    ensures front { M.front m.new ≡ M.front m.old }
+    ensures labels { M.labels_left m.new ≡ M.labels_left m.old }
+    ensures room { M.ephes_room m.new ≡ M.ephes_room m.old }
+    ensures holds { ForSome result (λ p. HoldsPlaces (M.sizes m.old) p (M.domain m.old) (M.front m.old)) }
+{
+    Some(Places {
+        first: held(m, FIRST)?,
+        second: held(m, SECOND)?,
+        third: held(m, THIRD)?,
+        map: held(m, MAP)?,
+    })
 }
 
 /// Makes the ephemerons and the map, and puts them where all domains find them. None where an allocation is refused.
@@ -126,36 +166,18 @@ pub(crate) fn lay_out<M: Machine, R: Wait>(m: &mut M, rt: &R) -> Option<Places>
     ensures room { M.ephes_room m.old ≤ M.ephes_room m.new + 3 }
     ensures laid { ForSome result (λ p. LaysOut (M.sizes m.old) (M.domain m.old) (M.front m.old) (M.front m.new) p) }
 {
-    let first = make_slots(m, rt, FIRST)?;
-    let second = make_slots(m, rt, SECOND)?;
-    let third = make_slots(m, rt, THIRD)?;
+    make_slots(m, rt, FIRST)?;
+    make_slots(m, rt, SECOND)?;
+    make_slots(m, rt, THIRD)?;
     make_each(m, rt, &[store(0, FIRST), store(1, SECOND), store(2, THIRD)]);
-    let map = make_map(m, rt)?;
-    let share = Command::SetData {
+    make_map(m, rt)?;
+    let share = Command::SetKey {
         ephe: FIRST,
+        index: LAST_KEY,
         item: MAP,
     };
     make_each(m, rt, &[share]);
-    Some(Places {
-        first,
-        second,
-        third,
-        map,
-    })
-}
-
-// Whether a register holds this block.
-fn holds<M: Machine>(m: &mut M, register: u8, label: Label) -> bool
-    requires few { register < 16 }
-    ensures sizes { M.sizes m.new ≡ M.sizes m.old }
-    ensures domain { M.domain m.new ≡ M.domain m.old }
-    ensures heap { M.heap m.new ≡ M.heap m.old }
-    ensures front { M.front m.new ≡ M.front m.old }
-    ensures labels { M.labels_left m.new ≡ M.labels_left m.old }
-    ensures room { M.ephes_room m.new ≡ M.ephes_room m.old }
-    ensures holds { result ≡ true → held_by (M.sizes m.old) (M.domain m.old) (M.front m.old) register ≡ value.Block label }
-{
-    m.show(register) == Reply::Block(label)
+    places_of(m)
 }
 
 /// Loads the ephemerons and the map. Answers whether they are these.
@@ -167,17 +189,15 @@ pub(crate) fn find<M: Machine, R: Wait>(m: &mut M, rt: &R, places: Places) -> bo
     ensures room { M.ephes_room m.old ≤ M.ephes_room m.new }
     ensures found { result ≡ true → Finds (M.sizes m.old) (M.domain m.old) (M.front m.old) (M.front m.new) places }
 {
-    let find_map = Command::GetData {
+    let find_map = Command::GetKey {
         dst: MAP,
         ephe: FIRST,
+        index: LAST_KEY,
     };
     make_each(
         m,
         rt,
         &[load(FIRST, 0), load(SECOND, 1), load(THIRD, 2), find_map],
     );
-    holds(m, FIRST, places.first)
-        && holds(m, SECOND, places.second)
-        && holds(m, THIRD, places.third)
-        && holds(m, MAP, places.map)
+    places_of(m) == Some(places)
 }
