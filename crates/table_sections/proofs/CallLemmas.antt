@@ -22,7 +22,7 @@ use Rattle.weak_maps.specs.Returns.{GetReturns, GetsAt, TakeReturns, TakesAt}
 use Rattle.weak_maps.specs.Walks.{OwnQuiet}
 use Rattle.weak_maps.proofs.GuardLemmas.{guards_quiet}
 use Rattle.table_sections.specs.Sections.{LineDone, MakesNone}
-use Rattle.table_sections.proofs.LineLemmas.{line_done, not_between}
+use Rattle.table_sections.proofs.LineLemmas.{line_done}
 
 -- how many blocks a domain has made, by how many labels it has left: none was made where none was given out
 pub none_made : (serial left now left_now : ℕ) → serial + left ≡ 4294967295 → now + left_now ≡ 4294967295 → left_now ≡ left → now ≡ serial
@@ -51,9 +51,9 @@ module _ (z : Sizes) (d : ℕ) (old new : List Entry) (r : ℕ) (answer : Reply)
   pub get_done : OwnQuiet z d old new → GetsAt z d old new 0 6 r answer → LineDone z d old (line_of.Get r) (said answer) new
   get_done quiet gets =
       line_done z d old new (line_of.Get r) (said answer) grows (λ root on. guards_quiet z root d old old new quiet) (none, quiet)
-      (λ root on others. let y = get_parts z d old new root (held_by z d old r) answer (gets root on.holds on.map others) in ((answer, y.0, refl), (λ i between beside other. y.1 i between beside))) not_between
+      (λ root on others. let y = get_parts z d old new root (held_by z d old r) answer (gets root on.holds on.map others) in ((answer, y.0, refl), (λ i between beside other. y.1 i between beside))) (omega arith)
 
   pub delete_done : TakeGuards z d old new 6 → TakesAt z d old new 6 r answer → LineDone z d old (line_of.Del r) (said answer) new
   delete_done guards takes =
       line_done z d old new (line_of.Del r) (said answer) grows (λ root on. guards root on.holds on.map) none
-      (λ root on others. let y = take_parts z d old new root (held_by z d old r) answer (takes root on.holds on.map others) in ((answer, y.0, refl), (λ i between beside other. y.1 i beside))) not_between
+      (λ root on others. let y = take_parts z d old new root (held_by z d old r) answer (takes root on.holds on.map others) in ((answer, y.0, refl), (λ i between beside other. y.1 i beside))) (omega arith)

@@ -1,11 +1,12 @@
 -- The lines of one command: each guards the map, and keeps what register 6 holds.
-use Rattle.std.proofs.Common.{◌≡◌, ◌≢◌, ⊎_elim, ℕ, ◌+◌, ◌≤◌, List, ◌++◌, refl, ◌∙◌, arith}
+use Rattle.std.proofs.Common.{◌≡◌, ◌≢◌, ⊎_elim, ℕ, ◌+◌, ◌<◌, ◌≤◌, List, ◌++◌, refl, ◌∙◌, arith}
 use Rattle.model_core.specs.declared.label.Label.{Label}
 use Rattle.model_core.specs.declared.command.Command.TheVariants.{Alloc, Forget, FullMajor, GetKey, SetKey}
 use Rattle.model_core.specs.declared.entry.Entry.{Entry}
 use Rattle.model_core.specs.declared.graph.Value.TheVariants.{Nothing}
 use Rattle.model_core.specs.declared.reply.Reply.{Reply}
 use Rattle.model_core.specs.declared.state.Sizes.{Sizes}
+use Rattle.model_core.specs.Domains.{IsWithinLimits}
 use Rattle.table_text.specs.declared.line.TableLine.TheVariants as line_of
 use Rattle.table_text.specs.declared.machine.reply.LineReply.{LineReply}
 use Rattle.table_text.specs.declared.machine.reply.LineReply.TheVariants as reply
@@ -23,10 +24,12 @@ use Rattle.weak_maps.proofs.FreshLemmas.{makes_on, reads_on}
 use Rattle.weak_maps.proofs.GetLemmas.{grows_by}
 use Rattle.weak_maps.proofs.GuardLemmas.{guards_quiet, guards_since, quiet_by, quiet_forget, quiet_twice}
 use Rattle.weak_maps.proofs.OfShared.CommandLemmas.{later_key_respects}
-use Rattle.table_sections.specs.Lines.{IsKeyRegister, made_said, slot_ephe, slot_key}
+use Rattle.table_sections.specs.Lines.{IsKeyRegister, made_said}
+use Rattle.table_sections.specs.Slots.{slot_ephe, slot_key}
 use Rattle.table_sections.specs.Sections.{KeepsBut, LineDone, SectionGuards}
-use Rattle.table_sections.proofs.LineLemmas.{line_done, not_between, not_six}
+use Rattle.table_sections.proofs.LineLemmas.{line_done}
 use Rattle.table_sections.proofs.RegisterLemmas.{collect_keeps, get_key_keeps, set_key_keeps}
+use Rattle.table_sections.proofs.SlotLemmas.{slot_gets, slot_sets}
 
 -- a new key
 module _ (z : Sizes) (d : ℕ) (old new : List Entry) (r : ℕ) (answer : Reply) (small : IsKeyRegister r) (p : PerformedBy z d old new (Alloc r 0 1) answer) where
@@ -41,7 +44,7 @@ module _ (z : Sizes) (d : ℕ) (old new : List Entry) (r : ℕ) (answer : Reply)
   pub key_done : (a : LineReply) → a ≡ made_said answer → LineDone z d old (line_of.Key r) a new
   key_done a is =
       line_done z d old new (line_of.Key r) a (grows_by z d old new (Alloc r 0 1) answer p) key_guards
-      (record { reply = answer; performed = p; written = is }) (λ root on others. (tt, key_keeps)) (not_six r small)
+      (record { reply = answer; performed = p; written = is }) (λ root on others. (tt, key_keeps)) small.1
 
 -- a register that holds nothing
 module _ (z : Sizes) (d : ℕ) (old new : List Entry) (r : ℕ) (answer : Reply) (small : IsKeyRegister r) (p : PerformedBy z d old new (Forget r) answer) where
@@ -49,10 +52,10 @@ module _ (z : Sizes) (d : ℕ) (old new : List Entry) (r : ℕ) (answer : Reply)
   forget_done a is =
       line_done z d old new (line_of.Forget r) a (grows_by z d old new (Forget r) answer p) (λ root on. guards_quiet z root d old old new (quiet_forget z d old new r answer p))
       (record { reply = answer; performed = p; written = is })
-      (λ root on others. (tt, (λ i between beside other. set_other z d old new r Nothing (forget_step z d old new answer r p).1 i other))) (not_six r small)
+      (λ root on others. (tt, (λ i between beside other. set_other z d old new r Nothing (forget_step z d old new answer r p).1 i other))) small.1
 
 -- a slot that is set
-module _ (z : Sizes) (d : ℕ) (old new : List Entry) (s r : ℕ) (answer : Reply) (p : PerformedBy z d old new (SetKey (slot_ephe s) (slot_key s) r) answer) where
+module _ (z : Sizes) (d : ℕ) (old new : List Entry) (s r : ℕ) (few : s < 16) (answer : Reply) (p : PerformedBy z d old new (SetKey (slot_ephe s) (slot_key s) r) answer) where
   set_guards : SectionGuards z d old new
   set_guards root on =
       guards_since z root d old old new (SetKey (slot_ephe s) (slot_key s) r) answer p (prefix_same old)
@@ -63,15 +66,17 @@ module _ (z : Sizes) (d : ℕ) (old new : List Entry) (s r : ℕ) (answer : Repl
   pub set_done : (a : LineReply) → a ≡ said answer → LineDone z d old (line_of.SetWeak s r) a new
   set_done a is =
       line_done z d old new (line_of.SetWeak s r) a (grows_by z d old new (SetKey (slot_ephe s) (slot_key s) r) answer p) set_guards
-      (record { reply = answer; performed = p; written = is }) (λ root on others. (tt, (λ i between beside other. set_key_keeps z d old new answer (slot_ephe s) (slot_key s) r p i))) not_between
+      (record { reply = answer; performed = p; written = is })
+      (λ root on others. ((λ slots. slot_sets z d old new s few slots r answer a p is (held_by z d old r) refl), (λ i between beside other. set_key_keeps z d old new answer (slot_ephe s) (slot_key s) r p i))) (omega arith)
 
 -- a slot that is read
-module _ (z : Sizes) (d : ℕ) (old new : List Entry) (r s : ℕ) (answer : Reply) (small : IsKeyRegister r) (p : PerformedBy z d old new (GetKey r (slot_ephe s) (slot_key s)) answer) where
+module _ (z : Sizes) (limits : IsWithinLimits z) (d : ℕ) (old new : List Entry) (r s : ℕ) (few : s < 16) (answer : Reply) (small : IsKeyRegister r) (p : PerformedBy z d old new (GetKey r (slot_ephe s) (slot_key s)) answer) where
   pub get_slot_done : (a : LineReply) → a ≡ said answer → LineDone z d old (line_of.GetWeak r s) a new
   get_slot_done a is =
       line_done z d old new (line_of.GetWeak r s) a (grows_by z d old new (GetKey r (slot_ephe s) (slot_key s)) answer p)
       (λ root on. guards_quiet z root d old old new (quiet_by z d old new (GetKey r (slot_ephe s) (slot_key s)) answer p (λ t. refl) refl))
-      (record { reply = answer; performed = p; written = is }) (λ root on others. (tt, (λ i between beside other. get_key_keeps z d old new answer r (slot_ephe s) (slot_key s) p i other))) (not_six r small)
+      (record { reply = answer; performed = p; written = is })
+      (λ root on others. ((λ slots. let high = small.1 in slot_gets z d old new s few slots r answer a limits (omega (arith, high)) p is), (λ i between beside other. get_key_keeps z d old new answer r (slot_ephe s) (slot_key s) p i other))) small.1
 
 -- a complete collection
 module _ (z : Sizes) (d : ℕ) (old mid new : List Entry) (emptied live : Reply) (first : PerformedBy z d old mid (Forget 0) emptied) (last : PerformedBy z d mid new FullMajor live) where
@@ -81,4 +86,4 @@ module _ (z : Sizes) (d : ℕ) (old mid new : List Entry) (emptied live : Reply)
       line_done z d old new line_of.FullMajor a (prefix_trans old mid new (grows_by z d old mid (Forget 0) emptied first) later)
       (λ root on. guards_quiet z root d old old new (quiet_twice z d old mid new later (quiet_forget z d old mid 0 emptied first) (quiet_by z d mid new FullMajor live last (λ t. refl) refl)))
       (record { front = mid; emptied = emptied; empties = first; live = live; collects = last; written = is })
-      (λ root on others. (tt, (λ i between beside other. collect_keeps z d mid new live last i ∙ set_other z d old mid 0 Nothing (forget_step z d old mid emptied 0 first).1 i between))) not_between
+      (λ root on others. (tt, (λ i between beside other. collect_keeps z d mid new live last i ∙ set_other z d old mid 0 Nothing (forget_step z d old mid emptied 0 first).1 i between))) (omega arith)

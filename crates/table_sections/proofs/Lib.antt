@@ -1,4 +1,5 @@
 pub mod RegisterLemmas
+pub mod SlotLemmas
 pub mod LineLemmas
 pub mod CommandLemmas
 pub mod CallLemmas

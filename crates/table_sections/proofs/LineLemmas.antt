@@ -15,12 +15,14 @@ use Rattle.weak_laws.specs.Maps.Steps.{AllRespect, OthersRespect}
 use Rattle.weak_laws.proofs.OfMaps.FrontLemmas.{prefix_before, prefix_same}
 use Rattle.weak_laws.proofs.OfMaps.RespectLemmas.{map_after, respect_both}
 use Rattle.weak_maps.specs.Beside.{held_by}
+use Rattle.weak_maps.specs.Fields.{IsBeside}
 use Rattle.weak_maps.specs.Guards.{Guards}
 use Rattle.weak_maps.proofs.BesideLemmas.{low_beside}
 use Rattle.weak_maps.proofs.PlaceLemmas.{place_after}
 use Rattle.weak_maps.proofs.StayLemmas.{respects_within}
 use Rattle.table_sections.specs.Lines.{IsKeyRegister, written_in}
 use Rattle.table_sections.specs.Sections.{KeepsBut, LineAnswers, LineDone, LineMakes, OnMap, SectionGuards}
+use Rattle.table_sections.proofs.SlotLemmas.{slots_stay}
 
 module _ (z : Sizes) (root : Label) (d : ℕ) (old new : List Entry) where
   -- where a stretch guards the map, and others respect it, all do
@@ -31,10 +33,14 @@ module _ (z : Sizes) (root : Label) (d : ℕ) (old new : List Entry) where
   pub on_after : IsPrefix old new → AllRespect z root old new → held_by z d new 6 ≡ held_by z d old 6 → OnMap z root d old → OnMap z root d new
   on_after grows all same on = record { holds = same ∙ on.holds; map = map_after z root old new grows all on.map; placed = place_after z root old new grows all on.map on.placed }
 
+-- a register above those that a put or a take uses
+high_beside : (r : ℕ) → 11 < r → IsBeside r
+high_beside r high = ((λ e. absurd (omega (arith, high, e))), (λ e. absurd (omega (arith, high, e))), (λ e. absurd (omega (arith, high, e))), (λ e. absurd (omega (arith, high, e))))
+
 -- a line by what it does, and by what it answers and keeps on a map
 pub line_done : (z : Sizes) (d : ℕ) (old new : List Entry) (line : TableLine) (a : LineReply) → IsPrefix old new → SectionGuards z d old new → LineMakes z d old line a new
-    → ((root : Label) → OnMap z root d old → OthersRespect z root d old new → LineAnswers z root d old line a new × KeepsBut z d old new (written_in line)) → 6 ≢ written_in line → LineDone z d old line a new
-line_done z d old new line a grows guards makes on_map other = record {
+    → ((root : Label) → OnMap z root d old → OthersRespect z root d old new → LineAnswers z root d old line a new × KeepsBut z d old new (written_in line)) → written_in line ≤ 5 → LineDone z d old line a new
+line_done z d old new line a grows guards makes on_map low = record {
   guards = guards;
   runs = record {
     grows = grows;
@@ -44,17 +50,14 @@ line_done z d old new line a grows guards makes on_map other = record {
       makes = makes;
       answers = x.0;
       keeps = x.1;
-      after = on_after z root d old new grows (guarded_all z root d old new (guards root on) others) (x.1 6 (λ e. absurd (omega (arith, e))) (low_beside 6 (omega arith)) other) on;
+      after = on_after z root d old new grows (guarded_all z root d old new (guards root on) others) (x.1 6 (λ e. absurd (omega (arith, e))) (low_beside 6 (omega arith)) (λ e. absurd (omega (arith, low, e)))) on;
+      slots = slots_stay z d old new grows
+          (x.1 7 (λ e. absurd (omega (arith, e))) (low_beside 7 (omega arith)) (λ e. absurd (omega (arith, low, e))))
+          (x.1 12 (λ e. absurd (omega (arith, e))) (high_beside 12 (omega arith)) (λ e. absurd (omega (arith, low, e))))
+          (x.1 13 (λ e. absurd (omega (arith, e))) (high_beside 13 (omega arith)) (λ e. absurd (omega (arith, low, e))));
     };
   };
 }
-
--- register 6 is none of a key
-pub not_six : (r : ℕ) → IsKeyRegister r → 6 ≢ r
-not_six r small is = let high = small.1 in absurd (omega (arith, high, is))
-
-pub not_between : 6 ≢ 0
-not_between is = absurd (omega (arith, is))
 
 -- an integer of a line is one that a word of 64 bits holds
 small_value : (v : ℤ) → int_le (neg_ℤ (pos 4611686018427387904)) v && int_le v (pos 4611686018427387903) ≡ true → SFits w64 v
@@ -63,3 +66,10 @@ small_value (negsuc n) e = record { sfits = (let small : n < 2 ^ 63 = grind (ari
 
 pub value_held : (r : ℕ) (v : ℤ) → is_writable (Put r v) ≡ true → to_z w64 (of_z w64 v) ≡ v
 value_held r v e = to_z-of_z (small_value v (and_parts _ _ (and_parts _ _ e).1).0)
+
+-- a put's register is one of a key
+register_of : (r : ℕ) → int_le (pos 1) (pos r) && int_le (pos r) (pos 5) ≡ true → IsKeyRegister r
+register_of r e = (grind (arith, ints, nat_tests), grind (arith, ints, nat_tests))
+
+pub key_of : (r : ℕ) (v : ℤ) → is_writable (Put r v) ≡ true → IsKeyRegister r
+key_of r v e = register_of r (and_parts _ _ e).0

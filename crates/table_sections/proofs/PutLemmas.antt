@@ -29,7 +29,7 @@ use Rattle.weak_maps.proofs.GuardLemmas.{guards_later, guards_quiet, guards_then
 use Rattle.weak_maps.proofs.StayLemmas.{quiet_looks, respects_within}
 use Rattle.table_sections.specs.Lines.{IsKeyRegister}
 use Rattle.table_sections.specs.Sections.{LineDone, OnMap, PutMakes, PutRefused, PutsInteger, SectionGuards}
-use Rattle.table_sections.proofs.LineLemmas.{guarded_all, line_done, not_between, on_after}
+use Rattle.table_sections.proofs.LineLemmas.{guarded_all, line_done, on_after}
 
 -- how many labels a put takes at most
 pub put_labels : (labels left refused now : ℕ) (r : Reply) → PutCounts labels left refused now r → labels ≤ left + 7
@@ -40,9 +40,9 @@ put_labels labels left refused now r x = absurd x
 
 -- so many labels are so many blocks
 pub put_counts : (labels left refused now made made_now : ℕ) (r : Reply) → made + labels ≡ 4294967295 → made_now + left ≡ 4294967295 → PutCounts labels left refused now r → PutCounts made_now made refused now r
-put_counts labels left refused now made made_now given.Done first last x = let low = x.1 in let high = x.2 in (x.0, (omega (arith, first, last, low), omega (arith, first, last, high)))
+put_counts labels left refused now made made_now given.Done first last x = let low = x.1 in let high = x.2 in (x.0, omega (arith, first, last, low), omega (arith, first, last, high))
 put_counts labels left refused now made made_now given.Full first last x =
-    ⊎_elim (λ y. let low = y.1 in let high = y.2 in inl (y.0, (omega (arith, first, last, low), omega (arith, first, last, high)))) (λ y. let all = y.1 in inr (y.0, omega (arith, first, last, all))) x
+    ⊎_elim (λ y. let low = y.1 in let high = y.2 in inl (y.0, omega (arith, first, last, low), omega (arith, first, last, high))) (λ y. let all = y.1 in inr (y.0, omega (arith, first, last, all))) x
 put_counts labels left refused now made made_now given.BadType first last x = let same = x.1 in (x.0, omega (arith, first, last, same))
 put_counts labels left refused now made made_now r first last x = absurd x
 
@@ -119,4 +119,4 @@ module _ (z : Sizes) (limits : IsWithinLimits z) (d : ℕ) (old mid new : List E
       let x : PutReturns z d mid new root (held_by z d old r) (Int v) answer = subst (λ (w : Value × Value). PutReturns z d mid new root w.0 w.1 answer) (λ i. (key i, value i)) (puts root there.holds there.map there.placed tail) in (
         (answer, puts_integer root tail there crowded alone (held_by z d old r) key x, refl),
         (λ i between beside other. put_keeps z d mid new root (held_by z d old r) v answer x i beside ∙ others_kept i between),
-      )) not_between
+      )) (omega arith)

@@ -10,13 +10,15 @@ use Rattle.model_core.specs.declared.graph.Node.TheVariants.{Ephe, Plain, Raw}
 use Rattle.model_core.specs.declared.graph.Value.{Value}
 use Rattle.model_core.specs.declared.graph.Value.TheVariants.{Nothing}
 use Rattle.model_core.specs.declared.reply.Reply.{Reply}
+use Rattle.model_core.specs.declared.reply.Applied.TheVariants.{Replied}
 use Rattle.model_core.specs.declared.state.DomainState.{DomainState}
 use Rattle.model_core.specs.declared.state.Sizes.{Sizes}
 use Rattle.model_core.specs.declared.state.State.{State}
 use Rattle.model_core.specs.Commands.{Outcome, at_ephe, block_in, in_bounds, is_allocation, key_set, key_stored, key_value, outcome, read_into}
 use Rattle.model_core.specs.Domains.{domain_at, label_in, register}
-use Rattle.model_core.specs.Entries.{next}
+use Rattle.model_core.specs.Entries.{next, reply as reply_of}
 use Rattle.model_core.proofs.Commands.FrameLemmas.{part_set}
+use Rattle.weak_laws.specs.Tables.Stages.{graph_of}
 use Rattle.weak_laws.specs.Tables.Thinning.{state_of}
 use Rattle.weak_laws.specs.Maps.Calls.{PerformedBy}
 use Rattle.weak_laws.proofs.OfMaps.CallLemmas.{registers_kept}
@@ -24,14 +26,31 @@ use Rattle.weak_maps.specs.Beside.{held_by}
 use Rattle.weak_maps.proofs.BesideLemmas.{left_is}
 use Rattle.weak_maps.proofs.CountLemmas.{not_refused}
 
--- a command that is no allocation leaves of a register what its outcome does
-register_left : (z : Sizes) (d : ℕ) (old new : List Entry) (c : Command) (r : Reply) (p : PerformedBy z d old new c r) → is_allocation c ≡ false → (i : ℕ)
-    → register (outcome (state_of z (old ++ p.between)) d c).state d i ≡ register (state_of z (old ++ p.between)) d i → held_by z d new i ≡ held_by z d old i
-register_left z d old new c r p none i same =
-    let s : State = state_of z (old ++ p.between) in
-    let here : state_of z new ≡ next s (CommandOf d c false) = left_is z d old new c r p ∙ ap (λ (b : Bool). next s (CommandOf d c b)) (not_refused z d old new c r p none) in
-    ap (λ (t : State). register t d i) here ∙ (part_set (λ (x : DomainState). get_or x.registers i Nothing) (outcome s d c).state.domains d _ refl d
-    ∙ (same ∙ ap (λ (rs : List Value). get_or rs i Nothing) (registers_kept z d old new c r p)))
+-- a command that is no allocation leaves the graph and the registers of its outcome, and is answered so
+module _ (z : Sizes) (d : ℕ) (old new : List Entry) (c : Command) (r : Reply) (p : PerformedBy z d old new c r) (none : is_allocation c ≡ false) where
+  abbrev pub here : State
+  here = state_of z (old ++ p.between)
+
+  after : state_of z new ≡ next here (CommandOf d c false)
+  after = left_is z d old new c r p ∙ ap (λ (b : Bool). next here (CommandOf d c b)) (not_refused z d old new c r p none)
+
+  pub graph_after : graph_of z new ≡ (outcome here d c).state.graph
+  graph_after = ap (λ (t : State). t.graph) after
+
+  pub register_after : (i : ℕ) → held_by z d new i ≡ register (outcome here d c).state d i
+  register_after i = ap (λ (t : State). register t d i) after ∙ part_set (λ (x : DomainState). get_or x.registers i Nothing) (outcome here d c).state.domains d _ refl d
+
+  pub register_before : (i : ℕ) → register here d i ≡ held_by z d old i
+  register_before i = ap (λ (rs : List Value). get_or rs i Nothing) (registers_kept z d old new c r p)
+
+  pub answer_after : r ≡ (outcome here d c).reply
+  answer_after =
+      let is : Replied r ≡ Replied (outcome here d c).reply = sym p.replies ∙ ap (λ (b : Bool). reply_of here (CommandOf d c b)) (not_refused z d old new c r p none) in
+      cc
+
+  -- so a register that the outcome leaves is as it was
+  register_left : (i : ℕ) → register (outcome here d c).state d i ≡ register here d i → held_by z d new i ≡ held_by z d old i
+  register_left i same = register_after i ∙ (same ∙ register_before i)
 
 module _ (s : State) (d : ℕ) where
   -- to set a key writes no register

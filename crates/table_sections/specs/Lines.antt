@@ -1,5 +1,5 @@
--- The lines that a section may have, where its slots are, and what it takes.
-use Rattle.std.specs.Prelude.{◌≡◌, ℕ, ◌+◌, ◌*◌, ◌/◌, ◌%◌, ◌≤◌, true, [], ◌∷◌, slice_index_or}
+-- The lines that a section may have, and what they take.
+use Rattle.std.specs.Prelude.{◌≡◌, ℕ, ◌+◌, ◌*◌, ◌≤◌, true}
 use Rattle.model_core.specs.declared.reply.Reply.{Reply}
 use Rattle.model_core.specs.declared.reply.Reply.TheVariants as given
 use Rattle.table_text.specs.declared.line.TableLine.{TableLine}
@@ -16,14 +16,6 @@ IsKeyRegister r = (1 ≤ r) × (r ≤ 5)
 abbrev pub IsSharedLine : TableLine → Type 0
 IsSharedLine Count = ⊥
 IsSharedLine l = is_writable l ≡ true
-
--- the slots are keys of three ephemerons, six of each; this register holds that of a slot
-abbrev pub slot_ephe : ℕ → ℕ
-slot_ephe s = slice_index_or (7 ∷ 12 ∷ 13 ∷ []) (s / 6) 0
-
--- and this key of it is the slot: never the first, which stays empty
-abbrev pub slot_key : ℕ → ℕ
-slot_key s = s % 6 + 1
 
 -- the register into which a line writes; 0 is used between
 abbrev pub written_in : TableLine → ℕ

@@ -25,7 +25,8 @@ use Rattle.weak_maps.specs.Fields.{IsBeside}
 use Rattle.weak_maps.specs.Guards.{Guards}
 use Rattle.weak_maps.specs.Shared.Sharing.{IsShared, OwnGuarded}
 use Rattle.weak_maps.specs.Walks.{OwnQuiet}
-use Rattle.table_sections.specs.Lines.{made_said, slot_ephe, slot_key, written_in}
+use Rattle.table_sections.specs.Lines.{made_said, written_in}
+use Rattle.table_sections.specs.Slots.{OnSlots, SlotGets, SlotSets, slot_ephe, slot_key}
 
 -- register 6 of the domain holds a map, each leaf of which is on its key's way
 pub record OnMap (z : Sizes) (root : Label) (d : ℕ) (h : List Entry) : Type 0 where
@@ -90,24 +91,27 @@ PutsInteger z root d old new key v r = (r ≡ given.BadType) × OwnQuiet z d old
 abbrev pub OfCall : (Reply → Type 0) → LineReply → Type 0
 OfCall answers a = (r : Reply) × answers r × (a ≡ said r)
 
--- what a line answers of a map that register 6 holds
+-- what a line answers of a map that register 6 holds, and of the slots, where their registers hold them
 abbrev pub LineAnswers : Sizes → Label → ℕ → List Entry → TableLine → LineReply → List Entry → Type 0
 LineAnswers z root d old (Put r v) a new = OfCall (PutsInteger z root d old new (held_by z d old r) v) a
 LineAnswers z root d old (Get r) a new = OfCall (GetAnswers z root d old new (held_by z d old r)) a
 LineAnswers z root d old (Del r) a new = OfCall (TakeAnswers z root d old new (held_by z d old r)) a
+LineAnswers z root d old (SetWeak s r) a new = OnSlots z d old → SlotSets z d old new s (held_by z d old r) a
+LineAnswers z root d old (GetWeak r s) a new = OnSlots z d old → SlotGets z d old new s r a
 LineAnswers z root d old _ a new = Unit {0}
 
 -- the domain's registers are as they were, but for one, and those that are used between
 abbrev pub KeepsBut : Sizes → ℕ → List Entry → List Entry → ℕ → Type 0
 KeepsBut z d old new r = (i : ℕ) → i ≢ 0 → IsBeside i → i ≢ r → held_by z d new i ≡ held_by z d old i
 
--- a line is answered between two fronts, and the map is in its register still
+-- a line is answered between two fronts, and the map is in its register still, and the slots in theirs
 pub record LineBeside (z : Sizes) (root : Label) (d : ℕ) (old : List Entry) (line : TableLine) (a : LineReply) (new : List Entry) : Type 0 where
   pub grows : IsPrefix old new
   pub makes : LineMakes z d old line a new
   pub answers : LineAnswers z root d old line a new
   pub keeps : KeepsBut z d old new (written_in line)
   pub after : OnMap z root d new
+  pub slots : OnSlots z d old → OnSlots z d new
 
 -- a line, whatever register 6 holds; and where that is a map that others respect, on it
 pub record LineRuns (z : Sizes) (d : ℕ) (old : List Entry) (line : TableLine) (a : LineReply) (new : List Entry) : Type 0 where
@@ -118,13 +122,13 @@ pub record LineRuns (z : Sizes) (d : ℕ) (old : List Entry) (line : TableLine) 
 -- all lines, one after the other: each has its reply
 abbrev pub SectionRuns : Sizes → ℕ → List Entry → List TableLine → List LineReply → List Entry → Type 0
 SectionRuns z d old [] [] new = new ≡ old
-SectionRuns z d old (l ∷ ls) (a ∷ as) new = (mid : List Entry) × LineRuns z d old l a mid × SectionRuns z d mid ls as new
+SectionRuns z d old (l ∷ ls) (a ∷ rs) new = (mid : List Entry) × LineRuns z d old l a mid × SectionRuns z d mid ls rs new
 SectionRuns z d old _ _ new = ⊥
 
 -- and on a map
 abbrev pub SectionBeside : Sizes → Label → ℕ → List Entry → List TableLine → List LineReply → List Entry → Type 0
 SectionBeside z root d old [] [] new = new ≡ old
-SectionBeside z root d old (l ∷ ls) (a ∷ as) new = (mid : List Entry) × LineBeside z root d old l a mid × SectionBeside z root d mid ls as new
+SectionBeside z root d old (l ∷ ls) (a ∷ rs) new = (mid : List Entry) × LineBeside z root d old l a mid × SectionBeside z root d mid ls rs new
 SectionBeside z root d old _ _ new = ⊥
 
 -- a line, or all lines of a section, from one front to another: it guards the map, and each line has its reply

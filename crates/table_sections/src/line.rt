@@ -77,6 +77,7 @@ fn put<M: Machine, R: Wait>(m: &mut M, rt: &R, reg: u8, value: i64) -> LineReply
             value,
         },
     );
+    m.stands();
     let reply = map_put(m, rt, MAP, reg, BETWEEN);
     m.stands();
     said(&reply)
@@ -144,6 +145,7 @@ fn get_slot<M: Machine, R: Wait>(m: &mut M, rt: &R, dst: u8, slot: u8) -> LineRe
     ensures takes { TakesAtMost 1 (M.labels_left m.old) (M.labels_left m.new) (M.ephes_room m.old) (M.ephes_room m.new) }
     ensures done { LineDone (M.sizes m.old) (M.domain m.old) (M.front m.old) (line_of.GetWeak dst slot) result (M.front m.new) }
 {
+    m.stands();
     let key = perform(
         m,
         rt,

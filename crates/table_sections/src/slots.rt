@@ -1,6 +1,6 @@
 // Where the slots are.
 ghost use Rattle.std.specs.Prelude.{◌≡◌, ◌<◌};
-ghost use Rattle.table_sections.specs.Lines.{slot_ephe as slot_ephe_of, slot_key as slot_key_of};
+ghost use Rattle.table_sections.specs.Slots.{slot_ephe as slot_ephe_of, slot_key as slot_key_of};
 
 // The registers of the ephemerons that hold them.
 const EPHEMERONS: [u8; 3] = [7, 12, 13];

@@ -1,0 +1,66 @@
+-- The slots: keys of three ephemerons, which registers of each domain hold.
+use Rattle.std.specs.Prelude.{◌≡◌, ℕ, ◌+◌, ◌/◌, ◌%◌, List, [], ◌∷◌, length, slice_get, slice_index_or, Option, Some}
+use Rattle.model_core.specs.declared.label.Label.{Label}
+use Rattle.model_core.specs.declared.entry.Entry.{Entry}
+use Rattle.model_core.specs.declared.graph.Node.{Node}
+use Rattle.model_core.specs.declared.graph.Node.TheVariants.{Ephe}
+use Rattle.model_core.specs.declared.graph.Value.{Value}
+use Rattle.model_core.specs.declared.graph.Value.TheVariants.{Block}
+use Rattle.model_core.specs.declared.state.Sizes.{Sizes}
+use Rattle.model_core.specs.Commands.{block_in, key_value, shown}
+use Rattle.model_core.specs.Graph.{node_at}
+use Rattle.model_core.specs.History.{IsPrefix}
+use Rattle.table_text.specs.declared.machine.reply.LineReply.{LineReply}
+use Rattle.table_text.specs.declared.machine.reply.LineReply.TheVariants as reply
+use Rattle.table_text.specs.Machine.Said.{said}
+use Rattle.weak_laws.specs.Tables.Stages.{graph_of}
+use Rattle.weak_laws.specs.Tables.Thinning.{state_of}
+use Rattle.weak_maps.specs.Beside.{held_by}
+use Rattle.weak_maps.specs.Walks.{OwnQuiet}
+
+-- six slots are keys of each; this register holds the ephemeron of a slot
+abbrev pub slot_ephe : ℕ → ℕ
+slot_ephe s = slice_index_or (7 ∷ 12 ∷ 13 ∷ []) (s / 6) 0
+
+-- and this key of it is the slot: never the first, which stays empty
+abbrev pub slot_key : ℕ → ℕ
+slot_key s = s % 6 + 1
+
+-- a register holds an ephemeron of eight keys
+pub record HoldsEight (z : Sizes) (d : ℕ) (h : List Entry) (r : ℕ) : Type 0 where
+  pub l : Label
+  pub held : held_by z d h r ≡ Block l
+  pub keys : List (Option Label)
+  pub datum : Value
+  pub node : node_at (graph_of z h) l ≡ Some (Ephe keys datum)
+  pub eight : length keys ≡ 8
+
+-- the registers of the slots hold such ephemerons
+pub record OnSlots (z : Sizes) (d : ℕ) (h : List Entry) : Type 0 where
+  pub first : HoldsEight z d h 7
+  pub second : HoldsEight z d h 12
+  pub third : HoldsEight z d h 13
+
+-- the keys of an ephemeron
+abbrev pub keys_in : Option (Label × Node) → List (Option Label)
+keys_in (Some (l, Ephe keys datum)) = keys
+keys_in _ = []
+
+-- what a slot holds after a history: a key, or none
+abbrev pub slot_after : Sizes → ℕ → List Entry → ℕ → Option (Option Label)
+slot_after z d h s = slice_get (keys_in (block_in (state_of z h) d (slot_ephe s))) (slot_key s)
+
+-- a slot that is set, by what the register of the key holds: `type` exactly where it is no label, and then no block is changed
+abbrev pub SlotSets : Sizes → ℕ → List Entry → List Entry → ℕ → Value → LineReply → Type 0
+SlotSets z d old new s (Block k) a = (a ≡ reply.Done) × (slot_after z d new s ≡ Some (Some k))
+SlotSets z d old new s v a = (a ≡ reply.BadType) × OwnQuiet z d old new
+
+-- a slot that is read: at a front it held the key that the register holds afterwards, or none
+pub record SlotGets (z : Sizes) (d : ℕ) (old new : List Entry) (s r : ℕ) (a : LineReply) : Type 0 where
+  pub front : List Entry
+  pub since : IsPrefix old front
+  pub until : IsPrefix front new
+  pub key : Option Label
+  pub held : slot_after z d front s ≡ Some key
+  pub answers : a ≡ said (shown (key_value key))
+  pub holds : held_by z d new r ≡ key_value key
