@@ -1,7 +1,8 @@
 -- What the commands of the preparation leave: which commands they are, that they guard the map, and what the registers hold.
-use Rattle.std.proofs.Common.{◌≡◌, inl, inr, ⊎_elim, ℕ, ◌≤◌, ◌<◌, Bool, true, false, cond, List, [], ◌∷◌, ◌++◌, get_or, slice_get, Option, Some, None, IsTrue, refl, ap, sym, ◌∙◌, subst, arith, eq-eqb, append-nil, append_assoc}
-use Rattle.std.specs.Prelude.{filter_map}
+use Rattle.std.proofs.Common.{◌≡◌, inl, inr, ⊎_elim, ℕ, zero, suc, ◌≤◌, ◌<◌, Bool, true, false, cond, List, [], ◌∷◌, ◌++◌, get_or, slice_get, Option, Some, None, IsTrue, refl, ap, sym, ◌∙◌, subst, arith, rules, eq-eqb, append-nil, append_assoc}
+use Rattle.std.specs.Prelude.{◌||◌, filter_map}
 use Rattle.std.specs.List.{AllByRecursion}
+use Rattle.std.specs.Option.{option_eq}
 use Rattle.model_core.specs.declared.command.Command.{Command}
 use Rattle.model_core.specs.declared.command.Command.TheVariants.{Poll, Alloc, SetKey}
 use Rattle.model_core.specs.declared.entry.Entry.{Entry}
@@ -18,13 +19,16 @@ use Rattle.model_core.specs.declared.state.Sizes.{Sizes}
 use Rattle.model_core.specs.declared.state.State.{State}
 use Rattle.model_core.specs.Commands.{is_allocation, key_set, key_stored, outcome}
 use Rattle.model_core.specs.Commands.{block_in}
-use Rattle.model_core.specs.Domains.{IsWithinLimits, domain_at, label_in, register}
+use Rattle.model_core.specs.Domains.{IsWithinLimits, domain_at, label_in, opening, register}
 use Rattle.model_core.specs.Entries.{next}
-use Rattle.model_core.specs.Graph.{label_of, labels, has_label, node_at, same_label}
+use Rattle.model_core.specs.Graph.{Graph, label_of, labels, has_label, node_at, same_label}
 use Rattle.model_core.specs.History.{IsPrefix, commands}
 use Rattle.model_core.specs.Laws.{written_by}
 use Rattle.model_core.proofs.Commands.FrameLemmas.{part_set}
+use Rattle.model_core.proofs.Graphs.GraphLemmas.{same_label_refl}
 use Rattle.model_core.proofs.Histories.HistoryLemmas.{commands-append, commands-others, commands-push}
+use Rattle.model_core.proofs.Histories.WellFormedLemmas.{wf_after, wf_opening}
+use Rattle.model_core.proofs.Reach.ReachLemmas.{or_left, or_right}
 use Rattle.weak_laws.specs.Maps.Calls.{PerformedBy}
 use Rattle.weak_laws.specs.Maps.Tries.{IsInPlace, IsMap}
 use Rattle.weak_laws.specs.Tables.Stages.{graph_of}
@@ -42,6 +46,7 @@ use Rattle.weak_maps.proofs.MakeLemmas.{made_map}
 use Rattle.weak_maps.proofs.OfShared.CommandLemmas.{commands_beside_are_guarded, later_keys_are_guarded}
 use Rattle.weak_maps.proofs.OfShared.SharingLemmas.{stretches_add}
 use Rattle.table_together.specs.Places.{Finds, HoldsPlaces, IsMadeAt, LaysOut, MakesEach, loading, publishing, sharing}
+use Rattle.table_together.specs.contracts.laying.PlacesPartialEq.TheImpl.{eq-value}
 use Rattle.table_together.specs.declared.laying.Places.{Places}
 
 -- one command more
@@ -173,6 +178,14 @@ first_laid z limits p old new x =
 pub loaded_guarded : (z : Sizes) (root : Label) (d : ℕ) (base old new : List Entry) → MakesEach z d old loading new → OwnGuarded z root base d old new
 loaded_guarded z root d base old new x = each_guarded z root d base old loading new ((λ s. refl), ((λ s. refl), ((λ s. refl), ((λ s. refl), tt)))) x
 
+-- places that are found to be equal are the same
+same_places : (a b : Places) → eq-value.it a b ≡ true → a ≡ b
+same_places a b same = search rules
+
+pub places_same : (o : Option Places) (p : Places) → option_eq eq-value.it o (Some p) ≡ true → o ≡ Some p
+places_same None p is = let clash : false ≡ true = is in cc
+places_same (Some q) p is = ap Some (same_places q p is)
+
 -- what a domain found, at the numbers with which it began
 pub found_by : (z now : Sizes) (d e : ℕ) (old mid new : List Entry) (cs : List Command) (p : Places) (o : Option Places) → now ≡ z → e ≡ d → new ≡ mid → cs ≡ loading → MakesEach z d old cs mid → ((q : Places) → o ≡ Some q → HoldsPlaces now q e mid) → o ≡ Some p → Finds z d old new p
 found_by z now d e old mid new cs p o sizes domain front are makes holds is = record {
@@ -186,3 +199,35 @@ performed_at z now d e old new c r sizes domain x = subst (λ (w : Sizes × ℕ)
 
 pub makes_at : (z now : Sizes) (d e : ℕ) (old : List Entry) (cs are : List Command) (new : List Entry) → now ≡ z → e ≡ d → cs ≡ are → MakesEach now e old cs new → MakesEach z d old are new
 makes_at z now d e old cs are new sizes domain same x = subst (λ (w : Sizes × ℕ × List Command). MakesEach w.0 w.1 old w.2 new) (λ i. (sizes i, domain i, same i)) x
+
+-- a label that a register holds has a node
+in_registers : (vs : List Value) (r : ℕ) (m : Label) → get_or vs r Nothing ≡ Block m → IsTrue (has_label (filter_map label_of vs) m)
+in_registers [] r m at = cc
+in_registers (Block l ∷ vs) zero m at = let same : l ≡ m = cc in or_left (same_label l m) (has_label (filter_map label_of vs) m) (ap (λ (k : Label). same_label k m) same ∙ same_label_refl m)
+in_registers (Int n ∷ vs) zero m at = cc
+in_registers (Nothing ∷ vs) zero m at = cc
+in_registers (Block l ∷ vs) (suc r) m at = or_right (same_label l m) (has_label (filter_map label_of vs) m) (in_registers vs r m at)
+in_registers (Int n ∷ vs) (suc r) m at = in_registers vs r m at
+in_registers (Nothing ∷ vs) (suc r) m at = in_registers vs r m at
+
+labelled_node : (g : Graph) (l : Label) → IsTrue (has_label (labels g) l) → (n : Node) × (node_at g l ≡ Some n)
+labelled_node [] l has = cc
+labelled_node (e ∷ g) l has = go (same_label e.0 l) (labelled_node g l) has
+  where
+    go : (b : Bool) → (IsTrue (has_label (labels g) l) → (n : Node) × (node_at g l ≡ Some n)) → IsTrue (b || has_label (labels g) l) → (n : Node) × (cond b (Some e.1) (node_at g l) ≡ Some n)
+    go true rest here = (e.1, refl)
+    go false rest later = rest later
+
+held_node : (z : Sizes) (d : ℕ) (h : List Entry) (r : ℕ) (m : Label) → held_by z d h r ≡ Block m → (n : Node) × (node_at (graph_of z h) m ≡ Some n)
+held_node z d h r m held = labelled_node (graph_of z h) m (((wf_after (opening z) h (wf_opening z)).domains d).registers m (in_registers (domain_at (state_of z h) d).registers r m held))
+
+-- a front at which a domain holds the map lies behind the base
+pub behind_base : (z : Sizes) (root : Label) (base h old : List Entry) (d : ℕ) → IsMadeAt z root base → IsPrefix base h → IsPrefix old h → held_by z d old 6 ≡ Block root → IsPrefix base old
+behind_base z root base h old d at base_h old_h held =
+    let e : Entry = CommandOf 0 (Alloc 6 0 512) false in
+    ⊎_elim (λ behind. subst (λ (b : List Entry). IsPrefix b old) (sym at.last) behind)
+    (λ early.
+    let here = held_node z d old 6 root held in
+    let stays = grew_along z old at.before early root here.0 here.1 in
+    let clash : None ≡ Some stays.0 = sym at.fresh ∙ stays.1 in cc)
+    (before_or_behind old h at.before e old_h (subst (λ (b : List Entry). IsPrefix b h) at.last base_h))
