@@ -8,6 +8,8 @@
 mod laying;
 mod preparing;
 mod running;
+#[cfg(test)]
+mod tests;
 mod together;
 
 pub use together::{Together, run_sections};
