@@ -1,6 +1,6 @@
 -- The seats of a table's domains, from the start of the heap to its end.
 use Rattle.std.specs.Prelude.{◌≡◌, ◌≤◌, ◌+◌, ◌*◌, ℕ, suc, List, [], ◌∷◌, length, vec_capacity}
-use Rattle.std.specs.List.{AllByRecursion}
+use Rattle.std.specs.List.{AllByRecursion, AllZip}
 use Rattle.model_core.specs.declared.command.Command.TheVariants.{Poll}
 use Rattle.model_core.specs.declared.entry.Entry.{Entry}
 use Rattle.model_core.specs.declared.reply.Reply.TheVariants.{Done}
@@ -75,9 +75,7 @@ pub record HasRunTask (s : SeatsView) (t : Task) (r : Ran) : Type 0 where
   pub done : SectionDone (sizes_in s.heap.config) t.resting.number old t.lines.items r.replies.items r.resting.front
 
 abbrev pub AllRan : SeatsView → List Task → List Ran → Type 0
-AllRan s [] [] = Unit {0}
-AllRan s (t ∷ ts) (r ∷ rs) = HasRunTask s t r × AllRan s ts rs
-AllRan s _ _ = ⊥
+AllRan s ts rs = AllZip (HasRunTask s) ts rs
 
 -- the seat was resumed since, and these are the replies
 pub record IsBack (s : SeatsView) (r : Ran) (replies : List LineReply) (x : SeatView) : Type 0 where
