@@ -4,6 +4,7 @@ ghost use Rattle.heap_rule.specs.Token.{IsIn};
 ghost use Rattle.run_turns.specs.Runs.{GoesOn};
 ghost use Rattle.run_turns.specs.Driving.{goes_nowhere, goes_further};
 
+use crate::place::Place;
 use crate::run::DomainRun;
 use crate::turned::Turned;
 use crate::turns::turn;
@@ -13,17 +14,18 @@ use run_threads::{Trace, Went};
 // A domain that has arrived so often isn't turned any more.
 const MOST_ARRIVALS: u64 = 1 << 60;
 
-// How far a turn with this answer came: one that did something and stands in a pause then has arrived.
+// How far a turn with this answer came: one that did something and stands in a pause then has arrived. A section that isn't begun
+// is held, since nobody tells of a spawn. A join that waits may sleep, since a section tells its end by a turn without a command.
 #[inline(always)]
-fn reached(turned: Turned, stands: bool) -> Went
+fn reached(turned: Turned, stands: bool, place: Place) -> Went
     ensures ended { result ≡ Went.Ended → turned ≡ Turned.Ended }
     ensures idle { result ≡ Went.Idle → (n : ℕ) × (turned ≡ Turned.Idle n) }
 {
     match turned {
         Turned::Did if stands => Went::Arrived,
         Turned::Did => Went::On,
-        Turned::Held { .. } => Went::Held,
-        Turned::Waiting(_) | Turned::Hungry => Went::Nowhere,
+        Turned::Held { .. } if place == Place::Before => Went::Held,
+        Turned::Held { .. } | Turned::Waiting(_) | Turned::Hungry => Went::Nowhere,
         Turned::Idle { .. } => Went::Idle,
         Turned::Ended => Went::Ended,
     }
@@ -73,6 +75,6 @@ impl Trace<Heap> for DomainRun {
             return Went::Nowhere;
         }
         let turned = turn(shared, self);
-        reached(turned, self.left.is_some())
+        reached(turned, self.left.is_some(), self.place)
     }
 }

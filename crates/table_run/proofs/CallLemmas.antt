@@ -3,7 +3,6 @@ use Rattle.std.proofs.Common.{◌≡◌, inl, ℕ, ◌+◌, ◌-◌, ◌≤◌, 
 use Rattle.model_core.specs.declared.label.Label.{Label}
 use Rattle.model_core.specs.declared.entry.Entry.{Entry}
 use Rattle.model_core.specs.declared.reply.Reply.{Reply}
-use Rattle.model_core.specs.declared.reply.Reply.TheVariants as given
 use Rattle.model_core.specs.declared.graph.Value.{Value}
 use Rattle.model_core.specs.declared.graph.Value.TheVariants.{Int, Block, Nothing}
 use Rattle.model_core.specs.declared.state.Mode.TheVariants.{Open}
@@ -14,7 +13,7 @@ use Rattle.model_core.specs.Commands.{key_value, shown}
 use Rattle.model_core.specs.History.{IsPrefix}
 use Rattle.weak_laws.specs.Tables.Structures.{Binding, datum_at}
 use Rattle.weak_laws.specs.Tables.Thinning.{WasOutside, state_of}
-use Rattle.weak_laws.specs.Tables.Performing.{refusals, writings, full_of}
+use Rattle.weak_laws.specs.Tables.Performing.{refusals, writings}
 use Rattle.weak_laws.specs.Tables.Stages.{Goes, graph_of, held_in}
 use Rattle.weak_laws.proofs.OfTables.BindingLemmas.{thinned_datum}
 use Rattle.weak_laws.proofs.OfTables.StageLemmas.{since_outside}

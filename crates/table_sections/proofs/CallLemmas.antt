@@ -1,5 +1,5 @@
 -- The lines of one call of the map.
-use Rattle.std.proofs.Common.{◌≡◌, ◌≢◌, ℕ, ◌+◌, ◌<◌, List, refl, ap, sym, ◌∙◌, subst, arith}
+use Rattle.std.proofs.Common.{◌≡◌, ◌≢◌, ◌≤◌, ℕ, ◌+◌, List, refl, ap, arith}
 use Rattle.model_core.specs.declared.label.Label.{Label}
 use Rattle.model_core.specs.declared.entry.Entry.{Entry}
 use Rattle.model_core.specs.declared.graph.Value.{Value}
@@ -8,13 +8,11 @@ use Rattle.model_core.specs.declared.reply.Reply.{Reply}
 use Rattle.model_core.specs.declared.state.Sizes.{Sizes}
 use Rattle.model_core.specs.History.{IsPrefix}
 use Rattle.table_text.specs.declared.line.TableLine.TheVariants as line_of
-use Rattle.table_text.specs.declared.machine.reply.LineReply.{LineReply}
-use Rattle.table_text.specs.declared.machine.reply.LineReply.TheVariants as reply
 use Rattle.table_text.specs.Machine.Said.{full_in, said}
 use Rattle.table_text.proofs.OfMachine.SaidLemmas.{said_full}
 use Rattle.weak_laws.specs.Tables.Performing.{full_of}
 use Rattle.weak_laws.specs.Maps.Calls.{GetAnswers, TakeAnswers}
-use Rattle.weak_maps.specs.Beside.{held_by, refusals_by}
+use Rattle.weak_maps.specs.Beside.{held_by, refusals_by, writings_by}
 use Rattle.weak_maps.specs.Crowds.{made_by}
 use Rattle.weak_maps.specs.Fields.{IsBeside}
 use Rattle.weak_maps.specs.Guards.{TakeGuards}
@@ -29,11 +27,12 @@ pub none_made : (serial left now left_now : ℕ) → serial + left ≡ 429496729
 none_made serial left now left_now first last same = omega (arith, first, last, same)
 
 -- a call that was given all it asked for
-pub makes_none : (z : Sizes) (d : ℕ) (old new : List Entry) (r : Reply) → made_by z d new ≡ made_by z d old → refusals_by d new ≡ refusals_by d old → full_of r ≡ 0 → MakesNone z d old new (said r)
-makes_none z d old new r made given granted = record {
+pub makes_none : (z : Sizes) (d : ℕ) (old new : List Entry) (r : Reply) → made_by z d new ≡ made_by z d old → refusals_by d new ≡ refusals_by d old → full_of r ≡ 0 → writings_by d new ≤ writings_by d old → MakesNone z d old new (said r)
+makes_none z d old new r made given granted spared = record {
   made = made;
   given = given;
   granted = λ full. let one : full_in (said r) ≡ 1 = ap full_in full in let same = said_full r in absurd (omega (arith, one, same, granted));
+  spared = spared;
 }
 
 -- what a lookup and a take answer and keep, by what the register of the key holds

@@ -1,6 +1,5 @@
 -- The lines of one command: each guards the map, and keeps what register 6 holds.
-use Rattle.std.proofs.Common.{◌≡◌, ◌≢◌, ⊎_elim, ℕ, ◌+◌, ◌<◌, ◌≤◌, List, ◌++◌, refl, ◌∙◌, arith}
-use Rattle.model_core.specs.declared.label.Label.{Label}
+use Rattle.std.proofs.Common.{◌≡◌, ⊎_elim, ℕ, ◌<◌, List, ◌++◌, refl, ◌∙◌, arith}
 use Rattle.model_core.specs.declared.command.Command.TheVariants.{Alloc, Forget, FullMajor, GetKey, SetKey}
 use Rattle.model_core.specs.declared.entry.Entry.{Entry}
 use Rattle.model_core.specs.declared.graph.Value.TheVariants.{Nothing}
@@ -11,9 +10,7 @@ use Rattle.table_text.specs.declared.line.TableLine.TheVariants as line_of
 use Rattle.table_text.specs.declared.machine.reply.LineReply.{LineReply}
 use Rattle.table_text.specs.declared.machine.reply.LineReply.TheVariants as reply
 use Rattle.table_text.specs.Machine.Said.{said}
-use Rattle.weak_laws.specs.Tables.Stages.{graph_of}
 use Rattle.weak_laws.specs.Maps.Calls.{PerformedBy}
-use Rattle.weak_laws.specs.Maps.Tries.{IsMap}
 use Rattle.weak_laws.proofs.OfMaps.CallLemmas.{alloc_step, forget_step, others_all, to_middle}
 use Rattle.weak_laws.proofs.OfMaps.FrontLemmas.{prefix_same, prefix_trans}
 use Rattle.weak_laws.proofs.OfMaps.OwnLemmas.{own_respects}

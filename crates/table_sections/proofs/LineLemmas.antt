@@ -1,5 +1,5 @@
 -- What a line is where it guards the map, and is answered on it.
-use Rattle.std.proofs.Common.{◌≡◌, ◌≢◌, ℕ, ◌<◌, ◌≤◌, ◌^◌, ◌&&◌, true, int_le, ℤ, pos, negsuc, neg_ℤ, List, ◌∙◌, arith, to_z, of_z, to_z-of_z, SFits, w64}
+use Rattle.std.proofs.Common.{◌≡◌, ℕ, ◌<◌, ◌≤◌, ◌^◌, ◌&&◌, true, int_le, ℤ, pos, negsuc, neg_ℤ, List, ◌∙◌, arith, to_z, of_z, to_z-of_z, SFits, w64}
 use Rattle.std.proofs.lemmas.Bool.{and_parts}
 use Rattle.std.proofs.lemmas.Bool.Decides.{nat_tests}
 use Rattle.std.proofs.lemmas.Int.{ints}

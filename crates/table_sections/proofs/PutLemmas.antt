@@ -13,7 +13,7 @@ use Rattle.model_core.specs.History.{IsPrefix}
 use Rattle.table_text.specs.declared.line.TableLine.TheVariants as line_of
 use Rattle.table_text.specs.Machine.Said.{said}
 use Rattle.weak_laws.specs.Maps.Calls.{Looks, PerformedBy, PutsOrFull}
-use Rattle.weak_laws.specs.Maps.Steps.{OthersLeave, OthersRespect}
+use Rattle.weak_laws.specs.Maps.Steps.{OthersRespect}
 use Rattle.weak_laws.proofs.OfMaps.CallLemmas.{put_step}
 use Rattle.weak_laws.proofs.OfMaps.FrontLemmas.{prefix_same, prefix_trans}
 use Rattle.weak_laws.proofs.OfMaps.OwnLemmas.{changes_behind, looks_twice}

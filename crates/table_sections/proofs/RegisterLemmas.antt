@@ -14,7 +14,7 @@ use Rattle.model_core.specs.declared.reply.Applied.TheVariants.{Replied}
 use Rattle.model_core.specs.declared.state.DomainState.{DomainState}
 use Rattle.model_core.specs.declared.state.Sizes.{Sizes}
 use Rattle.model_core.specs.declared.state.State.{State}
-use Rattle.model_core.specs.Commands.{Outcome, at_ephe, block_in, in_bounds, is_allocation, key_set, key_stored, key_value, outcome, read_into}
+use Rattle.model_core.specs.Commands.{at_ephe, block_in, in_bounds, is_allocation, key_set, key_stored, key_value, outcome, read_into}
 use Rattle.model_core.specs.Domains.{domain_at, label_in, register}
 use Rattle.model_core.specs.Entries.{next, reply as reply_of}
 use Rattle.model_core.proofs.Commands.FrameLemmas.{part_set}

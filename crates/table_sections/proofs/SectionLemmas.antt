@@ -1,16 +1,14 @@
 -- Sections, line by line.
-use Rattle.std.proofs.Common.{◌≡◌, ℕ, List, [], ◌∷◌, length, refl, sym, ap, subst, arith}
-use Rattle.model_core.specs.declared.label.Label.{Label}
+use Rattle.std.proofs.Common.{◌≡◌, ℕ, List, [], ◌∷◌, length, refl, sym, subst, arith}
 use Rattle.model_core.specs.declared.entry.Entry.{Entry}
 use Rattle.model_core.specs.declared.state.Sizes.{Sizes}
 use Rattle.model_core.specs.History.{IsPrefix}
 use Rattle.table_text.specs.declared.line.TableLine.{TableLine}
 use Rattle.table_text.specs.declared.machine.reply.LineReply.{LineReply}
-use Rattle.weak_laws.specs.Maps.Steps.{OthersRespect}
 use Rattle.weak_laws.proofs.OfMaps.FrontLemmas.{prefix_same, prefix_trans}
 use Rattle.weak_maps.proofs.OfShared.SharingLemmas.{others_may_be_relied_on}
 use Rattle.weak_maps.proofs.StayLemmas.{respects_within}
-use Rattle.table_sections.specs.Sections.{OnMap, SectionBeside, SectionRuns, SectionsAreAnswered, SectionsAreBeside, SectionsAreGuarded}
+use Rattle.table_sections.specs.Sections.{SectionRuns, SectionsAreAnswered, SectionsAreBeside, SectionsAreGuarded}
 
 pub sections_are_guarded : SectionsAreGuarded
 sections_are_guarded z root d base old new behind held guards front e here since until own = record {

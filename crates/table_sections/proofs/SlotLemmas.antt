@@ -1,5 +1,5 @@
 -- The slots stay where they are, and a line sets one or reads one.
-use Rattle.std.proofs.Common.{◌≡◌, ◌≢◌, ⊎_elim, ℕ, zero, suc, ◌+◌, ◌<◌, ◌≤◌, ◌/◌, ◌%◌, List, [], ◌∷◌, ◌++◌, length, get_or, set, slice_get, Option, Some, None, refl, ap, sym, ◌∙◌, subst, arith, get_or-set_same, length-set}
+use Rattle.std.proofs.Common.{◌≡◌, ℕ, zero, suc, ◌<◌, ◌/◌, List, [], ◌∷◌, ◌++◌, length, get_or, set, slice_get, Option, Some, None, refl, ap, sym, ◌∙◌, arith, get_or-set_same, length-set}
 use Rattle.std.specs.Prelude.{option_and_then, option_map}
 use Rattle.std.proofs.lemmas.Option.{slice_get-get_or}
 use Rattle.model_core.specs.declared.label.Label.{Label}
@@ -15,10 +15,10 @@ use Rattle.model_core.specs.declared.reply.Reply.TheVariants as given
 use Rattle.model_core.specs.declared.state.DomainState.{DomainState}
 use Rattle.model_core.specs.declared.state.Sizes.{Sizes}
 use Rattle.model_core.specs.declared.state.State.{State}
-use Rattle.model_core.specs.Commands.{Outcome, at_ephe, block_in, done_with, in_bounds, key_set, key_stored, key_value, only_replies, outcome, read_into, shown}
+use Rattle.model_core.specs.Commands.{Outcome, at_ephe, block_in, done_with, in_bounds, key_stored, key_value, only_replies, outcome, read_into}
 use Rattle.model_core.specs.Domains.{IsWithinLimits, domain_at, label_in, no_domain, register, with_block}
 use Rattle.model_core.specs.Fronts.{EpheShape, shape_of}
-use Rattle.model_core.specs.Graph.{Graph, block_at, label_of, node_at, with_node}
+use Rattle.model_core.specs.Graph.{Graph, block_at, label_of, node_at}
 use Rattle.model_core.specs.History.{IsPrefix}
 use Rattle.model_core.proofs.Commands.FrameLemmas.{inside_running}
 use Rattle.model_core.proofs.Graphs.GraphLemmas.{node_at-with_node_same}
@@ -26,7 +26,7 @@ use Rattle.table_text.specs.declared.machine.reply.LineReply.{LineReply}
 use Rattle.table_text.specs.Machine.Said.{said}
 use Rattle.weak_laws.specs.Tables.Stages.{graph_of}
 use Rattle.weak_laws.specs.Tables.Thinning.{state_of}
-use Rattle.weak_laws.specs.Maps.Calls.{PerformedBy, registers_after}
+use Rattle.weak_laws.specs.Maps.Calls.{PerformedBy}
 use Rattle.weak_laws.proofs.OfMaps.CallLemmas.{from_middle, registers_kept, to_middle}
 use Rattle.weak_laws.proofs.OfMaps.FrontLemmas.{prefix_before}
 use Rattle.weak_laws.proofs.OfMaps.OwnLemmas.{grew_along}
@@ -36,7 +36,7 @@ use Rattle.weak_maps.proofs.BesideLemmas.{sixteen}
 use Rattle.weak_maps.proofs.CountLemmas.{legal_both}
 use Rattle.weak_maps.proofs.GuardLemmas.{quiet_none}
 use Rattle.weak_maps.proofs.StayLemmas.{quiet_on}
-use Rattle.table_sections.specs.Slots.{HoldsEight, OnSlots, SlotGets, SlotSets, keys_in, slot_after, slot_ephe, slot_key}
+use Rattle.table_sections.specs.Slots.{HoldsEight, OnSlots, SlotGets, SlotSets, keys_in, slot_ephe, slot_key}
 use Rattle.table_sections.proofs.RegisterLemmas.{answer_after, graph_after, register_after, register_before, set_key_keeps}
 
 -- an ephemeron keeps its count of keys
@@ -45,17 +45,21 @@ same_shape (Plain tag fields) count is = cc
 same_shape (Raw tag fields) count is = cc
 same_shape (Ephe keys datum) count is = (keys, datum, refl, (let same : length keys ≡ count = cc in same))
 
-eight_stays : (z : Sizes) (d : ℕ) (old new : List Entry) (r : ℕ) → IsPrefix old new → held_by z d new r ≡ held_by z d old r → HoldsEight z d old r → HoldsEight z d new r
-eight_stays z d old new r grows same x =
-    let grew = grew_along z old new grows x.l (Ephe x.keys x.datum) x.node in
-    let is = same_shape grew.0 (length x.keys) grew.2 in record {
-      l = x.l;
-      held = same ∙ x.held;
+-- so a register that holds one later, of whatever domain, holds one of eight keys
+pub eight_later : (z : Sizes) (d : ℕ) (old new : List Entry) (r : ℕ) (l : Label) (keys : List (Option Label)) (datum : Value) → IsPrefix old new → node_at (graph_of z old) l ≡ Some (Ephe keys datum) → length keys ≡ 8 → held_by z d new r ≡ Block l → HoldsEight z d new r
+eight_later z d old new r l keys datum grows node eight held =
+    let grew = grew_along z old new grows l (Ephe keys datum) node in
+    let is = same_shape grew.0 (length keys) grew.2 in record {
+      l = l;
+      held = held;
       keys = is.0;
       datum = is.1;
       node = grew.1 ∙ ap Some is.2;
-      eight = is.3 ∙ x.eight;
+      eight = is.3 ∙ eight;
     }
+
+eight_stays : (z : Sizes) (d : ℕ) (old new : List Entry) (r : ℕ) → IsPrefix old new → held_by z d new r ≡ held_by z d old r → HoldsEight z d old r → HoldsEight z d new r
+eight_stays z d old new r grows same x = eight_later z d old new r x.l x.keys x.datum grows x.node x.eight (same ∙ x.held)
 
 pub slots_stay : (z : Sizes) (d : ℕ) (old new : List Entry) → IsPrefix old new → held_by z d new 7 ≡ held_by z d old 7 → held_by z d new 12 ≡ held_by z d old 12 → held_by z d new 13 ≡ held_by z d old 13 → OnSlots z d old → OnSlots z d new
 slots_stay z d old new grows seven twelve thirteen x = record {
@@ -160,8 +164,16 @@ module _ (z : Sizes) (d : ℕ) (old new : List Entry) (s : ℕ) (few : s < 16) (
           eight = omega (arith, long, eight);
         } in (
           is ∙ ap said (answer_after z d old new c answer p refl ∙ ap (λ (o : Outcome). o.reply) sets),
-          ap (λ (b : Option (Label × Node)). slice_get (keys_in b) (slot_key s)) (keys_at z d new (slot_ephe s) after)
-              ∙ (slice_get-get_or (set x.keys (slot_key s) (Some k)) (slot_key s) None (omega (arith, long, eight, low)) ∙ ap Some (get_or-set_same x.keys (slot_key s) (Some k) None (omega (arith, eight, low)))),
+          record {
+            front = front;
+            since = to_middle z d old new c answer p;
+            until = prefix_before front _ new (from_middle z d old new c answer p);
+            ephe = x;
+            sets = graph_after z d old new c answer p refl ∙ ap (λ (o : Outcome). o.state.graph) sets;
+            holds =
+                ap (λ (b : Option (Label × Node)). slice_get (keys_in b) (slot_key s)) (keys_at z d new (slot_ephe s) after)
+                ∙ (slice_get-get_or (set x.keys (slot_key s) (Some k)) (slot_key s) None (omega (arith, long, eight, low)) ∙ ap Some (get_or-set_same x.keys (slot_key s) (Some k) None (omega (arith, eight, low))));
+          },
         )
 
     pub slot_sets : (v : Value) → held_by z d old r ≡ v → SlotSets z d old new s v a

@@ -1,5 +1,5 @@
 -- What a section of lines is answered and leaves, beside whatever other domains do on the same map.
-use Rattle.std.specs.Prelude.{◌≡◌, ◌≢◌, ℕ, ◌+◌, ℤ, List, [], ◌∷◌}
+use Rattle.std.specs.Prelude.{◌≡◌, ◌≢◌, ◌≤◌, ℕ, ◌+◌, ℤ, List, [], ◌∷◌}
 use Rattle.model_core.specs.declared.label.Label.{Label}
 use Rattle.model_core.specs.declared.command.Command as model
 use Rattle.model_core.specs.declared.command.Command.TheVariants as command
@@ -19,7 +19,7 @@ use Rattle.weak_laws.specs.Tables.Stages.{graph_of}
 use Rattle.weak_laws.specs.Maps.Calls.{GetAnswers, PerformedBy, PutsOrFull, TakeAnswers}
 use Rattle.weak_laws.specs.Maps.Steps.{AllRespect, OthersLeave, OthersRespect}
 use Rattle.weak_laws.specs.Maps.Tries.{IsInPlace, IsMap}
-use Rattle.weak_maps.specs.Beside.{held_by, refusals_by}
+use Rattle.weak_maps.specs.Beside.{held_by, refusals_by, writings_by}
 use Rattle.weak_maps.specs.Crowds.{IsCrowded, PutCounts, made_by}
 use Rattle.weak_maps.specs.Fields.{IsBeside}
 use Rattle.weak_maps.specs.Guards.{Guards}
@@ -53,17 +53,19 @@ pub record Collects (z : Sizes) (d : ℕ) (old new : List Entry) (a : LineReply)
   pub collects : PerformedBy z d front new command.FullMajor live
   pub written : a ≡ reply.Done
 
--- a line that made no block, and of which no command was refused
+-- a line that made no block, wrote none of registers 1 to 7, and of which no command was refused
 pub record MakesNone (z : Sizes) (d : ℕ) (old new : List Entry) (a : LineReply) : Type 0 where
   pub made : made_by z d new ≡ made_by z d old
   pub given : refusals_by d new ≡ refusals_by d old
   pub granted : a ≢ reply.Full
+  pub spared : writings_by d new ≤ writings_by d old
 
--- a put made at most seven blocks, and is answered `full` exactly where a command was refused, or none was and it made all seven
+-- a put made at most seven blocks, wrote none of registers 1 to 7, and is answered `full` exactly where a command was refused, or none was and it made all seven
 pub record PutMakes (z : Sizes) (d : ℕ) (old new : List Entry) (a : LineReply) : Type 0 where
   pub reply : Reply
   pub counts : PutCounts (made_by z d new) (made_by z d old) (refusals_by d old) (refusals_by d new) reply
   pub written : a ≡ said reply
+  pub spared : writings_by d new ≤ writings_by d old
 
 -- what a line does, whatever register 6 holds
 abbrev pub LineMakes : Sizes → ℕ → List Entry → TableLine → LineReply → List Entry → Type 0
@@ -77,7 +79,7 @@ LineMakes z d old (GetWeak r s) a new = Answers z d old new (command.GetKey r (s
 LineMakes z d old Count a new = ⊥
 LineMakes z d old FullMajor a new = Collects z d old new a
 
--- why a put was answered `full` though no command of it was refused: others have crowded the key's way; and none did that leaves the map
+-- why a put was answered `full`: where no command of it was refused, others have crowded the key's way, and where others leave the map as it is, one was
 pub record PutRefused (z : Sizes) (root : Label) (d : ℕ) (old new : List Entry) (k : Label) : Type 0 where
   pub crowded : refusals_by d new ≡ refusals_by d old → IsCrowded z d old new root k
   pub alone : OthersLeave z root d old new → refusals_by d new ≡ refusals_by d old + 1

@@ -1,5 +1,5 @@
 -- The slots: keys of three ephemerons, which registers of each domain hold.
-use Rattle.std.specs.Prelude.{◌≡◌, ℕ, ◌+◌, ◌/◌, ◌%◌, List, [], ◌∷◌, length, slice_get, slice_index_or, Option, Some}
+use Rattle.std.specs.Prelude.{◌≡◌, ℕ, ◌+◌, ◌/◌, ◌%◌, List, [], ◌∷◌, length, slice_get, slice_index_or, slice_set, Option, Some}
 use Rattle.model_core.specs.declared.label.Label.{Label}
 use Rattle.model_core.specs.declared.entry.Entry.{Entry}
 use Rattle.model_core.specs.declared.graph.Node.{Node}
@@ -8,7 +8,7 @@ use Rattle.model_core.specs.declared.graph.Value.{Value}
 use Rattle.model_core.specs.declared.graph.Value.TheVariants.{Block}
 use Rattle.model_core.specs.declared.state.Sizes.{Sizes}
 use Rattle.model_core.specs.Commands.{block_in, key_value, shown}
-use Rattle.model_core.specs.Graph.{node_at}
+use Rattle.model_core.specs.Graph.{node_at, with_node}
 use Rattle.model_core.specs.History.{IsPrefix}
 use Rattle.table_text.specs.declared.machine.reply.LineReply.{LineReply}
 use Rattle.table_text.specs.declared.machine.reply.LineReply.TheVariants as reply
@@ -50,9 +50,18 @@ keys_in _ = []
 abbrev pub slot_after : Sizes → ℕ → List Entry → ℕ → Option (Option Label)
 slot_after z d h s = slice_get (keys_in (block_in (state_of z h) d (slot_ephe s))) (slot_key s)
 
--- a slot that is set, by what the register of the key holds: `type` exactly where it is no label, and then no block is changed
+-- a slot was set to a key: from the front before, the ephemeron has it as this key, and no other block is changed, nor another key
+pub record SlotSet (z : Sizes) (d : ℕ) (old new : List Entry) (s : ℕ) (k : Label) : Type 0 where
+  pub front : List Entry
+  pub since : IsPrefix old front
+  pub until : IsPrefix front new
+  pub ephe : HoldsEight z d front (slot_ephe s)
+  pub sets : graph_of z new ≡ with_node (graph_of z front) ephe.l (Ephe (slice_set ephe.keys (slot_key s) (Some k)) ephe.datum)
+  pub holds : slot_after z d new s ≡ Some (Some k)
+
+-- by what the register of the key holds: `type` exactly where it is no label, and then no block is changed
 abbrev pub SlotSets : Sizes → ℕ → List Entry → List Entry → ℕ → Value → LineReply → Type 0
-SlotSets z d old new s (Block k) a = (a ≡ reply.Done) × (slot_after z d new s ≡ Some (Some k))
+SlotSets z d old new s (Block k) a = (a ≡ reply.Done) × SlotSet z d old new s k
 SlotSets z d old new s v a = (a ≡ reply.BadType) × OwnQuiet z d old new
 
 -- a slot that is read: at a front it held the key that the register holds afterwards, or none

@@ -60,7 +60,7 @@ module _ (v : Version) (behind : List ℕ) (lines : List TableLine) (rest : List
             Range (count + 2) which,
             (λ same. cc),
             fault_read most count _ rest text tail (Range (count + 2) which) r.faults cutting
-                (ap (fault_of_shape most count) shape ∙ ap (λ b. ranged b (first_out_of_range 1 (form w).operands zs)) test ∙ ap (option_map (Range (count + 2))) e),
+                (ap (fault_of_shape most (count + 2) count) shape ∙ ap (λ b. ranged b (first_out_of_range 1 (form w).operands zs)) test ∙ ap (option_map (Range (count + 2))) e),
           )
       by_range None room e =
           let said = line_said text w zs shape e in
@@ -79,12 +79,12 @@ module _ (v : Version) (behind : List ℕ) (lines : List TableLine) (rest : List
             TooMany (count + 2),
             (λ same. cc),
             fault_read most count _ rest text tail (TooMany (count + 2)) r.faults cutting
-                (ap (fault_of_shape most count) shape ∙ ap (λ b. ranged b (first_out_of_range 1 (form w).operands zs)) e),
+                (ap (fault_of_shape most (count + 2) count) shape ∙ ap (λ b. ranged b (first_out_of_range 1 (form w).operands zs)) e),
           )
       by_count false e = by_range (first_out_of_range 1 (form w).operands zs) (grind (arith, nat_tests, e)) refl
 
     by_shape : (shape : LineShape) → line_shape text ≡ shape → Goes v behind
-    by_shape neither e = inr (Syntax (count + 2), (λ same. cc), fault_read most count _ rest text tail (Syntax (count + 2)) r.faults cutting (ap (fault_of_shape most count) e))
+    by_shape neither e = inr (Syntax (count + 2), (λ same. cc), fault_read most count _ rest text tail (Syntax (count + 2)) r.faults cutting (ap (fault_of_shape most (count + 2) count) e))
     by_shape (says w zs) e = by_count w zs e (nat_le most count) refl
 
   by_end : (empty : Bool) → empty ≡ (length rest == 0) → None ≡ split_at_mark 10 rest → Goes v behind

@@ -6,3 +6,4 @@ pub mod ReadLemmas
 pub mod WritableLemmas
 mod AnswerLemmas
 pub mod OfMachine
+pub mod OfSections

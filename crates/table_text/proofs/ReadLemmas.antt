@@ -45,11 +45,11 @@ moved_on v front rest text tail lines l said cutting is =
     said ∙ ap (λ x. spelled v lines ++ x) (split_joined 10 rest (text, tail) (sym cutting) ∙ sym (append_assoc text (10 ∷ []) tail)) ∙ sym (append_assoc (spelled v lines) (line text) tail)
     ∙ ap (λ x. (spelled v lines ++ line x) ++ tail) is ∙ ap (λ x. x ++ tail) (sym (spelling-push v lines l))
 
-passed_over : (most before : ℕ) (text : List ℕ) (parts : List (List ℕ)) → 0 < length parts → fault_of_shape most before (line_shape text) ≡ None → fault_from most before (text ∷ parts) ≡ fault_from most (before + 1) parts
+passed_over : (most before : ℕ) (text : List ℕ) (parts : List (List ℕ)) → 0 < length parts → fault_of_shape most (before + 2) before (line_shape text) ≡ None → fault_from most before (text ∷ parts) ≡ fault_from most (before + 1) parts
 passed_over most before text [] some e = absurd (omega arith)
 passed_over most before text (next ∷ more) some e = ap (λ o. or_else o (fault_from most (before + 1) (next ∷ more))) e
 
-stopped_at : (most before : ℕ) (text : List ℕ) (parts : List (List ℕ)) (f : ScriptFault) → 0 < length parts → fault_of_shape most before (line_shape text) ≡ Some f → fault_from most before (text ∷ parts) ≡ Some f
+stopped_at : (most before : ℕ) (text : List ℕ) (parts : List (List ℕ)) (f : ScriptFault) → 0 < length parts → fault_of_shape most (before + 2) before (line_shape text) ≡ Some f → fault_from most before (text ∷ parts) ≡ Some f
 stopped_at most before text [] f some e = absurd (omega arith)
 stopped_at most before text (next ∷ more) f some e = ap (λ o. or_else o (fault_from most (before + 1) (next ∷ more))) e
 
@@ -58,7 +58,7 @@ pub faults_on : (most before : ℕ) (rest text tail : List ℕ) (l : TableLine) 
     → fault_from most before (slice_split (λ b. b == 10) rest) ≡ fault_from most (before + 1) (slice_split (λ b. b == 10) tail)
 faults_on most before rest text tail l cutting is fit few =
     ap (fault_from most before) (split_found 10 rest text tail cutting)
-    ∙ passed_over most before text (slice_split (λ b. b == 10) tail) (omega (arith, length-slice_split (λ b. b == 10) tail)) (ap (λ x. fault_of_shape most before (line_shape x)) is ∙ line_fine most before l fit few)
+    ∙ passed_over most before text (slice_split (λ b. b == 10) tail) (omega (arith, length-slice_split (λ b. b == 10) tail)) (ap (λ x. fault_of_shape most (before + 2) before (line_shape x)) is ∙ line_fine most (before + 2) before l fit few)
 
 is_first : (f : ScriptFault) (o : Option ScriptFault) → o ≡ Some f → IsFaultUnlessMemory f o
 is_first Memory o e = tt
@@ -71,7 +71,7 @@ is_first (Spawn k) o e = e
 
 -- a fault of the next line
 pub fault_read : (most before : ℕ) (all : Option ScriptFault) (rest text tail : List ℕ) (f : ScriptFault) → all ≡ fault_from most before (slice_split (λ b. b == 10) rest) → Some (text, tail) ≡ split_at_mark 10 rest
-    → fault_of_shape most before (line_shape text) ≡ Some f → IsFaultUnlessMemory f all
+    → fault_of_shape most (before + 2) before (line_shape text) ≡ Some f → IsFaultUnlessMemory f all
 fault_read most before all rest text tail f e cutting fault =
     is_first f all (e ∙ ap (fault_from most before) (split_found 10 rest text tail cutting)
     ∙ stopped_at most before text (slice_split (λ b. b == 10) tail) f (omega (arith, length-slice_split (λ b. b == 10) tail)) fault)
@@ -159,7 +159,7 @@ all_fine : (most before : ℕ) (lines : List TableLine) → list_all is_writable
 all_fine most before [] e few = refl
 all_fine most before (l ∷ lines) e few =
     let p = and_parts (is_writable l) (list_all is_writable lines) e in
-    passed_over most before (line_text l) (map line_text lines ++ [] ∷ []) (omega (arith, length-append (map line_text lines) ([] ∷ []))) (line_fine most before l p.0 (omega arith))
+    passed_over most before (line_text l) (map line_text lines ++ [] ∷ []) (omega (arith, length-append (map line_text lines) ([] ∷ []))) (line_fine most (before + 2) before l p.0 (omega arith))
     ∙ all_fine most (before + 1) lines p.1 (omega arith)
 
 -- what is spelled has no fault

@@ -24,7 +24,7 @@ row_said w zs n small =
 pub inside : (l : TableLine) → is_writable l ≡ true → first_out_of_range 1 (form (parts l).word).operands (parts l).numbers ≡ None
 inside l e = inside_if_fit 1 (form (parts l).word).operands (parts l).numbers e
 
-small : (l : TableLine) → is_writable l ≡ true → are_small (parts l).numbers ≡ true
+pub small : (l : TableLine) → is_writable l ≡ true → are_small (parts l).numbers ≡ true
 small l e = small_if_inside 1 (form (parts l).word).operands (parts l).numbers (parts_counted l) (inside l e)
 
 pub shape_line : (l : TableLine) → is_writable l ≡ true → line_shape (line_text l) ≡ says (parts l).word (parts l).numbers

@@ -1,9 +1,9 @@
 -- The faults of a table's text: what is wrong with a line, and the first fault of all.
-use Rattle.std.specs.Prelude.{ℕ, ◌+◌, ◌==◌, ℤ, List, [], ◌∷◌, length, bytes_eq, Option, None, Some, option_map, nat_lt, nat_le, if◌then◌else◌}
+use Rattle.std.specs.Prelude.{◌≡◌, map, ℕ, ◌+◌, ◌==◌, ℤ, List, [], ◌∷◌, length, bytes_eq, Option, None, Some, option_map, nat_lt, nat_le, if◌then◌else◌}
 use Rattle.std.specs.List.{slice_split}
 use Rattle.text_script.specs.declared.fault.ScriptFault.{ScriptFault}
 use Rattle.text_script.specs.declared.fault.ScriptFault.TheVariants.{Syntax, Range, TooLong, TooMany}
-use Rattle.text_script.specs.Number.{counted_numbers}
+use Rattle.text_script.specs.Number.{counted_numbers, clipped}
 use Rattle.text_script.specs.Faults.{texts, or_else}
 use Rattle.table_text.specs.declared.word.Operand.{Operand}
 use Rattle.table_text.specs.declared.word.Word.{Word}
@@ -41,15 +41,21 @@ shape_of_texts (t ∷ ts) = row_shape (word_of t) ts
 abbrev pub line_shape : List ℕ → LineShape
 line_shape line = shape_of_texts (texts line)
 
+-- a line says this row, and these are its numbers. One that is too large for 64 bits is the nearest that isn't
+pub record SaysRow (line : List ℕ) (w : Word) (numbers : List ℤ) : Type 0 where
+  pub said : List ℤ
+  pub shape : line_shape line ≡ says w said
+  pub numbers_are : numbers ≡ map clipped said
+
 -- the place, counted from `which`, of the first number that is outside the range of its operand
 abbrev pub first_out_of_range : ℕ → List Operand → List ℤ → Option ℕ
 first_out_of_range which (kind ∷ kinds) (z ∷ zs) = if fits kind z then first_out_of_range (which + 1) kinds zs else Some which
 first_out_of_range which _ _ = None
 
--- what is wrong with a line, by how many lines there may be, how many stand between the first and it, and what it says
-abbrev pub fault_of_shape : ℕ → ℕ → LineShape → Option ScriptFault
-fault_of_shape most before neither = Some (Syntax (before + 2))
-fault_of_shape most before (says w zs) = if nat_le most before then Some (TooMany (before + 2)) else option_map (Range (before + 2)) (first_out_of_range 1 (form w).operands zs)
+-- what is wrong with a line, by how many lines there may be, its number, how many such lines stand before it, and what it says
+abbrev pub fault_of_shape : ℕ → ℕ → ℕ → LineShape → Option ScriptFault
+fault_of_shape most number before neither = Some (Syntax number)
+fault_of_shape most number before (says w zs) = if nat_le most before then Some (TooMany number) else option_map (Range number) (first_out_of_range 1 (form w).operands zs)
 
 -- what stands behind the last line feed is to be empty
 abbrev pub end_fault : ℕ → List ℕ → Option ScriptFault
@@ -60,7 +66,7 @@ end_fault before (b ∷ bs) = Some (Syntax (before + 2))
 abbrev pub fault_from : ℕ → ℕ → List (List ℕ) → Option ScriptFault
 fault_from most before [] = None
 fault_from most before (rest ∷ []) = end_fault before rest
-fault_from most before (line ∷ next ∷ more) = or_else (fault_of_shape most before (line_shape line)) (fault_from most (before + 1) (next ∷ more))
+fault_from most before (line ∷ next ∷ more) = or_else (fault_of_shape most (before + 2) before (line_shape line)) (fault_from most (before + 1) (next ∷ more))
 
 -- the version that a first line names
 abbrev pub version_of : List ℕ → Option Version

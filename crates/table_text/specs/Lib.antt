@@ -3,3 +3,4 @@ pub mod Texts
 pub mod Faults
 pub mod Spelling
 pub mod Machine
+pub mod Sections

@@ -83,7 +83,8 @@ pub(crate) fn first_out_of_range(kinds: &[Operand], numbers: &[i64]) -> Option<u
     None
 }
 
-fn number_at(numbers: &[i64], at: usize) -> i64
+// The number at a place, and 0 where there are fewer.
+pub(crate) fn number_at(numbers: &[i64], at: usize) -> i64
     ensures { result ≡ slice_index_or numbers.now at (pos 0) }
 {
     numbers.get(at).copied().unwrap_or(0)

@@ -7,6 +7,8 @@ pub mod line;
 pub mod machine;
 mod number;
 pub mod read;
+mod row;
+pub mod sections;
 mod split;
 pub mod text;
 pub mod version;
@@ -14,5 +16,6 @@ mod word;
 
 pub use line::TableLine;
 pub use read::read_table;
+pub use sections::{SectionsText, read_sections};
 pub use text::TableText;
 pub use version::Version;

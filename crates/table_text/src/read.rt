@@ -10,17 +10,16 @@ ghost use Rattle.table_text.specs.Texts.{Text, most_lines as most_lines_of};
 ghost use Rattle.table_text.specs.Spelling.{first_line, line_text, spelling, Spells};
 ghost use Rattle.table_text.specs.Faults.{line_shape, fault_of_shape, fault_from, first_fault};
 
-use crate::form::{find_word, first_out_of_range, make, operands_of};
 use crate::line::TableLine;
-use crate::number::numbers_of;
-use crate::split::{first_text, split_once};
+use crate::row::{line_of_row, row_of};
+use crate::split::split_once;
 use crate::text::TableText;
 use crate::version::{Version, most_lines, version_of};
 use std::alloc::Global;
 use text_script::ScriptFault;
 
-/// The greatest count of bytes of a text.
-const MAX_BYTES: usize = 16_777_216;
+// The greatest count of bytes of a text.
+pub(crate) const MAX_BYTES: usize = 16_777_216;
 
 // Reads a line behind the first, and so many more.
 fn read_line(version: Version, before: u32, text: &[u8]) -> Result<TableLine, ScriptFault>
@@ -28,24 +27,14 @@ fn read_line(version: Version, before: u32, text: &[u8]) -> Result<TableLine, Sc
     ensures text { IfOk result (λ l. text.now ≡ line_text l) }
     ensures fits { IfOk result (λ l. is_writable l ≡ true) }
     ensures few { IfOk result (λ _. before < most_lines_of version) }
-    ensures fault { IfErr result (λ e. fault_of_shape (most_lines_of version) before (line_shape text.now) ≡ Some e) }
+    ensures fault { IfErr result (λ e. fault_of_shape (most_lines_of version) (before + 2) before (line_shape text.now) ≡ Some e) }
 {
-    let most = most_lines(version);
     let line = before + 2;
-    let (word, rest) = first_text(text);
-    let Some(word) = find_word(word) else {
-        return Err(ScriptFault::Syntax { line });
-    };
-    let operands = operands_of(word);
-    let Some(numbers) = numbers_of(rest, operands.len()) else {
-        return Err(ScriptFault::Syntax { line });
-    };
-    if most <= before {
-        return Err(ScriptFault::TooMany { line });
-    }
-    match first_out_of_range(operands, numbers.as_slice()) {
-        Some(which) => Err(ScriptFault::Range { line, which }),
-        None => Ok(make(word, numbers.as_slice())),
+    match row_of(text) {
+        Some((word, numbers)) => {
+            line_of_row(word, numbers.as_slice(), most_lines(version), line, before)
+        }
+        None => Err(ScriptFault::Syntax { line }),
     }
 }
 

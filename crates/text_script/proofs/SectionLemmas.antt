@@ -15,7 +15,7 @@ use Rattle.text_script.specs.Spawning.{start, place_in, may_begin, may_follow, s
 use Rattle.text_script.specs.Spelling.{command_text, heading_text, section_lines, lines_from, script_lines, spelling, IsWritten}
 use Rattle.text_script.proofs.DecimalLemmas.{is_free}
 use Rattle.text_script.proofs.TextLemmas.{split-free}
-use Rattle.text_script.proofs.ScriptLemmas.{total-with_command, total-cons}
+use Rattle.text_script.proofs.ScriptLemmas.{length-with_last, total-push, total-with_last}
 use Rattle.text_script.proofs.PlaceLemmas.{opened_in_order, called_in_order}
 use Rattle.text_script.proofs.ShapeLemmas.{written, command_without_line_feed, heading_without_line_feed}
 
@@ -41,8 +41,11 @@ lines-pushed n (cs ∷ next ∷ sections) c h =
     ap (λ ls. section_lines n cs ++ ls) (lines-pushed (n + 1) (next ∷ sections) c (omega arith)) ∙ sym (append_assoc (section_lines n cs) (lines_from (n + 1) (next ∷ sections)) _)
 
 -- the text grows by a line
+pub text_grows : (old new : List (List ℕ)) (text : List ℕ) → new ≡ old ++ text ∷ [] → flat_map line new ≡ flat_map line old ++ line text
+text_grows old new text e = ap (flat_map line) e ∙ flat_map-append line old (text ∷ []) ∙ ap (λ x. flat_map line old ++ x) (append-nil (line text))
+
 spelling_grows : (ver : Version) (old new : List (List Command)) (text : List ℕ) → script_lines ver new ≡ script_lines ver old ++ text ∷ [] → spelling ver new ≡ spelling ver old ++ line text
-spelling_grows ver old new text e = ap (flat_map line) e ∙ flat_map-append line (script_lines ver old) (text ∷ []) ∙ ap (λ x. spelling ver old ++ x) (append-nil (line text))
+spelling_grows ver old new text e = text_grows (script_lines ver old) (script_lines ver new) text e
 
 pub lines-open : (ver : Version) (sections : List (List Command)) → script_lines ver (sections ++ [] ∷ []) ≡ script_lines ver sections ++ heading_text (length sections) ∷ []
 lines-open ver sections =
@@ -53,7 +56,7 @@ pub lines-push : (ver : Version) (sections : List (List Command)) (c : Command) 
 lines-push ver sections c h = ap (λ ls. first_line ver ∷ ls) (lines-pushed 0 sections c h)
 
 -- the text of lines is split into them
-cut_lines : (lines : List (List ℕ)) (rest : List ℕ) → list_all (is_free 10) lines ≡ true → slice_split (λ b. b == 10) (flat_map line lines ++ rest) ≡ lines ++ slice_split (λ b. b == 10) rest
+pub cut_lines : (lines : List (List ℕ)) (rest : List ℕ) → list_all (is_free 10) lines ≡ true → slice_split (λ b. b == 10) (flat_map line lines ++ rest) ≡ lines ++ slice_split (λ b. b == 10) rest
 cut_lines [] rest e = refl
 cut_lines (l ∷ lines) rest e =
     let p = and_parts (is_free 10 l) (list_all (is_free 10) lines) e in
@@ -61,7 +64,7 @@ cut_lines (l ∷ lines) rest e =
     ∙ split-free 10 l (flat_map line lines ++ rest) p.0
     ∙ ap (λ ls. l ∷ ls) (cut_lines lines rest p.1)
 
-free_append : (ks bs : List (List ℕ)) → list_all (is_free 10) ks ≡ true → list_all (is_free 10) bs ≡ true → list_all (is_free 10) (ks ++ bs) ≡ true
+pub free_append : (ks bs : List (List ℕ)) → list_all (is_free 10) ks ≡ true → list_all (is_free 10) bs ≡ true → list_all (is_free 10) (ks ++ bs) ≡ true
 free_append [] bs e f = f
 free_append (a ∷ ks) bs e f =
     let p = and_parts (is_free 10 a) (list_all (is_free 10) ks) e in
@@ -114,15 +117,6 @@ all-with_command ver domains (cs ∷ next ∷ sections) c e f =
     let p = and_parts (list_all (is_writable ver domains) cs) (list_all (list_all (is_writable ver domains)) (next ∷ sections)) e in
     ap (λ b. b && list_all (list_all (is_writable ver domains)) (with_command (next ∷ sections) c)) p.0 ∙ all-with_command ver domains (next ∷ sections) c p.1 f
 
-length-with_command : (sections : List (List Command)) (c : Command) → length (with_command sections c) ≡ length sections
-length-with_command [] c = refl
-length-with_command (cs ∷ []) c = refl
-length-with_command (cs ∷ next ∷ sections) c = omega (arith, length-with_command (next ∷ sections) c)
-
-total-push : (sections : List (List Command)) → sum_by length (sections ++ [] ∷ []) ≡ sum_by length sections
-total-push [] = refl
-total-push (cs ∷ sections) = omega (arith, total-cons cs (sections ++ [] ∷ []), total-cons cs sections, total-push sections)
-
 -- what one more line leaves
 pub record Grown (ver : Version) (domains : ℕ) (old new : List (List Command)) (text : List ℕ) : Type 0 where
   pub is_written : IsWritten ver domains new
@@ -148,8 +142,8 @@ grown_by_command ver domains old new c text w some room fit may pushed said =
     let lines = ap (script_lines ver) pushed ∙ lines-push ver old c some ∙ ap (λ t. script_lines ver old ++ t ∷ []) (sym said) in
     record {
       is_written = record {
-        few_sections = omega (arith, ap length pushed, length-with_command old c, w.few_sections);
-        few_commands = omega (arith, ap (sum_by length) pushed, total-with_command old c some);
+        few_sections = omega (arith, ap length pushed, length-with_last old c, w.few_sections);
+        few_commands = omega (arith, ap (sum_by length) pushed, total-with_last old c some);
         writable = ap (list_all (list_all (is_writable ver domains))) pushed ∙ all-with_command ver domains old c w.writable fit;
         in_order = ap (sections_follow ver start) pushed ∙ called_in_order ver old c some w.in_order may;
       };

@@ -13,8 +13,12 @@ pub record RunGrammar : Type 0 where
   pub version : Version
   pub domains : ℕ
 
+-- lists with one more at the end of the last
+abbrev pub with_last : {C : Type 0} → List (List C) → C → List (List C)
+with_last [] c = []
+with_last (cs ∷ []) c = (cs ++ c ∷ []) ∷ []
+with_last (cs ∷ next ∷ lists) c = cs ∷ with_last (next ∷ lists) c
+
 -- the sections with a command at the end of the last
 abbrev pub with_command : List (List Command) → Command → List (List Command)
-with_command [] c = []
-with_command (cs ∷ []) c = (cs ++ c ∷ []) ∷ []
-with_command (cs ∷ next ∷ sections) c = cs ∷ with_command (next ∷ sections) c
+with_command sections c = with_last sections c

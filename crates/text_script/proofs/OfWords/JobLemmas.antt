@@ -1,9 +1,9 @@
 -- What the words ask for: which reading it comes from, and its limits.
 use Rattle.std.proofs.Common.{◌≡◌, ◌∙◌, ◌≤◌, ℕ, Bool, true, false, List, [], ◌∷◌, Option, Some, None, codes, inl, inr, refl, sym, ap, subst, arith}
-use Rattle.std.specs.Prelude.{◌==◌, ◌⊎◌, IfSome, is_none, option_map, bytes_eq, nat_le, if◌then◌else◌}
+use Rattle.std.specs.Prelude.{◌⊎◌, IfSome, is_none, option_map, bytes_eq, nat_le, if◌then◌else◌}
 use Rattle.std.specs.Option.{option_or}
 use Rattle.std.proofs.lemmas.Bool.{and_parts}
-use Rattle.std.proofs.lemmas.Bool.Decides.{Decides-eqb, nat_tests}
+use Rattle.std.proofs.lemmas.Bool.Decides.{nat_tests}
 use Rattle.std.proofs.lemmas.Slice.Eq.{bytes_eq-Decides}
 use Rattle.model_core.specs.declared.state.Sizes.{Sizes}
 use Rattle.model_core.specs.Domains.{class_count, first_outside}
@@ -101,11 +101,10 @@ passes_replay z are = both_hold _ _ (ap is_none are.limits) (test_small _ _ are.
 pub tabular : (z : Sizes) → is_table z ≡ true → AreTableSizes z
 tabular z e =
     let p = and_parts (is_none (first_outside z)) _ e in
-    let q = and_parts (z.domains == 1) _ p.1 in
-    record { limits = none_there (first_outside z) p.0; one = (Decides-eqb z.domains 1).0 q.0; pools = small _ _ q.1 }
+    record { limits = none_there (first_outside z) p.0; pools = small _ _ p.1 }
 
 pub passes_table : (z : Sizes) → AreTableSizes z → is_table z ≡ true
-passes_table z are = both_hold _ _ (ap is_none are.limits) (both_hold _ _ ((Decides-eqb z.domains 1).1 are.one) (test_small _ _ are.pools))
+passes_table z are = both_hold _ _ (ap is_none are.limits) (test_small _ _ are.pools)
 
 -- ---- scripts
 

@@ -53,10 +53,9 @@ pub record AreReplaySizes (z : Sizes) : Type 0 where
   pub limits : first_outside z ≡ None
   pub pools : 2 * reserve z + 2 ≤ z.pools
 
--- a heap on which a text of a table may run: one domain, and 32 pools beside those that are kept free and one for each class
+-- a heap on which a text of a table may run: 32 pools beside those that are kept free and one for each class
 pub record AreTableSizes (z : Sizes) : Type 0 where
   pub limits : first_outside z ≡ None
-  pub one : z.domains ≡ 1
   pub pools : reserve z + z.classes + 32 ≤ z.pools
 
 -- what is asked for is within its limits: those of a heap that has all its classes, or those of a script

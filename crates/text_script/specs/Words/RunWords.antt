@@ -1,5 +1,5 @@
 -- The words of a command with options: `run`, `replay` or `table`.
-use Rattle.std.specs.Prelude.{ℕ, ◌+◌, ◌*◌, ◌==◌, ◌&&◌, Bool, nat_le, List, [], ◌∷◌, Option, Some, None, is_none, option_and_then, unwrap_or, codes, bytes_eq, if◌then◌else◌}
+use Rattle.std.specs.Prelude.{ℕ, ◌+◌, ◌*◌, ◌&&◌, Bool, nat_le, List, [], ◌∷◌, Option, Some, None, is_none, option_and_then, unwrap_or, codes, bytes_eq, if◌then◌else◌}
 use Rattle.model_core.specs.declared.state.Sizes.{Sizes}
 use Rattle.model_core.specs.Domains.{sizes_of, class_count, first_outside, reserve}
 use Rattle.text_script.specs.declared.words.options.Given.{Given}
@@ -22,9 +22,9 @@ is_run z = is_none (first_outside z)
 abbrev pub is_replay : Sizes → Bool
 is_replay z = is_none (first_outside z) && nat_le (2 * reserve z + 2) z.pools
 
--- a text of a table may have those of one domain, with 32 pools beside those that are kept free and one for each class
+-- a text of a table may have those with 32 pools beside those that are kept free and one for each class
 abbrev pub is_table : Sizes → Bool
-is_table z = is_none (first_outside z) && (z.domains == 1 && nat_le (reserve z + z.classes + 32) z.pools)
+is_table z = is_none (first_outside z) && nat_le (reserve z + z.classes + 32) z.pools
 
 abbrev pub if_sizes : (Sizes → Bool) → Sizes → Option Sizes
 if_sizes test z = if test z then Some z else None
@@ -41,6 +41,6 @@ run_sizes words = sizes_after (codes "run") 2 is_run words
 abbrev pub replay_sizes : List (List ℕ) → Option Sizes
 replay_sizes words = sizes_after (codes "replay") 2 is_replay words
 
--- the sizes that the words of a table ask for, where the words are taken
+-- the sizes that the words of a table ask for, where the words are taken: without the option it has 1 domain
 abbrev pub table_sizes : List (List ℕ) → Option Sizes
 table_sizes words = sizes_after (codes "table") 1 is_table words

@@ -29,7 +29,7 @@ pub enum Job {
     Run(Sizes),
     /// A run of a script under a schedule, on a heap of these sizes.
     Replay(Sizes),
-    /// A run of a text of a table on a heap of these sizes, which has one domain.
+    /// A run of a text of a table on a heap of these sizes. Of several domains each has a section of the text.
     Table(Sizes),
     /// A script that is generated and written.
     Gen(Generated),
@@ -94,7 +94,7 @@ pub(crate) fn is_table(sizes: &Sizes) -> bool
     requires { sizes.now.classes ≡ class_count }
     ensures { result ≡ may_be_table sizes.now }
 {
-    if !is_run(sizes) || sizes.domains != 1 {
+    if !is_run(sizes) {
         return false;
     }
     let needed = reserve(sizes.domains, sizes.minor_words) + sizes.classes + TABLE_POOLS;

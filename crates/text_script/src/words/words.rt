@@ -166,8 +166,8 @@ fn asked(words: &[String]) -> Option<Job>
 ///   class of each domain, and one. What isn't given is 2 domains, 32,768 words and 512 pools.
 /// - `replay`, followed by the same options. There are twice the pools that are kept free, and two more, at
 ///   least.
-/// - `table`, followed by the same options, where N is 1, as it is without the option. There are 32 pools
-///   at least beside those that are kept free and one for each class.
+/// - `table`, followed by the same options, where what isn't given is 1 domain. There are 32 pools at least
+///   beside those that are kept free and one for each class.
 /// - `gen BASE N C` or `load BASE N C`: a script whose integers count from BASE, which is 0 to
 ///   1,000,000, for N domains, which are 1 to 8, with C commands for each domain, which are at most
 ///   200,000 in all domains.

@@ -1,11 +1,11 @@
-use Rattle.std.proofs.Common.{◌≡◌, ◌+◌, ◌≤◌, ◌*◌, ◌∙◌, ℕ, ℤ, List, refl, ap, sym, subst, arith}
+use Rattle.std.proofs.Common.{◌≡◌, ◌+◌, ◌∙◌, ℕ, ℤ, List, refl, sym, subst, arith}
 use Rattle.model_core.specs.declared.command.Command.TheVariants.{PutInt}
 use Rattle.model_core.specs.declared.entry.Entry.{Entry}
 use Rattle.model_core.specs.declared.state.Sizes.{Sizes}
 use Rattle.table_text.specs.declared.line.TableLine.TheVariants as line_of
 use Rattle.table_text.specs.declared.machine.reply.LineReply.{LineReply}
 use Rattle.weak_laws.specs.Maps.Calls.{PerformedBy}
-use Rattle.weak_maps.specs.Beside.{refusals_by}
+use Rattle.weak_maps.specs.Beside.{refusals_by, writings_by}
 use Rattle.weak_maps.specs.Crowds.{CrowdedAt, PutCounts, PutSpends, RefusedAlone, made_by}
 use Rattle.weak_maps.specs.Guards.{PutGuards}
 use Rattle.weak_maps.specs.Returns.{PutsAt}
@@ -51,6 +51,8 @@ returns-clause-done g c =
     let given = first.given in
     let none = first.refused in
     let left = first.labels in
+    let wrote = first.written in
+    let writes = subst (λ (e : ℕ). writings_by e new ≡ writings_by e mid) o x.written in
     let refused : refusals_by d mid ≡ refusals_by d old = omega (arith, given, none) in
     let middle : made_by z d mid + g.M.Machine.labels_left c.perform-value.new.m ≡ 4294967295 = subst (λ (w : Sizes × ℕ). made_by w.0 w.1 mid + g.M.Machine.labels_left c.perform-value.new.m ≡ 4294967295) (λ i. (s i, o i)) c.stands-2.ensures.labels in
     let last : made_by z d new + g.M.Machine.labels_left c.map_put-reply.new.m ≡ 4294967295 = subst (λ (w : Sizes × ℕ). made_by w.0 w.1 new + g.M.Machine.labels_left c.map_put-reply.new.m ≡ 4294967295) (λ i. ((x.sizes ∙ s) i, (x.domain ∙ o) i)) c.stands-3.ensures.labels in
@@ -59,4 +61,4 @@ returns-clause-done g c =
     subst (λ (w : ℕ × ℕ). PutCounts (made_by z d new) w.0 w.1 (refusals_by d new) c.map_put-reply.result) (λ i. (made i, refused i)) (put_counts _ _ _ _ _ _ c.map_put-reply.result middle last spent) in
     subst (λ (a : LineReply). LineDone z d old (line_of.Put r c.args.value) a new) (sym c.said.ensures)
     (put_done z c.stands.ensures.limits d old mid new r c.args.value c.perform-value.result c.map_put-reply.result (key_of r c.args.value c.requires.fits) performed x.grows made refused guards puts crowded alone
-    (record { reply = c.map_put-reply.result; counts = counts; written = refl }))
+    (record { reply = c.map_put-reply.result; counts = counts; written = refl; spared = omega (arith, wrote, writes) }))

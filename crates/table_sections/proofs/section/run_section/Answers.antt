@@ -11,7 +11,7 @@ use Rattle.weak_laws.proofs.OfMaps.FrontLemmas.{prefix_same, prefix_trans}
 use Rattle.weak_maps.proofs.GuardLemmas.{guards_later, guards_same, guards_then, guards_twice}
 use Rattle.weak_maps.proofs.StayLemmas.{respects_within}
 use Rattle.table_sections.specs.Lines.{IsSharedLine}
-use Rattle.table_sections.specs.Sections.{LineDone, OnMap, SectionRuns}
+use Rattle.table_sections.specs.Sections.{LineDone, SectionRuns}
 use Rattle.table_sections.proofs.SectionLemmas.{none_left}
 use Rattle.table_sections.proofs.section.run_section.Goals as goal
 

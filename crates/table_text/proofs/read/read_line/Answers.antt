@@ -1,20 +1,19 @@
-use Rattle.std.proofs.Common.{ap, sym, ◌∙◌, arith}
-use Rattle.table_text.specs.Forms.{made}
+use Rattle.std.proofs.Common.{rules, ◌≡◌, ◌+◌, List, ℤ, sym, subst, Some, IfErr}
+use Rattle.std.specs.Prelude.{Option}
+use Rattle.text_script.specs.declared.fault.ScriptFault.{ScriptFault}
 use Rattle.table_text.specs.Texts.{most_lines}
-use Rattle.table_text.specs.Spelling.{line_text}
-use Rattle.table_text.specs.Faults.{first_out_of_range}
-use Rattle.table_text.proofs.LineLemmas.{out_of_range, line_made}
+use Rattle.table_text.specs.Faults.{SaysRow}
+use Rattle.table_text.proofs.LineLemmas.{line_read, row_fault}
 use Rattle.table_text.proofs.read.read_line.Goals as goal
 
-pub returns-in-Some-first_out_of_range-clause-fault : goal.returns-in-Some-first_out_of_range-clause-fault
-returns-in-Some-first_out_of_range-clause-fault c =
-    let kinds = c.operands_of-operands.result.now in
-    out_of_range (most_lines c.args.version) c.args.before c.args.text.now c.first_text.result.0.now _ c.in-Some.word kinds c.in-Some-numbers_of.numbers.items c.first_text.ensures c.in-Some.ensures c.operands_of-operands.ensures.operands
-    c.in-Some-numbers_of.ensures.value _ (omega arith) (c.in-Some-first_out_of_range.ensures ∙ ap (first_out_of_range 1 kinds) c.as_slice.ensures.value)
+row : (c : goal.After-line_of_row) → SaysRow c.args.text.now c.in-Some.word c.as_slice.result.now
+row c = subst (λ (ns : List ℤ). SaysRow c.args.text.now c.in-Some.word ns) (sym c.as_slice.ensures.value) c.in-Some.ensures.row
 
-pub returns-in-None-clause-text : goal.returns-in-None-clause-text
-returns-in-None-clause-text c =
-    let kinds = c.operands_of-operands.result.now in
-    (line_made (most_lines c.args.version) c.args.before c.args.text.now c.first_text.result.0.now _ c.in-Some.word kinds c.in-Some-numbers_of.numbers.items c.first_text.ensures c.in-Some.ensures c.operands_of-operands.ensures.operands
-    c.in-Some-numbers_of.ensures.value c.in-Some-numbers_of.ensures.counted (c.in-None.ensures ∙ ap (first_out_of_range 1 kinds) c.as_slice.ensures.value)).text
-    ∙ ap line_text (sym (c.make.ensures ∙ ap (made c.in-Some.word) c.as_slice-in-None.ensures.value))
+pub returns-in-Some-clause-text : goal.returns-in-Some-clause-text
+returns-in-Some-clause-text c =
+    line_read c.line_of_row.result c.args.text.now c.in-Some.word c.as_slice.result.now (most_lines c.args.version) (c.args.before + 2) c.args.before (row c) (search rules) (search rules) (search rules)
+
+pub returns-in-Some-clause-fault : goal.returns-in-Some-clause-fault
+returns-in-Some-clause-fault c =
+    let same = row_fault c.args.text.now c.in-Some.word c.as_slice.result.now (most_lines c.args.version) (c.args.before + 2) c.args.before (row c) in
+    subst (λ (o : Option ScriptFault). IfErr c.line_of_row.result (λ e. o ≡ Some e)) (sym same) (search rules)
