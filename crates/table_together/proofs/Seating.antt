@@ -120,19 +120,19 @@ over_one s p h d x ls t r a y ready task ran back stops =
       last = last;
     }
 
-pub over_each : (s : SeatsView) (p : Places) (h : List Entry) (d : ℕ) (xs : List SeatView) (lss : List (List TableLine)) (ts : List Task) (rs : List Ran) (as : List (List LineReply)) (ys : List SeatView) → AllReady s p d xs → AllTasks xs lss ts → AllRan s ts rs → AllBack s rs as ys
-    → StopsEach (sizes_in s.heap.config) h ys → AllOver (sizes_in s.heap.config) p h d lss as
+pub over_each : (s : SeatsView) (p : Places) (h : List Entry) (d : ℕ) (xs : List SeatView) (lss : List (List TableLine)) (ts : List Task) (rs : List Ran) (more : List (List LineReply)) (ys : List SeatView) → AllReady s p d xs → AllTasks xs lss ts → AllRan s ts rs → AllBack s rs more ys
+    → StopsEach (sizes_in s.heap.config) h ys → AllOver (sizes_in s.heap.config) p h d lss more
 over_each s p h d [] [] [] [] [] ys ready tasks ran back stops = tt
-over_each s p h d [] [] [] [] (a ∷ as) ys ready tasks ran back stops = absurd back
-over_each s p h d [] [] [] (r ∷ rs) as ys ready tasks ran back stops = absurd ran
-over_each s p h d [] [] (t ∷ ts) rs as ys ready tasks ran back stops = absurd tasks
-over_each s p h d [] (ls ∷ lss) ts rs as ys ready tasks ran back stops = absurd tasks
-over_each s p h d (x ∷ xs) [] ts rs as ys ready tasks ran back stops = absurd tasks
-over_each s p h d (x ∷ xs) (ls ∷ lss) [] rs as ys ready tasks ran back stops = absurd tasks
-over_each s p h d (x ∷ xs) (ls ∷ lss) (t ∷ ts) [] as ys ready tasks ran back stops = absurd ran
+over_each s p h d [] [] [] [] (a ∷ more) ys ready tasks ran back stops = absurd back
+over_each s p h d [] [] [] (r ∷ rs) more ys ready tasks ran back stops = absurd ran
+over_each s p h d [] [] (t ∷ ts) rs more ys ready tasks ran back stops = absurd tasks
+over_each s p h d [] (ls ∷ lss) ts rs more ys ready tasks ran back stops = absurd tasks
+over_each s p h d (x ∷ xs) [] ts rs more ys ready tasks ran back stops = absurd tasks
+over_each s p h d (x ∷ xs) (ls ∷ lss) [] rs more ys ready tasks ran back stops = absurd tasks
+over_each s p h d (x ∷ xs) (ls ∷ lss) (t ∷ ts) [] more ys ready tasks ran back stops = absurd ran
 over_each s p h d (x ∷ xs) (ls ∷ lss) (t ∷ ts) (r ∷ rs) [] ys ready tasks ran back stops = absurd back
-over_each s p h d (x ∷ xs) (ls ∷ lss) (t ∷ ts) (r ∷ rs) (a ∷ as) [] ready tasks ran back stops = absurd back
-over_each s p h d (x ∷ xs) (ls ∷ lss) (t ∷ ts) (r ∷ rs) (a ∷ as) (y ∷ ys) ready tasks ran back stops = (
+over_each s p h d (x ∷ xs) (ls ∷ lss) (t ∷ ts) (r ∷ rs) (a ∷ more) [] ready tasks ran back stops = absurd back
+over_each s p h d (x ∷ xs) (ls ∷ lss) (t ∷ ts) (r ∷ rs) (a ∷ more) (y ∷ ys) ready tasks ran back stops = (
   over_one s p h d x ls t r a y ready.0 tasks.0 ran.0 back.0 stops.0,
-  over_each s p h (suc d) xs lss ts rs as ys ready.1 tasks.1 ran.1 back.1 stops.1,
+  over_each s p h (suc d) xs lss ts rs more ys ready.1 tasks.1 ran.1 back.1 stops.1,
 )

@@ -86,5 +86,5 @@ pub record IsBack (s : SeatsView) (r : Ran) (replies : List LineReply) (x : Seat
 
 abbrev pub AllBack : SeatsView → List Ran → List (List LineReply) → List SeatView → Type 0
 AllBack s [] [] [] = Unit {0}
-AllBack s (r ∷ rs) (a ∷ as) (x ∷ xs) = IsBack s r a x × AllBack s rs as xs
+AllBack s (r ∷ rs) (a ∷ more) (x ∷ xs) = IsBack s r a x × AllBack s rs more xs
 AllBack s _ _ _ = ⊥
