@@ -13,3 +13,4 @@ pub mod StatusLemmas
 pub mod TableLemmas
 mod ReplayLemmas
 pub mod ReaderLemmas
+pub mod SharingLemmas

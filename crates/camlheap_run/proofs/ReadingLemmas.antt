@@ -1,6 +1,6 @@
 -- What the bytes that were read say of those that the source tells.
 use Rattle.std.proofs.Common.{◌≡◌, ◌≢◌, ℕ, ◌≤◌, List, ◌++◌, length, take, inl, inr, refl, sym, ap, ◌∙◌, subst, append-nil, arith, None, Some, Ok, Err}
-use Rattle.std.specs.Prelude.{◌⊎◌}
+use Rattle.std.specs.Prelude.{◌⊎◌, ◌==◌, true, false}
 use Rattle.std.specs.declared.option.Option.{Option}
 use Rattle.std.proofs.Math.Seq.{take-append_seam}
 use Rattle.std.proofs.lemmas.List.{take_all}
@@ -20,7 +20,8 @@ use Rattle.text_schedule.specs.declared.text.replay.ReplayFault.TheVariants.{Mem
 use Rattle.text_schedule.specs.Text.Replays.{IsUnlessNoMemory, Replayed, SpellsReplay}
 use Rattle.table_text.specs.Texts.{Text}
 use Rattle.table_text.specs.Spelling.{Spells as SpellsTable}
-use Rattle.camlheap_run.specs.Reading.{AreRead, IsNoReplay, IsNoScript, most_read, Tells, TellsFirst, TellsReplay, TellsScript, TellsTable}
+use Rattle.table_text.specs.Sections.Spelling.{Sections, SpellsSections}
+use Rattle.camlheap_run.specs.Reading.{AreRead, IsNoReplay, IsNoScript, IsTableText, OneOrMore, most_read, Tells, TellsFirst, TellsReplay, TellsScript, TellsSections, TellsTable}
 
 -- the first bytes of the source are those that were read
 front_is_read : (all bytes rest : List ℕ) → all ≡ bytes ++ rest → length bytes ≤ most_read → IsAtEnd (Some rest) ⊎ (length bytes ≡ most_read) → take most_read all ≡ bytes
@@ -51,6 +52,18 @@ told_script domains before after bytes s read tells = told (Spells Three domains
 
 pub told_table : (before after : Option (List ℕ)) (bytes : List ℕ) (text : Text) → AreRead before after bytes → TellsTable before text → SpellsTable text bytes
 told_table before after bytes text read tells = told (SpellsTable text) (λ all spells. spells.few_bytes) before after bytes read tells
+
+pub told_sections : (domains : ℕ) (before after : Option (List ℕ)) (bytes : List ℕ) (sections : Sections) → AreRead before after bytes → TellsSections domains before sections → SpellsSections domains sections bytes
+told_sections domains before after bytes sections read tells = told (SpellsSections domains sections) (λ all spells. spells.few_bytes) before after bytes read tells
+
+-- a source that tells a text for one domain, and one that tells a text for several
+pub tells_one : (domains : ℕ) (before : Option (List ℕ)) → (domains == 1) ≡ true → Tells (IsTableText domains) before → (text : Text) × TellsTable before text
+tells_one domains None one tells = absurd tells
+tells_one domains (Some bytes) one tells = subst (λ b. OneOrMore b ((text : Text) × SpellsTable text bytes) ((sections : Sections) × SpellsSections domains sections bytes)) one tells
+
+pub tells_more : (domains : ℕ) (before : Option (List ℕ)) → (domains == 1) ≡ false → Tells (IsTableText domains) before → (sections : Sections) × TellsSections domains before sections
+tells_more domains None more tells = absurd tells
+tells_more domains (Some bytes) more tells = subst (λ b. OneOrMore b ((text : Text) × SpellsTable text bytes) ((sections : Sections) × SpellsSections domains sections bytes)) more tells
 
 pub told_replay : (z : Sizes) (before after : Option (List ℕ)) (bytes : List ℕ) (r : Replayed) → AreRead before after bytes → TellsReplay z before r → SpellsReplay z.domains z.pools r bytes
 told_replay z before after bytes r read tells = told (SpellsReplay z.domains z.pools r) (λ all spells. spells.few) before after bytes read tells

@@ -21,17 +21,17 @@ use Rattle.table_text.specs.Machine.Machine.{all_made, made_by}
 use Rattle.table_text.specs.Machine.Texts.{replies_text}
 use Rattle.table_run.specs.Running.{TextRuns, all_rooms, rooms_of}
 use Rattle.camlheap_run.specs.declared.table.Opened.{Opened}
-use Rattle.camlheap_run.specs.Tables.{HasRunTable, IsOpened, MayHoldTable, ephemerons_for, WritesFrontOfTable, WritesTable}
+use Rattle.camlheap_run.specs.Tables.{HasRunTable, IsOpened, MayRunAlone, ephemerons_for, WritesFrontOfTable, WritesTable}
 use Rattle.camlheap_run.specs.Writing.{AppendsFront}
 use Rattle.camlheap_run.proofs.SectionLemmas.{rooms_fit}
 
 -- the heap that is started is one of the sizes asked for
-pub table_sizes_are : (z : Sizes) (n : ℕ) → MayHoldTable z → sizes_in (alone z.minor_words z.pools 0 n) ≡ z
+pub table_sizes_are : (z : Sizes) (n : ℕ) → MayRunAlone z → sizes_in (alone z.minor_words z.pools 0 n) ≡ z
 table_sizes_are z n may =
     let same : sizes_of z.domains z.pools z.minor_words z.classes ≡ z = refl in
-    ap (λ (d : ℕ). sizes_of d z.pools z.minor_words class_count) (sym may.0.one) ∙ (ap (λ (c : ℕ). sizes_of z.domains z.pools z.minor_words c) (sym may.1) ∙ same)
+    ap (λ (d : ℕ). sizes_of d z.pools z.minor_words class_count) (sym may.1) ∙ (ap (λ (c : ℕ). sizes_of z.domains z.pools z.minor_words c) (sym may.0.1) ∙ same)
 
-pub opened_sizes : (z : Sizes) (ls : Text) (o : Opened) → MayHoldTable z → IsOpened z ls o → sizes_in o.session.config ≡ z
+pub opened_sizes : (z : Sizes) (ls : Text) (o : Opened) → MayRunAlone z → IsOpened z ls o → sizes_in o.session.config ≡ z
 opened_sizes z ls o may opened = ap (λ (s : SessionView). sizes_in s.config) opened.session ∙ table_sizes_are z (ephemerons_for ls) may
 
 -- no label was given out
@@ -42,10 +42,10 @@ pub opened_room : (z : Sizes) (ls : Text) (o : Opened) → IsOpened z ls o → o
 opened_room z ls o opened = ap (λ (s : SessionView). s.room) opened.session
 
 -- and within the limits
-pub table_fits : (z : Sizes) (n : ℕ) → MayHoldTable z → n ≤ 200000 → first_outside (alone z.minor_words z.pools 0 n) ≡ None
+pub table_fits : (z : Sizes) (n : ℕ) → MayRunAlone z → n ≤ 200000 → first_outside (alone z.minor_words z.pools 0 n) ≡ None
 table_fits z n may few =
     let none : 0 ≤ 200000 = omega arith in
-    rooms_fit (alone z.minor_words z.pools 0 n) (ap outside_sizes (table_sizes_are z n may) ∙ may.0.limits) none few
+    rooms_fit (alone z.minor_words z.pools 0 n) (ap outside_sizes (table_sizes_are z n may) ∙ may.0.0.limits) none few
 
 -- there are few lines
 pub few_lines : (version : Version) → most_lines version ≤ 199984

@@ -7,7 +7,9 @@ use Rattle.model_core.specs.declared.state.Sizes.{Sizes}
 use Rattle.model_core.specs.Output.{summary}
 use Rattle.heap_rule.specs.Ending.{EndedHeap}
 use Rattle.camlheap_run.specs.declared.status.Status.{Status}
-use Rattle.camlheap_run.specs.declared.status.Status.TheVariants.{Done, Usage, Schedule, NotReplayable, WriteFault, Memory}
+use Rattle.camlheap_run.specs.declared.status.Status.TheVariants.{Done, Usage, Script, Schedule, NotReplayable, ReadFault, WriteFault, Memory}
+use Rattle.camlheap_run.specs.declared.reading.NoScript.{NoScript}
+use Rattle.camlheap_run.specs.declared.reading.NoScript.TheVariants.{ReadFault as NoRead, Refused, Memory as NoMemory}
 use Rattle.text_script.specs.declared.words.job.Generated.{Generated}
 use Rattle.text_script.specs.Words.Jobs.{load_sizes}
 use Rattle.camlheap_run.specs.Generating.{script_of}
@@ -84,6 +86,12 @@ IsSilent _ = Unit {0}
 abbrev pub IsWriteFault : Status → Type 0
 IsWriteFault (WriteFault ended) = Unit {0}
 IsWriteFault _ = ⊥
+
+-- what it comes to that a source gave no text
+abbrev pub read_status : NoScript → Status
+read_status NoRead = ReadFault
+read_status (Refused fault) = Script fault
+read_status NoMemory = Memory
 
 -- the run was done, or memory ran out before its first byte
 abbrev pub IsDoneOrMemory : Status → Type 0

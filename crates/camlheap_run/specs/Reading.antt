@@ -1,5 +1,5 @@
 -- What is read of a source. Where the source tells its bytes, these are the bytes that it had left.
-use Rattle.std.specs.Prelude.{◌≡◌, ◌≢◌, ℕ, ◌≤◌, ◌⊎◌, List, length, take, Option, None, Some}
+use Rattle.std.specs.Prelude.{◌≡◌, ◌≢◌, ℕ, ◌≤◌, ◌==◌, ◌⊎◌, Bool, true, false, List, length, take, Option, None, Some, if◌then◌else◌}
 use Rattle.std.specs.Io.KnownBytes.{Consumes, IsAtEnd}
 use Rattle.text_script.specs.declared.version.Version.TheVariants.{Two, Three}
 use Rattle.text_script.specs.Script.{Scripted}
@@ -17,6 +17,9 @@ use Rattle.text_schedule.specs.declared.text.replay.ReplayFault.TheVariants.{Mem
 use Rattle.text_schedule.specs.Text.Replays.{HasFault, Replayed, SpellsReplay}
 use Rattle.table_text.specs.Texts.{Text}
 use Rattle.table_text.specs.Spelling.{Spells as SpellsTable}
+use Rattle.table_text.specs.Faults.{first_fault as table_fault}
+use Rattle.table_text.specs.Sections.Spelling.{Sections, SpellsSections}
+use Rattle.table_text.specs.Sections.Faults.{first_sections_fault}
 
 -- the most bytes that are read: one more than a script may have
 abbrev pub most_read : ℕ
@@ -42,6 +45,10 @@ ReadsScript domains before after script = ReadsAll (Spells Three domains script)
 -- they spell this text of a table
 abbrev pub ReadsTable : Option (List ℕ) → Option (List ℕ) → Text → Type 0
 ReadsTable before after text = ReadsAll (SpellsTable text) before after
+
+-- they spell these sections of one
+abbrev pub ReadsSections : ℕ → Option (List ℕ) → Option (List ℕ) → Sections → Type 0
+ReadsSections domains before after sections = ReadsAll (SpellsSections domains sections) before after
 
 -- they spell this replay
 abbrev pub ReadsReplay : Sizes → Option (List ℕ) → Option (List ℕ) → Replayed → Type 0
@@ -84,6 +91,23 @@ TellsScript domains told script = Tells (Spells Three domains script) told
 -- they spell this text of a table
 abbrev pub TellsTable : Option (List ℕ) → Text → Type 0
 TellsTable told text = Tells (SpellsTable text) told
+
+-- they spell these sections of one
+abbrev pub TellsSections : ℕ → Option (List ℕ) → Sections → Type 0
+TellsSections domains told sections = Tells (SpellsSections domains sections) told
+
+-- the first where there is one domain, and else the second
+abbrev pub OneOrMore : Bool → Type 0 → Type 0 → Type 0
+OneOrMore true One More = One
+OneOrMore false One More = More
+
+-- the bytes spell a text of a table for so many domains: of several each has a section
+abbrev pub IsTableText : ℕ → List ℕ → Type 0
+IsTableText domains bytes = OneOrMore (domains == 1) ((text : Text) × SpellsTable text bytes) ((sections : Sections) × SpellsSections domains sections bytes)
+
+-- the first fault of such a text
+abbrev pub first_table_fault : ℕ → List ℕ → Option ScriptFault
+first_table_fault domains bytes = if domains == 1 then table_fault bytes else first_sections_fault domains bytes
 
 -- the source tells its bytes, and those that are read have this fault
 abbrev pub TellsFirst : {F : Type 0} → (List ℕ → F → Type 0) → Option (List ℕ) → F → Type 0

@@ -3,19 +3,18 @@ use Rattle.std.specs.Prelude.{ℕ, List, Option, Some}
 use Rattle.text_script.specs.declared.version.Version.TheVariants.{Three}
 use Rattle.text_script.specs.declared.fault.ScriptFault.{ScriptFault}
 use Rattle.text_script.specs.Faults.{first_fault as script_fault}
-use Rattle.table_text.specs.Faults.{first_fault as table_fault}
 use Rattle.model_core.specs.declared.state.Sizes.{Sizes}
 use Rattle.text_schedule.specs.declared.text.replay.ReplayFault.TheVariants.{Script}
 use Rattle.text_schedule.specs.Text.Replays.{HasFault}
 use Rattle.text_script.specs.declared.words.job.Job.{Job}
 use Rattle.text_script.specs.declared.words.job.Job.TheVariants.{Run, Replay, Table}
-use Rattle.camlheap_run.specs.Reading.{IsFirst}
+use Rattle.camlheap_run.specs.Reading.{IsFirst, first_table_fault}
 
 -- the words ask that a text is read, and this holds of which fault its grammar says is the first of bytes
 abbrev pub AsksToRead : Option Job → ((List ℕ → ScriptFault → Type 0) → Type 0) → Type 0
 AsksToRead (Some (Run z)) Holds = Holds (IsFirst (script_fault Three z.domains))
 AsksToRead (Some (Replay z)) Holds = Holds (λ bytes fault. HasFault z.domains z.pools bytes (Script fault))
-AsksToRead (Some (Table z)) Holds = Holds (IsFirst table_fault)
+AsksToRead (Some (Table z)) Holds = Holds (IsFirst (first_table_fault z.domains))
 AsksToRead _ Holds = ⊥
 
 -- the words ask that a text is read

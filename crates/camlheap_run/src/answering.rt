@@ -1,12 +1,13 @@
-//! Writes the replies of a text of a table, line by line.
-ghost use Rattle.std.specs.Prelude.{◌≡◌, ◌≤◌, take};
+//! Writes the replies of a text of a table, line by line, and of several domains section by section.
+ghost use Rattle.std.specs.Prelude.{◌≡◌, ◌≤◌, length, map, take};
 ghost use Rattle.model_core.specs.Output.{line};
 ghost use Rattle.text_ends.specs.Faults.{HasCause};
 ghost use Rattle.table_text.specs.Machine.Texts.{line_reply_text, replies_text};
+ghost use Rattle.camlheap_run.specs.Tables.{section_text, sections_text};
 ghost use Rattle.camlheap_run.specs.Writing.{Writes};
 
 use crate::putting::{put, put_integer, put_number};
-use crate::writing::write_all;
+use crate::writing::{write_all, write_heading};
 use table_text::machine::LineReply;
 use text_ends::{Failed, Sink};
 
@@ -50,6 +51,34 @@ pub(crate) fn write_answers<K: Sink>(out: &mut K, replies: &[LineReply]) -> Resu
 {
     'replies: for reply in replies {
         write_answer(out, *reply)?;
+    }
+    Ok(())
+}
+
+// Writes the section of a domain: its heading, and the lines of its replies.
+fn write_section<K: Sink>(
+    out: &mut K,
+    domain: u32,
+    replies: &[LineReply],
+) -> Result<(), Failed>
+    ensures cause { HasCause (K.faults out.old) (K.faults out.new) result }
+    ensures bytes { Writes (K.written out.old) (K.written out.new) result (section_text domain replies.now) }
+{
+    write_heading(out, domain)?;
+    write_answers(out, replies)
+}
+
+// Writes the sections of all domains, in order.
+pub(crate) fn write_sections<K: Sink>(
+    out: &mut K,
+    sections: &[Vec<LineReply>],
+) -> Result<(), Failed>
+    requires { length sections.now ≤ 8 }
+    ensures cause { HasCause (K.faults out.old) (K.faults out.new) result }
+    ensures bytes { Writes (K.written out.old) (K.written out.new) result (sections_text 0 (map (λ v. v.items) sections.now)) }
+{
+    'sections: for (domain, replies) in sections.iter().enumerate() {
+        write_section(out, domain as u32, replies.as_slice())?;
     }
     Ok(())
 }

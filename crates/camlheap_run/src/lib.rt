@@ -15,6 +15,7 @@ mod replaying;
 mod report;
 mod run;
 mod sectioning;
+mod sharing;
 mod source;
 mod status;
 mod summary;

@@ -10,14 +10,16 @@ ghost use Rattle.text_schedule.specs.declared.text.replay.ReplayFault.{ReplayFau
 ghost use Rattle.text_schedule.specs.Text.Replays.{Replayed};
 ghost use Rattle.table_text.specs.Texts.{Text};
 ghost use Rattle.table_text.specs.Faults.{first_fault as table_fault};
-ghost use Rattle.camlheap_run.specs.Reading.{AreRead, IsFirst, IsNoReplay, IsNoScript, ReadsFault, ReadsFirstFault, ReadsReplay, ReadsReplayFault, ReadsScript, ReadsTable, TellsFault, TellsFirst, TellsReplay, TellsReplayFault, TellsScript, TellsTable};
+ghost use Rattle.table_text.specs.Sections.Spelling.{Sections};
+ghost use Rattle.table_text.specs.Sections.Faults.{first_sections_fault};
+ghost use Rattle.camlheap_run.specs.Reading.{AreRead, IsFirst, IsNoReplay, IsNoScript, ReadsFault, ReadsFirstFault, ReadsReplay, ReadsReplayFault, ReadsScript, ReadsSections, ReadsTable, TellsFault, TellsFirst, TellsReplay, TellsReplayFault, TellsScript, TellsSections, TellsTable};
 
 use crate::together::read_together;
 use model_core::state::Sizes;
 use std::alloc::{AllocError, Global};
 use std::sync::Wait;
 use std::thread::Threads;
-use table_text::{TableText, read_table};
+use table_text::{SectionsText, TableText, read_sections, read_table};
 use text_ends::Source;
 use text_schedule::text::{Replay, ReplayFault, read_replay};
 use text_script::{Script, ScriptFault, Version, read_script};
@@ -191,6 +193,34 @@ pub(crate) fn table_of<S: Source>(alloc: Global, src: &mut S) -> Result<TableTex
         Err(ReadStop::Memory) => return Err(NoScript::Memory),
     };
     match read_table(alloc, &bytes) {
+        Ok(text) => Ok(text),
+        Err(fault) => Err(no_script(fault)),
+    }
+}
+
+// Reads the source, and the sections of a table's text that its bytes spell.
+pub(crate) fn sections_of<S: Source>(
+    alloc: Global,
+    domains: u32,
+    src: &mut S,
+) -> Result<SectionsText, NoScript>
+    requires { domains ≤ 8 }
+    ensures later { S.faults src.old ≤ S.faults src.new }
+    ensures fault { result ≡ Err NoScript.ReadFault → Rose (S.faults src.old) (S.faults src.new) }
+    ensures failed { S.faults src.old < S.faults src.new → result ≡ Err NoScript.ReadFault }
+    ensures text { IfOk result (ReadsSections domains (S.left src.old) (S.left src.new)) }
+    ensures refused { (f : ScriptFault) → result ≡ Err (NoScript.Refused f) → ReadsFirstFault (IsFirst (first_sections_fault domains)) (S.left src.old) (S.left src.new) f }
+
+    // What spells a text isn't refused, and what has a fault isn't read.
+    ensures only_faults { (sections : Sections) (f : ScriptFault) → TellsSections domains (S.left src.old) sections → result ≡ Err (NoScript.Refused f) → ⊥ }
+    ensures only_texts { (f : ScriptFault) → TellsFirst (IsFirst (first_sections_fault domains)) (S.left src.old) f → IsErr result }
+{
+    let bytes = match read_bytes(alloc, src) {
+        Ok(bytes) => bytes,
+        Err(ReadStop::Fault) => return Err(NoScript::ReadFault),
+        Err(ReadStop::Memory) => return Err(NoScript::Memory),
+    };
+    match read_sections(alloc, domains, &bytes) {
         Ok(text) => Ok(text),
         Err(fault) => Err(no_script(fault)),
     }

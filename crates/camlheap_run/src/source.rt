@@ -6,19 +6,18 @@ ghost use Rattle.text_script.specs.declared.fault.ScriptFault.{ScriptFault};
 ghost use Rattle.text_schedule.specs.declared.text.replay.ReplayFault as replay_fault;
 ghost use Rattle.text_schedule.specs.declared.text.replay.ReplayFault.TheVariants.{NotReplayable as NotReplayableOf, Schedule as ScheduleOf, Script as ScriptOf};
 ghost use Rattle.text_schedule.specs.Text.Replays.{HasFault, Replayed};
-ghost use Rattle.table_text.specs.Texts.{Text};
-ghost use Rattle.table_text.specs.Faults.{first_fault as table_fault};
 ghost use Rattle.text_ends.specs.Faults.{Rose};
-ghost use Rattle.camlheap_run.specs.Reading.{IsFirst, ReadsFault, ReadsFirstFault, ReadsReplayFault, TellsFault, TellsFirst, TellsReplay, TellsReplayFault, TellsScript, TellsTable};
+ghost use Rattle.camlheap_run.specs.Reading.{IsFirst, IsTableText, ReadsFault, ReadsFirstFault, ReadsReplayFault, Tells, TellsFault, TellsFirst, TellsReplay, TellsReplayFault, TellsScript, first_table_fault};
 ghost use Rattle.camlheap_run.specs.Running.{AreRunSizes};
 ghost use Rattle.camlheap_run.specs.Replaying.{MayReplay, ReplaysToEnd, StopsReplaying, fault_status};
 ghost use Rattle.camlheap_run.specs.Tables.{MayHoldTable, TableRunsToEnd, TableStopsWriting};
-ghost use Rattle.camlheap_run.specs.Outcome.{RunsToEnd, StopsWriting, IsReplayAnswer, IsSourceAnswer, IsSilent, IsWriteFault, IsEither, IsDoneOrMemory};
+ghost use Rattle.camlheap_run.specs.Outcome.{read_status, RunsToEnd, StopsWriting, IsReplayAnswer, IsSourceAnswer, IsSilent, IsWriteFault, IsEither, IsDoneOrMemory};
 
 use crate::Status;
-use crate::reading::{NoReplay, NoScript, replay_of, script_of, table_of};
+use crate::reading::{NoReplay, NoScript, replay_of, script_of, sections_of, table_of};
 use crate::replaying::run_replay;
 use crate::run::run_script;
+use crate::sharing::run_together;
 use crate::table::run_table;
 use model_core::state::Sizes;
 use std::alloc::Global;
@@ -111,8 +110,19 @@ pub(crate) fn run_replay_source<S: Source, K: Sink>(
     }
 }
 
-// Reads the text of a table, runs it, and writes its replies.
-pub(crate) fn run_table_source<R: Wait, S: Source, K: Sink>(
+// What it comes to that a source gave no text.
+fn nothing_read(why: NoScript) -> Status
+    ensures { result ≡ read_status why }
+{
+    match why {
+        NoScript::ReadFault => Status::ReadFault,
+        NoScript::Refused(fault) => Status::Script(fault),
+        NoScript::Memory => Status::Memory,
+    }
+}
+
+// Reads the text of a table, runs it, and writes its replies. Of several domains each runs its section.
+pub(crate) fn run_table_source<R: Threads + Wait + Sync, S: Source, K: Sink>(
     rt: &R,
     alloc: Global,
     sizes: &Sizes,
@@ -124,24 +134,29 @@ pub(crate) fn run_table_source<R: Wait, S: Source, K: Sink>(
     ensures cut { (ended : Option EndedHeap) → result ≡ Status.WriteFault ended → TableStopsWriting sizes.now ended (S.left src.old) (S.left src.new) (K.written out.old) (K.written out.new) }
     ensures quiet { IsSilent result → out.new ≡ out.old }
     ensures answers { IsSourceAnswer result }
-    ensures script { (f : ScriptFault) → result ≡ Status.Script f → ReadsFirstFault (IsFirst table_fault) (S.left src.old) (S.left src.new) f }
+    ensures script { (f : ScriptFault) → result ≡ Status.Script f → ReadsFirstFault (IsFirst (first_table_fault sizes.now.domains)) (S.left src.old) (S.left src.new) f }
     ensures reads { S.faults src.old ≤ S.faults src.new }
     ensures writes { K.faults out.old ≤ K.faults out.new }
     ensures read_fault { result ≡ Status.ReadFault → Rose (S.faults src.old) (S.faults src.new) }
     ensures write_fault { (ended : Option EndedHeap) → result ≡ Status.WriteFault ended → Rose (K.faults out.old) (K.faults out.new) }
     ensures read_failed { S.faults src.old < S.faults src.new → result ≡ Status.ReadFault }
     ensures write_failed { K.faults out.old < K.faults out.new → IsWriteFault result }
-    ensures complete { (text : Text) → TellsTable (S.left src.old) text
+    ensures complete { Tells (IsTableText sizes.now.domains) (S.left src.old)
         → ¬ (Rose (S.faults src.old) (S.faults src.new)) → ¬ (Rose (K.faults out.old) (K.faults out.new))
         → IsDoneOrMemory result }
-    ensures refused { (f : ScriptFault) → TellsFirst (IsFirst table_fault) (S.left src.old) f
+    ensures refused { (f : ScriptFault) → TellsFirst (IsFirst (first_table_fault sizes.now.domains)) (S.left src.old) f
         → ¬ (Rose (S.faults src.old) (S.faults src.new))
         → IsEither result (Status.Script f) Status.Memory }
 {
-    match table_of(alloc, src) {
-        Ok(text) => run_table(rt, alloc, sizes, &text, out),
-        Err(NoScript::ReadFault) => Status::ReadFault,
-        Err(NoScript::Refused(fault)) => Status::Script(fault),
-        Err(NoScript::Memory) => Status::Memory,
+    if sizes.domains == 1 {
+        match table_of(alloc, src) {
+            Ok(text) => run_table(rt, alloc, sizes, &text, out),
+            Err(why) => nothing_read(why),
+        }
+    } else {
+        match sections_of(alloc, sizes.domains, src) {
+            Ok(text) => run_together(rt, alloc, sizes, text, out),
+            Err(why) => nothing_read(why),
+        }
     }
 }

@@ -4,7 +4,7 @@ ghost use Rattle.heap_rule.specs.Ending.{EndedHeap};
 ghost use Rattle.text_ends.specs.Faults.{Rose};
 ghost use Rattle.table_text.specs.Texts.{most_lines};
 ghost use Rattle.camlheap_run.specs.Outcome.{IsRunAnswer, IsWriteFault};
-ghost use Rattle.camlheap_run.specs.Tables.{IsOpened, MayHoldTable, WritesFrontOfTable, WritesTable};
+ghost use Rattle.camlheap_run.specs.Tables.{IsOpened, MayRunAlone, WritesFrontOfTable, WritesTable};
 
 use crate::Status;
 use crate::answering::write_answers;
@@ -31,7 +31,7 @@ pub(crate) struct Opened {
 
 // Starts the heap. There is room for an ephemeron of each slot, and for one of each line.
 fn open(alloc: Global, sizes: &Sizes, text: &TableText) -> Result<Opened, AllocError>
-    requires sizes { MayHoldTable sizes.now }
+    requires sizes { MayRunAlone sizes.now }
     requires few { length text.now.lines ≤ most_lines text.now.version }
     ensures { IfOk result (IsOpened sizes.now text.now) }
 {
@@ -53,7 +53,7 @@ pub(crate) fn run_table<R: Wait, K: Sink>(
     text: &TableText,
     out: &mut K,
 ) -> Status
-    requires sizes { MayHoldTable sizes.now }
+    requires sizes { MayRunAlone sizes.now }
     requires few { length text.now.lines ≤ most_lines text.now.version }
     ensures later { K.faults out.old ≤ K.faults out.new }
     ensures done { (ended : Option EndedHeap) → result ≡ Status.Done ended → WritesTable sizes.now text.now ended (K.written out.old) (K.written out.new) }

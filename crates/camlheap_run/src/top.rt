@@ -9,12 +9,10 @@ ghost use Rattle.text_script.specs.declared.fault.ScriptFault.{ScriptFault};
 ghost use Rattle.text_schedule.specs.declared.text.replay.ReplayFault as replay_fault;
 ghost use Rattle.text_schedule.specs.declared.text.replay.ReplayFault.TheVariants.{NotReplayable as NotReplayableOf, Schedule as ScheduleOf};
 ghost use Rattle.text_schedule.specs.Text.Replays.{Replayed};
-ghost use Rattle.table_text.specs.Texts.{Text};
-ghost use Rattle.table_text.specs.Faults.{first_fault as table_fault};
 ghost use Rattle.text_ends.specs.Faults.{Rose};
 ghost use Rattle.camlheap_run.specs.Generating.{WritesScript, WritesFrontOfScript};
 ghost use Rattle.camlheap_run.specs.Words.{AsksToRead, AsksToReplay, ReadsSource};
-ghost use Rattle.camlheap_run.specs.Reading.{IsFirst, ReadsFirstFault, ReadsReplayFault, TellsFault, TellsFirst, TellsReplay, TellsReplayFault, TellsScript, TellsTable};
+ghost use Rattle.camlheap_run.specs.Reading.{IsFirst, IsTableText, ReadsFirstFault, ReadsReplayFault, Tells, TellsFault, TellsFirst, TellsReplay, TellsReplayFault, TellsScript, first_table_fault};
 ghost use Rattle.camlheap_run.specs.Replaying.{ReplaysToEnd, StopsReplaying, fault_status};
 ghost use Rattle.camlheap_run.specs.Tables.{TableRunsToEnd, TableStopsWriting};
 ghost use Rattle.camlheap_run.specs.Outcome.{RunsToEnd, StopsWriting, LoadsToEnd, StopsLoading, IsSilent, IsWriteFault, IsEither, IsDoneOrMemory};
@@ -38,7 +36,8 @@ use text_script::words::{Job, read_words};
 ///   with the turns and the complete collections of the schedule, and writes the replies as `run` does. They are the same each
 ///   time: those of the scheduled history.
 /// - `table` reads a text of a table from the source, runs it line by line on a heap of one domain, on this thread, and
-///   writes a line for each of its lines.
+///   writes a line for each of its lines. With several domains it runs the section of each in a thread, all on one weak map and
+///   the same slots, and writes for each domain the line `domain d` and the lines of its section.
 /// - `gen` reads nothing and writes a generated script.
 /// - `load` reads nothing, runs the generated script on a heap of the usual sizes, and writes a line for each domain:
 ///   `domain d commands R ints I sum S`, with the number of its commands, the number of replies `int v` among theirs, and
@@ -72,8 +71,9 @@ pub fn camlheap<R: Threads + Wait + Sync, S: Source, K: Sink, G: Gate + Sync>(
     ensures replay_cut { (z : Sizes) (ended : Option EndedHeap) → asked_job (map string_bytes words.now) ≡ Some (Job.Replay z) → result ≡ Status.WriteFault ended
         → StopsReplaying z ended (S.left src.old) (S.left src.new) (K.written out.old) (K.written out.new) }
 
-    // What was read and written by `table`: the replies are those of the machine of the text, whose registers, bindings
-    // and slots are those of the heap at a prefix of its history for each line.
+    // What was read and written by `table`: of one domain the replies are those of the machine of the text, whose registers,
+    // bindings and slots are those of the heap at a prefix of its history for each line; of several the replies of each
+    // section are those of its lines in order, between prefixes of one history, in which all share one map.
     ensures table { (z : Sizes) (ended : Option EndedHeap) → asked_job (map string_bytes words.now) ≡ Some (Job.Table z) → result ≡ Status.Done ended
         → TableRunsToEnd z ended (S.left src.old) (S.left src.new) (K.written out.old) (K.written out.new) }
     ensures table_cut { (z : Sizes) (ended : Option EndedHeap) → asked_job (map string_bytes words.now) ≡ Some (Job.Table z) → result ≡ Status.WriteFault ended
@@ -132,12 +132,12 @@ pub fn camlheap<R: Threads + Wait + Sync, S: Source, K: Sink, G: Gate + Sync>(
         → ¬ (Rose (S.faults src.old) (S.faults src.new))
         → IsEither result (fault_status f) Status.Memory }
 
-    ensures table_complete { (z : Sizes) (text : Text) → asked_job (map string_bytes words.now) ≡ Some (Job.Table z)
-        → TellsTable (S.left src.old) text
+    ensures table_complete { (z : Sizes) → asked_job (map string_bytes words.now) ≡ Some (Job.Table z)
+        → Tells (IsTableText z.domains) (S.left src.old)
         → ¬ (Rose (S.faults src.old) (S.faults src.new)) → ¬ (Rose (K.faults out.old) (K.faults out.new))
         → IsDoneOrMemory result }
     ensures table_refused { (z : Sizes) (f : ScriptFault) → asked_job (map string_bytes words.now) ≡ Some (Job.Table z)
-        → TellsFirst (IsFirst table_fault) (S.left src.old) f
+        → TellsFirst (IsFirst (first_table_fault z.domains)) (S.left src.old) f
         → ¬ (Rose (S.faults src.old) (S.faults src.new))
         → IsEither result (Status.Script f) Status.Memory }
 

@@ -23,6 +23,9 @@ use Rattle.table_text.specs.Machine.Machine.{MachineAnswers, MachineRuns, TableS
 use Rattle.table_text.specs.Machine.Texts.{replies_text}
 use Rattle.table_run.specs.Running.{LinesRun, TextRuns}
 use Rattle.table_run.specs.Standing.{Places}
+use Rattle.camlheap_run.specs.Reading.{ReadsSections, ReadsTable}
+use Rattle.camlheap_run.specs.Tables.{ReadsAndDoes, WritesSections, WritesTable}
+use Rattle.check_laws.proofs.OfRefusedProgram.Tables.{alone}
 use Rattle.check_laws.specs.Runs.Explained.{RunsAreOne, RunsAreExplained, ReplaysAreExplained, SpawningRunsAreExplained, TablesAreExplained}
 
 same_end : (d : ℕ) (e : Entry) → is_end_of d e ≡ is_judged_end d e
@@ -98,6 +101,8 @@ answered : (version : tables.Version) (z : Sizes) (lines : List TableLine) (repl
 answered version z lines replies h x = let runs = machine_runs version z x.places [] opened x.first lines replies x.state x.last x.lines_run in record { states = runs.0; runs = runs.1 }
 
 pub explained_tables : TablesAreExplained
-explained_tables z ended left_before left_after before bytes x =
-    let replies = x.writes.replies in
-    (replies, sym (same_rest before bytes (replies_text replies) x.writes.written), answered x.text.version z x.text.lines replies x.writes.ran.past.history x.writes.ran.runs)
+explained_tables z ended left_before left_after before bytes one x =
+    let written = Some (before ++ bytes) in
+    let r = alone (ReadsAndDoes (ReadsTable left_before left_after) (λ text. WritesTable z text ended (Some before) written)) (ReadsAndDoes (ReadsSections z.domains left_before left_after) (λ sections. WritesSections z sections ended (Some before) written)) z.domains one x in
+    let replies = r.does.replies in
+    (r.text, replies, r.reads, sym (same_rest before bytes (replies_text replies) r.does.written), answered r.text.version z r.text.lines replies r.does.ran.past.history r.does.ran.runs)

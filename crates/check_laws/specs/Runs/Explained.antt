@@ -10,7 +10,9 @@ use Rattle.judge_plain.specs.Spawned.Explains.{ExplainsSpawning}
 use Rattle.camlheap_run.specs.Outcome.{RunsToEnd}
 use Rattle.camlheap_run.specs.Replaying.{ReplaysToEnd}
 use Rattle.camlheap_run.specs.Run.{IsRunOf}
+use Rattle.camlheap_run.specs.Reading.{ReadsTable}
 use Rattle.camlheap_run.specs.Tables.{TableRunsToEnd}
+use Rattle.table_text.specs.Texts.{Text}
 use Rattle.table_text.specs.declared.machine.reply.LineReply.{LineReply}
 use Rattle.table_text.specs.Machine.Machine.{MachineAnswers}
 use Rattle.table_text.specs.Machine.Texts.{replies_text}
@@ -34,7 +36,8 @@ abbrev pub ReplaysAreExplained : Type 0
 ReplaysAreExplained = (z : Sizes) (ended : Option EndedHeap) (left_before left_after : Option (List ℕ)) (before bytes : List ℕ)
     → (x : ReplaysToEnd z ended left_before left_after (Some before) (Some (before ++ bytes))) → (h : List Entry) × Explains z x.replay.script.sections bytes h
 
--- and of a text of a table the machine may give the replies that were written
+-- and of a text of a table for one domain the machine may give the replies that were written
 abbrev pub TablesAreExplained : Type 0
 TablesAreExplained = (z : Sizes) (ended : Option EndedHeap) (left_before left_after : Option (List ℕ)) (before bytes : List ℕ)
-    → (x : TableRunsToEnd z ended left_before left_after (Some before) (Some (before ++ bytes))) → (replies : List LineReply) × (replies_text replies ≡ bytes) × MachineAnswers x.text.version z x.text.lines replies
+    → z.domains ≡ 1 → TableRunsToEnd z ended left_before left_after (Some before) (Some (before ++ bytes))
+    → (text : Text) × (replies : List LineReply) × ReadsTable left_before left_after text × (replies_text replies ≡ bytes) × MachineAnswers text.version z text.lines replies

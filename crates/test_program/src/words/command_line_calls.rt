@@ -34,11 +34,12 @@ const RUNS: [(&str, (u32, u32, u32)); 6] = [
     ("run --minor 4096 --pools=39", (2, 4096, 39)),
 ];
 
-// Words of a table, and the minor words and pools that they ask for.
-const TABLES: [(&str, (u32, u32)); 3] = [
-    ("table", (32768, 512)),
-    ("table --domains=1 --pools 600", (32768, 600)),
-    ("table --minor 4096 --pools 51", (4096, 51)),
+// Words of a table, and the domains, minor words and pools that they ask for.
+const TABLES: [(&str, (u32, u32, u32)); 4] = [
+    ("table", (1, 32768, 512)),
+    ("table --domains=1 --pools 600", (1, 32768, 600)),
+    ("table --domains 8 --pools 600", (8, 32768, 600)),
+    ("table --minor 4096 --pools 51", (1, 4096, 51)),
 ];
 
 // Numbers of a script that may be asked for.
@@ -69,7 +70,7 @@ const REFUSED: [&str; 36] = [
     "run --help",
     "run --",
     "run --domain 1",
-    "table --domains 2",
+    "table --domains 9",
     "table --minor 4096 --pools 50",
     "table table",
     "gen",
@@ -104,9 +105,9 @@ fn lines_are_taken_or_refused(rt: HostRuntime) -> Result<(), Fail> {
     }
     for (line, asked) in &TABLES {
         let job = Job::Table(Sizes {
-            domains: 1,
-            pools: asked.1,
-            minor_words: asked.0,
+            domains: asked.0,
+            pools: asked.2,
+            minor_words: asked.1,
             classes: 9,
         });
         same(

@@ -5,7 +5,7 @@ use Rattle.text_script.specs.declared.words.job.Generated.{Generated}
 use Rattle.text_script.specs.declared.words.job.Job.TheVariants.{Replay}
 use Rattle.text_script.specs.Words.Jobs.{asked_job}
 use Rattle.camlheap_run.specs.Outcome.{IsSourceAnswer, LoadsToEnd, StopsLoading}
-use Rattle.camlheap_run.specs.Reading.{ReadsFirstFault, TellsReplay, TellsScript}
+use Rattle.camlheap_run.specs.Reading.{IsTableText, ReadsFirstFault, Tells, TellsReplay, TellsScript}
 use Rattle.camlheap_run.specs.Words.{AsksToRead}
 use Rattle.camlheap_run.proofs.top.camlheap.Goals as goal
 
@@ -46,7 +46,12 @@ pub returns-in-Ok-Some-Table-clause-not_replayable : goal.returns-in-Ok-Some-Tab
 returns-in-Ok-Some-Table-clause-not_replayable g c = λ w is. absurd (subst IsSourceAnswer is c.run_table_source.ensures.answers)
 
 pub returns-in-Ok-Some-Table-clause-table_complete : goal.returns-in-Ok-Some-Table-clause-table_complete
-returns-in-Ok-Some-Table-clause-table_complete g c = λ z lines asked told sure written. c.run_table_source.ensures.complete lines told sure written
+returns-in-Ok-Some-Table-clause-table_complete g c = λ z asked told sure written.
+    let taken = c.in-Ok-Some-Table.ensures.job in
+    let outer = c.in-Ok-Some-Table.field-0-is in
+    let inner = c.in-Ok-Some-Table.field-0-0-is in
+    let same : c.in-Ok-Some-Table.sizes ≡ z = cc in
+    c.run_table_source.ensures.complete (subst (λ (y : Sizes). Tells (IsTableText y.domains) (g.S.Source.left c.args.src.now)) (sym same) told) sure written
 
 pub returns-in-Ok-Some-Load-clause-loaded : goal.returns-in-Ok-Some-Load-clause-loaded
 returns-in-Ok-Some-Load-clause-loaded g c = λ asked ended is done.

@@ -1,0 +1,145 @@
+-- The sections of a table's text fit a heap, and what is written for them.
+use Rattle.std.proofs.Math.Nat.{le-max_left, le-max_right}
+use Rattle.std.proofs.Common.{◌≡◌, ◌≢◌, Bool, false, cond, ℕ, zero, suc, ◌+◌, ◌<◌, ◌≤◌, List, [], ◌∷◌, ◌++◌, map, length, get_or, take, drop, true, refl, sym, ap, subst, ◌∙◌, arith, append_assoc, append-nil, sum_by, Some, None}
+use Rattle.std.specs.Prelude.{Option, not, ◌==◌}
+use Rattle.std.specs.List.{AllByRecursion, list_all}
+use Rattle.std.specs.Io.KnownBytes.{Appends}
+use Rattle.std.proofs.lemmas.Bool.{and_parts}
+use Rattle.std.proofs.lemmas.Bool.Decides.{nat_tests}
+use Rattle.model_core.specs.declared.state.Sizes.{Sizes}
+use Rattle.model_core.specs.Domains.{class_count, sizes_of, first_outside as outside_sizes}
+use Rattle.heap_rule.specs.declared.config.Config.{Config}
+use Rattle.heap_rule.specs.Ending.{EndedHeap}
+use Rattle.heap_rule.specs.Limits.{sizes_in, first_outside}
+use Rattle.text_script.proofs.ScriptLemmas.{total-cons}
+use Rattle.table_text.specs.declared.line.TableLine.{TableLine}
+use Rattle.table_text.specs.declared.line.TableLine.TheVariants.{Key, Forget, Put, Get, Del, SetWeak, GetWeak, Count, FullMajor}
+use Rattle.table_text.specs.declared.machine.reply.LineReply.{LineReply}
+use Rattle.table_text.specs.Forms.{parts, is_writable}
+use Rattle.table_text.specs.Sections.Spelling.{Sections, is_count, may_stand}
+use Rattle.table_sections.specs.Lines.{IsSharedLine}
+use Rattle.table_together.specs.Together.{SectionFits, SectionsFit, TogetherRuns}
+use Rattle.camlheap_run.specs.Tables.{AreSpelled, HasRunSections, MayHoldTable, WritesFrontOfSections, WritesSections, most_lines_of, section_text, sections_text}
+use Rattle.table_text.specs.Faults.{first_fault as table_fault}
+use Rattle.table_text.specs.Sections.Faults.{first_sections_fault}
+use Rattle.camlheap_run.specs.Reading.{OneOrMore, first_table_fault}
+use Rattle.camlheap_run.specs.Writing.{AppendsFront}
+use Rattle.camlheap_run.proofs.SectionLemmas.{rooms_fit}
+
+-- no section has more lines than all
+pub few_most : (sections : Sections) → most_lines_of sections ≤ sum_by length sections
+few_most [] = omega arith
+few_most (ls ∷ sections) = omega (arith, few_most sections, total-cons ls sections)
+
+-- a line of the grammar is one that a section may have
+shared_line : (l : TableLine) → may_stand l ≡ true → IsSharedLine l
+shared_line (Key r) e = e
+shared_line (Forget r) e = e
+shared_line (Put r v) e = e
+shared_line (Get r) e = e
+shared_line (Del r) e = e
+shared_line (SetWeak i r) e = e
+shared_line (GetWeak d i) e = e
+shared_line Count e = cc
+shared_line FullMajor e = e
+
+shared_lines : (ls : List TableLine) → list_all may_stand ls ≡ true → AllByRecursion IsSharedLine ls
+shared_lines [] e = tt
+shared_lines (l ∷ ls) e =
+    let p = and_parts (may_stand l) (list_all may_stand ls) e in
+    (shared_line l p.0, shared_lines ls p.1)
+
+each_fits : (k : Config) (sections : Sections) → list_all (list_all may_stand) sections ≡ true → most_lines_of sections + 3 ≤ k.ephes → AllByRecursion (SectionFits k) sections
+each_fits k [] e room = tt
+each_fits k (ls ∷ sections) e room =
+    let p = and_parts (list_all may_stand ls) (list_all (list_all may_stand) sections) e in
+    let own = le-max_left (length ls) (most_lines_of sections) in
+    let others = le-max_right (length ls) (most_lines_of sections) in
+    (record { lines_fit = shared_lines ls p.0; room = omega (arith, room, own) }, each_fits k sections p.1 (omega (arith, room, others)))
+
+pub sections_fit : (z : Sizes) (k : Config) (sections : Sections) → AreSpelled z sections → sizes_in k ≡ z → k.ephes ≡ most_lines_of sections + 3 → SectionsFit k sections
+sections_fit z k sections text sizes room = record {
+  each = each_fits k sections text.1.writable (omega (arith, room));
+  domains = ap (λ (y : Sizes). y.domains) sizes ∙ sym text.1.one_each;
+}
+
+-- the heap has room for them
+pub room_within : (z : Sizes) (sections : Sections) (n : ℕ) → MayHoldTable z → AreSpelled z sections → n ≡ most_lines_of sections + 3
+    → first_outside (record { domains = z.domains; minor_words = z.minor_words; pools = z.pools; finals = 0; ephes = n }) ≡ None
+room_within z sections n may text is =
+    let few = few_most sections in
+    let same : sizes_of z.domains z.pools z.minor_words z.classes ≡ z = refl in
+    let sizes = ap (λ (c : ℕ). outside_sizes (sizes_of z.domains z.pools z.minor_words c)) (sym may.1) ∙ ap outside_sizes same ∙ may.0.limits in
+    let k : Config = record { domains = z.domains; minor_words = z.minor_words; pools = z.pools; finals = 0; ephes = n } in
+    rooms_fit k sizes (omega arith) (omega (arith, few, is, text.1.few_lines))
+
+-- what is written for the sections before one, and for it
+module _ {V : Type 0} (view : V → List LineReply) where
+  pub written_on : (d : ℕ) (xs : List V) (i : ℕ) (x : V) → i < length xs → sections_text d (map view (take (suc i) xs)) ≡ sections_text d (map view (take i xs)) ++ section_text (d + i) (view (get_or xs i x))
+  written_on d [] i x below = absurd (omega arith)
+  written_on d (y ∷ xs) zero x below = append-nil (section_text d (view y)) ∙ ap (λ n. section_text n (view y)) (omega arith)
+  written_on d (y ∷ xs) (suc i) x below =
+      ap (λ l. section_text d (view y) ++ l) (written_on (d + 1) xs i x (omega arith)) ∙ sym (append_assoc (section_text d (view y)) (sections_text (d + 1) (map view (take i xs))) _)
+      ∙ ap (λ n. (section_text d (view y) ++ sections_text (d + 1) (map view (take i xs))) ++ section_text n (view (get_or xs i x))) (omega arith)
+
+  pub written_cut : (d : ℕ) (xs : List V) (i : ℕ) → sections_text d (map view xs) ≡ sections_text d (map view (take i xs)) ++ sections_text (d + i) (map view (drop i xs))
+  written_cut d [] zero = refl
+  written_cut d [] (suc i) = refl
+  written_cut d (y ∷ xs) zero = ap (λ n. sections_text n (map view (y ∷ xs))) (omega arith)
+  written_cut d (y ∷ xs) (suc i) =
+      ap (λ l. section_text d (view y) ++ l) (written_cut (d + 1) xs i) ∙ sym (append_assoc (section_text d (view y)) (sections_text (d + 1) (map view (take i xs))) _)
+      ∙ ap (λ n. (section_text d (view y) ++ sections_text (d + 1) (map view (take i xs))) ++ sections_text n (map view (drop i xs))) (omega arith)
+
+  -- all of them by one: what is before it, it, and what is behind
+  pub written_at : (xs : List V) (i : ℕ) (x : V) → i < length xs → sections_text 0 (map view xs) ≡ sections_text 0 (map view (take i xs)) ++ (section_text i (view (get_or xs i x)) ++ sections_text (suc i) (map view (drop (suc i) xs)))
+  written_at xs i x below =
+      written_cut 0 xs (suc i) ∙ ap (λ l. l ++ sections_text (suc i) (map view (drop (suc i) xs))) (written_on 0 xs i x below)
+      ∙ append_assoc (sections_text 0 (map view (take i xs))) (section_text i (view (get_or xs i x))) (sections_text (suc i) (map view (drop (suc i) xs)))
+
+-- the run that was made
+has_run_sections : (z : Sizes) (sections : Sections) (replies : List (List LineReply)) (past : EndedHeap) (ended : Option EndedHeap) → past.sizes ≡ z → TogetherRuns past.sizes sections replies past.history → Some past ≡ ended → HasRunSections z sections replies ended
+has_run_sections z sections replies past ended sizes runs is = record {
+  past = past;
+  is_past = sym is;
+  sizes = sizes;
+  runs = subst (λ (y : Sizes). TogetherRuns y sections replies past.history) sizes runs;
+}
+
+pub writes_sections : (z : Sizes) (sections : Sections) (replies shown : List (List LineReply)) (past : EndedHeap) (ended : Option EndedHeap) (before after : Option (List ℕ)) → past.sizes ≡ z → TogetherRuns past.sizes sections replies past.history
+    → Some past ≡ ended → shown ≡ replies → Appends before after (sections_text 0 shown) → WritesSections z sections ended before after
+writes_sections z sections replies shown past ended before after sizes runs is same bytes = record {
+  replies = replies;
+  ran = has_run_sections z sections replies past ended sizes runs is;
+  written = subst (λ (rs : List (List LineReply)). Appends before after (sections_text 0 rs)) same bytes;
+}
+
+pub writes_sections_front : (z : Sizes) (sections : Sections) (replies shown : List (List LineReply)) (past : EndedHeap) (ended : Option EndedHeap) (before after : Option (List ℕ)) → past.sizes ≡ z → TogetherRuns past.sizes sections replies past.history
+    → Some past ≡ ended → shown ≡ replies → AppendsFront before after (sections_text 0 shown) → WritesFrontOfSections z sections ended before after
+writes_sections_front z sections replies shown past ended before after sizes runs is same bytes = record {
+  replies = replies;
+  ran = has_run_sections z sections replies past ended sizes runs is;
+  written = subst (λ (rs : List (List LineReply)). AppendsFront before after (sections_text 0 rs)) same bytes;
+}
+
+-- one domain, and several
+is_one : (n : ℕ) → n ≡ 1 → (n == 1) ≡ true
+is_one n e = grind (arith, nat_tests, e)
+
+is_more : (n : ℕ) → n ≢ 1 → (n == 1) ≡ false
+is_more n other = by (n == 1) refl
+  where
+    by : (b : Bool) → (n == 1) ≡ b → (n == 1) ≡ false
+    by true e = absurd (other (grind (arith, nat_tests, e)))
+    by false e = e
+
+pub one_of : (One More : Type 0) (n : ℕ) → n ≡ 1 → One → OneOrMore (n == 1) One More
+one_of One More n e x = subst (λ b. OneOrMore b One More) (sym (is_one n e)) x
+
+pub more_of : (One More : Type 0) (n : ℕ) → n ≢ 1 → More → OneOrMore (n == 1) One More
+more_of One More n other x = subst (λ b. OneOrMore b One More) (sym (is_more n other)) x
+
+pub fault_of_one : (n : ℕ) (bytes : List ℕ) → n ≡ 1 → first_table_fault n bytes ≡ table_fault bytes
+fault_of_one n bytes e = ap (λ b. cond b (table_fault bytes) (first_sections_fault n bytes)) (is_one n e)
+
+pub fault_of_more : (n : ℕ) (bytes : List ℕ) → n ≢ 1 → first_table_fault n bytes ≡ first_sections_fault n bytes
+fault_of_more n bytes other = ap (λ b. cond b (table_fault bytes) (first_sections_fault n bytes)) (is_more n other)

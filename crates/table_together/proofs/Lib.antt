@@ -1,0 +1,4 @@
+pub mod Jobs
+pub mod Laid
+pub mod Standing
+pub mod Seating

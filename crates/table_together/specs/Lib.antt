@@ -1,0 +1,4 @@
+pub mod Places
+pub mod Sections
+pub mod Together
+pub mod Preparing
