@@ -8,22 +8,22 @@ use Rattle.model_core.specs.History.{Legal}
 use Rattle.heap_rule.specs.declared.config.Config.{Config}
 use Rattle.heap_rule.specs.Limits.{first_outside, sizes_in}
 use Rattle.heap_rule.proofs.Sizes.{within}
-use Rattle.run_seats.specs.Seating.{AllSeatsOf, IsSeatOf, SeatView, SeatsView}
+use Rattle.run_seats.specs.Seating.{AllSeatsOf, IsSeatOf, SeatView, SeatsView, fresh_seats}
 use Rattle.run_seats.specs.Stopping.{StopsEach}
 use Rattle.table_text.specs.declared.line.TableLine.{TableLine}
 use Rattle.table_text.specs.declared.machine.reply.LineReply.{LineReply}
-use Rattle.table_together.specs.Preparing.{AllBack, AllRan, AllReady, AllTasks, MayRun}
+use Rattle.table_together.specs.Preparing.{AllBack, AllFresh, AllRan, AllReady, AllTasks, MayRun}
 use Rattle.table_together.specs.Together.{SectionFits, SectionsFit, TogetherRuns}
 use Rattle.table_together.specs.declared.laying.Places.{Places}
 use Rattle.table_together.specs.declared.running.Ran.{Ran}
 use Rattle.table_together.specs.declared.running.Task.{Task}
 use Rattle.table_together.proofs.Jobs.{few_ephes}
-use Rattle.table_together.proofs.Seating.{may_each, over_each}
+use Rattle.table_together.proofs.Seating.{all_fresh, all_length, may_each, over_each}
 use Rattle.table_together.proofs.Standing.{run_together}
 
 pub none_of : (o : Option ℕ) → ((n : ℕ) → o ≡ Some n → ⊥) → o ≡ None
-none_of None no = refl
-none_of (Some n) no = absurd (no n refl)
+none_of None never = refl
+none_of (Some n) never = absurd (never n refl)
 
 pub lists_length : {X : Type 0} (xss : List (Vec X Global)) → length (map (λ xs. xs.items) xss) ≡ length xss
 lists_length [] = refl
@@ -65,6 +65,17 @@ module _ (s : SeatsView) where
   back_here (r ∷ rs) [] ys back = absurd back
   back_here (r ∷ rs) (a ∷ more) [] back = absurd back
   back_here (r ∷ rs) (a ∷ more) (y ∷ ys) back = (back.0.here, back_here rs more ys back.1)
+
+-- the seats of a heap that was just made
+module _ (k : Config) (inside : first_outside k ≡ None) (s : SeatsView) (same : s.heap.config ≡ k) (xs : List SeatView) (are : xs ≡ fresh_seats s 0 k.domains) where
+  as_fresh : xs ≡ fresh_seats s 0 s.heap.config.domains
+  as_fresh = subst (λ (c : Config). xs ≡ fresh_seats s 0 c.domains) (sym same) are
+
+  pub made_fresh : AllFresh s 0 xs
+  made_fresh = all_fresh s xs (subst (λ (c : Config). IsWithinLimits (sizes_in c)) (sym same) (within k inside)) as_fresh
+
+  pub made_length : length xs ≡ k.domains
+  made_length = all_length s xs as_fresh ∙ ap (λ (c : Config). c.domains) same
 
 room_in : (k : Config) (lss : List (List TableLine)) → 0 < length lss → AllByRecursion (SectionFits k) lss → 3 ≤ k.ephes
 room_in k [] some each = absurd (omega (arith, some))
