@@ -4,10 +4,10 @@ ghost use Rattle.std.specs.Option.{ForSome};
 ghost use Rattle.table_together.specs.Preparing.{AllFresh, AllReady, IsFresh, IsReady};
 
 use crate::laying::{Places, find, lay_out};
-use heap_rule::{Config, StartFault};
+use heap_rule::Config;
 use run_seats::{Resting, Seats};
 use run_session::domains::SeatDomain;
-use std::alloc::Global;
+use std::alloc::{AllocError, Global};
 use std::sync::Wait;
 
 // The first domain makes what all share. None where an allocation is refused.
@@ -54,7 +54,7 @@ pub(crate) fn prepare_all<R: Wait>(
     seats: &Seats,
     config: Config,
     all: Vec<Resting>,
-) -> Result<(Places, Vec<Resting>), StartFault>
+) -> Result<(Places, Vec<Resting>), AllocError>
     requires some { 0 < length all.items }
     requires config { config ≡ seats.now.heap.config }
     requires fresh { AllFresh seats.now 0 all.items }
@@ -65,12 +65,12 @@ pub(crate) fn prepare_all<R: Wait>(
     let mut ready = Vec::with_capacity(alloc, all.len())?;
     let mut all = all;
     let Some((first, places)) = prepare_first(rt, seats, config, all.remove(0)) else {
-        return Err(StartFault::Memory);
+        return Err(AllocError);
     };
     ready.push(first)?;
     'others: for resting in all {
         let Some(resting) = prepare_other(rt, seats, config, resting, places) else {
-            return Err(StartFault::Memory);
+            return Err(AllocError);
         };
         ready.push(resting)?;
     }
