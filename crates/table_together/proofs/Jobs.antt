@@ -16,11 +16,10 @@ module _ {F J R : Type 0} (g : Shared F (J × Unit {0}) R) (f : F) where
   jobs_each Q each (j ∷ js) [] len gives = absurd (omega (arith, len))
   jobs_each Q each (j ∷ js) (r ∷ rs) len gives =
       let first = (gives 0 r (omega arith)).1 in
-      let same : j ≡ first.job = first.job_is j in
-      (
+      let same : j ≡ first.job = first.job_is j in (
         subst (λ (k : J). Q k r) (sym same) (each first.job r first.call),
         jobs_each Q each js rs (omega (arith, len)) (λ i d below.
-        let x = (gives (suc i) d (omega (arith, below))).1 in (refl, record { job = x.job; job_read = x.job_read; job_is = x.job_is; call = x.call })),
+            let x = (gives (suc i) d (omega (arith, below))).1 in (refl, record { job = x.job; job_read = x.job_read; job_is = x.job_is; call = x.call })),
       )
 
   -- what all jobs give, where each gives it

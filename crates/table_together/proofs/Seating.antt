@@ -1,12 +1,13 @@
 -- The seats of the domains, from the start of the heap to its end.
-use Rattle.std.proofs.Common.{◌≡◌, ⊎_elim, ℕ, zero, suc, ◌+◌, ◌*◌, ◌-◌, ◌≤◌, ◌<◌, Bool, true, false, List, [], ◌∷◌, ◌++◌, length, Option, Some, None, map, get_or, slice_index_or, refl, ap, sym, ◌∙◌, subst, arith}
+use Rattle.std.proofs.Common.{◌≡◌, ℕ, zero, suc, ◌+◌, ◌-◌, ◌≤◌, ◌<◌, List, [], ◌∷◌, ◌++◌, length, slice_index_or, refl, ap, sym, ◌∙◌, subst, arith}
+use Rattle.std.specs.Prelude.{remove}
 use Rattle.std.specs.List.{AllByRecursion}
 use Rattle.model_core.specs.declared.command.Command.TheVariants.{Poll}
 use Rattle.model_core.specs.declared.entry.Entry.{Entry}
 use Rattle.model_core.specs.declared.reply.Reply.TheVariants.{Done}
 use Rattle.model_core.specs.declared.state.Sizes.{Sizes}
 use Rattle.model_core.specs.Domains.{IsWithinLimits}
-use Rattle.model_core.specs.History.{IsPrefix, Legal, commands}
+use Rattle.model_core.specs.History.{commands}
 use Rattle.heap_rule.specs.Limits.{sizes_in}
 use Rattle.heap_rule.specs.Token.{SharedHeap}
 use Rattle.run_seats.specs.Seating.{IsSameUnlabelled, IsSeatOf, SeatView, SeatsView, fresh_seats}
@@ -19,7 +20,7 @@ use Rattle.table_sections.specs.Sections.{SectionDone}
 use Rattle.weak_laws.specs.Maps.Calls.{PerformedBy}
 use Rattle.weak_laws.proofs.OfMaps.FrontLemmas.{prefix_trans}
 use Rattle.table_together.specs.Places.{Finds, LaysOut}
-use Rattle.table_together.specs.Sections.{IsPrepared, Prepares}
+use Rattle.table_together.specs.Sections.{Prepares}
 use Rattle.table_together.specs.Preparing.{AllBack, AllFresh, AllRan, AllReady, AllTasks, HasRunTask, IsBack, IsFresh, IsReady, IsTask, MayRun}
 use Rattle.table_together.specs.Together.{SectionFits}
 use Rattle.table_together.specs.declared.laying.Places.{Places}
@@ -51,6 +52,10 @@ pub prepares_other : (z : Sizes) (p : Places) (d : ℕ) (old new : List Entry) �
 prepares_other z p zero old new some x = absurd (omega (arith, some))
 prepares_other z p (suc d) old new some x = x
 
+-- a seat that was resumed is of the same heap
+sizes_of : (s : SeatsView) (d : ℕ) (x mid : SeatView) → IsFresh s d x → IsSameUnlabelled x mid → sizes_in mid.heap.config ≡ sizes_in s.heap.config
+sizes_of s d x mid fresh same = ap (λ (v : SeatView). sizes_in v.heap.config) same ∙ ap (λ (h : SharedHeap). sizes_in h.config) fresh.here.heap
+
 -- a seat that was prepared
 pub ready_at : (s : SeatsView) (p : Places) (d : ℕ) (x mid new : SeatView) → IsFresh s d x → IsSameUnlabelled x mid → x.room ≤ mid.room → Polls x mid → IsSeatOf s new → Stands new → new.number ≡ mid.number
     → 4294967295 - mid.labels ≤ (4294967295 - new.labels) + 4 → mid.room ≤ new.room + 3 → Prepares (sizes_in s.heap.config) p d mid.front new.front → IsReady s p d new
@@ -70,6 +75,40 @@ ready_at s p d x mid new fresh same room polled here stands number labels left p
         prepares = prepares;
       };
     }
+
+-- the first domain's seat, once what all share is laid out and the seat rests
+pub first_ready : (s : SeatsView) (p : Places) (x mid new rest : SeatView) → IsFresh s 0 x → IsSameUnlabelled x mid → x.room ≤ mid.room → Polls x mid → rest ≡ new → IsSeatOf s rest → Stands rest → new.number ≡ mid.number
+    → 4294967295 - mid.labels ≤ (4294967295 - new.labels) + 4 → mid.room ≤ new.room + 3 → LaysOut (sizes_in mid.heap.config) mid.number mid.front new.front p → IsReady s p 0 rest
+first_ready s p x mid new rest fresh same room polled is here stands number labels left laid =
+    let sizes : sizes_in mid.heap.config ≡ sizes_in s.heap.config = sizes_of s 0 x mid fresh same in
+    let own : mid.number ≡ 0 = ap (λ (v : SeatView). v.number) same ∙ fresh.number in
+    let prepares : LaysOut (sizes_in s.heap.config) 0 mid.front new.front p = subst (λ (w : Sizes × ℕ). LaysOut w.0 w.1 mid.front new.front p) (λ i. (sizes i, own i)) laid in
+    subst (IsReady s p 0) (sym is) (ready_at s p 0 x mid new fresh same room polled (subst (IsSeatOf s) is here) (subst Stands is stands) number labels left prepares)
+
+-- another domain's, once it has found that
+pub other_ready : (s : SeatsView) (p : Places) (x mid new rest : SeatView) → IsFresh s x.number x → 0 < x.number → IsSameUnlabelled x mid → x.room ≤ mid.room → Polls x mid → rest ≡ new → IsSeatOf s rest → Stands rest → new.number ≡ mid.number
+    → 4294967295 - mid.labels ≤ 4294967295 - new.labels → mid.room ≤ new.room → Finds (sizes_in mid.heap.config) mid.number mid.front new.front p → IsReady s p x.number rest
+other_ready s p x mid new rest fresh some same room polled is here stands number labels left found =
+    let d : ℕ = x.number in
+    let sizes : sizes_in mid.heap.config ≡ sizes_in s.heap.config = sizes_of s d x mid fresh same in
+    let own : mid.number ≡ d = ap (λ (v : SeatView). v.number) same in
+    let finds : Finds (sizes_in s.heap.config) d mid.front new.front p = subst (λ (w : Sizes × ℕ). Finds w.0 w.1 mid.front new.front p) (λ i. (sizes i, own i)) found in
+    subst (IsReady s p d) (sym is)
+    (ready_at s p d x mid new fresh same room polled (subst (IsSeatOf s) is here) (subst Stands is stands) number (omega (arith, labels)) (omega (arith, left)) (prepares_other (sizes_in s.heap.config) p d mid.front new.front some finds))
+
+-- of seats of which none was used, the first and the others
+pub first_fresh : (s : SeatsView) (xs : List SeatView) (x : SeatView) → 0 < length xs → x ≡ slice_index_or xs 0 x → AllFresh s 0 xs → IsFresh s 0 x
+first_fresh s [] x some is all = absurd (omega (arith, some))
+first_fresh s (y ∷ ys) x some is all = subst (IsFresh s 0) (sym is) all.0
+
+pub others_fresh : (s : SeatsView) (xs : List SeatView) → 0 < length xs → AllFresh s 0 xs → AllFresh s 1 (remove xs 0)
+others_fresh s [] some all = absurd (omega (arith, some))
+others_fresh s (y ∷ ys) some all = all.1
+
+-- where seats are prepared, and one more is, they all are
+pub ready_and_one : (s : SeatsView) (p : Places) (d : ℕ) (xs : List SeatView) (x : SeatView) → AllReady s p d xs → IsReady s p (d + length xs) x → AllReady s p d (xs ++ x ∷ [])
+ready_and_one s p d [] x all one = let same : d + 0 ≡ d = omega arith in (subst (λ (n : ℕ). IsReady s p n x) same one, tt)
+ready_and_one s p d (y ∷ ys) x all one = let same : d + length (y ∷ ys) ≡ suc d + length ys = omega arith in (all.0, ready_and_one s p (suc d) ys x all.1 (subst (λ (n : ℕ). IsReady s p n x) same one))
 
 -- a section whose seat is ready may run
 may_one : (s : SeatsView) (p : Places) (d : ℕ) (x : SeatView) (ls : List TableLine) (t : Task) → s.heap.config.ephes ≤ 200000 → IsReady s p d x → IsTask x ls t → SectionFits s.heap.config ls → MayRun s t

@@ -32,9 +32,22 @@ laid_commands z d old new p x =
     let a = x.published in
     let b = a.3 in
     let e = b.3 in
-    let map : PerformedBy z d e.0 x.base (Alloc 6 0 512) (reply.Block x.labels.3) = subst (λ (h : List Entry). PerformedBy z d h x.base (Alloc 6 0 512) (reply.Block x.labels.3)) e.3 x.map in
-    (x.one, reply.Block x.labels.0, x.first, (x.two, reply.Block x.labels.1, x.second, (x.three, reply.Block x.labels.2, x.third,
-    (a.0, a.1, a.2, (b.0, b.1, b.2, (e.0, e.1, e.2, (x.base, reply.Block x.labels.3, map, x.shared)))))))
+    let map : PerformedBy z d e.0 x.base (Alloc 6 0 512) (reply.Block x.labels.3) = subst (λ (h : List Entry). PerformedBy z d h x.base (Alloc 6 0 512) (reply.Block x.labels.3)) e.3 x.map in (
+      x.one,
+      reply.Block x.labels.0,
+      x.first,
+      (
+        x.two,
+        reply.Block x.labels.1,
+        x.second,
+        (
+          x.three,
+          reply.Block x.labels.2,
+          x.third,
+          (a.0, a.1, a.2, (b.0, b.1, b.2, (e.0, e.1, e.2, (x.base, reply.Block x.labels.3, map, x.shared)))),
+        ),
+      ),
+    )
 
 -- what a domain has done once it is prepared, and polled again
 prepared_commands : (z : Sizes) (p : Places) (d : ℕ) (ready old : List Entry) (r : Reply) → IsPrepared z p d ready → PerformedBy z d ready old Poll r → commands old d ≡ preparation d

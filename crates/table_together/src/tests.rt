@@ -53,11 +53,7 @@ fn replies_of(domain: u8) -> [LineReply; 11] {
     ]
 }
 
-fn run_domains<R: Threads + Wait + Sync>(
-    rt: &R,
-    alloc: Global,
-    domains: u8,
-) -> Result<bool, Fail> {
+fn run_domains<R: Threads + Wait + Sync>(rt: &R, alloc: Global, domains: u8) -> Result<bool, Fail> {
     let config = Config {
         domains: u32::from(domains),
         minor_words: 4096,

@@ -41,9 +41,9 @@ all-preserved g c =
       back_room = omega (arith, back_more, back_fit, back_wide, short);
       resumed = λ later seats rest.
           let replies_are : map items_of c.all.replies.items ++ x.replies.items ∷ later ≡ map items_of c.push_reserved.new.self.items ++ later =
-            sym (ap (λ (rs : List (Vec LineReply Global)). map items_of rs ++ later) c.push_reserved.ensures.items ∙ map_more items_of c.all.replies.items x.replies later) in
+          sym (ap (λ (rs : List (Vec LineReply Global)). map items_of rs ++ later) c.push_reserved.ensures.items ∙ map_more items_of c.all.replies.items x.replies later) in
           let seats_are : c.all.back.items ++ y ∷ seats ≡ c.push_reserved-in-all.new.self.items ++ seats =
-            sym (ap (λ (xs : List SeatView). xs ++ seats) c.push_reserved-in-all.ensures.items ∙ append_assoc c.all.back.items (y ∷ []) seats) in
+          sym (ap (λ (xs : List SeatView). xs ++ seats) c.push_reserved-in-all.ensures.items ∙ append_assoc c.all.back.items (y ∷ []) seats) in
           subst (λ (w : List (List LineReply) × List SeatView). AllBack s (into_iter_items c.into_iter-ran-iterator.result) w.0 w.1) (λ i. (replies_are i, seats_are i))
           (c.all.invariant.resumed (x.replies.items ∷ later) (y ∷ seats) (subst (λ (rs : List Ran). AllBack s rs (x.replies.items ∷ later) (y ∷ seats)) (sym steps) (back, rest)));
     }
