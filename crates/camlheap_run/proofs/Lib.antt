@@ -14,3 +14,4 @@ pub mod TableLemmas
 mod ReplayLemmas
 pub mod ReaderLemmas
 pub mod SharingLemmas
+pub mod SourceLemmas

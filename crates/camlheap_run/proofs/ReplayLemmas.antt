@@ -3,7 +3,7 @@ use Rattle.std.proofs.Common.{◌≡◌, ◌≢◌, ℕ, zero, suc, ◌+◌, ◌
 use Rattle.std.specs.Prelude.{Option, flat_map, if◌then◌else◌, nat_le, not, slice_get, slice_index_or}
 use Rattle.std.proofs.lemmas.Bool.{and_parts}
 use Rattle.std.proofs.lemmas.Bool.Decides.{nat_tests}
-use Rattle.model_core.specs.Domains.{fits_domains, reserve}
+use Rattle.model_core.specs.Domains.{first_outside, fits_domains, reserve}
 use Rattle.std.specs.List.{AllByRecursion, list_all, range_with_len}
 use Rattle.std.specs.Io.KnownBytes.{Appends}
 use Rattle.std.proofs.lemmas.Option.{slice_get-get_or, slice_get_within}
@@ -198,10 +198,11 @@ first_fits false o is = cc
 small_by_test : (n : ℕ) → nat_le n 8 ≡ true → n ≤ 8
 small_by_test n is = grind (arith, nat_tests)
 
+pub few_domains : (z : Sizes) → first_outside z ≡ None → z.domains ≤ 8
+few_domains z limits = small_by_test z.domains (and_parts (nat_le 1 z.domains) (nat_le z.domains 8) (first_fits (fits_domains z) _ limits)).1
+
 pub small_domains : (z : Sizes) → MayReplayOn z → z.domains < 4294967296
-small_domains z may =
-    let few : z.domains ≤ 8 = small_by_test z.domains (and_parts (nat_le 1 z.domains) (nat_le z.domains 8) (first_fits (fits_domains z) _ may.0.limits)).1 in
-    omega (arith, few)
+small_domains z may = let few = few_domains z may.0.limits in omega (arith, few)
 
 -- a script that can be replayed is one without spawns
 pub replayed_script : (z : Sizes) (k : Config) (r : ReplayedText) → IsSpelledReplay z r → sizes_in k ≡ z → IsSpelled k.domains r.script

@@ -1,11 +1,11 @@
 -- The sections of a table's text fit a heap, and what is written for them.
 use Rattle.std.proofs.Math.Nat.{le-max_left, le-max_right}
-use Rattle.std.proofs.Common.{◌≡◌, ◌≢◌, Bool, false, cond, ℕ, zero, suc, ◌+◌, ◌<◌, ◌≤◌, List, [], ◌∷◌, ◌++◌, map, length, get_or, take, drop, true, refl, sym, ap, subst, ◌∙◌, arith, append_assoc, append-nil, sum_by, Some, None}
-use Rattle.std.specs.Prelude.{Option, not, ◌==◌}
+use Rattle.std.proofs.Common.{◌≡◌, ℕ, zero, suc, ◌+◌, ◌<◌, ◌≤◌, List, [], ◌∷◌, ◌++◌, map, length, get_or, take, drop, true, refl, sym, ap, subst, ◌∙◌, arith, append_assoc, append-nil, add-one, sum_by, Some, None}
+use Rattle.std.specs.Prelude.{Option}
 use Rattle.std.specs.List.{AllByRecursion, list_all}
 use Rattle.std.specs.Io.KnownBytes.{Appends}
 use Rattle.std.proofs.lemmas.Bool.{and_parts}
-use Rattle.std.proofs.lemmas.Bool.Decides.{nat_tests}
+use Rattle.model_core.specs.declared.entry.Entry.{Entry}
 use Rattle.model_core.specs.declared.state.Sizes.{Sizes}
 use Rattle.model_core.specs.Domains.{class_count, sizes_of, first_outside as outside_sizes}
 use Rattle.heap_rule.specs.declared.config.Config.{Config}
@@ -18,13 +18,11 @@ use Rattle.table_text.specs.declared.machine.reply.LineReply.{LineReply}
 use Rattle.table_text.specs.Forms.{parts, is_writable}
 use Rattle.table_text.specs.Sections.Spelling.{Sections, is_count, may_stand}
 use Rattle.table_sections.specs.Lines.{IsSharedLine}
-use Rattle.table_together.specs.Together.{SectionFits, SectionsFit, TogetherRuns}
+use Rattle.table_together.specs.Together.{SectionFits, SectionsFit, SectionsStand, TogetherRuns}
 use Rattle.camlheap_run.specs.Tables.{AreSpelled, HasRunSections, MayHoldTable, WritesFrontOfSections, WritesSections, most_lines_of, section_text, sections_text}
-use Rattle.table_text.specs.Faults.{first_fault as table_fault}
-use Rattle.table_text.specs.Sections.Faults.{first_sections_fault}
-use Rattle.camlheap_run.specs.Reading.{OneOrMore, first_table_fault}
 use Rattle.camlheap_run.specs.Writing.{AppendsFront}
 use Rattle.camlheap_run.proofs.SectionLemmas.{rooms_fit}
+use Rattle.camlheap_run.proofs.ReplayLemmas.{few_domains}
 
 -- no section has more lines than all
 pub few_most : (sections : Sections) → most_lines_of sections ≤ sum_by length sections
@@ -73,6 +71,21 @@ room_within z sections n may text is =
     let k : Config = record { domains = z.domains; minor_words = z.minor_words; pools = z.pools; finals = 0; ephes = n } in
     rooms_fit k sizes (omega arith) (omega (arith, few, is, text.1.few_lines))
 
+-- each section has its replies
+as_many : (z : Sizes) (all : Sections) (given : List (List LineReply)) (h : List Entry) (t : TogetherRuns z all given h) (d : ℕ) (sections : Sections) (replies : List (List LineReply))
+    → SectionsStand z t.places t.base h d sections replies → length replies ≡ length sections
+as_many z all given h t d [] [] stand = refl
+as_many z all given h t d [] (rs ∷ rss) stand = absurd stand
+as_many z all given h t d (ls ∷ lss) [] stand = absurd stand
+as_many z all given h t d (ls ∷ lss) (rs ∷ rss) stand = let rest = as_many z all given h t (suc d) lss rss stand.1 in omega (arith, rest)
+
+-- there are no more than eight
+pub few_replies : (z y : Sizes) (sections : Sections) (replies : List (List LineReply)) (h : List Entry) → MayHoldTable z → AreSpelled z sections → TogetherRuns y sections replies h → length replies ≤ 8
+few_replies z y sections replies h may text runs =
+    let same = as_many y sections replies h runs 0 sections replies runs.stand in
+    let few = few_domains z may.0.limits in
+    omega (arith, same, few, text.1.one_each)
+
 -- what is written for the sections before one, and for it
 module _ {V : Type 0} (view : V → List LineReply) where
   pub written_on : (d : ℕ) (xs : List V) (i : ℕ) (x : V) → i < length xs → sections_text d (map view (take (suc i) xs)) ≡ sections_text d (map view (take i xs)) ++ section_text (d + i) (view (get_or xs i x))
@@ -90,11 +103,23 @@ module _ {V : Type 0} (view : V → List LineReply) where
       ap (λ l. section_text d (view y) ++ l) (written_cut (d + 1) xs i) ∙ sym (append_assoc (section_text d (view y)) (sections_text (d + 1) (map view (take i xs))) _)
       ∙ ap (λ n. (section_text d (view y) ++ sections_text (d + 1) (map view (take i xs))) ++ sections_text n (map view (drop i xs))) (omega arith)
 
+  -- one more, by what is shown of it
+  pub written_more : (xs : List V) (i : ℕ) (x : V) (shown : List LineReply) → i < length xs → x ≡ get_or xs i x → shown ≡ view x
+      → sections_text 0 (map view (take (i + 1) xs)) ≡ sections_text 0 (map view (take i xs)) ++ section_text i shown
+  written_more xs i x shown below at is =
+      let here : 0 + i ≡ i = omega arith in
+      ap (λ n. sections_text 0 (map view (take n xs))) (add-one i) ∙ written_on 0 xs i x below
+      ∙ ap (λ n. sections_text 0 (map view (take i xs)) ++ section_text n (view (get_or xs i x))) here
+      ∙ ap (λ rs. sections_text 0 (map view (take i xs)) ++ section_text i rs) (ap view (sym at) ∙ sym is)
+
   -- all of them by one: what is before it, it, and what is behind
-  pub written_at : (xs : List V) (i : ℕ) (x : V) → i < length xs → sections_text 0 (map view xs) ≡ sections_text 0 (map view (take i xs)) ++ (section_text i (view (get_or xs i x)) ++ sections_text (suc i) (map view (drop (suc i) xs)))
-  written_at xs i x below =
-      written_cut 0 xs (suc i) ∙ ap (λ l. l ++ sections_text (suc i) (map view (drop (suc i) xs))) (written_on 0 xs i x below)
-      ∙ append_assoc (sections_text 0 (map view (take i xs))) (section_text i (view (get_or xs i x))) (sections_text (suc i) (map view (drop (suc i) xs)))
+  pub written_at : (xs : List V) (i : ℕ) (x : V) (shown : List LineReply) → i < length xs → x ≡ get_or xs i x → shown ≡ view x
+      → sections_text 0 (map view xs) ≡ sections_text 0 (map view (take i xs)) ++ (section_text i shown ++ sections_text (i + 1) (map view (drop (i + 1) xs)))
+  written_at xs i x shown below at is =
+      let next : 0 + (i + 1) ≡ i + 1 = omega arith in
+      written_cut 0 xs (i + 1) ∙ ap (λ n. sections_text 0 (map view (take (i + 1) xs)) ++ sections_text n (map view (drop (i + 1) xs))) next
+      ∙ ap (λ l. l ++ sections_text (i + 1) (map view (drop (i + 1) xs))) (written_more xs i x shown below at is)
+      ∙ append_assoc (sections_text 0 (map view (take i xs))) (section_text i shown) (sections_text (i + 1) (map view (drop (i + 1) xs)))
 
 -- the run that was made
 has_run_sections : (z : Sizes) (sections : Sections) (replies : List (List LineReply)) (past : EndedHeap) (ended : Option EndedHeap) → past.sizes ≡ z → TogetherRuns past.sizes sections replies past.history → Some past ≡ ended → HasRunSections z sections replies ended
@@ -120,26 +145,3 @@ writes_sections_front z sections replies shown past ended before after sizes run
   ran = has_run_sections z sections replies past ended sizes runs is;
   written = subst (λ (rs : List (List LineReply)). AppendsFront before after (sections_text 0 rs)) same bytes;
 }
-
--- one domain, and several
-is_one : (n : ℕ) → n ≡ 1 → (n == 1) ≡ true
-is_one n e = grind (arith, nat_tests, e)
-
-is_more : (n : ℕ) → n ≢ 1 → (n == 1) ≡ false
-is_more n other = by (n == 1) refl
-  where
-    by : (b : Bool) → (n == 1) ≡ b → (n == 1) ≡ false
-    by true e = absurd (other (grind (arith, nat_tests, e)))
-    by false e = e
-
-pub one_of : (One More : Type 0) (n : ℕ) → n ≡ 1 → One → OneOrMore (n == 1) One More
-one_of One More n e x = subst (λ b. OneOrMore b One More) (sym (is_one n e)) x
-
-pub more_of : (One More : Type 0) (n : ℕ) → n ≢ 1 → More → OneOrMore (n == 1) One More
-more_of One More n other x = subst (λ b. OneOrMore b One More) (sym (is_more n other)) x
-
-pub fault_of_one : (n : ℕ) (bytes : List ℕ) → n ≡ 1 → first_table_fault n bytes ≡ table_fault bytes
-fault_of_one n bytes e = ap (λ b. cond b (table_fault bytes) (first_sections_fault n bytes)) (is_one n e)
-
-pub fault_of_more : (n : ℕ) (bytes : List ℕ) → n ≢ 1 → first_table_fault n bytes ≡ first_sections_fault n bytes
-fault_of_more n bytes other = ap (λ b. cond b (table_fault bytes) (first_sections_fault n bytes)) (is_more n other)
