@@ -8,8 +8,6 @@
 mod laying;
 mod preparing;
 mod running;
-#[cfg(test)]
-mod tests;
 mod together;
 
 pub use together::{Together, run_sections};
