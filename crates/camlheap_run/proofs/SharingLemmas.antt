@@ -1,26 +1,21 @@
 -- The sections of a table's text fit a heap, and what is written for them.
 use Rattle.std.proofs.Math.Nat.{le-max_left, le-max_right}
-use Rattle.std.proofs.Common.{◌≡◌, ℕ, zero, suc, ◌+◌, ◌<◌, ◌≤◌, List, [], ◌∷◌, ◌++◌, map, length, get_or, take, drop, true, refl, sym, ap, subst, ◌∙◌, arith, append_assoc, append-nil, add-one, sum_by, Some, None}
-use Rattle.std.specs.Prelude.{Option}
+use Rattle.std.proofs.Common.{◌≡◌, ℕ, zero, suc, ◌+◌, ◌<◌, ◌≤◌, List, [], ◌∷◌, ◌++◌, map, length, get_or, take, drop, true, refl, sym, ap, ◌∙◌, arith, append_assoc, append-nil, add-one, sum_by, None}
 use Rattle.std.specs.List.{AllByRecursion, list_all}
-use Rattle.std.specs.Io.KnownBytes.{Appends}
 use Rattle.std.proofs.lemmas.Bool.{and_parts}
 use Rattle.model_core.specs.declared.entry.Entry.{Entry}
 use Rattle.model_core.specs.declared.state.Sizes.{Sizes}
-use Rattle.model_core.specs.Domains.{class_count, sizes_of, first_outside as outside_sizes}
+use Rattle.model_core.specs.Domains.{sizes_of, first_outside as outside_sizes}
 use Rattle.heap_rule.specs.declared.config.Config.{Config}
-use Rattle.heap_rule.specs.Ending.{EndedHeap}
 use Rattle.heap_rule.specs.Limits.{sizes_in, first_outside}
 use Rattle.text_script.proofs.ScriptLemmas.{total-cons}
 use Rattle.table_text.specs.declared.line.TableLine.{TableLine}
 use Rattle.table_text.specs.declared.line.TableLine.TheVariants.{Key, Forget, Put, Get, Del, SetWeak, GetWeak, Count, FullMajor}
 use Rattle.table_text.specs.declared.machine.reply.LineReply.{LineReply}
-use Rattle.table_text.specs.Forms.{parts, is_writable}
-use Rattle.table_text.specs.Sections.Spelling.{Sections, is_count, may_stand}
+use Rattle.table_text.specs.Sections.Spelling.{Sections, may_stand}
 use Rattle.table_sections.specs.Lines.{IsSharedLine}
 use Rattle.table_together.specs.Together.{SectionFits, SectionsFit, SectionsStand, TogetherRuns}
-use Rattle.camlheap_run.specs.Tables.{AreSpelled, HasRunSections, MayHoldTable, WritesFrontOfSections, WritesSections, most_lines_of, section_text, sections_text}
-use Rattle.camlheap_run.specs.Writing.{AppendsFront}
+use Rattle.camlheap_run.specs.Tables.{AreSpelled, MayHoldTable, most_lines_of, section_text, sections_text}
 use Rattle.camlheap_run.proofs.SectionLemmas.{rooms_fit}
 use Rattle.camlheap_run.proofs.ReplayLemmas.{few_domains}
 
@@ -88,14 +83,14 @@ few_replies z y sections replies h may text runs =
 
 -- what is written for the sections before one, and for it
 module _ {V : Type 0} (view : V → List LineReply) where
-  pub written_on : (d : ℕ) (xs : List V) (i : ℕ) (x : V) → i < length xs → sections_text d (map view (take (suc i) xs)) ≡ sections_text d (map view (take i xs)) ++ section_text (d + i) (view (get_or xs i x))
+  written_on : (d : ℕ) (xs : List V) (i : ℕ) (x : V) → i < length xs → sections_text d (map view (take (suc i) xs)) ≡ sections_text d (map view (take i xs)) ++ section_text (d + i) (view (get_or xs i x))
   written_on d [] i x below = absurd (omega arith)
   written_on d (y ∷ xs) zero x below = append-nil (section_text d (view y)) ∙ ap (λ n. section_text n (view y)) (omega arith)
   written_on d (y ∷ xs) (suc i) x below =
       ap (λ l. section_text d (view y) ++ l) (written_on (d + 1) xs i x (omega arith)) ∙ sym (append_assoc (section_text d (view y)) (sections_text (d + 1) (map view (take i xs))) _)
       ∙ ap (λ n. (section_text d (view y) ++ sections_text (d + 1) (map view (take i xs))) ++ section_text n (view (get_or xs i x))) (omega arith)
 
-  pub written_cut : (d : ℕ) (xs : List V) (i : ℕ) → sections_text d (map view xs) ≡ sections_text d (map view (take i xs)) ++ sections_text (d + i) (map view (drop i xs))
+  written_cut : (d : ℕ) (xs : List V) (i : ℕ) → sections_text d (map view xs) ≡ sections_text d (map view (take i xs)) ++ sections_text (d + i) (map view (drop i xs))
   written_cut d [] zero = refl
   written_cut d [] (suc i) = refl
   written_cut d (y ∷ xs) zero = ap (λ n. sections_text n (map view (y ∷ xs))) (omega arith)
@@ -120,28 +115,3 @@ module _ {V : Type 0} (view : V → List LineReply) where
       written_cut 0 xs (i + 1) ∙ ap (λ n. sections_text 0 (map view (take (i + 1) xs)) ++ sections_text n (map view (drop (i + 1) xs))) next
       ∙ ap (λ l. l ++ sections_text (i + 1) (map view (drop (i + 1) xs))) (written_more xs i x shown below at is)
       ∙ append_assoc (sections_text 0 (map view (take i xs))) (section_text i shown) (sections_text (i + 1) (map view (drop (i + 1) xs)))
-
--- the run that was made
-has_run_sections : (z : Sizes) (sections : Sections) (replies : List (List LineReply)) (past : EndedHeap) (ended : Option EndedHeap) → past.sizes ≡ z → TogetherRuns past.sizes sections replies past.history → Some past ≡ ended → HasRunSections z sections replies ended
-has_run_sections z sections replies past ended sizes runs is = record {
-  past = past;
-  is_past = sym is;
-  sizes = sizes;
-  runs = subst (λ (y : Sizes). TogetherRuns y sections replies past.history) sizes runs;
-}
-
-pub writes_sections : (z : Sizes) (sections : Sections) (replies shown : List (List LineReply)) (past : EndedHeap) (ended : Option EndedHeap) (before after : Option (List ℕ)) → past.sizes ≡ z → TogetherRuns past.sizes sections replies past.history
-    → Some past ≡ ended → shown ≡ replies → Appends before after (sections_text 0 shown) → WritesSections z sections ended before after
-writes_sections z sections replies shown past ended before after sizes runs is same bytes = record {
-  replies = replies;
-  ran = has_run_sections z sections replies past ended sizes runs is;
-  written = subst (λ (rs : List (List LineReply)). Appends before after (sections_text 0 rs)) same bytes;
-}
-
-pub writes_sections_front : (z : Sizes) (sections : Sections) (replies shown : List (List LineReply)) (past : EndedHeap) (ended : Option EndedHeap) (before after : Option (List ℕ)) → past.sizes ≡ z → TogetherRuns past.sizes sections replies past.history
-    → Some past ≡ ended → shown ≡ replies → AppendsFront before after (sections_text 0 shown) → WritesFrontOfSections z sections ended before after
-writes_sections_front z sections replies shown past ended before after sizes runs is same bytes = record {
-  replies = replies;
-  ran = has_run_sections z sections replies past ended sizes runs is;
-  written = subst (λ (rs : List (List LineReply)). AppendsFront before after (sections_text 0 rs)) same bytes;
-}

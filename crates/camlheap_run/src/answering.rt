@@ -56,11 +56,7 @@ pub(crate) fn write_answers<K: Sink>(out: &mut K, replies: &[LineReply]) -> Resu
 }
 
 // Writes the section of a domain: its heading, and the lines of its replies.
-fn write_section<K: Sink>(
-    out: &mut K,
-    domain: u32,
-    replies: &[LineReply],
-) -> Result<(), Failed>
+fn write_section<K: Sink>(out: &mut K, domain: u32, replies: &[LineReply]) -> Result<(), Failed>
     ensures cause { HasCause (K.faults out.old) (K.faults out.new) result }
     ensures bytes { Writes (K.written out.old) (K.written out.new) result (section_text domain replies.now) }
 {

@@ -1,4 +1,4 @@
-use Rattle.std.proofs.Common.{◌≡◌, ◌∙◌, ◌+◌, List, map, length, Vec, Global, Err, ap, sym, subst, arith}
+use Rattle.std.proofs.Common.{◌∙◌, ◌+◌, List, map, length, Vec, Global, Err, ap, sym, subst, arith}
 use Rattle.std.proofs.lemmas.List.{length-map}
 use Rattle.table_text.specs.declared.line.TableLine.{TableLine}
 use Rattle.table_text.specs.declared.machine.reply.LineReply.{LineReply}

@@ -1,4 +1,4 @@
-use Rattle.std.proofs.Common.{◌∙◌, ap, Err, arith}
+use Rattle.std.proofs.Common.{◌∙◌, ap, Err}
 use Rattle.camlheap_run.specs.Tables.{ephemerons_for}
 use Rattle.camlheap_run.proofs.TableLemmas.{few_ephemerons, table_fits}
 use Rattle.camlheap_run.proofs.table.open.Goals as goal
