@@ -1,30 +1,31 @@
 //! Sections in threads, each on keys and a slot of its own: so each reply is known.
+ghost use Rattle.std.specs.Prelude.{◌≡◌, IfOk, length};
+ghost use Rattle.std.specs.List.{AllByRecursion};
+ghost use Rattle.table_sections.specs.Lines.{IsSharedLine};
+ghost use Rattle.table_text.specs.declared.line.TableLine.TheVariants as line;
+
 use crate::run_sections;
 use heap_rule::Config;
 use std::alloc::{AllocError, Global};
-use std::sync::Wait;
 use std::test::Fail;
-use std::thread::Threads;
 use table_text::TableLine;
 use table_text::machine::LineReply;
 
-// What the section of a domain does with its key: it binds it, has it in its slot, and looks it up behind a collection.
-fn lines_of(alloc: Global, domain: u8) -> Result<Vec<TableLine>, AllocError> {
-    let value = 10 + i64::from(domain);
+// What a section does with its key: it binds it, has it in its slot, and looks it up behind a collection.
+fn lines_of(alloc: Global, slot: u8, value: i64) -> Result<Vec<TableLine>, AllocError>
+    requires value { IsSharedLine (line.Put 1 value) }
+    requires slot { IsSharedLine (line.SetWeak slot 1) × IsSharedLine (line.GetWeak 2 slot) }
+    ensures fit { IfOk result (λ v. AllByRecursion IsSharedLine v.items) }
+    ensures len { IfOk result (λ v. length v.items ≡ 11) }
+{
     let lines = Vec::from_array(
         alloc,
         [
             TableLine::Key { reg: 1 },
             TableLine::Put { reg: 1, value },
             TableLine::Get { reg: 1 },
-            TableLine::SetWeak {
-                slot: domain * 5,
-                reg: 1,
-            },
-            TableLine::GetWeak {
-                dst: 2,
-                slot: domain * 5,
-            },
+            TableLine::SetWeak { slot, reg: 1 },
+            TableLine::GetWeak { dst: 2, slot },
             TableLine::Get { reg: 2 },
             TableLine::FullMajor,
             TableLine::Get { reg: 1 },
@@ -36,8 +37,8 @@ fn lines_of(alloc: Global, domain: u8) -> Result<Vec<TableLine>, AllocError> {
     Ok(lines)
 }
 
-fn replies_of(domain: u8) -> [LineReply; 11] {
-    let number = LineReply::Number(10 + i64::from(domain));
+fn replies_of(value: i64) -> [LineReply; 11] {
+    let number = LineReply::Number(value);
     [
         LineReply::Done,
         LineReply::Done,
@@ -53,36 +54,31 @@ fn replies_of(domain: u8) -> [LineReply; 11] {
     ]
 }
 
-fn run_domains<R: Threads + Wait + Sync>(rt: &R, alloc: Global, domains: u8) -> Result<bool, Fail> {
+// Whether the sections with these values were answered so.
+fn are_replies_of(replies: &[Vec<LineReply>], values: &[i64]) -> bool {
+    let mut same = replies.len() == values.len();
+    for (replies, value) in replies.iter().zip(values.iter()) {
+        same = same && replies.as_slice() == &replies_of(*value)[..];
+    }
+    same
+}
+
+#[test]
+fn three_domains(rt: HostRuntime) -> Result<(), Fail> {
+    let alloc = rt.alloc();
     let config = Config {
-        domains: u32::from(domains),
+        domains: 3,
         minor_words: 4096,
         pools: 128,
         finals: 0,
         ephes: 64,
     };
-    let mut sections = Vec::new(alloc);
-    for domain in 0..domains {
-        sections.push(lines_of(alloc, domain)?)?;
-    }
-    let together = run_sections(rt, alloc, config, sections)?;
-    let mut same = together.replies.len() == usize::from(domains);
-    for (domain, replies) in (0..domains).zip(together.replies.iter()) {
-        same = same && replies.as_slice() == &replies_of(domain)[..];
-    }
-    Ok(same)
-}
-
-#[test]
-fn two_domains(rt: HostRuntime) -> Result<(), Fail> {
-    let same = run_domains(&rt, rt.alloc(), 2)?;
-    assert!(&rt; same);
-    Ok(())
-}
-
-#[test]
-fn three_domains(rt: HostRuntime) -> Result<(), Fail> {
-    let same = run_domains(&rt, rt.alloc(), 3)?;
+    let first = lines_of(alloc, 0, 10)?;
+    let second = lines_of(alloc, 5, 11)?;
+    let third = lines_of(alloc, 10, 12)?;
+    let sections = Vec::from_array(alloc, [first, second, third])?;
+    let together = run_sections(&rt, alloc, config, sections)?;
+    let same = are_replies_of(together.replies.as_slice(), &[10, 11, 12]);
     assert!(&rt; same);
     Ok(())
 }

@@ -1,4 +1,4 @@
-use Rattle.std.proofs.Common.{◌≡◌, ◌∙◌, true, refl, sym, subst, rules}
+use Rattle.std.proofs.Common.{◌≡◌, ◌∙◌, true, subst, rules}
 use Rattle.run_seats.specs.Seating.{IsSeatOf, SeatView, SeatsView}
 use Rattle.table_together.specs.Preparing.{IsReady}
 use Rattle.table_together.specs.declared.laying.Places.{Places}
