@@ -1,5 +1,5 @@
 -- The seats of the domains, from the start of the heap to its end.
-use Rattle.std.proofs.Common.{◌≡◌, ⊎_elim, ℕ, zero, suc, ◌+◌, ◌*◌, ◌-◌, ◌≤◌, ◌<◌, Bool, true, false, List, [], ◌∷◌, ◌++◌, length, Option, Some, None, map, get_or, slice_index_or, refl, ap, sym, ◌∙◌, subst, arith}
+use Rattle.std.proofs.Common.{◌≡◌, ℕ, zero, suc, ◌+◌, ◌-◌, ◌≤◌, ◌<◌, List, [], ◌∷◌, ◌++◌, length, slice_index_or, refl, ap, sym, ◌∙◌, subst, arith}
 use Rattle.std.specs.Prelude.{remove}
 use Rattle.std.specs.List.{AllByRecursion}
 use Rattle.model_core.specs.declared.command.Command.TheVariants.{Poll}
@@ -7,7 +7,7 @@ use Rattle.model_core.specs.declared.entry.Entry.{Entry}
 use Rattle.model_core.specs.declared.reply.Reply.TheVariants.{Done}
 use Rattle.model_core.specs.declared.state.Sizes.{Sizes}
 use Rattle.model_core.specs.Domains.{IsWithinLimits}
-use Rattle.model_core.specs.History.{IsPrefix, Legal, commands}
+use Rattle.model_core.specs.History.{commands}
 use Rattle.heap_rule.specs.Limits.{sizes_in}
 use Rattle.heap_rule.specs.Token.{SharedHeap}
 use Rattle.run_seats.specs.Seating.{IsSameUnlabelled, IsSeatOf, SeatView, SeatsView, fresh_seats}
@@ -20,7 +20,7 @@ use Rattle.table_sections.specs.Sections.{SectionDone}
 use Rattle.weak_laws.specs.Maps.Calls.{PerformedBy}
 use Rattle.weak_laws.proofs.OfMaps.FrontLemmas.{prefix_trans}
 use Rattle.table_together.specs.Places.{Finds, LaysOut}
-use Rattle.table_together.specs.Sections.{IsPrepared, Prepares}
+use Rattle.table_together.specs.Sections.{Prepares}
 use Rattle.table_together.specs.Preparing.{AllBack, AllFresh, AllRan, AllReady, AllTasks, HasRunTask, IsBack, IsFresh, IsReady, IsTask, MayRun}
 use Rattle.table_together.specs.Together.{SectionFits}
 use Rattle.table_together.specs.declared.laying.Places.{Places}
