@@ -1,8 +1,7 @@
 -- Jobs and their results, one by one; lists that a loop gathers; and how much room a heap has at most.
-use Rattle.std.proofs.Common.{◌≡◌, ℕ, zero, suc, ◌+◌, ◌≤◌, ◌<◌, Bool, true, false, List, [], ◌∷◌, ◌++◌, length, map, Option, Some, None, Result, Ok, Err, IfOk, Vec, Global, vec_len, refl, ap, sym, ◌∙◌, subst, arith, rules}
-use Rattle.std.specs.Prelude.{not, nat_le, if◌then◌else◌}
+use Rattle.std.proofs.Common.{◌≡◌, ℕ, suc, ◌≤◌, List, [], ◌∷◌, ◌++◌, length, map, Option, Some, None, Result, Ok, Err, IfOk, Vec, Global, vec_len, refl, ap, sym, ◌∙◌, subst, arith, rules}
 use Rattle.std.specs.List.{AllZip}
-use Rattle.std.specs.Fork.{GivesJob, GivesJobs}
+use Rattle.std.specs.Fork.{GivesJobs}
 use Rattle.std.specs.Fn.{FnReturns}
 use denote.Param.Members.{Shared}
 use Rattle.model_core.specs.Domains.{first_outside as outside_sizes}

@@ -1,5 +1,5 @@
 -- What the commands of the preparation leave: which commands they are, that they guard the map, and what the registers hold.
-use Rattle.std.proofs.Common.{◌≡◌, inl, inr, ⊎_elim, ℕ, zero, suc, ◌≤◌, ◌<◌, Bool, true, false, cond, List, [], ◌∷◌, ◌++◌, get_or, slice_get, Option, Some, None, IsTrue, refl, ap, sym, ◌∙◌, subst, arith, rules, eq-eqb, append-nil, append_assoc}
+use Rattle.std.proofs.Common.{◌≡◌, ⊎_elim, ℕ, zero, suc, Bool, true, false, cond, List, [], ◌∷◌, ◌++◌, get_or, slice_get, Option, Some, None, IsTrue, refl, ap, sym, ◌∙◌, subst, arith, rules, eq-eqb, append-nil, append_assoc}
 use Rattle.std.specs.Prelude.{◌||◌, filter_map}
 use Rattle.std.specs.List.{AllByRecursion}
 use Rattle.std.specs.Option.{option_eq}
@@ -45,7 +45,7 @@ use Rattle.weak_maps.proofs.GetLemmas.{grows_by}
 use Rattle.weak_maps.proofs.MakeLemmas.{made_map}
 use Rattle.weak_maps.proofs.OfShared.CommandLemmas.{commands_beside_are_guarded, later_keys_are_guarded}
 use Rattle.weak_maps.proofs.OfShared.SharingLemmas.{stretches_add}
-use Rattle.table_together.specs.Places.{Finds, HoldsPlaces, IsMadeAt, LaysOut, MakesEach, loading, publishing, sharing}
+use Rattle.table_together.specs.Places.{Finds, HoldsPlaces, IsMadeAt, LaysOut, MakesEach, loading}
 use Rattle.table_together.specs.contracts.laying.PlacesPartialEq.TheImpl.{eq-value}
 use Rattle.table_together.specs.declared.laying.Places.{Places}
 

@@ -10,11 +10,9 @@ use Rattle.model_core.specs.declared.reply.Reply.{Reply}
 use Rattle.model_core.specs.declared.reply.Reply.TheVariants as reply
 use Rattle.model_core.specs.declared.state.Sizes.{Sizes}
 use Rattle.model_core.specs.Counts.Counts.{labels_of, ephemerons_of}
-use Rattle.model_core.specs.Fronts.{EpheShape, HoldsShape}
 use Rattle.model_core.specs.Graph.{node_at}
 use Rattle.weak_laws.specs.Maps.Calls.{PerformedBy, bound_after}
 use Rattle.weak_laws.specs.Tables.Stages.{graph_of}
-use Rattle.weak_laws.specs.Tables.Thinning.{state_of}
 use Rattle.weak_maps.specs.Beside.{held_by}
 use Rattle.weak_maps.specs.Commands.{IsMapCommand}
 use Rattle.table_together.specs.declared.laying.Places.{Places}

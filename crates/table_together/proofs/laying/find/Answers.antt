@@ -1,7 +1,5 @@
-use Rattle.std.proofs.Common.{◌≡◌, ℕ, List, [], ◌∷◌, ◌∙◌, refl, sym, subst, arith}
-use Rattle.model_core.specs.declared.command.Command.{Command}
+use Rattle.std.proofs.Common.{◌≡◌, ℕ, [], ◌∷◌, ◌∙◌, refl, sym, subst, arith}
 use Rattle.model_core.specs.declared.command.Command.TheVariants as command
-use Rattle.model_core.specs.declared.entry.Entry.{Entry}
 use Rattle.model_core.specs.declared.state.Sizes.{Sizes}
 use Rattle.table_together.specs.Places.{IsQuiet, loading}
 use Rattle.table_together.proofs.Laid.{found_by, places_same}

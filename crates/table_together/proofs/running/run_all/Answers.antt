@@ -1,4 +1,3 @@
-use Rattle.std.proofs.Common.{◌≡◌}
 use Rattle.table_together.specs.Preparing.{HasRunTask}
 use Rattle.table_together.specs.declared.running.Ran.{Ran}
 use Rattle.table_together.specs.declared.running.Task.{Task}

@@ -1,4 +1,4 @@
-use Rattle.std.proofs.Common.{◌≡◌, List, [], ◌++◌, length, map, Vec, Global, sym, ◌∙◌, subst, append-nil, arith}
+use Rattle.std.proofs.Common.{◌≡◌, List, [], map, Vec, Global, sym, ◌∙◌, subst, append-nil}
 use Rattle.std.specs.Vec.Iter.{into_iter_items}
 use Rattle.run_seats.specs.Seating.{SeatView}
 use Rattle.table_text.specs.declared.line.TableLine.{TableLine}

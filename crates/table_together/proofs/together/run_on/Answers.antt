@@ -1,5 +1,4 @@
-use Rattle.std.proofs.Common.{◌≡◌, ℕ, ◌+◌, ◌≤◌, ◌<◌, List, length, map, Vec, Global, ◌∙◌, arith}
-use Rattle.run_seats.specs.Seating.{SeatsView}
+use Rattle.std.proofs.Common.{◌≡◌, ◌<◌, List, length, map, Vec, Global, ◌∙◌, arith}
 use Rattle.table_text.specs.declared.line.TableLine.{TableLine}
 use Rattle.table_text.specs.declared.machine.reply.LineReply.{LineReply}
 use Rattle.table_together.proofs.Ending.{all_may, all_run, back_here, back_length, lists_length, ran_here, ran_length, section_room, some_section, tasks_length}
