@@ -4,7 +4,7 @@ use crate::scripts::{beside, ephemerons, finalisers};
 use std::test::Fail;
 
 // Words, a script, and what its run prints.
-const REPLIES: [(&str, &str, &str); 33] = [
+const REPLIES: [(&str, &str, &str); 34] = [
     (
         "replay",
         "schedule 1\nturn 1\nturn 1\nturn 0\nend\nheap 1\ndomain 0\nload 1 0 0\ndomain 1\nint 1 5\nstore 0 0 1\n",
@@ -40,6 +40,12 @@ const REPLIES: [(&str, &str, &str); 33] = [
         "table --minor=4096 --pools 51",
         "table 2\nkey 1\nwset 3 1\nwget 2 3\nforget 1\nfull_major\nwget 4 3\nforget 2\nforget 4\nfull_major\nwget 5 3\n",
         "ok\nok\nyes\nok\nok\nyes\nok\nok\nok\nnone\n",
+    ),
+    // Each domain binds keys and sets slots of its own.
+    (
+        "table --domains 2",
+        "table 2\ndomain 0\nkey 1\nput 1 10\nget 1\ndel 1\nget 1\ndomain 1\nkey 1\nwset 3 1\nwget 2 3\nfull_major\nput 2 7\nget 1\n",
+        "domain 0\nok\nok\nint 10\nok\nnone\ndomain 1\nok\nok\nyes\nok\nok\nint 7\n",
     ),
     ("run --domains 1", PLAIN, PLAIN_PRINTS),
     ("run --domains 1", "heap 1\ndomain 0\n", "domain 0\n"),
@@ -193,7 +199,7 @@ fn scripts_of_one_domain(rt: HostRuntime) -> Result<(), Fail> {
 }
 
 // Words, a script, and the line of its first fault.
-const REFUSED: [(&str, &str, &str); 23] = [
+const REFUSED: [(&str, &str, &str); 25] = [
     (
         "run",
         "heap 3\ndomain 0\ndomain 1\n",
@@ -298,6 +304,16 @@ const REFUSED: [(&str, &str, &str); 23] = [
         "script line 2: number 1 out of range\n",
     ),
     ("table", "table 1\ncount", "script line 2: syntax\n"),
+    (
+        "table --domains 2",
+        "table 2\ndomain 0\ncount\ndomain 1\n",
+        "script line 3: syntax\n",
+    ),
+    (
+        "table --domains 2",
+        "table 2\ndomain 0\n",
+        "script line 3: section order\n",
+    ),
 ];
 
 // The words of a replay, its text, the status and the line of its first fault.
@@ -354,7 +370,7 @@ const OTHER_WORDS: [&str; 23] = [
     "run --domains 1 --minor 4096 --pools 19",
     "run --minor 5000",
     "run --pools 20 --pools 20",
-    "table --domains 2",
+    "table --domains 9",
     "--help",
     "gen",
     "gen 7 1",

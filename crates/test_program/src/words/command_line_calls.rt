@@ -34,11 +34,13 @@ const RUNS: [(&str, (u32, u32, u32)); 6] = [
     ("run --minor 4096 --pools=39", (2, 4096, 39)),
 ];
 
-// Words of a table, and the minor words and pools that they ask for.
-const TABLES: [(&str, (u32, u32)); 3] = [
-    ("table", (32768, 512)),
-    ("table --domains=1 --pools 600", (32768, 600)),
-    ("table --minor 4096 --pools 51", (4096, 51)),
+// Words of a table, and the domains, minor words and pools that they ask for.
+const TABLES: [(&str, (u32, u32, u32)); 5] = [
+    ("table", (1, 32768, 512)),
+    ("table --domains=1 --pools 600", (1, 32768, 600)),
+    ("table --minor 4096 --pools 51", (1, 4096, 51)),
+    ("table --domains 8", (8, 32768, 512)),
+    ("table --domains 2 --minor 4096 --pools 61", (2, 4096, 61)),
 ];
 
 // Numbers of a script that may be asked for.
@@ -48,7 +50,7 @@ const SCRIPTS: [(&str, (u32, u32, u32)); 3] = [
     ("1000000 8 25000", (1_000_000, 8, 25000)),
 ];
 
-const REFUSED: [&str; 36] = [
+const REFUSED: [&str; 37] = [
     "",
     "run x",
     "runs",
@@ -69,8 +71,9 @@ const REFUSED: [&str; 36] = [
     "run --help",
     "run --",
     "run --domain 1",
-    "table --domains 2",
+    "table --domains 9",
     "table --minor 4096 --pools 50",
+    "table --domains 2 --minor 4096 --pools 60",
     "table table",
     "gen",
     "gen 1 2",
@@ -104,9 +107,9 @@ fn lines_are_taken_or_refused(rt: HostRuntime) -> Result<(), Fail> {
     }
     for (line, asked) in &TABLES {
         let job = Job::Table(Sizes {
-            domains: 1,
-            pools: asked.1,
-            minor_words: asked.0,
+            domains: asked.0,
+            pools: asked.2,
+            minor_words: asked.1,
             classes: 9,
         });
         same(
