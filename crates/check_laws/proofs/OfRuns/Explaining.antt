@@ -1,5 +1,6 @@
 -- What the program means by a run is what the judge means.
 use Rattle.std.proofs.Common.{◌≡◌, ◌≢◌, ℕ, Bool, List, [], ◌∷◌, ◌++◌, Option, Some, refl, ap, sym, subst, ◌∙◌}
+use Rattle.std.specs.Prelude.{◌==◌}
 use Rattle.std.specs.List.{list_any}
 use Rattle.model_core.specs.declared.command.Command.{Command}
 use Rattle.model_core.specs.declared.entry.Entry.{Entry}
@@ -13,7 +14,10 @@ use Rattle.run_turns.specs.Runs.{is_end_of}
 use Rattle.judge_plain.specs.History.Explains.{Explains}
 use Rattle.judge_plain.specs.History.Steps.{is_end_of as is_judged_end}
 use Rattle.camlheap_run.specs.Outcome.{WritesRun, WritesRunBy}
+use Rattle.camlheap_run.specs.Reading.{OneOrMore}
 use Rattle.camlheap_run.specs.Run.{IsSpawningRunOf, is_run_of, output_of}
+use Rattle.camlheap_run.specs.Tables.{WritesSections, WritesTable, sections_text}
+use Rattle.camlheap_run.proofs.SourceLemmas.{is_more, is_one}
 use Rattle.model_traces.specs.Spawns.Printed.{spawning_output}
 use Rattle.judge_plain.specs.Spawned.Explains.{ExplainsSpawning}
 use Rattle.table_text.specs.declared.version.Version as tables
@@ -21,12 +25,12 @@ use Rattle.table_text.specs.declared.line.TableLine.{TableLine}
 use Rattle.table_text.specs.declared.machine.reply.LineReply.{LineReply}
 use Rattle.table_text.specs.Machine.Machine.{MachineAnswers, MachineRuns, TableState, opened}
 use Rattle.table_text.specs.Machine.Texts.{replies_text}
+use Rattle.table_text.specs.Texts.{Text}
+use Rattle.table_text.specs.Sections.Spelling.{Sections}
+use Rattle.table_together.specs.Together.{TogetherRuns}
 use Rattle.table_run.specs.Running.{LinesRun, TextRuns}
 use Rattle.table_run.specs.Standing.{Places}
-use Rattle.camlheap_run.specs.Reading.{ReadsSections, ReadsTable}
-use Rattle.camlheap_run.specs.Tables.{ReadsAndDoes, WritesSections, WritesTable}
-use Rattle.check_laws.proofs.OfRefusedProgram.Tables.{alone}
-use Rattle.check_laws.specs.Runs.Explained.{RunsAreOne, RunsAreExplained, ReplaysAreExplained, SpawningRunsAreExplained, TablesAreExplained}
+use Rattle.check_laws.specs.Runs.Explained.{RunsAreOne, RunsAreExplained, ReplaysAreExplained, SectionsAreExplained, SpawningRunsAreExplained, TablesAreExplained}
 
 same_end : (d : ℕ) (e : Entry) → is_end_of d e ≡ is_judged_end d e
 same_end d (End k) = refl
@@ -100,9 +104,27 @@ machine_runs version z p before s old (l ∷ lines) [] t new runs = absurd runs
 answered : (version : tables.Version) (z : Sizes) (lines : List TableLine) (replies : List LineReply) (h : List Entry) → TextRuns version z lines replies h → MachineAnswers version z lines replies
 answered version z lines replies h x = let runs = machine_runs version z x.places [] opened x.first lines replies x.state x.last x.lines_run in record { states = runs.0; runs = runs.1 }
 
+explained_table : (z : Sizes) (text : Text) (ended : Option EndedHeap) (before bytes : List ℕ) → WritesTable z text ended (Some before) (Some (before ++ bytes))
+    → (replies : List LineReply) × (replies_text replies ≡ bytes) × MachineAnswers text.version z text.lines replies
+explained_table z text ended before bytes w =
+    (w.replies, sym (same_rest before bytes (replies_text w.replies) w.written), answered text.version z text.lines w.replies w.ran.past.history w.ran.runs)
+
+explained_together : (z : Sizes) (sections : Sections) (ended : Option EndedHeap) (before bytes : List ℕ) → WritesSections z sections ended (Some before) (Some (before ++ bytes))
+    → (replies : List (List LineReply)) × (sections_text 0 replies ≡ bytes) × ((h : List Entry) × TogetherRuns z sections replies h)
+explained_together z sections ended before bytes w =
+    (w.replies, sym (same_rest before bytes (sections_text 0 w.replies) w.written), (w.ran.past.history, w.ran.runs))
+
+-- of one domain, and of several
+pub of_one : (A B : Type 0) (n : ℕ) → n ≡ 1 → OneOrMore (n == 1) A B → A
+of_one A B n one x = subst (λ b. OneOrMore b A B) (is_one n one) x
+
+of_more : (A B : Type 0) (n : ℕ) → n ≢ 1 → OneOrMore (n == 1) A B → B
+of_more A B n other x = subst (λ b. OneOrMore b A B) (is_more n other) x
+
 pub explained_tables : TablesAreExplained
 explained_tables z ended left_before left_after before bytes one x =
-    let written = Some (before ++ bytes) in
-    let r = alone (ReadsAndDoes (ReadsTable left_before left_after) (λ text. WritesTable z text ended (Some before) written)) (ReadsAndDoes (ReadsSections z.domains left_before left_after) (λ sections. WritesSections z sections ended (Some before) written)) z.domains one x in
-    let replies = r.does.replies in
-    (r.text, replies, r.reads, sym (same_rest before bytes (replies_text replies) r.does.written), answered r.text.version z r.text.lines replies r.does.ran.past.history r.does.ran.runs)
+    let ran = of_one _ _ z.domains one x in (ran.text, ran.reads, explained_table z ran.text ended before bytes ran.does)
+
+pub explained_sections : SectionsAreExplained
+explained_sections z ended left_before left_after before bytes more x =
+    let ran = of_more _ _ z.domains more x in (ran.text, ran.reads, explained_together z ran.text ended before bytes ran.does)

@@ -10,9 +10,11 @@ use Rattle.judge_plain.specs.Spawned.Explains.{ExplainsSpawning}
 use Rattle.camlheap_run.specs.Outcome.{RunsToEnd}
 use Rattle.camlheap_run.specs.Replaying.{ReplaysToEnd}
 use Rattle.camlheap_run.specs.Run.{IsRunOf}
-use Rattle.camlheap_run.specs.Reading.{ReadsTable}
-use Rattle.camlheap_run.specs.Tables.{TableRunsToEnd}
+use Rattle.camlheap_run.specs.Reading.{ReadsSections, ReadsTable}
+use Rattle.camlheap_run.specs.Tables.{TableRunsToEnd, sections_text}
 use Rattle.table_text.specs.Texts.{Text}
+use Rattle.table_text.specs.Sections.Spelling.{Sections}
+use Rattle.table_together.specs.Together.{TogetherRuns}
 use Rattle.table_text.specs.declared.machine.reply.LineReply.{LineReply}
 use Rattle.table_text.specs.Machine.Machine.{MachineAnswers}
 use Rattle.table_text.specs.Machine.Texts.{replies_text}
@@ -40,4 +42,11 @@ ReplaysAreExplained = (z : Sizes) (ended : Option EndedHeap) (left_before left_a
 abbrev pub TablesAreExplained : Type 0
 TablesAreExplained = (z : Sizes) (ended : Option EndedHeap) (left_before left_after : Option (List ℕ)) (before bytes : List ℕ)
     → z.domains ≡ 1 → TableRunsToEnd z ended left_before left_after (Some before) (Some (before ++ bytes))
-    → (text : Text) × (replies : List LineReply) × ReadsTable left_before left_after text × (replies_text replies ≡ bytes) × MachineAnswers text.version z text.lines replies
+    → (text : Text) × ReadsTable left_before left_after text × ((replies : List LineReply) × (replies_text replies ≡ bytes) × MachineAnswers text.version z text.lines replies)
+
+-- and of one for several domains all sections were run in one history, with the replies that were written
+abbrev pub SectionsAreExplained : Type 0
+SectionsAreExplained = (z : Sizes) (ended : Option EndedHeap) (left_before left_after : Option (List ℕ)) (before bytes : List ℕ)
+    → z.domains ≢ 1 → TableRunsToEnd z ended left_before left_after (Some before) (Some (before ++ bytes))
+    → (sections : Sections) × ReadsSections z.domains left_before left_after sections
+    × ((replies : List (List LineReply)) × (sections_text 0 replies ≡ bytes) × ((h : List Entry) × TogetherRuns z sections replies h))

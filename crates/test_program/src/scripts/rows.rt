@@ -4,7 +4,7 @@ use crate::scripts::{beside, ephemerons, finalisers};
 use std::test::Fail;
 
 // Words, a script, and what its run prints.
-const REPLIES: [(&str, &str, &str); 35] = [
+const REPLIES: [(&str, &str, &str); 34] = [
     (
         "replay",
         "schedule 1\nturn 1\nturn 1\nturn 0\nend\nheap 1\ndomain 0\nload 1 0 0\ndomain 1\nint 1 5\nstore 0 0 1\n",
@@ -41,15 +41,11 @@ const REPLIES: [(&str, &str, &str); 35] = [
         "table 2\nkey 1\nwset 3 1\nwget 2 3\nforget 1\nfull_major\nwget 4 3\nforget 2\nforget 4\nfull_major\nwget 5 3\n",
         "ok\nok\nyes\nok\nok\nyes\nok\nok\nok\nnone\n",
     ),
+    // Each domain binds keys and sets slots of its own.
     (
         "table --domains 2",
-        "table 2\ndomain 0\nkey 1\nput 1 10\nwset 0 1\nfull_major\nget 1\nwget 2 0\nget 2\ndel 1\nget 1\ndomain 1\nkey 1\nput 1 20\nwset 8 1\nforget 1\nget 1\nput 1 2\nwget 4 15\n",
-        "domain 0\nok\nok\nok\nok\nint 10\nyes\nint 10\nok\nnone\ndomain 1\nok\nok\nok\nok\ntype\ntype\nnone\n",
-    ),
-    (
-        "table --domains 3",
-        "table 2\ndomain 0\ndomain 1\ndomain 2\nkey 5\n",
-        "domain 0\ndomain 1\ndomain 2\nok\n",
+        "table 2\ndomain 0\nkey 1\nput 1 10\nget 1\ndel 1\nget 1\ndomain 1\nkey 1\nwset 3 1\nwget 2 3\nfull_major\nput 2 7\nget 1\n",
+        "domain 0\nok\nok\nint 10\nok\nnone\ndomain 1\nok\nok\nyes\nok\nok\nint 7\n",
     ),
     ("run --domains 1", PLAIN, PLAIN_PRINTS),
     ("run --domains 1", "heap 1\ndomain 0\n", "domain 0\n"),
@@ -310,13 +306,13 @@ const REFUSED: [(&str, &str, &str); 25] = [
     ("table", "table 1\ncount", "script line 2: syntax\n"),
     (
         "table --domains 2",
-        "table 2\ndomain 0\nkey 1\n",
-        "script line 4: section order\n",
+        "table 2\ndomain 0\ncount\ndomain 1\n",
+        "script line 3: syntax\n",
     ),
     (
         "table --domains 2",
-        "table 2\ndomain 0\ncount\ndomain 1\n",
-        "script line 3: syntax\n",
+        "table 2\ndomain 0\n",
+        "script line 3: section order\n",
     ),
 ];
 

@@ -35,11 +35,12 @@ const RUNS: [(&str, (u32, u32, u32)); 6] = [
 ];
 
 // Words of a table, and the domains, minor words and pools that they ask for.
-const TABLES: [(&str, (u32, u32, u32)); 4] = [
+const TABLES: [(&str, (u32, u32, u32)); 5] = [
     ("table", (1, 32768, 512)),
     ("table --domains=1 --pools 600", (1, 32768, 600)),
-    ("table --domains 8 --pools 600", (8, 32768, 600)),
     ("table --minor 4096 --pools 51", (1, 4096, 51)),
+    ("table --domains 8", (8, 32768, 512)),
+    ("table --domains 2 --minor 4096 --pools 61", (2, 4096, 61)),
 ];
 
 // Numbers of a script that may be asked for.
@@ -49,7 +50,7 @@ const SCRIPTS: [(&str, (u32, u32, u32)); 3] = [
     ("1000000 8 25000", (1_000_000, 8, 25000)),
 ];
 
-const REFUSED: [&str; 36] = [
+const REFUSED: [&str; 37] = [
     "",
     "run x",
     "runs",
@@ -72,6 +73,7 @@ const REFUSED: [&str; 36] = [
     "run --domain 1",
     "table --domains 9",
     "table --minor 4096 --pools 50",
+    "table --domains 2 --minor 4096 --pools 60",
     "table table",
     "gen",
     "gen 1 2",

@@ -1,4 +1,4 @@
-use Rattle.check_laws.proofs.OfRuns.Explaining.{explained_replays, explained_runs, explained_spawning_runs, explained_tables, one_run}
+use Rattle.check_laws.proofs.OfRuns.Explaining.{explained_replays, explained_runs, explained_sections, explained_spawning_runs, explained_tables, one_run}
 use Rattle.check_laws.proofs.runs.laws.runs_are_explained.Goals as goal
 
 pub returns-clause-one : goal.returns-clause-one
@@ -15,3 +15,6 @@ returns-clause-replays c = explained_replays
 
 pub returns-clause-tables : goal.returns-clause-tables
 returns-clause-tables c = explained_tables
+
+pub returns-clause-sections : goal.returns-clause-sections
+returns-clause-sections c = explained_sections
