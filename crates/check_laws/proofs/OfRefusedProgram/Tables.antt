@@ -9,8 +9,6 @@ use Rattle.table_text.specs.declared.line.TableLine.{TableLine}
 use Rattle.table_text.specs.declared.line.TableLine.TheVariants.{FullMajor}
 use Rattle.table_text.specs.declared.machine.reply.LineReply.{LineReply}
 use Rattle.table_text.specs.Machine.Machine.{AllGone, MachineAnswers, TableState}
-use Rattle.table_text.specs.Machine.Texts.{replies_text}
-use Rattle.table_text.specs.Texts.{Text}
 use Rattle.table_run.specs.Running.{LineRuns}
 use Rattle.table_run.specs.Standing.{Places}
 use Rattle.table_run.proofs.TextLemmas.{text_answered}
@@ -37,6 +35,7 @@ neither : (A B : Type 0) (b : Bool) → (A → ⊥) → (B → ⊥) → OneOrMor
 neither A B true one more x = one x
 neither A B false one more x = more x
 
+-- no text is run without a heap
 pub no_table_without_a_heap : (z : Sizes) (ended : Option EndedHeap) (left_before left_after before after : Option (List ℕ)) → TableRunsToEnd z ended left_before left_after before after → ended ≡ None → ⊥
 no_table_without_a_heap z ended left_before left_after before after x none =
     neither (ReadsAndDoes (ReadsTable left_before left_after) (λ text. WritesTable z text ended before after)) (ReadsAndDoes (ReadsSections z.domains left_before left_after) (λ sections. WritesSections z sections ended before after))
