@@ -413,6 +413,7 @@ judged() {
     ran "of random scripts of version 3, in threads and with fewer" bench/spawns.sh
     ran "of random scripts under random schedules" bench/schedules.sh
     ran "of random texts of tables on three sizes of the heap" bench/tables.sh
+    ran "of random sections of a table with two to four domains" bench/sections.sh
     ran "of the examples" examples/check.sh
 }
 
