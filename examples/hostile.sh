@@ -9,7 +9,7 @@ top=$(cd "$(dirname "${BASH_SOURCE[0]}")/.." && pwd) || exit 1
 work=$(mktemp -d) || exit 1
 trap 'rm -rf "$work"' EXIT
 "$top/camlheap" run --domains 1 <"$top/examples/chain.heap" >/dev/null || exit 1
-cp "$top/crates/camlheap/out/camlheap" "$top"/examples/three_domains.* "$work" && chmod 755 "$work" || exit 1
+cp "$top/crates/camlheap/out/camlheap" "$top"/examples/{three_domains,sections}.* "$work" && chmod 755 "$work" || exit 1
 gcc -shared -fPIC -O1 -o "$work/hostile.so" "$top/examples/hostile.c" || exit 1
 cd "$work" || exit 1
 
@@ -156,6 +156,7 @@ refused() {
 refused "memory refused, a plain run" plain.heap plain.out run --domains 1
 refused "memory refused, weak keys" weak.heap weak.out run --domains 1
 refused "memory refused, three domains" three_domains.heap three_domains.expected run --domains 3
+refused "memory refused, sections of a table" sections.table sections.expected table --domains 2
 
 # The commands that read nothing.
 cp "$top"/examples/{gen,load}.expected .
