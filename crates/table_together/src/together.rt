@@ -52,8 +52,8 @@ fn run_on<R: Threads + Wait + Sync>(
 }
 
 /// Makes all sections of a table, each on a domain of its own, in a thread of its own, on one weak map and slots that all share,
-/// and ends the heap. There are as many domains as sections, and room for each. Before the first line all memory is taken but that
-/// of the heap's end.
+/// and ends the heap. There are as many domains as sections, and room for each.
+/// Want of memory may come behind lines that were made.
 ///
 /// All is one history, in which the map is shared from the entry on that made it: the lines of each section are answered in order
 /// between fronts of it. `Config(k)` names the first of the heap's numbers outside its limit; else want of memory alone refuses.
