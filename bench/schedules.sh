@@ -12,7 +12,7 @@ program_here program
 . "$top/bench/room.sh"
 
 if [ -z "${SLOW:-}" ]; then
-    room slow_schedules "$top/bench/schedules/slow_schedules" judge_plain text_schedule model_traces text_script model_core
+    room slow_schedules "$top/bench/schedules/slow_schedules" judge_plain model_traces text_script model_core
     SLOW=$work/slow_schedules
 fi
 rustc -O --edition 2024 -o "$work/schedules" "$top/bench/schedules/main.rs"

@@ -15,9 +15,9 @@ use Rattle.camlheap_run.specs.declared.reading.NoReplay.{NoReplay}
 use Rattle.camlheap_run.specs.declared.reading.NoReplay.TheVariants.{Refused as ReplayRefused}
 use Rattle.camlheap_run.specs.declared.reading.NoScript.TheVariants.{Refused}
 use Rattle.model_core.specs.declared.state.Sizes.{Sizes}
-use Rattle.text_schedule.specs.declared.text.replay.ReplayFault.{ReplayFault}
-use Rattle.text_schedule.specs.declared.text.replay.ReplayFault.TheVariants.{Memory as ReplayMemory, NotReplayable as NotReplayableOf, Schedule as ScheduleOf, Script as ScriptOf}
-use Rattle.text_schedule.specs.Text.Replays.{IsUnlessNoMemory, Replayed, SpellsReplay}
+use Rattle.text_script.specs.declared.schedule.text.replay.ReplayFault.{ReplayFault}
+use Rattle.text_script.specs.declared.schedule.text.replay.ReplayFault.TheVariants.{Memory as ReplayMemory, NotReplayable as NotReplayableOf, Schedule as ScheduleOf, Script as ScriptOf}
+use Rattle.text_script.specs.Schedule.Text.Replays.{IsUnlessNoMemory, Replayed, SpellsReplay}
 use Rattle.table_text.specs.Texts.{Text}
 use Rattle.table_text.specs.Spelling.{Spells as SpellsTable}
 use Rattle.table_text.specs.Sections.Spelling.{Sections, SpellsSections}

@@ -27,13 +27,13 @@ use Rattle.heap_rule.specs.Opening.{opening_token}
 use Rattle.heap_rule.specs.Token.{SharedHeap}
 use Rattle.heap_rule.specs.Ending.{EndedHeap}
 use Rattle.run_turns.specs.Runs.{RunView, IsRun}
-use Rattle.text_schedule.specs.Drive.Following.{is_for}
+use Rattle.text_script.specs.Schedule.Drive.Following.{is_for}
 use Rattle.model_traces.specs.declared.schedules.items.Item.{Item}
 use Rattle.model_traces.specs.Schedules.Pools.{pools_of}
 use Rattle.model_traces.specs.Schedules.Scheduled.{scheduled}
-use Rattle.text_schedule.specs.declared.text.replay.ReplayFault.{ReplayFault}
-use Rattle.text_schedule.specs.declared.text.replay.ReplayFault.TheVariants.{Memory as ReplayMemory, NotReplayable as NotReplayableOf, Schedule as ScheduleOf, Script as ScriptOf}
-use Rattle.text_schedule.specs.Text.Replays.{HasFault, IsTooLong, Replayed as ReplayedText, WrongScript}
+use Rattle.text_script.specs.declared.schedule.text.replay.ReplayFault.{ReplayFault}
+use Rattle.text_script.specs.declared.schedule.text.replay.ReplayFault.TheVariants.{Memory as ReplayMemory, NotReplayable as NotReplayableOf, Schedule as ScheduleOf, Script as ScriptOf}
+use Rattle.text_script.specs.Schedule.Text.Replays.{HasFault, IsTooLong, Replayed as ReplayedText, WrongScript}
 use Rattle.run_replay.specs.Asking.{HasAmple}
 use Rattle.run_replay.specs.Ends.{MayBeHeld}
 use Rattle.run_replay.specs.Replayed.{IsUntouched, MayReplay, Replayed, commands_of}

@@ -12,9 +12,9 @@ use Rattle.camlheap_run.specs.declared.reading.NoReplay.TheVariants.{ReadFault a
 use Rattle.text_script.specs.Spelling.{Spells}
 use Rattle.text_script.specs.Faults.{first_fault}
 use Rattle.model_core.specs.declared.state.Sizes.{Sizes}
-use Rattle.text_schedule.specs.declared.text.replay.ReplayFault.{ReplayFault}
-use Rattle.text_schedule.specs.declared.text.replay.ReplayFault.TheVariants.{Memory as ReplayMemory}
-use Rattle.text_schedule.specs.Text.Replays.{HasFault, Replayed, SpellsReplay}
+use Rattle.text_script.specs.declared.schedule.text.replay.ReplayFault.{ReplayFault}
+use Rattle.text_script.specs.declared.schedule.text.replay.ReplayFault.TheVariants.{Memory as ReplayMemory}
+use Rattle.text_script.specs.Schedule.Text.Replays.{HasFault, Replayed, SpellsReplay}
 use Rattle.table_text.specs.Texts.{Text}
 use Rattle.table_text.specs.Spelling.{Spells as SpellsTable}
 use Rattle.table_text.specs.Faults.{first_fault as table_fault}

@@ -6,9 +6,9 @@ use Rattle.model_core.specs.Domains.{class_count}
 use Rattle.model_core.specs.Output.{output}
 use Rattle.heap_rule.specs.Ending.{EndedHeap}
 use Rattle.model_traces.specs.Schedules.Scheduled.{scheduled}
-use Rattle.text_schedule.specs.declared.text.replay.ReplayFault as replay_fault
-use Rattle.text_schedule.specs.declared.text.replay.ReplayFault.TheVariants.{Schedule as ScheduleOf, Script as ScriptOf, NotReplayable as NotReplayableOf, Memory as ReplayMemory}
-use Rattle.text_schedule.specs.Text.Replays.{Replayed}
+use Rattle.text_script.specs.declared.schedule.text.replay.ReplayFault as replay_fault
+use Rattle.text_script.specs.declared.schedule.text.replay.ReplayFault.TheVariants.{Schedule as ScheduleOf, Script as ScriptOf, NotReplayable as NotReplayableOf, Memory as ReplayMemory}
+use Rattle.text_script.specs.Schedule.Text.Replays.{Replayed}
 use Rattle.text_script.specs.Words.Jobs.{AreReplaySizes}
 use Rattle.camlheap_run.specs.declared.status.Status.{Status}
 use Rattle.camlheap_run.specs.declared.status.Status.TheVariants.{Schedule, Script, NotReplayable, Memory}

@@ -4,8 +4,8 @@ use Rattle.text_script.specs.declared.version.Version.TheVariants.{Three}
 use Rattle.text_script.specs.declared.fault.ScriptFault.{ScriptFault}
 use Rattle.text_script.specs.Faults.{first_fault as script_fault}
 use Rattle.model_core.specs.declared.state.Sizes.{Sizes}
-use Rattle.text_schedule.specs.declared.text.replay.ReplayFault.TheVariants.{Script}
-use Rattle.text_schedule.specs.Text.Replays.{HasFault}
+use Rattle.text_script.specs.declared.schedule.text.replay.ReplayFault.TheVariants.{Script}
+use Rattle.text_script.specs.Schedule.Text.Replays.{HasFault}
 use Rattle.text_script.specs.declared.words.job.Job.{Job}
 use Rattle.text_script.specs.declared.words.job.Job.TheVariants.{Run, Replay, Table}
 use Rattle.camlheap_run.specs.Reading.{IsFirst, first_table_fault}

@@ -6,8 +6,8 @@ ghost use Rattle.text_script.specs.Spelling.{IsUnlessMemory, Spells};
 ghost use Rattle.text_script.specs.Faults.{first_fault, IsFaultUnlessMemory};
 ghost use Rattle.text_script.specs.declared.version.Version.TheVariants.{Three};
 ghost use Rattle.text_script.specs.declared.fault.ScriptFault.{ScriptFault};
-ghost use Rattle.text_schedule.specs.declared.text.replay.ReplayFault.{ReplayFault as declared_fault};
-ghost use Rattle.text_schedule.specs.Text.Replays.{Replayed};
+ghost use Rattle.text_script.specs.declared.schedule.text.replay.ReplayFault.{ReplayFault as declared_fault};
+ghost use Rattle.text_script.specs.Schedule.Text.Replays.{Replayed};
 ghost use Rattle.table_text.specs.Texts.{Text};
 ghost use Rattle.table_text.specs.Faults.{first_fault as table_fault};
 ghost use Rattle.table_text.specs.Sections.Spelling.{Sections};
@@ -21,7 +21,7 @@ use std::sync::Wait;
 use std::thread::Threads;
 use table_text::{SectionsText, TableText, read_sections, read_table};
 use text_ends::Source;
-use text_schedule::text::{Replay, ReplayFault, read_replay};
+use text_script::schedule::text::{Replay, ReplayFault, read_replay};
 use text_script::{Script, ScriptFault, Version, read_script};
 
 /// Why not all bytes of a source were read.

@@ -14,7 +14,7 @@ use model_core::state::Sizes;
 use run_replay::replay_runs;
 use std::alloc::{AllocError, Global};
 use text_ends::{Failed, Sink};
-use text_schedule::text::Replay;
+use text_script::schedule::text::Replay;
 
 // Runs the sections of a script on one heap by a schedule, on this thread, and then writes the replies. All memory is
 // taken before the first command.

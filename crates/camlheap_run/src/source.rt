@@ -3,9 +3,9 @@ ghost use Rattle.std.specs.Prelude.{◌≡◌, ◌<◌, ◌≤◌, ℕ, List, Op
 ghost use Rattle.text_script.specs.Script.{Scripted};
 ghost use Rattle.heap_rule.specs.Ending.{EndedHeap};
 ghost use Rattle.text_script.specs.declared.fault.ScriptFault.{ScriptFault};
-ghost use Rattle.text_schedule.specs.declared.text.replay.ReplayFault as replay_fault;
-ghost use Rattle.text_schedule.specs.declared.text.replay.ReplayFault.TheVariants.{NotReplayable as NotReplayableOf, Schedule as ScheduleOf, Script as ScriptOf};
-ghost use Rattle.text_schedule.specs.Text.Replays.{HasFault, Replayed};
+ghost use Rattle.text_script.specs.declared.schedule.text.replay.ReplayFault as replay_fault;
+ghost use Rattle.text_script.specs.declared.schedule.text.replay.ReplayFault.TheVariants.{NotReplayable as NotReplayableOf, Schedule as ScheduleOf, Script as ScriptOf};
+ghost use Rattle.text_script.specs.Schedule.Text.Replays.{HasFault, Replayed};
 ghost use Rattle.text_ends.specs.Faults.{Rose};
 ghost use Rattle.camlheap_run.specs.Reading.{IsFirst, IsTableText, ReadsFault, ReadsFirstFault, ReadsReplayFault, Tells, TellsFault, TellsFirst, TellsReplay, TellsReplayFault, TellsScript, first_table_fault};
 ghost use Rattle.camlheap_run.specs.Running.{AreRunSizes};
@@ -24,7 +24,7 @@ use std::alloc::Global;
 use std::sync::Wait;
 use std::thread::Threads;
 use text_ends::{Gate, Sink, Source};
-use text_schedule::text::ReplayFault;
+use text_script::schedule::text::ReplayFault;
 
 // Reads a script, runs it, and writes its replies.
 pub(crate) fn run_source<R: Threads + Wait + Sync, S: Source, K: Sink, G: Gate + Sync>(

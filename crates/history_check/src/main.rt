@@ -29,7 +29,7 @@ use std::io::{BufReader, BufWriter, ErrorKind, Read, Write};
 use std::process::ExitCode;
 use std::{env, io};
 use text_ends::{Sink, Source, StdSink, StdSource};
-use text_schedule::text::ReplayFault;
+use text_script::schedule::text::ReplayFault;
 use text_script::ScriptFault;
 use words::{Asked, read_asked};
 

@@ -9,7 +9,7 @@ use Rattle.std.specs.Prelude.{drop}
 use Rattle.judge_plain.proofs.OfScheduled.DifferLemmas.{none_same, some_other}
 use Rattle.judge_plain.proofs.OfScheduled.PlainLemmas.{plain_script}
 use Rattle.judge_plain.specs.Scheduled.Lines.{differs_from}
-use Rattle.text_schedule.specs.Text.Replays.{Replayed}
+use Rattle.text_script.specs.Schedule.Text.Replays.{Replayed}
 use Rattle.model_traces.specs.Scheduled.Runs.{IsPlainScript}
 use Rattle.judge_outputs.specs.declared.replaying.JudgedReplay.TheVariants.{Legal, Differs}
 use Rattle.judge_outputs.specs.Judging.{IsInput}

@@ -23,7 +23,7 @@ use Rattle.model_traces.specs.Scheduled.Runs.{EndsIn}
 use Rattle.model_traces.specs.declared.schedules.items.Item.{Item}
 use Rattle.model_traces.specs.declared.schedules.items.Item.TheVariants.{Turn}
 use Rattle.model_traces.specs.Schedules.Scheduled.{scheduled}
-use Rattle.text_schedule.specs.Text.Spelling.{item_text, spelling}
+use Rattle.text_script.specs.Schedule.Text.Spelling.{item_text, spelling}
 use Rattle.judge_outputs.specs.declared.turns.Phase.TheVariants.{Between}
 use Rattle.judge_outputs.specs.Answer.{ExplainsScript, explains_by}
 use Rattle.judge_outputs.specs.Judging.{IsInput}

@@ -5,8 +5,8 @@ use Rattle.model_core.specs.declared.state.Sizes.{Sizes}
 use Rattle.model_core.specs.Output.{line, output}
 use Rattle.model_traces.specs.Schedules.Scheduled.{scheduled}
 use Rattle.judge_plain.specs.Scheduled.Lines.{differs_from}
-use Rattle.text_schedule.specs.declared.text.replay.ReplayFault.{ReplayFault}
-use Rattle.text_schedule.specs.Text.Replays.{HasFault, Replayed, SpellsReplay}
+use Rattle.text_script.specs.declared.schedule.text.replay.ReplayFault.{ReplayFault}
+use Rattle.text_script.specs.Schedule.Text.Replays.{HasFault, Replayed, SpellsReplay}
 use Rattle.judge_outputs.specs.declared.replaying.JudgedReplay.{JudgedReplay}
 use Rattle.judge_outputs.specs.declared.replaying.JudgedReplay.TheVariants.{Legal, Differs, Replay, NoSeparator, TooLong, Memory, ReadFault, WriteFault}
 use Rattle.judge_outputs.specs.Input.{HasNoParts, HasParts}

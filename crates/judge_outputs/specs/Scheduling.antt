@@ -13,7 +13,7 @@ use Rattle.judge_plain.specs.History.Explains.{Explains}
 use Rattle.model_traces.specs.Orders.Turns.{is_call, turns_of}
 use Rattle.model_traces.specs.declared.schedules.items.Item.{Item}
 use Rattle.model_traces.specs.Schedules.Scheduled.{scheduled}
-use Rattle.text_schedule.specs.Text.Spelling.{spelling}
+use Rattle.text_script.specs.Schedule.Text.Spelling.{spelling}
 use Rattle.judge_outputs.specs.declared.judged.Judged.TheVariants.{Legal, NoneFound, GaveUp, Script, NoSeparator, TooLong, WriteFault}
 use Rattle.judge_outputs.specs.declared.scheduling.TurnsJudged.{TurnsJudged}
 use Rattle.judge_outputs.specs.declared.scheduling.TurnsJudged.TheVariants.{Printed, NoSchedule, Other}

@@ -4,7 +4,7 @@ use Rattle.model_core.specs.declared.command.Command.TheVariants.{FullMajor}
 use Rattle.model_core.specs.declared.entry.Entry.{Entry}
 use Rattle.model_core.specs.declared.entry.Entry.TheVariants as entry
 use Rattle.model_core.specs.Output.{line}
-use Rattle.text_schedule.specs.Text.Spelling.{item_text}
+use Rattle.text_script.specs.Schedule.Text.Spelling.{item_text}
 use Rattle.model_traces.specs.declared.schedules.items.Item.{Item}
 use Rattle.model_traces.specs.declared.schedules.items.Item.TheVariants.{Turn, Collect}
 use Rattle.judge_outputs.specs.declared.turns.Phase.{Phase}

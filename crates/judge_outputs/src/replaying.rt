@@ -3,7 +3,7 @@ ghost use Rattle.std.specs.Prelude.{◌≡◌, ℕ, List, length, IfOk, IfErr};
 ghost use Rattle.model_core.specs.Domains.{IsWithinLimits};
 ghost use Rattle.model_core.specs.declared.state.Sizes.{Sizes as declared_sizes};
 ghost use Rattle.judge_plain.specs.Scheduled.Lines.{differs_from};
-ghost use Rattle.text_schedule.specs.Text.Replays.{Replayed};
+ghost use Rattle.text_script.specs.Schedule.Text.Replays.{Replayed};
 ghost use Rattle.model_traces.specs.Scheduled.Runs.{IsPlainScript};
 ghost use Rattle.judge_outputs.specs.Faulting.{FaultDecides};
 ghost use Rattle.judge_outputs.specs.Replays.{FindsFault, IsOfReplay, IsReplayInput, IsReplayRefused, IsReplaySilent, IsReplayTold, Wrote, RefusesReplay, TellsReplay, WritesReplay, WritesReplayFront, other_text, same_text, scheduled_output};
@@ -16,7 +16,7 @@ use judge_plain::scheduled::{first_difference, scheduled_text};
 use model_core::state::Sizes;
 use std::alloc::{AllocError, Global};
 use text_ends::{Failed, Sink, Source};
-use text_schedule::text::{Replay, ReplayFault, read_replay};
+use text_script::schedule::text::{Replay, ReplayFault, read_replay};
 
 /// What came of judging the output of a replay.
 #[derive(Clone, Copy, Debug, PartialEq, Eq)]

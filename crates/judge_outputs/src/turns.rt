@@ -1,6 +1,6 @@
 //! The schedule of a history's turns, and its text.
 ghost use Rattle.std.specs.Prelude.{◌≡◌, ◌++◌, Some, OnOk, IfOk, option_map};
-ghost use Rattle.text_schedule.specs.Text.Spelling.{item_text};
+ghost use Rattle.text_script.specs.Schedule.Text.Spelling.{item_text};
 ghost use Rattle.model_core.specs.Output.{line};
 ghost use Rattle.judge_outputs.specs.Turns.{after_answer, after_begin, after_call, after_end, after_entry, after_run, after_within, completed as completed_as, schedule_written, turns_in};
 

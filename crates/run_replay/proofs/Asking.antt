@@ -27,8 +27,8 @@ use Rattle.run_turns.specs.Runs.{RunView, AsksFull, CalmAnswers, CalmDid, GoesBy
 use Rattle.run_turns.specs.Runs.CalmDid.{Finalises, Wishes, Refuses, Tries, Works, Ends, Sees, Makes, Tells, WishesToTell}
 use Rattle.run_turns.specs.Tries.{NeedsPause}
 use Rattle.run_turns.proofs.LeavingLemmas.{passes_leaves}
-use Rattle.text_schedule.specs.declared.drive.together.Stepped.TheVariants.{Needs}
-use Rattle.text_schedule.specs.Drive.Together.{IsRested, halted}
+use Rattle.text_script.specs.declared.schedule.drive.together.Stepped.TheVariants.{Needs}
+use Rattle.text_script.specs.Schedule.Drive.Together.{IsRested, halted}
 use Rattle.run_replay.specs.Asking.{AsksOnce}
 use Rattle.run_replay.specs.Gathered.{asked_for, one_run, paused_for}
 use Rattle.run_replay.specs.Moves.{CameTo, halted_run}

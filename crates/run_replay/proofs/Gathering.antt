@@ -14,14 +14,14 @@ use Rattle.heap_rule.specs.Token.{SharedHeap, IsIn}
 use Rattle.run_turns.specs.Runs.{RunView}
 use Rattle.model_traces.specs.declared.schedules.items.Item.{Item}
 use Rattle.model_traces.specs.Schedules.Scheduled.{scheduled}
-use Rattle.text_schedule.specs.Drive.Together.{AllHave, OneRun}
-use Rattle.text_schedule.specs.Drive.Pausing.{all_commands, lefts}
-use Rattle.text_schedule.specs.Drive.Following.{IsCalm}
+use Rattle.text_script.specs.Schedule.Drive.Together.{AllHave, OneRun}
+use Rattle.text_script.specs.Schedule.Drive.Pausing.{all_commands, lefts}
+use Rattle.text_script.specs.Schedule.Drive.Following.{IsCalm}
 use Rattle.run_replay.specs.Ends.{TakenApart}
 use Rattle.run_replay.specs.Gathered.{GatheredView, HasRun, IsGathered, MayShare, asked_for, is_running, one_run, run_at, seen_in}
 use Rattle.model_core.specs.Domains.{IsWithinLimits}
 use Rattle.model_traces.specs.Schedules.Scheduled.{rounds_of}
-use Rattle.text_schedule.specs.Drive.Spending.{most_in_replay}
+use Rattle.text_script.specs.Schedule.Drive.Spending.{most_in_replay}
 use Rattle.run_replay.specs.Pace.{last_arrival, last_of, spare_of}
 use Rattle.run_replay.proofs.EndLemmas.{nothing_shared}
 use Rattle.run_replay.proofs.Pace.{last_at}

@@ -17,7 +17,7 @@ use Rattle.model_core.proofs.Histories.FrontLemmas.{none_cons}
 use Rattle.model_core.proofs.Histories.HistoryLemmas.{replies_from-append, replies_from-others, state_after-append}
 use Rattle.do_spawn.proofs.Ended.{none_of_ended, none_there}
 use Rattle.run_turns.specs.Runs.{is_end_of}
-use Rattle.text_schedule.specs.Drive.Together.{is_quiet}
+use Rattle.text_script.specs.Schedule.Drive.Together.{is_quiet}
 
 -- entries of others leave it as it is whether a trace has ended
 pub ended_others : (s : State) (h : List Entry) (d : ℕ) → NoneOf d h → (domain_at (state_after s h) d).ended ≡ (domain_at s d).ended

@@ -17,7 +17,7 @@ use Rattle.run_turns.specs.declared.supply.Supply.{Supply}
 use Rattle.run_turns.specs.declared.supply.Supply.TheVariants.{Listed}
 use Rattle.run_turns.specs.Runs.{RunView, IsRun, StandsAt, most_ran, registrations_in}
 use Rattle.run_turns.specs.Tries.{registrations_of}
-use Rattle.text_schedule.specs.Drive.Together.{OneRun, Lead, Rests, Leads, Has, AllHave, LeadStep, Passed, SharesOn, SomeGone, Stands, Turned, Unqueued, all_halted, halted}
+use Rattle.text_script.specs.Schedule.Drive.Together.{OneRun, Lead, Rests, Leads, Has, AllHave, LeadStep, Passed, SharesOn, SomeGone, Stands, Turned, Unqueued, all_halted, halted}
 use Rattle.run_replay.specs.Walk.{IsWalk}
 use Rattle.gc_pause.specs.declared.phases.decider.Decider.TheVariants.{Caller}
 use Rattle.run_replay.specs.Asking.{AskFew, AsksOnce, HasAmple, commands_at}
@@ -28,7 +28,7 @@ use Rattle.run_replay.specs.Pace.{last_arrival, last_of, pace_of, spare_of}
 use Rattle.run_turns.specs.declared.turned.Turned.TheVariants.{Did}
 use Rattle.model_core.specs.History.{IsPrefix}
 use Rattle.run_replay.specs.Moves.{Becomes, IsSooner, HaltsUpto, PassesAt, StepsAt, forgetting, halted_run}
-use Rattle.text_schedule.specs.declared.drive.together.Stepped.{Stepped}
+use Rattle.text_script.specs.declared.schedule.drive.together.Stepped.{Stepped}
 use Rattle.model_core.specs.Domains.{IsWithinLimits, domain_at, opening}
 use Rattle.heap_rule.specs.declared.phase.Progress.{Progress}
 use Rattle.heap_rule.specs.Rule.{state_of}

@@ -28,7 +28,7 @@ use Rattle.run_turns.specs.Runs.{GoesBy, IsRun, PassesOn, Resumes, RunView, Sees
 use Rattle.run_turns.specs.Runs.{IsAnswered as RunIsAnswered}
 use Rattle.run_turns.proofs.PauseLemmas.{even_next, odd_next}
 use Rattle.run_turns.proofs.LeavingLemmas.{Leaves, even_knows, knows_on, passes_leaves}
-use Rattle.text_schedule.specs.Drive.Together.{IsntAnswered, Lead, LeadStep, Rests, Leads, Answers}
+use Rattle.text_script.specs.Schedule.Drive.Together.{IsntAnswered, Lead, LeadStep, Rests, Leads, Answers}
 use Rattle.run_replay.specs.Asking.{AsksOnce}
 use Rattle.run_replay.specs.Gathered.{PassedBy, Steps, Walk, asked_for, is_even, is_running, lead_in, lead_of, one_run, paused_for}
 use Rattle.run_replay.specs.Walk.{IsWalk, controls_of, lead_left, lead_named}

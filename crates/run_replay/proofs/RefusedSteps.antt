@@ -5,7 +5,7 @@ use Rattle.model_core.specs.declared.entry.Entry.{Entry}
 use Rattle.heap_rule.specs.Meeting.{Trails}
 use Rattle.heap_rule.specs.Token.{SharedHeap}
 use Rattle.run_turns.specs.Runs.{AsksFull, RunView}
-use Rattle.text_schedule.specs.declared.drive.together.Stepped.{Stepped}
+use Rattle.text_script.specs.declared.schedule.drive.together.Stepped.{Stepped}
 use Rattle.run_replay.specs.Asking.{AskFew}
 use Rattle.run_replay.specs.Gathered.{HasRun}
 use Rattle.run_replay.specs.Leveled.{AllHere}

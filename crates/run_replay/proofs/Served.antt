@@ -27,9 +27,9 @@ use Rattle.run_turns.specs.Runs.{RunView, CalmAnswers, CalmDid, GoesBy, IsRun, R
 use Rattle.run_turns.specs.Runs.CalmDid.{Finalises, Wishes, Refuses, Tries, Works, Ends, Sees, Makes, Tells, WishesToTell}
 use Rattle.run_turns.proofs.LeavingLemmas.{passes_leaves}
 use Rattle.run_turns.proofs.Turning.{not_full as is_short}
-use Rattle.text_schedule.specs.declared.drive.together.Stepped.{Stepped}
-use Rattle.text_schedule.specs.declared.drive.together.Stepped.TheVariants.{Ran, Made, Needs}
-use Rattle.text_schedule.specs.Drive.Together.{IsServed}
+use Rattle.text_script.specs.declared.schedule.drive.together.Stepped.{Stepped}
+use Rattle.text_script.specs.declared.schedule.drive.together.Stepped.TheVariants.{Ran, Made, Needs}
+use Rattle.text_script.specs.Schedule.Drive.Together.{IsServed}
 use Rattle.run_replay.specs.Gathered.{asked_for, one_run}
 use Rattle.run_replay.specs.Moves.{CameTo, halted_run}
 use Rattle.run_replay.specs.Served.{IsBehindAnswer, Serves, WaitsAt}

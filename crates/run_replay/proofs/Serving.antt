@@ -20,7 +20,7 @@ use Rattle.run_turns.specs.Meeting.{StandsBehind}
 use Rattle.run_turns.specs.Pausing.{LeavesEven}
 use Rattle.run_turns.specs.Runs.{GoesBy, IsAnswered, IsRun, PassesOn, Resumes, RunView, SeesAnswer, StandsAt}
 use Rattle.run_turns.proofs.LeavingLemmas.{passes_leaves}
-use Rattle.text_schedule.specs.Drive.Together.{IsServed, LeadStep}
+use Rattle.text_script.specs.Schedule.Drive.Together.{IsServed, LeadStep}
 use Rattle.run_replay.specs.Gathered.{HasRun, InStep, Walk, one_run}
 use Rattle.run_replay.specs.Leveled.{Leveled}
 use Rattle.run_replay.specs.Moves.{PassesAt, forgetting, halted_run}

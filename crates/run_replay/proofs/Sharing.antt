@@ -18,7 +18,7 @@ use Rattle.run_turns.specs.declared.supply.Supply.{Supply}
 use Rattle.run_turns.specs.declared.supply.Supply.TheVariants.{Listed}
 use Rattle.run_turns.specs.Runs.{AreKept, RunView, is_end_of}
 use Rattle.model_traces.proofs.OfSchedules.Collecting.{legal_parts}
-use Rattle.text_schedule.specs.Drive.Together.{Grows, IsShared, OneRun}
+use Rattle.text_script.specs.Schedule.Drive.Together.{Grows, IsShared, OneRun}
 use Rattle.run_replay.specs.Gathered.{GatheredView, HasRun, IsGathered, IsHeld, MayShare, Steps, one_run, run_at, seen_in}
 use Rattle.run_replay.specs.Leveled.{Leveled, SawAll}
 use Rattle.run_replay.proofs.Behind.{All, all_join, all_parts, behind, behind_parts, none_behind, prefix_same, trails_on, trails_part, trails_whole}

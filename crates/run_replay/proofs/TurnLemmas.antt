@@ -33,9 +33,9 @@ use Rattle.run_turns.proofs.Turning.{not_full as is_short}
 use Rattle.run_turns.specs.Runs.{RunView, Asks, AsksFull, CalmAnswers, CalmDid, EndsTrace, MarksBeside, Polls, RunsFinaliser, SweepsBeside, TriesCommand, WorksBeside, asking_end, said_with}
 use Rattle.run_turns.specs.Runs.CalmDid.{Finalises, Wishes, Refuses, Tries, Works, Ends, Sees, Makes, Tells, WishesToTell}
 use Rattle.run_turns.specs.Tries.{Enters, Stands}
-use Rattle.text_schedule.specs.declared.drive.together.Stepped.{Stepped}
-use Rattle.text_schedule.specs.declared.drive.together.Stepped.TheVariants.{Ran, Made, Needs}
-use Rattle.text_schedule.specs.Drive.Together.{IsRested, OneRun, TurnTells, Unqueued}
+use Rattle.text_script.specs.declared.schedule.drive.together.Stepped.{Stepped}
+use Rattle.text_script.specs.declared.schedule.drive.together.Stepped.TheVariants.{Ran, Made, Needs}
+use Rattle.text_script.specs.Schedule.Drive.Together.{IsRested, OneRun, TurnTells, Unqueued}
 use Rattle.run_replay.specs.Gathered.{Steps, asked_for, is_running, one_run, paused_for}
 use Rattle.run_replay.specs.Moves.{CameTo}
 use Rattle.run_replay.proofs.CalmLemmas.{asking_next, works_run}

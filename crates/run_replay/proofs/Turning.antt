@@ -5,8 +5,8 @@ use Rattle.model_core.specs.Domains.{domain_at}
 use Rattle.heap_rule.specs.Limits.{sizes_in}
 use Rattle.heap_rule.specs.Rule.{state_of}
 use Rattle.run_turns.specs.Runs.{RunView}
-use Rattle.text_schedule.specs.declared.drive.together.Stepped.{Stepped}
-use Rattle.text_schedule.specs.Drive.Together.{AllHave, Has, Turned, Unqueued}
+use Rattle.text_script.specs.declared.schedule.drive.together.Stepped.{Stepped}
+use Rattle.text_script.specs.Schedule.Drive.Together.{AllHave, Has, Turned, Unqueued}
 use Rattle.run_replay.specs.Gathered.{GatheredView, IsGathered, IsHeld, MayShare, one_run, run_at, seen_in}
 use Rattle.run_replay.specs.Leveled.{Leveled}
 use Rattle.run_replay.specs.Moves.{StepsAt}

@@ -7,7 +7,7 @@ use Rattle.heap_rule.specs.declared.phase.Progress.{Progress}
 use Rattle.step_pauses.specs.Pauses.{entry_of, progress_after}
 use Rattle.gc_pause.specs.declared.phases.decider.Decider.TheVariants.{Caller}
 use Rattle.gc_pause.specs.Phases.Leading.{Findings, next_kind}
-use Rattle.text_schedule.specs.Drive.Together.{LeadStep}
+use Rattle.text_script.specs.Schedule.Drive.Together.{LeadStep}
 use Rattle.run_replay.specs.Walk.{IsOfCollection, IsWalk, controls_of, lead_left, lead_named}
 
 -- one step: the entry that stands is the one of the way, and the walk goes on

@@ -16,7 +16,7 @@ use Rattle.run_turns.specs.Runs.{RunView, IsRun, is_asked, served_since}
 use Rattle.run_replay.specs.Asking.{AsksOnce, HasAmple, commands_at}
 use Rattle.run_replay.specs.Served.{AllTied, Serves}
 use Rattle.run_replay.specs.Walk.{IsWalk}
-use Rattle.text_schedule.specs.Drive.Together.{AllRuns, OneRun, Lead, Rests, Leads, Answers, LeadStep, IsAnswered, IsntAnswered}
+use Rattle.text_script.specs.Schedule.Drive.Together.{AllRuns, OneRun, Lead, Rests, Leads, Answers, LeadStep, IsAnswered, IsntAnswered}
 
 -- the runs, each at the place of its domain, and whether a complete collection is made in the pause that domain 0 leads
 pub record GatheredView : Type 0 where

@@ -13,9 +13,9 @@ use Rattle.run_turns.specs.declared.turned.Turned as turned
 use Rattle.run_turns.specs.declared.turned.Turned.TheVariants.{Did}
 use Rattle.run_turns.specs.Meeting.{StandsBehind}
 use Rattle.run_turns.specs.Runs.{RunView, CalmAnswers, IsRun, PassesOn}
-use Rattle.text_schedule.specs.declared.drive.together.Stepped.{Stepped}
-use Rattle.text_schedule.specs.declared.drive.together.Stepped.TheVariants.{Ran, Made, Needs}
-use Rattle.text_schedule.specs.Drive.Together.{IsRested}
+use Rattle.text_script.specs.declared.schedule.drive.together.Stepped.{Stepped}
+use Rattle.text_script.specs.declared.schedule.drive.together.Stepped.TheVariants.{Ran, Made, Needs}
+use Rattle.text_script.specs.Schedule.Drive.Together.{IsRested}
 use Rattle.run_replay.specs.Gathered.{HasRun, one_run}
 use Rattle.run_replay.specs.Leveled.{Leveled}
 

@@ -4,7 +4,7 @@ use Rattle.model_core.specs.declared.entry.Entry.{Entry}
 use Rattle.heap_rule.specs.declared.phase.Kind.{Kind}
 use Rattle.heap_rule.specs.declared.phase.Kind.TheVariants.{Run, Promote, Reset, Answer}
 use Rattle.heap_rule.specs.declared.phase.Progress.{Progress}
-use Rattle.text_schedule.specs.Drive.Together.{Lead, Rests, Leads, Answers}
+use Rattle.text_script.specs.Schedule.Drive.Together.{Lead, Rests, Leads, Answers}
 
 -- how far domain 0 has led, by the kind that it knows: it has named it and not gone through it, or it has gone through it
 abbrev pub lead_named : Bool → Kind → Lead

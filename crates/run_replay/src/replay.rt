@@ -3,8 +3,8 @@ ghost use Rattle.std.specs.Prelude.{◌<◌, ◌≡◌, ◌≤◌, ℕ, List, []
 ghost use Rattle.std.specs.List.{list_all};
 ghost use Rattle.model_core.specs.declared.entry.Entry.{Entry};
 ghost use Rattle.run_turns.specs.Runs.{RunView};
-ghost use Rattle.text_schedule.specs.Drive.Following.{IsCalm, is_for};
-ghost use Rattle.text_schedule.specs.Drive.Spending.{most_in_replay};
+ghost use Rattle.text_script.specs.Schedule.Drive.Following.{IsCalm, is_for};
+ghost use Rattle.text_script.specs.Schedule.Drive.Spending.{most_in_replay};
 ghost use Rattle.run_replay.specs.Gathered.{MayShare, seen_in};
 ghost use Rattle.run_replay.specs.Pace.{spare_of};
 ghost use Rattle.run_replay.specs.Replayed.{IsUntouched, MayReplay, Replayed};
@@ -14,7 +14,7 @@ use heap_rule::Heap;
 use model_traces::schedules::Item;
 use run_turns::DomainRun;
 use std::alloc::{AllocError, Global};
-use text_schedule::drive::{TogetherRuns, replay};
+use text_script::schedule::drive::{TogetherRuns, replay};
 
 // Gathered runs, driven by a schedule, and then taken apart.
 fn drive(gathered: Gathered, room: Vec<DomainRun>, items: &[Item]) -> (Heap, Vec<DomainRun>)

@@ -4,14 +4,14 @@ ghost use Rattle.run_turns.specs.Runs.{RunView};
 ghost use Rattle.heap_rule.specs.Token.{IsIn};
 ghost use Rattle.run_replay.specs.Asking.{AskFew};
 ghost use Rattle.run_replay.specs.Gathered.{HasRun};
-ghost use Rattle.text_schedule.specs.declared.drive.together.Stepped.TheVariants.{Needs};
+ghost use Rattle.text_script.specs.declared.schedule.drive.together.Stepped.TheVariants.{Needs};
 ghost use Rattle.run_replay.specs.Leveled.{AllHere};
 ghost use Rattle.run_replay.specs.Moves.{CameTo, MetThen, StepsAt};
 
 use crate::meeting::meet;
 use heap_rule::{Domain, Heap};
 use run_turns::{DomainRun, go_on};
-use text_schedule::drive::Stepped;
+use text_script::schedule::drive::Stepped;
 
 // What a step came to, after which the domain runs: the place of the next command and the number of replies before it
 // are known.

@@ -6,7 +6,7 @@ use crate::gathered::Gathered;
 use crate::halting::halt_all;
 use crate::passing::{gone, pass_at};
 use crate::stepping::step_at;
-use text_schedule::drive::{Stepped, TogetherRuns};
+use text_script::schedule::drive::{Stepped, TogetherRuns};
 
 impl TogetherRuns for Gathered {
     ghost seen = { λ g. seen_in g };

@@ -25,3 +25,4 @@ pub mod SoleLemmas
 pub mod OfSpawned
 pub mod OfDecimals
 pub mod OfWords
+pub mod OfSchedule

@@ -11,3 +11,4 @@ pub mod Sections
 pub mod Spawned
 pub mod Decimals
 pub mod Words
+pub mod Schedule

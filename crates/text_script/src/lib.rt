@@ -1,4 +1,5 @@
-//! Scripts and reply lines as text: what a script is, its first fault, scripts that are generated, and how commands, replies and headings are printed.
+//! Scripts, schedules and reply lines as text: what a script is, its first fault, scripts that are generated, how commands, replies and headings
+//! are printed, and how a run is driven by a schedule.
 #![tactic(auto)]
 
 pub mod decimals;
@@ -12,6 +13,7 @@ mod line;
 mod number;
 pub mod print;
 pub mod read;
+pub mod schedule;
 pub mod script;
 pub mod section;
 pub mod spawned;

@@ -4,8 +4,8 @@ use Rattle.std.proofs.KnownBytes.{Consumes-whole}
 use Rattle.model_core.specs.declared.state.Sizes.{Sizes}
 use Rattle.heap_rule.specs.Ending.{EndedHeap}
 use Rattle.model_traces.proofs.OfSchedules.Resizing.{sizes_law}
-use Rattle.text_schedule.specs.Text.Replays.{Replayed, SpellsReplay}
-use Rattle.text_schedule.proofs.OfText.ReplayLemmas.{same_replay}
+use Rattle.text_script.specs.Schedule.Text.Replays.{Replayed, SpellsReplay}
+use Rattle.text_script.proofs.OfSchedule.OfText.ReplayLemmas.{same_replay}
 use Rattle.camlheap_run.specs.Replaying.{ReplaysToEnd, scheduled_text}
 
 -- two replays of one schedule and one script write the same

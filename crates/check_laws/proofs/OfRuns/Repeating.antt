@@ -3,8 +3,8 @@ use Rattle.std.proofs.Common.{◌≡◌, ℕ, List, ◌++◌, Option, Some, None
 use Rattle.std.specs.Io.KnownBytes.{Consumes, IsAtEnd}
 use Rattle.model_core.specs.declared.state.Sizes.{Sizes}
 use Rattle.model_traces.proofs.OfSchedules.Resizing.{sizes_law}
-use Rattle.text_schedule.specs.Text.Replays.{Replayed, SpellsReplay}
-use Rattle.text_schedule.proofs.OfText.ReplayLemmas.{same_replay}
+use Rattle.text_script.specs.Schedule.Text.Replays.{Replayed, SpellsReplay}
+use Rattle.text_script.proofs.OfSchedule.OfText.ReplayLemmas.{same_replay}
 use Rattle.camlheap_run.specs.Replaying.{scheduled_text}
 use Rattle.check_laws.specs.Runs.Repeated.{ReplaysAreRepeated}
 use Rattle.check_laws.proofs.OfRuns.Explaining.{same_rest}

@@ -1,4 +1,4 @@
-use Rattle.text_schedule.specs.Text.Replays.{HasFault}
+use Rattle.text_script.specs.Schedule.Text.Replays.{HasFault}
 use Rattle.camlheap_run.proofs.ReadingLemmas.{replay_not_refused, told_fault, told_replay}
 use Rattle.camlheap_run.proofs.reading.replay_of.Goals as goal
 

@@ -1,11 +1,11 @@
 use Rattle.std.proofs.Common.{◌≡◌, ◌≤◌, length, ap, arith, subst, sym, Some, true}
 use Rattle.std.specs.Prelude.{Option}
 use Rattle.std.specs.List.{list_all}
-use Rattle.text_schedule.specs.Drive.Following.{is_for}
+use Rattle.text_script.specs.Schedule.Drive.Following.{is_for}
 use Rattle.model_core.specs.declared.state.Sizes.{Sizes}
 use Rattle.heap_rule.specs.Ending.{EndedHeap}
 use Rattle.run_replay.specs.Replayed.{Replayed}
-use Rattle.text_schedule.specs.Text.Replays.{Replayed as ReplayedText}
+use Rattle.text_script.specs.Schedule.Text.Replays.{Replayed as ReplayedText}
 use Rattle.camlheap_run.specs.Reading.{IsSpelledReplay}
 use Rattle.camlheap_run.specs.Replaying.{WritesFrontOfReplay, WritesReplay}
 use Rattle.camlheap_run.proofs.ReplayLemmas.{all_played_here, all_played_over, begun_may, items_for, leaves_ample, many_sections, played_count, replayed_script, writes_replay, writes_replay_front}

@@ -1,7 +1,7 @@
 use Rattle.std.proofs.Common.{◌≡◌, sym, ap, inl, subst, ◌∙◌}
-use Rattle.text_schedule.specs.declared.text.replay.ReplayFault.TheVariants.{Script as ScriptOf}
-use Rattle.text_schedule.specs.Text.Replays.{HasFault}
-use Rattle.text_schedule.proofs.OfText.ReplayLemmas.{one_fault}
+use Rattle.text_script.specs.declared.schedule.text.replay.ReplayFault.TheVariants.{Script as ScriptOf}
+use Rattle.text_script.specs.Schedule.Text.Replays.{HasFault}
+use Rattle.text_script.proofs.OfSchedule.OfText.ReplayLemmas.{one_fault}
 use Rattle.camlheap_run.specs.Reading.{ReadsReplayFault}
 use Rattle.camlheap_run.specs.Replaying.{fault_status}
 use Rattle.camlheap_run.proofs.ReadingLemmas.{told_fault}

@@ -1,11 +1,11 @@
 use Rattle.std.proofs.Common.{◌<◌, subst, sym}
 use Rattle.model_core.specs.Domains.{IsWithinLimits}
 use Rattle.heap_rule.specs.Limits.{sizes_in}
-use Rattle.text_schedule.specs.Drive.Spending.{most_in_replay}
+use Rattle.text_script.specs.Schedule.Drive.Spending.{most_in_replay}
 use Rattle.run_replay.specs.Pace.{spare_of}
 use Rattle.model_core.specs.declared.entry.Entry.{Entry}
 use Rattle.std.specs.Prelude.{◌≡◌, List, []}
-use Rattle.text_schedule.specs.Drive.Following.{IsCalm}
+use Rattle.text_script.specs.Schedule.Drive.Following.{IsCalm}
 use Rattle.run_replay.specs.Gathered.{GatheredView, IsGathered, MayShare, seen_in}
 use Rattle.run_replay.proofs.Gathering.{begins_calm, begins_fresh, begins_room}
 use Rattle.run_replay.proofs.replay.replay_runs.Goals as goal

@@ -4,8 +4,8 @@ use Rattle.run_turns.specs.declared.supply.Supply.TheVariants.{Listed, Section}
 use Rattle.heap_rule.specs.declared.view.TheConstants.{REMEMBERED_ROOM}
 use Rattle.heap_rule.specs.Token.{SharedHeap, Token, IsIn}
 use Rattle.run_turns.specs.Runs.{CalmAnswers, IsRun, RunView}
-use Rattle.text_schedule.specs.declared.drive.together.Stepped.{Stepped}
-use Rattle.text_schedule.specs.declared.drive.together.Stepped.TheVariants.{Needs}
+use Rattle.text_script.specs.declared.schedule.drive.together.Stepped.{Stepped}
+use Rattle.text_script.specs.declared.schedule.drive.together.Stepped.TheVariants.{Needs}
 use Rattle.run_replay.specs.Gathered.{HasRun}
 use Rattle.run_replay.specs.Moves.{CameTo}
 use Rattle.run_replay.proofs.Ample.{never_refused}

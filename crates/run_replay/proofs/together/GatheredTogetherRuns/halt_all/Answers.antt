@@ -2,8 +2,8 @@ use Rattle.std.proofs.Common.{◌≡◌, ◌∙◌, ◌<◌, ◌≤◌, ◌+◌,
 use Rattle.std.specs.Prelude.{vec_capacity}
 use Rattle.std.proofs.lemmas.List.{with_items_is}
 use Rattle.run_turns.specs.Runs.{RunView}
-use Rattle.text_schedule.specs.Drive.Spending.{most_in_pause}
-use Rattle.text_schedule.specs.Drive.Together.{AllHave, SharesOn, all_halted}
+use Rattle.text_script.specs.Schedule.Drive.Spending.{most_in_pause}
+use Rattle.text_script.specs.Schedule.Drive.Together.{AllHave, SharesOn, all_halted}
 use Rattle.run_replay.specs.Gathered.{GatheredView, HasRun, IsGathered, MayShare, seen_in}
 use Rattle.run_replay.specs.Leveled.{AllHere}
 use Rattle.run_replay.specs.Moves.{HaltsUpto, MetThen}

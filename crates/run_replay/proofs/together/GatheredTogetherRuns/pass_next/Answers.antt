@@ -2,7 +2,7 @@ use Rattle.std.proofs.Common.{◌∙◌, ◌<◌, ◌≤◌, ℕ, List, Option, 
 use Rattle.std.specs.Prelude.{vec_capacity}
 use Rattle.std.proofs.lemmas.List.{with_items_is}
 use Rattle.run_turns.specs.Runs.{RunView}
-use Rattle.text_schedule.specs.Drive.Together.{Passed, SomeGone}
+use Rattle.text_script.specs.Schedule.Drive.Together.{Passed, SomeGone}
 use Rattle.run_replay.specs.Gathered.{GatheredView, GoneAt, HasRun, IsGathered, MayShare, seen_in}
 use Rattle.run_replay.specs.Leveled.{AllHere}
 use Rattle.run_replay.specs.Moves.{IsSooner, MetThen, PassesAt}

@@ -2,7 +2,7 @@ use Rattle.std.proofs.Common.{◌∙◌, ◌<◌, ◌≤◌, true, false, List, 
 use Rattle.std.specs.Prelude.{vec_capacity}
 use Rattle.std.proofs.lemmas.List.{with_items_is}
 use Rattle.run_turns.specs.Runs.{RunView}
-use Rattle.text_schedule.specs.Drive.Together.{AllHave, Has, Turned}
+use Rattle.text_script.specs.Schedule.Drive.Together.{AllHave, Has, Turned}
 use Rattle.run_replay.specs.Asking.{AskFew}
 use Rattle.run_replay.specs.Gathered.{GatheredView, HasRun, IsGathered, MayShare, one_run, run_at, seen_in}
 use Rattle.run_replay.specs.Leveled.{AllHere}

@@ -1,6 +1,0 @@
-use Rattle.std.proofs.Common.{◌≡◌, ◌≤◌, fold, length, map, max, take}
-use Rattle.text_schedule.specs.Drive.Pausing.{lefts}
-use Rattle.text_schedule.proofs.drive.replaying.rounds_of.Given as goal
-
-abbrev pub invariant-domains : goal.invariant-domains
-invariant-domains g l = (l.most ≡ fold max 0 (take l.at (map length (lefts (g.T.TogetherRuns.seen l.runs))))) × (l.most ≤ 200000)
