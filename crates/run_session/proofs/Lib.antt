@@ -4,4 +4,3 @@ pub mod Labels
 pub mod Driven
 pub mod Refused
 pub mod OfDomains
-pub mod OfSharing

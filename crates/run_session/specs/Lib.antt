@@ -2,4 +2,3 @@ pub mod Stopping
 pub mod Sessions
 pub mod Driving
 pub mod Domains
-pub mod Sharing

@@ -15,7 +15,6 @@ mod closing;
 pub mod domains;
 mod performing;
 mod session;
-pub mod sharing;
 mod tables;
 
 pub use session::Session;

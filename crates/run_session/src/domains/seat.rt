@@ -78,6 +78,13 @@ impl<'a> SeatDomain<'a> {
         seat.rest(rt, seats)
     }
 
+    /// The seat of the domain, as one looks at it while the domain is in use.
+    pub fn seat(&self) -> &Seat
+        ensures { result.now ≡ self.now.seat }
+    {
+        &self.seat
+    }
+
     /// The seat of the domain, as it is now.
     pub fn into_inner(self) -> Seat
         ensures seat { result ≡ self.entry.seat }
