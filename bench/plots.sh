@@ -316,8 +316,8 @@ bindings() {
 
 maps() {
     head_of bench/maps.sh
-    columns "a call" keys "in the mean" "the dearest of 400"
-    "$top/bench/maps.sh" | awk '{ print "`" ($1 == "move" ? "take` and `put" : $1) "`\t" $5 "\t" $7 "\t" $NF }'
+    columns "a call" "made by" keys "in the mean" "the dearest of 400"
+    "$top/bench/maps.sh" | awk '{ sub(":", "", $9); print "`" ($1 == "move" ? "take` and `put" : $1) "`\ta " $9 "\t" $5 "\t" $10 "\t" $NF }'
 }
 
 # Milliseconds of a run of no command by the program $1, the least of several, with the setting $2 of the C library.

@@ -12,11 +12,11 @@ ghost use Rattle.table_text.specs.Faults.{line_shape, fault_of_shape, fault_from
 
 use crate::line::TableLine;
 use crate::row::{line_of_row, row_of};
-use crate::split::split_once;
 use crate::text::TableText;
 use crate::version::{Version, most_lines, version_of};
 use std::alloc::Global;
 use text_script::ScriptFault;
+use text_script::split::split_once;
 
 // The greatest count of bytes of a text.
 pub(crate) const MAX_BYTES: usize = 16_777_216;

@@ -18,7 +18,7 @@ pub mod script;
 pub mod section;
 pub mod spawned;
 mod spawns;
-mod split;
+pub mod split;
 mod table;
 mod text;
 pub mod version;

@@ -81,6 +81,7 @@ pub trait Machine {
 
 /// Makes a command: one entry more of the domain is refused exactly where it is answered `full`, and an allocation gives out a
 /// label or is.
+#[inline(always)]
 pub fn perform<M: Machine, R: Wait>(m: &mut M, rt: &R, c: Command) -> Reply
     requires fits { IsMapCommand c }
     requires label { labels_of c ≤ M.labels_left m.old }

@@ -122,6 +122,7 @@ impl<'a> Machine for SeatDomain<'a> {
         self.seat.show(self.seats, r)
     }
 
+    #[inline(always)]
     fn perform<R: Wait>(&mut self, rt: &R, c: Command) -> Reply {
         self.seat.labels_left();
         self.seat.perform(rt, self.seats, c)

@@ -90,6 +90,7 @@ impl Machine for SessionDomain {
         self.session.show(r)
     }
 
+    #[inline(always)]
     fn perform<R: Wait>(&mut self, rt: &R, c: Command) -> Reply {
         self.session.perform(rt, c)
     }

@@ -11,9 +11,9 @@ ghost use Rattle.table_text.specs.Sections.Steps.{SpellsBehind};
 use crate::read::MAX_BYTES;
 use crate::sections::step::take_text;
 use crate::sections::text::SectionsText;
-use crate::split::split_once;
 use std::alloc::Global;
 use text_script::ScriptFault;
+use text_script::split::split_once;
 
 // The end of the text: nothing stands behind the last line feed, and each domain has a section.
 fn end_of(domains: u32, sections: &SectionsText, rest: &[u8]) -> Result<(), ScriptFault>
