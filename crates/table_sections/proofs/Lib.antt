@@ -6,3 +6,8 @@ pub mod CallLemmas
 pub mod PutLemmas
 pub mod SectionLemmas
 pub mod RefusedBodies
+pub mod Jobs
+pub mod Laid
+pub mod Standing
+pub mod Seating
+pub mod Ending

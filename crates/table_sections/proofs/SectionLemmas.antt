@@ -40,8 +40,3 @@ pub sections_are_answered : SectionsAreAnswered
 sections_are_answered z root base h x d old new lines replies behind grows until held runs =
     let there = others_may_be_relied_on z root base h x d old new behind grows until in
     sections_are_beside z root d old new lines replies runs (record { holds = held; map = there.0; placed = there.1 }) there.2
-
--- no line is left
-pub none_left : (ls : List TableLine) → length ls ≡ 0 → ls ≡ []
-none_left [] none = refl
-none_left (l ∷ ls) none = absurd (omega (arith, none))
