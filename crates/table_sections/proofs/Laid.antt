@@ -1,30 +1,24 @@
 -- What the commands of the preparation leave: which commands they are, that they guard the map, and what the registers hold.
-use Rattle.std.proofs.Common.{◌≡◌, ⊎_elim, ℕ, zero, suc, Bool, true, false, cond, List, [], ◌∷◌, ◌++◌, get_or, slice_get, Option, Some, None, IsTrue, refl, ap, sym, ◌∙◌, subst, arith, rules, eq-eqb, append-nil, append_assoc}
+use Rattle.std.proofs.Common.{◌≡◌, ⊎_elim, ℕ, zero, suc, Bool, true, false, cond, List, [], ◌∷◌, ◌++◌, get_or, Option, Some, None, IsTrue, refl, ap, sym, ◌∙◌, subst, arith, rules, eq-eqb, append-nil, append_assoc}
 use Rattle.std.specs.Prelude.{◌||◌, filter_map}
 use Rattle.std.specs.List.{AllByRecursion}
 use Rattle.std.specs.Option.{option_eq}
 use Rattle.model_core.specs.declared.command.Command.{Command}
-use Rattle.model_core.specs.declared.command.Command.TheVariants.{Poll, Alloc, SetKey}
+use Rattle.model_core.specs.declared.command.Command.TheVariants.{Alloc, SetKey}
 use Rattle.model_core.specs.declared.entry.Entry.{Entry}
 use Rattle.model_core.specs.declared.entry.Entry.TheVariants.{Command as CommandOf}
 use Rattle.model_core.specs.declared.graph.Node.{Node}
-use Rattle.model_core.specs.declared.graph.Node.TheVariants.{Ephe, Plain, Raw}
 use Rattle.model_core.specs.declared.graph.Value.{Value}
 use Rattle.model_core.specs.declared.graph.Value.TheVariants.{Block, Int, Nothing}
 use Rattle.model_core.specs.declared.label.Label.{Label}
 use Rattle.model_core.specs.declared.reply.Reply.{Reply}
 use Rattle.model_core.specs.declared.reply.Reply.TheVariants as reply
-use Rattle.model_core.specs.declared.state.DomainState.{DomainState}
 use Rattle.model_core.specs.declared.state.Sizes.{Sizes}
 use Rattle.model_core.specs.declared.state.State.{State}
-use Rattle.model_core.specs.Commands.{is_allocation, key_set, key_stored, outcome}
-use Rattle.model_core.specs.Commands.{block_in}
-use Rattle.model_core.specs.Domains.{IsWithinLimits, domain_at, label_in, opening, register}
-use Rattle.model_core.specs.Entries.{next}
+use Rattle.model_core.specs.Domains.{IsWithinLimits, domain_at, opening}
 use Rattle.model_core.specs.Graph.{Graph, label_of, labels, has_label, node_at, same_label}
 use Rattle.model_core.specs.History.{IsPrefix, commands}
 use Rattle.model_core.specs.Laws.{written_by}
-use Rattle.model_core.proofs.Commands.FrameLemmas.{part_set}
 use Rattle.model_core.proofs.Graphs.GraphLemmas.{same_label_refl}
 use Rattle.model_core.proofs.Histories.HistoryLemmas.{commands-append, commands-others, commands-push}
 use Rattle.model_core.proofs.Histories.WellFormedLemmas.{wf_after, wf_opening}
@@ -33,19 +27,17 @@ use Rattle.weak_laws.specs.Maps.Calls.{PerformedBy}
 use Rattle.weak_laws.specs.Maps.Tries.{IsInPlace, IsMap}
 use Rattle.weak_laws.specs.Tables.Stages.{graph_of}
 use Rattle.weak_laws.specs.Tables.Thinning.{state_of}
-use Rattle.weak_laws.proofs.OfMaps.CallLemmas.{alloc_step, made, registers_kept}
+use Rattle.weak_laws.proofs.OfMaps.CallLemmas.{alloc_step, made}
 use Rattle.weak_laws.proofs.OfMaps.FrontLemmas.{before_or_behind, prefix_same, prefix_trans}
 use Rattle.weak_laws.proofs.OfMaps.OwnLemmas.{grew_along, nothing_between}
 use Rattle.weak_maps.specs.Beside.{held_by}
 use Rattle.weak_maps.specs.Returns.{MakesMap}
 use Rattle.weak_maps.specs.Shared.Sharing.{OwnGuarded}
-use Rattle.weak_maps.proofs.BesideLemmas.{left_is}
-use Rattle.weak_maps.proofs.CountLemmas.{not_refused}
 use Rattle.weak_maps.proofs.GetLemmas.{grows_by}
 use Rattle.weak_maps.proofs.MakeLemmas.{made_map}
 use Rattle.weak_maps.proofs.OfShared.CommandLemmas.{commands_beside_are_guarded, later_keys_are_guarded}
 use Rattle.weak_maps.proofs.OfShared.SharingLemmas.{stretches_add}
-use Rattle.table_sections.specs.Places.{Finds, HoldsPlaces, IsMadeAt, LaysOut, MakesEach, loading}
+use Rattle.table_sections.specs.Places.{Finds, HasSlots, HoldsPlaces, IsMadeAt, LaysOut, MakesEach, loading}
 use Rattle.table_sections.proofs.RegisterLemmas.{set_key_keeps}
 use Rattle.table_sections.specs.contracts.laying.PlacesPartialEq.TheImpl.{eq-value}
 use Rattle.table_sections.specs.declared.laying.Places.{Places}
@@ -131,9 +123,10 @@ pub record FirstLaid (z : Sizes) (p : Places) (front : List Entry) : Type 0 wher
   pub at : MapAt z p.map base
   pub grows : IsPrefix base front
   pub guarded : OwnGuarded z p.map base 0 [] front
+  pub slots : HasSlots (graph_of z base) p
 
-pub first_laid : (z : Sizes) → IsWithinLimits z → (p : Places) (old new : List Entry) → LaysOut z 0 old new p → FirstLaid z p new
-first_laid z limits p old new x =
+pub first_laid : (z : Sizes) → IsWithinLimits z → (p : Places) (old new : List Entry) (x : LaysOut z 0 old new p) → HasSlots (graph_of z x.base) p → FirstLaid z p new
+first_laid z limits p old new x slots =
     let l : Label = x.labels.3 in
     let at_l : MapAt z l x.base = map_made z limits x.before x.base l x.map in
     let last : new ≡ x.shared.0 = x.shared.3 in
@@ -147,6 +140,7 @@ first_laid z limits p old new x =
       at = subst (λ (k : Label). MapAt z k x.base) (sym same) at_l;
       grows = grows;
       guarded = stretches_add z p.map 0 x.base [] x.base new grows (before_base z p.map 0 x.base) (later_keys_are_guarded z p.map 0 x.base x.base new 7 7 6 x.shared.1 (omega arith) set);
+      slots = slots;
     }
 
 pub loaded_guarded : (z : Sizes) (root : Label) (d : ℕ) (base old new : List Entry) → MakesEach z d old loading new → OwnGuarded z root base d old new

@@ -17,7 +17,9 @@ use Rattle.weak_laws.proofs.OfMaps.FrontLemmas.{prefix_trans}
 use Rattle.weak_maps.specs.Shared.Sharing.{IsShared, OwnGuarded}
 use Rattle.weak_maps.proofs.GetLemmas.{grows_by}
 use Rattle.weak_maps.proofs.OfShared.CommandLemmas.{seats_share_the_map}
+use Rattle.weak_maps.proofs.OfShared.OrderLemmas.{bindings_are_of_one_order}
 use Rattle.weak_maps.proofs.OfShared.SharingLemmas.{stretches_add}
+use Rattle.table_sections.proofs.LaidSlots.{on_slots, slots_laid}
 use Rattle.table_sections.specs.Places.{HoldsPlaces, LaysOut, MakesEach, loading, preparation}
 use Rattle.table_sections.specs.Prepared.{HasRun, IsPrepared}
 use Rattle.table_sections.specs.Together.{SectionStands, SectionsStand, TogetherRuns}
@@ -120,6 +122,7 @@ module _ (z : Sizes) (p : Places) (h : List Entry) (ready : List Entry) (laid : 
       before = prepared_commands z p d x.run.ready x.run.old reply.Done x.run.prepared x.run.polled;
       last = x.last;
       holds = holds;
+      slots = on_slots z p d base x.run.old behind laid.slots holds;
       answered = sections_are_answered z p.map base h shared d x.run.old x.new lines replies behind x.run.done.grows x.until holds.map x.run.done.runs;
     }
 
@@ -153,7 +156,7 @@ run_together z limits p h (ls ∷ lss) [] legal domains some all = absurd all
 run_together z limits p h (ls ∷ lss) (rs ∷ rss) legal domains some all =
     let x : IsOver z p h 0 ls rs = all.0 in
     let ready : List Entry = x.run.ready in
-    let laid : FirstLaid z p ready = first_laid z limits p x.run.prepared.begun ready x.run.prepared.prepares in
+    let laid : FirstLaid z p ready = first_laid z limits p x.run.prepared.begun ready x.run.prepared.prepares (slots_laid z limits p 0 x.run.prepared.begun ready x.run.prepared.prepares) in
     let ready_h : IsPrefix ready h = prefix_trans ready x.run.old h (grows_by z 0 ready x.run.old Poll reply.Done x.run.polled) (prefix_trans x.run.old x.new h x.run.done.grows x.until) in
     let shared : IsShared z p.map laid.base h =
     seats_share_the_map z p.map laid.base h legal (base_h z p h ready laid ready_h) laid.at.map laid.at.placed
@@ -166,6 +169,8 @@ run_together z limits p h (ls ∷ lss) (rs ∷ rss) legal domains some all =
       places = p;
       base = laid.base;
       made = laid.at.made;
+      laid = laid.slots;
       shared = shared;
+      order = bindings_are_of_one_order z p.map laid.base h shared;
       stand = all_stand z p h ready laid ready_h shared 0 (ls ∷ lss) (rs ∷ rss) all;
     }

@@ -1,5 +1,5 @@
 -- What the domains of a table share, and the commands by which each comes to it.
-use Rattle.std.specs.Prelude.{◌≡◌, ℕ, zero, suc, false, List, [], ◌∷◌, ◌++◌, None}
+use Rattle.std.specs.Prelude.{◌≡◌, ◌≢◌, ℕ, zero, suc, false, List, [], ◌∷◌, ◌++◌, None}
 use Rattle.model_core.specs.declared.command.Command as declared_command
 use Rattle.model_core.specs.declared.command.Command.TheVariants.{Poll, Ephe, Alloc, Load, Store, SetKey, GetKey}
 use Rattle.model_core.specs.declared.entry.Entry.{Entry}
@@ -10,11 +10,12 @@ use Rattle.model_core.specs.declared.reply.Reply.{Reply}
 use Rattle.model_core.specs.declared.reply.Reply.TheVariants as reply
 use Rattle.model_core.specs.declared.state.Sizes.{Sizes}
 use Rattle.model_core.specs.Counts.Counts.{labels_of, ephemerons_of}
-use Rattle.model_core.specs.Graph.{node_at}
+use Rattle.model_core.specs.Graph.{Graph, node_at}
 use Rattle.weak_laws.specs.Maps.Calls.{PerformedBy, bound_after}
 use Rattle.weak_laws.specs.Tables.Stages.{graph_of}
 use Rattle.weak_maps.specs.Beside.{held_by}
 use Rattle.weak_maps.specs.Commands.{IsMapCommand}
+use Rattle.table_sections.specs.Slots.{IsEight}
 use Rattle.table_sections.specs.declared.laying.Places.{Places}
 
 -- the commands that store the three ephemerons of the slots into the shared block
@@ -48,6 +49,15 @@ pub record HoldsPlaces (z : Sizes) (p : Places) (d : ℕ) (h : List Entry) : Typ
   pub second : held_by z d h 12 ≡ Block p.second
   pub third : held_by z d h 13 ≡ Block p.third
   pub map : held_by z d h 6 ≡ Block p.map
+
+-- the slots' places are three different ephemerons of eight keys
+pub record HasSlots (g : Graph) (p : Places) : Type 0 where
+  pub first : IsEight g p.first
+  pub second : IsEight g p.second
+  pub third : IsEight g p.third
+  pub one_two : p.first ≢ p.second
+  pub one_three : p.first ≢ p.third
+  pub two_three : p.second ≢ p.third
 
 -- the last entry of this front is that by which the first domain made the map, which binds nothing yet
 pub record IsMadeAt (z : Sizes) (root : Label) (base : List Entry) : Type 0 where
