@@ -14,7 +14,7 @@ use Rattle.table_text.specs.declared.line.TableLine.TheVariants.{Key, Forget, Pu
 use Rattle.table_text.specs.declared.machine.reply.LineReply.{LineReply}
 use Rattle.table_text.specs.Sections.Spelling.{Sections, may_stand}
 use Rattle.table_sections.specs.Lines.{IsSharedLine}
-use Rattle.table_together.specs.Together.{SectionFits, SectionsFit, SectionsStand, TogetherRuns}
+use Rattle.table_sections.specs.Together.{SectionFits, SectionsFit, SectionsStand, TogetherRuns}
 use Rattle.camlheap_run.specs.Tables.{AreSpelled, MayHoldTable, most_lines_of, section_text, sections_text}
 use Rattle.camlheap_run.proofs.SectionLemmas.{rooms_fit}
 use Rattle.camlheap_run.proofs.ReplayLemmas.{few_domains}

@@ -12,7 +12,7 @@ use Rattle.table_text.specs.declared.machine.reply.LineReply.{LineReply}
 use Rattle.table_text.specs.Machine.Texts.{replies_text}
 use Rattle.table_text.specs.Sections.Spelling.{Sections, SpellsSections}
 use Rattle.table_run.specs.Running.{TextRuns}
-use Rattle.table_together.specs.Together.{TogetherRuns}
+use Rattle.table_sections.specs.Together.{TogetherRuns}
 use Rattle.text_script.specs.Spelling.{heading_text}
 use Rattle.text_script.specs.Words.Jobs.{AreTableSizes}
 use Rattle.camlheap_run.specs.declared.table.Opened.{Opened}

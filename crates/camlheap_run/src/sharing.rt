@@ -13,8 +13,8 @@ use model_core::state::Sizes;
 use std::alloc::Global;
 use std::sync::Wait;
 use std::thread::Threads;
+use table_sections::{Together, run_sections};
 use table_text::{SectionsText, TableLine};
-use table_together::{Together, run_sections};
 use text_ends::{Failed, Sink};
 
 // How many ephemerons hold the slots that all domains share.

@@ -7,6 +7,7 @@ use Rattle.model_core.specs.declared.graph.Value.TheVariants.{Block, Int, Nothin
 use Rattle.model_core.specs.declared.reply.Reply.{Reply}
 use Rattle.model_core.specs.declared.state.Sizes.{Sizes}
 use Rattle.model_core.specs.History.{IsPrefix}
+use Rattle.table_text.specs.declared.line.TableLine.{TableLine}
 use Rattle.table_text.specs.declared.line.TableLine.TheVariants as line_of
 use Rattle.table_text.specs.Machine.Said.{full_in, said}
 use Rattle.table_text.proofs.OfMachine.SaidLemmas.{said_full}
@@ -18,9 +19,11 @@ use Rattle.weak_maps.specs.Fields.{IsBeside}
 use Rattle.weak_maps.specs.Guards.{TakeGuards}
 use Rattle.weak_maps.specs.Returns.{GetReturns, GetsAt, TakeReturns, TakesAt}
 use Rattle.weak_maps.specs.Walks.{OwnQuiet}
-use Rattle.weak_maps.proofs.GuardLemmas.{guards_quiet}
+use Rattle.weak_maps.proofs.GuardLemmas.{guards_quiet, quiet_same}
 use Rattle.table_sections.specs.Sections.{LineDone, MakesNone}
+use Rattle.table_sections.specs.Slots.{SparesSlots}
 use Rattle.table_sections.proofs.LineLemmas.{line_done}
+use Rattle.table_sections.proofs.SpareLemmas.{spares_quiet, spares_within}
 
 -- how many blocks a domain has made, by how many labels it has left: none was made where none was given out
 pub none_made : (serial left now left_now : ℕ) → serial + left ≡ 4294967295 → now + left_now ≡ 4294967295 → left_now ≡ left → now ≡ serial
@@ -35,24 +38,25 @@ makes_none z d old new r made given granted spared = record {
   spared = spared;
 }
 
--- what a lookup and a take answer and keep, by what the register of the key holds
+-- what a lookup and a take answer, keep and spare, by what the register of the key holds
 get_parts : (z : Sizes) (d : ℕ) (old new : List Entry) (root : Label) (key : Value) (r : Reply) → GetReturns z d old new root 0 key r → GetAnswers z root d old new key r × ((i : ℕ) → i ≢ 0 → IsBeside i → held_by z d new i ≡ held_by z d old i)
 get_parts z d old new root (Block k) r x = (x.0, (λ i between beside. x.1.keeps i beside.0 between))
 get_parts z d old new root (Int j) r x = (x, (λ i between beside. ap (λ (h : List Entry). held_by z d h i) x.1))
 get_parts z d old new root Nothing r x = (x, (λ i between beside. ap (λ (h : List Entry). held_by z d h i) x.1))
 
-take_parts : (z : Sizes) (d : ℕ) (old new : List Entry) (root : Label) (key : Value) (r : Reply) → TakeReturns z d old new root key r → TakeAnswers z root d old new key r × ((i : ℕ) → IsBeside i → held_by z d new i ≡ held_by z d old i)
-take_parts z d old new root (Block k) r x = (x.0, (λ i beside. x.1.keeps i beside))
-take_parts z d old new root (Int j) r x = (x, (λ i beside. ap (λ (h : List Entry). held_by z d h i) x.1))
-take_parts z d old new root Nothing r x = (x, (λ i beside. ap (λ (h : List Entry). held_by z d h i) x.1))
+module _ (z : Sizes) (d : ℕ) (old new : List Entry) (root : Label) where
+  take_parts : (line : TableLine) (key : Value) (r : Reply) → TakeReturns z d old new root key r → TakeAnswers z root d old new key r × ((i : ℕ) → IsBeside i → held_by z d new i ≡ held_by z d old i) × SparesSlots z d old line new
+  take_parts line (Block k) r x = (x.0, (λ i beside. x.1.keeps i beside), spares_within z d line root old new x.1.within)
+  take_parts line (Int j) r x = (x, (λ i beside. ap (λ (h : List Entry). held_by z d h i) x.1), spares_quiet z d line old new (quiet_same z d old new x.1))
+  take_parts line Nothing r x = (x, (λ i beside. ap (λ (h : List Entry). held_by z d h i) x.1), spares_quiet z d line old new (quiet_same z d old new x.1))
 
 module _ (z : Sizes) (d : ℕ) (old new : List Entry) (r : ℕ) (answer : Reply) (grows : IsPrefix old new) (none : MakesNone z d old new (said answer)) where
   pub get_done : OwnQuiet z d old new → GetsAt z d old new 0 6 r answer → LineDone z d old (line_of.Get r) (said answer) new
   get_done quiet gets =
       line_done z d old new (line_of.Get r) (said answer) grows (λ root on. guards_quiet z root d old old new quiet) (none, quiet)
-      (λ root on others. let y = get_parts z d old new root (held_by z d old r) answer (gets root on.holds on.map others) in ((answer, y.0, refl), (λ i between beside other. y.1 i between beside))) (omega arith)
+      (λ root on others. let y = get_parts z d old new root (held_by z d old r) answer (gets root on.holds on.map others) in ((answer, y.0, refl), (λ i between beside other. y.1 i between beside), spares_quiet z d (line_of.Get r) old new quiet)) (omega arith)
 
   pub delete_done : TakeGuards z d old new 6 → TakesAt z d old new 6 r answer → LineDone z d old (line_of.Del r) (said answer) new
   delete_done guards takes =
       line_done z d old new (line_of.Del r) (said answer) grows (λ root on. guards root on.holds on.map) none
-      (λ root on others. let y = take_parts z d old new root (held_by z d old r) answer (takes root on.holds on.map others) in ((answer, y.0, refl), (λ i between beside other. y.1 i beside))) (omega arith)
+      (λ root on others. let y = take_parts z d old new root (line_of.Del r) (held_by z d old r) answer (takes root on.holds on.map others) in ((answer, y.0, refl), (λ i between beside other. y.1 i beside), y.2)) (omega arith)

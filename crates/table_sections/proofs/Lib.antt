@@ -1,8 +1,15 @@
 pub mod RegisterLemmas
 pub mod SlotLemmas
+pub mod SpareLemmas
 pub mod LineLemmas
 pub mod CommandLemmas
 pub mod CallLemmas
 pub mod PutLemmas
 pub mod SectionLemmas
 pub mod RefusedBodies
+pub mod Jobs
+pub mod Laid
+pub mod LaidSlots
+pub mod Standing
+pub mod Seating
+pub mod Ending

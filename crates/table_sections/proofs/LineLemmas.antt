@@ -22,6 +22,7 @@ use Rattle.weak_maps.proofs.PlaceLemmas.{place_after}
 use Rattle.weak_maps.proofs.StayLemmas.{respects_within}
 use Rattle.table_sections.specs.Lines.{IsKeyRegister, written_in}
 use Rattle.table_sections.specs.Sections.{KeepsBut, LineAnswers, LineDone, LineMakes, OnMap, SectionGuards}
+use Rattle.table_sections.specs.Slots.{SparesSlots}
 use Rattle.table_sections.proofs.SlotLemmas.{slots_stay}
 
 module _ (z : Sizes) (root : Label) (d : ℕ) (old new : List Entry) where
@@ -37,9 +38,9 @@ module _ (z : Sizes) (root : Label) (d : ℕ) (old new : List Entry) where
 high_beside : (r : ℕ) → 11 < r → IsBeside r
 high_beside r high = ((λ e. absurd (omega (arith, high, e))), (λ e. absurd (omega (arith, high, e))), (λ e. absurd (omega (arith, high, e))), (λ e. absurd (omega (arith, high, e))))
 
--- a line by what it does, and by what it answers and keeps on a map
+-- a line by what it does, and by what it answers, keeps and spares on a map
 pub line_done : (z : Sizes) (d : ℕ) (old new : List Entry) (line : TableLine) (a : LineReply) → IsPrefix old new → SectionGuards z d old new → LineMakes z d old line a new
-    → ((root : Label) → OnMap z root d old → OthersRespect z root d old new → LineAnswers z root d old line a new × KeepsBut z d old new (written_in line)) → written_in line ≤ 5 → LineDone z d old line a new
+    → ((root : Label) → OnMap z root d old → OthersRespect z root d old new → LineAnswers z root d old line a new × KeepsBut z d old new (written_in line) × SparesSlots z d old line new) → written_in line ≤ 5 → LineDone z d old line a new
 line_done z d old new line a grows guards makes on_map low = record {
   guards = guards;
   runs = record {
@@ -50,6 +51,7 @@ line_done z d old new line a grows guards makes on_map low = record {
       makes = makes;
       answers = x.0;
       keeps = x.1;
+      spares = x.2;
       after = on_after z root d old new grows (guarded_all z root d old new (guards root on) others) (x.1 6 (λ e. absurd (omega (arith, e))) (low_beside 6 (omega arith)) (λ e. absurd (omega (arith, low, e)))) on;
       slots = slots_stay z d old new grows
           (x.1 7 (λ e. absurd (omega (arith, e))) (low_beside 7 (omega arith)) (λ e. absurd (omega (arith, low, e))))

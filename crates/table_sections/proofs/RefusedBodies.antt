@@ -1,8 +1,9 @@
 -- What the clauses of a section refuse: where a clause holds a wrong outcome doesn't, whatever body met it.
-use Rattle.std.proofs.Common.{◌≡◌, ◌≢◌, ⊎_elim, ℕ, suc, ◌+◌, ◌<◌, ℤ, List, [], ◌∷◌, length, Option, Some, refl, ap, sym, ◌∙◌, subst, arith}
+use Rattle.std.proofs.Common.{◌≡◌, ◌≢◌, ⊎_elim, ℕ, suc, ◌+◌, ◌<◌, ℤ, true, List, [], ◌∷◌, ◌++◌, length, get_or, set, Option, Some, None, refl, ap, sym, ◌∙◌, subst, arith, get_or-set_same}
 use Rattle.model_core.specs.declared.label.Label.{Label}
 use Rattle.model_core.specs.declared.command.Command.TheVariants.{Alloc}
 use Rattle.model_core.specs.declared.entry.Entry.{Entry}
+use Rattle.model_core.specs.declared.graph.Node.TheVariants.{Ephe}
 use Rattle.model_core.specs.declared.graph.Value.{Value}
 use Rattle.model_core.specs.declared.graph.Value.TheVariants.{Block, Int, Nothing}
 use Rattle.model_core.specs.declared.reply.Reply.{Reply}
@@ -10,7 +11,8 @@ use Rattle.model_core.specs.declared.reply.Reply.TheVariants as given
 use Rattle.model_core.specs.declared.state.Sizes.{Sizes}
 use Rattle.model_core.specs.Commands.{shown}
 use Rattle.model_core.specs.Domains.{IsWithinLimits}
-use Rattle.model_core.specs.History.{IsPrefix}
+use Rattle.model_core.specs.Graph.{node_at}
+use Rattle.model_core.specs.History.{IsPrefix, is_entry_of}
 use Rattle.table_text.specs.declared.line.TableLine.{TableLine}
 use Rattle.table_text.specs.declared.line.TableLine.TheVariants.{Forget, Get, Key, Put}
 use Rattle.table_text.specs.declared.machine.reply.LineReply.{LineReply}
@@ -18,6 +20,7 @@ use Rattle.table_text.specs.declared.machine.reply.LineReply.TheVariants as repl
 use Rattle.table_text.specs.Machine.Said.{full_in, said}
 use Rattle.table_text.proofs.OfMachine.SaidLemmas.{said_full}
 use Rattle.weak_laws.specs.Tables.Performing.{full_of}
+use Rattle.weak_laws.specs.Tables.Stages.{graph_of}
 use Rattle.weak_laws.specs.Maps.Calls.{GetAnswers, bound_after, value_of}
 use Rattle.weak_laws.specs.Maps.Steps.{OthersLeave}
 use Rattle.weak_laws.proofs.OfMaps.CallLemmas.{alloc_step, forget_step}
@@ -26,6 +29,7 @@ use Rattle.weak_maps.specs.Crowds.{PutCounts, made_by}
 use Rattle.weak_maps.proofs.BesideLemmas.{set_here, sixteen}
 use Rattle.weak_maps.proofs.CountLemmas.{refuses_one}
 use Rattle.table_sections.specs.Lines.{made_said}
+use Rattle.table_sections.specs.Slots.{IsEight}
 use Rattle.table_sections.specs.Sections.{Answers, LineBeside, LineMakes, OfCall, PutMakes, PutsInteger, SectionRuns}
 
 -- a line that is answered `full` had its call answered so
@@ -60,6 +64,18 @@ no_put_is_full_alone z root d old new r v k held leave same x =
     let is : answer.0 ≡ given.Full = ⊎_elim (λ done. let none = ap full_of done.0 in absurd (omega (arith, full, none))) (λ refused. refused.0) answer.1.0 in
     let one = (answer.1.1 is).alone leave in
     omega (arith, same, one)
+
+-- a put sets no slot: no entry of it sets a key of an ephemeron of eight keys that there was to another
+pub no_put_sets_a_slot : (z : Sizes) (root : Label) (d : ℕ) (old new : List Entry) (r : ℕ) (v : ℤ) (a : LineReply) → LineBeside z root d old (Put r v) a new → (l : Label) → IsEight (graph_of z old) l
+    → (front : List Entry) (e : Entry) → IsPrefix old front → IsPrefix (front ++ e ∷ []) new → is_entry_of d e ≡ true → (now : IsEight (graph_of z front) l) (index : ℕ) (key : Option Label) → index < 8 → get_or now.keys index None ≢ key
+    → node_at (graph_of z (front ++ e ∷ [])) l ≡ Some (Ephe (set now.keys index key) now.datum) → ⊥
+no_put_sets_a_slot z root d old new r v a x l eight front e since until own now index key low other sets =
+    ⊎_elim (λ same.
+    let both : Some (Ephe (set now.keys index key) now.datum) ≡ Some (Ephe now.keys now.datum) = sym sets ∙ (same ∙ now.node) in
+    let keys : set now.keys index key ≡ now.keys = cc in
+    let eight_now = now.eight in
+    other (ap (λ (ks : List (Option Label)). get_or ks index None) (sym keys) ∙ get_or-set_same now.keys index key None (omega (arith, eight_now, low)))) (λ wrong. wrong)
+    (x.spares l eight front e since until own)
 
 -- a key is answered `full` exactly where its command was refused
 pub no_key_is_full_for_nothing : (z : Sizes) (d : ℕ) (old new : List Entry) (r : ℕ) → Answers z d old new (Alloc r 0 1) made_said reply.Full → refusals_by d new ≡ refusals_by d old + 1

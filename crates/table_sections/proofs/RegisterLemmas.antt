@@ -2,7 +2,7 @@
 use Rattle.std.proofs.Common.{◌≡◌, ◌≢◌, ℕ, List, ◌++◌, get_or, slice_get, Bool, false, Option, Some, None, refl, ap, sym, ◌∙◌, get_or-set_other}
 use Rattle.model_core.specs.declared.label.Label.{Label}
 use Rattle.model_core.specs.declared.command.Command.{Command}
-use Rattle.model_core.specs.declared.command.Command.TheVariants.{FullMajor, GetKey, SetKey}
+use Rattle.model_core.specs.declared.command.Command.TheVariants.{FullMajor, GetKey, Poll, SetKey}
 use Rattle.model_core.specs.declared.entry.Entry.{Entry}
 use Rattle.model_core.specs.declared.entry.Entry.TheVariants.{Command as CommandOf}
 use Rattle.model_core.specs.declared.graph.Node.{Node}
@@ -49,7 +49,7 @@ module _ (z : Sizes) (d : ℕ) (old new : List Entry) (c : Command) (r : Reply) 
       cc
 
   -- so a register that the outcome leaves is as it was
-  register_left : (i : ℕ) → register (outcome here d c).state d i ≡ register here d i → held_by z d new i ≡ held_by z d old i
+  pub register_left : (i : ℕ) → register (outcome here d c).state d i ≡ register here d i → held_by z d new i ≡ held_by z d old i
   register_left i same = register_after i ∙ (same ∙ register_before i)
 
 module _ (s : State) (d : ℕ) where
@@ -92,3 +92,6 @@ module _ (z : Sizes) (d : ℕ) (old new : List Entry) (r : Reply) where
 
   pub collect_keeps : PerformedBy z d old new FullMajor r → (i : ℕ) → held_by z d new i ≡ held_by z d old i
   collect_keeps p i = register_left z d old new FullMajor r p refl i refl
+
+  pub poll_keeps : PerformedBy z d old new Poll r → (i : ℕ) → held_by z d new i ≡ held_by z d old i
+  poll_keeps p i = register_left z d old new Poll r p refl i refl

@@ -1,5 +1,5 @@
 -- Sections, line by line.
-use Rattle.std.proofs.Common.{◌≡◌, ℕ, List, [], ◌∷◌, length, refl, sym, subst, arith}
+use Rattle.std.proofs.Common.{ℕ, List, [], ◌∷◌, sym, subst}
 use Rattle.model_core.specs.declared.entry.Entry.{Entry}
 use Rattle.model_core.specs.declared.state.Sizes.{Sizes}
 use Rattle.model_core.specs.History.{IsPrefix}
@@ -40,8 +40,3 @@ pub sections_are_answered : SectionsAreAnswered
 sections_are_answered z root base h x d old new lines replies behind grows until held runs =
     let there = others_may_be_relied_on z root base h x d old new behind grows until in
     sections_are_beside z root d old new lines replies runs (record { holds = held; map = there.0; placed = there.1 }) there.2
-
--- no line is left
-pub none_left : (ls : List TableLine) → length ls ≡ 0 → ls ≡ []
-none_left [] none = refl
-none_left (l ∷ ls) none = absurd (omega (arith, none))

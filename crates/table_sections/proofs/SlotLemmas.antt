@@ -36,7 +36,7 @@ use Rattle.weak_maps.proofs.BesideLemmas.{sixteen}
 use Rattle.weak_maps.proofs.CountLemmas.{legal_both}
 use Rattle.weak_maps.proofs.GuardLemmas.{quiet_none}
 use Rattle.weak_maps.proofs.StayLemmas.{quiet_on}
-use Rattle.table_sections.specs.Slots.{HoldsEight, OnSlots, SlotGets, SlotSets, keys_in, slot_ephe, slot_key}
+use Rattle.table_sections.specs.Slots.{HoldsEight, IsEight, OnSlots, SlotGets, SlotSets, keys_in, slot_ephe, slot_key}
 use Rattle.table_sections.proofs.RegisterLemmas.{answer_after, graph_after, register_after, register_before, set_key_keeps}
 
 -- an ephemeron keeps its count of keys
@@ -45,21 +45,23 @@ same_shape (Plain tag fields) count is = cc
 same_shape (Raw tag fields) count is = cc
 same_shape (Ephe keys datum) count is = (keys, datum, refl, (let same : length keys ≡ count = cc in same))
 
--- so a register that holds one later, of whatever domain, holds one of eight keys
-pub eight_later : (z : Sizes) (d : ℕ) (old new : List Entry) (r : ℕ) (l : Label) (keys : List (Option Label)) (datum : Value) → IsPrefix old new → node_at (graph_of z old) l ≡ Some (Ephe keys datum) → length keys ≡ 8 → held_by z d new r ≡ Block l → HoldsEight z d new r
-eight_later z d old new r l keys datum grows node eight held =
-    let grew = grew_along z old new grows l (Ephe keys datum) node in
-    let is = same_shape grew.0 (length keys) grew.2 in record {
-      l = l;
-      held = held;
+-- so one of eight keys stays one
+pub eight_on : (z : Sizes) (old new : List Entry) (l : Label) → IsPrefix old new → IsEight (graph_of z old) l → IsEight (graph_of z new) l
+eight_on z old new l grows x =
+    let grew = grew_along z old new grows l (Ephe x.keys x.datum) x.node in
+    let is = same_shape grew.0 (length x.keys) grew.2 in record {
       keys = is.0;
       datum = is.1;
       node = grew.1 ∙ ap Some is.2;
-      eight = is.3 ∙ eight;
+      eight = is.3 ∙ x.eight;
     }
 
+-- and a register that holds it later, of whatever domain, holds one
+pub eight_later : (z : Sizes) (d : ℕ) (old new : List Entry) (r : ℕ) (l : Label) → IsPrefix old new → IsEight (graph_of z old) l → held_by z d new r ≡ Block l → HoldsEight z d new r
+eight_later z d old new r l grows x held = record { l = l; held = held; block = eight_on z old new l grows x }
+
 eight_stays : (z : Sizes) (d : ℕ) (old new : List Entry) (r : ℕ) → IsPrefix old new → held_by z d new r ≡ held_by z d old r → HoldsEight z d old r → HoldsEight z d new r
-eight_stays z d old new r grows same x = eight_later z d old new r x.l x.keys x.datum grows x.node x.eight (same ∙ x.held)
+eight_stays z d old new r grows same x = eight_later z d old new r x.l grows x.block (same ∙ x.held)
 
 pub slots_stay : (z : Sizes) (d : ℕ) (old new : List Entry) → IsPrefix old new → held_by z d new 7 ≡ held_by z d old 7 → held_by z d new 12 ≡ held_by z d old 12 → held_by z d new 13 ≡ held_by z d old 13 → OnSlots z d old → OnSlots z d new
 slots_stay z d old new grows seven twelve thirteen x = record {
@@ -79,8 +81,8 @@ slot_eight z d h s few x = by (s / 6) (omega (arith, few))
     by (suc (suc (suc q))) small = absurd (omega (arith, small))
 
 -- what a register's block is at a front, and what its keys are then
-keys_at : (z : Sizes) (d : ℕ) (h : List Entry) (r : ℕ) (x : HoldsEight z d h r) → block_in (state_of z h) d r ≡ Some (x.l, Ephe x.keys x.datum)
-keys_at z d h r x = ap (λ (v : Value). option_and_then (block_at (graph_of z h)) (label_of v)) x.held ∙ ap (option_map (λ (n : Node). (x.l, n))) x.node
+keys_at : (z : Sizes) (d : ℕ) (h : List Entry) (r : ℕ) (x : HoldsEight z d h r) → block_in (state_of z h) d r ≡ Some (x.l, Ephe x.block.keys x.block.datum)
+keys_at z d h r x = ap (λ (v : Value). option_and_then (block_at (graph_of z h)) (label_of v)) x.held ∙ ap (option_map (λ (n : Node). (x.l, n))) x.block.node
 
 key_below : (s : ℕ) → slot_key s < 8
 key_below s = omega arith
@@ -93,8 +95,8 @@ module _ (z : Sizes) (d : ℕ) (old new : List Entry) (s : ℕ) (few : s < 16) (
     there : HoldsEight z d mid (slot_ephe s)
     there = eight_stays z d old mid (slot_ephe s) (to_middle z d old new c r p) (ap (λ (rs : List Value). get_or rs (slot_ephe s) Nothing) (registers_kept z d old new c r p)) (slot_eight z d old s few slots)
 
-    key_there : slice_get there.keys (slot_key s) ≡ Some (get_or there.keys (slot_key s) None)
-    key_there = let eight = there.eight in let low = key_below s in slice_get-get_or there.keys (slot_key s) None (omega (arith, eight, low))
+    key_there : slice_get there.block.keys (slot_key s) ≡ Some (get_or there.block.keys (slot_key s) None)
+    key_there = let eight = there.block.eight in let low = key_below s in slice_get-get_or there.block.keys (slot_key s) None (omega (arith, eight, low))
 
   -- a slot that is read
   pub slot_gets : (r : ℕ) (answer : Reply) (a : LineReply) → IsWithinLimits z → r < 16 → PerformedBy z d old new (GetKey r (slot_ephe s) (slot_key s)) answer → a ≡ said answer → SlotGets z d old new s r a
@@ -103,8 +105,8 @@ module _ (z : Sizes) (d : ℕ) (old new : List Entry) (s : ℕ) (few : s < 16) (
       let front : List Entry = mid c answer p in
       let here : State = state_of z front in
       let x : HoldsEight z d front (slot_ephe s) = there c answer p in
-      let key : Option Label = get_or x.keys (slot_key s) None in
-      let block : block_in here d (slot_ephe s) ≡ Some (x.l, Ephe x.keys x.datum) = keys_at z d front (slot_ephe s) x in
+      let key : Option Label = get_or x.block.keys (slot_key s) None in
+      let block : block_in here d (slot_ephe s) ≡ Some (x.l, Ephe x.block.keys x.block.datum) = keys_at z d front (slot_ephe s) x in
       let reads : outcome here d c ≡ read_into here d r (key_value key) =
       ap (λ (b : Option (Label × Node)). at_ephe here b (λ l keys datum. in_bounds here (slice_get keys (slot_key s)) (λ k. read_into here d r (key_value k)))) block
       ∙ ap (λ (o : Option (Option Label)). in_bounds here o (λ k. read_into here d r (key_value k))) (key_there c answer p) in
@@ -146,22 +148,19 @@ module _ (z : Sizes) (d : ℕ) (old new : List Entry) (s : ℕ) (few : s < 16) (
     label : (k : Label) → held_by z d old r ≡ Block k → SlotSets z d old new s (Block k) a
     label k held =
         let x : HoldsEight z d front (slot_ephe s) = there c answer p in
-        let n : Node = Ephe (set x.keys (slot_key s) (Some k)) x.datum in
-        let block : block_in here d (slot_ephe s) ≡ Some (x.l, Ephe x.keys x.datum) = keys_at z d front (slot_ephe s) x in
+        let n : Node = Ephe (set x.block.keys (slot_key s) (Some k)) x.block.datum in
+        let block : block_in here d (slot_ephe s) ≡ Some (x.l, Ephe x.block.keys x.block.datum) = keys_at z d front (slot_ephe s) x in
         let sets : outcome here d c ≡ done_with (with_block here x.l n) =
         (λ i. key_stored here (slot_key s) (item_is (Block k) held i) (block i))
         ∙ ap (λ (o : Option (Option Label)). in_bounds here o (λ _. done_with (with_block here x.l n))) (key_there c answer p) in
-        let eight = x.eight in
+        let eight = x.block.eight in
         let low = key_below s in
-        let long = length-set x.keys (slot_key s) (Some k) in
-        let node : node_at (graph_of z new) x.l ≡ Some n = ap (λ (g : Graph). node_at g x.l) (graph_after z d old new c answer p refl ∙ ap (λ (o : Outcome). o.state.graph) sets) ∙ node_at-with_node_same (graph_of z front) x.l n (Ephe x.keys x.datum) x.node in
+        let long = length-set x.block.keys (slot_key s) (Some k) in
+        let node : node_at (graph_of z new) x.l ≡ Some n = ap (λ (g : Graph). node_at g x.l) (graph_after z d old new c answer p refl ∙ ap (λ (o : Outcome). o.state.graph) sets) ∙ node_at-with_node_same (graph_of z front) x.l n (Ephe x.block.keys x.block.datum) x.block.node in
         let after : HoldsEight z d new (slot_ephe s) = record {
           l = x.l;
           held = set_key_keeps z d old new answer (slot_ephe s) (slot_key s) r p (slot_ephe s) ∙ (sym (register_before z d old new c answer p refl (slot_ephe s)) ∙ x.held);
-          keys = set x.keys (slot_key s) (Some k);
-          datum = x.datum;
-          node = node;
-          eight = omega (arith, long, eight);
+          block = record { keys = set x.block.keys (slot_key s) (Some k); datum = x.block.datum; node = node; eight = omega (arith, long, eight) };
         } in (
           is ∙ ap said (answer_after z d old new c answer p refl ∙ ap (λ (o : Outcome). o.reply) sets),
           record {
@@ -172,7 +171,7 @@ module _ (z : Sizes) (d : ℕ) (old new : List Entry) (s : ℕ) (few : s < 16) (
             sets = graph_after z d old new c answer p refl ∙ ap (λ (o : Outcome). o.state.graph) sets;
             holds =
                 ap (λ (b : Option (Label × Node)). slice_get (keys_in b) (slot_key s)) (keys_at z d new (slot_ephe s) after)
-                ∙ (slice_get-get_or (set x.keys (slot_key s) (Some k)) (slot_key s) None (omega (arith, long, eight, low)) ∙ ap Some (get_or-set_same x.keys (slot_key s) (Some k) None (omega (arith, eight, low))));
+                ∙ (slice_get-get_or (set x.block.keys (slot_key s) (Some k)) (slot_key s) None (omega (arith, long, eight, low)) ∙ ap Some (get_or-set_same x.block.keys (slot_key s) (Some k) None (omega (arith, eight, low))));
           },
         )
 

@@ -1,3 +1,7 @@
 pub mod Lines
 pub mod Slots
 pub mod Sections
+pub mod Places
+pub mod Prepared
+pub mod Together
+pub mod Preparing

@@ -1,5 +1,5 @@
 -- The slots: keys of three ephemerons, which registers of each domain hold.
-use Rattle.std.specs.Prelude.{◌≡◌, ℕ, ◌+◌, ◌/◌, ◌%◌, List, [], ◌∷◌, length, slice_get, slice_index_or, slice_set, Option, Some}
+use Rattle.std.specs.Prelude.{◌≡◌, ◌⊎◌, ℕ, ◌+◌, ◌/◌, ◌%◌, true, List, [], ◌∷◌, ◌++◌, length, slice_get, slice_index_or, slice_set, Option, Some}
 use Rattle.model_core.specs.declared.label.Label.{Label}
 use Rattle.model_core.specs.declared.entry.Entry.{Entry}
 use Rattle.model_core.specs.declared.graph.Node.{Node}
@@ -8,8 +8,10 @@ use Rattle.model_core.specs.declared.graph.Value.{Value}
 use Rattle.model_core.specs.declared.graph.Value.TheVariants.{Block}
 use Rattle.model_core.specs.declared.state.Sizes.{Sizes}
 use Rattle.model_core.specs.Commands.{block_in, key_value, shown}
-use Rattle.model_core.specs.Graph.{node_at, with_node}
-use Rattle.model_core.specs.History.{IsPrefix}
+use Rattle.model_core.specs.Graph.{Graph, node_at, with_node}
+use Rattle.model_core.specs.History.{IsPrefix, is_entry_of}
+use Rattle.table_text.specs.declared.line.TableLine.{TableLine}
+use Rattle.table_text.specs.declared.line.TableLine.TheVariants.{SetWeak}
 use Rattle.table_text.specs.declared.machine.reply.LineReply.{LineReply}
 use Rattle.table_text.specs.declared.machine.reply.LineReply.TheVariants as reply
 use Rattle.table_text.specs.Machine.Said.{said}
@@ -26,16 +28,20 @@ slot_ephe s = slice_index_or (7 ∷ 12 ∷ 13 ∷ []) (s / 6) 0
 abbrev pub slot_key : ℕ → ℕ
 slot_key s = s % 6 + 1
 
--- a register holds an ephemeron of eight keys
+-- a block is an ephemeron of eight keys
+pub record IsEight (g : Graph) (l : Label) : Type 0 where
+  pub keys : List (Option Label)
+  pub datum : Value
+  pub node : node_at g l ≡ Some (Ephe keys datum)
+  pub eight : length keys ≡ 8
+
+-- a register holds such a block
 pub record HoldsEight (z : Sizes) (d : ℕ) (h : List Entry) (r : ℕ) : Type 0 where
   pub l : Label
   pub held : held_by z d h r ≡ Block l
-  pub keys : List (Option Label)
-  pub datum : Value
-  pub node : node_at (graph_of z h) l ≡ Some (Ephe keys datum)
-  pub eight : length keys ≡ 8
+  pub block : IsEight (graph_of z h) l
 
--- the registers of the slots hold such ephemerons
+-- the registers of the slots hold such blocks
 pub record OnSlots (z : Sizes) (d : ℕ) (h : List Entry) : Type 0 where
   pub first : HoldsEight z d h 7
   pub second : HoldsEight z d h 12
@@ -56,7 +62,7 @@ pub record SlotSet (z : Sizes) (d : ℕ) (old new : List Entry) (s : ℕ) (k : L
   pub since : IsPrefix old front
   pub until : IsPrefix front new
   pub ephe : HoldsEight z d front (slot_ephe s)
-  pub sets : graph_of z new ≡ with_node (graph_of z front) ephe.l (Ephe (slice_set ephe.keys (slot_key s) (Some k)) ephe.datum)
+  pub sets : graph_of z new ≡ with_node (graph_of z front) ephe.l (Ephe (slice_set ephe.block.keys (slot_key s) (Some k)) ephe.block.datum)
   pub holds : slot_after z d new s ≡ Some (Some k)
 
 -- by what the register of the key holds: `type` exactly where it is no label, and then no block is changed
@@ -73,3 +79,21 @@ pub record SlotGets (z : Sizes) (d : ℕ) (old new : List Entry) (s r : ℕ) (a 
   pub held : slot_after z d front s ≡ Some key
   pub answers : a ≡ said (shown (key_value key))
   pub holds : held_by z d new r ≡ key_value key
+
+-- an entry sets a key of an ephemeron that a register holds: it is the label that another register holds then, and nothing else of the ephemeron is changed
+pub record SetsKey (z : Sizes) (d : ℕ) (front : List Entry) (e : Entry) (ephe index item : ℕ) (l : Label) : Type 0 where
+  pub held : held_by z d front ephe ≡ Block l
+  pub key : Label
+  pub given : held_by z d front item ≡ Block key
+  pub block : IsEight (graph_of z front) l
+  pub sets : node_at (graph_of z (front ++ e ∷ [])) l ≡ Some (Ephe (slice_set block.keys index (Some key)) block.datum)
+
+-- how an entry of a line may change an ephemeron of eight keys: `setweak` sets its slot in it, and no other line any
+abbrev pub LineSets : Sizes → ℕ → List Entry → Entry → TableLine → Label → Type 0
+LineSets z d front e (SetWeak s r) l = SetsKey z d front e (slot_ephe s) (slot_key s) r l
+LineSets z d front e _ l = ⊥
+
+-- each ephemeron of eight keys that there is when a line begins stays as it is through each entry of the domain in the line, but that `setweak` sets its slot
+abbrev pub SparesSlots : Sizes → ℕ → List Entry → TableLine → List Entry → Type 0
+SparesSlots z d old line new = (l : Label) → IsEight (graph_of z old) l → (front : List Entry) (e : Entry) → IsPrefix old front → IsPrefix (front ++ e ∷ []) new → is_entry_of d e ≡ true
+    → (node_at (graph_of z (front ++ e ∷ [])) l ≡ node_at (graph_of z front) l) ⊎ LineSets z d front e line l

@@ -27,7 +27,7 @@ use Rattle.table_text.specs.Machine.Machine.{MachineAnswers, MachineRuns, TableS
 use Rattle.table_text.specs.Machine.Texts.{replies_text}
 use Rattle.table_text.specs.Texts.{Text}
 use Rattle.table_text.specs.Sections.Spelling.{Sections}
-use Rattle.table_together.specs.Together.{TogetherRuns}
+use Rattle.table_sections.specs.Together.{TogetherRuns}
 use Rattle.table_run.specs.Running.{LinesRun, TextRuns}
 use Rattle.table_run.specs.Standing.{Places}
 use Rattle.check_laws.specs.Runs.Explained.{RunsAreOne, RunsAreExplained, ReplaysAreExplained, SectionsAreExplained, SpawningRunsAreExplained, TablesAreExplained}

@@ -14,7 +14,7 @@ use Rattle.camlheap_run.specs.Reading.{ReadsSections, ReadsTable}
 use Rattle.camlheap_run.specs.Tables.{TableRunsToEnd, sections_text}
 use Rattle.table_text.specs.Texts.{Text}
 use Rattle.table_text.specs.Sections.Spelling.{Sections}
-use Rattle.table_together.specs.Together.{TogetherRuns}
+use Rattle.table_sections.specs.Together.{TogetherRuns}
 use Rattle.table_text.specs.declared.machine.reply.LineReply.{LineReply}
 use Rattle.table_text.specs.Machine.Machine.{MachineAnswers}
 use Rattle.table_text.specs.Machine.Texts.{replies_text}

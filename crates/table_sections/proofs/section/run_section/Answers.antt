@@ -12,7 +12,7 @@ use Rattle.weak_maps.proofs.GuardLemmas.{guards_later, guards_same, guards_then,
 use Rattle.weak_maps.proofs.StayLemmas.{respects_within}
 use Rattle.table_sections.specs.Lines.{IsSharedLine}
 use Rattle.table_sections.specs.Sections.{LineDone, SectionRuns}
-use Rattle.table_sections.proofs.SectionLemmas.{none_left}
+use Rattle.table_sections.proofs.Jobs.{nothing_left}
 use Rattle.table_sections.proofs.section.run_section.Goals as goal
 
 pub lines-init : goal.lines-init
@@ -106,7 +106,7 @@ returns-clause-done g c =
     let d : ℕ = g.M.Machine.domain c.args.m.now in
     let old : List Entry = g.M.Machine.front c.args.m.now in
     let now : List Entry = g.M.Machine.front c.lines.m in
-    let none : into_iter_items c.lines.line-iterator ≡ [] = none_left (into_iter_items c.lines.line-iterator) (let before = c.lines.invariant.len in let over = c.in-None.ensures.steps.0 in omega (arith, before, over)) in record {
+    let none : into_iter_items c.lines.line-iterator ≡ [] = nothing_left (into_iter_items c.lines.line-iterator) (let before = c.lines.invariant.len in let over = c.in-None.ensures.steps.0 in omega (arith, before, over)) in record {
       grows = c.lines.invariant.grows;
       guards = c.lines.invariant.guards;
       runs =

@@ -1,5 +1,0 @@
-pub mod Jobs
-pub mod Laid
-pub mod Standing
-pub mod Seating
-pub mod Ending

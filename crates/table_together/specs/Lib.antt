@@ -1,4 +1,0 @@
-pub mod Places
-pub mod Sections
-pub mod Together
-pub mod Preparing
