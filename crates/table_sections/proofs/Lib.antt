@@ -10,6 +10,8 @@ pub mod RefusedBodies
 pub mod Jobs
 pub mod Laid
 pub mod LaidSlots
+pub mod OrderLemmas
+pub mod Stepping
 pub mod Standing
 pub mod Seating
 pub mod Ending

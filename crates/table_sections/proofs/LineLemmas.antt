@@ -8,7 +8,7 @@ use Rattle.model_core.specs.declared.entry.Entry.{Entry}
 use Rattle.model_core.specs.declared.state.Sizes.{Sizes}
 use Rattle.model_core.specs.History.{IsPrefix}
 use Rattle.table_text.specs.declared.line.TableLine.{TableLine}
-use Rattle.table_text.specs.declared.line.TableLine.TheVariants.{Put}
+use Rattle.table_text.specs.declared.line.TableLine.TheVariants.{Key, Forget, Put, Get, Del, SetWeak, GetWeak, Count, FullMajor}
 use Rattle.table_text.specs.declared.machine.reply.LineReply.{LineReply}
 use Rattle.table_text.specs.Forms.{is_writable}
 use Rattle.weak_laws.specs.Maps.Steps.{AllRespect, OthersRespect}
@@ -20,7 +20,7 @@ use Rattle.weak_maps.specs.Guards.{Guards}
 use Rattle.weak_maps.proofs.BesideLemmas.{low_beside}
 use Rattle.weak_maps.proofs.PlaceLemmas.{place_after}
 use Rattle.weak_maps.proofs.StayLemmas.{respects_within}
-use Rattle.table_sections.specs.Lines.{IsKeyRegister, written_in}
+use Rattle.table_sections.specs.Lines.{IsKeyRegister, IsSharedLine, written_in}
 use Rattle.table_sections.specs.Sections.{KeepsBut, LineAnswers, LineDone, LineMakes, OnMap, SectionGuards}
 use Rattle.table_sections.specs.Slots.{SparesSlots}
 use Rattle.table_sections.proofs.SlotLemmas.{slots_stay}
@@ -35,7 +35,7 @@ module _ (z : Sizes) (root : Label) (d : ℕ) (old new : List Entry) where
   on_after grows all same on = record { holds = same ∙ on.holds; map = map_after z root old new grows all on.map; placed = place_after z root old new grows all on.map on.placed }
 
 -- a register above those that a put or a take uses
-high_beside : (r : ℕ) → 11 < r → IsBeside r
+pub high_beside : (r : ℕ) → 11 < r → IsBeside r
 high_beside r high = ((λ e. absurd (omega (arith, high, e))), (λ e. absurd (omega (arith, high, e))), (λ e. absurd (omega (arith, high, e))), (λ e. absurd (omega (arith, high, e))))
 
 -- a line by what it does, and by what it answers, keeps and spares on a map
@@ -75,3 +75,21 @@ register_of r e = (grind (arith, ints, nat_tests), grind (arith, ints, nat_tests
 
 pub key_of : (r : ℕ) (v : ℤ) → is_writable (Put r v) ≡ true → IsKeyRegister r
 key_of r v e = register_of r (and_parts _ _ e).0
+
+-- and so of each line's
+pub slot_of : (s r : ℕ) → IsSharedLine (SetWeak s r) → (s < 16) × IsKeyRegister r
+slot_of s r e = (small_slot s (and_parts _ _ e).0, register_of r (and_parts _ _ (and_parts _ _ e).1).0)
+  where
+    small_slot : (n : ℕ) → int_le (pos 0) (pos n) && int_le (pos n) (pos 15) ≡ true → n < 16
+    small_slot n small = grind (arith, ints, nat_tests)
+
+pub low_line : (line : TableLine) → IsSharedLine line → written_in line ≤ 5
+low_line (Key r) e = (register_of r (and_parts _ _ e).0).1
+low_line (Forget r) e = (register_of r (and_parts _ _ e).0).1
+low_line (Put r v) e = omega arith
+low_line (Get r) e = omega arith
+low_line (Del r) e = omega arith
+low_line (SetWeak s r) e = omega arith
+low_line (GetWeak r s) e = (register_of r (and_parts _ _ e).0).1
+low_line Count e = absurd e
+low_line FullMajor e = omega arith

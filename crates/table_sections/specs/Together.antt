@@ -1,8 +1,7 @@
 -- What the runs of all sections of a table are: one history, in which all share one map.
-use Rattle.std.specs.Prelude.{◌≡◌, ◌≤◌, ◌+◌, ℕ, suc, List, [], ◌∷◌, ◌++◌, length}
+use Rattle.std.specs.Prelude.{◌≡◌, ◌≤◌, ◌+◌, ℕ, suc, List, [], ◌∷◌, length}
 use Rattle.std.specs.List.{AllByRecursion}
 use Rattle.model_core.specs.declared.entry.Entry.{Entry}
-use Rattle.model_core.specs.declared.label.Label.{Label}
 use Rattle.model_core.specs.declared.state.Sizes.{Sizes}
 use Rattle.model_core.specs.History.{IsPrefix, Legal, commands}
 use Rattle.heap_rule.specs.declared.config.Config.{Config}
@@ -11,9 +10,8 @@ use Rattle.table_sections.specs.Sections.{SectionBeside}
 use Rattle.table_sections.specs.Slots.{OnSlots}
 use Rattle.table_text.specs.declared.line.TableLine.{TableLine}
 use Rattle.table_text.specs.declared.machine.reply.LineReply.{LineReply}
-use Rattle.weak_laws.specs.Maps.Calls.{bound_after}
 use Rattle.weak_laws.specs.Tables.Stages.{graph_of}
-use Rattle.weak_maps.specs.Shared.Orders.{PlainStep}
+use Rattle.table_sections.specs.Orders.{BindingsGoInOrder, SlotsGoInOrder}
 use Rattle.weak_maps.specs.Shared.Sharing.{IsShared}
 use Rattle.table_sections.specs.Places.{HasSlots, HoldsPlaces, IsMadeAt, preparation}
 use Rattle.table_sections.specs.declared.laying.Places.{Places}
@@ -47,11 +45,7 @@ SectionsStand z p base h d [] [] = Unit {0}
 SectionsStand z p base h d (ls ∷ lss) (rs ∷ rss) = SectionStands z p base h d ls rs × SectionsStand z p base h (suc d) lss rss
 SectionsStand z p base h d _ _ = ⊥
 
--- what a map binds goes from front to front as what a plain map binds does
-abbrev pub GoesInOrder : Sizes → Label → List Entry → List Entry → Type 0
-GoesInOrder z root base h = (front : List Entry) (e : Entry) → IsPrefix base front → IsPrefix (front ++ e ∷ []) h → PlainStep z root front e (bound_after z root front) (bound_after z root (front ++ e ∷ []))
-
--- all sections were made in one legal history, on one map that all domains share from the entry on that made it, and whose bindings go in the history's order
+-- all sections were made in one legal history, on one map that all domains share from the entry on that made it: its bindings go in the history's order, and so do the keys of the slots
 pub record TogetherRuns (z : Sizes) (sections : List (List TableLine)) (replies : List (List LineReply)) (h : List Entry) : Type 0 where
   pub legal : Legal z h
   pub places : Places
@@ -59,5 +53,6 @@ pub record TogetherRuns (z : Sizes) (sections : List (List TableLine)) (replies 
   pub made : IsMadeAt z places.map base
   pub laid : HasSlots (graph_of z base) places
   pub shared : IsShared z places.map base h
-  pub order : GoesInOrder z places.map base h
+  pub bindings : BindingsGoInOrder z places.map base h
+  pub keys : SlotsGoInOrder z places base h
   pub stand : SectionsStand z places base h 0 sections replies
