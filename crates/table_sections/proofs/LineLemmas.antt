@@ -1,5 +1,5 @@
 -- What a line is where it guards the map, and is answered on it.
-use Rattle.std.proofs.Common.{◌≡◌, ℕ, ◌<◌, ◌≤◌, ◌^◌, ◌&&◌, true, int_le, ℤ, pos, negsuc, neg_ℤ, List, ◌∙◌, arith, to_z, of_z, to_z-of_z, SFits, w64}
+use Rattle.std.proofs.Common.{◌≡◌, ◌≢◌, ℕ, ◌<◌, ◌≤◌, ◌^◌, ◌&&◌, true, int_le, ℤ, pos, negsuc, neg_ℤ, List, ◌∙◌, arith, to_z, of_z, to_z-of_z, SFits, w64}
 use Rattle.std.proofs.lemmas.Bool.{and_parts}
 use Rattle.std.proofs.lemmas.Bool.Decides.{nat_tests}
 use Rattle.std.proofs.lemmas.Int.{ints}
@@ -21,7 +21,7 @@ use Rattle.weak_maps.proofs.BesideLemmas.{low_beside}
 use Rattle.weak_maps.proofs.PlaceLemmas.{place_after}
 use Rattle.weak_maps.proofs.StayLemmas.{respects_within}
 use Rattle.table_sections.specs.Lines.{IsKeyRegister, IsSharedLine, written_in}
-use Rattle.table_sections.specs.Sections.{KeepsBut, LineAnswers, LineDone, LineMakes, OnMap, SectionGuards}
+use Rattle.table_sections.specs.Sections.{KeepsBut, LeavesClean, LineAnswers, LineDone, LineMakes, OnMap, SectionGuards}
 use Rattle.table_sections.specs.Slots.{SparesSlots}
 use Rattle.table_sections.proofs.SlotLemmas.{slots_stay}
 
@@ -38,9 +38,13 @@ module _ (z : Sizes) (root : Label) (d : ℕ) (old new : List Entry) where
 pub high_beside : (r : ℕ) → 11 < r → IsBeside r
 high_beside r high = ((λ e. absurd (omega (arith, high, e))), (λ e. absurd (omega (arith, high, e))), (λ e. absurd (omega (arith, high, e))), (λ e. absurd (omega (arith, high, e))))
 
+-- where a line writes a register up to 5 alone, none of 8 to 11 is written
+pub clean_kept : (z : Sizes) (d : ℕ) (old new : List Entry) (r : ℕ) → r ≤ 5 → ((i : ℕ) → i ≢ r → held_by z d new i ≡ held_by z d old i) → LeavesClean z d old new
+clean_kept z d old new r small kept i low high none = kept i (λ e. absurd (omega (arith, e, low, small))) ∙ none
+
 -- a line by what it does, and by what it answers, keeps and spares on a map
 pub line_done : (z : Sizes) (d : ℕ) (old new : List Entry) (line : TableLine) (a : LineReply) → IsPrefix old new → SectionGuards z d old new → LineMakes z d old line a new
-    → ((root : Label) → OnMap z root d old → OthersRespect z root d old new → LineAnswers z root d old line a new × KeepsBut z d old new (written_in line) × SparesSlots z d old line new) → written_in line ≤ 5 → LineDone z d old line a new
+    → ((root : Label) → OnMap z root d old → OthersRespect z root d old new → LineAnswers z root d old line a new × KeepsBut z d old new (written_in line) × SparesSlots z d old line new × LeavesClean z d old new) → written_in line ≤ 5 → LineDone z d old line a new
 line_done z d old new line a grows guards makes on_map low = record {
   guards = guards;
   runs = record {
@@ -52,6 +56,7 @@ line_done z d old new line a grows guards makes on_map low = record {
       answers = x.0;
       keeps = x.1;
       spares = x.2;
+      clean = x.3;
       after = on_after z root d old new grows (guarded_all z root d old new (guards root on) others) (x.1 6 (λ e. absurd (omega (arith, e))) (low_beside 6 (omega arith)) (λ e. absurd (omega (arith, low, e)))) on;
       slots = slots_stay z d old new grows
           (x.1 7 (λ e. absurd (omega (arith, e))) (low_beside 7 (omega arith)) (λ e. absurd (omega (arith, low, e))))

@@ -178,6 +178,16 @@ module _ (z : Sizes) (p : Places) where
       ⊎_elim (λ same. same_node front (front ++ e ∷ []) s same) (λ x. other_slot front e there d 7 7 6 s x (λ is. absurd (omega (arith, is))))
       (sets_key z d old new 7 7 6 answer made (slot_place p s) (place_eight (graph_of z old) p has s) front e since until own))
 
+  -- the register of a slot holds its ephemeron
+  pub register_place : (d : ℕ) (h : List Entry) → HoldsPlaces z p d h → (s : ℕ) → s < 16 → held_by z d h (slot_ephe s) ≡ Block (slot_place p s)
+  register_place d h holds s few = by (s / 6) (omega (arith, few))
+    where
+      by : (q : ℕ) → q < 3 → held_by z d h (get_or (7 ∷ 12 ∷ 13 ∷ []) q 0) ≡ Block (get_or (p.first ∷ p.second ∷ p.third ∷ []) q p.first)
+      by zero small = holds.first
+      by (suc zero) small = holds.second
+      by (suc (suc zero)) small = holds.third
+      by (suc (suc (suc q))) small = absurd (omega (arith, small))
+
   -- the entries of a line
   module _ (root : Label) (d : ℕ) where
     places_on : (old new : List Entry) (line : TableLine) (a : LineReply) → IsSharedLine line → LineBeside z root d old line a new → HoldsPlaces z p d old → HoldsPlaces z p d new
@@ -188,16 +198,6 @@ module _ (z : Sizes) (p : Places) where
           third = x.keeps 13 (λ e. absurd (omega (arith, e))) (high_beside 13 (omega arith)) (λ e. absurd (omega (arith, low, e))) ∙ holds.third;
           map = x.keeps 6 (λ e. absurd (omega (arith, e))) (low_beside 6 (omega arith)) (λ e. absurd (omega (arith, low, e))) ∙ holds.map;
         }
-
-    -- the register of a slot holds its ephemeron
-    register_place : (h : List Entry) → HoldsPlaces z p d h → (s : ℕ) → s < 16 → held_by z d h (slot_ephe s) ≡ Block (slot_place p s)
-    register_place h holds s few = by (s / 6) (omega (arith, few))
-      where
-        by : (q : ℕ) → q < 3 → held_by z d h (get_or (7 ∷ 12 ∷ 13 ∷ []) q 0) ≡ Block (get_or (p.first ∷ p.second ∷ p.third ∷ []) q p.first)
-        by zero small = holds.first
-        by (suc zero) small = holds.second
-        by (suc (suc zero)) small = holds.third
-        by (suc (suc (suc q))) small = absurd (omega (arith, small))
 
     module _ (old new : List Entry) (has : HasSlots (graph_of z old) p) (holds : HoldsPlaces z p d old) (front : List Entry) (e : Entry) (since : IsPrefix old front) (until : IsPrefix (front ++ e ∷ []) new) (own : is_entry_of d e ≡ true) where
       there : HasSlots (graph_of z front) p
@@ -215,7 +215,7 @@ module _ (z : Sizes) (p : Places) where
         own_place : held_by z d front (slot_ephe s) ≡ Block (slot_place p s)
         own_place =
             let end = at_the_end z no_root d old new (SetKey (slot_ephe s) (slot_key s) r) x.makes.reply x.makes.performed front e since until own in
-            ap (λ (h : List Entry). held_by z d h (slot_ephe s)) end.0 ∙ (register_before z d old new (SetKey (slot_ephe s) (slot_key s) r) x.makes.reply x.makes.performed refl (slot_ephe s) ∙ register_place old holds s few)
+            ap (λ (h : List Entry). held_by z d h (slot_ephe s)) end.0 ∙ (register_before z d old new (SetKey (slot_ephe s) (slot_key s) r) x.makes.reply x.makes.performed refl (slot_ephe s) ∙ register_place d old holds s few)
 
         others : (t : ℕ) → t < 16 → t ≢ s → slot_held z p (front ++ e ∷ []) t ≡ slot_held z p front t
         others t low other = ⊎_elim (λ same. same_node front (front ++ e ∷ []) t same)
