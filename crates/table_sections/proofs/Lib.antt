@@ -10,6 +10,7 @@ pub mod RefusedBodies
 pub mod Jobs
 pub mod Laid
 pub mod LaidSlots
+pub mod Beginning
 pub mod OrderLemmas
 pub mod Stepping
 pub mod Standing

@@ -20,6 +20,7 @@ use Rattle.weak_maps.proofs.GetLemmas.{grows_by}
 use Rattle.weak_maps.proofs.OfShared.CommandLemmas.{seats_share_the_map}
 use Rattle.weak_maps.proofs.OfShared.OrderLemmas.{bindings_are_of_one_order}
 use Rattle.weak_maps.proofs.OfShared.SharingLemmas.{stretches_add}
+use Rattle.table_sections.proofs.Beginning.{begins_empty}
 use Rattle.table_sections.proofs.LaidSlots.{on_slots, slots_laid}
 use Rattle.table_sections.proofs.OrderLemmas.{has_on, section_steps}
 use Rattle.table_sections.proofs.Stepping.{OwnSteps, each_steps, sharing_steps, slots_in_order, steps_twice}
@@ -99,7 +100,7 @@ other_steps z p base d ready x =
     each_steps z p base (suc d) [] (Poll ∷ loading) ready (((λ s. refl), refl), (((λ s. refl), refl), (((λ s. refl), refl), (((λ s. refl), refl), (((λ s. refl), refl), tt))))) (x.begun, reply.Done, x.polled, x.prepares.loaded)
 
 -- the history, and the first domain's preparation
-module _ (z : Sizes) (p : Places) (h : List Entry) (ready : List Entry) (laid : FirstLaid z p ready) (ready_h : IsPrefix ready h) where
+module _ (z : Sizes) (limits : IsWithinLimits z) (p : Places) (h : List Entry) (ready : List Entry) (laid : FirstLaid z p ready) (ready_h : IsPrefix ready h) where
   abbrev base : List Entry
   base = laid.base
 
@@ -137,6 +138,7 @@ module _ (z : Sizes) (p : Places) (h : List Entry) (ready : List Entry) (laid : 
       last = x.last;
       holds = holds;
       slots = on_slots z p d base x.run.old behind laid.slots holds;
+      empty = begins_empty z limits p d x.run.ready x.run.old reply.Done x.run.prepared x.run.polled;
       answered = answered shared;
     }
 
@@ -186,12 +188,12 @@ run_together z limits p h (ls ∷ lss) (rs ∷ rss) legal domains some all =
     let ready : List Entry = x.run.ready in
     let laid : FirstLaid z p ready = first_laid z limits p x.run.prepared.begun ready x.run.prepared.prepares (slots_laid z limits p 0 x.run.prepared.begun ready x.run.prepared.prepares) in
     let ready_h : IsPrefix ready h = prefix_trans ready x.run.old h (grows_by z 0 ready x.run.old Poll reply.Done x.run.polled) (prefix_trans x.run.old x.new h x.run.done.grows x.until) in
-    let seats_guarded = all_seated z p h ready laid ready_h (λ d front. OwnGuarded z p.map laid.base d [] front)
-    (λ d lines answers y. guarded z p h ready laid ready_h (suc d) lines answers y (other_guards z p laid.base d y.run.ready y.run.prepared)) ls rs x (guarded z p h ready laid ready_h 0 ls rs x laid.guarded) lss rss all.1 domains in
-    let shared : IsShared z p.map laid.base h = seats_share_the_map z p.map laid.base h legal (base_h z p h ready laid ready_h) laid.at.map laid.at.placed seats_guarded in
-    let seats_step = all_seated z p h ready laid ready_h (λ d front. OwnSteps z p laid.base d [] front)
-    (λ d lines answers y. stepped z p h ready laid ready_h (suc d) lines answers y shared (other_steps z p laid.base d y.run.ready y.run.prepared)) ls rs x
-    (stepped z p h ready laid ready_h 0 ls rs x shared (sharing_steps z p laid.base 0 ready laid.reply laid.grows laid.slots laid.shares)) lss rss all.1 domains in
+    let seats_guarded = all_seated z limits p h ready laid ready_h (λ d front. OwnGuarded z p.map laid.base d [] front)
+    (λ d lines answers y. guarded z limits p h ready laid ready_h (suc d) lines answers y (other_guards z p laid.base d y.run.ready y.run.prepared)) ls rs x (guarded z limits p h ready laid ready_h 0 ls rs x laid.guarded) lss rss all.1 domains in
+    let shared : IsShared z p.map laid.base h = seats_share_the_map z p.map laid.base h legal (base_h z limits p h ready laid ready_h) laid.at.map laid.at.placed seats_guarded in
+    let seats_step = all_seated z limits p h ready laid ready_h (λ d front. OwnSteps z p laid.base d [] front)
+    (λ d lines answers y. stepped z limits p h ready laid ready_h (suc d) lines answers y shared (other_steps z p laid.base d y.run.ready y.run.prepared)) ls rs x
+    (stepped z limits p h ready laid ready_h 0 ls rs x shared (sharing_steps z p laid.base 0 ready laid.reply laid.grows laid.slots laid.shares)) lss rss all.1 domains in
     record {
       legal = legal;
       places = p;
@@ -201,5 +203,5 @@ run_together z limits p h (ls ∷ lss) (rs ∷ rss) legal domains some all =
       shared = shared;
       bindings = bindings_are_of_one_order z p.map laid.base h shared;
       keys = slots_in_order z p laid.base h legal laid.slots seats_step;
-      stand = all_stand z p h ready laid ready_h shared 0 (ls ∷ lss) (rs ∷ rss) all;
+      stand = all_stand z limits p h ready laid ready_h shared 0 (ls ∷ lss) (rs ∷ rss) all;
     }

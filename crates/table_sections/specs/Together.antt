@@ -13,7 +13,7 @@ use Rattle.table_text.specs.declared.machine.reply.LineReply.{LineReply}
 use Rattle.weak_laws.specs.Tables.Stages.{graph_of}
 use Rattle.table_sections.specs.Orders.{BindingsGoInOrder, SlotsGoInOrder}
 use Rattle.weak_maps.specs.Shared.Sharing.{IsShared}
-use Rattle.table_sections.specs.Places.{HasSlots, HoldsPlaces, IsMadeAt, preparation}
+use Rattle.table_sections.specs.Places.{HasSlots, HoldsNoKey, HoldsPlaces, IsMadeAt, preparation}
 use Rattle.table_sections.specs.declared.laying.Places.{Places}
 
 -- a section that a domain has room for: each line takes an ephemeron at most, and the first domain makes three before
@@ -26,7 +26,7 @@ pub record SectionsFit (k : Config) (sections : List (List TableLine)) : Type 0 
   pub each : AllByRecursion (SectionFits k) sections
   pub domains : k.domains ≡ length sections
 
--- The section of domain d lies between two fronts of the history, behind the base of the map: its lines are answered in order on this map and on slots that stand there, all that the domain does before is its preparation, and it makes no command behind
+-- The section of domain d lies between two fronts of the history, behind the base of the map: it begins with no key, its lines are answered in order on this map and on slots that stand there, all that the domain does before is its preparation, and it makes no command behind
 pub record SectionStands (z : Sizes) (p : Places) (base h : List Entry) (d : ℕ) (lines : List TableLine) (replies : List LineReply) : Type 0 where
   pub old : List Entry
   pub new : List Entry
@@ -37,6 +37,7 @@ pub record SectionStands (z : Sizes) (p : Places) (base h : List Entry) (d : ℕ
   pub last : commands h d ≡ commands new d
   pub holds : HoldsPlaces z p d old
   pub slots : OnSlots z d old
+  pub empty : HoldsNoKey z d old
   pub answered : SectionBeside z p.map d old lines replies new
 
 -- so do those of all domains from this one on: as many lists of replies as sections
