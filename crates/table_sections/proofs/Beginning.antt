@@ -1,8 +1,7 @@
 -- As its section begins, a domain's registers hold no key.
-use Rattle.std.proofs.Common.{◌≡◌, ◌≢◌, ℕ, zero, suc, ◌≤◌, List, [], ◌∷◌, get_or, replicate, refl, ap, ◌∙◌, arith}
-use Rattle.model_core.specs.declared.command.Command.TheVariants.{GetKey, Load, Poll}
+use Rattle.std.proofs.Common.{◌≡◌, ◌≢◌, ℕ, zero, suc, ◌≤◌, List, [], get_or, replicate, refl, ap, ◌∙◌, arith}
+use Rattle.model_core.specs.declared.command.Command.TheVariants.{Poll}
 use Rattle.model_core.specs.declared.entry.Entry.{Entry}
-use Rattle.model_core.specs.declared.graph.Value.{Value}
 use Rattle.model_core.specs.declared.graph.Value.TheVariants.{Nothing}
 use Rattle.model_core.specs.declared.reply.Reply.{Reply}
 use Rattle.model_core.specs.declared.state.Sizes.{Sizes}

@@ -22,7 +22,7 @@ use Rattle.weak_maps.specs.Returns.{GetLeaves, GetReturns, GetsAt, TakeReturns, 
 use Rattle.weak_maps.specs.Walks.{OwnQuiet}
 use Rattle.weak_maps.proofs.GuardLemmas.{guards_quiet, quiet_same}
 use Rattle.table_sections.specs.Sections.{LeavesClean, LineDone, MakesNone}
-use Rattle.table_sections.specs.Slots.{SparesSlots}
+use Rattle.table_sections.specs.Slots.{SparesBlocks}
 use Rattle.table_sections.proofs.LineLemmas.{line_done}
 use Rattle.table_sections.proofs.SpareLemmas.{spares_quiet, spares_within}
 
@@ -60,16 +60,16 @@ module _ (z : Sizes) (d : ℕ) (old new : List Entry) (root : Label) where
   get_parts (Int j) r x = (x, (λ i between beside. same_keeps x.1 i), same_clean x.1)
   get_parts Nothing r x = (x, (λ i between beside. same_keeps x.1 i), same_clean x.1)
 
-  take_parts : (line : TableLine) (key : Value) (r : Reply) → TakeReturns z d old new root key r → TakeAnswers z root d old new key r × KeepsBeside × SparesSlots z d old line new × LeavesClean z d old new
-  take_parts line (Block k) r x = (x.0, x.1.keeps, spares_within z d line root old new x.1.within, (λ i low high none. x.1.clean i low high))
-  take_parts line (Int j) r x = (x, (λ i beside. same_keeps x.1 i), spares_quiet z d line old new (quiet_same z d old new x.1), same_clean x.1)
-  take_parts line Nothing r x = (x, (λ i beside. same_keeps x.1 i), spares_quiet z d line old new (quiet_same z d old new x.1), same_clean x.1)
+  take_parts : (line : TableLine) (key : Value) (r : Reply) → TakeReturns z d old new root key r → TakeAnswers z root d old new key r × KeepsBeside × SparesBlocks z root d old line new × LeavesClean z d old new
+  take_parts line (Block k) r x = (x.0, x.1.keeps, spares_within z root d line old new x.1.within, (λ i low high none. x.1.clean i low high))
+  take_parts line (Int j) r x = (x, (λ i beside. same_keeps x.1 i), spares_quiet z root d line old new (quiet_same z d old new x.1), same_clean x.1)
+  take_parts line Nothing r x = (x, (λ i beside. same_keeps x.1 i), spares_quiet z root d line old new (quiet_same z d old new x.1), same_clean x.1)
 
 module _ (z : Sizes) (d : ℕ) (old new : List Entry) (r : ℕ) (answer : Reply) (grows : IsPrefix old new) (none : MakesNone z d old new (said answer)) where
   pub get_done : OwnQuiet z d old new → GetsAt z d old new 0 6 r answer → LineDone z d old (line_of.Get r) (said answer) new
   get_done quiet gets =
       line_done z d old new (line_of.Get r) (said answer) grows (λ root on. guards_quiet z root d old old new quiet) (none, quiet)
-      (λ root on others. let y = get_parts z d old new root (held_by z d old r) answer (gets root on.holds on.map others) in ((answer, y.0, refl), (λ i between beside other. y.1 i between beside), spares_quiet z d (line_of.Get r) old new quiet, y.2)) (omega arith)
+      (λ root on others. let y = get_parts z d old new root (held_by z d old r) answer (gets root on.holds on.map others) in ((answer, y.0, refl), (λ i between beside other. y.1 i between beside), spares_quiet z root d (line_of.Get r) old new quiet, y.2)) (omega arith)
 
   pub delete_done : TakeGuards z d old new 6 → TakesAt z d old new 6 r answer → LineDone z d old (line_of.Del r) (said answer) new
   delete_done guards takes =

@@ -22,8 +22,9 @@ use Rattle.weak_maps.proofs.PlaceLemmas.{place_after}
 use Rattle.weak_maps.proofs.StayLemmas.{respects_within}
 use Rattle.table_sections.specs.Lines.{IsKeyRegister, IsSharedLine, written_in}
 use Rattle.table_sections.specs.Sections.{KeepsBut, LeavesClean, LineAnswers, LineDone, LineMakes, OnMap, SectionGuards}
-use Rattle.table_sections.specs.Slots.{SparesSlots}
+use Rattle.table_sections.specs.Slots.{SparesBlocks}
 use Rattle.table_sections.proofs.SlotLemmas.{slots_stay}
+use Rattle.table_sections.proofs.SpareLemmas.{slots_spared}
 
 module _ (z : Sizes) (root : Label) (d : ℕ) (old new : List Entry) where
   -- where a stretch guards the map, and others respect it, all do
@@ -44,7 +45,7 @@ clean_kept z d old new r small kept i low high none = kept i (λ e. absurd (omeg
 
 -- a line by what it does, and by what it answers, keeps and spares on a map
 pub line_done : (z : Sizes) (d : ℕ) (old new : List Entry) (line : TableLine) (a : LineReply) → IsPrefix old new → SectionGuards z d old new → LineMakes z d old line a new
-    → ((root : Label) → OnMap z root d old → OthersRespect z root d old new → LineAnswers z root d old line a new × KeepsBut z d old new (written_in line) × SparesSlots z d old line new × LeavesClean z d old new) → written_in line ≤ 5 → LineDone z d old line a new
+    → ((root : Label) → OnMap z root d old → OthersRespect z root d old new → LineAnswers z root d old line a new × KeepsBut z d old new (written_in line) × SparesBlocks z root d old line new × LeavesClean z d old new) → written_in line ≤ 5 → LineDone z d old line a new
 line_done z d old new line a grows guards makes on_map low = record {
   guards = guards;
   runs = record {
@@ -55,7 +56,8 @@ line_done z d old new line a grows guards makes on_map low = record {
       makes = makes;
       answers = x.0;
       keeps = x.1;
-      spares = x.2;
+      spares = slots_spared z root d line old new x.2;
+      beside = x.2;
       clean = x.3;
       after = on_after z root d old new grows (guarded_all z root d old new (guards root on) others) (x.1 6 (λ e. absurd (omega (arith, e))) (low_beside 6 (omega arith)) (λ e. absurd (omega (arith, low, e)))) on;
       slots = slots_stay z d old new grows

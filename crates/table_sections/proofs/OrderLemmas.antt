@@ -29,7 +29,6 @@ use Rattle.weak_laws.proofs.OfMaps.RespectLemmas.{collector_spares, graph_push}
 use Rattle.weak_laws.proofs.OfTables.ChangeLemmas.{loses_emptied}
 use Rattle.weak_laws.proofs.OfTables.CollectorLemmas.{outside_unheld}
 use Rattle.weak_maps.specs.Beside.{held_by}
-use Rattle.weak_maps.specs.Walks.{OwnQuiet}
 use Rattle.weak_maps.proofs.BesideLemmas.{low_beside}
 use Rattle.table_sections.specs.Lines.{IsKeyRegister, IsSharedLine, written_in}
 use Rattle.table_sections.specs.Orders.{Keeps, Loses, Sets, SlotStep, slot_held, slot_place}
@@ -157,17 +156,24 @@ module _ (z : Sizes) (p : Places) where
 
     -- a slot behind an entry that set a key: it was this one, or is as it was
     module _ (d ephe index item : ℕ) (s : ℕ) (x : SetsKey z d front e ephe index item (slot_place p s)) where
-      now_holds : slot_held z p after s ≡ slice_get (set x.block.keys index (Some x.key)) (slot_key s)
-      now_holds = held_in after s (Some (Ephe (set x.block.keys index (Some x.key)) x.block.datum)) x.sets
+      now_holds : slot_held z p after s ≡ slice_get (set x.keys index (Some x.key)) (slot_key s)
+      now_holds = held_in after s (Some (Ephe (set x.keys index (Some x.key)) x.datum)) x.sets
+
+      in_bounds : slot_key s < length x.keys
+      in_bounds =
+          let there : IsEight (graph_of z front) (slot_place p s) = place_eight (graph_of z front) p has s in
+          let both : Some (Ephe x.keys x.datum) ≡ Some (Ephe there.keys there.datum) = sym x.was ∙ there.node in
+          let same : x.keys ≡ there.keys = cc in
+          let long = ap length same in
+          let eight = there.eight in
+          let low = key_below s in
+          omega (arith, long, eight, low)
 
       pub set_slot : slot_key s ≡ index → slot_held z p after s ≡ Some (Some x.key)
-      set_slot is = let eight = x.block.eight in let low = key_below s in now_holds ∙ (ap (slice_get (set x.block.keys index (Some x.key))) is ∙ set_here x.block.keys index (Some x.key) (omega (arith, eight, low, is)))
+      set_slot is = let low = in_bounds in now_holds ∙ (ap (slice_get (set x.keys index (Some x.key))) is ∙ set_here x.keys index (Some x.key) (omega (arith, low, is)))
 
       pub other_slot : slot_key s ≢ index → slot_held z p after s ≡ slot_held z p front s
-      other_slot other =
-          let eight = x.block.eight in
-          let low = key_below s in
-          now_holds ∙ (set_there x.block.keys index (slot_key s) (Some x.key) (omega (arith, eight, low)) other ∙ sym (held_in front s (Some (Ephe x.block.keys x.block.datum)) x.block.node))
+      other_slot other = now_holds ∙ (set_there x.keys index (slot_key s) (Some x.key) in_bounds other ∙ sym (held_in front s (Some (Ephe x.keys x.datum)) x.was))
 
   -- the entry by which the first domain makes the map the last key, which is no slot
   pub sharing_keeps : (d : ℕ) (old new : List Entry) (answer : Reply) → PerformedBy z d old new (SetKey 7 7 6) answer → HasSlots (graph_of z old) p
@@ -176,7 +182,7 @@ module _ (z : Sizes) (p : Places) where
       let there : HasSlots (graph_of z front) p = has_on z p old front since has in
       Keeps (λ s few.
       ⊎_elim (λ same. same_node front (front ++ e ∷ []) s same) (λ x. other_slot front e there d 7 7 6 s x (λ is. absurd (omega (arith, is))))
-      (sets_key z d old new 7 7 6 answer made (slot_place p s) (place_eight (graph_of z old) p has s) front e since until own))
+      (sets_key z d old new 7 7 6 answer made (slot_place p s) front e since until own))
 
   -- the register of a slot holds its ephemeron
   pub register_place : (d : ℕ) (h : List Entry) → HoldsPlaces z p d h → (s : ℕ) → s < 16 → held_by z d h (slot_ephe s) ≡ Block (slot_place p s)

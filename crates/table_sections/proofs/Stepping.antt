@@ -1,13 +1,11 @@
 -- What the slots hold goes from front to front in one order: each domain's entries make steps, and so do the collector's.
-use Rattle.std.proofs.Common.{◌≡◌, ⊎_elim, ℕ, ◌<◌, Bool, true, false, cond, List, [], ◌∷◌, ◌++◌, length, Option, Some, None, refl, ap, sym, ◌∙◌, subst, arith, eq-eqb, length-append}
+use Rattle.std.proofs.Common.{◌≡◌, ⊎_elim, ℕ, ◌<◌, Bool, true, false, cond, List, [], ◌∷◌, ◌++◌, length, None, refl, ap, ◌∙◌, arith, eq-eqb, length-append}
 use Rattle.std.proofs.lemmas.List.{length-replicate}
 use Rattle.std.specs.List.{AllByRecursion}
 use Rattle.model_core.specs.declared.command.Command.{Command}
-use Rattle.model_core.specs.declared.command.Command.TheVariants.{Poll, SetKey}
+use Rattle.model_core.specs.declared.command.Command.TheVariants.{SetKey}
 use Rattle.model_core.specs.declared.entry.Entry.{Entry}
 use Rattle.model_core.specs.declared.entry.Entry.TheVariants.{Command as CommandOf, End, Cut, Queue, Seal, Wipe, Last as LastOf, Collected, Done, Ran}
-use Rattle.model_core.specs.declared.graph.Node.TheVariants.{Ephe}
-use Rattle.model_core.specs.declared.label.Label.{Label}
 use Rattle.model_core.specs.declared.reply.Reply.{Reply}
 use Rattle.model_core.specs.declared.state.Sizes.{Sizes}
 use Rattle.model_core.specs.declared.state.State.{State}
@@ -20,7 +18,7 @@ use Rattle.model_core.proofs.Histories.HistoryLemmas.{commands-append, commands-
 use Rattle.weak_laws.specs.Maps.Calls.{PerformedBy}
 use Rattle.weak_laws.specs.Tables.Stages.{graph_of}
 use Rattle.weak_laws.specs.Tables.Thinning.{state_of}
-use Rattle.weak_laws.proofs.OfMaps.FrontLemmas.{before_or_behind, prefix_before, prefix_trans, walk_along}
+use Rattle.weak_laws.proofs.OfMaps.FrontLemmas.{before_or_behind, walk_along}
 use Rattle.weak_laws.proofs.OfMaps.OwnLemmas.{nothing_between}
 use Rattle.weak_laws.proofs.OfMaps.RespectLemmas.{allowed_at, count_next, state_push}
 use Rattle.weak_maps.specs.Walks.{OwnQuiet}

@@ -26,7 +26,7 @@ use Rattle.weak_maps.specs.Guards.{Guards}
 use Rattle.weak_maps.specs.Shared.Sharing.{IsShared, OwnGuarded}
 use Rattle.weak_maps.specs.Walks.{OwnQuiet}
 use Rattle.table_sections.specs.Lines.{made_said, written_in}
-use Rattle.table_sections.specs.Slots.{OnSlots, SlotGets, SlotSets, SparesSlots, slot_ephe, slot_key}
+use Rattle.table_sections.specs.Slots.{OnSlots, SlotGets, SlotSets, SparesBlocks, SparesSlots, slot_ephe, slot_key}
 
 -- register 6 of the domain holds a map, each leaf of which is on its key's way
 pub record OnMap (z : Sizes) (root : Label) (d : ℕ) (h : List Entry) : Type 0 where
@@ -110,7 +110,7 @@ KeepsBut z d old new r = (i : ℕ) → i ≢ 0 → IsBeside i → i ≢ r → he
 abbrev pub LeavesClean : Sizes → ℕ → List Entry → List Entry → Type 0
 LeavesClean z d old new = (i : ℕ) → 8 ≤ i → i ≤ 11 → held_by z d old i ≡ Nothing → held_by z d new i ≡ Nothing
 
--- a line is answered between two fronts, and the map is in its register still, and the slots in theirs, of which it sets none but its own
+-- a line is answered between two fronts, and the map is in its register still, and the slots in theirs, of which it sets none but its own, and it writes no other block beside the map
 pub record LineBeside (z : Sizes) (root : Label) (d : ℕ) (old : List Entry) (line : TableLine) (a : LineReply) (new : List Entry) : Type 0 where
   pub grows : IsPrefix old new
   pub makes : LineMakes z d old line a new
@@ -120,6 +120,7 @@ pub record LineBeside (z : Sizes) (root : Label) (d : ℕ) (old : List Entry) (l
   pub after : OnMap z root d new
   pub slots : OnSlots z d old → OnSlots z d new
   pub spares : SparesSlots z d old line new
+  pub beside : SparesBlocks z root d old line new
 
 -- a line, whatever register 6 holds; and where that is a map that others respect, on it
 pub record LineRuns (z : Sizes) (d : ℕ) (old : List Entry) (line : TableLine) (a : LineReply) (new : List Entry) : Type 0 where
