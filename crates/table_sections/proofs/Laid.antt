@@ -38,9 +38,9 @@ use Rattle.weak_maps.proofs.MakeLemmas.{made_map}
 use Rattle.weak_maps.proofs.OfShared.CommandLemmas.{commands_beside_are_guarded, later_keys_are_guarded}
 use Rattle.weak_maps.proofs.OfShared.SharingLemmas.{stretches_add}
 use Rattle.table_sections.specs.Places.{Finds, HasSlots, HoldsPlaces, IsMadeAt, LaysOut, MakesEach, loading}
-use Rattle.table_sections.proofs.RegisterLemmas.{set_key_keeps}
 use Rattle.table_sections.specs.contracts.laying.PlacesPartialEq.TheImpl.{eq-value}
 use Rattle.table_sections.specs.declared.laying.Places.{Places}
+use Rattle.table_sections.proofs.RegisterLemmas.{set_key_keeps}
 
 -- one command more
 pub one_more : (z : Sizes) (d : ℕ) (old new : List Entry) (c : Command) (r : Reply) → PerformedBy z d old new c r → commands new d ≡ commands old d ++ c ∷ []

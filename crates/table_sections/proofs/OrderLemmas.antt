@@ -39,11 +39,7 @@ use Rattle.table_sections.specs.declared.laying.Places.{Places}
 use Rattle.table_sections.proofs.LineLemmas.{high_beside, low_line, slot_of}
 use Rattle.table_sections.proofs.RegisterLemmas.{register_before}
 use Rattle.table_sections.proofs.SlotLemmas.{eight_on, key_below}
-use Rattle.table_sections.proofs.SpareLemmas.{sets_key}
-
--- a label, where none matters
-abbrev no_root : Label
-no_root = record { domain = 0; serial = 0 }
+use Rattle.table_sections.proofs.SpareLemmas.{no_root, sets_key}
 
 -- what is so of three places is so of each slot's
 by_place : (P : Label → Type 0) (p : Places) → P p.first → P p.second → P p.third → (s : ℕ) → P (slot_place p s)
@@ -209,7 +205,7 @@ module _ (z : Sizes) (p : Places) where
       there : HasSlots (graph_of z front) p
       there = has_on z p old front since has
 
-      -- of `setweak`
+      -- of `wset`
       module _ (s r : ℕ) (a : LineReply) (few : s < 16) (small : IsKeyRegister r) (x : LineBeside z root d old (SetWeak s r) a new) where
         abbrev Spared : ℕ → Type 0
         Spared t = (node_at (graph_of z (front ++ e ∷ [])) (slot_place p t) ≡ node_at (graph_of z front) (slot_place p t)) ⊎ SetsKey z d front e (slot_ephe s) (slot_key s) r (slot_place p t)

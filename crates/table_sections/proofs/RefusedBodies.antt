@@ -34,8 +34,8 @@ use Rattle.table_sections.specs.Orders.{Keeps, Loses, Sets, SlotStep, SlotsGoInO
 use Rattle.table_sections.specs.Slots.{IsEight, slot_ephe}
 use Rattle.table_sections.specs.Together.{SectionStands}
 use Rattle.table_sections.specs.declared.laying.Places.{Places}
-use Rattle.table_sections.proofs.OrderLemmas.{register_place}
 use Rattle.table_sections.specs.Sections.{Answers, LineBeside, LineMakes, OfCall, PutMakes, PutsInteger, SectionRuns}
+use Rattle.table_sections.proofs.OrderLemmas.{register_place}
 
 -- a line that is answered `full` had its call answered so
 full_call : (r : Reply) → reply.Full ≡ said r → full_of r ≡ 1

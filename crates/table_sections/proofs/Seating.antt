@@ -16,9 +16,9 @@ use Rattle.run_session.specs.Domains.Seated.{Polls, Stands}
 use Rattle.run_session.proofs.OfDomains.Seats.{unused}
 use Rattle.table_text.specs.declared.line.TableLine.{TableLine}
 use Rattle.table_text.specs.declared.machine.reply.LineReply.{LineReply}
-use Rattle.table_sections.specs.Sections.{SectionDone}
 use Rattle.weak_laws.specs.Maps.Calls.{PerformedBy}
 use Rattle.weak_laws.proofs.OfMaps.FrontLemmas.{prefix_trans}
+use Rattle.table_sections.specs.Sections.{SectionDone}
 use Rattle.table_sections.specs.Places.{Finds, LaysOut}
 use Rattle.table_sections.specs.Prepared.{Prepares}
 use Rattle.table_sections.specs.Preparing.{AllBack, AllFresh, AllRan, AllReady, AllTasks, HasRunTask, IsBack, IsFresh, IsReady, IsTask, MayRun}

@@ -1,4 +1,4 @@
--- What a line leaves of the blocks beside the map: all, but that `setweak` sets its slot.
+-- What a line leaves of the blocks beside the map: all, but that `wset` sets its slot.
 use Rattle.std.proofs.Common.{◌≡◌, ◌⊎◌, inl, inr, ⊎_elim, ℕ, true, List, [], ◌∷◌, ◌++◌, set, slice_get, Option, Some, None, refl, ap, sym, ◌∙◌, subst}
 use Rattle.model_core.specs.declared.label.Label.{Label}
 use Rattle.model_core.specs.declared.command.Command.{Command}
@@ -37,7 +37,7 @@ use Rattle.table_sections.proofs.RegisterLemmas.{graph_after}
 use Rattle.table_sections.proofs.SlotLemmas.{eight_on}
 
 -- a label, where none matters
-abbrev no_root : Label
+abbrev pub no_root : Label
 no_root = record { domain = 0; serial = 0 }
 
 -- a block of a map is no ephemeron

@@ -10,7 +10,6 @@ use Rattle.model_core.specs.declared.reply.Reply.TheVariants as reply
 use Rattle.model_core.specs.declared.state.Sizes.{Sizes}
 use Rattle.model_core.specs.Domains.{IsWithinLimits}
 use Rattle.model_core.specs.History.{IsPrefix, Legal, commands}
-use Rattle.table_sections.proofs.SectionLemmas.{sections_are_answered, sections_are_guarded}
 use Rattle.table_text.specs.declared.line.TableLine.{TableLine}
 use Rattle.table_text.specs.declared.machine.reply.LineReply.{LineReply}
 use Rattle.weak_laws.specs.Maps.Calls.{PerformedBy}
@@ -20,16 +19,17 @@ use Rattle.weak_maps.proofs.GetLemmas.{grows_by}
 use Rattle.weak_maps.proofs.OfShared.CommandLemmas.{seats_share_the_map}
 use Rattle.weak_maps.proofs.OfShared.OrderLemmas.{bindings_are_of_one_order}
 use Rattle.weak_maps.proofs.OfShared.SharingLemmas.{stretches_add}
-use Rattle.table_sections.proofs.Beginning.{begins_empty}
-use Rattle.table_sections.proofs.LaidSlots.{on_slots, slots_laid}
-use Rattle.table_sections.proofs.OrderLemmas.{has_on, section_steps}
-use Rattle.table_sections.proofs.Stepping.{OwnSteps, each_steps, sharing_steps, slots_in_order, steps_twice}
 use Rattle.table_sections.specs.Lines.{IsSharedLine}
 use Rattle.table_sections.specs.Places.{HoldsPlaces, LaysOut, MakesEach, loading, preparation}
 use Rattle.table_sections.specs.Sections.{SectionBeside}
 use Rattle.table_sections.specs.Prepared.{HasRun, IsPrepared}
 use Rattle.table_sections.specs.Together.{SectionStands, SectionsStand, TogetherRuns}
 use Rattle.table_sections.specs.declared.laying.Places.{Places}
+use Rattle.table_sections.proofs.SectionLemmas.{sections_are_answered, sections_are_guarded}
+use Rattle.table_sections.proofs.Beginning.{begins_empty}
+use Rattle.table_sections.proofs.LaidSlots.{on_slots, slots_laid}
+use Rattle.table_sections.proofs.OrderLemmas.{has_on, section_steps}
+use Rattle.table_sections.proofs.Stepping.{OwnSteps, each_steps, sharing_steps, slots_in_order, steps_twice}
 use Rattle.table_sections.proofs.Laid.{FirstLaid, behind_base, each_grows, each_more, first_laid, loaded_guarded, one_more, places_kept, reads_guarded}
 use Rattle.table_sections.proofs.RegisterLemmas.{poll_keeps}
 

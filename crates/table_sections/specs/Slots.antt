@@ -91,12 +91,12 @@ pub record SetsKey (z : Sizes) (d : ℕ) (front : List Entry) (e : Entry) (ephe 
   pub was : node_at (graph_of z front) l ≡ Some (Ephe keys datum)
   pub sets : node_at (graph_of z (front ++ e ∷ [])) l ≡ Some (Ephe (slice_set keys index (Some key)) datum)
 
--- how an entry of a line may change a block beside the map: `setweak` sets its slot in it, and no other line any
+-- how an entry of a line may change a block beside the map: `wset` sets its slot in it, and no other line any
 abbrev pub LineSets : Sizes → ℕ → List Entry → Entry → TableLine → Label → Type 0
 LineSets z d front e (SetWeak s r) l = SetsKey z d front e (slot_ephe s) (slot_key s) r l
 LineSets z d front e _ l = ⊥
 
--- each ephemeron of eight keys that there is when a line begins stays as it is through each entry of the domain in the line, but that `setweak` sets its slot
+-- each ephemeron of eight keys that there is when a line begins stays as it is through each entry of the domain in the line, but that `wset` sets its slot
 abbrev pub SparesSlots : Sizes → ℕ → List Entry → TableLine → List Entry → Type 0
 SparesSlots z d old line new = (l : Label) → IsEight (graph_of z old) l → (front : List Entry) (e : Entry) → IsPrefix old front → IsPrefix (front ++ e ∷ []) new → is_entry_of d e ≡ true
     → (node_at (graph_of z (front ++ e ∷ [])) l ≡ node_at (graph_of z front) l) ⊎ LineSets z d front e line l

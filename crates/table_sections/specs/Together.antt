@@ -5,14 +5,14 @@ use Rattle.model_core.specs.declared.entry.Entry.{Entry}
 use Rattle.model_core.specs.declared.state.Sizes.{Sizes}
 use Rattle.model_core.specs.History.{IsPrefix, Legal, commands}
 use Rattle.heap_rule.specs.declared.config.Config.{Config}
-use Rattle.table_sections.specs.Lines.{IsSharedLine}
-use Rattle.table_sections.specs.Sections.{SectionBeside}
-use Rattle.table_sections.specs.Slots.{OnSlots}
 use Rattle.table_text.specs.declared.line.TableLine.{TableLine}
 use Rattle.table_text.specs.declared.machine.reply.LineReply.{LineReply}
 use Rattle.weak_laws.specs.Tables.Stages.{graph_of}
-use Rattle.table_sections.specs.Orders.{BindingsGoInOrder, SlotsGoInOrder}
 use Rattle.weak_maps.specs.Shared.Sharing.{IsShared}
+use Rattle.table_sections.specs.Lines.{IsSharedLine}
+use Rattle.table_sections.specs.Sections.{SectionBeside}
+use Rattle.table_sections.specs.Slots.{OnSlots}
+use Rattle.table_sections.specs.Orders.{BindingsGoInOrder, SlotsGoInOrder}
 use Rattle.table_sections.specs.Places.{HasSlots, HoldsNoKey, HoldsPlaces, IsMadeAt, preparation}
 use Rattle.table_sections.specs.declared.laying.Places.{Places}
 
