@@ -105,4 +105,4 @@ module _ (k : Config) (lss : List (List TableLine)) (inside : first_outside k �
         let domains : now.domains ≡ length lss = ap (λ (c : Config). c.domains) (sym same) ∙ fits.domains in
         let stopped : StopsEach now h ys = subst (λ (w : Sizes). StopsEach w h ys) sizes stops in
         subst (λ (w : Sizes). TogetherRuns w lss more h) (sym sizes)
-        (run_together now limits p h lss more (subst (λ (w : Sizes). Legal w h) sizes legal) domains some_section (over_each s p h 0 xs lss ts rs more ys ready tasks ran back stopped))
+        (run_together now limits p h lss more (subst (λ (w : Sizes). Legal w h) sizes legal) domains some_section (over_each s p h 0 xs lss ts rs more ys (subst (λ (c : Config). AllByRecursion (SectionFits c) lss) same fits.each) ready tasks ran back stopped))

@@ -38,9 +38,9 @@ use Rattle.weak_maps.proofs.MakeLemmas.{made_map}
 use Rattle.weak_maps.proofs.OfShared.CommandLemmas.{commands_beside_are_guarded, later_keys_are_guarded}
 use Rattle.weak_maps.proofs.OfShared.SharingLemmas.{stretches_add}
 use Rattle.table_sections.specs.Places.{Finds, HasSlots, HoldsPlaces, IsMadeAt, LaysOut, MakesEach, loading}
-use Rattle.table_sections.proofs.RegisterLemmas.{set_key_keeps}
 use Rattle.table_sections.specs.contracts.laying.PlacesPartialEq.TheImpl.{eq-value}
 use Rattle.table_sections.specs.declared.laying.Places.{Places}
+use Rattle.table_sections.proofs.RegisterLemmas.{set_key_keeps}
 
 -- one command more
 pub one_more : (z : Sizes) (d : ℕ) (old new : List Entry) (c : Command) (r : Reply) → PerformedBy z d old new c r → commands new d ≡ commands old d ++ c ∷ []
@@ -124,6 +124,8 @@ pub record FirstLaid (z : Sizes) (p : Places) (front : List Entry) : Type 0 wher
   pub grows : IsPrefix base front
   pub guarded : OwnGuarded z p.map base 0 [] front
   pub slots : HasSlots (graph_of z base) p
+  pub reply : Reply
+  pub shares : PerformedBy z 0 base front (SetKey 7 7 6) reply
 
 pub first_laid : (z : Sizes) → IsWithinLimits z → (p : Places) (old new : List Entry) (x : LaysOut z 0 old new p) → HasSlots (graph_of z x.base) p → FirstLaid z p new
 first_laid z limits p old new x slots =
@@ -141,6 +143,8 @@ first_laid z limits p old new x slots =
       grows = grows;
       guarded = stretches_add z p.map 0 x.base [] x.base new grows (before_base z p.map 0 x.base) (later_keys_are_guarded z p.map 0 x.base x.base new 7 7 6 x.shared.1 (omega arith) set);
       slots = slots;
+      reply = x.shared.1;
+      shares = set;
     }
 
 pub loaded_guarded : (z : Sizes) (root : Label) (d : ℕ) (base old new : List Entry) → MakesEach z d old loading new → OwnGuarded z root base d old new

@@ -163,6 +163,9 @@ module _ (z : Sizes) (limits : IsWithinLimits z) (p : Places) (d : ℕ) (old new
       ap (λ (h : List Entry). held_by z d h i) x.shared.3
       ∙ (set_key_keeps z d x.base x.shared.0 x.shared.1 7 7 6 share i ∙ (alloc_keeps z d x.before x.base (reply.Block x.labels.3) 6 0 512 x.map i other ∙ published_keeps z d x.three x.before x.published i))
 
+  pub laid_keeps : (i : ℕ) → i ≢ 6 → i ≢ 7 → i ≢ 12 → i ≢ 13 → held_by z d new i ≡ held_by z d old i
+  laid_keeps i six seven twelve thirteen = behind_three i six ∙ (three.keeps i thirteen ∙ (two.keeps i twelve ∙ one.keeps i seven))
+
   first_is : x.labels.0 ≡ p.first
   first_is = one_label (held_by z d new 7) x.labels.0 p.first
       (behind_three 7 (λ e. absurd (omega (arith, e))) ∙ (three.keeps 7 (λ e. absurd (omega (arith, e))) ∙ (two.keeps 7 (λ e. absurd (omega (arith, e))) ∙ one.held))) x.holds.first

@@ -10,6 +10,9 @@ pub mod RefusedBodies
 pub mod Jobs
 pub mod Laid
 pub mod LaidSlots
+pub mod Beginning
+pub mod OrderLemmas
+pub mod Stepping
 pub mod Standing
 pub mod Seating
 pub mod Ending

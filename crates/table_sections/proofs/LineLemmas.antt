@@ -1,5 +1,5 @@
 -- What a line is where it guards the map, and is answered on it.
-use Rattle.std.proofs.Common.{◌≡◌, ℕ, ◌<◌, ◌≤◌, ◌^◌, ◌&&◌, true, int_le, ℤ, pos, negsuc, neg_ℤ, List, ◌∙◌, arith, to_z, of_z, to_z-of_z, SFits, w64}
+use Rattle.std.proofs.Common.{◌≡◌, ◌≢◌, ℕ, ◌<◌, ◌≤◌, ◌^◌, ◌&&◌, true, int_le, ℤ, pos, negsuc, neg_ℤ, List, ◌∙◌, arith, to_z, of_z, to_z-of_z, SFits, w64}
 use Rattle.std.proofs.lemmas.Bool.{and_parts}
 use Rattle.std.proofs.lemmas.Bool.Decides.{nat_tests}
 use Rattle.std.proofs.lemmas.Int.{ints}
@@ -8,7 +8,7 @@ use Rattle.model_core.specs.declared.entry.Entry.{Entry}
 use Rattle.model_core.specs.declared.state.Sizes.{Sizes}
 use Rattle.model_core.specs.History.{IsPrefix}
 use Rattle.table_text.specs.declared.line.TableLine.{TableLine}
-use Rattle.table_text.specs.declared.line.TableLine.TheVariants.{Put}
+use Rattle.table_text.specs.declared.line.TableLine.TheVariants.{Key, Forget, Put, Get, Del, SetWeak, GetWeak, Count, FullMajor}
 use Rattle.table_text.specs.declared.machine.reply.LineReply.{LineReply}
 use Rattle.table_text.specs.Forms.{is_writable}
 use Rattle.weak_laws.specs.Maps.Steps.{AllRespect, OthersRespect}
@@ -20,10 +20,11 @@ use Rattle.weak_maps.specs.Guards.{Guards}
 use Rattle.weak_maps.proofs.BesideLemmas.{low_beside}
 use Rattle.weak_maps.proofs.PlaceLemmas.{place_after}
 use Rattle.weak_maps.proofs.StayLemmas.{respects_within}
-use Rattle.table_sections.specs.Lines.{IsKeyRegister, written_in}
-use Rattle.table_sections.specs.Sections.{KeepsBut, LineAnswers, LineDone, LineMakes, OnMap, SectionGuards}
-use Rattle.table_sections.specs.Slots.{SparesSlots}
+use Rattle.table_sections.specs.Lines.{IsKeyRegister, IsSharedLine, written_in}
+use Rattle.table_sections.specs.Sections.{KeepsBut, LeavesClean, LineAnswers, LineDone, LineMakes, OnMap, SectionGuards}
+use Rattle.table_sections.specs.Slots.{SparesBlocks}
 use Rattle.table_sections.proofs.SlotLemmas.{slots_stay}
+use Rattle.table_sections.proofs.SpareLemmas.{slots_spared}
 
 module _ (z : Sizes) (root : Label) (d : ℕ) (old new : List Entry) where
   -- where a stretch guards the map, and others respect it, all do
@@ -35,12 +36,16 @@ module _ (z : Sizes) (root : Label) (d : ℕ) (old new : List Entry) where
   on_after grows all same on = record { holds = same ∙ on.holds; map = map_after z root old new grows all on.map; placed = place_after z root old new grows all on.map on.placed }
 
 -- a register above those that a put or a take uses
-high_beside : (r : ℕ) → 11 < r → IsBeside r
+pub high_beside : (r : ℕ) → 11 < r → IsBeside r
 high_beside r high = ((λ e. absurd (omega (arith, high, e))), (λ e. absurd (omega (arith, high, e))), (λ e. absurd (omega (arith, high, e))), (λ e. absurd (omega (arith, high, e))))
+
+-- where a line writes a register up to 5 alone, none of 8 to 11 is written
+pub clean_kept : (z : Sizes) (d : ℕ) (old new : List Entry) (r : ℕ) → r ≤ 5 → ((i : ℕ) → i ≢ r → held_by z d new i ≡ held_by z d old i) → LeavesClean z d old new
+clean_kept z d old new r small kept i low high none = kept i (λ e. absurd (omega (arith, e, low, small))) ∙ none
 
 -- a line by what it does, and by what it answers, keeps and spares on a map
 pub line_done : (z : Sizes) (d : ℕ) (old new : List Entry) (line : TableLine) (a : LineReply) → IsPrefix old new → SectionGuards z d old new → LineMakes z d old line a new
-    → ((root : Label) → OnMap z root d old → OthersRespect z root d old new → LineAnswers z root d old line a new × KeepsBut z d old new (written_in line) × SparesSlots z d old line new) → written_in line ≤ 5 → LineDone z d old line a new
+    → ((root : Label) → OnMap z root d old → OthersRespect z root d old new → LineAnswers z root d old line a new × KeepsBut z d old new (written_in line) × SparesBlocks z root d old line new × LeavesClean z d old new) → written_in line ≤ 5 → LineDone z d old line a new
 line_done z d old new line a grows guards makes on_map low = record {
   guards = guards;
   runs = record {
@@ -51,7 +56,9 @@ line_done z d old new line a grows guards makes on_map low = record {
       makes = makes;
       answers = x.0;
       keeps = x.1;
-      spares = x.2;
+      spares = slots_spared z root d line old new x.2;
+      beside = x.2;
+      clean = x.3;
       after = on_after z root d old new grows (guarded_all z root d old new (guards root on) others) (x.1 6 (λ e. absurd (omega (arith, e))) (low_beside 6 (omega arith)) (λ e. absurd (omega (arith, low, e)))) on;
       slots = slots_stay z d old new grows
           (x.1 7 (λ e. absurd (omega (arith, e))) (low_beside 7 (omega arith)) (λ e. absurd (omega (arith, low, e))))
@@ -75,3 +82,21 @@ register_of r e = (grind (arith, ints, nat_tests), grind (arith, ints, nat_tests
 
 pub key_of : (r : ℕ) (v : ℤ) → is_writable (Put r v) ≡ true → IsKeyRegister r
 key_of r v e = register_of r (and_parts _ _ e).0
+
+-- and so of each line's
+pub slot_of : (s r : ℕ) → IsSharedLine (SetWeak s r) → (s < 16) × IsKeyRegister r
+slot_of s r e = (small_slot s (and_parts _ _ e).0, register_of r (and_parts _ _ (and_parts _ _ e).1).0)
+  where
+    small_slot : (n : ℕ) → int_le (pos 0) (pos n) && int_le (pos n) (pos 15) ≡ true → n < 16
+    small_slot n small = grind (arith, ints, nat_tests)
+
+pub low_line : (line : TableLine) → IsSharedLine line → written_in line ≤ 5
+low_line (Key r) e = (register_of r (and_parts _ _ e).0).1
+low_line (Forget r) e = (register_of r (and_parts _ _ e).0).1
+low_line (Put r v) e = omega arith
+low_line (Get r) e = omega arith
+low_line (Del r) e = omega arith
+low_line (SetWeak s r) e = omega arith
+low_line (GetWeak r s) e = (register_of r (and_parts _ _ e).0).1
+low_line Count e = absurd e
+low_line FullMajor e = omega arith

@@ -29,8 +29,8 @@ use Rattle.weak_maps.proofs.GetLemmas.{grows_by}
 use Rattle.weak_maps.proofs.GuardLemmas.{guards_later, guards_quiet, guards_then, guards_twice, quiet_by, quiet_same}
 use Rattle.weak_maps.proofs.StayLemmas.{quiet_looks, respects_within}
 use Rattle.table_sections.specs.Lines.{IsKeyRegister}
-use Rattle.table_sections.specs.Sections.{LineDone, OnMap, PutMakes, PutRefused, PutsInteger, SectionGuards}
-use Rattle.table_sections.specs.Slots.{SparesSlots}
+use Rattle.table_sections.specs.Sections.{LeavesClean, LineDone, OnMap, PutMakes, PutRefused, PutsInteger, SectionGuards}
+use Rattle.table_sections.specs.Slots.{SparesBlocks}
 use Rattle.table_sections.proofs.LineLemmas.{guarded_all, line_done, on_after}
 use Rattle.table_sections.proofs.SpareLemmas.{spares_quiet, spares_twice, spares_within}
 
@@ -49,17 +49,22 @@ put_counts labels left refused now made made_now given.Full first last x =
 put_counts labels left refused now made made_now given.BadType first last x = let same = x.1 in (x.0, omega (arith, first, last, same))
 put_counts labels left refused now made made_now r first last x = absurd x
 
--- the parts of a put, by what the register of its key holds: what it keeps, and what it spares
+-- the parts of a put, by what the register of its key holds: what it keeps, spares and leaves clean
 module _ (z : Sizes) (d : ℕ) (old new : List Entry) (root : Label) where
   put_keeps : (key : Value) (v : ℤ) (r : Reply) → PutReturns z d old new root key (Int v) r → (i : ℕ) → IsBeside i → held_by z d new i ≡ held_by z d old i
   put_keeps (Block k) v r x i beside = x.1.keeps i beside
   put_keeps (Int j) v r x i beside = ap (λ (h : List Entry). held_by z d h i) x.1
   put_keeps Nothing v r x i beside = ap (λ (h : List Entry). held_by z d h i) x.1
 
-  put_spares : (line : TableLine) (key : Value) (v : ℤ) (r : Reply) → PutReturns z d old new root key (Int v) r → SparesSlots z d old line new
-  put_spares line (Block k) v r x = spares_within z d line root old new x.1.within
-  put_spares line (Int j) v r x = spares_quiet z d line old new (quiet_same z d old new x.1)
-  put_spares line Nothing v r x = spares_quiet z d line old new (quiet_same z d old new x.1)
+  put_clean : (key : Value) (v : ℤ) (r : Reply) → PutReturns z d old new root key (Int v) r → LeavesClean z d old new
+  put_clean (Block k) v r x i low high none = x.1.clean i low high
+  put_clean (Int j) v r x i low high none = ap (λ (h : List Entry). held_by z d h i) x.1 ∙ none
+  put_clean Nothing v r x i low high none = ap (λ (h : List Entry). held_by z d h i) x.1 ∙ none
+
+  put_spares : (line : TableLine) (key : Value) (v : ℤ) (r : Reply) → PutReturns z d old new root key (Int v) r → SparesBlocks z root d old line new
+  put_spares line (Block k) v r x = spares_within z root d line old new x.1.within
+  put_spares line (Int j) v r x = spares_quiet z root d line old new (quiet_same z d old new x.1)
+  put_spares line Nothing v r x = spares_quiet z root d line old new (quiet_same z d old new x.1)
 
 module _ (z : Sizes) (limits : IsWithinLimits z) (d : ℕ) (old mid new : List Entry) (r : ℕ) (v : ℤ) (first answer : Reply) (small : IsKeyRegister r) (p : PerformedBy z d old mid (PutInt 0 v) first) (later : IsPrefix mid new)
     (made : made_by z d mid ≡ made_by z d old) (refused : refusals_by d mid ≡ refusals_by d old) where
@@ -128,5 +133,6 @@ module _ (z : Sizes) (limits : IsWithinLimits z) (d : ℕ) (old mid new : List E
       let x : PutReturns z d mid new root (held_by z d old r) (Int v) answer = subst (λ (w : Value × Value). PutReturns z d mid new root w.0 w.1 answer) (λ i. (key i, value i)) (puts root there.holds there.map there.placed tail) in (
         (answer, puts_integer root tail there crowded alone (held_by z d old r) key x, refl),
         (λ i between beside other. put_keeps z d mid new root (held_by z d old r) v answer x i beside ∙ others_kept i between),
-        spares_twice z d (line_of.Put r v) old mid new before later (spares_quiet z d (line_of.Put r v) old mid quiet) (put_spares z d mid new root (line_of.Put r v) (held_by z d old r) v answer x),
+        spares_twice z root d (line_of.Put r v) old mid new before later (spares_quiet z root d (line_of.Put r v) old mid quiet) (put_spares z d mid new root (line_of.Put r v) (held_by z d old r) v answer x),
+        (λ i over below none. put_clean z d mid new root (held_by z d old r) v answer x i over below (others_kept i (λ e. absurd (omega (arith, over, e))) ∙ none)),
       )) (omega arith)

@@ -1,5 +1,6 @@
 -- What the clauses of a section refuse: where a clause holds a wrong outcome doesn't, whatever body met it.
-use Rattle.std.proofs.Common.{◌≡◌, ◌≢◌, ⊎_elim, ℕ, suc, ◌+◌, ◌<◌, ℤ, true, List, [], ◌∷◌, ◌++◌, length, get_or, set, Option, Some, None, refl, ap, sym, ◌∙◌, subst, arith, get_or-set_same}
+use Rattle.std.proofs.Common.{◌≡◌, ◌≢◌, ⊎_elim, ℕ, suc, ◌+◌, ◌<◌, ◌≤◌, ℤ, true, List, [], ◌∷◌, ◌++◌, length, get_or, set, Option, Some, None, refl, ap, sym, ◌∙◌, subst, arith, get_or-set_same}
+use Rattle.std.proofs.lemmas.Bool.Decides.{eqb_tells}
 use Rattle.model_core.specs.declared.label.Label.{Label}
 use Rattle.model_core.specs.declared.command.Command.TheVariants.{Alloc}
 use Rattle.model_core.specs.declared.entry.Entry.{Entry}
@@ -29,8 +30,12 @@ use Rattle.weak_maps.specs.Crowds.{PutCounts, made_by}
 use Rattle.weak_maps.proofs.BesideLemmas.{set_here, sixteen}
 use Rattle.weak_maps.proofs.CountLemmas.{refuses_one}
 use Rattle.table_sections.specs.Lines.{made_said}
-use Rattle.table_sections.specs.Slots.{IsEight}
+use Rattle.table_sections.specs.Orders.{Keeps, Loses, Sets, SlotStep, SlotsGoInOrder, slot_held}
+use Rattle.table_sections.specs.Slots.{IsEight, slot_ephe}
+use Rattle.table_sections.specs.Together.{SectionStands}
+use Rattle.table_sections.specs.declared.laying.Places.{Places}
 use Rattle.table_sections.specs.Sections.{Answers, LineBeside, LineMakes, OfCall, PutMakes, PutsInteger, SectionRuns}
+use Rattle.table_sections.proofs.OrderLemmas.{register_place}
 
 -- a line that is answered `full` had its call answered so
 full_call : (r : Reply) → reply.Full ≡ said r → full_of r ≡ 1
@@ -76,6 +81,32 @@ no_put_sets_a_slot z root d old new r v a x l eight front e since until own now 
     let eight_now = now.eight in
     other (ap (λ (ks : List (Option Label)). get_or ks index None) (sym keys) ∙ get_or-set_same now.keys index key None (omega (arith, eight_now, low)))) (λ wrong. wrong)
     (x.spares l eight front e since until own)
+
+-- no line leaves a key in a register that calls use between
+pub no_line_keeps_a_key : (z : Sizes) (root : Label) (d : ℕ) (old new : List Entry) (l : TableLine) (a : LineReply) (i : ℕ) (k : Label) → 8 ≤ i → i ≤ 11 → held_by z d old i ≡ Nothing → LineBeside z root d old l a new → held_by z d new i ≡ Block k → ⊥
+no_line_keeps_a_key z root d old new l a i k low high none x keeps = let clash : Nothing ≡ Block k = sym (x.clean i low high none) ∙ keeps in cc
+
+-- no slot loses a key that some domain's register holds: it holds it still, unless the entry sets the slot
+pub no_held_key_leaves_its_slot : (z : Sizes) (p : Places) (base h : List Entry) → SlotsGoInOrder z p base h → (front : List Entry) (e : Entry) → IsPrefix base front → IsPrefix (front ++ e ∷ []) h
+    → (s d r : ℕ) (k : Label) → s < 16 → slot_held z p front s ≡ Some (Some k) → held_by z d front r ≡ Block k → slot_held z p (front ++ e ∷ []) s ≡ Some None → ⊥
+no_held_key_leaves_its_slot z p base h order front e since until s d r k few was held none = by (order front e since until)
+  where
+    stays : slot_held z p (front ++ e ∷ []) s ≡ slot_held z p front s → ⊥
+    stays same = let clash : Some (Some k) ≡ Some None = sym was ∙ (sym same ∙ none) in cc
+
+    by : SlotStep z p front e → ⊥
+    by (Keeps same) = stays (same s few)
+    by (Sets f t q j own low small given set others) =
+        ⊎_elim (λ is. let clash : Some (Some j) ≡ Some None = sym set ∙ (ap (slot_held z p (front ++ e ∷ [])) is.1 ∙ none) in cc) (λ other. stays (others s few (λ is. other.1 (sym is)))) (eqb_tells t s)
+    by (Loses lost) =
+        ⊎_elim stays
+        (λ gone. let both : Some (Some k) ≡ Some (Some gone.0) = sym was ∙ gone.1 in let same : k ≡ gone.0 = cc in gone.2 d r (held ∙ ap Block same))
+        (lost s few)
+
+-- no domain has slots of its own: two domains whose sections stand hold the same ephemerons and the same map
+pub no_domain_has_its_own_slots : (z : Sizes) (p : Places) (base h : List Entry) (d e : ℕ) (ls ms : List TableLine) (rs qs : List LineReply) → (x : SectionStands z p base h d ls rs) → (y : SectionStands z p base h e ms qs)
+    → (s : ℕ) → s < 16 → held_by z d x.old (slot_ephe s) ≢ held_by z e y.old (slot_ephe s) → ⊥
+no_domain_has_its_own_slots z p base h d e ls ms rs qs x y s few other = other (register_place z p d x.old x.holds s few ∙ sym (register_place z p e y.old y.holds s few))
 
 -- a key is answered `full` exactly where its command was refused
 pub no_key_is_full_for_nothing : (z : Sizes) (d : ℕ) (old new : List Entry) (r : ℕ) → Answers z d old new (Alloc r 0 1) made_said reply.Full → refusals_by d new ≡ refusals_by d old + 1

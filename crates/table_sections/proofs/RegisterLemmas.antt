@@ -2,7 +2,7 @@
 use Rattle.std.proofs.Common.{◌≡◌, ◌≢◌, ℕ, List, ◌++◌, get_or, slice_get, Bool, false, Option, Some, None, refl, ap, sym, ◌∙◌, get_or-set_other}
 use Rattle.model_core.specs.declared.label.Label.{Label}
 use Rattle.model_core.specs.declared.command.Command.{Command}
-use Rattle.model_core.specs.declared.command.Command.TheVariants.{FullMajor, GetKey, Poll, SetKey}
+use Rattle.model_core.specs.declared.command.Command.TheVariants.{FullMajor, GetKey, Load, Poll, SetKey}
 use Rattle.model_core.specs.declared.entry.Entry.{Entry}
 use Rattle.model_core.specs.declared.entry.Entry.TheVariants.{Command as CommandOf}
 use Rattle.model_core.specs.declared.graph.Node.{Node}
@@ -14,7 +14,7 @@ use Rattle.model_core.specs.declared.reply.Applied.TheVariants.{Replied}
 use Rattle.model_core.specs.declared.state.DomainState.{DomainState}
 use Rattle.model_core.specs.declared.state.Sizes.{Sizes}
 use Rattle.model_core.specs.declared.state.State.{State}
-use Rattle.model_core.specs.Commands.{at_ephe, block_in, in_bounds, is_allocation, key_set, key_stored, key_value, outcome, read_into}
+use Rattle.model_core.specs.Commands.{at_ephe, block_in, in_bounds, is_allocation, loaded, key_set, key_stored, key_value, outcome, read_into}
 use Rattle.model_core.specs.Domains.{domain_at, label_in, register}
 use Rattle.model_core.specs.Entries.{next, reply as reply_of}
 use Rattle.model_core.proofs.Commands.FrameLemmas.{part_set}
@@ -79,6 +79,17 @@ module _ (s : State) (d : ℕ) where
       go None = refl
       go (Some key) = read_keeps dst (key_value key) i other
 
+  -- and so does to load a field
+  in_field : (dst : ℕ) (o : Option Value) (i : ℕ) → i ≢ dst → register (in_bounds s o (read_into s d dst)).state d i ≡ register s d i
+  in_field dst None i other = refl
+  in_field dst (Some v) i other = read_keeps dst v i other
+
+  loaded_keeps : (dst index : ℕ) (block : Option (Label × Node)) (i : ℕ) → i ≢ dst → register (loaded s d dst index block).state d i ≡ register s d i
+  loaded_keeps dst index None i other = refl
+  loaded_keeps dst index (Some (l, Ephe keys datum)) i other = refl
+  loaded_keeps dst index (Some (l, Plain tag fields)) i other = in_field dst (slice_get fields index) i other
+  loaded_keeps dst index (Some (l, Raw tag fields)) i other = in_field dst (slice_get fields index) i other
+
 module _ (z : Sizes) (d : ℕ) (old new : List Entry) (r : Reply) where
   pub set_key_keeps : (ephe index item : ℕ) → PerformedBy z d old new (SetKey ephe index item) r → (i : ℕ) → held_by z d new i ≡ held_by z d old i
   set_key_keeps ephe index item p i =
@@ -89,6 +100,11 @@ module _ (z : Sizes) (d : ℕ) (old new : List Entry) (r : Reply) where
   get_key_keeps dst ephe index p i other =
       let s : State = state_of z (old ++ p.between) in
       register_left z d old new (GetKey dst ephe index) r p refl i (key_read_keeps s d dst index (block_in s d ephe) i other)
+
+  pub load_keeps : (dst src index : ℕ) → PerformedBy z d old new (Load dst src index) r → (i : ℕ) → i ≢ dst → held_by z d new i ≡ held_by z d old i
+  load_keeps dst src index p i other =
+      let s : State = state_of z (old ++ p.between) in
+      register_left z d old new (Load dst src index) r p refl i (loaded_keeps s d dst index (block_in s d src) i other)
 
   pub collect_keeps : PerformedBy z d old new FullMajor r → (i : ℕ) → held_by z d new i ≡ held_by z d old i
   collect_keeps p i = register_left z d old new FullMajor r p refl i refl

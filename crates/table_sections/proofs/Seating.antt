@@ -16,9 +16,9 @@ use Rattle.run_session.specs.Domains.Seated.{Polls, Stands}
 use Rattle.run_session.proofs.OfDomains.Seats.{unused}
 use Rattle.table_text.specs.declared.line.TableLine.{TableLine}
 use Rattle.table_text.specs.declared.machine.reply.LineReply.{LineReply}
-use Rattle.table_sections.specs.Sections.{SectionDone}
 use Rattle.weak_laws.specs.Maps.Calls.{PerformedBy}
 use Rattle.weak_laws.proofs.OfMaps.FrontLemmas.{prefix_trans}
+use Rattle.table_sections.specs.Sections.{SectionDone}
 use Rattle.table_sections.specs.Places.{Finds, LaysOut}
 use Rattle.table_sections.specs.Prepared.{Prepares}
 use Rattle.table_sections.specs.Preparing.{AllBack, AllFresh, AllRan, AllReady, AllTasks, HasRunTask, IsBack, IsFresh, IsReady, IsTask, MayRun}
@@ -139,14 +139,15 @@ may_each s p d (x ∷ xs) (ls ∷ lss) [] most ready tasks fits = absurd tasks
 may_each s p d (x ∷ xs) (ls ∷ lss) (t ∷ ts) most ready tasks fits = (may_one s p d x ls t most ready.0 tasks.0 fits.0, may_each s p (suc d) xs lss ts most ready.1 tasks.1 fits.1)
 
 -- the run of one domain, whose heap has ended
-over_one : (s : SeatsView) (p : Places) (h : List Entry) (d : ℕ) (x : SeatView) (ls : List TableLine) (t : Task) (r : Ran) (a : List LineReply) (y : SeatView) → IsReady s p d x → IsTask x ls t → HasRunTask s t r → IsBack s r a y → Stops (sizes_in s.heap.config) h y → IsOver (sizes_in s.heap.config) p h d ls a
-over_one s p h d x ls t r a y ready task ran back stops =
+over_one : (s : SeatsView) (p : Places) (h : List Entry) (d : ℕ) (x : SeatView) (ls : List TableLine) (t : Task) (r : Ran) (a : List LineReply) (y : SeatView) → SectionFits s.heap.config ls → IsReady s p d x → IsTask x ls t → HasRunTask s t r → IsBack s r a y → Stops (sizes_in s.heap.config) h y → IsOver (sizes_in s.heap.config) p h d ls a
+over_one s p h d x ls t r a y fits ready task ran back stops =
     let z : Sizes = sizes_in s.heap.config in
     let number : t.resting.number ≡ d = ap (λ (v : SeatView). v.number) task.resting_is ∙ ready.number in
     let front : t.resting.front ≡ x.front = ap (λ (v : SeatView). v.front) task.resting_is in
     let own : r.resting.number ≡ d = ran.number ∙ number in
     let last : commands h d ≡ commands r.resting.front d = subst (λ (m : ℕ). commands h m ≡ commands y.front m) (back.number ∙ own) stops.commands_are ∙ subst (λ (m : ℕ). commands y.front m ≡ commands r.resting.front m) own back.along.commands_are in
     record {
+      fits = fits.lines_fit;
       new = r.resting.front;
       run = record {
         ready = x.front;
@@ -159,19 +160,19 @@ over_one s p h d x ls t r a y ready task ran back stops =
       last = last;
     }
 
-pub over_each : (s : SeatsView) (p : Places) (h : List Entry) (d : ℕ) (xs : List SeatView) (lss : List (List TableLine)) (ts : List Task) (rs : List Ran) (more : List (List LineReply)) (ys : List SeatView) → AllReady s p d xs → AllTasks xs lss ts → AllRan s ts rs → AllBack s rs more ys
+pub over_each : (s : SeatsView) (p : Places) (h : List Entry) (d : ℕ) (xs : List SeatView) (lss : List (List TableLine)) (ts : List Task) (rs : List Ran) (more : List (List LineReply)) (ys : List SeatView) → AllByRecursion (SectionFits s.heap.config) lss → AllReady s p d xs → AllTasks xs lss ts → AllRan s ts rs → AllBack s rs more ys
     → StopsEach (sizes_in s.heap.config) h ys → AllOver (sizes_in s.heap.config) p h d lss more
-over_each s p h d [] [] [] [] [] ys ready tasks ran back stops = tt
-over_each s p h d [] [] [] [] (a ∷ more) ys ready tasks ran back stops = absurd back
-over_each s p h d [] [] [] (r ∷ rs) more ys ready tasks ran back stops = absurd ran
-over_each s p h d [] [] (t ∷ ts) rs more ys ready tasks ran back stops = absurd tasks
-over_each s p h d [] (ls ∷ lss) ts rs more ys ready tasks ran back stops = absurd tasks
-over_each s p h d (x ∷ xs) [] ts rs more ys ready tasks ran back stops = absurd tasks
-over_each s p h d (x ∷ xs) (ls ∷ lss) [] rs more ys ready tasks ran back stops = absurd tasks
-over_each s p h d (x ∷ xs) (ls ∷ lss) (t ∷ ts) [] more ys ready tasks ran back stops = absurd ran
-over_each s p h d (x ∷ xs) (ls ∷ lss) (t ∷ ts) (r ∷ rs) [] ys ready tasks ran back stops = absurd back
-over_each s p h d (x ∷ xs) (ls ∷ lss) (t ∷ ts) (r ∷ rs) (a ∷ more) [] ready tasks ran back stops = absurd back
-over_each s p h d (x ∷ xs) (ls ∷ lss) (t ∷ ts) (r ∷ rs) (a ∷ more) (y ∷ ys) ready tasks ran back stops = (
-  over_one s p h d x ls t r a y ready.0 tasks.0 ran.0 back.0 stops.0,
-  over_each s p h (suc d) xs lss ts rs more ys ready.1 tasks.1 ran.1 back.1 stops.1,
+over_each s p h d [] [] [] [] [] ys fits ready tasks ran back stops = tt
+over_each s p h d [] [] [] [] (a ∷ more) ys fits ready tasks ran back stops = absurd back
+over_each s p h d [] [] [] (r ∷ rs) more ys fits ready tasks ran back stops = absurd ran
+over_each s p h d [] [] (t ∷ ts) rs more ys fits ready tasks ran back stops = absurd tasks
+over_each s p h d [] (ls ∷ lss) ts rs more ys fits ready tasks ran back stops = absurd tasks
+over_each s p h d (x ∷ xs) [] ts rs more ys fits ready tasks ran back stops = absurd tasks
+over_each s p h d (x ∷ xs) (ls ∷ lss) [] rs more ys fits ready tasks ran back stops = absurd tasks
+over_each s p h d (x ∷ xs) (ls ∷ lss) (t ∷ ts) [] more ys fits ready tasks ran back stops = absurd ran
+over_each s p h d (x ∷ xs) (ls ∷ lss) (t ∷ ts) (r ∷ rs) [] ys fits ready tasks ran back stops = absurd back
+over_each s p h d (x ∷ xs) (ls ∷ lss) (t ∷ ts) (r ∷ rs) (a ∷ more) [] fits ready tasks ran back stops = absurd back
+over_each s p h d (x ∷ xs) (ls ∷ lss) (t ∷ ts) (r ∷ rs) (a ∷ more) (y ∷ ys) fits ready tasks ran back stops = (
+  over_one s p h d x ls t r a y fits.0 ready.0 tasks.0 ran.0 back.0 stops.0,
+  over_each s p h (suc d) xs lss ts rs more ys fits.1 ready.1 tasks.1 ran.1 back.1 stops.1,
 )

@@ -84,7 +84,7 @@ slot_eight z d h s few x = by (s / 6) (omega (arith, few))
 keys_at : (z : Sizes) (d : ℕ) (h : List Entry) (r : ℕ) (x : HoldsEight z d h r) → block_in (state_of z h) d r ≡ Some (x.l, Ephe x.block.keys x.block.datum)
 keys_at z d h r x = ap (λ (v : Value). option_and_then (block_at (graph_of z h)) (label_of v)) x.held ∙ ap (option_map (λ (n : Node). (x.l, n))) x.block.node
 
-key_below : (s : ℕ) → slot_key s < 8
+pub key_below : (s : ℕ) → slot_key s < 8
 key_below s = omega arith
 
 module _ (z : Sizes) (d : ℕ) (old new : List Entry) (s : ℕ) (few : s < 16) (slots : OnSlots z d old) where

@@ -1,6 +1,7 @@
 -- Where each domain was prepared and made its section, and the history has no command of it behind, the sections stand in it on one shared map.
 use Rattle.std.proofs.Common.{◌≡◌, ⊎_elim, ℕ, zero, suc, ◌+◌, ◌≤◌, ◌<◌, List, [], ◌∷◌, ◌++◌, length, refl, ap, ◌∙◌, subst, arith}
 use Rattle.std.proofs.lemmas.Bool.Decides.{eqb_tells}
+use Rattle.std.specs.List.{AllByRecursion}
 use Rattle.model_core.specs.declared.command.Command.{Command}
 use Rattle.model_core.specs.declared.command.Command.TheVariants.{Poll, Ephe, Alloc, Load, Store, SetKey, GetKey}
 use Rattle.model_core.specs.declared.entry.Entry.{Entry}
@@ -9,7 +10,6 @@ use Rattle.model_core.specs.declared.reply.Reply.TheVariants as reply
 use Rattle.model_core.specs.declared.state.Sizes.{Sizes}
 use Rattle.model_core.specs.Domains.{IsWithinLimits}
 use Rattle.model_core.specs.History.{IsPrefix, Legal, commands}
-use Rattle.table_sections.proofs.SectionLemmas.{sections_are_answered, sections_are_guarded}
 use Rattle.table_text.specs.declared.line.TableLine.{TableLine}
 use Rattle.table_text.specs.declared.machine.reply.LineReply.{LineReply}
 use Rattle.weak_laws.specs.Maps.Calls.{PerformedBy}
@@ -19,11 +19,17 @@ use Rattle.weak_maps.proofs.GetLemmas.{grows_by}
 use Rattle.weak_maps.proofs.OfShared.CommandLemmas.{seats_share_the_map}
 use Rattle.weak_maps.proofs.OfShared.OrderLemmas.{bindings_are_of_one_order}
 use Rattle.weak_maps.proofs.OfShared.SharingLemmas.{stretches_add}
-use Rattle.table_sections.proofs.LaidSlots.{on_slots, slots_laid}
+use Rattle.table_sections.specs.Lines.{IsSharedLine}
 use Rattle.table_sections.specs.Places.{HoldsPlaces, LaysOut, MakesEach, loading, preparation}
+use Rattle.table_sections.specs.Sections.{SectionBeside}
 use Rattle.table_sections.specs.Prepared.{HasRun, IsPrepared}
 use Rattle.table_sections.specs.Together.{SectionStands, SectionsStand, TogetherRuns}
 use Rattle.table_sections.specs.declared.laying.Places.{Places}
+use Rattle.table_sections.proofs.SectionLemmas.{sections_are_answered, sections_are_guarded}
+use Rattle.table_sections.proofs.Beginning.{begins_empty}
+use Rattle.table_sections.proofs.LaidSlots.{on_slots, slots_laid}
+use Rattle.table_sections.proofs.OrderLemmas.{has_on, section_steps}
+use Rattle.table_sections.proofs.Stepping.{OwnSteps, each_steps, sharing_steps, slots_in_order, steps_twice}
 use Rattle.table_sections.proofs.Laid.{FirstLaid, behind_base, each_grows, each_more, first_laid, loaded_guarded, one_more, places_kept, reads_guarded}
 use Rattle.table_sections.proofs.RegisterLemmas.{poll_keeps}
 
@@ -68,6 +74,7 @@ prepared_holds z p (suc d) ready x = x.prepares.holds
 
 -- the run of a domain, which is over in this history
 pub record IsOver (z : Sizes) (p : Places) (h : List Entry) (d : ℕ) (lines : List TableLine) (replies : List LineReply) : Type 0 where
+  pub fits : AllByRecursion IsSharedLine lines
   pub new : List Entry
   pub run : HasRun z p d lines replies new
   pub until : IsPrefix new h
@@ -87,8 +94,13 @@ other_guards z p base d ready x =
     stretches_add z p.map (suc d) base [] x.begun ready (each_grows z (suc d) x.begun loading ready x.prepares.loaded)
     (reads_guarded z p.map (suc d) base [] x.begun Poll reply.Done (λ s. refl) x.polled) (loaded_guarded z p.map (suc d) base x.begun ready x.prepares.loaded)
 
+-- and makes steps of the slots
+other_steps : (z : Sizes) (p : Places) (base : List Entry) (d : ℕ) (ready : List Entry) → IsPrepared z p (suc d) ready → OwnSteps z p base (suc d) [] ready
+other_steps z p base d ready x =
+    each_steps z p base (suc d) [] (Poll ∷ loading) ready (((λ s. refl), refl), (((λ s. refl), refl), (((λ s. refl), refl), (((λ s. refl), refl), (((λ s. refl), refl), tt))))) (x.begun, reply.Done, x.polled, x.prepares.loaded)
+
 -- the history, and the first domain's preparation
-module _ (z : Sizes) (p : Places) (h : List Entry) (ready : List Entry) (laid : FirstLaid z p ready) (ready_h : IsPrefix ready h) where
+module _ (z : Sizes) (limits : IsWithinLimits z) (p : Places) (h : List Entry) (ready : List Entry) (laid : FirstLaid z p ready) (ready_h : IsPrefix ready h) where
   abbrev base : List Entry
   base = laid.base
 
@@ -112,6 +124,9 @@ module _ (z : Sizes) (p : Places) (h : List Entry) (ready : List Entry) (laid : 
         (reads_guarded z p.map d base x.run.ready x.run.old Poll reply.Done (λ s. refl) x.run.polled))
         (sections_are_guarded z p.map d base x.run.old x.new behind (λ all. holds.map) x.run.done.guards)
 
+    answered : IsShared z p.map base h → SectionBeside z p.map d x.run.old lines replies x.new
+    answered shared = sections_are_answered z p.map base h shared d x.run.old x.new lines replies behind x.run.done.grows x.until holds.map x.run.done.runs
+
     stands : IsShared z p.map base h → SectionStands z p base h d lines replies
     stands shared = record {
       old = x.run.old;
@@ -123,24 +138,39 @@ module _ (z : Sizes) (p : Places) (h : List Entry) (ready : List Entry) (laid : 
       last = x.last;
       holds = holds;
       slots = on_slots z p d base x.run.old behind laid.slots holds;
-      answered = sections_are_answered z p.map base h shared d x.run.old x.new lines replies behind x.run.done.grows x.until holds.map x.run.done.runs;
+      empty = begins_empty z limits p d x.run.ready x.run.old reply.Done x.run.prepared x.run.polled;
+      answered = answered shared;
     }
 
-  abbrev Seated : ℕ → Type 0
-  Seated d = (front : List Entry) × IsPrefix front h × (commands h d ≡ commands front d) × OwnGuarded z p.map base d [] front
+    -- what it did makes steps of the slots, once the map is shared
+    stepped : IsShared z p.map base h → OwnSteps z p base d [] x.run.ready → OwnSteps z p base d [] x.new
+    stepped shared before =
+        steps_twice z p base d [] x.run.old x.new x.run.done.grows
+        (steps_twice z p base d [] x.run.ready x.run.old (grows_by z d x.run.ready x.run.old Poll reply.Done x.run.polled) before
+        (each_steps z p base d x.run.ready (Poll ∷ []) x.run.old (((λ s. refl), refl), tt) (x.run.old, reply.Done, x.run.polled, refl)))
+        (λ front e here since until own.
+        section_steps z p p.map d x.run.old x.new lines replies x.fits (has_on z p base x.run.old behind laid.slots) holds (answered shared) front e since until own)
 
-  seated : (d : ℕ) (lines : List TableLine) (replies : List LineReply) (x : IsOver z p h d lines replies) → OwnGuarded z p.map base d [] x.run.ready → Seated d
-  seated d lines replies x before = (x.new, x.until, x.last, guarded d lines replies x before)
+  -- a front behind which a domain makes no command, and of which this is so
+  abbrev Seated : (ℕ → List Entry → Type 0) → ℕ → Type 0
+  Seated Q d = (front : List Entry) × IsPrefix front h × (commands h d ≡ commands front d) × Q d front
 
-  -- each domain behind the first
-  others_seated : (from : ℕ) (sections : List (List TableLine)) (replies : List (List LineReply)) → AllOver z p h (suc from) sections replies → (d : ℕ) → suc from ≤ d → d < suc from + length sections → Seated d
-  others_seated from [] [] all d low high = absurd (omega (arith, low, high))
-  others_seated from [] (rs ∷ rss) all d low high = absurd all
-  others_seated from (ls ∷ lss) [] all d low high = absurd all
-  others_seated from (ls ∷ lss) (rs ∷ rss) all d low high =
-      ⊎_elim (λ here. subst Seated here.1 (seated (suc from) ls rs all.0 (other_guards z p base from all.0.run.ready all.0.run.prepared)))
-      (λ later. others_seated (suc from) lss rss all.1 d (let other = later.1 in omega (arith, low, other)) (omega (arith, high)))
-      (eqb_tells (suc from) d)
+  module _ (Q : ℕ → List Entry → Type 0) (others : (d : ℕ) (lines : List TableLine) (replies : List LineReply) (x : IsOver z p h (suc d) lines replies) → Q (suc d) x.new) where
+    -- each domain behind the first
+    others_seated : (from : ℕ) (sections : List (List TableLine)) (replies : List (List LineReply)) → AllOver z p h (suc from) sections replies → (d : ℕ) → suc from ≤ d → d < suc from + length sections → Seated Q d
+    others_seated from [] [] all d low high = absurd (omega (arith, low, high))
+    others_seated from [] (rs ∷ rss) all d low high = absurd all
+    others_seated from (ls ∷ lss) [] all d low high = absurd all
+    others_seated from (ls ∷ lss) (rs ∷ rss) all d low high =
+        ⊎_elim (λ here. subst (Seated Q) here.1 (all.0.new, all.0.until, all.0.last, others from ls rs all.0))
+        (λ later. others_seated (suc from) lss rss all.1 d (let other = later.1 in omega (arith, low, other)) (omega (arith, high)))
+        (eqb_tells (suc from) d)
+
+    -- and the first
+    all_seated : (lines : List TableLine) (replies : List LineReply) (x : IsOver z p h 0 lines replies) → Q 0 x.new → (sections : List (List TableLine)) (more : List (List LineReply)) → AllOver z p h 1 sections more
+        → z.domains ≡ suc (length sections) → (d : ℕ) → d < z.domains → Seated Q d
+    all_seated lines replies x first sections more all many d below =
+        ⊎_elim (λ here. subst (Seated Q) here.1 (x.new, x.until, x.last, first)) (λ later. others_seated 0 sections more all d (let other = later.1 in omega (arith, other)) (omega (arith, below, many))) (eqb_tells 0 d)
 
   all_stand : IsShared z p.map base h → (from : ℕ) (sections : List (List TableLine)) (replies : List (List LineReply)) → AllOver z p h from sections replies → SectionsStand z p base h from sections replies
   all_stand shared from [] [] all = tt
@@ -158,12 +188,12 @@ run_together z limits p h (ls ∷ lss) (rs ∷ rss) legal domains some all =
     let ready : List Entry = x.run.ready in
     let laid : FirstLaid z p ready = first_laid z limits p x.run.prepared.begun ready x.run.prepared.prepares (slots_laid z limits p 0 x.run.prepared.begun ready x.run.prepared.prepares) in
     let ready_h : IsPrefix ready h = prefix_trans ready x.run.old h (grows_by z 0 ready x.run.old Poll reply.Done x.run.polled) (prefix_trans x.run.old x.new h x.run.done.grows x.until) in
-    let shared : IsShared z p.map laid.base h =
-    seats_share_the_map z p.map laid.base h legal (base_h z p h ready laid ready_h) laid.at.map laid.at.placed
-    (λ d below.
-    ⊎_elim (λ here. subst (Seated z p h ready laid ready_h) here.1 (seated z p h ready laid ready_h 0 ls rs x laid.guarded))
-    (λ later. others_seated z p h ready laid ready_h 0 lss rss all.1 d (let other = later.1 in omega (arith, other)) (omega (arith, below, domains)))
-    (eqb_tells 0 d)) in
+    let seats_guarded = all_seated z limits p h ready laid ready_h (λ d front. OwnGuarded z p.map laid.base d [] front)
+    (λ d lines answers y. guarded z limits p h ready laid ready_h (suc d) lines answers y (other_guards z p laid.base d y.run.ready y.run.prepared)) ls rs x (guarded z limits p h ready laid ready_h 0 ls rs x laid.guarded) lss rss all.1 domains in
+    let shared : IsShared z p.map laid.base h = seats_share_the_map z p.map laid.base h legal (base_h z limits p h ready laid ready_h) laid.at.map laid.at.placed seats_guarded in
+    let seats_step = all_seated z limits p h ready laid ready_h (λ d front. OwnSteps z p laid.base d [] front)
+    (λ d lines answers y. stepped z limits p h ready laid ready_h (suc d) lines answers y shared (other_steps z p laid.base d y.run.ready y.run.prepared)) ls rs x
+    (stepped z limits p h ready laid ready_h 0 ls rs x shared (sharing_steps z p laid.base 0 ready laid.reply laid.grows laid.slots laid.shares)) lss rss all.1 domains in
     record {
       legal = legal;
       places = p;
@@ -171,6 +201,7 @@ run_together z limits p h (ls ∷ lss) (rs ∷ rss) legal domains some all =
       made = laid.at.made;
       laid = laid.slots;
       shared = shared;
-      order = bindings_are_of_one_order z p.map laid.base h shared;
-      stand = all_stand z p h ready laid ready_h shared 0 (ls ∷ lss) (rs ∷ rss) all;
+      bindings = bindings_are_of_one_order z p.map laid.base h shared;
+      keys = slots_in_order z p laid.base h legal laid.slots seats_step;
+      stand = all_stand z limits p h ready laid ready_h shared 0 (ls ∷ lss) (rs ∷ rss) all;
     }

@@ -1,10 +1,10 @@
 -- What the domains of a table share, and the commands by which each comes to it.
-use Rattle.std.specs.Prelude.{◌≡◌, ◌≢◌, ℕ, zero, suc, false, List, [], ◌∷◌, ◌++◌, None}
+use Rattle.std.specs.Prelude.{◌≡◌, ◌≢◌, ◌≤◌, ℕ, zero, suc, false, List, [], ◌∷◌, ◌++◌, None}
 use Rattle.model_core.specs.declared.command.Command as declared_command
 use Rattle.model_core.specs.declared.command.Command.TheVariants.{Poll, Ephe, Alloc, Load, Store, SetKey, GetKey}
 use Rattle.model_core.specs.declared.entry.Entry.{Entry}
 use Rattle.model_core.specs.declared.entry.Entry.TheVariants.{Command}
-use Rattle.model_core.specs.declared.graph.Value.TheVariants.{Block}
+use Rattle.model_core.specs.declared.graph.Value.TheVariants.{Block, Nothing}
 use Rattle.model_core.specs.declared.label.Label.{Label}
 use Rattle.model_core.specs.declared.reply.Reply.{Reply}
 use Rattle.model_core.specs.declared.reply.Reply.TheVariants as reply
@@ -49,6 +49,10 @@ pub record HoldsPlaces (z : Sizes) (p : Places) (d : ℕ) (h : List Entry) : Typ
   pub second : held_by z d h 12 ≡ Block p.second
   pub third : held_by z d h 13 ≡ Block p.third
   pub map : held_by z d h 6 ≡ Block p.map
+
+-- no register of a domain holds anything but those of what all share, and the first
+abbrev pub HoldsNoKey : Sizes → ℕ → List Entry → Type 0
+HoldsNoKey z d h = (i : ℕ) → 1 ≤ i → i ≢ 6 → i ≢ 7 → i ≢ 12 → i ≢ 13 → held_by z d h i ≡ Nothing
 
 -- the slots' places are three different ephemerons of eight keys
 pub record HasSlots (g : Graph) (p : Places) : Type 0 where

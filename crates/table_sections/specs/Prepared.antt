@@ -4,10 +4,10 @@ use Rattle.model_core.specs.declared.command.Command.TheVariants.{Poll}
 use Rattle.model_core.specs.declared.entry.Entry.{Entry}
 use Rattle.model_core.specs.declared.reply.Reply.TheVariants.{Done}
 use Rattle.model_core.specs.declared.state.Sizes.{Sizes}
-use Rattle.table_sections.specs.Sections.{SectionDone}
 use Rattle.table_text.specs.declared.line.TableLine.{TableLine}
 use Rattle.table_text.specs.declared.machine.reply.LineReply.{LineReply}
 use Rattle.weak_laws.specs.Maps.Calls.{PerformedBy}
+use Rattle.table_sections.specs.Sections.{SectionDone}
 use Rattle.table_sections.specs.Places.{Finds, LaysOut}
 use Rattle.table_sections.specs.declared.laying.Places.{Places}
 

@@ -7,11 +7,11 @@ use Rattle.model_core.specs.declared.reply.Reply.TheVariants.{Done}
 use Rattle.heap_rule.specs.Limits.{sizes_in}
 use Rattle.run_seats.specs.Seating.{GoesAlong, IsSeatOf, SeatView, SeatsView}
 use Rattle.run_session.specs.Domains.Seated.{Stands}
-use Rattle.table_sections.specs.Lines.{IsSharedLine}
-use Rattle.table_sections.specs.Sections.{SectionDone}
 use Rattle.table_text.specs.declared.line.TableLine.{TableLine}
 use Rattle.table_text.specs.declared.machine.reply.LineReply.{LineReply}
 use Rattle.weak_laws.specs.Maps.Calls.{PerformedBy}
+use Rattle.table_sections.specs.Lines.{IsSharedLine}
+use Rattle.table_sections.specs.Sections.{SectionDone}
 use Rattle.table_sections.specs.Prepared.{IsPrepared}
 use Rattle.table_sections.specs.declared.laying.Places.{Places}
 use Rattle.table_sections.specs.declared.running.Ran.{Ran}

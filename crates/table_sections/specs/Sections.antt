@@ -5,7 +5,7 @@ use Rattle.model_core.specs.declared.command.Command as model
 use Rattle.model_core.specs.declared.command.Command.TheVariants as command
 use Rattle.model_core.specs.declared.entry.Entry.{Entry}
 use Rattle.model_core.specs.declared.graph.Value.{Value}
-use Rattle.model_core.specs.declared.graph.Value.TheVariants.{Block, Int}
+use Rattle.model_core.specs.declared.graph.Value.TheVariants.{Block, Int, Nothing}
 use Rattle.model_core.specs.declared.reply.Reply.{Reply}
 use Rattle.model_core.specs.declared.reply.Reply.TheVariants as given
 use Rattle.model_core.specs.declared.state.Sizes.{Sizes}
@@ -26,7 +26,7 @@ use Rattle.weak_maps.specs.Guards.{Guards}
 use Rattle.weak_maps.specs.Shared.Sharing.{IsShared, OwnGuarded}
 use Rattle.weak_maps.specs.Walks.{OwnQuiet}
 use Rattle.table_sections.specs.Lines.{made_said, written_in}
-use Rattle.table_sections.specs.Slots.{OnSlots, SlotGets, SlotSets, SparesSlots, slot_ephe, slot_key}
+use Rattle.table_sections.specs.Slots.{OnSlots, SlotGets, SlotSets, SparesBlocks, SparesSlots, slot_ephe, slot_key}
 
 -- register 6 of the domain holds a map, each leaf of which is on its key's way
 pub record OnMap (z : Sizes) (root : Label) (d : ℕ) (h : List Entry) : Type 0 where
@@ -106,15 +106,21 @@ LineAnswers z root d old _ a new = Unit {0}
 abbrev pub KeepsBut : Sizes → ℕ → List Entry → List Entry → ℕ → Type 0
 KeepsBut z d old new r = (i : ℕ) → i ≢ 0 → IsBeside i → i ≢ r → held_by z d new i ≡ held_by z d old i
 
--- a line is answered between two fronts, and the map is in its register still, and the slots in theirs, of which it sets none but its own
+-- registers 8 to 11, which calls use between, hold nothing where they held nothing: no key stays in them
+abbrev pub LeavesClean : Sizes → ℕ → List Entry → List Entry → Type 0
+LeavesClean z d old new = (i : ℕ) → 8 ≤ i → i ≤ 11 → held_by z d old i ≡ Nothing → held_by z d new i ≡ Nothing
+
+-- a line is answered between two fronts, and the map is in its register still, and the slots in theirs, of which it sets none but its own, and it writes no other block beside the map
 pub record LineBeside (z : Sizes) (root : Label) (d : ℕ) (old : List Entry) (line : TableLine) (a : LineReply) (new : List Entry) : Type 0 where
   pub grows : IsPrefix old new
   pub makes : LineMakes z d old line a new
   pub answers : LineAnswers z root d old line a new
   pub keeps : KeepsBut z d old new (written_in line)
+  pub clean : LeavesClean z d old new
   pub after : OnMap z root d new
   pub slots : OnSlots z d old → OnSlots z d new
   pub spares : SparesSlots z d old line new
+  pub beside : SparesBlocks z root d old line new
 
 -- a line, whatever register 6 holds; and where that is a map that others respect, on it
 pub record LineRuns (z : Sizes) (d : ℕ) (old : List Entry) (line : TableLine) (a : LineReply) (new : List Entry) : Type 0 where

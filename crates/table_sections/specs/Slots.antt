@@ -15,6 +15,7 @@ use Rattle.table_text.specs.declared.line.TableLine.TheVariants.{SetWeak}
 use Rattle.table_text.specs.declared.machine.reply.LineReply.{LineReply}
 use Rattle.table_text.specs.declared.machine.reply.LineReply.TheVariants as reply
 use Rattle.table_text.specs.Machine.Said.{said}
+use Rattle.weak_laws.specs.Maps.Within.{IsBlockOf}
 use Rattle.weak_laws.specs.Tables.Stages.{graph_of}
 use Rattle.weak_laws.specs.Tables.Thinning.{state_of}
 use Rattle.weak_maps.specs.Beside.{held_by}
@@ -85,15 +86,22 @@ pub record SetsKey (z : Sizes) (d : ℕ) (front : List Entry) (e : Entry) (ephe 
   pub held : held_by z d front ephe ≡ Block l
   pub key : Label
   pub given : held_by z d front item ≡ Block key
-  pub block : IsEight (graph_of z front) l
-  pub sets : node_at (graph_of z (front ++ e ∷ [])) l ≡ Some (Ephe (slice_set block.keys index (Some key)) block.datum)
+  pub keys : List (Option Label)
+  pub datum : Value
+  pub was : node_at (graph_of z front) l ≡ Some (Ephe keys datum)
+  pub sets : node_at (graph_of z (front ++ e ∷ [])) l ≡ Some (Ephe (slice_set keys index (Some key)) datum)
 
--- how an entry of a line may change an ephemeron of eight keys: `setweak` sets its slot in it, and no other line any
+-- how an entry of a line may change a block beside the map: `wset` sets its slot in it, and no other line any
 abbrev pub LineSets : Sizes → ℕ → List Entry → Entry → TableLine → Label → Type 0
 LineSets z d front e (SetWeak s r) l = SetsKey z d front e (slot_ephe s) (slot_key s) r l
 LineSets z d front e _ l = ⊥
 
--- each ephemeron of eight keys that there is when a line begins stays as it is through each entry of the domain in the line, but that `setweak` sets its slot
+-- each ephemeron of eight keys that there is when a line begins stays as it is through each entry of the domain in the line, but that `wset` sets its slot
 abbrev pub SparesSlots : Sizes → ℕ → List Entry → TableLine → List Entry → Type 0
 SparesSlots z d old line new = (l : Label) → IsEight (graph_of z old) l → (front : List Entry) (e : Entry) → IsPrefix old front → IsPrefix (front ++ e ∷ []) new → is_entry_of d e ≡ true
     → (node_at (graph_of z (front ++ e ∷ [])) l ≡ node_at (graph_of z front) l) ⊎ LineSets z d front e line l
+
+-- and so does each other block, but that calls write blocks of the map
+abbrev pub SparesBlocks : Sizes → Label → ℕ → List Entry → TableLine → List Entry → Type 0
+SparesBlocks z root d old line new = (l : Label) (n : Node) → node_at (graph_of z old) l ≡ Some n → (front : List Entry) (e : Entry) → IsPrefix old front → IsPrefix (front ++ e ∷ []) new → is_entry_of d e ≡ true
+    → (node_at (graph_of z (front ++ e ∷ [])) l ≡ node_at (graph_of z front) l) ⊎ (IsBlockOf (graph_of z front) root l ⊎ LineSets z d front e line l)

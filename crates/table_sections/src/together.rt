@@ -56,7 +56,8 @@ fn run_on<R: Threads + Wait + Sync>(
 /// Want of memory may come behind lines that were made.
 ///
 /// All is one history, in which the map is shared from the entry on that made it: the lines of each section are answered in order
-/// between fronts of it. `Config(k)` names the first of the heap's numbers outside its limit; else want of memory alone refuses.
+/// between fronts of it. What the map binds and what the slots hold goes from front to front: an entry sets one key, or keys are
+/// lost that no domain's register holds. `Config(k)` names the first of the heap's numbers outside its limit; else want of memory alone refuses.
 pub fn run_sections<R: Threads + Wait + Sync>(
     rt: &R,
     alloc: Global,
