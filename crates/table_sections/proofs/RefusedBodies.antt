@@ -103,7 +103,7 @@ no_held_key_leaves_its_slot z p base h order front e since until s d r k few was
         (λ gone. let both : Some (Some k) ≡ Some (Some gone.0) = sym was ∙ gone.1 in let same : k ≡ gone.0 = cc in gone.2 d r (held ∙ ap Block same))
         (lost s few)
 
--- no domain has slots of its own: two domains whose sections stand hold the same ephemerons and the same map
+-- no domain has slots of its own: where two domains' sections stand, a slot's register holds one ephemeron in both
 pub no_domain_has_its_own_slots : (z : Sizes) (p : Places) (base h : List Entry) (d e : ℕ) (ls ms : List TableLine) (rs qs : List LineReply) → (x : SectionStands z p base h d ls rs) → (y : SectionStands z p base h e ms qs)
     → (s : ℕ) → s < 16 → held_by z d x.old (slot_ephe s) ≢ held_by z e y.old (slot_ephe s) → ⊥
 no_domain_has_its_own_slots z p base h d e ls ms rs qs x y s few other = other (register_place z p d x.old x.holds s few ∙ sym (register_place z p e y.old y.holds s few))
