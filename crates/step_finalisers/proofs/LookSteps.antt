@@ -76,23 +76,11 @@ is_not true e = cc
 is_not false e = refl
 
 module _ (k : Config) (s : Words) (r : Rule k s) (id : ℕ) (hist : List Entry) (x : DomainView) (at : get_elem? s.views id ≡ some (one k hist x)) where
+  open r.account use {live, tenancy as t, cycling as c, log}
+  open x use {own.{number as d}}
+
   abbrev now : model.State
   now = state_of k r.account.log
-
-  abbrev live : Live
-  live = r.account.live
-
-  abbrev t : Tenancy
-  t = r.account.tenancy
-
-  abbrev c : Cycling
-  c = r.account.cycling
-
-  abbrev d : ℕ
-  d = x.own.number
-
-  abbrev log : List Entry
-  log = r.account.log
 
   good : Good k r.account s.words x
   good = my_good k s r id hist x at
@@ -120,11 +108,7 @@ module _ (k : Config) (s : Words) (r : Rule k s) (id : ℕ) (hist : List Entry) 
   -- a look at the i-th registration, at the block q: it is kept, or the entry e of the collector stands, the domain is w in the state, and its lists are others
   module _ (kind : Kind) (stage : x.seen.stage ≡ In kind) (no_pause : IsInPause (In kind) → ⊥) (under_way : IsCollecting (In kind)) (not_clean : kind ≡ Clean → ⊥) (no_roots : IsRooting kind → ⊥)
       (a i marked : ℕ) (colours : Colours) (known : x.seen.share.colours ≡ Some colours) (means : marked ≡ colours.marked) (q : Place) (lives : live a ≡ Some q) (e : Entry) (w : DomainState) (lists : Finalisers) where
-    abbrev held : Finalisers
-    held = x.own.finalisers
-
-    abbrev seen : ℕ
-    seen = x.seen.share.kept
+    open x use {own.{finalisers as held}, seen.{share.{kept as seen}}}
 
     abbrev FactsAt : model.State → Type 0
     FactsAt z = Facts kind k z live t (record c { left = at_domain c.left d i }) s.words

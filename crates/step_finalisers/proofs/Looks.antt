@@ -37,20 +37,11 @@ use Rattle.step_finalisers.proofs.TakeSteps.{kind_is, waits}
 use Rattle.step_finalisers.proofs.LookSteps.{at_one, has_one, is_not, left_one, looks, removed_length, waiting_more}
 
 module _ (k : Config) (s : Words) (r : Rule k s) (id : ℕ) (hist : List Entry) (x : DomainView) (at : get_elem? s.views id ≡ some (one k hist x)) where
+  open r.account use {live, tenancy as t, cycling as c}
+  open x use {own.{number as d}}
+
   abbrev now : model.State
   now = state_of k r.account.log
-
-  abbrev live : Live
-  live = r.account.live
-
-  abbrev t : Tenancy
-  t = r.account.tenancy
-
-  abbrev c : Cycling
-  c = r.account.cycling
-
-  abbrev d : ℕ
-  d = x.own.number
 
   good : Good k r.account s.words x
   good = my_good k s r id hist x at
