@@ -140,14 +140,8 @@ span_is shape class l = least_is SIZES (extent shape) class l.inside l.fits l.le
 
 module _ (k : Config) (s : Words) (r : Rule k s) (id : ℕ) (hist : List Entry) (x : DomainView) (at : get_elem? s.views id ≡ some (one k hist x)) (fits : OwnFits k x.own)
     (a old new class c : ℕ) (may : ClaimMay k x a old new class c) where
-  abbrev t : Tenancy
-  t = r.account.tenancy
-
-  abbrev me : ℕ
-  me = x.own.number
-
-  abbrev live : Live
-  live = r.account.live
+  open r.account use {tenancy as t, live}
+  open x use {own.{number as me}}
 
   abbrev graph : Graph
   graph = (state_of k r.account.log).graph

@@ -15,7 +15,7 @@ use Rattle.heap_rule.specs.declared.view.DomainView.{DomainView}
 use Rattle.heap_rule.specs.declared.phase.Kind.TheVariants.{Promote}
 use Rattle.heap_rule.specs.declared.phase.Stage.TheVariants.{In}
 use Rattle.heap_rule.specs.Layout.{before_heap, at_address, listed, cursor}
-use Rattle.heap_rule.specs.Places.{Place, Live}
+use Rattle.heap_rule.specs.Places.{Place}
 use Rattle.heap_rule.specs.Pools.{limit_of, owned, drawn_in, Tenancy, Hunts, Hunter, OwnPlace, Grid, Latest, DrawsFor, IsBefore, spot_at, place_in, size_of, blocks_of, prepared_at}
 use Rattle.heap_rule.specs.Raw.{MayStore, Closes}
 use Rattle.heap_rule.specs.Rule.{Rule}
@@ -55,14 +55,8 @@ before_self q i b = ⊎_elim (λ (h : q < q). omega arith) (λ (h : (q ≡ q) ×
 
 module _ (k : Config) (s : Words) (r : Rule k s) (id : ℕ) (hist : List Entry) (x : DomainView) (at : get_elem? s.views id ≡ some (one k hist x)) (promotes : x.seen.stage ≡ In Promote)
     (a c0 : ℕ) (few0 : c0 < class_count) (held : prepared_at x.own.prepared c0 ≡ Some a) where
-  abbrev t : Tenancy
-  t = r.account.tenancy
-
-  abbrev me : ℕ
-  me = x.own.number
-
-  abbrev live : Live
-  live = r.account.live
+  open r.account use {tenancy as t, live}
+  open x use {own.{number as me}}
 
   H : Hunter k t s.words x
   H = (my_good k s r id hist x at).hunter

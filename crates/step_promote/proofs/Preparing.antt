@@ -15,7 +15,7 @@ use Rattle.heap_rule.specs.declared.view.DomainView.{DomainView}
 use Rattle.heap_rule.specs.declared.phase.Kind.TheVariants.{Promote}
 use Rattle.heap_rule.specs.declared.phase.Stage.TheVariants.{In}
 use Rattle.heap_rule.specs.Layout.{before_heap, at_address, listed, cursor}
-use Rattle.heap_rule.specs.Places.{Place, Live}
+use Rattle.heap_rule.specs.Places.{Place}
 use Rattle.heap_rule.specs.Pools.{limit_of, owned, drawn_in, Tenancy, Pools, Filling, Hunts, Hunter, OwnPlace, IsSpare, Grid, Latest, DrawsFor, Drawers, IsCopying, IsBefore, spot_at, place_in, blocks_of, prepared_at}
 use Rattle.heap_rule.specs.Raw.{MayStore, Written, Closes}
 use Rattle.heap_rule.specs.Rule.{state_of, Rule}
@@ -47,14 +47,8 @@ prepared_else l class c v other = get_or-set_other l class c v None other
 
 module _ (k : Config) (s : Words) (r : Rule k s) (id : ℕ) (hist : List Entry) (x : DomainView) (at : get_elem? s.views id ≡ some (one k hist x)) (wide : length x.own.prepared ≡ class_count)
     (a new pool class slot : ℕ) (may : PrepareMay x a new pool class slot) where
-  abbrev t : Tenancy
-  t = r.account.tenancy
-
-  abbrev me : ℕ
-  me = x.own.number
-
-  abbrev live : Live
-  live = r.account.live
+  open r.account use {tenancy as t, live}
+  open x use {own.{number as me}}
 
   H : Hunter k t s.words x
   H = (my_good k s r id hist x at).hunter

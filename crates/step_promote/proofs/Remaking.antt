@@ -1,5 +1,5 @@
 -- What all steps of copying share: the rule holds again where the places, the pools and each domain meet it.
-use Rattle.std.proofs.Common.{◌≤◌, ◌≡◌, ◌≢◌, ℕ, ◌+◌, ◌*◌, ◌<◌, Bool, true, false, cond, IsTrue, List, length, set, Some, sym, ap, ◌∙◌, subst, inl, inr, ⊎_elim, arith, refl}
+use Rattle.std.proofs.Common.{◌≤◌, ◌≡◌, ◌≢◌, ℕ, ◌+◌, ◌*◌, ◌<◌, Bool, false, cond, IsTrue, List, length, set, Some, sym, ap, ◌∙◌, subst, inl, inr, ⊎_elim, arith, refl}
 use Rattle.std.proofs.lemmas.Option.{none-some}
 use Rattle.heap_rule.specs.declared.view.Spare.{Spare}
 use mathlib.Core.Option.{some}
@@ -21,7 +21,6 @@ use Rattle.heap_rule.specs.declared.phase.Stage.TheVariants.{In}
 use Rattle.heap_rule.specs.Changes.{value_at}
 use Rattle.heap_rule.specs.Finalisers.{Enrolled}
 use Rattle.heap_rule.specs.Copies.{Owes, Copies, Promoting, AllCleared}
-use Rattle.heap_rule.specs.Phases.{Pause}
 use Rattle.heap_rule.specs.Cycles.{Cycling}
 use Rattle.heap_rule.specs.Places.{Place, Live, Stands, Placed, Spread, More, colour_in, new_colour}
 use Rattle.heap_rule.specs.Pools.{Tenancy, Pools, Grid, Drawers, Hunter, Takes, IsLeading}
