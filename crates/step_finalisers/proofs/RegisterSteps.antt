@@ -47,11 +47,8 @@ pub acts_on : (k : Config) (x : DomainView) → Acts k x → GoesOn k x
 acts_on k x acts = record { goes_on = acts.goes_on; runs = acts.runs; paid = acts.paid }
 
 module _ (k : Config) (s : Words) (r : Rule k s) (id : ℕ) (hist : List Entry) (x : DomainView) (at : get_elem? s.views id ≡ some (one k hist x)) (acts : Acts k x) where
-  abbrev d : ℕ
-  d = x.own.number
-
-  abbrev live : Live
-  live = r.account.live
+  open x use {own.{number as d}}
+  open r.account use {live}
 
   abbrev pub goes : GoesOn k x
   goes = acts_on k x acts

@@ -594,11 +594,8 @@ module _ (k : Config) (s : Words) (r : Rule k s) (id : ℕ) (hist : List Entry) 
       }
 
 module _ (k : Config) (s : Words) (r : Rule k s) (id : ℕ) (hist : List Entry) (x : DomainView) (at : get_elem? s.views id ≡ some (one k hist x)) where
-  abbrev d : ℕ
-  d = x.own.number
-
-  abbrev T : Tenancy
-  T = r.account.tenancy
+  open x use {own.{number as d}}
+  open r.account use {tenancy as T}
 
   abbrev place : ℕ
   place = cursor s.words

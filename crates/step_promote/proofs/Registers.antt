@@ -27,10 +27,9 @@ use Rattle.heap_rule.specs.Token.{AllInHeap, LooksWithin, SweptWithin}
 use Rattle.heap_rule.specs.Views.{one}
 use Rattle.step_promote.specs.Promotion.{Knows, MoveMay, MoveTold}
 use Rattle.step_promote.specs.Writes.{CanMove, Moves}
-use Rattle.heap_rule.proofs.Garbage.{garbage_same}
 use Rattle.heap_rule.proofs.Values.{stands_block, holds}
-use Rattle.heap_rule.proofs.Keeps.{Words, my_good, control_same, hunter_as, owes_as, unmoved, more_same}
-use Rattle.step_promote.proofs.Remaking.{promotes_again}
+use Rattle.heap_rule.proofs.Keeps.{Words, my_good, hunter_as, owes_as, unmoved}
+use Rattle.step_promote.proofs.Remaking.{keeps_words}
 use Rattle.std.proofs.lemmas.Option.{same_Some}
 
 module _ (k : Config) (s : Words) (r : Rule k s) (id : ℕ) (hist : List Entry) (x : DomainView) (at : get_elem? s.views id ≡ some (one k hist x)) (promotes : x.seen.stage ≡ In Promote) where
@@ -71,45 +70,10 @@ module _ (k : Config) (s : Words) (r : Rule k s) (id : ℕ) (hist : List Entry) 
   moves_rule reg copy may =
       let g = my_good k s r id hist x at in
       let y : DomainView = with_registers x (set x.own.registers reg (Ref copy)) in
-      promotes_again k s r id hist x at promotes y s.words live r.account.tenancy r.account.homes record {
-        share = refl;
-        full = r.whole.full;
-        garbage = garbage_same k r.account.live r.account.tenancy r.account.cycling s.words r.whole.cycle.leaves;
-        holders = λ q. refl;
-        ephemerons = refl;
-        swept = refl;
-        no_more = λ a e. e;
-        number = refl;
-        arrivals = refl;
-        stage = refl;
-        front = refl;
-        free = refl;
-        spare = refl;
-        listing = refl;
-        wide = refl;
-        control = control_same k s.words;
-        found = r.whole.found;
-        placed = r.whole.placed;
-        spread = r.whole.spread;
-        more = more_same live;
-        young = λ b q e _. (q, e, refl);
-        copies = r.whole.copies;
-        cleared = r.whole.cleared;
-        pools = r.whole.pools;
-        grid = r.whole.grid;
-        drawers = r.whole.drawers;
-        room = r.whole.room;
-        opened = r.whole.opened;
-        stood = moved_stood reg copy may;
-        area = record { room = g.area.room; free = g.area.free; classes = g.area.classes };
-        making = record { fits = g.making.fits; written = g.making.written };
-        hunter = hunter_as k r.account.tenancy s.words x y refl refl refl refl refl refl refl g.hunter;
-        owes = owes_as k live x y refl refl refl refl g.owes;
-        areas = λ z _ a. a;
-        makings = λ z _ _ m. m;
-        hunters = λ z _ h. h;
-        owe = λ z _ w. w;
-      }
+      keeps_words k s r id hist x at promotes y.own.registers x.own.finalisers x.own.prepared x.own.looked x.seen.hunt x.seen.copying
+      (moved_stood reg copy may)
+      (hunter_as k r.account.tenancy s.words x y refl refl refl refl refl refl refl g.hunter)
+      (owes_as k live x y refl refl refl refl g.owes)
 
   moved_told : (reg copy : ℕ) → (may : MoveMay x reg copy) → (found : ℕ) → MoveTold k reg copy x found (with_registers x (set x.own.registers reg (Ref copy)))
   moved_told reg copy may found = record { view = refl; holds = holds k r.limits live r.whole.placed now (with_registers x (set x.own.registers reg (Ref copy))) (moved_stood reg copy may) }

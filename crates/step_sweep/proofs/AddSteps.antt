@@ -54,23 +54,11 @@ no_wrap n w amount few low small =
     let large : 9 * m ≤ 2 ^ 64 = omega arith in omega arith
 
 module _ (k : Config) (s : Words) (r : Rule k s) (id : ℕ) (hist : List Entry) (x : DomainView) (at : get_elem? s.views id ≡ some (one k hist x)) (stage : x.seen.stage ≡ In Sweep) where
+  open r.account use {live, cycling as c, tenancy.{holder}}
+  open x use {own.{number as d}, seen.{share as sh}}
+
   abbrev now : model.State
   now = state_of k r.account.log
-
-  abbrev live : Live
-  live = r.account.live
-
-  abbrev c : Cycling
-  c = r.account.cycling
-
-  abbrev d : ℕ
-  d = x.own.number
-
-  abbrev sh : Share
-  sh = x.seen.share
-
-  abbrev holder : ℕ → Holder
-  holder = r.account.tenancy.holder
 
   good : Good k r.account s.words x
   good = my_good k s r id hist x at

@@ -55,23 +55,11 @@ use Rattle.step_sweep.proofs.Dues.{due_front}
 use Rattle.step_sweep.proofs.LiveCounts.{answer_facts, answer_kind, answers, blocks_reach, words_reach}
 
 module _ (k : Config) (s : Words) (r : Rule k s) (id : ℕ) (hist : List Entry) (x : DomainView) (at : get_elem? s.views id ≡ some (one k hist x)) (stage : x.seen.stage ≡ In Answer) where
+  open r.account use {live, tenancy as T, cycling as c}
+  open x use {own.{number as d}, seen.{share as sh}}
+
   abbrev now : model.State
   now = state_of k r.account.log
-
-  abbrev live : Live
-  live = r.account.live
-
-  abbrev T : Tenancy
-  T = r.account.tenancy
-
-  abbrev c : Cycling
-  c = r.account.cycling
-
-  abbrev d : ℕ
-  d = x.own.number
-
-  abbrev sh : Share
-  sh = x.seen.share
 
   good : Good k r.account s.words x
   good = my_good k s r id hist x at

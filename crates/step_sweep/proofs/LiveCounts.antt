@@ -29,17 +29,10 @@ use Rattle.step_marks.proofs.OfMarking.Learning.{bare, kind_here}
 use Rattle.step_sweep.proofs.CountedPlaces.{added_same}
 
 module _ (k : Config) (s : Words) (r : Rule k s) (id : ℕ) (hist : List Entry) (x : DomainView) (at : get_elem? s.views id ≡ some (one k hist x)) (stage : x.seen.stage ≡ In Answer) where
+  open r.account use {live, tenancy as T, cycling as c}
+
   abbrev now : model.State
   now = state_of k r.account.log
-
-  abbrev live : Live
-  live = r.account.live
-
-  abbrev T : Tenancy
-  T = r.account.tenancy
-
-  abbrev c : Cycling
-  c = r.account.cycling
 
   pub answers : IsCollecting x.seen.stage
   answers = subst IsCollecting (sym stage) (λ none. none)

@@ -41,26 +41,11 @@ no_clean : (stage : Stage) → Frees stage → stage ≡ In Clean → ⊥
 no_clean stage frees cleans = ⊎_elim (λ (e : stage ≡ In Sweep). let clash : In Sweep ≡ In Clean = sym e ∙ cleans in cc) (λ (e : stage ≡ In Run). let clash : In Run ≡ In Clean = sym e ∙ cleans in cc) frees
 
 module _ (k : Config) (s : Words) (r : Rule k s) (id : ℕ) (hist : List Entry) (x : DomainView) (at : get_elem? s.views id ≡ some (one k hist x)) (a i garbage : ℕ) (may : PruneMay x a i garbage) where
+  open r.account use {live, tenancy as t, cycling as c}
+  open x use {own.{number as d, ephemerons.{items}}, seen.{share as sh}}
+
   abbrev now : model.State
   now = state_of k r.account.log
-
-  abbrev live : Live
-  live = r.account.live
-
-  abbrev t : Tenancy
-  t = r.account.tenancy
-
-  abbrev c : Cycling
-  c = r.account.cycling
-
-  abbrev d : ℕ
-  d = x.own.number
-
-  abbrev sh : Share
-  sh = x.seen.share
-
-  abbrev items : List ℕ
-  items = x.own.ephemerons.items
 
   abbrev found : ℕ
   found = at_address k s.words a

@@ -29,14 +29,8 @@ use Rattle.step_sweep.proofs.VoidSteps.{no_leader, not_whole, void_known}
 use Rattle.step_sweep.proofs.Returned.{agrees, calm, collecting, cycle', drawers', drawn_was, full', grid', is_own, knowing_other, knowing_own, listed', no_prepared, other_word, own_was, owned_was, pools', reserved', same_cursor, same_cycle, share', t', words', sweeps', reaps_else}
 
 module _ (k : Config) (s : Words) (r : Rule k s) (id : ℕ) (hist : List Entry) (x : DomainView) (at : get_elem? s.views id ≡ some (one k hist x)) (word pool class : ℕ) (may : ReturnMay k x word pool class) where
-  abbrev T : Tenancy
-  T = r.account.tenancy
-
-  abbrev c : Cycling
-  c = r.account.cycling
-
-  abbrev d : ℕ
-  d = x.own.number
+  open r.account use {tenancy as T, cycling as c}
+  open x use {own.{number as d}}
 
   abbrev after : Tenancy
   after = t' k s r id hist x at word pool class may

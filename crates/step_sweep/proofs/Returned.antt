@@ -40,23 +40,11 @@ use Rattle.step_sweep.proofs.Swept.{returning, returns_clean}
 use Rattle.std.proofs.lemmas.Option.{none-some}
 
 module _ (k : Config) (s : Words) (r : Rule k s) (id : ℕ) (hist : List Entry) (x : DomainView) (at : get_elem? s.views id ≡ some (one k hist x)) (word pool class : ℕ) (may : ReturnMay k x word pool class) where
+  open r.account use {live, tenancy as T, cycling as c}
+  open x use {own.{number as d}, seen.{share as sh}}
+
   abbrev now : model.State
   now = state_of k r.account.log
-
-  abbrev live : Live
-  live = r.account.live
-
-  abbrev T : Tenancy
-  T = r.account.tenancy
-
-  abbrev c : Cycling
-  c = r.account.cycling
-
-  abbrev d : ℕ
-  d = x.own.number
-
-  abbrev sh : Share
-  sh = x.seen.share
 
   pub collecting : IsCollecting x.seen.stage
   collecting = returning k s r id hist x at may.returns

@@ -54,32 +54,11 @@ use Rattle.step_marks.proofs.OfMarking.Learning.{bare, even, kind_here, known, l
 use Rattle.step_marks.proofs.OfMarking.Unswept.{none_unswept}
 
 module _ (k : Config) (s : Words) (r : Rule k s) (id : ℕ) (hist : List Entry) (x : DomainView) (at : get_elem? s.views id ≡ some (one k hist x)) (stage : x.seen.stage ≡ In Clean) (w : Cleaning) (cleaning : x.seen.share.cleaning ≡ Some w) where
+  open r.account use {live, tenancy as T, cycling as c, cycling.{paint, paint.{marks as m}}}
+  open x use {own.{number as d, ephemerons.{items}}, seen.{share as sh}}
+
   abbrev now : model.State
   now = state_of k r.account.log
-
-  abbrev live : Live
-  live = r.account.live
-
-  abbrev T : Tenancy
-  T = r.account.tenancy
-
-  abbrev c : Cycling
-  c = r.account.cycling
-
-  abbrev paint : Paint
-  paint = c.paint
-
-  abbrev m : Marks
-  m = paint.marks
-
-  abbrev d : ℕ
-  d = x.own.number
-
-  abbrev sh : Share
-  sh = x.seen.share
-
-  abbrev items : List ℕ
-  items = x.own.ephemerons.items
 
   good : Good k r.account s.words x
   good = my_good k s r id hist x at

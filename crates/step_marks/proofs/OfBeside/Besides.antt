@@ -15,8 +15,7 @@ use Rattle.heap_rule.specs.declared.view.Known.{Known}
 use Rattle.heap_rule.specs.declared.view.Share.{Share}
 use Rattle.heap_rule.specs.Beside.{AllKnown, IsUnaware, Underway, is_weak}
 use Rattle.heap_rule.specs.Cycles.{Cycling, Cycled, HasNoCycle, IsIdle, Leading}
-use Rattle.heap_rule.specs.Places.{Live}
-use Rattle.heap_rule.specs.Pools.{Grid, Holder, Hunter}
+use Rattle.heap_rule.specs.Pools.{Grid, Hunter}
 use Rattle.heap_rule.specs.Rule.{Account, AllFound, Area, Good, Making, Rule, Sharing, state_of}
 use Rattle.heap_rule.specs.Views.{one}
 use Rattle.heap_rule.proofs.Growing.{grows_none, no_marking}
@@ -34,20 +33,11 @@ abbrev pub aware : Share → List Known → Option ℕ → Share
 aware share known weak = record share { known = known; weak = weak }
 
 module _ (k : Config) (s : Words) (r : Rule k s) (id : ℕ) (hist : List Entry) (x : DomainView) (at : get_elem? s.views id ≡ some (one k hist x)) (runs : x.seen.stage ≡ In Run) (armed : x.seen.share.armed ≡ Some true) where
+  open r.account use {cycling as c, live, tenancy.{holder}}
+  open x use {seen.{share as sh}}
+
   abbrev pub now : model.State
   now = state_of k r.account.log
-
-  abbrev c : Cycling
-  c = r.account.cycling
-
-  abbrev live : Live
-  live = r.account.live
-
-  abbrev holder : ℕ → Holder
-  holder = r.account.tenancy.holder
-
-  abbrev sh : Share
-  sh = x.seen.share
 
   pub is_armed : IsTrue c.armed
   is_armed = sym ((my_good k s r id hist x at).sharing.leading.armed true armed).1

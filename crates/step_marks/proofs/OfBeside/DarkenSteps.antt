@@ -17,7 +17,7 @@ use Rattle.model_core.specs.Graph.{same_label}
 use Rattle.model_core.proofs.Graphs.GraphLemmas.{same_label_refl, same_label-false, same_label-true}
 use Rattle.heap_words.specs.declared.colours.Colours.{Colours}
 use Rattle.heap_words.specs.Heads.{head_word}
-use Rattle.model_cycle.specs.Beside.{IsBeside, Later, Snapshot}
+use Rattle.model_cycle.specs.Beside.{IsBeside, Later}
 use Rattle.model_cycle.specs.Cover.{field_at, field_in, is_new}
 use Rattle.model_cycle.specs.Marks.{Marks, darkened, darkened_as, with_scanned}
 use Rattle.model_cycle.proofs.Beside.{beside_law}
@@ -29,7 +29,7 @@ use Rattle.heap_rule.specs.declared.view.DomainView.{DomainView}
 use Rattle.heap_rule.specs.declared.view.Known.TheVariants.{Marked, Found, Shape as Shaped, Refers, Darkened, Scanned}
 use Rattle.heap_rule.specs.Beside.{AllKnown, IsShaped, IsPooled, Underway, is_weak}
 use Rattle.heap_rule.specs.Layout.{before_heap, at_address}
-use Rattle.heap_rule.specs.Places.{IsHeadOf, Live, Place, colour_in, head_of, needs_no_scan}
+use Rattle.heap_rule.specs.Places.{IsHeadOf, Place, colour_in, head_of, needs_no_scan}
 use Rattle.heap_rule.specs.Raw.{MayStep, MayStore}
 use Rattle.heap_rule.specs.Rule.{Rule}
 use Rattle.heap_rule.specs.Views.{one}
@@ -45,17 +45,8 @@ use Rattle.step_marks.proofs.OfBeside.ReadSteps.{field_inside, no_field}
 use Rattle.step_marks.proofs.OfBeside.Rewriting as rewriting
 
 module _ (k : Config) (s : Words) (r : Rule k s) (id : ℕ) (hist : List Entry) (x : DomainView) (at : get_elem? s.views id ≡ some (one k hist x)) where
-  abbrev live : Live
-  live = r.account.live
-
-  abbrev m : Marks
-  m = r.account.cycling.paint.marks
-
-  abbrev past : Snapshot
-  past = r.account.cycling.past
-
-  abbrev d : ℕ
-  d = x.own.number
+  open r.account use {live, cycling.{paint.{marks as m}, past}}
+  open x use {own.{number as d}}
 
   abbrev After : DomainView → Type 0
   After y = Rule k record { words = s.words; homes = s.homes; views = set s.views id (one k hist y) }
@@ -160,11 +151,8 @@ module _ (k : Config) (s : Words) (r : Rule k s) (id : ℕ) (hist : List Entry) 
     abbrev aimed : Aim may.knows.beside.runs may.knows.beside.armed a reason
     aimed = aim may.knows.beside.runs may.knows.beside.armed a reason may.reason_is
 
-    abbrev p : Place
-    p = aimed.place
-
-    abbrev cs : Colours
-    cs = r.account.cycling.paint.colours
+    open aimed use {place as p}
+    open r.account use {cycling.{paint.{colours as cs}}}
 
     means : may.knows.colours ≡ cs
     means = looks.means k s r id hist x at may.knows.beside.runs may.knows.colours may.knows.known a p aimed.lives

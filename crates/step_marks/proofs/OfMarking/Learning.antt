@@ -27,7 +27,7 @@ use Rattle.heap_rule.specs.Layout.{at_address, armed, colours, changed_word, liv
 use Rattle.heap_rule.specs.Phases.{AtStage, IsEven, Pause, Staged, flag}
 use Rattle.heap_rule.specs.Places.{IsBare, IsOldAt, Live, Place}
 use Rattle.heap_rule.specs.Copies.{Promoting}
-use Rattle.heap_rule.specs.Pools.{Holder, IsBefore, IsLeading, blocks_of, owned, place_in, Resting, OwnPlace}
+use Rattle.heap_rule.specs.Pools.{IsBefore, IsLeading, blocks_of, owned, place_in, Resting, OwnPlace}
 use Rattle.heap_rule.specs.declared.view.Held.TheVariants.{Queue}
 use Rattle.heap_rule.specs.Deciding.{IsRooting}
 use Rattle.heap_rule.specs.Finalisers.{held_at}
@@ -142,26 +142,11 @@ cleans_same : (live : Live) (graph : Graph) (m m' : Marks) (stage : Stage) (item
 cleans_same live graph m m' stage items w same f = subst (λ (z : Marks). Cleans live graph z stage items w) (sym same) f
 
 module _ (k : Config) (s : Words) (r : Rule k s) (id : ℕ) (hist : List Entry) (x : DomainView) (at : get_elem? s.views id ≡ some (one k hist x)) where
+  open r.account use {live, tenancy.{holder}, cycling as c, cycling.{paint.{marks as m}}}
+  open x use {own.{number as d}, seen.{share as sh}}
+
   abbrev now : model.State
   now = state_of k r.account.log
-
-  abbrev live : Live
-  live = r.account.live
-
-  abbrev holder : ℕ → Holder
-  holder = r.account.tenancy.holder
-
-  abbrev c : Cycling
-  c = r.account.cycling
-
-  abbrev m : Marks
-  m = c.paint.marks
-
-  abbrev d : ℕ
-  d = x.own.number
-
-  abbrev sh : Share
-  sh = x.seen.share
 
   -- What such a step owes that changes no block
   pub record Shifts (share' : Share) (w' : Shares) (words' : List ℕ) : Type 0 where

@@ -10,7 +10,7 @@ use Rattle.heap_rule.specs.declared.view.FoundHead.{FoundHead}
 use Rattle.heap_rule.specs.declared.view.Share.{Share}
 use Rattle.heap_rule.specs.Layout.{before_heap, at_address}
 use Rattle.heap_rule.specs.Places.{Place}
-use Rattle.heap_rule.specs.Cycles.{Cycling, IsCollecting, Facts}
+use Rattle.heap_rule.specs.Cycles.{IsCollecting, Facts}
 use Rattle.heap_rule.specs.Raw.{MayStep}
 use Rattle.heap_rule.specs.Rule.{Rule, state_of}
 use Rattle.heap_rule.specs.Views.{one}
@@ -27,11 +27,8 @@ use Rattle.heap_rule.specs.declared.phase.Kind.TheVariants.{Rounds}
 use Rattle.heap_rule.specs.declared.phase.Kind.{Kind}
 
 module _ (k : Config) (s : Words) (r : Rule k s) (id : ℕ) (hist : List Entry) (x : DomainView) (at : get_elem? s.views id ≡ some (one k hist x)) where
-  abbrev c : Cycling
-  c = r.account.cycling
-
-  abbrev sh : Share
-  sh = x.seen.share
+  open r.account use {cycling as c}
+  open x use {seen.{share as sh}}
 
   abbrev After : DomainView → Type 0
   After y = Rule k record { words = s.words; homes = s.homes; views = set s.views id (one k hist y) }
