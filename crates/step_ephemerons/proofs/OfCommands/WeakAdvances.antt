@@ -13,8 +13,7 @@ use Rattle.model_core.specs.declared.graph.Value.TheVariants.{Block}
 use Rattle.model_core.specs.declared.state.State as model
 use Rattle.model_core.specs.Domains.{register}
 use Rattle.model_core.specs.Entries.{next}
-use Rattle.model_cycle.specs.Beside.{Snapshot, Later, WriteBarrier, owed_after, owing_register}
-use Rattle.model_cycle.specs.Marks.{Marks}
+use Rattle.model_cycle.specs.Beside.{Later, WriteBarrier, owed_after, owing_register}
 use Rattle.model_cycle.proofs.Beside.{beside_law}
 use Rattle.heap_words.specs.declared.value.Value.{Value}
 use Rattle.heap_words.specs.declared.value.Value.TheVariants.{Int as IntWord, Ref, Nothing as NothingWord}

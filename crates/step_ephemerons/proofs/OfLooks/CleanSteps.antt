@@ -1,5 +1,5 @@
 -- The loads by which a domain cleans its ephemerons keep the rule.
-use Rattle.std.proofs.Common.{◌≡◌, ℕ, Bool, IsTrue, ◌+◌, List, true, false, length, get_or, set, slice_get, Some, Option, sym, refl, ap, ◌∙◌, subst, inl, inr, ⊎_elim, arith, add-one, true≢false, suc, not, cond, ◌==◌, eq-eqb, ◌≤◌}
+use Rattle.std.proofs.Common.{◌≡◌, ℕ, Bool, IsTrue, ◌+◌, List, true, false, length, get_or, set, slice_get, Some, Option, sym, refl, ap, ◌∙◌, subst, inl, inr, ⊎_elim, arith, add-one, true≢false, suc, not, cond, ◌==◌, eq-eqb}
 use mathlib.Core.Option.{some}
 use Rattle.model_cycle.proofs.Cycling.{taking_steps}
 use lib.ListN.{get_elem?}
@@ -7,7 +7,7 @@ use Rattle.heap_rule.specs.declared.config.Config.{Config}
 use Rattle.heap_rule.specs.declared.view.DomainView.{DomainView}
 use Rattle.heap_rule.proofs.Keeps.{Words, my_good, unmoved}
 use Rattle.heap_rule.specs.Rule.{Rule, state_of}
-use Rattle.heap_rule.specs.Layout.{before_heap, at_address, heap_words}
+use Rattle.heap_rule.specs.Layout.{before_heap, at_address}
 use Rattle.step_ephemerons.specs.Looks.Rounding.{place_seen}
 use Rattle.model_core.specs.declared.entry.Entry.{Entry}
 use Rattle.heap_rule.specs.Raw.{MayStep}
@@ -16,27 +16,21 @@ use Rattle.atomic_table.specs.Table.{keeps}
 use Rattle.model_core.specs.declared.label.Label.{Label}
 use Rattle.model_core.specs.declared.graph.Value.{Value}
 use Rattle.model_core.specs.declared.graph.Node.{Node}
-use Rattle.model_core.specs.declared.graph.Node.TheVariants.{Plain, Raw, Ephe}
-use Rattle.heap_words.specs.declared.colours.Colours.{Colours}
+use Rattle.model_core.specs.declared.graph.Node.TheVariants.{Ephe}
 use Rattle.heap_words.specs.declared.value.Value.TheVariants.{Int as IntWord, Ref, Nothing as NothingWord}
-use Rattle.model_cycle.specs.Marks.{Marks, KeysMarked}
+use Rattle.model_cycle.specs.Marks.{KeysMarked}
 use Rattle.heap_rule.specs.declared.phase.Kind.{Kind}
 use Rattle.heap_rule.specs.declared.phase.Kind.TheVariants.{Clean}
-use Rattle.heap_rule.specs.declared.view.Share.{Share}
-use Rattle.heap_rule.specs.Places.{Live, Place, WordStands, Debt, HasValue, values_of, without_keys, extent}
-use Rattle.heap_rule.specs.Cycles.{Cycling, Facts, IsCollecting, Knowing, cycle_of, seen_by}
+use Rattle.heap_rule.specs.Places.{Place, WordStands, Debt, HasValue, values_of, without_keys}
+use Rattle.heap_rule.specs.Cycles.{Facts, IsCollecting, Knowing, cycle_of, seen_by}
 use Rattle.heap_rule.proofs.Lists.{got_there}
 use Rattle.heap_rule.proofs.Values.{address_of, packable}
 use Rattle.step_marks.specs.Marking.Looks.{with_share}
-use Rattle.step_marks.proofs.OfMarking.Learning.{bare, held, kind_here, knows_more, known, looks_same}
+use Rattle.step_marks.proofs.OfMarking.Learning.{bare, held, kind_here, knows_more, known}
 use Rattle.heap_rule.specs.declared.phase.Stage.TheVariants.{In}
-use Rattle.heap_rule.specs.Pools.{Holder}
 use Rattle.std.proofs.lemmas.Option.{none-some, same_Some}
 use Rattle.heap_rule.specs.Ephemerons.{IsEpheAt, emptied_at, Cleans, NextIs}
 use Rattle.std.proofs.lemmas.Bool.{cases_Bool}
-use Rattle.model_core.specs.Fronts.{EpheShape, shape_of}
-use Rattle.step_marks.specs.Marking.Marking.{IsUnmarked, IsMarked}
-use Rattle.step_marks.proofs.OfMarking.Colouring.{BareHead, bare_head, marked_colour, unmarked_colour}
 use Rattle.model_core.specs.Commands.{key_value}
 use Rattle.step_ephemerons.proofs.OfLooks.Listings.{inside_listed, node_listed, only_saw, StandsForKey, lives_listed, key_at, saw_place, sees_at, stands_for_key, owner_listed, walked_seen, one_label, own_listed}
 use Rattle.step_marks.proofs.OfMarking.WalkSteps.{marked_case, unmarked_case}

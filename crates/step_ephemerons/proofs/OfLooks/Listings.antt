@@ -15,14 +15,13 @@ use Rattle.model_core.proofs.Reach.ReachLemmas.{or_right}
 use Rattle.heap_words.specs.declared.value.Value.TheVariants.{Ref, Int as IntWord, Nothing as NothingWord}
 use Rattle.heap_rule.specs.declared.phase.Kind.{Kind}
 use Rattle.heap_rule.specs.declared.view.DomainView.{DomainView}
-use Rattle.heap_rule.specs.Cycles.{Cycling, IsCollecting, seen_by, Facts, cycle_of, label_at}
+use Rattle.heap_rule.specs.Cycles.{IsCollecting, seen_by, Facts, cycle_of, label_at}
 use Rattle.heap_rule.specs.Views.{one}
 use Rattle.step_marks.proofs.OfMarking.Learning.{Knows, known, looks_same, at_same, at_other, bare, grows_still, held, owed_in, owes_same, shifts_more, waits, Held, holding}
 use Rattle.step_marks.proofs.OfMarking.Layouts.{labelled, owner_of_place}
 use Rattle.step_marks.proofs.OfMarking.Unswept.{IsTracing, none_unswept}
 use Rattle.model_cycle.specs.Shares.{at_domain}
-use Rattle.heap_rule.specs.Pools.{owned, blocks_of, IsBefore, place_in, Holder, OwnPlace}
-use Rattle.heap_rule.specs.declared.view.Share.{Share}
+use Rattle.heap_rule.specs.Pools.{owned, blocks_of, IsBefore, place_in, OwnPlace}
 use Rattle.heap_rule.specs.Layout.{at_address, heap_words}
 use Rattle.step_marks.specs.Marking.Looks.{with_share}
 use Rattle.std.proofs.lemmas.Option.{same_Some, slice_get-map}

@@ -1,46 +1,42 @@
 -- The looks at an ephemeron in Rounds keep the rule.
-use Rattle.std.proofs.Common.{◌≡◌, ◌≤◌, ℕ, Bool, IsTrue, ◌+◌, List, true, false, length, get_or, set, slice_get, Some, Option, None, sym, refl, ap, ◌∙◌, subst, inl, inr, ⊎_elim, arith, add-one, true≢false, ◌∷◌, suc, option_to_list, not}
+use Rattle.std.proofs.Common.{◌≡◌, ℕ, Bool, IsTrue, ◌+◌, List, true, false, length, get_or, set, slice_get, Some, Option, None, sym, refl, ap, ◌∙◌, subst, inl, inr, ⊎_elim, arith, add-one, true≢false, ◌∷◌, suc, option_to_list, not}
 use mathlib.Core.Option.{some}
 use lib.ListN.{get_elem?}
 use Rattle.heap_rule.specs.declared.config.Config.{Config}
 use Rattle.heap_rule.specs.declared.view.DomainView.{DomainView}
 use Rattle.heap_rule.proofs.Keeps.{Words, my_good, unmoved}
 use Rattle.heap_rule.specs.Rule.{Rule, state_of}
-use Rattle.heap_rule.specs.Layout.{before_heap, at_address, heap_words}
+use Rattle.heap_rule.specs.Layout.{before_heap, at_address}
 use Rattle.step_ephemerons.specs.Looks.Rounding.{DatumMay, EphemeronMay, KeyLookMay, KeyMay, DatumTold, EphemeronTold, KeyLookTold, KeyTold, datum_on, key_on, looked_through, datum_of, next_key, place_seen}
 use Rattle.model_core.specs.declared.entry.Entry.{Entry}
 use Rattle.heap_rule.specs.Raw.{MayStep}
 use Rattle.heap_rule.specs.Views.{one}
 use Rattle.atomic_table.specs.Table.{keeps}
 use Rattle.model_core.specs.declared.label.Label.{Label}
-use Rattle.model_core.specs.declared.graph.Value.{Value}
 use Rattle.model_core.specs.declared.graph.Value.TheVariants.{Block}
 use Rattle.model_core.specs.declared.graph.Node.{Node}
-use Rattle.model_core.specs.declared.graph.Node.TheVariants.{Plain, Raw, Ephe}
+use Rattle.model_core.specs.declared.graph.Node.TheVariants.{Ephe}
 use Rattle.model_core.specs.Reach.{HoldsRoots}
-use Rattle.heap_words.specs.declared.colours.Colours.{Colours}
 use Rattle.heap_words.specs.declared.value.Value.TheVariants.{Int as IntWord, Ref, Nothing as NothingWord}
-use Rattle.model_cycle.specs.Marks.{Marks, DataMarked, data_of, KeysMarked}
+use Rattle.model_cycle.specs.Marks.{DataMarked, data_of, KeysMarked}
 use Rattle.model_cycle.proofs.Cycling.{darkening_steps}
 use Rattle.heap_rule.specs.declared.phase.Kind.{Kind}
 use Rattle.heap_rule.specs.declared.phase.Kind.TheVariants.{Rounds, Clean}
 use Rattle.heap_rule.specs.declared.view.Scan.{Scan}
 use Rattle.heap_rule.specs.declared.view.Share.{Share}
-use Rattle.heap_rule.specs.Places.{Live, Place, Stands, WordStands, IsNoBlock, extent}
-use Rattle.heap_rule.specs.Cycles.{Cycling, Facts, IsCollecting, Knowing, Scans, cycle_of, seen_by, KeysAt, KeyAt}
+use Rattle.heap_rule.specs.Places.{Place, Stands, WordStands, IsNoBlock}
+use Rattle.heap_rule.specs.Cycles.{Facts, IsCollecting, Knowing, Scans, cycle_of, seen_by, KeysAt, KeyAt}
 use Rattle.heap_rule.proofs.Lists.{got_there}
 use Rattle.heap_rule.proofs.Values.{address_of, packable, stands_block, no_label}
 use Rattle.step_marks.specs.Marking.Looks.{with_share}
-use Rattle.step_marks.proofs.OfMarking.Learning.{bare, held, kind_here, knows_more, known, looks_same, looks_still, whole_in, Held}
+use Rattle.step_marks.proofs.OfMarking.Learning.{bare, held, kind_here, knows_more, known, looks_still, whole_in, Held}
 use Rattle.heap_rule.specs.declared.phase.Stage.TheVariants.{In}
-use Rattle.heap_rule.specs.Pools.{place_in, Holder}
+use Rattle.heap_rule.specs.Pools.{place_in}
 use Rattle.std.proofs.lemmas.Option.{none-some, same_Some}
 use Rattle.heap_rule.specs.Ephemerons.{ephemeron_of, IsEpheAt}
 use Rattle.std.proofs.lemmas.Bool.{cases_Bool}
-use Rattle.model_core.specs.Fronts.{EpheShape, shape_of}
-use Rattle.step_marks.specs.Marking.Marking.{IsUnmarked, seen_through, IsMarked}
+use Rattle.step_marks.specs.Marking.Marking.{seen_through}
 use Rattle.step_marks.proofs.OfMarking.WalkSteps.{marked_case, unmarked_case}
-use Rattle.step_marks.proofs.OfMarking.Colouring.{BareHead, bare_head, marked_colour, unmarked_colour}
 use Rattle.heap_rule.specs.declared.view.Scan.TheVariants.{Keys}
 use Rattle.model_core.specs.Commands.{key_value}
 use Rattle.model_core.specs.declared.state.State as model
