@@ -22,8 +22,8 @@ use Rattle.heap_rule.specs.Beside.{RunsBeside}
 use Rattle.heap_rule.specs.Cycles.{Counted, Counts, Cycled, Cycling, Facts, IsCollecting, IsIdle, Knowing, Sweeping, labels_in, layout_of, seen_by}
 use Rattle.heap_rule.specs.Layout.{live_blocks, live_words}
 use Rattle.heap_rule.specs.Phases.{AtStage}
-use Rattle.heap_rule.specs.Places.{Live, Place, extent}
-use Rattle.heap_rule.specs.Pools.{Holder, IsLeading, place_in}
+use Rattle.heap_rule.specs.Places.{Place, extent}
+use Rattle.heap_rule.specs.Pools.{IsLeading, place_in}
 use Rattle.heap_rule.specs.Raw.{CanLeave, Closes, Leaves, MayStep}
 use Rattle.heap_rule.specs.Rule.{Good, Rule, state_of}
 use Rattle.heap_rule.specs.Views.{one}

@@ -16,10 +16,10 @@ use Rattle.heap_rule.specs.declared.view.DomainView.{DomainView}
 use Rattle.heap_rule.specs.declared.view.Share.{Share}
 use Rattle.heap_rule.specs.declared.view.Spot.{Spot}
 use Rattle.heap_rule.specs.declared.view.OwnPool.{OwnPool}
-use Rattle.heap_rule.specs.Cycles.{Cycling, Knowing, HasCounted, extent_in, seen_by}
+use Rattle.heap_rule.specs.Cycles.{Knowing, HasCounted, extent_in, seen_by}
 use Rattle.heap_rule.specs.Layout.{at_address, before_heap, owner_of}
-use Rattle.heap_rule.specs.Places.{Live, Place, extent}
-use Rattle.heap_rule.specs.Pools.{Holder, IsBefore, blocks_of, owned, owner_word, place_in, size_of}
+use Rattle.heap_rule.specs.Places.{Place, extent}
+use Rattle.heap_rule.specs.Pools.{IsBefore, blocks_of, owned, owner_word, place_in, size_of}
 use Rattle.heap_rule.specs.Raw.{CanLeave, Closes, Leaves, MayStep}
 use Rattle.heap_rule.specs.Rule.{Rule, state_of}
 use Rattle.heap_rule.specs.Views.{one}

@@ -19,7 +19,7 @@ use Rattle.heap_rule.specs.declared.view.Share.{Share}
 use Rattle.heap_rule.specs.declared.view.Spot.{Spot}
 use Rattle.heap_rule.specs.Copies.{Promoting}
 use Rattle.heap_rule.specs.Beside.{RunsBeside}
-use Rattle.heap_rule.specs.Cycles.{Cycled, Cycling, Facts, IsCollecting, IsIdle, Knowing, KnowsBlocks, seen_by}
+use Rattle.heap_rule.specs.Cycles.{Cycled, Facts, IsCollecting, IsIdle, Knowing, KnowsBlocks, seen_by}
 use Rattle.heap_rule.specs.Ephemerons.{IsEpheAt, Listed}
 use Rattle.heap_rule.specs.Layout.{at_address, before_heap, heap_words}
 use Rattle.heap_rule.specs.Places.{Place, extent}

@@ -9,12 +9,11 @@ use Rattle.model_core.specs.declared.entry.Entry.{Entry}
 use Rattle.model_core.specs.declared.state.State as model
 use Rattle.heap_rule.specs.declared.config.Config.{Config}
 use Rattle.heap_rule.specs.declared.view.DomainView.{DomainView}
-use Rattle.heap_rule.specs.declared.view.Share.{Share}
 use Rattle.heap_rule.specs.declared.view.OwnPool.{OwnPool}
-use Rattle.heap_rule.specs.Cycles.{Cycling, HoldsBlock, IsCollecting, Knowing}
+use Rattle.heap_rule.specs.Cycles.{HoldsBlock, IsCollecting, Knowing}
 use Rattle.heap_rule.specs.Layout.{at_address, before_heap, owner_of}
-use Rattle.heap_rule.specs.Places.{Live, Place}
-use Rattle.heap_rule.specs.Pools.{Holder, blocks_of, owned, place_in}
+use Rattle.heap_rule.specs.Places.{Place}
+use Rattle.heap_rule.specs.Pools.{blocks_of, owned, place_in}
 use Rattle.heap_rule.specs.Raw.{CanLeave, Closes, Leaves, MayStep}
 use Rattle.heap_rule.specs.Rule.{Rule, state_of}
 use Rattle.heap_rule.specs.Views.{one}

@@ -17,11 +17,10 @@ use Rattle.heap_rule.specs.declared.phase.Stage.TheVariants.{In}
 use Rattle.heap_rule.specs.declared.view.DomainView.{DomainView}
 use Rattle.heap_rule.specs.declared.view.Own.{Own}
 use Rattle.heap_rule.specs.declared.view.Share.{Share}
-use Rattle.heap_rule.specs.Cycles.{Cycling, IsCollecting, Knowing, IsIdle}
+use Rattle.heap_rule.specs.Cycles.{IsCollecting, Knowing, IsIdle}
 use Rattle.heap_rule.specs.Ephemerons.{IsEpheAt, Listed, ephemeron_of}
 use Rattle.heap_rule.specs.Layout.{at_address, before_heap}
-use Rattle.heap_rule.specs.Places.{Live, Place}
-use Rattle.heap_rule.specs.Pools.{Tenancy}
+use Rattle.heap_rule.specs.Places.{Place}
 use Rattle.heap_rule.specs.Raw.{Closes, MayStep}
 use Rattle.heap_rule.specs.Rule.{Good, Rule, Sharing, state_of}
 use Rattle.heap_rule.specs.Token.{OwnFits}

@@ -1,5 +1,5 @@
 -- The return of a pool in which nothing is left keeps the rule.
-use Rattle.std.proofs.Common.{◌≡◌, ◌≢◌, ℕ, ◌+◌, ◌*◌, ◌<◌, ◌≤◌, true, false, true≢false, List, get_or, set, None, sym, refl, ap, ◌∙◌, subst, inl, inr, ⊎_elim, arith, length-set}
+use Rattle.std.proofs.Common.{◌≡◌, ◌≢◌, ℕ, ◌+◌, ◌*◌, ◌<◌, ◌≤◌, true≢false, List, get_or, set, None, sym, refl, ap, ◌∙◌, subst, inl, inr, ⊎_elim, arith, length-set}
 use Rattle.std.proofs.lemmas.Option.{none-some}
 use mathlib.Core.Option.{some}
 use lib.ListN.{get_elem?}
@@ -9,7 +9,7 @@ use Rattle.heap_rule.specs.declared.view.Reaping.TheVariants.{Outside}
 use Rattle.heap_rule.specs.declared.config.Config.{Config}
 use Rattle.heap_rule.specs.declared.view.DomainView.{DomainView}
 use Rattle.heap_rule.specs.Beside.{RunsBeside}
-use Rattle.heap_rule.specs.Cycles.{Cycling, IsCollecting, IsIdle, Knowing}
+use Rattle.heap_rule.specs.Cycles.{IsCollecting, IsIdle, Knowing}
 use Rattle.heap_rule.specs.Layout.{cursor, listed}
 use Rattle.heap_rule.specs.Phases.{Staged}
 use Rattle.heap_rule.specs.Pools.{Covered, Holder, Hunter, Hunts, Resting, Stock, Tenancy, limit_of, no_listing}

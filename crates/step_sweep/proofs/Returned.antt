@@ -17,11 +17,11 @@ use Rattle.heap_rule.specs.declared.phase.Stage.TheVariants.{In}
 use Rattle.heap_rule.specs.declared.view.DomainView.{DomainView}
 use Rattle.heap_rule.specs.declared.view.Share.{Share}
 use Rattle.heap_rule.specs.Copies.{Promoting}
-use Rattle.heap_rule.specs.Cycles.{Answering, Cycling, Cycled, EndsCycle, Facts, IsSwept, Sweeping, IsCollecting, Knowing, HasCounted, owner_at, starts_in}
+use Rattle.heap_rule.specs.Cycles.{Answering, Cycled, EndsCycle, Facts, IsSwept, Sweeping, IsCollecting, Knowing, HasCounted, owner_at, starts_in}
 use Rattle.heap_rule.specs.Fullness.{Fullness}
 use Rattle.heap_rule.specs.Layout.{at_address, heap_words, listed, cursor, listed_pool, owner_of, table_words}
 use Rattle.heap_rule.specs.Phases.{sum_of}
-use Rattle.heap_rule.specs.Places.{Live, Place}
+use Rattle.heap_rule.specs.Places.{Place}
 use Rattle.heap_rule.specs.Pools.{Drawers, Grid, Holder, OwnPlace, Pools, Reserved, Tenancy, blocks_of, drawn, limit_of, nobody, owned, owner_word, place_in, size_of}
 use Rattle.heap_rule.specs.Rule.{Rule, state_of}
 use Rattle.heap_rule.specs.Views.{one}
