@@ -23,13 +23,12 @@ use Rattle.heap_rule.specs.declared.phase.Kind.TheVariants.{Clean, Decide, Lasts
 use Rattle.heap_rule.specs.declared.phase.Stage.TheVariants.{In}
 use Rattle.heap_rule.specs.declared.view.DomainView.{DomainView}
 use Rattle.heap_rule.specs.declared.view.Finalisers.{Finalisers}
-use Rattle.heap_rule.specs.Cycles.{Cycling, Facts, IsCollecting}
+use Rattle.heap_rule.specs.Cycles.{Facts, IsCollecting}
 use Rattle.heap_rule.specs.Deciding.{IsRooting}
 use Rattle.heap_rule.specs.Finalisers.{Enrolled, Paired, StandsFinal, StandsLast, StandsWaiting}
 use Rattle.heap_rule.specs.Layout.{at_address}
 use Rattle.heap_rule.specs.Phases.{IsInPause}
-use Rattle.heap_rule.specs.Places.{Live, Place}
-use Rattle.heap_rule.specs.Pools.{Tenancy}
+use Rattle.heap_rule.specs.Places.{Place}
 use Rattle.heap_rule.specs.Rule.{Good, Rule, state_of}
 use Rattle.heap_rule.specs.Views.{one}
 use Rattle.heap_rule.proofs.FinaliserLemmas.{KeepsWork, paired_append, work_same}

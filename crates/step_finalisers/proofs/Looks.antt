@@ -22,11 +22,9 @@ use Rattle.heap_rule.specs.declared.view.DomainView.{DomainView}
 use Rattle.heap_rule.specs.declared.view.Registered.{Registered}
 use Rattle.heap_rule.specs.declared.view.RegisteredLast.{RegisteredLast}
 use Rattle.heap_rule.specs.declared.view.Waiting.TheVariants.{Fin, Last as LastWaiting}
-use Rattle.heap_rule.specs.Cycles.{Cycling, Facts, IsPlain, IsRotated, cycle_of, swept_of}
+use Rattle.heap_rule.specs.Cycles.{Facts, IsPlain, IsRotated, cycle_of, swept_of}
 use Rattle.heap_rule.specs.Finalisers.{Enrolled, Paired, StandsFinal, StandsLast, StandsWaiting}
 use Rattle.heap_rule.specs.Layout.{at_address, before_heap}
-use Rattle.heap_rule.specs.Places.{Live}
-use Rattle.heap_rule.specs.Pools.{Tenancy}
 use Rattle.heap_rule.specs.Raw.{MayStep}
 use Rattle.heap_rule.specs.Rule.{Good, Rule, state_of}
 use Rattle.heap_rule.specs.Views.{one}

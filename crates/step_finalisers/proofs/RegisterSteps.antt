@@ -30,7 +30,7 @@ use Rattle.heap_rule.specs.declared.view.Registered.{Registered}
 use Rattle.heap_rule.specs.declared.view.RegisteredLast.{RegisteredLast}
 use Rattle.heap_rule.specs.Changes.{value_at}
 use Rattle.heap_rule.specs.Finalisers.{Enrolled, LivesAt, Paired, StandsFinal, StandsLast, StandsWaiting}
-use Rattle.heap_rule.specs.Places.{Live, Stands}
+use Rattle.heap_rule.specs.Places.{Stands}
 use Rattle.heap_rule.specs.Raw.{MayStep}
 use Rattle.heap_rule.specs.Rule.{Rule, Stood}
 use Rattle.heap_rule.specs.Standing.{Acts, GoesOn, IsAt}

@@ -30,7 +30,7 @@ use Rattle.heap_rule.specs.declared.view.Waiting.TheVariants.{Fin, Last}
 use Rattle.heap_rule.specs.Changes.{value_at}
 use Rattle.heap_rule.specs.Finalisers.{Paired, StandsFinal, StandsLast, StandsWaiting}
 use Rattle.heap_rule.specs.Limits.{sizes_in}
-use Rattle.heap_rule.specs.Places.{Live, Stands}
+use Rattle.heap_rule.specs.Places.{Stands}
 use Rattle.heap_rule.specs.Raw.{MayStep}
 use Rattle.heap_rule.specs.Rule.{Rule, Stood, state_of}
 use Rattle.heap_rule.specs.Token.{OwnFits}

@@ -27,8 +27,7 @@ use Rattle.heap_rule.specs.Finalisers.{Enrolled}
 use Rattle.heap_rule.specs.Fullness.{Fullness}
 use Rattle.heap_rule.specs.Limits.{sizes_in}
 use Rattle.heap_rule.specs.Phases.{IsInPause, flag, is_over}
-use Rattle.heap_rule.specs.Places.{Live, Stands}
-use Rattle.heap_rule.specs.Pools.{Tenancy}
+use Rattle.heap_rule.specs.Places.{Stands}
 use Rattle.heap_rule.specs.Rule.{Account, AllFound, Good, Rule, Sharing, Stood, state_of}
 use Rattle.heap_rule.specs.Views.{EachView, Knows as SeatKnows, one}
 use Rattle.heap_rule.proofs.FinaliserLemmas.{KeepsWork}
