@@ -34,7 +34,7 @@ use Rattle.heap_rule.proofs.Values.{address_of}
 use Rattle.step_promote.specs.Promotion.{Knows, changed_at, waiting_at, with_held, with_finalisers, HeldMoveMay, HeldMoveTold}
 use Rattle.step_promote.specs.Writes.{CanMoveHeld, MovesHeld}
 use Rattle.step_promote.proofs.HeldPlaces.{mapped_from, chained_from, length_changed, got_changed, paired_changed}
-use Rattle.step_promote.proofs.Registers.{promote_once}
+use Rattle.step_promote.proofs.Registers.{fits_moved, promote_once}
 use Rattle.step_promote.proofs.Remaking.{keeps_words}
 use Rattle.std.proofs.lemmas.Option.{same_Some}
 
@@ -194,18 +194,6 @@ held_move_closes k x found h copy may y fits told =
     let fit : FinalisersFit k fs = subst (λ (o : Own). FinalisersFit k o.finalisers) own told.fit in record {
       can_write = (may.address, may.holds);
       written = λ after wrote. own ∙ sym wrote;
-      fits = subst (OwnFits k) (sym own) record {
-        number = fits.number;
-        used = fits.used;
-        registers = fits.registers;
-        looked = fits.looked;
-        remembered = fits.remembered;
-        remembered_room = fits.remembered_room;
-        prepared = fits.prepared;
-        pending = fits.pending;
-        ephemerons = fits.ephemerons;
-        finalisers = fit;
-        swept = fits.swept;
-      };
+      fits = subst (OwnFits k) (sym own) (fits_moved k x.own x.own.registers fs fits.registers fit fits);
       once = promote_once k x y may.stage;
     }

@@ -1,5 +1,5 @@
 -- A register that holds the address of a block that was met gets that of its copy.
-use Rattle.std.proofs.Common.{◌≡◌, ℕ, ◌+◌, ◌<◌, ◌≤◌, List, length, get_or, set, sym, refl, ap, ◌∙◌, subst, arith, length-set, get_or-set_same, get_or-set_other}
+use Rattle.std.proofs.Common.{◌≡◌, ℕ, ◌<◌, List, length, get_or, set, sym, refl, ap, ◌∙◌, subst, arith, length-set, get_or-set_same, get_or-set_other}
 use mathlib.Core.Logic.{dite}
 use native.Mathlib.Decide.{ℕ_discrete}
 use mathlib.Core.Option.{some}
@@ -18,12 +18,13 @@ use Rattle.heap_rule.specs.declared.phase.Kind.TheVariants.{Run, Promote}
 use Rattle.heap_rule.specs.declared.phase.Stage.{Stage}
 use Rattle.heap_rule.specs.declared.phase.Stage.TheVariants.{In}
 use Rattle.heap_rule.specs.Changes.{value_at}
+use Rattle.heap_rule.specs.declared.view.Finalisers.{Finalisers}
 use Rattle.heap_rule.specs.Finalisers.{FinalisersFit}
 use Rattle.heap_rule.specs.Places.{Place, Live, Stands, More}
 use Rattle.heap_rule.specs.Raw.{StepsOnce, MayStep, Closes}
 use Rattle.heap_rule.specs.Rule.{state_of, Rule, Stood}
 use Rattle.heap_rule.specs.Standing.{with_registers}
-use Rattle.heap_rule.specs.Token.{AllInHeap, LooksWithin, SweptWithin}
+use Rattle.heap_rule.specs.Token.{Holds, OwnFits}
 use Rattle.heap_rule.specs.Views.{one}
 use Rattle.step_promote.specs.Promotion.{Knows, MoveMay, MoveTold}
 use Rattle.step_promote.specs.Writes.{CanMove, Moves}
@@ -92,24 +93,28 @@ move_may k x word reg copy may fits slots id hist s r _ at _ =
 pub promote_once : (k : Config) (x y : DomainView) → x.seen.stage ≡ In Promote → StepsOnce k x y
 promote_once k x y promotes runs = absurd (let e : ◌≡◌ {A = Stage} (In Promote) (In Run) = sym promotes ∙ runs in cc)
 
+-- what fits a token fits it with other registers and other lists of finalisers
+pub fits_moved : (k : Config) (own : Own) (registers : List Value) (fs : Finalisers) → Holds k registers → FinalisersFit k fs → OwnFits k own → OwnFits k (record own { registers = registers; finalisers = fs })
+fits_moved k own registers fs holds lists fits = record {
+  number = fits.number;
+  used = fits.used;
+  registers = holds;
+  looked = fits.looked;
+  remembered = fits.remembered;
+  remembered_room = fits.remembered_room;
+  prepared = fits.prepared;
+  pending = fits.pending;
+  ephemerons = fits.ephemerons;
+  finalisers = lists;
+  swept = fits.swept;
+}
+
 -- it closes where the register was written
 pub move_closes : (k : Config) (x : DomainView) (found reg copy : ℕ) → MoveMay x reg copy → Closes k x found (MoveTold k reg copy) (λ own. CanMove reg) (Moves reg copy)
 move_closes k x found reg copy may y fits told =
     let own : y.own ≡ record x.own { registers = set x.own.registers reg (Ref copy) } = ap (λ (z : DomainView). z.own) told.view in record {
       can_write = may.few;
       written = λ after wrote. own ∙ sym wrote;
-      fits = record {
-        number = subst (λ (o : Own). o.number < k.domains) (sym own) fits.number;
-        used = subst (λ (o : Own). o.used ≤ k.minor_words) (sym own) fits.used;
-        registers = told.holds;
-        looked = subst (λ (o : Own). LooksWithin k o.looked) (sym own) fits.looked;
-        remembered = subst (λ (o : Own). AllInHeap k o.remembered.items) (sym own) fits.remembered;
-        remembered_room = ap (λ (o : Own). o.remembered.room + length o.remembered.items) own ∙ fits.remembered_room;
-        prepared = ap (λ (o : Own). length o.prepared) own ∙ fits.prepared;
-        pending = ap (λ (o : Own). o.pending.room + length o.pending.items) own ∙ fits.pending;
-        ephemerons = subst (λ (o : Own). AllInHeap k o.ephemerons.items) (sym own) fits.ephemerons;
-        finalisers = subst (λ (o : Own). FinalisersFit k o.finalisers) (sym own) fits.finalisers;
-        swept = subst (λ (o : Own). SweptWithin k o.swept) (sym own) fits.swept;
-      };
+      fits = subst (OwnFits k) (sym own) (fits_moved k x.own (set x.own.registers reg (Ref copy)) x.own.finalisers (subst (λ (o : Own). Holds k o.registers) own told.holds) fits.finalisers fits);
       once = promote_once k x y may.stage;
     }
