@@ -34,7 +34,7 @@ use Rattle.heap_rule.proofs.Notes.{changed_note, noted_rule, set_there, set_twic
 use Rattle.heap_rule.proofs.PauseFacts.{not_both}
 use Rattle.step_marks.specs.Marking.Changed.{FindMay, FindTold, ForgetMay, ForgetTold}
 use Rattle.step_marks.specs.Marking.Looks.{with_share}
-use Rattle.step_marks.proofs.OfMarking.Learning.{learns, shifts}
+use Rattle.step_marks.proofs.OfMarking.Learning.{learns, shifts, sharing_learnt}
 use Rattle.step_marks.proofs.OfMarking.Pausing.{paused_on}
 use Rattle.heap_rule.proofs.Sharings.{knows_words}
 
@@ -65,27 +65,10 @@ module _ (k : Config) (s : Words) (r : Rule k s) (id : ℕ) (hist : List Entry) 
     found = record x.seen.share { changed = Some (changed_word s.words) }
 
     found_sharing : Sharing k r.account s.words x.own.number x.own.registers x.own.finalisers x.own.ephemerons.items x.seen.stage found
-    found_sharing = let t = good.sharing.telling in let l = good.sharing.leading in let a = good.sharing.adds in record {
-      telling = record { owes = t.owes; seen = t.seen; fresh = λ up. ap (λ (z : Share). record z { changed = Some (changed_word s.words) }) (t.fresh up); forgotten = t.forgotten; colours = t.colours };
-      leading = record {
-        changed = λ v e. let same : changed_word s.words ≡ v = cc in (may.leads, subst IsLeading (sym may.stage) tt, sym same ∙ r.whole.cycle.changed_is);
-        found_blocks = l.found_blocks;
-        found_words = l.found_words;
-        rotated = l.rotated;
-        turned = l.turned;
-        pass = l.pass;
-        whole = l.whole;
-        armed = l.armed;
-        unswept = l.unswept;
-        under_way = l.under_way;
-        unmarked = l.unmarked;
-      };
-      knows = inl (ap (λ (z : Share). record z { changed = Some (changed_word s.words) }) (idle (Leads may.last) may.stage tt));
-      adds = record { blocks = a.blocks; words = a.words; own = a.own };
-      looks = let u = good.sharing.looks in record { at_own = u.at_own; cleans = u.cleans; emptied_is = u.emptied_is };
-      running = record { knows = good.sharing.running.knows; owes = good.sharing.running.owes };
-      deciding = good.sharing.deciding;
-    }
+    found_sharing = let sh = x.seen.share in let t = good.sharing.telling in let l = good.sharing.leading in sharing_learnt k s r id hist x at sh.colours sh.armed (Some (changed_word s.words)) sh.blocks sh.reaping sh.swept
+        t.forgotten t.colours l.armed
+        (λ v e. let same : changed_word s.words ≡ v = cc in (may.leads, subst IsLeading (sym may.stage) tt, sym same ∙ r.whole.cycle.changed_is))
+        l.found_blocks
 
     pub find_rule : Rule k record { words = s.words; homes = s.homes; views = set s.views id (one k hist (with_share x found)) }
     find_rule = learns k s r id hist x at found found_sharing good.sweeps

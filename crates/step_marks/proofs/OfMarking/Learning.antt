@@ -1,5 +1,5 @@
 -- A step of a collection changes what its domain knows of the phase, and perhaps what is marked, what was changed and how far all are.
-use Rattle.std.proofs.Common.{◌≡◌, ◌≢◌, ℕ, ◌<◌, ◌⊎◌, ◌==◌, Bool, false, true≢false, cond, IsTrue, eq-eqb, ne_eqb, List, get_or, set, Option, Some, None, sym, refl, ap, ◌∙◌, subst, inl, inr, ⊎_elim, arith, []}
+use Rattle.std.proofs.Common.{◌≡◌, ◌≢◌, ℕ, ◌<◌, ◌⊎◌, ◌==◌, Bool, false, true, true≢false, cond, IsTrue, eq-eqb, ne_eqb, List, get_or, set, Option, Some, None, sym, refl, ap, ◌∙◌, subst, inl, inr, ⊎_elim, arith, []}
 use Rattle.std.specs.List.{list_any}
 use mathlib.Core.Option.{some}
 use lib.ListN.{get_elem?}
@@ -10,13 +10,15 @@ use Rattle.model_cycle.specs.Marks.{Marks}
 use Rattle.model_cycle.specs.Shares.{OnePlaceEach, Shares, at_domain}
 use Rattle.heap_words.specs.declared.value.Value.TheVariants.{Ref}
 use Rattle.model_cycle.specs.Ending.{IsGrowing}
+use Rattle.heap_words.specs.declared.colours.Colours.{Colours}
 use Rattle.heap_rule.specs.declared.config.Config.{Config}
 use Rattle.heap_rule.specs.declared.phase.Kind.{Kind}
-use Rattle.heap_rule.specs.declared.phase.Kind.TheVariants.{Run, Promote, Clean}
+use Rattle.heap_rule.specs.declared.phase.Kind.TheVariants.{Answer, Run, Promote, Clean}
 use Rattle.heap_rule.specs.declared.phase.Stage.{Stage}
 use Rattle.heap_rule.specs.declared.phase.Stage.TheVariants.{In, Leads, Led, Gone}
 use Rattle.heap_rule.specs.declared.view.DomainView.{DomainView}
 use Rattle.heap_rule.specs.declared.view.FoundHead.{FoundHead}
+use Rattle.heap_rule.specs.declared.view.Reaping.{Reaping}
 use Rattle.heap_rule.specs.declared.view.Scan.{Scan}
 use Rattle.heap_rule.specs.declared.view.Share.{Share}
 use Rattle.heap_rule.specs.declared.view.Spot.{Spot}
@@ -31,7 +33,7 @@ use Rattle.heap_rule.specs.Pools.{IsBefore, IsLeading, blocks_of, owned, place_i
 use Rattle.heap_rule.specs.declared.view.Held.TheVariants.{Queue}
 use Rattle.heap_rule.specs.Deciding.{IsRooting}
 use Rattle.heap_rule.specs.Finalisers.{held_at}
-use Rattle.heap_rule.specs.Cycles.{Cycled, Cycling, Facts, HasNoCycle, IsCollecting, IsIdle, IsMarkedAt, Knowing, Leading, OwesAs, Scans, Told, layout_of, seen_by, Scanned, MissesKeys, KeysAt, IsMarking, IsNamed, pool_labels}
+use Rattle.heap_rule.specs.Cycles.{MayLook, Cycled, Cycling, Facts, HasNoCycle, IsCollecting, IsIdle, IsMarkedAt, Knowing, Leading, OwesAs, Scans, Told, layout_of, seen_by, Scanned, MissesKeys, KeysAt, IsMarking, IsNamed, pool_labels}
 use Rattle.heap_rule.specs.Rule.{Account, Good, Rule, Sharing, state_of}
 use Rattle.heap_rule.specs.Sweeping.{SweepsIn}
 use Rattle.heap_rule.specs.Views.{one}
@@ -223,6 +225,30 @@ module _ (k : Config) (s : Words) (r : Rule k s) (id : ℕ) (hist : List Entry) 
     sweeps = sweeps;
     others_sweep = λ z _ h. h.sweeps;
   }
+
+  -- what a domain learns of control words, and how far it is in a sweep, tells it nothing of blocks
+  module _ (colours : Option Colours) (armed : Option Bool) (changed blocks : Option ℕ) (reaping : Reaping) (swept : List Spot) where
+    abbrev learnt : Share → Share
+    learnt z = record z { colours = colours; armed = armed; changed = changed; blocks = blocks; reaping = reaping; swept = swept }
+
+    pub sharing_learnt : (c.shares.arrived d ≡ true → d ≢ 0 → colours ≡ None) → ((known : Colours) → colours ≡ Some known → known ≡ c.paint.colours) → ((b : Bool) → armed ≡ Some b → MayLook d x.seen.stage × (b ≡ c.armed))
+        → ((v : ℕ) → changed ≡ Some v → (d ≡ 0) × IsLeading x.seen.stage × (v ≡ flag c.shares.changed)) → ((v : ℕ) → blocks ≡ Some v → (((d ≡ 0) × IsLeading x.seen.stage) ⊎ (x.seen.stage ≡ In Answer)) × (live_blocks s.words ≡ v))
+        → Sharing k r.account s.words d x.own.registers x.own.finalisers x.own.ephemerons.items x.seen.stage (learnt sh)
+    sharing_learnt forgotten means armed_is changed_is found = let g = (my_good k s r id hist x at).sharing in let l = g.leading in record {
+      telling = record { owes = g.telling.owes; seen = g.telling.seen; fresh = λ up. ap learnt (g.telling.fresh up); forgotten = forgotten; colours = means };
+      leading = record { changed = changed_is; found_blocks = found; found_words = l.found_words; rotated = l.rotated; turned = l.turned; pass = l.pass; whole = l.whole; armed = armed_is; unswept = l.unswept; under_way = l.under_way; unmarked = l.unmarked };
+      knows = ⊎_elim
+          (λ (idle : IsIdle sh). inl (ap learnt idle))
+          (λ (n : IsCollecting x.seen.stage × Knowing k live holder now.graph m s.words d x.own.registers sh). let b = n.1 in let y = b.counted in inr (
+            n.0,
+            record { found_head = b.found_head; scan = b.scan; walked = b.walked; own_pool = b.own_pool; rooted = b.rooted; marked = b.marked; counted = record { once = y.once; own = y.own; lives = y.lives; all = y.all; words = y.words }; held = b.held; vacant = b.vacant },
+          ))
+          g.knows;
+      adds = record { blocks = g.adds.blocks; words = g.adds.words; own = g.adds.own };
+      looks = record { at_own = g.looks.at_own; cleans = g.looks.cleans; emptied_is = g.looks.emptied_is };
+      running = record { knows = g.running.knows; owes = g.running.owes };
+      deciding = g.deciding;
+    }
 
   pub kind_here : (kind : Kind) → x.seen.stage ≡ In kind → c.kind ≡ kind
   kind_here kind is = kind_now k r.account.pause c x kind is (my_good k s r id hist x at).staged r.whole.cycle.told
