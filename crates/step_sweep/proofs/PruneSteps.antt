@@ -163,19 +163,7 @@ prune_may k x word a i garbage place may fits slots id hist s r _ at _ =
 -- what the step tells of the list is what is made of it
 module _ (k : Config) (x : DomainView) (found a i garbage : ℕ) (may : PruneMay x a i garbage) where
   still_fits : OwnFits k x.own → OwnFits k (unlisted a i x.own)
-  still_fits fits = record {
-    number = fits.number;
-    used = fits.used;
-    registers = fits.registers;
-    looked = fits.looked;
-    remembered = fits.remembered;
-    remembered_room = fits.remembered_room;
-    prepared = fits.prepared;
-    pending = fits.pending;
-    ephemerons = λ j b got. let w = was x.own.ephemerons.items i a may.listed j b got in fits.ephemerons w.0 b w.1;
-    finalisers = fits.finalisers;
-    swept = fits.swept;
-  }
+  still_fits fits = swept_fits k x.own (unlisted a i x.own).ephemerons x.own.swept (λ j b got. let w = was x.own.ephemerons.items i a may.listed j b got in fits.ephemerons w.0 b w.1) fits.swept fits
 
   written : (y : DomainView) → PruneTold a i garbage x found y → (after : Own) → Prunes a i garbage found x.own after → y.own ≡ after
   written y told after is = ⊎_elim
@@ -197,7 +185,7 @@ module _ (k : Config) (x : DomainView) (found a i garbage : ℕ) (may : PruneMay
     can_write = (may.listed, may.next);
     written = written y told;
     fits = ⊎_elim
-        (λ e. subst (OwnFits k) (sym (ap (λ (z : DomainView). z.own) e)) (swept_fits k x.own (record x.own.swept { listed = i + 1 }) (record { pool = fits.swept.pool; slot = fits.swept.slot; top = fits.swept.top }) fits))
+        (λ e. subst (OwnFits k) (sym (ap (λ (z : DomainView). z.own) e)) (swept_fits k x.own x.own.ephemerons (record x.own.swept { listed = i + 1 }) fits.ephemerons (record { pool = fits.swept.pool; slot = fits.swept.slot; top = fits.swept.top }) fits))
         (λ e. subst (OwnFits k) (sym (ap (λ (z : DomainView). z.own) e)) (still_fits fits))
         (view_or y told);
     once = ⊎_elim

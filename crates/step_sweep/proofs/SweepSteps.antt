@@ -15,7 +15,6 @@ use Rattle.heap_rule.specs.declared.view.Reaping.TheVariants.{Inside, AtGarbage}
 use Rattle.heap_rule.specs.declared.view.Share.{Share}
 use Rattle.heap_rule.specs.declared.view.Spot.{Spot}
 use Rattle.heap_rule.specs.declared.view.Swept.{Swept}
-use Rattle.heap_rule.specs.Cycles.{IsCollecting, IsIdle, Knowing}
 use Rattle.heap_rule.specs.Layout.{at_address, before_heap, owner_of}
 use Rattle.heap_rule.specs.Pools.{IsBefore, blocks_of, owned, owner_word, place_in}
 use Rattle.heap_rule.specs.Raw.{MayStep}
@@ -30,6 +29,7 @@ use Rattle.heap_rule.proofs.OwnPlaces.{owned_same}
 use Rattle.step_marks.specs.Marking.Looks.{with_share}
 use Rattle.step_marks.specs.Marking.Marking.{behind}
 use Rattle.step_marks.proofs.OfMarking.Layouts.{whose}
+use Rattle.step_marks.proofs.OfMarking.Learning.{sharing_learnt}
 use Rattle.step_marks.proofs.OfMarking.WalkSteps.{before_behind}
 use Rattle.step_sweep.specs.Freeing.{AnewMay, AnewTold, Frees, IsColoured, SweepMay, SweepOwnMay, SweepOwnTold, SweepTold, passed, sweeping_from, unswept}
 use Rattle.step_sweep.proofs.Finding.{clean_place, colour_of_dead, waits}
@@ -50,21 +50,8 @@ module _ (k : Config) (s : Words) (r : Rule k s) (id : ℕ) (hist : List Entry) 
 
   -- what else it knows of the phase stays
   sharing_on : (reaping : Reaping) (places : List Spot) → Sharing k r.account s.words d x.own.registers x.own.finalisers x.own.ephemerons.items x.seen.stage (sweeping_on sh reaping places)
-  sharing_on reaping places = let g = (my_good k s r id hist x at).sharing in record {
-    telling = record { owes = g.telling.owes; seen = g.telling.seen; fresh = λ up. ap (λ (z : Share). sweeping_on z reaping places) (g.telling.fresh up); forgotten = g.telling.forgotten; colours = g.telling.colours };
-    leading = record { changed = g.leading.changed; found_blocks = g.leading.found_blocks; found_words = g.leading.found_words; rotated = g.leading.rotated; turned = g.leading.turned; pass = g.leading.pass; whole = g.leading.whole; armed = g.leading.armed; unswept = g.leading.unswept; under_way = g.leading.under_way; unmarked = g.leading.unmarked };
-    knows = ⊎_elim
-        (λ (idle : IsIdle sh). inl (ap (λ (z : Share). sweeping_on z reaping places) idle))
-        (λ (n : IsCollecting x.seen.stage × Knowing k r.account.live holder now.graph r.account.cycling.paint.marks s.words d x.own.registers sh). let kn = n.1 in let m = kn.counted in inr (
-          n.0,
-          record { found_head = kn.found_head; scan = kn.scan; walked = kn.walked; own_pool = kn.own_pool; rooted = kn.rooted; marked = kn.marked; counted = record { once = m.once; own = m.own; lives = m.lives; all = m.all; words = m.words }; held = kn.held; vacant = kn.vacant },
-        ))
-        g.knows;
-    adds = record { blocks = g.adds.blocks; words = g.adds.words; own = g.adds.own };
-    looks = record { at_own = g.looks.at_own; cleans = g.looks.cleans; emptied_is = g.looks.emptied_is };
-    running = record { knows = g.running.knows; owes = g.running.owes };
-    deciding = g.deciding;
-  }
+  sharing_on reaping places = let g = (my_good k s r id hist x at).sharing in sharing_learnt k s r id hist x at sh.colours sh.armed sh.changed sh.blocks reaping places
+      g.telling.forgotten g.telling.colours g.leading.armed g.leading.changed g.leading.found_blocks
 
   -- a step after which the domain has swept so far
   pub sweeps_rule : (swept : Swept) (reaping : Reaping) (places : List Spot) → let y : DomainView = record { own = record x.own { swept = swept }; seen = record x.seen { share = sweeping_on sh reaping places } } in SweepsIn r.account.tenancy r.account.cycling y → After y
