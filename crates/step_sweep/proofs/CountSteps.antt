@@ -31,7 +31,7 @@ use Rattle.step_marks.specs.Marking.Looks.{with_share}
 use Rattle.step_marks.specs.Marking.Marking.{behind}
 use Rattle.step_marks.proofs.OfMarking.Colouring.{bare_head}
 use Rattle.step_marks.proofs.OfMarking.Layouts.{whose}
-use Rattle.step_marks.proofs.OfMarking.Learning.{bare, known, learns, waits}
+use Rattle.step_marks.proofs.OfMarking.Learning.{load_may, bare, known, learns, waits}
 use Rattle.step_marks.proofs.OfMarking.Plain.{share_closes}
 use Rattle.step_marks.proofs.OfMarking.WalkSteps.{before_behind, last_behind, next_behind}
 use Rattle.step_sweep.specs.Counting.{CountMay, CountOwnMay, CountOwnTold, CountTold}
@@ -262,9 +262,7 @@ pub count_own_closes : (k : Config) (x : DomainView) (found pool : ℕ) → Clos
 count_own_closes k x found pool = share_closes k x found (CountOwnTold pool) (λ y t. ⊎_elim (λ u. (record x.seen.share { own_pool = Some (record { pool = pool; class = u.0 }) }, u.3)) (λ u. (record x.seen.share { counted_to = record { pool = pool + 1; slot = 0 } }, u.1)) t.told)
 
 pub count_may : (k : Config) (x : DomainView) (word a pool class slot : ℕ) → word ≡ before_heap k + a → CountMay x a pool class slot → MayStep k x word (λ n. n) (CountTold a pool class slot)
-count_may k x word a pool class slot place may fits slots id hist s r _ at _ =
-    let o = counts_at k s r id hist x at may.stage may.counts a pool class slot may in
-    (one k hist o.0, keeps, tt, unmoved k s word (set s.views id (one k hist o.0)) o.1, (subst (λ (n : ℕ). CountTold a pool class slot x (get_or s.words n 0) o.0) (sym place) o.2, refl))
+count_may k x word a pool class slot place may = load_may k x word a (CountTold a pool class slot) place (λ s r id hist at. counts_at k s r id hist x at may.stage may.counts a pool class slot may)
 
 pub count_closes : (k : Config) (x : DomainView) (found a pool class slot : ℕ) → Closes k x found (CountTold a pool class slot) CanLeave Leaves
 count_closes k x found a pool class slot = share_closes k x found (CountTold a pool class slot)

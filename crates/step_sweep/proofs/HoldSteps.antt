@@ -20,7 +20,7 @@ use Rattle.heap_rule.specs.Views.{one}
 use Rattle.heap_rule.proofs.Keeps.{Words, my_good, unmoved}
 use Rattle.heap_rule.proofs.OwnPlaces.{owned_same}
 use Rattle.step_marks.specs.Marking.Looks.{with_share}
-use Rattle.step_marks.proofs.OfMarking.Learning.{known, not_promoting}
+use Rattle.step_marks.proofs.OfMarking.Learning.{load_may, known, not_promoting}
 use Rattle.step_marks.proofs.OfMarking.Plain.{share_closes}
 use Rattle.step_sweep.specs.Holding.{HeldMay, HeldOwnMay, HeldOwnTold, HeldTold, Returns}
 use Rattle.step_sweep.proofs.CountSteps.{counts_pools}
@@ -110,9 +110,7 @@ pub held_own_closes : (k : Config) (x : DomainView) (found pool : ℕ) → Close
 held_own_closes k x found pool = share_closes k x found (HeldOwnTold pool) (λ y t. ⊎_elim (λ u. (record x.seen.share { own_pool = Some (record { pool = pool; class = u.0 }) }, u.3)) (λ u. (record x.seen.share { held = pool + 1 }, u.1)) t.told)
 
 pub held_may : (k : Config) (x : DomainView) (word a pool class slot : ℕ) → word ≡ before_heap k + a → HeldMay k x a pool class slot → MayStep k x word (λ n. n) (HeldTold pool slot)
-held_may k x word a pool class slot place may fits slots id hist s r _ at _ =
-    let o = held_at k s r id hist x at may.returns a pool class slot may in
-    (one k hist o.0, keeps, tt, unmoved k s word (set s.views id (one k hist o.0)) o.1, (subst (λ (n : ℕ). HeldTold pool slot x (get_or s.words n 0) o.0) (sym place) o.2, refl))
+held_may k x word a pool class slot place may = load_may k x word a (HeldTold pool slot) place (λ s r id hist at. held_at k s r id hist x at may.returns a pool class slot may)
 
 pub held_closes : (k : Config) (x : DomainView) (found pool slot : ℕ) → Closes k x found (HeldTold pool slot) CanLeave Leaves
 held_closes k x found pool slot = share_closes k x found (HeldTold pool slot) (λ y t. ⊎_elim (λ u. (record x.seen.share { vacant = slot + 1 }, u.1)) (λ u. (record x.seen.share { held = pool + 1; vacant = 0 }, u.1)) t.told)

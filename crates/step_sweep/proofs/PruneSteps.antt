@@ -25,6 +25,7 @@ use Rattle.heap_rule.specs.Raw.{Closes, MayStep}
 use Rattle.heap_rule.specs.Rule.{Good, Rule, Sharing, state_of}
 use Rattle.heap_rule.specs.Token.{OwnFits}
 use Rattle.heap_rule.specs.Views.{one}
+use Rattle.step_marks.proofs.OfMarking.Learning.{load_may}
 use Rattle.heap_rule.proofs.Keeps.{Words, hunter_as, my_good, unmoved}
 use Rattle.step_sweep.specs.Freeing.{Frees, IsColoured}
 use Rattle.step_sweep.specs.Pruning.{CanPrune, PruneMay, PruneTold, Prunes, pruned_to, unlisted}
@@ -156,9 +157,7 @@ module _ (k : Config) (s : Words) (r : Rule k s) (id : ℕ) (hist : List Entry) 
       (good.listed.lives a (among items i a may.listed))
 
 pub prune_may : (k : Config) (x : DomainView) (word a i garbage : ℕ) → word ≡ before_heap k + a → PruneMay x a i garbage → MayStep k x word (λ n. n) (PruneTold a i garbage)
-prune_may k x word a i garbage place may fits slots id hist s r _ at _ =
-    let o = prunes k s r id hist x at a i garbage may in
-    (one k hist o.0, keeps, tt, unmoved k s word (set s.views id (one k hist o.0)) o.1, (subst (λ (n : ℕ). PruneTold a i garbage x (get_or s.words n 0) o.0) (sym place) o.2, refl))
+prune_may k x word a i garbage place may = load_may k x word a (PruneTold a i garbage) place (λ s r id hist at. prunes k s r id hist x at a i garbage may)
 
 -- what the step tells of the list is what is made of it
 module _ (k : Config) (x : DomainView) (found a i garbage : ℕ) (may : PruneMay x a i garbage) where

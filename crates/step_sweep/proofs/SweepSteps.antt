@@ -29,7 +29,7 @@ use Rattle.heap_rule.proofs.OwnPlaces.{owned_same}
 use Rattle.step_marks.specs.Marking.Looks.{with_share}
 use Rattle.step_marks.specs.Marking.Marking.{behind}
 use Rattle.step_marks.proofs.OfMarking.Layouts.{whose}
-use Rattle.step_marks.proofs.OfMarking.Learning.{sharing_learnt}
+use Rattle.step_marks.proofs.OfMarking.Learning.{load_may, sharing_learnt}
 use Rattle.step_marks.proofs.OfMarking.WalkSteps.{before_behind}
 use Rattle.step_sweep.specs.Freeing.{AnewMay, AnewTold, Frees, IsColoured, SweepMay, SweepOwnMay, SweepOwnTold, SweepTold, passed, sweeping_from, unswept}
 use Rattle.step_sweep.proofs.Finding.{clean_place, colour_of_dead, waits}
@@ -210,6 +210,4 @@ sweep_own_may k x word pool may fits slots id hist s r _ at _ =
     (one k hist o.0, keeps, tt, unmoved k s word (set s.views id (one k hist o.0)) o.1, (subst (λ (n : ℕ). SweepOwnTold k pool x (get_or s.words n 0) o.0) (sym may.word) o.2, refl))
 
 pub sweep_may : (k : Config) (x : DomainView) (word a pool class slot garbage : ℕ) → word ≡ before_heap k + a → SweepMay x a pool class slot garbage → MayStep k x word (λ n. n) (SweepTold pool class slot garbage)
-sweep_may k x word a pool class slot garbage place may fits slots id hist s r _ at _ =
-    let o = head_swept k s r id hist x at a pool class slot garbage may in
-    (one k hist o.0, keeps, tt, unmoved k s word (set s.views id (one k hist o.0)) o.1, (subst (λ (n : ℕ). SweepTold pool class slot garbage x (get_or s.words n 0) o.0) (sym place) o.2, refl))
+sweep_may k x word a pool class slot garbage place may = load_may k x word a (SweepTold pool class slot garbage) place (λ s r id hist at. head_swept k s r id hist x at a pool class slot garbage may)

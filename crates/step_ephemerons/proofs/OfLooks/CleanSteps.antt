@@ -1,5 +1,5 @@
 -- The loads by which a domain cleans its ephemerons keep the rule.
-use Rattle.std.proofs.Common.{◌≡◌, ℕ, Bool, IsTrue, ◌+◌, List, true, false, length, get_or, set, slice_get, Some, Option, sym, refl, ap, ◌∙◌, subst, inl, inr, ⊎_elim, arith, add-one, true≢false, suc, not, cond, ◌==◌, eq-eqb}
+use Rattle.std.proofs.Common.{◌≡◌, ℕ, Bool, IsTrue, ◌+◌, List, true, false, length, set, slice_get, Some, Option, sym, refl, ap, ◌∙◌, subst, inl, inr, ⊎_elim, arith, add-one, true≢false, suc, not, cond, ◌==◌, eq-eqb}
 use mathlib.Core.Option.{some}
 use Rattle.model_cycle.proofs.Cycling.{taking_steps}
 use lib.ListN.{get_elem?}
@@ -26,7 +26,7 @@ use Rattle.heap_rule.specs.Cycles.{Facts, IsCollecting, Knowing, cycle_of, seen_
 use Rattle.heap_rule.proofs.Lists.{got_there}
 use Rattle.heap_rule.proofs.Values.{address_of, packable}
 use Rattle.step_marks.specs.Marking.Looks.{with_share}
-use Rattle.step_marks.proofs.OfMarking.Learning.{bare, held, kind_here, knows_more, known}
+use Rattle.step_marks.proofs.OfMarking.Learning.{load_may, bare, held, kind_here, knows_more, known}
 use Rattle.heap_rule.specs.declared.phase.Stage.TheVariants.{In}
 use Rattle.std.proofs.lemmas.Option.{none-some, same_Some}
 use Rattle.heap_rule.specs.Ephemerons.{IsEpheAt, emptied_at, Cleans, NextIs}
@@ -318,24 +318,16 @@ module _ (k : Config) (s : Words) (r : Rule k s) (id : ℕ) (hist : List Entry) 
     }
 
 pub clean_may : (k : Config) (x : DomainView) (word a : ℕ) → word ≡ before_heap k + a → CleanMay x a → MayStep k x word (λ n. n) (CleanTold k a)
-clean_may k x word a place may fits slots id hist s r _ at _ =
-    let o = clean_told k s r id hist x at a may in
-    (one k hist o.0, keeps, tt, unmoved k s word (set s.views id (one k hist o.0)) o.1, (subst (λ (n : ℕ). CleanTold k a x (get_or s.words n 0) o.0) (sym place) o.2, refl))
+clean_may k x word a place may = load_may k x word a (CleanTold k a) place (λ s r id hist at. clean_told k s r id hist x at a may)
 
 pub clean_key_may : (k : Config) (x : DomainView) (word a : ℕ) → word ≡ before_heap k + a → CleanKeyMay x a → MayStep k x word (λ n. n) (CleanKeyTold k)
-clean_key_may k x word a place may fits slots id hist s r _ at _ =
-    let o = key_told k s r id hist x at a may in
-    (one k hist o.0, keeps, tt, unmoved k s word (set s.views id (one k hist o.0)) o.1, (subst (λ (n : ℕ). CleanKeyTold k x (get_or s.words n 0) o.0) (sym place) o.2, refl))
+clean_key_may k x word a place may = load_may k x word a (CleanKeyTold k) place (λ s r id hist at. key_told k s r id hist x at a may)
 
 pub clean_look_may : (k : Config) (x : DomainView) (word a : ℕ) → word ≡ before_heap k + a → CleanLookMay x a → MayStep k x word (λ n. n) CleanLookTold
-clean_look_may k x word a place may fits slots id hist s r _ at _ =
-    let o = look_told k s r id hist x at a may in
-    (one k hist o.0, keeps, tt, unmoved k s word (set s.views id (one k hist o.0)) o.1, (subst (λ (n : ℕ). CleanLookTold x (get_or s.words n 0) o.0) (sym place) o.2, refl))
+clean_look_may k x word a place may = load_may k x word a CleanLookTold place (λ s r id hist at. look_told k s r id hist x at a may)
 
 pub clean_label_may : (k : Config) (x : DomainView) (word a : ℕ) → word ≡ before_heap k + a → CleanLabelMay x a → MayStep k x word (λ n. n) CleanLabelTold
-clean_label_may k x word a place may fits slots id hist s r _ at _ =
-    let o = label_told k s r id hist x at a may in
-    (one k hist o.0, keeps, tt, unmoved k s word (set s.views id (one k hist o.0)) o.1, (subst (λ (n : ℕ). CleanLabelTold x (get_or s.words n 0) o.0) (sym place) o.2, refl))
+clean_label_may k x word a place may = load_may k x word a CleanLabelTold place (λ s r id hist at. label_told k s r id hist x at a may)
 
 pub clean_end_may : (k : Config) (x : DomainView) (word a : ℕ) → word ≡ before_heap k + a → CleanEndMay x a → MayStep k x word (λ n. n) CleanEndTold
 clean_end_may k x word a place may fits slots id hist s r _ at _ =

@@ -29,7 +29,7 @@ use Rattle.heap_rule.specs.Cycles.{Facts, IsCollecting, Knowing, Scans, cycle_of
 use Rattle.heap_rule.proofs.Lists.{got_there}
 use Rattle.heap_rule.proofs.Values.{address_of, packable, stands_block, no_label}
 use Rattle.step_marks.specs.Marking.Looks.{with_share}
-use Rattle.step_marks.proofs.OfMarking.Learning.{bare, held, kind_here, knows_more, known, looks_still, whole_in, Held}
+use Rattle.step_marks.proofs.OfMarking.Learning.{load_may, bare, held, kind_here, knows_more, known, looks_still, whole_in, Held}
 use Rattle.heap_rule.specs.declared.phase.Stage.TheVariants.{In}
 use Rattle.heap_rule.specs.Pools.{place_in}
 use Rattle.std.proofs.lemmas.Option.{none-some, same_Some}
@@ -295,9 +295,7 @@ module _ (k : Config) (s : Words) (r : Rule k s) (id : ℕ) (hist : List Entry) 
     }
 
 pub ephemeron_may : (k : Config) (x : DomainView) (word a : ℕ) → word ≡ before_heap k + a → EphemeronMay x a → MayStep k x word (λ n. n) (EphemeronTold k a)
-ephemeron_may k x word a place may fits slots id hist s r _ at _ =
-    let o = ephemeron_told k s r id hist x at may.stage a may in
-    (one k hist o.0, keeps, tt, unmoved k s word (set s.views id (one k hist o.0)) o.1, (subst (λ (n : ℕ). EphemeronTold k a x (get_or s.words n 0) o.0) (sym place) o.2, refl))
+ephemeron_may k x word a place may = load_may k x word a (EphemeronTold k a) place (λ s r id hist at. ephemeron_told k s r id hist x at may.stage a may)
 
 pub key_may : (k : Config) (x : DomainView) (word a : ℕ) → word ≡ before_heap k + a → KeyMay x a → MayStep k x word (λ n. n) (KeyTold k)
 key_may k x word a place may fits slots id hist s r _ at _ =
@@ -305,9 +303,7 @@ key_may k x word a place may fits slots id hist s r _ at _ =
     (one k hist y, keeps, tt, unmoved k s word (set s.views id (one k hist y)) (key_rule k s r id hist x at may.stage a may), (subst (λ (n : ℕ). KeyTold k x (get_or s.words n 0) y) (sym place) (key_told k s r id hist x at may.stage a may), refl))
 
 pub key_look_may : (k : Config) (x : DomainView) (word a : ℕ) → word ≡ before_heap k + a → KeyLookMay x a → MayStep k x word (λ n. n) KeyLookTold
-key_look_may k x word a place may fits slots id hist s r _ at _ =
-    let o = key_look_told k s r id hist x at may.stage a may in
-    (one k hist o.0, keeps, tt, unmoved k s word (set s.views id (one k hist o.0)) o.1, (subst (λ (n : ℕ). KeyLookTold x (get_or s.words n 0) o.0) (sym place) o.2, refl))
+key_look_may k x word a place may = load_may k x word a KeyLookTold place (λ s r id hist at. key_look_told k s r id hist x at may.stage a may)
 
 pub datum_may : (k : Config) (x : DomainView) (word a : ℕ) → word ≡ before_heap k + a → DatumMay x a → MayStep k x word (λ n. n) (DatumTold k)
 datum_may k x word a place may fits slots id hist s r _ at _ =

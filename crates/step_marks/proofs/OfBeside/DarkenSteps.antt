@@ -36,6 +36,7 @@ use Rattle.heap_rule.specs.Views.{one}
 use Rattle.heap_rule.proofs.BesideLemmas.{all_known_on, known_among, paid_marks}
 use Rattle.heap_rule.proofs.Blocks as blocks
 use Rattle.heap_rule.proofs.Keeps.{Words, now, my_good, run_settled, unmoved}
+use Rattle.step_marks.proofs.OfMarking.Learning.{load_may}
 use Rattle.step_marks.specs.Marking.Marking.{fields_in}
 use Rattle.step_marks.proofs.OfMarking.Colouring.{BareHead, Recolourable, unmarked_by, words_same}
 use Rattle.step_marks.specs.Beside.Marking.{DarkenMay, DarkenTold, Field, Reason, Expected, ScannedMay, ScannedTold, TargetMay, TargetTold, Warrants, Weak, darkened_at, learning, marked_at, weak_on}
@@ -317,9 +318,7 @@ module _ (k : Config) (s : Words) (r : Rule k s) (id : ℕ) (hist : List Entry) 
         }
 
 pub target_may : (k : Config) (x : DomainView) (word a : ℕ) (reason : Reason) → word ≡ before_heap k + a → TargetMay k x a reason → MayStep k x word (λ n. n) (TargetTold a reason)
-target_may k x word a reason place may fits slots id hist s r _ at _ =
-    let o = target_told k s r id hist x at a reason may in
-    (one k hist o.0, keeps, tt, unmoved k s word (set s.views id (one k hist o.0)) o.1, (subst (λ (n : ℕ). TargetTold a reason x (get_or s.words n 0) o.0) (sym place) o.2, refl))
+target_may k x word a reason place may = load_may k x word a (TargetTold a reason) place (λ s r id hist at. target_told k s r id hist x at a reason may)
 
 pub darken_may : (k : Config) (x : DomainView) (word a old new : ℕ) (reason : Reason) → word ≡ before_heap k + a → DarkenMay k x a old new reason → MayStep k x word (λ n. either (n == old) new n) (DarkenTold old a reason)
 darken_may k x word a old new reason place may fits slots id hist s r _ at _ =

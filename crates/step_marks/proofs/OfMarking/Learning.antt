@@ -1,8 +1,9 @@
 -- A step of a collection changes what its domain knows of the phase, and perhaps what is marked, what was changed and how far all are.
-use Rattle.std.proofs.Common.{◌≡◌, ◌≢◌, ℕ, ◌<◌, ◌⊎◌, ◌==◌, Bool, false, true, true≢false, cond, IsTrue, eq-eqb, ne_eqb, List, get_or, set, Option, Some, None, sym, refl, ap, ◌∙◌, subst, inl, inr, ⊎_elim, arith, []}
+use Rattle.std.proofs.Common.{◌≡◌, ◌≢◌, ℕ, ◌+◌, ◌<◌, ◌⊎◌, ◌==◌, Bool, false, true, true≢false, cond, IsTrue, eq-eqb, ne_eqb, List, get_or, set, Option, Some, None, sym, refl, ap, ◌∙◌, subst, inl, inr, ⊎_elim, arith, []}
 use Rattle.std.specs.List.{list_any}
 use mathlib.Core.Option.{some}
 use lib.ListN.{get_elem?}
+use Rattle.atomic_table.specs.Table.{keeps}
 use Rattle.model_core.specs.declared.entry.Entry.{Entry}
 use Rattle.model_core.specs.declared.label.Label.{Label}
 use Rattle.model_core.specs.declared.state.State as model
@@ -25,7 +26,7 @@ use Rattle.heap_rule.specs.declared.view.Spot.{Spot}
 use Rattle.heap_rule.specs.declared.view.OwnPool.{OwnPool}
 use Rattle.heap_rule.specs.Beside.{RunsBeside}
 use Rattle.heap_rule.specs.Changes.{value_at}
-use Rattle.heap_rule.specs.Layout.{at_address, armed, colours, changed_word, live_blocks, live_words}
+use Rattle.heap_rule.specs.Layout.{at_address, before_heap, armed, colours, changed_word, live_blocks, live_words}
 use Rattle.heap_rule.specs.Phases.{AtStage, IsEven, Pause, Staged, flag}
 use Rattle.heap_rule.specs.Places.{IsBare, IsOldAt, Live, Place}
 use Rattle.heap_rule.specs.Copies.{Promoting}
@@ -34,13 +35,14 @@ use Rattle.heap_rule.specs.declared.view.Held.TheVariants.{Queue}
 use Rattle.heap_rule.specs.Deciding.{IsRooting}
 use Rattle.heap_rule.specs.Finalisers.{held_at}
 use Rattle.heap_rule.specs.Cycles.{MayLook, Cycled, Cycling, Facts, HasNoCycle, IsCollecting, IsIdle, IsMarkedAt, Knowing, Leading, OwesAs, Scans, Told, layout_of, seen_by, Scanned, MissesKeys, KeysAt, IsMarking, IsNamed, pool_labels}
+use Rattle.heap_rule.specs.Raw.{MayStep}
 use Rattle.heap_rule.specs.Rule.{Account, Good, Rule, Sharing, state_of}
 use Rattle.heap_rule.specs.Sweeping.{SweepsIn}
 use Rattle.heap_rule.specs.Views.{one}
 use Rattle.heap_rule.proofs.Controls.{Move, Untouched, counts_untouched, covered_untouched, heap_untouched, hunter_untouched, low_untouched, moved_to, no_move, reserved_untouched, resting_untouched, turns, untouched_same}
 use Rattle.heap_rule.proofs.Holders.{stock_self}
 use Rattle.heap_rule.proofs.Lots.{head_full, none_before, place_cases}
-use Rattle.heap_rule.proofs.Keeps.{Words, hunter_as, my_good, owes_as, phases_words, room_words}
+use Rattle.heap_rule.proofs.Keeps.{Words, unmoved, hunter_as, my_good, owes_as, phases_words, room_words}
 use Rattle.heap_rule.proofs.PauseFacts.{kind_differs, not_both, agree}
 use Rattle.heap_rule.proofs.Sharings.{kind_now}
 use Rattle.heap_rule.proofs.FinaliserLemmas.{deciding_marks}
@@ -599,3 +601,11 @@ module _ (k : Config) (s : Words) (r : Rule k s) (id : ℕ) (hist : List Entry) 
         → ((z : ℕ) → z ≢ d → (owes z ≡ c.shares.owes z) × (follows z ≡ c.shares.follows z) × (seen z ≡ c.shares.seen z)) → OwesAs (owes d) (follows d) h.owes h.account → seen d ≡ seen_by h.places_seen → Knows m words' h
         → get_or words' 8 0 ≡ get_or s.words 8 0 → Rule k record { words = words'; homes = s.homes; views = set s.views id (one k hist (with_share x (holding sh h))) }
     shifts_more = shifts_queue sh.waiting (queue_still m (λ l is. is))
+
+-- a load that tells what is found at an address of the heap may be made
+pub load_may : (k : Config) (x : DomainView) (word a : ℕ) (tells : DomainView → ℕ → DomainView → Type 0) → word ≡ before_heap k + a
+    → ((s : Words) (r : Rule k s) (id : ℕ) (hist : List Entry) → get_elem? s.views id ≡ some (one k hist x) → (y : DomainView) × Rule k record { words = s.words; homes = s.homes; views = set s.views id (one k hist y) } × tells x (at_address k s.words a) y)
+    → MayStep k x word (λ n. n) tells
+load_may k x word a tells place step fits slots id hist s r _ at _ =
+    let o = step s r id hist at in
+    (one k hist o.0, keeps, tt, unmoved k s word (set s.views id (one k hist o.0)) o.1, (subst (λ (n : ℕ). tells x (get_or s.words n 0) o.0) (sym place) o.2, refl))

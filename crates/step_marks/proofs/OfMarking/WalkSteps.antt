@@ -40,7 +40,7 @@ use Rattle.step_marks.specs.Marking.Looks.{with_share}
 use Rattle.step_marks.specs.Marking.Marking.{IsScanning, GreyMay, GreyTold, IsGrey, IsMarked, IsScanned, IsUnmarked, IsNext, MarkMay, MarkTold, OwnMay, OwnTold, begun, behind, fields_in, settled}
 use Rattle.step_marks.proofs.OfMarking.Colouring.{BareHead, bare_head, marked_colour, no_fields, unmarked_colour}
 use Rattle.step_marks.proofs.OfMarking.Layouts.{labelled, owner_of_place, whose}
-use Rattle.step_marks.proofs.OfMarking.Learning.{at_other, at_same, bare, held, kind_here, knows_more, known, looks_same, looks_still, not_promoting, shifts_more, grows_still}
+use Rattle.step_marks.proofs.OfMarking.Learning.{load_may, at_other, at_same, bare, held, kind_here, knows_more, known, looks_same, looks_still, not_promoting, shifts_more, grows_still}
 use Rattle.step_marks.proofs.OfMarking.Unswept.{none_unswept}
 use Rattle.std.proofs.lemmas.Option.{none-some, same_Some}
 use Rattle.heap_rule.proofs.Stages.{waits_in}
@@ -402,6 +402,4 @@ mark_may k x word a pool class slot place may fits slots id hist s r _ at _ =
     (one k hist o.0, keeps, tt, unmoved k s word (set s.views id (one k hist o.0)) o.1.0, (subst (λ (n : ℕ). MarkTold a pool class slot x (get_or s.words n 0) o.0) (sym place) o.1.1, refl))
 
 pub grey_may : (k : Config) (x : DomainView) (word a : ℕ) → word ≡ before_heap k + a → GreyMay x a → MayStep k x word (λ n. n) (GreyTold a)
-grey_may k x word a place may fits slots id hist s r _ at _ =
-    let o = grey_looks k s r id hist x at a may in
-    (one k hist o.0, keeps, tt, unmoved k s word (set s.views id (one k hist o.0)) o.1, (subst (λ (n : ℕ). GreyTold a x (get_or s.words n 0) o.0) (sym place) o.2, refl))
+grey_may k x word a place may = load_may k x word a (GreyTold a) place (λ s r id hist at. grey_looks k s r id hist x at a may)
