@@ -1,9 +1,8 @@
 -- A look at a registration keeps the rule: one of `finalise` in Decide, one of `finalise_last` in Lasts.
-use Rattle.std.proofs.Common.{◌≡◌, ℕ, suc, ◌+◌, ◌<◌, true, false, true≢false, IsTrue, List, [], ◌∷◌, ◌++◌, length, map, get_or, set, slice_get, Some, sym, refl, ap, ◌∙◌, subst, ⊎_elim}
+use Rattle.std.proofs.Common.{◌≡◌, ℕ, suc, ◌+◌, ◌<◌, true, false, true≢false, IsTrue, List, [], ◌∷◌, ◌++◌, length, map, set, slice_get, Some, sym, refl, ap, ◌∙◌, subst, ⊎_elim}
 use Rattle.std.proofs.lemmas.Bool.{cases_Bool}
 use mathlib.Core.Option.{some}
 use lib.ListN.{get_elem?}
-use Rattle.atomic_table.specs.Table.{keeps}
 use Rattle.model_core.specs.declared.entry.Entry.{Entry}
 use Rattle.model_core.specs.declared.entry.Entry.TheVariants.{Queue, Last}
 use Rattle.model_core.specs.declared.label.Label.{Label}
@@ -29,7 +28,8 @@ use Rattle.heap_rule.specs.Raw.{MayStep}
 use Rattle.heap_rule.specs.Rule.{Good, Rule, state_of}
 use Rattle.heap_rule.specs.Views.{one}
 use Rattle.heap_rule.proofs.FinaliserLemmas.{paired_get, paired_remove}
-use Rattle.heap_rule.proofs.Keeps.{Words, mine, my_good, unmoved}
+use Rattle.step_marks.proofs.OfMarking.Learning.{load_may}
+use Rattle.heap_rule.proofs.Keeps.{Words, mine, my_good}
 use Rattle.step_finalisers.specs.Looking.{FinalLookMay, FinalLookTold, LastLookMay, LastLookTold, queued_final, queued_last}
 use Rattle.step_finalisers.proofs.TakeSteps.{kind_is, waits}
 use Rattle.step_finalisers.proofs.LookSteps.{at_one, has_one, is_not, left_one, looks, removed_length, waiting_more}
@@ -142,11 +142,7 @@ module _ (k : Config) (s : Words) (r : Rule k s) (id : ℕ) (hist : List Entry) 
         } in (o.0, o.1, record { told = o.2 })
 
 pub final_look_may : (k : Config) (x : DomainView) (word a i marked : ℕ) (rd : Registered) → word ≡ before_heap k + a → FinalLookMay x a i marked rd → MayStep k x word (λ n. n) (FinalLookTold k i marked rd)
-final_look_may k x word a i marked rd place may fits slots id hist s r _ at _ =
-    let o = final_looks k s r id hist x at a i marked rd may in
-    (one k hist o.0, keeps, tt, unmoved k s word (set s.views id (one k hist o.0)) o.1, (subst (λ (n : ℕ). FinalLookTold k i marked rd x (get_or s.words n 0) o.0) (sym place) o.2, refl))
+final_look_may k x word a i marked rd place may = load_may k x word a (FinalLookTold k i marked rd) place (λ s r id hist at. final_looks k s r id hist x at a i marked rd may)
 
 pub last_look_may : (k : Config) (x : DomainView) (word a i marked : ℕ) (rd : RegisteredLast) → word ≡ before_heap k + a → LastLookMay x a i marked rd → MayStep k x word (λ n. n) (LastLookTold k i marked rd)
-last_look_may k x word a i marked rd place may fits slots id hist s r _ at _ =
-    let o = last_looks k s r id hist x at a i marked rd may in
-    (one k hist o.0, keeps, tt, unmoved k s word (set s.views id (one k hist o.0)) o.1, (subst (λ (n : ℕ). LastLookTold k i marked rd x (get_or s.words n 0) o.0) (sym place) o.2, refl))
+last_look_may k x word a i marked rd place may = load_may k x word a (LastLookTold k i marked rd) place (λ s r id hist at. last_looks k s r id hist x at a i marked rd may)
