@@ -1,12 +1,11 @@
 -- A look at the head of a listed ephemeron in Sweep keeps the rule.
-use Rattle.std.proofs.Common.{◌≡◌, ◌≢◌, ℕ, ◌+◌, ◌<◌, ◌⊎◌, false, true≢false, IsTrue, List, get_or, set, slice_get, Option, Some, None, sym, refl, ap, ◌∙◌, subst, inl, inr, ⊎_elim, arith}
+use Rattle.std.proofs.Common.{◌≡◌, ◌≢◌, ℕ, ◌+◌, ◌<◌, ◌⊎◌, false, true≢false, IsTrue, List, set, slice_get, Option, Some, None, sym, refl, ap, ◌∙◌, subst, inl, inr, ⊎_elim, arith}
 use Rattle.std.proofs.lemmas.Bool.{cases_Bool}
 use Rattle.std.proofs.lemmas.Option.{same_Some, none-some}
 use mathlib.Core.Logic.{dite}
 use native.Mathlib.Decide.{ℕ_discrete}
 use mathlib.Core.Option.{some}
 use lib.ListN.{get_elem?}
-use Rattle.atomic_table.specs.Table.{keeps}
 use Rattle.heap_words.specs.Remembered.Bounded.{Bounded}
 use Rattle.model_core.specs.declared.entry.Entry.{Entry}
 use Rattle.model_core.specs.declared.state.State as model
@@ -26,7 +25,7 @@ use Rattle.heap_rule.specs.Rule.{Good, Rule, Sharing, state_of}
 use Rattle.heap_rule.specs.Token.{OwnFits}
 use Rattle.heap_rule.specs.Views.{one}
 use Rattle.step_marks.proofs.OfMarking.Learning.{load_may}
-use Rattle.heap_rule.proofs.Keeps.{Words, hunter_as, my_good, unmoved}
+use Rattle.heap_rule.proofs.Keeps.{Words, hunter_as, my_good}
 use Rattle.step_sweep.specs.Freeing.{Frees, IsColoured}
 use Rattle.step_sweep.specs.Pruning.{CanPrune, PruneMay, PruneTold, Prunes, pruned_to, unlisted}
 use Rattle.step_sweep.proofs.Owning.{looked_lives}
