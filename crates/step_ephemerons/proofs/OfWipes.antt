@@ -1,5 +1,4 @@
 pub mod EmptiedKeys
 pub mod Emptying
-pub mod KeySteps
-pub mod DatumSteps
+pub mod WipeSteps
 pub mod Plain

@@ -3,7 +3,6 @@ pub mod RegisterSteps
 pub mod RunSteps
 pub mod TakeSteps
 pub mod LookSteps
-pub mod FinalLooks
-pub mod LastLooks
+pub mod Looks
 pub mod Plain
 pub mod PlainLooks

@@ -30,7 +30,7 @@ use Rattle.heap_rule.specs.declared.view.Registered.{Registered}
 use Rattle.heap_rule.specs.declared.view.RegisteredLast.{RegisteredLast}
 use Rattle.heap_rule.specs.Changes.{value_at}
 use Rattle.heap_rule.specs.Finalisers.{Enrolled, LivesAt, Paired, StandsFinal, StandsLast, StandsWaiting}
-use Rattle.heap_rule.specs.Places.{Live, Stands}
+use Rattle.heap_rule.specs.Places.{Stands}
 use Rattle.heap_rule.specs.Raw.{MayStep}
 use Rattle.heap_rule.specs.Rule.{Rule, Stood}
 use Rattle.heap_rule.specs.Standing.{Acts, GoesOn, IsAt}
@@ -47,11 +47,8 @@ pub acts_on : (k : Config) (x : DomainView) → Acts k x → GoesOn k x
 acts_on k x acts = record { goes_on = acts.goes_on; runs = acts.runs; paid = acts.paid }
 
 module _ (k : Config) (s : Words) (r : Rule k s) (id : ℕ) (hist : List Entry) (x : DomainView) (at : get_elem? s.views id ≡ some (one k hist x)) (acts : Acts k x) where
-  abbrev d : ℕ
-  d = x.own.number
-
-  abbrev live : Live
-  live = r.account.live
+  open x use {own.{number as d}}
+  open r.account use {live}
 
   abbrev pub goes : GoesOn k x
   goes = acts_on k x acts

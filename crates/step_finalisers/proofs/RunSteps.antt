@@ -30,7 +30,7 @@ use Rattle.heap_rule.specs.declared.view.Waiting.TheVariants.{Fin, Last}
 use Rattle.heap_rule.specs.Changes.{value_at}
 use Rattle.heap_rule.specs.Finalisers.{Paired, StandsFinal, StandsLast, StandsWaiting}
 use Rattle.heap_rule.specs.Limits.{sizes_in}
-use Rattle.heap_rule.specs.Places.{Live, Stands}
+use Rattle.heap_rule.specs.Places.{Stands}
 use Rattle.heap_rule.specs.Raw.{MayStep}
 use Rattle.heap_rule.specs.Rule.{Rule, Stood, state_of}
 use Rattle.heap_rule.specs.Token.{OwnFits}
@@ -48,11 +48,8 @@ head_of [] x e = cc
 head_of (y ∷ ys) x e = let same : y ≡ x = cc in (ys, ap (λ z. z ∷ ys) same)
 
 module _ (k : Config) (s : Words) (r : Rule k s) (id : ℕ) (hist : List Entry) (x : DomainView) (at : get_elem? s.views id ≡ some (one k hist x)) (first : Waiting) (may : RunMay k x first) (few : HasRegister first) where
-  abbrev d : ℕ
-  d = x.own.number
-
-  abbrev live : Live
-  live = r.account.live
+  open x use {own.{number as d}}
+  open r.account use {live}
 
   abbrev t : model.State
   t = now k s r id hist x at may.goes_on

@@ -27,8 +27,7 @@ use Rattle.heap_rule.specs.Finalisers.{Enrolled}
 use Rattle.heap_rule.specs.Fullness.{Fullness}
 use Rattle.heap_rule.specs.Limits.{sizes_in}
 use Rattle.heap_rule.specs.Phases.{IsInPause, flag, is_over}
-use Rattle.heap_rule.specs.Places.{Live, Stands}
-use Rattle.heap_rule.specs.Pools.{Tenancy}
+use Rattle.heap_rule.specs.Places.{Stands}
 use Rattle.heap_rule.specs.Rule.{Account, AllFound, Good, Rule, Sharing, Stood, state_of}
 use Rattle.heap_rule.specs.Views.{EachView, Knows as SeatKnows, one}
 use Rattle.heap_rule.proofs.FinaliserLemmas.{KeepsWork}
@@ -39,23 +38,14 @@ use Rattle.step_marks.proofs.OfMarking.Learning.{kind_here, known, not_promoting
 
 -- a step by which the domain has looked at the registration before the p-th: the place in its phase, what is left, and what it has kept
 module _ (k : Config) (s : Words) (r : Rule k s) (id : ℕ) (hist : List Entry) (x : DomainView) (at : get_elem? s.views id ≡ some (one k hist x)) (kind : Kind) (stage : x.seen.stage ≡ In kind) (no_pause : IsInPause (In kind) → ⊥) (under_way : IsCollecting (In kind)) (not_clean : kind ≡ Clean → ⊥) where
+  open r.account use {live, tenancy as t}
+  open x use {own.{number as d}, seen.{share as sh}}
+
   abbrev pub now : model.State
   now = state_of k r.account.log
 
-  abbrev live : Live
-  live = r.account.live
-
-  abbrev t : Tenancy
-  t = r.account.tenancy
-
   abbrev pub c : Cycling
   c = r.account.cycling
-
-  abbrev d : ℕ
-  d = x.own.number
-
-  abbrev sh : Share
-  sh = x.seen.share
 
   good : Good k r.account s.words x
   good = my_good k s r id hist x at

@@ -4,6 +4,7 @@ pub mod Unswept
 pub mod Colouring
 pub mod Layouts
 pub mod Learning
+pub mod Recasting
 pub mod Recolouring
 pub mod Queues
 pub mod Targets

@@ -17,10 +17,10 @@ use Rattle.heap_rule.specs.declared.phase.Stage.{Stage}
 use Rattle.heap_rule.specs.declared.phase.Stage.TheVariants.{In, Leads, Led, Gone}
 use Rattle.heap_rule.specs.Layout.{heap_words, before_heap, barrier, plan, ended_word, want, listed, cursor, listed_pool}
 use Rattle.heap_rule.specs.Limits.{sizes_in}
-use Rattle.heap_rule.specs.Places.{Place, Live, Settled}
+use Rattle.heap_rule.specs.Places.{Place, Settled}
 use Rattle.heap_rule.specs.Copies.{nothing_copied, Promoting, Cleared as Clears, AllCleared, Emptied, Rooted, IsEmptying, Resetting}
 use Rattle.heap_rule.specs.Phases.{code, Follows, sum_of, IsEven, IsOdd, Pause, Phases, LeftOdd, AtStage, Staged, Unwished}
-use Rattle.heap_rule.specs.Pools.{OwnPlace, Stock, Tenancy, nobody, drawn, drawn_in, place_in, limit_of, Reserved, RunsNext, Covered, Drawers, Hunts, no_stock}
+use Rattle.heap_rule.specs.Pools.{OwnPlace, Stock, nobody, drawn, drawn_in, place_in, limit_of, Reserved, RunsNext, Covered, Drawers, Hunts, no_stock}
 use Rattle.heap_rule.specs.Room.{spent_stock, drawn_in_all, Room, IsUnused, Drawable}
 use Rattle.heap_rule.specs.Rule.{Good, Rule}
 use Rattle.heap_rule.specs.Views.{one, Tells}
@@ -147,17 +147,8 @@ none_positive : (n m : ℕ) → n ≡ 0 → m ≡ n → 0 < m → ⊥
 none_positive n m zero_is same positive = omega arith
 
 module _ (k : Config) (s : Words) (r : Rule k s) (id : ℕ) (hist : List Entry) (x : DomainView) (at : get_elem? s.views id ≡ some (one k hist x)) (may : ArriveMay k x) where
-  abbrev pause : Pause
-  pause = r.account.pause
-
-  abbrev tenancy : Tenancy
-  tenancy = r.account.tenancy
-
-  abbrev live : Live
-  live = r.account.live
-
-  abbrev number : ℕ
-  number = x.own.number
+  open r.account use {pause, tenancy, live}
+  open x use {own.{number}}
 
   abbrev words' : List ℕ
   words' = set s.words 1 (barrier s.words + 1)

@@ -51,7 +51,7 @@ use Rattle.std.proofs.lemmas.List.{get_or_past}
 use mathlib.Core.Logic.{dite}
 use native.Mathlib.Decide.{dec_le}
 use Rattle.heap_rule.specs.Places.{Place, Live, IsOldAt, Stands}
-use Rattle.heap_rule.specs.Pools.{Tenancy, owned, blocks_of, place_in, IsBefore, OwnPlace}
+use Rattle.heap_rule.specs.Pools.{owned, blocks_of, place_in, IsBefore, OwnPlace}
 use Rattle.heap_rule.specs.Rule.{Good, Rule}
 use Rattle.heap_rule.specs.Views.{one}
 use Rattle.heap_rule.proofs.Keeps.{Words, mine, my_good, now}
@@ -115,17 +115,11 @@ none_left : (left kept all : ℕ) → left + kept ≡ all → kept ≡ all → l
 none_left left kept all sum is = omega arith
 
 module _ (k : Config) (s : Words) (r : Rule k s) (id : ℕ) (hist : List Entry) (x : DomainView) (at : get_elem? s.views id ≡ some (one k hist x)) (done : HasDone k x) (paid_reads : x.seen.share.weak ≡ None) where
+  open x use {own.{number as d}}
+  open r.account use {cycling as c, tenancy as t}
+
   abbrev state : model.State
   state = now k s r id hist x at
-
-  abbrev d : ℕ
-  d = x.own.number
-
-  abbrev c : Cycling
-  c = r.account.cycling
-
-  abbrev t : Tenancy
-  t = r.account.tenancy
 
   abbrev owner : ℕ → Option ℕ
   owner = owner_at t.holder

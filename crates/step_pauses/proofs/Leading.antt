@@ -23,12 +23,12 @@ use Rattle.heap_rule.specs.Cycles.{Cycling, Cycled, Facts, HasNoCycle, Told, IsI
 use Rattle.heap_rule.specs.Layout.{heap_words, before_heap, barrier, plan, want, listed, cursor, listed_pool}
 use Rattle.heap_rule.specs.Limits.{sizes_in}
 use Rattle.heap_rule.specs.Phases.{code, Follows, flag, is_over, IsEven, Pause, Phases, AtStage, IsInPause}
-use Rattle.heap_rule.specs.Places.{Live, Settled}
+use Rattle.heap_rule.specs.Places.{Settled}
 use Rattle.heap_rule.specs.Beside.{IsUnaware, is_weak}
 use Rattle.heap_rule.proofs.BesideLemmas.{runs_unaware, unaware_of}
 use Rattle.step_pauses.proofs.BesideRows.{AllOld, marks_same, past_owes}
 use Rattle.step_pauses.proofs.Repainting.{repainted}
-use Rattle.heap_rule.specs.Pools.{Tenancy, nobody, owner_word, limit_of, Covered, KeepsReserve}
+use Rattle.heap_rule.specs.Pools.{nobody, owner_word, limit_of, Covered, KeepsReserve}
 use Rattle.heap_rule.specs.Deciding.{Deciding}
 use Rattle.heap_rule.specs.Finalisers.{StandsFinal, StandsLast}
 use Rattle.heap_rule.specs.Rule.{Account, AllFound, Good, Rule, Sharing, Stood, state_of}
@@ -159,20 +159,10 @@ paused_even t d arrivals (Led kd) paused at = absurd paused
 paused_even t d arrivals (Gone kd) paused at = absurd paused
 
 module _ (k : Config) (s : Words) (r : Rule k s) (id : ℕ) (hist : List Entry) (x : DomainView) (at : get_elem? s.views id ≡ some (one k hist x)) (new : ℕ) (next : Kind) (may : LeadMay k x new next) where
+  open r.account use {pause as t, cycling as c, tenancy, live}
+
   abbrev state : model.State
   state = now k s r id hist x at
-
-  abbrev t : Pause
-  t = r.account.pause
-
-  abbrev c : Cycling
-  c = r.account.cycling
-
-  abbrev tenancy : Tenancy
-  tenancy = r.account.tenancy
-
-  abbrev live : Live
-  live = r.account.live
 
   abbrev last : Kind
   last = kind_in x.seen.stage

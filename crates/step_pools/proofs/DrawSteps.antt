@@ -161,13 +161,13 @@ module _ (k : Config) (s : Words) (r : Rule k s) (id : ℕ) (hist : List Entry) 
   pub next_hunter : (h : Hunt) → Hunts k t s.words me h → drawn_in x.seen.hunt ≡ None → Hunter k t s.words (with_hunt x h)
   next_hunter h knows free = hunter_on k t s.words x x.own.looked h x.seen.free knows free hunter.taken hunter.free hunter
 
-  -- a load that tells more of the pools
-  pub knows : (looked : List Spot) (h : Hunt) → Hunter k t s.words (hunting x looked h) → Rule k record { words = s.words; homes = s.homes; views = set s.views id (one k hist (hunting x looked h)) }
-  knows looked h own = holds_again k s r id hist x at x.own.swept.top looked h x.seen.free s.words t record {
+  -- a load that tells more of the pools, and maybe of how many are free
+  tells : (looked : List Spot) (h : Hunt) (free : List ℕ) → (x.seen.stage ≢ In Run → free ≡ []) → Hunter k t s.words (hunting_free x looked h free) → Rule k record { words = s.words; homes = s.homes; views = set s.views id (one k hist (hunting_free x looked h free)) }
+  tells looked h free known own = holds_again k s r id hist x at x.own.swept.top looked h free s.words t record {
     higher = low_same x.own.swept.top;
     gained = λ q e b is. inl is;
     takes = takes;
-    known_free = known_free;
+    known_free = known;
     wide = refl;
     phases = r.whole.phases;
     want = refl;
@@ -191,40 +191,18 @@ module _ (k : Config) (s : Words) (r : Rule k s) (id : ℕ) (hist : List Entry) 
     hunters = λ z _ g. g.hunter;
   }
 
+  pub knows : (looked : List Spot) (h : Hunt) → Hunter k t s.words (hunting x looked h) → Rule k record { words = s.words; homes = s.homes; views = set s.views id (one k hist (hunting x looked h)) }
+  knows looked h own = tells looked h x.seen.free known_free own
+
   -- the count of listed pools
   pub listed_rule : HasNoDraw x → Rule k record { words = s.words; homes = s.homes; views = set s.views id (one k hist (with_hunt x (Counts (listed s.words)))) }
   listed_rule free = knows x.own.looked (Counts (listed s.words)) (next_hunter (Counts (listed s.words)) refl free)
 
   -- no more pools are free than a look found, and the domain takes none
   looked_rule : x.seen.stage ≡ In Run → HasNoDraw x → (f : ℕ) → BoundsFree (listed s.words) (cursor s.words) f → Rule k record { words = s.words; homes = s.homes; views = set s.views id (one k hist (found_free x f Rests)) }
-  looked_rule runs none f bounds = holds_again k s r id hist x at x.own.swept.top x.own.looked Rests (f ∷ x.seen.free) s.words t record {
-    higher = low_same x.own.swept.top;
-    gained = λ q e b is. inl is;
-    takes = takes;
-    known_free = λ stays. absurd (stays runs);
-    wide = refl;
-    phases = r.whole.phases;
-    want = refl;
-    listed_same = refl;
-    reserved = r.whole.reserved;
-    covered = r.whole.covered;
-    room = r.whole.room;
-    unused = r.whole.unused;
-    endings = refl;
-    cycle = cycle_unmoved s.words;
-    garbage = garbage_same k r.account.live t r.account.cycling s.words r.whole.cycle.leaves;
-    heads = λ a p e. refl;
-    listeds = λ z g. let l = g.listed in record { all = l.all; own = l.own; lives = l.lives };
-    full = r.whole.full;
-    found = r.whole.found;
-    pools = pools;
-    grid = r.whole.grid;
-    drawers = r.whole.drawers;
-    makings = λ z p. p;
-    hunter = hunter_on k t s.words x x.own.looked Rests (f ∷ x.seen.free) tt none hunter.taken
-        (λ g e. subst (BoundsFree (listed s.words) (cursor s.words)) (same_Some f g e) bounds) hunter;
-    hunters = λ z _ g. g.hunter;
-  }
+  looked_rule runs none f bounds = tells x.own.looked Rests (f ∷ x.seen.free) (λ stays. absurd (stays runs))
+      (hunter_on k t s.words x x.own.looked Rests (f ∷ x.seen.free) tt none hunter.taken
+      (λ g e. subst (BoundsFree (listed s.words) (cursor s.words)) (same_Some f g e) bounds) hunter)
 
   -- as many are free as the load of the cursor found
   pub rests_rule : x.seen.stage ≡ In Run → (n f : ℕ) → x.seen.hunt ≡ Counts n → BoundsFree n (cursor s.words) f → Rule k record { words = s.words; homes = s.homes; views = set s.views id (one k hist (found_free x f Rests)) }
@@ -594,11 +572,8 @@ module _ (k : Config) (s : Words) (r : Rule k s) (id : ℕ) (hist : List Entry) 
       }
 
 module _ (k : Config) (s : Words) (r : Rule k s) (id : ℕ) (hist : List Entry) (x : DomainView) (at : get_elem? s.views id ≡ some (one k hist x)) where
-  abbrev d : ℕ
-  d = x.own.number
-
-  abbrev T : Tenancy
-  T = r.account.tenancy
+  open x use {own.{number as d}}
+  open r.account use {tenancy as T}
 
   abbrev place : ℕ
   place = cursor s.words

@@ -1,5 +1,5 @@
 -- The steps by which domain 0 looks at the list of free pools, or writes it anew, keep the rule.
-use Rattle.std.proofs.Common.{◌≡◌, ◌≢◌, ℕ, ◌+◌, ◌-◌, ◌*◌, ◌<◌, ◌≤◌, ◌⊎◌, Bool, true, false, true≢false, List, [], ◌∷◌, ◌++◌, length, get_or, set, slice_get, Option, Some, None, sym, refl, ap, ◌∙◌, subst, inl, inr, ⊎_elim, arith, zero-le, length-set, length-append, get_or-set_same, get_or-set_other}
+use Rattle.std.proofs.Common.{◌≡◌, ◌≢◌, ℕ, ◌+◌, ◌-◌, ◌*◌, ◌<◌, ◌≤◌, ◌⊎◌, true, false, true≢false, List, [], ◌∷◌, ◌++◌, length, get_or, set, slice_get, Option, Some, sym, refl, ap, ◌∙◌, subst, inl, inr, ⊎_elim, arith, zero-le, length-set, length-append, get_or-set_same, get_or-set_other}
 use Rattle.std.proofs.lemmas.Option.{none-some, same_Some, slice_get-get_or}
 use mathlib.Core.Logic.{dite}
 use native.Mathlib.Decide.{dec_le}
@@ -23,13 +23,13 @@ use Rattle.heap_rule.specs.Places.{Place}
 use Rattle.heap_rule.specs.Copies.{Promoting}
 use Rattle.heap_rule.specs.Room.{Drawable}
 use Rattle.heap_rule.specs.Phases.{Agree, Pause, AtStage, Staged, IsOdd, sum_of, last_note, HasSetBack}
-use Rattle.heap_rule.specs.Pools.{Holder, nobody, drawn, owned, owner_word, Tenancy, Takes, Pools, Reserved, RunsNext, IsListWhole, KnowsList, no_listing, Covered, KeepsReserve, Lists, Hunts, Hunter, Latest, DrawsFor, drawn_in, limit_of, place_in}
+use Rattle.heap_rule.specs.Pools.{Holder, nobody, drawn, owned, owner_word, Tenancy, Takes, Pools, Reserved, RunsNext, KnowsList, no_listing, Covered, KeepsReserve, Lists, Hunts, Hunter, Latest, DrawsFor, drawn_in, limit_of, place_in}
 use Rattle.heap_rule.specs.Raw.{MayStep, MayStore}
 use Rattle.heap_rule.specs.Rule.{state_of, Good, Rule}
 use Rattle.heap_rule.specs.Standing.{noted}
 use Rattle.heap_rule.specs.Views.{one}
 use Rattle.heap_rule.proofs.Holders.{SameHeap, found_heap, making_heap, grid_heap, sum_small}
-use Rattle.heap_rule.proofs.Keeps.{Words, my_good, remakes, looks, knows_front, phases_words, room_words, opened_words, whole_words, hunter_as, owes_as, takes_even, unmoved}
+use Rattle.heap_rule.proofs.Keeps.{Words, my_good, remakes, knows_front, phases_words, room_words, opened_words, whole_words, hunter_as, owes_as, takes_even, unmoved}
 use Rattle.heap_rule.proofs.PauseFacts.{agree, not_both}
 use Rattle.heap_rule.proofs.Controls.{last_note_end, sharing_words}
 use Rattle.heap_rule.proofs.Lists.{got_below, got_end}

@@ -122,17 +122,8 @@ pub record MakesMay (k : Config) (x : DomainView) (at new : ℕ) (changes : List
 
 module _ (k : Config) (s : Words) (r : Rule k s) (id : ℕ) (hist : List Entry) (x : DomainView) (at : get_elem? s.views id ≡ some (one k hist x)) (a new : ℕ) (changes : List Change) (c : Command) (dst : ℕ) (shape : Shape)
     (node : Node) (behind : List ℕ) (ephemerons : Bounded ℕ) (may : MakesMay k x a new changes c dst shape node behind ephemerons) where
-  abbrev pool : ℕ
-  pool = may.pool
-
-  abbrev class : ℕ
-  class = may.class
-
-  abbrev slot : ℕ
-  slot = may.slot
-
-  abbrev d : ℕ
-  d = x.own.number
+  open may use {pool, class, slot}
+  open x use {own.{number as d}}
 
   abbrev now : model.State
   now = state_of k r.account.log

@@ -1,5 +1,5 @@
 -- What the steps on pools tell of a token's own data.
-use Rattle.std.proofs.Common.{◌≡◌, ◌+◌, ◌^◌, ◌<◌, ◌≤◌, ℕ, zero, suc, List, [], ◌∷◌, ◌++◌, length, set, None, refl, sym, ap, ◌∙◌, subst, arith, lt_of_not-le, length-set, get_or-set_same, get_or-set_other, inl, inr}
+use Rattle.std.proofs.Common.{◌≡◌, ◌+◌, ◌^◌, ◌<◌, ◌≤◌, ℕ, zero, suc, List, [], ◌∷◌, ◌++◌, set, None, refl, sym, ap, ◌∙◌, subst, arith, lt_of_not-le, length-set, get_or-set_same, get_or-set_other, inl, inr}
 use mathlib.Core.Logic.{dite}
 use native.Mathlib.Decide.{dec_le, ℕ_discrete}
 use Rattle.model_core.specs.Domains.{class_count, IsWithinLimits}
@@ -16,11 +16,11 @@ use Rattle.heap_rule.specs.Changes.{changed, FitChanges}
 use Rattle.heap_rule.specs.Limits.{sizes_in}
 use Rattle.heap_rule.specs.Pools.{blocks_of, owned, owner_word, limit_of, spot_at, hunting}
 use Rattle.heap_rule.specs.Raw.{Closes, StepsOnce}
-use Rattle.heap_rule.specs.Finalisers.{FinalisersFit}
 use Rattle.step_pools.specs.Writes.{pool_after}
 use Rattle.step_pools.specs.Takes.{looked_to}
 use Rattle.step_pools.proofs.Tops.{above_within, after_within}
-use Rattle.heap_rule.specs.Token.{AllInHeap, LooksWithin, OwnFits, SweptWithin, next_label}
+use Rattle.heap_words.specs.Remembered.Bounded.{Bounded}
+use Rattle.heap_rule.specs.Token.{AllInHeap, Holds, LooksWithin, OwnFits, next_label}
 use Rattle.heap_rule.proofs.ChangeLemmas.{changed_only}
 use Rattle.heap_rule.proofs.Classes.{some_block}
 use Rattle.step_pools.specs.Takes.{CursorTold, CursorAddTold, OwnedTold, OwnerTold, PlaceTold, MajorTold}
@@ -155,6 +155,22 @@ pub major_rest : (k : Config) (e : Entry) (changes : List Change) (x y : DomainV
 }
 major_rest k e changes x y told = told.view ∙ ap (λ (own : Own). record { own = record own { serial = x.own.serial + 1 }; seen = record x.seen { front = y.seen.front; hunt = Rests; spare = None } }) (changed_only Nothing changes x.own)
 
+-- what fits a token fits it with other registers, another count of labels and other ephemerons
+labelled_fits : (k : Config) (own : Own) (registers : List _) (serial : ℕ) (ephemerons : Bounded ℕ) → OwnFits k own → Holds k registers → AllInHeap k ephemerons.items → OwnFits k (record own { registers = registers; serial = serial; ephemerons = ephemerons })
+labelled_fits k own registers serial ephemerons fits holds listed = record {
+  number = fits.number;
+  used = fits.used;
+  registers = holds;
+  looked = fits.looked;
+  remembered = fits.remembered;
+  remembered_room = fits.remembered_room;
+  prepared = fits.prepared;
+  pending = fits.pending;
+  ephemerons = listed;
+  finalisers = fits.finalisers;
+  swept = fits.swept;
+}
+
 -- the head makes the changes, and counts the label
 pub major_closes : (k : Config) (x : DomainView) (new : ℕ) (e : Entry) (changes : List Change) → FitChanges changes → x.own.serial + 1 < 2 ^ 32
     → Closes k x new (λ y _ z. MajorTold k e changes y z) (CanLabel changes) (Labels changes)
@@ -163,19 +179,7 @@ major_closes k x new e changes fit serial y fits told =
     let rest = ap (λ (z : DomainView). z.own) (major_rest k e changes x y told) in record {
       can_write = (fit, serial);
       written = λ after is. own ∙ sym is;
-      fits = record {
-        number = subst (λ (o : Own). o.number < k.domains) (sym rest) fits.number;
-        used = subst (λ (o : Own). o.used ≤ k.minor_words) (sym rest) fits.used;
-        registers = told.holds;
-        looked = subst (λ (o : Own). LooksWithin k o.looked) (sym rest) fits.looked;
-        remembered = subst (λ (o : Own). AllInHeap k o.remembered.items) (sym rest) fits.remembered;
-        remembered_room = ap (λ (o : Own). o.remembered.room + length o.remembered.items) rest ∙ fits.remembered_room;
-        prepared = ap (λ (o : Own). length o.prepared) rest ∙ fits.prepared;
-        pending = ap (λ (o : Own). o.pending.room + length o.pending.items) rest ∙ fits.pending;
-        ephemerons = subst (λ (o : Own). AllInHeap k o.ephemerons.items) (sym rest) fits.ephemerons;
-        finalisers = subst (λ (o : Own). FinalisersFit k o.finalisers) (sym rest) fits.finalisers;
-        swept = subst (λ (o : Own). SweptWithin k o.swept) (sym rest) fits.swept;
-      };
+      fits = subst (OwnFits k) (sym rest) (labelled_fits k x.own (changed Nothing changes x.own).registers (x.own.serial + 1) x.own.ephemerons fits (subst (λ (o : Own). Holds k o.registers) rest told.holds) fits.ephemerons);
       once = λ _. inr (record { entry = e; answer = Replied (Block (next_label x)); answers = told.answers });
     }
 
@@ -201,18 +205,6 @@ ephe_closes k x at new e changes inside can y fits told =
     let rest = ap (λ (z : DomainView). z.own) (ephe_rest k e at changes x y told) in record {
       can_write = can;
       written = λ after is. own ∙ sym is;
-      fits = record {
-        number = subst (λ (o : Own). o.number < k.domains) (sym rest) fits.number;
-        used = subst (λ (o : Own). o.used ≤ k.minor_words) (sym rest) fits.used;
-        registers = told.holds;
-        looked = subst (λ (o : Own). LooksWithin k o.looked) (sym rest) fits.looked;
-        remembered = subst (λ (o : Own). AllInHeap k o.remembered.items) (sym rest) fits.remembered;
-        remembered_room = ap (λ (o : Own). o.remembered.room + length o.remembered.items) rest ∙ fits.remembered_room;
-        prepared = ap (λ (o : Own). length o.prepared) rest ∙ fits.prepared;
-        pending = ap (λ (o : Own). o.pending.room + length o.pending.items) rest ∙ fits.pending;
-        ephemerons = subst (λ (o : Own). AllInHeap k o.ephemerons.items) (sym rest) (in_heap_more k at x.own.ephemerons.items inside fits.ephemerons);
-        finalisers = subst (λ (o : Own). FinalisersFit k o.finalisers) (sym rest) fits.finalisers;
-        swept = subst (λ (o : Own). SweptWithin k o.swept) (sym rest) fits.swept;
-      };
+      fits = subst (OwnFits k) (sym rest) (labelled_fits k x.own (changed Nothing changes x.own).registers (x.own.serial + 1) (with_ephemeron at x.own.ephemerons) fits (subst (λ (o : Own). Holds k o.registers) rest told.holds) (in_heap_more k at x.own.ephemerons.items inside fits.ephemerons));
       once = λ _. inr (record { entry = e; answer = Replied (Block (next_label x)); answers = told.answers });
     }

@@ -19,7 +19,7 @@ use Rattle.heap_rule.specs.Rule.{Rule}
 use Rattle.heap_rule.specs.Pools.{Takes, owned, owner_word, Hunts, drawn_in, place_in, blocks_of, limit_of}
 use Rattle.step_pools.specs.Writes.{pool_after}
 use Rattle.step_pools.specs.Takes.{with_hunt, found_free, looked_to, owning_pool, HasNoDraw, ListedTold, CursorTold, YoungMay, YoungTold, CursorAddTold, CopyDrawMay, CopyDrawTold, ListMay, ListTold, ClearMay, ClearTold, OwnedTold, FillTold, cleared_more, OwnerMay, OwnerLoadMay, OwnerTold, PlaceMay, PlaceTold, FillMay, filled, NoneFree}
-use Rattle.heap_rule.proofs.Keeps.{unmoved, looks, mine, my_good}
+use Rattle.heap_rule.proofs.Keeps.{unmoved, looks}
 use Rattle.step_pools.proofs.DrawSteps.{hunter, leaves_spare, listed_rule, asks_rule, rests_rule, young_rule, past_bounds, add_whole, add_late_rule, add_draws_rule, add_place_inside, add_pool_inside, copy_whole, copy_draws_rule, copy_place_inside, copy_pool_inside}
 use Rattle.step_pools.proofs.Rooms.{all_used, pool_left}
 use Rattle.step_pools.proofs.WalkSteps.{walks_rule, passes_rule, takes_rule, full_rule, last_rule, clears_rule, owns_rule, fills_rule}

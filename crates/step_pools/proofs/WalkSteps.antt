@@ -66,11 +66,8 @@ pub garbage_heads : (k : Config) (t : Tenancy) (live : Live) (c : Cycling) (word
 garbage_heads k t live c words at new far l a is = let h = l.owned a is in let o = h.1 in stays k t words at new a (λ same. far o.pool h.0 o.class o.slot o.owned_is o.inside (sym o.begins ∙ same))
 
 module _ (k : Config) (s : Words) (r : Rule k s) (id : ℕ) (hist : List Entry) (x : DomainView) (at : get_elem? s.views id ≡ some (one k hist x)) (takes : Takes x.seen.stage) where
-  abbrev d : ℕ
-  d = x.own.number
-
-  abbrev T : Tenancy
-  T = r.account.tenancy
+  open x use {own.{number as d}}
+  open r.account use {tenancy as T}
 
   H : Hunter k T s.words x
   H = hunter k s r id hist x at takes

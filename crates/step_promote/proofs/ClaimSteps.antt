@@ -45,8 +45,8 @@ use Rattle.heap_rule.proofs.Classes.{size_least}
 use Rattle.heap_rule.proofs.Counting.{joined_with, joined_cases, claim_counts, claim_few, sum_le, sum_times}
 use Rattle.heap_rule.proofs.Drops.{debt_cases}
 use Rattle.heap_rule.proofs.Holders.{SameFor, agrees_same, hunter_agree}
-use Rattle.heap_rule.proofs.Garbage.{KeepsGarbage, garbage_same}
-use Rattle.heap_rule.proofs.Keeps.{Words, mine, my_good, control_set, control_same, pools_same, opened_words, more_same, stands_more, hunter_as}
+use Rattle.heap_rule.proofs.Garbage.{KeepsGarbage}
+use Rattle.heap_rule.proofs.Keeps.{Words, mine, my_good, control_set, pools_same, opened_words, more_same, stands_more, hunter_as}
 use Rattle.heap_rule.proofs.PauseFacts.{promote_now, promote_here}
 use Rattle.heap_rule.proofs.Lots.{area_beside, hunter_beside, number_cases, place_low}
 use Rattle.heap_rule.proofs.Update.{over, over_here, over_else}
@@ -56,7 +56,7 @@ use Rattle.step_promote.proofs.OwnPlaces as places
 use Rattle.step_promote.proofs.OwnPlaces.{place_sole, spare_clean}
 use Rattle.step_promote.proofs.Preparing.{prepared_here, prepared_else}
 use Rattle.step_promote.proofs.Registers.{promote_once}
-use Rattle.step_promote.proofs.Remaking.{promotes_again, stood_same, young_colour}
+use Rattle.step_promote.proofs.Remaking.{keeps_words, promotes_again, stood_same, young_colour}
 use Rattle.heap_rule.proofs.HeadLemmas.{head_at}
 use Rattle.heap_rule.proofs.FullnessLemmas.{full_filled}
 use Rattle.heap_rule.specs.Fullness.{Homes, Fullness}
@@ -140,14 +140,8 @@ span_is shape class l = least_is SIZES (extent shape) class l.inside l.fits l.le
 
 module _ (k : Config) (s : Words) (r : Rule k s) (id : ℕ) (hist : List Entry) (x : DomainView) (at : get_elem? s.views id ≡ some (one k hist x)) (fits : OwnFits k x.own)
     (a old new class c : ℕ) (may : ClaimMay k x a old new class c) where
-  abbrev t : Tenancy
-  t = r.account.tenancy
-
-  abbrev me : ℕ
-  me = x.own.number
-
-  abbrev live : Live
-  live = r.account.live
+  open r.account use {tenancy as t, live}
+  open x use {own.{number as me}}
 
   abbrev graph : Graph
   graph = (state_of k r.account.log).graph
@@ -269,63 +263,28 @@ module _ (k : Config) (s : Words) (r : Rule k s) (id : ℕ) (hist : List Entry) 
         let G = my_good k s r id hist x at in
         let w = G.owes in
         let h = hunter_as k t s.words x x refl refl refl refl refl refl refl G.hunter in
-        promotes_again k s r id hist x at may.stage lost_view s.words live t r.account.homes record {
-          share = refl;
-          full = r.whole.full;
-          garbage = garbage_same k live t r.account.cycling s.words r.whole.cycle.leaves;
-          holders = λ q. refl;
-          ephemerons = refl;
-          swept = refl;
-          no_more = λ a e. e;
-          number = refl;
-          arrivals = refl;
-          stage = refl;
-          front = refl;
-          free = refl;
-          spare = refl;
-          listing = refl;
-          wide = refl;
-          control = control_same k s.words;
-          found = r.whole.found;
-          placed = r.whole.placed;
-          spread = r.whole.spread;
-          more = more_same live;
-          young = λ b q e _. (q, e, refl);
-          copies = r.whole.copies;
-          cleared = r.whole.cleared;
-          pools = r.whole.pools;
-          grid = r.whole.grid;
-          drawers = r.whole.drawers;
-          room = r.whole.room;
-          opened = r.whole.opened;
-          stood = stood_same k s r id hist x at may.stage lost_view refl refl refl refl live (more_same live);
-          area = record { room = G.area.room; free = G.area.free; classes = G.area.classes };
-          making = record { fits = G.making.fits; written = G.making.written };
-          hunter = record {
-            hunt = tt;
-            drawn_alone = λ q e. absurd (none-some q (ap drawn_in (sym may.hunt) ∙ h.drawn_alone q e));
-            taken = h.taken;
-            free = h.free;
-            spare = h.spare;
-            holds = h.holds;
-            prepared = h.prepared;
-            claims = h.claims;
-            supply = λ d few some. inr (⊎_elim (λ (e : DrawsFor d x.seen.hunt). absurd (subst (DrawsFor d) may.hunt e)) (λ (l : Latest k t s.words me d). l) (h.supply d few some));
-          };
-          owes = record {
-            quiet = inr may.stage;
-            knows = knows_more live (met_of c2 may.place) x.seen.copying.met w.knows its;
-            copied = λ b d. ⊎_elim (λ (h : (a ≡ b) × (c2 ≡ d)). record { place = p; lives = ap live (sym h.0) ∙ lives; forwards = forward ∙ ap Some h.1 }) (λ (h : HasCopy x b d). w.copied b d h);
-            owed = λ i v got. let z = w.owed i v got in record { place = z.place; lives = z.lives; debt = z.debt };
-            once = w.once;
-            listed = w.listed;
-            recalled = w.recalled;
-            fields = w.fields;
-          };
-          areas = λ z _ e. e;
-          makings = λ z _ _ e. e;
-          hunters = λ z _ e. e;
-          owe = λ z _ e. e;
+        keeps_words k s r id hist x at may.stage x.own.registers x.own.finalisers x.own.prepared x.own.looked Rests lost_view.seen.copying
+        (stood_same k s r id hist x at may.stage lost_view refl refl refl refl live (more_same live))
+        record {
+          hunt = tt;
+          drawn_alone = λ q e. absurd (none-some q (ap drawn_in (sym may.hunt) ∙ h.drawn_alone q e));
+          taken = h.taken;
+          free = h.free;
+          spare = h.spare;
+          holds = h.holds;
+          prepared = h.prepared;
+          claims = h.claims;
+          supply = λ d few some. inr (⊎_elim (λ (e : DrawsFor d x.seen.hunt). absurd (subst (DrawsFor d) may.hunt e)) (λ (l : Latest k t s.words me d). l) (h.supply d few some));
+        }
+        record {
+          quiet = inr may.stage;
+          knows = knows_more live (met_of c2 may.place) x.seen.copying.met w.knows its;
+          copied = λ b d. ⊎_elim (λ (h : (a ≡ b) × (c2 ≡ d)). record { place = p; lives = ap live (sym h.0) ∙ lives; forwards = forward ∙ ap Some h.1 }) (λ (h : HasCopy x b d). w.copied b d h);
+          owed = λ i v got. let z = w.owed i v got in record { place = z.place; lives = z.lives; debt = z.debt };
+          once = w.once;
+          listed = w.listed;
+          recalled = w.recalled;
+          fields = w.fields;
         }
 
     lost_told : ClaimTold k a old class c x (at_address k s.words a) lost_view

@@ -14,8 +14,8 @@ use Rattle.heap_rule.specs.declared.view.Spot.{Spot}
 use Rattle.heap_rule.specs.declared.view.DomainView.{DomainView}
 use Rattle.heap_rule.specs.declared.phase.Kind.TheVariants.{Promote}
 use Rattle.heap_rule.specs.declared.phase.Stage.TheVariants.{In}
-use Rattle.heap_rule.specs.Layout.{before_heap, at_address, listed, cursor}
-use Rattle.heap_rule.specs.Places.{Place, Live}
+use Rattle.heap_rule.specs.Layout.{before_heap, at_address}
+use Rattle.heap_rule.specs.Places.{Place}
 use Rattle.heap_rule.specs.Pools.{limit_of, owned, drawn_in, Tenancy, Hunts, Hunter, OwnPlace, Grid, Latest, DrawsFor, IsBefore, spot_at, place_in, size_of, blocks_of, prepared_at}
 use Rattle.heap_rule.specs.Raw.{MayStore, Closes}
 use Rattle.heap_rule.specs.Rule.{Rule}
@@ -25,14 +25,14 @@ use Rattle.step_promote.specs.Claims.{preparing, with_hunt, LabelStoreMay, Label
 use Rattle.step_promote.specs.Writes.{CanPrepare, Frees}
 use Rattle.heap_rule.proofs.Classes.{size_least, slot_below, slot_inside}
 use Rattle.heap_rule.proofs.Holders.{SameFor, agrees_same, hunter_agree, stock_self}
-use Rattle.heap_rule.proofs.Keeps.{Words, my_good, garbage_here, control_set, pools_same, room_words, opened_words, owes_as, more_same}
+use Rattle.heap_rule.proofs.Keeps.{Words, my_good, garbage_here, control_set, owes_as, more_same}
 use Rattle.heap_rule.proofs.Lots.{hunter_beside}
 use Rattle.heap_rule.proofs.Update.{over, over_here, over_else}
 use Rattle.step_promote.proofs.OwnPlaces as places
 use Rattle.step_promote.proofs.OwnPlaces.{place_sole, spare_clean}
-use Rattle.step_promote.proofs.Preparing.{pools_prepared, prepared_here, prepared_else}
+use Rattle.step_promote.proofs.Preparing.{prepared_here, prepared_else}
 use Rattle.step_promote.proofs.Registers.{promote_once}
-use Rattle.step_promote.proofs.Remaking.{promotes_again, stood_same, no_spare}
+use Rattle.step_promote.proofs.Remaking.{keeps_blocks, stood_same, no_spare}
 use Rattle.std.proofs.lemmas.Option.{none-some, same_Some}
 
 -- the places of a class are looked at from another place on
@@ -55,14 +55,8 @@ before_self q i b = ⊎_elim (λ (h : q < q). omega arith) (λ (h : (q ≡ q) ×
 
 module _ (k : Config) (s : Words) (r : Rule k s) (id : ℕ) (hist : List Entry) (x : DomainView) (at : get_elem? s.views id ≡ some (one k hist x)) (promotes : x.seen.stage ≡ In Promote)
     (a c0 : ℕ) (few0 : c0 < class_count) (held : prepared_at x.own.prepared c0 ≡ Some a) where
-  abbrev t : Tenancy
-  t = r.account.tenancy
-
-  abbrev me : ℕ
-  me = x.own.number
-
-  abbrev live : Live
-  live = r.account.live
+  open r.account use {tenancy as t, live}
+  open x use {own.{number as me}}
 
   H : Hunter k t s.words x
   H = (my_good k s r id hist x at).hunter
@@ -149,47 +143,21 @@ module _ (k : Config) (s : Words) (r : Rule k s) (id : ℕ) (hist : List Entry) 
       pub keeps_rule : Rule k record { words = ws; homes = s.homes; views = set s.views id (one k hist y) }
       keeps_rule =
           let G = my_good k s r id hist x at in
-          let counts : (listed ws ≡ listed s.words) × (cursor ws ≡ cursor s.words) = (control 6 (omega arith), control 7 (omega arith)) in
           let making = places.makings_again k s r id hist x at a o empty i new four x G.making in
           subst (λ (z : DomainView). Rule k record { words = ws; homes = s.homes; views = set s.views id (one k hist z) }) (sym y_is)
-          (promotes_again k s r id hist x at promotes (with_hunt x hunt) ws live t r.account.homes record {
-            share = refl;
-            full = r.whole.full;
-            garbage = garbage_here k s r id hist x at live ws r.whole.cycle.leaves.dead (places.heads_again k s r id hist x at a o empty i new four clean);
-            holders = λ q. refl;
-            ephemerons = refl;
-            swept = refl;
-            no_more = λ a e. e;
-            number = refl;
-            arrivals = refl;
-            stage = refl;
-            front = refl;
-            free = refl;
-            spare = refl;
-            listing = refl;
+          (keeps_blocks k s r id hist x at promotes x.own.registers x.own.finalisers x.own.prepared x.own.looked hunt x.seen.copying ws t.prepared record {
             wide = length-set s.words (before_heap k + (a + i)) new;
             control = control;
             found = places.found_again k s r id hist x at a o empty i new four;
-            placed = r.whole.placed;
-            spread = r.whole.spread;
-            more = more_same live;
-            young = λ b q e _. (q, e, refl);
-            copies = r.whole.copies;
-            cleared = r.whole.cleared;
-            pools = pools_same k t s.words ws control r.whole.pools;
+            garbage = garbage_here k s r id hist x at live ws r.whole.cycle.leaves.dead (places.heads_again k s r id hist x at a o empty i new four clean);
             grid = grid';
             drawers = r.whole.drawers;
-            room = room_words k live r.account.pause t.stock s.words ws (λ _. counts) r.whole.room;
-            opened = opened_words k live s.words ws (λ _ _ _ _. counts.0) r.whole.opened;
             stood = stood_same k s r id hist x at promotes (with_hunt x hunt) refl refl refl refl live (more_same live);
-            area = record { room = G.area.room; free = G.area.free; classes = G.area.classes };
-            making = record { fits = making.fits; written = making.written };
+            making = making;
             hunter = hunter';
             owes = owes_as k live x (with_hunt x hunt) refl refl refl refl G.owes;
-            areas = λ z _ h. h;
-            makings = λ z _ _ m. places.makings_again k s r id hist x at a o empty i new four z m;
+            makings = places.makings_again k s r id hist x at a o empty i new four;
             hunters = others;
-            owe = λ z _ w. w;
           })
 
   -- the place is given back: its head is Free
@@ -284,46 +252,20 @@ module _ (k : Config) (s : Words) (r : Rule k s) (id : ℕ) (hist : List Entry) 
     frees_rule =
         let G = my_good k s r id hist x at in
         let control0 = control 0 0 (omega arith) in
-        let counts : (listed w0 ≡ listed s.words) × (cursor w0 ≡ cursor s.words) = (control0 6 (omega arith), control0 7 (omega arith)) in
         let making = places.makings_again k s r id hist x at a o empty 0 0 (omega arith) x G.making in
-        promotes_again k s r id hist x at promotes y w0 live t' r.account.homes record {
-          share = refl;
-          full = r.whole.full;
-          garbage = places.garbage_again k s r id hist x at a o empty 0 0 (omega arith) clean None;
-          holders = λ q. refl;
-          ephemerons = refl;
-          swept = refl;
-          no_more = λ a e. e;
-          number = refl;
-          arrivals = refl;
-          stage = refl;
-          front = refl;
-          free = refl;
-          spare = refl;
-          listing = refl;
+        keeps_blocks k s r id hist x at promotes x.own.registers x.own.finalisers y.own.prepared looked x.seen.hunt x.seen.copying w0 prepared' record {
           wide = length-set s.words (before_heap k + (a + 0)) 0;
           control = control0;
           found = places.found_again k s r id hist x at a o empty 0 0 (omega arith);
-          placed = r.whole.placed;
-          spread = r.whole.spread;
-          more = more_same live;
-          young = λ b q e _. (q, e, refl);
-          copies = r.whole.copies;
-          cleared = r.whole.cleared;
-          pools = pools_prepared k t prepared' w0 (pools_same k t s.words w0 control0 r.whole.pools);
+          garbage = places.garbage_again k s r id hist x at a o empty 0 0 (omega arith) clean None;
           grid = grid0;
           drawers = record { drawn = r.whole.drawers.drawn; prepared = λ b d is. r.whole.drawers.prepared b d (was b d is).1; claims = r.whole.drawers.claims };
-          room = room_words k live r.account.pause t.stock s.words w0 (λ _. counts) r.whole.room;
-          opened = opened_words k live s.words w0 (λ _ _ _ _. counts.0) r.whole.opened;
           stood = stood_same k s r id hist x at promotes y refl refl refl refl live (more_same live);
-          area = record { room = G.area.room; free = G.area.free; classes = G.area.classes };
-          making = record { fits = making.fits; written = making.written };
+          making = making;
           hunter = hunter0;
           owes = owes_as k live x y refl refl refl refl G.owes;
-          areas = λ z _ h. h;
-          makings = λ z _ _ m. places.makings_again k s r id hist x at a o empty 0 0 (omega arith) z m;
+          makings = places.makings_again k s r id hist x at a o empty 0 0 (omega arith);
           hunters = λ z other h. hunter_agree k t t' w0 w0 (agrees_same k w0) z (omega arith) (same_for z.own.number other) (others 0 0 (omega arith) z other h);
-          owe = λ z _ w. w;
         }
 
 -- who is writing a prepared place has drawn no pool

@@ -29,14 +29,13 @@ use Rattle.heap_rule.specs.Rule.{state_of, Rule}
 use Rattle.heap_rule.specs.Standing.{IsInHeap}
 use Rattle.heap_rule.specs.Token.{OwnFits}
 use Rattle.heap_rule.specs.Views.{one}
-use Rattle.heap_rule.proofs.Garbage.{garbage_same}
-use Rattle.heap_rule.proofs.Keeps.{Words, my_good, control_same, hunter_as, owes_as, unmoved, more_same}
+use Rattle.heap_rule.proofs.Keeps.{Words, my_good, hunter_as, owes_as, unmoved}
 use Rattle.heap_rule.proofs.Values.{address_of}
 use Rattle.step_promote.specs.Promotion.{Knows, changed_at, waiting_at, with_held, with_finalisers, HeldMoveMay, HeldMoveTold}
 use Rattle.step_promote.specs.Writes.{CanMoveHeld, MovesHeld}
 use Rattle.step_promote.proofs.HeldPlaces.{mapped_from, chained_from, length_changed, got_changed, paired_changed}
-use Rattle.step_promote.proofs.Registers.{promote_once}
-use Rattle.step_promote.proofs.Remaking.{promotes_again}
+use Rattle.step_promote.proofs.Registers.{fits_moved, promote_once}
+use Rattle.step_promote.proofs.Remaking.{keeps_words}
 use Rattle.std.proofs.lemmas.Option.{same_Some}
 
 -- the item of a queue that refers to a block refers to it at its copy's address
@@ -172,50 +171,10 @@ module _ (k : Config) (s : Words) (r : Rule k s) (id : ℕ) (hist : List Entry) 
     held_rule : Rule k record { words = s.words; homes = s.homes; views = set s.views id (one k hist after) }
     held_rule =
         let g = my_good k s r id hist x at in
-        promotes_again k s r id hist x at promotes after s.words live r.account.tenancy r.account.homes record {
-          share = refl;
-          full = r.whole.full;
-          garbage = garbage_same k r.account.live r.account.tenancy r.account.cycling s.words r.whole.cycle.leaves;
-          holders = λ q. refl;
-          ephemerons = refl;
-          swept = refl;
-          no_more = λ a e. e;
-          number = refl;
-          arrivals = refl;
-          stage = refl;
-          front = refl;
-          free = refl;
-          spare = refl;
-          listing = refl;
-          wide = refl;
-          control = control_same k s.words;
-          found = r.whole.found;
-          placed = r.whole.placed;
-          spread = r.whole.spread;
-          more = more_same live;
-          young = λ b q e _. (q, e, refl);
-          copies = r.whole.copies;
-          cleared = r.whole.cleared;
-          pools = r.whole.pools;
-          grid = r.whole.grid;
-          drawers = r.whole.drawers;
-          room = r.whole.room;
-          opened = r.whole.opened;
-          stood = record {
-            wide = g.stood.wide;
-            each = g.stood.each;
-            serial = g.stood.serial;
-            enrolled = enrolled_moved live now x.own.number x.own.finalisers h may.address copy may.holds lives_there g.stood.enrolled;
-          };
-          area = record { room = g.area.room; free = g.area.free; classes = g.area.classes };
-          making = record { fits = g.making.fits; written = g.making.written };
-          hunter = hunter_as k r.account.tenancy s.words x after refl refl refl refl refl refl refl g.hunter;
-          owes = owes_as k live x after refl refl refl refl g.owes;
-          areas = λ z _ a. a;
-          makings = λ z _ _ m. m;
-          hunters = λ z _ h. h;
-          owe = λ z _ w. w;
-        }
+        keeps_words k s r id hist x at promotes x.own.registers after.own.finalisers x.own.prepared x.own.looked x.seen.hunt x.seen.copying
+        record { wide = g.stood.wide; each = g.stood.each; serial = g.stood.serial; enrolled = enrolled_moved live now x.own.number x.own.finalisers h may.address copy may.holds lives_there g.stood.enrolled }
+        (hunter_as k r.account.tenancy s.words x after refl refl refl refl refl refl refl g.hunter)
+        (owes_as k live x after refl refl refl refl g.owes)
 
 pub held_move_may : (k : Config) (x : DomainView) (word : ℕ) (h : Held) (copy : ℕ) → HeldMoveMay x h copy → MayStep k x word (λ n. n) (HeldMoveTold k h copy)
 held_move_may k x word h copy may fits slots id hist s r _ at _ =
@@ -235,18 +194,6 @@ held_move_closes k x found h copy may y fits told =
     let fit : FinalisersFit k fs = subst (λ (o : Own). FinalisersFit k o.finalisers) own told.fit in record {
       can_write = (may.address, may.holds);
       written = λ after wrote. own ∙ sym wrote;
-      fits = subst (OwnFits k) (sym own) record {
-        number = fits.number;
-        used = fits.used;
-        registers = fits.registers;
-        looked = fits.looked;
-        remembered = fits.remembered;
-        remembered_room = fits.remembered_room;
-        prepared = fits.prepared;
-        pending = fits.pending;
-        ephemerons = fits.ephemerons;
-        finalisers = fit;
-        swept = fits.swept;
-      };
+      fits = subst (OwnFits k) (sym own) (fits_moved k x.own x.own.registers fs fits.registers fit fits);
       once = promote_once k x y may.stage;
     }

@@ -44,9 +44,8 @@ use Rattle.heap_rule.proofs.Values.{address_of, packable}
 use Rattle.heap_rule.proofs.Lists.{got_there}
 use Rattle.heap_rule.proofs.Drops.{debt_cases}
 use Rattle.heap_rule.proofs.Lots.{number_cases}
-use Rattle.heap_rule.proofs.Garbage.{garbage_same}
-use Rattle.heap_rule.proofs.Keeps.{Words, my_good, control_same, hunter_as, unmoved, more_same, stands_more}
-use Rattle.step_promote.proofs.Remaking.{promotes_again, stood_same, young_colour}
+use Rattle.heap_rule.proofs.Keeps.{Words, my_good, hunter_as, unmoved, more_same, stands_more}
+use Rattle.step_promote.proofs.Remaking.{keeps_words, stood_same, young_colour}
 use Rattle.heap_rule.proofs.HeadLemmas.{packable_head, colour_small}
 use Rattle.std.proofs.lemmas.Option.{same_Some}
 
@@ -104,53 +103,18 @@ module _ (k : Config) (s : Words) (r : Rule k s) (id : ℕ) (hist : List Entry) 
       let g = my_good k s r id hist x at in
       let y : DomainView = with_copied (with_met x met) copied in
       let o = g.owes in
-      promotes_again k s r id hist x at promotes y s.words live r.account.tenancy r.account.homes record {
-        share = refl;
-        full = r.whole.full;
-        garbage = garbage_same k r.account.live r.account.tenancy r.account.cycling s.words r.whole.cycle.leaves;
-        holders = λ q. refl;
-        ephemerons = refl;
-        swept = refl;
-        no_more = λ a e. e;
-        number = refl;
-        arrivals = refl;
-        stage = refl;
-        front = refl;
-        free = refl;
-        spare = refl;
-        listing = refl;
-        wide = refl;
-        control = control_same k s.words;
-        found = r.whole.found;
-        placed = r.whole.placed;
-        spread = r.whole.spread;
-        more = more_same live;
-        young = λ b q e _. (q, e, refl);
-        copies = r.whole.copies;
-        cleared = r.whole.cleared;
-        pools = r.whole.pools;
-        grid = r.whole.grid;
-        drawers = r.whole.drawers;
-        room = r.whole.room;
-        opened = r.whole.opened;
-        stood = stood_same k s r id hist x at promotes y refl refl refl refl live (more_same live);
-        area = record { room = g.area.room; free = g.area.free; classes = g.area.classes };
-        making = record { fits = g.making.fits; written = g.making.written };
-        hunter = hunter_as k r.account.tenancy s.words x y refl refl refl refl refl refl refl g.hunter;
-        owes = record {
-          quiet = inr promotes;
-          knows = more;
-          copied = lists;
-          owed = λ i w got. let t = o.owed i w got in record { place = t.place; lives = t.lives; debt = t.debt };
-          once = o.once;
-          listed = o.listed;
-          recalled = o.recalled;
-          fields = o.fields;
-        };
-        areas = λ z _ a. a;
-        makings = λ z _ _ m. m;
-        hunters = λ z _ h. h;
-        owe = λ z _ w. w;
+      keeps_words k s r id hist x at promotes x.own.registers x.own.finalisers x.own.prepared x.own.looked x.seen.hunt y.seen.copying
+      (stood_same k s r id hist x at promotes y refl refl refl refl live (more_same live))
+      (hunter_as k r.account.tenancy s.words x y refl refl refl refl refl refl refl g.hunter)
+      record {
+        quiet = inr promotes;
+        knows = more;
+        copied = lists;
+        owed = λ i w got. let t = o.owed i w got in record { place = t.place; lives = t.lives; debt = t.debt };
+        once = o.once;
+        listed = o.listed;
+        recalled = o.recalled;
+        fields = o.fields;
       }
 
   pub meets_rule : (met : List Met) → More (known met) live → Rule k record { words = s.words; homes = s.homes; views = set s.views id (one k hist (with_met x met)) }

@@ -14,9 +14,9 @@ use Rattle.heap_rule.specs.declared.view.Spot.{Spot}
 use Rattle.heap_rule.specs.declared.view.DomainView.{DomainView}
 use Rattle.heap_rule.specs.declared.phase.Kind.TheVariants.{Promote}
 use Rattle.heap_rule.specs.declared.phase.Stage.TheVariants.{In}
-use Rattle.heap_rule.specs.Layout.{before_heap, at_address, listed, cursor}
-use Rattle.heap_rule.specs.Places.{Place, Live}
-use Rattle.heap_rule.specs.Pools.{limit_of, owned, drawn_in, Tenancy, Pools, Filling, Hunts, Hunter, OwnPlace, IsSpare, Grid, Latest, DrawsFor, Drawers, IsCopying, IsBefore, spot_at, place_in, blocks_of, prepared_at}
+use Rattle.heap_rule.specs.Layout.{before_heap, at_address}
+use Rattle.heap_rule.specs.Places.{Place}
+use Rattle.heap_rule.specs.Pools.{limit_of, owned, drawn_in, Tenancy, Filling, Hunts, Hunter, OwnPlace, IsSpare, Grid, Latest, DrawsFor, Drawers, IsCopying, IsBefore, spot_at, place_in, blocks_of, prepared_at}
 use Rattle.heap_rule.specs.Raw.{MayStore, Written, Closes}
 use Rattle.heap_rule.specs.Rule.{state_of, Rule}
 use Rattle.heap_rule.specs.Token.{OwnFits}
@@ -24,19 +24,15 @@ use Rattle.heap_rule.specs.Views.{one}
 use Rattle.step_promote.specs.Claims.{preparing, PrepareMay, PrepareTold}
 use Rattle.step_promote.specs.Writes.{CanPrepare, Prepares}
 use Rattle.heap_rule.proofs.Holders.{SameFor, agrees_same, hunter_agree, stock_self}
-use Rattle.heap_rule.proofs.Keeps.{Words, my_good, control_set, pools_same, room_words, opened_words, owes_as, more_same}
+use Rattle.heap_rule.proofs.Keeps.{Words, my_good, control_set, owes_as, more_same}
 use Rattle.heap_rule.proofs.PauseFacts.{promote_now, promote_here}
 use Rattle.heap_rule.proofs.Lots.{garbage_full, head_full, hunter_beside, place_cases}
 use Rattle.heap_rule.proofs.Update.{over, over_here, over_else}
 use Rattle.step_promote.proofs.OwnPlaces as places
 use Rattle.step_promote.proofs.OwnPlaces.{place_sole}
 use Rattle.step_promote.proofs.Registers.{promote_once}
-use Rattle.step_promote.proofs.Remaking.{promotes_again, stood_same, no_spare}
+use Rattle.step_promote.proofs.Remaking.{keeps_blocks, stood_same, no_spare}
 use Rattle.std.proofs.lemmas.Option.{none-some, same_Some}
-
--- the tenancy with another domain that has prepared a place
-pub pools_prepared : (k : Config) (t : Tenancy) (prepared : ℕ → Option ℕ) (words : List ℕ) → Pools k t words → Pools k (record t { prepared = prepared }) words
-pools_prepared k t prepared words p = record { few = p.few; inside = p.inside; once = p.once; untaken = p.untaken; owners = p.owners; owned_by = p.owned_by; drawn_by = p.drawn_by; one_each = p.one_each; asked = p.asked }
 
 -- the list of prepared places with another for a class
 pub prepared_here : (l : List (Option ℕ)) (class : ℕ) (v : Option ℕ) → length l ≡ class_count → class < class_count → prepared_at (set l class v) class ≡ v
@@ -47,14 +43,8 @@ prepared_else l class c v other = get_or-set_other l class c v None other
 
 module _ (k : Config) (s : Words) (r : Rule k s) (id : ℕ) (hist : List Entry) (x : DomainView) (at : get_elem? s.views id ≡ some (one k hist x)) (wide : length x.own.prepared ≡ class_count)
     (a new pool class slot : ℕ) (may : PrepareMay x a new pool class slot) where
-  abbrev t : Tenancy
-  t = r.account.tenancy
-
-  abbrev me : ℕ
-  me = x.own.number
-
-  abbrev live : Live
-  live = r.account.live
+  open r.account use {tenancy as t, live}
+  open x use {own.{number as me}}
 
   H : Hunter k t s.words x
   H = (my_good k s r id hist x at).hunter
@@ -209,46 +199,20 @@ module _ (k : Config) (s : Words) (r : Rule k s) (id : ℕ) (hist : List Entry) 
   prepare_rule : Rule k record { words = ws; homes = s.homes; views = set s.views id (one k hist y) }
   prepare_rule =
       let G = my_good k s r id hist x at in
-      let counts : (listed ws ≡ listed s.words) × (cursor ws ≡ cursor s.words) = (control' 6 (omega arith), control' 7 (omega arith)) in
       let making = places.makings_again k s r id hist x at a o empty 0 new (omega arith) x G.making in
-      promotes_again k s r id hist x at may.stage y ws live t' r.account.homes record {
-        share = refl;
-        full = r.whole.full;
-        garbage = places.garbage_again k s r id hist x at a o empty 0 new (omega arith) clean (Some me);
-        holders = λ q. refl;
-        ephemerons = refl;
-        swept = refl;
-        no_more = λ a e. e;
-        number = refl;
-        arrivals = refl;
-        stage = refl;
-        front = refl;
-        free = refl;
-        spare = refl;
-        listing = refl;
+      keeps_blocks k s r id hist x at may.stage x.own.registers x.own.finalisers y.own.prepared x.own.looked Rests x.seen.copying ws prepared' record {
         wide = length-set s.words (before_heap k + (a + 0)) new;
         control = control';
         found = places.found_again k s r id hist x at a o empty 0 new (omega arith);
-        placed = r.whole.placed;
-        spread = r.whole.spread;
-        more = more_same live;
-        young = λ b q e _. (q, e, refl);
-        copies = r.whole.copies;
-        cleared = r.whole.cleared;
-        pools = pools_prepared k t prepared' ws (pools_same k t s.words ws control' r.whole.pools);
+        garbage = places.garbage_again k s r id hist x at a o empty 0 new (omega arith) clean (Some me);
         grid = grid';
         drawers = drawers';
-        room = room_words k live r.account.pause t.stock s.words ws (λ _. counts) r.whole.room;
-        opened = opened_words k live s.words ws (λ _ _ _ _. counts.0) r.whole.opened;
         stood = stood_same k s r id hist x at may.stage y refl refl refl refl live (more_same live);
-        area = record { room = G.area.room; free = G.area.free; classes = G.area.classes };
-        making = record { fits = making.fits; written = making.written };
+        making = making;
         hunter = hunter';
         owes = owes_as k live x y refl refl refl refl G.owes;
-        areas = λ z _ h. h;
-        makings = λ z _ _ m. places.makings_again k s r id hist x at a o empty 0 new (omega arith) z m;
+        makings = places.makings_again k s r id hist x at a o empty 0 new (omega arith);
         hunters = hunters';
-        owe = λ z _ w. w;
       }
 
 pub prepare_may : (k : Config) (x : DomainView) (word a new pool class slot : ℕ) → word ≡ before_heap k + a → PrepareMay x a new pool class slot → MayStore k x word new (PrepareTold a class)

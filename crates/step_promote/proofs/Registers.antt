@@ -1,5 +1,5 @@
 -- A register that holds the address of a block that was met gets that of its copy.
-use Rattle.std.proofs.Common.{◌≡◌, ℕ, ◌+◌, ◌<◌, ◌≤◌, List, length, get_or, set, sym, refl, ap, ◌∙◌, subst, arith, length-set, get_or-set_same, get_or-set_other}
+use Rattle.std.proofs.Common.{◌≡◌, ℕ, ◌<◌, List, length, get_or, set, sym, refl, ap, ◌∙◌, subst, arith, length-set, get_or-set_same, get_or-set_other}
 use mathlib.Core.Logic.{dite}
 use native.Mathlib.Decide.{ℕ_discrete}
 use mathlib.Core.Option.{some}
@@ -18,19 +18,19 @@ use Rattle.heap_rule.specs.declared.phase.Kind.TheVariants.{Run, Promote}
 use Rattle.heap_rule.specs.declared.phase.Stage.{Stage}
 use Rattle.heap_rule.specs.declared.phase.Stage.TheVariants.{In}
 use Rattle.heap_rule.specs.Changes.{value_at}
+use Rattle.heap_rule.specs.declared.view.Finalisers.{Finalisers}
 use Rattle.heap_rule.specs.Finalisers.{FinalisersFit}
 use Rattle.heap_rule.specs.Places.{Place, Live, Stands, More}
 use Rattle.heap_rule.specs.Raw.{StepsOnce, MayStep, Closes}
 use Rattle.heap_rule.specs.Rule.{state_of, Rule, Stood}
 use Rattle.heap_rule.specs.Standing.{with_registers}
-use Rattle.heap_rule.specs.Token.{AllInHeap, LooksWithin, SweptWithin}
+use Rattle.heap_rule.specs.Token.{Holds, OwnFits}
 use Rattle.heap_rule.specs.Views.{one}
 use Rattle.step_promote.specs.Promotion.{Knows, MoveMay, MoveTold}
 use Rattle.step_promote.specs.Writes.{CanMove, Moves}
-use Rattle.heap_rule.proofs.Garbage.{garbage_same}
 use Rattle.heap_rule.proofs.Values.{stands_block, holds}
-use Rattle.heap_rule.proofs.Keeps.{Words, my_good, control_same, hunter_as, owes_as, unmoved, more_same}
-use Rattle.step_promote.proofs.Remaking.{promotes_again}
+use Rattle.heap_rule.proofs.Keeps.{Words, my_good, hunter_as, owes_as, unmoved}
+use Rattle.step_promote.proofs.Remaking.{keeps_words}
 use Rattle.std.proofs.lemmas.Option.{same_Some}
 
 module _ (k : Config) (s : Words) (r : Rule k s) (id : ℕ) (hist : List Entry) (x : DomainView) (at : get_elem? s.views id ≡ some (one k hist x)) (promotes : x.seen.stage ≡ In Promote) where
@@ -71,45 +71,10 @@ module _ (k : Config) (s : Words) (r : Rule k s) (id : ℕ) (hist : List Entry) 
   moves_rule reg copy may =
       let g = my_good k s r id hist x at in
       let y : DomainView = with_registers x (set x.own.registers reg (Ref copy)) in
-      promotes_again k s r id hist x at promotes y s.words live r.account.tenancy r.account.homes record {
-        share = refl;
-        full = r.whole.full;
-        garbage = garbage_same k r.account.live r.account.tenancy r.account.cycling s.words r.whole.cycle.leaves;
-        holders = λ q. refl;
-        ephemerons = refl;
-        swept = refl;
-        no_more = λ a e. e;
-        number = refl;
-        arrivals = refl;
-        stage = refl;
-        front = refl;
-        free = refl;
-        spare = refl;
-        listing = refl;
-        wide = refl;
-        control = control_same k s.words;
-        found = r.whole.found;
-        placed = r.whole.placed;
-        spread = r.whole.spread;
-        more = more_same live;
-        young = λ b q e _. (q, e, refl);
-        copies = r.whole.copies;
-        cleared = r.whole.cleared;
-        pools = r.whole.pools;
-        grid = r.whole.grid;
-        drawers = r.whole.drawers;
-        room = r.whole.room;
-        opened = r.whole.opened;
-        stood = moved_stood reg copy may;
-        area = record { room = g.area.room; free = g.area.free; classes = g.area.classes };
-        making = record { fits = g.making.fits; written = g.making.written };
-        hunter = hunter_as k r.account.tenancy s.words x y refl refl refl refl refl refl refl g.hunter;
-        owes = owes_as k live x y refl refl refl refl g.owes;
-        areas = λ z _ a. a;
-        makings = λ z _ _ m. m;
-        hunters = λ z _ h. h;
-        owe = λ z _ w. w;
-      }
+      keeps_words k s r id hist x at promotes y.own.registers x.own.finalisers x.own.prepared x.own.looked x.seen.hunt x.seen.copying
+      (moved_stood reg copy may)
+      (hunter_as k r.account.tenancy s.words x y refl refl refl refl refl refl refl g.hunter)
+      (owes_as k live x y refl refl refl refl g.owes)
 
   moved_told : (reg copy : ℕ) → (may : MoveMay x reg copy) → (found : ℕ) → MoveTold k reg copy x found (with_registers x (set x.own.registers reg (Ref copy)))
   moved_told reg copy may found = record { view = refl; holds = holds k r.limits live r.whole.placed now (with_registers x (set x.own.registers reg (Ref copy))) (moved_stood reg copy may) }
@@ -128,24 +93,28 @@ move_may k x word reg copy may fits slots id hist s r _ at _ =
 pub promote_once : (k : Config) (x y : DomainView) → x.seen.stage ≡ In Promote → StepsOnce k x y
 promote_once k x y promotes runs = absurd (let e : ◌≡◌ {A = Stage} (In Promote) (In Run) = sym promotes ∙ runs in cc)
 
+-- what fits a token fits it with other registers and other lists of finalisers
+pub fits_moved : (k : Config) (own : Own) (registers : List Value) (fs : Finalisers) → Holds k registers → FinalisersFit k fs → OwnFits k own → OwnFits k (record own { registers = registers; finalisers = fs })
+fits_moved k own registers fs holds lists fits = record {
+  number = fits.number;
+  used = fits.used;
+  registers = holds;
+  looked = fits.looked;
+  remembered = fits.remembered;
+  remembered_room = fits.remembered_room;
+  prepared = fits.prepared;
+  pending = fits.pending;
+  ephemerons = fits.ephemerons;
+  finalisers = lists;
+  swept = fits.swept;
+}
+
 -- it closes where the register was written
 pub move_closes : (k : Config) (x : DomainView) (found reg copy : ℕ) → MoveMay x reg copy → Closes k x found (MoveTold k reg copy) (λ own. CanMove reg) (Moves reg copy)
 move_closes k x found reg copy may y fits told =
     let own : y.own ≡ record x.own { registers = set x.own.registers reg (Ref copy) } = ap (λ (z : DomainView). z.own) told.view in record {
       can_write = may.few;
       written = λ after wrote. own ∙ sym wrote;
-      fits = record {
-        number = subst (λ (o : Own). o.number < k.domains) (sym own) fits.number;
-        used = subst (λ (o : Own). o.used ≤ k.minor_words) (sym own) fits.used;
-        registers = told.holds;
-        looked = subst (λ (o : Own). LooksWithin k o.looked) (sym own) fits.looked;
-        remembered = subst (λ (o : Own). AllInHeap k o.remembered.items) (sym own) fits.remembered;
-        remembered_room = ap (λ (o : Own). o.remembered.room + length o.remembered.items) own ∙ fits.remembered_room;
-        prepared = ap (λ (o : Own). length o.prepared) own ∙ fits.prepared;
-        pending = ap (λ (o : Own). o.pending.room + length o.pending.items) own ∙ fits.pending;
-        ephemerons = subst (λ (o : Own). AllInHeap k o.ephemerons.items) (sym own) fits.ephemerons;
-        finalisers = subst (λ (o : Own). FinalisersFit k o.finalisers) (sym own) fits.finalisers;
-        swept = subst (λ (o : Own). SweptWithin k o.swept) (sym own) fits.swept;
-      };
+      fits = subst (OwnFits k) (sym own) (fits_moved k x.own (set x.own.registers reg (Ref copy)) x.own.finalisers (subst (λ (o : Own). Holds k o.registers) own told.holds) fits.finalisers fits);
       once = promote_once k x y may.stage;
     }

@@ -1,5 +1,5 @@
 -- What all steps of copying share: the rule holds again where the places, the pools and each domain meet it.
-use Rattle.std.proofs.Common.{◌≤◌, ◌≡◌, ◌≢◌, ℕ, ◌+◌, ◌*◌, ◌<◌, Bool, true, false, cond, IsTrue, List, length, set, Some, sym, ap, ◌∙◌, subst, inl, inr, ⊎_elim, arith, refl}
+use Rattle.std.proofs.Common.{Option, ◌≤◌, ◌≡◌, ◌≢◌, ℕ, ◌+◌, ◌*◌, ◌<◌, Bool, false, cond, IsTrue, List, length, set, Some, sym, ap, ◌∙◌, subst, inl, inr, ⊎_elim, arith, refl}
 use Rattle.std.proofs.lemmas.Option.{none-some}
 use Rattle.heap_rule.specs.declared.view.Spare.{Spare}
 use mathlib.Core.Option.{some}
@@ -12,23 +12,26 @@ use Rattle.model_core.specs.Domains.{register, domain_at}
 use Rattle.heap_words.specs.declared.colours.Colours.{Colours}
 use Rattle.heap_words.specs.declared.value.Value as words
 use Rattle.heap_rule.specs.declared.config.Config.{Config}
+use Rattle.heap_rule.specs.declared.view.Copying.{Copying}
 use Rattle.heap_rule.specs.declared.view.DomainView.{DomainView}
 use Rattle.heap_rule.specs.declared.view.Finalisers.{Finalisers}
+use Rattle.heap_rule.specs.declared.view.Hunt.{Hunt}
 use Rattle.heap_rule.specs.declared.view.Share.{Share}
+use Rattle.heap_rule.specs.declared.view.Spot.{Spot}
+use Rattle.heap_rule.specs.Layout.{cursor, listed}
 use Rattle.heap_rule.specs.declared.view.Swept.{Swept}
 use Rattle.heap_rule.specs.declared.phase.Kind.TheVariants.{Run, Promote, Reset}
 use Rattle.heap_rule.specs.declared.phase.Stage.TheVariants.{In}
 use Rattle.heap_rule.specs.Changes.{value_at}
 use Rattle.heap_rule.specs.Finalisers.{Enrolled}
 use Rattle.heap_rule.specs.Copies.{Owes, Copies, Promoting, AllCleared}
-use Rattle.heap_rule.specs.Phases.{Pause}
 use Rattle.heap_rule.specs.Cycles.{Cycling}
 use Rattle.heap_rule.specs.Places.{Place, Live, Stands, Placed, Spread, More, colour_in, new_colour}
 use Rattle.heap_rule.specs.Pools.{Tenancy, Pools, Grid, Drawers, Hunter, Takes, IsLeading}
 use Rattle.heap_rule.specs.Room.{Room, Opened}
 use Rattle.heap_rule.specs.Rule.{Account, state_of, AllFound, Stood, Area, Making, Rule}
 use Rattle.heap_rule.specs.Views.{one}
-use Rattle.heap_rule.proofs.Keeps.{still_as, Words, Control, my_good, remakes, knows_front, phases_same, cycle_control, covered_words, stands_more, nobody_leads, takes_drawable, resting_takes, resting_other, between_here, cycle_here, runs_here, sharing_here, sharings_here}
+use Rattle.heap_rule.proofs.Keeps.{control_same, more_same, opened_words, pools_same, room_words, still_as, Words, Control, my_good, remakes, knows_front, phases_same, cycle_control, covered_words, stands_more, nobody_leads, takes_drawable, resting_takes, resting_other, between_here, cycle_here, runs_here, sharing_here, sharings_here}
 use Rattle.heap_rule.proofs.Advancing.{pooled_more}
 use Rattle.heap_rule.proofs.BesideLemmas.{runs_as}
 use Rattle.heap_rule.proofs.FinaliserLemmas.{enrolled_more}
@@ -36,7 +39,7 @@ use Rattle.heap_rule.proofs.PauseFacts.{run_promoting, staged_as, promote_now, p
 use Rattle.heap_rule.specs.Ephemerons.{IsEpheAt, Listed}
 use Rattle.heap_rule.specs.Rule.{Good}
 use Rattle.heap_rule.specs.Sweeping.{Sweeps, SweepsIn}
-use Rattle.heap_rule.proofs.Garbage.{KeepsGarbage, sweeps_on}
+use Rattle.heap_rule.proofs.Garbage.{KeepsGarbage, garbage_same, sweeps_on}
 use Rattle.heap_rule.proofs.EphemeronLemmas.{listed_as, listed_on, ephe_more}
 use Rattle.heap_rule.proofs.Sharings.{KeepsUnderway, SameCycle, kind_now}
 use Rattle.heap_rule.specs.Fullness.{Homes, Fullness}
@@ -200,3 +203,90 @@ module _ (k : Config) (s : Words) (r : Rule k s) (id : ℕ) (hist : List Entry) 
     serial = serial ∙ (st.serial ∙ ap (λ (d : ℕ). (domain_at now d).serial) (sym number));
     enrolled = subst (λ (z : Finalisers × ℕ). Enrolled live' now z.1 z.0) (λ i. (sym finalisers i, sym number i)) (enrolled_more r.account.live live' now x.own.number x.own.finalisers more st.enrolled);
   }
+
+  -- What a step owes at which no block comes, goes or moves: registers, registrations, prepared places and what it has met may differ, and words where no block lives
+  module _ (registers : List words.Value) (finalisers : Finalisers) (prepared : List (Option ℕ)) (looked : List Spot) (hunt : Hunt) (copying : Copying) where
+    abbrev then : DomainView
+    then = record { own = record x.own { registers = registers; finalisers = finalisers; prepared = prepared; looked = looked }; seen = record x.seen { hunt = hunt; copying = copying } }
+
+    module _ (words' : List ℕ) (places : ℕ → Option ℕ) where
+      abbrev t' : Tenancy
+      t' = record r.account.tenancy { prepared = places }
+
+      pub record KeepsBlocks : Type 0 where
+        pub wide : length words' ≡ length s.words
+        pub control : Control k s.words words'
+        pub found : AllFound k r.account.cycling.paint r.account.live now.graph words'
+        pub garbage : KeepsGarbage k r.account.live r.account.tenancy t' s.words words'
+        pub grid : Grid k t' r.account.live words'
+        pub drawers : Drawers r.account.pause t'
+        pub stood : Stood r.account.live now then
+        pub making : Making k words' x
+        pub hunter : Hunter k t' words' then
+        pub owes : Owes k r.account.live then
+        pub makings : (z : DomainView) → Making k s.words z → Making k words' z
+        pub hunters : (z : DomainView) → z.own.number ≢ x.own.number → Hunter k r.account.tenancy s.words z → Hunter k t' words' z
+
+      pub keeps_blocks : KeepsBlocks → Rule k record { words = words'; homes = s.homes; views = set s.views id (one k hist then) }
+      keeps_blocks o =
+          let area = (my_good k s r id hist x at).area in
+          let live = r.account.live in
+          let t = r.account.tenancy in
+          let counts : (listed words' ≡ listed s.words) × (cursor words' ≡ cursor s.words) = (o.control 6 (omega arith), o.control 7 (omega arith)) in
+          let pools = pools_same k t s.words words' o.control r.whole.pools in
+          promotes_again then words' live t' r.account.homes record {
+            number = refl;
+            arrivals = refl;
+            stage = refl;
+            front = refl;
+            free = refl;
+            spare = refl;
+            listing = refl;
+            share = refl;
+            wide = o.wide;
+            control = o.control;
+            found = o.found;
+            full = r.whole.full;
+            garbage = o.garbage;
+            holders = λ q. refl;
+            ephemerons = refl;
+            swept = refl;
+            no_more = λ a e. e;
+            placed = r.whole.placed;
+            spread = r.whole.spread;
+            more = more_same live;
+            young = λ b q e _. (q, e, refl);
+            copies = r.whole.copies;
+            cleared = r.whole.cleared;
+            pools = record { few = pools.few; inside = pools.inside; once = pools.once; untaken = pools.untaken; owners = pools.owners; owned_by = pools.owned_by; drawn_by = pools.drawn_by; one_each = pools.one_each; asked = pools.asked };
+            grid = o.grid;
+            drawers = o.drawers;
+            room = room_words k live r.account.pause t.stock s.words words' (λ _. counts) r.whole.room;
+            opened = opened_words k live s.words words' (λ _ _ _ _. counts.0) r.whole.opened;
+            stood = o.stood;
+            area = record { room = area.room; free = area.free; classes = area.classes };
+            making = record { fits = o.making.fits; written = o.making.written };
+            hunter = o.hunter;
+            owes = o.owes;
+            areas = λ z _ h. h;
+            makings = λ z _ _ m. o.makings z m;
+            hunters = o.hunters;
+            owe = λ z _ w. w;
+          }
+
+    -- and where it writes no word
+    pub keeps_words : Stood r.account.live now then → Hunter k r.account.tenancy s.words then → Owes k r.account.live then → Rule k record { words = s.words; homes = s.homes; views = set s.views id (one k hist then) }
+    keeps_words stood hunter owes = keeps_blocks s.words r.account.tenancy.prepared record {
+      wide = refl;
+      control = control_same k s.words;
+      found = r.whole.found;
+      garbage = garbage_same k r.account.live r.account.tenancy r.account.cycling s.words r.whole.cycle.leaves;
+      grid = r.whole.grid;
+      drawers = r.whole.drawers;
+      stood = stood;
+      making = (my_good k s r id hist x at).making;
+      hunter = hunter;
+      owes = owes;
+      makings = λ z m. m;
+      hunters = λ z _ h. h;
+    }

@@ -36,17 +36,12 @@ some_value : (u v : graph_value.Value) → Some u ≡ Some v → u ≡ v
 some_value u v e = cc
 
 module _ (k : Config) (s : Words) (r : Rule k s) (id : ℕ) (hist : List Entry) (x : DomainView) (at : get_elem? s.views id ≡ some (one k hist x)) (a new : ℕ) (may : RewriteMay k x a new) where
-  abbrev c : ℕ
-  c = may.block
-
-  abbrev i0 : ℕ
-  i0 = may.index
+  open may use {block as c, index as i0}
 
   abbrev lasts : Lasts r.account.live c may.place
   lasts = let l = may.here in let m = (my_good k s r id hist x at).owes.knows c l.place l.lives in record { place = m.place; lives = m.lives; label = m.label ∙ l.label; shape = m.shape ∙ l.shape }
 
-  abbrev p : Place
-  p = lasts.place
+  open lasts use {place as p}
 
   lives : r.account.live c ≡ Some p
   lives = lasts.lives

@@ -19,11 +19,11 @@ use Rattle.heap_rule.specs.declared.phase.Stage.TheVariants.{In}
 use Rattle.heap_rule.specs.declared.view.DomainView.{DomainView}
 use Rattle.heap_rule.specs.declared.view.Share.{Share}
 use Rattle.heap_rule.specs.Beside.{RunsBeside}
-use Rattle.heap_rule.specs.Cycles.{Counted, Counts, Cycled, Cycling, Facts, IsCollecting, IsIdle, Knowing, Sweeping, labels_in, layout_of, seen_by}
+use Rattle.heap_rule.specs.Cycles.{Counted, Counts, Cycled, Cycling, Facts, IsCollecting, IsIdle, Knowing, Sweeping, labels_in, layout_of, seen_by, Leading}
 use Rattle.heap_rule.specs.Layout.{live_blocks, live_words}
 use Rattle.heap_rule.specs.Phases.{AtStage}
-use Rattle.heap_rule.specs.Places.{Live, Place, extent}
-use Rattle.heap_rule.specs.Pools.{Holder, IsLeading, place_in}
+use Rattle.heap_rule.specs.Places.{Place, extent}
+use Rattle.heap_rule.specs.Pools.{IsLeading, place_in}
 use Rattle.heap_rule.specs.Raw.{CanLeave, Closes, Leaves, MayStep}
 use Rattle.heap_rule.specs.Rule.{Good, Rule, state_of}
 use Rattle.heap_rule.specs.Views.{one}
@@ -54,23 +54,11 @@ no_wrap n w amount few low small =
     let large : 9 * m ≤ 2 ^ 64 = omega arith in omega arith
 
 module _ (k : Config) (s : Words) (r : Rule k s) (id : ℕ) (hist : List Entry) (x : DomainView) (at : get_elem? s.views id ≡ some (one k hist x)) (stage : x.seen.stage ≡ In Sweep) where
+  open r.account use {live, cycling as c, tenancy.{holder}}
+  open x use {own.{number as d}, seen.{share as sh}}
+
   abbrev now : model.State
   now = state_of k r.account.log
-
-  abbrev live : Live
-  live = r.account.live
-
-  abbrev c : Cycling
-  c = r.account.cycling
-
-  abbrev d : ℕ
-  d = x.own.number
-
-  abbrev sh : Share
-  sh = x.seen.share
-
-  abbrev holder : ℕ → Holder
-  holder = r.account.tenancy.holder
 
   good : Good k r.account s.words x
   good = my_good k s r id hist x at
@@ -152,6 +140,22 @@ module _ (k : Config) (s : Words) (r : Rule k s) (id : ℕ) (hist : List Entry) 
     running' : (z : DomainView) → Good k r.account s.words z → RunsBeside k live holder c.armed c.past c.paint.marks.marked words' z.own.number z.seen.stage z.seen.share
     running' z h = paused_on k r.account.pause c r.whole.cycle.told (none_runs k s r id hist x at collecting) live live holder holder c.paint.marks.marked c.paint.marks.marked s.words words' z h.staged h.sharing.running
 
+    -- nobody leads, so nobody has loaded what is counted
+    leading_on : (z : DomainView) → Good k r.account s.words z → Leading c' words' z.own.number z.seen.stage z.seen.share
+    leading_on z h = let l = h.sharing.leading in record {
+      changed = l.changed;
+      found_blocks = λ w e. absurd (no_leader z h (l.found_blocks w e).0);
+      found_words = λ w e. absurd (no_leader z h (l.found_words w e).0);
+      rotated = l.rotated;
+      turned = l.turned;
+      pass = l.pass;
+      whole = l.whole;
+      armed = l.armed;
+      unswept = l.unswept;
+      under_way = l.under_way;
+      unmarked = l.unmarked;
+    }
+
     adding_rule : Adding → Rule k record { words = words'; homes = s.homes; views = set s.views id (one k hist (with_share x share')) }
     adding_rule o = let g = good.sharing in let n = knowing_words k live holder now.graph c.paint.marks s.words words' d x.own.registers sh (heap k s r id hist x at i v is) kn in let t = n.counted in recounts k s r id hist x at i v is share' c' record {
       calm = not_promoting k s r id hist x at collecting;
@@ -160,19 +164,7 @@ module _ (k : Config) (s : Words) (r : Rule k s) (id : ℕ) (hist : List Entry) 
       cycle = cycle' o;
       sharing = record {
         telling = record { owes = g.telling.owes; seen = g.telling.seen; fresh = λ up. absurd (true≢false (sym up ∙ waits)); forgotten = λ up. absurd (true≢false (sym up ∙ waits)); colours = g.telling.colours };
-        leading = record {
-          changed = g.leading.changed;
-          found_blocks = λ w e. absurd (no_leader x good (g.leading.found_blocks w e).0);
-          found_words = λ w e. absurd (no_leader x good (g.leading.found_words w e).0);
-          rotated = g.leading.rotated;
-          turned = g.leading.turned;
-          pass = g.leading.pass;
-          whole = g.leading.whole;
-          armed = g.leading.armed;
-          unswept = g.leading.unswept;
-          under_way = g.leading.under_way;
-          unmarked = g.leading.unmarked;
-        };
+        leading = let l = leading_on x good in record { changed = l.changed; found_blocks = l.found_blocks; found_words = l.found_words; rotated = l.rotated; turned = l.turned; pass = l.pass; whole = l.whole; armed = l.armed; unswept = l.unswept; under_way = l.under_way; unmarked = l.unmarked };
         knows = inr (
           collecting,
           record { found_head = n.found_head; scan = n.scan; walked = n.walked; own_pool = n.own_pool; rooted = n.rooted; marked = n.marked; counted = record { once = t.once; own = t.own; lives = t.lives; all = t.all; words = t.words }; held = n.held; vacant = n.vacant },
@@ -184,19 +176,7 @@ module _ (k : Config) (s : Words) (r : Rule k s) (id : ℕ) (hist : List Entry) 
       };
       sharings = λ z _ differs h. let q = h.sharing in let e = o.others z.own.number differs in record {
         telling = q.telling;
-        leading = record {
-          changed = q.leading.changed;
-          found_blocks = λ w e. absurd (no_leader z h (q.leading.found_blocks w e).0);
-          found_words = λ w e. absurd (no_leader z h (q.leading.found_words w e).0);
-          rotated = q.leading.rotated;
-          turned = q.leading.turned;
-          pass = q.leading.pass;
-          whole = q.leading.whole;
-          armed = q.leading.armed;
-          unswept = q.leading.unswept;
-          under_way = q.leading.under_way;
-          unmarked = q.leading.unmarked;
-        };
+        leading = leading_on z h;
         knows = ⊎_elim
             (λ (u : IsIdle z.seen.share). inl u)
             (λ (u : IsCollecting z.seen.stage × Knowing k live holder now.graph c.paint.marks s.words z.own.number z.own.registers z.seen.share). inr (u.0, knowing_words k live holder now.graph c.paint.marks s.words words' z.own.number z.own.registers z.seen.share (heap k s r id hist x at i v is) u.1))

@@ -27,13 +27,11 @@ use Rattle.heap_rule.specs.declared.phase.Stage.TheVariants.{In}
 use Rattle.heap_rule.specs.declared.view.DomainView.{DomainView}
 use Rattle.heap_rule.specs.declared.view.Share.{Share}
 use Rattle.heap_rule.specs.declared.view.View.{View}
-use Rattle.heap_rule.specs.Cycles.{Cycled, Cycling, Facts, KnowsBlocks, Knowing, swept_of}
+use Rattle.heap_rule.specs.Cycles.{Cycled, Facts, KnowsBlocks, Knowing, swept_of}
 use Rattle.heap_rule.specs.Ephemerons.{Looks}
 use Rattle.heap_rule.specs.Layout.{live_blocks, live_words}
 use Rattle.heap_rule.specs.Limits.{sizes_in}
 use Rattle.heap_rule.specs.Phases.{CountsEnded, IsInPause, flag, is_over, sum_of}
-use Rattle.heap_rule.specs.Places.{Live}
-use Rattle.heap_rule.specs.Pools.{Tenancy}
 use Rattle.heap_rule.specs.Raw.{CanLeave, Closes, Leaves, MayStep}
 use Rattle.heap_rule.specs.Rule.{Account, AllFound, Good, Rule, Sharing, Stood, state_of}
 use Rattle.heap_rule.specs.Standing.{with_front}
@@ -49,29 +47,17 @@ use Rattle.heap_rule.proofs.FinaliserLemmas.{KeepsWork, paired_length, work_with
 use Rattle.heap_rule.specs.Finalisers.{StandsWaiting}
 use Rattle.heap_rule.proofs.Values.{holds}
 use Rattle.step_marks.specs.Marking.Looks.{with_share}
-use Rattle.step_marks.proofs.OfMarking.Learning.{known, learns, waits}
+use Rattle.step_marks.proofs.OfMarking.Learning.{known, learns, sharing_learnt}
 use Rattle.step_sweep.specs.Answering.{LiveBlocksTold, LiveWordsMay, LiveWordsTold}
 use Rattle.step_sweep.proofs.Dues.{due_front}
-use Rattle.step_sweep.proofs.LiveCounts.{answer_facts, answer_kind, answers, blocks_reach, words_reach}
+use Rattle.step_sweep.proofs.LiveCounts.{answer_facts, answer_kind, blocks_reach, words_reach}
 
 module _ (k : Config) (s : Words) (r : Rule k s) (id : ℕ) (hist : List Entry) (x : DomainView) (at : get_elem? s.views id ≡ some (one k hist x)) (stage : x.seen.stage ≡ In Answer) where
+  open r.account use {live, tenancy as T, cycling as c}
+  open x use {own.{number as d}, seen.{share as sh}}
+
   abbrev now : model.State
   now = state_of k r.account.log
-
-  abbrev live : Live
-  live = r.account.live
-
-  abbrev T : Tenancy
-  T = r.account.tenancy
-
-  abbrev c : Cycling
-  c = r.account.cycling
-
-  abbrev d : ℕ
-  d = x.own.number
-
-  abbrev sh : Share
-  sh = x.seen.share
 
   good : Good k r.account s.words x
   good = my_good k s r id hist x at
@@ -84,21 +70,9 @@ module _ (k : Config) (s : Words) (r : Rule k s) (id : ℕ) (hist : List Entry) 
 
   blocks_rule : Rule k record { words = s.words; homes = s.homes; views = set s.views id (one k hist (with_share x counted)) }
   blocks_rule =
-      let g = good.sharing in
-      let n = kn.counted in
-      let collects = answers k s r id hist x at stage in
-      let up = waits k s r id hist x at collects in learns k s r id hist x at counted record {
-        telling = record { owes = g.telling.owes; seen = g.telling.seen; fresh = λ gone. absurd (true≢false (sym gone ∙ up)); forgotten = λ gone. absurd (true≢false (sym gone ∙ up)); colours = g.telling.colours };
-        leading = record { changed = g.leading.changed; found_blocks = λ v e. (inr stage, (let same : Some (live_blocks s.words) ≡ Some v = e in cc)); found_words = g.leading.found_words; rotated = g.leading.rotated; turned = g.leading.turned; pass = g.leading.pass; whole = g.leading.whole; armed = g.leading.armed; unswept = g.leading.unswept; under_way = g.leading.under_way; unmarked = g.leading.unmarked };
-        knows = inr (
-          collects,
-          record { found_head = kn.found_head; scan = kn.scan; walked = kn.walked; own_pool = kn.own_pool; rooted = kn.rooted; marked = kn.marked; counted = record { once = n.once; own = n.own; lives = n.lives; all = n.all; words = n.words }; held = kn.held; vacant = kn.vacant },
-        );
-        adds = record { blocks = g.adds.blocks; words = g.adds.words; own = g.adds.own };
-        looks = record { at_own = g.looks.at_own; cleans = g.looks.cleans; emptied_is = g.looks.emptied_is };
-        running = record { knows = g.running.knows; owes = g.running.owes };
-        deciding = g.deciding;
-      }
+      let g = good.sharing in learns k s r id hist x at counted
+      (sharing_learnt k s r id hist x at sh.colours sh.armed sh.changed (Some (live_blocks s.words)) sh.reaping sh.swept
+      g.telling.forgotten g.telling.colours g.leading.armed g.leading.changed (λ v e. (inr stage, (let same : Some (live_blocks s.words) ≡ Some v = e in cc))))
       good.sweeps
 
   -- the entry of `full_major`

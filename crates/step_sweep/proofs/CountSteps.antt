@@ -1,5 +1,5 @@
 -- The count of what lives in own pools keeps the rule.
-use Rattle.std.proofs.Common.{◌≡◌, ◌≢◌, ℕ, zero, suc, ◌+◌, ◌*◌, ◌<◌, ◌≤◌, ◌⊎◌, ◌==◌, false, true≢false, IsTrue, eq-eqb, eqb-true, List, ◌∷◌, get_or, set, slice_get, sum_by, Some, None, Option, sym, refl, ap, ◌∙◌, subst, inl, inr, ⊎_elim, arith, lt_of_not-le}
+use Rattle.std.proofs.Common.{◌≡◌, ◌≢◌, ℕ, zero, suc, ◌+◌, ◌*◌, ◌<◌, ◌≤◌, ◌⊎◌, ◌==◌, false, true, true≢false, IsTrue, eq-eqb, eqb-true, List, ◌∷◌, get_or, set, slice_get, sum_by, Some, None, Option, sym, refl, ap, ◌∙◌, subst, inl, inr, ⊎_elim, arith, lt_of_not-le}
 use mathlib.Core.Logic.{dite}
 use native.Mathlib.Decide.{ℕ_discrete, dec_le}
 use mathlib.Core.Option.{some}
@@ -16,10 +16,10 @@ use Rattle.heap_rule.specs.declared.view.DomainView.{DomainView}
 use Rattle.heap_rule.specs.declared.view.Share.{Share}
 use Rattle.heap_rule.specs.declared.view.Spot.{Spot}
 use Rattle.heap_rule.specs.declared.view.OwnPool.{OwnPool}
-use Rattle.heap_rule.specs.Cycles.{Cycling, Knowing, HasCounted, extent_in, seen_by}
+use Rattle.heap_rule.specs.Cycles.{HasCounted, HoldsBlock, IsCollecting, Knowing, extent_in, labels_in, seen_by}
 use Rattle.heap_rule.specs.Layout.{at_address, before_heap, owner_of}
-use Rattle.heap_rule.specs.Places.{Live, Place, extent}
-use Rattle.heap_rule.specs.Pools.{Holder, IsBefore, blocks_of, owned, owner_word, place_in, size_of}
+use Rattle.heap_rule.specs.Places.{Place, extent}
+use Rattle.heap_rule.specs.Pools.{IsBefore, blocks_of, owned, owner_word, place_in, size_of}
 use Rattle.heap_rule.specs.Raw.{CanLeave, Closes, Leaves, MayStep}
 use Rattle.heap_rule.specs.Rule.{Rule, state_of}
 use Rattle.heap_rule.specs.Views.{one}
@@ -31,7 +31,7 @@ use Rattle.step_marks.specs.Marking.Looks.{with_share}
 use Rattle.step_marks.specs.Marking.Marking.{behind}
 use Rattle.step_marks.proofs.OfMarking.Colouring.{bare_head}
 use Rattle.step_marks.proofs.OfMarking.Layouts.{whose}
-use Rattle.step_marks.proofs.OfMarking.Learning.{bare, known, learns}
+use Rattle.step_marks.proofs.OfMarking.Learning.{load_may, bare, known, learns, waits}
 use Rattle.step_marks.proofs.OfMarking.Plain.{share_closes}
 use Rattle.step_marks.proofs.OfMarking.WalkSteps.{before_behind, last_behind, next_behind}
 use Rattle.step_sweep.specs.Counting.{CountMay, CountOwnMay, CountOwnTold, CountTold}
@@ -39,7 +39,6 @@ use Rattle.step_sweep.proofs.Removals.{among}
 use Rattle.step_sweep.proofs.Swept.{empty_free, sweeping}
 use Rattle.std.proofs.lemmas.List.Sums.{sum_by-cons}
 use Rattle.std.proofs.lemmas.Option.{same_Some}
-use Rattle.heap_rule.proofs.Stages.{waits_in}
 
 -- what was before a place is before the one behind it, and so is the place
 later_behind : (pool class slot q i : ℕ) → IsBefore q i (record { pool = pool; slot = slot }) → IsBefore q i (behind pool class slot)
@@ -76,24 +75,39 @@ one_place q class i j p e few few' inside inside' same_class same =
           (λ high. let g : w + m ≤ u = slot_below class j i (lt_of_not-le high) in omega arith))),
     )
 
+-- a step that changes what a domain knows of its own pools, and what it has counted in them, alone
+module _ (k : Config) (s : Words) (r : Rule k s) (id : ℕ) (hist : List Entry) (x : DomainView) (at : get_elem? s.views id ≡ some (one k hist x)) (collecting : IsCollecting x.seen.stage)
+    (own_pool : Option OwnPool) (counted : List ℕ) (counted_to : Spot) (many held vacant : ℕ) where
+  open r.account use {live, tenancy.{holder}, cycling as c}
+  open x use {own.{number as d}, seen.{share as sh}}
+
+  abbrev counting : Share
+  counting = record sh { own_pool = own_pool; counted = counted; counted_to = counted_to; counted_words = many; held = held; vacant = vacant }
+
+  pub counts_pools : ((u : OwnPool) → own_pool ≡ Some u → holder u.pool ≡ owned d u.class) → HasCounted k live holder d counting → (c.kind ≡ Sweep → c.shares.arrived d ≡ false → sh.added_blocks ≡ true → c.counts.own d ≡ labels_in live counted)
+      → ((q class : ℕ) → holder q ≡ owned d class → q < held → HoldsBlock live q class) → ((class slot : ℕ) → holder held ≡ owned d class → slot < blocks_of class → slot < vacant → at_address k s.words (place_in held class slot) ≡ 0)
+      → Rule k record { words = s.words; homes = s.homes; views = set s.views id (one k hist (with_share x counting)) }
+  counts_pools own has_counted added holds free =
+      let g = (my_good k s r id hist x at).sharing in
+      let l = g.leading in
+      let kn = known k s r id hist x at in
+      let here : c.shares.arrived d ≡ false = waits k s r id hist x at collecting in learns k s r id hist x at counting record {
+        telling = record { owes = g.telling.owes; seen = g.telling.seen; fresh = λ up. absurd (true≢false (sym up ∙ here)); forgotten = λ up. absurd (true≢false (sym up ∙ here)); colours = g.telling.colours };
+        leading = record { changed = l.changed; found_blocks = l.found_blocks; found_words = l.found_words; rotated = l.rotated; turned = l.turned; pass = l.pass; whole = l.whole; armed = l.armed; unswept = l.unswept; under_way = l.under_way; unmarked = l.unmarked };
+        knows = inr (collecting, record { found_head = kn.found_head; scan = kn.scan; walked = kn.walked; own_pool = own; rooted = kn.rooted; marked = kn.marked; counted = has_counted; held = holds; vacant = free });
+        adds = record { blocks = g.adds.blocks; words = g.adds.words; own = added };
+        looks = record { at_own = g.looks.at_own; cleans = g.looks.cleans; emptied_is = g.looks.emptied_is };
+        running = record { knows = g.running.knows; owes = g.running.owes };
+        deciding = g.deciding;
+      }
+      (my_good k s r id hist x at).sweeps
+
 module _ (k : Config) (s : Words) (r : Rule k s) (id : ℕ) (hist : List Entry) (x : DomainView) (at : get_elem? s.views id ≡ some (one k hist x)) (stage : x.seen.stage ≡ In Sweep) (counts : x.seen.share.added_blocks ≡ false) where
+  open r.account use {live, tenancy.{holder}, cycling as c}
+  open x use {own.{number as d}, seen.{share as sh}}
+
   abbrev now : model.State
   now = state_of k r.account.log
-
-  abbrev live : Live
-  live = r.account.live
-
-  abbrev holder : ℕ → Holder
-  holder = r.account.tenancy.holder
-
-  abbrev c : Cycling
-  c = r.account.cycling
-
-  abbrev d : ℕ
-  d = x.own.number
-
-  abbrev sh : Share
-  sh = x.seen.share
 
   abbrev After : DomainView → Type 0
   After y = Rule k record { words = s.words; homes = s.homes; views = set s.views id (one k hist y) }
@@ -107,21 +121,7 @@ module _ (k : Config) (s : Words) (r : Rule k s) (id : ℕ) (hist : List Entry) 
     share' = record sh { own_pool = own_pool; counted = counted; counted_to = counted_to; counted_words = many }
 
     counts_on : ((u : OwnPool) → own_pool ≡ Some u → holder u.pool ≡ owned d u.class) → HasCounted k live holder d share' → After (with_share x share')
-    counts_on own counted =
-        let g = (my_good k s r id hist x at).sharing in
-        let waits : c.shares.arrived d ≡ false = waits_in k s r id hist x at Sweep stage in learns k s r id hist x at share' record {
-          telling = record { owes = g.telling.owes; seen = g.telling.seen; fresh = λ up. absurd (true≢false (sym up ∙ waits)); forgotten = λ up. absurd (true≢false (sym up ∙ waits)); colours = g.telling.colours };
-          leading = record { changed = g.leading.changed; found_blocks = g.leading.found_blocks; found_words = g.leading.found_words; rotated = g.leading.rotated; turned = g.leading.turned; pass = g.leading.pass; whole = g.leading.whole; armed = g.leading.armed; unswept = g.leading.unswept; under_way = g.leading.under_way; unmarked = g.leading.unmarked };
-          knows = inr (
-            sweeping k s r id hist x at stage,
-            record { found_head = kn.found_head; scan = kn.scan; walked = kn.walked; own_pool = own; rooted = kn.rooted; marked = kn.marked; counted = counted; held = kn.held; vacant = kn.vacant },
-          );
-          adds = record { blocks = g.adds.blocks; words = g.adds.words; own = λ _ _ done. absurd (true≢false (sym done ∙ counts)) };
-          looks = record { at_own = g.looks.at_own; cleans = g.looks.cleans; emptied_is = g.looks.emptied_is };
-          running = record { knows = g.running.knows; owes = g.running.owes };
-          deciding = g.deciding;
-        }
-        (my_good k s r id hist x at).sweeps
+    counts_on own counted = counts_pools k s r id hist x at (sweeping k s r id hist x at stage) own_pool share'.counted counted_to many sh.held sh.vacant own counted (λ _ _ done. absurd (true≢false (sym done ∙ counts))) kn.held kn.vacant
 
   -- the owner of the next pool
   module _ (word pool : ℕ) (may : CountOwnMay k x word pool) where
@@ -262,9 +262,7 @@ pub count_own_closes : (k : Config) (x : DomainView) (found pool : ℕ) → Clos
 count_own_closes k x found pool = share_closes k x found (CountOwnTold pool) (λ y t. ⊎_elim (λ u. (record x.seen.share { own_pool = Some (record { pool = pool; class = u.0 }) }, u.3)) (λ u. (record x.seen.share { counted_to = record { pool = pool + 1; slot = 0 } }, u.1)) t.told)
 
 pub count_may : (k : Config) (x : DomainView) (word a pool class slot : ℕ) → word ≡ before_heap k + a → CountMay x a pool class slot → MayStep k x word (λ n. n) (CountTold a pool class slot)
-count_may k x word a pool class slot place may fits slots id hist s r _ at _ =
-    let o = counts_at k s r id hist x at may.stage may.counts a pool class slot may in
-    (one k hist o.0, keeps, tt, unmoved k s word (set s.views id (one k hist o.0)) o.1, (subst (λ (n : ℕ). CountTold a pool class slot x (get_or s.words n 0) o.0) (sym place) o.2, refl))
+count_may k x word a pool class slot place may = load_may k x word a (CountTold a pool class slot) place (λ s r id hist at. counts_at k s r id hist x at may.stage may.counts a pool class slot may)
 
 pub count_closes : (k : Config) (x : DomainView) (found a pool class slot : ℕ) → Closes k x found (CountTold a pool class slot) CanLeave Leaves
 count_closes k x found a pool class slot = share_closes k x found (CountTold a pool class slot)

@@ -19,7 +19,7 @@ use Rattle.heap_rule.specs.declared.view.Share.{Share}
 use Rattle.heap_rule.specs.declared.view.Spot.{Spot}
 use Rattle.heap_rule.specs.Copies.{Promoting}
 use Rattle.heap_rule.specs.Beside.{RunsBeside}
-use Rattle.heap_rule.specs.Cycles.{Cycled, Cycling, Facts, IsCollecting, IsIdle, Knowing, KnowsBlocks, seen_by}
+use Rattle.heap_rule.specs.Cycles.{Cycled, Facts, IsCollecting, IsIdle, Knowing, KnowsBlocks, seen_by}
 use Rattle.heap_rule.specs.Ephemerons.{IsEpheAt, Listed}
 use Rattle.heap_rule.specs.Layout.{at_address, before_heap, heap_words}
 use Rattle.heap_rule.specs.Places.{Place, extent}
@@ -49,17 +49,11 @@ use Rattle.step_sweep.proofs.SweepSteps.{sweeping_on}
 use Rattle.std.proofs.lemmas.Option.{none-some, slice_get_within}
 
 module _ (k : Config) (s : Words) (r : Rule k s) (id : ℕ) (hist : List Entry) (x : DomainView) (at : get_elem? s.views id ≡ some (one k hist x)) (a pool class slot : ℕ) (may : FreeMay x a pool class slot) (wide : length x.own.looked ≡ class_count) where
+  open r.account use {tenancy as t, cycling as c}
+  open x use {own.{number as d}}
+
   abbrev now : model.State
   now = state_of k r.account.log
-
-  abbrev t : Tenancy
-  t = r.account.tenancy
-
-  abbrev c : Cycling
-  c = r.account.cycling
-
-  abbrev d : ℕ
-  d = x.own.number
 
   abbrev garbage' : ℕ → Bool
   garbage' = at_domain t.garbage a false

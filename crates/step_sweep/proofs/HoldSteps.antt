@@ -1,5 +1,5 @@
 -- A domain finds that its pools hold blocks.
-use Rattle.std.proofs.Common.{◌≡◌, ◌≢◌, ℕ, ◌+◌, ◌<◌, false, true≢false, IsTrue, List, get_or, set, Some, Option, sym, refl, ap, ◌∙◌, subst, inl, inr, ⊎_elim, arith}
+use Rattle.std.proofs.Common.{◌≡◌, ◌≢◌, ℕ, ◌+◌, ◌<◌, true≢false, IsTrue, List, get_or, set, Some, Option, sym, refl, ap, ◌∙◌, subst, inl, inr, ⊎_elim, arith}
 use mathlib.Core.Logic.{dite}
 use native.Mathlib.Decide.{ℕ_discrete}
 use mathlib.Core.Option.{some}
@@ -9,43 +9,31 @@ use Rattle.model_core.specs.declared.entry.Entry.{Entry}
 use Rattle.model_core.specs.declared.state.State as model
 use Rattle.heap_rule.specs.declared.config.Config.{Config}
 use Rattle.heap_rule.specs.declared.view.DomainView.{DomainView}
-use Rattle.heap_rule.specs.declared.view.Share.{Share}
 use Rattle.heap_rule.specs.declared.view.OwnPool.{OwnPool}
-use Rattle.heap_rule.specs.Cycles.{Cycling, HoldsBlock, IsCollecting, Knowing}
+use Rattle.heap_rule.specs.Cycles.{HoldsBlock, IsCollecting, Knowing}
 use Rattle.heap_rule.specs.Layout.{at_address, before_heap, owner_of}
-use Rattle.heap_rule.specs.Places.{Live, Place}
-use Rattle.heap_rule.specs.Pools.{Holder, blocks_of, owned, place_in}
+use Rattle.heap_rule.specs.Places.{Place}
+use Rattle.heap_rule.specs.Pools.{blocks_of, owned, place_in}
 use Rattle.heap_rule.specs.Raw.{CanLeave, Closes, Leaves, MayStep}
 use Rattle.heap_rule.specs.Rule.{Rule, state_of}
 use Rattle.heap_rule.specs.Views.{one}
 use Rattle.heap_rule.proofs.Keeps.{Words, my_good, unmoved}
 use Rattle.heap_rule.proofs.OwnPlaces.{owned_same}
 use Rattle.step_marks.specs.Marking.Looks.{with_share}
-use Rattle.step_marks.proofs.OfMarking.Learning.{known, learns, not_promoting, waits}
+use Rattle.step_marks.proofs.OfMarking.Learning.{load_may, known, not_promoting}
 use Rattle.step_marks.proofs.OfMarking.Plain.{share_closes}
 use Rattle.step_sweep.specs.Holding.{HeldMay, HeldOwnMay, HeldOwnTold, HeldTold, Returns}
+use Rattle.step_sweep.proofs.CountSteps.{counts_pools}
 use Rattle.step_sweep.proofs.Swept.{returning, returns_clean}
 use Rattle.step_marks.proofs.OfMarking.Layouts.{whose}
 use Rattle.std.proofs.lemmas.Option.{same_Some}
 
 module _ (k : Config) (s : Words) (r : Rule k s) (id : ℕ) (hist : List Entry) (x : DomainView) (at : get_elem? s.views id ≡ some (one k hist x)) (returns : Returns k x) where
+  open r.account use {live, tenancy.{holder}, cycling as c}
+  open x use {own.{number as d}, seen.{share as sh}}
+
   abbrev now : model.State
   now = state_of k r.account.log
-
-  abbrev live : Live
-  live = r.account.live
-
-  abbrev holder : ℕ → Holder
-  holder = r.account.tenancy.holder
-
-  abbrev c : Cycling
-  c = r.account.cycling
-
-  abbrev d : ℕ
-  d = x.own.number
-
-  abbrev sh : Share
-  sh = x.seen.share
 
   abbrev After : DomainView → Type 0
   After y = Rule k record { words = s.words; homes = s.homes; views = set s.views id (one k hist y) }
@@ -58,22 +46,8 @@ module _ (k : Config) (s : Words) (r : Rule k s) (id : ℕ) (hist : List Entry) 
 
   holds : (own_pool : Option OwnPool) (held vacant : ℕ) → ((u : OwnPool) → own_pool ≡ Some u → holder u.pool ≡ owned d u.class) → ((q class : ℕ) → holder q ≡ owned d class → q < held → HoldsBlock live q class)
       → ((class slot : ℕ) → holder held ≡ owned d class → slot < blocks_of class → slot < vacant → at_address k s.words (place_in held class slot) ≡ 0) → After (with_share x (record sh { own_pool = own_pool; held = held; vacant = vacant }))
-  holds own_pool held vacant own all free =
-      let g = (my_good k s r id hist x at).sharing in
-      let n = kn.counted in
-      let here : c.shares.arrived d ≡ false = waits k s r id hist x at collecting in learns k s r id hist x at (record sh { own_pool = own_pool; held = held; vacant = vacant }) record {
-        telling = record { owes = g.telling.owes; seen = g.telling.seen; fresh = λ up. absurd (true≢false (sym up ∙ here)); forgotten = λ up. absurd (true≢false (sym up ∙ here)); colours = g.telling.colours };
-        leading = record { changed = g.leading.changed; found_blocks = g.leading.found_blocks; found_words = g.leading.found_words; rotated = g.leading.rotated; turned = g.leading.turned; pass = g.leading.pass; whole = g.leading.whole; armed = g.leading.armed; unswept = g.leading.unswept; under_way = g.leading.under_way; unmarked = g.leading.unmarked };
-        knows = inr (
-          collecting,
-          record { found_head = kn.found_head; scan = kn.scan; walked = kn.walked; own_pool = own; rooted = kn.rooted; marked = kn.marked; counted = record { once = n.once; own = n.own; lives = n.lives; all = n.all; words = n.words }; held = all; vacant = free },
-        );
-        adds = record { blocks = g.adds.blocks; words = g.adds.words; own = g.adds.own };
-        looks = record { at_own = g.looks.at_own; cleans = g.looks.cleans; emptied_is = g.looks.emptied_is };
-        running = record { knows = g.running.knows; owes = g.running.owes };
-        deciding = g.deciding;
-      }
-      (my_good k s r id hist x at).sweeps
+  holds own_pool held vacant own all free = let n = kn.counted in counts_pools k s r id hist x at collecting own_pool sh.counted sh.counted_to sh.counted_words held vacant own
+      (record { once = n.once; own = n.own; lives = n.lives; all = n.all; words = n.words }) (my_good k s r id hist x at).sharing.adds.own all free
 
   -- one pool more is looked at
   one_more : (pool : ℕ) → sh.held ≡ pool → ((class : ℕ) → holder pool ≡ owned d class → HoldsBlock live pool class) → After (with_share x (record sh { held = pool + 1; vacant = 0 }))
@@ -136,9 +110,7 @@ pub held_own_closes : (k : Config) (x : DomainView) (found pool : ℕ) → Close
 held_own_closes k x found pool = share_closes k x found (HeldOwnTold pool) (λ y t. ⊎_elim (λ u. (record x.seen.share { own_pool = Some (record { pool = pool; class = u.0 }) }, u.3)) (λ u. (record x.seen.share { held = pool + 1 }, u.1)) t.told)
 
 pub held_may : (k : Config) (x : DomainView) (word a pool class slot : ℕ) → word ≡ before_heap k + a → HeldMay k x a pool class slot → MayStep k x word (λ n. n) (HeldTold pool slot)
-held_may k x word a pool class slot place may fits slots id hist s r _ at _ =
-    let o = held_at k s r id hist x at may.returns a pool class slot may in
-    (one k hist o.0, keeps, tt, unmoved k s word (set s.views id (one k hist o.0)) o.1, (subst (λ (n : ℕ). HeldTold pool slot x (get_or s.words n 0) o.0) (sym place) o.2, refl))
+held_may k x word a pool class slot place may = load_may k x word a (HeldTold pool slot) place (λ s r id hist at. held_at k s r id hist x at may.returns a pool class slot may)
 
 pub held_closes : (k : Config) (x : DomainView) (found pool slot : ℕ) → Closes k x found (HeldTold pool slot) CanLeave Leaves
 held_closes k x found pool slot = share_closes k x found (HeldTold pool slot) (λ y t. ⊎_elim (λ u. (record x.seen.share { vacant = slot + 1 }, u.1)) (λ u. (record x.seen.share { held = pool + 1; vacant = 0 }, u.1)) t.told)

@@ -16,10 +16,8 @@ use Rattle.heap_rule.specs.declared.phase.Kind.{Kind}
 use Rattle.heap_rule.specs.declared.phase.Kind.TheVariants.{Answer}
 use Rattle.heap_rule.specs.declared.phase.Stage.TheVariants.{In}
 use Rattle.heap_rule.specs.declared.view.DomainView.{DomainView}
-use Rattle.heap_rule.specs.Cycles.{Answering, Cycling, Facts, IsCollecting, layout_of}
+use Rattle.heap_rule.specs.Cycles.{Answering, Facts, IsCollecting, layout_of}
 use Rattle.heap_rule.specs.Layout.{live_blocks, live_words}
-use Rattle.heap_rule.specs.Places.{Live}
-use Rattle.heap_rule.specs.Pools.{Tenancy}
 use Rattle.heap_rule.specs.Rule.{Rule, state_of}
 use Rattle.heap_rule.specs.Views.{one}
 use Rattle.heap_rule.proofs.Keeps.{Words}
@@ -29,17 +27,10 @@ use Rattle.step_marks.proofs.OfMarking.Learning.{bare, kind_here}
 use Rattle.step_sweep.proofs.CountedPlaces.{added_same}
 
 module _ (k : Config) (s : Words) (r : Rule k s) (id : ℕ) (hist : List Entry) (x : DomainView) (at : get_elem? s.views id ≡ some (one k hist x)) (stage : x.seen.stage ≡ In Answer) where
+  open r.account use {live, tenancy as T, cycling as c}
+
   abbrev now : model.State
   now = state_of k r.account.log
-
-  abbrev live : Live
-  live = r.account.live
-
-  abbrev T : Tenancy
-  T = r.account.tenancy
-
-  abbrev c : Cycling
-  c = r.account.cycling
 
   pub answers : IsCollecting x.seen.stage
   answers = subst IsCollecting (sym stage) (λ none. none)

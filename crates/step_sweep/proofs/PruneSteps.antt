@@ -1,12 +1,11 @@
 -- A look at the head of a listed ephemeron in Sweep keeps the rule.
-use Rattle.std.proofs.Common.{◌≡◌, ◌≢◌, ℕ, ◌+◌, ◌<◌, ◌⊎◌, false, true≢false, IsTrue, List, get_or, set, slice_get, Option, Some, None, sym, refl, ap, ◌∙◌, subst, inl, inr, ⊎_elim, arith}
+use Rattle.std.proofs.Common.{◌≡◌, ◌≢◌, ℕ, ◌+◌, ◌<◌, ◌⊎◌, false, true≢false, IsTrue, List, set, slice_get, Option, Some, None, sym, refl, ap, ◌∙◌, subst, inl, inr, ⊎_elim, arith}
 use Rattle.std.proofs.lemmas.Bool.{cases_Bool}
 use Rattle.std.proofs.lemmas.Option.{same_Some, none-some}
 use mathlib.Core.Logic.{dite}
 use native.Mathlib.Decide.{ℕ_discrete}
 use mathlib.Core.Option.{some}
 use lib.ListN.{get_elem?}
-use Rattle.atomic_table.specs.Table.{keeps}
 use Rattle.heap_words.specs.Remembered.Bounded.{Bounded}
 use Rattle.model_core.specs.declared.entry.Entry.{Entry}
 use Rattle.model_core.specs.declared.state.State as model
@@ -17,16 +16,16 @@ use Rattle.heap_rule.specs.declared.phase.Stage.TheVariants.{In}
 use Rattle.heap_rule.specs.declared.view.DomainView.{DomainView}
 use Rattle.heap_rule.specs.declared.view.Own.{Own}
 use Rattle.heap_rule.specs.declared.view.Share.{Share}
-use Rattle.heap_rule.specs.Cycles.{Cycling, IsCollecting, Knowing, IsIdle}
+use Rattle.heap_rule.specs.Cycles.{IsCollecting, Knowing, IsIdle}
 use Rattle.heap_rule.specs.Ephemerons.{IsEpheAt, Listed, ephemeron_of}
 use Rattle.heap_rule.specs.Layout.{at_address, before_heap}
-use Rattle.heap_rule.specs.Places.{Live, Place}
-use Rattle.heap_rule.specs.Pools.{Tenancy}
+use Rattle.heap_rule.specs.Places.{Place}
 use Rattle.heap_rule.specs.Raw.{Closes, MayStep}
 use Rattle.heap_rule.specs.Rule.{Good, Rule, Sharing, state_of}
 use Rattle.heap_rule.specs.Token.{OwnFits}
 use Rattle.heap_rule.specs.Views.{one}
-use Rattle.heap_rule.proofs.Keeps.{Words, hunter_as, my_good, unmoved}
+use Rattle.step_marks.proofs.OfMarking.Learning.{load_may}
+use Rattle.heap_rule.proofs.Keeps.{Words, hunter_as, my_good}
 use Rattle.step_sweep.specs.Freeing.{Frees, IsColoured}
 use Rattle.step_sweep.specs.Pruning.{CanPrune, PruneMay, PruneTold, Prunes, pruned_to, unlisted}
 use Rattle.step_sweep.proofs.Owning.{looked_lives}
@@ -41,26 +40,11 @@ no_clean : (stage : Stage) → Frees stage → stage ≡ In Clean → ⊥
 no_clean stage frees cleans = ⊎_elim (λ (e : stage ≡ In Sweep). let clash : In Sweep ≡ In Clean = sym e ∙ cleans in cc) (λ (e : stage ≡ In Run). let clash : In Run ≡ In Clean = sym e ∙ cleans in cc) frees
 
 module _ (k : Config) (s : Words) (r : Rule k s) (id : ℕ) (hist : List Entry) (x : DomainView) (at : get_elem? s.views id ≡ some (one k hist x)) (a i garbage : ℕ) (may : PruneMay x a i garbage) where
+  open r.account use {live, tenancy as t, cycling as c}
+  open x use {own.{number as d, ephemerons.{items}}, seen.{share as sh}}
+
   abbrev now : model.State
   now = state_of k r.account.log
-
-  abbrev live : Live
-  live = r.account.live
-
-  abbrev t : Tenancy
-  t = r.account.tenancy
-
-  abbrev c : Cycling
-  c = r.account.cycling
-
-  abbrev d : ℕ
-  d = x.own.number
-
-  abbrev sh : Share
-  sh = x.seen.share
-
-  abbrev items : List ℕ
-  items = x.own.ephemerons.items
 
   abbrev found : ℕ
   found = at_address k s.words a
@@ -172,26 +156,12 @@ module _ (k : Config) (s : Words) (r : Rule k s) (id : ℕ) (hist : List Entry) 
       (good.listed.lives a (among items i a may.listed))
 
 pub prune_may : (k : Config) (x : DomainView) (word a i garbage : ℕ) → word ≡ before_heap k + a → PruneMay x a i garbage → MayStep k x word (λ n. n) (PruneTold a i garbage)
-prune_may k x word a i garbage place may fits slots id hist s r _ at _ =
-    let o = prunes k s r id hist x at a i garbage may in
-    (one k hist o.0, keeps, tt, unmoved k s word (set s.views id (one k hist o.0)) o.1, (subst (λ (n : ℕ). PruneTold a i garbage x (get_or s.words n 0) o.0) (sym place) o.2, refl))
+prune_may k x word a i garbage place may = load_may k x word a (PruneTold a i garbage) place (λ s r id hist at. prunes k s r id hist x at a i garbage may)
 
 -- what the step tells of the list is what is made of it
 module _ (k : Config) (x : DomainView) (found a i garbage : ℕ) (may : PruneMay x a i garbage) where
   still_fits : OwnFits k x.own → OwnFits k (unlisted a i x.own)
-  still_fits fits = record {
-    number = fits.number;
-    used = fits.used;
-    registers = fits.registers;
-    looked = fits.looked;
-    remembered = fits.remembered;
-    remembered_room = fits.remembered_room;
-    prepared = fits.prepared;
-    pending = fits.pending;
-    ephemerons = λ j b got. let w = was x.own.ephemerons.items i a may.listed j b got in fits.ephemerons w.0 b w.1;
-    finalisers = fits.finalisers;
-    swept = fits.swept;
-  }
+  still_fits fits = swept_fits k x.own (unlisted a i x.own).ephemerons x.own.swept (λ j b got. let w = was x.own.ephemerons.items i a may.listed j b got in fits.ephemerons w.0 b w.1) fits.swept fits
 
   written : (y : DomainView) → PruneTold a i garbage x found y → (after : Own) → Prunes a i garbage found x.own after → y.own ≡ after
   written y told after is = ⊎_elim
@@ -213,7 +183,7 @@ module _ (k : Config) (x : DomainView) (found a i garbage : ℕ) (may : PruneMay
     can_write = (may.listed, may.next);
     written = written y told;
     fits = ⊎_elim
-        (λ e. subst (OwnFits k) (sym (ap (λ (z : DomainView). z.own) e)) (swept_fits k x.own (record x.own.swept { listed = i + 1 }) (record { pool = fits.swept.pool; slot = fits.swept.slot; top = fits.swept.top }) fits))
+        (λ e. subst (OwnFits k) (sym (ap (λ (z : DomainView). z.own) e)) (swept_fits k x.own x.own.ephemerons (record x.own.swept { listed = i + 1 }) fits.ephemerons (record { pool = fits.swept.pool; slot = fits.swept.slot; top = fits.swept.top }) fits))
         (λ e. subst (OwnFits k) (sym (ap (λ (z : DomainView). z.own) e)) (still_fits fits))
         (view_or y told);
     once = ⊎_elim

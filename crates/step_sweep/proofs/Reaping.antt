@@ -38,14 +38,10 @@ abbrev pub reaped : DomainView → List Spot → Bounded ℕ → Swept → Share
 reaped x looked ephemerons swept share = record x { own = record x.own { looked = looked; ephemerons = ephemerons; swept = swept }; seen = record x.seen { share = share } }
 
 module _ (k : Config) (s : Words) (r : Rule k s) (id : ℕ) (hist : List Entry) (x : DomainView) (at : get_elem? s.views id ≡ some (one k hist x)) where
+  open r.account use {live, tenancy as t}
+
   abbrev now : model.State
   now = state_of k r.account.log
-
-  abbrev live : Live
-  live = r.account.live
-
-  abbrev t : Tenancy
-  t = r.account.tenancy
 
   -- what there is besides the words afterwards
   abbrev pub reaped_to : Live → (ℕ → Bool) → Cycling → Account

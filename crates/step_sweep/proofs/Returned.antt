@@ -17,11 +17,11 @@ use Rattle.heap_rule.specs.declared.phase.Stage.TheVariants.{In}
 use Rattle.heap_rule.specs.declared.view.DomainView.{DomainView}
 use Rattle.heap_rule.specs.declared.view.Share.{Share}
 use Rattle.heap_rule.specs.Copies.{Promoting}
-use Rattle.heap_rule.specs.Cycles.{Answering, Cycling, Cycled, EndsCycle, Facts, IsSwept, Sweeping, IsCollecting, Knowing, HasCounted, owner_at, starts_in}
+use Rattle.heap_rule.specs.Cycles.{Answering, Cycled, EndsCycle, Facts, IsSwept, Sweeping, IsCollecting, Knowing, HasCounted, owner_at, starts_in}
 use Rattle.heap_rule.specs.Fullness.{Fullness}
 use Rattle.heap_rule.specs.Layout.{at_address, heap_words, listed, cursor, listed_pool, owner_of, table_words}
 use Rattle.heap_rule.specs.Phases.{sum_of}
-use Rattle.heap_rule.specs.Places.{Live, Place}
+use Rattle.heap_rule.specs.Places.{Place}
 use Rattle.heap_rule.specs.Pools.{Drawers, Grid, Holder, OwnPlace, Pools, Reserved, Tenancy, blocks_of, drawn, limit_of, nobody, owned, owner_word, place_in, size_of}
 use Rattle.heap_rule.specs.Rule.{Rule, state_of}
 use Rattle.heap_rule.specs.Views.{one}
@@ -40,23 +40,11 @@ use Rattle.step_sweep.proofs.Swept.{returning, returns_clean}
 use Rattle.std.proofs.lemmas.Option.{none-some}
 
 module _ (k : Config) (s : Words) (r : Rule k s) (id : ℕ) (hist : List Entry) (x : DomainView) (at : get_elem? s.views id ≡ some (one k hist x)) (word pool class : ℕ) (may : ReturnMay k x word pool class) where
+  open r.account use {live, tenancy as T, cycling as c}
+  open x use {own.{number as d}, seen.{share as sh}}
+
   abbrev now : model.State
   now = state_of k r.account.log
-
-  abbrev live : Live
-  live = r.account.live
-
-  abbrev T : Tenancy
-  T = r.account.tenancy
-
-  abbrev c : Cycling
-  c = r.account.cycling
-
-  abbrev d : ℕ
-  d = x.own.number
-
-  abbrev sh : Share
-  sh = x.seen.share
 
   pub collecting : IsCollecting x.seen.stage
   collecting = returning k s r id hist x at may.returns

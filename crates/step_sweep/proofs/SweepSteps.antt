@@ -1,5 +1,5 @@
 -- A step by which a domain gets further in sweeping its own pools, and frees nothing, keeps the rule.
-use Rattle.std.proofs.Common.{◌≡◌, ◌≢◌, ℕ, ◌+◌, ◌<◌, ◌≤◌, Bool, true, false, true≢false, IsTrue, List, ◌∷◌, get_or, set, sym, refl, ap, ◌∙◌, subst, inl, inr, ⊎_elim, arith, lt_of_not-le, ◌*◌}
+use Rattle.std.proofs.Common.{◌≡◌, ℕ, ◌+◌, ◌<◌, ◌≤◌, true, false, true≢false, IsTrue, List, ◌∷◌, get_or, set, sym, refl, ap, ◌∙◌, subst, inl, inr, ⊎_elim, arith, lt_of_not-le, ◌*◌}
 use Rattle.std.proofs.lemmas.Bool.{cases_Bool}
 use mathlib.Core.Logic.{dite}
 use native.Mathlib.Decide.{ℕ_discrete, dec_le}
@@ -15,9 +15,8 @@ use Rattle.heap_rule.specs.declared.view.Reaping.TheVariants.{Inside, AtGarbage}
 use Rattle.heap_rule.specs.declared.view.Share.{Share}
 use Rattle.heap_rule.specs.declared.view.Spot.{Spot}
 use Rattle.heap_rule.specs.declared.view.Swept.{Swept}
-use Rattle.heap_rule.specs.Cycles.{IsCollecting, IsIdle, Knowing}
 use Rattle.heap_rule.specs.Layout.{at_address, before_heap, owner_of}
-use Rattle.heap_rule.specs.Pools.{Holder, IsBefore, blocks_of, owned, owner_word, place_in}
+use Rattle.heap_rule.specs.Pools.{IsBefore, blocks_of, owned, owner_word, place_in}
 use Rattle.heap_rule.specs.Raw.{MayStep}
 use Rattle.heap_rule.specs.Rule.{Rule, Sharing, state_of}
 use Rattle.step_pools.specs.Writes.{pool_after}
@@ -30,6 +29,7 @@ use Rattle.heap_rule.proofs.OwnPlaces.{owned_same}
 use Rattle.step_marks.specs.Marking.Looks.{with_share}
 use Rattle.step_marks.specs.Marking.Marking.{behind}
 use Rattle.step_marks.proofs.OfMarking.Layouts.{whose}
+use Rattle.step_marks.proofs.OfMarking.Learning.{load_may, sharing_learnt}
 use Rattle.step_marks.proofs.OfMarking.WalkSteps.{before_behind}
 use Rattle.step_sweep.specs.Freeing.{AnewMay, AnewTold, Frees, IsColoured, SweepMay, SweepOwnMay, SweepOwnTold, SweepTold, passed, sweeping_from, unswept}
 use Rattle.step_sweep.proofs.Finding.{clean_place, colour_of_dead, waits}
@@ -39,41 +39,19 @@ abbrev pub sweeping_on : Share → Reaping → List Spot → Share
 sweeping_on share reaping places = record share { reaping = reaping; swept = places }
 
 module _ (k : Config) (s : Words) (r : Rule k s) (id : ℕ) (hist : List Entry) (x : DomainView) (at : get_elem? s.views id ≡ some (one k hist x)) where
+  open r.account use {tenancy.{holder, garbage}}
+  open x use {own.{number as d}, seen.{share as sh}}
+
   abbrev now : model.State
   now = state_of k r.account.log
-
-  abbrev holder : ℕ → Holder
-  holder = r.account.tenancy.holder
-
-  abbrev garbage : ℕ → Bool
-  garbage = r.account.tenancy.garbage
-
-  abbrev d : ℕ
-  d = x.own.number
-
-  abbrev sh : Share
-  sh = x.seen.share
 
   abbrev After : DomainView → Type 0
   After y = Rule k record { words = s.words; homes = s.homes; views = set s.views id (one k hist y) }
 
   -- what else it knows of the phase stays
   sharing_on : (reaping : Reaping) (places : List Spot) → Sharing k r.account s.words d x.own.registers x.own.finalisers x.own.ephemerons.items x.seen.stage (sweeping_on sh reaping places)
-  sharing_on reaping places = let g = (my_good k s r id hist x at).sharing in record {
-    telling = record { owes = g.telling.owes; seen = g.telling.seen; fresh = λ up. ap (λ (z : Share). sweeping_on z reaping places) (g.telling.fresh up); forgotten = g.telling.forgotten; colours = g.telling.colours };
-    leading = record { changed = g.leading.changed; found_blocks = g.leading.found_blocks; found_words = g.leading.found_words; rotated = g.leading.rotated; turned = g.leading.turned; pass = g.leading.pass; whole = g.leading.whole; armed = g.leading.armed; unswept = g.leading.unswept; under_way = g.leading.under_way; unmarked = g.leading.unmarked };
-    knows = ⊎_elim
-        (λ (idle : IsIdle sh). inl (ap (λ (z : Share). sweeping_on z reaping places) idle))
-        (λ (n : IsCollecting x.seen.stage × Knowing k r.account.live holder now.graph r.account.cycling.paint.marks s.words d x.own.registers sh). let kn = n.1 in let m = kn.counted in inr (
-          n.0,
-          record { found_head = kn.found_head; scan = kn.scan; walked = kn.walked; own_pool = kn.own_pool; rooted = kn.rooted; marked = kn.marked; counted = record { once = m.once; own = m.own; lives = m.lives; all = m.all; words = m.words }; held = kn.held; vacant = kn.vacant },
-        ))
-        g.knows;
-    adds = record { blocks = g.adds.blocks; words = g.adds.words; own = g.adds.own };
-    looks = record { at_own = g.looks.at_own; cleans = g.looks.cleans; emptied_is = g.looks.emptied_is };
-    running = record { knows = g.running.knows; owes = g.running.owes };
-    deciding = g.deciding;
-  }
+  sharing_on reaping places = let g = (my_good k s r id hist x at).sharing in sharing_learnt k s r id hist x at sh.colours sh.armed sh.changed sh.blocks reaping places
+      g.telling.forgotten g.telling.colours g.leading.armed g.leading.changed g.leading.found_blocks
 
   -- a step after which the domain has swept so far
   pub sweeps_rule : (swept : Swept) (reaping : Reaping) (places : List Spot) → let y : DomainView = record { own = record x.own { swept = swept }; seen = record x.seen { share = sweeping_on sh reaping places } } in SweepsIn r.account.tenancy r.account.cycling y → After y
@@ -232,6 +210,4 @@ sweep_own_may k x word pool may fits slots id hist s r _ at _ =
     (one k hist o.0, keeps, tt, unmoved k s word (set s.views id (one k hist o.0)) o.1, (subst (λ (n : ℕ). SweepOwnTold k pool x (get_or s.words n 0) o.0) (sym may.word) o.2, refl))
 
 pub sweep_may : (k : Config) (x : DomainView) (word a pool class slot garbage : ℕ) → word ≡ before_heap k + a → SweepMay x a pool class slot garbage → MayStep k x word (λ n. n) (SweepTold pool class slot garbage)
-sweep_may k x word a pool class slot garbage place may fits slots id hist s r _ at _ =
-    let o = head_swept k s r id hist x at a pool class slot garbage may in
-    (one k hist o.0, keeps, tt, unmoved k s word (set s.views id (one k hist o.0)) o.1, (subst (λ (n : ℕ). SweepTold pool class slot garbage x (get_or s.words n 0) o.0) (sym place) o.2, refl))
+sweep_may k x word a pool class slot garbage place may = load_may k x word a (SweepTold pool class slot garbage) place (λ s r id hist at. head_swept k s r id hist x at a pool class slot garbage may)

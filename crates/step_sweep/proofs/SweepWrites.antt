@@ -16,7 +16,8 @@ use Rattle.step_sweep.specs.Returning.{IsOwn, SinksTop, TopMay, TopTold, topped}
 use Rattle.step_pools.specs.Writes.{pool_after}
 use Rattle.step_pools.proofs.Tops.{after_within}
 use Rattle.heap_rule.specs.Sweeping.{nothing_swept}
-use Rattle.heap_rule.specs.Token.{LooksWithin, OwnFits, SweptWithin}
+use Rattle.heap_words.specs.Remembered.Bounded.{Bounded}
+use Rattle.heap_rule.specs.Token.{AllInHeap, LooksWithin, OwnFits, SweptWithin}
 use Rattle.heap_rule.proofs.Classes.{some_block}
 use Rattle.heap_rule.proofs.Closes.{front_same}
 use Rattle.step_marks.specs.Marking.Looks.{with_share}
@@ -32,9 +33,9 @@ few_pools k pool limits inside = let all = limits.pools in let p : ℕ = k.pools
 pub once_same : (k : Config) (x y : DomainView) → y.seen.front ≡ x.seen.front → y.own.registers ≡ x.own.registers → y.own.used ≡ x.own.used → y.own.serial ≡ x.own.serial → StepsOnce k x y
 once_same k x y front registers used serial = λ _. inl (record { front = front_same x y front; registers = registers; used = used; serial = serial })
 
--- a token fits whose sweeping has got so far
-pub swept_fits : (k : Config) (own : Own) (swept : Swept) → SweptWithin k swept → OwnFits k own → OwnFits k (record own { swept = swept })
-swept_fits k own swept within fits = record {
+-- a token fits whose sweeping has got so far, and that lists these ephemerons
+pub swept_fits : (k : Config) (own : Own) (ephemerons : Bounded ℕ) (swept : Swept) → AllInHeap k ephemerons.items → SweptWithin k swept → OwnFits k own → OwnFits k (record own { ephemerons = ephemerons; swept = swept })
+swept_fits k own ephemerons swept listed within fits = record {
   number = fits.number;
   used = fits.used;
   registers = fits.registers;
@@ -43,7 +44,7 @@ swept_fits k own swept within fits = record {
   remembered_room = fits.remembered_room;
   prepared = fits.prepared;
   pending = fits.pending;
-  ephemerons = fits.ephemerons;
+  ephemerons = listed;
   finalisers = fits.finalisers;
   swept = within;
 }
@@ -63,7 +64,7 @@ pub anew_closes : (k : Config) (x : DomainView) (found : ℕ) → Closes k x fou
 anew_closes k x found y fits told = let own : y.own ≡ unswept x.own = ap (λ (z : DomainView). z.own) told in record {
   can_write = tt;
   written = λ after is. own ∙ sym is;
-  fits = subst (OwnFits k) (sym own) (swept_fits k x.own (nothing_swept x.own.swept.top) (record { pool = omega arith; slot = omega arith; top = fits.swept.top }) fits);
+  fits = subst (OwnFits k) (sym own) (swept_fits k x.own x.own.ephemerons (nothing_swept x.own.swept.top) fits.ephemerons (record { pool = omega arith; slot = omega arith; top = fits.swept.top }) fits);
   once = once_same k x y (ap (λ (z : DomainView). z.seen.front) told) (ap (λ (o : Own). o.registers) own) (ap (λ (o : Own). o.used) own) (ap (λ (o : Own). o.serial) own);
 }
 
@@ -88,7 +89,7 @@ sweep_own_closes k x found pools pool all inside limits = subst (λ (n : ℕ). C
           (λ (w : ((class : ℕ) × IsAmong class x.own found) × (after ≡ x.own)). absurd (u.0 w.0.0 w.0.1))
           (λ (w : ((class : ℕ) → IsAmong class x.own found → ⊥) × (after ≡ onward k.pools pool x.own)). ap (λ (z : DomainView). z.own) u.1 ∙ sym w.1)
           is;
-      fits = subst (OwnFits k) (sym (ap (λ (z : DomainView). z.own) u.1)) (swept_fits k x.own (onward k.pools pool x.own).swept (record { pool = after_within k.pools x.own.swept.top pool inside; slot = omega arith; top = fits.swept.top }) fits);
+      fits = subst (OwnFits k) (sym (ap (λ (z : DomainView). z.own) u.1)) (swept_fits k x.own x.own.ephemerons (onward k.pools pool x.own).swept fits.ephemerons (record { pool = after_within k.pools x.own.swept.top pool inside; slot = omega arith; top = fits.swept.top }) fits);
       once = once_same k x y (ap (λ (z : DomainView). z.seen.front) u.1) (ap (λ (z : DomainView). z.own.registers) u.1) (ap (λ (z : DomainView). z.own.used) u.1) (ap (λ (z : DomainView). z.own.serial) u.1);
     })
     told.told)
@@ -101,7 +102,7 @@ sweep_closes k x found pool class slot garbage inside few low limits y fits told
           (λ (w : (IsColoured garbage found → ⊥) × (after ≡ sweeping_from x.own (behind pool class slot))). ap (λ (z : DomainView). z.own) u.1 ∙ sym w.1)
           (λ (w : IsColoured garbage found × (after ≡ x.own)). absurd (u.0 w.0))
           is;
-      fits = subst (OwnFits k) (sym (ap (λ (z : DomainView). z.own) u.1)) (swept_fits k x.own (record x.own.swept { spot = behind pool class slot }) (let b = behind_within k pool class slot x.own.swept.listed x.own.swept.top inside few fits.swept.top in record { pool = b.pool; slot = b.slot; top = b.top }) fits);
+      fits = subst (OwnFits k) (sym (ap (λ (z : DomainView). z.own) u.1)) (swept_fits k x.own x.own.ephemerons (record x.own.swept { spot = behind pool class slot }) fits.ephemerons (let b = behind_within k pool class slot x.own.swept.listed x.own.swept.top inside few fits.swept.top in record { pool = b.pool; slot = b.slot; top = b.top }) fits);
       once = once_same k x y (ap (λ (z : DomainView). z.seen.front) u.1) (ap (λ (z : DomainView). z.own.registers) u.1) (ap (λ (z : DomainView). z.own.used) u.1) (ap (λ (z : DomainView). z.own.serial) u.1);
     })
     (λ (u : IsColoured garbage found × (y ≡ with_share x (record x.seen.share { reaping = AtGarbage pool class slot }))). record {
@@ -168,7 +169,7 @@ top_closes k x found pool word may y fits told = ⊎_elim
           (λ (w : ((class : ℕ) × IsOwn class x.own found) × (after ≡ x.own)). absurd (u.0 w.0.0 w.0.1))
           (λ (w : ((class : ℕ) → IsOwn class x.own found → ⊥) × (after ≡ topped x.own pool)). ap (λ (z : DomainView). z.own) u.1 ∙ sym w.1)
           is;
-      fits = subst (OwnFits k) (sym (ap (λ (z : DomainView). z.own) u.1)) (swept_fits k x.own (topped x.own pool).swept (record { pool = fits.swept.pool; slot = fits.swept.slot; top = (let t : ℕ = x.own.swept.top in let e : t ≡ pool + 1 = may.last in let p : ℕ = k.pools in let low : t ≤ p = fits.swept.top in let g : pool ≤ p = omega arith in g) }) fits);
+      fits = subst (OwnFits k) (sym (ap (λ (z : DomainView). z.own) u.1)) (swept_fits k x.own x.own.ephemerons (topped x.own pool).swept fits.ephemerons (record { pool = fits.swept.pool; slot = fits.swept.slot; top = (let t : ℕ = x.own.swept.top in let e : t ≡ pool + 1 = may.last in let p : ℕ = k.pools in let low : t ≤ p = fits.swept.top in let g : pool ≤ p = omega arith in g) }) fits);
       once = once_same k x y (ap (λ (z : DomainView). z.seen.front) u.1) (ap (λ (z : DomainView). z.own.registers) u.1) (ap (λ (z : DomainView). z.own.used) u.1) (ap (λ (z : DomainView). z.own.serial) u.1);
     })
     told.told

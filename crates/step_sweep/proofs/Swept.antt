@@ -1,5 +1,5 @@
 -- What holds from the rotation on, and the heads that are found then.
-use Rattle.std.proofs.Common.{◌≡◌, ℕ, ◌<◌, ◌≤◌, ◌⊎◌, inl, arith, false, true≢false, IsTrue, List, Some, None, Option, sym, ap, ◌∙◌, subst, ⊎_elim}
+use Rattle.std.proofs.Common.{◌≡◌, ℕ, ◌<◌, ◌≤◌, inl, arith, false, true≢false, IsTrue, List, Some, None, Option, sym, ap, ◌∙◌, subst, ⊎_elim}
 use mathlib.Core.Option.{some}
 use lib.ListN.{get_elem?}
 use Rattle.model_core.specs.declared.entry.Entry.{Entry}

@@ -93,20 +93,11 @@ key_at (Some l ∷ keys) zero y e = let same : Block l ≡ Block y = same_Some (
 key_at (key ∷ keys) (suc j) y e = key_at keys j y e
 
 module _ (k : Config) (s : Words) (r : Rule k s) (id : ℕ) (hist : List Entry) (x : DomainView) (at : get_elem? s.views id ≡ some (one k hist x)) (new : ℕ) (may : TurnMay x new) where
+  open r.account use {live, tenancy as t, cycling as c}
+  open x use {own.{number as d}}
+
   abbrev now : model.State
   now = state_of k r.account.log
-
-  abbrev live : Live
-  live = r.account.live
-
-  abbrev t : Tenancy
-  t = r.account.tenancy
-
-  abbrev c : Cycling
-  c = r.account.cycling
-
-  abbrev d : ℕ
-  d = x.own.number
 
   abbrev words' : List ℕ
   words' = set s.words 5 new

@@ -1,12 +1,11 @@
 -- Before a pool comes back the list of free pools is emptied. Where no own pool is the last one below the top, the top sinks.
-use Rattle.std.proofs.Common.{◌≡◌, ◌≢◌, ℕ, ◌+◌, ◌*◌, ◌<◌, ◌≤◌, List, get_or, set, Some, sym, refl, ap, ◌∙◌, subst, inl, inr, ⊎_elim, arith, length-set, zero-le, true, true≢false}
+use Rattle.std.proofs.Common.{◌≡◌, ◌≢◌, ℕ, ◌+◌, ◌*◌, ◌<◌, ◌≤◌, List, get_or, set, Some, sym, refl, ap, ◌∙◌, subst, inl, inr, ⊎_elim, arith, length-set, zero-le, true≢false}
 use Rattle.std.proofs.lemmas.Option.{same_Some}
 use mathlib.Core.Logic.{dite}
 use mathlib.Core.Option.{some}
 use native.Mathlib.Decide.{ℕ_discrete}
 use lib.ListN.{get_elem?}
 use Rattle.atomic_table.specs.Table.{keeps}
-use Rattle.model_core.specs.Domains.{class_count}
 use Rattle.model_core.specs.declared.entry.Entry.{Entry}
 use Rattle.heap_rule.specs.declared.config.Config.{Config}
 use Rattle.heap_rule.specs.declared.phase.Kind.{Kind}
@@ -17,8 +16,8 @@ use Rattle.heap_rule.specs.declared.view.DomainView.{DomainView}
 use Rattle.heap_rule.specs.declared.view.Listing.{Listing}
 use Rattle.heap_rule.specs.Cycles.{IsCollecting}
 use Rattle.heap_rule.specs.Layout.{cursor, listed, owner_of}
-use Rattle.heap_rule.specs.Phases.{Agree, AtStage, Staged}
-use Rattle.heap_rule.specs.Pools.{IsListWhole, IsReturning, Lists, Takes, no_listing, owned, owner_word}
+use Rattle.heap_rule.specs.Phases.{AtStage, Staged}
+use Rattle.heap_rule.specs.Pools.{IsListWhole, IsReturning, Lists, Takes, no_listing, owned}
 use Rattle.heap_rule.specs.Raw.{CanLeave, Closes, Leaves, MayStep, MayStore}
 use Rattle.heap_rule.specs.Rule.{Rule}
 use Rattle.heap_rule.specs.Views.{one}
@@ -26,7 +25,7 @@ use Rattle.heap_rule.proofs.Closes.{front_same, leaves_closes}
 use Rattle.heap_rule.proofs.Keeps.{Words, my_good, unmoved}
 use Rattle.heap_rule.proofs.PauseFacts.{agree, kind_differs, not_both}
 use Rattle.step_marks.proofs.OfMarking.Layouts.{whose}
-use Rattle.step_marks.proofs.OfMarking.Learning.{even, leads_odd, lies_old, not_promoting, waits}
+use Rattle.step_marks.proofs.OfMarking.Learning.{even, lies_old, not_promoting, waits}
 use Rattle.step_pools.proofs.ListSteps.{control, elsewhere, emptied, every, here, relists}
 use Rattle.step_sweep.specs.Holding.{Returns}
 use Rattle.step_sweep.specs.Returning.{ListVoided, TopMay, TopTold, topped}

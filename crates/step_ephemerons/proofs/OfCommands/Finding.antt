@@ -1,5 +1,5 @@
 -- The ephemeron in a register: in the words, and in the graph.
-use Rattle.std.proofs.Common.{◌≡◌, ℕ, zero, suc, ◌+◌, ◌<◌, List, [], ◌∷◌, length, length-set, map, set, slice_get, get_or, Option, Some, None, sym, refl, ap, ◌∙◌, subst, arith}
+use Rattle.std.proofs.Common.{◌≡◌, ℕ, zero, suc, ◌+◌, ◌<◌, List, [], ◌∷◌, length, length-set, map, set, slice_get, Option, Some, None, sym, refl, ap, ◌∙◌, subst, arith}
 use Rattle.std.proofs.lemmas.List.{map-set, length-map}
 use Rattle.std.proofs.lemmas.Option.{same_Some}
 use mathlib.Core.Option.{some}
@@ -7,15 +7,14 @@ use lib.ListN.{get_elem?}
 use Rattle.model_core.specs.declared.label.Label.{Label}
 use Rattle.model_core.specs.declared.entry.Entry.{Entry}
 use Rattle.model_core.specs.declared.graph.Value as graph_value
-use Rattle.model_core.specs.declared.graph.Value.TheVariants.{Block, Nothing}
+use Rattle.model_core.specs.declared.graph.Value.TheVariants.{Block}
 use Rattle.model_core.specs.declared.graph.Node.{Node}
 use Rattle.model_core.specs.declared.graph.Node.TheVariants.{Plain, Raw, Ephe}
 use Rattle.model_core.specs.declared.state.State as model
 use Rattle.model_core.specs.Graph.{node_at, label_of}
 use Rattle.model_core.specs.Commands.{key_value}
 use Rattle.model_core.specs.Domains.{register, opening}
-use Rattle.model_core.specs.Fronts.{IsFrontOf, Shape, EpheShape, shape_of, HoldsShape}
-use Rattle.model_core.specs.History.{state_after}
+use Rattle.model_core.specs.Fronts.{EpheShape, shape_of, HoldsShape}
 use Rattle.model_core.proofs.Histories.FrontLemmas.{shape_later}
 use Rattle.heap_rule.specs.declared.config.Config.{Config}
 use Rattle.heap_rule.specs.declared.view.DomainView.{DomainView}

@@ -13,8 +13,7 @@ use Rattle.model_core.specs.declared.graph.Value.TheVariants.{Block}
 use Rattle.model_core.specs.declared.state.State as model
 use Rattle.model_core.specs.Domains.{register}
 use Rattle.model_core.specs.Entries.{next}
-use Rattle.model_cycle.specs.Beside.{Snapshot, Later, WriteBarrier, owed_after, owing_register}
-use Rattle.model_cycle.specs.Marks.{Marks}
+use Rattle.model_cycle.specs.Beside.{Later, WriteBarrier, owed_after, owing_register}
 use Rattle.model_cycle.proofs.Beside.{beside_law}
 use Rattle.heap_words.specs.declared.value.Value.{Value}
 use Rattle.heap_words.specs.declared.value.Value.TheVariants.{Int as IntWord, Ref, Nothing as NothingWord}
@@ -37,20 +36,14 @@ module _ (k : Config) (s : Words) (r : Rule k s) (id : ℕ) (hist : List Entry) 
     (owing : owed_after r.account.cycling.past.owed x.own.number c ≡ owing_register r.account.cycling.past.owed x.own.number dst)
     (barrier : IsTrue r.account.cycling.armed → WriteBarrier r.account.cycling.past r.account.cycling.paint.marks (state_of k r.account.log) x.own.number c) (v : graph_value.Value)
     (gets : register (next (state_of k r.account.log) (Command x.own.number c false)) x.own.number dst ≡ v) where
+  open x use {own.{number as d}}
+  open r.account use {cycling.{past, paint.{marks}}}
+
   abbrev now : model.State
   now = state_of k r.account.log
 
-  abbrev d : ℕ
-  d = x.own.number
-
   abbrev e : Entry
   e = Command d c false
-
-  abbrev past : Snapshot
-  past = r.account.cycling.past
-
-  abbrev marks : Marks
-  marks = r.account.cycling.paint.marks
 
   -- after the entry the register that was written is owed
   owes_target : IsTrue r.account.cycling.armed → Later past marks (next now e) (owing_register past.owed d dst)

@@ -1,5 +1,5 @@
 -- The loads by which a domain cleans its ephemerons keep the rule.
-use Rattle.std.proofs.Common.{◌≡◌, ℕ, Bool, IsTrue, ◌+◌, List, true, false, length, get_or, set, slice_get, Some, Option, sym, refl, ap, ◌∙◌, subst, inl, inr, ⊎_elim, arith, add-one, true≢false, suc, not, cond, ◌==◌, eq-eqb, ◌≤◌}
+use Rattle.std.proofs.Common.{◌≡◌, ℕ, Bool, IsTrue, ◌+◌, List, true, false, length, set, slice_get, Some, Option, sym, refl, ap, ◌∙◌, subst, inl, inr, ⊎_elim, arith, add-one, true≢false, suc, not, cond, ◌==◌, eq-eqb}
 use mathlib.Core.Option.{some}
 use Rattle.model_cycle.proofs.Cycling.{taking_steps}
 use lib.ListN.{get_elem?}
@@ -7,7 +7,7 @@ use Rattle.heap_rule.specs.declared.config.Config.{Config}
 use Rattle.heap_rule.specs.declared.view.DomainView.{DomainView}
 use Rattle.heap_rule.proofs.Keeps.{Words, my_good, unmoved}
 use Rattle.heap_rule.specs.Rule.{Rule, state_of}
-use Rattle.heap_rule.specs.Layout.{before_heap, at_address, heap_words}
+use Rattle.heap_rule.specs.Layout.{before_heap, at_address}
 use Rattle.step_ephemerons.specs.Looks.Rounding.{place_seen}
 use Rattle.model_core.specs.declared.entry.Entry.{Entry}
 use Rattle.heap_rule.specs.Raw.{MayStep}
@@ -16,30 +16,24 @@ use Rattle.atomic_table.specs.Table.{keeps}
 use Rattle.model_core.specs.declared.label.Label.{Label}
 use Rattle.model_core.specs.declared.graph.Value.{Value}
 use Rattle.model_core.specs.declared.graph.Node.{Node}
-use Rattle.model_core.specs.declared.graph.Node.TheVariants.{Plain, Raw, Ephe}
-use Rattle.heap_words.specs.declared.colours.Colours.{Colours}
+use Rattle.model_core.specs.declared.graph.Node.TheVariants.{Ephe}
 use Rattle.heap_words.specs.declared.value.Value.TheVariants.{Int as IntWord, Ref, Nothing as NothingWord}
-use Rattle.model_cycle.specs.Marks.{Marks, KeysMarked}
+use Rattle.model_cycle.specs.Marks.{KeysMarked}
 use Rattle.heap_rule.specs.declared.phase.Kind.{Kind}
 use Rattle.heap_rule.specs.declared.phase.Kind.TheVariants.{Clean}
-use Rattle.heap_rule.specs.declared.view.Share.{Share}
-use Rattle.heap_rule.specs.Places.{Live, Place, WordStands, Debt, HasValue, values_of, without_keys, extent}
-use Rattle.heap_rule.specs.Cycles.{Cycling, Facts, IsCollecting, Knowing, cycle_of, seen_by}
+use Rattle.heap_rule.specs.Places.{Place, WordStands, Debt, HasValue, values_of, without_keys}
+use Rattle.heap_rule.specs.Cycles.{Facts, IsCollecting, Knowing, cycle_of, seen_by}
 use Rattle.heap_rule.proofs.Lists.{got_there}
 use Rattle.heap_rule.proofs.Values.{address_of, packable}
 use Rattle.step_marks.specs.Marking.Looks.{with_share}
-use Rattle.step_marks.proofs.OfMarking.Learning.{bare, held, kind_here, knows_more, known, looks_same}
+use Rattle.step_marks.proofs.OfMarking.Learning.{load_may, bare, held, kind_here, knows_more, known}
 use Rattle.heap_rule.specs.declared.phase.Stage.TheVariants.{In}
-use Rattle.heap_rule.specs.Pools.{Holder}
 use Rattle.std.proofs.lemmas.Option.{none-some, same_Some}
 use Rattle.heap_rule.specs.Ephemerons.{IsEpheAt, emptied_at, Cleans, NextIs}
 use Rattle.std.proofs.lemmas.Bool.{cases_Bool}
-use Rattle.model_core.specs.Fronts.{EpheShape, shape_of}
-use Rattle.step_marks.specs.Marking.Marking.{IsUnmarked, IsMarked}
-use Rattle.step_marks.proofs.OfMarking.Colouring.{BareHead, bare_head, marked_colour, unmarked_colour}
 use Rattle.model_core.specs.Commands.{key_value}
-use Rattle.step_ephemerons.proofs.OfLooks.Listings.{StandsForKey, lives_listed, key_at, saw_place, sees_at, stands_for_key, owner_listed, walked_seen, one_label, own_listed}
-use Rattle.step_marks.proofs.OfMarking.WalkSteps.{next_is}
+use Rattle.step_ephemerons.proofs.OfLooks.Listings.{inside_listed, node_listed, only_saw, StandsForKey, lives_listed, key_at, saw_place, sees_at, stands_for_key, owner_listed, walked_seen, one_label, own_listed}
+use Rattle.step_marks.proofs.OfMarking.WalkSteps.{marked_case, unmarked_case}
 use Rattle.std.specs.List.{list_any}
 use Rattle.model_cycle.proofs.Progressing.{keys_end, found_passes, found_start}
 use Rattle.heap_rule.specs.declared.view.Cleaning.{Cleaning}
@@ -53,26 +47,11 @@ use Rattle.step_ephemerons.proofs.OfLooks.Keys.{without_ephe, no_places, wiped_o
 use Rattle.heap_rule.specs.declared.view.NextKey.TheVariants.{Unknown, Dead, Refers}
 
 module _ (k : Config) (s : Words) (r : Rule k s) (id : ℕ) (hist : List Entry) (x : DomainView) (at : get_elem? s.views id ≡ some (one k hist x)) where
+  open r.account use {live, tenancy.{holder}, cycling as c, cycling.{paint.{marks as m}}}
+  open x use {own.{number as d}, seen.{share as sh}}
+
   abbrev now : model.State
   now = state_of k r.account.log
-
-  abbrev live : Live
-  live = r.account.live
-
-  abbrev holder : ℕ → Holder
-  holder = r.account.tenancy.holder
-
-  abbrev c : Cycling
-  c = r.account.cycling
-
-  abbrev m : Marks
-  m = c.paint.marks
-
-  abbrev d : ℕ
-  d = x.own.number
-
-  abbrev sh : Share
-  sh = x.seen.share
 
   abbrev After : DomainView → Type 0
   After y = Rule k record { words = s.words; homes = s.homes; views = set s.views id (one k hist y) }
@@ -99,23 +78,6 @@ module _ (k : Config) (s : Words) (r : Rule k s) (id : ℕ) (hist : List Entry) 
       record { unchanged = clean_facts.1.unchanged; unrotated = clean_facts.1.unrotated },
     )
 
-    -- the head of a block
-    module _ (colours : Colours) (knows : sh.colours ≡ Some colours) (a : ℕ) (p : Place) (lives : live a ≡ Some p) where
-      abbrev head : ℕ
-      head = at_address k s.words a
-
-      there : BareHead c.paint p head
-      there = bare_head c.paint p head (bare k s r id hist x at in_clean a p lives) r.whole.cycle.meanings (r.whole.placed.fits a p lives).head (r.whole.found a p lives).head
-
-      means : colours ≡ c.paint.colours
-      means = (my_good k s r id hist x at).sharing.telling.colours colours knows
-
-      pub is_unmarked : m.marked p.label ≡ false → IsUnmarked colours head
-      is_unmarked e = record { shape = p.shape; head = there.head; colour = unmarked_colour c.paint p head colours means there e }
-
-      pub is_marked : m.marked p.label ≡ true → (b : IsMarked colours head) × (b.shape ≡ p.shape)
-      is_marked e = (record { shape = p.shape; head = there.head; colour = marked_colour c.paint p head colours means there e }, refl)
-
     -- the domain cleans on
     cleans_rule : (w : Cleaning) → Cleans live now.graph m x.seen.stage x.own.ephemerons.items w → ((a : ℕ) → emptied_at (Some w) a ≡ emptied_at sh.cleaning a) → After (with_share x (cleaning_on w sh))
     cleans_rule w cleans same = let l = (my_good k s r id hist x at).sharing.looks in knows_more k s r id hist x at in_clean (held (cleaning_on w sh)) refl refl record {
@@ -140,13 +102,8 @@ module _ (k : Config) (s : Words) (r : Rule k s) (id : ℕ) (hist : List Entry) 
     abbrev p : Place
     p = ephe.place
 
-    ephe_node : (n : Node) (count : ℕ) → shape_of n ≡ EpheShape count → (keys : List (Option Label)) × (datum : Value) × (n ≡ Ephe keys datum) × (length keys ≡ count)
-    ephe_node (Plain tag fields) count e = cc
-    ephe_node (Raw tag fields) count e = cc
-    ephe_node (Ephe keys datum) count e = let many : length keys ≡ count = cc in (keys, datum, refl, many)
-
     begins : IsTrue (m.marked p.label) → Cleans live now.graph m x.seen.stage x.own.ephemerons.items (cleaning_from a ephe.keys)
-    begins marked = let f = r.whole.found a p ephe.lives in let n = ephe_node f.node ephe.keys (f.shape ∙ ephe.shape) in record {
+    begins marked = let n = node_listed k s r id hist x at a ephe in record {
       stage_is = may.stage;
       listed = may.listed;
       place = p;
@@ -155,7 +112,7 @@ module _ (k : Config) (s : Words) (r : Rule k s) (id : ℕ) (hist : List Entry) 
       marked = marked;
       keys = n.0;
       datum = n.1;
-      node = f.there ∙ ap Some n.2;
+      node = n.2;
       count_is = n.3;
       through = found_start m.marked n.0;
       next = tt;
@@ -165,32 +122,17 @@ module _ (k : Config) (s : Words) (r : Rule k s) (id : ℕ) (hist : List Entry) 
     no_keys true = refl
     no_keys false = refl
 
-    inside : a + ephe.keys + 2 ≤ heap_words k
-    inside =
-        let e : extent p.shape ≡ ephe.keys + 3 = ap extent ephe.shape in
-        let n : ℕ = extent p.shape in
-        let high : a + n ≤ heap_words k + 1 = (r.whole.placed.fits a p ephe.lives).high in
-        omega arith
-
     pub clean_told : (y : DomainView) × After y × CleanTold k a x (at_address k s.words a) y
     clean_told = ⊎_elim
-        (λ (e : m.marked p.label ≡ true). let b = is_marked may.stage may.colours may.known a p ephe.lives e in (
+        (λ (e : m.marked p.label ≡ true). let b = marked_case k s r id hist x at may.colours may.known (in_clean may.stage) a p ephe.lives e in (
           with_share x (cleaning_on (cleaning_from a ephe.keys) sh),
           cleans_rule may.stage (cleaning_from a ephe.keys) (begins e) (λ q. no_keys (q == a) ∙ sym (ap (λ (o : Option Cleaning). emptied_at o q) may.none)),
-          record { colours = may.colours; known = may.known; told = inr (ephe.keys, record { block = b.0; shape = b.1 ∙ ephe.shape }, inside, refl) },
+          record { colours = may.colours; known = may.known; told = inr (ephe.keys, record { block = b.0; shape = b.1 ∙ ephe.shape }, inside_listed k s r id hist x at a ephe, refl) },
         ))
         (λ (e : m.marked p.label ≡ false). (
           with_share x (place_seen a sh),
-          saw_place k s r id hist x at (in_clean may.stage) a (held (place_seen a sh)) refl refl (seen_facts may.stage a p may.listed ephe.lives (λ marked. absurd (true≢false (sym marked ∙ e)))) record {
-            found_head = kn.found_head;
-            scan = kn.scan;
-            walked = walked_seen k s r id hist x at a;
-            own_pool = kn.own_pool;
-            rooted = kn.rooted;
-            marked = kn.marked;
-            looking = looks_same k s r id hist x at (in_clean may.stage) (held (place_seen a sh)) refl refl;
-          },
-          record { colours = may.colours; known = may.known; told = inl (is_unmarked may.stage may.colours may.known a p ephe.lives e, refl) },
+          only_saw k s r id hist x at (in_clean may.stage) a (seen_facts may.stage a p may.listed ephe.lives (λ marked. absurd (true≢false (sym marked ∙ e)))),
+          record { colours = may.colours; known = may.known; told = inl (unmarked_case k s r id hist x at may.colours may.known (in_clean may.stage) a p ephe.lives e, refl) },
         ))
         (cases_Bool (m.marked p.label))
 
@@ -296,12 +238,12 @@ module _ (k : Config) (s : Words) (r : Rule k s) (id : ℕ) (hist : List Entry) 
         (λ (f : m.marked target.0.label ≡ true). (
           with_share x (cleaning_on (key_passed v) sh),
           further v may.cleans (v.done + 1) Unknown (passes v may.cleans (λ l got. let one_key : Some (Some target.0.label) ≡ Some (Some l) = sym target.2 ∙ got in let label : target.0.label ≡ l = cc in subst (λ (z : Label). IsTrue (m.marked z)) label f)) tt,
-          record { cleaning = v; cleans = may.cleans; colours = may.colours; known = may.known; told = inl ((is_marked g.stage_is may.colours may.known a target.0 target.1 f).0, refl) },
+          record { cleaning = v; cleans = may.cleans; colours = may.colours; known = may.known; told = inl ((marked_case k s r id hist x at may.colours may.known (in_clean g.stage_is) a target.0 target.1 f).0, refl) },
         ))
         (λ (f : m.marked target.0.label ≡ false). (
           with_share x (cleaning_on (record v { next = Dead }) sh),
           further v may.cleans v.done Dead g.through (target.0.label, target.2, ap not f),
-          record { cleaning = v; cleans = may.cleans; colours = may.colours; known = may.known; told = inr (is_unmarked g.stage_is may.colours may.known a target.0 target.1 f, refl) },
+          record { cleaning = v; cleans = may.cleans; colours = may.colours; known = may.known; told = inr (unmarked_case k s r id hist x at may.colours may.known (in_clean g.stage_is) a target.0 target.1 f, refl) },
         ))
         (cases_Bool (m.marked target.0.label))
 
@@ -376,24 +318,16 @@ module _ (k : Config) (s : Words) (r : Rule k s) (id : ℕ) (hist : List Entry) 
     }
 
 pub clean_may : (k : Config) (x : DomainView) (word a : ℕ) → word ≡ before_heap k + a → CleanMay x a → MayStep k x word (λ n. n) (CleanTold k a)
-clean_may k x word a place may fits slots id hist s r _ at _ =
-    let o = clean_told k s r id hist x at a may in
-    (one k hist o.0, keeps, tt, unmoved k s word (set s.views id (one k hist o.0)) o.1, (subst (λ (n : ℕ). CleanTold k a x (get_or s.words n 0) o.0) (sym place) o.2, refl))
+clean_may k x word a place may = load_may k x word a (CleanTold k a) place (λ s r id hist at. clean_told k s r id hist x at a may)
 
 pub clean_key_may : (k : Config) (x : DomainView) (word a : ℕ) → word ≡ before_heap k + a → CleanKeyMay x a → MayStep k x word (λ n. n) (CleanKeyTold k)
-clean_key_may k x word a place may fits slots id hist s r _ at _ =
-    let o = key_told k s r id hist x at a may in
-    (one k hist o.0, keeps, tt, unmoved k s word (set s.views id (one k hist o.0)) o.1, (subst (λ (n : ℕ). CleanKeyTold k x (get_or s.words n 0) o.0) (sym place) o.2, refl))
+clean_key_may k x word a place may = load_may k x word a (CleanKeyTold k) place (λ s r id hist at. key_told k s r id hist x at a may)
 
 pub clean_look_may : (k : Config) (x : DomainView) (word a : ℕ) → word ≡ before_heap k + a → CleanLookMay x a → MayStep k x word (λ n. n) CleanLookTold
-clean_look_may k x word a place may fits slots id hist s r _ at _ =
-    let o = look_told k s r id hist x at a may in
-    (one k hist o.0, keeps, tt, unmoved k s word (set s.views id (one k hist o.0)) o.1, (subst (λ (n : ℕ). CleanLookTold x (get_or s.words n 0) o.0) (sym place) o.2, refl))
+clean_look_may k x word a place may = load_may k x word a CleanLookTold place (λ s r id hist at. look_told k s r id hist x at a may)
 
 pub clean_label_may : (k : Config) (x : DomainView) (word a : ℕ) → word ≡ before_heap k + a → CleanLabelMay x a → MayStep k x word (λ n. n) CleanLabelTold
-clean_label_may k x word a place may fits slots id hist s r _ at _ =
-    let o = label_told k s r id hist x at a may in
-    (one k hist o.0, keeps, tt, unmoved k s word (set s.views id (one k hist o.0)) o.1, (subst (λ (n : ℕ). CleanLabelTold x (get_or s.words n 0) o.0) (sym place) o.2, refl))
+clean_label_may k x word a place may = load_may k x word a CleanLabelTold place (λ s r id hist at. label_told k s r id hist x at a may)
 
 pub clean_end_may : (k : Config) (x : DomainView) (word a : ℕ) → word ≡ before_heap k + a → CleanEndMay x a → MayStep k x word (λ n. n) CleanEndTold
 clean_end_may k x word a place may fits slots id hist s r _ at _ =

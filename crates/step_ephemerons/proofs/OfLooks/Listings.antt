@@ -1,9 +1,9 @@
 -- The listed ephemerons of a domain, and what it knows once it has been at the place of one.
-use Rattle.std.proofs.Common.{◌≡◌, ℕ, ◌==◌, ◌||◌, Bool, IsTrue, List, Option, suc, ◌+◌, false, [], ◌∷◌, slice_get, Some, unwrap_or, sym, refl, ap, ◌∙◌, subst, ⊎_elim, ◌<◌, set, None, true≢false, ℤ}
+use Rattle.std.proofs.Common.{◌≡◌, ℕ, ◌==◌, ◌||◌, Bool, IsTrue, List, Option, suc, ◌+◌, false, [], ◌∷◌, slice_get, Some, unwrap_or, sym, refl, ap, ◌∙◌, subst, ⊎_elim, ◌<◌, ◌≤◌, set, None, true≢false, ℤ, length, arith}
 use mathlib.Core.Option.{some}
 use lib.ListN.{get_elem?}
 use Rattle.heap_rule.specs.declared.config.Config.{Config}
-use Rattle.heap_rule.specs.Places.{Live, Place, Debt, HasValue, Stands, WordStands, values_of, IsBare}
+use Rattle.heap_rule.specs.Places.{Live, Place, Debt, HasValue, Stands, WordStands, values_of, IsBare, extent}
 use Rattle.heap_rule.proofs.Keeps.{Words, my_good}
 use Rattle.model_core.specs.declared.label.Label.{Label}
 use Rattle.heap_rule.specs.Rule.{Rule, state_of}
@@ -15,19 +15,20 @@ use Rattle.model_core.proofs.Reach.ReachLemmas.{or_right}
 use Rattle.heap_words.specs.declared.value.Value.TheVariants.{Ref, Int as IntWord, Nothing as NothingWord}
 use Rattle.heap_rule.specs.declared.phase.Kind.{Kind}
 use Rattle.heap_rule.specs.declared.view.DomainView.{DomainView}
-use Rattle.heap_rule.specs.Cycles.{Cycling, IsCollecting, seen_by, Facts, cycle_of, label_at}
+use Rattle.heap_rule.specs.Cycles.{IsCollecting, seen_by, Facts, cycle_of, label_at}
 use Rattle.heap_rule.specs.Views.{one}
-use Rattle.step_marks.proofs.OfMarking.Learning.{Knows, known, at_same, at_other, bare, grows_still, held, owed_in, owes_same, shifts_more, waits, Held, holding}
+use Rattle.step_marks.proofs.OfMarking.Learning.{Knows, known, looks_same, at_same, at_other, bare, grows_still, held, owed_in, owes_same, shifts_more, waits, Held, holding}
 use Rattle.step_marks.proofs.OfMarking.Layouts.{labelled, owner_of_place}
 use Rattle.step_marks.proofs.OfMarking.Unswept.{IsTracing, none_unswept}
 use Rattle.model_cycle.specs.Shares.{at_domain}
-use Rattle.heap_rule.specs.Pools.{owned, blocks_of, IsBefore, place_in, Holder, OwnPlace}
-use Rattle.heap_rule.specs.declared.view.Share.{Share}
-use Rattle.heap_rule.specs.Layout.{at_address}
+use Rattle.heap_rule.specs.Pools.{owned, blocks_of, IsBefore, place_in, OwnPlace}
+use Rattle.heap_rule.specs.Layout.{at_address, heap_words}
 use Rattle.step_marks.specs.Marking.Looks.{with_share}
 use Rattle.std.proofs.lemmas.Option.{same_Some, slice_get-map}
 use Rattle.heap_rule.proofs.EphemeronLemmas.{found_value}
-use Rattle.model_core.specs.declared.graph.Node.TheVariants.{Ephe}
+use Rattle.model_core.specs.declared.graph.Node.TheVariants.{Plain, Raw, Ephe}
+use Rattle.model_core.specs.Fronts.{EpheShape, shape_of}
+use Rattle.step_ephemerons.specs.Looks.Rounding.{place_seen}
 use Rattle.heap_rule.proofs.Controls.{untouched_same}
 use Rattle.model_core.specs.Commands.{key_value}
 use Rattle.heap_rule.specs.Ephemerons.{IsEpheAt}
@@ -35,24 +36,17 @@ use Rattle.model_core.specs.declared.state.State as model
 use Rattle.heap_words.specs.declared.value.Value as words
 use Rattle.std.specs.Prelude.{option_map}
 
+ephe_node : (n : Node) (count : ℕ) → shape_of n ≡ EpheShape count → (keys : List (Option Label)) × (datum : Value) × (n ≡ Ephe keys datum) × (length keys ≡ count)
+ephe_node (Plain tag fields) count e = cc
+ephe_node (Raw tag fields) count e = cc
+ephe_node (Ephe keys datum) count e = let many : length keys ≡ count = cc in (keys, datum, refl, many)
+
 module _ (k : Config) (s : Words) (r : Rule k s) (id : ℕ) (hist : List Entry) (x : DomainView) (at : get_elem? s.views id ≡ some (one k hist x)) where
+  open r.account use {live, tenancy.{holder}, cycling as c}
+  open x use {own.{number as d}, seen.{share as sh}}
+
   abbrev now : model.State
   now = state_of k r.account.log
-
-  abbrev live : Live
-  live = r.account.live
-
-  abbrev holder : ℕ → Holder
-  holder = r.account.tenancy.holder
-
-  abbrev c : Cycling
-  c = r.account.cycling
-
-  abbrev d : ℕ
-  d = x.own.number
-
-  abbrev sh : Share
-  sh = x.seen.share
 
   -- a listed place is one of the domain's own
   pub own_listed : (a : ℕ) → IsTrue (seen_by x.own.ephemerons.items a) → OwnPlace holder a d
@@ -93,6 +87,31 @@ module _ (k : Config) (s : Words) (r : Rule k s) (id : ℕ) (hist : List Entry) 
       (at_same c.shares.seen d (λ b. b == a || c.shares.seen d b) ∙ (ap (λ (f : ℕ → Bool). λ (b : ℕ). b == a || f b) (t.seen not_arrived) ∙ ap seen_by places_seen))
       knows
       refl
+
+  -- and at which it learns nothing else
+  pub only_saw : (collecting : IsCollecting x.seen.stage) (a : ℕ) → Facts c.kind k now live r.account.tenancy (record c { shares = record c.shares { seen = sees_at a } }) s.words
+      → Rule k record { words = s.words; homes = s.homes; views = set s.views id (one k hist (with_share x (place_seen a sh))) }
+  only_saw collecting a facts = let n = known k s r id hist x at in saw_place collecting a (held (place_seen a sh)) refl refl facts record {
+    found_head = n.found_head;
+    scan = n.scan;
+    walked = walked_seen a;
+    own_pool = n.own_pool;
+    rooted = n.rooted;
+    marked = n.marked;
+    looking = looks_same k s r id hist x at collecting (held (place_seen a sh)) refl refl;
+  }
+
+  -- the node of a listed ephemeron, and its last word
+  module _ (a : ℕ) (ephe : IsEpheAt live a) where
+    pub node_listed : (keys : List (Option Label)) × (datum : Value) × (node_at now.graph ephe.place.label ≡ Some (Ephe keys datum)) × (length keys ≡ ephe.keys)
+    node_listed = let f = r.whole.found a ephe.place ephe.lives in let n = ephe_node f.node ephe.keys (f.shape ∙ ephe.shape) in (n.0, n.1, f.there ∙ ap Some n.2, n.3)
+
+    pub inside_listed : a + ephe.keys + 2 ≤ heap_words k
+    inside_listed =
+        let e : extent ephe.place.shape ≡ ephe.keys + 3 = ap extent ephe.shape in
+        let n : ℕ = extent ephe.place.shape in
+        let high : a + n ≤ heap_words k + 1 = (r.whole.placed.fits a ephe.place ephe.lives).high in
+        omega arith
 
   -- the word of a value of a block that misses no keys
   pub value_word_at : (a : ℕ) (p : Place) → live a ≡ Some p → IsBare p → c.paint.emptied p.label ≡ [] → (n : Node) → node_at now.graph p.label ≡ Some n → (i : ℕ) (v : Value) → slice_get (values_of n) i ≡ Some v → WordStands live (at_address k s.words (a + 2 + i)) v

@@ -1,74 +1,56 @@
 -- The looks at an ephemeron in Rounds keep the rule.
-use Rattle.std.proofs.Common.{◌≡◌, ◌≤◌, ℕ, Bool, IsTrue, ◌+◌, List, true, false, length, get_or, set, slice_get, Some, Option, None, sym, refl, ap, ◌∙◌, subst, inl, inr, ⊎_elim, arith, add-one, true≢false, ◌∷◌, suc, option_to_list, not}
+use Rattle.std.proofs.Common.{◌≡◌, ℕ, Bool, IsTrue, ◌+◌, List, true, false, length, get_or, set, slice_get, Some, Option, None, sym, refl, ap, ◌∙◌, subst, inl, inr, ⊎_elim, arith, add-one, true≢false, ◌∷◌, suc, option_to_list, not}
 use mathlib.Core.Option.{some}
 use lib.ListN.{get_elem?}
 use Rattle.heap_rule.specs.declared.config.Config.{Config}
 use Rattle.heap_rule.specs.declared.view.DomainView.{DomainView}
 use Rattle.heap_rule.proofs.Keeps.{Words, my_good, unmoved}
 use Rattle.heap_rule.specs.Rule.{Rule, state_of}
-use Rattle.heap_rule.specs.Layout.{before_heap, at_address, heap_words}
+use Rattle.heap_rule.specs.Layout.{before_heap, at_address}
 use Rattle.step_ephemerons.specs.Looks.Rounding.{DatumMay, EphemeronMay, KeyLookMay, KeyMay, DatumTold, EphemeronTold, KeyLookTold, KeyTold, datum_on, key_on, looked_through, datum_of, next_key, place_seen}
 use Rattle.model_core.specs.declared.entry.Entry.{Entry}
 use Rattle.heap_rule.specs.Raw.{MayStep}
 use Rattle.heap_rule.specs.Views.{one}
 use Rattle.atomic_table.specs.Table.{keeps}
 use Rattle.model_core.specs.declared.label.Label.{Label}
-use Rattle.model_core.specs.declared.graph.Value.{Value}
 use Rattle.model_core.specs.declared.graph.Value.TheVariants.{Block}
 use Rattle.model_core.specs.declared.graph.Node.{Node}
-use Rattle.model_core.specs.declared.graph.Node.TheVariants.{Plain, Raw, Ephe}
+use Rattle.model_core.specs.declared.graph.Node.TheVariants.{Ephe}
 use Rattle.model_core.specs.Reach.{HoldsRoots}
-use Rattle.heap_words.specs.declared.colours.Colours.{Colours}
 use Rattle.heap_words.specs.declared.value.Value.TheVariants.{Int as IntWord, Ref, Nothing as NothingWord}
-use Rattle.model_cycle.specs.Marks.{Marks, DataMarked, data_of, KeysMarked}
+use Rattle.model_cycle.specs.Marks.{DataMarked, data_of, KeysMarked}
 use Rattle.model_cycle.proofs.Cycling.{darkening_steps}
 use Rattle.heap_rule.specs.declared.phase.Kind.{Kind}
 use Rattle.heap_rule.specs.declared.phase.Kind.TheVariants.{Rounds, Clean}
 use Rattle.heap_rule.specs.declared.view.Scan.{Scan}
 use Rattle.heap_rule.specs.declared.view.Share.{Share}
-use Rattle.heap_rule.specs.Places.{Live, Place, Stands, WordStands, IsNoBlock, extent}
-use Rattle.heap_rule.specs.Cycles.{Cycling, Facts, IsCollecting, Knowing, Scans, cycle_of, seen_by, KeysAt, KeyAt}
+use Rattle.heap_rule.specs.Places.{Place, Stands, WordStands, IsNoBlock}
+use Rattle.heap_rule.specs.Cycles.{Facts, IsCollecting, Knowing, Scans, cycle_of, seen_by, KeysAt, KeyAt}
 use Rattle.heap_rule.proofs.Lists.{got_there}
 use Rattle.heap_rule.proofs.Values.{address_of, packable, stands_block, no_label}
 use Rattle.step_marks.specs.Marking.Looks.{with_share}
-use Rattle.step_marks.proofs.OfMarking.Learning.{bare, held, kind_here, knows_more, known, looks_same, looks_still, whole_in, Held}
+use Rattle.step_marks.proofs.OfMarking.Learning.{load_may, bare, held, kind_here, knows_more, known, looks_still, whole_in, Held}
 use Rattle.heap_rule.specs.declared.phase.Stage.TheVariants.{In}
-use Rattle.heap_rule.specs.Pools.{place_in, Holder}
+use Rattle.heap_rule.specs.Pools.{place_in}
 use Rattle.std.proofs.lemmas.Option.{none-some, same_Some}
 use Rattle.heap_rule.specs.Ephemerons.{ephemeron_of, IsEpheAt}
 use Rattle.std.proofs.lemmas.Bool.{cases_Bool}
-use Rattle.model_core.specs.Fronts.{EpheShape, shape_of}
-use Rattle.step_marks.specs.Marking.Marking.{IsUnmarked, seen_through, IsMarked}
-use Rattle.step_marks.proofs.OfMarking.Colouring.{BareHead, bare_head, marked_colour, unmarked_colour}
+use Rattle.step_marks.specs.Marking.Marking.{seen_through}
+use Rattle.step_marks.proofs.OfMarking.WalkSteps.{marked_case, unmarked_case}
 use Rattle.heap_rule.specs.declared.view.Scan.TheVariants.{Keys}
 use Rattle.model_core.specs.Commands.{key_value}
 use Rattle.model_core.specs.declared.state.State as model
 use Rattle.heap_words.specs.declared.value.Value as words
 use Rattle.model_cycle.specs.Progress.{KeysDone}
-use Rattle.step_ephemerons.proofs.OfLooks.Listings.{StandsForKey, lives_listed, value_word_at, key_at, saw_place, sees_at, stands_for_key, owner_listed, walked_seen, one_label}
+use Rattle.step_ephemerons.proofs.OfLooks.Listings.{inside_listed, node_listed, only_saw, StandsForKey, lives_listed, value_word_at, key_at, saw_place, sees_at, stands_for_key, owner_listed, walked_seen, one_label}
 use Rattle.model_cycle.proofs.Progressing.{keys_start, keys_next, keys_fail}
 
 module _ (k : Config) (s : Words) (r : Rule k s) (id : ℕ) (hist : List Entry) (x : DomainView) (at : get_elem? s.views id ≡ some (one k hist x)) (stage : x.seen.stage ≡ In Rounds) where
+  open r.account use {live, tenancy.{holder}, cycling as c, cycling.{paint.{marks as m}}}
+  open x use {own.{number as d}, seen.{share as sh}}
+
   abbrev now : model.State
   now = state_of k r.account.log
-
-  abbrev live : Live
-  live = r.account.live
-
-  abbrev holder : ℕ → Holder
-  holder = r.account.tenancy.holder
-
-  abbrev c : Cycling
-  c = r.account.cycling
-
-  abbrev m : Marks
-  m = c.paint.marks
-
-  abbrev d : ℕ
-  d = x.own.number
-
-  abbrev sh : Share
-  sh = x.seen.share
 
   abbrev After : DomainView → Type 0
   After y = Rule k record { words = s.words; homes = s.homes; views = set s.views id (one k hist y) }
@@ -130,23 +112,6 @@ module _ (k : Config) (s : Words) (r : Rule k s) (id : ℕ) (hist : List Entry) 
     looking = looks_still k s r id hist x at collecting m (held (record sh { scan = scan })) (λ _. refl) refl own;
   }
 
-  -- the head of a block
-  module _ (colours : Colours) (knows : sh.colours ≡ Some colours) (a : ℕ) (p : Place) (lives : live a ≡ Some p) where
-    abbrev head : ℕ
-    head = at_address k s.words a
-
-    there : BareHead c.paint p head
-    there = bare_head c.paint p head (bare k s r id hist x at collecting a p lives) r.whole.cycle.meanings (r.whole.placed.fits a p lives).head (r.whole.found a p lives).head
-
-    means : colours ≡ c.paint.colours
-    means = (my_good k s r id hist x at).sharing.telling.colours colours knows
-
-    is_unmarked : m.marked p.label ≡ false → IsUnmarked colours head
-    is_unmarked e = record { shape = p.shape; head = there.head; colour = unmarked_colour c.paint p head colours means there e }
-
-    is_marked : m.marked p.label ≡ true → (b : IsMarked colours head) × (b.shape ≡ p.shape)
-    is_marked e = (record { shape = p.shape; head = there.head; colour = marked_colour c.paint p head colours means there e }, refl)
-
   -- the head of a listed ephemeron
   module _ (a : ℕ) (may : EphemeronMay x a) where
     ephe : IsEpheAt live a
@@ -155,49 +120,29 @@ module _ (k : Config) (s : Words) (r : Rule k s) (id : ℕ) (hist : List Entry) 
     abbrev p : Place
     p = ephe.place
 
-    ephe_node : (n : Node) (count : ℕ) → shape_of n ≡ EpheShape count → (keys : List (Option Label)) × (datum : Value) × (n ≡ Ephe keys datum) × (length keys ≡ count)
-    ephe_node (Plain tag fields) count e = cc
-    ephe_node (Raw tag fields) count e = cc
-    ephe_node (Ephe keys datum) count e = let many : length keys ≡ count = cc in (keys, datum, refl, many)
-
     begins : IsTrue (m.marked p.label) → KeysAt live now.graph m a 0 ephe.keys
-    begins marked = let f = r.whole.found a p ephe.lives in let n = ephe_node f.node ephe.keys (f.shape ∙ ephe.shape) in record {
+    begins marked = let n = node_listed k s r id hist x at a ephe in record {
       place = p;
       lives = ephe.lives;
       marked = marked;
       keys = n.0;
       datum = n.1;
-      node = f.there ∙ ap Some n.2;
+      node = n.2;
       count_is = n.3;
       through = keys_start m.marked n.0;
     }
 
-    inside : a + ephe.keys + 2 ≤ heap_words k
-    inside =
-        let e : extent p.shape ≡ ephe.keys + 3 = ap extent ephe.shape in
-        let n : ℕ = extent p.shape in
-        let high : a + n ≤ heap_words k + 1 = (r.whole.placed.fits a p ephe.lives).high in
-        omega arith
-
     pub ephemeron_told : (y : DomainView) × After y × EphemeronTold k a x (at_address k s.words a) y
     ephemeron_told = ⊎_elim
-        (λ (e : m.marked p.label ≡ true). let b = is_marked may.colours may.known a p ephe.lives e in (
+        (λ (e : m.marked p.label ≡ true). let b = marked_case k s r id hist x at may.colours may.known collecting a p ephe.lives e in (
           with_share x (record sh { scan = Keys a 0 ephe.keys }),
           goes_rule (Keys a 0 ephe.keys) (begins e) (λ b is. let same : a ≡ b = same_Some a b is in subst (λ (z : ℕ). IsTrue (seen_by x.own.ephemerons.items z)) same may.listed),
-          record { colours = may.colours; known = may.known; told = inr (ephe.keys, record { block = b.0; shape = b.1 ∙ ephe.shape }, inside, refl) },
+          record { colours = may.colours; known = may.known; told = inr (ephe.keys, record { block = b.0; shape = b.1 ∙ ephe.shape }, inside_listed k s r id hist x at a ephe, refl) },
         ))
         (λ (e : m.marked p.label ≡ false). (
           with_share x (place_seen a sh),
-          saw_place k s r id hist x at collecting a (held (place_seen a sh)) refl refl (seen_facts a p may.listed ephe.lives (λ before _. absurd (true≢false (sym (stays p.label before) ∙ e)))) record {
-            found_head = kn.found_head;
-            scan = kn.scan;
-            walked = walked_seen k s r id hist x at a;
-            own_pool = kn.own_pool;
-            rooted = kn.rooted;
-            marked = kn.marked;
-            looking = looks_same k s r id hist x at collecting (held (place_seen a sh)) refl refl;
-          },
-          record { colours = may.colours; known = may.known; told = inl (is_unmarked may.colours may.known a p ephe.lives e, refl) },
+          only_saw k s r id hist x at collecting a (seen_facts a p may.listed ephe.lives (λ before _. absurd (true≢false (sym (stays p.label before) ∙ e)))),
+          record { colours = may.colours; known = may.known; told = inl (unmarked_case k s r id hist x at may.colours may.known collecting a p ephe.lives e, refl) },
         ))
         (cases_Bool (m.marked p.label))
 
@@ -291,13 +236,13 @@ module _ (k : Config) (s : Words) (r : Rule k s) (id : ℕ) (hist : List Entry) 
           with_share x (record sh { scan = next_key sh.scan }),
           goes_rule (next_key sh.scan) (subst (λ (z : Scan). Scans live now.graph m (next_key z)) (sym may.scan) (marked_on e))
               (λ b is. listed_of b (ap ephemeron_of may.scan ∙ (ap (λ (z : Scan). ephemeron_of (next_key z)) (sym may.scan) ∙ is))),
-          record { colours = may.colours; known = may.known; told = inl ((is_marked may.colours may.known a g.target g.there e).0, refl) },
+          record { colours = may.colours; known = may.known; told = inl ((marked_case k s r id hist x at may.colours may.known collecting a g.target g.there e).0, refl) },
         ))
         (λ (e : m.marked g.target.label ≡ false). (
           with_share x (looked_through sh),
           ends_rule may.block g.reads.place (held (looked_through sh)) refl (ap ephemeron_of may.scan) (ap (λ (z : Scan). seen_through z sh.places_seen) may.scan) g.reads.lives
               (λ _ full. absurd (keys_fail now.graph c.before g.reads.place.label g.reads.keys g.reads.datum may.done g.target.label g.reads.node g.holds (not_before e) full)),
-          record { colours = may.colours; known = may.known; told = inr (is_unmarked may.colours may.known a g.target g.there e, refl) },
+          record { colours = may.colours; known = may.known; told = inr (unmarked_case k s r id hist x at may.colours may.known collecting a g.target g.there e, refl) },
         ))
         (cases_Bool (m.marked g.target.label))
 
@@ -350,9 +295,7 @@ module _ (k : Config) (s : Words) (r : Rule k s) (id : ℕ) (hist : List Entry) 
     }
 
 pub ephemeron_may : (k : Config) (x : DomainView) (word a : ℕ) → word ≡ before_heap k + a → EphemeronMay x a → MayStep k x word (λ n. n) (EphemeronTold k a)
-ephemeron_may k x word a place may fits slots id hist s r _ at _ =
-    let o = ephemeron_told k s r id hist x at may.stage a may in
-    (one k hist o.0, keeps, tt, unmoved k s word (set s.views id (one k hist o.0)) o.1, (subst (λ (n : ℕ). EphemeronTold k a x (get_or s.words n 0) o.0) (sym place) o.2, refl))
+ephemeron_may k x word a place may = load_may k x word a (EphemeronTold k a) place (λ s r id hist at. ephemeron_told k s r id hist x at may.stage a may)
 
 pub key_may : (k : Config) (x : DomainView) (word a : ℕ) → word ≡ before_heap k + a → KeyMay x a → MayStep k x word (λ n. n) (KeyTold k)
 key_may k x word a place may fits slots id hist s r _ at _ =
@@ -360,9 +303,7 @@ key_may k x word a place may fits slots id hist s r _ at _ =
     (one k hist y, keeps, tt, unmoved k s word (set s.views id (one k hist y)) (key_rule k s r id hist x at may.stage a may), (subst (λ (n : ℕ). KeyTold k x (get_or s.words n 0) y) (sym place) (key_told k s r id hist x at may.stage a may), refl))
 
 pub key_look_may : (k : Config) (x : DomainView) (word a : ℕ) → word ≡ before_heap k + a → KeyLookMay x a → MayStep k x word (λ n. n) KeyLookTold
-key_look_may k x word a place may fits slots id hist s r _ at _ =
-    let o = key_look_told k s r id hist x at may.stage a may in
-    (one k hist o.0, keeps, tt, unmoved k s word (set s.views id (one k hist o.0)) o.1, (subst (λ (n : ℕ). KeyLookTold x (get_or s.words n 0) o.0) (sym place) o.2, refl))
+key_look_may k x word a place may = load_may k x word a KeyLookTold place (λ s r id hist at. key_look_told k s r id hist x at may.stage a may)
 
 pub datum_may : (k : Config) (x : DomainView) (word a : ℕ) → word ≡ before_heap k + a → DatumMay x a → MayStep k x word (λ n. n) (DatumTold k)
 datum_may k x word a place may fits slots id hist s r _ at _ =

@@ -16,7 +16,7 @@ use Rattle.model_core.specs.Graph.{node_at}
 use Rattle.model_core.specs.Fronts.{EpheShape, KeepsDomain, shape_of}
 use Rattle.model_core.specs.History.{Legal}
 use Rattle.heap_words.specs.declared.value.Value.TheVariants.{Nothing as NothingWord}
-use Rattle.model_cycle.specs.Marks.{Marks, fields_of}
+use Rattle.model_cycle.specs.Marks.{fields_of}
 use Rattle.heap_rule.specs.declared.config.Config.{Config}
 use Rattle.heap_rule.specs.declared.phase.Kind.{Kind}
 use Rattle.heap_rule.specs.declared.phase.Kind.TheVariants.{Run, Clean}
@@ -34,8 +34,8 @@ use Rattle.heap_rule.specs.Fullness.{Fullness}
 use Rattle.heap_rule.specs.Layout.{at_address, before_heap, heap_words}
 use Rattle.heap_rule.specs.Limits.{sizes_in}
 use Rattle.heap_rule.specs.Phases.{CountsEnded, IsInPause, Staged, flag, is_over}
-use Rattle.heap_rule.specs.Places.{Found, IsBare, IsOldWord, Live, Paint, Place, Stands, extent, values_of, without_keys}
-use Rattle.heap_rule.specs.Pools.{OwnPlace, Tenancy, place_in}
+use Rattle.heap_rule.specs.Places.{Found, IsBare, IsOldWord, Paint, Place, Stands, extent, values_of, without_keys}
+use Rattle.heap_rule.specs.Pools.{OwnPlace, place_in}
 use Rattle.heap_rule.specs.Rule.{Account, AllFound, Area, Good, Making, Rule, Sharing, state_of}
 use Rattle.heap_rule.specs.Standing.{with_front}
 use Rattle.heap_rule.specs.Views.{EachView, Knows as SeatKnows, one}
@@ -54,32 +54,11 @@ use Rattle.step_marks.proofs.OfMarking.Learning.{bare, even, kind_here, known, l
 use Rattle.step_marks.proofs.OfMarking.Unswept.{none_unswept}
 
 module _ (k : Config) (s : Words) (r : Rule k s) (id : ℕ) (hist : List Entry) (x : DomainView) (at : get_elem? s.views id ≡ some (one k hist x)) (stage : x.seen.stage ≡ In Clean) (w : Cleaning) (cleaning : x.seen.share.cleaning ≡ Some w) where
+  open r.account use {live, tenancy as T, cycling as c, cycling.{paint, paint.{marks as m}}}
+  open x use {own.{number as d, ephemerons.{items}}, seen.{share as sh}}
+
   abbrev now : model.State
   now = state_of k r.account.log
-
-  abbrev live : Live
-  live = r.account.live
-
-  abbrev T : Tenancy
-  T = r.account.tenancy
-
-  abbrev c : Cycling
-  c = r.account.cycling
-
-  abbrev paint : Paint
-  paint = c.paint
-
-  abbrev m : Marks
-  m = paint.marks
-
-  abbrev d : ℕ
-  d = x.own.number
-
-  abbrev sh : Share
-  sh = x.seen.share
-
-  abbrev items : List ℕ
-  items = x.own.ephemerons.items
 
   good : Good k r.account s.words x
   good = my_good k s r id hist x at

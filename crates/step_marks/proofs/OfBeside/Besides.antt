@@ -15,8 +15,7 @@ use Rattle.heap_rule.specs.declared.view.Known.{Known}
 use Rattle.heap_rule.specs.declared.view.Share.{Share}
 use Rattle.heap_rule.specs.Beside.{AllKnown, IsUnaware, Underway, is_weak}
 use Rattle.heap_rule.specs.Cycles.{Cycling, Cycled, HasNoCycle, IsIdle, Leading}
-use Rattle.heap_rule.specs.Places.{Live}
-use Rattle.heap_rule.specs.Pools.{Grid, Holder, Hunter}
+use Rattle.heap_rule.specs.Pools.{Grid, Hunter}
 use Rattle.heap_rule.specs.Rule.{Account, AllFound, Area, Good, Making, Rule, Sharing, state_of}
 use Rattle.heap_rule.specs.Views.{one}
 use Rattle.heap_rule.proofs.Growing.{grows_none, no_marking}
@@ -24,9 +23,10 @@ use Rattle.heap_rule.proofs.Advancing.{underway_here}
 use Rattle.heap_rule.proofs.BesideLemmas.{Endures, runs_on}
 use Rattle.heap_rule.proofs.EphemeronLemmas.{looks_idle}
 use Rattle.heap_rule.proofs.FinaliserLemmas.{deciding_none}
-use Rattle.heap_rule.proofs.Keeps.{Words, between_here, controls_kept, Control, cycle_control, hunter_as, idle_here, knows_front, my_good, no_cycle_here, opened_words, owes_as, remakes, resting_as, resting_lists, room_words, whole_here}
+use Rattle.heap_rule.proofs.Keeps.{Words, between_here, Control, cycle_control, idle_here, my_good, no_cycle_here, whole_here}
 use Rattle.heap_rule.proofs.Sharings.{SameCycle, adds_nothing, between_facts, idle_beside, leading_words}
 use Rattle.step_marks.specs.Marking.Looks.{with_share}
+use Rattle.step_marks.proofs.OfMarking.Recasting.{recasts}
 use Rattle.step_marks.proofs.OfMarking.Unswept.{swept_armed}
 
 -- what a running domain knows and owes changes
@@ -34,20 +34,11 @@ abbrev pub aware : Share → List Known → Option ℕ → Share
 aware share known weak = record share { known = known; weak = weak }
 
 module _ (k : Config) (s : Words) (r : Rule k s) (id : ℕ) (hist : List Entry) (x : DomainView) (at : get_elem? s.views id ≡ some (one k hist x)) (runs : x.seen.stage ≡ In Run) (armed : x.seen.share.armed ≡ Some true) where
+  open r.account use {cycling as c, live, tenancy.{holder}}
+  open x use {seen.{share as sh}}
+
   abbrev pub now : model.State
   now = state_of k r.account.log
-
-  abbrev c : Cycling
-  c = r.account.cycling
-
-  abbrev live : Live
-  live = r.account.live
-
-  abbrev holder : ℕ → Holder
-  holder = r.account.tenancy.holder
-
-  abbrev sh : Share
-  sh = x.seen.share
 
   pub is_armed : IsTrue c.armed
   is_armed = sym ((my_good k s r id hist x at).sharing.leading.armed true armed).1
@@ -160,69 +151,19 @@ module _ (k : Config) (s : Words) (r : Rule k s) (id : ℕ) (hist : List Entry) 
         }
 
     pub learns : Rule k record { words = words'; homes = s.homes; views = set s.views id (one k hist (with_share x (aware sh known' weak'))) }
-    learns =
-        let g = my_good k s r id hist x at in
-        let controls = controls_kept k s r id hist x at words' o.control in
-        let own_making = o.makings x g.area g.making in
-        remakes k s r id hist x at y all' words'
-        record {
-          wide = o.wide ∙ r.whole.wide;
-          legal = r.whole.legal;
-          full = r.whole.full;
-          found = o.found;
-          placed = r.whole.placed;
-          spread = r.whole.spread;
-          settled = r.whole.settled;
-          copies = r.whole.copies;
-          cleared = r.whole.cleared;
-          emptied = r.whole.emptied;
-          phases = controls.phases;
-          unwished = λ j odd led runs. controls.want ∙ r.whole.unwished j odd led runs;
-          endings = controls.ended ∙ r.whole.endings;
-          pools = controls.pools;
-          reserved = controls.reserved;
-          covered = controls.covered;
-          grid = o.grid;
-          drawers = r.whole.drawers;
-          room = room_words k live r.account.pause r.account.tenancy.stock s.words words' controls.counts r.whole.room;
-          unused = r.whole.unused;
-          opened = opened_words k live s.words words' controls.listed_young r.whole.opened;
-          drawable = controls.drawable;
-          cycle = cycle';
-        }
-        (knows_front k s r id hist x at y refl (inl refl))
-        record {
-          stood = record { wide = g.stood.wide; each = g.stood.each; serial = g.stood.serial; enrolled = g.stood.enrolled };
-          area = record { room = g.area.room; free = g.area.free; classes = g.area.classes };
-          making = record { fits = own_making.fits; written = own_making.written };
-          staged = record { arrivals = g.staged.arrivals; stage = g.staged.stage };
-          still = g.still;
-          hunter = hunter_as k r.account.tenancy words' x y refl refl refl refl refl refl refl (o.hunters x g);
-          resting = resting_as k words' x y refl refl refl refl refl refl (resting_lists k s.words words' x controls.lists g.resting);
-          took_back = λ kind leads last. controls.want ∙ g.took_back kind leads last;
-          owes = owes_as k live x y refl refl refl refl g.owes;
-          rooted = g.rooted;
-          set_back = λ b. controls.set_back x g.staged b (g.set_back b);
-          sharing = own_sharing;
-          listed = g.listed;
-          sweeps = g.sweeps;
-        }
-        (λ z _ other h. record {
-          stood = h.stood;
-          area = h.area;
-          making = o.makings z h.area h.making;
-          staged = h.staged;
-          still = h.still;
-          hunter = o.hunters z h;
-          resting = resting_lists k s.words words' z controls.lists h.resting;
-          took_back = λ kind leads last. controls.want ∙ h.took_back kind leads last;
-          owes = h.owes;
-          rooted = h.rooted;
-          set_back = λ b. controls.set_back z h.staged b (h.set_back b);
-          sharing = other_sharing z other h;
-          listed = h.listed;
-          sweeps = h.sweeps;
-        })
+    learns = recasts k s r id hist x at y.seen.share (record c.paint { marks = m' }) c.shares past' words' record {
+      wide = o.wide;
+      control = o.control;
+      found = o.found;
+      grid = o.grid;
+      cycle = cycle';
+      makings = o.makings;
+      hunters = o.hunters;
+      sharing = own_sharing;
+      sharings = other_sharing;
+      sweeps = (my_good k s r id hist x at).sweeps;
+      others_sweep = λ z h. h.sweeps;
+    }
 
   -- a load: the words and what is marked stay
   pub reads_rule : (known' : List Known) (weak' : Option ℕ) (past' : Snapshot) → past'.old ≡ c.past.old → ((d q : ℕ) → d ≢ x.own.number → past'.owed d q ≡ c.past.owed d q) → ((q : ℕ) → past'.owed x.own.number q ≡ is_weak weak' q)

@@ -17,7 +17,7 @@ use Rattle.model_core.specs.Graph.{same_label}
 use Rattle.model_core.proofs.Graphs.GraphLemmas.{same_label_refl, same_label-false, same_label-true}
 use Rattle.heap_words.specs.declared.colours.Colours.{Colours}
 use Rattle.heap_words.specs.Heads.{head_word}
-use Rattle.model_cycle.specs.Beside.{IsBeside, Later, Snapshot}
+use Rattle.model_cycle.specs.Beside.{IsBeside, Later}
 use Rattle.model_cycle.specs.Cover.{field_at, field_in, is_new}
 use Rattle.model_cycle.specs.Marks.{Marks, darkened, darkened_as, with_scanned}
 use Rattle.model_cycle.proofs.Beside.{beside_law}
@@ -29,13 +29,14 @@ use Rattle.heap_rule.specs.declared.view.DomainView.{DomainView}
 use Rattle.heap_rule.specs.declared.view.Known.TheVariants.{Marked, Found, Shape as Shaped, Refers, Darkened, Scanned}
 use Rattle.heap_rule.specs.Beside.{AllKnown, IsShaped, IsPooled, Underway, is_weak}
 use Rattle.heap_rule.specs.Layout.{before_heap, at_address}
-use Rattle.heap_rule.specs.Places.{IsHeadOf, Live, Place, colour_in, head_of, needs_no_scan}
+use Rattle.heap_rule.specs.Places.{IsHeadOf, Place, colour_in, head_of, needs_no_scan}
 use Rattle.heap_rule.specs.Raw.{MayStep, MayStore}
 use Rattle.heap_rule.specs.Rule.{Rule}
 use Rattle.heap_rule.specs.Views.{one}
 use Rattle.heap_rule.proofs.BesideLemmas.{all_known_on, known_among, paid_marks}
 use Rattle.heap_rule.proofs.Blocks as blocks
 use Rattle.heap_rule.proofs.Keeps.{Words, now, my_good, run_settled, unmoved}
+use Rattle.step_marks.proofs.OfMarking.Learning.{load_may}
 use Rattle.step_marks.specs.Marking.Marking.{fields_in}
 use Rattle.step_marks.proofs.OfMarking.Colouring.{BareHead, Recolourable, unmarked_by, words_same}
 use Rattle.step_marks.specs.Beside.Marking.{DarkenMay, DarkenTold, Field, Reason, Expected, ScannedMay, ScannedTold, TargetMay, TargetTold, Warrants, Weak, darkened_at, learning, marked_at, weak_on}
@@ -45,17 +46,8 @@ use Rattle.step_marks.proofs.OfBeside.ReadSteps.{field_inside, no_field}
 use Rattle.step_marks.proofs.OfBeside.Rewriting as rewriting
 
 module _ (k : Config) (s : Words) (r : Rule k s) (id : ℕ) (hist : List Entry) (x : DomainView) (at : get_elem? s.views id ≡ some (one k hist x)) where
-  abbrev live : Live
-  live = r.account.live
-
-  abbrev m : Marks
-  m = r.account.cycling.paint.marks
-
-  abbrev past : Snapshot
-  past = r.account.cycling.past
-
-  abbrev d : ℕ
-  d = x.own.number
+  open r.account use {live, cycling.{paint.{marks as m}, past}}
+  open x use {own.{number as d}}
 
   abbrev After : DomainView → Type 0
   After y = Rule k record { words = s.words; homes = s.homes; views = set s.views id (one k hist y) }
@@ -160,11 +152,8 @@ module _ (k : Config) (s : Words) (r : Rule k s) (id : ℕ) (hist : List Entry) 
     abbrev aimed : Aim may.knows.beside.runs may.knows.beside.armed a reason
     aimed = aim may.knows.beside.runs may.knows.beside.armed a reason may.reason_is
 
-    abbrev p : Place
-    p = aimed.place
-
-    abbrev cs : Colours
-    cs = r.account.cycling.paint.colours
+    open aimed use {place as p}
+    open r.account use {cycling.{paint.{colours as cs}}}
 
     means : may.knows.colours ≡ cs
     means = looks.means k s r id hist x at may.knows.beside.runs may.knows.colours may.knows.known a p aimed.lives
@@ -329,9 +318,7 @@ module _ (k : Config) (s : Words) (r : Rule k s) (id : ℕ) (hist : List Entry) 
         }
 
 pub target_may : (k : Config) (x : DomainView) (word a : ℕ) (reason : Reason) → word ≡ before_heap k + a → TargetMay k x a reason → MayStep k x word (λ n. n) (TargetTold a reason)
-target_may k x word a reason place may fits slots id hist s r _ at _ =
-    let o = target_told k s r id hist x at a reason may in
-    (one k hist o.0, keeps, tt, unmoved k s word (set s.views id (one k hist o.0)) o.1, (subst (λ (n : ℕ). TargetTold a reason x (get_or s.words n 0) o.0) (sym place) o.2, refl))
+target_may k x word a reason place may = load_may k x word a (TargetTold a reason) place (λ s r id hist at. target_told k s r id hist x at a reason may)
 
 pub darken_may : (k : Config) (x : DomainView) (word a old new : ℕ) (reason : Reason) → word ≡ before_heap k + a → DarkenMay k x a old new reason → MayStep k x word (λ n. either (n == old) new n) (DarkenTold old a reason)
 darken_may k x word a old new reason place may fits slots id hist s r _ at _ =

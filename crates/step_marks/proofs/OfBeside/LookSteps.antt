@@ -22,6 +22,7 @@ use Rattle.heap_rule.proofs.PauseFacts.{run_promoting}
 use Rattle.heap_rule.proofs.Keeps.{Words, my_good, run_settled, unmoved}
 use Rattle.heap_rule.specs.declared.phase.Kind.TheVariants.{Run}
 use Rattle.heap_rule.specs.declared.phase.Stage.TheVariants.{In}
+use Rattle.step_marks.proofs.OfMarking.Learning.{load_may}
 use Rattle.step_marks.specs.Marking.Marking.{IsMarked, IsScanned, IsUnmarked}
 use Rattle.step_marks.proofs.OfMarking.Colouring.{BareHead, bare_head, marked_colour, unmarked_colour}
 use Rattle.step_marks.specs.Beside.Marking.{Begins, PlaceMay, PlaceTold, PoolMay, PoolTold, learning}
@@ -136,6 +137,4 @@ pool_may k x a word pool may fits slots id hist s r _ at _ =
     (one k hist o.0, keeps, tt, unmoved k s word (set s.views id (one k hist o.0)) o.1, (subst (λ (n : ℕ). PoolTold a pool x (get_or s.words n 0) o.0) (sym may.word_is) o.2, refl))
 
 pub place_may : (k : Config) (x : DomainView) (word a pool class slot : ℕ) → word ≡ before_heap k + a → PlaceMay x a pool class slot → MayStep k x word (λ n. n) (PlaceTold a)
-place_may k x word a pool class slot place may fits slots id hist s r _ at _ =
-    let o = place_told k s r id hist x at a pool class slot may in
-    (one k hist o.0, keeps, tt, unmoved k s word (set s.views id (one k hist o.0)) o.1, (subst (λ (n : ℕ). PlaceTold a x (get_or s.words n 0) o.0) (sym place) o.2, refl))
+place_may k x word a pool class slot place may = load_may k x word a (PlaceTold a) place (λ s r id hist at. place_told k s r id hist x at a pool class slot may)

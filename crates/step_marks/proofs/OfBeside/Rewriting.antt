@@ -196,11 +196,7 @@ module _ (k : Config) (t : Tenancy) (live : Live) (words : List ℕ) (a new : �
   }
 
 module _ (k : Config) (s : Words) (r : Rule k s) (id : ℕ) (hist : List Entry) (x : DomainView) (at : get_elem? s.views id ≡ some (one k hist x)) (runs : x.seen.stage ≡ In Run) (a : ℕ) (p : Place) (new : ℕ) (m' : Marks) where
-  abbrev live : Live
-  live = r.account.live
-
-  abbrev paint : Paint
-  paint = r.account.cycling.paint
+  open r.account use {live, cycling.{paint}}
 
   abbrev paint' : Paint
   paint' = record paint { marks = m' }

@@ -31,7 +31,7 @@ use Rattle.heap_rule.proofs.PauseFacts.{not_both}
 use Rattle.heap_rule.proofs.Sharings.{knows_words}
 use Rattle.step_marks.specs.Marking.Arming.{ArmMay, ArmedTold, knowing_armed}
 use Rattle.step_marks.specs.Marking.Looks.{with_share}
-use Rattle.step_marks.proofs.OfMarking.Learning.{learns}
+use Rattle.step_marks.proofs.OfMarking.Learning.{learns, sharing_learnt}
 use Rattle.step_marks.proofs.OfMarking.Pausing.{paused_unaware}
 use Rattle.step_marks.proofs.OfMarking.Unswept.{IsTracing, swept_tracing}
 
@@ -53,43 +53,8 @@ module _ (k : Config) (s : Words) (r : Rule k s) (id : ℕ) (hist : List Entry) 
   learnt = record x.seen.share { armed = Some c.armed }
 
   learnt_sharing : MayLook x.own.number x.seen.stage → Sharing k r.account s.words x.own.number x.own.registers x.own.finalisers x.own.ephemerons.items x.seen.stage learnt
-  learnt_sharing may = let h = good.sharing in record {
-    telling = record { owes = h.telling.owes; seen = h.telling.seen; fresh = λ up. ap (λ (z : Share). record z { armed = Some c.armed }) (h.telling.fresh up); forgotten = h.telling.forgotten; colours = h.telling.colours };
-    leading = record {
-      changed = h.leading.changed;
-      found_blocks = h.leading.found_blocks;
-      found_words = h.leading.found_words;
-      rotated = h.leading.rotated;
-      turned = h.leading.turned;
-      pass = h.leading.pass;
-      whole = h.leading.whole;
-      armed = λ b e. (may, sym (same_Some c.armed b e));
-      unswept = h.leading.unswept;
-      under_way = h.leading.under_way;
-      unmarked = h.leading.unmarked;
-    };
-    knows = ⊎_elim
-        (λ (q : IsIdle x.seen.share). inl (ap (λ (z : Share). record z { armed = Some c.armed }) q))
-        (λ (n : IsCollecting x.seen.stage × Knowing k r.account.live r.account.tenancy.holder now.graph c.paint.marks s.words x.own.number x.own.registers x.seen.share). inr (
-          n.0,
-          record {
-            found_head = n.1.found_head;
-            scan = n.1.scan;
-            walked = n.1.walked;
-            own_pool = n.1.own_pool;
-            rooted = n.1.rooted;
-            marked = n.1.marked;
-            counted = record { once = n.1.counted.once; own = n.1.counted.own; lives = n.1.counted.lives; all = n.1.counted.all; words = n.1.counted.words };
-            held = n.1.held;
-            vacant = n.1.vacant;
-          },
-        ))
-        h.knows;
-    adds = record { blocks = h.adds.blocks; words = h.adds.words; own = h.adds.own };
-    looks = record { at_own = h.looks.at_own; cleans = h.looks.cleans; emptied_is = h.looks.emptied_is };
-    running = record { knows = h.running.knows; owes = h.running.owes };
-    deciding = h.deciding;
-  }
+  learnt_sharing may = let sh = x.seen.share in let h = good.sharing in sharing_learnt k s r id hist x at sh.colours (Some c.armed) sh.changed sh.blocks sh.reaping sh.swept
+      h.telling.forgotten h.telling.colours (λ b e. (may, sym (same_Some c.armed b e))) h.leading.changed h.leading.found_blocks
 
   armed_rule : MayLook x.own.number x.seen.stage → Rule k record { words = s.words; homes = s.homes; views = set s.views id (one k hist (with_share x learnt)) }
   armed_rule may = learns k s r id hist x at learnt (learnt_sharing may) good.sweeps

@@ -1,5 +1,5 @@
 -- Domain 0 finds the changed word, and sets it back, in an odd phase.
-use Rattle.std.proofs.Common.{◌≡◌, ◌≢◌, ℕ, ◌+◌, false, List, set, length, length-set, get_or-set_same, get_or-set_other, Some, sym, refl, ap, ◌∙◌, subst, inl, ⊎_elim, arith, true≢false, ◌≤◌, [], inr}
+use Rattle.std.proofs.Common.{◌≡◌, ◌≢◌, ℕ, ◌+◌, Option, false, List, set, length, length-set, get_or-set_same, get_or-set_other, Some, sym, refl, ap, ◌∙◌, subst, inl, ⊎_elim, arith, true≢false, ◌≤◌, [], inr}
 use Rattle.std.proofs.lemmas.Bool.{false≢true}
 use mathlib.Core.Option.{some}
 use lib.ListN.{get_elem?}
@@ -19,9 +19,9 @@ use Rattle.heap_rule.specs.declared.view.DomainView.{DomainView}
 use Rattle.heap_rule.specs.declared.view.Share.{Share}
 use Rattle.heap_rule.specs.declared.view.View.{View}
 use Rattle.heap_rule.specs.Beside.{RunsBeside}
-use Rattle.heap_rule.specs.Cycles.{Cycled, Cycling, Facts, IsCollecting, IsIdle, IsStart, Knowing, cycle_of, MissesKeys}
+use Rattle.heap_rule.specs.Cycles.{Cycled, Cycling, Facts, IsCollecting, IsIdle, IsStart, Knowing, KnowsBlocks, cycle_of, MissesKeys}
 use Rattle.heap_rule.specs.Layout.{before_heap, changed_word, heap_words}
-use Rattle.heap_rule.specs.Phases.{AtStage}
+use Rattle.heap_rule.specs.Phases.{AtStage, flag}
 use Rattle.heap_rule.specs.Pools.{IsLeading}
 use Rattle.heap_rule.specs.Raw.{MayStep, MayStore}
 use Rattle.heap_rule.specs.Rule.{Good, Rule, Sharing, state_of}
@@ -34,7 +34,7 @@ use Rattle.heap_rule.proofs.Notes.{changed_note, noted_rule, set_there, set_twic
 use Rattle.heap_rule.proofs.PauseFacts.{not_both}
 use Rattle.step_marks.specs.Marking.Changed.{FindMay, FindTold, ForgetMay, ForgetTold}
 use Rattle.step_marks.specs.Marking.Looks.{with_share}
-use Rattle.step_marks.proofs.OfMarking.Learning.{learns, shifts}
+use Rattle.step_marks.proofs.OfMarking.Learning.{learns, shifts, sharing_learnt}
 use Rattle.step_marks.proofs.OfMarking.Pausing.{paused_on}
 use Rattle.heap_rule.proofs.Sharings.{knows_words}
 
@@ -65,27 +65,10 @@ module _ (k : Config) (s : Words) (r : Rule k s) (id : ℕ) (hist : List Entry) 
     found = record x.seen.share { changed = Some (changed_word s.words) }
 
     found_sharing : Sharing k r.account s.words x.own.number x.own.registers x.own.finalisers x.own.ephemerons.items x.seen.stage found
-    found_sharing = let t = good.sharing.telling in let l = good.sharing.leading in let a = good.sharing.adds in record {
-      telling = record { owes = t.owes; seen = t.seen; fresh = λ up. ap (λ (z : Share). record z { changed = Some (changed_word s.words) }) (t.fresh up); forgotten = t.forgotten; colours = t.colours };
-      leading = record {
-        changed = λ v e. let same : changed_word s.words ≡ v = cc in (may.leads, subst IsLeading (sym may.stage) tt, sym same ∙ r.whole.cycle.changed_is);
-        found_blocks = l.found_blocks;
-        found_words = l.found_words;
-        rotated = l.rotated;
-        turned = l.turned;
-        pass = l.pass;
-        whole = l.whole;
-        armed = l.armed;
-        unswept = l.unswept;
-        under_way = l.under_way;
-        unmarked = l.unmarked;
-      };
-      knows = inl (ap (λ (z : Share). record z { changed = Some (changed_word s.words) }) (idle (Leads may.last) may.stage tt));
-      adds = record { blocks = a.blocks; words = a.words; own = a.own };
-      looks = let u = good.sharing.looks in record { at_own = u.at_own; cleans = u.cleans; emptied_is = u.emptied_is };
-      running = record { knows = good.sharing.running.knows; owes = good.sharing.running.owes };
-      deciding = good.sharing.deciding;
-    }
+    found_sharing = let sh = x.seen.share in let t = good.sharing.telling in let l = good.sharing.leading in sharing_learnt k s r id hist x at sh.colours sh.armed (Some (changed_word s.words)) sh.blocks sh.reaping sh.swept
+        t.forgotten t.colours l.armed
+        (λ v e. let same : changed_word s.words ≡ v = cc in (may.leads, subst IsLeading (sym may.stage) tt, sym same ∙ r.whole.cycle.changed_is))
+        l.found_blocks
 
     pub find_rule : Rule k record { words = s.words; homes = s.homes; views = set s.views id (one k hist (with_share x found)) }
     find_rule = learns k s r id hist x at found found_sharing good.sweeps
@@ -155,8 +138,11 @@ module _ (k : Config) (s : Words) (r : Rule k s) (id : ℕ) (hist : List Entry) 
     running : (z : DomainView) → Good k r.account s.words z → RunsBeside k r.account.live r.account.tenancy.holder c.armed c.past c.paint.marks.marked ws z.own.number z.seen.stage z.seen.share
     running z g = paused_on k r.account.pause c r.whole.cycle.told (λ e. let clash : Mark ≡ Run = sym kind_is ∙ e in cc) r.account.live r.account.live r.account.tenancy.holder r.account.tenancy.holder c.paint.marks.marked c.paint.marks.marked s.words ws z g.staged g.sharing.running
 
-    own_sharing : Sharing k (record r.account { cycling = c' }) ws x.own.number x.own.registers x.own.finalisers x.own.ephemerons.items x.seen.stage forgets
-    own_sharing = let t = good.sharing.telling in let l = good.sharing.leading in let a = good.sharing.adds in let start = told.1 x.own.number in record {
+    -- what a domain knows of the phase, with another load of the word
+    sharing_on : (z : DomainView) (changed : Option ℕ) → ((v : ℕ) → changed ≡ Some v → (z.own.number ≡ 0) × IsLeading z.seen.stage × (v ≡ flag false))
+        → KnowsBlocks k r.account.live r.account.tenancy.holder state.graph c.paint.marks ws z.own.number z.own.registers z.seen.stage (record z.seen.share { changed = changed }) → Good k r.account s.words z
+        → Sharing k (record r.account { cycling = c' }) ws z.own.number z.own.registers z.own.finalisers z.own.ephemerons.items z.seen.stage (record z.seen.share { changed = changed })
+    sharing_on z changed loaded knows g = let t = g.sharing.telling in let l = g.sharing.leading in let a = g.sharing.adds in let start = told.1 z.own.number in record {
       telling = record {
         owes = λ _. record { owes = sym start.paid ∙ (t.owes start.waits).owes; follows = λ a is. absurd (false≢true is) };
         seen = λ _. sym start.blind ∙ t.seen start.waits;
@@ -165,7 +151,7 @@ module _ (k : Config) (s : Words) (r : Rule k s) (id : ℕ) (hist : List Entry) 
         colours = t.colours;
       };
       leading = record {
-        changed = λ v e. (may.leads, subst IsLeading (sym may.stage) tt, cc);
+        changed = loaded;
         found_blocks = λ v e. let u = l.found_blocks v e in (u.0, get_or-set_other s.words 3 9 0 0 (λ e. omega arith) ∙ u.1);
         found_words = λ v e. let u = l.found_words v e in (u.0, get_or-set_other s.words 3 10 0 0 (λ e. omega arith) ∙ u.1);
         rotated = l.rotated;
@@ -177,41 +163,19 @@ module _ (k : Config) (s : Words) (r : Rule k s) (id : ℕ) (hist : List Entry) 
         under_way = l.under_way;
         unmarked = l.unmarked;
       };
-      knows = inl (ap (λ (z : Share). record z { changed = Some 0 }) (idle (Led Mark) may.stage tt));
+      knows = knows;
       adds = record { blocks = λ e _. a.blocks e start.waits; words = λ e _. a.words e start.waits; own = λ e _. a.own e start.waits };
-      looks = let u = good.sharing.looks in record { at_own = u.at_own; cleans = u.cleans; emptied_is = u.emptied_is };
-      running = let u = running x good in record { knows = u.knows; owes = u.owes };
-      deciding = let u = good.sharing.deciding in record { finals = λ e _. u.finals e start.waits; lasts = λ e _. u.lasts e start.waits; rooted = λ e _. u.rooted e start.waits };
-    }
-
-    others_sharing : (z : DomainView) → z.own.number ≢ x.own.number → Good k r.account s.words z → Sharing k (record r.account { cycling = c' }) ws z.own.number z.own.registers z.own.finalisers z.own.ephemerons.items z.seen.stage z.seen.share
-    others_sharing z other g = let t = g.sharing.telling in let l = g.sharing.leading in let a = g.sharing.adds in let start = told.1 z.own.number in record {
-      telling = record {
-        owes = λ _. record { owes = sym start.paid ∙ (t.owes start.waits).owes; follows = λ a is. absurd (false≢true is) };
-        seen = λ _. sym start.blind ∙ t.seen start.waits;
-        fresh = λ up. absurd (true≢false (sym up));
-        forgotten = λ up. absurd (true≢false (sym up));
-        colours = t.colours;
-      };
-      leading = record {
-        changed = λ v e. absurd (other ((l.changed v e).0 ∙ sym may.leads));
-        found_blocks = λ v e. let u = l.found_blocks v e in (u.0, get_or-set_other s.words 3 9 0 0 (λ e. omega arith) ∙ u.1);
-        found_words = λ v e. let u = l.found_words v e in (u.0, get_or-set_other s.words 3 10 0 0 (λ e. omega arith) ∙ u.1);
-        rotated = l.rotated;
-        turned = l.turned;
-        pass = l.pass;
-        whole = l.whole;
-        armed = l.armed;
-        unswept = l.unswept;
-        under_way = l.under_way;
-        unmarked = l.unmarked;
-      };
-      knows = knows_words k r.account.live r.account.tenancy.holder state.graph c.paint.marks s.words ws z.own.number z.own.registers z.seen.stage z.seen.share (heap_untouched k s.words ws untouched) g.sharing.knows;
-      adds = record { blocks = λ e _. a.blocks e start.waits; words = λ e _. a.words e start.waits; own = λ e _. a.own e start.waits };
-      looks = g.sharing.looks;
-      running = running z g;
+      looks = let u = g.sharing.looks in record { at_own = u.at_own; cleans = u.cleans; emptied_is = u.emptied_is };
+      running = let u = running z g in record { knows = u.knows; owes = u.owes };
       deciding = let u = g.sharing.deciding in record { finals = λ e _. u.finals e start.waits; lasts = λ e _. u.lasts e start.waits; rooted = λ e _. u.rooted e start.waits };
     }
+
+    own_sharing : Sharing k (record r.account { cycling = c' }) ws x.own.number x.own.registers x.own.finalisers x.own.ephemerons.items x.seen.stage forgets
+    own_sharing = sharing_on x (Some 0) (λ v e. (may.leads, subst IsLeading (sym may.stage) tt, cc)) (inl (ap (λ (z : Share). record z { changed = Some 0 }) (idle (Led Mark) may.stage tt))) good
+
+    others_sharing : (z : DomainView) → z.own.number ≢ x.own.number → Good k r.account s.words z → Sharing k (record r.account { cycling = c' }) ws z.own.number z.own.registers z.own.finalisers z.own.ephemerons.items z.seen.stage z.seen.share
+    others_sharing z other g = sharing_on z z.seen.share.changed (λ v e. absurd (other ((g.sharing.leading.changed v e).0 ∙ sym may.leads)))
+        (knows_words k r.account.live r.account.tenancy.holder state.graph c.paint.marks s.words ws z.own.number z.own.registers z.seen.stage z.seen.share (heap_untouched k s.words ws untouched) g.sharing.knows) g
 
     -- who has arrived in a phase of marking may have swept
     sweeps_on : (z : DomainView) → SweepsIn r.account.tenancy c z → SweepsIn r.account.tenancy c' z

@@ -140,17 +140,11 @@ following_own Sweep follows d a account f b is = f b is
 following_own Answer follows d a account f b is = f b is
 
 module _ (k : Config) (s : Words) (r : Rule k s) (id : ℕ) (hist : List Entry) (x : DomainView) (at : get_elem? s.views id ≡ some (one k hist x)) (a old new : ℕ) (reason : Reason) (may : DarkenMay x a old new reason) where
+  open r.account use {cycling as c, cycling.{paint.{marks as m}}}
+  open x use {own.{number as d}}
+
   abbrev now : model.State
   now = state_of k r.account.log
-
-  abbrev c : Cycling
-  c = r.account.cycling
-
-  abbrev m : Marks
-  m = c.paint.marks
-
-  abbrev d : ℕ
-  d = x.own.number
 
   abbrev cyc : laws.Cycle
   cyc = cycle_of k r.account.live r.account.tenancy.holder c

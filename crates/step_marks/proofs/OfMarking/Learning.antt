@@ -1,8 +1,9 @@
 -- A step of a collection changes what its domain knows of the phase, and perhaps what is marked, what was changed and how far all are.
-use Rattle.std.proofs.Common.{◌≡◌, ◌≢◌, ℕ, ◌<◌, ◌⊎◌, ◌==◌, Bool, false, true≢false, cond, IsTrue, eq-eqb, ne_eqb, List, get_or, set, Option, Some, None, sym, refl, ap, ◌∙◌, subst, inl, inr, ⊎_elim, arith, []}
+use Rattle.std.proofs.Common.{◌≡◌, ◌≢◌, ℕ, ◌+◌, ◌<◌, ◌⊎◌, ◌==◌, Bool, false, true, true≢false, cond, IsTrue, eq-eqb, ne_eqb, List, get_or, set, Option, Some, None, sym, refl, ap, ◌∙◌, subst, inl, inr, ⊎_elim, arith, []}
 use Rattle.std.specs.List.{list_any}
 use mathlib.Core.Option.{some}
 use lib.ListN.{get_elem?}
+use Rattle.atomic_table.specs.Table.{keeps}
 use Rattle.model_core.specs.declared.entry.Entry.{Entry}
 use Rattle.model_core.specs.declared.label.Label.{Label}
 use Rattle.model_core.specs.declared.state.State as model
@@ -10,35 +11,38 @@ use Rattle.model_cycle.specs.Marks.{Marks}
 use Rattle.model_cycle.specs.Shares.{OnePlaceEach, Shares, at_domain}
 use Rattle.heap_words.specs.declared.value.Value.TheVariants.{Ref}
 use Rattle.model_cycle.specs.Ending.{IsGrowing}
+use Rattle.heap_words.specs.declared.colours.Colours.{Colours}
 use Rattle.heap_rule.specs.declared.config.Config.{Config}
 use Rattle.heap_rule.specs.declared.phase.Kind.{Kind}
-use Rattle.heap_rule.specs.declared.phase.Kind.TheVariants.{Run, Promote, Clean}
+use Rattle.heap_rule.specs.declared.phase.Kind.TheVariants.{Answer, Run, Promote, Clean}
 use Rattle.heap_rule.specs.declared.phase.Stage.{Stage}
 use Rattle.heap_rule.specs.declared.phase.Stage.TheVariants.{In, Leads, Led, Gone}
 use Rattle.heap_rule.specs.declared.view.DomainView.{DomainView}
 use Rattle.heap_rule.specs.declared.view.FoundHead.{FoundHead}
+use Rattle.heap_rule.specs.declared.view.Reaping.{Reaping}
 use Rattle.heap_rule.specs.declared.view.Scan.{Scan}
 use Rattle.heap_rule.specs.declared.view.Share.{Share}
 use Rattle.heap_rule.specs.declared.view.Spot.{Spot}
 use Rattle.heap_rule.specs.declared.view.OwnPool.{OwnPool}
 use Rattle.heap_rule.specs.Beside.{RunsBeside}
 use Rattle.heap_rule.specs.Changes.{value_at}
-use Rattle.heap_rule.specs.Layout.{at_address, armed, colours, changed_word, live_blocks, live_words}
+use Rattle.heap_rule.specs.Layout.{at_address, before_heap, armed, colours, changed_word, live_blocks, live_words}
 use Rattle.heap_rule.specs.Phases.{AtStage, IsEven, Pause, Staged, flag}
 use Rattle.heap_rule.specs.Places.{IsBare, IsOldAt, Live, Place}
 use Rattle.heap_rule.specs.Copies.{Promoting}
-use Rattle.heap_rule.specs.Pools.{Holder, IsBefore, IsLeading, blocks_of, owned, place_in, Resting, OwnPlace}
+use Rattle.heap_rule.specs.Pools.{IsBefore, IsLeading, blocks_of, owned, place_in, Resting, OwnPlace}
 use Rattle.heap_rule.specs.declared.view.Held.TheVariants.{Queue}
 use Rattle.heap_rule.specs.Deciding.{IsRooting}
 use Rattle.heap_rule.specs.Finalisers.{held_at}
-use Rattle.heap_rule.specs.Cycles.{Cycled, Cycling, Facts, HasNoCycle, IsCollecting, IsIdle, IsMarkedAt, Knowing, Leading, OwesAs, Scans, Told, layout_of, seen_by, Scanned, MissesKeys, KeysAt, IsMarking, IsNamed, pool_labels}
+use Rattle.heap_rule.specs.Cycles.{MayLook, Cycled, Cycling, Facts, HasNoCycle, IsCollecting, IsIdle, IsMarkedAt, Knowing, Leading, OwesAs, Scans, Told, layout_of, seen_by, Scanned, MissesKeys, KeysAt, IsMarking, IsNamed, pool_labels}
+use Rattle.heap_rule.specs.Raw.{MayStep}
 use Rattle.heap_rule.specs.Rule.{Account, Good, Rule, Sharing, state_of}
 use Rattle.heap_rule.specs.Sweeping.{SweepsIn}
 use Rattle.heap_rule.specs.Views.{one}
 use Rattle.heap_rule.proofs.Controls.{Move, Untouched, counts_untouched, covered_untouched, heap_untouched, hunter_untouched, low_untouched, moved_to, no_move, reserved_untouched, resting_untouched, turns, untouched_same}
 use Rattle.heap_rule.proofs.Holders.{stock_self}
 use Rattle.heap_rule.proofs.Lots.{head_full, none_before, place_cases}
-use Rattle.heap_rule.proofs.Keeps.{Words, hunter_as, my_good, owes_as, phases_words, room_words}
+use Rattle.heap_rule.proofs.Keeps.{Words, unmoved, hunter_as, my_good, owes_as, phases_words, room_words}
 use Rattle.heap_rule.proofs.PauseFacts.{kind_differs, not_both, agree}
 use Rattle.heap_rule.proofs.Sharings.{kind_now}
 use Rattle.heap_rule.proofs.FinaliserLemmas.{deciding_marks}
@@ -142,26 +146,11 @@ cleans_same : (live : Live) (graph : Graph) (m m' : Marks) (stage : Stage) (item
 cleans_same live graph m m' stage items w same f = subst (λ (z : Marks). Cleans live graph z stage items w) (sym same) f
 
 module _ (k : Config) (s : Words) (r : Rule k s) (id : ℕ) (hist : List Entry) (x : DomainView) (at : get_elem? s.views id ≡ some (one k hist x)) where
+  open r.account use {live, tenancy.{holder}, cycling as c, cycling.{paint.{marks as m}}}
+  open x use {own.{number as d}, seen.{share as sh}}
+
   abbrev now : model.State
   now = state_of k r.account.log
-
-  abbrev live : Live
-  live = r.account.live
-
-  abbrev holder : ℕ → Holder
-  holder = r.account.tenancy.holder
-
-  abbrev c : Cycling
-  c = r.account.cycling
-
-  abbrev m : Marks
-  m = c.paint.marks
-
-  abbrev d : ℕ
-  d = x.own.number
-
-  abbrev sh : Share
-  sh = x.seen.share
 
   -- What such a step owes that changes no block
   pub record Shifts (share' : Share) (w' : Shares) (words' : List ℕ) : Type 0 where
@@ -238,6 +227,30 @@ module _ (k : Config) (s : Words) (r : Rule k s) (id : ℕ) (hist : List Entry) 
     sweeps = sweeps;
     others_sweep = λ z _ h. h.sweeps;
   }
+
+  -- what a domain learns of control words, and how far it is in a sweep, tells it nothing of blocks
+  module _ (colours : Option Colours) (armed : Option Bool) (changed blocks : Option ℕ) (reaping : Reaping) (swept : List Spot) where
+    abbrev learnt : Share → Share
+    learnt z = record z { colours = colours; armed = armed; changed = changed; blocks = blocks; reaping = reaping; swept = swept }
+
+    pub sharing_learnt : (c.shares.arrived d ≡ true → d ≢ 0 → colours ≡ None) → ((known : Colours) → colours ≡ Some known → known ≡ c.paint.colours) → ((b : Bool) → armed ≡ Some b → MayLook d x.seen.stage × (b ≡ c.armed))
+        → ((v : ℕ) → changed ≡ Some v → (d ≡ 0) × IsLeading x.seen.stage × (v ≡ flag c.shares.changed)) → ((v : ℕ) → blocks ≡ Some v → (((d ≡ 0) × IsLeading x.seen.stage) ⊎ (x.seen.stage ≡ In Answer)) × (live_blocks s.words ≡ v))
+        → Sharing k r.account s.words d x.own.registers x.own.finalisers x.own.ephemerons.items x.seen.stage (learnt sh)
+    sharing_learnt forgotten means armed_is changed_is found = let g = (my_good k s r id hist x at).sharing in let l = g.leading in record {
+      telling = record { owes = g.telling.owes; seen = g.telling.seen; fresh = λ up. ap learnt (g.telling.fresh up); forgotten = forgotten; colours = means };
+      leading = record { changed = changed_is; found_blocks = found; found_words = l.found_words; rotated = l.rotated; turned = l.turned; pass = l.pass; whole = l.whole; armed = armed_is; unswept = l.unswept; under_way = l.under_way; unmarked = l.unmarked };
+      knows = ⊎_elim
+          (λ (idle : IsIdle sh). inl (ap learnt idle))
+          (λ (n : IsCollecting x.seen.stage × Knowing k live holder now.graph m s.words d x.own.registers sh). let b = n.1 in let y = b.counted in inr (
+            n.0,
+            record { found_head = b.found_head; scan = b.scan; walked = b.walked; own_pool = b.own_pool; rooted = b.rooted; marked = b.marked; counted = record { once = y.once; own = y.own; lives = y.lives; all = y.all; words = y.words }; held = b.held; vacant = b.vacant },
+          ))
+          g.knows;
+      adds = record { blocks = g.adds.blocks; words = g.adds.words; own = g.adds.own };
+      looks = record { at_own = g.looks.at_own; cleans = g.looks.cleans; emptied_is = g.looks.emptied_is };
+      running = record { knows = g.running.knows; owes = g.running.owes };
+      deciding = g.deciding;
+    }
 
   pub kind_here : (kind : Kind) → x.seen.stage ≡ In kind → c.kind ≡ kind
   kind_here kind is = kind_now k r.account.pause c x kind is (my_good k s r id hist x at).staged r.whole.cycle.told
@@ -588,3 +601,11 @@ module _ (k : Config) (s : Words) (r : Rule k s) (id : ℕ) (hist : List Entry) 
         → ((z : ℕ) → z ≢ d → (owes z ≡ c.shares.owes z) × (follows z ≡ c.shares.follows z) × (seen z ≡ c.shares.seen z)) → OwesAs (owes d) (follows d) h.owes h.account → seen d ≡ seen_by h.places_seen → Knows m words' h
         → get_or words' 8 0 ≡ get_or s.words 8 0 → Rule k record { words = words'; homes = s.homes; views = set s.views id (one k hist (with_share x (holding sh h))) }
     shifts_more = shifts_queue sh.waiting (queue_still m (λ l is. is))
+
+-- a load that tells what is found at an address of the heap may be made
+pub load_may : (k : Config) (x : DomainView) (word a : ℕ) (tells : DomainView → ℕ → DomainView → Type 0) → word ≡ before_heap k + a
+    → ((s : Words) (r : Rule k s) (id : ℕ) (hist : List Entry) → get_elem? s.views id ≡ some (one k hist x) → (y : DomainView) × Rule k record { words = s.words; homes = s.homes; views = set s.views id (one k hist y) } × tells x (at_address k s.words a) y)
+    → MayStep k x word (λ n. n) tells
+load_may k x word a tells place step fits slots id hist s r _ at _ =
+    let o = step s r id hist at in
+    (one k hist o.0, keeps, tt, unmoved k s word (set s.views id (one k hist o.0)) o.1, (subst (λ (n : ℕ). tells x (get_or s.words n 0) o.0) (sym place) o.2, refl))

@@ -1,5 +1,5 @@
 -- A load of the colours keeps the rule.
-use Rattle.std.proofs.Common.{◌≡◌, ◌≢◌, ℕ, true, true≢false, List, set, Some, sym, refl, ap, ◌∙◌, inl, inr, ⊎_elim}
+use Rattle.std.proofs.Common.{◌≡◌, ◌≢◌, ℕ, true, true≢false, List, set, Some, sym, refl, ◌∙◌}
 use mathlib.Core.Option.{some}
 use lib.ListN.{get_elem?}
 use Rattle.atomic_table.specs.Table.{keeps}
@@ -9,13 +9,13 @@ use Rattle.heap_rule.specs.declared.phase.Stage.{Stage}
 use Rattle.heap_rule.specs.declared.phase.Stage.TheVariants.{In, Leads, Led, Gone}
 use Rattle.heap_rule.specs.declared.view.DomainView.{DomainView}
 use Rattle.heap_rule.specs.declared.view.Share.{Share}
-use Rattle.heap_rule.specs.Cycles.{Cycling, IsIdle, IsCollecting, Knowing, MayLook}
+use Rattle.heap_rule.specs.Cycles.{Cycling, MayLook}
 use Rattle.heap_rule.specs.Raw.{MayStep}
-use Rattle.heap_rule.specs.Rule.{Rule, Sharing, state_of}
+use Rattle.heap_rule.specs.Rule.{Rule, Sharing}
 use Rattle.heap_rule.specs.Views.{one}
 use Rattle.heap_rule.proofs.Keeps.{Words, my_good, unmoved}
 use Rattle.step_marks.specs.Marking.Looks.{with_share, ColoursTold}
-use Rattle.step_marks.proofs.OfMarking.Learning.{learns}
+use Rattle.step_marks.proofs.OfMarking.Learning.{learns, sharing_learnt}
 use Rattle.heap_rule.proofs.Stages.{waits_in}
 
 module _ (k : Config) (s : Words) (r : Rule k s) (id : ℕ) (hist : List Entry) (x : DomainView) (at : get_elem? s.views id ≡ some (one k hist x)) where
@@ -33,37 +33,10 @@ module _ (k : Config) (s : Words) (r : Rule k s) (id : ℕ) (hist : List Entry) 
   told_share = record x.seen.share { colours = Some c.paint.colours }
 
   colours_sharing : MayLook x.own.number x.seen.stage → Sharing k r.account s.words x.own.number x.own.registers x.own.finalisers x.own.ephemerons.items x.seen.stage told_share
-  colours_sharing may = let sh = (my_good k s r id hist x at).sharing in let t = sh.telling in record {
-    telling = record {
-      owes = t.owes;
-      seen = t.seen;
-      fresh = λ up. ap (λ (z : Share). record z { colours = Some c.paint.colours }) (t.fresh up);
-      forgotten = λ up other. absurd (first x.seen.stage refl may up other);
-      colours = λ known e. let same : Some c.paint.colours ≡ Some known = e in cc;
-    };
-    leading = record { changed = sh.leading.changed; found_blocks = sh.leading.found_blocks; found_words = sh.leading.found_words; rotated = sh.leading.rotated; turned = sh.leading.turned; pass = sh.leading.pass; whole = sh.leading.whole; armed = sh.leading.armed; unswept = sh.leading.unswept; under_way = sh.leading.under_way; unmarked = sh.leading.unmarked };
-    knows = ⊎_elim
-        (λ (q : IsIdle x.seen.share). inl (ap (λ (z : Share). record z { colours = Some c.paint.colours }) q))
-        (λ (n : IsCollecting x.seen.stage × Knowing k r.account.live r.account.tenancy.holder (state_of k r.account.log).graph c.paint.marks s.words x.own.number x.own.registers x.seen.share). inr (
-          n.0,
-          record {
-            found_head = n.1.found_head;
-            scan = n.1.scan;
-            walked = n.1.walked;
-            own_pool = n.1.own_pool;
-            rooted = n.1.rooted;
-            marked = n.1.marked;
-            counted = record { once = n.1.counted.once; own = n.1.counted.own; lives = n.1.counted.lives; all = n.1.counted.all; words = n.1.counted.words };
-            held = n.1.held;
-            vacant = n.1.vacant;
-          },
-        ))
-        sh.knows;
-    adds = record { blocks = sh.adds.blocks; words = sh.adds.words; own = sh.adds.own };
-    looks = record { at_own = sh.looks.at_own; cleans = sh.looks.cleans; emptied_is = sh.looks.emptied_is };
-    running = record { knows = sh.running.knows; owes = sh.running.owes };
-    deciding = sh.deciding;
-  }
+  colours_sharing may = let sh = x.seen.share in let l = (my_good k s r id hist x at).sharing.leading in sharing_learnt k s r id hist x at (Some c.paint.colours) sh.armed sh.changed sh.blocks sh.reaping sh.swept
+      (λ up other. absurd (first x.seen.stage refl may up other))
+      (λ known e. let same : Some c.paint.colours ≡ Some known = e in cc)
+      l.armed l.changed l.found_blocks
 
   colours_rule : MayLook x.own.number x.seen.stage → Rule k record { words = s.words; homes = s.homes; views = set s.views id (one k hist (with_share x told_share)) }
   colours_rule may = learns k s r id hist x at told_share (colours_sharing may) (my_good k s r id hist x at).sweeps

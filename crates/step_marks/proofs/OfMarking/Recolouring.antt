@@ -1,5 +1,5 @@
 -- The head of a live block gets another colour, or the scanned mark.
-use Rattle.std.proofs.Common.{◌≡◌, ◌≢◌, ℕ, ◌+◌, ◌*◌, ◌<◌, ◌≤◌, ◌⊎◌, Bool, cond, IsTrue, List, length, get_or, set, Some, Option, unwrap_or, sym, refl, ap, ◌∙◌, subst, inl, inr, ⊎_elim, arith, length-set, get_or-set_same, get_or-set_other, None}
+use Rattle.std.proofs.Common.{◌≡◌, ◌≢◌, ℕ, ◌+◌, ◌*◌, ◌<◌, ◌≤◌, ◌⊎◌, Bool, cond, IsTrue, List, length, get_or, set, Some, Option, unwrap_or, sym, ap, ◌∙◌, subst, inl, inr, ⊎_elim, arith, length-set, get_or-set_same, get_or-set_other, None}
 use mathlib.Core.Logic.{dite}
 use native.Mathlib.Decide.{ℕ_discrete}
 use mathlib.Core.Option.{some}
@@ -22,8 +22,9 @@ use Rattle.heap_rule.proofs.HeadLemmas.{head_at}
 use Rattle.heap_rule.proofs.Beside.{found_beside, making_beside, live_word_far}
 use Rattle.heap_rule.proofs.Lots.{head_full, head_some}
 use Rattle.heap_rule.proofs.Values.{extent_large}
-use Rattle.heap_rule.proofs.Keeps.{Words, my_good, more_same, remakes, knows_front, control_set, controls_kept, opened_words, owes_as, resting_as, resting_lists, room_words, hunter_as}
+use Rattle.heap_rule.proofs.Keeps.{Words, my_good, more_same, control_set}
 use Rattle.step_marks.specs.Marking.Looks.{with_share}
+use Rattle.step_marks.proofs.OfMarking.Recasting.{recasts}
 use Rattle.step_marks.proofs.OfMarking.Learning.{Held, Learns, cycle', holding, sharing', sharings', bare, rests_here, knowing_on, known, Knows, lies_old, QueueMarked, GrowsBy}
 use Rattle.model_cycle.proofs.Tracing.{More}
 use Rattle.heap_rule.specs.declared.phase.Kind.TheVariants.{Clean}
@@ -194,69 +195,16 @@ module _ (k : Config) (s : Words) (r : Rule k s) (id : ℕ) (hist : List Entry) 
     makes z area q = making_beside k s.words a new z (λ j fits e. live_word_far k r.account.live a 0 p z o.lives (let n : ℕ = extent p.shape in let l : 3 ≤ n = extent_large p.shape (r.whole.placed.fits a p o.lives).head in let g : 0 < n = omega arith in g) area j fits (e ∙ (let g : a ≡ a + 0 = omega arith in g))) q
 
     pub recolours : Rule k record { words = words'; homes = s.homes; views = set s.views id (one k hist (with_share x (holding (record x.seen.share { waiting = waiting }) h))) }
-    recolours =
-        let g = my_good k s r id hist x at in
-        let y : DomainView = with_share x (holding (record x.seen.share { waiting = waiting }) h) in
-        let controls = controls_kept k s r id hist x at words' control in
-        let own_making = makes x g.area g.making in
-        let own_hunter = hunter' x (rests_here k s r id hist x at collecting x g.staged g.resting) g.hunter in
-        let own_sharing = sharing' k s r id hist x at collecting m' r.account.cycling.shares.changed owes follows seen h waiting words' learnt in
-        remakes k s r id hist x at y (record r.account { cycling = c' }) words'
-        record {
-          wide = length-set s.words (before_heap k + a) new ∙ r.whole.wide;
-          legal = r.whole.legal;
-          full = r.whole.full;
-          found = found';
-          placed = r.whole.placed;
-          spread = r.whole.spread;
-          settled = r.whole.settled;
-          copies = r.whole.copies;
-          cleared = r.whole.cleared;
-          emptied = r.whole.emptied;
-          phases = controls.phases;
-          unwished = λ j odd led runs. controls.want ∙ r.whole.unwished j odd led runs;
-          endings = controls.ended ∙ r.whole.endings;
-          pools = controls.pools;
-          reserved = controls.reserved;
-          covered = controls.covered;
-          grid = grid';
-          drawers = r.whole.drawers;
-          room = room_words k r.account.live r.account.pause r.account.tenancy.stock s.words words' controls.counts r.whole.room;
-          unused = r.whole.unused;
-          opened = opened_words k r.account.live s.words words' controls.listed_young r.whole.opened;
-          drawable = controls.drawable;
-          cycle = cycle' k s r id hist x at collecting m' r.account.cycling.shares.changed owes follows seen h waiting words' learnt;
-        }
-        (knows_front k s r id hist x at y refl (inl refl))
-        record {
-          stood = record { wide = g.stood.wide; each = g.stood.each; serial = g.stood.serial; enrolled = g.stood.enrolled };
-          area = record { room = g.area.room; free = g.area.free; classes = g.area.classes };
-          making = record { fits = own_making.fits; written = own_making.written };
-          staged = record { arrivals = g.staged.arrivals; stage = g.staged.stage };
-          still = g.still;
-          hunter = hunter_as k r.account.tenancy words' x y refl refl refl refl refl refl refl own_hunter;
-          resting = resting_as k words' x y refl refl refl refl refl refl (resting_lists k s.words words' x controls.lists g.resting);
-          took_back = λ kind leads last. controls.want ∙ g.took_back kind leads last;
-          owes = owes_as k r.account.live x y refl refl refl refl g.owes;
-          rooted = g.rooted;
-          set_back = λ b. controls.set_back x g.staged b (g.set_back b);
-          sharing = own_sharing;
-          listed = g.listed;
-          sweeps = g.sweeps;
-        }
-        (λ z _ other h'. record {
-          stood = h'.stood;
-          area = h'.area;
-          making = makes z h'.area h'.making;
-          staged = h'.staged;
-          still = h'.still;
-          hunter = hunter' z (rests_here k s r id hist x at collecting z h'.staged h'.resting) h'.hunter;
-          resting = resting_lists k s.words words' z controls.lists h'.resting;
-          took_back = λ kind leads last. controls.want ∙ h'.took_back kind leads last;
-          owes = h'.owes;
-          rooted = h'.rooted;
-          set_back = λ b. controls.set_back z h'.staged b (h'.set_back b);
-          sharing = sharings' k s r id hist x at collecting m' r.account.cycling.shares.changed owes follows seen h waiting words' learnt z other h';
-          listed = h'.listed;
-          sweeps = h'.sweeps;
-        })
+    recolours = recasts k s r id hist x at (holding (record x.seen.share { waiting = waiting }) h) c'.paint c'.shares c'.past words' record {
+      wide = length-set s.words (before_heap k + a) new;
+      control = control;
+      found = found';
+      grid = grid';
+      cycle = cycle' k s r id hist x at collecting m' r.account.cycling.shares.changed owes follows seen h waiting words' learnt;
+      makings = makes;
+      hunters = λ z g. hunter' z (rests_here k s r id hist x at collecting z g.staged g.resting) g.hunter;
+      sharing = sharing' k s r id hist x at collecting m' r.account.cycling.shares.changed owes follows seen h waiting words' learnt;
+      sharings = sharings' k s r id hist x at collecting m' r.account.cycling.shares.changed owes follows seen h waiting words' learnt;
+      sweeps = (my_good k s r id hist x at).sweeps;
+      others_sweep = λ z g. g.sweeps;
+    }

@@ -108,23 +108,11 @@ no_ephemeron scan block done size head w is = ap (λ (z : Scan). ephemeron_of (s
     go NothingWord = refl
 
 module _ (k : Config) (s : Words) (r : Rule k s) (id : ℕ) (hist : List Entry) (x : DomainView) (at : get_elem? s.views id ≡ some (one k hist x)) where
+  open r.account use {live, cycling as c, cycling.{paint.{marks as m}}}
+  open x use {own.{number as d}, seen.{share as sh}}
+
   abbrev now : model.State
   now = state_of k r.account.log
-
-  abbrev live : Live
-  live = r.account.live
-
-  abbrev c : Cycling
-  c = r.account.cycling
-
-  abbrev m : Marks
-  m = c.paint.marks
-
-  abbrev d : ℕ
-  d = x.own.number
-
-  abbrev sh : Share
-  sh = x.seen.share
 
   kn : Knowing k live r.account.tenancy.holder now.graph m s.words d x.own.registers sh
   kn = known k s r id hist x at

@@ -1,8 +1,7 @@
 -- A load of the head of a block that there is a reason to mark keeps the rule.
-use Rattle.std.proofs.Common.{◌≡◌, ℕ, ◌+◌, true, false, IsTrue, List, get_or, set, Some, sym, refl, subst, inl, inr, ⊎_elim}
+use Rattle.std.proofs.Common.{◌≡◌, ℕ, ◌+◌, true, false, IsTrue, List, set, Some, sym, refl, subst, inl, inr, ⊎_elim}
 use mathlib.Core.Option.{some}
 use lib.ListN.{get_elem?}
-use Rattle.atomic_table.specs.Table.{keeps}
 use Rattle.model_core.specs.declared.entry.Entry.{Entry}
 use Rattle.heap_rule.specs.declared.config.Config.{Config}
 use Rattle.heap_rule.specs.declared.view.DomainView.{DomainView}
@@ -10,15 +9,15 @@ use Rattle.heap_rule.specs.declared.view.FoundHead.{FoundHead}
 use Rattle.heap_rule.specs.declared.view.Share.{Share}
 use Rattle.heap_rule.specs.Layout.{before_heap, at_address}
 use Rattle.heap_rule.specs.Places.{Place}
-use Rattle.heap_rule.specs.Cycles.{Cycling, IsCollecting, Facts}
+use Rattle.heap_rule.specs.Cycles.{IsCollecting, Facts}
 use Rattle.heap_rule.specs.Raw.{MayStep}
 use Rattle.heap_rule.specs.Rule.{Rule, state_of}
 use Rattle.heap_rule.specs.Views.{one}
-use Rattle.heap_rule.proofs.Keeps.{Words, my_good, unmoved}
+use Rattle.heap_rule.proofs.Keeps.{Words, my_good}
 use Rattle.step_marks.specs.Marking.Looks.{with_share}
 use Rattle.step_marks.specs.Marking.Marking.{TargetMay, TargetTold, Reason, Register, Field, OfDatum, OfQueue, Warrants, moved_on, waiting_on}
 use Rattle.step_marks.proofs.OfMarking.Colouring.{BareHead, bare_head, marked_colour, unmarked_colour}
-use Rattle.step_marks.proofs.OfMarking.Learning.{bare, held, kind_here, knows_more, known, looks_same, shifts_queue, waits, grows_still}
+use Rattle.step_marks.proofs.OfMarking.Learning.{load_may, bare, held, kind_here, knows_more, known, looks_same, shifts_queue, waits, grows_still}
 use Rattle.step_marks.proofs.OfMarking.Targets.{Target, datum_facts, moved_knows, sees_on, sees_others, sees_own, target, waiting_moved}
 use Rattle.std.proofs.lemmas.Bool.{cases_Bool}
 use Rattle.std.proofs.lemmas.Option.{same_Some}
@@ -27,11 +26,8 @@ use Rattle.heap_rule.specs.declared.phase.Kind.TheVariants.{Rounds}
 use Rattle.heap_rule.specs.declared.phase.Kind.{Kind}
 
 module _ (k : Config) (s : Words) (r : Rule k s) (id : ℕ) (hist : List Entry) (x : DomainView) (at : get_elem? s.views id ≡ some (one k hist x)) where
-  abbrev c : Cycling
-  c = r.account.cycling
-
-  abbrev sh : Share
-  sh = x.seen.share
+  open r.account use {cycling as c}
+  open x use {seen.{share as sh}}
 
   abbrev After : DomainView → Type 0
   After y = Rule k record { words = s.words; homes = s.homes; views = set s.views id (one k hist y) }
@@ -99,6 +95,4 @@ module _ (k : Config) (s : Words) (r : Rule k s) (id : ℕ) (hist : List Entry) 
         (cases_Bool (c.paint.marks.marked aim.place.label))
 
 pub target_may : (k : Config) (x : DomainView) (word a : ℕ) (reason : Reason) → word ≡ before_heap k + a → TargetMay x a reason → MayStep k x word (λ n. n) (TargetTold a reason)
-target_may k x word a reason place may fits slots id hist s r _ at _ =
-    let o = target_told k s r id hist x at a reason may in
-    (one k hist o.0, keeps, tt, unmoved k s word (set s.views id (one k hist o.0)) o.1, (subst (λ (n : ℕ). TargetTold a reason x (get_or s.words n 0) o.0) (sym place) o.2, refl))
+target_may k x word a reason place may = load_may k x word a (TargetTold a reason) place (λ s r id hist at. target_told k s r id hist x at a reason may)

@@ -26,7 +26,7 @@ use Rattle.heap_rule.specs.declared.view.DomainView.{DomainView}
 use Rattle.heap_rule.specs.declared.view.Scan.{Scan}
 use Rattle.heap_rule.specs.declared.view.Scan.TheVariants.{Idle, Reads, Holds, Keys, Key, Datum}
 use Rattle.heap_rule.specs.Changes.{value_at}
-use Rattle.heap_rule.specs.Places.{Place, Live}
+use Rattle.heap_rule.specs.Places.{Place}
 use Rattle.heap_rule.specs.Cycles.{Cycling, IsCollecting, IsMarkedAt, Knowing, Refers, Scans, seen_by, Facts, DatumAt, cycle_of}
 use Rattle.heap_rule.specs.Rule.{Rule, state_of}
 use Rattle.heap_rule.specs.Views.{one}
@@ -76,14 +76,10 @@ same_number : (a b : ℕ) → Ref a ≡ Ref b → a ≡ b
 same_number a b e = cc
 
 module _ (k : Config) (s : Words) (r : Rule k s) (id : ℕ) (hist : List Entry) (x : DomainView) (at : get_elem? s.views id ≡ some (one k hist x)) where
+  open r.account use {live, cycling as c}
+
   abbrev now : model.State
   now = state_of k r.account.log
-
-  abbrev live : Live
-  live = r.account.live
-
-  abbrev c : Cycling
-  c = r.account.cycling
 
   pub record Target (a : ℕ) : Type 0 where
     pub place : Place

@@ -16,7 +16,7 @@ use Rattle.model_core.specs.Domains.{class_count}
 use Rattle.model_core.specs.Fronts.{Shape, PlainShape, RawShape, EpheShape, shape_of}
 use Rattle.model_core.proofs.Reach.ReachLemmas.{and_left, and_right, not_true, or_left, or_right}
 use Rattle.heap_words.specs.declared.colours.Colours.{Colours}
-use Rattle.model_cycle.specs.Marks.{Marks, fields_of}
+use Rattle.model_cycle.specs.Marks.{fields_of}
 use Rattle.model_cycle.specs.Shares.{at_domain}
 use Rattle.model_cycle.proofs.Cycling.{darkening_steps}
 use Rattle.model_cycle.proofs.Progressing.{fields_start}
@@ -27,9 +27,9 @@ use Rattle.heap_rule.specs.declared.view.DomainView.{DomainView}
 use Rattle.heap_rule.specs.declared.view.Share.{Share}
 use Rattle.heap_rule.specs.declared.view.OwnPool.{OwnPool}
 use Rattle.heap_rule.specs.Layout.{before_heap, at_address, owner_of}
-use Rattle.heap_rule.specs.Places.{Live, Place, needs_no_scan}
-use Rattle.heap_rule.specs.Pools.{Holder, IsBefore, IsPlace, blocks_of, owned, owner_word, place_in}
-use Rattle.heap_rule.specs.Cycles.{HasNoCycle, Cycling, Facts, IsCollecting, Knowing, OwesAs, Scanned, cycle_of, seen_by}
+use Rattle.heap_rule.specs.Places.{Place, needs_no_scan}
+use Rattle.heap_rule.specs.Pools.{IsBefore, IsPlace, blocks_of, owned, owner_word, place_in}
+use Rattle.heap_rule.specs.Cycles.{HasNoCycle, Facts, IsCollecting, Knowing, OwesAs, Scanned, cycle_of, seen_by}
 use Rattle.heap_rule.specs.Raw.{MayStep}
 use Rattle.heap_rule.specs.Rule.{Rule, state_of}
 use Rattle.heap_rule.specs.Views.{one}
@@ -37,10 +37,10 @@ use Rattle.heap_rule.proofs.Controls.{untouched_same}
 use Rattle.heap_rule.proofs.Keeps.{Words, my_good, unmoved}
 use Rattle.heap_rule.proofs.OwnPlaces.{owned_same}
 use Rattle.step_marks.specs.Marking.Looks.{with_share}
-use Rattle.step_marks.specs.Marking.Marking.{IsScanning, GreyMay, GreyTold, IsGrey, IsScanned, IsUnmarked, IsNext, MarkMay, MarkTold, OwnMay, OwnTold, begun, behind, fields_in, settled}
+use Rattle.step_marks.specs.Marking.Marking.{IsScanning, GreyMay, GreyTold, IsGrey, IsMarked, IsScanned, IsUnmarked, IsNext, MarkMay, MarkTold, OwnMay, OwnTold, begun, behind, fields_in, settled}
 use Rattle.step_marks.proofs.OfMarking.Colouring.{BareHead, bare_head, marked_colour, no_fields, unmarked_colour}
 use Rattle.step_marks.proofs.OfMarking.Layouts.{labelled, owner_of_place, whose}
-use Rattle.step_marks.proofs.OfMarking.Learning.{at_other, at_same, bare, held, kind_here, knows_more, known, looks_same, looks_still, not_promoting, shifts_more, grows_still}
+use Rattle.step_marks.proofs.OfMarking.Learning.{load_may, at_other, at_same, bare, held, kind_here, knows_more, known, looks_same, looks_still, not_promoting, shifts_more, grows_still}
 use Rattle.step_marks.proofs.OfMarking.Unswept.{none_unswept}
 use Rattle.std.proofs.lemmas.Option.{none-some, same_Some}
 use Rattle.heap_rule.proofs.Stages.{waits_in}
@@ -96,26 +96,11 @@ scanning_cycle Sweep n none = n
 scanning_cycle Answer n none = n
 
 module _ (k : Config) (s : Words) (r : Rule k s) (id : ℕ) (hist : List Entry) (x : DomainView) (at : get_elem? s.views id ≡ some (one k hist x)) where
+  open r.account use {live, tenancy.{holder}, cycling as c, cycling.{paint.{marks as m}}}
+  open x use {own.{number as d}, seen.{share as sh}}
+
   abbrev now : model.State
   now = state_of k r.account.log
-
-  abbrev live : Live
-  live = r.account.live
-
-  abbrev holder : ℕ → Holder
-  holder = r.account.tenancy.holder
-
-  abbrev c : Cycling
-  c = r.account.cycling
-
-  abbrev m : Marks
-  m = c.paint.marks
-
-  abbrev d : ℕ
-  d = x.own.number
-
-  abbrev sh : Share
-  sh = x.seen.share
 
   abbrev After : DomainView → Type 0
   After y = Rule k record { words = s.words; homes = s.homes; views = set s.views id (one k hist y) }
@@ -170,15 +155,15 @@ module _ (k : Config) (s : Words) (r : Rule k s) (id : ℕ) (hist : List Entry) 
     pub owner_told : (y : DomainView) × After y × OwnTold pool x owner y
     owner_told = ⊎_elim (λ u. owns u.0 u.1) (λ u. passes u.0 u.1) (whose k s r d pool may.inside (holder pool) refl)
 
-  -- in Mark, a look at the head of a block
+  -- a look at the head of a block
   module _ (colours : Colours) (knows : sh.colours ≡ Some colours) (collecting : IsCollecting x.seen.stage) (a : ℕ) (p : Place) (lives : live a ≡ Some p) where
     abbrev head : ℕ
     head = at_address k s.words a
 
-    there : BareHead c.paint p head
+    pub there : BareHead c.paint p head
     there = bare_head c.paint p head (bare k s r id hist x at collecting a p lives) r.whole.cycle.meanings (r.whole.placed.fits a p lives).head (r.whole.found a p lives).head
 
-    means : colours ≡ c.paint.colours
+    pub means : colours ≡ c.paint.colours
     means = (my_good k s r id hist x at).sharing.telling.colours colours knows
 
     -- a marked block is scanned, or grey
@@ -187,6 +172,9 @@ module _ (k : Config) (s : Words) (r : Rule k s) (id : ℕ) (hist : List Entry) 
         (λ (done : there.head.scanned ≡ true). inl (record { block = record { shape = p.shape; head = there.head; colour = marked_colour c.paint p head colours means there is }; scanned = done }, there.tells is done))
         (λ (left : there.head.scanned ≡ false). inr (record { block = record { shape = p.shape; head = there.head; colour = marked_colour c.paint p head colours means there is }; unscanned = left }, refl))
         (cases_Bool there.head.scanned)
+
+    pub marked_case : m.marked p.label ≡ true → (b : IsMarked colours head) × (b.shape ≡ p.shape)
+    marked_case is = (record { shape = p.shape; head = there.head; colour = marked_colour c.paint p head colours means there is }, refl)
 
     pub unmarked_case : m.marked p.label ≡ false → IsUnmarked colours head
     unmarked_case e = record { shape = p.shape; head = there.head; colour = unmarked_colour c.paint p head colours means there e }
@@ -414,6 +402,4 @@ mark_may k x word a pool class slot place may fits slots id hist s r _ at _ =
     (one k hist o.0, keeps, tt, unmoved k s word (set s.views id (one k hist o.0)) o.1.0, (subst (λ (n : ℕ). MarkTold a pool class slot x (get_or s.words n 0) o.0) (sym place) o.1.1, refl))
 
 pub grey_may : (k : Config) (x : DomainView) (word a : ℕ) → word ≡ before_heap k + a → GreyMay x a → MayStep k x word (λ n. n) (GreyTold a)
-grey_may k x word a place may fits slots id hist s r _ at _ =
-    let o = grey_looks k s r id hist x at a may in
-    (one k hist o.0, keeps, tt, unmoved k s word (set s.views id (one k hist o.0)) o.1, (subst (λ (n : ℕ). GreyTold a x (get_or s.words n 0) o.0) (sym place) o.2, refl))
+grey_may k x word a place may = load_may k x word a (GreyTold a) place (λ s r id hist at. grey_looks k s r id hist x at a may)

@@ -1,5 +1,5 @@
 -- Exchanges of fields keep the rule.
-use Rattle.std.proofs.Common.{◌≡◌, ◌≢◌, ℕ, ◌+◌, ◌*◌, ◌<◌, ◌≤◌, ◌⊎◌, ◌==◌, Bool, true, false, IsTrue, eq-eqb, ne_eqb, List, [], get_or, set, length, Option, Some, None, sym, refl, ap, ◌∙◌, subst, inl, inr, ⊎_elim, lt_of_not-le}
+use Rattle.std.proofs.Common.{◌≡◌, ◌≢◌, ℕ, ◌+◌, ◌*◌, ◌<◌, ◌==◌, Bool, true, false, IsTrue, eq-eqb, ne_eqb, List, get_or, set, length, Some, sym, refl, ap, ◌∙◌, subst, ⊎_elim, lt_of_not-le}
 use Rattle.std.proofs.lemmas.Bool.{cases_Bool}
 use Rattle.std.proofs.lemmas.Option.{same_Some}
 use mathlib.Core.Logic.{dite}
@@ -15,12 +15,10 @@ use Rattle.model_core.specs.declared.label.Label.{Label}
 use Rattle.model_core.specs.declared.reply.Applied.TheVariants.{Replied}
 use Rattle.model_core.specs.declared.reply.Reply.TheVariants.{Yes, No}
 use Rattle.model_core.specs.declared.graph.Value as graph_value
-use Rattle.model_core.specs.declared.graph.Value.TheVariants.{Int, Block, Nothing as NothingValue}
+use Rattle.model_core.specs.declared.graph.Value.TheVariants.{Block, Nothing as NothingValue}
 use Rattle.model_core.specs.declared.state.State as model
 use Rattle.model_core.specs.Commands.{same_value}
 use Rattle.model_core.specs.Domains.{domain_at, register}
-use Rattle.model_core.specs.Graph.{same_label}
-use Rattle.model_core.proofs.Graphs.GraphLemmas.{same_label_refl, same_label-true}
 use Rattle.model_core.proofs.Commands.LeavesLemmas.{leaves_cas_written, leaves_cas_kept}
 use Rattle.heap_words.specs.declared.value.Value.{Value}
 use Rattle.heap_words.specs.declared.value.Value.TheVariants.{Int as IntWord, Ref, Nothing}
@@ -38,10 +36,9 @@ use Rattle.heap_rule.specs.declared.view.Known.TheVariants.{Marked}
 use Rattle.heap_rule.specs.Beside.{AllKnown, IsKnown, IsUnaware}
 use Rattle.heap_rule.specs.Changes.{value_at, changed}
 use Rattle.heap_rule.specs.Layout.{at_address, before_heap}
-use Rattle.heap_rule.specs.Places.{Live, Place, Placed, Settled, Stands, IsOldAt, values_of}
+use Rattle.heap_rule.specs.Places.{Place, Settled, Stands, IsOldAt}
 use Rattle.heap_rule.specs.Raw.{MayStep}
 use Rattle.heap_rule.specs.Rule.{state_of, Rule}
-use Rattle.heap_rule.specs.Standing.{Entered}
 use Rattle.heap_rule.specs.Views.{one}
 use Rattle.heap_rule.proofs.Advancing.{underway_here}
 use Rattle.heap_rule.proofs.BesideLemmas.{known_among}
@@ -51,23 +48,19 @@ use Rattle.heap_rule.proofs.Entering.{entered_view, enters, may_begin, registers
 use Rattle.heap_rule.proofs.Keeps.{Words, my_good, run_settled, unmoved, whole_here}
 use Rattle.heap_rule.proofs.Lists.{got_below}
 use Rattle.heap_rule.proofs.Values.{AllStand, not_nothing, packable, stands_block}
-use Rattle.step_run.specs.Fields.Stores.{WroteTold}
 use Rattle.step_run.proofs.OfFields.Advances.{EntersPaid, paid_refused, paid_rule}
 use Rattle.step_run.proofs.OfFields.StoreSteps.{Written, written_field}
 use Rattle.step_run.proofs.OfFields.ValueSteps.{ValueStore, value_stored}
-use Rattle.step_run.specs.Exchange.Exchanges.{ExchangeEntry, ExchangeMay, ExchangeTold, ExpectedMarked}
+use Rattle.step_run.specs.Exchange.Exchanges.{ExchangeEntry, ExchangeMay, ExchangeTold}
 use Rattle.step_run.proofs.OfExchange.SameValues.{one_value, one_word, same_values}
 
 module _ (k : Config) (s : Words) (r : Rule k s) (id : ℕ) (hist : List Entry) (x : DomainView) (at : get_elem? s.views id ≡ some (one k hist x)) (a old new : ℕ) (remembers : Bool) (changes : List Change) (block i expected item : ℕ)
     (may : ExchangeMay k x a old new remembers changes x.own.number block i expected item) where
+  open x use {own.{number as d}}
+  open r.account use {live}
+
   abbrev now : model.State
   now = state_of k r.account.log
-
-  abbrev d : ℕ
-  d = x.own.number
-
-  abbrev live : Live
-  live = r.account.live
 
   settled : Settled live
   settled = run_settled k s r id hist x at may.acts.runs

@@ -1,5 +1,5 @@
 -- What an exchange tells of a token's plain data: it is what its changes make of it, and remembers.
-use Rattle.std.proofs.Common.{◌≡◌, ◌≢◌, ◌∙◌, ℕ, ◌≤◌, ◌==◌, ◌&&◌, Bool, true, false, eq-eqb, ne_eqb, List, sym, refl, ap, subst}
+use Rattle.std.proofs.Common.{◌≡◌, ◌≢◌, ◌∙◌, ℕ, ◌&&◌, Bool, false, eq-eqb, ne_eqb, List, refl, ap}
 use mathlib.Core.Logic.{dite}
 use native.Mathlib.Decide.{ℕ_discrete}
 use Rattle.model_core.specs.declared.entry.Entry.{Entry}
@@ -11,7 +11,6 @@ use Rattle.heap_words.specs.declared.value.Value.TheVariants.{Nothing}
 use Rattle.heap_rule.specs.declared.change.Change.{Change}
 use Rattle.heap_rule.specs.declared.config.Config.{Config}
 use Rattle.heap_rule.specs.declared.view.DomainView.{DomainView}
-use Rattle.heap_rule.specs.declared.view.Own.{Own}
 use Rattle.heap_rule.specs.Changes.{changed}
 use Rattle.heap_rule.specs.Raw.{Closes}
 use Rattle.heap_rule.specs.Standing.{IsInHeap}

@@ -151,14 +151,10 @@ parted holder spots named zero each = record {
 parted holder spots named (suc n) each = parted_more holder spots named n (holder n) refl (each n (omega arith)) (parted holder spots named n (λ q inside. each q (omega arith)))
 
 module _ (k : Config) (s : Words) (r : Rule k s) (id : ℕ) (hist : List Entry) (x : DomainView) (at : get_elem? s.views id ≡ some (one k hist x)) (acts : Acts k x) where
+  open r.account use {tenancy.{holder, fresh}}
+
   abbrev now : model.State
   now = state_of k r.account.log
-
-  abbrev holder : ℕ → Holder
-  holder = r.account.tenancy.holder
-
-  abbrev fresh : ℕ → ℕ → Option ℕ
-  fresh = r.account.tenancy.fresh
 
   abbrev kept : List Label
   kept = kept_labels (sizes_in k) r.account.log

@@ -1,7 +1,5 @@
 -- A look by a domain that is short of pools keeps the rule.
-use Rattle.std.proofs.Common.{ℕ, List, [], set, refl, ◌≡◌, inr}
-use mathlib.Core.Option.{some}
-use lib.ListN.{get_elem?}
+use Rattle.std.proofs.Common.{ℕ, List, [], set, refl, inr}
 use Rattle.atomic_table.specs.Table.{keeps, Allows}
 use Rattle.model_core.specs.declared.entry.Entry.{Entry}
 use Rattle.heap_rule.specs.declared.config.Config.{Config}

@@ -1,4 +1,4 @@
-use Rattle.step_finalisers.proofs.FinalLooks.{final_look_may}
+use Rattle.step_finalisers.proofs.Looks.{final_look_may}
 use Rattle.step_finalisers.proofs.PlainLooks.{final_look_closes}
 use Rattle.step_finalisers.proofs.looking.final_look.Goals as goal
 

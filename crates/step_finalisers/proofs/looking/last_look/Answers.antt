@@ -1,4 +1,4 @@
-use Rattle.step_finalisers.proofs.LastLooks.{last_look_may}
+use Rattle.step_finalisers.proofs.Looks.{last_look_may}
 use Rattle.step_finalisers.proofs.PlainLooks.{last_look_closes}
 use Rattle.step_finalisers.proofs.looking.last_look.Goals as goal
 

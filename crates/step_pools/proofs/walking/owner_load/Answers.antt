@@ -1,4 +1,4 @@
-use Rattle.std.proofs.Common.{ap, ℕ}
+use Rattle.std.proofs.Common.{ap}
 use Rattle.heap_rule.specs.declared.config.Config.{Config}
 use Rattle.step_pools.proofs.Plain.{owner_closes}
 use Rattle.step_pools.proofs.TakeSteps.{owner_load_may}

@@ -1,4 +1,4 @@
-use Rattle.std.proofs.Common.{ap, ℕ}
+use Rattle.std.proofs.Common.{ap}
 use Rattle.heap_rule.specs.declared.config.Config.{Config}
 use Rattle.step_sweep.proofs.SweepSteps.{sweep_own_may}
 use Rattle.step_sweep.proofs.SweepWrites.{sweep_own_closes}

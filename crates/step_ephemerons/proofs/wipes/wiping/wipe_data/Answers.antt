@@ -1,5 +1,5 @@
 use Rattle.step_ephemerons.proofs.OfWipes.Plain.{datum_closes}
-use Rattle.step_ephemerons.proofs.OfWipes.DatumSteps.{datum_may}
+use Rattle.step_ephemerons.proofs.OfWipes.WipeSteps.{datum_may}
 use Rattle.step_ephemerons.proofs.wipes.wiping.wipe_data.Goals as goal
 
 pub raw_store-requires-clause-may : goal.raw_store-requires-clause-may

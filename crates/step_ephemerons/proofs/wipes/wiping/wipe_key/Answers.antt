@@ -1,5 +1,5 @@
 use Rattle.step_ephemerons.proofs.OfWipes.Plain.{key_closes}
-use Rattle.step_ephemerons.proofs.OfWipes.KeySteps.{key_may}
+use Rattle.step_ephemerons.proofs.OfWipes.WipeSteps.{key_may}
 use Rattle.step_ephemerons.proofs.wipes.wiping.wipe_key.Goals as goal
 
 pub raw_store-requires-clause-may : goal.raw_store-requires-clause-may
