@@ -1,0 +1,50 @@
+-- What the calls answer and leave, and what one that stops leaves.
+use Rattle.std.specs.Prelude.{◌≡◌, ◌≢◌, ℕ, Bool, true, false, List, Option, Some, None}
+use Rattle.model_core.specs.declared.label.Label.{Label}
+use Rattle.model_core.specs.declared.entry.Entry.{Entry}
+use Rattle.model_core.specs.declared.graph.Value.{Value}
+use Rattle.model_core.specs.declared.graph.Value.TheVariants.{Block}
+use Rattle.model_core.specs.declared.reply.Reply.{Reply}
+use Rattle.model_core.specs.declared.state.Sizes.{Sizes}
+use Rattle.model_core.specs.Commands.{shown}
+use Rattle.model_core.specs.History.{IsPrefix}
+use Rattle.weak_laws.specs.Tables.Stages.{graph_of}
+use Rattle.weak_laws.specs.Maps.Tries.{IsMap}
+use Rattle.weak_laws.specs.Maps.Calls.{GetAnswers, bound_after}
+use Rattle.weak_laws.specs.Maps.Steps.{OthersRespect}
+use Rattle.weak_maps.specs.Beside.{held_by}
+use Rattle.weak_maps.specs.Fields.{IsBeside}
+use Rattle.weak_maps.specs.Walks.{HoldsLeaf, Looking, OwnQuiet}
+
+-- a look at a key has changed nothing so far: at a front of the call it told what the key was bound to
+pub record LookedBy (z : Sizes) (d : ℕ) (old now : List Entry) (root k : Label) (datum : Option Value) : Type 0 where
+  pub looking : Looking z root d old now
+  pub front : List Entry
+  pub since : IsPrefix old front
+  pub until : IsPrefix front now
+  pub bound : bound_after z root front k ≡ datum
+
+-- by whether register 8 holds a leaf of the key
+abbrev pub FoundBy : Sizes → ℕ → List Entry → List Entry → Label → Label → Bool → Type 0
+FoundBy z d old now root k true = (datum : Value) × LookedBy z d old now root k (Some datum) × HoldsLeaf z d now root k (Some datum) 8
+FoundBy z d old now root k false = LookedBy z d old now root k None
+
+-- whatever map the register holds, if others respect it
+abbrev pub LooksUp : Sizes → ℕ → List Entry → List Entry → ℕ → ℕ → Label → Bool → Type 0
+LooksUp z d old now map key k mine = (root : Label) → held_by z d old map ≡ Block root → held_by z d old key ≡ Block k → IsMap (graph_of z old) root → OthersRespect z root d old now → FoundBy z d old now root k mine
+
+-- what `map_get` leaves: the map is one still, no block was changed by the domain, the register of the answer holds what the reply shows, and the others but 8 to 11 what they held
+pub record GetLeaves (z : Sizes) (d : ℕ) (old new : List Entry) (root : Label) (dst : ℕ) (r : Reply) : Type 0 where
+  pub map : IsMap (graph_of z new) root
+  pub quiet : OwnQuiet z d old new
+  pub holds : shown (held_by z d new dst) ≡ r
+  pub keeps : (i : ℕ) → IsBeside i → i ≢ dst → held_by z d new i ≡ held_by z d old i
+
+-- `map_get`, by what the register of the key holds
+abbrev pub GetReturns : Sizes → ℕ → List Entry → List Entry → Label → ℕ → Value → Reply → Type 0
+GetReturns z d old new root dst (Block k) r = GetAnswers z root d old new (Block k) r × GetLeaves z d old new root dst r
+GetReturns z d old new root dst key r = GetAnswers z root d old new key r
+
+-- what a call answers and leaves of whatever map stands in a register when it begins, if others respect the map until it ends
+abbrev pub GetsAt : Sizes → ℕ → List Entry → List Entry → ℕ → ℕ → ℕ → Reply → Type 0
+GetsAt z d old new dst map key r = (root : Label) → held_by z d old map ≡ Block root → IsMap (graph_of z old) root → OthersRespect z root d old new → GetReturns z d old new root dst (held_by z d old key) r
