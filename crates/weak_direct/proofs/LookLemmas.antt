@@ -30,7 +30,7 @@ use Rattle.weak_maps.proofs.GetLemmas.{grows_by}
 use Rattle.weak_maps.proofs.GuardLemmas.{quiet_twice}
 use Rattle.weak_maps.proofs.PlaceLemmas.{place_after}
 use Rattle.weak_maps.proofs.StayLemmas.{leaf_middle, looking_on, prefix_same, quiet_looks, respects_within}
-use Rattle.weak_direct.specs.Leaves.{FoundBy, GetReturns, LookedBy}
+use Rattle.weak_direct.specs.Leaves.{FoundBy, GetReturns, LookedBy, LooksUp}
 use Rattle.weak_direct.specs.Tries.{EndsBy, KeepsBeside, Passes}
 
 -- a map is one still behind a stretch whose own entries respect it, as the others' do, and its leaves stand on their keys' ways
@@ -58,7 +58,7 @@ looking_over z root d old now new grows quiet respects x = record {
 pub ends_grows : (z : Sizes) (d : ℕ) (old new : List Entry) (c : Command) (r : Reply) → EndsBy z d old new c r → IsPrefix old new
 ends_grows z d old new c r x = prefix_trans old x.made new (grows_by z d old x.made c r x.performed) x.passes.grows
 
-module _ (z : Sizes) (limits : IsWithinLimits z) (root : Label) (d : ℕ) (old : List Entry) (k : Label) where
+module _ (z : Sizes) (root : Label) (d : ℕ) (old : List Entry) (k : Label) where
   -- what a key that was read is, where the leaf tells this
   abbrev KeyTells : Option Value → Option Label → Type 0
   KeyTells (Some datum) key = key ≡ Some k
@@ -106,10 +106,16 @@ module _ (z : Sizes) (limits : IsWithinLimits z) (root : Label) (d : ℕ) (old :
     found_mine (None, m, x) is = let y = key_read None m x in absurd (y.3 (key_shown y.0 (sym y.2 ∙ is)))
     found_mine (Some datum, m, x) is = let y = key_read (Some datum) m x in (datum, y.1, y.4)
 
+    -- by what the key that was read shows
+    pub found_by_key : Met z d old now root k true → (b : Bool) → (b ≡ true → r ≡ reply.Block k) → (r ≡ reply.Block k → b ≡ true) → FoundBy z d old new root k b
+    found_by_key m true shows is = found_mine m (shows refl)
+    found_by_key m false shows is = found_other m (λ e. let clash : false ≡ true = is e in cc)
+
   -- a walk that met no leaf
   pub found_missed : (now : List Entry) → Met z d old now root k false → FoundBy z d old now root k false
   found_missed now m = record { looking = m.looking; front = m.front; since = m.since; until = m.until; bound = m.bound }
 
+module _ (z : Sizes) (limits : IsWithinLimits z) (root : Label) (d : ℕ) (old : List Entry) (k : Label) where
   -- the register of the answer is written, and those between are emptied
   module _ (now new : List Entry) (dst kr : ℕ) (few : dst < 8) (respects : OthersRespect z root d old new) (keeps : KeepsBeside z d old now) where
     up_to : (h : List Entry) → IsPrefix h new → OthersRespect z root d old h
@@ -151,3 +157,20 @@ module _ (z : Sizes) (limits : IsWithinLimits z) (root : Label) (d : ℕ) (old :
         returns c r r x (Some y.0) y.1 (looking_on z root d old now x.made c r p all.0 later y.1.looking)
         (ap shown (set_here z d now x.made dst y.0 all.1 (sixteen z d now x.made c r p limits) (omega (arith, few))) ∙ sym all.2)
         (λ i apart. set_other z d now x.made dst y.0 all.1 i apart) all.2
+
+-- a key's register that holds no label
+pub not_got : (z : Sizes) (d : ℕ) (old new : List Entry) (root : Label) (dst : ℕ) (v : Value) → new ≡ old → ((k : Label) → shown v ≡ reply.Block k → ⊥) → GetReturns z d old new root dst v reply.BadType
+not_got z d old new root dst (Int i) same none = (refl, same)
+not_got z d old new root dst (Block l) same none = absurd (none l refl)
+not_got z d old new root dst Nothing same none = (refl, same)
+
+-- what is answered of the key that a register holds
+pub got_at : (z : Sizes) (d : ℕ) (old new : List Entry) (root : Label) (dst : ℕ) (v : Value) (k : Label) (r : Reply) → v ≡ Block k → GetReturns z d old new root dst (Block k) r → GetReturns z d old new root dst v r
+got_at z d old new root dst v k r held x = subst (λ (w : Value). GetReturns z d old new root dst w r) (sym held) x
+
+-- as a domain tells it before one of its numbers was seen to be the same
+pub looks_at : (z now : Sizes) (d e : ℕ) (old first new : List Entry) (map key : ℕ) (k : Label) (a b : Bool) → now ≡ z → e ≡ d → first ≡ old → b ≡ a → LooksUp now e first new map key k b → LooksUp z d old new map key k a
+looks_at z now d e old first new map key k a b sizes domain front is x = subst (λ (w : Sizes × ℕ × List Entry × Bool). LooksUp w.0 w.1 w.2 new map key k w.3) (λ i. (sizes i, domain i, front i, is i)) x
+
+pub ends_at : (z now : Sizes) (d e : ℕ) (old new : List Entry) (c : Command) (r : Reply) → now ≡ z → e ≡ d → EndsBy now e old new c r → EndsBy z d old new c r
+ends_at z now d e old new c r sizes domain x = subst (λ (w : Sizes × ℕ). EndsBy w.0 w.1 old new c r) (λ i. (sizes i, domain i)) x
