@@ -1,3 +1,4 @@
 pub mod StepLemmas
 pub mod LookLemmas
 pub mod MakeLemmas
+pub mod SharedLemmas

@@ -18,11 +18,10 @@ use Rattle.weak_laws.specs.Tables.Stages.{graph_of}
 use Rattle.weak_laws.proofs.OfTables.StageLemmas.{prefix_trans}
 use Rattle.weak_laws.specs.Maps.Tries.{IsInPlace, IsMap}
 use Rattle.weak_laws.specs.Maps.Steps.{OthersRespect, OwnRespect}
-use Rattle.weak_laws.specs.Maps.Calls.{PerformedBy, bound_after, value_of}
+use Rattle.weak_laws.specs.Maps.Calls.{PerformedBy, value_of}
 use Rattle.weak_laws.proofs.OfMaps.CallLemmas.{forget_step, get_key_step, get_data_step}
 use Rattle.weak_laws.proofs.OfMaps.RespectLemmas.{map_after, respect_both}
 use Rattle.weak_maps.specs.Beside.{held_by}
-use Rattle.weak_maps.specs.Fields.{IsBeside}
 use Rattle.weak_maps.specs.Guards.{Guards}
 use Rattle.weak_maps.specs.Walks.{HoldsLeaf, LeafTells, Looking, Meets, Met, OwnQuiet}
 use Rattle.weak_maps.proofs.BesideLemmas.{low_beside, sixteen, set_here, set_other}
@@ -31,7 +30,7 @@ use Rattle.weak_maps.proofs.GuardLemmas.{quiet_twice}
 use Rattle.weak_maps.proofs.PlaceLemmas.{place_after}
 use Rattle.weak_maps.proofs.StayLemmas.{leaf_middle, looking_on, prefix_same, quiet_looks, respects_within}
 use Rattle.weak_direct.specs.Leaves.{FoundBy, GetReturns, LookedBy, LooksUp}
-use Rattle.weak_direct.specs.Tries.{EndsBy, KeepsBeside, Passes}
+use Rattle.weak_direct.specs.Tries.{EndsBy, KeepsBeside}
 
 -- a map is one still behind a stretch whose own entries respect it, as the others' do, and its leaves stand on their keys' ways
 pub respect_follows : (z : Sizes) (root : Label) (d : ℕ) (old new : List Entry) → IsPrefix old new → OwnRespect z root d old new → OthersRespect z root d old new → IsMap (graph_of z old) root → IsInPlace z.domains (graph_of z old) root → IsMap (graph_of z new) root × IsInPlace z.domains (graph_of z new) root

@@ -1,5 +1,5 @@
 -- What the make of a map leaves, whether it is made or put off.
-use Rattle.std.proofs.Common.{◌≡◌, ℕ, ◌+◌, ◌<◌, ◌≤◌, List, Option, Some, None, refl, arith}
+use Rattle.std.proofs.Common.{◌≡◌, ℕ, ◌+◌, ◌<◌, List, Option, Some, None, arith}
 use Rattle.std.specs.Option.{IfSome}
 use Rattle.model_core.specs.declared.command.Command.TheVariants.{Alloc}
 use Rattle.model_core.specs.declared.entry.Entry.{Entry}

@@ -1,7 +1,7 @@
 -- What a command leaves that writes no register but 8 to 11, and one that is put off.
 use Rattle.std.specs.Option.{IfSome}
 use Rattle.std.proofs.lemmas.Bool.{lt-leb}
-use Rattle.std.proofs.Common.{◌≡◌, ◌≢◌, ℕ, ◌+◌, ◌<◌, ◌≤◌, ◌&&◌, nat_le, Bool, true, false, cond, List, [], ◌∷◌, ◌++◌, get_or, set, slice_get, append-nil, ⊎_elim, Option, Some, None, refl, ap, sym, ◌∙◌, subst, arith, get_or-set_other}
+use Rattle.std.proofs.Common.{◌≡◌, ◌≢◌, ℕ, ◌+◌, ◌≤◌, ◌&&◌, nat_le, Bool, true, false, cond, List, [], ◌∷◌, ◌++◌, get_or, set, slice_get, ⊎_elim, Option, Some, None, refl, ap, sym, ◌∙◌, subst, arith, get_or-set_other}
 use Rattle.model_core.specs.declared.label.Label.{Label}
 use Rattle.model_core.specs.declared.command.Command.{Command}
 use Rattle.model_core.specs.declared.command.Command.TheVariants.{PutInt, Copy, Forget, Load, Store, Cas, SetKey, GetKey, SetData, GetData}
@@ -17,10 +17,10 @@ use Rattle.model_core.specs.declared.state.Sizes.{Sizes}
 use Rattle.model_core.specs.declared.state.State.{State}
 use Rattle.model_core.specs.Commands.{at_ephe, at_field, Outcome, block_in, datum_set, done_with, datum_stored, exchanged, in_bounds, is_allocation, key_set, key_stored, key_value, loaded, outcome, read_into, same_value, stored, written_over, written_where}
 use Rattle.model_core.specs.Counts.Counts.{blocks_of, ephemerons_of, labels_of}
-use Rattle.model_core.specs.Domains.{domain_at, label_in, no_domain, opening, register, with_block, with_register}
+use Rattle.model_core.specs.Domains.{domain_at, label_in, opening, register, with_block, with_register}
 use Rattle.model_core.specs.Entries.{next}
-use Rattle.model_core.specs.Fronts.{IsFrontOf, NoneOf}
-use Rattle.model_core.specs.History.{IsPrefix, is_entry_of}
+use Rattle.model_core.specs.Fronts.{IsFrontOf}
+use Rattle.model_core.specs.History.{IsPrefix}
 use Rattle.model_core.specs.Laws.{written_by}
 use Rattle.model_core.proofs.Commands.FrameLemmas.{part_set}
 use Rattle.model_core.proofs.Histories.FrontLemmas.{keeps_front}
@@ -37,7 +37,7 @@ use Rattle.weak_maps.proofs.StayLemmas.{no_entry, prefix_same}
 use Rattle.weak_laws.proofs.OfTables.StageLemmas.{prefix_trans}
 use Rattle.weak_maps.proofs.GetLemmas.{grows_by}
 use Rattle.weak_maps.proofs.GuardLemmas.{quiet_at, quiet_by, quiet_twice}
-use Rattle.weak_direct.specs.Tries.{EndsBy, IsBetween, IsLast, IsHand, KeepsBeside, Passes, TriedBy, ephemerons_by, labels_by}
+use Rattle.weak_direct.specs.Tries.{IsBetween, IsLast, IsHand, Passes, TriedBy, ephemerons_by, labels_by}
 
 -- a register that is beside is none of those between
 pub beside_other : (i r : ℕ) → IsBeside i → IsHand r → i ≢ r
@@ -261,6 +261,10 @@ module _ (z : Sizes) (d : ℕ) (old new : List Entry) where
   tried_quiet c None none f looks = off_quiet f
   tried_quiet c (Some r) none p looks = quiet_by z d old new c r p looks none
 
+  pub tried_stopped : (c : Command) (o : Option Reply) → TriedBy z d old new c o → o ≡ None → OwnQuiet z d old new
+  tried_stopped c None f none = off_quiet f
+  tried_stopped c (Some r) p none = cc
+
   pub tried_made : (c : Command) (o : Option Reply) → TriedBy z d old new c o → IfSome o (PerformedBy z d old new c)
   tried_made c None f = tt
   tried_made c (Some r) p = p
@@ -296,7 +300,6 @@ pub none_full : (z : Sizes) (d : ℕ) (old made : List Entry) (c : Command) → 
 none_full z d old made c last r p = let gives = gives_one z d old made c r p in let none : labels_of c ≡ 0 = ap (λ (b : Bool). cond b 1 0) (last_makes c last) in omega (arith, gives, none)
 
 module _ (z : Sizes) (d : ℕ) (old made new : List Entry) (c : Command) (last : IsLast c) (passes : Passes z d made new) (quiet : OwnQuiet z d made new) where
-
   pub last_given : (o : Option Reply) → TriedBy z d old made c o → refusals_by d new ≡ refusals_by d old
   last_given None f = passes.given ∙ (off_passes z d old made f).given
   last_given (Some r) p = passes.given ∙ (let one = refuses_one z d old made c r p in let none = none_full z d old made c last r p in omega (arith, one, none))

@@ -10,10 +10,12 @@ use Rattle.model_core.specs.Commands.{shown}
 use Rattle.model_core.specs.History.{IsPrefix}
 use Rattle.weak_laws.specs.Tables.Stages.{graph_of}
 use Rattle.weak_laws.specs.Maps.Tries.{IsMap}
-use Rattle.weak_laws.specs.Maps.Calls.{GetAnswers, bound_after}
+use Rattle.weak_laws.specs.Maps.Calls.{GetAnswers, OwnKeep, TakeAnswers, bound_after}
+use Rattle.weak_laws.specs.Maps.Within.{OwnWithin}
 use Rattle.weak_laws.specs.Maps.Steps.{OthersRespect}
 use Rattle.weak_maps.specs.Beside.{held_by}
 use Rattle.weak_maps.specs.Fields.{IsBeside}
+use Rattle.weak_direct.specs.Tries.{KeepsBeside}
 use Rattle.weak_maps.specs.Walks.{HoldsLeaf, Looking, OwnQuiet}
 
 -- a look at a key has changed nothing so far: at a front of the call it told what the key was bound to
@@ -48,3 +50,21 @@ GetReturns z d old new root dst key r = GetAnswers z root d old new key r
 -- what a call answers and leaves of whatever map stands in a register when it begins, if others respect the map until it ends
 abbrev pub GetsAt : Sizes → ℕ → List Entry → List Entry → ℕ → ℕ → ℕ → Reply → Type 0
 GetsAt z d old new dst map key r = (root : Label) → held_by z d old map ≡ Block root → IsMap (graph_of z old) root → OthersRespect z root d old new → GetReturns z d old new root dst (held_by z d old key) r
+
+-- what `map_take` leaves: the map is one still, no block was written but of the map and of the call's own, and the registers but 8 to 11 hold what they held
+pub record TakeLeaves (z : Sizes) (d : ℕ) (old new : List Entry) (root : Label) : Type 0 where
+  pub map : IsMap (graph_of z new) root
+  pub within : OwnWithin z root d old old new
+  pub keeps : KeepsBeside z d old new
+
+-- `map_take`, by what the register of the key holds
+abbrev pub TakeReturns : Sizes → ℕ → List Entry → List Entry → Label → Value → Reply → Type 0
+TakeReturns z d old new root (Block k) r = TakeAnswers z root d old new (Block k) r × TakeLeaves z d old new root
+TakeReturns z d old new root key r = TakeAnswers z root d old new key r
+
+abbrev pub TakesAt : Sizes → ℕ → List Entry → List Entry → ℕ → ℕ → Reply → Type 0
+TakesAt z d old new map key r = (root : Label) → held_by z d old map ≡ Block root → IsMap (graph_of z old) root → OthersRespect z root d old new → TakeReturns z d old new root (held_by z d old key) r
+
+-- a call that stops has changed no binding of whatever map stood in a register when it began, if others respect the map until it stops
+abbrev pub StopsAt : Sizes → ℕ → List Entry → List Entry → ℕ → Type 0
+StopsAt z d old new map = (root : Label) → held_by z d old map ≡ Block root → IsMap (graph_of z old) root → OthersRespect z root d old new → OwnKeep z root d old new

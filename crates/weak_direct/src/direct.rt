@@ -47,7 +47,6 @@ pub trait Direct {
         ensures inside { domain self.now < (sizes self.now).domains }
         ensures limits { IsWithinLimits (sizes self.now) };
 
-
     /// How many domains the heap has.
     fn domains(&self) -> u32
         ensures { result ≡ (sizes self.now).domains };
@@ -98,13 +97,14 @@ pub fn step<M: Direct>(m: &mut M, c: Command) -> Option<Reply>
     ensures room { M.ephes_room m.old ≤ M.ephes_room m.new }
     ensures passes { Passes (M.sizes m.old) (M.domain m.old) (M.front m.old) (M.front m.new) }
     ensures quiet { ((s : State) → written_by s (M.domain m.old) c ≡ None) → OwnQuiet (M.sizes m.old) (M.domain m.old) (M.front m.old) (M.front m.new) }
+    ensures stopped { result ≡ None → OwnQuiet (M.sizes m.old) (M.domain m.old) (M.front m.old) (M.front m.new) }
     ensures performed { IfSome result (PerformedBy (M.sizes m.old) (M.domain m.old) (M.front m.old) (M.front m.new) c) }
 {
     m.perform(c)
 }
 
-// Empties the registers that the calls use between, as far as that is possible at once.
-fn clear<M: Direct>(m: &mut M)
+/// Empties the registers that the calls use between, as far as that is possible at once.
+pub fn clear<M: Direct>(m: &mut M)
     ensures sizes { M.sizes m.new ≡ M.sizes m.old }
     ensures domain { M.domain m.new ≡ M.domain m.old }
     ensures heap { M.heap m.new ≡ M.heap m.old }

@@ -4,3 +4,4 @@
 pub mod direct;
 pub mod getting;
 pub mod making;
+pub mod shared;

@@ -1,4 +1,4 @@
-use Rattle.std.proofs.Common.{◌≡◌, ◌∙◌, ℕ, refl}
+use Rattle.std.proofs.Common.{◌∙◌, ℕ, refl}
 use Rattle.model_core.specs.declared.state.Sizes.{Sizes}
 use Rattle.weak_direct.proofs.StepLemmas.{passes_after, quiet_after}
 use Rattle.weak_direct.proofs.direct.clear.Goals as goal

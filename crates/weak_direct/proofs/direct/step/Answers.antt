@@ -1,5 +1,5 @@
 use Rattle.std.proofs.Common.{arith}
-use Rattle.weak_direct.proofs.StepLemmas.{ephemerons_none, labels_none, makes_none, tried_made, tried_passes, tried_quiet}
+use Rattle.weak_direct.proofs.StepLemmas.{ephemerons_none, labels_none, makes_none, tried_made, tried_passes, tried_quiet, tried_stopped}
 use Rattle.weak_direct.proofs.direct.step.Goals as goal
 
 pub returns-clause-labels : goal.returns-clause-labels
@@ -16,3 +16,6 @@ returns-clause-quiet g c = tried_quiet _ _ _ _ c.args.c c.perform.result (makes_
 
 pub returns-clause-performed : goal.returns-clause-performed
 returns-clause-performed g c = tried_made _ _ _ _ c.args.c c.perform.result c.perform.ensures.tried
+
+pub returns-clause-stopped : goal.returns-clause-stopped
+returns-clause-stopped g c = tried_stopped _ _ _ _ c.args.c c.perform.result c.perform.ensures.tried

@@ -1,18 +1,11 @@
-use Rattle.std.proofs.Common.{◌≡◌, ◌∙◌, ℕ, Bool, List, true, false, refl, sym, subst}
+use Rattle.std.proofs.Common.{◌∙◌, ℕ, Bool, List, true, refl, subst}
 use Rattle.model_core.specs.declared.entry.Entry.{Entry}
-use Rattle.model_core.specs.declared.graph.Value.TheVariants.{Block}
 use Rattle.model_core.specs.declared.label.Label.{Label}
-use Rattle.model_core.specs.declared.reply.Reply.TheVariants as reply
 use Rattle.model_core.specs.declared.state.Sizes.{Sizes}
-use Rattle.weak_laws.specs.Tables.Stages.{graph_of}
-use Rattle.weak_laws.specs.Maps.Tries.{IsMap}
-use Rattle.weak_laws.specs.Maps.Steps.{OthersRespect}
-use Rattle.weak_maps.specs.Beside.{held_by}
-use Rattle.weak_maps.specs.Walks.{Descended, Met}
+use Rattle.weak_maps.specs.Walks.{Descended}
 use Rattle.weak_maps.proofs.BesideLemmas.{low_beside}
 use Rattle.weak_maps.proofs.MachineLemmas.{at_machine}
 use Rattle.weak_maps.proofs.StayLemmas.{prefix_same, respects_within}
-use Rattle.weak_direct.specs.Leaves.{FoundBy}
 use Rattle.weak_direct.proofs.LookLemmas.{found_by_key}
 use Rattle.weak_direct.proofs.StepLemmas.{passes_after, quiet_after}
 use Rattle.weak_direct.proofs.getting.look_up.Goals as goal

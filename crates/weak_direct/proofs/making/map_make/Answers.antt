@@ -1,5 +1,3 @@
-use Rattle.std.proofs.Common.{ℕ}
-use Rattle.model_core.specs.declared.state.Sizes.{Sizes}
 use Rattle.weak_direct.proofs.MakeLemmas.{make_grows, make_labels, make_left, make_made, make_refused, make_stopped, make_written}
 use Rattle.weak_direct.proofs.making.map_make.Goals as goal
 
