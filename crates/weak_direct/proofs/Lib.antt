@@ -2,3 +2,4 @@ pub mod StepLemmas
 pub mod LookLemmas
 pub mod MakeLemmas
 pub mod SharedLemmas
+pub mod TakeLemmas

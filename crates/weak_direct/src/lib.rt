@@ -5,3 +5,4 @@ pub mod direct;
 pub mod getting;
 pub mod making;
 pub mod shared;
+pub mod taking;
