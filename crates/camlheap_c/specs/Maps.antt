@@ -7,9 +7,10 @@ use Rattle.model_core.specs.Fronts.{IsFrontOf}
 use Rattle.model_core.specs.History.{IsPrefix}
 use Rattle.heap_rule.specs.Limits.{sizes_in}
 use Rattle.run_seats.specs.Shared.Sharing.{SharedView}
+use Rattle.weak_maps.specs.Guards.{TakeGuards}
 use Rattle.weak_maps.specs.Returns.{FollowsAt, MakeReturns}
 use Rattle.weak_maps.specs.Walks.{OwnQuiet}
-use Rattle.weak_direct.specs.Leaves.{GetsAt}
+use Rattle.weak_direct.specs.Leaves.{GetsAt, StopsAt, TakesAt}
 use Rattle.weak_direct.specs.Tries.{KeepsBeside}
 use Rattle.camlheap_c.specs.declared.crossing.CamlheapReply.{CamlheapReply}
 use Rattle.camlheap_c.specs.declared.handle.CamlheapDomain.{CamlheapDomain}
@@ -59,6 +60,16 @@ pub record LooksUp (old new : SharedView) (dst map key : ℕ) (before read : Cam
   pub again : told ≢ 0 → KeepsBeside (sizes_of old) (number_of old) (front_of old) (front_of new)
   pub unread : told ≢ 0 → read ≡ before
 
+-- a binding is taken out, by what the call answers: 0 where it is answered, 1 where it has stopped, and then no binding was changed. Its entries respect the map as long as the others' do, and each register but 8 to 11 holds what it held
+pub record TakesOut (old new : SharedView) (map key : ℕ) (before read : CamlheapReply) (told : ℕ) : Type 0 where
+  pub goes_on : GoesOnIn old new
+  pub keeps : KeepsBeside (sizes_of old) (number_of old) (front_of old) (front_of new)
+  pub guards : TakeGuards (sizes_of old) (number_of old) (front_of old) (front_of new) map
+  pub follows : FollowsAt (sizes_of old) (number_of old) (front_of old) (front_of new) map
+  pub made : told ≡ 0 → Reads read (TakesAt (sizes_of old) (number_of old) (front_of old) (front_of new) map key)
+  pub again : told ≢ 0 → StopsAt (sizes_of old) (number_of old) (front_of old) (front_of new) map
+  pub unread : told ≢ 0 → read ≡ before
+
 -- the make of a map: 1 where it was put off, and then the domain has made no entry
 pub record MakesMap (old new : SharedView) (dst : ℕ) (before read : CamlheapReply) (told : ℕ) : Type 0 where
   pub goes_on : GoesOnIn old new
@@ -78,6 +89,9 @@ pub record CallsMap (old new : CamlheapDomain) (Does Refuses : ℕ → Type 0) (
 
 abbrev pub GetsFor : CamlheapDomain → CamlheapDomain → ℕ → ℕ → ℕ → CamlheapReply → CamlheapReply → ℕ → Type 0
 GetsFor old new dst map key before read told = CallsMap old new (λ (n : ℕ). LooksUp old.value new.value dst map key before read n) (λ (n : ℕ). RefusesMap old.value (AreLow dst map key) n) before read told
+
+abbrev pub TakesFor : CamlheapDomain → CamlheapDomain → ℕ → ℕ → CamlheapReply → CamlheapReply → ℕ → Type 0
+TakesFor old new map key before read told = CallsMap old new (λ (n : ℕ). TakesOut old.value new.value map key before read n) (λ (n : ℕ). RefusesMap old.value ((map < 8) × (key < 8)) n) before read told
 
 -- a map isn't made for want of a label
 abbrev pub LacksLabel : SharedView → ℕ → ℕ → Type 0
