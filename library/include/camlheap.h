@@ -196,6 +196,26 @@ uint32_t camlheap_stats(camlheap_domain *domain, camlheap_counts *counts);
  * to. */
 uint32_t camlheap_why(camlheap_domain *domain, uint32_t maker, uint32_t serial, uint32_t most, camlheap_way *way, uint16_t *fields, size_t room);
 
+/* Weak maps from blocks to values: a map keeps neither its keys nor, for a key that nothing else leads to, its datum. It is a
+ * block, whose register the calls are given, and it may be shared by domains that use it by these calls. Each call is several
+ * commands of the domain. Registers are below 8; registers 8 to 11 are used between, and emptied as far as that is possible at
+ * once.
+ *
+ * DONE and the reply; NO_DOMAIN, CLOSED, BUSY, NO_REGISTER for one that isn't below 8, or NO_LABEL, and then nothing has
+ * changed; or AGAIN where a pause is wanted or must come first, or others won a field too often: then no binding has changed,
+ * and the registers below 8 hold what they held. Take a turn, and ask anew; where that doesn't help, make a MINOR and then a
+ * FULL_MAJOR, which make the room that an allocation lacks.
+ *
+ * A new map in register dst, which binds nothing: its block, or full. */
+uint32_t camlheap_map_make(camlheap_domain *domain, uint8_t dst, camlheap_reply *reply);
+
+/* What the map binds the block in `key` to, into dst: int or block; none, and then dst holds nothing; or type. */
+uint32_t camlheap_map_get(camlheap_domain *domain, uint8_t dst, uint8_t map, uint8_t key, camlheap_reply *reply);
+
+/* Takes the binding of the block in `key` out: ok, none where there was none, or type. Of two calls that take the same binding
+ * one alone answers ok. */
+uint32_t camlheap_map_take(camlheap_domain *domain, uint8_t map, uint8_t key, camlheap_reply *reply);
+
 /* No command comes any more: DONE, BUSY or CLOSED. The trace ends in later turns, behind the finalisers that wait. */
 uint32_t camlheap_close(camlheap_domain *domain);
 

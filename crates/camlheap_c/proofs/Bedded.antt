@@ -1,5 +1,5 @@
 -- The machine values of a handle of a bed. Assumes `Logic`.
-use Rattle.std.proofs.Common.{◌≡◌, ℕ, List, [], ◌∷◌, ◌++◌, refl, lit<}
+use Rattle.std.proofs.Common.{◌≡◌, List, [], ◌∷◌, ◌++◌, refl, lit<}
 use mathlib.Core.Bool.{Bool, true}
 use mathlib.Core.Path.{◌∙◌}
 use seplogic.Ra.Ura.{Ura}

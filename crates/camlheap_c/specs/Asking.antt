@@ -1,5 +1,5 @@
 -- Why a block is still there, as C is told.
-use Rattle.std.specs.Prelude.{◌≡◌, ◌↔◌, ℕ, ◌<◌, ◌⊎◌, true, false, List, length, slice_get, Option, Some}
+use Rattle.std.specs.Prelude.{◌≡◌, ◌↔◌, ℕ, ◌<◌, ◌⊎◌, true, false, List, length, slice_get, Some}
 use Rattle.model_core.specs.declared.label.Label.{Label}
 use Rattle.heap_rule.specs.Limits.{sizes_in}
 use Rattle.model_laws.specs.declared.reach.asking.Reason.{Reason}

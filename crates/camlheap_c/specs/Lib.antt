@@ -2,3 +2,4 @@ pub mod Forms
 pub mod Exported
 pub mod Resting
 pub mod Asking
+pub mod Maps

@@ -1,6 +1,6 @@
 -- What the exports on beds leave.
-use Rattle.std.specs.Prelude.{◌≡◌, ◌≢◌, ℕ, ◌+◌, ◌<◌, true, false, Some, None}
-use Rattle.run_seats.specs.Beds.Bedding.{BedView, MakesNone, plain_bed}
+use Rattle.std.specs.Prelude.{◌≡◌, ℕ, ◌+◌, ◌<◌, true, false, Some, None}
+use Rattle.run_seats.specs.Beds.Bedding.{BedView, plain_bed}
 use Rattle.run_seats.specs.declared.beds.bed.NoBed.{NoBed}
 use Rattle.run_seats.specs.declared.beds.bed.NoBed.TheVariants.{NotFirst, Full, Memory}
 use Rattle.run_seats.specs.declared.shared.bed.NotRested.{NotRested}

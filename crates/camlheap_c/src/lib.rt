@@ -13,6 +13,7 @@ mod direct;
 mod driving;
 mod handle;
 mod loose;
+mod maps;
 mod resting;
 mod starting;
 mod telling;

@@ -25,16 +25,16 @@ use Rattle.weak_maps.specs.Beside.{refusals_by, writings_by}
 mine : (d : ℕ) → (d == d) ≡ true
 mine d = eq-eqb d d refl
 
-refusals_append : (d : ℕ) (h k : List Entry) → refusals_by d (h ++ k) ≡ refusals_by d h + refusals_by d k
+pub refusals_append : (d : ℕ) (h k : List Entry) → refusals_by d (h ++ k) ≡ refusals_by d h + refusals_by d k
 refusals_append d [] k = omega arith
 refusals_append d (e ∷ h) k = let rest = refusals_append d h k in omega (arith, rest)
 
-writings_append : (d : ℕ) (h k : List Entry) → writings_by d (h ++ k) ≡ writings_by d h + writings_by d k
+pub writings_append : (d : ℕ) (h k : List Entry) → writings_by d (h ++ k) ≡ writings_by d h + writings_by d k
 writings_append d [] k = omega arith
 writings_append d (e ∷ h) k = let rest = writings_append d h k in omega (arith, rest)
 
 -- others' entries are none of the domain's
-refusals_none : (d : ℕ) (h : List Entry) → NoneOf d h → refusals_by d h ≡ 0
+pub refusals_none : (d : ℕ) (h : List Entry) → NoneOf d h → refusals_by d h ≡ 0
 refusals_none d [] none = refl
 refusals_none d (e ∷ h) none =
     let parts = none_cons d e h none in
@@ -42,7 +42,7 @@ refusals_none d (e ∷ h) none =
     let rest = refusals_none d h parts.1 in
     omega (arith, here, rest)
 
-writings_none : (d : ℕ) (h : List Entry) → NoneOf d h → writings_by d h ≡ 0
+pub writings_none : (d : ℕ) (h : List Entry) → NoneOf d h → writings_by d h ≡ 0
 writings_none d [] none = refl
 writings_none d (e ∷ h) none =
     let parts = none_cons d e h none in

@@ -313,7 +313,7 @@ module _ (z : Sizes) (limits : IsWithinLimits z) (root : Label) (d : ℕ) (old :
 
   module _ (kr : ℕ) (few : kr < 8) (key : held_by z d old kr ≡ Block k) where
     -- what a walk finds from there
-    found_from : (now n0 : List Entry) (i rest i2 rest2 : ℕ) (s : Reply) (mine : Bool) → Finds z d now n0 kr k i rest s i2 rest2 mine → (OthersRespect z root d old now → Taking z d old now root k i rest s) → IsPrefix now n0 → OthersRespect z root d old n0
+    pub found_from : (now n0 : List Entry) (i rest i2 rest2 : ℕ) (s : Reply) (mine : Bool) → Finds z d now n0 kr k i rest s i2 rest2 mine → (OthersRespect z root d old now → Taking z d old now root k i rest s) → IsPrefix now n0 → OthersRespect z root d old n0
         → Looking z root d old n0 × ((j : ℕ) → IsBeside j → held_by z d n0 j ≡ held_by z d old j) × (held_by z d n0 10 ≡ Int (pos 0)) × FoundBy z d old n0 root k i2 rest2 mine
     found_from now n0 i rest i2 rest2 s mine finds taking grows respects =
         let t = taking (respects_within z root d old n0 old now (prefix_same old) grows respects) in

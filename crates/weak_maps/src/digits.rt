@@ -5,30 +5,30 @@ ghost use Rattle.weak_laws.specs.Maps.Tries.{node_width, number_of as number_in,
 
 use model_core::label::Label;
 
-// The number of a label in a heap of so many domains.
-pub(crate) fn number_of(domains: u32, key: &Label) -> u64
+/// The number of a label in a heap of so many domains.
+pub fn number_of(domains: u32, key: &Label) -> u64
     requires few { domains ≤ 8 }
     ensures number { result ≡ number_in domains key.now }
 {
     u64::from(key.serial) * u64::from(domains) + u64::from(key.domain)
 }
 
-// The first digit, which chooses a field of the root.
-pub(crate) fn root_index(number: u64) -> u16
+/// The first digit, which chooses a field of the root.
+pub fn root_index(number: u64) -> u16
     ensures { result ≡ number % root_width }
 {
     (number % 512) as u16
 }
 
-// The lowest digit of what is left, which chooses a field of a block below.
-pub(crate) fn node_index(rest: u64) -> u16
+/// The lowest digit of what is left, which chooses a field of a block below.
+pub fn node_index(rest: u64) -> u16
     ensures { result ≡ rest % node_width }
 {
     (rest % 32) as u16
 }
 
-// What is left of a number below its first digit and so many others.
-pub(crate) fn rest_below(number: u64, level: u8) -> u64
+/// What is left of a number below its first digit and so many others.
+pub fn rest_below(number: u64, level: u8) -> u64
     ensures { result ≡ rest_of number level }
 {
     let mut rest = number / 512;
@@ -38,8 +38,8 @@ pub(crate) fn rest_below(number: u64, level: u8) -> u64
     rest
 }
 
-// The serial of a label is a number of 32 bits.
-pub(crate) fn serial_of(key: &Label) -> u32
+/// The serial of a label is a number of 32 bits.
+pub fn serial_of(key: &Label) -> u32
     ensures serial { result ≡ key.now.serial }
     ensures range { key.now.serial < 2 ^ 32 }
 {

@@ -2,7 +2,7 @@
 #![tactic(auto)]
 
 pub mod cleaning;
-mod digits;
+pub mod digits;
 pub mod getting;
 pub mod lists;
 pub mod machine;

@@ -28,8 +28,8 @@ pub fn is_this(reply: &Reply, label: &Label) -> bool
     }
 }
 
-// The block that a reply shows, but for this one.
-pub(crate) fn other_than(reply: &Reply, label: &Label) -> Option<Label>
+/// The block that a reply shows, but for this one.
+pub fn other_than(reply: &Reply, label: &Label) -> Option<Label>
     ensures { result ≡ other_block label.now reply.now }
 {
     match reply {
@@ -44,8 +44,8 @@ pub(crate) fn other_than(reply: &Reply, label: &Label) -> Option<Label>
     }
 }
 
-// Whether a reply says that a block isn't of the kind that was asked for.
-pub(crate) fn is_other_kind(reply: &Reply) -> bool
+/// Whether a reply says that a block isn't of the kind that was asked for.
+pub fn is_other_kind(reply: &Reply) -> bool
     ensures { (result ≡ true) ↔ (reply.now ≡ variant.BadType) }
 {
     matches!(reply, Reply::BadType)
@@ -58,8 +58,8 @@ pub fn is_empty(reply: &Reply) -> bool
     matches!(reply, Reply::Empty)
 }
 
-// Whether a compare-and-set was made.
-pub(crate) fn is_yes(reply: &Reply) -> bool
+/// Whether a compare-and-set was made.
+pub fn is_yes(reply: &Reply) -> bool
     ensures { (result ≡ true) ↔ (reply.now ≡ variant.Yes) }
 {
     matches!(reply, Reply::Yes)

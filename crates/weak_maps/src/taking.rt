@@ -36,8 +36,8 @@ pub struct Search {
     pub other: Option<Label>,
 }
 
-// Where a search of a key of this number begins: at a field of the root.
-pub(crate) fn from_root(number: u64) -> Search
+/// Where a search of a key of this number begins: at a field of the root.
+pub fn from_root(number: u64) -> Search
     ensures index { result.index ≡ number % root_width }
     ensures rest { result.rest ≡ number / root_width }
 {

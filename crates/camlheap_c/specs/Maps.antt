@@ -1,0 +1,101 @@
+-- What the exports on weak maps leave.
+use Rattle.std.specs.Prelude.{◌≡◌, ◌≢◌, ◌↔◌, ◌⊎◌, ℕ, ◌+◌, ◌<◌, ◌≤◌, true, false, List}
+use Rattle.model_core.specs.declared.entry.Entry.{Entry}
+use Rattle.model_core.specs.declared.reply.Reply.{Reply}
+use Rattle.model_core.specs.declared.state.Sizes.{Sizes}
+use Rattle.model_core.specs.Fronts.{IsFrontOf}
+use Rattle.model_core.specs.History.{IsPrefix}
+use Rattle.heap_rule.specs.Limits.{sizes_in}
+use Rattle.run_seats.specs.Shared.Sharing.{SharedView}
+use Rattle.weak_maps.specs.Guards.{TakeGuards}
+use Rattle.weak_maps.specs.Returns.{FollowsAt, MakeReturns}
+use Rattle.weak_maps.specs.Walks.{OwnQuiet}
+use Rattle.weak_direct.specs.Leaves.{GetsAt, StopsAt, TakesAt}
+use Rattle.weak_direct.specs.Tries.{KeepsBeside}
+use Rattle.camlheap_c.specs.declared.crossing.CamlheapReply.{CamlheapReply}
+use Rattle.camlheap_c.specs.declared.handle.CamlheapDomain.{CamlheapDomain}
+use Rattle.camlheap_c.specs.Exported.{RefusesClose}
+use Rattle.camlheap_c.specs.Forms.{reply_form}
+
+-- the numbers of a domain's heap, its own number, and what it has seen of the history
+abbrev pub sizes_of : SharedView → Sizes
+sizes_of s = sizes_in s.heap.config
+
+abbrev pub number_of : SharedView → ℕ
+number_of s = s.run.token.view.own.number
+
+abbrev pub front_of : SharedView → List Entry
+front_of s = s.run.token.view.seen.front
+
+-- the domain is the same, in the same heap, and has seen more of the history
+pub record GoesOnIn (old new : SharedView) : Type 0 where
+  pub heap : new.heap ≡ old.heap
+  pub number : number_of new ≡ number_of old
+  pub grows : IsPrefix (front_of old) (front_of new)
+
+-- the domain has changed no block, and a map with each leaf on its key's way is one still, if others respect it
+pub record LooksOn (old new : SharedView) (map : ℕ) : Type 0 where
+  pub goes_on : GoesOnIn old new
+  pub quiet : OwnQuiet (sizes_of old) (number_of old) (front_of old) (front_of new)
+  pub follows : FollowsAt (sizes_of old) (number_of old) (front_of old) (front_of new) map
+
+-- C reads a reply of which this holds
+pub record Reads (read : CamlheapReply) (P : Reply → Type 0) : Type 0 where
+  pub reply : Reply
+  pub is_read : read ≡ reply_form reply
+  pub holds : P reply
+
+-- the registers that a call is given are below 8
+abbrev pub AreLow : ℕ → ℕ → ℕ → Type 0
+AreLow a b c = (a < 8) × (b < 8) × (c < 8)
+
+-- why a call on a map isn't begun, as a number: the domain takes no command, or a register isn't below 8
+abbrev pub RefusesMap : SharedView → Type 0 → ℕ → Type 0
+RefusesMap s Low told = RefusesClose s told ⊎ ((told ≡ 23) × (Low → ⊥))
+
+-- a look at a key, by what the call answers: 0 where it is answered, 1 where a command was put off, and then each register but 8 to 11 holds what it held
+pub record LooksUp (old new : SharedView) (dst map key : ℕ) (before read : CamlheapReply) (told : ℕ) : Type 0 where
+  pub on : LooksOn old new map
+  pub made : told ≡ 0 → Reads read (GetsAt (sizes_of old) (number_of old) (front_of old) (front_of new) dst map key)
+  pub again : told ≢ 0 → KeepsBeside (sizes_of old) (number_of old) (front_of old) (front_of new)
+  pub unread : told ≢ 0 → read ≡ before
+
+-- a binding is taken out, by what the call answers: 0 where it is answered, 1 where it has stopped, and then no binding was changed. Its entries respect the map as long as the others' do, and each register but 8 to 11 holds what it held
+pub record TakesOut (old new : SharedView) (map key : ℕ) (before read : CamlheapReply) (told : ℕ) : Type 0 where
+  pub goes_on : GoesOnIn old new
+  pub keeps : KeepsBeside (sizes_of old) (number_of old) (front_of old) (front_of new)
+  pub guards : TakeGuards (sizes_of old) (number_of old) (front_of old) (front_of new) map
+  pub follows : FollowsAt (sizes_of old) (number_of old) (front_of old) (front_of new) map
+  pub made : told ≡ 0 → Reads read (TakesAt (sizes_of old) (number_of old) (front_of old) (front_of new) map key)
+  pub again : told ≢ 0 → StopsAt (sizes_of old) (number_of old) (front_of old) (front_of new) map
+  pub unread : told ≢ 0 → read ≡ before
+
+-- the make of a map: 1 where it was put off, and then the domain has made no entry
+pub record MakesMap (old new : SharedView) (dst : ℕ) (before read : CamlheapReply) (told : ℕ) : Type 0 where
+  pub goes_on : GoesOnIn old new
+  pub made : told ≡ 0 → Reads read (MakeReturns (sizes_of old) (number_of old) (front_of old) (front_of new) dst)
+  pub again : told ≢ 0 → IsFrontOf (number_of old) (front_of new) (front_of old)
+  pub unread : told ≢ 0 → read ≡ before
+
+-- what a call on a map leaves in a handle: a handle that holds none is told as such; the call was begun, or it isn't, and then nothing has changed
+pub record CallsMap (old new : CamlheapDomain) (Does Refuses : ℕ → Type 0) (before read : CamlheapReply) (told : ℕ) : Type 0 where
+  pub kept : new.full ≡ old.full
+  pub none : (old.full ≡ false) ↔ (told ≡ 16)
+  pub does : old.full ≡ true → told < 17 → Does told
+  pub few : old.full ≡ true → told < 17 → told < 2
+  pub why : old.full ≡ true → 17 ≤ told → Refuses told
+  pub same : old.full ≡ true → 17 ≤ told → (new.value ≡ old.value) × (read ≡ before)
+  pub unread : old.full ≡ false → read ≡ before
+
+abbrev pub GetsFor : CamlheapDomain → CamlheapDomain → ℕ → ℕ → ℕ → CamlheapReply → CamlheapReply → ℕ → Type 0
+GetsFor old new dst map key before read told = CallsMap old new (λ (n : ℕ). LooksUp old.value new.value dst map key before read n) (λ (n : ℕ). RefusesMap old.value (AreLow dst map key) n) before read told
+
+abbrev pub TakesFor : CamlheapDomain → CamlheapDomain → ℕ → ℕ → CamlheapReply → CamlheapReply → ℕ → Type 0
+TakesFor old new map key before read told = CallsMap old new (λ (n : ℕ). TakesOut old.value new.value map key before read n) (λ (n : ℕ). RefusesMap old.value ((map < 8) × (key < 8)) n) before read told
+
+-- a map isn't made for want of a label
+abbrev pub LacksLabel : SharedView → ℕ → ℕ → Type 0
+LacksLabel s most told = (told ≡ 22) × (4294967295 < s.run.token.view.own.serial + most)
+
+abbrev pub MakesFor : CamlheapDomain → CamlheapDomain → ℕ → CamlheapReply → CamlheapReply → ℕ → Type 0
+MakesFor old new dst before read told = CallsMap old new (λ (n : ℕ). MakesMap old.value new.value dst before read n) (λ (n : ℕ). RefusesMap old.value (dst < 8) n ⊎ LacksLabel old.value 1 n) before read told

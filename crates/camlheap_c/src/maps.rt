@@ -1,0 +1,145 @@
+//! Weak maps. Each call answers `DONE` and the reply; `AGAIN` where a command of it was put off, since a pause is wanted or must
+//! come first: then no binding has changed, and it may be asked anew behind a turn; and else why it isn't begun: `NO_DOMAIN`,
+//! `CLOSED`, `BUSY`, `NO_REGISTER` for one that isn't below 8, `NO_LABEL`. Then nothing has changed.
+ghost use Rattle.std.specs.Prelude.{◌≡◌, ◌≢◌, ◌⊎◌, ◌<◌, ◌≤◌};
+ghost use Rattle.camlheap_c.specs.Maps.{AreLow, GetsFor, LacksLabel, LooksUp, MakesFor, MakesMap, RefusesMap, TakesFor, TakesOut};
+
+use crate::codes::{AGAIN, DONE, NO_DOMAIN, NO_LABEL, NO_REGISTER, refusal_code};
+use crate::crossing::{CamlheapReply, reply_of};
+use crate::handle::CamlheapDomain;
+use run_seats::shared::SharedRun;
+use std::alloc::Global;
+use weak_direct::getting::map_get;
+use weak_direct::making::map_make;
+use weak_direct::taking::map_take;
+
+// Looks a key up.
+fn get_on(run: &mut SharedRun, dst: u8, map: u8, key: u8, reply: &mut CamlheapReply) -> u32
+    ensures does { result < 17 → LooksUp run.old run.new dst map key reply.old reply.new result }
+    ensures few { result < 17 → result < 2 }
+    ensures why { 17 ≤ result → RefusesMap run.old (AreLow dst map key) result }
+    ensures same { 17 ≤ result → (run.new ≡ run.old) × (reply.new ≡ reply.old) }
+    ensures told { result ≢ 16 }
+{
+    if let Err(refused) = run.may_close() {
+        return refusal_code(refused);
+    }
+    if dst >= 8 || map >= 8 || key >= 8 {
+        return NO_REGISTER;
+    }
+    match map_get(run, dst, map, key) {
+        Some(answer) => {
+            *reply = reply_of(answer);
+            DONE
+        }
+        None => AGAIN,
+    }
+}
+
+// Takes a binding out.
+fn take_on(run: &mut SharedRun, map: u8, key: u8, reply: &mut CamlheapReply) -> u32
+    ensures does { result < 17 → TakesOut run.old run.new map key reply.old reply.new result }
+    ensures few { result < 17 → result < 2 }
+    ensures why { 17 ≤ result → RefusesMap run.old ((map < 8) × (key < 8)) result }
+    ensures same { 17 ≤ result → (run.new ≡ run.old) × (reply.new ≡ reply.old) }
+    ensures told { result ≢ 16 }
+{
+    if let Err(refused) = run.may_close() {
+        return refusal_code(refused);
+    }
+    if map >= 8 || key >= 8 {
+        return NO_REGISTER;
+    }
+    match map_take(run, map, key) {
+        Some(answer) => {
+            *reply = reply_of(answer);
+            DONE
+        }
+        None => AGAIN,
+    }
+}
+
+// Makes a map.
+fn make_on(run: &mut SharedRun, dst: u8, reply: &mut CamlheapReply) -> u32
+    ensures does { result < 17 → MakesMap run.old run.new dst reply.old reply.new result }
+    ensures few { result < 17 → result < 2 }
+    ensures why { 17 ≤ result → RefusesMap run.old (dst < 8) result ⊎ LacksLabel run.old 1 result }
+    ensures same { 17 ≤ result → (run.new ≡ run.old) × (reply.new ≡ reply.old) }
+    ensures told { result ≢ 16 }
+{
+    if let Err(refused) = run.may_close() {
+        return refusal_code(refused);
+    }
+    if dst >= 8 {
+        return NO_REGISTER;
+    }
+    if run.labels_left() < 1 {
+        return NO_LABEL;
+    }
+    match map_make(run, dst) {
+        Some(answer) => {
+            *reply = reply_of(answer);
+            DONE
+        }
+        None => AGAIN,
+    }
+}
+
+/// Makes a weak map in a register. It binds nothing. The reply is its block.
+#[unsafe(no_mangle)]
+pub extern "C" fn camlheap_map_make(
+    alloc: Global,
+    handle: &mut CamlheapDomain,
+    dst: u8,
+    reply: &mut CamlheapReply,
+) -> u32
+    ensures { MakesFor handle.old handle.new dst reply.old reply.new result }
+{
+    let Some(mut run) = handle.take(alloc) else {
+        return NO_DOMAIN;
+    };
+    let told = make_on(&mut run, dst, reply);
+    *handle = CamlheapDomain::of(run);
+    told
+}
+
+/// Reads into a register what the map in another binds the key in a third to. The reply is the datum; `none` where the key
+/// isn't bound, and then the register holds nothing; or `type` where the third holds no block.
+#[unsafe(no_mangle)]
+pub extern "C" fn camlheap_map_get(
+    alloc: Global,
+    handle: &mut CamlheapDomain,
+    dst: u8,
+    map: u8,
+    key: u8,
+    reply: &mut CamlheapReply,
+) -> u32
+    ensures { GetsFor handle.old handle.new dst map key reply.old reply.new result }
+{
+    let Some(mut run) = handle.take(alloc) else {
+        return NO_DOMAIN;
+    };
+    let told = get_on(&mut run, dst, map, key, reply);
+    *handle = CamlheapDomain::of(run);
+    told
+}
+
+/// Takes the binding of the key in a register out of the map in another. The reply is `ok`; `none` where the key isn't bound;
+/// or `type` where the register holds no block.
+#[unsafe(no_mangle)]
+pub extern "C" fn camlheap_map_take(
+    alloc: Global,
+    handle: &mut CamlheapDomain,
+    map: u8,
+    key: u8,
+    reply: &mut CamlheapReply,
+) -> u32
+    ensures { TakesFor handle.old handle.new map key reply.old reply.new result }
+{
+    let Some(mut run) = handle.take(alloc) else {
+        return NO_DOMAIN;
+    };
+    let told = take_on(&mut run, map, key, reply);
+    *handle = CamlheapDomain::of(run);
+    told
+}

@@ -1,0 +1,5 @@
+pub mod StepLemmas
+pub mod LookLemmas
+pub mod MakeLemmas
+pub mod SharedLemmas
+pub mod TakeLemmas

@@ -1,0 +1,143 @@
+//! What the calls need of a domain.
+ghost use Rattle.std.specs.Prelude.{◌≡◌, ◌+◌, ◌<◌, ◌≤◌, ℕ, List, None, IfSome};
+ghost use Rattle.model_core.specs.declared.entry.Entry.{Entry};
+ghost use Rattle.model_core.specs.declared.state.Sizes.{Sizes};
+ghost use Rattle.model_core.specs.declared.state.State.{State};
+ghost use Rattle.model_core.specs.Commands.{shown};
+ghost use Rattle.model_core.specs.Counts.Counts.{ephemerons_of, labels_of};
+ghost use Rattle.model_core.specs.Domains.{IsWithinLimits};
+ghost use Rattle.model_core.specs.History.{IsPrefix};
+ghost use Rattle.model_core.specs.Laws.{written_by};
+ghost use Rattle.weak_laws.specs.Tables.Performing.{full_of, writes};
+ghost use Rattle.weak_laws.specs.Maps.Calls.{PerformedBy};
+ghost use Rattle.weak_maps.specs.Beside.{WritesAtMost, held_by, refusals_by};
+ghost use Rattle.weak_maps.specs.Commands.{IsMapCommand};
+ghost use Rattle.weak_maps.specs.Walks.{OwnQuiet};
+ghost use Rattle.weak_direct.specs.Tries.{EndsBy, IsBetween, IsLast, Passes, TriedBy, ephemerons_by, labels_by};
+
+use model_core::command::Command;
+use model_core::reply::Reply;
+
+/// A domain of a heap whose commands are made at once, or put off. Between two of them there may be commands of other
+/// domains.
+pub trait Direct {
+    /// What the domain is a domain of.
+    type Heap;
+
+    /// What it is a domain of stays, whatever is called.
+    ghost heap: { Self → Self.Heap };
+
+    /// The numbers of the heap.
+    ghost sizes: { Self → Sizes };
+
+    /// The number of the domain.
+    ghost domain: { Self → ℕ };
+
+    /// What the domain has seen of the history so far.
+    ghost front: { Self → List Entry };
+
+    /// How many labels are left for the domain's blocks.
+    ghost labels_left: { Self → ℕ };
+
+    /// How many ephemerons fit into the domain's list.
+    ghost ephes_room: { Self → ℕ };
+
+    /// Nothing changes. The domain is one of the heap's, and the numbers are within their limits.
+    fn stands(&self)
+        ensures inside { domain self.now < (sizes self.now).domains }
+        ensures limits { IsWithinLimits (sizes self.now) };
+
+    /// How many domains the heap has.
+    fn domains(&self) -> u32
+        ensures { result ≡ (sizes self.now).domains };
+
+    /// How many labels are left for the domain's blocks.
+    fn spare_labels(&self) -> u32
+        ensures { result ≡ labels_left self.now };
+
+    /// How many ephemerons fit into the domain's list.
+    fn spare_ephemerons(&self) -> usize
+        ensures { result ≡ ephes_room self.now };
+
+    /// The reply that shows what a register holds. No entry is made.
+    fn show(&mut self, r: u8) -> Reply
+        requires few { r < 16 }
+        ensures sizes { sizes self.new ≡ sizes self.old }
+        ensures domain { domain self.new ≡ domain self.old }
+        ensures heap { heap self.new ≡ heap self.old }
+        ensures front { front self.new ≡ front self.old }
+        ensures labels { labels_left self.new ≡ labels_left self.old }
+        ensures room { ephes_room self.new ≡ ephes_room self.old }
+        ensures reply { result ≡ shown (held_by (sizes self.old) (domain self.old) (front self.old) r) };
+
+    /// Makes a command at once, and answers its reply. The history grows by entries of other domains, and then by this one.
+    /// It gives out a label exactly for the block that it makes, and takes room for the ephemeron that it makes: more room
+    /// is there only where ephemerons were swept. None where the command is put off: then it isn't made, and the domain has
+    /// at most seen entries of others.
+    fn perform(&mut self, c: Command) -> Option<Reply>
+        requires fits { IsMapCommand c }
+        requires label { labels_of c ≤ labels_left self.old }
+        requires room { ephemerons_of c ≤ ephes_room self.old }
+        ensures sizes { sizes self.new ≡ sizes self.old }
+        ensures domain { domain self.new ≡ domain self.old }
+        ensures heap { heap self.new ≡ heap self.old }
+        ensures labels { labels_left self.old ≡ labels_left self.new + labels_by c result }
+        ensures room { ephes_room self.old ≤ ephes_room self.new + ephemerons_by c result }
+        ensures tried { TriedBy (sizes self.old) (domain self.old) (front self.old) (front self.new) c result };
+}
+
+/// Makes a command that makes no block, and writes no register but 8 to 11, where it isn't put off.
+pub fn step<M: Direct>(m: &mut M, c: Command) -> Option<Reply>
+    requires fits { IsMapCommand c }
+    requires between { IsBetween c }
+    ensures sizes { M.sizes m.new ≡ M.sizes m.old }
+    ensures domain { M.domain m.new ≡ M.domain m.old }
+    ensures heap { M.heap m.new ≡ M.heap m.old }
+    ensures labels { M.labels_left m.new ≡ M.labels_left m.old }
+    ensures room { M.ephes_room m.old ≤ M.ephes_room m.new }
+    ensures passes { Passes (M.sizes m.old) (M.domain m.old) (M.front m.old) (M.front m.new) }
+    ensures quiet { ((s : State) → written_by s (M.domain m.old) c ≡ None) → OwnQuiet (M.sizes m.old) (M.domain m.old) (M.front m.old) (M.front m.new) }
+    ensures stopped { result ≡ None → OwnQuiet (M.sizes m.old) (M.domain m.old) (M.front m.old) (M.front m.new) }
+    ensures performed { IfSome result (PerformedBy (M.sizes m.old) (M.domain m.old) (M.front m.old) (M.front m.new) c) }
+{
+    m.perform(c)
+}
+
+/// Empties the registers that the calls use between, as far as that is possible at once.
+pub fn clear<M: Direct>(m: &mut M)
+    ensures sizes { M.sizes m.new ≡ M.sizes m.old }
+    ensures domain { M.domain m.new ≡ M.domain m.old }
+    ensures heap { M.heap m.new ≡ M.heap m.old }
+    ensures labels { M.labels_left m.new ≡ M.labels_left m.old }
+    ensures room { M.ephes_room m.old ≤ M.ephes_room m.new }
+    ensures passes { Passes (M.sizes m.old) (M.domain m.old) (M.front m.old) (M.front m.new) }
+    ensures quiet { OwnQuiet (M.sizes m.old) (M.domain m.old) (M.front m.old) (M.front m.new) }
+{
+    let _eight = step(m, Command::Forget { dst: 8 });
+    let _nine = step(m, Command::Forget { dst: 9 });
+    let _ten = step(m, Command::Forget { dst: 10 });
+    let _eleven = step(m, Command::Forget { dst: 11 });
+}
+
+/// Makes the last command of a call, which reads into a register or empties it, where it isn't put off. Registers 8 to 11 are
+/// emptied then, as far as that is possible at once.
+pub fn finish<M: Direct>(m: &mut M, c: Command) -> Option<Reply>
+    requires fits { IsMapCommand c }
+    requires last { IsLast c }
+    ensures sizes { M.sizes m.new ≡ M.sizes m.old }
+    ensures domain { M.domain m.new ≡ M.domain m.old }
+    ensures heap { M.heap m.new ≡ M.heap m.old }
+    ensures labels { M.labels_left m.new ≡ M.labels_left m.old }
+    ensures room { M.ephes_room m.old ≤ M.ephes_room m.new }
+    ensures stopped { result ≡ None → Passes (M.sizes m.old) (M.domain m.old) (M.front m.old) (M.front m.new) }
+    ensures grows { IsPrefix (M.front m.old) (M.front m.new) }
+    ensures given { refusals_by (M.domain m.old) (M.front m.new) ≡ refusals_by (M.domain m.old) (M.front m.old) }
+    ensures granted { IfSome result (λ r. full_of r ≡ 0) }
+    ensures written { WritesAtMost (M.domain m.old) (M.front m.old) (M.front m.new) (writes c) }
+    ensures quiet { OwnQuiet (M.sizes m.old) (M.domain m.old) (M.front m.old) (M.front m.new) }
+    ensures ends { IfSome result (EndsBy (M.sizes m.old) (M.domain m.old) (M.front m.old) (M.front m.new) c) }
+{
+    let reply = m.perform(c)?;
+    clear(m);
+    Some(reply)
+}
