@@ -10,7 +10,7 @@ use Rattle.camlheap_run.specs.declared.reading.NoScript.TheVariants.{ReadFault a
 use Rattle.camlheap_run.specs.declared.status.Status.{Status}
 use Rattle.camlheap_run.specs.declared.status.Status.TheVariants.{Script, Memory}
 use Rattle.camlheap_run.specs.Outcome.{IsDoneOrMemory, IsEither, read_status}
-use Rattle.camlheap_run.specs.Reading.{IsFirst, ReadsFirstFault, TellsFirst, first_table_fault, most_read}
+use Rattle.camlheap_run.specs.Reading.{IsFirst, OneOrMore, ReadsFirstFault, TellsFirst, first_table_fault, most_read}
 use Rattle.camlheap_run.proofs.ReadingLemmas.{told_fault}
 
 -- the test for one domain
@@ -23,6 +23,10 @@ is_more n other = by (n == 1) refl
     by : (b : Bool) → (n == 1) ≡ b → (n == 1) ≡ false
     by true e = absurd (other (grind (arith, nat_tests, e)))
     by false e = e
+
+-- what is so of several domains is so where there isn't one
+pub of_several : (n : ℕ) (One More : Type 0) → n ≢ 1 → More → OneOrMore (n == 1) One More
+of_several n One More other x = subst (λ (b : Bool). OneOrMore b One More) (sym (is_more n other)) x
 
 -- the first fault of a text for one domain, and for several
 fault_of_one : (n : ℕ) (bytes : List ℕ) → n ≡ 1 → first_table_fault n bytes ≡ table_fault bytes

@@ -1,7 +1,7 @@
 use Rattle.table_text.specs.Faults.{first_fault}
 use Rattle.table_text.specs.Sections.Faults.{first_sections_fault}
 use Rattle.camlheap_run.proofs.ReadingLemmas.{tells_more, tells_one}
-use Rattle.camlheap_run.proofs.SourceLemmas.{done_or_memory, either_refused, is_more, is_one, read_more, read_one, refused_status, told_more, told_one}
+use Rattle.camlheap_run.proofs.SourceLemmas.{done_or_memory, either_refused, is_more, is_one, of_several, read_more, read_one, refused_status, told_more, told_one}
 use Rattle.camlheap_run.proofs.source.run_table_source.Goals as goal
 
 pub returns-in-Ok-clause-refused : goal.returns-in-Ok-clause-refused
@@ -21,6 +21,14 @@ pub returns-in-Err-clause-refused : goal.returns-in-Err-clause-refused
 returns-in-Err-clause-refused g c = λ f told sure.
     let first = told_one c.args.sizes.now.domains _ f c.if-sizes-eq1.true told in
     either_refused first_fault _ _ c.in-Err.why c.nothing_read.result f c.nothing_read.ensures (λ e. sure (c.in-Err.ensures.fault (cc e))) (λ h e. c.in-Err.ensures.refused h (cc e)) first
+
+pub returns-in-Ok-sections_of-clause-done : goal.returns-in-Ok-sections_of-clause-done
+returns-in-Ok-sections_of-clause-done g c = λ ended is.
+    of_several c.args.sizes.now.domains _ _ c.if-sizes-eq1.false (record { text = c.in-Ok-sections_of.text; reads = c.in-Ok-sections_of.ensures.text; does = c.run_together.ensures.done ended is })
+
+pub returns-in-Ok-sections_of-clause-cut : goal.returns-in-Ok-sections_of-clause-cut
+returns-in-Ok-sections_of-clause-cut g c = λ ended is.
+    of_several c.args.sizes.now.domains _ _ c.if-sizes-eq1.false (record { text = c.in-Ok-sections_of.text; reads = c.in-Ok-sections_of.ensures.text; does = c.run_together.ensures.cut ended is })
 
 pub returns-in-Ok-sections_of-clause-refused : goal.returns-in-Ok-sections_of-clause-refused
 returns-in-Ok-sections_of-clause-refused g c = λ f told sure. let given = c.in-Ok-sections_of.ensures.only_texts f (told_more c.args.sizes.now.domains _ f c.if-sizes-eq1.false told) in cc given
