@@ -33,4 +33,24 @@ let () =
   assert (match perform seats.(1) Full_major with Live _ -> true | _ -> false);
   resume seats.(0);
   assert (refusal (fun () -> resume seats.(0)) = Some Not_resting);
-  assert (refusal (fun () -> perform seat Poll) = Some Closed)
+  assert (refusal (fun () -> perform seat Poll) = Some Closed);
+  let seat = (start { config with ephes = 300 }).(0) in
+  let put_int value = ignore (perform seat (Put_int { dst = 2; value })) in
+  assert (match Weak_map.make seat ~dst:7 with Block _ -> true | _ -> false);
+  ignore (perform seat (Alloc { dst = 6; tag = 0; fields = 100 }));
+  for index = 0 to 99 do
+    ignore (perform seat (Alloc { dst = 1; tag = 0; fields = 1 }));
+    ignore (perform seat (Store { block = 6; index; item = 1 }));
+    put_int index;
+    assert (Weak_map.replace seat ~map:7 ~key:1 ~item:2 = Done)
+  done;
+  ignore (perform seat Full_major);
+  for index = 0 to 99 do
+    ignore (perform seat (Load { dst = 1; block = 6; index }));
+    assert (Weak_map.find seat ~map:7 ~key:1 ~dst:3 = Int index);
+    assert (Weak_map.remove seat ~map:7 ~key:1 = Done);
+    assert (Weak_map.remove seat ~map:7 ~key:1 = Empty && Weak_map.find seat ~map:7 ~key:1 ~dst:3 = Empty)
+  done;
+  assert (Weak_map.find seat ~map:7 ~key:2 ~dst:3 = Bad_type && Weak_map.replace seat ~map:7 ~key:2 ~item:1 = Bad_type);
+  assert (refusal (fun () -> Weak_map.find seat ~map:7 ~key:1 ~dst:8) = Some No_register);
+  assert (refusal (fun () -> Weak_map.make seat ~dst:(-1)) = Some No_register)

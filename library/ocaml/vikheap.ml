@@ -13,6 +13,10 @@ external raw_run : seat -> told = "vikheap_run"
 external raw_show : seat -> int -> told = "vikheap_show"
 external raw_ran : seat -> int -> told = "vikheap_ran"
 external stats : seat -> stats = "vikheap_stats"
+external raw_map_make : seat -> int -> told = "vikheap_map_make"
+external raw_map_get : seat -> int -> int -> int -> told = "vikheap_map_get"
+external raw_map_put : seat -> int -> int -> int -> told = "vikheap_map_put"
+external raw_map_take : seat -> int -> int -> told = "vikheap_map_take"
 external raw_turn : seat -> int = "vikheap_turn"
 external raw_close : seat -> int = "vikheap_close"
 external raw_rest : seat -> int = "vikheap_rest"
@@ -87,6 +91,26 @@ let ran seat =
     if told.code = 0 then reply_of told :: from (place + 1) else []
   in
   from 0
+
+module Weak_map = struct
+  (* Asks a call anew until it is made. Where turns don't help, collections make the room that an allocation lacks. *)
+  let ask ?(pause = ignore) seat call =
+    let rec go asked =
+      let told = call () in
+      if told.code <> again then answered told
+      else (
+        if asked mod 128 = 0 then ignore (perform ~pause seat Full_major)
+        else if asked mod 32 = 0 then ignore (perform ~pause seat Minor)
+        else if raw_turn seat = waiting then wait pause seat;
+        go (asked + 1))
+    in
+    go 1
+
+  let make ?pause seat ~dst = ask ?pause seat (fun () -> raw_map_make seat dst)
+  let find ?pause seat ~map ~key ~dst = ask ?pause seat (fun () -> raw_map_get seat dst map key)
+  let replace ?pause seat ~map ~key ~item = ask ?pause seat (fun () -> raw_map_put seat map key item)
+  let remove ?pause seat ~map ~key = ask ?pause seat (fun () -> raw_map_take seat map key)
+end
 
 let turn seat = raw_turn seat = ended
 

@@ -23,6 +23,23 @@ val ran : seat -> reply list
 
 val stats : seat -> stats
 
+(** Weak maps, each in a register: a map keeps neither its keys nor, for a key that nothing else leads to, what the key is bound
+    to. It is a block: seats share one through a field, and use it by these calls alone. Registers are below 8; registers 8 to 11
+    are used between. A call may collect where it lacks room, so ask what has [ran] before. *)
+module Weak_map : sig
+  (** A new map into a register: its block, or [Full]. *)
+  val make : ?pause:(unit -> unit) -> seat -> dst:register -> reply
+
+  (** What the key is bound to, into [dst]: [Int] or [Block]; [Empty] where it isn't, and [Bad_type] where it is no block. *)
+  val find : ?pause:(unit -> unit) -> seat -> map:register -> key:register -> dst:register -> reply
+
+  (** Binds the key to what [item] holds: [Done]; [Full] where there is no room; or [Bad_type]. *)
+  val replace : ?pause:(unit -> unit) -> seat -> map:register -> key:register -> item:register -> reply
+
+  (** Takes out what the key is bound to: [Done]; [Empty] where it isn't; or [Bad_type]. *)
+  val remove : ?pause:(unit -> unit) -> seat -> map:register -> key:register -> reply
+end
+
 (** One turn, for whoever has no command now. Answers whether the traces of all seats have ended. *)
 val turn : seat -> bool
 

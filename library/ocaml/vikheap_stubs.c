@@ -79,6 +79,33 @@ value vikheap_ran(value seat, value place) {
   return told(code, &reply);
 }
 
+/* A register as C has it: one that isn't below 8 is refused. */
+static uint8_t low(value reg) { return fits(reg, 8) ? Long_val(reg) : 255; }
+
+value vikheap_map_make(value seat, value dst) {
+  camlheap_reply reply = {0};
+  uint32_t code = camlheap_map_make(domain_of(seat), low(dst), &reply);
+  return told(code, &reply);
+}
+
+value vikheap_map_get(value seat, value dst, value map, value key) {
+  camlheap_reply reply = {0};
+  uint32_t code = camlheap_map_get(domain_of(seat), low(dst), low(map), low(key), &reply);
+  return told(code, &reply);
+}
+
+value vikheap_map_put(value seat, value map, value key, value item) {
+  camlheap_reply reply = {0};
+  uint32_t code = camlheap_map_put(domain_of(seat), low(map), low(key), low(item), &reply);
+  return told(code, &reply);
+}
+
+value vikheap_map_take(value seat, value map, value key) {
+  camlheap_reply reply = {0};
+  uint32_t code = camlheap_map_take(domain_of(seat), low(map), low(key), &reply);
+  return told(code, &reply);
+}
+
 value vikheap_stats(value seat) {
   camlheap_counts c = {0};
   camlheap_stats(domain_of(seat), &c);

@@ -168,6 +168,9 @@ def _library():
     library.camlheap_show.argtypes = [domain, U8, reply]
     library.camlheap_stats.argtypes = [domain, ctypes.POINTER(_Counts)]
     library.camlheap_why.argtypes = [domain, U32, U32, U32, ctypes.POINTER(_Way), ctypes.POINTER(U16), SIZE]
+    library.camlheap_map_make.argtypes = [domain, U8, reply]
+    library.camlheap_map_take.argtypes = [domain, U8, U8, reply]
+    library.camlheap_map_get.argtypes = library.camlheap_map_put.argtypes = [domain, U8, U8, U8, reply]
     library.camlheap_another_bed.argtypes = library.camlheap_rest.argtypes = library.camlheap_resume.argtypes = [domain, domain]
     for it in ("turn", "close", "free", "first_bed", "attend", "free_bed"):
         getattr(library, f"camlheap_{it}").argtypes = [domain]
@@ -177,6 +180,28 @@ def _library():
 
 def _fits(number, room):
     return isinstance(number, int) and room(number).value == number
+
+
+class WeakMap:
+    """A weak map in a register of a domain, which `Domain.make_map` makes and `Domain.map` finds. It keeps neither its keys nor, for a key
+    that nothing else leads to, what the key is bound to. It is a block: domains share one through a field, and use it by these calls
+    alone. Keys and data are in registers below 8; registers 8 to 11 are used between. A call waits for other domains in a pause, and
+    may collect where it lacks room: ask what has `ran` before."""
+
+    def __init__(self, domain, register):
+        self._domain, self.register = domain, register
+
+    def get(self, dst, key):
+        """What the key in a register is bound to, into another: `int` or `blk`; `none` where it isn't, and `type` where it is no block."""
+        return self._domain._ask("get", dst, self.register, key)
+
+    def put(self, key, item):
+        """Binds the key in a register to what another holds: `ok`; `full` where there is no room; or `type`."""
+        return self._domain._ask("put", self.register, key, item)
+
+    def take(self, key):
+        """Takes out what the key in a register is bound to: `ok`; `none` where it isn't; or `type`."""
+        return self._domain._ask("take", self.register, key)
 
 
 class Domain:
@@ -205,6 +230,27 @@ class Domain:
                 self._wait()
             told = self._library.camlheap_run(self._raw, 64, reply)
         return _reply(reply) if told == DONE else _refuse(told)
+
+    def _ask(self, call, *registers):
+        """Asks a call on a map anew until it is made. Where turns don't help, collections make the room that an allocation lacks."""
+        if not all(_fits(it, U8) for it in registers):
+            raise NoRegister(23)
+        asked, reply = 0, _Reply()
+        while (told := getattr(self._library, f"camlheap_map_{call}")(self._raw, *registers, reply)) == AGAIN:
+            asked += 1
+            if asked % 32 == 0:
+                self.perform("minor" if asked % 128 else "full_major")
+            elif self._library.camlheap_turn(self._raw) == WAITING:
+                self._wait()
+        return _reply(reply) if told == DONE else _refuse(told)
+
+    def make_map(self, dst):
+        """A new `WeakMap` into a register below 8, or None where there is no room."""
+        return WeakMap(self, dst) if self._ask("make", dst).kind == "blk" else None
+
+    def map(self, register):
+        """The weak map in a register below 8, which this domain or another has made."""
+        return WeakMap(self, register)
 
     def show(self, register):
         """What a register holds: `int`, `blk` or `none`."""

@@ -14,6 +14,37 @@ def refusal(call, *words):
     return None
 
 
+def maps():
+    """Keys are bound, found, bound anew and taken out, and what a key is bound to goes with it."""
+    (domain,) = camlheap.start(ephes=300)
+    held = domain.make_map(7)
+    domain.perform("alloc", 6, 0, 100)
+    for key in range(100):
+        domain.perform("alloc", 1, 0, 1)
+        domain.perform("store", 6, key, 1)
+        domain.perform("int", 2, key)
+        assert held.put(1, 2) == Reply("ok")
+    domain.perform("full_major")
+    for key in range(100):
+        domain.perform("load", 1, 6, key)
+        assert domain.map(7).get(3, 1) == Reply("int", value=key) == domain.show(3)
+        assert held.take(1) == Reply("ok") and held.take(1) == held.get(3, 1) == Reply("none")
+    assert held.get(3, 2) == held.put(2, 1) == held.take(2) == Reply("type")
+    assert refusal(held.get, 8, 1) == refusal(held.get, 3, 256) == refusal(domain.make_map, -1) == camlheap.NoRegister
+    domain.perform("alloc", 2, 0, 1)
+    domain.perform("finalise_last", 2, 9)
+    assert held.put(1, 2) == Reply("ok")
+    for registers in [(2,), (1, 6)]:
+        domain.perform("poll")
+        assert domain.ran() == []
+        for it in registers:
+            domain.perform("drop", it)
+        domain.perform("full_major")
+    domain.perform("poll")
+    assert domain.ran() == [Reply("last", number=9)]
+    domain.finish()
+
+
 def main():
     for place, numbers in enumerate([(9,), (1, 5000), (1, 4096, 19), (1, 4096, 64, 200001), (1, 4096, 64, 1, 2**32)]):
         try:
@@ -57,6 +88,7 @@ def main():
     while not first.turn() & second.turn():
         pass
     first.free(), second.free()
+    maps()
     typed = iter(["", "alloc 99 0 1", "nonsense", "int 1 x", "stats", "help", *[""] * 12])
     camlheap.tour(lambda offered: next(typed))
     print("ok")

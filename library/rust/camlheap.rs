@@ -254,6 +254,34 @@ impl Seat {
         found
     }
 
+    /// A new weak map into a register below 8: its block, or [`Reply::Full`].
+    pub fn make_map(&mut self, dst: Register) -> Result<Reply, Refused> {
+        self.ask(|domain, reply| unsafe { sys::camlheap_map_make(domain, dst, reply) })
+    }
+
+    /// The weak map in a register below 8, which this seat or another has made.
+    pub fn map(&mut self, register: Register) -> WeakMap<'_> {
+        WeakMap { seat: self, register }
+    }
+
+    // Asks a call on a map anew until it is made. Where turns don't help, collections make the room that an allocation lacks.
+    fn ask(&mut self, call: impl Fn(*mut sys::Domain, *mut sys::Reply) -> u32) -> Result<Reply, Refused> {
+        const TURNS: usize = 32;
+        let mut reply = sys::Reply::default();
+        for asked in 1.. {
+            let told = call(&mut self.raw, &mut reply);
+            if told != sys::AGAIN {
+                return answered(told, &reply);
+            }
+            match asked % (4 * TURNS) {
+                0 => _ = self.perform(Command::FullMajor)?,
+                it if it % TURNS == 0 => _ = self.perform(Command::Minor)?,
+                _ => _ = self.turn(),
+            }
+        }
+        unreachable!("a call is asked anew without end")
+    }
+
     /// What the domain counts.
     pub fn stats(&mut self) -> Stats {
         let mut stats = Stats::default();
@@ -315,6 +343,38 @@ impl Seat {
         }
         while !self.turn() {}
         Ok(())
+    }
+}
+
+/// A weak map, which keeps neither its keys nor, for a key that nothing else leads to, what the key is bound to. It is a block:
+/// seats share one through a field, and use it by these calls alone. Keys and data are in registers below 8; registers 8 to 11
+/// are used between. A call waits for the other seats in a pause, and may collect where it lacks room, so ask what has
+/// [run](Seat::ran) before.
+pub struct WeakMap<'a> {
+    seat: &'a mut Seat,
+    register: Register,
+}
+
+impl WeakMap<'_> {
+    /// What the key in a register is bound to, into another: [`Reply::Int`] or [`Reply::Block`]. [`Reply::Empty`] where it isn't
+    /// bound, and [`Reply::BadType`] where the register holds no block.
+    pub fn get(&mut self, dst: Register, key: Register) -> Result<Reply, Refused> {
+        let map = self.register;
+        self.seat.ask(|domain, reply| unsafe { sys::camlheap_map_get(domain, dst, map, key, reply) })
+    }
+
+    /// Binds the key in a register to what another holds: [`Reply::Done`]. [`Reply::Full`] where there is no room, and
+    /// [`Reply::BadType`] where the first holds no block or the other nothing.
+    pub fn insert(&mut self, key: Register, item: Register) -> Result<Reply, Refused> {
+        let map = self.register;
+        self.seat.ask(|domain, reply| unsafe { sys::camlheap_map_put(domain, map, key, item, reply) })
+    }
+
+    /// Takes out what the key in a register is bound to: [`Reply::Done`]. [`Reply::Empty`] where it isn't bound, and
+    /// [`Reply::BadType`] where the register holds no block.
+    pub fn remove(&mut self, key: Register) -> Result<Reply, Refused> {
+        let map = self.register;
+        self.seat.ask(|domain, reply| unsafe { sys::camlheap_map_take(domain, map, key, reply) })
     }
 }
 

@@ -63,6 +63,10 @@ unsafe extern "C" {
     pub fn camlheap_why(
         domain: *mut Domain, maker: u32, serial: u32, most: u32, way: *mut Way, fields: *mut u16, room: usize,
     ) -> u32;
+    pub fn camlheap_map_make(domain: *mut Domain, dst: u8, reply: *mut Reply) -> u32;
+    pub fn camlheap_map_get(domain: *mut Domain, dst: u8, map: u8, key: u8, reply: *mut Reply) -> u32;
+    pub fn camlheap_map_put(domain: *mut Domain, map: u8, key: u8, item: u8, reply: *mut Reply) -> u32;
+    pub fn camlheap_map_take(domain: *mut Domain, map: u8, key: u8, reply: *mut Reply) -> u32;
     pub fn camlheap_close(domain: *mut Domain) -> u32;
     pub fn camlheap_free(domain: *mut Domain);
     pub fn camlheap_first_bed(bed: *mut Bed) -> u32;

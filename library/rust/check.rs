@@ -63,8 +63,57 @@ fn asks() -> Result<(), Refused> {
     seat.finish()
 }
 
+// Many keys are bound, found, bound anew and taken out.
+fn maps() -> Result<(), Refused> {
+    const KEYS: u16 = 100;
+    let mut seat = start(Config { ephes: 1000, ..CONFIG })?.remove(0);
+    assert!(matches!(seat.make_map(7)?, Reply::Block(_)));
+    seat.perform(Command::Alloc { dst: 6, tag: 0, fields: KEYS })?;
+    for key in 0..KEYS {
+        seat.perform(Command::Alloc { dst: 1, tag: 0, fields: 1 })?;
+        seat.perform(Command::Store { block: 6, index: key, item: 1 })?;
+        seat.perform(Command::PutInt { dst: 2, value: key.into() })?;
+        assert_eq!(seat.map(7).insert(1, 2)?, Reply::Done);
+    }
+    seat.perform(Command::FullMajor)?;
+    for key in 0..KEYS {
+        seat.perform(Command::Load { dst: 1, block: 6, index: key })?;
+        let mut map = seat.map(7);
+        assert_eq!(map.get(3, 1)?, Reply::Int(key.into()));
+        assert_eq!(map.remove(1)?, Reply::Done);
+        assert_eq!((map.remove(1)?, map.get(3, 1)?), (Reply::Empty, Reply::Empty));
+        assert_eq!(map.insert(1, 6)?, Reply::Done);
+        assert!(matches!(map.get(3, 1)?, Reply::Block(_)));
+    }
+    let mut map = seat.map(7);
+    assert_eq!((map.get(3, 2)?, map.insert(2, 1)?, map.remove(2)?), (Reply::BadType, Reply::BadType, Reply::BadType));
+    assert_eq!((map.get(8, 1), seat.map(8).get(3, 1)), (Err(Refused::NoRegister), Err(Refused::NoRegister)));
+    seat.finish()
+}
+
+// What a key is bound to goes with it, and not before.
+fn binds_weakly() -> Result<(), Refused> {
+    let mut seat = start(Config { ephes: 8, ..CONFIG })?.remove(0);
+    seat.make_map(7)?;
+    seat.perform(Command::Alloc { dst: 1, tag: 0, fields: 1 })?;
+    seat.perform(Command::Alloc { dst: 2, tag: 0, fields: 1 })?;
+    seat.perform(Command::FinaliseLast { item: 2, number: 9 })?;
+    assert_eq!(seat.map(7).insert(1, 2)?, Reply::Done);
+    for register in [2, 1] {
+        seat.perform(Command::Poll)?;
+        assert_eq!(seat.ran(), []);
+        seat.perform(Command::Forget { dst: register })?;
+        seat.perform(Command::FullMajor)?;
+    }
+    seat.perform(Command::Poll)?;
+    assert_eq!(seat.ran(), [Reply::Last { number: 9 }]);
+    seat.finish()
+}
+
 fn main() -> Result<(), Refused> {
     starts();
+    maps()?;
+    binds_weakly()?;
     asks()?;
     rests()?;
     performs()
