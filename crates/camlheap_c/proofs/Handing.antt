@@ -6,7 +6,7 @@ use Rattle.heap_rule.specs.declared.config.Config.{Config}
 use Rattle.heap_rule.specs.Limits.{first_of, first_outside, most_room, sizes_in}
 use Rattle.heap_rule.specs.Opening.{opening_tokens}
 use Rattle.heap_rule.specs.Token.{SharedHeap}
-use Rattle.run_open.specs.Opening.{opened}
+use Rattle.run_turns.specs.Singly.Opening.{opened}
 use Rattle.run_seats.specs.Shared.Sharing.{SharedView, shared_by}
 use Rattle.camlheap_c.specs.declared.handle.CamlheapDomain.{CamlheapDomain}
 use Rattle.camlheap_c.specs.Exported.{Fills, IsHandleOf}

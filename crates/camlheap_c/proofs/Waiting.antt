@@ -4,16 +4,16 @@ use Rattle.model_core.specs.declared.command.Command as model
 use Rattle.model_core.specs.declared.reply.Reply.{Reply}
 use Rattle.heap_rule.specs.declared.view.DomainView.{DomainView}
 use Rattle.heap_rule.specs.Token.{SharedHeap}
-use Rattle.run_open.specs.declared.turning.Came.{Came}
-use Rattle.run_open.specs.declared.turning.Came.TheVariants as came
-use Rattle.run_open.specs.Driving.{Answered, Awaits}
+use Rattle.run_turns.specs.declared.singly.turning.Came.{Came}
+use Rattle.run_turns.specs.declared.singly.turning.Came.TheVariants as came
+use Rattle.run_turns.specs.Singly.Driving.{Answered, Awaits}
 use Rattle.run_seats.specs.Shared.Sharing.{SharedView}
 use Rattle.camlheap_c.specs.declared.crossing.CamlheapReply.{CamlheapReply}
 use Rattle.camlheap_c.specs.Exported.{GoesOn}
 use Rattle.camlheap_c.specs.Forms.{came_form, refused_form, reply_form}
 use Rattle.run_seats.specs.declared.shared.shared.Refused.{Refused}
 use Rattle.run_seats.specs.declared.shared.shared.Refused.TheVariants.{Closed, Busy, Unfit}
-use Rattle.run_open.specs.declared.refusing.Refusal.TheVariants as lacks
+use Rattle.run_turns.specs.declared.singly.refusing.Refusal.TheVariants as lacks
 
 -- a turn's answer isn't that of a command that is made
 pub not_done : (x : Came) → came_form x ≡ 0 → ⊥

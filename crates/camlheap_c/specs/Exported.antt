@@ -7,8 +7,8 @@ use Rattle.heap_rule.specs.declared.view.DomainView.{DomainView}
 use Rattle.heap_rule.specs.Limits.{first_outside, sizes_in}
 use Rattle.heap_rule.specs.Token.{SharedHeap}
 use Rattle.run_turns.specs.Runs.{HasLooked, IsUnanswered, MaySubmit, Stretches, answer_of}
-use Rattle.run_open.specs.Driving.{Answered, Awaits}
-use Rattle.run_open.specs.Opening.{opened_runs}
+use Rattle.run_turns.specs.Singly.Driving.{Answered, Awaits}
+use Rattle.run_turns.specs.Singly.Opening.{opened_runs}
 use Rattle.run_seats.specs.declared.shared.shared.Refused.{Refused}
 use Rattle.run_seats.specs.Shared.Sharing.{SharedView, IsRefusedBy, IsUnclosedBy, shared_by, shown_by, with_command}
 use Rattle.camlheap_c.specs.declared.crossing.CamlheapCommand.{CamlheapCommand}

@@ -4,10 +4,10 @@ use Rattle.model_core.specs.declared.command.Command.{Command}
 use Rattle.model_core.specs.declared.command.Command.TheVariants as op
 use Rattle.model_core.specs.declared.reply.Reply.{Reply}
 use Rattle.model_core.specs.declared.reply.Reply.TheVariants.{Done, Int, Block, BadType, BadIndex, Empty, Yes, No, Full, Live, Fin, Last}
-use Rattle.run_open.specs.declared.counting.Stats.{Stats}
-use Rattle.run_open.specs.declared.turning.Came.{Came}
-use Rattle.run_open.specs.declared.turning.Came.TheVariants as came
-use Rattle.run_open.specs.declared.refusing.Refusal.TheVariants as lacks
+use Rattle.run_turns.specs.declared.singly.counting.Stats.{Stats}
+use Rattle.run_turns.specs.declared.singly.turning.Came.{Came}
+use Rattle.run_turns.specs.declared.singly.turning.Came.TheVariants as came
+use Rattle.run_turns.specs.declared.singly.refusing.Refusal.TheVariants as lacks
 use Rattle.run_seats.specs.declared.shared.shared.Refused.{Refused}
 use Rattle.run_seats.specs.declared.shared.shared.Refused.TheVariants.{Closed, Busy, Unfit}
 use Rattle.camlheap_c.specs.declared.crossing.CamlheapCommand.{CamlheapCommand}

@@ -2,8 +2,8 @@
 ghost use Rattle.std.specs.Prelude.{◌≡◌, ◌+◌, ◌<◌};
 ghost use Rattle.camlheap_c.specs.Forms.{came_form, refused_form};
 
-use run_open::{Came, Refusal};
 use run_seats::shared::Refused;
+use run_turns::singly::{Came, Refusal};
 
 pub(crate) const DONE: u32 = 0;
 

@@ -5,7 +5,7 @@ ghost use Rattle.camlheap_c.specs.Forms.{command_as, plain as plain_form, reply_
 use model_core::command::Command;
 use model_core::label::Label;
 use model_core::reply::Reply;
-use run_open::Stats;
+use run_turns::singly::Stats;
 
 /// How large a heap is.
 #[repr(C)]

@@ -1,7 +1,7 @@
 //! What a domain tells, as C asks it.
 ghost use Rattle.std.specs.Prelude.{◌≡◌, ◌≢◌, ◌↔◌, true, false};
 ghost use Rattle.run_seats.specs.Shared.Sharing.{MayClose, closed_of};
-ghost use Rattle.run_open.specs.Counting.{stats_of};
+ghost use Rattle.run_turns.specs.Singly.Counting.{stats_of};
 ghost use Rattle.camlheap_c.specs.Exported.{RefusesClose, ShowsRegister, Tells, TellsRan};
 ghost use Rattle.camlheap_c.specs.Forms.{stats_form};
 

@@ -12,7 +12,7 @@ use Rattle.heap_rule.specs.Limits.{first_outside, sizes_in}
 use Rattle.heap_rule.proofs.Sizes.{within}
 use Rattle.run_turns.specs.Handed.{PerformedOn}
 use Rattle.run_turns.proofs.Handed.{performed_commands}
-use Rattle.run_open.proofs.Finalising.{finalised_on}
+use Rattle.run_turns.proofs.OfSingly.Finalising.{finalised_on}
 use Rattle.run_seats.specs.Seating.{AllSeatsOf, GoesAlong, IsSeatOf, SeatView, SeatsView, fresh_seats}
 use Rattle.run_seats.specs.Stopping.{Stops, StopsEach}
 use Rattle.example_handles.specs.declared.resource.Resource.{Resource}

@@ -6,8 +6,8 @@ use Rattle.std.specs.List.{AllByRecursion}
 use Rattle.heap_rule.specs.declared.config.Config.{Config}
 use Rattle.heap_rule.specs.Opening.{opening_token, opening_tokens}
 use Rattle.heap_rule.specs.Token.{SharedHeap}
-use Rattle.run_open.specs.Counting.{no_stats}
-use Rattle.run_open.specs.Opening.{opened}
+use Rattle.run_turns.specs.Singly.Counting.{no_stats}
+use Rattle.run_turns.specs.Singly.Opening.{opened}
 use Rattle.run_seats.specs.Shared.Idling.{IsIdleIn}
 use Rattle.run_seats.specs.Seating.{SeatsView, fresh_seats, seat_with}
 

@@ -14,8 +14,8 @@ use Rattle.run_turns.specs.Tries.{registrations_of}
 use Rattle.run_turns.proofs.Handed.{finalised_commands, finalised_replies, performed_commands, performed_replies}
 use Rattle.run_seats.specs.Pool.Keeping.{KeeperView}
 use Rattle.run_seats.specs.declared.idle.Idle.{Idle}
-use Rattle.run_open.specs.Counting.{stats_of}
-use Rattle.run_open.specs.Driving.{Answered}
+use Rattle.run_turns.specs.Singly.Counting.{stats_of}
+use Rattle.run_turns.specs.Singly.Driving.{Answered}
 use Rattle.run_seats.specs.Shared.Idling.{IsIdleIn, StaysIdle, finals_of}
 use Rattle.run_seats.specs.Idling.{KeepsHeap}
 use Rattle.run_seats.specs.Seating.{GoesAlong, IsResting, IsSeat, IsSeatOf, SeatView, SeatsView, heap_of, seat_of, seat_with}

@@ -14,9 +14,9 @@ use Rattle.heap_rule.specs.Token.{SharedHeap}
 use Rattle.run_turns.specs.declared.supply.Supply.TheVariants.{Open}
 use Rattle.run_turns.specs.Runs.{RunView}
 use Rattle.run_turns.specs.Handed.{Finalised, PerformedOn}
-use Rattle.run_open.specs.Counting.{no_stats, stats_of}
-use Rattle.run_open.specs.Refusing.{Takes}
-use Rattle.run_open.specs.declared.counting.Stats.{Stats}
+use Rattle.run_turns.specs.Singly.Counting.{no_stats, stats_of}
+use Rattle.run_turns.specs.Singly.Refusing.{Takes}
+use Rattle.run_turns.specs.declared.singly.counting.Stats.{Stats}
 use Rattle.run_seats.specs.Pool.Keeping.{KeeperView}
 use Rattle.run_seats.specs.declared.idle.Idle.{Idle}
 use Rattle.run_seats.specs.Shared.Idling.{finals_of}

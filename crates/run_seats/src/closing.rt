@@ -6,9 +6,9 @@ ghost use Rattle.run_seats.specs.Stopping.{AreClosedFrom, IsClosedIn, IsOver, St
 
 use crate::seat::Seat;
 use heap_rule::{Domain, Heap};
-use run_open::{Came, turn_below};
 use run_threads::{Trace, Went};
 use run_turns::DomainRun;
+use run_turns::singly::{Came, turn_below};
 
 /// The run of a seat that gets no more command.
 #[derive(Drop)]

@@ -4,8 +4,8 @@ ghost use Rattle.run_seats.specs.Shared.Idling.{IsIdleIn, StaysIdle, same_idle, 
 use crate::pool::Restful;
 use crate::shared::attend;
 use heap_rule::Heap;
-use run_open::Came;
 use run_turns::DomainRun;
+use run_turns::singly::Came;
 
 /// The run of a seat that rests. It takes part in the pauses of the others, and runs its finalisers.
 #[derive(Drop)]

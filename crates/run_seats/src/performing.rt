@@ -2,7 +2,7 @@
 ghost use Rattle.std.specs.Prelude.{◌≡◌};
 ghost use Rattle.heap_rule.specs.Token.{IsIn};
 ghost use Rattle.run_turns.specs.Runs.{MaySubmit};
-ghost use Rattle.run_open.specs.Driving.{Answered};
+ghost use Rattle.run_turns.specs.Singly.Driving.{Answered};
 ghost use Rattle.run_seats.specs.Shared.Idling.{IsIdleIn, StaysIdle};
 ghost use Rattle.run_seats.specs.Idling.{KeepsHeap};
 
@@ -13,9 +13,9 @@ use crossbeam_utils::sync::{EventCount, Key};
 use heap_rule::Heap;
 use model_core::command::Command;
 use model_core::reply::Reply;
-use run_open::{Came, Meanwhile, await_reply, begin};
 use run_threads::Waiter;
 use run_turns::DomainRun;
+use run_turns::singly::{Came, Meanwhile, await_reply, begin};
 use std::sync::Wait;
 
 // How many things rest at most.

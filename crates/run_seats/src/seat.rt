@@ -2,7 +2,7 @@
 ghost use Rattle.std.specs.Prelude.{◌≡◌, ◌↔◌, ◌+◌, ◌-◌, ◌<◌, ◌≤◌, length, None};
 ghost use Rattle.model_core.specs.Counts.Counts.{ephemerons_given, labels_given};
 ghost use Rattle.run_turns.specs.Tries.{registrations_of};
-ghost use Rattle.run_open.specs.Refusing.{IsRefused};
+ghost use Rattle.run_turns.specs.Singly.Refusing.{IsRefused};
 ghost use Rattle.run_seats.specs.Seating.{GoesAlong, IsSameSeat, IsSameUnlabelled, IsSeatOf, MayPerform, PerformsOn, Records, shown_in};
 
 use crate::idle::Idle;
@@ -11,7 +11,7 @@ use crate::pool::Keeper;
 use crate::seats::Seats;
 use model_core::command::Command;
 use model_core::reply::Reply;
-use run_open::{Refusal, Stats, counts, refuses};
+use run_turns::singly::{Refusal, Stats, counts, refuses};
 use run_turns::{DomainRun, show};
 use std::marker::Model;
 use std::sync::Wait;
@@ -26,7 +26,7 @@ pub struct Seat {
 }
 
 impl Model for Seat {
-    ghost use Rattle.run_open.specs.Refusing.{IsRefused};
+    ghost use Rattle.run_turns.specs.Singly.Refusing.{IsRefused};
     ghost use Rattle.run_seats.specs.Seating.{IsSeat, SeatView, seat_with};
 
     ghost Value = { SeatView };
@@ -44,7 +44,7 @@ pub struct Resting {
 }
 
 impl Model for Resting {
-    ghost use Rattle.run_open.specs.Refusing.{IsRefused};
+    ghost use Rattle.run_turns.specs.Singly.Refusing.{IsRefused};
     ghost use Rattle.run_seats.specs.Seating.{IsResting, SeatView, seat_of};
 
     ghost Value = { SeatView };

@@ -17,8 +17,8 @@ use Rattle.run_turns.specs.Runs.{RunView, Appended, GoesOn, IsRun, Stretches, ra
 use Rattle.run_turns.specs.Runs.Stretches.{ByOthers, ByCommand, ByFinaliser, ByEnd, BySection}
 use Rattle.run_turns.proofs.Handed.{finalised_more, finalised_none, finalised_others}
 use Rattle.run_session.proofs.Labels.{made_labels}
-use Rattle.run_open.specs.Driving.{Answered}
-use Rattle.run_open.proofs.Driven.{closed_handed, none_fits}
+use Rattle.run_turns.specs.Singly.Driving.{Answered}
+use Rattle.run_turns.proofs.OfSingly.Driven.{closed_handed, none_fits}
 use Rattle.run_turns.specs.Handed.{PerformedOn}
 use Rattle.run_session.specs.Driving.{CloseAnswers, Closes, IsAlone, Rests}
 use Rattle.model_core.specs.Counts.Counts.{labels_given}

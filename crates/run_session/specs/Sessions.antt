@@ -7,9 +7,9 @@ use Rattle.model_core.specs.History.{replies}
 use Rattle.heap_rule.specs.declared.config.Config.{Config}
 use Rattle.heap_rule.specs.Limits.{first_outside, sizes_in}
 use Rattle.run_turns.specs.Handed.{PerformedOn}
-use Rattle.run_open.specs.Counting.{no_stats}
-use Rattle.run_open.specs.Refusing.{Takes}
-use Rattle.run_open.specs.declared.counting.Stats.{Stats}
+use Rattle.run_turns.specs.Singly.Counting.{no_stats}
+use Rattle.run_turns.specs.Singly.Refusing.{Takes}
+use Rattle.run_turns.specs.declared.singly.counting.Stats.{Stats}
 
 -- a session: the numbers of its heap, the history so far, how many labels were given out, how many more ephemerons and how many more finalisers fit, what the domain counts, and the replies of the finalisers that ran before its last command
 pub record SessionView : Type 0 where

@@ -5,8 +5,8 @@ ghost use Rattle.heap_rule.specs.Token.{IsIn};
 ghost use Rattle.run_session.specs.Driving.{Closes, CloseAnswers, Over};
 
 use heap_rule::Heap;
-use run_open::turn_below;
 use run_turns::DomainRun;
+use run_turns::singly::turn_below;
 use std::sync::Wait;
 
 // One turn of a run that gets no more command. Answers whether its trace has ended.

@@ -1,13 +1,13 @@
 //! The turns by which a command is made.
 ghost use Rattle.heap_rule.specs.Token.{IsIn};
 ghost use Rattle.run_turns.specs.Runs.{MaySubmit};
-ghost use Rattle.run_open.specs.Driving.{Answered};
+ghost use Rattle.run_turns.specs.Singly.Driving.{Answered};
 
 use heap_rule::Heap;
 use model_core::command::Command;
 use model_core::reply::Reply;
-use run_open::{Alone, await_reply, begin};
 use run_turns::DomainRun;
+use run_turns::singly::{Alone, await_reply, begin};
 use std::sync::Wait;
 
 // Makes the next command of a run, and answers the reply.

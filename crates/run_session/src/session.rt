@@ -8,7 +8,7 @@ ghost use Rattle.model_core.specs.History.{Legal, commands};
 ghost use Rattle.heap_rule.specs.Limits.{sizes_in};
 ghost use Rattle.heap_rule.specs.Rule.{state_of};
 ghost use Rattle.run_session.specs.Sessions.{IsFirstOutside, MayPerform, PerformsIn, alone, fresh, replies_of};
-ghost use Rattle.run_open.specs.Refusing.{IsRefused};
+ghost use Rattle.run_turns.specs.Singly.Refusing.{IsRefused};
 ghost use Rattle.run_session.specs.Stopping.{EndsAfter, StopsAfter};
 
 use crate::closing::turn_to_end;
@@ -17,7 +17,7 @@ use gc_mark::Hints;
 use heap_rule::{Config, Domain, Ended, Heap, StartFault};
 use model_core::command::Command;
 use model_core::reply::Reply;
-use run_open::{Refusal, Stats, counts, refuses};
+use run_turns::singly::{Refusal, Stats, counts, refuses};
 use run_turns::{DomainRun, show};
 use std::alloc::Global;
 use std::marker::Model;
@@ -38,7 +38,7 @@ impl Model for Session {
     ghost use Rattle.std.specs.Prelude.{◌≡◌, ◌≤◌, ◌-◌, [], vec_capacity};
     ghost use Rattle.run_session.specs.Driving.{Rests};
     ghost use Rattle.run_session.specs.Sessions.{SessionView};
-    ghost use Rattle.run_open.specs.Counting.{stats_of};
+    ghost use Rattle.run_turns.specs.Singly.Counting.{stats_of};
     ghost use Rattle.step_finalisers.specs.Registering.{count_of};
 
     ghost Value = { SessionView };

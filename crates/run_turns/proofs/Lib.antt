@@ -26,3 +26,4 @@ pub mod Refused
 pub mod MeetingLemmas
 pub mod Passed
 pub mod Bringing
+pub mod OfSingly

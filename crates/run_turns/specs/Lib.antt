@@ -7,3 +7,4 @@ pub mod Driving
 pub mod Kept
 pub mod Handed
 pub mod Meeting
+pub mod Singly

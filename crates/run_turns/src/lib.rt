@@ -16,6 +16,7 @@ mod place;
 mod run;
 mod sections;
 mod showing;
+pub mod singly;
 mod supply;
 mod turned;
 mod turns;

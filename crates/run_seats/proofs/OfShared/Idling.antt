@@ -9,7 +9,7 @@ use Rattle.run_turns.specs.declared.supply.Supply.TheVariants.{Section, Open}
 use Rattle.run_turns.specs.Runs.{Appended, RunView, GoesOn, IsRun, Stretches, ran_with, registrations_in}
 use Rattle.run_turns.specs.Runs.Stretches.{ByOthers, ByCommand, ByFinaliser, ByEnd, BySection}
 use Rattle.run_turns.proofs.Handed.{finalised_more, finalised_none, finalised_others}
-use Rattle.run_open.specs.Driving.{registered}
+use Rattle.run_turns.specs.Singly.Driving.{registered}
 use Rattle.heap_rule.specs.declared.config.Config.{Config}
 use Rattle.model_core.specs.declared.entry.Entry.TheVariants.{Ran}
 use Rattle.model_core.specs.declared.reply.Applied.TheVariants.{Replied}

@@ -10,12 +10,12 @@ use Rattle.run_turns.specs.Runs.{RunView, Takes}
 use Rattle.run_turns.specs.Handed.{Finalised}
 use Rattle.run_turns.proofs.Handed.{finalised_none}
 use Rattle.run_turns.proofs.Taking.{takes_none, takes_on}
-use Rattle.run_open.specs.Driving.{registered}
+use Rattle.run_turns.specs.Singly.Driving.{registered}
 use Rattle.run_seats.specs.Beds.Bedding.{BedView}
 use Rattle.run_seats.specs.declared.shared.bed.NotRested.{NotRested}
 use Rattle.run_seats.specs.declared.shared.bed.NotRested.TheVariants.{Refused, Taken, Blocked}
 use Rattle.run_seats.specs.Shared.Sharing.{IsUnclosedBy, MayClose, SharedView}
-use Rattle.run_open.proofs.Finalising.{finalised_on}
+use Rattle.run_turns.proofs.OfSingly.Finalising.{finalised_on}
 
 -- it is one of this heap's, and waits for its next command
 pub record IsIdleIn (h : SharedHeap) (r : RunView) : Type 0 where

@@ -7,9 +7,9 @@ use Rattle.heap_rule.specs.Token.{SharedHeap}
 use Rattle.run_turns.specs.declared.supply.Supply.TheVariants as supply
 use Rattle.run_turns.specs.declared.supply.Supply.TheVariants.{Open}
 use Rattle.run_turns.specs.Runs.{RunView, shown_in, submitted}
-use Rattle.run_open.specs.Driving.{registered}
-use Rattle.run_open.specs.Opening.{opened_runs}
-use Rattle.run_open.specs.Refusing.{IsRefused}
+use Rattle.run_turns.specs.Singly.Driving.{registered}
+use Rattle.run_turns.specs.Singly.Opening.{opened_runs}
+use Rattle.run_turns.specs.Singly.Refusing.{IsRefused}
 use Rattle.run_seats.specs.declared.shared.shared.Refused.{Refused}
 use Rattle.run_seats.specs.declared.shared.shared.Refused.TheVariants.{Closed, Busy, Unfit}
 

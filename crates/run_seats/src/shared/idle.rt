@@ -7,8 +7,8 @@ ghost use Rattle.run_seats.specs.Shared.Sharing.{MayClose};
 use crate::beds::Restful;
 use crate::shared::shared::SharedRun;
 use heap_rule::Heap;
-use run_open::{Came, turn_below};
 use run_turns::DomainRun;
+use run_turns::singly::{Came, turn_below};
 use std::marker::Model;
 
 /// One turn of a run that has no command to make. It takes part in the pauses of the others, and runs its finalisers.

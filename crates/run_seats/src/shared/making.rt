@@ -8,8 +8,8 @@ ghost use Rattle.run_seats.specs.Shared.Sharing.{ShareOne, shared_by};
 
 use crate::shared::shared::SharedRun;
 use heap_rule::{Config, Heap, StartFault};
-use run_open::start;
 use run_turns::DomainRun;
+use run_turns::singly::start;
 use std::alloc::{AllocError, Global};
 use std::sync::Arc;
 

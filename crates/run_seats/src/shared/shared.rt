@@ -3,8 +3,8 @@ ghost use Rattle.std.specs.Prelude.{◌≡◌, ◌↔◌, ◌≤◌, true, None,
 ghost use Rattle.heap_rule.specs.Limits.{sizes_in};
 ghost use Rattle.heap_rule.specs.Token.{IsIn};
 ghost use Rattle.run_turns.specs.Runs.{GoesOn, HasLooked, IsLastReply, IsUnanswered, MaySubmit, Stretches, answer_of};
-ghost use Rattle.run_open.specs.Counting.{stats_of};
-ghost use Rattle.run_open.specs.Driving.{AnswersAwaited, AwaitAnswers};
+ghost use Rattle.run_turns.specs.Singly.Counting.{stats_of};
+ghost use Rattle.run_turns.specs.Singly.Driving.{AnswersAwaited, AwaitAnswers};
 ghost use Rattle.run_seats.specs.Shared.Idling.{StaysAlong};
 ghost use Rattle.run_seats.specs.Shared.Sharing.{IsRefusedBy, IsUnclosedBy, MayClose, closed_of, shown_by, with_command};
 
@@ -12,7 +12,7 @@ use crate::shared::idle::attend;
 use heap_rule::Heap;
 use model_core::command::Command;
 use model_core::reply::Reply;
-use run_open::{Came, Refusal, Stats, await_turn, begin, counts, refuses, turn_below};
+use run_turns::singly::{Came, Refusal, Stats, await_turn, begin, counts, refuses, turn_below};
 use run_turns::{DomainRun, Supply, show};
 use std::marker::Model;
 use std::sync::Arc;

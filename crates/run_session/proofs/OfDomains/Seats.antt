@@ -32,7 +32,7 @@ use Rattle.heap_rule.specs.Limits.{sizes_in}
 use Rattle.heap_rule.specs.Rule.{state_of}
 use Rattle.heap_rule.specs.Token.{SharedHeap}
 use Rattle.run_seats.specs.Seating.{GoesAlong, SeatView}
-use Rattle.run_open.proofs.Finalising.{finalised_on}
+use Rattle.run_turns.proofs.OfSingly.Finalising.{finalised_on}
 use Rattle.weak_maps.proofs.CountLemmas.{not_refused}
 use Rattle.run_session.specs.Domains.Seated.{IsUnused, Stands}
 use Rattle.run_session.proofs.OfDomains.Labels.{made_labels}

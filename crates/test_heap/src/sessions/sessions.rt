@@ -3,8 +3,8 @@ use crate::sessions::same::same;
 use model_core::command::Command;
 use model_core::label::Label;
 use model_core::reply::Reply;
-use run_open::Refusal;
 use run_session::Session;
+use run_turns::singly::Refusal;
 use std::sync::Wait;
 use std::test::Fail;
 

@@ -1,7 +1,7 @@
 use Rattle.std.proofs.Common.{◌∙◌, Option, sym, subst, arith}
 use Rattle.model_core.specs.declared.reply.Reply.{Reply}
 use Rattle.heap_rule.specs.Token.{SharedHeap}
-use Rattle.run_open.specs.Driving.{AwaitAnswers, Awaits}
+use Rattle.run_turns.specs.Singly.Driving.{AwaitAnswers, Awaits}
 use Rattle.camlheap_c.proofs.driving.call_on.Goals as goal
 
 pub returns-in-Ok-None-clause-called : goal.returns-in-Ok-None-clause-called

@@ -1,5 +1,5 @@
 use Rattle.std.proofs.Common.{◌≡◌, ◌∙◌, sym, subst}
-use Rattle.run_open.specs.Driving.{Awaits}
+use Rattle.run_turns.specs.Singly.Driving.{Awaits}
 use Rattle.run_seats.specs.Shared.Sharing.{SharedView}
 use Rattle.camlheap_c.specs.Exported.{GoesOn}
 use Rattle.camlheap_c.proofs.driving.camlheap_run.Goals as goal

@@ -1,7 +1,7 @@
 use Rattle.std.proofs.Common.{◌≡◌, ◌<◌, ◌∙◌, ℕ, Option, Some, None, sym, subst, arith}
 use Rattle.model_core.specs.declared.reply.Reply.{Reply}
 use Rattle.heap_rule.specs.Token.{SharedHeap}
-use Rattle.run_open.specs.Driving.{AwaitAnswers, Awaits}
+use Rattle.run_turns.specs.Singly.Driving.{AwaitAnswers, Awaits}
 use Rattle.camlheap_c.specs.declared.crossing.CamlheapReply.{CamlheapReply}
 use Rattle.camlheap_c.specs.Exported.{GoesOn}
 use Rattle.camlheap_c.proofs.Waiting.{came_below, made, not_done, not_made}

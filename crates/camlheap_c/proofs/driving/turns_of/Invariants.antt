@@ -1,7 +1,7 @@
 use Rattle.std.proofs.Common.{◌≡◌}
 use Rattle.model_core.specs.declared.command.Command as model
 use Rattle.heap_rule.specs.declared.view.DomainView.{DomainView}
-use Rattle.run_open.specs.Driving.{Awaits}
+use Rattle.run_turns.specs.Singly.Driving.{Awaits}
 use Rattle.camlheap_c.proofs.driving.turns_of.Given as goal
 
 abbrev pub invariant-turns : goal.invariant-turns

@@ -1,7 +1,7 @@
 use Rattle.std.proofs.Common.{◌≡◌, subst}
 use Rattle.std.specs.Prelude.{Option}
 use Rattle.model_core.specs.declared.reply.Reply.{Reply}
-use Rattle.run_open.specs.Driving.{AwaitAnswers}
+use Rattle.run_turns.specs.Singly.Driving.{AwaitAnswers}
 use Rattle.run_seats.proofs.performing.perform_on.Goals as goal
 
 pub returns-in-Some-clause-answered : goal.returns-in-Some-clause-answered

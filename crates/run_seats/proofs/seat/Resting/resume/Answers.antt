@@ -1,5 +1,5 @@
 use Rattle.std.proofs.Common.{◌≡◌, ◌∙◌, ◌≤◌, ap, sym, subst, arith}
-use Rattle.run_open.specs.Counting.{stats_of}
+use Rattle.run_turns.specs.Singly.Counting.{stats_of}
 use Rattle.run_seats.specs.Pool.Keeping.{KeeperView}
 use Rattle.run_seats.specs.declared.idle.Idle.{Idle}
 use Rattle.run_seats.specs.Shared.Idling.{finals_of}

@@ -7,7 +7,7 @@ use Rattle.step_finalisers.specs.Registering.{count_of}
 use Rattle.run_turns.specs.Handed.{PerformedOn}
 use Rattle.run_turns.specs.Runs.{RunView, registrations_in}
 use Rattle.run_turns.specs.Tries.{registrations_of}
-use Rattle.run_open.specs.Counting.{stats_of}
+use Rattle.run_turns.specs.Singly.Counting.{stats_of}
 use Rattle.run_seats.specs.Pool.Keeping.{KeeperView}
 use Rattle.run_seats.specs.declared.idle.Idle.{Idle}
 use Rattle.run_seats.specs.Shared.Idling.{finals_of}

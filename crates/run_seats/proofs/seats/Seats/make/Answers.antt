@@ -5,7 +5,7 @@ use Rattle.std.specs.Prelude.{cond, insert, is_ok}
 use Rattle.heap_rule.specs.Token.{SharedHeap}
 use Rattle.run_turns.specs.Runs.{RunView}
 use Rattle.run_seats.specs.Shared.Idling.{IsIdleIn}
-use Rattle.run_open.specs.Opening.{opened}
+use Rattle.run_turns.specs.Singly.Opening.{opened}
 use Rattle.run_seats.specs.Seating.{SeatsView, seat_of, seat_with}
 use Rattle.run_seats.proofs.Opening.{all_seats, idle_each, opened_length, parted}
 use Rattle.run_seats.proofs.Seated.{resting_as}

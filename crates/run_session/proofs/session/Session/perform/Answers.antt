@@ -8,7 +8,7 @@ use Rattle.run_turns.specs.Handed.{PerformedOn}
 use Rattle.run_turns.specs.Runs.{registrations_in}
 use Rattle.run_turns.specs.Tries.{registrations_of}
 use Rattle.run_turns.proofs.Handed.{performed_commands, performed_replies}
-use Rattle.run_open.specs.Counting.{stats_of}
+use Rattle.run_turns.specs.Singly.Counting.{stats_of}
 use Rattle.run_session.specs.Sessions.{MayPerform, SessionView}
 use Rattle.run_session.proofs.Driven.{performed, rests_again}
 use Rattle.run_session.proofs.session.Session.perform.Goals as goal

@@ -1,9 +1,0 @@
-use Rattle.std.proofs.Common.{◌≡◌}
-use Rattle.model_core.specs.declared.command.Command as model
-use Rattle.heap_rule.specs.declared.view.DomainView.{DomainView}
-use Rattle.heap_rule.specs.Token.{IsIn}
-use Rattle.run_open.specs.Driving.{Awaits}
-use Rattle.run_open.proofs.waiting.await_reply.Given as goal
-
-abbrev pub invariant-turns : goal.invariant-turns
-invariant-turns g l = IsIn l.run.token l.heap × ((start : DomainView) (c : model.Command) → Awaits l.heap start c l.initial.run → Awaits l.heap start c l.run) × g.M.Meanwhile.fits l.heap l.meanwhile l.kept × (l.kept ≡ l.initial.kept)
