@@ -1,5 +1,5 @@
 pub mod Driven
 pub mod Finalising
 pub mod Refused
-mod Starts
+pub mod Starts
 pub mod Begun
