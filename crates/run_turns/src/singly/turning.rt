@@ -36,7 +36,7 @@ fn reached(turned: Turned) -> Came
 }
 
 /// One turn. A domain that has arrived 2^60 times isn't turned any more.
-#[tactic(auto, using(crate::proofs::OfSingly::Driven::still_stretches, crate::proofs::Driven::still_goes))]
+#[tactic(auto, using(crate::proofs::OfSingly::Driven::still_stretches, crate::proofs::OfSingly::Driven::still_goes))]
 pub fn turn_below(heap: &Heap, run: &mut DomainRun) -> Came
     requires here { IsIn run.old.token heap.now }
     ensures here { IsIn run.new.token heap.now }
