@@ -3,3 +3,4 @@ pub mod LookLemmas
 pub mod MakeLemmas
 pub mod SharedLemmas
 pub mod TakeLemmas
+pub mod AllocLemmas
