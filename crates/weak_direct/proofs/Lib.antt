@@ -4,3 +4,4 @@ pub mod MakeLemmas
 pub mod SharedLemmas
 pub mod TakeLemmas
 pub mod AllocLemmas
+pub mod PutLemmas
