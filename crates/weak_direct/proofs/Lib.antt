@@ -5,3 +5,4 @@ pub mod SharedLemmas
 pub mod TakeLemmas
 pub mod AllocLemmas
 pub mod PutLemmas
+pub mod SettleLemmas

@@ -1,14 +1,19 @@
-//! Bindings that are put: so far the leaf of one.
-ghost use Rattle.std.specs.Prelude.{◌≡◌, ◌+◌, ◌<◌, ◌≤◌, None, IfSome, cond};
+//! Bindings that are put.
+ghost use Rattle.std.specs.Prelude.{◌≡◌, ◌+◌, ◌<◌, ◌≤◌, Some, None, IfSome, cond};
+ghost use Rattle.model_core.specs.declared.reply.Reply.TheVariants as variant;
 ghost use Rattle.weak_maps.specs.Beside.{refusals_by};
-ghost use Rattle.weak_maps.specs.Guards.{LeafGuards};
+ghost use Rattle.weak_maps.specs.Guards.{LeafGuards, SettleGuards};
 ghost use Rattle.weak_maps.specs.Puts.{MakesLeaf};
-ghost use Rattle.weak_direct.specs.Puts.{LeafStops};
-ghost use Rattle.weak_direct.specs.Tries.{Strides};
+ghost use Rattle.weak_direct.specs.Puts.{LeafStops, Settles, SettleStops};
+ghost use Rattle.weak_direct.specs.Tries.{Passes, Strides};
 
-use crate::direct::{Direct, allocate, step};
+use crate::direct::{Direct, allocate, clear, step};
 use model_core::command::Command;
-use weak_maps::replies::is_full;
+use model_core::label::Label;
+use model_core::reply::Reply;
+use weak_maps::digits::{node_index, number_of, rest_below, serial_of};
+use weak_maps::replies::{is_full, is_yes};
+use weak_maps::taking::Search;
 
 /// Makes a leaf of the key in a register, with the datum in another, into register 10. Tells whether the allocation wasn't
 /// refused. None where a command is put off.
@@ -43,4 +48,88 @@ pub fn make_leaf<M: Direct>(m: &mut M, key: u8, item: u8) -> Option<bool>
         },
     )?;
     Some(true)
+}
+
+// Publishes the leaf in register 10 in the field to which a search came. None where that is put off, or another call has
+// written the field.
+fn publish<M: Direct>(m: &mut M, label: &Label, from: Search) -> Option<Reply>
+    ensures sizes { M.sizes m.new ≡ M.sizes m.old }
+    ensures domain { M.domain m.new ≡ M.domain m.old }
+    ensures heap { M.heap m.new ≡ M.heap m.old }
+    ensures labels { M.labels_left m.new ≡ M.labels_left m.old }
+    ensures room { M.ephes_room m.old ≤ M.ephes_room m.new }
+    ensures passes { Passes (M.sizes m.old) (M.domain m.old) (M.front m.old) (M.front m.new) }
+    ensures done { IfSome result (λ r. r ≡ variant.Done) }
+    ensures guards { SettleGuards (M.sizes m.old) (M.domain m.old) (M.front m.old) (M.front m.new) label.now from.index from.rest from.steps None }
+    ensures settled { IfSome result (Settles (M.sizes m.old) (M.domain m.old) (M.front m.old) (M.front m.new) label.now from.index from.rest from.steps None) }
+    ensures stopped { result ≡ None → SettleStops (M.sizes m.old) (M.domain m.old) (M.front m.old) (M.front m.new) label.now from.index from.rest from.steps None }
+{
+    m.stands();
+    let won = step(
+        m,
+        Command::Cas {
+            block: 8,
+            index: from.index,
+            expected: 9,
+            item: 10,
+        },
+    )?;
+    if !is_yes(&won) {
+        return None;
+    }
+    clear(m);
+    Some(Reply::Done)
+}
+
+// Puts the leaf of another key, to which a search came, one block deeper. Answers `full` where the allocation of that block was
+// refused, and else none: the key's way goes on there.
+fn deepen<M: Direct>(m: &mut M, label: &Label, from: Search, other: Label) -> Option<Reply>
+    requires label { 1 ≤ M.labels_left m.old }
+    ensures sizes { M.sizes m.new ≡ M.sizes m.old }
+    ensures domain { M.domain m.new ≡ M.domain m.old }
+    ensures heap { M.heap m.new ≡ M.heap m.old }
+    ensures lost { M.labels_left m.old ≤ M.labels_left m.new + 1 }
+    ensures labels { IfSome result (λ r. M.labels_left m.old ≡ M.labels_left m.new) }
+    ensures room { M.ephes_room m.old ≤ M.ephes_room m.new }
+    ensures strides { Strides (M.sizes m.old) (M.domain m.old) (M.front m.old) (M.front m.new) }
+    ensures refused { IfSome result (λ r. refusals_by (M.domain m.old) (M.front m.new) ≡ refusals_by (M.domain m.old) (M.front m.old) + 1) }
+    ensures full { IfSome result (λ r. r ≡ variant.Full) }
+    ensures guards { SettleGuards (M.sizes m.old) (M.domain m.old) (M.front m.old) (M.front m.new) label.now from.index from.rest from.steps (Some other) }
+    ensures settled { IfSome result (Settles (M.sizes m.old) (M.domain m.old) (M.front m.old) (M.front m.new) label.now from.index from.rest from.steps (Some other)) }
+    ensures stopped { result ≡ None → SettleStops (M.sizes m.old) (M.domain m.old) (M.front m.old) (M.front m.new) label.now from.index from.rest from.steps (Some other) }
+{
+    m.stands();
+    let _serial = serial_of(label);
+    let _other_serial = serial_of(&other);
+    let rest = rest_below(number_of(m.domains(), &other), from.steps);
+    let made = allocate(
+        m,
+        Command::Alloc {
+            dst: 11,
+            tag: 0,
+            fields: 32,
+        },
+    )?;
+    if is_full(&made) {
+        clear(m);
+        return Some(Reply::Full);
+    }
+    let _leaf = step(
+        m,
+        Command::Store {
+            block: 11,
+            index: node_index(rest),
+            item: 9,
+        },
+    )?;
+    let _deeper = step(
+        m,
+        Command::Cas {
+            block: 8,
+            index: from.index,
+            expected: 9,
+            item: 11,
+        },
+    )?;
+    None
 }
