@@ -26,3 +26,16 @@ Settles z d now new k index rest level other r = (old : List Entry) (root : Labe
 abbrev pub SettleStops : Sizes → ℕ → List Entry → List Entry → Label → ℕ → ℕ → ℕ → Option Label → Type 0
 SettleStops z d now new k index rest level other = (old : List Entry) (root : Label) (v : Value) (key : ℕ) → key < 8 → held_by z d old key ≡ Block k → IsMap (graph_of z old) root → IsInPlace z.domains (graph_of z old) root
     → Arrived z d old now root k v index rest level other → OthersRespect z root d old new → OwnKeep z root d old new
+
+-- `map_put`, by what the registers of the key and of the datum hold. Each leaf that binds a key stands on its key's way still
+abbrev pub PutReturns : Sizes → ℕ → List Entry → List Entry → Label → Value → Value → Reply → Type 0
+PutReturns z d old new root (Block k) (Int i) r = PutAnswers z root d old new (Block k) (Int i) r × TakeLeaves z d old new root × IsInPlace z.domains (graph_of z new) root
+PutReturns z d old new root (Block k) (Block l) r = PutAnswers z root d old new (Block k) (Block l) r × TakeLeaves z d old new root × IsInPlace z.domains (graph_of z new) root
+PutReturns z d old new root key v r = PutAnswers z root d old new key v r
+
+abbrev pub PutsAt : Sizes → ℕ → List Entry → List Entry → ℕ → ℕ → ℕ → Reply → Type 0
+PutsAt z d old new map key item r = (root : Label) → held_by z d old map ≡ Block root → IsMap (graph_of z old) root → IsInPlace z.domains (graph_of z old) root → OthersRespect z root d old new → PutReturns z d old new root (held_by z d old key) (held_by z d old item) r
+
+-- one that stops has changed no binding
+abbrev pub PutStops : Sizes → ℕ → List Entry → List Entry → ℕ → Type 0
+PutStops z d old new map = (root : Label) → held_by z d old map ≡ Block root → IsMap (graph_of z old) root → IsInPlace z.domains (graph_of z old) root → OthersRespect z root d old new → OwnKeep z root d old new

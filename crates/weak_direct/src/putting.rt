@@ -2,18 +2,22 @@
 ghost use Rattle.std.specs.Prelude.{◌≡◌, ◌+◌, ◌<◌, ◌≤◌, Some, None, IfSome, cond};
 ghost use Rattle.model_core.specs.declared.reply.Reply.TheVariants as variant;
 ghost use Rattle.weak_maps.specs.Beside.{refusals_by};
-ghost use Rattle.weak_maps.specs.Guards.{LeafGuards, SettleGuards};
+ghost use Rattle.weak_maps.specs.Guards.{LeafGuards, PutGuards, SettleGuards};
+ghost use Rattle.weak_maps.specs.Crowds.{PutSpends};
 ghost use Rattle.weak_maps.specs.Puts.{MakesLeaf};
-ghost use Rattle.weak_direct.specs.Puts.{LeafStops, Settles, SettleStops};
+ghost use Rattle.weak_maps.specs.Returns.{FollowsAt};
+ghost use Rattle.weak_direct.specs.Puts.{LeafStops, PutStops, PutsAt, Settles, SettleStops};
 ghost use Rattle.weak_direct.specs.Tries.{Passes, Strides};
 
 use crate::direct::{Direct, allocate, clear, step};
+use crate::taking::find;
 use model_core::command::Command;
 use model_core::label::Label;
 use model_core::reply::Reply;
 use weak_maps::digits::{node_index, number_of, rest_below, serial_of};
-use weak_maps::replies::{is_full, is_yes};
-use weak_maps::taking::Search;
+use weak_maps::replies::{is_empty, is_full, is_yes};
+use weak_maps::taking::{Search, from_root};
+
 
 /// Makes a leaf of the key in a register, with the datum in another, into register 10. Tells whether the allocation wasn't
 /// refused. None where a command is put off.
@@ -132,4 +136,58 @@ fn deepen<M: Direct>(m: &mut M, label: &Label, from: Search, other: Label) -> Op
         },
     )?;
     None
+}
+
+/// Binds the key in a register to what another holds, in the map in a third, whose leaves each stand on their key's way.
+/// Answers `type` exactly where the key's register holds no label or the other nothing, and then changes nothing; `full` where
+/// an allocation was refused: then no binding was changed; and else that it is done: an entry of the call bound the key, and
+/// changed no other key. Registers are below 8. Registers 8 to 11 are used between. Other domains may use the map meanwhile,
+/// by its calls. Each entry of the call respects the map, as long as the others' entries before it did. None where a command is
+/// put off, another call won the field, or a leaf of another key was in the way, for which the call then has made room: then no
+/// binding was changed, and the call may be asked anew.
+pub fn map_put<M: Direct>(m: &mut M, map: u8, key: u8, item: u8) -> Option<Reply>
+    requires few { (map < 8) × (key < 8) × (item < 8) }
+    requires labels { 2 ≤ M.labels_left m.old }
+    requires room { 1 ≤ M.ephes_room m.old }
+    ensures sizes { M.sizes m.new ≡ M.sizes m.old }
+    ensures domain { M.domain m.new ≡ M.domain m.old }
+    ensures heap { M.heap m.new ≡ M.heap m.old }
+    ensures strides { Strides (M.sizes m.old) (M.domain m.old) (M.front m.old) (M.front m.new) }
+    ensures lost { M.labels_left m.old ≤ M.labels_left m.new + 2 }
+    ensures counts { IfSome result (PutSpends (M.domain m.old) (M.labels_left m.old) (M.labels_left m.new) (M.front m.old) (M.front m.new)) }
+    ensures room { M.ephes_room m.old ≤ M.ephes_room m.new + 1 }
+    ensures guards { PutGuards (M.sizes m.old) (M.domain m.old) (M.front m.old) (M.front m.new) map }
+    ensures answer { IfSome result (PutsAt (M.sizes m.old) (M.domain m.old) (M.front m.old) (M.front m.new) map key item) }
+    ensures refused { IfSome result (λ r. r ≡ variant.Full → refusals_by (M.domain m.old) (M.front m.new) ≡ refusals_by (M.domain m.old) (M.front m.old) + 1) }
+    ensures follows { FollowsAt (M.sizes m.old) (M.domain m.old) (M.front m.old) (M.front m.new) map }
+    ensures stopped { result ≡ None → PutStops (M.sizes m.old) (M.domain m.old) (M.front m.old) (M.front m.new) map }
+{
+    m.stands();
+    let Reply::Block(label) = m.show(key) else {
+        return Some(Reply::BadType);
+    };
+    let datum = m.show(item);
+    if is_empty(&datum) {
+        return Some(Reply::BadType);
+    }
+    if !make_leaf(m, key, item)? {
+        clear(m);
+        return Some(Reply::Full);
+    }
+    let number = number_of(m.domains(), &label);
+    let _root = step(m, Command::Copy { dst: 8, src: map })?;
+    let first = from_root(number);
+    let at = step(
+        m,
+        Command::Load {
+            dst: 9,
+            src: 8,
+            index: first.index,
+        },
+    )?;
+    let from = find(m, key, &label, first, at)?;
+    match from.other {
+        None => publish(m, &label, from),
+        Some(other) => deepen(m, &label, from, other),
+    }
 }
