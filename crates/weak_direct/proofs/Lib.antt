@@ -3,3 +3,6 @@ pub mod LookLemmas
 pub mod MakeLemmas
 pub mod SharedLemmas
 pub mod TakeLemmas
+pub mod AllocLemmas
+pub mod PutLemmas
+pub mod SettleLemmas

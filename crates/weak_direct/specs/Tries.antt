@@ -1,7 +1,7 @@
 -- A command that is made at once or put off, and a stretch of such.
 use Rattle.std.specs.Prelude.{◌≡◌, ◌≤◌, ℕ, List, Option, Some, None}
 use Rattle.model_core.specs.declared.command.Command.{Command}
-use Rattle.model_core.specs.declared.command.Command.TheVariants.{PutInt, Copy, Forget, Load, Store, Cas, SetKey, GetKey, SetData, GetData}
+use Rattle.model_core.specs.declared.command.Command.TheVariants.{Alloc, Ephe, PutInt, Copy, Forget, Load, Store, Cas, SetKey, GetKey, SetData, GetData}
 use Rattle.model_core.specs.declared.entry.Entry.{Entry}
 use Rattle.model_core.specs.declared.reply.Reply.{Reply}
 use Rattle.model_core.specs.declared.state.Sizes.{Sizes}
@@ -68,3 +68,15 @@ pub record EndsBy (z : Sizes) (d : ℕ) (old new : List Entry) (c : Command) (r 
   pub performed : PerformedBy z d old made c r
   pub passes : Passes z d made new
   pub quiet : OwnQuiet z d made new
+
+-- the same but for refusals: an allocation may have been refused
+pub record Strides (z : Sizes) (d : ℕ) (old new : List Entry) : Type 0 where
+  pub grows : IsPrefix old new
+  pub keeps : KeepsBeside z d old new
+  pub written : writings_by d new ≡ writings_by d old
+
+-- an allocation by which a put makes a leaf, or a block for room
+abbrev pub IsMake : Command → Type 0
+IsMake (Ephe dst keys) = (dst ≡ 10) × (keys ≡ 1)
+IsMake (Alloc dst tag fields) = (dst ≡ 11) × (tag ≡ 0) × (fields ≡ 32)
+IsMake _ = ⊥

@@ -13,7 +13,7 @@ ghost use Rattle.weak_laws.specs.Maps.Calls.{PerformedBy};
 ghost use Rattle.weak_maps.specs.Beside.{WritesAtMost, held_by, refusals_by};
 ghost use Rattle.weak_maps.specs.Commands.{IsMapCommand};
 ghost use Rattle.weak_maps.specs.Walks.{OwnQuiet};
-ghost use Rattle.weak_direct.specs.Tries.{EndsBy, IsBetween, IsLast, Passes, TriedBy, ephemerons_by, labels_by};
+ghost use Rattle.weak_direct.specs.Tries.{EndsBy, IsBetween, IsLast, IsMake, Passes, Strides, TriedBy, ephemerons_by, labels_by};
 
 use model_core::command::Command;
 use model_core::reply::Reply;
@@ -140,4 +140,24 @@ pub fn finish<M: Direct>(m: &mut M, c: Command) -> Option<Reply>
     let reply = m.perform(c)?;
     clear(m);
     Some(reply)
+}
+
+/// Makes an allocation of a put, where it isn't put off.
+pub fn allocate<M: Direct>(m: &mut M, c: Command) -> Option<Reply>
+    requires fits { IsMapCommand c }
+    requires make { IsMake c }
+    requires label { 1 ≤ M.labels_left m.old }
+    requires room { ephemerons_of c ≤ M.ephes_room m.old }
+    ensures sizes { M.sizes m.new ≡ M.sizes m.old }
+    ensures domain { M.domain m.new ≡ M.domain m.old }
+    ensures heap { M.heap m.new ≡ M.heap m.old }
+    ensures lost { M.labels_left m.old ≤ M.labels_left m.new + 1 }
+    ensures labels { IfSome result (λ r. M.labels_left m.old + full_of r ≡ M.labels_left m.new + 1) }
+    ensures room { M.ephes_room m.old ≤ M.ephes_room m.new + ephemerons_of c }
+    ensures strides { Strides (M.sizes m.old) (M.domain m.old) (M.front m.old) (M.front m.new) }
+    ensures refused { IfSome result (λ r. refusals_by (M.domain m.old) (M.front m.new) ≡ refusals_by (M.domain m.old) (M.front m.old) + full_of r) }
+    ensures stopped { result ≡ None → OwnQuiet (M.sizes m.old) (M.domain m.old) (M.front m.old) (M.front m.new) }
+    ensures performed { IfSome result (PerformedBy (M.sizes m.old) (M.domain m.old) (M.front m.old) (M.front m.new) c) }
+{
+    m.perform(c)
 }

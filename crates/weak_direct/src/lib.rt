@@ -4,5 +4,6 @@
 pub mod direct;
 pub mod getting;
 pub mod making;
+pub mod putting;
 pub mod shared;
 pub mod taking;

@@ -1,0 +1,193 @@
+//! Bindings that are put.
+ghost use Rattle.std.specs.Prelude.{◌≡◌, ◌+◌, ◌<◌, ◌≤◌, Some, None, IfSome, cond};
+ghost use Rattle.model_core.specs.declared.reply.Reply.TheVariants as variant;
+ghost use Rattle.weak_maps.specs.Beside.{refusals_by};
+ghost use Rattle.weak_maps.specs.Guards.{LeafGuards, PutGuards, SettleGuards};
+ghost use Rattle.weak_maps.specs.Crowds.{PutSpends};
+ghost use Rattle.weak_maps.specs.Puts.{MakesLeaf};
+ghost use Rattle.weak_maps.specs.Returns.{FollowsAt};
+ghost use Rattle.weak_direct.specs.Puts.{LeafStops, PutStops, PutsAt, Settles, SettleStops};
+ghost use Rattle.weak_direct.specs.Tries.{Passes, Strides};
+
+use crate::direct::{Direct, allocate, clear, step};
+use crate::taking::find;
+use model_core::command::Command;
+use model_core::label::Label;
+use model_core::reply::Reply;
+use weak_maps::digits::{node_index, number_of, rest_below, serial_of};
+use weak_maps::replies::{is_empty, is_full, is_yes};
+use weak_maps::taking::{Search, from_root};
+
+
+/// Makes a leaf of the key in a register, with the datum in another, into register 10. Tells whether the allocation wasn't
+/// refused. None where a command is put off.
+pub fn make_leaf<M: Direct>(m: &mut M, key: u8, item: u8) -> Option<bool>
+    requires few { (key < 8) × (item < 8) }
+    requires label { 1 ≤ M.labels_left m.old }
+    requires room { 1 ≤ M.ephes_room m.old }
+    ensures sizes { M.sizes m.new ≡ M.sizes m.old }
+    ensures domain { M.domain m.new ≡ M.domain m.old }
+    ensures heap { M.heap m.new ≡ M.heap m.old }
+    ensures lost { M.labels_left m.old ≤ M.labels_left m.new + 1 }
+    ensures labels { IfSome result (λ b. M.labels_left m.old ≡ M.labels_left m.new + cond b 1 0) }
+    ensures room { M.ephes_room m.old ≤ M.ephes_room m.new + 1 }
+    ensures strides { Strides (M.sizes m.old) (M.domain m.old) (M.front m.old) (M.front m.new) }
+    ensures refused { IfSome result (λ b. refusals_by (M.domain m.old) (M.front m.new) ≡ refusals_by (M.domain m.old) (M.front m.old) + cond b 0 1) }
+    ensures guards { LeafGuards (M.sizes m.old) (M.domain m.old) (M.front m.old) (M.front m.new) key item }
+    ensures made { IfSome result (λ b. MakesLeaf (M.sizes m.old) (M.domain m.old) (M.front m.old) (M.front m.new) key item b) }
+    ensures stopped { result ≡ None → LeafStops (M.sizes m.old) (M.domain m.old) (M.front m.old) (M.front m.new) key item }
+{
+    m.stands();
+    let made = allocate(m, Command::Ephe { dst: 10, keys: 1 })?;
+    if is_full(&made) {
+        return Some(false);
+    }
+    let _datum = step(m, Command::SetData { ephe: 10, item })?;
+    let _key = step(
+        m,
+        Command::SetKey {
+            ephe: 10,
+            index: 0,
+            item: key,
+        },
+    )?;
+    Some(true)
+}
+
+// Publishes the leaf in register 10 in the field to which a search came. None where that is put off, or another call has
+// written the field.
+fn publish<M: Direct>(m: &mut M, label: &Label, from: Search) -> Option<Reply>
+    ensures sizes { M.sizes m.new ≡ M.sizes m.old }
+    ensures domain { M.domain m.new ≡ M.domain m.old }
+    ensures heap { M.heap m.new ≡ M.heap m.old }
+    ensures labels { M.labels_left m.new ≡ M.labels_left m.old }
+    ensures room { M.ephes_room m.old ≤ M.ephes_room m.new }
+    ensures passes { Passes (M.sizes m.old) (M.domain m.old) (M.front m.old) (M.front m.new) }
+    ensures done { IfSome result (λ r. r ≡ variant.Done) }
+    ensures guards { SettleGuards (M.sizes m.old) (M.domain m.old) (M.front m.old) (M.front m.new) label.now from.index from.rest from.steps None }
+    ensures settled { IfSome result (Settles (M.sizes m.old) (M.domain m.old) (M.front m.old) (M.front m.new) label.now from.index from.rest from.steps None) }
+    ensures stopped { result ≡ None → SettleStops (M.sizes m.old) (M.domain m.old) (M.front m.old) (M.front m.new) label.now from.index from.rest from.steps None }
+{
+    m.stands();
+    let won = step(
+        m,
+        Command::Cas {
+            block: 8,
+            index: from.index,
+            expected: 9,
+            item: 10,
+        },
+    )?;
+    if !is_yes(&won) {
+        return None;
+    }
+    clear(m);
+    Some(Reply::Done)
+}
+
+// Puts the leaf of another key, to which a search came, one block deeper. Answers `full` where the allocation of that block was
+// refused, and else none: the key's way goes on there.
+fn deepen<M: Direct>(m: &mut M, label: &Label, from: Search, other: Label) -> Option<Reply>
+    requires label { 1 ≤ M.labels_left m.old }
+    ensures sizes { M.sizes m.new ≡ M.sizes m.old }
+    ensures domain { M.domain m.new ≡ M.domain m.old }
+    ensures heap { M.heap m.new ≡ M.heap m.old }
+    ensures lost { M.labels_left m.old ≤ M.labels_left m.new + 1 }
+    ensures labels { IfSome result (λ r. M.labels_left m.old ≡ M.labels_left m.new) }
+    ensures room { M.ephes_room m.old ≤ M.ephes_room m.new }
+    ensures strides { Strides (M.sizes m.old) (M.domain m.old) (M.front m.old) (M.front m.new) }
+    ensures refused { IfSome result (λ r. refusals_by (M.domain m.old) (M.front m.new) ≡ refusals_by (M.domain m.old) (M.front m.old) + 1) }
+    ensures full { IfSome result (λ r. r ≡ variant.Full) }
+    ensures guards { SettleGuards (M.sizes m.old) (M.domain m.old) (M.front m.old) (M.front m.new) label.now from.index from.rest from.steps (Some other) }
+    ensures settled { IfSome result (Settles (M.sizes m.old) (M.domain m.old) (M.front m.old) (M.front m.new) label.now from.index from.rest from.steps (Some other)) }
+    ensures stopped { result ≡ None → SettleStops (M.sizes m.old) (M.domain m.old) (M.front m.old) (M.front m.new) label.now from.index from.rest from.steps (Some other) }
+{
+    m.stands();
+    let _serial = serial_of(label);
+    let _other_serial = serial_of(&other);
+    let rest = rest_below(number_of(m.domains(), &other), from.steps);
+    let made = allocate(
+        m,
+        Command::Alloc {
+            dst: 11,
+            tag: 0,
+            fields: 32,
+        },
+    )?;
+    if is_full(&made) {
+        clear(m);
+        return Some(Reply::Full);
+    }
+    let _leaf = step(
+        m,
+        Command::Store {
+            block: 11,
+            index: node_index(rest),
+            item: 9,
+        },
+    )?;
+    let _deeper = step(
+        m,
+        Command::Cas {
+            block: 8,
+            index: from.index,
+            expected: 9,
+            item: 11,
+        },
+    )?;
+    None
+}
+
+/// Binds the key in a register to what another holds, in the map in a third, whose leaves each stand on their key's way.
+/// Answers `type` exactly where the key's register holds no label or the other nothing, and then changes nothing; `full` where
+/// an allocation was refused: then no binding was changed; and else that it is done: an entry of the call bound the key, and
+/// changed no other key. Registers are below 8. Registers 8 to 11 are used between. Other domains may use the map meanwhile,
+/// by its calls. Each entry of the call respects the map, as long as the others' entries before it did. None where a command is
+/// put off, another call won the field, or a leaf of another key was in the way, for which the call then has made room: then no
+/// binding was changed, and the call may be asked anew.
+pub fn map_put<M: Direct>(m: &mut M, map: u8, key: u8, item: u8) -> Option<Reply>
+    requires few { (map < 8) × (key < 8) × (item < 8) }
+    requires labels { 2 ≤ M.labels_left m.old }
+    requires room { 1 ≤ M.ephes_room m.old }
+    ensures sizes { M.sizes m.new ≡ M.sizes m.old }
+    ensures domain { M.domain m.new ≡ M.domain m.old }
+    ensures heap { M.heap m.new ≡ M.heap m.old }
+    ensures strides { Strides (M.sizes m.old) (M.domain m.old) (M.front m.old) (M.front m.new) }
+    ensures lost { M.labels_left m.old ≤ M.labels_left m.new + 2 }
+    ensures counts { IfSome result (PutSpends (M.domain m.old) (M.labels_left m.old) (M.labels_left m.new) (M.front m.old) (M.front m.new)) }
+    ensures room { M.ephes_room m.old ≤ M.ephes_room m.new + 1 }
+    ensures guards { PutGuards (M.sizes m.old) (M.domain m.old) (M.front m.old) (M.front m.new) map }
+    ensures answer { IfSome result (PutsAt (M.sizes m.old) (M.domain m.old) (M.front m.old) (M.front m.new) map key item) }
+    ensures refused { IfSome result (λ r. r ≡ variant.Full → refusals_by (M.domain m.old) (M.front m.new) ≡ refusals_by (M.domain m.old) (M.front m.old) + 1) }
+    ensures follows { FollowsAt (M.sizes m.old) (M.domain m.old) (M.front m.old) (M.front m.new) map }
+    ensures stopped { result ≡ None → PutStops (M.sizes m.old) (M.domain m.old) (M.front m.old) (M.front m.new) map }
+{
+    m.stands();
+    let Reply::Block(label) = m.show(key) else {
+        return Some(Reply::BadType);
+    };
+    let datum = m.show(item);
+    if is_empty(&datum) {
+        return Some(Reply::BadType);
+    }
+    if !make_leaf(m, key, item)? {
+        clear(m);
+        return Some(Reply::Full);
+    }
+    let number = number_of(m.domains(), &label);
+    let _root = step(m, Command::Copy { dst: 8, src: map })?;
+    let first = from_root(number);
+    let at = step(
+        m,
+        Command::Load {
+            dst: 9,
+            src: 8,
+            index: first.index,
+        },
+    )?;
+    let from = find(m, key, &label, first, at)?;
+    match from.other {
+        None => publish(m, &label, from),
+        Some(other) => deepen(m, &label, from, other),
+    }
+}
