@@ -29,8 +29,8 @@ use std::io::{BufReader, BufWriter, ErrorKind, Read, Write};
 use std::process::ExitCode;
 use std::{env, io};
 use text_ends::{Sink, Source, StdSink, StdSource};
-use text_script::schedule::text::ReplayFault;
 use text_script::ScriptFault;
+use text_script::schedule::text::ReplayFault;
 use words::{Asked, read_asked};
 
 // How many bytes are read ahead, and how many are gathered before they are written.

@@ -18,7 +18,6 @@ use weak_maps::digits::{node_index, number_of, rest_below, serial_of};
 use weak_maps::replies::{is_empty, is_full, is_yes};
 use weak_maps::taking::{Search, from_root};
 
-
 /// Makes a leaf of the key in a register, with the datum in another, into register 10. Tells whether the allocation wasn't
 /// refused. None where a command is put off.
 pub fn make_leaf<M: Direct>(m: &mut M, key: u8, item: u8) -> Option<bool>
