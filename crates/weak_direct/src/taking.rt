@@ -22,7 +22,13 @@ pub const MOST_TRIES: u32 = 1000;
 
 /// Goes on from a field on a key's way, whose block is in register 8 and what it held in register 9, to the one at which the
 /// way ends. Register 11 is used between.
-pub fn find<M: Direct>(m: &mut M, key: u8, label: &Label, from: Search, field: Reply) -> Option<Search>
+pub fn find<M: Direct>(
+    m: &mut M,
+    key: u8,
+    label: &Label,
+    from: Search,
+    field: Reply,
+) -> Option<Search>
     requires few { key < 8 }
     ensures sizes { M.sizes m.new ≡ M.sizes m.old }
     ensures domain { M.domain m.new ≡ M.domain m.old }

@@ -219,4 +219,3 @@ returns-clause-refused g c =
     let f1 = subst (λ (e : ℕ). refusals_by e n1 ≡ refusals_by e n0) o1 c.step.ensures.passes.given in
     let f2 = subst (λ (e : ℕ). refusals_by e n2 ≡ refusals_by e n1) o2 c.step-2.ensures.passes.given in
     omega (arith, f0, f1, f2, full)
-
