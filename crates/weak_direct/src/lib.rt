@@ -1,4 +1,4 @@
-//! Weak maps for a domain that waits for nobody: calls that stop where a command is put off, and are asked anew.
+//! Weak maps for a domain that waits for nobody.
 #![tactic(auto)]
 
 pub mod direct;
