@@ -19,7 +19,7 @@ use weak_maps::taking::{Search, from_root};
 
 /// Makes a leaf of the key in a register, with the datum in another, into register 10. Tells whether the allocation wasn't
 /// refused. None where a command is put off.
-pub fn make_leaf<M: Direct>(m: &mut M, key: u8, item: u8) -> Option<bool>
+fn make_leaf<M: Direct>(m: &mut M, key: u8, item: u8) -> Option<bool>
     requires few { (key < 8) × (item < 8) }
     requires label { 1 ≤ M.labels_left m.old }
     requires room { 1 ≤ M.ephes_room m.old }
