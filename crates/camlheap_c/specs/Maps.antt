@@ -1,5 +1,5 @@
 -- What the exports on weak maps leave.
-use Rattle.std.specs.Prelude.{◌≡◌, ◌≢◌, ◌↔◌, ◌⊎◌, ℕ, ◌+◌, ◌<◌, ◌≤◌, true, false, List}
+use Rattle.std.specs.Prelude.{◌≡◌, ◌≢◌, ◌↔◌, ◌⊎◌, ℕ, ◌+◌, ◌-◌, ◌<◌, ◌≤◌, true, false, List}
 use Rattle.model_core.specs.declared.entry.Entry.{Entry}
 use Rattle.model_core.specs.declared.reply.Reply.{Reply}
 use Rattle.model_core.specs.declared.state.Sizes.{Sizes}
@@ -7,10 +7,11 @@ use Rattle.model_core.specs.Fronts.{IsFrontOf}
 use Rattle.model_core.specs.History.{IsPrefix}
 use Rattle.heap_rule.specs.Limits.{sizes_in}
 use Rattle.run_seats.specs.Shared.Sharing.{SharedView}
-use Rattle.weak_maps.specs.Guards.{TakeGuards}
+use Rattle.weak_maps.specs.Guards.{PutGuards, TakeGuards}
 use Rattle.weak_maps.specs.Returns.{FollowsAt, MakeReturns}
 use Rattle.weak_maps.specs.Walks.{OwnQuiet}
 use Rattle.weak_direct.specs.Leaves.{GetsAt, StopsAt, TakesAt}
+use Rattle.weak_direct.specs.Puts.{PutStops, PutsAt, TrySpends}
 use Rattle.weak_direct.specs.Tries.{KeepsBeside}
 use Rattle.camlheap_c.specs.declared.crossing.CamlheapReply.{CamlheapReply}
 use Rattle.camlheap_c.specs.declared.handle.CamlheapDomain.{CamlheapDomain}
@@ -26,6 +27,13 @@ number_of s = s.run.token.view.own.number
 
 abbrev pub front_of : SharedView → List Entry
 front_of s = s.run.token.view.seen.front
+
+-- how many labels are left for the domain's blocks, and how many ephemerons fit into its list
+abbrev pub labels_left : SharedView → ℕ
+labels_left s = 4294967295 - s.run.token.view.own.serial
+
+abbrev pub room_left : SharedView → ℕ
+room_left s = s.run.token.view.own.ephemerons.room
 
 -- the domain is the same, in the same heap, and has seen more of the history
 pub record GoesOnIn (old new : SharedView) : Type 0 where
@@ -70,6 +78,18 @@ pub record TakesOut (old new : SharedView) (map key : ℕ) (before read : Camlhe
   pub again : told ≢ 0 → StopsAt (sizes_of old) (number_of old) (front_of old) (front_of new) map
   pub unread : told ≢ 0 → read ≡ before
 
+-- a binding is put, by what the call answers: 0 where it is answered, with its refusals and labels counted, 1 where it has stopped, and then no binding was changed. Its entries respect the map as long as the others' do, each register but 8 to 11 holds what it held, and it has taken at most two labels and room for one ephemeron
+pub record PutsIn (old new : SharedView) (map key item : ℕ) (before read : CamlheapReply) (told : ℕ) : Type 0 where
+  pub goes_on : GoesOnIn old new
+  pub keeps : KeepsBeside (sizes_of old) (number_of old) (front_of old) (front_of new)
+  pub guards : PutGuards (sizes_of old) (number_of old) (front_of old) (front_of new) map
+  pub follows : FollowsAt (sizes_of old) (number_of old) (front_of old) (front_of new) map
+  pub labels : labels_left old ≤ labels_left new + 2
+  pub room : room_left old ≤ room_left new + 1
+  pub made : told ≡ 0 → Reads read (λ (r : Reply). PutsAt (sizes_of old) (number_of old) (front_of old) (front_of new) map key item r × TrySpends (number_of old) (labels_left old) (labels_left new) (front_of old) (front_of new) r)
+  pub again : told ≢ 0 → PutStops (sizes_of old) (number_of old) (front_of old) (front_of new) map
+  pub unread : told ≢ 0 → read ≡ before
+
 -- the make of a map: 1 where it was put off, and then the domain has made no entry
 pub record MakesMap (old new : SharedView) (dst : ℕ) (before read : CamlheapReply) (told : ℕ) : Type 0 where
   pub goes_on : GoesOnIn old new
@@ -93,9 +113,19 @@ GetsFor old new dst map key before read told = CallsMap old new (λ (n : ℕ). L
 abbrev pub TakesFor : CamlheapDomain → CamlheapDomain → ℕ → ℕ → CamlheapReply → CamlheapReply → ℕ → Type 0
 TakesFor old new map key before read told = CallsMap old new (λ (n : ℕ). TakesOut old.value new.value map key before read n) (λ (n : ℕ). RefusesMap old.value ((map < 8) × (key < 8)) n) before read told
 
--- a map isn't made for want of a label
+-- a call isn't begun for want of labels
 abbrev pub LacksLabel : SharedView → ℕ → ℕ → Type 0
 LacksLabel s most told = (told ≡ 22) × (4294967295 < s.run.token.view.own.serial + most)
 
 abbrev pub MakesFor : CamlheapDomain → CamlheapDomain → ℕ → CamlheapReply → CamlheapReply → ℕ → Type 0
 MakesFor old new dst before read told = CallsMap old new (λ (n : ℕ). MakesMap old.value new.value dst before read n) (λ (n : ℕ). RefusesMap old.value (dst < 8) n ⊎ LacksLabel old.value 1 n) before read told
+
+-- nor is a put for want of room for an ephemeron
+abbrev pub LacksRoom : SharedView → ℕ → Type 0
+LacksRoom s told = (told ≡ 20) × (room_left s ≡ 0)
+
+abbrev pub RefusesPut : SharedView → ℕ → ℕ → ℕ → ℕ → Type 0
+RefusesPut s map key item told = RefusesMap s (AreLow map key item) told ⊎ (LacksLabel s 2 told ⊎ LacksRoom s told)
+
+abbrev pub PutsFor : CamlheapDomain → CamlheapDomain → ℕ → ℕ → ℕ → CamlheapReply → CamlheapReply → ℕ → Type 0
+PutsFor old new map key item before read told = CallsMap old new (λ (n : ℕ). PutsIn old.value new.value map key item before read n) (λ (n : ℕ). RefusesPut old.value map key item n) before read told

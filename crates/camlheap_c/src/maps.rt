@@ -1,16 +1,18 @@
 //! Weak maps. Each call answers `DONE` and the reply; `AGAIN` where a command of it was put off, since a pause is wanted or must
 //! come first: then no binding has changed, and it may be asked anew behind a turn; and else why it isn't begun: `NO_DOMAIN`,
-//! `CLOSED`, `BUSY`, `NO_REGISTER` for one that isn't below 8, `NO_LABEL`. Then nothing has changed.
+//! `CLOSED`, `BUSY`, `NO_REGISTER` for one that isn't below 8, `NO_LABEL`; a put
+//! also `NO_EPHEMERON`. Then nothing has changed.
 ghost use Rattle.std.specs.Prelude.{◌≡◌, ◌≢◌, ◌⊎◌, ◌<◌, ◌≤◌};
-ghost use Rattle.camlheap_c.specs.Maps.{AreLow, GetsFor, LacksLabel, LooksUp, MakesFor, MakesMap, RefusesMap, TakesFor, TakesOut};
+ghost use Rattle.camlheap_c.specs.Maps.{AreLow, GetsFor, LacksLabel, LooksUp, MakesFor, MakesMap, PutsFor, PutsIn, RefusesMap, RefusesPut, TakesFor, TakesOut};
 
-use crate::codes::{AGAIN, DONE, NO_DOMAIN, NO_LABEL, NO_REGISTER, refusal_code};
+use crate::codes::{AGAIN, DONE, NO_DOMAIN, NO_EPHEMERON, NO_LABEL, NO_REGISTER, refusal_code};
 use crate::crossing::{CamlheapReply, reply_of};
 use crate::handle::CamlheapDomain;
 use run_seats::shared::SharedRun;
 use std::alloc::Global;
 use weak_direct::getting::map_get;
 use weak_direct::making::map_make;
+use weak_direct::putting::map_put;
 use weak_direct::taking::map_take;
 
 // Looks a key up.
@@ -51,6 +53,35 @@ fn take_on(run: &mut SharedRun, map: u8, key: u8, reply: &mut CamlheapReply) -> 
         return NO_REGISTER;
     }
     match map_take(run, map, key) {
+        Some(answer) => {
+            *reply = reply_of(answer);
+            DONE
+        }
+        None => AGAIN,
+    }
+}
+
+// Binds a key.
+fn put_on(run: &mut SharedRun, map: u8, key: u8, item: u8, reply: &mut CamlheapReply) -> u32
+    ensures does { result < 17 → PutsIn run.old run.new map key item reply.old reply.new result }
+    ensures few { result < 17 → result < 2 }
+    ensures why { 17 ≤ result → RefusesPut run.old map key item result }
+    ensures same { 17 ≤ result → (run.new ≡ run.old) × (reply.new ≡ reply.old) }
+    ensures told { result ≢ 16 }
+{
+    if let Err(refused) = run.may_close() {
+        return refusal_code(refused);
+    }
+    if map >= 8 || key >= 8 || item >= 8 {
+        return NO_REGISTER;
+    }
+    if run.labels_left() < 2 {
+        return NO_LABEL;
+    }
+    if run.ephes_room() < 1 {
+        return NO_EPHEMERON;
+    }
+    match map_put(run, map, key, item) {
         Some(answer) => {
             *reply = reply_of(answer);
             DONE
@@ -140,6 +171,29 @@ pub extern "C" fn camlheap_map_take(
         return NO_DOMAIN;
     };
     let told = take_on(&mut run, map, key, reply);
+    *handle = CamlheapDomain::of(run);
+    told
+}
+
+/// Binds, in the map in a register, the key in another to what a third holds. The reply is `ok`; `full` where an allocation was
+/// refused; or `type` where the second register holds no block, or the third nothing. `AGAIN` also where another call won the
+/// field, or a leaf of another key was in the way, for which the call has made room then. Two labels and room for an ephemeron
+/// must be left.
+#[unsafe(no_mangle)]
+pub extern "C" fn camlheap_map_put(
+    alloc: Global,
+    handle: &mut CamlheapDomain,
+    map: u8,
+    key: u8,
+    item: u8,
+    reply: &mut CamlheapReply,
+) -> u32
+    ensures { PutsFor handle.old handle.new map key item reply.old reply.new result }
+{
+    let Some(mut run) = handle.take(alloc) else {
+        return NO_DOMAIN;
+    };
+    let told = put_on(&mut run, map, key, item, reply);
     *handle = CamlheapDomain::of(run);
     told
 }

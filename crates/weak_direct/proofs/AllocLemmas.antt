@@ -1,5 +1,5 @@
 -- What an allocation of a put leaves, and one that is put off.
-use Rattle.std.proofs.Common.{◌≡◌, ◌≢◌, ℕ, ◌+◌, ◌≤◌, Bool, true, cond, List, Option, Some, None, ⊎_elim, refl, ap, sym, ◌∙◌, subst, arith}
+use Rattle.std.proofs.Common.{◌≡◌, ℕ, ◌+◌, ◌≤◌, Bool, true, cond, List, Option, Some, None, ⊎_elim, refl, ap, sym, ◌∙◌, subst, arith}
 use Rattle.std.specs.Option.{IfSome}
 use Rattle.model_core.specs.declared.command.Command.{Command}
 use Rattle.model_core.specs.declared.command.Command.TheVariants.{Alloc, Ephe}
@@ -13,7 +13,7 @@ use Rattle.weak_laws.specs.Tables.Performing.{full_of, writes}
 use Rattle.weak_laws.specs.Maps.Calls.{PerformedBy}
 use Rattle.weak_laws.proofs.OfTables.StageLemmas.{prefix_trans}
 use Rattle.weak_laws.proofs.OfMaps.CallLemmas.{alloc_step, ephe_step}
-use Rattle.weak_maps.specs.Beside.{refusals_by, writings_by}
+use Rattle.weak_maps.specs.Beside.{refusals_by}
 use Rattle.weak_maps.specs.Walks.{OwnQuiet}
 use Rattle.weak_maps.proofs.BesideLemmas.{same_held, set_other}
 use Rattle.weak_maps.proofs.CountLemmas.{gives_one, refuses_one, writes_one}

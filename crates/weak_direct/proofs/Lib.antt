@@ -6,3 +6,4 @@ pub mod TakeLemmas
 pub mod AllocLemmas
 pub mod PutLemmas
 pub mod SettleLemmas
+pub mod TryLemmas

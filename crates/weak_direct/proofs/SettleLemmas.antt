@@ -1,5 +1,5 @@
 -- One try of a put, where it is over and where it stops.
-use Rattle.std.proofs.Common.{◌≡◌, ℕ, ◌<◌, ◌%◌, ◌^◌, ◌++◌, ◌∷◌, [], List, Some, None, inl, inr, refl, subst, ◌∙◌}
+use Rattle.std.proofs.Common.{◌≡◌, ℕ, ◌<◌, ◌%◌, ◌^◌, ◌++◌, ◌∷◌, List, Some, None, inl, inr, refl, subst, ◌∙◌}
 use Rattle.model_core.specs.declared.label.Label.{Label}
 use Rattle.model_core.specs.declared.command.Command.TheVariants.{Alloc, Cas, Store}
 use Rattle.model_core.specs.declared.entry.Entry.{Entry}
@@ -20,7 +20,7 @@ use Rattle.weak_laws.proofs.OfMaps.OwnLemmas.{changes_before, changes_behind}
 use Rattle.weak_laws.proofs.OfMaps.WithinLemmas.{within_twice}
 use Rattle.weak_maps.specs.Beside.{held_by}
 use Rattle.weak_maps.specs.Guards.{Guards}
-use Rattle.weak_maps.specs.Puts.{Arrived, GoesOn, Published, PublishLost, RoomMade, rest_of}
+use Rattle.weak_maps.specs.Puts.{Arrived, GoesOn, Published, PublishLost, rest_of}
 use Rattle.weak_maps.specs.Walks.{OwnQuiet}
 use Rattle.weak_maps.proofs.BesideLemmas.{low_beside}
 use Rattle.weak_maps.proofs.DescendLemmas.{below_width}

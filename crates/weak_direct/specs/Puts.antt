@@ -1,16 +1,17 @@
 -- What a put answers and leaves, and one that stops.
-use Rattle.std.specs.Prelude.{◌≡◌, ◌≢◌, ◌<◌, ℕ, List, Option}
+use Rattle.std.specs.Prelude.{◌≡◌, ◌≢◌, ◌+◌, ◌<◌, ◌≤◌, ℕ, List, Option}
 use Rattle.model_core.specs.declared.label.Label.{Label}
 use Rattle.model_core.specs.declared.entry.Entry.{Entry}
 use Rattle.model_core.specs.declared.graph.Value.{Value}
 use Rattle.model_core.specs.declared.graph.Value.TheVariants.{Block, Int, Nothing}
 use Rattle.model_core.specs.declared.reply.Reply.{Reply}
+use Rattle.model_core.specs.declared.reply.Reply.TheVariants as reply
 use Rattle.model_core.specs.declared.state.Sizes.{Sizes}
 use Rattle.weak_laws.specs.Tables.Stages.{graph_of}
 use Rattle.weak_laws.specs.Maps.Tries.{IsInPlace, IsMap}
 use Rattle.weak_laws.specs.Maps.Calls.{OwnKeep, PutAnswers, PutsOrFull}
 use Rattle.weak_laws.specs.Maps.Steps.{OthersRespect}
-use Rattle.weak_maps.specs.Beside.{held_by}
+use Rattle.weak_maps.specs.Beside.{held_by, refusals_by}
 use Rattle.weak_maps.specs.Puts.{Arrived, GoesOn}
 use Rattle.weak_direct.specs.Leaves.{TakeLeaves}
 
@@ -35,6 +36,18 @@ PutReturns z d old new root key v r = PutAnswers z root d old new key v r
 
 abbrev pub PutsAt : Sizes → ℕ → List Entry → List Entry → ℕ → ℕ → ℕ → Reply → Type 0
 PutsAt z d old new map key item r = (root : Label) → held_by z d old map ≡ Block root → IsMap (graph_of z old) root → IsInPlace z.domains (graph_of z old) root → OthersRespect z root d old new → PutReturns z d old new root (held_by z d old key) (held_by z d old item) r
+
+-- what a put counts that makes one try: labels that were left and are left, and commands of the domain that were refused and are.
+-- Done: none was refused, and a leaf was made. `full`: one was refused, and at most the leaf was made. `type`: nothing was made. There is no other answer
+abbrev pub TryCounts : ℕ → ℕ → ℕ → ℕ → Reply → Type 0
+TryCounts labels left refused now reply.Done = (now ≡ refused) × (labels ≡ left + 1)
+TryCounts labels left refused now reply.Full = (now ≡ refused + 1) × (left ≤ labels) × (labels ≤ left + 1)
+TryCounts labels left refused now reply.BadType = (now ≡ refused) × (labels ≡ left)
+TryCounts labels left refused now r = ⊥
+
+-- the same by what a domain has seen
+abbrev pub TrySpends : ℕ → ℕ → ℕ → List Entry → List Entry → Reply → Type 0
+TrySpends d labels left old new r = TryCounts labels left (refusals_by d old) (refusals_by d new) r
 
 -- one that stops has changed no binding
 abbrev pub PutStops : Sizes → ℕ → List Entry → List Entry → ℕ → Type 0

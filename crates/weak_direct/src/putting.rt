@@ -3,10 +3,9 @@ ghost use Rattle.std.specs.Prelude.{◌≡◌, ◌+◌, ◌<◌, ◌≤◌, Some
 ghost use Rattle.model_core.specs.declared.reply.Reply.TheVariants as variant;
 ghost use Rattle.weak_maps.specs.Beside.{refusals_by};
 ghost use Rattle.weak_maps.specs.Guards.{LeafGuards, PutGuards, SettleGuards};
-ghost use Rattle.weak_maps.specs.Crowds.{PutSpends};
 ghost use Rattle.weak_maps.specs.Puts.{MakesLeaf};
 ghost use Rattle.weak_maps.specs.Returns.{FollowsAt};
-ghost use Rattle.weak_direct.specs.Puts.{LeafStops, PutStops, PutsAt, Settles, SettleStops};
+ghost use Rattle.weak_direct.specs.Puts.{LeafStops, PutStops, PutsAt, Settles, SettleStops, TrySpends};
 ghost use Rattle.weak_direct.specs.Tries.{Passes, Strides};
 
 use crate::direct::{Direct, allocate, clear, step};
@@ -20,7 +19,7 @@ use weak_maps::taking::{Search, from_root};
 
 /// Makes a leaf of the key in a register, with the datum in another, into register 10. Tells whether the allocation wasn't
 /// refused. None where a command is put off.
-pub fn make_leaf<M: Direct>(m: &mut M, key: u8, item: u8) -> Option<bool>
+fn make_leaf<M: Direct>(m: &mut M, key: u8, item: u8) -> Option<bool>
     requires few { (key < 8) × (item < 8) }
     requires label { 1 ≤ M.labels_left m.old }
     requires room { 1 ≤ M.ephes_room m.old }
@@ -153,11 +152,10 @@ pub fn map_put<M: Direct>(m: &mut M, map: u8, key: u8, item: u8) -> Option<Reply
     ensures heap { M.heap m.new ≡ M.heap m.old }
     ensures strides { Strides (M.sizes m.old) (M.domain m.old) (M.front m.old) (M.front m.new) }
     ensures lost { M.labels_left m.old ≤ M.labels_left m.new + 2 }
-    ensures counts { IfSome result (PutSpends (M.domain m.old) (M.labels_left m.old) (M.labels_left m.new) (M.front m.old) (M.front m.new)) }
+    ensures counts { IfSome result (TrySpends (M.domain m.old) (M.labels_left m.old) (M.labels_left m.new) (M.front m.old) (M.front m.new)) }
     ensures room { M.ephes_room m.old ≤ M.ephes_room m.new + 1 }
     ensures guards { PutGuards (M.sizes m.old) (M.domain m.old) (M.front m.old) (M.front m.new) map }
     ensures answer { IfSome result (PutsAt (M.sizes m.old) (M.domain m.old) (M.front m.old) (M.front m.new) map key item) }
-    ensures refused { IfSome result (λ r. r ≡ variant.Full → refusals_by (M.domain m.old) (M.front m.new) ≡ refusals_by (M.domain m.old) (M.front m.old) + 1) }
     ensures follows { FollowsAt (M.sizes m.old) (M.domain m.old) (M.front m.old) (M.front m.new) map }
     ensures stopped { result ≡ None → PutStops (M.sizes m.old) (M.domain m.old) (M.front m.old) (M.front m.new) map }
 {
@@ -169,7 +167,8 @@ pub fn map_put<M: Direct>(m: &mut M, map: u8, key: u8, item: u8) -> Option<Reply
     if is_empty(&datum) {
         return Some(Reply::BadType);
     }
-    if !make_leaf(m, key, item)? {
+    let made = make_leaf(m, key, item)?;
+    if !made {
         clear(m);
         return Some(Reply::Full);
     }

@@ -22,7 +22,7 @@ pub const MOST_TRIES: u32 = 1000;
 
 /// Goes on from a field on a key's way, whose block is in register 8 and what it held in register 9, to the one at which the
 /// way ends. Register 11 is used between.
-pub fn find<M: Direct>(
+pub(crate) fn find<M: Direct>(
     m: &mut M,
     key: u8,
     label: &Label,
