@@ -293,8 +293,11 @@ static inline uint32_t camlheap_map_bind_beside(camlheap_domain *domain, camlhea
   camlheap_reply made;
   for (int rooms = 0;; rooms++) {
     uint32_t told;
-    for (int asked = 0; (told = camlheap_map_put(domain, map, key, item, reply)) == CAMLHEAP_AGAIN && asked < 8; asked++)
-      while (camlheap_turn(domain) == CAMLHEAP_WAITING) camlheap_wait(bed);
+    for (int asked = 0; (told = camlheap_map_put(domain, map, key, item, reply)) == CAMLHEAP_AGAIN && asked < 8; asked++) {
+      uint32_t turned;
+      while ((turned = camlheap_turn(domain)) == CAMLHEAP_AGAIN || turned == CAMLHEAP_WAITING)
+        if (turned == CAMLHEAP_WAITING) camlheap_wait(bed);
+    }
     if ((told != CAMLHEAP_AGAIN && told != CAMLHEAP_NO_EPHEMERON) || rooms == 2) return told;
     told = camlheap_perform_beside(domain, bed, &room, &made);
     if (told != CAMLHEAP_DONE) return told;
