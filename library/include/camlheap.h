@@ -215,7 +215,7 @@ uint32_t camlheap_map_get(camlheap_domain *domain, uint8_t dst, uint8_t map, uin
 /* Binds the block in `key` to what `item` holds: ok, full, or type where `key` holds no block or `item` nothing. It is one try: AGAIN
  * also where another domain won the field, or another key's leaf stood there, for which it has made room then. Each try makes an
  * ephemeron and at most one block more: NO_LABEL where fewer than two labels are left, and NO_EPHEMERON where the domain's list
- * is full; then nothing has changed. camlheap_map_bind below asks anew. */
+ * is full; then nothing has changed. Where `map` holds no map it may be AGAIN each time. camlheap_map_bind below asks anew, and ends. */
 uint32_t camlheap_map_put(camlheap_domain *domain, uint8_t map, uint8_t key, uint8_t item, camlheap_reply *reply);
 
 /* Takes the binding of the block in `key` out: ok, none where there was none, or type. Of two calls that take the same binding
