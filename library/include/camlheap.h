@@ -212,6 +212,12 @@ uint32_t camlheap_map_make(camlheap_domain *domain, uint8_t dst, camlheap_reply 
 /* What the map binds the block in `key` to, into dst: int or block; none, and then dst holds nothing; or type. */
 uint32_t camlheap_map_get(camlheap_domain *domain, uint8_t dst, uint8_t map, uint8_t key, camlheap_reply *reply);
 
+/* Binds the block in `key` to what `item` holds: ok, full, or type where `key` holds no block or `item` nothing. It is one try: AGAIN
+ * also where another domain won the field, or another key's leaf stood there, for which it has made room then. Each try makes an
+ * ephemeron and at most one block more: NO_LABEL where fewer than two labels are left, and NO_EPHEMERON where the domain's list
+ * is full; then nothing has changed. Where `map` holds no map it may be AGAIN each time. camlheap_map_bind below asks anew, and ends. */
+uint32_t camlheap_map_put(camlheap_domain *domain, uint8_t map, uint8_t key, uint8_t item, camlheap_reply *reply);
+
 /* Takes the binding of the block in `key` out: ok, none where there was none, or type. Of two calls that take the same binding
  * one alone answers ok. */
 uint32_t camlheap_map_take(camlheap_domain *domain, uint8_t map, uint8_t key, camlheap_reply *reply);
@@ -277,6 +283,29 @@ static inline uint32_t camlheap_perform_beside(camlheap_domain *domain, camlheap
 }
 static inline uint32_t camlheap_perform(camlheap_domain *domain, const camlheap_command *command, camlheap_reply *reply) {
   return camlheap_perform_beside(domain, NULL, command, reply);
+}
+
+/* Puts a binding into a weak map, and asks anew while that helps: behind turns, then behind a MINOR, and then behind a FULL_MAJOR,
+ * which make room for blocks and in the list of ephemerons. What camlheap_map_put answers: AGAIN or NO_EPHEMERON only where there
+ * is still no room, or others have won the field each time. Nobody hears of finalisers that run between. */
+static inline uint32_t camlheap_map_bind_beside(camlheap_domain *domain, camlheap_bed *bed, uint8_t map, uint8_t key, uint8_t item, camlheap_reply *reply) {
+  camlheap_command room = {CAMLHEAP_MINOR, 0, 0, 0, 0, 0, 0, 0};
+  camlheap_reply made;
+  for (int rooms = 0;; rooms++) {
+    uint32_t told;
+    for (int asked = 0; (told = camlheap_map_put(domain, map, key, item, reply)) == CAMLHEAP_AGAIN && asked < 8; asked++) {
+      uint32_t turned;
+      while ((turned = camlheap_turn(domain)) == CAMLHEAP_AGAIN || turned == CAMLHEAP_WAITING)
+        if (turned == CAMLHEAP_WAITING) camlheap_wait(bed);
+    }
+    if ((told != CAMLHEAP_AGAIN && told != CAMLHEAP_NO_EPHEMERON) || rooms == 2) return told;
+    told = camlheap_perform_beside(domain, bed, &room, &made);
+    if (told != CAMLHEAP_DONE) return told;
+    room.op = CAMLHEAP_FULL_MAJOR;
+  }
+}
+static inline uint32_t camlheap_map_bind(camlheap_domain *domain, uint8_t map, uint8_t key, uint8_t item, camlheap_reply *reply) {
+  return camlheap_map_bind_beside(domain, NULL, map, key, item, reply);
 }
 
 /* Waits until the domain that rests in a bed is back. */

@@ -94,6 +94,17 @@ static uint32_t own_call(camlheap_domain *domain, const camlheap_command *c, cam
   }
 }
 
+/* The calls on maps, of registers that they don't take. */
+static void refuses_maps(camlheap_domain *domain, uint32_t told) {
+  camlheap_reply reply = UNTOUCHED;
+  for (int reg = 8; reg < 256; reg++) {
+    uint8_t r = (uint8_t)reg;
+    CHECK(camlheap_map_make(domain, r, &reply) == told && camlheap_map_get(domain, r, r, r, &reply) == told);
+    CHECK(camlheap_map_take(domain, r, r, &reply) == told && camlheap_map_put(domain, r, r, r, &reply) == told);
+    CHECK(camlheap_map_bind(domain, r, r, r, &reply) == told && is_untouched(&reply));
+  }
+}
+
 /* Each of them is refused by all calls: with `told`, and one that is no command at all with UNFIT. */
 static void refuses(camlheap_domain *domain, uint32_t told) {
   camlheap_reply reply = UNTOUCHED;
@@ -104,6 +115,7 @@ static void refuses(camlheap_domain *domain, uint32_t told) {
   camlheap_way way = {.kind = 77};
   uint16_t field = 77;
   if (told != CAMLHEAP_UNFIT) CHECK(camlheap_why(domain, UINT32_MAX, 0, UINT32_MAX, &way, &field, 1) == told && way.kind == 77 && field == 77);
+  refuses_maps(domain, told == CAMLHEAP_UNFIT ? CAMLHEAP_NO_REGISTER : told);
   uint32_t unknown = told == CAMLHEAP_NO_DOMAIN ? told : CAMLHEAP_UNFIT;
   for (int op = 24; op < 256; op++) CHECK(camlheap_submit(domain, &(camlheap_command){.op = (uint8_t)op}) == unknown);
   for (int op = 24; op < 256; op++) CHECK(called(domain, (camlheap_command){.op = (uint8_t)op}) == unknown);
