@@ -66,7 +66,7 @@ let refuse code =
   raise (Refused (if code < 25 then why.(code - 16) else if code < 32 then Not_resting else Outside (code - 32)))
 
 let answered told = if told.code = 0 then reply_of told else refuse told.code
-let again, waiting, ended = (1, 2, 4)
+let again, waiting, ended, no_ephemeron = (1, 2, 4, 20)
 
 let start config =
   if config.domains < 1 || config.domains > 8 then refuse 33;
@@ -93,18 +93,30 @@ let ran seat =
   from 0
 
 module Weak_map = struct
-  (* Asks a call anew until it is made. Where turns don't help, collections make the room that an allocation lacks. *)
+  (* Turns until nothing is left to do. *)
+  let rec settle pause seat =
+    let turned = raw_turn seat in
+    if turned = waiting then wait pause seat;
+    if turned = again || turned = waiting then settle pause seat
+
+  (* Asks a call a few times, each time behind as many turns as there is something to do for. *)
+  let rec ask_often pause seat call times =
+    let told = call () in
+    if told.code <> again || times = 0 then told
+    else (
+      settle pause seat;
+      ask_often pause seat call (times - 1))
+
+  (* Asks it anew while that helps: behind turns, and then behind collections, which make room. *)
   let ask ?(pause = ignore) seat call =
-    let rec go asked =
-      let told = call () in
-      if told.code <> again then answered told
+    let behind told room =
+      if told.code <> again && told.code <> no_ephemeron then told
       else (
-        if asked mod 128 = 0 then ignore (perform ~pause seat Full_major)
-        else if asked mod 32 = 0 then ignore (perform ~pause seat Minor)
-        else if raw_turn seat = waiting then wait pause seat;
-        go (asked + 1))
+        ignore (perform ~pause seat room);
+        ask_often pause seat call 8)
     in
-    go 1
+    let told = List.fold_left behind (ask_often pause seat call 8) [ Minor; Full_major ] in
+    if told.code = again then raise (Refused Not_now) else answered told
 
   let make ?pause seat ~dst = ask ?pause seat (fun () -> raw_map_make seat dst)
   let find ?pause seat ~map ~key ~dst = ask ?pause seat (fun () -> raw_map_get seat dst map key)

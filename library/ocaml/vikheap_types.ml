@@ -40,9 +40,10 @@ type reply =
   | Fin of { number : int; label : label }
   | Last of { number : int }
 
-(** [Outside n]: the n-th field of the configuration is outside its range. *)
+(** [Not_now]: a call on a weak map finds no room, or others have won each time. [Outside n]: the n-th field of the configuration is
+    outside its range. *)
 type refused =
-  | Is_resting | Closed | Busy | Unfit | No_ephemeron | No_finaliser | No_label | No_register | Memory | Not_resting
+  | Is_resting | Closed | Busy | Unfit | No_ephemeron | No_finaliser | No_label | No_register | Memory | Not_resting | Not_now
   | Outside of int
 
 (** Why something wasn't done. Nothing has changed then. *)

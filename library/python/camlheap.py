@@ -64,6 +64,7 @@ KINDS = [
     ("full", ""), ("live", "blocks words"), ("fin", "number domain serial"), ("last", "number"),
 ]  # fmt: skip
 DONE, AGAIN, WAITING, HUNGRY, ENDED = range(5)
+NO_EPHEMERON = 20
 
 
 class Refused(Exception):
@@ -186,7 +187,7 @@ class WeakMap:
     """A weak map in a register of a domain, which `Domain.make_map` makes and `Domain.map` finds. It keeps neither its keys nor, for a key
     that nothing else leads to, what the key is bound to. It is a block: domains share one through a field, and use it by these calls
     alone. Keys and data are in registers below 8; registers 8 to 11 are used between. A call waits for other domains in a pause, and
-    may collect where it lacks room: ask what has `ran` before."""
+    may collect where it lacks room: ask what has `ran` before. `NotNow` where there is no room, or others have won each time."""
 
     def __init__(self, domain, register):
         self._domain, self.register = domain, register
@@ -232,17 +233,29 @@ class Domain:
         return _reply(reply) if told == DONE else _refuse(told)
 
     def _ask(self, call, *registers):
-        """Asks a call on a map anew until it is made. Where turns don't help, collections make the room that an allocation lacks."""
+        """Asks a call on a map anew while that helps: behind turns, and then behind collections, which make room."""
         if not all(_fits(it, U8) for it in registers):
             raise NoRegister(23)
-        asked, reply = 0, _Reply()
-        while (told := getattr(self._library, f"camlheap_map_{call}")(self._raw, *registers, reply)) == AGAIN:
-            asked += 1
-            if asked % 32 == 0:
-                self.perform("minor" if asked % 128 else "full_major")
-            elif self._library.camlheap_turn(self._raw) == WAITING:
-                self._wait()
+        reply = _Reply()
+        told = self._ask_often(call, registers, reply)
+        for room in ("minor", "full_major"):
+            if told in (AGAIN, NO_EPHEMERON):
+                self.perform(room)
+                told = self._ask_often(call, registers, reply)
+        if told == AGAIN:
+            raise NotNow(told)
         return _reply(reply) if told == DONE else _refuse(told)
+
+    def _ask_often(self, call, registers, reply):
+        """Asks it a few times, each time behind as many turns as there is something to do for."""
+        for _ in range(8):
+            told = getattr(self._library, f"camlheap_map_{call}")(self._raw, *registers, reply)
+            if told != AGAIN:
+                break
+            while (turned := self._library.camlheap_turn(self._raw)) in (AGAIN, WAITING):
+                if turned == WAITING:
+                    self._wait()
+        return told
 
     def make_map(self, dst):
         """A new `WeakMap` into a register below 8, or None where there is no room."""

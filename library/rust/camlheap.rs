@@ -264,22 +264,41 @@ impl Seat {
         WeakMap { seat: self, register }
     }
 
-    // Asks a call on a map anew until it is made. Where turns don't help, collections make the room that an allocation lacks.
+    // Asks a call on a map anew while that helps: behind turns, and then behind collections, which make room.
     fn ask(&mut self, call: impl Fn(*mut sys::Domain, *mut sys::Reply) -> u32) -> Result<Reply, Refused> {
-        const TURNS: usize = 32;
-        let mut reply = sys::Reply::default();
-        for asked in 1.. {
-            let told = call(&mut self.raw, &mut reply);
-            if told != sys::AGAIN {
-                return answered(told, &reply);
+        let mut told = self.ask_often(&call);
+        for room in [Command::Minor, Command::FullMajor] {
+            if !matches!(told, Err(Refused::NotNow | Refused::NoEphemeron)) {
+                break;
             }
-            match asked % (4 * TURNS) {
-                0 => _ = self.perform(Command::FullMajor)?,
-                it if it % TURNS == 0 => _ = self.perform(Command::Minor)?,
-                _ => _ = self.turn(),
+            self.perform(room)?;
+            told = self.ask_often(&call);
+        }
+        told
+    }
+
+    // Asks it a few times, each time behind as many turns as there is something to do for.
+    fn ask_often(&mut self, call: &impl Fn(*mut sys::Domain, *mut sys::Reply) -> u32) -> Result<Reply, Refused> {
+        const TIMES: u32 = 8;
+        let mut reply = sys::Reply::default();
+        for _ in 0..TIMES {
+            match call(&mut self.raw, &mut reply) {
+                sys::AGAIN => self.settle(),
+                told => return answered(told, &reply),
             }
         }
-        unreachable!("a call is asked anew without end")
+        Err(Refused::NotNow)
+    }
+
+    // Turns until nothing is left to do.
+    fn settle(&mut self) {
+        loop {
+            match unsafe { sys::camlheap_turn(&mut self.raw) } {
+                sys::AGAIN => (),
+                sys::WAITING => self.wait(),
+                _ => return,
+            }
+        }
     }
 
     /// What the domain counts.
@@ -349,7 +368,7 @@ impl Seat {
 /// A weak map, which keeps neither its keys nor, for a key that nothing else leads to, what the key is bound to. It is a block:
 /// seats share one through a field, and use it by these calls alone. Keys and data are in registers below 8; registers 8 to 11
 /// are used between. A call waits for the other seats in a pause, and may collect where it lacks room, so ask what has
-/// [run](Seat::ran) before.
+/// [run](Seat::ran) before. [`Refused::NotNow`] where there is no room, or others have won each time.
 pub struct WeakMap<'a> {
     seat: &'a mut Seat,
     register: Register,
