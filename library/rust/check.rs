@@ -88,6 +88,7 @@ fn maps() -> Result<(), Refused> {
     let mut map = seat.map(7);
     assert_eq!((map.get(3, 2)?, map.insert(2, 1)?, map.remove(2)?), (Reply::BadType, Reply::BadType, Reply::BadType));
     assert_eq!((map.get(8, 1), seat.map(8).get(3, 1)), (Err(Refused::NoRegister), Err(Refused::NoRegister)));
+    assert_eq!((seat.map(5).insert(1, 6), seat.map(5).get(3, 1)?), (Err(Refused::NotNow), Reply::Empty));
     seat.finish()
 }
 
