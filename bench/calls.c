@@ -19,13 +19,22 @@ static void need(uint32_t told) {
   exit(1);
 }
 
-/* Registers: 1 holds an integer, 2 a young block with that in field 0 and a block in field 1, 3 an ephemeron, and 5 its key. */
+/* Registers: 1 holds an integer, 2 a young block with that in field 0 and a block in field 1, 3 an ephemeron, 5 its key, and 4 a weak map
+ * that binds this and 1,000 others, which register 7 keeps. */
 static void prepare(void) {
   camlheap_command ephe = {.op = CAMLHEAP_EPHE, .dst = 3, .n = 2}, minor = {.op = CAMLHEAP_MINOR};
   need(camlheap_put_int(&heap, 1, 7, &reply));
   need(camlheap_alloc(&heap, 5, 0, 4, &reply));
   need(camlheap_call(&heap, &ephe, 64, &reply));
   need(camlheap_set_key(&heap, 3, 0, 5, &reply));
+  need(camlheap_map_make(&heap, 4, &reply));
+  need(camlheap_alloc(&heap, 7, 0, 1000, &reply));
+  for (uint16_t key = 0; key < 1000; key++) {
+    need(camlheap_alloc(&heap, 6, 0, 1, &reply));
+    need(camlheap_store(&heap, 7, key, 6, &reply));
+    need(camlheap_map_bind(&heap, 4, 6, 1, &reply));
+  }
+  need(camlheap_map_bind(&heap, 4, 5, 1, &reply));
   need(camlheap_call(&heap, &minor, 64, &reply));
   need(camlheap_alloc(&heap, 2, 0, 4, &reply));
   need(camlheap_store(&heap, 2, 0, 1, &reply));
@@ -50,6 +59,7 @@ static uint32_t calls(const char *kind, long count) {
   KIND("set_key", camlheap_set_key(&heap, 3, 0, 5, &reply))
   KIND("get_key", camlheap_get_key(&heap, 6, 3, 0, &reply))
   KIND("check_key", camlheap_check_key(&heap, 3, 0, &reply))
+  KIND("map_get", camlheap_map_get(&heap, 6, 4, 5, &reply))
   KIND("alloc_2", camlheap_alloc(&heap, 6, 0, 2, &reply))
   KIND("alloc_4", camlheap_alloc(&heap, 6, 0, 4, &reply))
   fprintf(stderr, "no such kind\n");
@@ -57,7 +67,7 @@ static uint32_t calls(const char *kind, long count) {
 }
 
 int main(int count, char **words) {
-  if (count != 3 || camlheap_start(&(camlheap_config){1, 65536, 512, 8, 8}, &heap, 1) != CAMLHEAP_DONE) return 2;
+  if (count != 3 || camlheap_start(&(camlheap_config){1, 65536, 512, 8, 2048}, &heap, 1) != CAMLHEAP_DONE) return 2;
   prepare();
   return calls(words[1], atol(words[2])) != 0;
 }

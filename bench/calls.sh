@@ -17,7 +17,7 @@ with_loop() {
 }
 
 around=$(with_loop nothing)
-[ $# -gt 0 ] || set -- put_int copy load load_block store cas set_key get_key check_key alloc_2 alloc_4
+[ $# -gt 0 ] || set -- put_int copy load load_block store cas set_key get_key check_key map_get alloc_2 alloc_4
 for kind in "$@"; do
     "$work/calls" "$kind" 7000
     printf '%-12s%6s\n' "$kind" $(($(with_loop "$kind") - around))

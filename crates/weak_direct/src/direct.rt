@@ -87,6 +87,7 @@ pub trait Direct {
 }
 
 /// Makes a command that makes no block, and writes no register but 8 to 11, where it isn't put off.
+#[inline(always)]
 pub fn step<M: Direct>(m: &mut M, c: Command) -> Option<Reply>
     requires fits { IsMapCommand c }
     requires between { IsBetween c }
@@ -121,6 +122,7 @@ pub fn clear<M: Direct>(m: &mut M)
 
 /// Makes the last command of a call, which reads into a register or empties it, where it isn't put off. Registers 8 to 11 are
 /// emptied then, as far as that is possible at once.
+#[inline(always)]
 pub fn finish<M: Direct>(m: &mut M, c: Command) -> Option<Reply>
     requires fits { IsMapCommand c }
     requires last { IsLast c }
@@ -143,6 +145,7 @@ pub fn finish<M: Direct>(m: &mut M, c: Command) -> Option<Reply>
 }
 
 /// Makes an allocation of a put, where it isn't put off.
+#[inline(always)]
 pub fn allocate<M: Direct>(m: &mut M, c: Command) -> Option<Reply>
     requires fits { IsMapCommand c }
     requires make { IsMake c }

@@ -48,6 +48,7 @@ impl Direct for SharedRun {
         }
     }
 
+    #[inline(always)]
     fn perform(&mut self, c: Command) -> Option<Reply> {
         self.shows_here();
         let made = self.make_now(c);

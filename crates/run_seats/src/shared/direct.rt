@@ -14,6 +14,7 @@ impl SharedRun {
     /// Makes the next command at once, where that can be, and answers the reply. It is taken where
     /// [`submit`](SharedRun::submit) takes it. None where a pause is wanted or must come first: then no command is handed in,
     /// and nothing has changed but what was looked at, and what a sweep of own pools changes.
+    #[inline(always)]
     pub fn make_now(&mut self, command: Command) -> Result<Option<Reply>, Refused>
         ensures heap { self.new.heap ≡ self.old.heap }
         ensures may { IfOk result (λ _. MaySubmit self.old.run command) }
