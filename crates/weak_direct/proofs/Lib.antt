@@ -7,3 +7,4 @@ pub mod AllocLemmas
 pub mod PutLemmas
 pub mod SettleLemmas
 pub mod TryLemmas
+pub mod RefusedBodies

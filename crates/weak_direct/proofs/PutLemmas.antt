@@ -22,6 +22,7 @@ use Rattle.weak_maps.proofs.GetLemmas.{grows_by}
 use Rattle.weak_maps.proofs.GuardLemmas.{guards_quiet, guards_since, guards_twice}
 use Rattle.weak_maps.proofs.PutLemmas.{goes_twice, leaf_begun, leaf_filled}
 use Rattle.weak_maps.proofs.StayLemmas.{looking_from, prefix_same, quiet_looks, respects_within, within_quiet}
+use Rattle.weak_direct.specs.Leaves.{StopLeaves}
 use Rattle.weak_direct.proofs.LookLemmas.{looking_over}
 
 -- a stretch that changes no block
@@ -35,6 +36,10 @@ goes_quiet z root d old new map grows quiet respects = record {
 
 pub goes_over : (z : Sizes) (root : Label) (d : ℕ) (old now new : List Entry) → GoesOn z root d old now → IsPrefix now new → OwnQuiet z d now new → OthersRespect z root d old new → GoesOn z root d old new
 goes_over z root d old now new on grows quiet respects = goes_twice z root d old now new on (goes_quiet z root d now new on.map grows quiet (respects_within z root d old new now new on.grows (prefix_same new) respects))
+
+-- what a call that only went on leaves where it stops
+pub goes_stops : (z : Sizes) (root : Label) (d : ℕ) (old new : List Entry) → GoesOn z root d old new → StopLeaves z d old new root
+goes_stops z root d old new on = record { keeps = on.looks.keeps; within = on.within }
 
 -- a leaf in the making: its ephemeron, and its datum
 module _ (z : Sizes) (limits : IsWithinLimits z) (root : Label) (d : ℕ) (old n0 : List Entry) (r0 : Reply) (map : IsMap (graph_of z old) root) (p0 : PerformedBy z d old n0 (Ephe 10 1) r0) (other : r0 ≡ reply.Full → ⊥) where

@@ -13,7 +13,7 @@ use Rattle.model_core.specs.Commands.{shown}
 use Rattle.model_core.specs.History.{IsPrefix}
 use Rattle.weak_laws.proofs.OfTables.StageLemmas.{prefix_trans}
 use Rattle.weak_laws.specs.Maps.Steps.{OthersRespect}
-use Rattle.weak_laws.specs.Maps.Calls.{OwnKeep, PerformedBy}
+use Rattle.weak_laws.specs.Maps.Calls.{PerformedBy}
 use Rattle.weak_laws.proofs.OfMaps.WithinLemmas.{within_twice}
 use Rattle.weak_maps.specs.Beside.{held_by}
 use Rattle.weak_maps.specs.Fields.{Finds, Taking}
@@ -23,19 +23,22 @@ use Rattle.weak_maps.proofs.GetLemmas.{grows_by}
 use Rattle.weak_maps.proofs.GuardLemmas.{quiet_twice}
 use Rattle.weak_maps.proofs.StayLemmas.{looking_from, prefix_same, quiet_looks, respects_within, within_quiet}
 use Rattle.weak_maps.proofs.TakeLemmas.{cas_lost, cas_won, found_from}
-use Rattle.weak_direct.specs.Leaves.{StopsAt, TakeReturns}
+use Rattle.weak_direct.specs.Leaves.{StopLeaves, StopsAt, TakeReturns}
 use Rattle.weak_direct.specs.Tries.{KeepsBeside}
 use Rattle.weak_direct.proofs.LookLemmas.{looking_over}
 
--- a call that changed no block has changed no binding
+-- a call that changed no block has changed no binding, and has written none
+quiet_leaves : (z : Sizes) (root : Label) (d : ℕ) (old new : List Entry) → OwnQuiet z d old new → StopLeaves z d old new root
+quiet_leaves z root d old new quiet = record { keeps = (quiet_looks z root d old new quiet).keeps; within = within_quiet z root d old old new quiet }
+
 pub quiet_stops : (z : Sizes) (d : ℕ) (old new : List Entry) (map : ℕ) → OwnQuiet z d old new → StopsAt z d old new map
-quiet_stops z d old new map quiet root held is_map respects = (quiet_looks z root d old new quiet).keeps
+quiet_stops z d old new map quiet root held is_map respects = quiet_leaves z root d old new quiet
 
 -- nor has one that had changed none when it came to a stretch that changes no block
-pub looking_stops : (z : Sizes) (root : Label) (d : ℕ) (old now new : List Entry) → (OthersRespect z root d old now → Looking z root d old now) → IsPrefix now new → OwnQuiet z d now new → OthersRespect z root d old new → OwnKeep z root d old new
+pub looking_stops : (z : Sizes) (root : Label) (d : ℕ) (old now new : List Entry) → (OthersRespect z root d old now → Looking z root d old now) → IsPrefix now new → OwnQuiet z d now new → OthersRespect z root d old new → StopLeaves z d old new root
 looking_stops z root d old now new looking grows quiet respects =
     let x = looking (respects_within z root d old new old now (prefix_same old) grows respects) in
-    (quiet_looks z root d old new (quiet_twice z d old now new grows x.quiet quiet)).keeps
+    quiet_leaves z root d old new (quiet_twice z d old now new grows x.quiet quiet)
 
 pub not_taken : (z : Sizes) (d : ℕ) (old new : List Entry) (root : Label) (v : Value) → new ≡ old → ((k : Label) → shown v ≡ reply.Block k → ⊥) → TakeReturns z d old new root v reply.BadType
 not_taken z d old new root (Int i) same none = (refl, same)

@@ -16,7 +16,7 @@ use Rattle.weak_laws.specs.Tables.Stages.{graph_of}
 use Rattle.weak_laws.proofs.OfTables.StageLemmas.{prefix_trans}
 use Rattle.weak_laws.specs.Maps.Tries.{IsInPlace, IsMap, number_of, root_width}
 use Rattle.weak_laws.specs.Maps.Steps.{OthersRespect}
-use Rattle.weak_laws.specs.Maps.Calls.{OwnKeep, PerformedBy, PutsOrFull}
+use Rattle.weak_laws.specs.Maps.Calls.{PerformedBy, PutsOrFull}
 use Rattle.weak_maps.specs.Beside.{held_by}
 use Rattle.weak_maps.specs.Guards.{Guards, SettleGuards}
 use Rattle.weak_maps.specs.Puts.{Arrived, FindsField, GoesOn, KeepsLeaf, LeafMade, LeafRefused, Putting}
@@ -25,10 +25,10 @@ use Rattle.weak_maps.proofs.GetLemmas.{grows_by}
 use Rattle.weak_maps.proofs.GuardLemmas.{guards_quiet, guards_then, guards_twice}
 use Rattle.weak_maps.proofs.StayLemmas.{prefix_same, respects_within}
 use Rattle.weak_maps.proofs.TryLemmas.{put_arrives, put_begins}
-use Rattle.weak_direct.specs.Leaves.{TakeLeaves}
+use Rattle.weak_direct.specs.Leaves.{StopLeaves, TakeLeaves}
 use Rattle.weak_direct.specs.Puts.{LeafStops, PutReturns, Settles, SettleStops, TryCounts}
 use Rattle.weak_direct.specs.Tries.{KeepsBeside, Strides}
-use Rattle.weak_direct.proofs.PutLemmas.{goes_over}
+use Rattle.weak_direct.proofs.PutLemmas.{goes_over, goes_stops}
 
 -- no label is in the register of the key
 pub not_put : (z : Sizes) (d : ℕ) (old new : List Entry) (root : Label) (v w : Value) → new ≡ old → ((k : Label) → shown v ≡ reply.Block k → ⊥) → PutReturns z d old new root v w reply.BadType
@@ -95,8 +95,8 @@ module _ (z : Sizes) (root : Label) (d : ℕ) (old n0 new : List Entry) (grows :
   refused_answer k v refused keeps respects = let x = over_leaf (λ e. (refused e).on) respects in (inr (refl, x.looks), record { map = x.map; within = x.within; keeps = keeps })
 
   -- it was made
-  pub leaf_stops : (k : Label) (v : Value) → (OthersRespect z root d old n0 → LeafMade z d old n0 root k v) → OthersRespect z root d old new → OwnKeep z root d old new
-  leaf_stops k v leaf respects = (over_leaf (λ e. (leaf e).on) respects).looks.keeps
+  pub leaf_stops : (k : Label) (v : Value) → (OthersRespect z root d old n0 → LeafMade z d old n0 root k v) → OthersRespect z root d old new → StopLeaves z d old new root
+  leaf_stops k v leaf respects = goes_stops z root d old new (over_leaf (λ e. (leaf e).on) respects)
 
   pub tail_guards : Guards z root d old old n0 → Guards z root d old old new
   tail_guards guards = guards_twice z root d old old n0 new grows guards (guards_quiet z root d old n0 new quiet)
@@ -125,7 +125,7 @@ module _ (z : Sizes) (limits : IsWithinLimits z) (root : Label) (d : ℕ) (old :
     pub tried_answer : (r : Reply) → Settles z d n3 new k i2 rest2 steps other r → OthersRespect z root d old new → PutsOrFull z root d old new k v r × TakeLeaves z d old new root
     tried_answer r settles respects = settles old root v kr few key map placed (before respects) respects
 
-    pub tried_stops : SettleStops z d n3 new k i2 rest2 steps other → OthersRespect z root d old new → OwnKeep z root d old new
+    pub tried_stops : SettleStops z d n3 new k i2 rest2 steps other → OthersRespect z root d old new → StopLeaves z d old new root
     tried_stops stops respects = stops old root v kr few key map placed (before respects) respects
 
     pub tried_guards : SettleGuards z d n3 new k i2 rest2 steps other → Guards z root d old old n0 → IsPrefix n0 n3 → OwnQuiet z d n0 n3 → Guards z root d old old new

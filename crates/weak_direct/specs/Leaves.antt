@@ -65,6 +65,11 @@ TakeReturns z d old new root key r = TakeAnswers z root d old new key r
 abbrev pub TakesAt : Sizes → ℕ → List Entry → List Entry → ℕ → ℕ → Reply → Type 0
 TakesAt z d old new map key r = (root : Label) → held_by z d old map ≡ Block root → IsMap (graph_of z old) root → OthersRespect z root d old new → TakeReturns z d old new root (held_by z d old key) r
 
--- a call that stops has changed no binding of whatever map stood in a register when it began, if others respect the map until it stops
+-- what a call that stops leaves: it changed no binding, and no block was written but of the map and of the call's own
+pub record StopLeaves (z : Sizes) (d : ℕ) (old new : List Entry) (root : Label) : Type 0 where
+  pub keeps : OwnKeep z root d old new
+  pub within : OwnWithin z root d old old new
+
+-- so of whatever map stood in a register when it began, if others respect the map until it stops
 abbrev pub StopsAt : Sizes → ℕ → List Entry → List Entry → ℕ → Type 0
-StopsAt z d old new map = (root : Label) → held_by z d old map ≡ Block root → IsMap (graph_of z old) root → OthersRespect z root d old new → OwnKeep z root d old new
+StopsAt z d old new map = (root : Label) → held_by z d old map ≡ Block root → IsMap (graph_of z old) root → OthersRespect z root d old new → StopLeaves z d old new root

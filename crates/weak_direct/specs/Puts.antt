@@ -9,11 +9,11 @@ use Rattle.model_core.specs.declared.reply.Reply.TheVariants as reply
 use Rattle.model_core.specs.declared.state.Sizes.{Sizes}
 use Rattle.weak_laws.specs.Tables.Stages.{graph_of}
 use Rattle.weak_laws.specs.Maps.Tries.{IsInPlace, IsMap}
-use Rattle.weak_laws.specs.Maps.Calls.{OwnKeep, PutAnswers, PutsOrFull}
+use Rattle.weak_laws.specs.Maps.Calls.{PutAnswers, PutsOrFull}
 use Rattle.weak_laws.specs.Maps.Steps.{OthersRespect}
 use Rattle.weak_maps.specs.Beside.{held_by, refusals_by}
 use Rattle.weak_maps.specs.Puts.{Arrived, GoesOn}
-use Rattle.weak_direct.specs.Leaves.{TakeLeaves}
+use Rattle.weak_direct.specs.Leaves.{StopLeaves, TakeLeaves}
 
 -- a leaf in the making was left: no binding was changed, whatever map it is for, if others respect it
 abbrev pub LeafStops : Sizes → ℕ → List Entry → List Entry → ℕ → ℕ → Type 0
@@ -26,7 +26,7 @@ Settles z d now new k index rest level other r = (old : List Entry) (root : Labe
 
 abbrev pub SettleStops : Sizes → ℕ → List Entry → List Entry → Label → ℕ → ℕ → ℕ → Option Label → Type 0
 SettleStops z d now new k index rest level other = (old : List Entry) (root : Label) (v : Value) (key : ℕ) → key < 8 → held_by z d old key ≡ Block k → IsMap (graph_of z old) root → IsInPlace z.domains (graph_of z old) root
-    → Arrived z d old now root k v index rest level other → OthersRespect z root d old new → OwnKeep z root d old new
+    → Arrived z d old now root k v index rest level other → OthersRespect z root d old new → StopLeaves z d old new root
 
 -- `map_put`, by what the registers of the key and of the datum hold. Each leaf that binds a key stands on its key's way still
 abbrev pub PutReturns : Sizes → ℕ → List Entry → List Entry → Label → Value → Value → Reply → Type 0
@@ -49,6 +49,6 @@ TryCounts labels left refused now r = ⊥
 abbrev pub TrySpends : ℕ → ℕ → ℕ → List Entry → List Entry → Reply → Type 0
 TrySpends d labels left old new r = TryCounts labels left (refusals_by d old) (refusals_by d new) r
 
--- one that stops has changed no binding
+-- one that stops has changed no binding, and has written no block but of the map and of its own
 abbrev pub PutStops : Sizes → ℕ → List Entry → List Entry → ℕ → Type 0
-PutStops z d old new map = (root : Label) → held_by z d old map ≡ Block root → IsMap (graph_of z old) root → IsInPlace z.domains (graph_of z old) root → OthersRespect z root d old new → OwnKeep z root d old new
+PutStops z d old new map = (root : Label) → held_by z d old map ≡ Block root → IsMap (graph_of z old) root → IsInPlace z.domains (graph_of z old) root → OthersRespect z root d old new → StopLeaves z d old new root

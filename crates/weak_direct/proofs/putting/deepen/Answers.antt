@@ -10,7 +10,7 @@ use Rattle.weak_maps.specs.Puts.{rest_of}
 use Rattle.weak_maps.proofs.GuardLemmas.{guards_quiet, quiet_at}
 use Rattle.weak_maps.proofs.MachineLemmas.{at_machine}
 use Rattle.weak_direct.proofs.AllocLemmas.{passes_strides, strides_at, strides_twice}
-use Rattle.weak_direct.proofs.PutLemmas.{goes_over}
+use Rattle.weak_direct.proofs.PutLemmas.{goes_over, goes_stops}
 use Rattle.weak_direct.proofs.SettleLemmas.{begun_guarded, begun_stops, filled_guarded, filled_stops, full_guards, full_settles, room_goes, room_guarded}
 use Rattle.weak_direct.proofs.putting.deepen.Goals as goal
 
@@ -28,7 +28,7 @@ returns-in_err-made-clause-stopped g c =
     let d : ℕ = g.M.Direct.domain c.args.m.now in
     let now : List Entry = g.M.Direct.front c.args.m.now in
     let n0 : List Entry = g.M.Direct.front c.allocate.new.m in
-    λ none old root v kr few held map placed t respects. (goes_over z root d old now n0 t.on c.allocate.ensures.strides.grows (c.allocate.ensures.stopped c.in_err-made.was) respects).looks.keeps
+    λ none old root v kr few held map placed t respects. goes_stops z root d old _ (goes_over z root d old now n0 t.on c.allocate.ensures.strides.grows (c.allocate.ensures.stopped c.in_err-made.was) respects)
 
 pub returns-then-is_full-clause-labels : goal.returns-then-is_full-clause-labels
 returns-then-is_full-clause-labels g c =
@@ -126,7 +126,7 @@ returns-in_err-_leaf-clause-stopped g c =
     let o0 = c.allocate.ensures.domain in
     let n1 : List Entry = g.M.Direct.front c.step.new.m in
     let strides1 = strides_twice z d now n0 n1 c.allocate.ensures.strides (strides_at z _ d _ n0 n1 s0 o0 (passes_strides _ _ _ _ c.step.ensures.passes)) in
-    λ none old root v kr few held map placed t respects. (begun_stops z c.stands.ensures.limits root d old now c.args.label.now v kr few held c.args.from.index c.args.from.rest c.args.from.steps c.args.other c.serial_of-serial.ensures.range c.serial_of-other_serial.ensures.range map placed t n0 c.in_ok-made.made c.in_ok-made.ensures.performed (λ e. let clash : true ≡ false = sym (c.is_full.ensures.full.1 e) ∙ c.if-is_full.false in cc) n1 c.step.ensures.passes.grows (quiet_at z _ d _ n0 n1 s0 o0 (c.step.ensures.stopped c.in_err-_leaf.was)) respects).looks.keeps
+    λ none old root v kr few held map placed t respects. goes_stops z root d old _ (begun_stops z c.stands.ensures.limits root d old now c.args.label.now v kr few held c.args.from.index c.args.from.rest c.args.from.steps c.args.other c.serial_of-serial.ensures.range c.serial_of-other_serial.ensures.range map placed t n0 c.in_ok-made.made c.in_ok-made.ensures.performed (λ e. let clash : true ≡ false = sym (c.is_full.ensures.full.1 e) ∙ c.if-is_full.false in cc) n1 c.step.ensures.passes.grows (quiet_at z _ d _ n0 n1 s0 o0 (c.step.ensures.stopped c.in_err-_leaf.was)) respects)
 
 pub returns-in_err-_deeper-clause-strides : goal.returns-in_err-_deeper-clause-strides
 returns-in_err-_deeper-clause-strides g c =
@@ -186,7 +186,7 @@ returns-in_err-_deeper-clause-stopped g c =
     let number : c.number_of.result ≡ number_of z.domains j = c.number_of.ensures.number ∙ ap (λ (n : ℕ). number_of n j) c.domains.ensures in
     let digit : c.node_index.result ≡ rest_of (number_of z.domains j) c.args.from.steps % node_width = c.node_index.ensures ∙ ap (λ (n : ℕ). n % node_width) (c.rest_below-rest.ensures ∙ ap (λ (n : ℕ). rest_of n c.args.from.steps) number) in
     let p1 = subst (λ (n : ℕ). PerformedBy z d n0 n1 (Store 11 n 9) c.in_ok-_leaf._leaf) digit (at_machine z _ d _ n0 n1 _ _ s0 o0 c.in_ok-_leaf.ensures.performed) in
-    λ none old root v kr few held map placed t respects. (filled_stops z c.stands.ensures.limits root d old now c.args.label.now v kr few held c.args.from.index c.args.from.rest c.args.from.steps c.args.other c.serial_of-serial.ensures.range c.serial_of-other_serial.ensures.range map placed t n0 c.in_ok-made.made c.in_ok-made.ensures.performed (λ e. let clash : true ≡ false = sym (c.is_full.ensures.full.1 e) ∙ c.if-is_full.false in cc) n1 _ p1 n2 c.step-2.ensures.passes.grows (quiet_at z _ d _ n1 n2 s1 o1 (c.step-2.ensures.stopped c.in_err-_deeper.was)) respects).looks.keeps
+    λ none old root v kr few held map placed t respects. goes_stops z root d old _ (filled_stops z c.stands.ensures.limits root d old now c.args.label.now v kr few held c.args.from.index c.args.from.rest c.args.from.steps c.args.other c.serial_of-serial.ensures.range c.serial_of-other_serial.ensures.range map placed t n0 c.in_ok-made.made c.in_ok-made.ensures.performed (λ e. let clash : true ≡ false = sym (c.is_full.ensures.full.1 e) ∙ c.if-is_full.false in cc) n1 _ p1 n2 c.step-2.ensures.passes.grows (quiet_at z _ d _ n1 n2 s1 o1 (c.step-2.ensures.stopped c.in_err-_deeper.was)) respects)
 
 pub returns-clause-strides : goal.returns-clause-strides
 returns-clause-strides g c =
@@ -248,4 +248,4 @@ returns-clause-stopped g c =
     let digit : c.node_index.result ≡ rest_of (number_of z.domains j) c.args.from.steps % node_width = c.node_index.ensures ∙ ap (λ (n : ℕ). n % node_width) (c.rest_below-rest.ensures ∙ ap (λ (n : ℕ). rest_of n c.args.from.steps) number) in
     let p1 = subst (λ (n : ℕ). PerformedBy z d n0 n1 (Store 11 n 9) c.in_ok-_leaf._leaf) digit (at_machine z _ d _ n0 n1 _ _ s0 o0 c.in_ok-_leaf.ensures.performed) in
     let p2 = at_machine z _ d _ n1 n2 _ _ s1 o1 c.in_ok-_deeper.ensures.performed in
-    λ none old root v kr few held map placed t respects. (room_goes z c.stands.ensures.limits root d old now c.args.label.now v kr few held c.args.from.index c.args.from.rest c.args.from.steps c.args.other c.serial_of-serial.ensures.range c.serial_of-other_serial.ensures.range map placed t n0 c.in_ok-made.made c.in_ok-made.ensures.performed (λ e. let clash : true ≡ false = sym (c.is_full.ensures.full.1 e) ∙ c.if-is_full.false in cc) n1 _ p1 n2 _ p2 respects).looks.keeps
+    λ none old root v kr few held map placed t respects. goes_stops z root d old _ (room_goes z c.stands.ensures.limits root d old now c.args.label.now v kr few held c.args.from.index c.args.from.rest c.args.from.steps c.args.other c.serial_of-serial.ensures.range c.serial_of-other_serial.ensures.range map placed t n0 c.in_ok-made.made c.in_ok-made.ensures.performed (λ e. let clash : true ≡ false = sym (c.is_full.ensures.full.1 e) ∙ c.if-is_full.false in cc) n1 _ p1 n2 _ p2 respects)

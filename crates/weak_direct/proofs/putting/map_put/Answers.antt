@@ -22,6 +22,7 @@ use Rattle.weak_direct.specs.Tries.{Strides}
 use Rattle.weak_direct.proofs.AllocLemmas.{passes_strides, strides_at, strides_twice}
 use Rattle.weak_direct.proofs.LookLemmas.{guards_follow}
 use Rattle.weak_direct.proofs.StepLemmas.{passes_same, quiet_after}
+use Rattle.weak_direct.proofs.PutLemmas.{goes_stops}
 use Rattle.weak_direct.proofs.TryLemmas.{done_counts, full_counts, leaf_stops, leaf_stops_at, none_put, not_put, put_held, refused_answer, settle_stops_at, settled_at, some_then, some_with, strides_from, tail_guards, tried_answer, tried_guards, tried_stops}
 use Rattle.weak_direct.proofs.putting.map_put.Goals as goal
 
@@ -152,7 +153,7 @@ returns-in_err-made-clause-stopped g c =
     let key : held_by z d old c.args.key ≡ Block k = shown_label _ _ (sym c.show.ensures.reply ∙ c.in-Block.is) in
     let some : v ≢ Nothing = shows_some z _ d _ old _ c.args.item c.show-datum.result c.show.ensures.sizes c.show.ensures.domain c.show.ensures.front c.show-datum.ensures.reply (λ e. let clash : true ≡ false = sym (c.is_empty.ensures.1 e) ∙ c.if-is_empty.false in cc) in
     let stops : LeafStops z d old n0 c.args.key c.args.item = leaf_stops_at z _ d _ old _ n0 c.args.key c.args.item s0 o0 f0 (c.make_leaf.ensures.stopped c.in_err-made.was) in
-    λ none root held map placed respects. (stops root k key some map respects).looks.keeps
+    λ none root held map placed respects. goes_stops z root d old _ (stops root k key some map respects)
 
 pub returns-in_err-made-clause-sizes : goal.returns-in_err-made-clause-sizes
 returns-in_err-made-clause-sizes g c =

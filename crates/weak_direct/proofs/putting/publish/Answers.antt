@@ -2,7 +2,7 @@ use Rattle.std.proofs.Common.{◌≡◌, ◌∙◌, ℕ, List, true, false, sym}
 use Rattle.model_core.specs.declared.entry.Entry.{Entry}
 use Rattle.model_core.specs.declared.state.Sizes.{Sizes}
 use Rattle.weak_maps.proofs.GuardLemmas.{guards_quiet, quiet_at}
-use Rattle.weak_direct.proofs.PutLemmas.{goes_over}
+use Rattle.weak_direct.proofs.PutLemmas.{goes_over, goes_stops}
 use Rattle.weak_direct.proofs.SettleLemmas.{lost_goes, lost_guards, won_guards, won_settles}
 use Rattle.weak_direct.proofs.StepLemmas.{passes_after}
 use Rattle.weak_direct.proofs.putting.publish.Goals as goal
@@ -21,7 +21,7 @@ returns-in_err-won-clause-stopped g c =
     let d : ℕ = g.M.Direct.domain c.args.m.now in
     let now : List Entry = g.M.Direct.front c.args.m.now in
     let n1 : List Entry = g.M.Direct.front c.step.new.m in
-    λ none old root v kr few held map placed t respects. (goes_over z root d old now n1 t.on c.step.ensures.passes.grows (c.step.ensures.stopped c.in_err-won.was) respects).looks.keeps
+    λ none old root v kr few held map placed t respects. goes_stops z root d old _ (goes_over z root d old now n1 t.on c.step.ensures.passes.grows (c.step.ensures.stopped c.in_err-won.was) respects)
 
 pub returns-then-not-is_yes-clause-guards : goal.returns-then-not-is_yes-clause-guards
 returns-then-not-is_yes-clause-guards g c =
@@ -37,7 +37,7 @@ returns-then-not-is_yes-clause-stopped g c =
     let d : ℕ = g.M.Direct.domain c.args.m.now in
     let now : List Entry = g.M.Direct.front c.args.m.now in
     let n1 : List Entry = g.M.Direct.front c.step.new.m in
-    λ none old root v kr few held map placed t respects. (lost_goes z c.stands.ensures.limits root d old now c.args.label.now v kr few held c.args.from.index c.args.from.rest c.args.from.steps t n1 c.in_ok-won.won c.in_ok-won.ensures.performed (λ e. let clash : true ≡ false = sym (c.is_yes.ensures.1 e) ∙ c.if-not-is_yes.true in cc) respects).looks.keeps
+    λ none old root v kr few held map placed t respects. goes_stops z root d old _ (lost_goes z c.stands.ensures.limits root d old now c.args.label.now v kr few held c.args.from.index c.args.from.rest c.args.from.steps t n1 c.in_ok-won.won c.in_ok-won.ensures.performed (λ e. let clash : true ≡ false = sym (c.is_yes.ensures.1 e) ∙ c.if-not-is_yes.true in cc) respects)
 
 pub returns-clause-passes : goal.returns-clause-passes
 returns-clause-passes g c =

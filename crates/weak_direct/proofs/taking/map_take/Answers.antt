@@ -74,6 +74,17 @@ returns-in_err-_zero-clause-follows g c =
     let quiet0 : OwnQuiet z d old n0 = quiet_from z _ d _ old _ n0 s0 o0 c.show.ensures.front (c.step.ensures.quiet (λ s. refl)) in
     λ root held map placed respects. quiet_follows z root d old n0 passes0.grows quiet0 respects map placed
 
+pub returns-in_err-_zero-clause-stopped : goal.returns-in_err-_zero-clause-stopped
+returns-in_err-_zero-clause-stopped g c =
+    let z : Sizes = g.M.Direct.sizes c.args.m.now in
+    let d : ℕ = g.M.Direct.domain c.args.m.now in
+    let old : List Entry = g.M.Direct.front c.args.m.now in
+    let s0 = c.show.ensures.sizes in
+    let o0 = c.show.ensures.domain in
+    let n0 : List Entry = g.M.Direct.front c.step.new.m in
+    let quiet0 : OwnQuiet z d old n0 = quiet_from z _ d _ old _ n0 s0 o0 c.show.ensures.front (c.step.ensures.quiet (λ s. refl)) in
+    λ none. quiet_stops z d old n0 c.args.map quiet0
+
 pub returns-in_err-_root-clause-passes : goal.returns-in_err-_root-clause-passes
 returns-in_err-_root-clause-passes g c =
     let z : Sizes = g.M.Direct.sizes c.args.m.now in
