@@ -6,7 +6,7 @@ use Rattle.model_core.specs.declared.state.Sizes.{Sizes}
 use Rattle.model_core.specs.Fronts.{IsFrontOf}
 use Rattle.model_core.specs.History.{IsPrefix}
 use Rattle.heap_rule.specs.Limits.{sizes_in}
-use Rattle.run_seats.specs.Shared.Sharing.{SharedView}
+use Rattle.run_seats.specs.Shared.Sharing.{MayClose, SharedView}
 use Rattle.weak_maps.specs.Guards.{PutGuards, TakeGuards}
 use Rattle.weak_maps.specs.Returns.{FollowsAt, MakeReturns}
 use Rattle.weak_maps.specs.Walks.{OwnQuiet}
@@ -97,35 +97,44 @@ pub record MakesMap (old new : SharedView) (dst : ℕ) (before read : CamlheapRe
   pub again : told ≢ 0 → IsFrontOf (number_of old) (front_of new) (front_of old)
   pub unread : told ≢ 0 → read ≡ before
 
--- what a call on a map leaves in a handle: a handle that holds none is told as such; the call was begun, or it isn't, and then nothing has changed
-pub record CallsMap (old new : CamlheapDomain) (Does Refuses : ℕ → Type 0) (before read : CamlheapReply) (told : ℕ) : Type 0 where
+-- a call on a map may be begun: the domain takes a command, and the registers are below 8
+abbrev pub MayCall : SharedView → Type 0 → Type 0
+MayCall s Low = MayClose s × Low
+
+-- what a call on a map leaves in a handle: a handle that holds none is told as such; the call was begun, as it is only where it may be, or it isn't, and then nothing has changed
+pub record CallsMap (old new : CamlheapDomain) (May : Type 0) (Does Refuses : ℕ → Type 0) (before read : CamlheapReply) (told : ℕ) : Type 0 where
   pub kept : new.full ≡ old.full
   pub none : (old.full ≡ false) ↔ (told ≡ 16)
   pub does : old.full ≡ true → told < 17 → Does told
   pub few : old.full ≡ true → told < 17 → told < 2
+  pub may : old.full ≡ true → told < 17 → May
   pub why : old.full ≡ true → 17 ≤ told → Refuses told
   pub same : old.full ≡ true → 17 ≤ told → (new.value ≡ old.value) × (read ≡ before)
   pub unread : old.full ≡ false → read ≡ before
 
 abbrev pub GetsFor : CamlheapDomain → CamlheapDomain → ℕ → ℕ → ℕ → CamlheapReply → CamlheapReply → ℕ → Type 0
-GetsFor old new dst map key before read told = CallsMap old new (λ (n : ℕ). LooksUp old.value new.value dst map key before read n) (λ (n : ℕ). RefusesMap old.value (AreLow dst map key) n) before read told
+GetsFor old new dst map key before read told = CallsMap old new (MayCall old.value (AreLow dst map key)) (λ (n : ℕ). LooksUp old.value new.value dst map key before read n) (λ (n : ℕ). RefusesMap old.value (AreLow dst map key) n) before read told
 
 abbrev pub TakesFor : CamlheapDomain → CamlheapDomain → ℕ → ℕ → CamlheapReply → CamlheapReply → ℕ → Type 0
-TakesFor old new map key before read told = CallsMap old new (λ (n : ℕ). TakesOut old.value new.value map key before read n) (λ (n : ℕ). RefusesMap old.value ((map < 8) × (key < 8)) n) before read told
+TakesFor old new map key before read told = CallsMap old new (MayCall old.value ((map < 8) × (key < 8))) (λ (n : ℕ). TakesOut old.value new.value map key before read n) (λ (n : ℕ). RefusesMap old.value ((map < 8) × (key < 8)) n) before read told
 
 -- a call isn't begun for want of labels
 abbrev pub LacksLabel : SharedView → ℕ → ℕ → Type 0
 LacksLabel s most told = (told ≡ 22) × (4294967295 < s.run.token.view.own.serial + most)
 
 abbrev pub MakesFor : CamlheapDomain → CamlheapDomain → ℕ → CamlheapReply → CamlheapReply → ℕ → Type 0
-MakesFor old new dst before read told = CallsMap old new (λ (n : ℕ). MakesMap old.value new.value dst before read n) (λ (n : ℕ). RefusesMap old.value (dst < 8) n ⊎ LacksLabel old.value 1 n) before read told
+MakesFor old new dst before read told = CallsMap old new (MayCall old.value (dst < 8) × (1 ≤ labels_left old.value)) (λ (n : ℕ). MakesMap old.value new.value dst before read n) (λ (n : ℕ). RefusesMap old.value (dst < 8) n ⊎ LacksLabel old.value 1 n) before read told
 
 -- nor is a put for want of room for an ephemeron
 abbrev pub LacksRoom : SharedView → ℕ → Type 0
 LacksRoom s told = (told ≡ 20) × (room_left s ≡ 0)
 
+-- a put may be begun where there are two labels and room for an ephemeron besides
+abbrev pub MayPut : SharedView → ℕ → ℕ → ℕ → Type 0
+MayPut s map key item = MayCall s (AreLow map key item) × (2 ≤ labels_left s) × (1 ≤ room_left s)
+
 abbrev pub RefusesPut : SharedView → ℕ → ℕ → ℕ → ℕ → Type 0
 RefusesPut s map key item told = RefusesMap s (AreLow map key item) told ⊎ (LacksLabel s 2 told ⊎ LacksRoom s told)
 
 abbrev pub PutsFor : CamlheapDomain → CamlheapDomain → ℕ → ℕ → ℕ → CamlheapReply → CamlheapReply → ℕ → Type 0
-PutsFor old new map key item before read told = CallsMap old new (λ (n : ℕ). PutsIn old.value new.value map key item before read n) (λ (n : ℕ). RefusesPut old.value map key item n) before read told
+PutsFor old new map key item before read told = CallsMap old new (MayPut old.value map key item) (λ (n : ℕ). PutsIn old.value new.value map key item before read n) (λ (n : ℕ). RefusesPut old.value map key item n) before read told

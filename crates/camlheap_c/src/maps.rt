@@ -3,7 +3,7 @@
 //! `CLOSED`, `BUSY`, `NO_REGISTER` for one that isn't below 8, `NO_LABEL`; a put
 //! also `NO_EPHEMERON`. Then nothing has changed.
 ghost use Rattle.std.specs.Prelude.{◌≡◌, ◌≢◌, ◌⊎◌, ◌<◌, ◌≤◌};
-ghost use Rattle.camlheap_c.specs.Maps.{AreLow, GetsFor, LacksLabel, LooksUp, MakesFor, MakesMap, PutsFor, PutsIn, RefusesMap, RefusesPut, TakesFor, TakesOut};
+ghost use Rattle.camlheap_c.specs.Maps.{AreLow, labels_left, GetsFor, LacksLabel, LooksUp, MakesFor, MakesMap, MayCall, MayPut, PutsFor, PutsIn, RefusesMap, RefusesPut, TakesFor, TakesOut};
 
 use crate::codes::{AGAIN, DONE, NO_DOMAIN, NO_EPHEMERON, NO_LABEL, NO_REGISTER, refusal_code};
 use crate::crossing::{CamlheapReply, reply_of};
@@ -19,6 +19,7 @@ use weak_direct::taking::map_take;
 fn get_on(run: &mut SharedRun, dst: u8, map: u8, key: u8, reply: &mut CamlheapReply) -> u32
     ensures does { result < 17 → LooksUp run.old run.new dst map key reply.old reply.new result }
     ensures few { result < 17 → result < 2 }
+    ensures may { result < 17 → MayCall run.old (AreLow dst map key) }
     ensures why { 17 ≤ result → RefusesMap run.old (AreLow dst map key) result }
     ensures same { 17 ≤ result → (run.new ≡ run.old) × (reply.new ≡ reply.old) }
     ensures told { result ≢ 16 }
@@ -42,6 +43,7 @@ fn get_on(run: &mut SharedRun, dst: u8, map: u8, key: u8, reply: &mut CamlheapRe
 fn take_on(run: &mut SharedRun, map: u8, key: u8, reply: &mut CamlheapReply) -> u32
     ensures does { result < 17 → TakesOut run.old run.new map key reply.old reply.new result }
     ensures few { result < 17 → result < 2 }
+    ensures may { result < 17 → MayCall run.old ((map < 8) × (key < 8)) }
     ensures why { 17 ≤ result → RefusesMap run.old ((map < 8) × (key < 8)) result }
     ensures same { 17 ≤ result → (run.new ≡ run.old) × (reply.new ≡ reply.old) }
     ensures told { result ≢ 16 }
@@ -65,6 +67,7 @@ fn take_on(run: &mut SharedRun, map: u8, key: u8, reply: &mut CamlheapReply) -> 
 fn put_on(run: &mut SharedRun, map: u8, key: u8, item: u8, reply: &mut CamlheapReply) -> u32
     ensures does { result < 17 → PutsIn run.old run.new map key item reply.old reply.new result }
     ensures few { result < 17 → result < 2 }
+    ensures may { result < 17 → MayPut run.old map key item }
     ensures why { 17 ≤ result → RefusesPut run.old map key item result }
     ensures same { 17 ≤ result → (run.new ≡ run.old) × (reply.new ≡ reply.old) }
     ensures told { result ≢ 16 }
@@ -94,6 +97,7 @@ fn put_on(run: &mut SharedRun, map: u8, key: u8, item: u8, reply: &mut CamlheapR
 fn make_on(run: &mut SharedRun, dst: u8, reply: &mut CamlheapReply) -> u32
     ensures does { result < 17 → MakesMap run.old run.new dst reply.old reply.new result }
     ensures few { result < 17 → result < 2 }
+    ensures may { result < 17 → MayCall run.old (dst < 8) × (1 ≤ labels_left run.old) }
     ensures why { 17 ≤ result → RefusesMap run.old (dst < 8) result ⊎ LacksLabel run.old 1 result }
     ensures same { 17 ≤ result → (run.new ≡ run.old) × (reply.new ≡ reply.old) }
     ensures told { result ≢ 16 }

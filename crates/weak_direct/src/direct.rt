@@ -51,14 +51,6 @@ pub trait Direct {
     fn domains(&self) -> u32
         ensures { result ≡ (sizes self.now).domains };
 
-    /// How many labels are left for the domain's blocks.
-    fn spare_labels(&self) -> u32
-        ensures { result ≡ labels_left self.now };
-
-    /// How many ephemerons fit into the domain's list.
-    fn spare_ephemerons(&self) -> usize
-        ensures { result ≡ ephes_room self.now };
-
     /// The reply that shows what a register holds. No entry is made.
     fn show(&mut self, r: u8) -> Reply
         requires few { r < 16 }

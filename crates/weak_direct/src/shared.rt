@@ -32,14 +32,6 @@ impl Direct for SharedRun {
         SharedRun::domains(self)
     }
 
-    fn spare_labels(&self) -> u32 {
-        self.labels_left()
-    }
-
-    fn spare_ephemerons(&self) -> usize {
-        self.ephes_room()
-    }
-
     fn show(&mut self, r: u8) -> Reply {
         self.shows_here();
         match SharedRun::show(self, r) {
