@@ -28,20 +28,19 @@ use Rattle.heap_rule.specs.Limits.{sizes_in}
 use Rattle.heap_rule.specs.Places.{Stands}
 use Rattle.heap_rule.specs.Changes.{value_at, changed}
 use Rattle.heap_rule.specs.Views.{one}
-use Rattle.heap_rule.specs.Rule.{state_of, AllFound, Stood, Rule}
+use Rattle.heap_rule.specs.Rule.{state_of, Stood, Rule}
 use Rattle.heap_rule.specs.Standing.{Acts, Entered, with_front, with_own, with_registers}
 use Rattle.heap_rule.proofs.ChangeLemmas.{changed_only}
 use Rattle.heap_rule.proofs.Values.{AllStand, holds}
 use Rattle.heap_rule.specs.declared.view.Share.{Share}
 use Rattle.heap_rule.proofs.Sharings.{with_weak}
 use Rattle.heap_rule.proofs.Advancing.{Advance}
-use Rattle.heap_rule.proofs.Garbage.{garbage_same}
-use Rattle.heap_rule.proofs.Keeps.{Words, IsOfTrace, mine, my_good, own, control_same, controls_kept, appends, legal_entry, hunter_as, more_same, owes_as, recalls_same, run_settled, run_open}
+use Rattle.heap_rule.proofs.Keeps.{Words, IsOfTrace, mine, my_good, own, legal_entry, run_open}
 use Rattle.model_core.proofs.Commands.MoveLemmas.{registers_one}
 use Rattle.heap_rule.specs.declared.view.Finalisers.{Finalisers}
 use Rattle.heap_rule.specs.Finalisers.{Enrolled, StandsWaiting}
 use Rattle.heap_rule.proofs.FinaliserLemmas.{KeepsWork, enrolled_as, paired_none, work_command}
-use Rattle.heap_rule.proofs.FullnessLemmas.{full_stays, trace_collects}
+use Rattle.heap_rule.proofs.Unwritten.{unwritten_rule}
 
 module _ (k : Config) (s : Words) (r : Rule k s) (id : ℕ) (hist : List Entry) (x : DomainView) (at : get_elem? s.views id ≡ some (one k hist x)) (acts : Acts k x) where
   abbrev now : model.State
@@ -128,45 +127,14 @@ module _ (k : Config) (s : Words) (r : Rule k s) (id : ℕ) (hist : List Entry) 
   owing_view e registers weak = let y : DomainView = entered_view e registers in record y { seen = record y.seen { share = with_weak x.seen.share weak } }
 
   pub owing_rule : (e : Entry) (registers : List Value) (answer : Applied) (o : Enters e registers answer) → IsOfTrace e → Rule k record { words = s.words; homes = s.homes; views = set s.views id (one k hist (owing_view e registers o.weak)) }
-  owing_rule e registers answer o of_trace = let g = my_good k s r id hist x at in let y : DomainView = owing_view e registers o.weak in appends k s r id hist x at e y s.words r.account.live r.account.homes o.advance.past record {
-    full = full_stays k r.account.log r.account.live r.account.tenancy.holder r.account.tenancy.fresh r.account.tenancy.garbage r.account.homes r.account.cycling.kind e (trace_collects e of_trace) r.whole.full;
+  owing_rule e registers answer o of_trace = unwritten_rule k s r id hist x at acts.runs e registers x.own.finalisers (with_weak x.seen.share o.weak) o.weak refl record {
     alone = o.alone;
     of_trace = of_trace;
-    runs = acts.runs;
-    stage = refl;
-    listing = refl;
-    weak = o.weak;
-    share = refl;
-    advances = o.advance.advances;
-    heads = λ a p e. refl;
     allowed = o.allowed;
     is_open = o.is_open;
-    number = refl;
-    front = refl;
-    arrivals = refl;
-    wide = refl;
-    controls = controls_kept k s r id hist x at s.words (control_same k s.words);
-    found = subst (λ (graph : Graph). AllFound k r.account.cycling.paint r.account.live graph s.words) (sym o.leaves.graph_is) r.whole.found;
-    placed = r.whole.placed;
-    spread = r.whole.spread;
-    opened = r.whole.opened;
-    settled = run_settled k s r id hist x at acts.runs;
-    owes = owes_as k r.account.live x y refl refl refl refl g.owes;
-    recalls = λ d _. recalls_same d r.account.live;
-    naming = r.whole.copies.naming;
-    more = more_same r.account.live;
-    stood = stood_after now.graph e registers answer y refl refl refl refl o;
-    area = record { room = g.area.room; free = g.area.free; classes = g.area.classes };
-    making = record { fits = g.making.fits; written = g.making.written };
-    areas = λ z _ h. h;
-    makings = λ z _ _ h. h;
-    grid = r.whole.grid;
-    hunter = hunter_as k r.account.tenancy s.words x y refl refl refl refl refl refl refl g.hunter;
-    hunters = λ z _ g. g.hunter;
-    listed = record { all = g.listed.all; own = g.listed.own; lives = g.listed.lives };
-    listeds = λ z _ h. h.listed;
-    garbage = garbage_same k r.account.live r.account.tenancy r.account.cycling s.words r.whole.cycle.leaves;
-    sweeps = g.sweeps;
+    graph = o.leaves.graph_is;
+    stood = stood_after now.graph e registers answer (owing_view e registers o.weak) refl refl refl refl o;
+    advance = o.advance;
   }
 
   -- a domain that owed nothing, and owes nothing

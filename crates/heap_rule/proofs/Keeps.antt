@@ -781,26 +781,22 @@ module _ (k : Config) (s : Words) (r : Rule k s) (id : ℕ) (hist : List Entry) 
         sweeps = g.sweeps;
       })
 
-  -- What a step owes at which no entry stands and nothing comes to live or moves
-  pub record Writes (y : DomainView) (words' : List ℕ) : Type 0 where
-    pub number : y.own.number ≡ x.own.number
-    pub hunt : y.seen.hunt ≡ x.seen.hunt
-    pub free : y.seen.free ≡ x.seen.free
-    pub spare : y.seen.spare ≡ x.seen.spare
-    pub listing : y.seen.listing ≡ x.seen.listing
+  -- the domain with what of another view a step may change at which no entry stands
+  abbrev pub changed_as : DomainView → DomainView
+  changed_as y = record {
+    own = record x.own { used = y.own.used; remembered = y.own.remembered; swept = y.own.swept };
+    seen = record x.seen { front = y.seen.front; made = y.seen.made; share = y.seen.share };
+  }
+
+  -- What a step owes at which no entry stands and nothing comes to live or moves, with what is then known of the collection
+  pub record Writes (y : DomainView) (words' : List ℕ) (c' : Cycling) : Type 0 where
+    pub same : y ≡ changed_as y
+    pub kind : c'.kind ≡ r.account.cycling.kind
     pub front : (y.seen.front ≡ x.seen.front) ⊎ (y.seen.front ≡ r.account.log)
     pub still : Still r.account.log y
-    pub stage : y.seen.stage ≡ x.seen.stage
-    pub notes : y.seen.notes ≡ x.seen.notes
-    pub copying : y.seen.copying ≡ x.seen.copying
-    pub remembered : y.seen.remembered ≡ x.seen.remembered
-    pub registers : y.own.registers ≡ x.own.registers
-    pub arrivals : y.own.arrivals ≡ x.own.arrivals
-    pub ephemerons : y.own.ephemerons ≡ x.own.ephemerons
-    pub finalisers : y.own.finalisers ≡ x.own.finalisers
     pub wide : length words' ≡ length s.words
     pub controls : Controls k r.account s.words words'
-    pub found : AllFound k r.account.cycling.paint r.account.live now.graph words'
+    pub found : AllFound k c'.paint r.account.live now.graph words'
     pub stood : Stood r.account.live now y
     pub area : Area k r.account.live y
     pub making : Making k words' y
@@ -808,18 +804,25 @@ module _ (k : Config) (s : Words) (r : Rule k s) (id : ℕ) (hist : List Entry) 
     pub grid : Grid k r.account.tenancy r.account.live words'
     pub hunter : Hunter k r.account.tenancy words' y
     pub hunters : (z : DomainView) → z.own.number ≢ x.own.number → Good k r.account s.words z → Hunter k r.account.tenancy words' z
-    pub cycle : Cycled k now r.account.live r.account.pause r.account.tenancy r.account.cycling words'
-    pub sharing : Sharing k r.account words' y.own.number y.own.registers y.own.finalisers y.own.ephemerons.items y.seen.stage y.seen.share
-    pub sharings : (z : DomainView) → z.own.number ≢ x.own.number → Good k r.account s.words z → Sharing k r.account words' z.own.number z.own.registers z.own.finalisers z.own.ephemerons.items z.seen.stage z.seen.share
-    pub sweeps : SweepsIn r.account.tenancy r.account.cycling y
+    pub cycle : Cycled k now r.account.live r.account.pause r.account.tenancy c' words'
+    pub sharing : Sharing k (record r.account { cycling = c' }) words' y.own.number y.own.registers y.own.finalisers y.own.ephemerons.items y.seen.stage y.seen.share
+    pub sharings : (z : DomainView) → z.own.number ≢ x.own.number → Good k r.account s.words z → Sharing k (record r.account { cycling = c' }) words' z.own.number z.own.registers z.own.finalisers z.own.ephemerons.items z.seen.stage z.seen.share
+    pub sweeps : SweepsIn r.account.tenancy c' y
+    pub others_sweep : (z : DomainView) → Good k r.account s.words z → SweepsIn r.account.tenancy c' z
 
-  pub writes : (y : DomainView) (words' : List ℕ) → Writes y words' → Rule k record { words = words'; homes = s.homes; views = set s.views id (one k hist y) }
-  writes y words' o =
-      remakes y r.account words'
+  pub writes : (y : DomainView) (words' : List ℕ) (c' : Cycling) → Writes y words' c' → Rule k record { words = words'; homes = s.homes; views = set s.views id (one k hist y) }
+  writes y words' c' o =
+      let number = ap (λ (z : DomainView). z.own.number) o.same in
+      let stage = ap (λ (z : DomainView). z.seen.stage) o.same in
+      let notes = ap (λ (z : DomainView). z.seen.notes) o.same in
+      let arrivals = ap (λ (z : DomainView). z.own.arrivals) o.same in
+      let remembered = ap (λ (z : DomainView). z.seen.remembered) o.same in
+      let seen = λ (h : HasSetBack y). let b : HasSetBack x = (sym stage ∙ h.0, sym (ap last_note notes) ∙ h.1) in b in
+      remakes y (record r.account { cycling = c' }) words'
       record {
         wide = o.wide ∙ r.whole.wide;
         legal = r.whole.legal;
-        full = r.whole.full;
+        full = subst (Fullness k r.account.log r.account.live r.account.tenancy.holder r.account.tenancy.fresh r.account.tenancy.garbage r.account.homes) (sym o.kind) r.whole.full;
         found = o.found;
         placed = r.whole.placed;
         spread = r.whole.spread;
@@ -841,28 +844,33 @@ module _ (k : Config) (s : Words) (r : Rule k s) (id : ℕ) (hist : List Entry) 
         drawable = o.controls.drawable;
         cycle = o.cycle;
       }
-      (knows_front y o.number o.front)
-      record { stood = o.stood; area = o.area; making = o.making; staged = staged_as r.account.pause x y o.number o.arrivals o.stage my_good.staged; still = o.still; hunter = o.hunter; resting = resting_as k words' x y o.number o.stage o.hunt o.free o.spare o.listing (resting_lists k s.words words' x o.controls.lists my_good.resting); took_back = λ kind leads last. o.controls.want ∙ my_good.took_back kind (sym o.stage ∙ leads) (sym (ap last_note o.notes) ∙ last); owes = owes_as k r.account.live x y o.number o.copying o.stage o.remembered my_good.owes; rooted = rooted_as k r.account.pause x y o.registers o.finalisers o.arrivals o.remembered my_good.rooted; set_back = λ h. o.controls.set_back x my_good.staged (sym o.stage ∙ h.0, sym (ap last_note o.notes) ∙ h.1) (my_good.set_back (sym o.stage ∙ h.0, sym (ap last_note o.notes) ∙ h.1)); sharing = o.sharing; listed = listed_as r.account.live r.account.tenancy.holder r.account.tenancy.garbage x.own.number y.own.number x.own.ephemerons.items y.own.ephemerons.items o.number (ap (λ (b : Bounded ℕ). b.items) o.ephemerons) my_good.listed; sweeps = o.sweeps }
-      (λ z _ other g. record { stood = g.stood; area = g.area; making = o.makings z other g.area g.making; staged = g.staged; still = g.still; hunter = o.hunters z other g; resting = resting_lists k s.words words' z o.controls.lists g.resting; took_back = λ kind leads last. o.controls.want ∙ g.took_back kind leads last; owes = g.owes; rooted = g.rooted; set_back = λ h. o.controls.set_back z g.staged h (g.set_back h); sharing = o.sharings z other g; listed = g.listed; sweeps = g.sweeps })
+      (knows_front y number o.front)
+      record {
+        stood = o.stood;
+        area = o.area;
+        making = o.making;
+        staged = staged_as r.account.pause x y number arrivals stage my_good.staged;
+        still = o.still;
+        hunter = o.hunter;
+        resting = resting_as k words' x y number stage (ap (λ (z : DomainView). z.seen.hunt) o.same) (ap (λ (z : DomainView). z.seen.free) o.same) (ap (λ (z : DomainView). z.seen.spare) o.same) (ap (λ (z : DomainView). z.seen.listing) o.same)
+            (resting_lists k s.words words' x o.controls.lists my_good.resting);
+        took_back = λ kind leads last. o.controls.want ∙ my_good.took_back kind (sym stage ∙ leads) (sym (ap last_note notes) ∙ last);
+        owes = owes_as k r.account.live x y number (ap (λ (z : DomainView). z.seen.copying) o.same) stage remembered my_good.owes;
+        rooted = rooted_as k r.account.pause x y (ap (λ (z : DomainView). z.own.registers) o.same) (ap (λ (z : DomainView). z.own.finalisers) o.same) arrivals remembered my_good.rooted;
+        set_back = λ h. o.controls.set_back x my_good.staged (seen h) (my_good.set_back (seen h));
+        sharing = o.sharing;
+        listed = listed_as r.account.live r.account.tenancy.holder r.account.tenancy.garbage x.own.number y.own.number x.own.ephemerons.items y.own.ephemerons.items number (ap (λ (z : DomainView). z.own.ephemerons.items) o.same) my_good.listed;
+        sweeps = o.sweeps;
+      }
+      (λ z _ other g. record { stood = g.stood; area = g.area; making = o.makings z other g.area g.making; staged = g.staged; still = g.still; hunter = o.hunters z other g; resting = resting_lists k s.words words' z o.controls.lists g.resting; took_back = λ kind leads last. o.controls.want ∙ g.took_back kind leads last; owes = g.owes; rooted = g.rooted; set_back = λ h. o.controls.set_back z g.staged h (g.set_back h); sharing = o.sharings z other g; listed = g.listed; sweeps = o.others_sweep z g })
 
   -- a step that leaves all but the front, which stays or is the whole history then
   pub looks : (front : List Entry) → (front ≡ x.seen.front) ⊎ (front ≡ r.account.log) → Rule k record { words = s.words; homes = s.homes; views = set s.views id (one k hist (with_front x front)) }
-  looks front is = writes (with_front x front) s.words record {
-    number = refl;
-    hunt = refl;
-    free = refl;
-    spare = refl;
-    listing = refl;
+  looks front is = writes (with_front x front) s.words r.account.cycling record {
+    same = refl;
+    kind = refl;
     front = is;
     still = ⊎_elim (λ (same : front ≡ x.seen.front). still_as r.account.log x (with_front x front) same refl my_good.still) (λ (whole : front ≡ r.account.log). whole_still r.account.log (with_front x front) whole) is;
-    stage = refl;
-    notes = refl;
-    copying = refl;
-    remembered = refl;
-    registers = refl;
-    arrivals = refl;
-    ephemerons = refl;
-    finalisers = refl;
     wide = refl;
     controls = controls_kept s.words (control_same k s.words);
     found = r.whole.found;
@@ -877,6 +885,7 @@ module _ (k : Config) (s : Words) (r : Rule k s) (id : ℕ) (hist : List Entry) 
     sharing = my_good.sharing;
     sharings = λ z _ g. g.sharing;
     sweeps = my_good.sweeps;
+    others_sweep = λ z g. g.sweeps;
   }
 
   -- What a step owes that changes the holders of pools or what the domain knows of them. No entry stands and nothing comes to live or moves. A pool becomes the domain's own below the top alone

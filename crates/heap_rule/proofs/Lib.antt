@@ -22,6 +22,7 @@ pub mod Lots
 pub mod Again
 pub mod FullnessLemmas
 pub mod Holders
+pub mod Unwritten
 pub mod Entering
 pub mod Controls
 pub mod Drops
@@ -36,6 +37,7 @@ pub mod Dealt
 pub mod Ends
 pub mod Meetings
 pub mod ChangeLemmas
+pub mod Fits
 pub mod Closes
 pub mod Plain
 pub mod Acting

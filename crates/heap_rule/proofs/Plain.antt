@@ -15,23 +15,13 @@ use Rattle.heap_rule.specs.Raw.{StepsOnce, CanChange, Changes, Written, Closes}
 use Rattle.heap_rule.specs.Standing.{Entered, with_front, with_own, with_registers}
 use Rattle.heap_rule.specs.Token.{AllInHeap, Holds, LooksWithin, OwnFits, SweptWithin}
 use Rattle.heap_rule.proofs.ChangeLemmas.{changed_only}
+use Rattle.heap_rule.proofs.Fits.{registers_fit}
 
 -- what fits a token fits it after the changes, where the registers then hold what registers may hold
 pub fits_changed : (k : Config) (own own' : Own) (read : Value) (changes : List Change) → own' ≡ changed read changes own → OwnFits k own → Holds k own'.registers → OwnFits k own'
 fits_changed k own own' read changes is fits holds =
-    let only : own' ≡ record own { registers = (changed read changes own).registers } = is ∙ changed_only read changes own in record {
-      number = subst (λ (o : Own). o.number < k.domains) (sym only) fits.number;
-      used = subst (λ (o : Own). o.used ≤ k.minor_words) (sym only) fits.used;
-      registers = holds;
-      looked = subst (λ (o : Own). LooksWithin k o.looked) (sym only) fits.looked;
-      remembered = subst (λ (o : Own). AllInHeap k o.remembered.items) (sym only) fits.remembered;
-      remembered_room = ap (λ (o : Own). o.remembered.room + length o.remembered.items) only ∙ fits.remembered_room;
-      prepared = ap (λ (o : Own). length o.prepared) only ∙ fits.prepared;
-      pending = ap (λ (o : Own). o.pending.room + length o.pending.items) only ∙ fits.pending;
-      ephemerons = subst (λ (o : Own). AllInHeap k o.ephemerons.items) (sym only) fits.ephemerons;
-      finalisers = subst (λ (o : Own). FinalisersFit k o.finalisers) (sym only) fits.finalisers;
-      swept = subst (λ (o : Own). SweptWithin k o.swept) (sym only) fits.swept;
-    }
+    let only : own' ≡ record own { registers = (changed read changes own).registers } = is ∙ changed_only read changes own in
+    subst (OwnFits k) (sym only) (registers_fit k own (changed read changes own).registers own.finalisers (subst (λ (o : Own). Holds k o.registers) only holds) fits.finalisers fits)
 
 pub entered_own : (k : Config) (e : Entry) (answer : Applied) (read : Value) (changes : List Change) (x y : DomainView) → Entered k e answer read changes x y → y.own ≡ changed read changes x.own
 entered_own k e answer read changes x y says = ap (λ (z : DomainView). z.own) says.view

@@ -1,5 +1,5 @@
 -- What steps outside a collection of the major heap, and steps that leave its words, keep of it.
-use Rattle.std.proofs.Common.{◌≡◌, ℕ, IsTrue, List, sym, refl, ◌∙◌, subst, inl, inr, ⊎_elim, ap, Option}
+use Rattle.std.proofs.Common.{◌≡◌, ◌⊎◌, ℕ, Bool, IsTrue, List, sym, refl, ◌∙◌, subst, inl, inr, ⊎_elim, ap, Option, Some}
 use Rattle.model_core.specs.declared.state.State as model
 use Rattle.model_core.specs.Graph.{Graph}
 use Rattle.model_cycle.specs.Beside.{Snapshot}
@@ -16,10 +16,10 @@ use Rattle.heap_rule.specs.declared.phase.Stage.{Stage}
 use Rattle.heap_rule.specs.declared.phase.Stage.TheVariants.{In, Leads, Led, Gone}
 use Rattle.heap_rule.specs.Beside.{Underway}
 use Rattle.heap_rule.specs.Layout.{at_address, armed, colours, changed_word, live_blocks, live_words}
-use Rattle.heap_rule.specs.Phases.{Pause, Agree, AtStage, Staged}
+use Rattle.heap_rule.specs.Phases.{Pause, Agree, AtStage, Staged, flag}
 use Rattle.heap_rule.specs.Places.{Live}
-use Rattle.heap_rule.specs.Pools.{Holder, Tenancy, Takes, place_in}
-use Rattle.heap_rule.specs.Cycles.{Cycling, Cycled, Facts, IsBetween, IsSwept, Told, Leading, Telling, Knowing, KnowsBlocks, HasNoCycle, IsCollecting, IsIdle, Adds}
+use Rattle.heap_rule.specs.Pools.{Holder, IsLeading, Tenancy, Takes, place_in}
+use Rattle.heap_rule.specs.Cycles.{Cycling, Cycled, Facts, IsBetween, IsSwept, Told, Leading, Telling, pass_of, Knowing, KnowsBlocks, HasNoCycle, IsCollecting, IsIdle, Adds}
 use Rattle.heap_rule.proofs.Growing.{grows_none, no_marking}
 use Rattle.heap_rule.proofs.Garbage.{KeepsGarbage, leaves_on}
 use Rattle.heap_rule.proofs.PauseFacts.{agree}
@@ -134,21 +134,39 @@ cycle_words k s live p t c words words' same heap y = record {
   grows = y.grows;
 }
 
+-- What a domain has loaded of the words that only the leader of a pause writes
+pub record Loaded (c : Cycling) (words : List ℕ) (d : ℕ) (stage : Stage) (share : Share) : Type 0 where
+  pub changed : (v : ℕ) → share.changed ≡ Some v → (d ≡ 0) × IsLeading stage × (v ≡ flag c.shares.changed)
+  pub found_blocks : (v : ℕ) → share.blocks ≡ Some v → (((d ≡ 0) × IsLeading stage) ⊎ (stage ≡ In Answer)) × (live_blocks words ≡ v)
+  pub found_words : (v : ℕ) → share.words ≡ Some v → (((d ≡ 0) × IsLeading stage) ⊎ (stage ≡ In Answer)) × (live_words words ≡ v)
+
+-- a collection with the paint, the shares and the counts of another
+abbrev pub painted_as : Cycling → Cycling → Cycling
+painted_as c c' = record c { paint = c'.paint; shares = c'.shares; before = c'.before; left = c'.left; counts = c'.counts; past = c'.past }
+
+-- a share with what another says of the lead
+abbrev pub leading_in : Share → Share → Share
+leading_in share share' = record share' { rotated = share.rotated; progress = share.progress; armed = share.armed; unmarked = share.unmarked }
+
+-- what a domain knows of the collection stays where that differs by these alone, with what it has loaded then
+pub leading_loads : (c c' : Cycling) (words words' : List ℕ) (d : ℕ) (stage : Stage) (share share' : Share) → c' ≡ painted_as c c' → share' ≡ leading_in share share' → Loaded c' words' d stage share' → Leading c words d stage share → Leading c' words' d stage share'
+leading_loads c c' words words' d stage share share' same known loaded l = record {
+  changed = loaded.changed;
+  found_blocks = loaded.found_blocks;
+  found_words = loaded.found_words;
+  rotated = λ zero lasts. ap (λ (z : Cycling). z.rotated) same ∙ (l.rotated zero (sym (ap (λ (z : Cycling). z.kind) same) ∙ lasts) ∙ sym (ap (λ (z : Share). z.rotated) known));
+  turned = λ is. l.turned (sym (ap (λ (z : Share). z.rotated) known) ∙ is);
+  pass = λ zero. ap (λ (z : Cycling). z.pass) same ∙ (l.pass zero ∙ sym (ap (λ (z : Share). pass_of z.progress.cut) known));
+  whole = λ zero. ap (λ (z : Cycling). z.whole) same ∙ (l.whole zero ∙ sym (ap (λ (z : Share). z.progress.whole) known));
+  armed = λ b is. let h = l.armed b (sym (ap (λ (z : Share). z.armed) known) ∙ is) in (h.0, h.1 ∙ sym (ap (λ (z : Cycling). z.armed) same));
+  unswept = λ zero. ap (λ (z : Cycling). z.unswept) same ∙ (l.unswept zero ∙ sym (ap (λ (z : Share). z.progress.unswept) known));
+  under_way = λ zero none. ap (λ (z : Cycling). z.armed) same ∙ (l.under_way zero (subst HasNoCycle (ap (λ (z : Cycling). z.kind) same) none) ∙ sym (ap (λ (z : Share). z.progress.armed) known));
+  unmarked = λ zero. ap (λ (z : Cycling). z.unmarked) same ∙ (l.unmarked zero ∙ sym (ap (λ (z : Share). z.unmarked) known));
+}
+
 -- what a domain has loaded of these words it knows still
 pub leading_words : (c : Cycling) (words words' : List ℕ) (d : ℕ) (stage : Stage) (share : Share) → SameCycle words words' → Leading c words d stage share → Leading c words' d stage share
-leading_words c words words' d stage share same l = record {
-  changed = l.changed;
-  found_blocks = λ v e. let h = l.found_blocks v e in (h.0, same.blocks_same ∙ h.1);
-  found_words = λ v e. let h = l.found_words v e in (h.0, same.words_same ∙ h.1);
-  rotated = l.rotated;
-  turned = l.turned;
-  pass = l.pass;
-  whole = l.whole;
-  armed = l.armed;
-  unswept = l.unswept;
-  under_way = l.under_way;
-  unmarked = l.unmarked;
-}
+leading_words c words words' d stage share same l = leading_loads c c words words' d stage share share refl refl record { changed = l.changed; found_blocks = λ v e. let h = l.found_blocks v e in (h.0, same.blocks_same ∙ h.1); found_words = λ v e. let h = l.found_words v e in (h.0, same.words_same ∙ h.1) } l
 
 pub knowing_words : (k : Config) (live : Live) (holder : ℕ → Holder) (graph : Graph) (marks : Marks) (words words' : List ℕ) (d : ℕ) (registers : List Value) (share : Share) → ((a : ℕ) → at_address k words' a ≡ at_address k words a)
     → Knowing k live holder graph marks words d registers share → Knowing k live holder graph marks words' d registers share
@@ -196,19 +214,7 @@ leading_as c words d d' stage stage' share share' number stands same l = subst (
 
 -- and so it does of the collection, whatever is kept of a cycle that goes on beside running domains
 pub leading_past : (c : Cycling) (past' : Snapshot) (words : List ℕ) (d : ℕ) (stage : Stage) (share : Share) → Leading c words d stage share → Leading (with_past c past') words d stage share
-leading_past c past' words d stage share l = record {
-  changed = l.changed;
-  found_blocks = l.found_blocks;
-  found_words = l.found_words;
-  rotated = l.rotated;
-  turned = l.turned;
-  pass = l.pass;
-  whole = l.whole;
-  armed = l.armed;
-  unswept = l.unswept;
-  under_way = l.under_way;
-  unmarked = l.unmarked;
-}
+leading_past c past' words d stage share l = leading_loads c (with_past c past') words words d stage share share refl refl record { changed = l.changed; found_blocks = l.found_blocks; found_words = l.found_words } l
 
 -- and what it owes the darkening of is nothing of it
 abbrev pub with_weak : Share → Option ℕ → Share
@@ -218,19 +224,7 @@ pub telling_weak : (means : Colours) (w : Shares) (d : ℕ) (share : Share) (wea
 telling_weak means w d share weak t = record { owes = t.owes; seen = t.seen; fresh = λ up. ap (λ (z : Share). with_weak z weak) (t.fresh up); forgotten = t.forgotten; colours = t.colours }
 
 pub leading_weak : (c : Cycling) (words : List ℕ) (d : ℕ) (stage : Stage) (share : Share) (weak : Option ℕ) → Leading c words d stage share → Leading c words d stage (with_weak share weak)
-leading_weak c words d stage share weak l = record {
-  changed = l.changed;
-  found_blocks = l.found_blocks;
-  found_words = l.found_words;
-  rotated = l.rotated;
-  turned = l.turned;
-  pass = l.pass;
-  whole = l.whole;
-  armed = l.armed;
-  unswept = l.unswept;
-  under_way = l.under_way;
-  unmarked = l.unmarked;
-}
+leading_weak c words d stage share weak l = leading_loads c c words words d stage share (with_weak share weak) refl refl record { changed = l.changed; found_blocks = l.found_blocks; found_words = l.found_words } l
 
 -- outside a collection nobody has anything to add
 pub adds_nothing : (live : Live) (c : Cycling) (d : ℕ) (share : Share) → HasNoCycle c.kind → Adds live c d share

@@ -84,22 +84,11 @@ reset_may k x word a new place may fits slots id hist s r _ at _ =
     garbage_here k s r id hist x at r.account.live ws r.whole.cycle.leaves.dead (garbage_beside k r.account.live r.account.tenancy r.account.cycling s.words r.whole.cycle.leaves a new r.whole.pools beside) in
     let same : SameCycle s.words ws = cycle_control k s.words ws (control_set k s.words a new (omega arith)) in
     let not_run : (z : DomainView) → Good k r.account s.words z → z.seen.stage ≡ In Run → ⊥ = (λ z h runs. run_resetting r.account.pause z runs h.staged (reset_now r.account.pause x may.stage g.staged)) in
-    let rule : Rule k record { words = ws; homes = s.homes; views = set s.views id (one k hist y) } = writes k s r id hist x at y ws record {
-      number = refl;
+    let rule : Rule k record { words = ws; homes = s.homes; views = set s.views id (one k hist y) } = writes k s r id hist x at y ws r.account.cycling record {
+      same = refl;
+      kind = refl;
       front = inl refl;
       still = g.still;
-      stage = refl;
-      hunt = refl;
-      free = refl;
-      spare = refl;
-      listing = refl;
-      notes = refl;
-      copying = refl;
-      remembered = refl;
-      registers = refl;
-      arrivals = refl;
-      ephemerons = refl;
-      finalisers = refl;
       wide = length-set s.words (before_heap k + a) new;
       controls = controls_kept k s r id hist x at ws (control_set k s.words a new (omega arith));
       found = λ b q lives. let f = r.whole.found b q lives in found_beside k r.account.cycling.paint r.account.live r.account.live (state_of k r.account.log).graph (state_of k r.account.log).graph s.words a new b q (more_same r.account.live) f f.there
@@ -115,6 +104,7 @@ reset_may k x word a new place may fits slots id hist s r _ at _ =
       sharing = sharing_here k s r id hist x at Reset tt may.stage r.account ws r.account.cycling.past x.seen.share.weak y refl same refl refl refl (runs_here k s r id hist x at r.account ws refl x (λ runs. absurd (not_run x g runs)) g);
       sharings = λ z _ h. sharings_here k s r id hist x at Reset tt may.stage r.account ws r.account.cycling.past refl same z h (runs_here k s r id hist x at r.account ws refl z (λ runs. absurd (not_run z h runs)) h);
       sweeps = g.sweeps;
+      others_sweep = λ z h. h.sweeps;
     } in (
       one k hist y,
       keeps,

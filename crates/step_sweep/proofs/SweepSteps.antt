@@ -57,22 +57,11 @@ module _ (k : Config) (s : Words) (r : Rule k s) (id : ℕ) (hist : List Entry) 
   pub sweeps_rule : (swept : Swept) (reaping : Reaping) (places : List Spot) → let y : DomainView = record { own = record x.own { swept = swept }; seen = record x.seen { share = sweeping_on sh reaping places } } in SweepsIn r.account.tenancy r.account.cycling y → After y
   sweeps_rule swept reaping places sweeps =
       let g = my_good k s r id hist x at in
-      let y : DomainView = record { own = record x.own { swept = swept }; seen = record x.seen { share = sweeping_on sh reaping places } } in writes k s r id hist x at y s.words record {
-        number = refl;
-        hunt = refl;
-        free = refl;
-        spare = refl;
-        listing = refl;
+      let y : DomainView = record { own = record x.own { swept = swept }; seen = record x.seen { share = sweeping_on sh reaping places } } in writes k s r id hist x at y s.words r.account.cycling record {
+        same = refl;
+        kind = refl;
         front = inl refl;
         still = g.still;
-        stage = refl;
-        notes = refl;
-        copying = refl;
-        remembered = refl;
-        registers = refl;
-        arrivals = refl;
-        ephemerons = refl;
-        finalisers = refl;
         wide = refl;
         controls = controls_kept k s r id hist x at s.words (control_same k s.words);
         found = r.whole.found;
@@ -87,6 +76,7 @@ module _ (k : Config) (s : Words) (r : Rule k s) (id : ℕ) (hist : List Entry) 
         sharing = sharing_on reaping places;
         sharings = λ z _ h. h.sharing;
         sweeps = sweeps;
+        others_sweep = λ z h. h.sweeps;
       }
 
   -- in Lasts it is to sweep everything

@@ -124,22 +124,11 @@ inits k slots id word hist x a new changes place may s r _ at _ =
       heads = λ b q lives. inl (get_or-set_other s.words (before_heap k + a) (before_heap k + b) new 0 (λ e. free_far k r.account.live x a g.area low high b q lives 0 (extent_low q.shape) (omega arith)));
     } in
     let past : Snapshot = r.account.cycling.past in
-    let rule : Rule k record { words = ws; homes = s.homes; views = set s.views id (one k hist y) } = writes k s r id hist x at y ws record {
-      number = refl;
-      hunt = refl;
-      free = refl;
-      spare = refl;
-      listing = refl;
+    let rule : Rule k record { words = ws; homes = s.homes; views = set s.views id (one k hist y) } = writes k s r id hist x at y ws r.account.cycling record {
+      same = refl;
+      kind = refl;
       front = inl refl;
       still = g.still;
-      stage = refl;
-      notes = refl;
-      copying = refl;
-      remembered = refl;
-      registers = refl;
-      arrivals = refl;
-      ephemerons = refl;
-      finalisers = refl;
       wide = length-set s.words (before_heap k + a) new;
       controls = controls_kept k s r id hist x at (set s.words (before_heap k + a) new) (control_set k s.words a new (omega arith));
       found = λ b q lives. let f = r.whole.found b q lives in found_beside k r.account.cycling.paint r.account.live r.account.live (state_of k r.account.log).graph (state_of k r.account.log).graph s.words a new b q (more_same r.account.live) f f.there (free_far k r.account.live x a g.area low high b q lives);
@@ -161,6 +150,7 @@ inits k slots id word hist x a new changes place may s r _ at _ =
       sharing = sharing_here k s r id hist x at Run tt may.runs r.account ws past x.seen.share.weak y refl same refl refl refl (runs_here k s r id hist x at r.account ws refl x (λ _. endures) g);
       sharings = λ z _ g. sharings_here k s r id hist x at Run tt may.runs r.account ws past refl same z g (runs_here k s r id hist x at r.account ws refl z (λ _. endures) g);
       sweeps = g.sweeps;
+      others_sweep = λ z g. g.sweeps;
     } in (
       one k hist y,
       keeps,
