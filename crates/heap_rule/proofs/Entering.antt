@@ -1,5 +1,5 @@
 -- An own entry that changes registers and no word of the heap.
-use Rattle.std.proofs.Common.{◌≡◌, ◌≢◌, ℕ, ◌<◌, Bool, false, List, [], ◌∷◌, ◌++◌, length, get_or, set, sym, refl, ap, ◌∙◌, subst, ne_eqb, Option, None}
+use Rattle.std.proofs.Common.{◌≡◌, ◌≢◌, ℕ, ◌+◌, ◌<◌, Bool, false, List, [], ◌∷◌, ◌++◌, length, get_or, set, sym, refl, ap, ◌∙◌, subst, ne_eqb, Option, None}
 use mathlib.Core.Option.{some}
 use lib.ListN.{get_elem?}
 use Rattle.model_core.specs.declared.command.Command.{Command}
@@ -7,31 +7,40 @@ use Rattle.model_core.specs.declared.entry.Entry.{Entry}
 use Rattle.model_core.specs.declared.entry.Entry.TheVariants.{Command as CommandOf}
 use Rattle.model_core.specs.declared.reply.Applied.{Applied}
 use Rattle.model_core.specs.declared.graph.Value as model_value
-use Rattle.model_core.specs.declared.graph.Value.TheVariants.{Nothing}
+use Rattle.model_core.specs.declared.graph.Value.TheVariants.{Block, Nothing}
+use Rattle.model_core.specs.declared.graph.Node.{Node}
+use Rattle.model_core.specs.declared.label.Label.{Label}
+use Rattle.model_core.specs.declared.reply.Applied.TheVariants.{Replied}
+use Rattle.model_core.specs.declared.reply.Reply.TheVariants.{Block as BlockReply}
 use Rattle.model_core.specs.declared.state.State as model
 use Rattle.model_core.specs.Graph.{Graph}
 use Rattle.model_core.specs.declared.state.Mode.TheVariants.{Open}
-use Rattle.model_core.specs.Commands.{FitsMode}
+use Rattle.model_core.specs.Commands.{FitsMode, allocated, outcome}
 use Rattle.model_core.specs.Domains.{domain_at, IsShaped}
 use Rattle.model_core.specs.Entries.{Allowed, next}
 use Rattle.model_core.specs.History.{is_entry_of}
 use Rattle.model_core.proofs.Histories.ShapeAfterLemmas.{shaped-history}
 use Rattle.model_core.proofs.Commands.FrameLemmas.{inside_running, frame_command}
 use Rattle.model_core.proofs.Histories.FrontLemmas.{answers_push}
-use Rattle.model_core.proofs.Commands.LeavesLemmas.{Leaves}
+use Rattle.model_core.proofs.Commands.LeavesLemmas.{Leaves, leaves_allocation}
+use Rattle.heap_words.specs.Remembered.Bounded.{Bounded}
 use Rattle.heap_words.specs.declared.value.Value.{Value}
+use Rattle.heap_words.specs.declared.value.Value.TheVariants.{Ref}
 use Rattle.heap_rule.specs.declared.change.Change.{Change}
 use Rattle.heap_rule.specs.declared.config.Config.{Config}
 use Rattle.heap_rule.specs.declared.view.DomainView.{DomainView}
 use Rattle.heap_rule.specs.declared.view.Own.{Own}
+use Rattle.heap_rule.specs.declared.view.Seen.{Seen}
 use Rattle.heap_rule.specs.Limits.{sizes_in}
-use Rattle.heap_rule.specs.Places.{Stands}
+use Rattle.heap_rule.specs.Places.{Live, More, Stands}
 use Rattle.heap_rule.specs.Changes.{value_at, changed}
 use Rattle.heap_rule.specs.Views.{one}
 use Rattle.heap_rule.specs.Rule.{state_of, Stood, Rule}
 use Rattle.heap_rule.specs.Standing.{Acts, Entered, with_front, with_own, with_registers}
 use Rattle.heap_rule.proofs.ChangeLemmas.{changed_only}
-use Rattle.heap_rule.proofs.Values.{AllStand, holds}
+use Rattle.heap_rule.specs.Token.{next_label}
+use Rattle.heap_rule.proofs.Born.{all_more}
+use Rattle.heap_rule.proofs.Values.{AllStand, holds, stand_set}
 use Rattle.heap_rule.specs.declared.view.Share.{Share}
 use Rattle.heap_rule.proofs.Sharings.{with_weak}
 use Rattle.heap_rule.proofs.Advancing.{Advance}
@@ -39,7 +48,7 @@ use Rattle.heap_rule.proofs.Keeps.{Words, IsOfTrace, mine, my_good, own, legal_e
 use Rattle.model_core.proofs.Commands.MoveLemmas.{registers_one}
 use Rattle.heap_rule.specs.declared.view.Finalisers.{Finalisers}
 use Rattle.heap_rule.specs.Finalisers.{Enrolled, StandsWaiting}
-use Rattle.heap_rule.proofs.FinaliserLemmas.{KeepsWork, enrolled_as, paired_none, work_command}
+use Rattle.heap_rule.proofs.FinaliserLemmas.{KeepsWork, enrolled_as, enrolled_more, paired_none, work_command}
 use Rattle.heap_rule.proofs.Unwritten.{unwritten_rule}
 
 module _ (k : Config) (s : Words) (r : Rule k s) (id : ℕ) (hist : List Entry) (x : DomainView) (at : get_elem? s.views id ≡ some (one k hist x)) (acts : Acts k x) where
@@ -148,3 +157,31 @@ module _ (k : Config) (s : Words) (r : Rule k s) (id : ℕ) (hist : List Entry) 
     view = ap (λ (own : Own). with_front (with_own x own) y.seen.front) (sym (changed_only read changes x.own));
     holds = holds k r.limits r.account.live r.whole.placed (next now e) y (stood_after graph e ((changed read changes x.own).registers) answer y refl refl refl refl o);
   }
+
+  -- the own data of a domain that has made a block
+  abbrev pub made_own : List Value → ℕ → Bounded ℕ → Own
+  made_own registers used ephemerons = record x.own { registers = registers; used = used; serial = x.own.serial + 1; ephemerons = ephemerons }
+
+  -- the block's label is the one that the entry gives
+  pub label_is : next_label x ≡ record { domain = x.own.number; serial = (domain_at now x.own.number).serial + 1 }
+  label_is = ap (λ (m : ℕ). record { domain = x.own.number; serial = m + 1 }) (my_good k s r id hist x at).stood.serial
+
+  pub leaves_made : (c : Command) (dst : ℕ) (node : Node) → outcome now x.own.number c ≡ allocated now x.own.number dst node
+      → Leaves now (CommandOf x.own.number c false) x.own.number (now.graph ++ (next_label x, node) ∷ []) (set (domain_at now x.own.number).registers dst (Block (next_label x))) ((domain_at now x.own.number).serial + 1) (Replied (BlockReply (next_label x)))
+  leaves_made c dst node makes = subst (λ (l : Label). Leaves now (CommandOf x.own.number c false) x.own.number (now.graph ++ (l, node) ∷ []) (set (domain_at now x.own.number).registers dst (Block l)) ((domain_at now x.own.number).serial + 1) (Replied (BlockReply l))) (sym label_is)
+      (leaves_allocation now x.own.number inside_state c dst node makes)
+
+  -- and a register refers to the block then
+  pub stood_made : (c : Command) (dst a : ℕ) (graph : Graph) (answer : Applied) (live' : Live) (registers : List Value) (used : ℕ) (ephemerons : Bounded ℕ) (seen : Seen) → registers_one c ≡ false → dst < 16 → More r.account.live live' → Stands live' (Ref a) (Block (next_label x))
+      → registers ≡ set x.own.registers dst (Ref a) → Leaves now (CommandOf x.own.number c false) x.own.number graph (set (domain_at now x.own.number).registers dst (Block (next_label x))) ((domain_at now x.own.number).serial + 1) answer
+      → Stood live' (next now (CommandOf x.own.number c false)) (record { own = made_own registers used ephemerons; seen = seen })
+  stood_made c dst a graph answer live' registers used ephemerons seen unregistering few grows stands is leaves =
+      let g = my_good k s r id hist x at in
+      let theirs : List model_value.Value = (domain_at now x.own.number).registers in
+      let stand : AllStand live' registers (set theirs dst (Block (next_label x))) = subst (λ (l : List Value). AllStand live' l (set theirs dst (Block (next_label x)))) (sym is)
+      (stand_set live' x.own.registers theirs dst (Ref a) (Block (next_label x)) few stands (all_more r.account.live live' x.own.registers theirs grows registers_stand)) in record {
+        wide = stand.wide;
+        each = λ q low. subst (λ (l : List model_value.Value). Stands live' (value_at registers q) (get_or l q Nothing)) (sym leaves.registers_are) (stand.each q low);
+        serial = ap (λ (m : ℕ). m + 1) g.stood.serial ∙ sym leaves.serial_is;
+        enrolled = enrolled_more r.account.live live' (next now (CommandOf x.own.number c false)) x.own.number x.own.finalisers grows (enrolled_as r.account.live now (next now (CommandOf x.own.number c false)) x.own.number x.own.finalisers (work_command now x.own.number c false unregistering) g.stood.enrolled);
+      }

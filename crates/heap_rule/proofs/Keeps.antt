@@ -45,7 +45,7 @@ use Rattle.heap_rule.specs.declared.phase.Stage.TheVariants.{In, Leads, Led, Gon
 use Rattle.heap_rule.specs.Phases.{Pause, Phases, sum_of, IsEven, AtStage, Staged, IsInPause, Still, Agree, flag, is_over, TookBack, HasSetBack, last_note}
 use Rattle.heap_rule.specs.Rule.{state_of, AllFound, Stood, Area, Making, Account, Good, Sharing, Whole, Rule}
 use Rattle.heap_rule.specs.Cycles.{Cycling, Cycled, Telling, Leading, HasNoCycle, IsBetween, IsIdle}
-use Rattle.heap_rule.proofs.PauseFacts.{called_still, not_both, agree, nobody_paused, staged_as, run_promoting, run_resetting, kind_differs}
+use Rattle.heap_rule.proofs.PauseFacts.{called_still, not_both, agree, nobody_else_still, nobody_paused, staged_as, run_promoting, run_resetting, kind_differs}
 use Rattle.heap_rule.specs.Sweeping.{Sweeps, SweepsIn}
 use Rattle.heap_rule.proofs.Garbage.{KeepsGarbage, sweeps_on}
 use Rattle.heap_rule.proofs.Sharings.{SameCycle, KeepsUnderway, with_past, with_weak, leading_past, telling_weak, leading_weak, kind_now, cycle_between, facts_between, leading_words, leading_as, telling_as, idle_in, idle_beside, takes_kind, adds_nothing}
@@ -60,6 +60,7 @@ use Rattle.heap_rule.specs.Layout.{heap_words, at_address}
 use Rattle.heap_rule.specs.Pools.{Holder, Stock, Reserved, IsListWhole, IsReturning, KnowsList, Covered, Takes, IsCopying, Latest, DrawsFor, prepared_at, size_of, Tenancy, drawn, owned, Pools, Grid, Drawers, IsLeading, Lists, Resting, Hunts, Hunter, drawn_in, hunting_below, spot_at, IsBefore, IsFree, limit_of}
 use Rattle.heap_rule.specs.Standing.{with_front}
 use Rattle.heap_rule.specs.Ephemerons.{IsEpheAt, Listed}
+use Rattle.heap_rule.specs.declared.view.Finalisers.{Finalisers}
 use Rattle.heap_rule.specs.Finalisers.{RefersOld}
 use Rattle.model_core.specs.declared.state.Mode.TheVariants.{Open}
 use Rattle.heap_rule.proofs.FinaliserLemmas.{KeepsWork, QueuesNothing, enrolled_as, enrolled_more, work_next, deciding_none, run_ended}
@@ -887,6 +888,94 @@ module _ (k : Config) (s : Words) (r : Rule k s) (id : ℕ) (hist : List Entry) 
     sweeps = my_good.sweeps;
     others_sweep = λ z g. g.sweeps;
   }
+
+  -- a domain with other lists of finalisers, another front and another share
+  abbrev pub logged : Finalisers → List Entry → Share → DomainView
+  logged fs front share = record { own = record x.own { finalisers = fs }; seen = record x.seen { front = front; share = share } }
+
+  -- What a step of a collection owes at which the history grows, and which changes no word of the table
+  pub record Logs (log' : List Entry) (c' : Cycling) (y : DomainView) : Type 0 where
+    pub legal : Legal (sizes_in k) log'
+    pub full : Fullness k log' r.account.live r.account.tenancy.holder r.account.tenancy.fresh r.account.tenancy.garbage r.account.homes c'.kind
+    pub found : AllFound k c'.paint r.account.live (state_of k log').graph s.words
+    pub ended : (d : ℕ) → (domain_at (state_of k log') d).ended ≡ (domain_at now d).ended
+    pub cycle : Cycled k (state_of k log') r.account.live r.account.pause r.account.tenancy c' s.words
+    pub seats : EachView (Knows k log' r.seat) (set s.views id (one k hist y))
+    pub kind : Kind
+    pub stage : x.seen.stage ≡ In kind
+    pub no_pause : IsInPause (In kind) → ⊥
+    pub not_run : ◌≢◌ {A = Stage} (In kind) (In Run)
+    pub stood : Stood r.account.live (state_of k log') y
+    pub rooted : Rooted k r.account.pause y
+    pub sharing : Sharing k (record r.account { log = log'; cycling = c' }) s.words y.own.number y.own.registers y.own.finalisers y.own.ephemerons.items y.seen.stage y.seen.share
+    pub sweeps : SweepsIn r.account.tenancy c' y
+    pub stoods : (z : DomainView) → z.own.number ≢ x.own.number → Good k r.account s.words z → Stood r.account.live (state_of k log') z
+    pub sharings : (z : DomainView) → z.own.number ≢ x.own.number → Good k r.account s.words z → Sharing k (record r.account { log = log'; cycling = c' }) s.words z.own.number z.own.registers z.own.finalisers z.own.ephemerons.items z.seen.stage z.seen.share
+    pub others_sweep : (z : DomainView) → Good k r.account s.words z → SweepsIn r.account.tenancy c' z
+
+  pub logs : (log' : List Entry) (c' : Cycling) (fs : Finalisers) (front : List Entry) (share : Share) → Logs log' c' (logged fs front share) → Rule k record { words = s.words; homes = s.homes; views = set s.views id (one k hist (logged fs front share)) }
+  logs log' c' fs front share o =
+      let y : DomainView = logged fs front share in
+      let g = my_good in
+      remakes y (record r.account { log = log'; cycling = c' }) s.words
+      record {
+        wide = r.whole.wide;
+        legal = o.legal;
+        full = o.full;
+        found = o.found;
+        placed = r.whole.placed;
+        spread = r.whole.spread;
+        settled = r.whole.settled;
+        copies = r.whole.copies;
+        cleared = r.whole.cleared;
+        emptied = r.whole.emptied;
+        phases = r.whole.phases;
+        unwished = r.whole.unwished;
+        endings = r.whole.endings ∙ sym (sum_same (is_over now) (is_over (state_of k log')) k.domains (λ d _. ap flag (o.ended d)));
+        pools = r.whole.pools;
+        reserved = r.whole.reserved;
+        covered = r.whole.covered;
+        grid = r.whole.grid;
+        drawers = r.whole.drawers;
+        room = r.whole.room;
+        unused = r.whole.unused;
+        opened = r.whole.opened;
+        drawable = r.whole.drawable;
+        cycle = o.cycle;
+      }
+      o.seats
+      record {
+        stood = o.stood;
+        area = record { room = g.area.room; free = g.area.free; classes = g.area.classes };
+        making = record { fits = g.making.fits; written = g.making.written };
+        staged = staged_as r.account.pause x y refl refl refl g.staged;
+        still = (λ paused. absurd (o.no_pause (subst IsInPause o.stage paused)), λ runs. absurd (o.not_run (sym o.stage ∙ runs)));
+        hunter = hunter_as k r.account.tenancy s.words x y refl refl refl refl refl refl refl g.hunter;
+        resting = resting_as k s.words x y refl refl refl refl refl refl g.resting;
+        took_back = g.took_back;
+        owes = owes_as k r.account.live x y refl refl refl refl g.owes;
+        rooted = o.rooted;
+        set_back = g.set_back;
+        sharing = o.sharing;
+        listed = record { all = g.listed.all; own = g.listed.own; lives = g.listed.lives };
+        sweeps = o.sweeps;
+      }
+      (λ z _ other h. record {
+        stood = o.stoods z other h;
+        area = h.area;
+        making = h.making;
+        staged = h.staged;
+        still = nobody_else_still log' r.account.pause x z o.kind o.no_pause o.not_run o.stage g.staged h.staged;
+        hunter = h.hunter;
+        resting = h.resting;
+        took_back = h.took_back;
+        owes = h.owes;
+        rooted = h.rooted;
+        set_back = h.set_back;
+        sharing = o.sharings z other h;
+        listed = h.listed;
+        sweeps = o.others_sweep z h;
+      })
 
   -- What a step owes that changes the holders of pools or what the domain knows of them. No entry stands and nothing comes to live or moves. A pool becomes the domain's own below the top alone
   pub record Holds (top : ℕ) (looked : List Spot) (hunt : Hunt) (free : List ℕ) (words' : List ℕ) (t' : Tenancy) : Type 0 where

@@ -39,6 +39,7 @@ use Rattle.heap_rule.specs.Views.{one}
 use Rattle.step_promote.specs.Claims.{preparing, pushed, ClaimMay, ClaimTold}
 use Rattle.step_promote.specs.Promotion.{met_of, Knows}
 use Rattle.step_promote.specs.Writes.{CanClaim, Claims}
+use Rattle.heap_rule.proofs.Fits.{fits_with}
 use Rattle.heap_rule.proofs.Again.{met_fits}
 use Rattle.heap_rule.proofs.Beside.{found_beside, making_beside, live_word_far}
 use Rattle.heap_rule.proofs.Classes.{size_least}
@@ -901,20 +902,11 @@ module _ (k : Config) (s : Words) (r : Rule k s) (id : ℕ) (hist : List Entry) 
         let control = control_set k s.words a new low_a in
         let pools = pools_same k t s.words ws control r.whole.pools in
         promotes_again k s r id hist x at may.stage won_view ws live2 t' homes2 record {
-          share = refl;
+          same = refl;
           full = full2;
           garbage = garbage2;
           holders = λ q. refl;
-          ephemerons = refl;
-          swept = refl;
           no_more = no_more2;
-          number = refl;
-          arrivals = refl;
-          stage = refl;
-          front = refl;
-          free = refl;
-          spare = refl;
-          listing = refl;
           wide = length-set s.words (before_heap k + a) new;
           control = control;
           found = found2;
@@ -1055,20 +1047,9 @@ claim_closes k x found a old new class c may y fits told = dite (ℕ_discrete fo
     let own : y.own ≡ preparing (pushed x.own c a) class None = ap (λ (z : DomainView). z.own) w.view in record {
       can_write = (may.of_class, λ _. w.room);
       written = λ after wrote. own ∙ sym (wrote.won same);
-      fits = subst (OwnFits k) (sym own) record {
-        number = fits.number;
-        used = fits.used;
-        registers = fits.registers;
-        looked = fits.looked;
-        remembered = fits.remembered;
-        remembered_room = fits.remembered_room;
-        prepared = length-set x.own.prepared class None ∙ fits.prepared;
-        pending = (let n : ℕ = length x.own.pending.items in let e : ℕ = x.own.pending.room in let h : 1 ≤ e = w.room in
-            ap (λ (m : ℕ). e - 1 + m) (longer x.own.pending.items (record { copy = c; source = a })) ∙ ((let g : e - 1 + (n + 1) ≡ e + n = omega arith in g) ∙ fits.pending));
-        ephemerons = fits.ephemerons;
-        finalisers = fits.finalisers;
-        swept = fits.swept;
-      };
+      fits = subst (OwnFits k) (sym own) (fits_with k x.own x.own.looked (set x.own.prepared class None) (pushed x.own c a).pending x.own.ephemerons x.own.swept fits.looked (length-set x.own.prepared class None ∙ fits.prepared)
+          (let n : ℕ = length x.own.pending.items in let e : ℕ = x.own.pending.room in let h : 1 ≤ e = w.room in
+          ap (λ (m : ℕ). e - 1 + m) (longer x.own.pending.items (record { copy = c; source = a })) ∙ ((let g : e - 1 + (n + 1) ≡ e + n = omega arith in g) ∙ fits.pending)) fits.ephemerons fits.swept fits);
       once = promote_once k x y may.stage;
     })
     (λ differs.

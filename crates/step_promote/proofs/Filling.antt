@@ -201,15 +201,7 @@ module _ (k : Config) (s : Words) (r : Rule k s) (id : ℕ) (hist : List Entry) 
       let y : DomainView = with_pending x pending2 in
       let w = (my_good k s r id hist x at).owes in
       changes_again k s r id hist x at promotes c p p2 lives refl refl refl y words' record {
-        share = refl;
-        own = refl;
-        hunt = refl;
-        stage = refl;
-        front = refl;
-        free = refl;
-        spare = refl;
-        listing = refl;
-        made = refl;
+        same = refl;
         wide = wide;
         control = control;
         found = found;

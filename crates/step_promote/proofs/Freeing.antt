@@ -19,10 +19,11 @@ use Rattle.heap_rule.specs.Places.{Place}
 use Rattle.heap_rule.specs.Pools.{limit_of, owned, drawn_in, Tenancy, Hunts, Hunter, OwnPlace, Grid, Latest, DrawsFor, IsBefore, spot_at, place_in, size_of, blocks_of, prepared_at}
 use Rattle.heap_rule.specs.Raw.{MayStore, Closes}
 use Rattle.heap_rule.specs.Rule.{Rule}
-use Rattle.heap_rule.specs.Token.{OwnFits}
+use Rattle.heap_rule.specs.Token.{LooksWithin, OwnFits}
 use Rattle.heap_rule.specs.Views.{one}
 use Rattle.step_promote.specs.Claims.{preparing, with_hunt, LabelStoreMay, LabelStoreTold, HeadStoreMay, HeadStoreTold, FreeMay, freed, FreedTold}
 use Rattle.step_promote.specs.Writes.{CanPrepare, Frees}
+use Rattle.heap_rule.proofs.Fits.{fits_with, prepared_fits}
 use Rattle.heap_rule.proofs.Classes.{size_least, slot_below, slot_inside}
 use Rattle.heap_rule.proofs.Holders.{SameFor, agrees_same, hunter_agree, stock_self}
 use Rattle.heap_rule.proofs.Keeps.{Words, my_good, garbage_here, control_set, owes_as, more_same}
@@ -402,29 +403,17 @@ free_closes k x a pool class slot inside may y fits told =
     (λ (before : Before). let own : y.own ≡ record (preparing x.own class None) { looked = set x.own.looked class spot } = ap (λ (z : DomainView). z.own) (told.earlier before) in record {
       can_write = may.of_class;
       written = λ after wrote. own ∙ sym (wrote.earlier before);
-      fits = subst (OwnFits k) (sym own) record {
-        number = fits.number;
-        used = fits.used;
-        registers = fits.registers;
-        looked = record {
-          wide = length-set x.own.looked class spot ∙ fits.looked.wide;
-          within = λ c few. dite (ℕ_discrete c class)
-              (λ same. subst (λ (z : Spot). (z.pool ≤ k.pools) × (z.slot < blocks_of c)) (sym (ap (spot_at (set x.own.looked class spot)) same ∙ looked_here x.own.looked class spot fits.looked.wide may.of_class)) (inside, subst (λ (n : ℕ). slot < blocks_of n) (sym same) may.inside))
-              (λ other. subst (λ (z : Spot). (z.pool ≤ k.pools) × (z.slot < blocks_of c)) (sym (looked_else x.own.looked class c spot other)) (fits.looked.within c few));
-        };
-        remembered = fits.remembered;
-        remembered_room = fits.remembered_room;
-        prepared = length-set x.own.prepared class None ∙ fits.prepared;
-        pending = fits.pending;
-        ephemerons = fits.ephemerons;
-        finalisers = fits.finalisers;
-        swept = fits.swept;
-      };
+      fits = let looks : LooksWithin k (set x.own.looked class spot) = record {
+        wide = length-set x.own.looked class spot ∙ fits.looked.wide;
+        within = λ c few. dite (ℕ_discrete c class)
+            (λ same. subst (λ (z : Spot). (z.pool ≤ k.pools) × (z.slot < blocks_of c)) (sym (ap (spot_at (set x.own.looked class spot)) same ∙ looked_here x.own.looked class spot fits.looked.wide may.of_class)) (inside, subst (λ (n : ℕ). slot < blocks_of n) (sym same) may.inside))
+            (λ other. subst (λ (z : Spot). (z.pool ≤ k.pools) × (z.slot < blocks_of c)) (sym (looked_else x.own.looked class c spot other)) (fits.looked.within c few));
+      } in subst (OwnFits k) (sym own) (fits_with k x.own (set x.own.looked class spot) (set x.own.prepared class None) x.own.pending x.own.ephemerons x.own.swept looks (length-set x.own.prepared class None ∙ fits.prepared) fits.pending fits.ephemerons fits.swept fits);
       once = promote_once k x y may.stage;
     })
     (λ (not_before : Before → ⊥). let own : y.own ≡ preparing x.own class None = ap (λ (z : DomainView). z.own) (told.later not_before) in record {
       can_write = may.of_class;
       written = λ after wrote. own ∙ sym (wrote.later not_before);
-      fits = subst (OwnFits k) (sym own) record { number = fits.number; used = fits.used; registers = fits.registers; looked = fits.looked; remembered = fits.remembered; remembered_room = fits.remembered_room; prepared = length-set x.own.prepared class None ∙ fits.prepared; pending = fits.pending; ephemerons = fits.ephemerons; finalisers = fits.finalisers; swept = fits.swept };
+      fits = subst (OwnFits k) (sym own) (prepared_fits k x.own (set x.own.prepared class None) (length-set x.own.prepared class None ∙ fits.prepared) fits);
       once = promote_once k x y may.stage;
     })

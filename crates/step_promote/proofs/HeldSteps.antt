@@ -29,12 +29,13 @@ use Rattle.heap_rule.specs.Rule.{state_of, Rule}
 use Rattle.heap_rule.specs.Standing.{IsInHeap}
 use Rattle.heap_rule.specs.Token.{OwnFits}
 use Rattle.heap_rule.specs.Views.{one}
+use Rattle.heap_rule.proofs.Fits.{registers_fit}
 use Rattle.heap_rule.proofs.Keeps.{Words, my_good, hunter_as, owes_as, unmoved}
 use Rattle.heap_rule.proofs.Values.{address_of}
 use Rattle.step_promote.specs.Promotion.{Knows, changed_at, waiting_at, with_held, with_finalisers, HeldMoveMay, HeldMoveTold}
 use Rattle.step_promote.specs.Writes.{CanMoveHeld, MovesHeld}
 use Rattle.step_promote.proofs.HeldPlaces.{mapped_from, chained_from, length_changed, got_changed, paired_changed}
-use Rattle.step_promote.proofs.Registers.{fits_moved, promote_once}
+use Rattle.step_promote.proofs.Registers.{promote_once}
 use Rattle.step_promote.proofs.Remaking.{keeps_words}
 use Rattle.std.proofs.lemmas.Option.{same_Some}
 
@@ -194,6 +195,6 @@ held_move_closes k x found h copy may y fits told =
     let fit : FinalisersFit k fs = subst (λ (o : Own). FinalisersFit k o.finalisers) own told.fit in record {
       can_write = (may.address, may.holds);
       written = λ after wrote. own ∙ sym wrote;
-      fits = subst (OwnFits k) (sym own) (fits_moved k x.own x.own.registers fs fits.registers fit fits);
+      fits = subst (OwnFits k) (sym own) (registers_fit k x.own x.own.registers fs fits.registers fit fits);
       once = promote_once k x y may.stage;
     }

@@ -23,7 +23,7 @@ use Rattle.heap_rule.specs.Views.{one}
 use Rattle.heap_rule.proofs.Again.{Was, Back, placed_back, spread_back, opened_back, area_back, grid_back, none_back}
 use Rattle.heap_rule.proofs.Keeps.{Words, Control, my_good, garbage_here, hunter_as, pools_same, room_words, opened_words}
 use Rattle.heap_rule.proofs.Update.{over, over_here, over_else}
-use Rattle.step_promote.proofs.Remaking.{promotes_again, stood_same}
+use Rattle.step_promote.proofs.Remaking.{copying_as, promotes_again, stood_same}
 use Rattle.heap_rule.proofs.FullnessLemmas.{full_back}
 
 -- room stays where each block lives as it did, and forwards as it did
@@ -86,17 +86,13 @@ module _ (k : Config) (s : Words) (r : Rule k s) (id : ℕ) (hist : List Entry) 
   abbrev after : Live
   after = live2 before c p p2 lives label shape forward
 
+  -- the domain with what another view is still to fill or to look through
+  abbrev pub filling_as : DomainView → DomainView
+  filling_as y = record x { seen = record x.seen { copying = y.seen.copying; remembered = y.seen.remembered } }
+
   -- what a step owes that changes the place of one block, and nothing of its own but what it is still to fill or to look through
   pub record Changes (y : DomainView) (words' : List ℕ) : Type 0 where
-    pub own : y.own ≡ x.own
-    pub hunt : y.seen.hunt ≡ x.seen.hunt
-    pub stage : y.seen.stage ≡ x.seen.stage
-    pub front : y.seen.front ≡ x.seen.front
-    pub free : y.seen.free ≡ x.seen.free
-    pub spare : y.seen.spare ≡ x.seen.spare
-    pub listing : y.seen.listing ≡ x.seen.listing
-    pub share : y.seen.share ≡ x.seen.share
-    pub made : y.seen.made ≡ x.seen.made
+    pub same : y ≡ filling_as y
     pub wide : length words' ≡ length s.words
     pub control : Control k s.words words'
     pub found : AllFound k r.account.cycling.paint after (state_of k r.account.log).graph words'
@@ -113,7 +109,8 @@ module _ (k : Config) (s : Words) (r : Rule k s) (id : ℕ) (hist : List Entry) 
   changes_again y words' o =
       let g = my_good k s r id hist x at in
       let t = r.account.tenancy in
-      let number : y.own.number ≡ x.own.number = ap (λ (z : Own). z.number) o.own in
+      let own_same : y.own ≡ x.own = ap (λ (z : DomainView). z.own) o.same in
+      let number : y.own.number ≡ x.own.number = ap (λ (z : Own). z.number) own_same in
       let forth1 = forth before c p p2 lives label shape forward in
       let back1 = back before c p p2 lives label shape forward in
       let more1 = more before c p p2 lives label shape forward in
@@ -121,20 +118,11 @@ module _ (k : Config) (s : Words) (r : Rule k s) (id : ℕ) (hist : List Entry) 
       let making = o.makings x g.area g.making in
       let counts : (listed words' ≡ listed s.words) × (cursor words' ≡ cursor s.words) = (o.control 6 (omega arith), o.control 7 (omega arith)) in
       promotes_again k s r id hist x at promotes y words' after t r.account.homes record {
-        share = o.share;
+        same = o.same ∙ ap (copying_as k s r id hist x at promotes) (sym o.same);
         full = full_back k r.account.log before after t.holder t.fresh t.garbage r.account.homes r.account.cycling.kind back1 r.whole.full;
         garbage = garbage_here k s r id hist x at after words' (λ b dead. none_back before after b back1 (r.whole.cycle.leaves.dead b dead)) o.heads;
         holders = λ q. refl;
-        ephemerons = ap (λ (z : Own). z.ephemerons.items) o.own;
-        swept = ap (λ (z : Own). z.swept) o.own;
         no_more = ephe_back before after back1;
-        number = number;
-        arrivals = ap (λ (z : Own). z.arrivals) o.own;
-        stage = o.stage;
-        front = o.front;
-        free = o.free;
-        spare = o.spare;
-        listing = o.listing;
         wide = o.wide;
         control = o.control;
         found = o.found;
@@ -149,10 +137,10 @@ module _ (k : Config) (s : Words) (r : Rule k s) (id : ℕ) (hist : List Entry) 
         drawers = r.whole.drawers;
         room = room_words k after r.account.pause t.stock s.words words' (λ _. counts) (room_forth k before after r.account.pause t.stock s.words forth1 back1 r.whole.room);
         opened = opened_words k after s.words words' (λ _ _ _ _. counts.0) (opened_back k before after s.words back1 r.whole.opened);
-        stood = stood_same k s r id hist x at promotes y number (ap (λ (z : Own). z.registers) o.own) (ap (λ (z : Own). z.serial) o.own) (ap (λ (z : Own). z.finalisers) o.own) after more1;
-        area = subst (λ (z : Own). Area k after (record y { own = z })) (sym o.own) record { room = area.room; free = area.free; classes = area.classes };
+        stood = stood_same k s r id hist x at promotes y number (ap (λ (z : Own). z.registers) own_same) (ap (λ (z : Own). z.serial) own_same) (ap (λ (z : Own). z.finalisers) own_same) after more1;
+        area = subst (λ (z : Own). Area k after (record y { own = z })) (sym (ap (λ (z : DomainView). z.own) o.same)) record { room = area.room; free = area.free; classes = area.classes };
         making = making_as making;
-        hunter = hunter_as k t words' x y number o.hunt (ap (λ (z : Own). z.looked) o.own) o.free o.spare (ap (λ (z : Own). z.prepared) o.own) (ap (λ (z : Own). length z.pending.items) o.own) (o.hunters x g.hunter);
+        hunter = hunter_as k t words' x y number (ap (λ (z : DomainView). z.seen.hunt) o.same) (ap (λ (z : Own). z.looked) own_same) (ap (λ (z : DomainView). z.seen.free) o.same) (ap (λ (z : DomainView). z.seen.spare) o.same) (ap (λ (z : Own). z.prepared) own_same) (ap (λ (z : Own). length z.pending.items) own_same) (o.hunters x g.hunter);
         owes = o.owes;
         areas = λ z _ a. area_back k before after z back1 a;
         makings = λ z _ a m. o.makings z a m;
@@ -162,6 +150,6 @@ module _ (k : Config) (s : Words) (r : Rule k s) (id : ℕ) (hist : List Entry) 
     where
       making_as : Making k words' x → Making k words' y
       making_as m = record {
-        fits = λ j w got. subst (λ (z : Own). z.used + j + 1 < k.minor_words) (sym o.own) (m.fits j w (ap (λ (l : List ℕ). slice_get l j) (sym o.made) ∙ got));
-        written = λ j w got. subst (λ (z : Own). at_address k words' (base_of k z.number + z.used + 1 + j) ≡ w) (sym o.own) (m.written j w (ap (λ (l : List ℕ). slice_get l j) (sym o.made) ∙ got));
+        fits = λ j w got. subst (λ (z : Own). z.used + j + 1 < k.minor_words) (sym (ap (λ (z : DomainView). z.own) o.same)) (m.fits j w (ap (λ (l : List ℕ). slice_get l j) (sym (ap (λ (z : DomainView). z.seen.made) o.same)) ∙ got));
+        written = λ j w got. subst (λ (z : Own). at_address k words' (base_of k z.number + z.used + 1 + j) ≡ w) (sym (ap (λ (z : DomainView). z.own) o.same)) (m.written j w (ap (λ (l : List ℕ). slice_get l j) (sym (ap (λ (z : DomainView). z.seen.made) o.same)) ∙ got));
       }

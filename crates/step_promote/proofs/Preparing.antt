@@ -23,6 +23,7 @@ use Rattle.heap_rule.specs.Token.{OwnFits}
 use Rattle.heap_rule.specs.Views.{one}
 use Rattle.step_promote.specs.Claims.{preparing, PrepareMay, PrepareTold}
 use Rattle.step_promote.specs.Writes.{CanPrepare, Prepares}
+use Rattle.heap_rule.proofs.Fits.{prepared_fits}
 use Rattle.heap_rule.proofs.Holders.{SameFor, agrees_same, hunter_agree, stock_self}
 use Rattle.heap_rule.proofs.Keeps.{Words, my_good, control_set, owes_as, more_same}
 use Rattle.heap_rule.proofs.PauseFacts.{promote_now, promote_here}
@@ -231,7 +232,7 @@ pub prepared_closes : (k : Config) (x y : DomainView) (class : ℕ) (v : Option 
 prepared_closes k x y class v can writes promotes allowed wrote fits own = record {
   can_write = allowed;
   written = wrote;
-  fits = subst (OwnFits k) (sym own) record { number = fits.number; used = fits.used; registers = fits.registers; looked = fits.looked; remembered = fits.remembered; remembered_room = fits.remembered_room; prepared = length-set x.own.prepared class v ∙ fits.prepared; pending = fits.pending; ephemerons = fits.ephemerons; finalisers = fits.finalisers; swept = fits.swept };
+  fits = subst (OwnFits k) (sym own) (prepared_fits k x.own (set x.own.prepared class v) (length-set x.own.prepared class v ∙ fits.prepared) fits);
   once = promote_once k x y promotes;
 }
 

@@ -28,6 +28,7 @@ use Rattle.heap_rule.specs.Token.{Holds, OwnFits}
 use Rattle.heap_rule.specs.Views.{one}
 use Rattle.step_promote.specs.Promotion.{Knows, MoveMay, MoveTold}
 use Rattle.step_promote.specs.Writes.{CanMove, Moves}
+use Rattle.heap_rule.proofs.Fits.{registers_fit}
 use Rattle.heap_rule.proofs.Values.{stands_block, holds}
 use Rattle.heap_rule.proofs.Keeps.{Words, my_good, hunter_as, owes_as, unmoved}
 use Rattle.step_promote.proofs.Remaking.{keeps_words}
@@ -93,28 +94,12 @@ move_may k x word reg copy may fits slots id hist s r _ at _ =
 pub promote_once : (k : Config) (x y : DomainView) → x.seen.stage ≡ In Promote → StepsOnce k x y
 promote_once k x y promotes runs = absurd (let e : ◌≡◌ {A = Stage} (In Promote) (In Run) = sym promotes ∙ runs in cc)
 
--- what fits a token fits it with other registers and other lists of finalisers
-pub fits_moved : (k : Config) (own : Own) (registers : List Value) (fs : Finalisers) → Holds k registers → FinalisersFit k fs → OwnFits k own → OwnFits k (record own { registers = registers; finalisers = fs })
-fits_moved k own registers fs holds lists fits = record {
-  number = fits.number;
-  used = fits.used;
-  registers = holds;
-  looked = fits.looked;
-  remembered = fits.remembered;
-  remembered_room = fits.remembered_room;
-  prepared = fits.prepared;
-  pending = fits.pending;
-  ephemerons = fits.ephemerons;
-  finalisers = lists;
-  swept = fits.swept;
-}
-
 -- it closes where the register was written
 pub move_closes : (k : Config) (x : DomainView) (found reg copy : ℕ) → MoveMay x reg copy → Closes k x found (MoveTold k reg copy) (λ own. CanMove reg) (Moves reg copy)
 move_closes k x found reg copy may y fits told =
     let own : y.own ≡ record x.own { registers = set x.own.registers reg (Ref copy) } = ap (λ (z : DomainView). z.own) told.view in record {
       can_write = may.few;
       written = λ after wrote. own ∙ sym wrote;
-      fits = subst (OwnFits k) (sym own) (fits_moved k x.own (set x.own.registers reg (Ref copy)) x.own.finalisers (subst (λ (o : Own). Holds k o.registers) own told.holds) fits.finalisers fits);
+      fits = subst (OwnFits k) (sym own) (registers_fit k x.own (set x.own.registers reg (Ref copy)) x.own.finalisers (subst (λ (o : Own). Holds k o.registers) own told.holds) fits.finalisers fits);
       once = promote_once k x y may.stage;
     }

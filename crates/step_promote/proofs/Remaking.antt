@@ -71,24 +71,22 @@ module _ (k : Config) (s : Words) (r : Rule k s) (id : ℕ) (hist : List Entry) 
       let sh = (my_good k s r id hist x at).sharing in
       ap (λ (m : Bool). cond m paint.colours.marked paint.colours.unmarked) (young_marked a p lives young ∙ sym (sh.leading.armed b tells).1) ∙ ap (λ (z : Colours). new_colour b z) (sym (sh.telling.colours c known))
 
+  -- the domain with what of another view a step of a domain that copies may change
+  abbrev pub copying_as : DomainView → DomainView
+  copying_as y = record {
+    own = record y.own { number = x.own.number; arrivals = x.own.arrivals; ephemerons = x.own.ephemerons; swept = x.own.swept };
+    seen = record x.seen { made = y.seen.made; notes = y.seen.notes; hunt = y.seen.hunt; copying = y.seen.copying; remembered = y.seen.remembered };
+  }
+
   -- what a step of a domain that copies owes: no entry stands, its phase and its front stay
   pub record Promotes (y : DomainView) (words' : List ℕ) (live' : Live) (t' : Tenancy) (homes' : Homes) : Type 0 where
-    pub number : y.own.number ≡ x.own.number
-    pub arrivals : y.own.arrivals ≡ x.own.arrivals
-    pub stage : y.seen.stage ≡ x.seen.stage
-    pub front : y.seen.front ≡ x.seen.front
-    pub free : y.seen.free ≡ x.seen.free
-    pub spare : y.seen.spare ≡ x.seen.spare
-    pub listing : y.seen.listing ≡ x.seen.listing
-    pub share : y.seen.share ≡ x.seen.share
+    pub same : y ≡ copying_as y
     pub wide : length words' ≡ length s.words
     pub control : Control k s.words words'
     pub found : AllFound k r.account.cycling.paint live' now.graph words'
     pub full : Fullness k r.account.log live' t'.holder t'.fresh t'.garbage homes' r.account.cycling.kind
     pub garbage : KeepsGarbage k live' r.account.tenancy t' s.words words'
     pub holders : (q : ℕ) → t'.holder q ≡ r.account.tenancy.holder q
-    pub ephemerons : y.own.ephemerons.items ≡ x.own.ephemerons.items
-    pub swept : y.own.swept ≡ x.own.swept
     pub no_more : (a : ℕ) → IsEpheAt live' a → IsEpheAt r.account.live a
     pub placed : Placed k live'
     pub spread : Spread k live'
@@ -113,10 +111,20 @@ module _ (k : Config) (s : Words) (r : Rule k s) (id : ℕ) (hist : List Entry) 
 
   pub promotes_again : (y : DomainView) (words' : List ℕ) (live' : Live) (t' : Tenancy) (homes' : Homes) → Promotes y words' live' t' homes' → Rule k record { words = words'; homes = s.homes; views = set s.views id (one k hist y) }
   promotes_again y words' live' t' homes' o =
+      let number_same = ap (λ (z : DomainView). z.own.number) o.same in
+      let arrivals_same = ap (λ (z : DomainView). z.own.arrivals) o.same in
+      let stage_same = ap (λ (z : DomainView). z.seen.stage) o.same in
+      let front_same = ap (λ (z : DomainView). z.seen.front) o.same in
+      let free_same = ap (λ (z : DomainView). z.seen.free) o.same in
+      let spare_same = ap (λ (z : DomainView). z.seen.spare) o.same in
+      let listing_same = ap (λ (z : DomainView). z.seen.listing) o.same in
+      let share_same = ap (λ (z : DomainView). z.seen.share) o.same in
+      let ephemerons_same = ap (λ (z : DomainView). z.own.ephemerons.items) o.same in
+      let swept_same = ap (λ (z : DomainView). z.own.swept) o.same in
       let g = my_good k s r id hist x at in
       let same : SameCycle s.words words' = cycle_control k s.words words' o.control in
       let here = promote_here r.account.pause x promotes g.staged in
-      let waits : y.own.arrivals ≡ r.account.pause.phase + 1 → ⊥ = (λ up. let e : y.own.arrivals ≡ r.account.pause.phase + 1 = up in let f : x.own.arrivals ≡ r.account.pause.phase = here in let h : y.own.arrivals ≡ x.own.arrivals = o.arrivals in omega arith) in
+      let waits : y.own.arrivals ≡ r.account.pause.phase + 1 → ⊥ = (λ up. let e : y.own.arrivals ≡ r.account.pause.phase + 1 = up in let f : x.own.arrivals ≡ r.account.pause.phase = here in let h : y.own.arrivals ≡ x.own.arrivals = arrivals_same in omega arith) in
       let listeds : (z : DomainView) → Good k r.account s.words z → Listed live' t'.holder t'.garbage z.own.number z.own.ephemerons.items =
       (λ z h. listed_on r.account.live live' r.account.tenancy.holder t'.holder r.account.tenancy.garbage t'.garbage z.own.number z.own.ephemerons.items (λ q c e. sym (o.holders q) ∙ e) (λ q c e. o.holders q ∙ e) o.no_more
       (λ a e. inl (ephe_more r.account.live live' o.more a e)) (λ a e. o.garbage.same a ∙ e) h.listed) in
@@ -160,23 +168,23 @@ module _ (k : Config) (s : Words) (r : Rule k s) (id : ℕ) (hist : List Entry) 
         drawable = takes_drawable k r.account.pause words' x takes g.staged;
         cycle = cycle_here k s r id hist x at Promote tt promotes now live' t' c.past words' refl o.garbage same keeps;
       }
-      (knows_front k s r id hist x at y o.number (inl o.front))
+      (knows_front k s r id hist x at y number_same (inl front_same))
       record {
         stood = o.stood;
         area = o.area;
         making = o.making;
-        staged = staged_as r.account.pause x y o.number o.arrivals o.stage g.staged;
-        still = still_as r.account.log x y o.front o.stage g.still;
+        staged = staged_as r.account.pause x y number_same arrivals_same stage_same g.staged;
+        still = still_as r.account.log x y front_same stage_same g.still;
         hunter = o.hunter;
-        resting = resting_takes k s.words words' x y takes (subst Takes (sym o.stage) takes) (λ n. o.free ∙ g.resting.free (λ e. n (o.stage ∙ e))) (λ n. o.spare ∙ g.resting.spare (λ e. n (o.stage ∙ e))) o.listing g.resting;
-        took_back = λ kind leads last. absurd (nobody_leads r.account.pause x x takes g.staged g.staged (subst IsLeading (sym (sym o.stage ∙ leads)) tt));
+        resting = resting_takes k s.words words' x y takes (subst Takes (sym stage_same) takes) (λ n. free_same ∙ g.resting.free (λ e. n (stage_same ∙ e))) (λ n. spare_same ∙ g.resting.spare (λ e. n (stage_same ∙ e))) listing_same g.resting;
+        took_back = λ kind leads last. absurd (nobody_leads r.account.pause x x takes g.staged g.staged (subst IsLeading (sym (sym stage_same ∙ leads)) tt));
         owes = o.owes;
         rooted = (λ _ up. absurd (waits up), ⊎_elim (λ h. absurd (waits h.1)) (λ h. absurd (promote_rests r.account.pause promoting h)));
-        set_back = λ h. absurd (nobody_leads r.account.pause x x takes g.staged g.staged (subst IsLeading (sym (sym o.stage ∙ h.0)) tt));
-        sharing = sharing_here k s r id hist x at Promote tt promotes all' words' c.past x.seen.share.weak y refl same o.number o.stage o.share
-            (runs_as k live' t'.holder c.armed c.past marked words' x.own.number y.own.number x.seen.stage y.seen.stage x.seen.share y.seen.share o.number o.stage o.share (runs_here k s r id hist x at all' words' refl x (λ runs. absurd (not_run x g runs)) g));
-        listed = listed_as live' t'.holder t'.garbage x.own.number y.own.number x.own.ephemerons.items y.own.ephemerons.items o.number o.ephemerons (listeds x g);
-        sweeps = subst (λ (z : ℕ × List ℕ × Swept × Share). Sweeps t'.holder t'.garbage c.kind c.shares.arrived z.0 z.1 z.2 z.3.reaping) (λ i. (sym o.number i, sym o.ephemerons i, sym o.swept i, sym o.share i)) (sweeps_then x g.sweeps);
+        set_back = λ h. absurd (nobody_leads r.account.pause x x takes g.staged g.staged (subst IsLeading (sym (sym stage_same ∙ h.0)) tt));
+        sharing = sharing_here k s r id hist x at Promote tt promotes all' words' c.past x.seen.share.weak y refl same number_same stage_same share_same
+            (runs_as k live' t'.holder c.armed c.past marked words' x.own.number y.own.number x.seen.stage y.seen.stage x.seen.share y.seen.share number_same stage_same share_same (runs_here k s r id hist x at all' words' refl x (λ runs. absurd (not_run x g runs)) g));
+        listed = listed_as live' t'.holder t'.garbage x.own.number y.own.number x.own.ephemerons.items y.own.ephemerons.items number_same ephemerons_same (listeds x g);
+        sweeps = subst (λ (z : ℕ × List ℕ × Swept × Share). Sweeps t'.holder t'.garbage c.kind c.shares.arrived z.0 z.1 z.2 z.3.reaping) (λ i. (sym number_same i, sym ephemerons_same i, sym swept_same i, sym share_same i)) (sweeps_then x g.sweeps);
       }
       (λ z _ other h. record {
         stood = record { wide = h.stood.wide; each = λ q few. stands_more r.account.live live' (value_at z.own.registers q) (register now z.own.number q) o.more (h.stood.each q few); serial = h.stood.serial; enrolled = enrolled_more r.account.live live' now z.own.number z.own.finalisers o.more h.stood.enrolled };
@@ -235,22 +243,13 @@ module _ (k : Config) (s : Words) (r : Rule k s) (id : ℕ) (hist : List Entry) 
           let counts : (listed words' ≡ listed s.words) × (cursor words' ≡ cursor s.words) = (o.control 6 (omega arith), o.control 7 (omega arith)) in
           let pools = pools_same k t s.words words' o.control r.whole.pools in
           promotes_again then words' live t' r.account.homes record {
-            number = refl;
-            arrivals = refl;
-            stage = refl;
-            front = refl;
-            free = refl;
-            spare = refl;
-            listing = refl;
-            share = refl;
+            same = refl;
             wide = o.wide;
             control = o.control;
             found = o.found;
             full = r.whole.full;
             garbage = o.garbage;
             holders = λ q. refl;
-            ephemerons = refl;
-            swept = refl;
             no_more = λ a e. e;
             placed = r.whole.placed;
             spread = r.whole.spread;

@@ -28,6 +28,7 @@ use Rattle.heap_rule.specs.Views.{one}
 use Rattle.step_promote.proofs.HeldPlaces.{held_lives}
 use Rattle.step_promote.specs.Promotion.{ResetMay, reset_view, ResetTold}
 use Rattle.step_promote.specs.Writes.{Resets}
+use Rattle.heap_rule.proofs.Fits.{fits_held}
 use Rattle.heap_rule.proofs.Again.{ends_low}
 use Rattle.heap_rule.proofs.Beside.{found_beside, making_beside, area_word_far}
 use Rattle.heap_rule.proofs.Garbage.{KeepsGarbage}
@@ -121,6 +122,6 @@ pub reset_closes : (k : Config) (x : DomainView) (found a : ℕ) → ResetMay k 
 reset_closes k x found a may y fits told = let own = ap (λ (z : DomainView). z.own) told.view in record {
   can_write = tt;
   written = λ after wrote. own ∙ sym wrote;
-  fits = subst (λ (z : DomainView). OwnFits k z.own) (sym told.view) record { number = fits.number; used = omega arith; registers = fits.registers; looked = fits.looked; remembered = λ i b e. cc; remembered_room = no_more (x.own.remembered.room + length x.own.remembered.items) ∙ fits.remembered_room; prepared = fits.prepared; pending = fits.pending; ephemerons = fits.ephemerons; finalisers = fits.finalisers; swept = fits.swept };
+  fits = subst (λ (z : DomainView). OwnFits k z.own) (sym told.view) (fits_held k x.own 0 x.own.serial x.own.registers (reset_view x).own.remembered x.own.finalisers (omega arith) fits.registers (λ i b e. cc) (no_more (x.own.remembered.room + length x.own.remembered.items) ∙ fits.remembered_room) fits.finalisers fits);
   once = λ runs. absurd (let e : ◌≡◌ {A = Stage} (In Reset) (In Run) = sym may.stage ∙ runs in cc);
 }

@@ -248,15 +248,7 @@ module _ (k : Config) (s : Words) (r : Rule k s) (id : ℕ) (hist : List Entry) 
   rewrite_rule =
       let g = my_good k s r id hist x at in
       changes_again k s r id hist x at may.stage c p p2 lives refl refl refl (recalling x may.rest) ws record {
-        share = refl;
-        own = refl;
-        hunt = refl;
-        stage = refl;
-        front = refl;
-        free = refl;
-        spare = refl;
-        listing = refl;
-        made = refl;
+        same = refl;
         wide = length-set s.words (before_heap k + A) new;
         control = control_set k s.words A new (omega arith);
         found = found2;

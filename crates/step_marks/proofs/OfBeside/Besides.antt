@@ -24,7 +24,7 @@ use Rattle.heap_rule.proofs.BesideLemmas.{Endures, runs_on}
 use Rattle.heap_rule.proofs.EphemeronLemmas.{looks_idle}
 use Rattle.heap_rule.proofs.FinaliserLemmas.{deciding_none}
 use Rattle.heap_rule.proofs.Keeps.{Words, between_here, Control, cycle_control, idle_here, my_good, no_cycle_here, whole_here}
-use Rattle.heap_rule.proofs.Sharings.{SameCycle, adds_nothing, between_facts, idle_beside, leading_words}
+use Rattle.heap_rule.proofs.Sharings.{SameCycle, adds_nothing, between_facts, idle_beside, leading_loads, leading_words}
 use Rattle.step_marks.specs.Marking.Looks.{with_share}
 use Rattle.step_marks.proofs.OfMarking.Recasting.{recasts}
 use Rattle.step_marks.proofs.OfMarking.Unswept.{swept_armed}
@@ -109,19 +109,7 @@ module _ (k : Config) (s : Words) (r : Rule k s) (id : ℕ) (hist : List Entry) 
     }
 
     leading_on : (z : DomainView) (share : Share) → Leading c s.words z.own.number z.seen.stage share → Leading c' words' z.own.number z.seen.stage share
-    leading_on z share l = let u = leading_words c s.words words' z.own.number z.seen.stage share same l in record {
-      changed = u.changed;
-      found_blocks = u.found_blocks;
-      found_words = u.found_words;
-      rotated = u.rotated;
-      turned = u.turned;
-      pass = u.pass;
-      whole = u.whole;
-      armed = u.armed;
-      unswept = u.unswept;
-      under_way = u.under_way;
-      unmarked = u.unmarked;
-    }
+    leading_on z share l = leading_loads c c' s.words words' z.own.number z.seen.stage share share refl refl (let u = leading_words c s.words words' z.own.number z.seen.stage share same l in record { changed = u.changed; found_blocks = u.found_blocks; found_words = u.found_words }) l
 
     own_sharing : Sharing k all' words' y.own.number y.own.registers y.own.finalisers y.own.ephemerons.items y.seen.stage y.seen.share
     own_sharing =

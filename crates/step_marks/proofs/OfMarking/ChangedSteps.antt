@@ -36,7 +36,7 @@ use Rattle.step_marks.specs.Marking.Changed.{FindMay, FindTold, ForgetMay, Forge
 use Rattle.step_marks.specs.Marking.Looks.{with_share}
 use Rattle.step_marks.proofs.OfMarking.Learning.{learns, shifts, sharing_learnt}
 use Rattle.step_marks.proofs.OfMarking.Pausing.{paused_on}
-use Rattle.heap_rule.proofs.Sharings.{knows_words}
+use Rattle.heap_rule.proofs.Sharings.{knows_words, leading_loads}
 
 module _ (k : Config) (s : Words) (r : Rule k s) (id : ℕ) (hist : List Entry) (x : DomainView) (at : get_elem? s.views id ≡ some (one k hist x)) where
   abbrev state : model.State
@@ -150,19 +150,11 @@ module _ (k : Config) (s : Words) (r : Rule k s) (id : ℕ) (hist : List Entry) 
         forgotten = λ up. absurd (true≢false (sym up));
         colours = t.colours;
       };
-      leading = record {
+      leading = leading_loads c c' s.words ws z.own.number z.seen.stage z.seen.share (record z.seen.share { changed = changed }) refl refl record {
         changed = loaded;
         found_blocks = λ v e. let u = l.found_blocks v e in (u.0, get_or-set_other s.words 3 9 0 0 (λ e. omega arith) ∙ u.1);
         found_words = λ v e. let u = l.found_words v e in (u.0, get_or-set_other s.words 3 10 0 0 (λ e. omega arith) ∙ u.1);
-        rotated = l.rotated;
-        turned = l.turned;
-        pass = l.pass;
-        whole = l.whole;
-        armed = l.armed;
-        unswept = l.unswept;
-        under_way = l.under_way;
-        unmarked = l.unmarked;
-      };
+      } l;
       knows = knows;
       adds = record { blocks = λ e _. a.blocks e start.waits; words = λ e _. a.words e start.waits; own = λ e _. a.own e start.waits };
       looks = let u = g.sharing.looks in record { at_own = u.at_own; cleans = u.cleans; emptied_is = u.emptied_is };

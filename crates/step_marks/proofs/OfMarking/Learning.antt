@@ -44,7 +44,7 @@ use Rattle.heap_rule.proofs.Holders.{stock_self}
 use Rattle.heap_rule.proofs.Lots.{head_full, none_before, place_cases}
 use Rattle.heap_rule.proofs.Keeps.{Words, unmoved, hunter_as, my_good, owes_as, phases_words, room_words}
 use Rattle.heap_rule.proofs.PauseFacts.{kind_differs, not_both, agree}
-use Rattle.heap_rule.proofs.Sharings.{kind_now}
+use Rattle.heap_rule.proofs.Sharings.{kind_now, leading_loads}
 use Rattle.heap_rule.proofs.FinaliserLemmas.{deciding_marks}
 use Rattle.step_marks.specs.Marking.Looks.{with_share}
 use Rattle.step_marks.proofs.OfMarking.Layouts.{labelled}
@@ -467,19 +467,11 @@ module _ (k : Config) (s : Words) (r : Rule k s) (id : ℕ) (hist : List Entry) 
       }
 
       leading' : (z : DomainView) (share : Share) → Staged r.account.pause z → Leading c s.words z.own.number z.seen.stage share → Leading c' words' z.own.number z.seen.stage share
-      leading' z share staged l = record {
+      leading' z share staged l = leading_loads c c' s.words words' z.own.number z.seen.stage share share refl refl record {
         changed = λ v e. absurd (leads_odd r.account.pause z.own.number z.own.arrivals z.seen.stage even staged.stage (l.changed v e).1);
         found_blocks = λ v e. let f = l.found_blocks v e in (f.0, o.blocks_same ∙ f.1);
         found_words = λ v e. let f = l.found_words v e in (f.0, o.words_same ∙ f.1);
-        rotated = l.rotated;
-        turned = l.turned;
-        pass = l.pass;
-        whole = l.whole;
-        armed = l.armed;
-        unswept = l.unswept;
-        under_way = l.under_way;
-        unmarked = l.unmarked;
-      }
+      } l
 
       -- nobody runs
       running' : (z : DomainView) → Good k r.account s.words z → RunsBeside k live holder c.armed c.past m'.marked words' z.own.number z.seen.stage z.seen.share

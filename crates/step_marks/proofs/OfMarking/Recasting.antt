@@ -1,5 +1,5 @@
 -- A step that changes what a domain knows of its phase, and maybe what is marked and words in the heap: blocks and pools stay.
-use Rattle.std.proofs.Common.{◌≡◌, ◌≢◌, ℕ, List, length, set, refl, ◌∙◌, inl}
+use Rattle.std.proofs.Common.{◌≡◌, ◌≢◌, ℕ, List, length, set, refl, inl}
 use mathlib.Core.Option.{some}
 use lib.ListN.{get_elem?}
 use Rattle.model_core.specs.declared.entry.Entry.{Entry}
@@ -14,7 +14,7 @@ use Rattle.heap_rule.specs.Pools.{Grid, Hunter}
 use Rattle.heap_rule.specs.Rule.{Account, AllFound, Area, Good, Making, Rule, Sharing, state_of}
 use Rattle.heap_rule.specs.Sweeping.{SweepsIn}
 use Rattle.heap_rule.specs.Views.{one}
-use Rattle.heap_rule.proofs.Keeps.{Control, Words, controls_kept, hunter_as, knows_front, my_good, opened_words, owes_as, remakes, resting_as, resting_lists, room_words}
+use Rattle.heap_rule.proofs.Keeps.{Control, Words, controls_kept, hunter_as, my_good, writes}
 use Rattle.step_marks.specs.Marking.Looks.{with_share}
 
 module _ (k : Config) (s : Words) (r : Rule k s) (id : ℕ) (hist : List Entry) (x : DomainView) (at : get_elem? s.views id ≡ some (one k hist x)) (share' : Share) (paint' : Paint) (shares' : Shares) (past' : Snapshot) (words' : List ℕ) where
@@ -46,64 +46,25 @@ module _ (k : Config) (s : Words) (r : Rule k s) (id : ℕ) (hist : List Entry) 
   pub recasts : Recasts → Rule k record { words = words'; homes = s.homes; views = set s.views id (one k hist y) }
   recasts o =
       let g = my_good k s r id hist x at in
-      let controls = controls_kept k s r id hist x at words' o.control in
       let making = o.makings x g.area g.making in
-      remakes k s r id hist x at y all' words'
-      record {
-        wide = o.wide ∙ r.whole.wide;
-        legal = r.whole.legal;
-        full = r.whole.full;
+      writes k s r id hist x at y words' c' record {
+        same = refl;
+        kind = refl;
+        front = inl refl;
+        still = g.still;
+        wide = o.wide;
+        controls = controls_kept k s r id hist x at words' o.control;
         found = o.found;
-        placed = r.whole.placed;
-        spread = r.whole.spread;
-        settled = r.whole.settled;
-        copies = r.whole.copies;
-        cleared = r.whole.cleared;
-        emptied = r.whole.emptied;
-        phases = controls.phases;
-        unwished = λ j odd led runs. controls.want ∙ r.whole.unwished j odd led runs;
-        endings = controls.ended ∙ r.whole.endings;
-        pools = controls.pools;
-        reserved = controls.reserved;
-        covered = controls.covered;
-        grid = o.grid;
-        drawers = r.whole.drawers;
-        room = room_words k live pause t.stock s.words words' controls.counts r.whole.room;
-        unused = r.whole.unused;
-        opened = opened_words k live s.words words' controls.listed_young r.whole.opened;
-        drawable = controls.drawable;
-        cycle = o.cycle;
-      }
-      (knows_front k s r id hist x at y refl (inl refl))
-      record {
         stood = record { wide = g.stood.wide; each = g.stood.each; serial = g.stood.serial; enrolled = g.stood.enrolled };
         area = record { room = g.area.room; free = g.area.free; classes = g.area.classes };
         making = record { fits = making.fits; written = making.written };
-        staged = record { arrivals = g.staged.arrivals; stage = g.staged.stage };
-        still = g.still;
+        makings = λ z _ area m. o.makings z area m;
+        grid = o.grid;
         hunter = hunter_as k t words' x y refl refl refl refl refl refl refl (o.hunters x g);
-        resting = resting_as k words' x y refl refl refl refl refl refl (resting_lists k s.words words' x controls.lists g.resting);
-        took_back = λ kind leads last. controls.want ∙ g.took_back kind leads last;
-        owes = owes_as k live x y refl refl refl refl g.owes;
-        rooted = g.rooted;
-        set_back = λ b. controls.set_back x g.staged b (g.set_back b);
+        hunters = λ z _ h. o.hunters z h;
+        cycle = o.cycle;
         sharing = o.sharing;
-        listed = g.listed;
+        sharings = o.sharings;
         sweeps = o.sweeps;
+        others_sweep = o.others_sweep;
       }
-      (λ z _ other h. record {
-        stood = h.stood;
-        area = h.area;
-        making = o.makings z h.area h.making;
-        staged = h.staged;
-        still = h.still;
-        hunter = o.hunters z h;
-        resting = resting_lists k s.words words' z controls.lists h.resting;
-        took_back = λ kind leads last. controls.want ∙ h.took_back kind leads last;
-        owes = h.owes;
-        rooted = h.rooted;
-        set_back = λ b. controls.set_back z h.staged b (h.set_back b);
-        sharing = o.sharings z other h;
-        listed = h.listed;
-        sweeps = o.others_sweep z h;
-      })

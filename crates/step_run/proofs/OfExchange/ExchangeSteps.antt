@@ -49,7 +49,7 @@ use Rattle.heap_rule.proofs.Keeps.{Words, my_good, run_settled, unmoved, whole_h
 use Rattle.heap_rule.proofs.Lists.{got_below}
 use Rattle.heap_rule.proofs.Values.{AllStand, not_nothing, packable, stands_block}
 use Rattle.step_run.proofs.OfFields.Advances.{EntersPaid, paid_refused, paid_rule}
-use Rattle.step_run.proofs.OfFields.StoreSteps.{Written, written_field}
+use Rattle.step_run.proofs.OfFields.StoreSteps.{Written, field_written, written_field}
 use Rattle.step_run.proofs.OfFields.ValueSteps.{ValueStore, value_stored}
 use Rattle.step_run.specs.Exchange.Exchanges.{ExchangeEntry, ExchangeMay, ExchangeTold}
 use Rattle.step_run.proofs.OfExchange.SameValues.{one_value, one_word, same_values}
@@ -147,37 +147,15 @@ module _ (k : Config) (s : Words) (r : Rule k s) (id : ℕ) (hist : List Entry) 
 
   -- what the exchange changes where it finds what is expected
   value_store : at_address k s.words a ≡ old → ValueStore k s r id hist x at a new remembers changes (Cas block i expected item) Yes
-  value_store won = record {
-    block = block;
-    index = i;
-    address = f.address;
-    place = f.place;
-    node = o.before;
-    after = o.after;
-    word = w;
-    value = v;
-    holds = may.target.block.holds ∙ ap Ref (sym field.1);
-    lives = f.lives;
-    there = o.there;
-    spot = at_is;
-    same_shape = o.same_shape;
-    values = o.values_after ∙ ap (λ (l : List graph_value.Value). set l i v) (sym o.values_before);
-    below = subst (λ (l : List graph_value.Value). i < length l) (sym o.values_before) (got_below f.fields i f.value f.there);
-    stands = stand.each item may.from;
-    packs = may.new_is;
-    exact = may.exact;
-    same = may.same;
-    unregistering = refl;
-    fits = may_begin k s r id hist x at may.acts;
-    quiet = refl;
-    barrier = λ is l y found held now_is same was. ⊎_elim
-        (λ (marked : IsTrue (r.account.cycling.paint.marks.marked y)). marked)
-        (λ (h : old_field now.graph l i ≡ Some (Block y)).
-        let value : found ≡ Block y = same_Some found (Block y) (sym now_is ∙ h) in
-        expected_marked is y (sym (same_values found ve same) ∙ value))
-        (beside_law.reads r.account.cycling.past r.account.cycling.paint.marks now (underway_here k s r id hist x at may.acts.runs is).covered l y i was);
-    leaves = leaves_cas_written now d block i expected item ve refl expected_full f.place.label o.before o.after v f.value f.held o.there refl o.takes (found_same won);
-  }
+  unfolding field o
+  value_store won = field_written k s r id hist x at may.acts a new remembers changes block i item may.target field may.from may.full may.suits (Cas block i expected item) Yes may.new_is may.exact may.same refl (may_begin k s r id hist x at may.acts) refl
+      (λ is l y found held now_is same was. ⊎_elim
+      (λ (marked : IsTrue (r.account.cycling.paint.marks.marked y)). marked)
+      (λ (h : old_field now.graph l i ≡ Some (Block y)).
+      let value : found ≡ Block y = same_Some found (Block y) (sym now_is ∙ h) in
+      expected_marked is y (sym (same_values found ve same) ∙ value))
+      (beside_law.reads r.account.cycling.past r.account.cycling.paint.marks now (underway_here k s r id hist x at may.acts.runs is).covered l y i was))
+      (leaves_cas_written now d block i expected item ve refl expected_full f.place.label o.before o.after v f.value f.held o.there refl o.takes (found_same won))
 
   -- and where it doesn't, nothing changes
   kept : at_address k s.words a ≢ old → EntersPaid k s r id hist x at may.acts now.graph (Command d (Cas block i expected item) false) (changed Nothing changes x.own).registers (Replied No)

@@ -17,17 +17,17 @@ use Rattle.heap_rule.specs.declared.config.Config.{Config}
 use Rattle.heap_rule.specs.declared.view.Own.{Own}
 use Rattle.heap_rule.specs.declared.view.DomainView.{DomainView}
 use Rattle.heap_rule.specs.Changes.{changed, FitChanges}
-use Rattle.heap_rule.specs.Finalisers.{FinalisersFit}
 use Rattle.heap_rule.specs.Raw.{StepsOnce, CanChange, Changes, Written, Closes}
 use Rattle.heap_rule.proofs.Plain.{fits_changed, entered_own, enters_once, changed_unread, entered_closes}
 use Rattle.heap_rule.proofs.Closes.{front_same}
 use Rattle.heap_rule.proofs.ChangeLemmas.{changed_only}
 use Rattle.step_run.specs.Fields.Stores.{room_left, with_field, remembering_own, StoreTold, WroteTold, CanStore, Stores}
-use Rattle.heap_rule.specs.Token.{AllInHeap, Holds, LooksWithin, OwnFits, SweptWithin}
+use Rattle.heap_rule.specs.Token.{AllInHeap, Holds, OwnFits}
 use Rattle.heap_rule.specs.Standing.{IsInHeap}
 use Rattle.step_run.specs.Fields.Loads.{place_of, puts_block, HeadCase, HeadTold, LabelTold, FieldRead, RawCase, SizeTold}
 use Rattle.step_run.specs.Fields.Shortage.{ShortTold}
 use Rattle.step_run.specs.Fields.Ticks.{tick_answer, TickTold}
+use Rattle.heap_rule.proofs.Fits.{fits_held}
 
 -- a load that leaves the plain data, and has no changes
 pub kept : (k : Config) (x y : DomainView) (found : ℕ) (changes : List Change) → changes ≡ [] → OwnFits k x.own → y.own ≡ x.own → StepsOnce k x y → Written k x y (λ own. CanChange Unread found changes) (λ own after. Changes Unread found changes own after)
@@ -67,19 +67,8 @@ wrote_closes k x at new remembers e changes reply inside can y p told =
     let rest : y.own ≡ remembering_own remembers at (record x.own { registers = (changed Nothing changes x.own).registers }) = own ∙ ap (remembering_own remembers at) (changed_only Nothing changes x.own) in record {
       can_write = can;
       written = λ after wrote. own ∙ sym wrote;
-      fits = record {
-        number = subst (λ (o : Own). o.number < k.domains) (sym rest) p.number;
-        used = subst (λ (o : Own). o.used ≤ k.minor_words) (sym rest) p.used;
-        registers = told.holds;
-        looked = subst (λ (o : Own). LooksWithin k o.looked) (sym rest) p.looked;
-        remembered = subst (λ (o : Own). AllInHeap k o.remembered.items) (sym rest) (field_in_heap k remembers at x.own.remembered.items inside p.remembered);
-        remembered_room = ap (λ (o : Own). o.remembered.room + length o.remembered.items) rest ∙ (field_room remembers at x.own.remembered.items x.own.remembered.room can.1 ∙ p.remembered_room);
-        prepared = ap (λ (o : Own). length o.prepared) rest ∙ p.prepared;
-        pending = ap (λ (o : Own). o.pending.room + length o.pending.items) rest ∙ p.pending;
-        ephemerons = subst (λ (o : Own). AllInHeap k o.ephemerons.items) (sym rest) p.ephemerons;
-        finalisers = subst (λ (o : Own). FinalisersFit k o.finalisers) (sym rest) p.finalisers;
-        swept = subst (λ (o : Own). SweptWithin k o.swept) (sym rest) p.swept;
-      };
+      fits = subst (OwnFits k) (sym rest) (fits_held k x.own x.own.used x.own.serial (changed Nothing changes x.own).registers (remembering_own remembers at x.own).remembered x.own.finalisers p.used (subst (λ (o : Own). Holds k o.registers) rest told.holds)
+          (field_in_heap k remembers at x.own.remembered.items inside p.remembered) (field_room remembers at x.own.remembered.items x.own.remembered.room can.1 ∙ p.remembered_room) p.finalisers p);
       once = λ _. inr (record { entry = e; answer = Replied reply; answers = told.answers });
     }
 

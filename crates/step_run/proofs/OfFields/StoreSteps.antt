@@ -1,9 +1,13 @@
 -- Stores to fields keep the rule.
-use Rattle.std.proofs.Common.{◌≡◌, ◌≢◌, ℕ, ◌+◌, ◌<◌, length, Bool, true, false, IsTrue, List, [], set, Some, ⊎_elim, sym, refl, ap, ◌∙◌, subst, length-set}
+use Rattle.std.proofs.Common.{◌↔◌, ◌≡◌, ◌≢◌, ℕ, ◌+◌, ◌<◌, length, Bool, true, false, IsTrue, List, [], set, Some, ⊎_elim, sym, refl, ap, ◌∙◌, subst, length-set}
 use mathlib.Core.Option.{some}
 use lib.ListN.{get_elem?}
 use Rattle.atomic_table.specs.Table.{Allows}
+use Rattle.model_core.specs.declared.command.Command.{Command as model_command}
 use Rattle.model_core.specs.declared.command.Command.TheVariants.{Store}
+use Rattle.model_core.specs.Commands.{FitsMode}
+use Rattle.model_core.specs.declared.reply.Applied.TheVariants.{Replied}
+use Rattle.model_core.specs.declared.reply.Reply.{Reply}
 use Rattle.model_core.specs.declared.reply.Reply.TheVariants.{Done as Stored}
 use Rattle.model_core.specs.declared.entry.Entry.{Entry}
 use Rattle.model_core.specs.declared.entry.Entry.TheVariants.{Command}
@@ -13,13 +17,16 @@ use Rattle.model_core.specs.declared.graph.Value.TheVariants.{Block, Nothing as 
 use Rattle.model_core.specs.declared.graph.Node.{Node}
 use Rattle.model_core.specs.declared.graph.Node.TheVariants.{Plain, Raw}
 use Rattle.model_core.specs.declared.state.State as model
-use Rattle.model_core.specs.Domains.{register, opening}
-use Rattle.model_core.specs.Graph.{node_at}
+use Rattle.model_core.specs.Domains.{domain_at, register, opening}
+use Rattle.model_core.specs.Graph.{node_at, with_node}
 use Rattle.model_core.proofs.Histories.FrontLemmas.{shape_later}
 use Rattle.std.proofs.lemmas.Option.{same_Some}
 use Rattle.model_core.specs.Fronts.{PlainShape, RawShape, shape_of, HoldsShape}
-use Rattle.model_core.proofs.Commands.LeavesLemmas.{Takes, leaves_store_taken, takes_plain, takes_raw}
+use Rattle.model_core.proofs.Commands.LeavesLemmas.{Leaves, Takes, leaves_store_taken, takes_plain, takes_raw}
 use Rattle.heap_words.specs.declared.value.Value.{Value}
+use Rattle.heap_words.specs.Values.{value_word}
+use Rattle.model_core.proofs.Commands.MoveLemmas.{registers_one}
+use Rattle.model_cycle.specs.Beside.{WriteBarrier, owed_after}
 use Rattle.heap_words.specs.declared.value.Value.TheVariants.{Ref, Nothing}
 use Rattle.heap_rule.specs.declared.change.Change.{Change}
 use Rattle.heap_rule.specs.declared.config.Config.{Config}
@@ -36,12 +43,12 @@ use Rattle.heap_rule.specs.Views.{one, Tells}
 use Rattle.heap_rule.specs.Raw.{MayStore}
 use Rattle.heap_rule.specs.Places.{Live, Place, values_of}
 use Rattle.heap_rule.specs.Limits.{sizes_in}
-use Rattle.heap_rule.specs.Standing.{Acts}
+use Rattle.heap_rule.specs.Standing.{Acts, FieldMay, LeavesOwn}
 use Rattle.step_run.specs.Fields.Loads.{is_block}
 use Rattle.step_run.proofs.OfFields.LoadSteps.{int_held}
 use Rattle.heap_rule.specs.Rule.{state_of, Rule}
 use Rattle.heap_rule.proofs.BesideLemmas.{paid_marks}
-use Rattle.step_run.specs.Fields.Stores.{SuitsField, FieldStoreMay, FieldStoreEntry, StoreTold, CanStore}
+use Rattle.step_run.specs.Fields.Stores.{MustRemember, SuitsField, FieldStoreMay, FieldStoreEntry, StoreTold, CanStore}
 use Rattle.heap_rule.proofs.Lists.{got_below}
 use Rattle.heap_rule.proofs.Values.{not_nothing}
 use Rattle.heap_rule.proofs.Keeps.{Words, mine, my_good, run_settled, whole_here}
@@ -117,7 +124,51 @@ written_field k s r id hist x at acts block i item size f few full suits =
     suits)
     f.node
 
--- what a store to a field changes
+-- what a command changes that writes what a register holds into this field
+module _ (k : Config) (s : Words) (r : Rule k s) (id : ℕ) (hist : List Entry) (x : DomainView) (at : get_elem? s.views id ≡ some (one k hist x)) (acts : Acts k x) (a new : ℕ) (remembers : Bool) (changes : List Change) (block i item : ℕ) (target : FieldMay k x a block i)
+    (field : (f : Field k s r id hist x at block i) × (f.address ≡ target.address)) (few : item < 16) (full : value_at x.own.registers item ≢ Nothing) (suits : SuitsField k x block target.size (value_at x.own.registers item)) where
+  open x use {own.{number as d}}
+
+  abbrev now : model.State
+  now = state_of k r.account.log
+
+  abbrev f : Field k s r id hist x at block i
+  f = field.0
+
+  abbrev o : Written r.account.live now f.place.label f.fields i (register now d item) f.value
+  o = written_field k s r id hist x at acts block i item target.size f few full suits
+
+  pub field_written : (c : model_command) (reply : Reply) → new ≡ value_word (value_at x.own.registers item) → (remembers ≡ true) ↔ MustRemember k (value_at x.own.registers block) (value_at x.own.registers item) → LeavesOwn changes x → registers_one c ≡ false → FitsMode now d c
+      → owed_after r.account.cycling.past.owed d c ≡ r.account.cycling.past.owed → (IsTrue r.account.cycling.armed → WriteBarrier r.account.cycling.past r.account.cycling.paint.marks now d c)
+      → Leaves now (Command d c false) d (with_node now.graph f.place.label o.after) (domain_at now d).registers (domain_at now d).serial (Replied reply) → ValueStore k s r id hist x at a new remembers changes c reply
+  field_written c reply packs exact same unregistering fits quiet barrier leaves = record {
+    block = block;
+    index = i;
+    address = f.address;
+    place = f.place;
+    node = o.before;
+    after = o.after;
+    word = value_at x.own.registers item;
+    value = register now d item;
+    holds = target.block.holds ∙ ap Ref (sym field.1);
+    lives = f.lives;
+    there = o.there;
+    spot = target.field ∙ ap (λ (n : ℕ). n + 2 + i) (sym field.1);
+    same_shape = o.same_shape;
+    values = o.values_after ∙ ap (λ (l : List graph_value.Value). set l i (register now d item)) (sym o.values_before);
+    below = subst (λ (l : List graph_value.Value). i < length l) (sym o.values_before) (got_below f.fields i f.value f.there);
+    stands = (registers_stand k s r id hist x at acts).each item few;
+    packs = packs;
+    exact = exact;
+    same = same;
+    unregistering = unregistering;
+    fits = fits;
+    quiet = quiet;
+    barrier = barrier;
+    leaves = leaves;
+  }
+
+-- as a store does
 field_value : (k : Config) (s : Words) (r : Rule k s) (id : ℕ) (hist : List Entry) (x : DomainView) (at : get_elem? s.views id ≡ some (one k hist x)) (a new : ℕ) (remembers : Bool) (block i item : ℕ) (changes : List Change) → FieldStoreMay k x a new remembers changes x.own.number block i item
     → ValueStore k s r id hist x at a new remembers changes (Store block i item) Stored
 field_value k s r id hist x at a new remembers block i item changes may =
@@ -125,36 +176,11 @@ field_value k s r id hist x at a new remembers block i item changes may =
     let now : model.State = state_of k r.account.log in
     let t = field_at k s r id hist x at (run_settled k s r id hist x at may.acts.runs) (whole_here k s r id hist x at Run tt may.acts.runs) a block i may.target in
     let f = t.0 in
-    let w : Value = value_at x.own.registers item in
-    let v : graph_value.Value = register now d item in
     let o = written_field k s r id hist x at may.acts block i item may.target.size f may.from may.full may.suits in
-    let stand = registers_stand k s r id hist x at may.acts in record {
-      block = block;
-      index = i;
-      address = f.address;
-      place = f.place;
-      node = o.before;
-      after = o.after;
-      word = w;
-      value = v;
-      holds = may.target.block.holds ∙ ap Ref (sym t.1);
-      lives = f.lives;
-      there = o.there;
-      spot = may.target.field ∙ ap (λ (n : ℕ). n + 2 + i) (sym t.1);
-      same_shape = o.same_shape;
-      values = o.values_after ∙ ap (λ (l : List graph_value.Value). set l i v) (sym o.values_before);
-      below = subst (λ (l : List graph_value.Value). i < length l) (sym o.values_before) (got_below f.fields i f.value f.there);
-      stands = stand.each item may.from;
-      packs = may.word;
-      exact = may.exact;
-      same = may.same;
-      unregistering = refl;
-      fits = may_begin k s r id hist x at may.acts;
-      quiet = refl;
-      barrier = λ is l y held was. barrier_done k s r id hist x at f.address i f.place f.lives (subst (λ (b : ℕ). Barrier x.seen.share b i) (sym t.1) may.barrier) is y
-          (ap (λ (m : Label). old_field r.account.cycling.past.old m i) (block_same f.place.label l (sym f.held ∙ held)) ∙ was);
-      leaves = leaves_store_taken now d block i item f.place.label o.before o.after v f.value f.held o.there refl o.takes;
-    }
+    field_written k s r id hist x at may.acts a new remembers changes block i item may.target t may.from may.full may.suits (Store block i item) Stored may.word may.exact may.same refl (may_begin k s r id hist x at may.acts) refl
+    (λ is l y held was. barrier_done k s r id hist x at f.address i f.place f.lives (subst (λ (b : ℕ). Barrier x.seen.share b i) (sym t.1) may.barrier) is y
+    (ap (λ (m : Label). old_field r.account.cycling.past.old m i) (block_same f.place.label l (sym f.held ∙ held)) ∙ was))
+    (leaves_store_taken now d block i item f.place.label o.before o.after (register now d item) f.value f.held o.there refl o.takes)
 
 field_stores : (k : Config) (slots id word : ℕ) (hist : List Entry) (x : DomainView) (a new : ℕ) (remembers : Bool) (block i item : ℕ) (changes : List Change) → word ≡ before_heap k + a → FieldStoreMay k x a new remembers changes x.own.number block i item
     → let e : Entry = Command x.own.number (Store block i item) false in

@@ -55,7 +55,7 @@ use Rattle.heap_rule.proofs.Sizes.{area_below, area_inside}
 use Rattle.heap_rule.proofs.ChangeLemmas.{changed_only, registers_of}
 use Rattle.heap_rule.proofs.Values.{AllStand, stand_set, holds}
 use Rattle.heap_rule.proofs.Keeps.{whole_here, listed_here, Words, more_same, mine, my_good, control_set, controls_kept, hunter_as, appends, writes, legal_entry, owes_run, opened_words, quiet, run_settled, cycle_here, sharing_here, sharings_here, runs_here, between_here, cycle_control, garbage_here}
-use Rattle.heap_rule.proofs.Entering.{running, inside_state, registers_stand, may_begin, open_after}
+use Rattle.heap_rule.proofs.Entering.{label_is, leaves_made, stood_made, running, inside_state, registers_stand, may_begin, open_after}
 use Rattle.heap_rule.proofs.FinaliserLemmas.{enrolled_as, enrolled_more, work_command}
 use Rattle.heap_rule.proofs.Beside.{found_beside, making_beside, area_word_far}
 use Rattle.heap_rule.proofs.Born.{zero_word, zero_values, all_more, live', born, more, old, is_new, placed_born, settled_born, recalls_born, naming_born, spread_born, opened_born, classes_born}
@@ -282,12 +282,8 @@ module _ (k : Config) (s : Words) (r : Rule k s) (id : ℕ) (hist : List Entry) 
   made_at : (j w : ℕ) → slice_get (label_word d (x.own.serial + 1) ∷ replicate n zero_word) j ≡ Some w → at_address k s.words (A + 1 + j) ≡ w
   made_at j w got = g.making.written j w (ap (λ (l : List ℕ). slice_get l j) may.made ∙ got)
 
-  -- the label is the one that the entry gives
-  label_is : L ≡ record { domain = d; serial = (domain_at now d).serial + 1 }
-  label_is = ap (λ (m : ℕ). record { domain = d; serial = m + 1 }) g.stood.serial
-
   fresh : node_at now.graph L ≡ None
-  fresh = ap (node_at now.graph) label_is ∙ next_label_after (sizes_in k) r.account.log r.whole.legal d
+  fresh = ap (node_at now.graph) (label_is k s r id hist x at may.acts) ∙ next_label_after (sizes_in k) r.account.log r.whole.legal d
 
   fresh_label : (b : ℕ) (q : Place) → r.account.live b ≡ Some q → q.label ≢ L
   fresh_label b q lives same = let f = r.whole.found b q lives in absurd (let clash : ◌≡◌ {A = Option Node} None (Some f.node) = sym fresh ∙ (ap (node_at now.graph) (sym same) ∙ f.there) in cc)
@@ -298,7 +294,7 @@ module _ (k : Config) (s : Words) (r : Rule k s) (id : ℕ) (hist : List Entry) 
     new_of : (b : Bool) → has_label (labels r.account.cycling.past.old) L ≡ b → IsTrue (is_new_label r.account.cycling.past.old L)
     new_of false none = ap not none
     new_of true has = absurd (let there : has_label (labels now.graph) L ≡ true = (underway_here k s r id hist x at may.acts.runs is).covered.grown L has in
-        let none : has_label (labels now.graph) L ≡ false = ap (has_label (labels now.graph)) label_is ∙ next_label-new now (numbered k s r id hist x at) d in
+        let none : has_label (labels now.graph) L ≡ false = ap (has_label (labels now.graph)) (label_is k s r id hist x at may.acts) ∙ next_label-new now (numbered k s r id hist x at) d in
         let clash : false ≡ true = sym none ∙ there in cc)
 
   marked_beside : IsTrue r.account.cycling.armed → IsTrue (r.account.cycling.paint.marks.marked L)
@@ -410,24 +406,11 @@ module _ (k : Config) (s : Words) (r : Rule k s) (id : ℕ) (hist : List Entry) 
   beside : (m : ℕ) → Beside k r.account.tenancy s.words m A
   beside = area_beside k r.account.tenancy s.words A new r.whole.pools (let p : ℕ = d * k.minor_words in let q : k.pools * 4096 < A = omega arith in q)
 
-  abbrev theirs : List graph_value.Value
-  theirs = (domain_at now d).registers
-
-  leaves : Leaves now e d grown (set theirs dst (Block L)) ((domain_at now d).serial + 1) (Replied (BlockReply L))
-  leaves = subst (λ (l : Label). Leaves now e d (now.graph ++ (l, node) ∷ []) (set theirs dst (Block l)) ((domain_at now d).serial + 1) (Replied (BlockReply l))) (sym label_is)
-      (leaves_allocation now d (inside_state k s r id hist x at may.acts) c dst node (made.makes now d))
-
-  stand1 : AllStand live1 regs (set theirs dst (Block L))
-  stand1 = subst (λ (l : List Value). AllStand live1 l (set theirs dst (Block L))) (sym (ap registers_of may.written))
-      (stand_set live1 x.own.registers theirs dst (Ref a) (Block L) may.goes (born_place, ap live1 may.word ∙ lives_now, refl) (all_more r.account.live live1 x.own.registers theirs grows (registers_stand k s r id hist x at may.acts)))
+  leaves : Leaves now e d grown (set (domain_at now d).registers dst (Block L)) ((domain_at now d).serial + 1) (Replied (BlockReply L))
+  leaves = leaves_made k s r id hist x at may.acts c dst node (made.makes now d)
 
   stood1 : Stood live1 (next now e) after
-  stood1 = record {
-    wide = stand1.wide;
-    each = λ q few. subst (λ (l : List graph_value.Value). Stands live1 (value_at regs q) (get_or l q Nothing)) (sym leaves.registers_are) (stand1.each q few);
-    serial = ap (λ (m : ℕ). m + 1) g.stood.serial ∙ sym leaves.serial_is;
-    enrolled = enrolled_more r.account.live live1 (next now e) d x.own.finalisers grows (enrolled_as r.account.live now (next now e) d x.own.finalisers (work_command now d c false made.unregistering) g.stood.enrolled);
-  }
+  stood1 = stood_made k s r id hist x at may.acts c dst a grown (Replied (BlockReply L)) live1 regs (x.own.used + class_words (n + 2)) x.own.ephemerons after.seen made.unregistering may.goes grows (born_place, ap live1 may.word ∙ lives_now, refl) (ap registers_of may.written) leaves
 
   area1 : Area k live1 after
   area1 = record {
@@ -471,7 +454,7 @@ module _ (k : Config) (s : Words) (r : Rule k s) (id : ℕ) (hist : List Entry) 
       (λ b q other lives. old k r.account.live A born_place some_word away r.whole.placed b q other lives)
       (λ q lives. ap (λ (z : Place). z.label) (sym (is_new k r.account.live A born_place some_word away r.whole.placed A q refl lives)))
       (homeless k r.account.log r.account.live t.holder t.fresh t.garbage r.account.homes kind L fresh r.whole.full)
-      (subst (λ (l : Label). IsTrue (has_label (kept_labels (sizes_in k) (r.account.log ++ e ∷ [])) l)) (sym label_is) (new_kept k r.account.log d c made.allocates))
+      (subst (λ (l : Label). IsTrue (has_label (kept_labels (sizes_in k) (r.account.log ++ e ∷ [])) l)) (sym (label_is k s r id hist x at may.acts)) (new_kept k r.account.log d c made.allocates))
       (full_stays k r.account.log r.account.live t.holder t.fresh t.garbage r.account.homes kind e refl r.whole.full)
 
   -- the new block is no ephemeron

@@ -9,16 +9,16 @@ use Rattle.heap_rule.specs.declared.change.Reading.TheVariants.{Unread}
 use Rattle.heap_rule.specs.declared.view.Own.{Own}
 use Rattle.heap_rule.specs.declared.view.DomainView.{DomainView}
 use Rattle.heap_rule.specs.Changes.{changed, FitChanges}
-use Rattle.heap_rule.specs.Finalisers.{FinalisersFit}
 use Rattle.heap_rule.specs.Raw.{CanChange, Changes, Closes}
 use Rattle.heap_rule.specs.Standing.{LeavesOwn}
 use Rattle.heap_rule.specs.Places.{class_words}
-use Rattle.heap_rule.specs.Token.{AllInHeap, LooksWithin, OwnFits, SweptWithin, next_label}
+use Rattle.heap_rule.specs.Token.{Holds, OwnFits, next_label}
 use Rattle.heap_rule.proofs.ChangeLemmas.{changed_only}
 use Rattle.step_run.specs.Young.Inits.{fields_of, WordTold, AllocTold, CanCount, CountsWords}
 use Rattle.heap_rule.proofs.Closes.{front_same}
 use Rattle.model_core.specs.declared.reply.Applied.TheVariants.{Replied}
 use Rattle.model_core.specs.declared.reply.Reply.TheVariants.{Block}
+use Rattle.heap_rule.proofs.Fits.{fits_held}
 
 -- a word behind the head leaves the plain data
 pub word_closes : (k : Config) (x : DomainView) (new : ℕ) (changes : List Change) → FitChanges changes → LeavesOwn changes x
@@ -50,18 +50,6 @@ alloc_closes k x new words e changes fits class room small serial y p told =
     let r : used + n ≤ minor = room in let m : minor ≤ 65536 = small in let w : words ≡ n = class in record {
       can_write = (fits, let b : used + words < 2 ^ 32 = omega arith in b, serial);
       written = λ after wrote. own ∙ ((λ i. record (changed Nothing changes x.own) { used = x.own.used + sym class i; serial = x.own.serial + 1 }) ∙ sym wrote);
-      fits = record {
-        number = subst (λ (o : Own). o.number < k.domains) (sym rest) p.number;
-        used = subst (λ (o : Own). o.used ≤ k.minor_words) (sym rest) room;
-        registers = told.holds;
-        looked = subst (λ (o : Own). LooksWithin k o.looked) (sym rest) p.looked;
-        remembered = subst (λ (o : Own). AllInHeap k o.remembered.items) (sym rest) p.remembered;
-        remembered_room = ap (λ (o : Own). o.remembered.room + length o.remembered.items) rest ∙ p.remembered_room;
-        prepared = ap (λ (o : Own). length o.prepared) rest ∙ p.prepared;
-        pending = ap (λ (o : Own). o.pending.room + length o.pending.items) rest ∙ p.pending;
-        ephemerons = subst (λ (o : Own). AllInHeap k o.ephemerons.items) (sym rest) p.ephemerons;
-        finalisers = subst (λ (o : Own). FinalisersFit k o.finalisers) (sym rest) p.finalisers;
-        swept = subst (λ (o : Own). SweptWithin k o.swept) (sym rest) p.swept;
-      };
+      fits = subst (OwnFits k) (sym rest) (fits_held k x.own (x.own.used + class_words (fields_of e + 2)) (x.own.serial + 1) (changed Nothing changes x.own).registers x.own.remembered x.own.finalisers room (subst (λ (o : Own). Holds k o.registers) rest told.holds) p.remembered p.remembered_room p.finalisers p);
       once = λ _. inr (record { entry = e; answer = Replied (Block (next_label x)); answers = told.answers });
     }
