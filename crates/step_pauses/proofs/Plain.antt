@@ -22,6 +22,7 @@ use Rattle.heap_rule.specs.declared.phase.Kind.TheVariants.{Roots, Mark, Rounds,
 use Rattle.heap_rule.specs.declared.phase.Stage.TheVariants.{In}
 use Rattle.heap_rule.specs.Cycles.{IsCollecting, HasNoCycle}
 use Rattle.heap_rule.specs.declared.view.Share.{Share}
+use Rattle.heap_rule.proofs.Fits.{registers_fit}
 
 -- a look at the barrier leaves the token's own data
 pub look_own : (k : Config) (x : DomainView) (found : ℕ) (y : DomainView) → LookTold k x found y → y.own ≡ x.own
@@ -76,7 +77,7 @@ pub end_closes : (k : Config) (x : DomainView) (found : ℕ) → Closes k x foun
 end_closes k x found y fits told = let own : y.own ≡ ended_own x.own = ap (λ (z : DomainView). z.own) told.view in record {
   can_write = tt;
   written = λ after is. own ∙ sym is;
-  fits = subst (OwnFits k) (sym own) record { number = fits.number; used = fits.used; registers = subst (λ (o : Own). Holds k o.registers) own told.holds; looked = fits.looked; remembered = fits.remembered; remembered_room = fits.remembered_room; prepared = fits.prepared; pending = fits.pending; ephemerons = fits.ephemerons; finalisers = cleared_fit k x.own fits.finalisers; swept = fits.swept };
+  fits = subst (OwnFits k) (sym own) (registers_fit k x.own (ended_own x.own).registers (ended_own x.own).finalisers (subst (λ (o : Own). Holds k o.registers) own told.holds) (cleared_fit k x.own fits.finalisers) fits);
   once = λ _. inr (record { entry = End x.own.number; answer = Silent; answers = told.answers });
 }
 

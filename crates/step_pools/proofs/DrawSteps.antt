@@ -18,7 +18,7 @@ use Rattle.heap_rule.specs.declared.phase.Stage.TheVariants.{In}
 use Rattle.heap_rule.specs.Layout.{heap_words, table_words, at_address, listed, cursor, listed_pool, owner_of}
 use Rattle.heap_rule.specs.Views.{one}
 use Rattle.heap_rule.specs.Room.{Room, IsUnused, drawn_in_all}
-use Rattle.heap_rule.specs.Rule.{state_of, Rule}
+use Rattle.heap_rule.specs.Rule.{Good, state_of, Rule}
 use Rattle.heap_rule.specs.Copies.{Promoting}
 use Rattle.heap_rule.specs.Pools.{Holder, nobody, drawn, owned, owner_word, Stock, Tenancy, Takes, Pools, KeepsReserve, IsTaking, Hunts, Hunter, Latest, DrawsFor, IsBefore, spot_at, drawn_in, hunting, hunting_free, place_in, blocks_of, limit_of, prepared_at}
 use Rattle.heap_rule.specs.Phases.{Phases, AtStage, sum_of}
@@ -161,9 +161,10 @@ module _ (k : Config) (s : Words) (r : Rule k s) (id : ℕ) (hist : List Entry) 
   pub next_hunter : (h : Hunt) → Hunts k t s.words me h → drawn_in x.seen.hunt ≡ None → Hunter k t s.words (with_hunt x h)
   next_hunter h knows free = hunter_on k t s.words x x.own.looked h x.seen.free knows free hunter.taken hunter.free hunter
 
-  -- a load that tells more of the pools, and maybe of how many are free
-  tells : (looked : List Spot) (h : Hunt) (free : List ℕ) → (x.seen.stage ≢ In Run → free ≡ []) → Hunter k t s.words (hunting_free x looked h free) → Rule k record { words = s.words; homes = s.homes; views = set s.views id (one k hist (hunting_free x looked h free)) }
-  tells looked h free known own = holds_again k s r id hist x at x.own.swept.top looked h free s.words t record {
+  -- a step that changes no word, after which domains ask so, and the domain knows more of the pools
+  asks : (asking' : ℕ → ℕ) (looked : List Spot) (h : Hunt) (free : List ℕ) → let t' : Tenancy = record t { asking = asking' } in let y : DomainView = hunting_free x looked h free in (x.seen.stage ≢ In Run → free ≡ []) → Pools k t' s.words → Hunter k t' s.words y
+      → ((z : DomainView) → z.own.number ≢ me → Good k r.account s.words z → Hunter k t' s.words z) → Rule k record { words = s.words; homes = s.homes; views = set s.views id (one k hist y) }
+  asks asking' looked h free known same own others = let t' : Tenancy = record t { asking = asking' } in holds_again k s r id hist x at x.own.swept.top looked h free s.words t' record {
     higher = low_same x.own.swept.top;
     gained = λ q e b is. inl is;
     takes = takes;
@@ -178,18 +179,22 @@ module _ (k : Config) (s : Words) (r : Rule k s) (id : ℕ) (hist : List Entry) 
     unused = r.whole.unused;
     endings = refl;
     cycle = cycle_unmoved s.words;
-    garbage = garbage_same k r.account.live t r.account.cycling s.words r.whole.cycle.leaves;
+    garbage = garbage_agrees k t t' s.words s.words r.account.live r.account.cycling (agrees_same k s.words) r.whole.cycle.leaves refl refl (λ q d c e. e);
     heads = λ a p e. refl;
     listeds = λ z g. let l = g.listed in record { all = l.all; own = l.own; lives = l.lives };
     full = r.whole.full;
     found = r.whole.found;
-    pools = pools;
-    grid = r.whole.grid;
-    drawers = r.whole.drawers;
+    pools = same;
+    grid = let g = r.whole.grid in record { lots = g.lots; places = g.places; spares = g.spares };
+    drawers = let d = r.whole.drawers in record { drawn = d.drawn; prepared = d.prepared; claims = d.claims };
     makings = λ z p. p;
     hunter = own;
-    hunters = λ z _ g. g.hunter;
+    hunters = others;
   }
+
+  -- a load that tells more of the pools, and maybe of how many are free
+  tells : (looked : List Spot) (h : Hunt) (free : List ℕ) → (x.seen.stage ≢ In Run → free ≡ []) → Hunter k t s.words (hunting_free x looked h free) → Rule k record { words = s.words; homes = s.homes; views = set s.views id (one k hist (hunting_free x looked h free)) }
+  tells looked h free known own = asks t.asking looked h free known pools own (λ z _ g. g.hunter)
 
   pub knows : (looked : List Spot) (h : Hunt) → Hunter k t s.words (hunting x looked h) → Rule k record { words = s.words; homes = s.homes; views = set s.views id (one k hist (hunting x looked h)) }
   knows looked h own = tells looked h x.seen.free known_free own
@@ -225,56 +230,33 @@ module _ (k : Config) (s : Words) (r : Rule k s) (id : ℕ) (hist : List Entry) 
   asks_rule runs n is below =
       let counts : listed s.words ≡ n = subst (Hunts k t s.words me) is hunter.hunt in
       let t' : Tenancy = record t { asking = over me 1 t.asking } in
-      holds_again k s r id hist x at x.own.swept.top x.own.looked (Asks n) ((n - cursor s.words) ∷ x.seen.free) s.words t' record {
-        higher = low_same x.own.swept.top;
-        gained = λ q e b is. inl is;
-        takes = takes;
-        known_free = λ stays. absurd (stays runs);
-        wide = refl;
-        phases = r.whole.phases;
-        want = refl;
-        listed_same = refl;
-        reserved = r.whole.reserved;
-        covered = r.whole.covered;
-        room = r.whole.room;
-        unused = r.whole.unused;
-        endings = refl;
-        cycle = cycle_unmoved s.words;
-        garbage = garbage_agrees k t t' s.words s.words r.account.live r.account.cycling (agrees_same k s.words) r.whole.cycle.leaves refl refl (λ q d c e. e);
-        heads = λ a p e. refl;
-        listeds = λ z g. let l = g.listed in record { all = l.all; own = l.own; lives = l.lives };
-        full = r.whole.full;
-        found = r.whole.found;
-        pools = record {
-          few = pools.few;
-          inside = pools.inside;
-          once = pools.once;
-          untaken = pools.untaken;
-          owners = pools.owners;
-          owned_by = pools.owned_by;
-          drawn_by = pools.drawn_by;
-          one_each = asking_small;
-          asked = let c : ℕ = cursor s.words in let l : ℕ = listed s.words in let f : l ≤ k.pools = pools.few in let e : l ≡ n = counts in
-              let m : ℕ = limit_of k n in let b : c < m = below in let o : m ≤ n = limit_low n in
-              let u : ℕ = sum_of (over me 1 t.asking) k.domains in let v : u ≤ k.domains = sum_small (over me 1 t.asking) k.domains asking_small in
-              let g : c + u ≤ k.pools + k.domains = omega arith in g;
-        };
-        grid = let g = r.whole.grid in record { lots = g.lots; places = g.places; spares = g.spares };
-        drawers = let d = r.whole.drawers in record { drawn = d.drawn; prepared = d.prepared; claims = d.claims };
-        makings = λ z p. p;
-        hunter = record {
-          hunt = (counts, over_here me 1 t.asking);
-          free = λ f e. subst (BoundsFree (listed s.words) (cursor s.words)) (same_Some (n - cursor s.words) f e) (subst (λ (m : ℕ). BoundsFree m (cursor s.words) (n - cursor s.words)) (sym counts) (below_bounds n (cursor s.words) below));
-          drawn_alone = λ q e. sym (ap drawn_in is) ∙ hunter.drawn_alone q e;
-          spare = hunter.spare;
-          taken = hunter.taken;
-          holds = hunter.holds;
-          prepared = hunter.prepared;
-          claims = hunter.claims;
-          supply = λ c _ some. absurd (none_drawn runs c some);
-        };
-        hunters = λ z other g. hunter_agree k t t' s.words s.words (agrees_same k s.words) z (let c : ℕ = cursor s.words in let o : c ≤ c = omega arith in o) (same_asking t (over me 1 t.asking) z.own.number (over_else me 1 t.asking z.own.number other)) g.hunter;
-      }
+      let same : Pools k t' s.words = record {
+        few = pools.few;
+        inside = pools.inside;
+        once = pools.once;
+        untaken = pools.untaken;
+        owners = pools.owners;
+        owned_by = pools.owned_by;
+        drawn_by = pools.drawn_by;
+        one_each = asking_small;
+        asked = let c : ℕ = cursor s.words in let l : ℕ = listed s.words in let f : l ≤ k.pools = pools.few in let e : l ≡ n = counts in
+            let m : ℕ = limit_of k n in let b : c < m = below in let o : m ≤ n = limit_low n in
+            let u : ℕ = sum_of (over me 1 t.asking) k.domains in let v : u ≤ k.domains = sum_small (over me 1 t.asking) k.domains asking_small in
+            let g : c + u ≤ k.pools + k.domains = omega arith in g;
+      } in
+      let own : Hunter k t' s.words (hunting_free x x.own.looked (Asks n) ((n - cursor s.words) ∷ x.seen.free)) = record {
+        hunt = (counts, over_here me 1 t.asking);
+        free = λ f e. subst (BoundsFree (listed s.words) (cursor s.words)) (same_Some (n - cursor s.words) f e) (subst (λ (m : ℕ). BoundsFree m (cursor s.words) (n - cursor s.words)) (sym counts) (below_bounds n (cursor s.words) below));
+        drawn_alone = λ q e. sym (ap drawn_in is) ∙ hunter.drawn_alone q e;
+        spare = hunter.spare;
+        taken = hunter.taken;
+        holds = hunter.holds;
+        prepared = hunter.prepared;
+        claims = hunter.claims;
+        supply = λ c _ some. absurd (none_drawn runs c some);
+      } in
+      asks (over me 1 t.asking) x.own.looked (Asks n) ((n - cursor s.words) ∷ x.seen.free) (λ stays. absurd (stays runs)) same own
+      (λ z other g. hunter_agree k t t' s.words s.words (agrees_same k s.words) z (let c : ℕ = cursor s.words in let o : c ≤ c = omega arith in o) (same_asking t (over me 1 t.asking) z.own.number (over_else me 1 t.asking z.own.number other)) g.hunter)
     where
       limit_low : (n : ℕ) → limit_of k n ≤ n
       limit_low n = let e : ℕ = limit_of k n in omega arith

@@ -51,7 +51,7 @@ use Rattle.heap_rule.specs.Token.{next_label, Holds}
 use Rattle.heap_rule.proofs.ChangeLemmas.{registers_of}
 use Rattle.heap_rule.proofs.Values.{AllStand, extent_large, stand_set, holds}
 use Rattle.heap_rule.proofs.Keeps.{whole_here, Words, mine, my_good, control_set, controls_kept, appends, legal_entry, owes_run, quiet, run_settled, opened_words, between_here, after_entry, garbage_here}
-use Rattle.heap_rule.proofs.Entering.{running, inside_state, registers_stand, may_begin, open_after}
+use Rattle.heap_rule.proofs.Entering.{label_is, leaves_made, stood_made, running, inside_state, registers_stand, may_begin, open_after}
 use Rattle.heap_rule.proofs.FinaliserLemmas.{enrolled_as, enrolled_more, work_command}
 use Rattle.heap_rule.proofs.Beside.{found_beside, making_beside}
 use Rattle.heap_rule.proofs.Born.{all_more, live', born, more, old, is_new, placed_born, settled_born, recalls_born, naming_born, spread_born, opened_born, classes_born}
@@ -192,11 +192,8 @@ module _ (k : Config) (s : Words) (r : Rule k s) (id : ℕ) (hist : List Entry) 
   made_at : (j w : ℕ) → slice_get words_made j ≡ Some w → at_address k s.words (A + 1 + j) ≡ w
   made_at j w got = F.written j w got
 
-  label_is : L ≡ record { domain = d; serial = (domain_at now d).serial + 1 }
-  label_is = ap (λ (m : ℕ). record { domain = d; serial = m + 1 }) g.stood.serial
-
   fresh : node_at now.graph L ≡ None
-  fresh = ap (node_at now.graph) label_is ∙ next_label_after (sizes_in k) r.account.log r.whole.legal d
+  fresh = ap (node_at now.graph) (label_is k s r id hist x at may.acts) ∙ next_label_after (sizes_in k) r.account.log r.whole.legal d
 
   fresh_label : (b : ℕ) (q : Place) → r.account.live b ≡ Some q → q.label ≢ L
   fresh_label b q lives same = let f = r.whole.found b q lives in absurd (let clash : ◌≡◌ {A = Option Node} None (Some f.node) = sym fresh ∙ (ap (node_at now.graph) (sym same) ∙ f.there) in cc)
@@ -257,7 +254,7 @@ module _ (k : Config) (s : Words) (r : Rule k s) (id : ℕ) (hist : List Entry) 
 
   -- while a cycle goes on beside running domains the block is newer, and counts as marked and scanned
   newer : IsTrue r.account.cycling.armed → IsTrue (is_newer r.account.cycling.past.old L)
-  newer is = never_not (has_label (labels r.account.cycling.past.old) L) (λ h. never (has_label (labels now.graph) L) (ap (has_label (labels now.graph)) label_is ∙ next_label-new now (numbered k s r id hist x at) d)
+  newer is = never_not (has_label (labels r.account.cycling.past.old) L) (λ h. never (has_label (labels now.graph) L) (ap (has_label (labels now.graph)) (label_is k s r id hist x at may.acts) ∙ next_label-new now (numbered k s r id hist x at) d)
       ((underway_here k s r id hist x at may.acts.runs is).covered.grown L h))
 
   marked_new : r.account.cycling.paint.marks.marked L ≡ r.account.cycling.armed
@@ -305,24 +302,11 @@ module _ (k : Config) (s : Words) (r : Rule k s) (id : ℕ) (hist : List Entry) 
     seen = record x.seen { front = r.account.log ++ e ∷ []; hunt = Rests; spare = None };
   }
 
-  abbrev theirs : List graph_value.Value
-  theirs = (domain_at now d).registers
-
-  leaves : Leaves now e d grown (set theirs dst (Block L)) ((domain_at now d).serial + 1) (Replied (BlockReply L))
-  leaves = subst (λ (l : Label). Leaves now e d (now.graph ++ (l, node) ∷ []) (set theirs dst (Block l)) ((domain_at now d).serial + 1) (Replied (BlockReply l))) (sym label_is)
-      (leaves_allocation now d (inside_state k s r id hist x at may.acts) c dst node (may.command.makes now d))
-
-  stand1 : AllStand live1 regs (set theirs dst (Block L))
-  stand1 = subst (λ (l : List Value). AllStand live1 l (set theirs dst (Block L))) (sym (ap registers_of may.written))
-      (stand_set live1 x.own.registers theirs dst (Ref a) (Block L) may.goes (born_place, ap live1 may.word ∙ lives_now, refl) (all_more r.account.live live1 x.own.registers theirs grows (registers_stand k s r id hist x at may.acts)))
+  leaves : Leaves now e d grown (set (domain_at now d).registers dst (Block L)) ((domain_at now d).serial + 1) (Replied (BlockReply L))
+  leaves = leaves_made k s r id hist x at may.acts c dst node (may.command.makes now d)
 
   stood1 : Stood live1 (next now e) after
-  stood1 = record {
-    wide = stand1.wide;
-    each = λ q few. subst (λ (l : List graph_value.Value). Stands live1 (value_at regs q) (get_or l q Nothing)) (sym leaves.registers_are) (stand1.each q few);
-    serial = ap (λ (m : ℕ). m + 1) g.stood.serial ∙ sym leaves.serial_is;
-    enrolled = enrolled_more r.account.live live1 (next now e) d x.own.finalisers grows (enrolled_as r.account.live now (next now e) d x.own.finalisers (work_command now d c false may.command.unregistering) g.stood.enrolled);
-  }
+  stood1 = stood_made k s r id hist x at may.acts c dst a grown (Replied (BlockReply L)) live1 regs x.own.used ephemerons after.seen may.command.unregistering may.goes grows (born_place, ap live1 may.word ∙ lives_now, refl) (ap registers_of may.written) leaves
 
   -- the block lies below every minor area
   areas1 : (z : DomainView) → Area k r.account.live z → Area k live1 z
@@ -458,7 +442,7 @@ module _ (k : Config) (s : Words) (r : Rule k s) (id : ℕ) (hist : List Entry) 
       (homeless k r.account.log r.account.live t.holder t.fresh t.garbage r.account.homes kind L fresh r.whole.full)
       node
       (ap (λ (z : model.State). node_at z.graph L) (after_entry k s r id hist x at e) ∙ (ap (λ (z : Graph). node_at z L) leaves.graph_is ∙ node_at-append_new now.graph L node fresh))
-      (subst (λ (l : Label). IsTrue (has_label (kept_labels (sizes_in k) (r.account.log ++ e ∷ [])) l)) (sym label_is) (new_kept k r.account.log d c may.command.allocates))
+      (subst (λ (l : Label). IsTrue (has_label (kept_labels (sizes_in k) (r.account.log ++ e ∷ [])) l)) (sym (label_is k s r id hist x at may.acts)) (new_kept k r.account.log d c may.command.allocates))
       (full_stays k r.account.log r.account.live t.holder t.fresh t.garbage r.account.homes kind e refl r.whole.full)
 
   -- nothing that the command waits for stands in its way

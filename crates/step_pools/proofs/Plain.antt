@@ -17,7 +17,6 @@ use Rattle.heap_rule.specs.Limits.{sizes_in}
 use Rattle.heap_rule.specs.Pools.{blocks_of, owned, owner_word, limit_of, spot_at, hunting}
 use Rattle.heap_rule.specs.Raw.{Closes, StepsOnce}
 use Rattle.step_pools.specs.Writes.{pool_after}
-use Rattle.step_pools.specs.Takes.{looked_to}
 use Rattle.step_pools.proofs.Tops.{above_within, after_within}
 use Rattle.heap_words.specs.Remembered.Bounded.{Bounded}
 use Rattle.heap_rule.specs.Token.{AllInHeap, Holds, LooksWithin, OwnFits, next_label}
@@ -27,11 +26,12 @@ use Rattle.step_pools.specs.Takes.{CursorTold, CursorAddTold, OwnedTold, OwnerTo
 use Rattle.step_pools.specs.Listings.{CursorLookTold, KeepLookTold}
 use Rattle.step_pools.specs.Ephemerons.{with_ephemeron, EpheTold, CanList, ListsEphemeron}
 use Rattle.heap_rule.specs.Standing.{IsInHeap}
-use Rattle.step_pools.specs.Writes.{looking, CanLook, LooksFrom, PassesPool, PassesPlace, CanLabel, Labels}
+use Rattle.step_pools.specs.Writes.{looking, top_above, CanLook, LooksFrom, PassesPool, PassesPlace, CanLabel, Labels}
 use Rattle.heap_rule.proofs.Closes.{front_same}
 use Rattle.model_core.specs.Fronts.{IsFrontOf}
 use Rattle.model_core.specs.declared.reply.Applied.TheVariants.{Replied}
 use Rattle.model_core.specs.declared.reply.Reply.TheVariants.{Block}
+use Rattle.heap_rule.proofs.Fits.{fits_held, fits_with, looked_fits, swept_fits}
 
 -- loads and adds of the cursor leave the token's own data
 pub cursor_own : (k : Config) (count : ℕ) (x : DomainView) (found : ℕ) (y : DomainView) → CursorTold k count x found y → y.own ≡ x.own
@@ -97,7 +97,7 @@ looks_set k own class spot l low small = record {
 
 -- and the token's own data fits again
 pub looking_fits : (k : Config) (x y : DomainView) (class : ℕ) (spot : Spot) → OwnFits k x.own → y.own ≡ looking x.own class spot → spot.pool ≤ k.pools → spot.slot < blocks_of class → OwnFits k y.own
-looking_fits k x y class spot fits is low small = subst (OwnFits k) (sym is) record { number = fits.number; used = fits.used; registers = fits.registers; looked = looks_set k x.own class spot fits.looked low small; remembered = fits.remembered; remembered_room = fits.remembered_room; prepared = fits.prepared; pending = fits.pending; ephemerons = fits.ephemerons; finalisers = fits.finalisers; swept = fits.swept }
+looking_fits k x y class spot fits is low small = subst (OwnFits k) (sym is) (looked_fits k x.own (set x.own.looked class spot) (looks_set k x.own class spot fits.looked low small) fits)
 
 -- the pools are few
 few_pools : (k : Config) (pool : ℕ) → IsWithinLimits (sizes_in k) → pool < k.pools → pool < 2048
@@ -108,8 +108,9 @@ owned_closes k x new pool class inside few limits y fits told =
     let own = ap (λ (z : DomainView). z.own) told.view in record {
       can_write = (few_pools k pool limits inside, few);
       written = λ after is. own ∙ sym is;
-      fits = subst (OwnFits k) (sym own) (let looks = looking_fits k x (looked_to x class (record { pool = pool; slot = 0 }) x.seen.hunt) class (record { pool = pool; slot = 0 }) fits refl (let i = inside in omega arith) (some_block class few).0 in
-          record { number = fits.number; used = fits.used; registers = fits.registers; looked = looks.looked; remembered = fits.remembered; remembered_room = fits.remembered_room; prepared = fits.prepared; pending = fits.pending; ephemerons = fits.ephemerons; finalisers = fits.finalisers; swept = record { pool = fits.swept.pool; slot = fits.swept.slot; top = above_within k.pools x.own.swept.top pool inside fits.swept.top } });
+      fits = let spot : Spot = record { pool = pool; slot = 0 } in
+          subst (OwnFits k) (sym own) (fits_with k x.own (set x.own.looked class spot) x.own.prepared x.own.pending x.own.ephemerons (record x.own.swept { top = top_above x.own.swept.top pool }) (looks_set k x.own class spot fits.looked (let i = inside in omega arith) (some_block class few).0) fits.prepared fits.pending fits.ephemerons
+          (record { pool = fits.swept.pool; slot = fits.swept.slot; top = above_within k.pools x.own.swept.top pool inside fits.swept.top }) fits);
       once = λ _. inl (record { front = front_same x y (ap (λ (z : DomainView). z.seen.front) told.view); registers = ap (λ (z : DomainView). z.own.registers) told.view; used = ap (λ (z : DomainView). z.own.used) told.view; serial = ap (λ (z : DomainView). z.own.serial) told.view });
     }
 
@@ -157,19 +158,8 @@ major_rest k e changes x y told = told.view ∙ ap (λ (own : Own). record { own
 
 -- what fits a token fits it with other registers, another count of labels and other ephemerons
 labelled_fits : (k : Config) (own : Own) (registers : List _) (serial : ℕ) (ephemerons : Bounded ℕ) → OwnFits k own → Holds k registers → AllInHeap k ephemerons.items → OwnFits k (record own { registers = registers; serial = serial; ephemerons = ephemerons })
-labelled_fits k own registers serial ephemerons fits holds listed = record {
-  number = fits.number;
-  used = fits.used;
-  registers = holds;
-  looked = fits.looked;
-  remembered = fits.remembered;
-  remembered_room = fits.remembered_room;
-  prepared = fits.prepared;
-  pending = fits.pending;
-  ephemerons = listed;
-  finalisers = fits.finalisers;
-  swept = fits.swept;
-}
+labelled_fits k own registers serial ephemerons fits holds listed = let swept : OwnFits k (record own { ephemerons = ephemerons }) = swept_fits k own ephemerons own.swept listed fits.swept fits in
+    fits_held k (record own { ephemerons = ephemerons }) own.used serial registers own.remembered own.finalisers fits.used holds fits.remembered fits.remembered_room fits.finalisers swept
 
 -- the head makes the changes, and counts the label
 pub major_closes : (k : Config) (x : DomainView) (new : ℕ) (e : Entry) (changes : List Change) → FitChanges changes → x.own.serial + 1 < 2 ^ 32

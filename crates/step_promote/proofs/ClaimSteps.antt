@@ -54,7 +54,7 @@ use Rattle.heap_rule.proofs.Update.{over, over_here, over_else}
 use Rattle.heap_rule.proofs.Values.{extent_large}
 use Rattle.step_promote.proofs.Meets.{form_shape, knows_more, known_more}
 use Rattle.step_promote.proofs.OwnPlaces as places
-use Rattle.step_promote.proofs.OwnPlaces.{place_sole, spare_clean}
+use Rattle.step_promote.proofs.OwnPlaces.{place_sole, same_prepared, spare_clean}
 use Rattle.step_promote.proofs.Preparing.{prepared_here, prepared_else}
 use Rattle.step_promote.proofs.Registers.{promote_once}
 use Rattle.step_promote.proofs.Remaking.{keeps_words, promotes_again, stood_same, young_colour}
@@ -642,22 +642,12 @@ module _ (k : Config) (s : Words) (r : Rule k s) (id : ℕ) (hist : List Entry) 
       away b is same = none-some p (sym (r.whole.cycle.leaves.dead b is) ∙ (ap live same ∙ lives))
 
     same_for : (d : ℕ) → d ≢ me → SameFor t t' d
-    same_for d other = record {
-      drawn_to = λ q e. e;
-      drawn_from = λ q e. e;
-      owned_to = λ q e z. z;
-      owned_from = λ q e z. z;
-      asking_same = refl;
-      prepared_to = λ b e. over_else c None t.prepared b (λ same. other (same_Some d me (sym e ∙ (ap t.prepared same ∙ mine_is)))) ∙ e;
-      prepared_from = λ b e. (was_prepared b d e).1;
-      fresh_same = λ _. refl;
-      stock_same = record {
-        drawn = refl;
-        copies = copies_else d other;
-        latest = refl;
-        used = over_else me (over class used2 (t.stock.used me)) t.stock.used d other;
-        claims = over_else me (t.stock.claims me + 1) t.stock.claims d other;
-      };
+    same_for d other = same_prepared t prepared' stock' d (λ b e. over_else c None t.prepared b (λ same. other (same_Some d me (sym e ∙ (ap t.prepared same ∙ mine_is)))) ∙ e) (λ b e. (was_prepared b d e).1) record {
+      drawn = refl;
+      copies = copies_else d other;
+      latest = refl;
+      used = over_else me (over class used2 (t.stock.used me)) t.stock.used d other;
+      claims = over_else me (t.stock.claims me + 1) t.stock.claims d other;
     }
 
     hunters2 : (z : DomainView) → z.own.number ≢ me → Hunter k t s.words z → Hunter k t' ws z

@@ -30,7 +30,7 @@ use Rattle.heap_rule.proofs.Keeps.{Words, my_good, garbage_here, control_set, ow
 use Rattle.heap_rule.proofs.Lots.{hunter_beside}
 use Rattle.heap_rule.proofs.Update.{over, over_here, over_else}
 use Rattle.step_promote.proofs.OwnPlaces as places
-use Rattle.step_promote.proofs.OwnPlaces.{place_sole, spare_clean}
+use Rattle.step_promote.proofs.OwnPlaces.{place_sole, same_prepared, spare_clean}
 use Rattle.step_promote.proofs.Preparing.{prepared_here, prepared_else}
 use Rattle.step_promote.proofs.Registers.{promote_once}
 use Rattle.step_promote.proofs.Remaking.{keeps_blocks, stood_same, no_spare}
@@ -203,17 +203,7 @@ module _ (k : Config) (s : Words) (r : Rule k s) (id : ℕ) (hist : List Entry) 
     }
 
     same_for : (d : ℕ) → d ≢ me → SameFor t t' d
-    same_for d other = record {
-      drawn_to = λ q e. e;
-      drawn_from = λ q e. e;
-      owned_to = λ q c e. e;
-      owned_from = λ q c e. e;
-      asking_same = refl;
-      prepared_to = λ b e. over_else a None t.prepared b (λ same. other (same_Some d me (sym e ∙ (ap t.prepared same ∙ mine_is)))) ∙ e;
-      prepared_from = λ b e. (was b d e).1;
-      fresh_same = λ c. refl;
-      stock_same = stock_self t.stock d;
-    }
+    same_for d other = same_prepared t prepared' t.stock d (λ b e. over_else a None t.prepared b (λ same. other (same_Some d me (sym e ∙ (ap t.prepared same ∙ mine_is)))) ∙ e) (λ b e. (was b d e).1) (stock_self t.stock d)
 
     latest0 : (c : ℕ) → Latest k t s.words me c → Latest k t' w0 me c
     latest0 c l = record {

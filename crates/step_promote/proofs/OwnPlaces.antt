@@ -10,7 +10,7 @@ use Rattle.heap_rule.specs.declared.config.Config.{Config}
 use Rattle.heap_rule.specs.declared.view.DomainView.{DomainView}
 use Rattle.heap_rule.specs.Layout.{before_heap, heap_words, at_address}
 use Rattle.heap_rule.specs.Places.{Place, extent}
-use Rattle.heap_rule.specs.Pools.{owned, Tenancy, Pools, OwnPlace, place_in, size_of, blocks_of}
+use Rattle.heap_rule.specs.Pools.{owned, Stock, Tenancy, Pools, OwnPlace, place_in, size_of, blocks_of}
 use Rattle.heap_rule.specs.Rule.{state_of, AllFound, Making, Rule}
 use Rattle.heap_rule.specs.Views.{one}
 use Rattle.heap_rule.proofs.Beside.{found_beside, making_beside}
@@ -18,10 +18,15 @@ use Rattle.heap_rule.proofs.Classes.{size_least, slot_below, slot_inside}
 use Rattle.heap_rule.proofs.Keeps.{Words, more_same}
 use Rattle.heap_rule.proofs.Garbage.{KeepsGarbage}
 use Rattle.heap_rule.proofs.Lots.{Beside, pool_beside, stays}
-use Rattle.heap_rule.proofs.Holders.{drawn_owned}
+use Rattle.heap_rule.proofs.Holders.{SameFor, SameStock, drawn_owned}
 use Rattle.heap_rule.proofs.OwnPlaces.{owned_same}
 use Rattle.heap_rule.proofs.Update.{over, over_else}
 use Rattle.std.proofs.lemmas.Option.{none-some}
+
+-- others see their own places as before where only the prepared places and the copies of one domain change
+pub same_prepared : (t : Tenancy) (prepared' : ℕ → Option ℕ) (stock' : Stock) (d : ℕ) → ((b : ℕ) → t.prepared b ≡ Some d → prepared' b ≡ Some d) → ((b : ℕ) → prepared' b ≡ Some d → t.prepared b ≡ Some d) → SameStock t.stock stock' d
+    → SameFor t (record t { prepared = prepared'; stock = stock' }) d
+same_prepared t prepared' stock' d to from stock = record { drawn_to = λ q e. e; drawn_from = λ q e. e; owned_to = λ q c e. e; owned_from = λ q c e. e; asking_same = refl; prepared_to = to; prepared_from = from; fresh_same = λ c. refl; stock_same = stock }
 
 -- two places at one address are one
 pub place_sole : (k : Config) (t : Tenancy) (words : List ℕ) (q d c i pool e class slot : ℕ) → Pools k t words → t.holder q ≡ owned d c → i < blocks_of c → t.holder pool ≡ owned e class → slot < blocks_of class → place_in q c i ≡ place_in pool class slot

@@ -30,7 +30,7 @@ use Rattle.heap_rule.proofs.PauseFacts.{promote_now, promote_here}
 use Rattle.heap_rule.proofs.Lots.{garbage_full, head_full, hunter_beside, place_cases}
 use Rattle.heap_rule.proofs.Update.{over, over_here, over_else}
 use Rattle.step_promote.proofs.OwnPlaces as places
-use Rattle.step_promote.proofs.OwnPlaces.{place_sole}
+use Rattle.step_promote.proofs.OwnPlaces.{place_sole, same_prepared}
 use Rattle.step_promote.proofs.Registers.{promote_once}
 use Rattle.step_promote.proofs.Remaking.{keeps_blocks, stood_same, no_spare}
 use Rattle.std.proofs.lemmas.Option.{none-some, same_Some}
@@ -110,19 +110,11 @@ module _ (k : Config) (s : Words) (r : Rule k s) (id : ℕ) (hist : List Entry) 
 
   -- others see their own places as before
   same_for : (d : ℕ) → d ≢ me → SameFor t t' d
-  same_for d other = record {
-    drawn_to = λ q e. e;
-    drawn_from = λ q e. e;
-    owned_to = λ q c e. e;
-    owned_from = λ q c e. e;
-    asking_same = refl;
-    prepared_to = λ b e. over_else a (Some me) t.prepared b (λ same. unprepared d (ap t.prepared (sym same) ∙ e)) ∙ e;
-    prepared_from = λ b e. dite (ℕ_discrete b a)
-        (λ same. absurd (other (sym (same_Some me d (sym (over_here a (Some me) t.prepared) ∙ (ap prepared' (sym same) ∙ e))))))
-        (λ differs. sym (over_else a (Some me) t.prepared b differs) ∙ e);
-    fresh_same = λ c. refl;
-    stock_same = stock_self t.stock d;
-  }
+  same_for d other = same_prepared t prepared' t.stock d (λ b e. over_else a (Some me) t.prepared b (λ same. unprepared d (ap t.prepared (sym same) ∙ e)) ∙ e)
+      (λ b e. dite (ℕ_discrete b a)
+      (λ same. absurd (other (sym (same_Some me d (sym (over_here a (Some me) t.prepared) ∙ (ap prepared' (sym same) ∙ e))))))
+      (λ differs. sym (over_else a (Some me) t.prepared b differs) ∙ e))
+      (stock_self t.stock d)
 
   hunters' : (z : DomainView) → z.own.number ≢ me → Hunter k t s.words z → Hunter k t' ws z
   hunters' z other h = hunter_agree k t t' ws ws (agrees_same k ws) z (omega arith) (same_for z.own.number other)
