@@ -30,7 +30,7 @@ use Rattle.heap_rule.specs.Views.{one}
 use Rattle.heap_rule.proofs.Keeps.{Words, mine, my_good}
 use Rattle.heap_rule.proofs.OwnPlaces.{own_place}
 use Rattle.heap_rule.proofs.PauseFacts.{kind_differs}
-use Rattle.heap_rule.proofs.Sharings.{knowing_words}
+use Rattle.heap_rule.proofs.Sharings.{knowing_words, leading_loads}
 use Rattle.step_marks.specs.Marking.Looks.{with_share}
 use Rattle.step_marks.proofs.OfMarking.Layouts.{labelled, owner_of_place, label_there}
 use Rattle.step_marks.proofs.OfMarking.Learning.{at_other, at_same, bare, even, known, kind_here, leads_odd, lies_old, none_runs, not_promoting, whole_in}
@@ -142,19 +142,11 @@ module _ (k : Config) (s : Words) (r : Rule k s) (id : ℕ) (hist : List Entry) 
 
     -- nobody leads, so nobody has loaded what is counted
     leading_on : (z : DomainView) → Good k r.account s.words z → Leading c' words' z.own.number z.seen.stage z.seen.share
-    leading_on z h = let l = h.sharing.leading in record {
+    leading_on z h = let l = h.sharing.leading in leading_loads c c' s.words words' z.own.number z.seen.stage z.seen.share z.seen.share refl refl record {
       changed = l.changed;
       found_blocks = λ w e. absurd (no_leader z h (l.found_blocks w e).0);
       found_words = λ w e. absurd (no_leader z h (l.found_words w e).0);
-      rotated = l.rotated;
-      turned = l.turned;
-      pass = l.pass;
-      whole = l.whole;
-      armed = l.armed;
-      unswept = l.unswept;
-      under_way = l.under_way;
-      unmarked = l.unmarked;
-    }
+    } l
 
     adding_rule : Adding → Rule k record { words = words'; homes = s.homes; views = set s.views id (one k hist (with_share x share')) }
     adding_rule o = let g = good.sharing in let n = knowing_words k live holder now.graph c.paint.marks s.words words' d x.own.registers sh (heap k s r id hist x at i v is) kn in let t = n.counted in recounts k s r id hist x at i v is share' c' record {

@@ -38,7 +38,7 @@ use Rattle.heap_rule.specs.Standing.{with_front}
 use Rattle.heap_rule.specs.Token.{OwnFits}
 use Rattle.heap_rule.specs.Views.{one}
 use Rattle.heap_rule.proofs.FullnessLemmas.{full_stays}
-use Rattle.heap_rule.proofs.Keeps.{Words, after_entry, hunter_as, knows_entry, legal_entry, looks, mine, more_same, my_good, own as own_kept, owes_as, remakes, resting_as, stood_other, sum_same, unmoved}
+use Rattle.heap_rule.proofs.Keeps.{logs, Words, after_entry, hunter_as, knows_entry, legal_entry, looks, mine, more_same, my_good, own as own_kept, owes_as, remakes, resting_as, stood_other, sum_same, unmoved}
 use Rattle.heap_rule.proofs.Closes.{leaves_closes}
 use Rattle.heap_rule.proofs.Notes.{set_there, set_twice}
 use Rattle.heap_rule.proofs.PauseFacts.{nobody_else_still}
@@ -107,9 +107,6 @@ module _ (k : Config) (s : Words) (r : Rule k s) (id : ℕ) (hist : List Entry) 
   not_run : In Answer ≡ In Run → ⊥
   not_run is = cc
 
-  endings' : CountsEnded k (state_of k log') s.words
-  endings' = r.whole.endings ∙ sym (ap (λ (t : model.State). sum_of (is_over t) k.domains) after ∙ sum_same (is_over now) (is_over (next now e)) k.domains (λ j _. ap flag (keeps_all j).ended))
-
   cycle' : Cycled k (state_of k log') live r.account.pause T c s.words
   cycle' = let z = r.whole.cycle in let f = answer_facts k s r id hist x at stage in subst (λ (t : model.State). Cycled k t live r.account.pause T c s.words) (sym after) record {
     armed_is = z.armed_is;
@@ -147,69 +144,25 @@ module _ (k : Config) (s : Words) (r : Rule k s) (id : ℕ) (hist : List Entry) 
   }
 
   answered : Allowed now e → Rule k record { words = s.words; homes = s.homes; views = set s.views id (one k hist y) }
-  answered allowed =
-      let g = good in
-      let own_stood = stands_still x g.stood in
-      let own_sharing = sharing' x g.sharing in
-      remakes k s r id hist x at y all' s.words
-      record {
-        wide = r.whole.wide;
-        legal = legal_entry k s r id hist x at e allowed;
-        full = full_stays k r.account.log live T.holder T.fresh T.garbage r.account.homes c.kind e refl r.whole.full;
-        found = subst (λ (graph : Graph). AllFound k c.paint live graph s.words) (sym graph_after) r.whole.found;
-        placed = r.whole.placed;
-        spread = r.whole.spread;
-        settled = r.whole.settled;
-        copies = r.whole.copies;
-        cleared = r.whole.cleared;
-        emptied = r.whole.emptied;
-        phases = r.whole.phases;
-        unwished = r.whole.unwished;
-        endings = endings';
-        pools = r.whole.pools;
-        reserved = r.whole.reserved;
-        covered = r.whole.covered;
-        grid = r.whole.grid;
-        drawers = r.whole.drawers;
-        room = r.whole.room;
-        unused = r.whole.unused;
-        opened = r.whole.opened;
-        drawable = r.whole.drawable;
-        cycle = cycle';
-      }
-      (knows_entry k s r id hist x at y e alone (λ _. refl) refl refl)
-      record {
-        stood = record { wide = own_stood.wide; each = own_stood.each; serial = own_stood.serial; enrolled = own_stood.enrolled };
-        area = record { room = g.area.room; free = g.area.free; classes = g.area.classes };
-        making = record { fits = g.making.fits; written = g.making.written };
-        staged = record { arrivals = g.staged.arrivals; stage = g.staged.stage };
-        still = (λ paused. absurd (subst IsInPause stage paused), λ runs. absurd (not_run (sym stage ∙ runs)));
-        hunter = hunter_as k T s.words x y refl refl refl refl refl refl refl g.hunter;
-        resting = resting_as k s.words x y refl refl refl refl refl refl g.resting;
-        took_back = g.took_back;
-        owes = owes_as k live x y refl refl refl refl g.owes;
-        rooted = g.rooted;
-        set_back = g.set_back;
-        sharing = own_sharing;
-        listed = record { all = g.listed.all; own = g.listed.own; lives = g.listed.lives };
-        sweeps = g.sweeps;
-      }
-      (λ z _ other h. record {
-        stood = stands_still z h.stood;
-        area = h.area;
-        making = h.making;
-        staged = h.staged;
-        still = nobody_else_still log' r.account.pause x z Answer (λ p. p) not_run stage g.staged h.staged;
-        hunter = h.hunter;
-        resting = h.resting;
-        took_back = h.took_back;
-        owes = h.owes;
-        rooted = h.rooted;
-        set_back = h.set_back;
-        sharing = sharing' z h.sharing;
-        listed = h.listed;
-        sweeps = h.sweeps;
-      })
+  answered allowed = let g = good in logs k s r id hist x at log' c x.own.finalisers log' x.seen.share record {
+    legal = legal_entry k s r id hist x at e allowed;
+    full = full_stays k r.account.log live T.holder T.fresh T.garbage r.account.homes c.kind e refl r.whole.full;
+    found = subst (λ (graph : Graph). AllFound k c.paint live graph s.words) (sym graph_after) r.whole.found;
+    ended = λ j. ap (λ (z : model.State). (domain_at z j).ended) after ∙ (keeps_all j).ended;
+    cycle = cycle';
+    seats = knows_entry k s r id hist x at y e alone (λ _. refl) refl refl;
+    kind = Answer;
+    stage = stage;
+    no_pause = λ p. p;
+    not_run = not_run;
+    stood = let st = stands_still x g.stood in record { wide = st.wide; each = st.each; serial = st.serial; enrolled = st.enrolled };
+    rooted = g.rooted;
+    sharing = sharing' x g.sharing;
+    sweeps = g.sweeps;
+    stoods = λ z _ h. stands_still z h.stood;
+    sharings = λ z _ h. sharing' z h.sharing;
+    others_sweep = λ z h. h.sweeps;
+  }
 
   module _ (blocks : ℕ) (may : LiveWordsMay k x blocks) where
     inside : d < length now.domains

@@ -26,7 +26,7 @@ use Rattle.step_marks.proofs.OfMarking.Pausing.{paused_on}
 use Rattle.step_marks.proofs.OfMarking.Plain.{share_closes}
 use Rattle.step_sweep.specs.Turning.{BlocksCleared, ClearMay, WordsCleared}
 use Rattle.step_sweep.proofs.Recounting.{IsCount, heap, here, low, other, recounted, recounts}
-use Rattle.heap_rule.proofs.Sharings.{knows_words}
+use Rattle.heap_rule.proofs.Sharings.{knows_words, leading_loads}
 use Rattle.std.proofs.lemmas.Option.{same_Some}
 
 -- neither of these phases is one in which what lives is counted
@@ -106,19 +106,11 @@ module _ (k : Config) (s : Words) (r : Rule k s) (id : ℕ) (hist : List Entry) 
   sharings' : (z : DomainView) → z.own.number < k.domains → z.own.number ≢ x.own.number → Good k r.account s.words z → Sharing k r.account words' z.own.number z.own.registers z.own.finalisers z.own.ephemerons.items z.seen.stage z.seen.share
   sharings' z below differs g = let h = g.sharing in record {
     telling = h.telling;
-    leading = record {
+    leading = leading_loads c c s.words words' z.own.number z.seen.stage z.seen.share z.seen.share refl refl record {
       changed = h.leading.changed;
       found_blocks = λ v e. absurd (no_answer z g differs (h.leading.found_blocks v e).0);
       found_words = λ v e. absurd (no_answer z g differs (h.leading.found_words v e).0);
-      rotated = h.leading.rotated;
-      turned = h.leading.turned;
-      pass = h.leading.pass;
-      whole = h.leading.whole;
-      armed = h.leading.armed;
-      unswept = h.leading.unswept;
-      under_way = h.leading.under_way;
-      unmarked = h.leading.unmarked;
-    };
+    } h.leading;
     knows = knows_words k r.account.live r.account.tenancy.holder now.graph c.paint.marks s.words words' z.own.number z.own.registers z.seen.stage z.seen.share (heap k s r id hist x at i 0 is) h.knows;
     adds = h.adds;
     looks = h.looks;
@@ -151,19 +143,11 @@ module _ (k : Config) (s : Words) (r : Rule k s) (id : ℕ) (hist : List Entry) 
       cycle = cycle';
       sharing = record {
         telling = record { owes = g.telling.owes; seen = g.telling.seen; fresh = λ _. idle'; forgotten = g.telling.forgotten; colours = g.telling.colours };
-        leading = record {
+        leading = leading_loads c c s.words words' x.own.number x.seen.stage x.seen.share share' refl refl record {
           changed = g.leading.changed;
           found_blocks = λ v e. (inl (may.first, leads), blocks_are v e);
           found_words = λ v e. (inl (may.first, leads), words_are v e);
-          rotated = g.leading.rotated;
-          turned = g.leading.turned;
-          pass = g.leading.pass;
-          whole = g.leading.whole;
-          armed = g.leading.armed;
-          unswept = g.leading.unswept;
-          under_way = g.leading.under_way;
-          unmarked = g.leading.unmarked;
-        };
+        } g.leading;
         knows = inl idle';
         adds = record { blocks = λ e _. absurd (no_sweep e); words = λ e _. absurd (no_sweep e); own = λ e _ _. absurd (no_sweep e) };
         looks = record { at_own = g.looks.at_own; cleans = g.looks.cleans; emptied_is = g.looks.emptied_is };

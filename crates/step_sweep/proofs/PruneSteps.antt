@@ -33,7 +33,8 @@ use Rattle.step_sweep.proofs.Reaping.{reaped_to, reaps}
 use Rattle.step_sweep.proofs.Removals.{among, before, still_among, was, was_among}
 use Rattle.step_sweep.proofs.Finding.{calm as not_copying, colour_of_dead, live_not_dead, waits}
 use Rattle.step_sweep.proofs.SweepSteps.{sweeps_rule}
-use Rattle.step_sweep.proofs.SweepWrites.{once_same, swept_fits}
+use Rattle.step_sweep.proofs.SweepWrites.{once_same}
+use Rattle.heap_rule.proofs.Fits.{swept_fits}
 
 -- where garbage may be freed no keys are emptied
 no_clean : (stage : Stage) → Frees stage → stage ≡ In Clean → ⊥

@@ -16,7 +16,6 @@ use Rattle.step_sweep.specs.Returning.{IsOwn, SinksTop, TopMay, TopTold, topped}
 use Rattle.step_pools.specs.Writes.{pool_after}
 use Rattle.step_pools.proofs.Tops.{after_within}
 use Rattle.heap_rule.specs.Sweeping.{nothing_swept}
-use Rattle.heap_words.specs.Remembered.Bounded.{Bounded}
 use Rattle.heap_rule.specs.Token.{AllInHeap, LooksWithin, OwnFits, SweptWithin}
 use Rattle.heap_rule.proofs.Classes.{some_block}
 use Rattle.heap_rule.proofs.Closes.{front_same}
@@ -25,6 +24,7 @@ use Rattle.step_marks.specs.Marking.Marking.{behind}
 use Rattle.step_marks.proofs.OfMarking.WalkSteps.{last_behind, next_behind}
 use Rattle.step_sweep.proofs.Earlier.{order_of}
 use Rattle.step_sweep.specs.Freeing.{AnewTold, CanFree, CanSweep, CanSweepOwn, FreeTold, FreesPlace, IsAmong, IsColoured, SweepOwnTold, SweepTold, SweepsOwn, SweepsPlace, earlier, freed_own, passed, sweeping_from, unswept}
+use Rattle.heap_rule.proofs.Fits.{fits_with, swept_fits}
 
 few_pools : (k : Config) (pool : ℕ) → IsWithinLimits (sizes_in k) → pool < k.pools → pool < 2048
 few_pools k pool limits inside = let all = limits.pools in let p : ℕ = k.pools in let i : pool < p = inside in omega arith
@@ -32,22 +32,6 @@ few_pools k pool limits inside = let all = limits.pools in let p : ℕ = k.pools
 -- no entry stands at a step that leaves the front, the registers and the blocks
 pub once_same : (k : Config) (x y : DomainView) → y.seen.front ≡ x.seen.front → y.own.registers ≡ x.own.registers → y.own.used ≡ x.own.used → y.own.serial ≡ x.own.serial → StepsOnce k x y
 once_same k x y front registers used serial = λ _. inl (record { front = front_same x y front; registers = registers; used = used; serial = serial })
-
--- a token fits whose sweeping has got so far, and that lists these ephemerons
-pub swept_fits : (k : Config) (own : Own) (ephemerons : Bounded ℕ) (swept : Swept) → AllInHeap k ephemerons.items → SweptWithin k swept → OwnFits k own → OwnFits k (record own { ephemerons = ephemerons; swept = swept })
-swept_fits k own ephemerons swept listed within fits = record {
-  number = fits.number;
-  used = fits.used;
-  registers = fits.registers;
-  looked = fits.looked;
-  remembered = fits.remembered;
-  remembered_room = fits.remembered_room;
-  prepared = fits.prepared;
-  pending = fits.pending;
-  ephemerons = listed;
-  finalisers = fits.finalisers;
-  swept = within;
-}
 
 -- the place behind one lies within the pools
 behind_within : (k : Config) (pool class slot listed top : ℕ) → pool < k.pools → class < class_count → top ≤ k.pools → SweptWithin k (record { listed = listed; spot = behind pool class slot; top = top })
@@ -135,19 +119,7 @@ pub free_closes : (k : Config) (x : DomainView) (pool class slot : ℕ) → pool
 free_closes k x pool class slot inside few low limits y fits told = let own : y.own ≡ freed_own pool class slot x.own = ap (λ (z : DomainView). z.own) told in let b = behind_within k pool class slot x.own.swept.listed x.own.swept.top inside few fits.swept.top in record {
   can_write = (few_pools k pool limits inside, few, low, fits.looked.wide);
   written = λ after is. own ∙ sym is;
-  fits = subst (OwnFits k) (sym own) record {
-    number = fits.number;
-    used = fits.used;
-    registers = fits.registers;
-    looked = freed_within k x.own.looked pool class slot inside few low fits.looked;
-    remembered = fits.remembered;
-    remembered_room = fits.remembered_room;
-    prepared = fits.prepared;
-    pending = fits.pending;
-    ephemerons = fits.ephemerons;
-    finalisers = fits.finalisers;
-    swept = record { pool = b.pool; slot = b.slot; top = b.top };
-  };
+  fits = subst (OwnFits k) (sym own) (fits_with k x.own (freed_own pool class slot x.own).looked x.own.prepared x.own.pending x.own.ephemerons (freed_own pool class slot x.own).swept (freed_within k x.own.looked pool class slot inside few low fits.looked) fits.prepared fits.pending fits.ephemerons (record { pool = b.pool; slot = b.slot; top = b.top }) fits);
   once = once_same k x y (ap (λ (z : DomainView). z.seen.front) told) (ap (λ (o : Own). o.registers) own) (ap (λ (o : Own). o.used) own) (ap (λ (o : Own). o.serial) own);
 }
 
