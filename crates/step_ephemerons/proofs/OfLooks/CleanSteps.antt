@@ -45,6 +45,7 @@ use Rattle.model_cycle.specs.Progress.{KeysFound}
 use Rattle.heap_rule.specs.declared.view.NextKey.{NextKey}
 use Rattle.step_ephemerons.proofs.OfLooks.Keys.{without_ephe, no_places, wiped_other, not_emptied}
 use Rattle.heap_rule.specs.declared.view.NextKey.TheVariants.{Unknown, Dead, Refers}
+use Rattle.step_ephemerons.proofs.OfLooks.Cleaning.{cleans_on}
 
 module _ (k : Config) (s : Words) (r : Rule k s) (id : ℕ) (hist : List Entry) (x : DomainView) (at : get_elem? s.views id ≡ some (one k hist x)) where
   open r.account use {live, tenancy.{holder}, cycling as c, cycling.{paint.{marks as m}}}
@@ -156,20 +157,7 @@ module _ (k : Config) (s : Words) (r : Rule k s) (id : ℕ) (hist : List Entry) 
 
     -- further in it
     pub cleans_with : (done : ℕ) (emptied : List ℕ) (next : NextKey) → KeysFound m.marked cl.keys done emptied → NextIs live m cl.keys done next → Cleans live now.graph m x.seen.stage x.own.ephemerons.items (record w { done = done; emptied = emptied; next = next })
-    cleans_with done emptied next through next_is = record {
-      stage_is = cl.stage_is;
-      listed = cl.listed;
-      place = cl.place;
-      lives = cl.lives;
-      label = cl.label;
-      marked = cl.marked;
-      keys = cl.keys;
-      datum = cl.datum;
-      node = cl.node;
-      count_is = cl.count_is;
-      through = through;
-      next = next_is;
-    }
+    cleans_with done emptied next through next_is = cleans_on live now.graph m x.seen.stage x.own.ephemerons.items w cl done emptied next through next_is
 
     further : (done : ℕ) (next : NextKey) → KeysFound m.marked cl.keys done w.emptied → NextIs live m cl.keys done next → After (with_share x (cleaning_on (record w { done = done; next = next }) sh))
     further done next through next_is = cleans_rule cl.stage_is (record w { done = done; next = next }) (cleans_with done w.emptied next through next_is) (λ a. sym (ap (λ (o : Option Cleaning). emptied_at o a) is))

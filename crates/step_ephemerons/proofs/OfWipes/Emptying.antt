@@ -42,6 +42,7 @@ use Rattle.heap_rule.specs.Views.{EachView, Knows as SeatKnows, one}
 use Rattle.heap_rule.proofs.Growing.{grows_none}
 use Rattle.heap_rule.proofs.Beside.{extent_of, found_beside, live_word_far, making_beside}
 use Rattle.heap_rule.proofs.FinaliserLemmas.{KeepsWork}
+use Rattle.heap_rule.proofs.Sharings.{leading_loads}
 use Rattle.heap_rule.proofs.Keeps.{Words, control_set, controls_kept, hunter_as, more_same, my_good, opened_words, owes_as, remakes, resting_as, resting_lists, room_words, stood_other, sum_same}
 use Rattle.heap_rule.proofs.Lists.{got_set}
 use Rattle.heap_rule.proofs.Lots.{Beside, grid_beside, head_full, hunter_beside, live_beside}
@@ -321,19 +322,11 @@ module _ (k : Config) (s : Words) (r : Rule k s) (id : ℕ) (hist : List Entry) 
 
       leading_on : (z : DomainView) (share : Share) → Staged r.account.pause z → Leading c s.words z.own.number z.seen.stage share → Leading c' words' z.own.number z.seen.stage share
       leading_on z share staged l =
-          let same = (controls_kept k s r id hist x at words' (control_set k s.words (block + 2 + i) 0 (omega arith))).cycle in record {
+          let same = (controls_kept k s r id hist x at words' (control_set k s.words (block + 2 + i) 0 (omega arith))).cycle in leading_loads c c' s.words words' z.own.number z.seen.stage share share refl refl record {
             changed = λ v e. absurd (leads_odd r.account.pause z.own.number z.own.arrivals z.seen.stage (even k s r id hist x at collecting) staged.stage (l.changed v e).1);
             found_blocks = λ v e. let h = l.found_blocks v e in (h.0, same.blocks_same ∙ h.1);
             found_words = λ v e. let h = l.found_words v e in (h.0, same.words_same ∙ h.1);
-            rotated = l.rotated;
-            turned = l.turned;
-            pass = l.pass;
-            whole = l.whole;
-            armed = l.armed;
-            unswept = l.unswept;
-            under_way = l.under_way;
-            unmarked = l.unmarked;
-          }
+          } l
 
       -- nobody runs
       running_on : (z : DomainView) → Good k r.account s.words z → RunsBeside k live T.holder c.armed c.past m.marked words' z.own.number z.seen.stage z.seen.share

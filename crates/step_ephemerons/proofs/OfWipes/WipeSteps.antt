@@ -50,9 +50,10 @@ use Rattle.std.proofs.lemmas.List.{length-map}
 use Rattle.model_core.specs.Commands.{key_value}
 use Rattle.model_cycle.specs.Progress.{KeysFound}
 use Rattle.heap_rule.specs.declared.view.NextKey.{NextKey}
-use Rattle.heap_rule.specs.declared.view.NextKey.TheVariants.{Dead}
+use Rattle.heap_rule.specs.declared.view.NextKey.TheVariants.{Dead, Unknown}
 use Rattle.heap_rule.proofs.Lists.{got_below}
 use Rattle.step_ephemerons.specs.Looks.Emptying.{cleaning_on}
+use Rattle.step_ephemerons.proofs.OfLooks.Cleaning.{cleans_on}
 
 -- the next key refers to a block that isn't marked
 pub record IsDead (marks : Marks) (keys : List (Option Label)) (done : ℕ) : Type 0 where
@@ -100,20 +101,7 @@ module _ (k : Config) (s : Words) (r : Rule k s) (id : ℕ) (hist : List Entry) 
       found_more = subst (λ (n : ℕ). KeysFound m.marked e.keys n (w.emptied ++ w.done ∷ [])) (sym (add-one w.done)) (found_takes m.marked e.keys w.done w.emptied e.through dead.label dead.full dead.unmarked)
 
       cleans_more : (v : Cleaning) → Some (key_wiped w) ≡ Some v → Cleans live now.graph m x.seen.stage x.own.ephemerons.items v
-      cleans_more v same = subst (Cleans live now.graph m x.seen.stage x.own.ephemerons.items) (same_Some (key_wiped w) v same) record {
-        stage_is = e.stage_is;
-        listed = e.listed;
-        place = e.place;
-        lives = e.lives;
-        label = e.label;
-        marked = e.marked;
-        keys = e.keys;
-        datum = e.datum;
-        node = e.node;
-        count_is = e.count_is;
-        through = found_more;
-        next = tt;
-      }
+      cleans_more v same = subst (Cleans live now.graph m x.seen.stage x.own.ephemerons.items) (same_Some (key_wiped w) v same) (cleans_on live now.graph m x.seen.stage x.own.ephemerons.items w e (w.done + 1) (w.emptied ++ w.done ∷ []) Unknown found_more tt)
 
       emptied_key : Empties k s r id hist x at in_clean w is (suc w.done) e.keys e.datum r.account.log emptied_more c.shares.seen x.seen.front (Some (key_wiped w)) sh.places_seen sh.scan
       emptied_key = let f = facts k s r id hist x at in_clean w is in let t = (my_good k s r id hist x at).sharing in record {
