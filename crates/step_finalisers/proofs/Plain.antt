@@ -23,6 +23,7 @@ use Rattle.heap_rule.specs.Token.{Holds, IsAddress, OwnFits}
 use Rattle.step_finalisers.specs.Registering.{CanAddFinal, CanAddLast, FinalMay, FinalTold, Finals, LastMay, LastTold, Lasts, with_final, with_last}
 use Rattle.step_finalisers.specs.Running.{CanRun, RunMay, RunTold, Runs, ran_own, registers_after}
 use Rattle.step_finalisers.proofs.RunSteps.{first_register}
+use Rattle.heap_rule.proofs.Fits.{registers_fit}
 
 -- an item of a list that one was added to
 pub pushed : {A : Type 0} (xs : List A) (x y : A) (i : ℕ) → slice_get (xs ++ x ∷ []) i ≡ Some y → (slice_get xs i ≡ Some y) ⊎ (x ≡ y)
@@ -124,22 +125,6 @@ module _ (k : Config) (own : Own) (fits : OwnFits k own) where
       go (Last i) a e = ff.inside (Last i) a e
       go (Queue i) a e = let g = got_address (slice_get (remove fs.queue.items 0) i) a e in ff.inside (Queue (suc i)) a (ap (option_and_then address_in) (later fs.queue.items g.0 i g.1) ∙ g.2)
 
--- what fits a token fits it with other lists of finalisers, and with other registers
-pub fits_with : (k : Config) (own : Own) (registers : List _) (fs : Finalisers) → OwnFits k own → Holds k registers → FinalisersFit k fs → OwnFits k (record own { registers = registers; finalisers = fs })
-fits_with k own registers fs fits holds lists = record {
-  number = fits.number;
-  used = fits.used;
-  registers = holds;
-  looked = fits.looked;
-  remembered = fits.remembered;
-  remembered_room = fits.remembered_room;
-  prepared = fits.prepared;
-  pending = fits.pending;
-  ephemerons = fits.ephemerons;
-  finalisers = lists;
-  swept = fits.swept;
-}
-
 -- the address in a register
 address_at : (k : Config) (x : DomainView) (item a : ℕ) → OwnFits k x.own → IsAt x item a → IsAddress k a
 address_at k x item a fits at = fits.registers.inside item a at.few at.holds
@@ -150,7 +135,7 @@ final_closes k x found item r may y fits told =
       can_write = let ff = fits.finalisers in let n : ℕ = length x.own.finalisers.finals.items in let m : ℕ = length x.own.finalisers.lasts.items in let q : ℕ = length x.own.finalisers.queue.items in let f : ℕ = x.own.finalisers.finals.room in
           let full : f + n ≡ k.finals = ff.finals_room in let some : n + m + q < k.finals = may.room in let e : 1 ≤ f = omega arith in e;
       written = λ after wrote. own ∙ sym wrote;
-      fits = subst (OwnFits k) (sym own) (fits_with k x.own x.own.registers (with_final r x.own).finalisers fits fits.registers (final_fits k x.own fits r may.room (address_at k x item r.address fits may.block) may.few));
+      fits = subst (OwnFits k) (sym own) (registers_fit k x.own x.own.registers (with_final r x.own).finalisers fits.registers (final_fits k x.own fits r may.room (address_at k x item r.address fits may.block) may.few) fits);
       once = λ _. inr (record { entry = Command x.own.number (Finalise item r.number r.register) false; answer = Replied Done; answers = told.answers });
     }
 
@@ -160,7 +145,7 @@ last_closes k x found item r may y fits told =
       can_write = let ff = fits.finalisers in let n : ℕ = length x.own.finalisers.finals.items in let m : ℕ = length x.own.finalisers.lasts.items in let q : ℕ = length x.own.finalisers.queue.items in let f : ℕ = x.own.finalisers.lasts.room in
           let full : f + m ≡ k.finals = ff.lasts_room in let some : n + m + q < k.finals = may.room in let e : 1 ≤ f = omega arith in e;
       written = λ after wrote. own ∙ sym wrote;
-      fits = subst (OwnFits k) (sym own) (fits_with k x.own x.own.registers (with_last r x.own).finalisers fits fits.registers (last_fits k x.own fits r may.room (address_at k x item r.address fits may.block)));
+      fits = subst (OwnFits k) (sym own) (registers_fit k x.own x.own.registers (with_last r x.own).finalisers fits.registers (last_fits k x.own fits r may.room (address_at k x item r.address fits may.block)) fits);
       once = λ _. inr (record { entry = Command x.own.number (FinaliseLast item r.number) false; answer = Replied Done; answers = told.answers });
     }
 
@@ -169,6 +154,6 @@ run_closes k x found first may y fits told =
     let own : y.own ≡ ran_own first x.own = ap (λ (z : DomainView). z.own) told.view in record {
       can_write = (may.is_first, first_register k x first fits may.is_first);
       written = λ after wrote. own ∙ sym wrote;
-      fits = subst (OwnFits k) (sym own) (fits_with k x.own (registers_after first x.own.registers) (ran_own first x.own).finalisers fits (subst (λ (o : Own). Holds k o.registers) own told.holds) (run_fits k x.own fits first may.is_first));
+      fits = subst (OwnFits k) (sym own) (registers_fit k x.own (registers_after first x.own.registers) (ran_own first x.own).finalisers (subst (λ (o : Own). Holds k o.registers) own told.holds) (run_fits k x.own fits first may.is_first) fits);
       once = λ _. inr (record { entry = Ran x.own.number; answer = told.answer; answers = told.answers });
     }

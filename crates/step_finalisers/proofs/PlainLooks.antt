@@ -24,7 +24,8 @@ use Rattle.heap_rule.specs.Token.{OwnFits}
 use Rattle.step_sweep.specs.Freeing.{IsColoured}
 use Rattle.step_finalisers.specs.Looking.{CanQueueFinal, CanQueueLast, FinalLookMay, FinalLookTold, LastLookMay, LastLookTold, Queues, QueuesFinal, QueuesLast, keeping, queued_final, queued_last}
 use Rattle.step_finalisers.proofs.LookSteps.{removed_length}
-use Rattle.step_finalisers.proofs.Plain.{fits_with, got_address, got_map, pushed}
+use Rattle.step_finalisers.proofs.Plain.{got_address, got_map, pushed}
+use Rattle.heap_rule.proofs.Fits.{registers_fit}
 
 -- an element of a list without the i-th is one of the list
 still_there : {A : Type 0} (xs : List A) (i j : ℕ) (y : A) → slice_get (remove xs i) j ≡ Some y → (n : ℕ) × (slice_get xs n ≡ Some y)
@@ -142,7 +143,7 @@ pub final_look_closes : (k : Config) (x : DomainView) (found a i marked : ℕ) (
 final_look_closes k x found a i marked r may y fits told = record {
   can_write = (may.registered, room_final k x.own fits i r may.registered);
   written = written k x y marked found (QueueOf x.own.number (i ∷ [])) (queued_final i r x.own) told.told;
-  fits = fits_still k x y marked found (QueueOf x.own.number (i ∷ [])) (queued_final i r x.own) told.told fits (fits_with k x.own x.own.registers (queued_final i r x.own).finalisers fits fits.registers (final_fits k x.own fits i r may.registered));
+  fits = fits_still k x y marked found (QueueOf x.own.number (i ∷ [])) (queued_final i r x.own) told.told fits (registers_fit k x.own x.own.registers (queued_final i r x.own).finalisers fits.registers (final_fits k x.own fits i r may.registered) fits);
   once = not_running k x y Decide (λ e. cc) may.stage;
 }
 
@@ -150,6 +151,6 @@ pub last_look_closes : (k : Config) (x : DomainView) (found a i marked : ℕ) (r
 last_look_closes k x found a i marked r may y fits told = record {
   can_write = (may.registered, room_last k x.own fits i r may.registered);
   written = written k x y marked found (LastOf x.own.number i) (queued_last i r x.own) told.told;
-  fits = fits_still k x y marked found (LastOf x.own.number i) (queued_last i r x.own) told.told fits (fits_with k x.own x.own.registers (queued_last i r x.own).finalisers fits fits.registers (last_fits k x.own fits i r may.registered));
+  fits = fits_still k x y marked found (LastOf x.own.number i) (queued_last i r x.own) told.told fits (registers_fit k x.own x.own.registers (queued_last i r x.own).finalisers fits.registers (last_fits k x.own fits i r may.registered) fits);
   once = not_running k x y Lasts (λ e. cc) may.stage;
 }

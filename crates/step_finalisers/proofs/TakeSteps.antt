@@ -31,7 +31,7 @@ use Rattle.heap_rule.specs.Places.{Stands}
 use Rattle.heap_rule.specs.Rule.{Account, AllFound, Good, Rule, Sharing, Stood, state_of}
 use Rattle.heap_rule.specs.Views.{EachView, Knows as SeatKnows, one}
 use Rattle.heap_rule.proofs.FinaliserLemmas.{KeepsWork}
-use Rattle.heap_rule.proofs.Keeps.{Words, hunter_as, more_same, my_good, owes_as, remakes, resting_as, stood_other, sum_same}
+use Rattle.heap_rule.proofs.Keeps.{logs, Words, hunter_as, more_same, my_good, owes_as, remakes, resting_as, stood_other, sum_same}
 use Rattle.heap_rule.proofs.PauseFacts.{nobody_else_still, staged_as}
 use Rattle.heap_rule.proofs.Stages.{waits_in}
 use Rattle.step_marks.proofs.OfMarking.Learning.{kind_here, known, not_promoting}
@@ -169,64 +169,22 @@ module _ (k : Config) (s : Words) (r : Rule k s) (id : ℕ) (hist : List Entry) 
       }
 
       pub takes : Rule k record { words = s.words; homes = s.homes; views = set s.views id (one k hist y) }
-      takes =
-          let g = good in
-          remakes k s r id hist x at y all' s.words
-          record {
-            wide = r.whole.wide;
-            legal = o.legal;
-            full = o.full;
-            found = subst (λ (z : Graph). AllFound k c.paint live z s.words) (sym o.graph) r.whole.found;
-            placed = r.whole.placed;
-            spread = r.whole.spread;
-            settled = r.whole.settled;
-            copies = r.whole.copies;
-            cleared = r.whole.cleared;
-            emptied = r.whole.emptied;
-            phases = r.whole.phases;
-            unwished = r.whole.unwished;
-            endings = r.whole.endings ∙ sym (sum_same (is_over now) (is_over later) k.domains (λ j _. ap flag (o.keeps j).ended));
-            pools = r.whole.pools;
-            reserved = r.whole.reserved;
-            covered = r.whole.covered;
-            grid = r.whole.grid;
-            drawers = r.whole.drawers;
-            room = r.whole.room;
-            unused = r.whole.unused;
-            opened = r.whole.opened;
-            drawable = r.whole.drawable;
-            cycle = cycle';
-          }
-          o.seats
-          record {
-            stood = own_stood;
-            area = record { room = g.area.room; free = g.area.free; classes = g.area.classes };
-            making = record { fits = g.making.fits; written = g.making.written };
-            staged = staged_as r.account.pause x y refl refl refl g.staged;
-            still = (λ paused. absurd (no_pause (subst IsInPause stage paused)), λ runs. absurd (not_run (sym stage ∙ runs)));
-            hunter = hunter_as k t s.words x y refl refl refl refl refl refl refl g.hunter;
-            resting = resting_as k s.words x y refl refl refl refl refl refl g.resting;
-            took_back = g.took_back;
-            owes = owes_as k live x y refl refl refl refl g.owes;
-            rooted = (λ (promotes : Promoting r.account.pause). absurd (not_promoting k s r id hist x at collecting promotes), λ (past : IsPast r.account.pause y). g.rooted.1 past);
-            set_back = g.set_back;
-            sharing = sharing';
-            listed = g.listed;
-            sweeps = g.sweeps;
-          }
-          (λ z _ other h. record {
-            stood = stood_other live live now later z (o.keeps z.own.number) (o.work z.own.number other) (more_same live) h.stood;
-            area = h.area;
-            making = h.making;
-            staged = h.staged;
-            still = nobody_else_still log' r.account.pause x z kind no_pause not_run stage g.staged h.staged;
-            hunter = h.hunter;
-            resting = h.resting;
-            took_back = h.took_back;
-            owes = h.owes;
-            rooted = h.rooted;
-            set_back = h.set_back;
-            sharing = sharings' z other h;
-            listed = h.listed;
-            sweeps = h.sweeps;
-          })
+      takes = let g = good in logs k s r id hist x at log' c' fs' front' share' record {
+        legal = o.legal;
+        full = o.full;
+        found = subst (λ (z : Graph). AllFound k c.paint live z s.words) (sym o.graph) r.whole.found;
+        ended = λ j. (o.keeps j).ended;
+        cycle = cycle';
+        seats = o.seats;
+        kind = kind;
+        stage = stage;
+        no_pause = no_pause;
+        not_run = not_run;
+        stood = own_stood;
+        rooted = (λ (promotes : Promoting r.account.pause). absurd (not_promoting k s r id hist x at collecting promotes), λ (past : IsPast r.account.pause y). g.rooted.1 past);
+        sharing = sharing';
+        sweeps = g.sweeps;
+        stoods = λ z other h. stood_other live live now later z (o.keeps z.own.number) (o.work z.own.number other) (more_same live) h.stood;
+        sharings = sharings';
+        others_sweep = λ z h. h.sweeps;
+      }
