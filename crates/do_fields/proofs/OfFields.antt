@@ -4,5 +4,4 @@ pub mod FieldSteps
 pub mod FieldStores
 pub mod Loading
 pub mod Looking
-pub mod Refusing
 pub mod Unpacking

@@ -1,5 +1,5 @@
 -- What a head load tells, by the shape of the block.
-use Rattle.std.proofs.Common.{◌≡◌, ◌∙◌, ℕ, ◌<◌, ◌≤◌, ◌&&◌, Bool, true, false, if◌then◌else◌, [], Option, Some, None, refl, sym, subst, ◌⊎◌, ⊎_elim, inl, inr}
+use Rattle.std.proofs.Common.{◌≡◌, ◌∙◌, ℕ, ◌<◌, ◌≤◌, ◌&&◌, Bool, true, false, if◌then◌else◌, [], Option, Some, None, refl, sym, ap, subst, ◌⊎◌, ⊎_elim, inl, inr}
 use Rattle.model_core.specs.declared.entry.Entry.{Entry}
 use Rattle.model_core.specs.declared.reply.Applied.TheVariants.{Replied}
 use Rattle.model_core.specs.declared.reply.Reply.TheVariants.{BadType, BadIndex}
@@ -92,3 +92,24 @@ suits_at k a e own x y found r n v is number t takes holds_out size some below =
 pub takes_none : (b c : Bool) → c ≡ false → (b && c) ≡ false
 takes_none true c none = none
 takes_none false c none = refl
+
+-- a command that brings a value into a field: the entry is told, and the head's fields for the value are known
+module _ (k : Config) (a : ℕ) (e own : Entry) (x y : DomainView) (found : ℕ) (v : Value) (r : Option ℕ) (is : e ≡ own) (t : HeadTold k a e x found y) (puts : puts_block x own ≡ is_block v) (fields : r ≡ fields_for t.shape v) where
+  refused_same : (needs_no_scan t.shape && puts_block x e) ≡ (needs_no_scan t.shape && is_block v)
+  refused_same = ap (λ (z : Entry). needs_no_scan t.shape && puts_block x z) is ∙ ap (λ (b : Bool). needs_no_scan t.shape && b) puts
+
+  pub none_for : r ≡ None → Entered k e (Replied BadType) Nothing [] x y
+  none_for none = none_found k a e x y found v r t refused_same fields none
+
+  module _ (n : ℕ) (some : r ≡ Some n) where
+    taken : ((needs_no_scan t.shape && is_block v) ≡ false) × (size_of t.shape ≡ Some n)
+    taken = fields_taken t.shape v n (sym fields ∙ some)
+
+    pub past_for : n ≤ place_of own → Entered k e (Replied BadIndex) Nothing [] x y
+    past_for past = past_found k a e x y found (Some n) n t (refused_same ∙ taken.0) (sym taken.1) refl (subst (λ (z : Entry). n ≤ place_of z) (sym is) past)
+
+    pub measured_for : place_of own < n → Measured k a (subject own) n x y
+    measured_for below = measured_at k a e own x y found (Some n) n is t (refused_same ∙ taken.0) (sym taken.1) refl below
+
+    pub suits_for : y.own.number ≡ x.own.number → (w : Value) → w ≡ v → place_of own < n → SuitsField k y (subject own) n w
+    suits_for number w same below = suits_at k a e own x y found (Some n) n w is number t (refused_same ∙ taken.0) (ap (λ (z : Value). needs_no_scan t.shape && is_block z) same ∙ taken.0) (sym taken.1) refl below
