@@ -1,5 +1,5 @@
 -- A place of an own pool at which no block lives: what a store to its first two words leaves.
-use Rattle.std.proofs.Common.{◌≡◌, ◌≢◌, ℕ, ◌+◌, ◌*◌, ◌<◌, ◌≤◌, ◌⊎◌, IsTrue, List, length, set, Option, Some, None, sym, refl, ap, ◌∙◌, inl, inr, arith, lt_of_not-le}
+use Rattle.std.proofs.Common.{◌≡◌, ◌≢◌, ℕ, ◌+◌, ◌*◌, ◌<◌, ◌≤◌, ◌⊎◌, IsTrue, List, length, set, Option, Some, None, sym, refl, ap, ◌∙◌, ⊎_elim, inl, inr, arith, lt_of_not-le}
 use mathlib.Core.Logic.{dite}
 use native.Mathlib.Decide.{ℕ_discrete, dec_le}
 use mathlib.Core.Option.{some}
@@ -99,9 +99,15 @@ module _ (k : Config) (s : Words) (r : Rule k s) (id : ℕ) (hist : List Entry) 
   in_heap i h = let g : a + i ≤ o.pool * 4096 + 4096 = (in_pool i h).1 in let b : o.pool < k.pools = inside_pools in let n : ℕ = k.domains * k.minor_words in let hw : heap_words k ≡ k.pools * 4096 + n = refl in
       let wide : length s.words ≡ 1 + before_heap k + heap_words k = r.whole.wide in let bh : ℕ = before_heap k in let e : ℕ = heap_words k in let f : e ≡ k.pools * 4096 + n = hw in let v : length s.words ≡ 1 + bh + e = wide in omega arith
 
-  -- no live block has a word of the place
-  pub far : (b : ℕ) (q : Place) → r.account.live b ≡ Some q → (i : ℕ) → i < 4 → (j : ℕ) → j < extent q.shape → b + j ≢ a + i
-  far b q lives i h j within same = dite (dec_le b (k.pools * 4096))
+  -- no live block shares a word with the whole place
+  pub apart : (b : ℕ) (q : Place) → r.account.live b ≡ Some q → (b + extent q.shape ≤ a) ⊎ (a + size_of o.class ≤ b)
+  apart b q lives =
+      let n : ℕ = extent q.shape in
+      let y : ℕ = z in
+      let m : ℕ = w in
+      let t1 : m + y ≤ 4096 = top in
+      let e : a ≡ o.pool * 4096 + m + 1 = is in
+      dite (dec_le b (k.pools * 4096))
       (λ le.
       let l = r.whole.grid.lots b q lives le in
       let v : ℕ = size_of l.class in
@@ -109,23 +115,34 @@ module _ (k : Config) (s : Words) (r : Rule k s) (id : ℕ) (hist : List Entry) 
       let own = r.whole.pools.owned_by l.pool l.domain l.class l.owned_is in
       let top' : u + v ≤ 4096 = slot_inside l.class l.slot own.2 l.inside in
       let begins : b ≡ l.pool * 4096 + u + 1 = l.begins in
-      let n : ℕ = extent q.shape in
       let fits : n ≤ v = l.fits in
-      let c : j < n = within in
-      let e : a ≡ o.pool * 4096 + w + 1 = is in let m : ℕ = w in let y : ℕ = z in let big : 4 ≤ y = large in let t1 : m + y ≤ 4096 = top in
-      let clash : b + j ≡ a + i = same in
-      let here : l.pool ≡ o.pool = omega arith in
-      let both = owned_same l.domain me l.class o.class (sym l.owned_is ∙ (ap t.holder here ∙ o.owned_is)) in
+      dite (ℕ_discrete l.pool o.pool)
+      (λ same.
+      let both = owned_same l.domain me l.class o.class (sym l.owned_is ∙ (ap t.holder same ∙ o.owned_is)) in
       let vy : v ≡ y = ap size_of both.1 in
       let h' : ℕ = l.slot * size_of o.class in
       let uh : u ≡ h' = ap (λ (d : ℕ). l.slot * size_of d) both.1 in
+      let here : l.pool ≡ o.pool = same in
       dite (ℕ_discrete l.slot o.slot)
       (λ eq. let hm : h' ≡ m = ap (λ (d : ℕ). d * size_of o.class) eq in
-      let ba : b ≡ a = omega arith in let none : ◌≡◌ {A = Option Place} None (Some q) = sym empty ∙ (ap r.account.live (sym ba) ∙ lives) in cc)
+      let ba : b ≡ a = omega arith in absurd (let none : ◌≡◌ {A = Option Place} None (Some q) = sym empty ∙ (ap r.account.live (sym ba) ∙ lives) in cc))
       (λ ne. dite (dec_le l.slot o.slot)
-      (λ below. let g : h' + y ≤ m = slot_below o.class l.slot o.slot (let p : l.slot ≤ o.slot = below in let nn : l.slot ≢ o.slot = ne in omega arith) in omega arith)
-      (λ above. let g : m + y ≤ h' = slot_below o.class o.slot l.slot (lt_of_not-le above) in omega arith)))
-      (λ gt. let g : k.pools * 4096 < b = lt_of_not-le gt in let p : a + i ≤ o.pool * 4096 + 4096 = (in_pool i h).1 in let q' : o.pool < k.pools = inside_pools in let clash : b + j ≡ a + i = same in omega arith)
+      (λ below. let g : h' + y ≤ m = slot_below o.class l.slot o.slot (let p : l.slot ≤ o.slot = below in let nn : l.slot ≢ o.slot = ne in omega arith) in inl (let f : b + n ≤ a = omega arith in f))
+      (λ above. let g : m + y ≤ h' = slot_below o.class o.slot l.slot (lt_of_not-le above) in inr (let f : a + y ≤ b = omega arith in f))))
+      (λ other. let ne : l.pool ≢ o.pool = other in dite (dec_le l.pool o.pool)
+      (λ below. let p : l.pool ≤ o.pool = below in inl (let f : b + n ≤ a = omega arith in f))
+      (λ above. let p : o.pool < l.pool = lt_of_not-le above in inr (let f : a + y ≤ b = omega arith in f))))
+      (λ gt. let g : k.pools * 4096 < b = lt_of_not-le gt in let p : o.pool < k.pools = inside_pools in inr (let f : a + y ≤ b = omega arith in f))
+
+  -- no live block has a word of the place
+  pub far : (b : ℕ) (q : Place) → r.account.live b ≡ Some q → (i : ℕ) → i < 4 → (j : ℕ) → j < extent q.shape → b + j ≢ a + i
+  far b q lives i h j within same =
+      let n : ℕ = extent q.shape in
+      let y : ℕ = z in
+      let big : 4 ≤ y = large in
+      let c : j < n = within in
+      let clash : b + j ≡ a + i = same in
+      ⊎_elim (λ (before : b + n ≤ a). omega arith) (λ (behind : a + y ≤ b). omega arith) (apart b q lives)
 
   module _ (i new : ℕ) (small : i < 4) where
     abbrev pub ws : List ℕ
@@ -183,41 +200,6 @@ module _ (k : Config) (s : Words) (r : Rule k s) (id : ℕ) (hist : List Entry) 
       heads = heads_again clean;
       held = λ q d c e. e;
     }
-
-  -- no live block shares a word with the whole place
-  pub apart : (b : ℕ) (q : Place) → r.account.live b ≡ Some q → (b + extent q.shape ≤ a) ⊎ (a + size_of o.class ≤ b)
-  apart b q lives =
-      let n : ℕ = extent q.shape in
-      let y : ℕ = z in
-      let m : ℕ = w in
-      let t1 : m + y ≤ 4096 = top in
-      let e : a ≡ o.pool * 4096 + m + 1 = is in
-      dite (dec_le b (k.pools * 4096))
-      (λ le.
-      let l = r.whole.grid.lots b q lives le in
-      let v : ℕ = size_of l.class in
-      let u : ℕ = l.slot * size_of l.class in
-      let own = r.whole.pools.owned_by l.pool l.domain l.class l.owned_is in
-      let top' : u + v ≤ 4096 = slot_inside l.class l.slot own.2 l.inside in
-      let begins : b ≡ l.pool * 4096 + u + 1 = l.begins in
-      let fits : n ≤ v = l.fits in
-      dite (ℕ_discrete l.pool o.pool)
-      (λ same.
-      let both = owned_same l.domain me l.class o.class (sym l.owned_is ∙ (ap t.holder same ∙ o.owned_is)) in
-      let vy : v ≡ y = ap size_of both.1 in
-      let h' : ℕ = l.slot * size_of o.class in
-      let uh : u ≡ h' = ap (λ (d : ℕ). l.slot * size_of d) both.1 in
-      let here : l.pool ≡ o.pool = same in
-      dite (ℕ_discrete l.slot o.slot)
-      (λ eq. let hm : h' ≡ m = ap (λ (d : ℕ). d * size_of o.class) eq in
-      let ba : b ≡ a = omega arith in absurd (let none : ◌≡◌ {A = Option Place} None (Some q) = sym empty ∙ (ap r.account.live (sym ba) ∙ lives) in cc))
-      (λ ne. dite (dec_le l.slot o.slot)
-      (λ below. let g : h' + y ≤ m = slot_below o.class l.slot o.slot (let p : l.slot ≤ o.slot = below in let nn : l.slot ≢ o.slot = ne in omega arith) in inl (let f : b + n ≤ a = omega arith in f))
-      (λ above. let g : m + y ≤ h' = slot_below o.class o.slot l.slot (lt_of_not-le above) in inr (let f : a + y ≤ b = omega arith in f))))
-      (λ other. let ne : l.pool ≢ o.pool = other in dite (dec_le l.pool o.pool)
-      (λ below. let p : l.pool ≤ o.pool = below in inl (let f : b + n ≤ a = omega arith in f))
-      (λ above. let p : o.pool < l.pool = lt_of_not-le above in inr (let f : a + y ≤ b = omega arith in f))))
-      (λ gt. let g : k.pools * 4096 < b = lt_of_not-le gt in let p : o.pool < k.pools = inside_pools in inr (let f : a + y ≤ b = omega arith in f))
 
   -- the whole place lies in the pools
   pub below_areas : a + size_of o.class ≤ k.pools * 4096 + 1
